@@ -1,0 +1,8 @@
+-- The weights that a contour may be filled with (The METAFONTbook, chapter 13).
+use Rattle.std.specs.Prelude.{◌≢◌, ℤ, pos, negsuc, ◌≤ℤ◌}
+
+-- -3, -2, -1, 1, 2 or 3
+pub record IsContourWeight (w : ℤ) : Type 0 where
+  pub least : negsuc 2 ≤ℤ w
+  pub greatest : w ≤ℤ pos 3
+  pub nonzero : w ≢ pos 0

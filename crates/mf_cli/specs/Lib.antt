@@ -1,0 +1,17 @@
+pub mod ContourWeight
+pub mod Ended
+pub mod Fault
+pub mod Filling
+pub mod Grammar
+pub mod Left
+pub mod Performer
+pub mod Progress
+pub mod Reading
+pub mod Refusals
+pub mod Region
+pub mod Script
+pub mod Short
+pub mod Step
+pub mod Tokens
+pub mod Transcript
+pub mod Weights

@@ -1,0 +1,53 @@
+//! The program `mfpic`: reads a script of picture commands and writes its transcript.
+#![tactic(auto)]
+
+mod fault;
+mod fill;
+mod laws;
+mod line_buffer;
+mod op;
+mod output;
+mod performer;
+mod program;
+mod progress;
+mod reading;
+mod refusal;
+mod region;
+mod run;
+mod script;
+mod sentence;
+#[cfg(test)]
+mod streams;
+mod tokens;
+mod weight;
+
+use program::{program, refuse_words, report_memory};
+use std::alloc::AllocError;
+use std::env;
+use std::io::{self, ErrorKind};
+use std::process::ExitCode;
+
+fn main(rt: HostRuntime) -> ExitCode {
+    let mut errors = rt.stderr();
+    let status = match words_of(&rt) {
+        Ok(words) => program(
+            rt.alloc(),
+            words,
+            &mut rt.stdin(),
+            &mut rt.stdout(),
+            &mut errors,
+        ),
+        Err(fault) if fault.kind() == ErrorKind::OutOfMemory => report_memory(&mut errors),
+        Err(_) => refuse_words(&mut errors),
+    };
+    ExitCode::from(status)
+}
+
+/// The words of the command line. A word that is no UTF-8 is a fault.
+fn words_of(rt: &HostRuntime) -> io::Result<Vec<String>> {
+    let mut words = Vec::new(rt.alloc());
+    for word in env::args(rt)? {
+        words.push(word)?;
+    }
+    Ok(words)
+}

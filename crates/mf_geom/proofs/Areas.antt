@@ -1,0 +1,95 @@
+-- The area of a rectilinear cycle is the sum of its winding numbers over the field.
+use Rattle.std.proofs.Common.{◌≡◌, ℕ, zero, suc, ◌-◌, ◌<◌, ◌≤◌, ℤ, pos, negsuc, ◌+ℤ◌, ◌-ℤ◌, ◌*ℤ◌, ◌≤ℤ◌, nat_abs, int_div, List, length, sym, ◌∙◌, ap, inl, inr, arith}
+use Rattle.std.proofs.lemmas.Int.{ints}
+use Rattle.std.proofs.lemmas.Bool.{cases_lt}
+use Rattle.mf_geom.specs.declared.point.Point.{Point}
+use Rattle.mf_geom.specs.Area.{shoelace_at, area}
+use Rattle.mf_geom.specs.Crossing.{passed, crossing, crossing_at}
+use Rattle.mf_geom.specs.Field.{sum_over_field}
+use Rattle.mf_geom.specs.Lawful.{IsRectilinearCycle}
+use Rattle.mf_geom.specs.Path.{Edge, point_at, next_place, edge_at, across, up, IsInReach, IsRectilinear}
+use Rattle.mf_geom.specs.Sum.{sum_below}
+use Rattle.mf_geom.specs.Winding.{winding}
+use Rattle.mf_geom.proofs.Crossings.{passed-reached, passed-beyond, winding-crossings}
+use Rattle.mf_geom.proofs.Products.{mul-sub, mul-self, sub-mul, int_div-mul}
+use Rattle.mf_geom.proofs.Sums.{next_place-below, sum_below-same, sum_below-sub, sum_below-mul_and_differences, sum_over_field-product, sum_over_field-sum}
+
+-- of the n numbers from a on, n - k have passed the one that is k further
+sum_below-passed_after : (n k : ℕ) (a : ℤ) → sum_below n (λ i. passed (a +ℤ pos i) (a +ℤ pos k)) ≡ pos (n - k)
+unfolding sum_below
+sum_below-passed_after zero k a = omega (arith, ints)
+sum_below-passed_after (suc n) k a =
+    let before = sum_below-passed_after n k a in
+    let beyond : n < k → passed (a +ℤ pos n) (a +ℤ pos k) ≡ pos 0 = λ lt. passed-beyond (a +ℤ pos n) (a +ℤ pos k) (omega (arith, ints)) in
+    let reached : k ≤ n → passed (a +ℤ pos n) (a +ℤ pos k) ≡ pos 1 = λ le. passed-reached (a +ℤ pos n) (a +ℤ pos k) (omega (arith, ints)) in
+    elim (cases_lt n k) [ inl lt ↦ let none = beyond lt in omega (arith, ints) | inr le ↦ let one = reached le in omega (arith, ints) ]
+
+-- as many of the n numbers from a on have passed p as there are from p on
+sum_below-passed : (n : ℕ) (a p : ℤ) → a ≤ℤ p → p ≤ℤ (a +ℤ pos n) → sum_below n (λ i. passed (a +ℤ pos i) p) ≡ (a +ℤ pos n) -ℤ p
+sum_below-passed n a p from to =
+    let k = nat_abs (p -ℤ a) in
+    let further : p ≡ a +ℤ pos k = omega (arith, ints) in
+    (λ t. sum_below n (λ i. passed (a +ℤ pos i) (further t))) ∙ sum_below-passed_after n k a ∙ omega (arith, ints)
+
+sum_below-passed_in_field : (p : ℤ) → negsuc 4094 ≤ℤ p → p ≤ℤ pos 4095 → sum_below 8190 (λ i. passed (negsuc 4094 +ℤ pos i) p) ≡ pos 4095 -ℤ p
+sum_below-passed_in_field p = sum_below-passed 8190 (negsuc 4094) p
+
+-- what an edge adds to the sum of the winding numbers: the area between it and the right side of the
+-- field, positive where it leads down
+abbrev strip : Edge → ℤ
+strip e = (pos 4095 -ℤ e.from.x) *ℤ (e.from.y -ℤ e.to.y)
+
+sum_over_field-crossing : (e : Edge) → IsInReach e.from → IsInReach e.to → sum_over_field (λ x y. crossing x y e) ≡ strip e
+unfolding crossing
+sum_over_field-crossing e from to =
+    let columns = sum_below-passed_in_field e.from.x from.left from.right in
+    let rows_from = sum_below-passed_in_field e.from.y from.bottom from.top in
+    let rows_to = sum_below-passed_in_field e.to.y to.bottom to.top in
+    let passed_at : ℤ → ℕ → ℤ = λ p j. passed (negsuc 4094 +ℤ pos j) p in
+    let rows = sum_below-sub 8190 (passed_at e.to.y) (passed_at e.from.y) in
+    let height : sum_below 8190 (passed_at e.to.y) -ℤ sum_below 8190 (passed_at e.from.y) ≡ e.from.y -ℤ e.to.y = omega (arith, ints) in
+    sum_over_field-product (λ x. passed x e.from.x) (λ y. passed y e.to.y -ℤ passed y e.from.y)
+    ∙ (λ t. columns t *ℤ (rows ∙ height) t)
+
+-- what remains of an edge's part of the shoelace sum, as a number of its ends
+abbrev remainder : Point → ℤ
+remainder p = pos 8190 *ℤ p.y -ℤ p.x *ℤ p.y
+
+shoelace-level : (x x' y : ℤ) → x *ℤ y -ℤ x' *ℤ y ≡ pos 2 *ℤ ((pos 4095 -ℤ x) *ℤ (y -ℤ y)) +ℤ ((pos 8190 *ℤ y -ℤ x' *ℤ y) -ℤ (pos 8190 *ℤ y -ℤ x *ℤ y))
+shoelace-level x x' y = let flat = mul-self (pos 4095 -ℤ x) y in omega (arith, ints)
+
+shoelace-upright : (x y y' : ℤ) → x *ℤ y' -ℤ x *ℤ y ≡ pos 2 *ℤ ((pos 4095 -ℤ x) *ℤ (y -ℤ y')) +ℤ ((pos 8190 *ℤ y' -ℤ x *ℤ y') -ℤ (pos 8190 *ℤ y -ℤ x *ℤ y))
+shoelace-upright x y y' =
+    let apart = mul-sub (pos 4095 -ℤ x) y y' in
+    let from = sub-mul (pos 4095) x y in
+    let to = sub-mul (pos 4095) x y' in
+    omega (arith, ints)
+
+-- an edge's part of the shoelace sum is twice its strip and a difference of its ends
+shoelace-strip : (e : Edge) → IsRectilinear e → e.from.x *ℤ e.to.y -ℤ e.to.x *ℤ e.from.y ≡ pos 2 *ℤ strip e +ℤ (remainder e.to -ℤ remainder e.from)
+unfolding IsRectilinear across up
+shoelace-strip e (inl level) =
+    let same_height : e.to.y ≡ e.from.y = let rise = level.1 in omega (arith, ints) in
+    rw same_height (shoelace-level e.from.x e.to.x e.from.y)
+shoelace-strip e (inr upright) =
+    let same_column : e.to.x ≡ e.from.x = let run = upright.0 in omega (arith, ints) in
+    rw same_column (shoelace-upright e.from.x e.from.y e.to.y)
+
+-- round a cycle the differences add up to 0
+area-strips : (ps : List Point) → IsRectilinearCycle ps → area ps ≡ sum_below (length ps) (λ i. strip (edge_at ps i))
+unfolding area shoelace_at edge_at
+area-strips ps cycle =
+    let strips : ℕ → ℤ = λ i. strip (edge_at ps i) in
+    let twice = sum_below-mul_and_differences ps (pos 2) (shoelace_at ps) strips (λ i. remainder (point_at ps i))
+    (λ i below. shoelace-strip (edge_at ps i) (cycle.rectilinear i below)) in
+    ap (λ s. int_div s (pos 2)) twice ∙ int_div-mul 2 (sum_below (length ps) strips) (omega arith)
+
+pub sum_over_field-winding : (ps : List Point) → IsRectilinearCycle ps → sum_over_field (winding ps) ≡ area ps
+unfolding crossing_at edge_at
+sum_over_field-winding ps cycle =
+    let in_reach = cycle.reach.in_reach in
+    (λ t. sum_over_field (λ x y. winding-crossings ps x y cycle t))
+    ∙ sum_over_field-sum (length ps) (λ x y. crossing_at ps x y)
+    ∙ sum_below-same (length ps) (λ i. sum_over_field (λ x y. crossing_at ps x y i)) (λ i. strip (edge_at ps i))
+    (λ i below. sum_over_field-crossing (edge_at ps i) (in_reach i below) (in_reach (next_place ps i) (next_place-below ps i below)))
+    ∙ sym (area-strips ps cycle)

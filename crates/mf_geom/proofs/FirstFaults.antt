@@ -1,0 +1,109 @@
+-- The first fault of a list of points is the one that `fault_of` computes.
+use Rattle.std.proofs.Common.{◌≡◌, ℕ, zero, suc, ◌<◌, Bool, true, false, pos, List, length, None, Some, refl, arith, inl, inr, ◌∙◌}
+use Rattle.std.proofs.lemmas.Int.{ints}
+use Rattle.std.specs.Ordering.{int_eq}
+use Rattle.std.proofs.lemmas.Bool.{cases_Bool, cases_lt, true_from_ne_false, false_from_ne_true, both_ways}
+use Rattle.std.proofs.lemmas.Bool.Decides.{nat_tests}
+use Rattle.mf_geom.specs.declared.point.Point.{Point}
+use Rattle.mf_geom.specs.declared.cycle.CycleFault.{CycleFault}
+use Rattle.mf_geom.specs.declared.cycle.CycleFault.TheVariants.{TooFewPoints, TooManyPoints, PointOutOfRange, NotRectilinear, Backtracks, TurningZero}
+use Rattle.mf_geom.specs.Faults.{first_place, fault_from_reach, fault_from_edges, fault_from_vertices, fault_from_turning, is_out_of_reach, is_not_rectilinear, is_reversal, fault_of}
+use Rattle.mf_geom.specs.Lawful.{HasLawfulLength, StaysInReach, IsRectilinearCycle, NeverReverses, IsCycle, IsFault}
+use Rattle.mf_geom.specs.Path.{Edge, point_at, edge_at, arriving, across, IsInReach, IsRectilinear, IsReversal}
+
+pub first_place-none : (n : ℕ) (test : ℕ → Bool) → ((i : ℕ) → i < n → test i ≡ false) → first_place n test ≡ None
+unfolding first_place
+first_place-none zero test fails = refl
+first_place-none (suc n) test fails =
+    let front = first_place-none n test (λ i below. fails i (omega arith)) in
+    let last = fails n (omega arith) in
+    rw (front, last) refl
+
+pub first_place-some : (n : ℕ) (test : ℕ → Bool) (i : ℕ) → i < n → test i ≡ true → ((k : ℕ) → k < i → test k ≡ false) → first_place n test ≡ Some i
+unfolding first_place
+first_place-some zero test i below here before = absurd (omega arith)
+first_place-some (suc n) test i below here before =
+    elim (cases_lt i n) [
+      | inl inner ↦ let front = first_place-some n test i inner here before in rw front refl
+      | inr outer ↦
+          let last : i ≡ n = omega arith in
+          let front = first_place-none n test (λ k first. before k (omega arith)) in
+          let passes : test n ≡ true = rw last at here in
+          rw (front, passes, last) refl
+    ]
+
+pub is_out_of_reach-false : (p : Point) → IsInReach p → is_out_of_reach p ≡ false
+unfolding is_out_of_reach
+is_out_of_reach-false p reach = grind (arith, ints)
+
+IsInReach-from_false : (p : Point) → is_out_of_reach p ≡ false → IsInReach p
+unfolding is_out_of_reach
+IsInReach-from_false p passes = record { left = grind (arith, ints); right = grind (arith, ints); bottom = grind (arith, ints); top = grind (arith, ints) }
+
+pub is_out_of_reach-true : (p : Point) → ¬ IsInReach p → is_out_of_reach p ≡ true
+is_out_of_reach-true p beyond = true_from_ne_false _ (λ passes. beyond (IsInReach-from_false p passes))
+
+pub is_not_rectilinear-false : (e : Edge) → IsRectilinear e → is_not_rectilinear e ≡ false
+unfolding is_not_rectilinear IsRectilinear
+is_not_rectilinear-false e (inl level) = grind (arith, ints)
+is_not_rectilinear-false e (inr upright) = grind (arith, ints)
+
+IsRectilinear-from_false : (e : Edge) → is_not_rectilinear e ≡ false → IsRectilinear e
+unfolding is_not_rectilinear IsRectilinear
+IsRectilinear-from_false e passes =
+    elim (cases_Bool (int_eq (across e) (pos 0))) [
+      | inl upright ↦ inr (grind (arith, ints), grind (arith, ints))
+      | inr level ↦ inl (grind (arith, ints), grind (arith, ints))
+    ]
+
+pub is_not_rectilinear-true : (e : Edge) → ¬ IsRectilinear e → is_not_rectilinear e ≡ true
+is_not_rectilinear-true e slanted = true_from_ne_false _ (λ passes. slanted (IsRectilinear-from_false e passes))
+
+pub is_reversal-true : (a b : Edge) → IsReversal a b → is_reversal a b ≡ true
+unfolding is_reversal
+is_reversal-true a b back = grind (arith, ints)
+
+IsReversal-from_true : (a b : Edge) → is_reversal a b ≡ true → IsReversal a b
+unfolding is_reversal
+IsReversal-from_true a b passes = record { opposite = grind (arith, ints) }
+
+pub is_reversal-false : (a b : Edge) → ¬ IsReversal a b → is_reversal a b ≡ false
+is_reversal-false a b onward = false_from_ne_true _ (λ passes. onward (IsReversal-from_true a b passes))
+
+-- what is left to look for, once the length is lawful
+fault_of-sized : (ps : List Point) → HasLawfulLength ps → fault_of ps ≡ fault_from_reach ps
+unfolding fault_of
+fault_of-sized ps sized = grind (arith, nat_tests)
+
+fault_of-reach : (ps : List Point) → StaysInReach ps → fault_of ps ≡ fault_from_edges ps
+fault_of-reach ps reach =
+    let none = first_place-none (length ps) (λ i. is_out_of_reach (point_at ps i)) (λ i below. is_out_of_reach-false (point_at ps i) (reach.in_reach i below)) in
+    fault_of-sized ps reach.sized ∙ rw none refl
+
+fault_of-rectilinear : (ps : List Point) → IsRectilinearCycle ps → fault_of ps ≡ fault_from_vertices ps
+fault_of-rectilinear ps cycle =
+    let none = first_place-none (length ps) (λ i. is_not_rectilinear (edge_at ps i)) (λ i below. is_not_rectilinear-false (edge_at ps i) (cycle.rectilinear i below)) in
+    fault_of-reach ps cycle.reach ∙ rw none refl
+
+fault_of-onward : (ps : List Point) → NeverReverses ps → fault_of ps ≡ fault_from_turning ps
+fault_of-onward ps never =
+    let none = first_place-none (length ps) (λ i. is_reversal (arriving ps i) (edge_at ps i)) (λ i below. is_reversal-false (arriving ps i) (edge_at ps i) (never.onward i below)) in
+    fault_of-rectilinear ps never.rectilinear ∙ rw none refl
+
+pub fault_of-cycle : (ps : List Point) → IsCycle ps → fault_of ps ≡ None
+fault_of-cycle ps cycle = let turns = cycle.turns in fault_of-onward ps cycle.onward ∙ grind (arith, ints)
+
+pub fault_of-fault : (ps : List Point) (fault : CycleFault) → IsFault ps fault → fault_of ps ≡ Some fault
+unfolding IsFault fault_of
+fault_of-fault ps TooFewPoints few = grind (arith, nat_tests)
+fault_of-fault ps TooManyPoints many = grind (arith, nat_tests)
+fault_of-fault ps (PointOutOfRange i) (sized, first) =
+    let found = first_place-some (length ps) (λ k. is_out_of_reach (point_at ps k)) i first.below (is_out_of_reach-true _ first.here) (λ k before. false_from_ne_true _ (λ beyond. first.none_before k before (λ reach. both_ways _ (is_out_of_reach-false _ reach) beyond))) in
+    fault_of-sized ps sized ∙ rw found refl
+fault_of-fault ps (NotRectilinear i) (reach, first) =
+    let found = first_place-some (length ps) (λ k. is_not_rectilinear (edge_at ps k)) i first.below (is_not_rectilinear-true _ first.here) (λ k before. false_from_ne_true _ (λ slanted. first.none_before k before (λ straight. both_ways _ (is_not_rectilinear-false _ straight) slanted))) in
+    fault_of-reach ps reach ∙ rw found refl
+fault_of-fault ps (Backtracks i) (cycle, first) =
+    let found = first_place-some (length ps) (λ k. is_reversal (arriving ps k) (edge_at ps k)) i first.below (is_reversal-true _ _ first.here) (λ k before. is_reversal-false _ _ (first.none_before k before)) in
+    fault_of-rectilinear ps cycle ∙ rw found refl
+fault_of-fault ps TurningZero (never, zero_turns) = fault_of-onward ps never ∙ rw zero_turns refl

@@ -1,0 +1,9 @@
+pub mod Areas
+pub mod Crossings
+pub mod FirstFaults
+mod FirstPlaces
+pub mod PartialSums
+mod Passed
+pub mod Products
+pub mod Sums
+mod Worked

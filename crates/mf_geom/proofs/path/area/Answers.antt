@@ -1,0 +1,26 @@
+use Rattle.std.proofs.Common.{◌≡◌, ◌∙◌, ap, pos, ◌+ℤ◌, length, arith, rules, to_z, of_z, w64}
+use Rattle.std.proofs.lemmas.Int.{ints, to_z-of_z, quot_fits}
+use Rattle.std.specs.Int.RustNames.{int_div}
+use Rattle.mf_geom.specs.Area.{shoelace_at, area}
+use Rattle.mf_geom.specs.Sum.{sum_below}
+use Rattle.mf_geom.proofs.PartialSums.{IsSumTo-none, IsSumTo-more}
+use Rattle.mf_geom.proofs.path.area.Goals as goal
+
+pub loop-edge-init : goal.loop-edge-init
+loop-edge-init c = IsSumTo-none _ _
+
+pub loop-edge-preserved : goal.loop-edge-preserved
+loop-edge-preserved c =
+    let so_far = to_z w64 c.loop-edge.doubled-bits in
+    let part = shoelace_at c.args.points.now c.loop-edge.edge in
+    let widened = c.from-doubled.ensures in
+    let sum : to_z w64 (of_z w64 (so_far +ℤ to_z w64 (of_z w64 c.from-doubled.result))) ≡ so_far +ℤ part = omega (arith, ints) in
+    rw sum (IsSumTo-more _ _ _ _ c.loop-edge.invariant (omega (arith, ints)) (omega (arith, ints)))
+
+pub returns : goal.returns
+unfolding area
+returns c =
+    let sum = to_z w64 c.loop-edge.doubled-bits in
+    let whole : c.loop-edge.edge ≡ length c.args.points.now = omega arith in
+    to_z-of_z w64 (int_div sum (pos 2)) (quot_fits w64 sum (pos 2) (search rules) (omega (arith, ints)))
+    ∙ ap (λ s. int_div s (pos 2)) (c.loop-edge.invariant.value ∙ ap (λ n. sum_below n (shoelace_at c.args.points.now)) whole)

@@ -1,0 +1,25 @@
+use Rattle.std.proofs.Common.{◌≡◌, ◌∙◌, ap, pos, ◌+ℤ◌, length, arith, rules, to_z, of_z, w32}
+use Rattle.std.proofs.lemmas.Int.{ints, to_z-of_z, quot_fits}
+use Rattle.std.specs.Int.RustNames.{int_div}
+use Rattle.mf_geom.specs.Sum.{sum_below}
+use Rattle.mf_geom.specs.Turning.{turn_at, turning}
+use Rattle.mf_geom.proofs.PartialSums.{IsSumTo-none, IsSumTo-more}
+use Rattle.mf_geom.proofs.path.turning.Goals as goal
+
+pub loop-vertex-init : goal.loop-vertex-init
+loop-vertex-init c = IsSumTo-none _ _
+
+pub loop-vertex-preserved : goal.loop-vertex-preserved
+loop-vertex-preserved c =
+    let so_far = to_z w32 c.loop-vertex.quarter_turns-bits in
+    let turn = turn_at c.args.points.now c.loop-vertex.vertex in
+    let sum : to_z w32 (of_z w32 (so_far +ℤ to_z w32 (of_z w32 c.turn-quarter_turns.result))) ≡ so_far +ℤ turn = omega (arith, ints) in
+    rw sum (IsSumTo-more _ _ _ _ c.loop-vertex.invariant (omega (arith, ints)) (omega (arith, ints)))
+
+pub returns : goal.returns
+unfolding turning
+returns c =
+    let sum = to_z w32 c.loop-vertex.quarter_turns-bits in
+    let whole : c.loop-vertex.vertex ≡ length c.args.points.now = omega arith in
+    to_z-of_z w32 (int_div sum (pos 4)) (quot_fits w32 sum (pos 4) (search rules) (omega (arith, ints)))
+    ∙ ap (λ s. int_div s (pos 4)) (c.loop-vertex.invariant.value ∙ ap (λ n. sum_below n (turn_at c.args.points.now)) whole)

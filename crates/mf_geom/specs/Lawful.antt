@@ -1,0 +1,47 @@
+-- Which lists of points are cycles, and why another one is refused.
+use Rattle.std.specs.Prelude.{◌≡◌, ◌≢◌, ℕ, ◌<◌, ◌≤◌, pos, List, length}
+use Rattle.mf_geom.specs.declared.point.Point.{Point}
+use Rattle.mf_geom.specs.declared.cycle.CycleFault.{CycleFault}
+use Rattle.mf_geom.specs.declared.cycle.CycleFault.TheVariants.{TooFewPoints, TooManyPoints, PointOutOfRange, NotRectilinear, Backtracks, TurningZero}
+use Rattle.mf_geom.specs.Path.{point_at, edge_at, arriving, IsInReach, IsRectilinear, IsReversal}
+use Rattle.mf_geom.specs.Turning.{turning}
+
+-- 2 to 4096 points
+pub record HasLawfulLength (ps : List Point) : Type 0 where
+  pub least : 2 ≤ length ps
+  pub greatest : length ps ≤ 4096
+
+-- and each of them in reach
+pub record StaysInReach (ps : List Point) : Type 0 where
+  pub sized : HasLawfulLength ps
+  pub in_reach : (i : ℕ) → i < length ps → IsInReach (point_at ps i)
+
+-- and each edge rectilinear: a rectilinear cycle
+pub record IsRectilinearCycle (ps : List Point) : Type 0 where
+  pub reach : StaysInReach ps
+  pub rectilinear : (i : ℕ) → i < length ps → IsRectilinear (edge_at ps i)
+
+-- and no vertex at which the path turns straight back
+pub record NeverReverses (ps : List Point) : Type 0 where
+  pub rectilinear : IsRectilinearCycle ps
+  pub onward : (i : ℕ) → i < length ps → IsReversal (arriving ps i) (edge_at ps i) → ⊥
+
+-- and a turning number that is not 0: a cycle that can be filled while the turning check is on
+pub record IsCycle (ps : List Point) : Type 0 where
+  pub onward : NeverReverses ps
+  pub turns : turning ps ≢ pos 0
+
+-- i is the first of the places below n at which P holds
+pub record IsFirst (n : ℕ) (P : ℕ → Type 0) (i : ℕ) : Type 0 where
+  pub below : i < n
+  pub here : P i
+  pub none_before : (k : ℕ) → k < i → P k → ⊥
+
+-- the list is refused with this fault: the first one in the order of the cases, at its first place
+unfoldable pub IsFault : List Point → CycleFault → Type 0
+IsFault ps TooFewPoints = length ps < 2
+IsFault ps TooManyPoints = 4096 < length ps
+IsFault ps (PointOutOfRange i) = HasLawfulLength ps × IsFirst (length ps) (λ k. ¬ IsInReach (point_at ps k)) i
+IsFault ps (NotRectilinear i) = StaysInReach ps × IsFirst (length ps) (λ k. ¬ IsRectilinear (edge_at ps k)) i
+IsFault ps (Backtracks i) = IsRectilinearCycle ps × IsFirst (length ps) (λ k. IsReversal (arriving ps k) (edge_at ps k)) i
+IsFault ps TurningZero = NeverReverses ps × (turning ps ≡ pos 0)

@@ -1,0 +1,10 @@
+pub mod Area
+pub mod Crossing
+pub mod Faults
+pub mod Field
+pub mod Lawful
+pub mod Names
+pub mod Path
+pub mod Sum
+pub mod Turning
+pub mod Winding

@@ -1,0 +1,18 @@
+-- How often a cycle turns (The METAFONTbook, chapter 13; mf.web, "turning number").
+use Rattle.std.specs.Prelude.{ℕ, ℤ, pos, ◌-ℤ◌, ◌*ℤ◌, List, length, int_div}
+use Rattle.std.specs.Int.{int_signum}
+use Rattle.mf_geom.specs.declared.point.Point.{Point}
+use Rattle.mf_geom.specs.Path.{Edge, across, up, edge_at, arriving}
+use Rattle.mf_geom.specs.Sum.{sum_below}
+
+-- the turn from one edge to the next: 1 to the left, -1 to the right, 0 straight on
+unfoldable pub turn : Edge → Edge → ℤ
+turn a b = int_signum ((across a *ℤ up b) -ℤ (up a *ℤ across b))
+
+-- the turn at vertex i
+unfoldable pub turn_at : List Point → ℕ → ℤ
+turn_at ps i = turn (arriving ps i) (edge_at ps i)
+
+-- the turning number: four left turns more than right turns make one whole turn
+unfoldable pub turning : List Point → ℤ
+turning ps = int_div (sum_below (length ps) (turn_at ps)) (pos 4)

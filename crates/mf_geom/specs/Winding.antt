@@ -1,0 +1,48 @@
+-- How often a cycle winds round a pixel, and what filling it adds there (The METAFONTbook, chapters 13
+-- and 24). The winding number is counted by the quadrants that the path visits round the pixel's centre.
+use Rattle.std.specs.Prelude.{ℕ, ℤ, pos, negsuc, ◌*ℤ◌, int_div, int_lt, List, length, if◌then◌else◌}
+use Rattle.std.specs.Int.{int_signum}
+use Rattle.mf_geom.specs.declared.point.Point.{Point}
+use Rattle.mf_geom.specs.Path.{Edge, edge_at}
+use Rattle.mf_geom.specs.Sum.{sum_below}
+use Rattle.mf_geom.specs.Turning.{turning}
+
+-- the four quadrants round the centre of a pixel, counterclockwise
+pub data Quadrant : Type 0 where
+  right_up : Quadrant
+  left_up : Quadrant
+  left_down : Quadrant
+  right_down : Quadrant
+
+-- the quadrant of a point round the centre of the pixel (x, y)
+unfoldable pub quadrant : ℤ → ℤ → Point → Quadrant
+quadrant x y p = if int_lt x p.x then (if int_lt y p.y then right_up else right_down) else (if int_lt y p.y then left_up else left_down)
+
+-- the quarter turns round the centre, counterclockwise, on the way from one quadrant to another that is
+-- the same or beside it (an edge parallel to an axis leads to no other)
+abbrev pub quarter : Quadrant → Quadrant → ℤ
+quarter right_up left_up = pos 1
+quarter left_up left_down = pos 1
+quarter left_down right_down = pos 1
+quarter right_down right_up = pos 1
+quarter left_up right_up = negsuc 0
+quarter left_down left_up = negsuc 0
+quarter right_down left_down = negsuc 0
+quarter right_up right_down = negsuc 0
+quarter _ _ = pos 0
+
+-- the quarter turns round the centre of the pixel (x, y) along an edge
+unfoldable pub quarter_along : ℤ → ℤ → Edge → ℤ
+quarter_along x y e = quarter (quadrant x y e.from) (quadrant x y e.to)
+
+-- the quarter turns along the edge that leaves vertex i
+unfoldable pub quarter_at : List Point → ℤ → ℤ → ℕ → ℤ
+quarter_at ps x y i = quarter_along x y (edge_at ps i)
+
+-- the winding number round the pixel (x, y): four quarter turns make one whole turn
+unfoldable pub winding : List Point → ℤ → ℤ → ℤ
+winding ps x y = int_div (sum_below (length ps) (quarter_at ps x y)) (pos 4)
+
+-- what filling the cycle with weight w adds to the pixel (x, y): a cycle that turns clockwise is negated
+unfoldable pub contour : List Point → ℤ → ℤ → ℤ → ℤ
+contour ps w x y = (w *ℤ int_signum (turning ps)) *ℤ winding ps x y

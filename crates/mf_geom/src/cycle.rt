@@ -1,0 +1,129 @@
+//! Cycles: closed rectilinear paths that can be filled.
+ghost use Rattle.std.specs.Prelude.{◌≡◌, ◌↔◌, pos, negsuc, ◌≤ℤ◌, IsOk, IfOk, IfErr};
+
+use crate::point::Point;
+use crate::{path, winding};
+use std::error::Error;
+use std::fmt;
+use std::marker::Model;
+
+/// Why a list of points is no cycle. A number is the place, counted from 0, of the first point, edge or
+/// vertex that is at fault; edge i leads from point i to the next one.
+#[derive(Clone, Copy, Debug, PartialEq, Eq)]
+pub enum CycleFault {
+    /// Refusal 1: fewer than 2 points.
+    TooFewPoints,
+    /// Refusal 2: more than 4096 points.
+    TooManyPoints,
+    /// Refusal 3: a coordinate outside -4095..4095.
+    PointOutOfRange(u32),
+    /// Refusal 4: this point and the next one do not differ in exactly one coordinate.
+    NotRectilinear(u32),
+    /// Refusal 5: the path turns straight back at this vertex.
+    Backtracks(u32),
+    /// Refusal 6: there are as many right turns as left turns.
+    TurningZero,
+}
+
+impl fmt::Display for CycleFault {
+    ghost use Rattle.std.specs.Prelude.{Some};
+    ghost use Rattle.mf_geom.specs.Names.{fault_text};
+
+    ghost output = { λ fault. Some (fault_text fault) };
+
+    fn fmt<W: fmt::Write>(&self, f: &mut fmt::Formatter<W>) -> fmt::Result {
+        match self {
+            CycleFault::TooFewPoints => write!(f, "TooFewPoints"),
+            CycleFault::TooManyPoints => write!(f, "TooManyPoints"),
+            CycleFault::PointOutOfRange(place) => write!(f, "PointOutOfRange {place}"),
+            CycleFault::NotRectilinear(place) => write!(f, "NotRectilinear {place}"),
+            CycleFault::Backtracks(place) => write!(f, "Backtracks {place}"),
+            CycleFault::TurningZero => write!(f, "TurningZero"),
+        }
+    }
+}
+
+impl Error for CycleFault {}
+
+/// A closed path along the edges of pixels, which can be filled: 2 to 4096 points with coordinates in
+/// -4095..4095 pixels, each of which differs from the next one in exactly one coordinate (the last
+/// one's next is the first), with no vertex at which the path turns straight back, and with a turning
+/// number other than 0 (The METAFONTbook, chapter 13).
+#[derive(Debug, Drop)]
+pub struct Cycle {
+    points: Vec<Point>,
+}
+
+impl Model for Cycle {
+    ghost use Rattle.std.specs.Prelude.{List};
+    ghost use Rattle.mf_geom.specs.declared.point.Point.{Point};
+
+    ghost Value = { List Point };
+
+    ghost use Rattle.mf_geom.specs.Lawful.{IsCycle};
+
+    ghost view = { λ c. c.points.items };
+
+    ghost invariant = { λ c. IsCycle c.points.items };
+}
+
+impl Cycle {
+    ghost use Rattle.mf_geom.specs.Lawful.{IsCycle, IsFault};
+    ghost use Rattle.mf_geom.specs.Turning.{turning};
+    ghost use Rattle.mf_geom.specs.Area.{area};
+    ghost use Rattle.mf_geom.specs.Winding.{winding};
+
+    /// The cycle through these points, in this order. It takes no memory. Refusals 1 to 6 come in rising
+    /// order: all points are checked for one before any is checked for the next. The list comes back.
+    pub fn new(points: Vec<Point>) -> Result<Cycle, (CycleFault, Vec<Point>)>
+        ensures accepted { IsOk result ↔ IsCycle points.items }
+        ensures kept { IfOk result (λ cycle. cycle ≡ points.items) }
+        ensures refused { IfErr result (λ back. IsFault points.items back.0) }
+        ensures unchanged { IfErr result (λ back. back.1 ≡ points) }
+    {
+        match path::fault(&points) {
+            None => Ok(Cycle { points }),
+            Some(fault) => Err((fault, points)),
+        }
+    }
+
+    /// The points, in the order in which they were given.
+    pub fn points(&self) -> &[Point]
+        ensures points { result.now ≡ self.now }
+        ensures lawful { IsCycle self.now }
+    {
+        &self.points
+    }
+
+    /// The turning number: left turns less right turns, divided by 4 (mf.web, "turning number"). It is
+    /// positive for a cycle that turns counterclockwise, and never 0.
+    pub fn turning(&self) -> i32
+        ensures value { result ≡ turning self.now }
+        ensures lawful { IsCycle self.now }
+    {
+        path::turning(&self.points)
+    }
+
+    /// The winding number round the pixel (x, y): how often the cycle goes round it, counterclockwise
+    /// positive. It is 0 for a pixel outside the field.
+    pub fn winding(&self, x: i32, y: i32) -> i32
+        ensures value { result ≡ winding self.now x y }
+        ensures lawful { IsCycle self.now }
+        ensures least { negsuc 4095 ≤ℤ result }
+        ensures greatest { result ≤ℤ pos 4096 }
+    {
+        winding::winding(&self.points, x, y)
+    }
+
+    /// The signed area in pixels, by the shoelace formula: positive where the cycle goes
+    /// counterclockwise.
+    pub fn area(&self) -> i64
+        ensures value { result ≡ area self.now }
+        ensures lawful { IsCycle self.now }
+    {
+        path::area(&self.points)
+    }
+}
+
+#[cfg(test)]
+mod tests;

@@ -1,0 +1,123 @@
+//! The edges and the vertices of a closed path, each named by its place in the path's slice of points:
+//! edge i leaves vertex i.
+ghost use Rattle.std.specs.Prelude.{◌≡◌, ◌↔◌, ◌<◌, ◌⊎◌, ◌≢◌, pos, negsuc, ◌+ℤ◌, ◌-ℤ◌, ◌*ℤ◌, ◌≤ℤ◌, length, IsTrue};
+ghost use Rattle.mf_geom.specs.Area.{shoelace_at};
+ghost use Rattle.mf_geom.specs.Lawful.{StaysInReach};
+ghost use Rattle.mf_geom.specs.Path.{next_place, previous_place, edge_at, arriving, across, up, IsRectilinear, IsReversal};
+ghost use Rattle.mf_geom.specs.Turning.{turn_at};
+
+use crate::point::Point;
+
+/// How far an edge leads to the right and up, in pixels.
+#[derive(Clone, Copy)]
+struct Step {
+    across: i32,
+    up: i32,
+    ghost leftmost: { negsuc 8189 ≤ℤ across },
+    ghost rightmost: { across ≤ℤ pos 8190 },
+    ghost lowest: { negsuc 8189 ≤ℤ up },
+    ghost highest: { up ≤ℤ pos 8190 },
+}
+
+/// Whether an edge is rectilinear.
+pub fn is_rectilinear(points: &[Point], edge: usize) -> bool
+    requires reach { StaysInReach points.now }
+    requires within { edge < length points.now }
+    ensures { IsTrue result ↔ IsRectilinear (edge_at points.now edge) }
+{
+    let step = step_along(points, edge);
+    (step.across == 0) != (step.up == 0)
+}
+
+/// Whether the path turns straight back at a vertex.
+pub fn is_reversal(points: &[Point], vertex: usize) -> bool
+    requires reach { StaysInReach points.now }
+    requires within { vertex < length points.now }
+    ensures { IsTrue result ↔ IsReversal (arriving points.now vertex) (edge_at points.now vertex) }
+{
+    let arriving = step_along(points, previous_place(points, vertex));
+    let leaving = step_along(points, vertex);
+    product(arriving.across, leaving.across) + product(arriving.up, leaving.up) < 0
+}
+
+/// The turn at a vertex: 1 to the left, -1 to the right, 0 straight on.
+pub fn turn(points: &[Point], vertex: usize) -> i32
+    requires reach { StaysInReach points.now }
+    requires within { vertex < length points.now }
+    ensures value { result ≡ turn_at points.now vertex }
+    ensures least { negsuc 0 ≤ℤ result }
+    ensures greatest { result ≤ℤ pos 1 }
+{
+    let arriving = step_along(points, previous_place(points, vertex));
+    let leaving = step_along(points, vertex);
+    (product(arriving.across, leaving.up) - product(arriving.up, leaving.across)).signum()
+}
+
+/// The part of the shoelace sum that an edge gives.
+pub fn shoelace(points: &[Point], edge: usize) -> i32
+    requires reach { StaysInReach points.now }
+    requires within { edge < length points.now }
+    ensures value { result ≡ shoelace_at points.now edge }
+    ensures least { negsuc 134152199 ≤ℤ result }
+    ensures greatest { result ≤ℤ pos 134152200 }
+{
+    let from = points[edge];
+    let to = points[next_place(points, edge)];
+    product(from.x, to.y) - product(to.x, from.y)
+}
+
+/// How far the edge leads that leaves this vertex.
+fn step_along(points: &[Point], edge: usize) -> Step
+    requires reach { StaysInReach points.now }
+    requires within { edge < length points.now }
+    ensures across { result.across ≡ across (edge_at points.now edge) }
+    ensures up { result.up ≡ up (edge_at points.now edge) }
+{
+    let from = points[edge];
+    let to = points[next_place(points, edge)];
+    Step {
+        across: to.x - from.x,
+        up: to.y - from.y,
+    }
+}
+
+/// The place after this one: behind the last point comes the first.
+#[tactic(auto, unfolding(crate::specs::Path::next_place))]
+pub fn next_place(points: &[Point], place: usize) -> usize
+    requires { place < length points.now }
+    ensures value { result ≡ next_place points.now place }
+    ensures within { result < length points.now }
+{
+    if place + 1 == points.len() {
+        0
+    } else {
+        place + 1
+    }
+}
+
+/// The place before this one: before the first point stands the last.
+#[tactic(auto, unfolding(crate::specs::Path::previous_place))]
+fn previous_place(points: &[Point], place: usize) -> usize
+    requires { place < length points.now }
+    ensures value { result ≡ previous_place points.now place }
+    ensures within { result < length points.now }
+{
+    if place == 0 {
+        points.len() - 1
+    } else {
+        place - 1
+    }
+}
+
+/// The product of two coordinates, or of how far two edges lead. It fits: none of them is beyond 8190.
+fn product(a: i32, b: i32) -> i32
+    requires a_least { negsuc 8189 ≤ℤ a }
+    requires a_greatest { a ≤ℤ pos 8190 }
+    requires b_least { negsuc 8189 ≤ℤ b }
+    requires b_greatest { b ≤ℤ pos 8190 }
+    ensures value { result ≡ a *ℤ b }
+    ensures least { negsuc 67076099 ≤ℤ result }
+    ensures greatest { result ≤ℤ pos 67076100 }
+{
+    a * b
+}

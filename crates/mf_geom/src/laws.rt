@@ -1,0 +1,46 @@
+//! Laws of the definitions: each is the contract of a function that does nothing.
+ghost use Rattle.std.specs.Prelude.{◌≡◌, ℤ, pos, ◌*ℤ◌, List, length, Some, None};
+ghost use Rattle.std.specs.Int.{int_signum};
+ghost use Rattle.mf_geom.specs.declared.point.Point.{Point};
+ghost use Rattle.mf_geom.specs.Area.{area};
+ghost use Rattle.mf_geom.specs.declared.cycle.CycleFault.{CycleFault};
+ghost use Rattle.mf_geom.specs.Crossing.{crossing_at};
+ghost use Rattle.mf_geom.specs.Faults.{fault_of};
+ghost use Rattle.mf_geom.specs.Field.{IsInField, sum_over_field};
+ghost use Rattle.mf_geom.specs.Lawful.{IsCycle, IsFault, IsRectilinearCycle};
+ghost use Rattle.mf_geom.specs.Sum.{sum_below};
+ghost use Rattle.mf_geom.specs.Turning.{turning};
+ghost use Rattle.mf_geom.specs.Winding.{quarter_at, winding, contour};
+
+/// What filling a rectilinear cycle adds, over all pixels of the field, is its weight times the sign of
+/// its turning number times its signed area.
+pub fn total_is_area()
+    ensures { (ps : List Point) (w : ℤ) → IsRectilinearCycle ps →
+        sum_over_field (contour ps w) ≡ (w *ℤ int_signum (turning ps)) *ℤ area ps }
+{}
+
+/// A rectilinear cycle winds round no pixel outside the field, so filling it never reaches beyond.
+pub fn nothing_outside_the_field()
+    ensures { (ps : List Point) (x y : ℤ) → IsRectilinearCycle ps → ¬ IsInField x y →
+        winding ps x y ≡ pos 0 }
+{}
+
+/// Round every pixel a rectilinear cycle makes whole turns: its quarter turns add up to four times the
+/// winding number, so nothing is lost by the division.
+pub fn whole_turns()
+    ensures { (ps : List Point) (x y : ℤ) → IsRectilinearCycle ps →
+        sum_below (length ps) (quarter_at ps x y) ≡ pos 4 *ℤ winding ps x y }
+{}
+
+/// A list of points has one fault, or it is a cycle and has none.
+pub fn one_fault()
+    ensures refused { (ps : List Point) (fault : CycleFault) → IsFault ps fault → fault_of ps ≡ Some fault }
+    ensures accepted { (ps : List Point) → IsCycle ps → fault_of ps ≡ None }
+{}
+
+/// The winding number of a rectilinear cycle counts how often it crosses the ray that leads left from the
+/// pixel's centre: downwards less upwards (mf.web fills by the sides of the cycle in the same way).
+pub fn winding_counts_crossings()
+    ensures { (ps : List Point) (x y : ℤ) → IsRectilinearCycle ps →
+        winding ps x y ≡ sum_below (length ps) (crossing_at ps x y) }
+{}

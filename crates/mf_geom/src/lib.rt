@@ -1,0 +1,15 @@
+//! Closed rectilinear paths, which METAFONT calls cycles: their turning number, their winding number
+//! round a pixel, and their area.
+#![tactic(auto)]
+
+mod cycle;
+mod edge;
+pub mod laws;
+mod memory;
+mod path;
+mod point;
+mod winding;
+
+pub use cycle::{Cycle, CycleFault};
+pub use memory::OutOfMemory;
+pub use point::Point;

@@ -1,0 +1,117 @@
+//! Closed paths as slices of their points: why one is no cycle, its turning number and its area.
+ghost use Rattle.std.specs.Prelude.{◌≡◌, ◌↔◌, ℕ, ◌<◌, ◌≤◌, pos, length, true, false, IfNone, IfSome, IsTrue};
+ghost use Rattle.mf_geom.specs.Area.{area};
+ghost use Rattle.mf_geom.specs.Lawful.{IsCycle, IsFault, IsFirst, HasLawfulLength, StaysInReach};
+ghost use Rattle.mf_geom.specs.Path.{point_at, edge_at, arriving, IsInReach, IsRectilinear, IsReversal};
+ghost use Rattle.mf_geom.specs.Turning.{turning};
+
+use crate::cycle::CycleFault;
+use crate::edge::{is_rectilinear, is_reversal, shoelace, turn};
+use crate::point::{MAX_COORDINATE, Point};
+
+/// Least number of points of a cycle (`CycleFault::TooFewPoints`).
+const MIN_POINTS: usize = 2;
+
+/// Greatest number of points of a cycle (`CycleFault::TooManyPoints`).
+const MAX_POINTS: usize = 4096;
+
+/// The first fault of a closed path, if it is no cycle.
+#[tactic(auto, unfolding(crate::specs::Lawful::IsFault))]
+pub fn fault(points: &[Point]) -> Option<CycleFault>
+    ensures none { IfNone result (IsCycle points.now) }
+    ensures some { IfSome result (IsFault points.now) }
+{
+    if points.len() < MIN_POINTS {
+        return Some(CycleFault::TooFewPoints);
+    }
+    if points.len() > MAX_POINTS {
+        return Some(CycleFault::TooManyPoints);
+    }
+    if let Some(place) = first_out_of_reach(points) {
+        return Some(CycleFault::PointOutOfRange(place));
+    }
+    if let Some(place) = first_not_rectilinear(points) {
+        return Some(CycleFault::NotRectilinear(place));
+    }
+    if let Some(place) = first_reversal(points) {
+        return Some(CycleFault::Backtracks(place));
+    }
+    if turning(points) == 0 {
+        return Some(CycleFault::TurningZero);
+    }
+    None
+}
+
+/// The turning number of a closed path.
+pub fn turning(points: &[Point]) -> i32
+    requires { StaysInReach points.now }
+    ensures { result ≡ turning points.now }
+{
+    let mut quarter_turns = 0;
+    for vertex in 0..points.len() {
+        quarter_turns += turn(points, vertex);
+    }
+    quarter_turns / 4
+}
+
+/// The signed area of a closed path.
+pub fn area(points: &[Point]) -> i64
+    requires { StaysInReach points.now }
+    ensures { result ≡ area points.now }
+{
+    let mut doubled = 0;
+    for edge in 0..points.len() {
+        doubled += i64::from(shoelace(points, edge));
+    }
+    doubled / 2
+}
+
+/// The first point out of reach.
+fn first_out_of_reach(points: &[Point]) -> Option<u32>
+    requires { HasLawfulLength points.now }
+    ensures none { IfNone result ((k : ℕ) → k < length points.now → IsInReach (point_at points.now k)) }
+    ensures some { IfSome result (IsFirst (length points.now) (λ k. ¬ IsInReach (point_at points.now k))) }
+{
+    first_place(points.len(), |place| !is_in_reach(points[place]))
+}
+
+/// The first edge that is not rectilinear.
+fn first_not_rectilinear(points: &[Point]) -> Option<u32>
+    requires { StaysInReach points.now }
+    ensures none { IfNone result ((k : ℕ) → k < length points.now → IsRectilinear (edge_at points.now k)) }
+    ensures some { IfSome result (IsFirst (length points.now) (λ k. ¬ IsRectilinear (edge_at points.now k))) }
+{
+    first_place(points.len(), |edge| !is_rectilinear(points, edge))
+}
+
+/// The first vertex at which the path turns straight back.
+fn first_reversal(points: &[Point]) -> Option<u32>
+    requires { StaysInReach points.now }
+    ensures none { IfNone result ((k : ℕ) → k < length points.now → IsReversal (arriving points.now k) (edge_at points.now k) → ⊥) }
+    ensures some { IfSome result (IsFirst (length points.now) (λ k. IsReversal (arriving points.now k) (edge_at points.now k))) }
+{
+    first_place(points.len(), |vertex| is_reversal(points, vertex))
+}
+
+/// The first of the places below `count` at which `at_fault` answers true.
+fn first_place<F: Fn(usize) -> bool>(count: usize, at_fault: F) -> Option<u32>
+    requires few { count ≤ 4096 }
+    requires callable { (k : ℕ) → k < count → F.pre at_fault k }
+    ensures none { IfNone result ((k : ℕ) → k < count → F.post at_fault k false) }
+    ensures some { IfSome result (λ i. (i < count) × F.post at_fault i true × ((k : ℕ) → k < i → F.post at_fault k false)) }
+{
+    for place in 0..count {
+        if at_fault(place) {
+            return Some(place as u32);
+        }
+    }
+    None
+}
+
+/// Whether both coordinates of a point are in reach.
+fn is_in_reach(point: Point) -> bool
+    ensures { IsTrue result ↔ IsInReach point }
+{
+    let reach = -MAX_COORDINATE..=MAX_COORDINATE;
+    reach.contains(&point.x) && reach.contains(&point.y)
+}

@@ -1,0 +1,49 @@
+//! How often a closed path winds round a pixel.
+ghost use Rattle.std.specs.Prelude.{◌≡◌, ◌<◌, pos, negsuc, ◌≤ℤ◌, length};
+ghost use Rattle.mf_geom.specs.Crossing.{passed, crossing_at};
+ghost use Rattle.mf_geom.specs.Lawful.{IsRectilinearCycle, StaysInReach};
+ghost use Rattle.mf_geom.specs.Winding.{winding};
+
+use crate::edge::next_place;
+use crate::point::Point;
+
+/// The winding number of a closed path round the pixel (x, y).
+pub fn winding(points: &[Point], x: i32, y: i32) -> i32
+    requires { IsRectilinearCycle points.now }
+    ensures value { result ≡ winding points.now x y }
+    ensures least { negsuc 4095 ≤ℤ result }
+    ensures greatest { result ≤ℤ pos 4096 }
+{
+    let mut crossings = 0;
+    for edge in 0..points.len() {
+        crossings += crossing(points, edge, x, y);
+    }
+    crossings
+}
+
+/// How an edge crosses the ray that leads left from the centre of the pixel (x, y): 1 downwards,
+/// -1 upwards, 0 not at all.
+fn crossing(points: &[Point], edge: usize, x: i32, y: i32) -> i32
+    requires reach { StaysInReach points.now }
+    requires within { edge < length points.now }
+    ensures value { result ≡ crossing_at points.now x y edge }
+    ensures least { negsuc 0 ≤ℤ result }
+    ensures greatest { result ≤ℤ pos 1 }
+{
+    let from = points[edge];
+    let to = points[next_place(points, edge)];
+    if x < from.x {
+        return 0;
+    }
+    passed(y, to.y) - passed(y, from.y)
+}
+
+/// 1 where the number `a` is at most `x`, and 0 where it lies beyond.
+#[tactic(auto, unfolding(crate::specs::Crossing::passed))]
+fn passed(x: i32, a: i32) -> i32
+    ensures value { result ≡ passed x a }
+    ensures least { pos 0 ≤ℤ result }
+    ensures greatest { result ≤ℤ pos 1 }
+{
+    if x < a { 0 } else { 1 }
+}

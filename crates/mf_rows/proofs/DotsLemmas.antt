@@ -1,0 +1,121 @@
+-- Dots in reading order, and the weight at a pixel.
+use Rattle.std.proofs.Common.{◌≡◌, ◌≢◌, ℕ, zero, suc, ◌-◌, ◌<◌, ◌≤◌, ◌&&◌, true, ℤ, pos, ◌+ℤ◌, ◌≤ℤ◌, ◌<ℤ◌, List, [], ◌∷◌, ◌++◌, length, get_or, refl, ◌∙◌, arith}
+use Rattle.std.specs.List.{All}
+use Rattle.std.specs.Ordering.{int_eq}
+use Rattle.std.proofs.lemmas.Bool.{cond-true, cond-false, and_parts, and_from, false_from_ne_true}
+use Rattle.std.proofs.lemmas.Bool.Decides.{Decides-int_eq}
+use Rattle.std.proofs.lemmas.Int.{ints}
+use Rattle.std.proofs.lemmas.List.Elements.{All-head, All-tail, All-cons, All-nil, All-weaker, All-from_get_or}
+use Rattle.mf_geom.specs.Field.{IsInField}
+use Rattle.mf_rows.specs.Dots.{Dot, IsDot, IsPicture, AreDotsFrom, place, first_place, weight_at}
+use Rattle.mf_rows.specs.Places.{AreBefore}
+
+-- a dot is at the pixel (x, y)
+pub record IsAt (d : Dot) (x y : ℤ) : Type 0 where
+  pub column : d.x ≡ x
+  pub row : d.y ≡ y
+
+is_at_test : (d : Dot) (x y : ℤ) → (int_eq d.x x && int_eq d.y y) ≡ true → IsAt d x y
+is_at_test d x y test =
+    let parts = and_parts (int_eq d.x x) (int_eq d.y y) test in
+    record { column = (Decides-int_eq d.x x).0 parts.0; row = (Decides-int_eq d.y y).0 parts.1 }
+
+-- the first dot's weight is that of its pixel
+pub weight_at-here : (d : Dot) (ds : List Dot) (x y : ℤ) → IsAt d x y → weight_at (d ∷ ds) x y ≡ d.weight
+unfolding weight_at
+weight_at-here d ds x y here =
+    cond-true _ d.weight (weight_at ds x y) (and_from (int_eq d.x x) (int_eq d.y y) ((Decides-int_eq d.x x).1 here.column) ((Decides-int_eq d.y y).1 here.row))
+
+-- any other pixel's weight is that among the other dots
+pub weight_at-elsewhere : (d : Dot) (ds : List Dot) (x y : ℤ) → (IsAt d x y → ⊥) → weight_at (d ∷ ds) x y ≡ weight_at ds x y
+unfolding weight_at
+weight_at-elsewhere d ds x y elsewhere =
+    cond-false _ d.weight (weight_at ds x y) (false_from_ne_true (int_eq d.x x && int_eq d.y y) (λ test. elsewhere (is_at_test d x y test)))
+
+-- another place is another pixel
+pub not_at : (d : Dot) (x y : ℤ) → place d.x d.y ≢ place x y → IsAt d x y → ⊥
+not_at d x y apart here = apart (rw (here.column, here.row))
+
+-- where no dot stands the weight is 0
+pub weight_at-none : (ds : List Dot) (x y : ℤ) → All (λ d. place d.x d.y ≢ place x y) ds → weight_at ds x y ≡ pos 0
+unfolding weight_at
+weight_at-none [] x y none = refl
+weight_at-none (d ∷ ds) x y none =
+    weight_at-elsewhere d ds x y (not_at d x y (All-head (λ d. place d.x d.y ≢ place x y) d ds none))
+    ∙ weight_at-none ds x y (All-tail (λ d. place d.x d.y ≢ place x y) d ds none)
+
+-- behind the last dot the weight is 0
+pub weight_at-after : (ds : List Dot) (x y : ℤ) → AreBefore (place x y) ds → weight_at ds x y ≡ pos 0
+weight_at-after ds x y before =
+    weight_at-none ds x y (All-weaker (λ d. place d.x d.y <ℤ place x y) (λ d. place d.x d.y ≢ place x y) (λ d lower same. omega (arith, ints)) ds before)
+
+-- a list of dots may be read from a lower place on
+pub dots_from-lower : (low high : ℤ) (ds : List Dot) → low ≤ℤ high → AreDotsFrom high ds → AreDotsFrom low ds
+dots_from-lower low high [] le dots = tt
+dots_from-lower low high (d ∷ ds) le dots = let start : high ≤ℤ place d.x d.y = dots.1 in (dots.0, omega (arith, ints), dots.2)
+
+-- before the first place the weight is 0
+pub weight_at-before : (low : ℤ) (ds : List Dot) (x y : ℤ) → AreDotsFrom low ds → place x y <ℤ low → weight_at ds x y ≡ pos 0
+unfolding weight_at
+weight_at-before low [] x y dots below = refl
+weight_at-before low (d ∷ ds) x y dots below =
+    let start : low ≤ℤ place d.x d.y = dots.1 in
+    weight_at-elsewhere d ds x y (not_at d x y (λ same. omega (arith, ints)))
+    ∙ weight_at-before (place d.x d.y +ℤ pos 1) ds x y dots.2 (omega (arith, ints))
+
+-- each dot stands at or behind the first place
+pub dots_from-after : (low : ℤ) (ds : List Dot) → AreDotsFrom low ds → All (λ d. low ≤ℤ place d.x d.y) ds
+dots_from-after low [] dots = All-nil (λ d. low ≤ℤ place d.x d.y)
+dots_from-after low (d ∷ ds) dots =
+    let start : low ≤ℤ place d.x d.y = dots.1 in
+    All-cons (λ d. low ≤ℤ place d.x d.y) d ds start (dots_from-after low ds (dots_from-lower low (place d.x d.y +ℤ pos 1) ds (omega (arith, ints)) dots.2))
+
+-- each dot is lawful
+pub dots_from-lawful : (low : ℤ) (ds : List Dot) → AreDotsFrom low ds → All IsDot ds
+dots_from-lawful low [] dots = All-nil IsDot
+dots_from-lawful low (d ∷ ds) dots = All-cons IsDot d ds dots.0 (dots_from-lawful (place d.x d.y +ℤ pos 1) ds dots.2)
+
+-- dots may stand behind others that end before a place
+pub dots_from-append : (low middle : ℤ) (ds es : List Dot) → low ≤ℤ middle → AreDotsFrom low ds → AreBefore middle ds → AreDotsFrom middle es → AreDotsFrom low (ds ++ es)
+dots_from-append low middle [] es le front before back = dots_from-lower low middle es le back
+dots_from-append low middle (d ∷ ds) es le front before back =
+    let lower : place d.x d.y <ℤ middle = All-head (λ d. place d.x d.y <ℤ middle) d ds before in
+    (front.0, front.1, dots_from-append (place d.x d.y +ℤ pos 1) middle ds es (omega (arith, ints)) front.2 (All-tail (λ d. place d.x d.y <ℤ middle) d ds before) back)
+
+-- the pixel of each dot has its weight
+pub weight_at-dot : (low : ℤ) (ds : List Dot) → AreDotsFrom low ds → (k : ℕ) (d : Dot) → k < length ds → weight_at ds (get_or ds k d).x (get_or ds k d).y ≡ (get_or ds k d).weight
+weight_at-dot low [] dots k e lt = absurd (omega arith)
+weight_at-dot low (d ∷ ds) dots zero e lt = weight_at-here d ds d.x d.y (record { column = refl; row = refl })
+weight_at-dot low (d ∷ ds) dots (suc k) e lt =
+    let other = get_or ds k e in
+    let later : (place d.x d.y +ℤ pos 1) ≤ℤ place other.x other.y = dots_from-after (place d.x d.y +ℤ pos 1) ds dots.2 k e (omega arith) in
+    weight_at-elsewhere d ds other.x other.y (not_at d other.x other.y (λ same. omega (arith, ints)))
+    ∙ weight_at-dot (place d.x d.y +ℤ pos 1) ds dots.2 k e (omega arith)
+
+weight_at-all_in_field : (ds : List Dot) (x y : ℤ) → All IsDot ds → (IsInField x y → ⊥) → weight_at ds x y ≡ pos 0
+unfolding weight_at
+weight_at-all_in_field [] x y lawful outside = refl
+weight_at-all_in_field (d ∷ ds) x y lawful outside =
+    weight_at-elsewhere d ds x y (λ here. outside (rw (← here.column, ← here.row) (All-head IsDot d ds lawful).in_field))
+    ∙ weight_at-all_in_field ds x y (All-tail IsDot d ds lawful) outside
+
+-- a picture has weight 0 outside the field
+pub weight_at-outside : (ds : List Dot) (x y : ℤ) → IsPicture ds → (IsInField x y → ⊥) → weight_at ds x y ≡ pos 0
+weight_at-outside ds x y picture outside = weight_at-all_in_field ds x y (dots_from-lawful first_place ds picture.dots) outside
+
+-- no dot stands behind a later one
+pub places_rise : (low : ℤ) (ds : List Dot) → AreDotsFrom low ds → (i j : ℕ) (e : Dot) → i ≤ j → j < length ds → place (get_or ds i e).x (get_or ds i e).y ≤ℤ place (get_or ds j e).x (get_or ds j e).y
+places_rise low [] dots i j e le lt = absurd (omega arith)
+places_rise low (d ∷ ds) dots zero zero e le lt = omega (arith, ints)
+places_rise low (d ∷ ds) dots zero (suc j) e le lt =
+    let later : (place d.x d.y +ℤ pos 1) ≤ℤ place (get_or ds j e).x (get_or ds j e).y = dots_from-after (place d.x d.y +ℤ pos 1) ds dots.2 j e (omega arith) in
+    omega (arith, ints)
+places_rise low (d ∷ ds) dots (suc i) zero e le lt = absurd (omega arith)
+places_rise low (d ∷ ds) dots (suc i) (suc j) e le lt = places_rise (place d.x d.y +ℤ pos 1) ds dots.2 i j e (omega arith) (omega arith)
+
+-- dots stand before a place where the last of them does
+pub before_from-last : (ds : List Dot) (e : Dot) (p : ℤ) → IsPicture ds → place (get_or ds (length ds - 1) e).x (get_or ds (length ds - 1) e).y <ℤ p → AreBefore p ds
+before_from-last ds e p picture last =
+    All-from_get_or (λ d. place d.x d.y <ℤ p) ds e (λ i lt.
+    let rise = places_rise first_place ds picture.dots i (length ds - 1) e (omega arith) (omega arith) in
+    omega (arith, ints))

@@ -1,0 +1,9 @@
+mod Boxes
+pub mod DotsLemmas
+mod PixelsLemmas
+pub mod PlacesLemmas
+pub mod RunsLemmas
+pub mod RunDots
+mod Search
+pub mod Totals
+pub mod WeightsLemmas

@@ -1,0 +1,47 @@
+-- Places in reading order.
+use Rattle.std.proofs.Common.{◌≡◌, ℕ, suc, ℤ, pos, negsuc, ◌+ℤ◌, ◌-ℤ◌, ◌≤ℤ◌, ◌<ℤ◌, arith}
+use Rattle.std.proofs.lemmas.Int.{ints}
+use Rattle.mf_geom.specs.Field.{IsInField}
+use Rattle.mf_rows.specs.Dots.{place, first_place}
+
+-- the next column stands at the next place
+pub place-next : (x y : ℤ) → place (x +ℤ pos 1) y ≡ place x y +ℤ pos 1
+unfolding place
+place-next x y = omega (arith, ints)
+
+-- behind the last column of a row stands the first of the row below
+pub place-below : (y : ℤ) → place (pos 4095) y ≡ place (negsuc 4094) (y -ℤ pos 1)
+unfolding place
+place-below y = omega (arith, ints)
+
+-- a place belongs to one pixel of the field
+pub row_from_place : (x y u v : ℤ) → IsInField x y → IsInField u v → place x y ≡ place u v → y ≡ v
+unfolding place
+row_from_place x y u v here there same = omega (arith, ints)
+
+pub column_from_place : (x y u v : ℤ) → IsInField x y → IsInField u v → place x y ≡ place u v → x ≡ u
+unfolding place
+column_from_place x y u v here there same = omega (arith, ints, row_from_place x y u v here there same)
+
+-- the field's places begin at the first one
+pub first_place-le : (x y : ℤ) → IsInField x y → first_place ≤ℤ place x y
+unfolding place first_place
+first_place-le x y inside = omega (arith, ints)
+
+-- and they are 8190 times 8190 in number
+pub place-lt : (x y : ℤ) → IsInField x y → place x y <ℤ (first_place +ℤ pos 67076100)
+unfolding place first_place
+place-lt x y inside = omega (arith, ints)
+
+-- the n columns from x on lie in the field, in row y
+pub record AreColumns (x y : ℤ) (n : ℕ) : Type 0 where
+  pub left : negsuc 4094 ≤ℤ x
+  pub right : (x +ℤ pos n) ≤ℤ pos 4095
+  pub bottom : negsuc 4094 ≤ℤ y
+  pub top : y ≤ℤ pos 4094
+
+pub first_column : (x y : ℤ) (n : ℕ) → AreColumns x y (suc n) → IsInField x y
+first_column x y n columns = record { left = columns.left; right = omega (arith, ints, columns.right); bottom = columns.bottom; top = columns.top }
+
+pub next_columns : (x y : ℤ) (n : ℕ) → AreColumns x y (suc n) → AreColumns (x +ℤ pos 1) y n
+next_columns x y n columns = record { left = omega (arith, ints, columns.left); right = omega (arith, ints, columns.right); bottom = columns.bottom; top = columns.top }

@@ -1,0 +1,122 @@
+-- The dots of a run, and dots with a run behind them.
+use Rattle.std.proofs.Common.{◌≡◌, ◌≢◌, ℕ, zero, suc, ◌+◌, ◌&&◌, if◌then◌else◌, ℤ, pos, ◌+ℤ◌, ◌≤ℤ◌, ◌<ℤ◌, List, [], ◌∷◌, ◌++◌, refl, sym, ap, ◌∙◌, subst, add-one, arith}
+use Rattle.std.specs.Ordering.{int_eq}
+use Rattle.std.proofs.lemmas.Int.{ints, by_lt_z}
+use Rattle.std.proofs.lemmas.List.{append_assoc, map_push}
+use Rattle.std.proofs.lemmas.List.Elements.{All-nil, All-cons, All-append, All-head, All-tail, All-weaker}
+use Rattle.mf_rows.specs.declared.run.Run.{Run}
+use Rattle.mf_rows.specs.Dots.{Dot, IsLawfulWeight, IsPicture, AreDotsFrom, place, first_place, weight_at}
+use Rattle.mf_rows.specs.Order.{Fits}
+use Rattle.mf_rows.specs.Pixels.{dot_of_pixel, dots_of_pixels}
+use Rattle.mf_rows.specs.declared.pixel.Pixel.{Pixel}
+use Rattle.mf_rows.specs.Places.{AreBefore}
+use Rattle.mf_rows.specs.Runs.{stretch, dots_of}
+use Rattle.mf_rows.proofs.DotsLemmas.{weight_at-here, weight_at-elsewhere, not_at, dots_from-append}
+use Rattle.mf_rows.proofs.PlacesLemmas.{AreColumns, first_column, next_columns, place-next, first_place-le}
+
+stretch-from : (y x w : ℤ) (n : ℕ) → AreColumns x y n → IsLawfulWeight w → w ≢ pos 0 → AreDotsFrom (place x y) (stretch y x w n)
+unfolding stretch
+stretch-from y x w zero columns lawful nonzero = tt
+stretch-from y x w (suc n) columns lawful nonzero = (
+  record { in_field = first_column x y n columns; lawful = lawful; nonzero = nonzero },
+  omega (arith, ints),
+  subst (λ p. AreDotsFrom p (stretch y (x +ℤ pos 1) w n)) (place-next x y) (stretch-from y (x +ℤ pos 1) w n (next_columns x y n columns) lawful nonzero),
+)
+
+-- one more column at the right end
+pub stretch-more : (y x w : ℤ) (n : ℕ) → stretch y x w (n + 1) ≡ stretch y x w n ++ record { y = y; x = x +ℤ pos n; weight = w } ∷ []
+unfolding stretch
+stretch-more y x w zero = ap (λ u. record { y = y; x = u; weight = w } ∷ []) (omega (arith, ints))
+stretch-more y x w (suc n) =
+    let shifted : ((x +ℤ pos 1) +ℤ pos n) ≡ x +ℤ pos (suc n) = omega (arith, ints) in
+    rw add-one (ap (λ others. record { y = y; x = x; weight = w } ∷ others)
+    (rw add-one at (stretch-more y (x +ℤ pos 1) w n) ∙ rw shifted))
+
+-- a picture with a run that fits behind it is a picture
+pub picture-push : (ds : List Dot) (r : Run) → IsPicture ds → Fits ds r → IsPicture (ds ++ dots_of r)
+unfolding dots_of
+picture-push ds r picture fits =
+    let run = fits.run in
+    let start = first_place-le r.x r.y (record { left = run.left; right = omega (arith, ints, run.right, run.some); bottom = run.bottom; top = run.top }) in
+    let stretched = stretch-from r.y r.x r.weight r.len (record { left = run.left; right = run.right; bottom = run.bottom; top = run.top }) run.lawful run.nonzero in
+    record { dots = dots_from-append first_place (place r.x r.y) ds (stretch r.y r.x r.weight r.len) start picture.dots fits.after stretched }
+
+-- pixels that hold dots and the first n of a run, and one more pixel of the run
+pub pushed_more : (ps : List Pixel) (p : Pixel) (ds : List Dot) (y x w : ℤ) (n : ℕ) → dots_of_pixels ps ≡ ds ++ stretch y x w n → p.y ≡ y → p.x ≡ x +ℤ pos n → p.weight ≡ w → dots_of_pixels (ps ++ p ∷ []) ≡ ds ++ stretch y x w (n + 1)
+pushed_more ps p ds y x w n so_far row column weight =
+    map_push dot_of_pixel ps p
+    ∙ ap (λ front. front ++ dot_of_pixel p ∷ []) so_far
+    ∙ append_assoc ds (stretch y x w n) (dot_of_pixel p ∷ [])
+    ∙ ap (λ run. ds ++ run) (rw (row, column, weight) (sym (stretch-more y x w n)))
+
+-- a pixel of a run
+pub record IsOnRun (r : Run) (x y : ℤ) : Type 0 where
+  pub row : r.y ≡ y
+  pub left : r.x ≤ℤ x
+  pub right : x <ℤ (r.x +ℤ pos r.len)
+
+weight_at-stretch : (y x w : ℤ) (n : ℕ) (u : ℤ) → x ≤ℤ u → u <ℤ (x +ℤ pos n) → weight_at (stretch y x w n) u y ≡ w
+unfolding stretch
+weight_at-stretch y x w zero u left right = absurd (omega (arith, ints))
+weight_at-stretch y x w (suc n) u left right =
+    let first : Dot = record { y = y; x = x; weight = w } in
+    let others = stretch y (x +ℤ pos 1) w n in
+    by_lt_z x u
+    (λ later. weight_at-elsewhere first others u y (λ here. omega (arith, ints, here.column)) ∙ weight_at-stretch y (x +ℤ pos 1) w n u (omega (arith, ints)) (omega (arith, ints)))
+    (λ here. weight_at-here first others u y (record { column = omega (arith, ints); row = refl }))
+
+weight_at-off_stretch : (y x w : ℤ) (n : ℕ) (u v : ℤ) → (y ≡ v → x ≤ℤ u → u <ℤ (x +ℤ pos n) → ⊥) → weight_at (stretch y x w n) u v ≡ pos 0
+unfolding stretch weight_at
+weight_at-off_stretch y x w zero u v off = refl
+weight_at-off_stretch y x w (suc n) u v off =
+    weight_at-elsewhere (record { y = y; x = x; weight = w }) (stretch y (x +ℤ pos 1) w n) u v (λ here. off here.row (omega (arith, ints, here.column)) (omega (arith, ints, here.column)))
+    ∙ weight_at-off_stretch y (x +ℤ pos 1) w n u v (λ row left right. off row (omega (arith, ints)) (omega (arith, ints)))
+
+-- dots that all stand before a pixel say nothing of it
+weight_at-append_after : (ds es : List Dot) (x y : ℤ) → AreBefore (place x y) ds → weight_at (ds ++ es) x y ≡ weight_at es x y
+weight_at-append_after [] es x y before = refl
+weight_at-append_after (d ∷ ds) es x y before =
+    let lower : place d.x d.y <ℤ place x y = All-head (λ d. place d.x d.y <ℤ place x y) d ds before in
+    weight_at-elsewhere d (ds ++ es) x y (not_at d x y (λ same. omega (arith, ints)))
+    ∙ weight_at-append_after ds es x y (All-tail (λ d. place d.x d.y <ℤ place x y) d ds before)
+
+-- nor do dots behind others, where they give a pixel weight 0
+weight_at-append_none : (ds es : List Dot) (x y : ℤ) → weight_at es x y ≡ pos 0 → weight_at (ds ++ es) x y ≡ weight_at ds x y
+unfolding weight_at
+weight_at-append_none [] es x y none = none
+weight_at-append_none (d ∷ ds) es x y none = ap (λ others. if int_eq d.x x && int_eq d.y y then d.weight else others) (weight_at-append_none ds es x y none)
+
+place-le : (x u y : ℤ) → x ≤ℤ u → place x y ≤ℤ place u y
+unfolding place
+place-le x u y le = omega (arith, ints)
+
+-- a pushed run gives its weight to its pixels
+pub weight_at-on_run : (ds : List Dot) (r : Run) (x y : ℤ) → Fits ds r → IsOnRun r x y → weight_at (ds ++ dots_of r) x y ≡ r.weight
+unfolding dots_of
+weight_at-on_run ds r x y fits on =
+    let further = place-le r.x x r.y on.left in
+    let before = All-weaker (λ d. place d.x d.y <ℤ place r.x r.y) (λ d. place d.x d.y <ℤ place x r.y) (λ d lower. omega (arith, ints)) ds fits.after in
+    subst (λ v. weight_at (ds ++ stretch r.y r.x r.weight r.len) x v ≡ r.weight) on.row
+    (weight_at-append_after ds (stretch r.y r.x r.weight r.len) x r.y before ∙ weight_at-stretch r.y r.x r.weight r.len x on.left on.right)
+
+-- and every other pixel keeps its weight
+pub weight_at-off_run : (ds : List Dot) (r : Run) (x y : ℤ) → (IsOnRun r x y → ⊥) → weight_at (ds ++ dots_of r) x y ≡ weight_at ds x y
+unfolding dots_of
+weight_at-off_run ds r x y off =
+    weight_at-append_none ds (stretch r.y r.x r.weight r.len) x y
+    (weight_at-off_stretch r.y r.x r.weight r.len x y (λ row left right. off (record { row = row; left = left; right = right })))
+
+before_stretch-end : (y x w : ℤ) (n : ℕ) (p : ℤ) → place (x +ℤ pos n) y ≤ℤ p → AreBefore p (stretch y x w n)
+unfolding stretch place
+before_stretch-end y x w zero p end = All-nil (λ d. place d.x d.y <ℤ p)
+before_stretch-end y x w (suc n) p end =
+    All-cons (λ d. place d.x d.y <ℤ p) (record { y = y; x = x; weight = w }) (stretch y (x +ℤ pos 1) w n) (omega (arith, ints)) (before_stretch-end y (x +ℤ pos 1) w n p (omega (arith, ints)))
+
+-- with a pushed run, all dots stand before the place behind it
+pub before-push : (ds : List Dot) (r : Run) (p : ℤ) → Fits ds r → place (r.x +ℤ pos r.len) r.y ≤ℤ p → AreBefore p (ds ++ dots_of r)
+unfolding dots_of
+before-push ds r p fits end =
+    let start : place r.x r.y ≤ℤ p = omega (arith, ints, place-le r.x (r.x +ℤ pos r.len) r.y (omega (arith, ints)), end) in
+    All-append (λ d. place d.x d.y <ℤ p) ds (stretch r.y r.x r.weight r.len)
+    (All-weaker (λ d. place d.x d.y <ℤ place r.x r.y) (λ d. place d.x d.y <ℤ p) (λ d lower. omega (arith, ints)) ds fits.after)
+    (before_stretch-end r.y r.x r.weight r.len p end)

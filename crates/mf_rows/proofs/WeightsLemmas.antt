@@ -1,0 +1,156 @@
+-- Pictures are given by their weights.
+use Rattle.std.proofs.Common.{◌≡◌, ℕ, zero, suc, ℤ, pos, negsuc, ◌+ℤ◌, ◌-ℤ◌, ◌≤ℤ◌, ◌<ℤ◌, List, [], ◌∷◌, ◌++◌, refl, sym, ap, ◌∙◌, subst, arith}
+use Rattle.std.specs.List.{All}
+use Rattle.std.specs.Ordering.{int_eq}
+use Rattle.std.proofs.lemmas.Bool.{cond_both}
+use Rattle.std.proofs.lemmas.Bool.Decides.{Decides-int_eq, not_from_Decides}
+use Rattle.std.proofs.lemmas.Int.{ints, by_lt_z}
+use Rattle.std.proofs.lemmas.List.Elements.{All-head, All-tail}
+use Rattle.mf_geom.specs.Field.{IsInField}
+use Rattle.mf_rows.specs.Dots.{Dot, IsDot, IsLawfulWeight, IsPicture, AreDotsFrom, place, first_place, weight_at}
+use Rattle.mf_rows.specs.Weights.{row_of, rows_of, picture_of, HaveSameWeights}
+use Rattle.mf_rows.proofs.DotsLemmas.{weight_at-here, weight_at-elsewhere, weight_at-before, not_at, dots_from-lower, dots_from-lawful}
+use Rattle.mf_rows.proofs.PlacesLemmas.{AreColumns, first_column, next_columns, place-next, place-below, row_from_place, column_from_place}
+
+-- ---- equal weights make equal dots
+
+same_dot : (d e : Dot) → d.y ≡ e.y → d.x ≡ e.x → d.weight ≡ e.weight → d ≡ e
+same_dot d e row column weight = λ i. record { y = row i; x = column i; weight = weight i }
+
+-- a dot's weight is missing where all dots come later
+first_missing : (low : ℤ) (d : Dot) (ds es : List Dot) → AreDotsFrom low (d ∷ ds) → AreDotsFrom (place d.x d.y +ℤ pos 1) es → weight_at (d ∷ ds) d.x d.y ≡ weight_at es d.x d.y → ⊥
+first_missing low d ds es dots later same =
+    dots.0.nonzero
+    (sym (weight_at-here d ds d.x d.y (record { column = refl; row = refl }))
+    ∙ same ∙ weight_at-before (place d.x d.y +ℤ pos 1) es d.x d.y later (omega (arith, ints)))
+
+-- behind a common first dot the weights are equal too
+same_tails : (d : Dot) (ds es : List Dot) → AreDotsFrom (place d.x d.y +ℤ pos 1) ds → AreDotsFrom (place d.x d.y +ℤ pos 1) es → HaveSameWeights (d ∷ ds) (d ∷ es) → HaveSameWeights ds es
+same_tails d ds es left right weights = record {
+  same = λ x y inside.
+      let low = place d.x d.y +ℤ pos 1 in
+      by_lt_z (place x y) low
+      (λ before. weight_at-before low ds x y left before ∙ sym (weight_at-before low es x y right before))
+      (λ behind.
+      let elsewhere = not_at d x y (λ same. omega (arith, ints)) in
+      sym (weight_at-elsewhere d ds x y elsewhere) ∙ weights.same x y inside ∙ weight_at-elsewhere d es x y elsewhere);
+}
+
+same_from : (low : ℤ) (ds es : List Dot) → AreDotsFrom low ds → AreDotsFrom low es → HaveSameWeights ds es → ds ≡ es
+same_from low [] [] left right weights = refl
+same_from low [] (e ∷ es) left right weights = absurd (first_missing low e es [] right tt (sym (weights.same e.x e.y right.0.in_field)))
+same_from low (d ∷ ds) [] left right weights = absurd (first_missing low d ds [] left tt (weights.same d.x d.y left.0.in_field))
+same_from low (d ∷ ds) (e ∷ es) left right weights =
+    by_lt_z (place d.x d.y) (place e.x e.y)
+    (λ lower. absurd (first_missing low d ds (e ∷ es) left (right.0, omega (arith, ints), right.2) (weights.same d.x d.y left.0.in_field)))
+    (λ no_lower. by_lt_z (place e.x e.y) (place d.x d.y)
+    (λ higher. absurd (first_missing low e es (d ∷ ds) right (left.0, omega (arith, ints), left.2) (sym (weights.same e.x e.y right.0.in_field))))
+    (λ no_higher.
+    let here : place d.x d.y ≡ place e.x e.y = omega (arith, ints) in
+    let row = row_from_place d.x d.y e.x e.y left.0.in_field right.0.in_field here in
+    let column = column_from_place d.x d.y e.x e.y left.0.in_field right.0.in_field here in
+    let weight = sym (weight_at-here d ds e.x e.y (record { column = column; row = row })) ∙ weights.same e.x e.y right.0.in_field ∙ weight_at-here e es e.x e.y (record { column = refl; row = refl }) in
+    let same = same_dot d e row column weight in
+    let others = subst (λ f. AreDotsFrom (place f.x f.y +ℤ pos 1) es) (sym same) right.2 in
+    let tails = same_tails d ds es left.2 others (subst (λ f. HaveSameWeights (d ∷ ds) (f ∷ es)) (sym same) weights) in
+    let rest = same_from (place d.x d.y +ℤ pos 1) ds es left.2 others tails in
+    cc))
+
+-- two pictures with equal weights are equal
+pub same_pictures : (ds es : List Dot) → IsPicture ds → IsPicture es → HaveSameWeights ds es → ds ≡ es
+same_pictures ds es left right weights = same_from first_place ds es left.dots right.dots weights
+
+-- ---- the picture of given weights is lawful
+
+-- a row of weights may stand before dots of later places
+row_from : (f : ℤ → ℤ → ℤ) (y x : ℤ) (n : ℕ) (es : List Dot) → AreColumns x y n → ((u v : ℤ) → IsInField u v → IsLawfulWeight (f u v)) → AreDotsFrom (place (x +ℤ pos n) y) es → AreDotsFrom (place x y) (row_of f y x n ++ es)
+unfolding row_of
+row_from f y x zero es columns lawful later = subst (λ u. AreDotsFrom (place u y) es) (omega (arith, ints)) later
+row_from f y x (suc n) es columns lawful later =
+    let first : Dot = record { y = y; x = x; weight = f x y } in
+    let inside = first_column x y n columns in
+    let others = row_of f y (x +ℤ pos 1) n in
+    let behind = subst (λ p. AreDotsFrom p (others ++ es)) (place-next x y) (row_from f y (x +ℤ pos 1) n es (next_columns x y n columns) lawful (subst (λ u. AreDotsFrom (place u y) es) (omega (arith, ints)) later)) in
+    cond_both (int_eq (f x y) (pos 0)) others (first ∷ others) (λ row. AreDotsFrom (place x y) (row ++ es))
+    (λ blank. dots_from-lower (place x y) (place x y +ℤ pos 1) (others ++ es) (omega (arith, ints)) behind)
+    (λ dotted. (record { in_field = inside; lawful = lawful x y inside; nonzero = not_from_Decides (int_eq (f x y) (pos 0)) (Decides-int_eq (f x y) (pos 0)) dotted }, omega (arith, ints), behind))
+
+rows_from : (f : ℤ → ℤ → ℤ) (y : ℤ) (n : ℕ) → (negsuc 4095 +ℤ pos n) ≤ℤ y → y ≤ℤ pos 4094 → ((u v : ℤ) → IsInField u v → IsLawfulWeight (f u v)) → AreDotsFrom (place (negsuc 4094) y) (rows_of f y n)
+unfolding rows_of
+rows_from f y zero bottom top lawful = tt
+rows_from f y (suc n) bottom top lawful =
+    row_from f y (negsuc 4094) 8190 (rows_of f (y -ℤ pos 1) n) (record { left = omega (arith, ints); right = omega (arith, ints); bottom = omega (arith, ints); top = top }) lawful
+    (subst (λ p. AreDotsFrom p (rows_of f (y -ℤ pos 1) n)) (sym (place-below y)) (rows_from f (y -ℤ pos 1) n (omega (arith, ints)) (omega (arith, ints)) lawful))
+
+pub lawful_picture_of : (f : ℤ → ℤ → ℤ) → ((x y : ℤ) → IsInField x y → IsLawfulWeight (f x y)) → IsPicture (picture_of f)
+unfolding picture_of first_place
+lawful_picture_of f lawful = record { dots = rows_from f (pos 4094) 8190 (omega (arith, ints)) (omega (arith, ints)) lawful }
+
+-- ---- and has these weights
+
+-- a row gives no weight to a pixel outside it
+weight_at-off_row : (f : ℤ → ℤ → ℤ) (y x : ℤ) (n : ℕ) (es : List Dot) (u v : ℤ) → (y ≡ v → x ≤ℤ u → ⊥) → weight_at (row_of f y x n ++ es) u v ≡ weight_at es u v
+unfolding row_of
+weight_at-off_row f y x zero es u v off = refl
+weight_at-off_row f y x (suc n) es u v off =
+    let first : Dot = record { y = y; x = x; weight = f x y } in
+    let others = row_of f y (x +ℤ pos 1) n in
+    let same = weight_at-off_row f y (x +ℤ pos 1) n es u v (λ row left. off row (omega (arith, ints))) in
+    cond_both (int_eq (f x y) (pos 0)) others (first ∷ others) (λ row. weight_at (row ++ es) u v ≡ weight_at es u v)
+    (λ blank. same)
+    (λ dotted. weight_at-elsewhere first (others ++ es) u v (λ here. off here.row (omega (arith, ints, here.column))) ∙ same)
+
+weight_at-row : (f : ℤ → ℤ → ℤ) (y x : ℤ) (n : ℕ) (es : List Dot) (u : ℤ) → weight_at es u y ≡ pos 0 → x ≤ℤ u → u <ℤ (x +ℤ pos n) → weight_at (row_of f y x n ++ es) u y ≡ f u y
+unfolding row_of
+weight_at-row f y x zero es u none left right = absurd (omega (arith, ints))
+weight_at-row f y x (suc n) es u none left right =
+    let first : Dot = record { y = y; x = x; weight = f x y } in
+    let others = row_of f y (x +ℤ pos 1) n in
+    cond_both (int_eq (f x y) (pos 0)) others (first ∷ others) (λ row. weight_at (row ++ es) u y ≡ f u y)
+    (λ blank. by_lt_z x u
+    (λ later. weight_at-row f y (x +ℤ pos 1) n es u none (omega (arith, ints)) (omega (arith, ints)))
+    (λ no_later.
+    let here : x ≡ u = omega (arith, ints) in
+    weight_at-off_row f y (x +ℤ pos 1) n es u y (λ row left. omega (arith, ints)) ∙ none ∙ sym ((Decides-int_eq (f x y) (pos 0)).0 blank) ∙ ap (λ column. f column y) here))
+    (λ dotted. by_lt_z x u
+    (λ later. weight_at-elsewhere first (others ++ es) u y (λ here. omega (arith, ints, here.column)) ∙ weight_at-row f y (x +ℤ pos 1) n es u none (omega (arith, ints)) (omega (arith, ints)))
+    (λ no_later.
+    let here : x ≡ u = omega (arith, ints) in
+    weight_at-here first (others ++ es) u y (record { column = here; row = refl }) ∙ ap (λ column. f column y) here))
+
+-- rows give no weight above the first of them
+weight_at-above : (f : ℤ → ℤ → ℤ) (y : ℤ) (n : ℕ) (u v : ℤ) → y <ℤ v → weight_at (rows_of f y n) u v ≡ pos 0
+unfolding rows_of weight_at
+weight_at-above f y zero u v above = refl
+weight_at-above f y (suc n) u v above =
+    weight_at-off_row f y (negsuc 4094) 8190 (rows_of f (y -ℤ pos 1) n) u v (λ row left. omega (arith, ints, row))
+    ∙ weight_at-above f (y -ℤ pos 1) n u v (omega (arith, ints))
+
+weight_at-rows : (f : ℤ → ℤ → ℤ) (y : ℤ) (n : ℕ) (u v : ℤ) → negsuc 4094 ≤ℤ u → u ≤ℤ pos 4094 → v ≤ℤ y → y <ℤ (v +ℤ pos n) → weight_at (rows_of f y n) u v ≡ f u v
+unfolding rows_of
+weight_at-rows f y zero u v left right top bottom = absurd (omega (arith, ints))
+weight_at-rows f y (suc n) u v left right top bottom =
+    let below = rows_of f (y -ℤ pos 1) n in
+    by_lt_z v y
+    (λ lower. weight_at-off_row f y (negsuc 4094) 8190 below u v (λ row left. omega (arith, ints, row)) ∙ weight_at-rows f (y -ℤ pos 1) n u v left right (omega (arith, ints)) (omega (arith, ints)))
+    (λ no_lower.
+    let here : y ≡ v = omega (arith, ints) in
+    subst (λ row. weight_at (row_of f y (negsuc 4094) 8190 ++ below) u row ≡ f u row) here
+    (weight_at-row f y (negsuc 4094) 8190 below u (weight_at-above f (y -ℤ pos 1) n u y (omega (arith, ints))) left (omega (arith, ints))))
+
+pub weight_at-picture_of : (f : ℤ → ℤ → ℤ) (x y : ℤ) → IsInField x y → weight_at (picture_of f) x y ≡ f x y
+unfolding picture_of
+weight_at-picture_of f x y inside = weight_at-rows f (pos 4094) 8190 x y inside.left inside.right inside.top (omega (arith, ints, inside.bottom))
+
+-- ---- a lawful picture with given weights is the picture of these weights
+
+lawful_weight_at : (ds : List Dot) (x y : ℤ) → All IsDot ds → IsLawfulWeight (weight_at ds x y)
+unfolding weight_at
+lawful_weight_at [] x y dots = record { least = omega (arith, ints); greatest = omega (arith, ints) }
+lawful_weight_at (d ∷ ds) x y dots =
+    cond_both _ d.weight (weight_at ds x y) IsLawfulWeight (λ here. (All-head IsDot d ds dots).lawful) (λ elsewhere. lawful_weight_at ds x y (All-tail IsDot d ds dots))
+
+pub picture_of-from_weights : (ds : List Dot) (f : ℤ → ℤ → ℤ) → IsPicture ds → ((x y : ℤ) → IsInField x y → weight_at ds x y ≡ f x y) → ds ≡ picture_of f
+picture_of-from_weights ds f picture weights =
+    let lawful : (x y : ℤ) → IsInField x y → IsLawfulWeight (f x y) = λ x y inside. subst IsLawfulWeight (weights x y inside) (lawful_weight_at ds x y (dots_from-lawful first_place ds picture.dots)) in
+    same_pictures ds (picture_of f) picture (lawful_picture_of f lawful) (record { same = λ x y inside. weights x y inside ∙ sym (weight_at-picture_of f x y inside) })

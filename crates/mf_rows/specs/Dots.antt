@@ -1,0 +1,49 @@
+-- Pictures as maps from pixels to weights (The METAFONTbook, chapter 13): the list of their pixels of
+-- nonzero weight in reading order, rows from the top and columns rising.
+use Rattle.std.specs.Prelude.{◌≢◌, ◌&&◌, ℤ, pos, negsuc, ◌+ℤ◌, ◌-ℤ◌, ◌*ℤ◌, ◌≤ℤ◌, List, [], ◌∷◌, if◌then◌else◌}
+use Rattle.std.specs.Ordering.{int_eq}
+use Rattle.mf_geom.specs.Field.{IsInField}
+
+-- a pixel (x, y) of nonzero weight
+pub record Dot : Type 0 where
+  pub y : ℤ
+  pub x : ℤ
+  pub weight : ℤ
+
+-- a weight is lawful in -32767..32767
+pub record IsLawfulWeight (w : ℤ) : Type 0 where
+  pub least : negsuc 32766 ≤ℤ w
+  pub greatest : w ≤ℤ pos 32767
+
+-- a dot lies in the field, and its weight is lawful and not 0
+pub record IsDot (d : Dot) : Type 0 where
+  pub in_field : IsInField d.x d.y
+  pub lawful : IsLawfulWeight d.weight
+  pub nonzero : d.weight ≢ pos 0
+
+-- the place of the pixel (x, y) in reading order: each row has 8190 pixels
+unfoldable pub place : ℤ → ℤ → ℤ
+place x y = x -ℤ (pos 8190 *ℤ y)
+
+-- dots in reading order, the first of them at a place from low on
+abbrev pub AreDotsFrom : ℤ → List Dot → Type 0
+AreDotsFrom low [] = Unit {0}
+AreDotsFrom low (d ∷ ds) = IsDot d × (low ≤ℤ place d.x d.y) × AreDotsFrom (place d.x d.y +ℤ pos 1) ds
+
+-- the place of the first pixel of the field, at the left end of its top row
+unfoldable pub first_place : ℤ
+first_place = place (negsuc 4094) (pos 4094)
+
+-- a picture: lawful dots in reading order, none twice
+pub record IsPicture (ds : List Dot) : Type 0 where
+  pub dots : AreDotsFrom first_place ds
+
+-- the weight of the pixel (x, y), 0 where no dot stands
+unfoldable pub weight_at : List Dot → ℤ → ℤ → ℤ
+weight_at [] x y = pos 0
+weight_at (d ∷ ds) x y = if int_eq d.x x && int_eq d.y y then d.weight else weight_at ds x y
+
+-- the total weight: the sum of all weights
+unfoldable pub total_of : List Dot → ℤ
+total_of [] = pos 0
+total_of (d ∷ ds) = d.weight +ℤ total_of ds

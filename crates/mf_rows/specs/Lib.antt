@@ -1,0 +1,10 @@
+pub mod Bounds
+pub mod Dots
+pub mod Next
+pub mod Order
+pub mod Pixels
+pub mod Places
+pub mod Runs
+pub mod Walk
+pub mod Weights
+pub mod Widening

@@ -1,0 +1,19 @@
+-- Which runs may be pushed behind dots that stand already.
+use Rattle.std.specs.Prelude.{◌≢◌, ◌≤◌, pos, negsuc, ◌+ℤ◌, ◌<ℤ◌, ◌≤ℤ◌, All, List}
+use Rattle.mf_rows.specs.declared.run.Run.{Run}
+use Rattle.mf_rows.specs.Dots.{Dot, IsLawfulWeight, place}
+
+-- a run has at least one pixel, lies in the field, and its weight is lawful and not 0
+pub record IsRun (r : Run) : Type 0 where
+  pub some : 1 ≤ r.len
+  pub left : negsuc 4094 ≤ℤ r.x
+  pub right : (r.x +ℤ pos r.len) ≤ℤ pos 4095
+  pub bottom : negsuc 4094 ≤ℤ r.y
+  pub top : r.y ≤ℤ pos 4094
+  pub lawful : IsLawfulWeight r.weight
+  pub nonzero : r.weight ≢ pos 0
+
+-- a run fits behind dots where it begins after each of them
+pub record Fits (ds : List Dot) (r : Run) : Type 0 where
+  pub run : IsRun r
+  pub after : All (λ d. place d.x d.y <ℤ place r.x r.y) ds

@@ -1,0 +1,44 @@
+-- Runs: longest stretches of pixels of one nonzero weight in one row.
+use Rattle.std.specs.Prelude.{◌≡◌, ℕ, zero, suc, ◌&&◌, Bool, ℤ, pos, ◌+ℤ◌, List, [], ◌∷◌, if◌then◌else◌}
+use Rattle.std.specs.Ordering.{int_eq}
+use Rattle.mf_rows.specs.declared.run.Run.{Run}
+use Rattle.mf_rows.specs.Dots.{Dot}
+
+-- n dots of weight w in row y, from column x to the right
+unfoldable pub stretch : ℤ → ℤ → ℤ → ℕ → List Dot
+stretch y x w zero = []
+stretch y x w (suc n) = record { y = y; x = x; weight = w } ∷ stretch y (x +ℤ pos 1) w n
+
+-- the dots of a run
+unfoldable pub dots_of : Run → List Dot
+dots_of r = stretch r.y r.x r.weight r.len
+
+-- a dot continues a run to the left: same row, same weight, the column before
+unfoldable pub continues : Dot → Run → Bool
+continues d r = int_eq d.y r.y && (int_eq (d.x +ℤ pos 1) r.x && int_eq d.weight r.weight)
+
+-- a run that begins at a dot, and goes on for n more columns
+unfoldable pub run_from : Dot → ℕ → Run
+run_from d n = record { y = d.y; x = d.x; len = suc n; weight = d.weight }
+
+-- the runs with a dot before them: it lengthens the first run where it continues that, else it is one of its own
+unfoldable pub with_dot : Dot → List Run → List Run
+with_dot d [] = run_from d 0 ∷ []
+with_dot d (r ∷ rs) = if continues d r then run_from d r.len ∷ rs else (run_from d 0 ∷ r ∷ rs)
+
+-- the maximal runs of dots in reading order
+unfoldable pub runs_of : List Dot → List Run
+runs_of [] = []
+runs_of (d ∷ ds) = with_dot d (runs_of ds)
+
+-- a run is followed by another that would continue it: same row, same weight, the column after its last
+pub record IsFollowedBy (r s : Run) : Type 0 where
+  pub row : r.y ≡ s.y
+  pub column : r.x +ℤ pos r.len ≡ s.x
+  pub weight : r.weight ≡ s.weight
+
+-- no run is followed by one that would continue it, so each is as long as it can be
+abbrev pub AreMaximal : List Run → Type 0
+AreMaximal [] = Unit {0}
+AreMaximal (r ∷ []) = Unit {0}
+AreMaximal (r ∷ s ∷ rs) = (IsFollowedBy r s → ⊥) × AreMaximal (s ∷ rs)

@@ -1,0 +1,10 @@
+//! Boxes of pixels.
+
+/// A box of pixels, its ends included: columns `min_x` to `max_x`, rows `min_y` to `max_y`.
+#[derive(Clone, Copy, Debug, PartialEq, Eq)]
+pub struct Box4 {
+    pub min_x: i32,
+    pub max_x: i32,
+    pub min_y: i32,
+    pub max_y: i32,
+}
