@@ -1,5 +1,5 @@
 -- The stages of a run: what each step makes of the state after some bytes.
-use Rattle.std.proofs.Common.{◌≡◌, ℕ, true, false, ◌+◌, List, [], ◌∷◌, ◌++◌, Option, eqb, length, take, sym, ap, ◌∙◌, subst, append_assoc, append-nil, arith, length-append, length-take}
+use Rattle.std.proofs.Common.{◌≡◌, ℕ, true, false, ◌+◌, List, [], ◌∷◌, ◌++◌, Option, eqb, length, take, refl, sym, ap, ◌∙◌, subst, append_assoc, append-nil, arith, length-append, length-take}
 use Rattle.std.specs.Io.{StartsWith}
 use Rattle.std.specs.Io.KnownBytes.{Appends}
 use Rattle.std.specs.Str.Lines.{strip_carriage_return}
@@ -67,23 +67,26 @@ IsAfter-line_feed held holds later read old new after picture appended written l
       count = written ∙ ap (λ n. n + length (answer old.performer.script (strip_carriage_return old.line)).text) after.count ∙ sym (ap length told ∙ length-append (texts [] (ended_lines read)) _);
     }
 
--- what a fault tells of the texts that went out and a front of the next
-tells_of : (fault : RunFault) (read told front : List ℕ) (written : ℕ) → StartsWith (transcript read) (told ++ front) → written ≡ length told → Counts fault written front
-    → Tells fault read (told ++ front)
-tells_of ReadFault read told front written is_front count counts = absurd counts
-tells_of OutOfMemory read told front written is_front count counts = is_front
-tells_of (WriteFault n) read told front written is_front count counts = (is_front, length-append told front ∙ sym (counts ∙ ap (λ m. m + length front) count))
+-- what a fault tells where the texts of the lines in a front of the bytes went out, and a front of the next text
+tells_of : (fault : RunFault) (read done more front : List ℕ) (written : ℕ) → StartsWith (transcript read) (texts [] (ended_lines done) ++ front) → read ≡ done ++ more
+    → written ≡ length (texts [] (ended_lines done)) → Counts fault written front → Tells fault read (texts [] (ended_lines done) ++ front)
+tells_of ReadFault read done more front written is_front cut count counts = absurd counts
+tells_of OutOfMemory read done more front written is_front cut count none_went = (done, more, cut, ap (λ out. texts [] (ended_lines done) ++ out) none_went ∙ append-nil (texts [] (ended_lines done)))
+tells_of (WriteFault n) read done more front written is_front cut count counts =
+    (is_front, length-append (texts [] (ended_lines done)) front ∙ sym (counts ∙ ap (λ m. m + length front) count))
 
 -- the text of a line broke off, behind which the transcript may go on
-CutsShort-text : (fault : RunFault) (held holds later : Option (List ℕ)) (read told text tail : List ℕ) (written : ℕ) → transcript read ≡ (told ++ text) ++ tail
-    → Appends held holds told → written ≡ length told → BreaksOff fault written text holds later → CutsShort fault read held later
-CutsShort-text fault held holds later read told text tail written whole before count breaks_off =
+CutsShort-text : (fault : RunFault) (held holds later : Option (List ℕ)) (read done more text tail : List ℕ) (written : ℕ) → transcript read ≡ (texts [] (ended_lines done) ++ text) ++ tail
+    → read ≡ done ++ more → Appends held holds (texts [] (ended_lines done)) → written ≡ length (texts [] (ended_lines done)) → BreaksOff fault written text holds later
+    → CutsShort fault read held later
+CutsShort-text fault held holds later read done more text tail written whole cut before count breaks_off =
+    let told = texts [] (ended_lines done) in
     let (front, rest, split, appended, counts) = breaks_off in
     let is_front : StartsWith (transcript read) (told ++ front) =
     StartsWith-front (transcript read) (told ++ front) (rest ++ tail) (whole ∙ ap (λ t. (told ++ t) ++ tail) split ∙ simp append_assoc) in (
       told ++ front,
       Appends-trans held holds later told front before appended,
-      tells_of fault read told front written is_front count counts,
+      tells_of fault read done more front written is_front cut count counts,
     )
 
 -- the text of a line that a line feed ends broke off
@@ -94,13 +97,11 @@ CutsShort-line_feed fault held holds later read more progress after breaks_off =
     let text = (answer progress.performer.script (strip_carriage_return progress.line)).text in
     let goes_on : transcript (read ++ 10 ∷ more) ≡ (texts [] (ended_lines read) ++ text) ++ tail =
     ap transcript (sym (append_assoc read (10 ∷ []) more)) ∙ whole ∙ ap (λ t. t ++ tail) (texts-line_feed held holds read progress after) in
-    CutsShort-text fault held holds later (read ++ 10 ∷ more) _ text tail _ goes_on after.texts_out after.count breaks_off
+    CutsShort-text fault held holds later (read ++ 10 ∷ more) read (10 ∷ more) text tail _ goes_on refl after.texts_out after.count breaks_off
 
 -- memory was wanting between two lines
 pub CutsShort-between : (held holds : Option (List ℕ)) (read more : List ℕ) (progress : Progress) → IsAfter held read progress holds → CutsShort OutOfMemory (read ++ more) held holds
-CutsShort-between held holds read more progress after =
-    let (tail, whole) = transcript-front read more in
-    (texts [] (ended_lines read), after.texts_out, StartsWith-front (transcript (read ++ more)) _ tail whole)
+CutsShort-between held holds read more progress after = (texts [] (ended_lines read), after.texts_out, (read, more, refl, refl))
 
 -- no byte is behind the last line feed
 pub Appends-none : (held holds : Option (List ℕ)) (read : List ℕ) (progress : Progress) → IsAfter held read progress holds → eqb (length progress.line) 0 ≡ true → Appends held holds (transcript read)
@@ -127,4 +128,10 @@ Appends-line held holds later read progress after some appended =
 pub CutsShort-line : (fault : RunFault) (held holds later : Option (List ℕ)) (read : List ℕ) (progress : Progress) → IsAfter held read progress holds → eqb (length progress.line) 0 ≡ false
     → BreaksOff fault progress.performer.written (answer progress.performer.script progress.line).text holds later → CutsShort fault read held later
 CutsShort-line fault held holds later read progress after some breaks_off =
-    CutsShort-text fault held holds later read _ _ [] _ (transcript-line held holds read progress after some ∙ sym (append-nil _)) after.texts_out after.count breaks_off
+    let whole = transcript-line held holds read progress after some ∙ sym (append-nil _) in
+    CutsShort-text fault held holds later read read [] _ [] _ whole (sym (append-nil read)) after.texts_out after.count breaks_off
+
+-- memory was wanting before anything was read
+pub CutsShort-nothing : (held : Option (List ℕ)) → CutsShort OutOfMemory [] held held
+unfolding ended_lines ended_of_parts texts
+CutsShort-nothing held = ([], Appends-nil held, ([], [], refl, refl))

@@ -11,6 +11,7 @@ pub mod Refusals
 pub mod Region
 pub mod Script
 pub mod Short
+pub mod Statuses
 pub mod Step
 pub mod Tokens
 pub mod Transcript

@@ -3,14 +3,15 @@ ghost use Rattle.mf_cli.specs.declared.fault.RunFault.TheVariants.{OutOfMemory a
 ghost use Rattle.std.specs.Prelude.{◌≡◌};
 
 use mf_geom::OutOfMemory;
-use std::alloc::{AllocError, AllocFailed};
+use std::alloc::AllocError;
 use std::error::Error;
 use std::fmt;
 
 /// Why a run ended before the end of its script.
 #[derive(Clone, Copy, Debug, PartialEq, Eq)]
 pub enum RunFault {
-    /// Refusal 14: a growth was refused. What the writer got is a front of the transcript.
+    /// Refusal 14: a growth was refused. What the writer got is a front of the transcript that ends with
+    /// the text of a line.
     OutOfMemory,
     /// Refusal 24: the reader answered an error, or 1,048,576 reads did not reach the end of the script.
     /// Every line that a line feed ended has been performed and its text written, and no other line.
@@ -44,14 +45,6 @@ impl From<AllocError> for RunFault {
     ghost from_gives = { λ _ fault. fault ≡ NoMemory };
 
     fn from(_fault: AllocError) -> RunFault {
-        RunFault::OutOfMemory
-    }
-}
-
-impl<T: Drop> From<AllocFailed<T>> for RunFault {
-    ghost from_gives = { λ _ fault. fault ≡ NoMemory };
-
-    fn from(_fault: AllocFailed<T>) -> RunFault {
         RunFault::OutOfMemory
     }
 }

@@ -14,11 +14,8 @@ use crate::op::OpFault;
 use crate::region::Region;
 use crate::weight::Weight;
 use mf_geom::Cycle;
-use mf_rows::{Picture, RowBuilder, Run};
+use mf_rows::{MAX_WEIGHT, Picture, RowBuilder, Run};
 use std::alloc::Global;
-
-/// Greatest size of a weight.
-const MAX_WEIGHT: i32 = 32767;
 
 /// A cycle that is filled into a picture.
 #[derive(Clone, Copy)]

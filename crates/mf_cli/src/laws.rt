@@ -1,5 +1,4 @@
 //! Laws of the definitions: each is the contract of a function that does nothing.
-
 ghost use Rattle.std.specs.Prelude.{◌≡◌, false, ℤ, List, Some, None};
 ghost use Rattle.mf_geom.specs.Field.{IsInField};
 ghost use Rattle.mf_rows.specs.Dots.{Dot};

@@ -21,7 +21,8 @@ mod streams;
 mod tokens;
 mod weight;
 
-use program::{program, refuse_words, report_memory};
+use fault::RunFault;
+use program::{program, refuse_words, report};
 use std::alloc::AllocError;
 use std::env;
 use std::io::{self, ErrorKind};
@@ -37,7 +38,10 @@ fn main(rt: HostRuntime) -> ExitCode {
             &mut rt.stdout(),
             &mut errors,
         ),
-        Err(fault) if fault.kind() == ErrorKind::OutOfMemory => report_memory(&mut errors),
+        Err(fault) if fault.kind() == ErrorKind::OutOfMemory => report(
+            &mut errors,
+            RunFault::OutOfMemory,
+        ),
         Err(_) => refuse_words(&mut errors),
     };
     ExitCode::from(status)

@@ -36,7 +36,8 @@ impl From<OutOfMemory> for OpFault {
     }
 }
 
-/// The picture after an operation; the given one is unchanged. Refusals 12 and 14.
+/// The picture after an operation; the given one is unchanged. Refusals WeightTooLarge (12) and
+/// OutOfMemory (14).
 pub fn after(alloc: Global, picture: &Picture, op: &Op) -> Result<Picture, OpFault>
     ensures step { IfOk result (λ new. new ≡ stepped picture.now op.now) }
     ensures accepted { OnOk result (fault_of picture.now op.now ≡ None) }

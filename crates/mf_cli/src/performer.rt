@@ -4,9 +4,9 @@ ghost use Rattle.std.specs.Prelude.{◌≡◌, ◌+◌, ◌<◌, ◌≤◌, ◌^
 ghost use Rattle.mf_cli.specs.Script.{answer};
 ghost use Rattle.mf_cli.specs.Performer.{BreaksOff};
 
-use super::fault::RunFault;
-use super::output::write_counted;
-use super::script::Script;
+use crate::fault::RunFault;
+use crate::output::write_counted;
+use crate::script::Script;
 use std::alloc::Global;
 use std::io::Write;
 

@@ -1,11 +1,11 @@
 //! The program behind `main`: from its words and streams to its exit status.
 ghost use Rattle.std.specs.Prelude.{◌≡◌, ◌<◌, ◌↔◌, ◌⊎◌, IfSome, vec_len};
 ghost use Rattle.std.specs.Io.KnownBytes.{Appends, IsAtEnd};
+ghost use Rattle.mf_cli.specs.Statuses.{status_of};
 ghost use Rattle.mf_cli.specs.Transcript.{transcript};
 
-use super::fault::RunFault;
-use super::output::write_counted;
-use super::run::run;
+use crate::fault::RunFault;
+use crate::run::run;
 use std::alloc::Global;
 use std::io::{Read, Write};
 
@@ -44,32 +44,28 @@ pub fn program<R: Read, W: Write, E: Write>(
     }
     match run(alloc, reader, writer) {
         Ok(()) => DONE,
-        Err(RunFault::ReadFault) => report(errors, b"mfpic: ReadFault\n", STREAM_FAULT),
-        Err(RunFault::WriteFault(_)) => report(errors, b"mfpic: WriteFault\n", STREAM_FAULT),
-        Err(RunFault::OutOfMemory) => report_memory(errors),
+        Err(fault) => report(errors, fault),
     }
 }
 
-/// Refuses the words of the command line: writes how the program is used, and answers the status.
+/// Refuses the words of the command line: writes how the program is used, as far as `errors` takes it, and
+/// answers the status.
 pub fn refuse_words<E: Write>(errors: &mut E) -> u8
     ensures { result ≡ BAD_WORDS }
 {
-    report(errors, b"usage: mfpic\n", BAD_WORDS)
+    let _ = writeln!(errors, "usage: mfpic");
+    BAD_WORDS
 }
 
-/// Reports want of memory, and answers the status.
-pub fn report_memory<E: Write>(errors: &mut E) -> u8
-    ensures { result ≡ NO_MEMORY }
+/// Reports a fault by its name, as far as `errors` takes it, and answers the status.
+pub fn report<E: Write>(errors: &mut E, fault: RunFault) -> u8
+    ensures { result ≡ status_of fault }
 {
-    report(errors, b"mfpic: OutOfMemory\n", NO_MEMORY)
-}
-
-/// Writes a message, as far as `errors` takes it, and answers the status.
-fn report<E: Write>(errors: &mut E, message: &[u8], status: u8) -> u8
-    ensures { result ≡ status }
-{
-    let _ = write_counted(errors, message);
-    status
+    let _ = writeln!(errors, "mfpic: {fault}");
+    match fault {
+        RunFault::ReadFault | RunFault::WriteFault(_) => STREAM_FAULT,
+        RunFault::OutOfMemory => NO_MEMORY,
+    }
 }
 
 #[cfg(test)]

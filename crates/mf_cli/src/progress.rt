@@ -5,9 +5,9 @@ ghost use Rattle.mf_cli.specs.Fault.{CutsShort};
 ghost use Rattle.mf_cli.specs.Progress.{IsAfter};
 ghost use Rattle.mf_cli.specs.Transcript.{transcript};
 
-use super::fault::RunFault;
-use super::line_buffer::LineBuffer;
-use super::performer::Performer;
+use crate::fault::RunFault;
+use crate::line_buffer::LineBuffer;
+use crate::performer::Performer;
 use std::alloc::Global;
 use std::io::Write;
 

@@ -1,5 +1,4 @@
 //! What the tokens of a line say. A reader gives the value at the front and the tokens after it.
-
 ghost use Rattle.std.specs.Prelude.{◌≡◌, length, List, ◌∷◌, IfSome, IfOk, All};
 ghost use Rattle.std.specs.List.{list_all};
 ghost use Rattle.std.specs.Option.{option_map};

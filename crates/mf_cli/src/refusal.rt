@@ -1,5 +1,4 @@
 //! Refusals, as the transcript shows them.
-
 use crate::op::OpFault;
 use mf_geom::{CycleFault, OutOfMemory};
 use std::error::Error;

@@ -4,8 +4,8 @@ ghost use Rattle.std.specs.Prelude.{IfErr, IfSome, OnOk};
 ghost use Rattle.mf_cli.specs.Fault.{EndsEarly};
 ghost use Rattle.mf_cli.specs.Transcript.{transcript};
 
-use super::fault::RunFault;
-use super::progress::Progress;
+use crate::fault::RunFault;
+use crate::progress::Progress;
 use std::alloc::Global;
 use std::io::{Read, Write};
 

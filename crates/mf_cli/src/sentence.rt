@@ -1,5 +1,4 @@
 //! What a line of the grammar says.
-
 ghost use Rattle.std.specs.Prelude.{◌≡◌};
 
 use mf_geom::Point;

@@ -1,5 +1,4 @@
 //! Readers and writers for tests: they give and take pieces, and fail.
-
 use std::alloc::Global;
 use std::io::{self, ErrorKind, Read, Write};
 

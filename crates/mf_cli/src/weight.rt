@@ -29,7 +29,7 @@ impl Model for Weight {
 impl Weight {
     ghost use Rattle.mf_cli.specs.ContourWeight.{IsContourWeight};
 
-    /// The weight of this number, or refusal 7.
+    /// The weight of this number; any other number is refused with BadWeight (7).
     pub fn new(weight: i32) -> Result<Weight, BadWeight>
         ensures accepted { IsOk result ↔ IsContourWeight weight }
         ensures value { IfOk result (λ made. made ≡ weight) }

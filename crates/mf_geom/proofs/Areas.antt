@@ -76,13 +76,19 @@ shoelace-strip e (inr upright) =
     rw same_column (shoelace-upright e.from.x e.from.y e.to.y)
 
 -- round a cycle the differences add up to 0
+shoelace-strips : (ps : List Point) → IsRectilinearCycle ps → sum_below (length ps) (shoelace_at ps) ≡ pos 2 *ℤ sum_below (length ps) (λ i. strip (edge_at ps i))
+unfolding shoelace_at edge_at
+shoelace-strips ps cycle =
+    sum_below-mul_and_differences ps (pos 2) (shoelace_at ps) (λ i. strip (edge_at ps i)) (λ i. remainder (point_at ps i))
+    (λ i below. shoelace-strip (edge_at ps i) (cycle.rectilinear i below))
+
 area-strips : (ps : List Point) → IsRectilinearCycle ps → area ps ≡ sum_below (length ps) (λ i. strip (edge_at ps i))
-unfolding area shoelace_at edge_at
+unfolding area
 area-strips ps cycle =
-    let strips : ℕ → ℤ = λ i. strip (edge_at ps i) in
-    let twice = sum_below-mul_and_differences ps (pos 2) (shoelace_at ps) strips (λ i. remainder (point_at ps i))
-    (λ i below. shoelace-strip (edge_at ps i) (cycle.rectilinear i below)) in
-    ap (λ s. int_div s (pos 2)) twice ∙ int_div-mul 2 (sum_below (length ps) strips) (omega arith)
+    ap (λ s. int_div s (pos 2)) (shoelace-strips ps cycle) ∙ int_div-mul 2 (sum_below (length ps) (λ i. strip (edge_at ps i))) (omega arith)
+
+pub shoelace-area : (ps : List Point) → IsRectilinearCycle ps → sum_below (length ps) (shoelace_at ps) ≡ pos 2 *ℤ area ps
+shoelace-area ps cycle = shoelace-strips ps cycle ∙ ap (λ n. pos 2 *ℤ n) (sym (area-strips ps cycle))
 
 pub sum_over_field-winding : (ps : List Point) → IsRectilinearCycle ps → sum_over_field (winding ps) ≡ area ps
 unfolding crossing_at edge_at

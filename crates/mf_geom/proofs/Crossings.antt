@@ -4,7 +4,7 @@ use Rattle.std.proofs.Common.{◌≡◌, ℕ, ◌<◌, Bool, ℤ, pos, ◌+ℤ�
 use Rattle.std.proofs.lemmas.Int.{ints}
 use Rattle.mf_geom.specs.declared.point.Point.{Point}
 use Rattle.mf_geom.specs.Path.{Edge, point_at, next_place, edge_at, across, up, IsRectilinear}
-use Rattle.mf_geom.specs.Crossing.{reached, passed, crossing, crossing_at}
+use Rattle.mf_geom.specs.Crossing.{passed, crossing, crossing_at}
 use Rattle.mf_geom.specs.Lawful.{IsRectilinearCycle}
 use Rattle.mf_geom.specs.Sum.{sum_below}
 use Rattle.mf_geom.specs.Winding.{Quadrant, right_up, left_up, left_down, right_down, quadrant, quarter, quarter_along, quarter_at, winding}
@@ -21,6 +21,10 @@ quarters_to left_up = pos 3
 -- the quadrant that lies right of the centre or not, and above it or not
 abbrev corner : Bool → Bool → Quadrant
 corner right above = if right then (if above then right_up else right_down) else (if above then left_up else left_down)
+
+-- 0 for what lies beyond, and 1 for what has been reached
+abbrev reached : Bool → ℤ
+reached beyond = if beyond then pos 0 else pos 1
 
 quarter-upright : (right above above' : Bool) → quarter (corner right above) (corner right above') ≡ pos 4 *ℤ (reached right *ℤ (reached above' -ℤ reached above)) +ℤ (quarters_to (corner right above') -ℤ quarters_to (corner right above))
 quarter-upright right above above' = grind (arith, ints)

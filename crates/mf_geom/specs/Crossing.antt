@@ -1,16 +1,12 @@
 -- The winding number, counted at a ray instead of in quarter turns: how often, and in which direction, a
 -- cycle crosses the ray that leads left from the centre of the pixel.
-use Rattle.std.specs.Prelude.{ℕ, Bool, ℤ, pos, ◌-ℤ◌, ◌*ℤ◌, int_lt, List, if◌then◌else◌}
+use Rattle.std.specs.Prelude.{ℕ, ℤ, pos, ◌-ℤ◌, ◌*ℤ◌, int_lt, List, if◌then◌else◌}
 use Rattle.mf_geom.specs.declared.point.Point.{Point}
 use Rattle.mf_geom.specs.Path.{Edge, edge_at}
 
--- 0 for what lies beyond, and 1 for what has been reached
-abbrev pub reached : Bool → ℤ
-reached beyond = if beyond then pos 0 else pos 1
-
 -- 1 where the number a is at most x, and 0 where it lies beyond
 unfoldable pub passed : ℤ → ℤ → ℤ
-passed x a = reached (int_lt x a)
+passed x a = if int_lt x a then pos 0 else pos 1
 
 -- how an edge that is parallel to an axis crosses the ray that leads left from the centre of the pixel
 -- (x, y): 1 downwards, -1 upwards, 0 not at all

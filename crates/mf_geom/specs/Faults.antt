@@ -1,21 +1,19 @@
 -- The fault of a list of points, as a function.
 use Rattle.std.specs.Prelude.{ℕ, zero, suc, Bool, not, ◌&&◌, ℤ, pos, negsuc, ◌+ℤ◌, ◌*ℤ◌, List, length, Option, None, Some, option_map, int_le, int_lt, nat_lt, if◌then◌else◌}
+use Rattle.std.specs.Option.{option_or}
 use Rattle.std.specs.Ordering.{int_eq}
 use Rattle.mf_geom.specs.declared.point.Point.{Point}
 use Rattle.mf_geom.specs.declared.cycle.CycleFault.{CycleFault}
 use Rattle.mf_geom.specs.declared.cycle.CycleFault.TheVariants.{TooFewPoints, TooManyPoints, PointOutOfRange, NotRectilinear, Backtracks, TurningZero}
 use Rattle.mf_geom.specs.Path.{Edge, point_at, edge_at, arriving, across, up}
 use Rattle.mf_geom.specs.Turning.{turning}
-
--- the first value that is there
-abbrev pub or_else : {A : Type 0} → Option A → Option A → Option A
-or_else None b = b
-or_else (Some x) b = Some x
+-- the first of two values that is there, under the name by which other crates cite it
+pub use Rattle.std.specs.Option.{option_or as or_else}
 
 -- the first place below n that passes the test
 unfoldable pub first_place : ℕ → (ℕ → Bool) → Option ℕ
 first_place zero test = None
-first_place (suc n) test = or_else (first_place n test) (if test n then Some n else None)
+first_place (suc n) test = option_or (first_place n test) (if test n then Some n else None)
 
 -- whether a number is in -4095..4095
 abbrev pub is_coordinate : ℤ → Bool
@@ -29,7 +27,8 @@ is_out_of_reach p = not (is_coordinate p.x && is_coordinate p.y)
 unfoldable pub is_not_rectilinear : Edge → Bool
 is_not_rectilinear e = if int_eq (across e) (pos 0) then int_eq (up e) (pos 0) else not (int_eq (up e) (pos 0))
 
--- whether an edge leads opposite to the one before it
+-- whether the scalar product of two edges is negative: for edges parallel to an axis that is where the
+-- second leads opposite to the first
 unfoldable pub is_reversal : Edge → Edge → Bool
 is_reversal a b = int_lt ((across a *ℤ across b) +ℤ (up a *ℤ up b)) (pos 0)
 
@@ -39,15 +38,15 @@ fault_from_turning ps = if int_eq (turning ps) (pos 0) then Some TurningZero els
 
 -- the same where the vertices are left to look at first
 abbrev pub fault_from_vertices : List Point → Option CycleFault
-fault_from_vertices ps = or_else (option_map Backtracks (first_place (length ps) (λ i. is_reversal (arriving ps i) (edge_at ps i)))) (fault_from_turning ps)
+fault_from_vertices ps = option_or (option_map Backtracks (first_place (length ps) (λ i. is_reversal (arriving ps i) (edge_at ps i)))) (fault_from_turning ps)
 
 -- and the edges
 abbrev pub fault_from_edges : List Point → Option CycleFault
-fault_from_edges ps = or_else (option_map NotRectilinear (first_place (length ps) (λ i. is_not_rectilinear (edge_at ps i)))) (fault_from_vertices ps)
+fault_from_edges ps = option_or (option_map NotRectilinear (first_place (length ps) (λ i. is_not_rectilinear (edge_at ps i)))) (fault_from_vertices ps)
 
 -- and the points
 abbrev pub fault_from_reach : List Point → Option CycleFault
-fault_from_reach ps = or_else (option_map PointOutOfRange (first_place (length ps) (λ i. is_out_of_reach (point_at ps i)))) (fault_from_edges ps)
+fault_from_reach ps = option_or (option_map PointOutOfRange (first_place (length ps) (λ i. is_out_of_reach (point_at ps i)))) (fault_from_edges ps)
 
 -- the fault of a list of points, if it is no cycle
 unfoldable pub fault_of : List Point → Option CycleFault

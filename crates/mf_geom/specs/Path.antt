@@ -46,6 +46,7 @@ pub record IsInReach (p : Point) : Type 0 where
 unfoldable pub IsRectilinear : Edge → Type 0
 IsRectilinear e = ((across e ≢ pos 0) × (up e ≡ pos 0)) ⊎ ((across e ≡ pos 0) × (up e ≢ pos 0))
 
--- the path turns straight back from one edge to the next: they lead in opposite directions
+-- the scalar product of two edges is negative: for edges parallel to an axis that is where the path turns
+-- straight back from one to the next, which leads in the opposite direction
 pub record IsReversal (a b : Edge) : Type 0 where
   pub opposite : ((across a *ℤ across b) +ℤ (up a *ℤ up b)) <ℤ pos 0

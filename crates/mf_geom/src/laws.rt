@@ -2,14 +2,14 @@
 ghost use Rattle.std.specs.Prelude.{◌≡◌, ℤ, pos, ◌*ℤ◌, List, length, Some, None};
 ghost use Rattle.std.specs.Int.{int_signum};
 ghost use Rattle.mf_geom.specs.declared.point.Point.{Point};
-ghost use Rattle.mf_geom.specs.Area.{area};
+ghost use Rattle.mf_geom.specs.Area.{shoelace_at, area};
 ghost use Rattle.mf_geom.specs.declared.cycle.CycleFault.{CycleFault};
 ghost use Rattle.mf_geom.specs.Crossing.{crossing_at};
 ghost use Rattle.mf_geom.specs.Faults.{fault_of};
 ghost use Rattle.mf_geom.specs.Field.{IsInField, sum_over_field};
-ghost use Rattle.mf_geom.specs.Lawful.{IsCycle, IsFault, IsRectilinearCycle};
+ghost use Rattle.mf_geom.specs.Lawful.{IsCycle, IsFault, IsRectilinearCycle, NeverReverses};
 ghost use Rattle.mf_geom.specs.Sum.{sum_below};
-ghost use Rattle.mf_geom.specs.Turning.{turning};
+ghost use Rattle.mf_geom.specs.Turning.{turn_at, turning};
 ghost use Rattle.mf_geom.specs.Winding.{quarter_at, winding, contour};
 
 /// What filling a rectilinear cycle adds, over all pixels of the field, is its weight times the sign of
@@ -32,7 +32,20 @@ pub fn whole_turns()
         sum_below (length ps) (quarter_at ps x y) ≡ pos 4 *ℤ winding ps x y }
 {}
 
-/// A list of points has one fault, or it is a cycle and has none.
+/// The turns of a rectilinear path that never turns straight back add up to four times its turning
+/// number, so nothing is lost by the division.
+pub fn whole_turn_of_a_cycle()
+    ensures { (ps : List Point) → NeverReverses ps →
+        sum_below (length ps) (turn_at ps) ≡ pos 4 *ℤ turning ps }
+{}
+
+/// The shoelace sum of a rectilinear cycle is twice its area, so nothing is lost by the division.
+pub fn area_is_whole()
+    ensures { (ps : List Point) → IsRectilinearCycle ps →
+        sum_below (length ps) (shoelace_at ps) ≡ pos 2 *ℤ area ps }
+{}
+
+/// A list of points has at most one fault, and a cycle has none.
 pub fn one_fault()
     ensures refused { (ps : List Point) (fault : CycleFault) → IsFault ps fault → fault_of ps ≡ Some fault }
     ensures accepted { (ps : List Point) → IsCycle ps → fault_of ps ≡ None }

@@ -1,5 +1,6 @@
 mod Boxes
 pub mod DotsLemmas
+mod LongestRuns
 mod PixelsLemmas
 pub mod PlacesLemmas
 pub mod RunsLemmas

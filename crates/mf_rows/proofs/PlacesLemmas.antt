@@ -2,7 +2,7 @@
 use Rattle.std.proofs.Common.{◌≡◌, ℕ, suc, ℤ, pos, negsuc, ◌+ℤ◌, ◌-ℤ◌, ◌≤ℤ◌, ◌<ℤ◌, arith}
 use Rattle.std.proofs.lemmas.Int.{ints}
 use Rattle.mf_geom.specs.Field.{IsInField}
-use Rattle.mf_rows.specs.Dots.{place, first_place}
+use Rattle.mf_rows.specs.Dots.{place, start_of_field}
 
 -- the next column stands at the next place
 pub place-next : (x y : ℤ) → place (x +ℤ pos 1) y ≡ place x y +ℤ pos 1
@@ -24,13 +24,13 @@ unfolding place
 column_from_place x y u v here there same = omega (arith, ints, row_from_place x y u v here there same)
 
 -- the field's places begin at the first one
-pub first_place-le : (x y : ℤ) → IsInField x y → first_place ≤ℤ place x y
-unfolding place first_place
-first_place-le x y inside = omega (arith, ints)
+pub start_of_field-le : (x y : ℤ) → IsInField x y → start_of_field ≤ℤ place x y
+unfolding place start_of_field
+start_of_field-le x y inside = omega (arith, ints)
 
 -- and they are 8190 times 8190 in number
-pub place-lt : (x y : ℤ) → IsInField x y → place x y <ℤ (first_place +ℤ pos 67076100)
-unfolding place first_place
+pub place-lt : (x y : ℤ) → IsInField x y → place x y <ℤ (start_of_field +ℤ pos 67076100)
+unfolding place start_of_field
 place-lt x y inside = omega (arith, ints)
 
 -- the n columns from x on lie in the field, in row y

@@ -5,14 +5,14 @@ use Rattle.std.proofs.lemmas.Int.{ints, by_lt_z}
 use Rattle.std.proofs.lemmas.List.{append_assoc, map_push}
 use Rattle.std.proofs.lemmas.List.Elements.{All-nil, All-cons, All-append, All-head, All-tail, All-weaker}
 use Rattle.mf_rows.specs.declared.run.Run.{Run}
-use Rattle.mf_rows.specs.Dots.{Dot, IsLawfulWeight, IsPicture, AreDotsFrom, place, first_place, weight_at}
+use Rattle.mf_rows.specs.Dots.{Dot, IsLawfulWeight, IsPicture, AreDotsFrom, place, start_of_field, weight_at}
 use Rattle.mf_rows.specs.Order.{Fits}
 use Rattle.mf_rows.specs.Pixels.{dot_of_pixel, dots_of_pixels}
 use Rattle.mf_rows.specs.declared.pixel.Pixel.{Pixel}
 use Rattle.mf_rows.specs.Places.{AreBefore}
 use Rattle.mf_rows.specs.Runs.{stretch, dots_of}
 use Rattle.mf_rows.proofs.DotsLemmas.{weight_at-here, weight_at-elsewhere, not_at, dots_from-append}
-use Rattle.mf_rows.proofs.PlacesLemmas.{AreColumns, first_column, next_columns, place-next, first_place-le}
+use Rattle.mf_rows.proofs.PlacesLemmas.{AreColumns, first_column, next_columns, place-next, start_of_field-le}
 
 stretch-from : (y x w : ℤ) (n : ℕ) → AreColumns x y n → IsLawfulWeight w → w ≢ pos 0 → AreDotsFrom (place x y) (stretch y x w n)
 unfolding stretch
@@ -37,9 +37,9 @@ pub picture-push : (ds : List Dot) (r : Run) → IsPicture ds → Fits ds r → 
 unfolding dots_of
 picture-push ds r picture fits =
     let run = fits.run in
-    let start = first_place-le r.x r.y (record { left = run.left; right = omega (arith, ints, run.right, run.some); bottom = run.bottom; top = run.top }) in
+    let start = start_of_field-le r.x r.y (record { left = run.left; right = omega (arith, ints, run.right, run.some); bottom = run.bottom; top = run.top }) in
     let stretched = stretch-from r.y r.x r.weight r.len (record { left = run.left; right = run.right; bottom = run.bottom; top = run.top }) run.lawful run.nonzero in
-    record { dots = dots_from-append first_place (place r.x r.y) ds (stretch r.y r.x r.weight r.len) start picture.dots fits.after stretched }
+    record { dots = dots_from-append start_of_field (place r.x r.y) ds (stretch r.y r.x r.weight r.len) start picture.dots fits.after stretched }
 
 -- pixels that hold dots and the first n of a run, and one more pixel of the run
 pub pushed_more : (ps : List Pixel) (p : Pixel) (ds : List Dot) (y x w : ℤ) (n : ℕ) → dots_of_pixels ps ≡ ds ++ stretch y x w n → p.y ≡ y → p.x ≡ x +ℤ pos n → p.weight ≡ w → dots_of_pixels (ps ++ p ∷ []) ≡ ds ++ stretch y x w (n + 1)

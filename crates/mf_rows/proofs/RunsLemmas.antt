@@ -14,7 +14,7 @@ use Rattle.std.proofs.lemmas.List.{at_drop_more, at_drop_all, drop-map}
 use Rattle.mf_rows.specs.Runs.{stretch, dots_of, continues, run_from, with_dot, runs_of, IsFollowedBy, AreMaximal}
 
 -- a dot continues a run exactly where the run follows the dot's own
-continued : (d : Dot) (r : Run) → Decides (continues d r) (IsFollowedBy (run_from d 0) r)
+pub continued : (d : Dot) (r : Run) → Decides (continues d r) (IsFollowedBy (run_from d 0) r)
 unfolding continues run_from
 continued d r =
     Decides-like (continues d r) (λ same. record { row = same.0; column = same.1.0; weight = same.1.1 }) (λ followed. (followed.row, (followed.column, followed.weight)))

@@ -9,7 +9,7 @@ use Rattle.std.proofs.lemmas.List.Elements.{All-map}
 use Rattle.std.proofs.lemmas.List.Sorted.{searchable_from_sorted}
 use Rattle.mf_geom.specs.Field.{IsInField}
 use Rattle.mf_rows.specs.declared.pixel.Pixel.{Pixel}
-use Rattle.mf_rows.specs.Dots.{Dot, IsPicture, place, first_place, weight_at}
+use Rattle.mf_rows.specs.Dots.{Dot, IsPicture, place, start_of_field, weight_at}
 use Rattle.mf_rows.specs.Pixels.{dot_of_pixel, dots_of_pixels}
 use Rattle.mf_rows.specs.Places.{IsAtPlace, HasNoneAt}
 use Rattle.mf_rows.proofs.DotsLemmas.{dots_from-lawful, places_rise, weight_at-dot}
@@ -32,7 +32,7 @@ module _ (ps : List Pixel) (picture : IsPicture (dots_of_pixels ps)) (p : ℤ) w
   sorted k q le lt =
       let here = dot_at ps k (dot_of_pixel q) q (omega arith) in
       let next = dot_at ps (k + 1) (dot_of_pixel q) q lt in
-      let rise = places_rise first_place (dots_of_pixels ps) picture.dots k (k + 1) (dot_of_pixel q) (omega arith) (rw (dots_length ps) lt) in
+      let rise = places_rise start_of_field (dots_of_pixels ps) picture.dots k (k + 1) (dot_of_pixel q) (omega arith) (rw (dots_length ps) lt) in
       not_lower _ _ (rw (here, next) at rise)
 
   -- a search ends at the place, or where no dot stands at it
@@ -62,10 +62,10 @@ module _ (ps : List Pixel) (picture : IsPicture (dots_of_pixels ps)) (p : ℤ) w
 pub weight_at-found : (ds : List Dot) (x y : ℤ) (i : ℕ) (d : Dot) → IsPicture ds → IsInField x y → IsAtPlace ds (place x y) i → weight_at ds x y ≡ (get_or ds i d).weight
 weight_at-found ds x y i d picture inside at =
     let dot = get_or ds i d in
-    let lawful = dots_from-lawful first_place ds picture.dots i d at.in_range in
+    let lawful = dots_from-lawful start_of_field ds picture.dots i d at.in_range in
     let row : dot.y ≡ y = row_from_place dot.x dot.y x y lawful.in_field inside (at.here d) in
     let column : dot.x ≡ x = column_from_place dot.x dot.y x y lawful.in_field inside (at.here d) in
-    rw (← row, ← column) (weight_at-dot first_place ds picture.dots i d at.in_range)
+    rw (← row, ← column) (weight_at-dot start_of_field ds picture.dots i d at.in_range)
 
 -- the same, where the dots are pixels
 pub weight_at-pixel : (ps : List Pixel) (x y : ℤ) (i : ℕ) (p : Pixel) → IsPicture (dots_of_pixels ps) → IsInField x y → IsAtPlace (dots_of_pixels ps) (place x y) i → p ≡ get_or ps i p → weight_at (dots_of_pixels ps) x y ≡ p.weight

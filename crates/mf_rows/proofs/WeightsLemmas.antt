@@ -7,7 +7,7 @@ use Rattle.std.proofs.lemmas.Bool.Decides.{Decides-int_eq, not_from_Decides}
 use Rattle.std.proofs.lemmas.Int.{ints, by_lt_z}
 use Rattle.std.proofs.lemmas.List.Elements.{All-head, All-tail}
 use Rattle.mf_geom.specs.Field.{IsInField}
-use Rattle.mf_rows.specs.Dots.{Dot, IsDot, IsLawfulWeight, IsPicture, AreDotsFrom, place, first_place, weight_at}
+use Rattle.mf_rows.specs.Dots.{Dot, IsDot, IsLawfulWeight, IsPicture, AreDotsFrom, place, start_of_field, weight_at}
 use Rattle.mf_rows.specs.Weights.{row_of, rows_of, picture_of, HaveSameWeights}
 use Rattle.mf_rows.proofs.DotsLemmas.{weight_at-here, weight_at-elsewhere, weight_at-before, not_at, dots_from-lower, dots_from-lawful}
 use Rattle.mf_rows.proofs.PlacesLemmas.{AreColumns, first_column, next_columns, place-next, place-below, row_from_place, column_from_place}
@@ -58,7 +58,7 @@ same_from low (d ∷ ds) (e ∷ es) left right weights =
 
 -- two pictures with equal weights are equal
 pub same_pictures : (ds es : List Dot) → IsPicture ds → IsPicture es → HaveSameWeights ds es → ds ≡ es
-same_pictures ds es left right weights = same_from first_place ds es left.dots right.dots weights
+same_pictures ds es left right weights = same_from start_of_field ds es left.dots right.dots weights
 
 -- ---- the picture of given weights is lawful
 
@@ -83,7 +83,7 @@ rows_from f y (suc n) bottom top lawful =
     (subst (λ p. AreDotsFrom p (rows_of f (y -ℤ pos 1) n)) (sym (place-below y)) (rows_from f (y -ℤ pos 1) n (omega (arith, ints)) (omega (arith, ints)) lawful))
 
 pub lawful_picture_of : (f : ℤ → ℤ → ℤ) → ((x y : ℤ) → IsInField x y → IsLawfulWeight (f x y)) → IsPicture (picture_of f)
-unfolding picture_of first_place
+unfolding picture_of start_of_field
 lawful_picture_of f lawful = record { dots = rows_from f (pos 4094) 8190 (omega (arith, ints)) (omega (arith, ints)) lawful }
 
 -- ---- and has these weights
@@ -152,5 +152,5 @@ lawful_weight_at (d ∷ ds) x y dots =
 
 pub picture_of-from_weights : (ds : List Dot) (f : ℤ → ℤ → ℤ) → IsPicture ds → ((x y : ℤ) → IsInField x y → weight_at ds x y ≡ f x y) → ds ≡ picture_of f
 picture_of-from_weights ds f picture weights =
-    let lawful : (x y : ℤ) → IsInField x y → IsLawfulWeight (f x y) = λ x y inside. subst IsLawfulWeight (weights x y inside) (lawful_weight_at ds x y (dots_from-lawful first_place ds picture.dots)) in
+    let lawful : (x y : ℤ) → IsInField x y → IsLawfulWeight (f x y) = λ x y inside. subst IsLawfulWeight (weights x y inside) (lawful_weight_at ds x y (dots_from-lawful start_of_field ds picture.dots)) in
     same_pictures ds (picture_of f) picture (lawful_picture_of f lawful) (record { same = λ x y inside. weights x y inside ∙ sym (weight_at-picture_of f x y inside) })

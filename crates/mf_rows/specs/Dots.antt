@@ -31,12 +31,12 @@ AreDotsFrom low [] = Unit {0}
 AreDotsFrom low (d ∷ ds) = IsDot d × (low ≤ℤ place d.x d.y) × AreDotsFrom (place d.x d.y +ℤ pos 1) ds
 
 -- the place of the first pixel of the field, at the left end of its top row
-unfoldable pub first_place : ℤ
-first_place = place (negsuc 4094) (pos 4094)
+unfoldable pub start_of_field : ℤ
+start_of_field = place (negsuc 4094) (pos 4094)
 
 -- a picture: lawful dots in reading order, none twice
 pub record IsPicture (ds : List Dot) : Type 0 where
-  pub dots : AreDotsFrom first_place ds
+  pub dots : AreDotsFrom start_of_field ds
 
 -- the weight of the pixel (x, y), 0 where no dot stands
 unfoldable pub weight_at : List Dot → ℤ → ℤ → ℤ

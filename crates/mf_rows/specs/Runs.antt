@@ -1,8 +1,8 @@
 -- Runs: longest stretches of pixels of one nonzero weight in one row.
-use Rattle.std.specs.Prelude.{◌≡◌, ℕ, zero, suc, ◌&&◌, Bool, ℤ, pos, ◌+ℤ◌, List, [], ◌∷◌, if◌then◌else◌}
+use Rattle.std.specs.Prelude.{◌≡◌, ◌≢◌, ◌<◌, ◌≤◌, ℕ, zero, suc, ◌&&◌, Bool, ℤ, pos, ◌+ℤ◌, ◌-ℤ◌, List, [], ◌∷◌, if◌then◌else◌}
 use Rattle.std.specs.Ordering.{int_eq}
 use Rattle.mf_rows.specs.declared.run.Run.{Run}
-use Rattle.mf_rows.specs.Dots.{Dot}
+use Rattle.mf_rows.specs.Dots.{Dot, weight_at}
 
 -- n dots of weight w in row y, from column x to the right
 unfoldable pub stretch : ℤ → ℤ → ℤ → ℕ → List Dot
@@ -42,3 +42,11 @@ abbrev pub AreMaximal : List Run → Type 0
 AreMaximal [] = Unit {0}
 AreMaximal (r ∷ []) = Unit {0}
 AreMaximal (r ∷ s ∷ rs) = (IsFollowedBy r s → ⊥) × AreMaximal (s ∷ rs)
+
+-- a run has a pixel, all its pixels have its weight, which is not 0, and neither neighbour in its row has
+pub record IsMaximalRun (ds : List Dot) (r : Run) : Type 0 where
+  pub some : 1 ≤ r.len
+  pub nonzero : r.weight ≢ pos 0
+  pub inside : (i : ℕ) → i < r.len → weight_at ds (r.x +ℤ pos i) r.y ≡ r.weight
+  pub left : weight_at ds (r.x -ℤ pos 1) r.y ≢ r.weight
+  pub right : weight_at ds (r.x +ℤ pos r.len) r.y ≢ r.weight

@@ -76,7 +76,7 @@ impl RowBuilder {
         Ok(Picture::from_pixels(self.pixels))
     }
 
-    // Whether each pixel stands before a place.
+    /// Whether each pixel stands before a place.
     fn ends_before(&self, start: i64) -> bool
         ensures answer { IsTrue result ↔ AreBefore start self.now }
         ensures lawful { IsPicture self.now }

@@ -15,5 +15,6 @@ pub use bounds::Box4;
 pub use builder::RowBuilder;
 pub use mf_geom::OutOfMemory;
 pub use picture::Picture;
+pub use pixel::MAX_WEIGHT;
 pub use run::Run;
 pub use runs::Runs;

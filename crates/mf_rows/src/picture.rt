@@ -63,7 +63,8 @@ impl Picture {
 
     /// The sum of all weights.
     pub fn total(&self) -> i64
-        ensures { result ≡ total_of self.now }
+        ensures value { result ≡ total_of self.now }
+        ensures lawful { IsPicture self.now }
     {
         let mut sum = 0i64;
         for pixel in &self.pixels {
@@ -95,7 +96,8 @@ impl Picture {
 
     /// The k-th of these runs, counted from 0.
     pub fn run(&self, k: usize) -> Option<Run>
-        ensures { result ≡ slice_get (runs_of self.now) k }
+        ensures value { result ≡ slice_get (runs_of self.now) k }
+        ensures lawful { IsPicture self.now }
     {
         self.runs().nth(k)
     }
@@ -108,7 +110,7 @@ impl Picture {
         Picture { pixels }
     }
 
-    // Where the pixel of a place stands, if it does.
+    /// Where the pixel of a place stands, if it does.
     fn search(&self, place: i64) -> Result<usize, usize>
         ensures found { IfOk result (IsAtPlace self.now place) }
         ensures absent { OnErr result (HasNoneAt self.now place) }
@@ -118,7 +120,7 @@ impl Picture {
     }
 }
 
-// Whether the pixel (x, y) lies in the field.
+/// Whether the pixel (x, y) lies in the field.
 fn is_in_field(x: i32, y: i32) -> bool
     ensures { IsTrue result ↔ IsInField x y }
 {

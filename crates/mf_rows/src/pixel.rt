@@ -16,8 +16,8 @@ pub(crate) const FIELD_END: i32 = 4095;
 /// Pixels in a row of the field.
 const ROW_LEN: i64 = 8190;
 
-/// Greatest size of a weight.
-pub(crate) const MAX_WEIGHT: i32 = 32767;
+/// Greatest size of the weight of a pixel.
+pub const MAX_WEIGHT: i32 = 32767;
 
 /// A pixel of nonzero weight.
 #[derive(Clone, Copy, Debug)]
@@ -66,7 +66,7 @@ impl Pixel {
         self.is_beside(other) && self.weight == other.weight
     }
 
-    // Whether the other pixel stands in the next column of the same row.
+    /// Whether the other pixel stands in the next column of the same row.
     fn is_beside(&self, other: &Pixel) -> bool
         ensures { IsTrue result ↔ IsBeside (dot_of_pixel self.now) (dot_of_pixel other.now) }
     {

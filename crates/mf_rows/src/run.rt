@@ -23,21 +23,21 @@ impl Run {
         self.len > 0 && self.lies_in_columns() && self.lies_in_rows() && self.has_weight()
     }
 
-    // Whether all its columns are columns of the field.
+    /// Whether all its columns are columns of the field.
     fn lies_in_columns(&self) -> bool
         ensures { IsTrue result ↔ ((negsuc 4094 ≤ℤ self.now.x) × ((self.now.x +ℤ pos self.now.len) ≤ℤ pos 4095)) }
     {
         FIELD_START <= self.x && i64::from(self.x) + i64::from(self.len) <= i64::from(FIELD_END)
     }
 
-    // Whether its row is a row of the field.
+    /// Whether its row is a row of the field.
     fn lies_in_rows(&self) -> bool
         ensures { IsTrue result ↔ ((negsuc 4094 ≤ℤ self.now.y) × (self.now.y ≤ℤ pos 4094)) }
     {
         FIELD_START <= self.y && self.y < FIELD_END
     }
 
-    // Whether its weight is lawful and not 0.
+    /// Whether its weight is lawful and not 0.
     fn has_weight(&self) -> bool
         ensures { IsTrue result ↔ (IsLawfulWeight self.now.weight × (self.now.weight ≢ pos 0)) }
     {

@@ -49,7 +49,7 @@ impl Iterator for Runs<'_> {
     }
 }
 
-// How many of the pixels behind the first belong to its run.
+/// How many of the pixels behind the first belong to its run.
 fn more_of_run(first: &Pixel, others: &[Pixel]) -> usize
     ensures more { result ≡ more_after (dot_of_pixel first.now) (dots_of_pixels others.now) }
     ensures within { result ≤ length others.now }

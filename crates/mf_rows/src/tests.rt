@@ -17,7 +17,7 @@ fn make_run(y: i32, x: i32, len: u32, weight: i32) -> Run {
 fn builder_of(rt: &impl Abort, alloc: Global, runs: &[Run]) -> Result<RowBuilder, OutOfMemory> {
     let mut builder = RowBuilder::new(alloc);
     for run in runs {
-        assert!(rt; builder.fits(run));
+        assert!(rt; builder.fits(run), "{run:?}");
         builder.push_run(*run)?;
     }
     Ok(builder)
@@ -37,50 +37,62 @@ fn block() -> [Run; 2] {
 fn weighs_each_pixel(rt: HostRuntime) -> Result<(), Fail> {
     let picture = picture_of(&rt, rt.alloc(), &block())?;
     for x in [0, 1, 2] {
-        assert_eq!(rt; picture.weight(x, 2), 0);
-        assert_eq!(rt; picture.weight(x, 1), 1);
-        assert_eq!(rt; picture.weight(x, 0), 1);
-        assert_eq!(rt; picture.weight(x, -1), 0);
+        for (y, weight) in [(2, 0), (1, 1), (0, 1), (-1, 0)] {
+            assert_eq!(rt; picture.weight(x, y), weight, "weight at ({x}, {y})");
+        }
     }
     for y in [-1, 0, 1, 2] {
-        assert_eq!(rt; picture.weight(-1, y), 0);
-        assert_eq!(rt; picture.weight(3, y), 0);
+        for x in [-1, 3] {
+            assert_eq!(rt; picture.weight(x, y), 0, "weight at ({x}, {y})");
+        }
     }
-    assert_eq!(rt; picture.total(), 6);
+    assert_eq!(rt; picture.total(), 6, "total");
     Ok(())
 }
 
 #[test]
 fn gives_its_runs(rt: HostRuntime) -> Result<(), Fail> {
     let picture = picture_of(&rt, rt.alloc(), &block())?;
-    assert_eq!(rt; picture.run(0), Some(make_run(1, 0, 3, 1)));
-    assert_eq!(rt; picture.run(1), Some(make_run(0, 0, 3, 1)));
-    assert_eq!(rt; picture.run(2), None);
+    for (k, run) in [
+        (0, Some(make_run(1, 0, 3, 1))),
+        (1, Some(make_run(0, 0, 3, 1))),
+        (2, None),
+    ] {
+        assert_eq!(rt; picture.run(k), run, "run {k}");
+    }
     let runs: Vec<Run> = picture.runs().collect(rt.alloc())?;
-    assert_eq!(rt; runs.as_slice(), block().as_slice());
+    assert_eq!(rt; runs.as_slice(), block().as_slice(), "all runs");
     Ok(())
 }
 
 #[test]
 fn has_a_least_box(rt: HostRuntime) -> Result<(), Fail> {
-    let picture = picture_of(&rt, rt.alloc(), &block())?;
-    let bounds = Box4 {
-        min_x: 0,
-        max_x: 2,
-        min_y: 0,
-        max_y: 1,
-    };
-    assert_eq!(rt; picture.bounds(), Some(bounds));
-    let runs = [make_run(7, -2, 1, 5), make_run(-3, 4, 2, -5)];
-    let picture = picture_of(&rt, rt.alloc(), &runs)?;
-    let bounds = Box4 {
-        min_x: -2,
-        max_x: 5,
-        min_y: -3,
-        max_y: 7,
-    };
-    assert_eq!(rt; picture.bounds(), Some(bounds));
-    assert_eq!(rt; picture.total(), -5);
+    for (runs, bounds, total) in [
+        (
+            block(),
+            Box4 {
+                min_x: 0,
+                max_x: 2,
+                min_y: 0,
+                max_y: 1,
+            },
+            6,
+        ),
+        (
+            [make_run(7, -2, 1, 5), make_run(-3, 4, 2, -5)],
+            Box4 {
+                min_x: -2,
+                max_x: 5,
+                min_y: -3,
+                max_y: 7,
+            },
+            -5,
+        ),
+    ] {
+        let picture = picture_of(&rt, rt.alloc(), &runs)?;
+        assert_eq!(rt; picture.bounds(), Some(bounds), "bounds of {runs:?}");
+        assert_eq!(rt; picture.total(), total, "total of {runs:?}");
+    }
     Ok(())
 }
 
@@ -133,8 +145,9 @@ fn refuses_unlawful_runs(rt: HostRuntime) -> Result<(), Fail> {
 fn joins_touching_runs_of_one_weight(rt: HostRuntime) -> Result<(), Fail> {
     let runs = [make_run(0, 0, 2, 7), make_run(0, 2, 3, 7)];
     let picture = picture_of(&rt, rt.alloc(), &runs)?;
-    assert_eq!(rt; picture.run(0), Some(make_run(0, 0, 5, 7)));
-    assert_eq!(rt; picture.run(1), None);
+    for (k, run) in [(0, Some(make_run(0, 0, 5, 7))), (1, None)] {
+        assert_eq!(rt; picture.run(k), run, "run {k}");
+    }
     Ok(())
 }
 
@@ -142,19 +155,23 @@ fn joins_touching_runs_of_one_weight(rt: HostRuntime) -> Result<(), Fail> {
 fn keeps_touching_runs_of_two_weights_apart(rt: HostRuntime) -> Result<(), Fail> {
     let runs = [make_run(0, 0, 2, 7), make_run(0, 2, 3, -7)];
     let picture = picture_of(&rt, rt.alloc(), &runs)?;
-    assert_eq!(rt; picture.run(0), Some(make_run(0, 0, 2, 7)));
-    assert_eq!(rt; picture.run(1), Some(make_run(0, 2, 3, -7)));
-    assert_eq!(rt; picture.run(2), None);
+    for (k, run) in [
+        (0, Some(make_run(0, 0, 2, 7))),
+        (1, Some(make_run(0, 2, 3, -7))),
+        (2, None),
+    ] {
+        assert_eq!(rt; picture.run(k), run, "run {k}");
+    }
     Ok(())
 }
 
 #[test]
 fn blank_has_nothing(rt: HostRuntime) -> Result<(), Fail> {
     let blank = Picture::blank(rt.alloc());
-    assert_eq!(rt; blank.weight(0, 0), 0);
-    assert_eq!(rt; blank.total(), 0);
-    assert_eq!(rt; blank.run(0), None);
-    assert_eq!(rt; blank.bounds(), None);
+    assert_eq!(rt; blank.weight(0, 0), 0, "weight at (0, 0)");
+    assert_eq!(rt; blank.total(), 0, "total");
+    assert_eq!(rt; blank.run(0), None, "run 0");
+    assert_eq!(rt; blank.bounds(), None, "bounds");
     Ok(())
 }
 
@@ -167,15 +184,19 @@ fn reaches_the_corners_of_the_field(rt: HostRuntime) -> Result<(), Fail> {
         make_run(-4095, 4094, 1, 3),
     ];
     let picture = picture_of(&rt, rt.alloc(), &runs)?;
-    assert_eq!(rt; picture.weight(-4095, 4094), 32767);
-    assert_eq!(rt; picture.weight(4094, 4094), -32767);
-    assert_eq!(rt; picture.weight(-4095, -4095), 2);
-    assert_eq!(rt; picture.weight(4094, -4095), 3);
-    assert_eq!(rt; picture.weight(4095, 4094), 0);
-    assert_eq!(rt; picture.weight(-4096, 4094), 0);
-    assert_eq!(rt; picture.weight(-4095, 4095), 0);
-    assert_eq!(rt; picture.weight(4094, -4096), 0);
-    assert_eq!(rt; picture.total(), 5);
+    for (x, y, weight) in [
+        (-4095, 4094, 32767),
+        (4094, 4094, -32767),
+        (-4095, -4095, 2),
+        (4094, -4095, 3),
+        (4095, 4094, 0),
+        (-4096, 4094, 0),
+        (-4095, 4095, 0),
+        (4094, -4096, 0),
+    ] {
+        assert_eq!(rt; picture.weight(x, y), weight, "weight at ({x}, {y})");
+    }
+    assert_eq!(rt; picture.total(), 5, "total");
     Ok(())
 }
 
@@ -183,9 +204,9 @@ fn reaches_the_corners_of_the_field(rt: HostRuntime) -> Result<(), Fail> {
 fn weighs_far_pixels(rt: HostRuntime) -> Result<(), Fail> {
     let picture = picture_of(&rt, rt.alloc(), &block())?;
     for far in [i32::MIN, -4096, 4095, 8190, i32::MAX] {
-        assert_eq!(rt; picture.weight(far, 0), 0);
-        assert_eq!(rt; picture.weight(0, far), 0);
-        assert_eq!(rt; picture.weight(far, far), 0);
+        for (x, y) in [(far, 0), (0, far), (far, far)] {
+            assert_eq!(rt; picture.weight(x, y), 0, "weight at ({x}, {y})");
+        }
     }
     Ok(())
 }

@@ -1,6 +1,7 @@
 //! Tests of operations: weights and pictures whose values are known.
 use super::*;
 use mf_geom::Point;
+use mf_rows::{RowBuilder, Run};
 use std::alloc::{AllocError, Global};
 use std::process::Abort;
 use std::test::Fail;
@@ -8,7 +9,10 @@ use std::test::Fail;
 /// The pixel (0, 0), counterclockwise.
 const PIXEL: &[(i32, i32)] = &[(0, 0), (1, 0), (1, 1), (0, 1)];
 
-/// A rectangle of 3 by 2 pixels, clockwise.
+/// A rectangle of 3 by 2 pixels, counterclockwise.
+const RECTANGLE: &[(i32, i32)] = &[(0, 0), (3, 0), (3, 2), (0, 2)];
+
+/// The same rectangle, clockwise.
 const CLOCKWISE: &[(i32, i32)] = &[(0, 0), (0, 2), (3, 2), (3, 0)];
 
 /// The path through these corners, walked so many times.
@@ -41,6 +45,58 @@ fn weights_of_contours(rt: HostRuntime) {
     for weight in [0, 4, -4, 5, i32::MIN, i32::MAX] {
         assert!(rt; Weight::new(weight).is_err(), "{weight} is accepted");
     }
+}
+
+#[test]
+fn fills_a_rectangle(rt: HostRuntime) -> Result<(), Fail> {
+    let alloc = rt.alloc();
+    let runs = [
+        Run {
+            y: 1,
+            x: 0,
+            len: 3,
+            weight: 1,
+        },
+        Run {
+            y: 0,
+            x: 0,
+            len: 3,
+            weight: 1,
+        },
+    ];
+    let mut builder = RowBuilder::new(alloc);
+    for run in runs {
+        assert!(rt; builder.fits(&run), "{run:?}");
+        if builder.fits(&run) {
+            builder
+                .push_run(run)
+                .expect(&rt, "there is room for the run");
+        }
+    }
+    let built = builder
+        .finish()
+        .expect(&rt, "there is room for the picture");
+
+    let blank = Picture::blank(alloc);
+    for corners in [RECTANGLE, CLOCKWISE] {
+        let op = contour(&rt, walk(alloc, corners, 1)?, 1);
+        let filled = after(alloc, &blank, &op).expect(&rt, "the rectangle is filled");
+        for (k, run) in runs.into_iter().enumerate() {
+            assert_eq!(rt; filled.run(k), Some(run), "run {k} of {corners:?}");
+        }
+        assert_eq!(rt; filled.run(2), None, "two rows have no third run");
+        assert_eq!(rt; filled.total(), 6, "the total of {corners:?}");
+        for y in -1..3 {
+            for x in -1..4 {
+                assert_eq!(rt;
+                    filled.weight(x, y),
+                    built.weight(x, y),
+                    "the pixel ({x}, {y})"
+                );
+            }
+        }
+    }
+    Ok(())
 }
 
 #[test]

@@ -1,6 +1,6 @@
 //! Tests of the program: each status, and the message that goes with it.
-
-use super::{BAD_WORDS, DONE, NO_MEMORY, STREAM_FAULT, program, report_memory};
+use super::{BAD_WORDS, DONE, NO_MEMORY, STREAM_FAULT, program, report};
+use crate::fault::RunFault;
 use crate::streams::{Pieces, Sink};
 use std::alloc::{AllocError, Global};
 use std::test::Fail;
@@ -83,7 +83,7 @@ fn reports_faults(rt: HostRuntime) -> Result<(), Fail> {
     assert_eq!(rt; status, STREAM_FAULT);
     assert_eq!(rt; errors.taken(), b"mfpic: WriteFault\n".as_slice());
     let mut errors = Sink::new(alloc);
-    assert_eq!(rt; report_memory(&mut errors), NO_MEMORY);
+    assert_eq!(rt; report(&mut errors, RunFault::OutOfMemory), NO_MEMORY);
     assert_eq!(rt; errors.taken(), b"mfpic: OutOfMemory\n".as_slice());
     Ok(())
 }
@@ -113,6 +113,9 @@ fn keeps_the_status(rt: HostRuntime) -> Result<(), Fail> {
         &mut errors,
     );
     assert_eq!(rt; status, STREAM_FAULT);
-    assert_eq!(rt; report_memory(&mut Sink::failing(alloc, 0)), NO_MEMORY);
+    assert_eq!(rt;
+        report(&mut Sink::failing(alloc, 0), RunFault::OutOfMemory),
+        NO_MEMORY
+    );
     Ok(())
 }

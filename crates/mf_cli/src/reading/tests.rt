@@ -1,5 +1,4 @@
 //! Lines and what they say.
-
 use super::*;
 use std::fmt::Write;
 use std::process::Abort;

@@ -1,5 +1,4 @@
 //! Tests of a run: how lines end, how the script is cut into reads, and what faults leave.
-
 use super::run;
 use crate::fault::RunFault;
 use crate::streams::{LineFeeds, Pieces, Sink};
@@ -21,6 +20,75 @@ const TEXT_REFUSED: &[u8] = b"refused Syntax 1\n";
 
 /// The text of the third line of a script that adds nothing.
 const TEXT_BLANK: &[u8] = b"totalweight 0\n";
+
+/// Scripts and their transcripts.
+const TRANSCRIPTS: [(&str, &str); 20] = [
+    (
+        "addto currentpicture contour (0,0)--(0,2)--(3,2)--(3,0)--cycle\nshow totalweight currentpicture",
+        "totalweight 6\n",
+    ),
+    (
+        "addto currentpicture contour (0,0)--(0,2)--(3,2)--(3,0)--cycle withweight -2\nshow totalweight currentpicture",
+        "totalweight -12\n",
+    ),
+    (
+        "addto currentpicture contour (0,0)--(2,0)--(2,2)--(0,2)--(0,0)--(2,0)--(2,2)--(0,2)--cycle\nshow totalweight currentpicture",
+        "totalweight 8\n",
+    ),
+    (
+        "addto currentpicture contour (0,0)--(2000,0)--(2000,2000)--(0,2000)--cycle\nshow totalweight currentpicture",
+        "totalweight 4000000\n",
+    ),
+    (
+        "addto currentpicture contour (0,0)--(1,0)--(3,0)--(3,2)--(0,2)--cycle\nshow totalweight currentpicture",
+        "totalweight 6\n",
+    ),
+    (
+        "addto currentpicture contour (0,0)--(1,0)--(1,2)--(2,2)--(2,1)--(0,1)--cycle\nshow totalweight currentpicture",
+        "refused TurningZero\ntotalweight 0\n",
+    ),
+    (
+        "addto currentpicture contour (0,0)--(3,0)--(1,0)--(1,1)--(0,1)--cycle",
+        "refused Backtracks 1\n",
+    ),
+    (
+        "addto currentpicture contour (0,0)--(1,0)--cycle",
+        "refused Backtracks 0\n",
+    ),
+    (
+        "addto currentpicture contour (0,0)--(1,1)--(0,1)--cycle",
+        "refused NotRectilinear 0\n",
+    ),
+    (
+        "addto currentpicture contour (0,0)--cycle",
+        "refused TooFewPoints\n",
+    ),
+    (
+        "addto currentpicture contour (0,0)--(4096,0)--(4096,1)--(0,1)--cycle",
+        "refused PointOutOfRange 1\n",
+    ),
+    (
+        "addto currentpicture contour (0,0)--(1,0)--(1,1)--(0,1)--cycle withweight 4",
+        "refused BadWeight\n",
+    ),
+    (
+        "addto currentpicture contour (0,0)--(1,0)--cycle withweight 4",
+        "refused Backtracks 0\n",
+    ),
+    (
+        "show totalweight currentpicture ; % note",
+        "totalweight 0\n",
+    ),
+    ("\n;\n  % note\n \t\n", ""),
+    ("show", "refused Syntax 1\n"),
+    ("show totalweight currentpicture;;", "refused Syntax 1\n"),
+    ("Show totalweight currentpicture", "refused Syntax 1\n"),
+    ("addto currentpicture contour cycle", "refused Syntax 1\n"),
+    (
+        "addto currentpicture contour(0,0)--(400,0)--(400,-400)--(0,-400)--cycle withweight-3\nshow\nshow totalweight currentpicture",
+        "refused Syntax 1\ntotalweight -480000\n",
+    ),
+];
 
 /// These parts, one after another.
 fn joined(alloc: Global, parts: &[&[u8]]) -> Result<Vec<u8>, AllocError> {
@@ -70,6 +138,7 @@ fn lines_end(rt: HostRuntime) -> Result<(), Fail> {
     runs_to(&rt, returned.as_slice(), texts.as_slice());
     let open = joined(alloc, &[third, b"\r"])?;
     runs_to(&rt, open.as_slice(), TEXT_REFUSED);
+    runs_to(&rt, b"\r", TEXT_REFUSED);
     runs_to(&rt, b"\n", TEXTS[1]);
     runs_to(&rt, b"", b"");
     Ok(())
@@ -79,8 +148,9 @@ fn lines_end(rt: HostRuntime) -> Result<(), Fail> {
 fn reader_fails(rt: HostRuntime) -> Result<(), Fail> {
     let alloc = rt.alloc();
     let [first, _, third] = LINES;
-    let scripts: [(&[&[u8]], &[u8]); 4] = [
+    let scripts: [(&[&[u8]], &[u8]); 5] = [
         (&[], b""),
+        (&[first, b"\n"], b""),
         (&[first, b"\n", third], b""),
         (&[third, b"\n", third], TEXT_BLANK),
         (&[first, b"\n", third, b"\n", third], TEXTS[2]),
@@ -164,78 +234,49 @@ fn long_lines(rt: HostRuntime) -> Result<(), Fail> {
     Ok(())
 }
 
-/// Scripts whose transcripts are known.
 #[test]
-fn transcripts(rt: HostRuntime) -> Result<(), Fail> {
+fn transcripts(rt: HostRuntime) {
     let alloc = rt.alloc();
-    let scripts: [(&str, &str); 19] = [
-        (
-            "addto currentpicture contour (0,0)--(0,2)--(3,2)--(3,0)--cycle\nshow totalweight currentpicture",
-            "totalweight 6\n",
-        ),
-        (
-            "addto currentpicture contour (0,0)--(0,2)--(3,2)--(3,0)--cycle withweight -2\nshow totalweight currentpicture",
-            "totalweight -12\n",
-        ),
-        (
-            "addto currentpicture contour (0,0)--(2,0)--(2,2)--(0,2)--(0,0)--(2,0)--(2,2)--(0,2)--cycle\nshow totalweight currentpicture",
-            "totalweight 8\n",
-        ),
-        (
-            "addto currentpicture contour (0,0)--(1,0)--(3,0)--(3,2)--(0,2)--cycle\nshow totalweight currentpicture",
-            "totalweight 6\n",
-        ),
-        (
-            "addto currentpicture contour (0,0)--(1,0)--(1,2)--(2,2)--(2,1)--(0,1)--cycle\nshow totalweight currentpicture",
-            "refused TurningZero\ntotalweight 0\n",
-        ),
-        (
-            "addto currentpicture contour (0,0)--(3,0)--(1,0)--(1,1)--(0,1)--cycle",
-            "refused Backtracks 1\n",
-        ),
-        (
-            "addto currentpicture contour (0,0)--(1,0)--cycle",
-            "refused Backtracks 0\n",
-        ),
-        (
-            "addto currentpicture contour (0,0)--(1,1)--(0,1)--cycle",
-            "refused NotRectilinear 0\n",
-        ),
-        (
-            "addto currentpicture contour (0,0)--cycle",
-            "refused TooFewPoints\n",
-        ),
-        (
-            "addto currentpicture contour (0,0)--(4096,0)--(4096,1)--(0,1)--cycle",
-            "refused PointOutOfRange 1\n",
-        ),
-        (
-            "addto currentpicture contour (0,0)--(1,0)--(1,1)--(0,1)--cycle withweight 4",
-            "refused BadWeight\n",
-        ),
-        (
-            "addto currentpicture contour (0,0)--(1,0)--cycle withweight 4",
-            "refused Backtracks 0\n",
-        ),
-        (
-            "show totalweight currentpicture ; % note",
-            "totalweight 0\n",
-        ),
-        ("\n;\n  % note\n \t\n", ""),
-        ("show", "refused Syntax 1\n"),
-        ("show totalweight currentpicture;;", "refused Syntax 1\n"),
-        ("Show totalweight currentpicture", "refused Syntax 1\n"),
-        ("addto currentpicture contour cycle", "refused Syntax 1\n"),
-        (
-            "addto currentpicture contour(0,0)--(400,0)--(400,-400)--(0,-400)--cycle withweight-3\nshow\nshow totalweight currentpicture",
-            "refused Syntax 1\ntotalweight -480000\n",
-        ),
-    ];
-    for (script, transcript) in scripts {
+    for (script, transcript) in TRANSCRIPTS {
         let mut writer = Sink::new(alloc);
         let result = run(alloc, &mut Pieces::whole(script.as_bytes()), &mut writer);
         assert_eq!(rt; result, Ok(()), "{script}");
         assert_eq!(rt; writer.taken(), transcript.as_bytes(), "{script}");
+    }
+}
+
+/// A line that fills the pixel (0, 0), walked so many times, with weight 3.
+fn many_times(alloc: Global, times: usize) -> Result<Vec<u8>, AllocError> {
+    let mut line = b"addto currentpicture contour ".to_vec(alloc)?;
+    for _ in 0..times {
+        line.extend_from_slice(b"(0,0)--(1,0)--(1,1)--(0,1)--")?;
+    }
+    line.extend_from_slice(b"cycle withweight 3\n")?;
+    Ok(line)
+}
+
+#[test]
+fn long_contours(rt: HostRuntime) -> Result<(), Fail> {
+    let alloc = rt.alloc();
+    let cases: [(usize, usize, &[u8]); 3] = [
+        (1025, 1, b"refused TooManyPoints\n"),
+        (1024, 10, b""),
+        (
+            1024,
+            12,
+            b"refused WeightTooLarge\nrefused WeightTooLarge\n",
+        ),
+    ];
+    for (times, lines, text) in cases {
+        let line = many_times(alloc, times)?;
+        let mut script = Vec::new(alloc);
+        for _ in 0..lines {
+            script.extend_from_slice(line.as_slice())?;
+        }
+        let mut writer = Sink::new(alloc);
+        let result = run(alloc, &mut Pieces::whole(script.as_slice()), &mut writer);
+        assert_eq!(rt; result, Ok(()), "{lines} lines of {times}");
+        assert_eq!(rt; writer.taken(), text, "{lines} lines of {times}");
     }
     Ok(())
 }

@@ -4,12 +4,18 @@ use Rattle.std.proofs.lemmas.Result.{err_from_is_err_and, on_ok_weaker, IfErr-we
 use Rattle.std.specs.Io.KnownBytes.{Appends, Consumes, IsAtEnd}
 use Rattle.mf_cli.specs.Ended.{ended_lines}
 use Rattle.mf_cli.specs.Transcript.{texts, transcript}
+use Rattle.mf_cli.proofs.Stages.{CutsShort-nothing}
 use Rattle.mf_cli.proofs.run.run.Goals as goal
 
 -- a read that gives no byte
 Consumes-none : (unread left rest : Option (List ℕ)) (read chunk : List ℕ) (n : ℕ) → Consumes unread left read → n ≡ 0 → Consumes left rest (take n chunk) → Consumes unread rest read
 Consumes-none unread left rest read chunk n before none more =
     subst (Consumes unread rest) (ap (λ m. read ++ take m chunk) none ∙ append-nil read) (Consumes-trans unread left rest read _ before more)
+
+pub returns-in_err-memory-clause-fault : goal.returns-in_err-memory-clause-fault
+returns-in_err-memory-clause-fault g c =
+    let wanting = err_from_is_err_and c.from_residual.result c.from_residual.ensures.1 in
+    rw (wanting.1, wanting.2) ([], Consumes-nil _, CutsShort-nothing _)
 
 pub reads-init : goal.reads-init
 reads-init g c = (omega (arith, c.new-progress.ensures.written), ([], Consumes-nil _, c.new-progress.ensures.start _))

@@ -6,7 +6,7 @@ use Rattle.mf_rows.specs.Runs.{runs_of}
 use Rattle.mf_rows.specs.Walk.{runs_left}
 use Rattle.mf_rows.proofs.picture.Picture.run.Goals as goal
 
-pub returns : goal.returns
-returns c =
+pub returns-clause-value : goal.returns-clause-value
+returns-clause-value c =
     let all = YieldsList-from_first (λ (run : Run). run) runs_left (runs_of c.args.self.now) c.runs.ensures.runs in
     sym (option_map_id c.nth.result) ∙ nth_from_yields_List c.nth.result c.nth.new.self c.args.k c.nth.ensures.ran all

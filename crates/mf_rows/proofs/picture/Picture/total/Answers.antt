@@ -18,7 +18,7 @@ loop-pixel-preserved c =
     let next = sum_more-pixel _ _ _ picture c.loop-pixel-test.true c.loop-pixel.invariant in
     subst (IsSumTo (dots_of_pixels c.deref-pixel-items.result.now) (c.loop-pixel.pixel-index + 1)) (omega (arith, ints, next.fits, next.weight_fits, c.from-sum.ensures)) next.more
 
-pub returns : goal.returns
-returns c =
+pub returns-clause-value : goal.returns-clause-value
+returns-clause-value c =
     sum_all _ _ _ (rw (dots_length c.deref-pixel-items.result.now) c.loop-pixel-test.false) c.loop-pixel.invariant
     ∙ rw (c.deref-pixel-items.ensures.value, c.self.view_is)
