@@ -1,17 +1,11 @@
 mod Again
-mod Blank
-mod Boxes
 mod Corners
 mod Digits
 mod Ended
-mod Faults
 mod KnownTexts
 mod LongLines
-mod Places
 mod Refusing
-mod Rows
 mod Spelled
 mod Stages
 mod Steps
-mod Weighing
 mod WorkedLines

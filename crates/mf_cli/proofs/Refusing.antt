@@ -8,11 +8,11 @@ use Rattle.mf_geom.specs.Faults as cycles
 use Rattle.mf_geom.specs.Lawful.{IsCycle, IsFault}
 use Rattle.mf_geom.proofs.FirstFaults.{fault_of-cycle, fault_of-fault}
 use Rattle.mf_rows.specs.Dots.{Dot}
-use Rattle.mf_cli.specs.ContourWeight.{IsContourWeight}
+use Rattle.mf_ops.specs.ContourWeight.{IsContourWeight}
+use Rattle.mf_ops.specs.Step as steps
+use Rattle.mf_ops.specs.declared.op.Op.TheVariants.{Contour}
+use Rattle.mf_ops.specs.declared.op.OpFault.TheVariants as faults
 use Rattle.mf_cli.specs.Script.{contour_refusal, is_bad_weight}
-use Rattle.mf_cli.specs.Step as steps
-use Rattle.mf_cli.specs.declared.op.Op.TheVariants.{Contour}
-use Rattle.mf_cli.specs.declared.op.OpFault.TheVariants as faults
 use Rattle.mf_cli.specs.declared.refusal.Refusal.{Refusal}
 use Rattle.mf_cli.specs.declared.refusal.Refusal.TheVariants as refusal
 

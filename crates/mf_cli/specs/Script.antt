@@ -6,11 +6,11 @@ use Rattle.mf_geom.specs.declared.point.Point.{Point}
 use Rattle.mf_geom.specs.Faults.{or_else}
 use Rattle.mf_geom.specs.Faults as cycles
 use Rattle.mf_rows.specs.Dots.{Dot, total_of}
+use Rattle.mf_ops.specs.Step as steps
+use Rattle.mf_ops.specs.Step.{stepped}
+use Rattle.mf_ops.specs.declared.op.Op.TheVariants.{Contour}
 use Rattle.mf_cli.specs.Reading.{sentence_of}
 use Rattle.mf_cli.specs.Refusals.{refused_line}
-use Rattle.mf_cli.specs.Step as steps
-use Rattle.mf_cli.specs.Step.{stepped}
-use Rattle.mf_cli.specs.declared.op.Op.TheVariants.{Contour}
 use Rattle.mf_cli.specs.declared.refusal.Refusal.{Refusal}
 use Rattle.mf_cli.specs.declared.refusal.Refusal.TheVariants as refusal
 use Rattle.mf_cli.specs.declared.sentence.Sentence.{Sentence}

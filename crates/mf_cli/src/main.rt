@@ -2,24 +2,20 @@
 #![tactic(auto)]
 
 mod fault;
-mod fill;
 mod laws;
 mod line_buffer;
-mod op;
 mod output;
 mod performer;
 mod program;
 mod progress;
 mod reading;
 mod refusal;
-mod region;
 mod run;
 mod script;
 mod sentence;
 #[cfg(test)]
 mod streams;
 mod tokens;
-mod weight;
 
 use fault::RunFault;
 use program::{program, refuse_words, report};

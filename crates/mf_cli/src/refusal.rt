@@ -1,6 +1,5 @@
 //! Refusals, as the transcript shows them.
-use crate::op::OpFault;
-use mf_geom::{CycleFault, OutOfMemory};
+use mf_geom::CycleFault;
 use std::error::Error;
 use std::fmt;
 

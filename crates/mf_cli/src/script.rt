@@ -1,17 +1,16 @@
 //! The state of a script, and what its lines do.
 ghost use Rattle.std.specs.Prelude.{◌≡◌, ◌++◌, ℤ, codes, None, Some, IfOk, IfErr, OnErr, OnOk};
 ghost use Rattle.std.specs.Fmt.{signed_decimal};
+ghost use Rattle.mf_ops.specs.Step.{stepped};
+ghost use Rattle.mf_ops.specs.declared.op.Op.TheVariants.{Contour};
 ghost use Rattle.mf_cli.specs.Refusals.{refused_line};
 ghost use Rattle.mf_cli.specs.Script.{contour_refusal};
-ghost use Rattle.mf_cli.specs.Step.{stepped};
-ghost use Rattle.mf_cli.specs.declared.op.Op.TheVariants.{Contour};
 
-use crate::op::{Op, OpFault, after};
 use crate::reading::sentence;
 use crate::refusal::Refusal;
 use crate::sentence::{Path, Sentence};
-use crate::weight::Weight;
 use mf_geom::{Cycle, OutOfMemory};
+use mf_ops::{Op, OpFault, Weight, after};
 use mf_rows::Picture;
 use std::alloc::Global;
 use std::marker::Model;

@@ -1,8 +1,8 @@
 //! Cycles: closed rectilinear paths that can be filled.
-ghost use Rattle.std.specs.Prelude.{◌≡◌, ◌↔◌, pos, negsuc, ◌≤ℤ◌, IsOk, IfOk, IfErr};
+ghost use Rattle.std.specs.Prelude.{◌≡◌, ◌↔◌, ◌<◌, pos, negsuc, ◌≤ℤ◌, length, IsOk, IfOk, IfErr};
 
 use crate::point::Point;
-use crate::{path, winding};
+use crate::{edge, path, winding};
 use std::error::Error;
 use std::fmt;
 use std::marker::Model;
@@ -69,6 +69,7 @@ impl Model for Cycle {
 
 impl Cycle {
     ghost use Rattle.mf_geom.specs.Lawful.{IsCycle, IsFault};
+    ghost use Rattle.mf_geom.specs.Path.{edge_at};
     ghost use Rattle.mf_geom.specs.Turning.{turning};
     ghost use Rattle.mf_geom.specs.Area.{area};
     ghost use Rattle.mf_geom.specs.Winding.{winding};
@@ -93,6 +94,16 @@ impl Cycle {
         ensures lawful { IsCycle self.now }
     {
         &self.points
+    }
+
+    /// The ends of the edge that leaves vertex `place`: the last one leads back to the first point.
+    pub fn edge(&self, place: usize) -> (Point, Point)
+        requires { place < length self.now }
+        ensures from { result.0 ≡ (edge_at self.now place).from }
+        ensures to { result.1 ≡ (edge_at self.now place).to }
+        ensures lawful { IsCycle self.now }
+    {
+        edge::ends(&self.points, place)
     }
 
     /// The turning number: left turns less right turns, divided by 4 (mf.web, "turning number"). It is

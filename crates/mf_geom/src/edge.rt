@@ -3,7 +3,7 @@
 ghost use Rattle.std.specs.Prelude.{◌≡◌, ◌↔◌, ◌<◌, ◌⊎◌, ◌≢◌, pos, negsuc, ◌+ℤ◌, ◌-ℤ◌, ◌*ℤ◌, ◌≤ℤ◌, length, IsTrue};
 ghost use Rattle.mf_geom.specs.Area.{shoelace_at};
 ghost use Rattle.mf_geom.specs.Lawful.{StaysInReach};
-ghost use Rattle.mf_geom.specs.Path.{next_place, previous_place, edge_at, arriving, across, up, IsRectilinear, IsReversal};
+ghost use Rattle.mf_geom.specs.Path.{next_place, previous_place, edge_at, arriving, across, up, IsInReach, IsRectilinear, IsReversal};
 ghost use Rattle.mf_geom.specs.Turning.{turn_at};
 
 use crate::point::Point;
@@ -61,8 +61,7 @@ pub fn shoelace(points: &[Point], edge: usize) -> i32
     ensures least { negsuc 134152199 ≤ℤ result }
     ensures greatest { result ≤ℤ pos 134152200 }
 {
-    let from = points[edge];
-    let to = points[next_place(points, edge)];
+    let (from, to) = ends(points, edge);
     product(from.x, to.y) - product(to.x, from.y)
 }
 
@@ -73,17 +72,28 @@ fn step_along(points: &[Point], edge: usize) -> Step
     ensures across { result.across ≡ across (edge_at points.now edge) }
     ensures up { result.up ≡ up (edge_at points.now edge) }
 {
-    let from = points[edge];
-    let to = points[next_place(points, edge)];
+    let (from, to) = ends(points, edge);
     Step {
         across: to.x - from.x,
         up: to.y - from.y,
     }
 }
 
+/// The ends of the edge that leaves this vertex.
+pub fn ends(points: &[Point], edge: usize) -> (Point, Point)
+    requires reach { StaysInReach points.now }
+    requires within { edge < length points.now }
+    ensures from { result.0 ≡ (edge_at points.now edge).from }
+    ensures to { result.1 ≡ (edge_at points.now edge).to }
+    ensures from_in_reach { IsInReach result.0 }
+    ensures to_in_reach { IsInReach result.1 }
+{
+    (points[edge], points[next_place(points, edge)])
+}
+
 /// The place after this one: behind the last point comes the first.
 #[tactic(auto, unfolding(crate::specs::Path::next_place))]
-pub fn next_place(points: &[Point], place: usize) -> usize
+fn next_place(points: &[Point], place: usize) -> usize
     requires { place < length points.now }
     ensures value { result ≡ next_place points.now place }
     ensures within { result < length points.now }

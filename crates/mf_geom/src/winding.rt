@@ -4,7 +4,7 @@ ghost use Rattle.mf_geom.specs.Crossing.{passed, crossing_at};
 ghost use Rattle.mf_geom.specs.Lawful.{IsRectilinearCycle, StaysInReach};
 ghost use Rattle.mf_geom.specs.Winding.{winding};
 
-use crate::edge::next_place;
+use crate::edge::ends;
 use crate::point::Point;
 
 /// The winding number of a closed path round the pixel (x, y).
@@ -30,8 +30,7 @@ fn crossing(points: &[Point], edge: usize, x: i32, y: i32) -> i32
     ensures least { negsuc 0 ≤ℤ result }
     ensures greatest { result ≤ℤ pos 1 }
 {
-    let from = points[edge];
-    let to = points[next_place(points, edge)];
+    let (from, to) = ends(points, edge);
     if x < from.x {
         return 0;
     }

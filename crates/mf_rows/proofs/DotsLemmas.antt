@@ -1,11 +1,11 @@
 -- Dots in reading order, and the weight at a pixel.
-use Rattle.std.proofs.Common.{◌≡◌, ◌≢◌, ℕ, zero, suc, ◌-◌, ◌<◌, ◌≤◌, ◌&&◌, true, ℤ, pos, ◌+ℤ◌, ◌≤ℤ◌, ◌<ℤ◌, List, [], ◌∷◌, ◌++◌, length, get_or, refl, ◌∙◌, arith}
+use Rattle.std.proofs.Common.{◌≡◌, ◌≢◌, ℕ, zero, suc, ◌<◌, ◌&&◌, true, ℤ, pos, ◌+ℤ◌, ◌≤ℤ◌, ◌<ℤ◌, List, [], ◌∷◌, ◌++◌, length, get_or, refl, ◌∙◌, arith}
 use Rattle.std.specs.List.{All}
 use Rattle.std.specs.Ordering.{int_eq}
 use Rattle.std.proofs.lemmas.Bool.{cond-true, cond-false, and_parts, and_from, false_from_ne_true}
 use Rattle.std.proofs.lemmas.Bool.Decides.{Decides-int_eq}
 use Rattle.std.proofs.lemmas.Int.{ints}
-use Rattle.std.proofs.lemmas.List.Elements.{All-head, All-tail, All-cons, All-nil, All-weaker, All-from_get_or}
+use Rattle.std.proofs.lemmas.List.Elements.{All-head, All-tail, All-cons, All-nil, All-weaker}
 use Rattle.mf_geom.specs.Field.{IsInField}
 use Rattle.mf_rows.specs.Dots.{Dot, IsDot, IsPicture, AreDotsFrom, place, start_of_field, weight_at}
 use Rattle.mf_rows.specs.Places.{AreBefore}
@@ -102,20 +102,3 @@ weight_at-all_in_field (d ∷ ds) x y lawful outside =
 -- a picture has weight 0 outside the field
 pub weight_at-outside : (ds : List Dot) (x y : ℤ) → IsPicture ds → (IsInField x y → ⊥) → weight_at ds x y ≡ pos 0
 weight_at-outside ds x y picture outside = weight_at-all_in_field ds x y (dots_from-lawful start_of_field ds picture.dots) outside
-
--- no dot stands behind a later one
-pub places_rise : (low : ℤ) (ds : List Dot) → AreDotsFrom low ds → (i j : ℕ) (e : Dot) → i ≤ j → j < length ds → place (get_or ds i e).x (get_or ds i e).y ≤ℤ place (get_or ds j e).x (get_or ds j e).y
-places_rise low [] dots i j e le lt = absurd (omega arith)
-places_rise low (d ∷ ds) dots zero zero e le lt = omega (arith, ints)
-places_rise low (d ∷ ds) dots zero (suc j) e le lt =
-    let later : (place d.x d.y +ℤ pos 1) ≤ℤ place (get_or ds j e).x (get_or ds j e).y = dots_from-after (place d.x d.y +ℤ pos 1) ds dots.2 j e (omega arith) in
-    omega (arith, ints)
-places_rise low (d ∷ ds) dots (suc i) zero e le lt = absurd (omega arith)
-places_rise low (d ∷ ds) dots (suc i) (suc j) e le lt = places_rise (place d.x d.y +ℤ pos 1) ds dots.2 i j e (omega arith) (omega arith)
-
--- dots stand before a place where the last of them does
-pub before_from-last : (ds : List Dot) (e : Dot) (p : ℤ) → IsPicture ds → place (get_or ds (length ds - 1) e).x (get_or ds (length ds - 1) e).y <ℤ p → AreBefore p ds
-before_from-last ds e p picture last =
-    All-from_get_or (λ d. place d.x d.y <ℤ p) ds e (λ i lt.
-    let rise = places_rise start_of_field ds picture.dots i (length ds - 1) e (omega arith) (omega arith) in
-    omega (arith, ints))

@@ -1,10 +1,23 @@
-mod Boxes
+mod AddedEdges
+mod BandsLemmas
+mod BuildingLemmas
+mod CornersLemmas
 pub mod DotsLemmas
+mod EdgeRuns
+mod EdgeSums
+pub mod EdgesLemmas
 mod LongestRuns
-mod PixelsLemmas
+mod MaximalRuns
+mod PassedRuns
+mod PictureRows
 pub mod PlacesLemmas
-pub mod RunsLemmas
+mod RowRuns
+mod RowSums
+mod RunBoxes
 pub mod RunDots
-mod Search
+mod RunEdges
+mod RunsLeft
+pub mod RunsLemmas
+mod StripsLemmas
 pub mod Totals
 pub mod WeightsLemmas

@@ -6,10 +6,9 @@ use Rattle.std.proofs.lemmas.Int.{ints}
 use Rattle.std.proofs.lemmas.List.Elements.{All-head, All-tail, All-cons, All-nil}
 use Rattle.mf_rows.specs.declared.run.Run.{Run}
 use Rattle.mf_rows.specs.Dots.{Dot, IsDot, AreDotsFrom, place, weight_at}
-use Rattle.mf_rows.specs.Next.{more_after}
 use Rattle.mf_rows.specs.Runs.{continues, run_from, with_dot, runs_of, IsFollowedBy, IsMaximalRun}
 use Rattle.mf_rows.proofs.DotsLemmas.{IsAt, weight_at-here, weight_at-elsewhere, weight_at-before, dots_from-lower}
-use Rattle.mf_rows.proofs.RunsLemmas.{continued, runs_of-first}
+use Rattle.mf_rows.proofs.RunsLemmas.{continued, more_after, runs_of-first}
 
 -- a run stays maximal behind a dot that does not continue it
 kept : (d : Dot) (ds : List Dot) (r : Run) → AreDotsFrom (place d.x d.y +ℤ pos 1) ds → (IsFollowedBy (run_from d 0) r → ⊥) → IsMaximalRun ds r → IsMaximalRun (d ∷ ds) r

@@ -1,20 +1,17 @@
 -- The dots of a run, and dots with a run behind them.
-use Rattle.std.proofs.Common.{◌≡◌, ◌≢◌, ℕ, zero, suc, ◌+◌, ◌&&◌, if◌then◌else◌, ℤ, pos, ◌+ℤ◌, ◌≤ℤ◌, ◌<ℤ◌, List, [], ◌∷◌, ◌++◌, refl, sym, ap, ◌∙◌, subst, add-one, arith}
+use Rattle.std.proofs.Common.{◌≡◌, ◌≢◌, ℕ, zero, suc, ◌+◌, ◌&&◌, if◌then◌else◌, ℤ, pos, ◌+ℤ◌, ◌≤ℤ◌, ◌<ℤ◌, List, [], ◌∷◌, ◌++◌, refl, ap, ◌∙◌, subst, add-one, arith}
 use Rattle.std.specs.Ordering.{int_eq}
 use Rattle.std.proofs.lemmas.Int.{ints, by_lt_z}
-use Rattle.std.proofs.lemmas.List.{append_assoc, map_push}
-use Rattle.std.proofs.lemmas.List.Elements.{All-nil, All-cons, All-append, All-head, All-tail, All-weaker}
+use Rattle.std.proofs.lemmas.List.Elements.{All-nil, All-cons, All-head, All-tail, All-weaker}
 use Rattle.mf_rows.specs.declared.run.Run.{Run}
 use Rattle.mf_rows.specs.Dots.{Dot, IsLawfulWeight, IsPicture, AreDotsFrom, place, start_of_field, weight_at}
 use Rattle.mf_rows.specs.Order.{Fits}
-use Rattle.mf_rows.specs.Pixels.{dot_of_pixel, dots_of_pixels}
-use Rattle.mf_rows.specs.declared.pixel.Pixel.{Pixel}
 use Rattle.mf_rows.specs.Places.{AreBefore}
 use Rattle.mf_rows.specs.Runs.{stretch, dots_of}
 use Rattle.mf_rows.proofs.DotsLemmas.{weight_at-here, weight_at-elsewhere, not_at, dots_from-append}
 use Rattle.mf_rows.proofs.PlacesLemmas.{AreColumns, first_column, next_columns, place-next, start_of_field-le}
 
-stretch-from : (y x w : ℤ) (n : ℕ) → AreColumns x y n → IsLawfulWeight w → w ≢ pos 0 → AreDotsFrom (place x y) (stretch y x w n)
+pub stretch-from : (y x w : ℤ) (n : ℕ) → AreColumns x y n → IsLawfulWeight w → w ≢ pos 0 → AreDotsFrom (place x y) (stretch y x w n)
 unfolding stretch
 stretch-from y x w zero columns lawful nonzero = tt
 stretch-from y x w (suc n) columns lawful nonzero = (
@@ -41,21 +38,13 @@ picture-push ds r picture fits =
     let stretched = stretch-from r.y r.x r.weight r.len (record { left = run.left; right = run.right; bottom = run.bottom; top = run.top }) run.lawful run.nonzero in
     record { dots = dots_from-append start_of_field (place r.x r.y) ds (stretch r.y r.x r.weight r.len) start picture.dots fits.after stretched }
 
--- pixels that hold dots and the first n of a run, and one more pixel of the run
-pub pushed_more : (ps : List Pixel) (p : Pixel) (ds : List Dot) (y x w : ℤ) (n : ℕ) → dots_of_pixels ps ≡ ds ++ stretch y x w n → p.y ≡ y → p.x ≡ x +ℤ pos n → p.weight ≡ w → dots_of_pixels (ps ++ p ∷ []) ≡ ds ++ stretch y x w (n + 1)
-pushed_more ps p ds y x w n so_far row column weight =
-    map_push dot_of_pixel ps p
-    ∙ ap (λ front. front ++ dot_of_pixel p ∷ []) so_far
-    ∙ append_assoc ds (stretch y x w n) (dot_of_pixel p ∷ [])
-    ∙ ap (λ run. ds ++ run) (rw (row, column, weight) (sym (stretch-more y x w n)))
-
 -- a pixel of a run
 pub record IsOnRun (r : Run) (x y : ℤ) : Type 0 where
   pub row : r.y ≡ y
   pub left : r.x ≤ℤ x
   pub right : x <ℤ (r.x +ℤ pos r.len)
 
-weight_at-stretch : (y x w : ℤ) (n : ℕ) (u : ℤ) → x ≤ℤ u → u <ℤ (x +ℤ pos n) → weight_at (stretch y x w n) u y ≡ w
+pub weight_at-stretch : (y x w : ℤ) (n : ℕ) (u : ℤ) → x ≤ℤ u → u <ℤ (x +ℤ pos n) → weight_at (stretch y x w n) u y ≡ w
 unfolding stretch
 weight_at-stretch y x w zero u left right = absurd (omega (arith, ints))
 weight_at-stretch y x w (suc n) u left right =
@@ -73,7 +62,7 @@ weight_at-off_stretch y x w (suc n) u v off =
     ∙ weight_at-off_stretch y (x +ℤ pos 1) w n u v (λ row left right. off row (omega (arith, ints)) (omega (arith, ints)))
 
 -- dots that all stand before a pixel say nothing of it
-weight_at-append_after : (ds es : List Dot) (x y : ℤ) → AreBefore (place x y) ds → weight_at (ds ++ es) x y ≡ weight_at es x y
+pub weight_at-append_after : (ds es : List Dot) (x y : ℤ) → AreBefore (place x y) ds → weight_at (ds ++ es) x y ≡ weight_at es x y
 weight_at-append_after [] es x y before = refl
 weight_at-append_after (d ∷ ds) es x y before =
     let lower : place d.x d.y <ℤ place x y = All-head (λ d. place d.x d.y <ℤ place x y) d ds before in
@@ -81,12 +70,12 @@ weight_at-append_after (d ∷ ds) es x y before =
     ∙ weight_at-append_after ds es x y (All-tail (λ d. place d.x d.y <ℤ place x y) d ds before)
 
 -- nor do dots behind others, where they give a pixel weight 0
-weight_at-append_none : (ds es : List Dot) (x y : ℤ) → weight_at es x y ≡ pos 0 → weight_at (ds ++ es) x y ≡ weight_at ds x y
+pub weight_at-append_none : (ds es : List Dot) (x y : ℤ) → weight_at es x y ≡ pos 0 → weight_at (ds ++ es) x y ≡ weight_at ds x y
 unfolding weight_at
 weight_at-append_none [] es x y none = none
 weight_at-append_none (d ∷ ds) es x y none = ap (λ others. if int_eq d.x x && int_eq d.y y then d.weight else others) (weight_at-append_none ds es x y none)
 
-place-le : (x u y : ℤ) → x ≤ℤ u → place x y ≤ℤ place u y
+pub place-le : (x u y : ℤ) → x ≤ℤ u → place x y ≤ℤ place u y
 unfolding place
 place-le x u y le = omega (arith, ints)
 
@@ -106,17 +95,8 @@ weight_at-off_run ds r x y off =
     weight_at-append_none ds (stretch r.y r.x r.weight r.len) x y
     (weight_at-off_stretch r.y r.x r.weight r.len x y (λ row left right. off (record { row = row; left = left; right = right })))
 
-before_stretch-end : (y x w : ℤ) (n : ℕ) (p : ℤ) → place (x +ℤ pos n) y ≤ℤ p → AreBefore p (stretch y x w n)
+pub before_stretch-end : (y x w : ℤ) (n : ℕ) (p : ℤ) → place (x +ℤ pos n) y ≤ℤ p → AreBefore p (stretch y x w n)
 unfolding stretch place
 before_stretch-end y x w zero p end = All-nil (λ d. place d.x d.y <ℤ p)
 before_stretch-end y x w (suc n) p end =
     All-cons (λ d. place d.x d.y <ℤ p) (record { y = y; x = x; weight = w }) (stretch y (x +ℤ pos 1) w n) (omega (arith, ints)) (before_stretch-end y (x +ℤ pos 1) w n p (omega (arith, ints)))
-
--- with a pushed run, all dots stand before the place behind it
-pub before-push : (ds : List Dot) (r : Run) (p : ℤ) → Fits ds r → place (r.x +ℤ pos r.len) r.y ≤ℤ p → AreBefore p (ds ++ dots_of r)
-unfolding dots_of
-before-push ds r p fits end =
-    let start : place r.x r.y ≤ℤ p = omega (arith, ints, place-le r.x (r.x +ℤ pos r.len) r.y (omega (arith, ints)), end) in
-    All-append (λ d. place d.x d.y <ℤ p) ds (stretch r.y r.x r.weight r.len)
-    (All-weaker (λ d. place d.x d.y <ℤ place r.x r.y) (λ d. place d.x d.y <ℤ p) (λ d lower. omega (arith, ints)) ds fits.after)
-    (before_stretch-end r.y r.x r.weight r.len p end)

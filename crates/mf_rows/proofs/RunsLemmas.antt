@@ -1,16 +1,12 @@
 -- The runs of dots.
-use Rattle.std.proofs.Common.{◌≡◌, ℕ, suc, ◌+◌, ◌<◌, ◌≤◌, length, get_or, Bool, true, false, if◌then◌else◌, ℤ, pos, ◌+ℤ◌, List, [], ◌∷◌, ◌++◌, drop, refl, sym, ap, ◌∙◌, add-one, arith}
+use Rattle.std.proofs.Common.{◌≡◌, ℕ, suc, Bool, true, false, if◌then◌else◌, ℤ, pos, ◌+ℤ◌, List, [], ◌∷◌, ◌++◌, drop, refl, sym, ap, ◌∙◌, arith}
 use Rattle.std.specs.Bool.{Decides}
 use Rattle.std.specs.List.{flat_map}
-use Rattle.std.proofs.lemmas.Bool.{false≢true, cond_both, cond-true, cond-false, false_from_ne_true}
+use Rattle.std.proofs.lemmas.Bool.{false≢true, cond_both}
 use Rattle.std.proofs.lemmas.Bool.Decides.{Decides-int_eq, Decides-and, Decides-like}
 use Rattle.std.proofs.lemmas.Int.{ints}
 use Rattle.mf_rows.specs.declared.run.Run.{Run}
 use Rattle.mf_rows.specs.Dots.{Dot}
-use Rattle.mf_rows.specs.Next.{IsNext, more_after}
-use Rattle.mf_rows.specs.declared.pixel.Pixel.{Pixel}
-use Rattle.mf_rows.specs.Pixels.{dot_of_pixel, dots_of_pixels}
-use Rattle.std.proofs.lemmas.List.{at_drop_more, at_drop_all, drop-map}
 use Rattle.mf_rows.specs.Runs.{stretch, dots_of, continues, run_from, with_dot, runs_of, IsFollowedBy, AreMaximal}
 
 -- a dot continues a run exactly where the run follows the dot's own
@@ -63,6 +59,11 @@ unfolding runs_of
 maximal_runs_of [] = tt
 maximal_runs_of (d ∷ ds) = maximal_with_dot d (runs_of ds) (maximal_runs_of ds)
 
+-- how many of the dots behind a dot belong to its run
+unfoldable pub more_after : Dot → List Dot → ℕ
+more_after d [] = 0
+more_after d (e ∷ es) = if continues d (run_from e 0) then suc (more_after e es) else 0
+
 -- a dot before a run, which it continues or not
 first_split : (b : Bool) (d e : Dot) (es : List Dot) (r : Run) (n : ℕ) → r ∷ runs_of (drop n es) ≡ runs_of (e ∷ es) → (if b then (run_from d (suc n) ∷ runs_of (drop n es)) else (run_from d 0 ∷ r ∷ runs_of (drop n es))) ≡ run_from d (if b then suc n else 0) ∷ runs_of (drop (if b then suc n else 0) (e ∷ es))
 first_split true d e es r n same = refl
@@ -75,41 +76,3 @@ runs_of-first d [] = refl
 runs_of-first d (e ∷ es) =
     ap (with_dot d) (runs_of-first e es)
     ∙ first_split (continues d (run_from e 0)) d e es (run_from e (more_after e es)) (more_after e es) (sym (runs_of-first e es))
-
--- a dot that goes on the run is one more, and the others behind it
-more_after-next : (d e : Dot) (es : List Dot) → IsNext d e → more_after d (e ∷ es) ≡ suc (more_after e es)
-unfolding more_after run_from
-more_after-next d e es next =
-    cond-true (continues d (run_from e 0)) (suc (more_after e es)) 0
-    ((continued d (run_from e 0)).1 (record { row = next.beside.row; column = next.beside.column; weight = next.weight }))
-
--- a dot that does not is the end of it
-more_after-last : (d e : Dot) (es : List Dot) → (IsNext d e → ⊥) → more_after d (e ∷ es) ≡ 0
-unfolding more_after run_from
-more_after-last d e es last =
-    cond-false (continues d (run_from e 0)) (suc (more_after e es)) 0
-    (false_from_ne_true (continues d (run_from e 0)) (λ test.
-    let followed = (continued d (run_from e 0)).0 test in
-    last (record { beside = record { row = followed.row; column = followed.column }; weight = followed.weight })))
-
--- the same at place i of a list of pixels
-pub more_after-at : (d : Dot) (ps : List Pixel) (i : ℕ) (p : Pixel) → i < length ps → IsNext d (dot_of_pixel (get_or ps i p)) → more_after d (dots_of_pixels (drop i ps)) ≡ 1 + more_after (dot_of_pixel (get_or ps i p)) (dots_of_pixels (drop (i + 1) ps))
-more_after-at d ps i p lt next =
-    at_drop_more (λ rest. more_after d (dots_of_pixels rest)) ps i p lt
-    ∙ more_after-next d (dot_of_pixel (get_or ps i p)) (dots_of_pixels (drop (i + 1) ps)) next ∙ omega arith
-
-pub more_after-at_last : (d : Dot) (ps : List Pixel) (i : ℕ) (p : Pixel) → i < length ps → (IsNext d (dot_of_pixel (get_or ps i p)) → ⊥) → more_after d (dots_of_pixels (drop i ps)) ≡ 0
-more_after-at_last d ps i p lt last =
-    at_drop_more (λ rest. more_after d (dots_of_pixels rest)) ps i p lt
-    ∙ more_after-last d (dot_of_pixel (get_or ps i p)) (dots_of_pixels (drop (i + 1) ps)) last
-
-pub more_after-at_end : (d : Dot) (ps : List Pixel) (i : ℕ) → length ps ≤ i → more_after d (dots_of_pixels (drop i ps)) ≡ 0
-unfolding more_after
-more_after-at_end d ps i le = at_drop_all (λ rest. more_after d (dots_of_pixels rest)) ps i le
-
--- a walk takes the first run, and goes on behind it
-pub runs_of-walk : (first : Pixel) (others : List Pixel) (more : ℕ) → more ≡ more_after (dot_of_pixel first) (dots_of_pixels others) → runs_of (dots_of_pixels (first ∷ others)) ≡ record { y = first.y; x = first.x; len = more + 1; weight = first.weight } ∷ runs_of (dots_of_pixels (drop more others))
-unfolding run_from
-runs_of-walk first others more same =
-    runs_of-first (dot_of_pixel first) (dots_of_pixels others)
-    ∙ rw (← same, drop-map dot_of_pixel more others, add-one)

@@ -1,44 +1,59 @@
 //! Pictures built from runs.
 ghost use Rattle.std.specs.Prelude.{◌≡◌, [], ◌++◌, ◌↔◌, IsTrue, IfOk, OnOk, OnErr};
+ghost use Rattle.mf_rows.specs.Bands.{edge_row, edge_rows};
+ghost use Rattle.mf_rows.specs.Building.{open_row, open_rows, EndInRow, EndAt, EndsBefore, HasRun};
+ghost use Rattle.mf_rows.specs.Dots.{place};
+ghost use Rattle.mf_rows.specs.Edges.{AreEdges, AreRows, picture_of_rows};
+ghost use Rattle.mf_rows.specs.Order.{IsRun, Fits};
+ghost use Rattle.mf_rows.specs.Places.{AreBefore};
+ghost use Rattle.mf_rows.specs.Runs.{dots_of};
 
+use crate::edge::{Edge, add_edge};
 use crate::picture::Picture;
-use crate::pixel::{Pixel, place_of};
+use crate::row::Row;
 use crate::run::Run;
 use mf_geom::OutOfMemory;
 use std::alloc::Global;
 use std::marker::Model;
 
+/// A row that gets its runs one after another.
+#[derive(Debug, Drop)]
+pub(crate) struct OpenRow {
+    y: i32,
+    edges: Vec<Edge>,
+}
+
 /// Builds a picture from its runs, rows from the top and columns rising.
 #[derive(Debug, Drop)]
 pub struct RowBuilder {
-    pixels: Vec<Pixel>,
+    alloc: Global,
+    rows: Vec<OpenRow>,
 }
 
 impl Model for RowBuilder {
     ghost use Rattle.std.specs.Prelude.{List};
-    ghost use Rattle.mf_rows.specs.Dots.{Dot, IsPicture};
+    ghost use Rattle.mf_rows.specs.Dots.{Dot};
 
     ghost Value = { List Dot };
 
-    ghost use Rattle.mf_rows.specs.Pixels.{dots_of_pixels};
+    ghost use Rattle.mf_rows.specs.Building.{open_rows};
+    ghost use Rattle.mf_rows.specs.Edges.{AreRows, picture_of_rows};
 
-    ghost view = { λ b. dots_of_pixels b.pixels.items };
+    ghost view = { λ b. picture_of_rows (open_rows b.rows.items) };
 
-    ghost invariant = { λ b. IsPicture (dots_of_pixels b.pixels.items) };
+    ghost invariant = { λ b. AreRows (open_rows b.rows.items) };
 }
 
 impl RowBuilder {
     ghost use Rattle.mf_rows.specs.Dots.{IsPicture};
-    ghost use Rattle.mf_rows.specs.Order.{Fits};
-    ghost use Rattle.mf_rows.specs.Places.{AreBefore};
-    ghost use Rattle.mf_rows.specs.Runs.{dots_of};
 
     /// A builder with no run. It takes no memory.
     pub fn new(alloc: Global) -> RowBuilder
         ensures { result ≡ [] }
     {
         RowBuilder {
-            pixels: Vec::new(alloc),
+            alloc,
+            rows: Vec::new(alloc),
         }
     }
 
@@ -48,7 +63,8 @@ impl RowBuilder {
         ensures answer { IsTrue result ↔ Fits self.now run.now }
         ensures lawful { IsPicture self.now }
     {
-        self.ends_before(place_of(run.x, run.y)) && run.is_lawful()
+        let rows = &self.rows;
+        run.is_lawful() && end_before(rows, run)
     }
 
     /// Adds a run that fits. Want of memory leaves the builder as it was.
@@ -57,14 +73,10 @@ impl RowBuilder {
         ensures ok { OnOk result (self.new ≡ self.old ++ dots_of run) }
         ensures unchanged { OnErr result (self.new ≡ self.old) }
     {
-        self.pixels.reserve(run.len as usize)?;
-        for column in 0..run.len {
-            self.pixels.push_reserved(Pixel {
-                y: run.y,
-                x: run.x + column as i32,
-                weight: run.weight,
-            });
+        if end_in_row(&self.rows, &run) {
+            return push_on_last(&mut self.rows, run);
         }
+        self.rows.push(OpenRow::with_run(self.alloc, run)?)?;
         Ok(())
     }
 
@@ -73,17 +85,108 @@ impl RowBuilder {
         ensures value { IfOk result (λ picture. picture ≡ self) }
         ensures lawful { IfOk result IsPicture }
     {
-        Ok(Picture::from_pixels(self.pixels))
+        let alloc = self.alloc;
+        Picture::from_rows(alloc, closed_rows(alloc, self.rows)?)
+    }
+}
+
+/// Whether all pixels of rows stand before a run.
+fn end_before(rows: &[OpenRow], run: &Run) -> bool
+    requires rows { AreRows (open_rows rows.now) }
+    requires run { IsRun run.now }
+    ensures { IsTrue result ↔ AreBefore (place run.now.x run.now.y) (picture_of_rows (open_rows rows.now)) }
+{
+    match rows.last() {
+        Some(row) => row.ends_before(run),
+        None => true,
+    }
+}
+
+/// Whether the last of the rows is that of a run.
+fn end_in_row(rows: &[OpenRow], run: &Run) -> bool
+    ensures { IsTrue result ↔ EndInRow rows.now run.now.y }
+{
+    match rows.last() {
+        Some(row) => row.y == run.y,
+        None => false,
+    }
+}
+
+/// Adds a run to the last of the rows. Want of memory leaves the rows as they were.
+fn push_on_last(rows: &mut [OpenRow], run: Run) -> Result<(), OutOfMemory>
+    requires rows { AreRows (open_rows rows.old) }
+    requires last { EndInRow rows.old run.y }
+    requires fits { Fits (picture_of_rows (open_rows rows.old)) run }
+    ensures rows { AreRows (open_rows rows.new) }
+    ensures ok { OnOk result (picture_of_rows (open_rows rows.new) ≡ picture_of_rows (open_rows rows.old) ++ dots_of run) }
+    ensures unchanged { OnErr result (open_rows rows.new ≡ open_rows rows.old) }
+{
+    let last = rows.len() - 1;
+    rows[last].push_run(run)
+}
+
+/// The rows, to which no more runs are added.
+fn closed_rows(alloc: Global, rows: Vec<OpenRow>) -> Result<Vec<Row>, OutOfMemory>
+    ensures { IfOk result (λ closed. edge_rows closed.items ≡ open_rows rows.items) }
+{
+    let mut closed = Vec::new(alloc);
+    for row in rows {
+        closed.push(row.close(alloc)?)?;
+    }
+    Ok(closed)
+}
+
+impl OpenRow {
+    /// The row of a run, with no other run.
+    fn with_run(alloc: Global, run: Run) -> Result<OpenRow, OutOfMemory>
+        requires { IsRun run }
+        ensures { IfOk result (λ row. HasRun (record { y = run.y; edges = [] }) run (open_row row)) }
+    {
+        let mut row = OpenRow {
+            y: run.y,
+            edges: Vec::new(alloc),
+        };
+        row.push_run(run)?;
+        Ok(row)
     }
 
-    /// Whether each pixel stands before a place.
-    fn ends_before(&self, start: i64) -> bool
-        ensures answer { IsTrue result ↔ AreBefore start self.now }
-        ensures lawful { IsPicture self.now }
+    /// Adds a run in this row, which comes after those that it has. Want of memory leaves the row as it was.
+    fn push_run(&mut self, run: Run) -> Result<(), OutOfMemory>
+        requires run { IsRun run }
+        requires row { self.old.y ≡ run.y }
+        requires edges { AreEdges self.old.edges.items }
+        requires after { EndAt run.x self.old.edges.items }
+        ensures ok { OnOk result (HasRun (open_row self.old) run (open_row self.new)) }
+        ensures unchanged { OnErr result (open_row self.new ≡ open_row self.old) }
     {
-        match self.pixels.last() {
+        self.edges.reserve(2)?;
+        add_edge(&mut self.edges, run.x, run.weight)?;
+        add_edge(&mut self.edges, run.x + run.len as i32, -run.weight)
+    }
+
+    /// The row, to which no more runs are added.
+    fn close(self, alloc: Global) -> Result<Row, OutOfMemory>
+        ensures { IfOk result (λ row. edge_row row ≡ open_row self) }
+    {
+        Row::new(alloc, self.y, self.edges)
+    }
+
+    /// Whether the row ends before a run.
+    fn ends_before(&self, run: &Run) -> bool
+        requires { AreEdges self.now.edges.items }
+        ensures { IsTrue result ↔ EndsBefore (open_row self.now) run.now }
+    {
+        run.y < self.y || (run.y == self.y && self.ends_at(run.x))
+    }
+
+    /// Whether all edges stand at or left of column x.
+    fn ends_at(&self, x: i32) -> bool
+        requires { AreEdges self.now.edges.items }
+        ensures { IsTrue result ↔ EndAt x self.now.edges.items }
+    {
+        match self.edges.last() {
+            Some(edge) => edge.x <= x,
             None => true,
-            Some(last) => last.place() < start,
         }
     }
 }

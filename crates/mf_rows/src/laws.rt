@@ -1,7 +1,8 @@
 //! Laws of the definitions: each is the contract of a function that does nothing.
-ghost use Rattle.std.specs.Prelude.{◌≡◌, ℤ, All, List, flat_map};
+ghost use Rattle.std.specs.Prelude.{◌≡◌, ◌≢◌, ℤ, pos, All, Contains, List, flat_map};
 ghost use Rattle.mf_geom.specs.Field.{IsInField};
 ghost use Rattle.mf_rows.specs.Dots.{Dot, IsLawfulWeight, IsPicture, weight_at};
+ghost use Rattle.mf_rows.specs.Edges.{EdgeRow, AreRows, weight_in, weight_in_rows, picture_of_rows};
 ghost use Rattle.mf_rows.specs.Runs.{dots_of, runs_of, AreMaximal, IsMaximalRun};
 ghost use Rattle.mf_rows.specs.Weights.{picture_of, HaveSameWeights};
 
@@ -25,4 +26,15 @@ pub fn picture_has_its_weights()
 /// Two pictures with the same weight at each pixel of the field are equal.
 pub fn same_weights_make_same_pictures()
     ensures { (ds es : List Dot) → IsPicture ds → IsPicture es → HaveSameWeights ds es → ds ≡ es }
+{}
+
+/// The edges of a row tell the weights of its pixels (mf.web, "edge structures": an edge at column x says by
+/// how much the weight of column x differs from that of the column before it). Rows of edges stand for a
+/// picture, in which each pixel has the sum of the edges of its row at or left of its column, and pixels of
+/// other rows have weight 0.
+pub fn weight_is_the_sum_of_edges()
+    ensures lawful { (rs : List EdgeRow) → AreRows rs → IsPicture (picture_of_rows rs) }
+    ensures edges { (rs : List EdgeRow) (x y : ℤ) → AreRows rs → weight_at (picture_of_rows rs) x y ≡ weight_in_rows rs x y }
+    ensures row { (rs : List EdgeRow) (r : EdgeRow) (x : ℤ) → AreRows rs → Contains rs r → weight_at (picture_of_rows rs) x r.y ≡ weight_in r.edges x }
+    ensures other_rows { (rs : List EdgeRow) (x y : ℤ) → AreRows rs → All (λ r. r.y ≢ y) rs → weight_at (picture_of_rows rs) x y ≡ pos 0 }
 {}

@@ -1,11 +1,20 @@
 //! METAFONT pictures: a whole-number weight for every pixel, 0 for all but finitely many.
 #![tactic(auto)]
 
+mod band;
+mod bands;
 mod bounds;
 mod builder;
+mod corner;
+mod edge;
+mod edge_sum;
+mod fault;
+mod field;
 pub mod laws;
 mod picture;
-mod pixel;
+mod row;
+mod row_sum;
+mod rows;
 mod run;
 mod runs;
 #[cfg(test)]
@@ -13,8 +22,10 @@ mod tests;
 
 pub use bounds::Box4;
 pub use builder::RowBuilder;
+pub use corner::Corner;
+pub use fault::AddFault;
+pub use field::MAX_WEIGHT;
 pub use mf_geom::OutOfMemory;
 pub use picture::Picture;
-pub use pixel::MAX_WEIGHT;
 pub use run::Run;
 pub use runs::Runs;

@@ -1,40 +1,59 @@
 //! Pictures.
-ghost use Rattle.std.specs.Prelude.{◌≡◌, [], ◌↔◌, IsTrue, IsNone, IfSome, IfOk, OnErr, slice_get};
-ghost use Rattle.mf_geom.specs.Field.{IsInField};
+ghost use Rattle.std.specs.Prelude.{◌≡◌, ◌≢◌, [], ◌++◌, IsNone, IfSome, IfOk, IfErr, slice_get, ◌↔◌};
+ghost use Rattle.mf_rows.specs.Bands.{edge_rows};
+ghost use Rattle.mf_rows.specs.Edges.{AreRows};
+ghost use Rattle.mf_rows.specs.Parts.{AreBetween};
 
+use crate::band::Band;
+use crate::bands::{
+    band_bottom, band_top, count_above, count_down_to, find_row, push_rows, push_shared, rows_of,
+};
 use crate::bounds::Box4;
-use crate::pixel::{FIELD_END, FIELD_START, Pixel, place_of};
+use crate::corner::{Corner, rows_of_corners};
+use crate::edge::weight_at_column;
+use crate::fault::AddFault;
+use crate::row::Row;
+use crate::row_sum::sum_of_rows;
 use crate::run::Run;
 use crate::runs::Runs;
+use mf_geom::OutOfMemory;
 use std::alloc::Global;
 use std::marker::Model;
+use std::sync::Arc;
 
 /// A picture: a weight in -32767..32767 for each pixel of the field, whose columns and rows are
 /// -4095..4094; pixels elsewhere have weight 0 (The METAFONTbook, chapter 13).
+///
+/// It keeps edges: in each row that is not blank, the columns at which the weight changes (mf.web, "edge
+/// structures"). Rows are never written once they are made, and pictures share them.
 #[derive(Debug, Drop)]
 pub struct Picture {
-    pixels: Vec<Pixel>,
+    bands: Vec<Arc<Band>>,
 }
 
 impl Model for Picture {
     ghost use Rattle.std.specs.Prelude.{List};
-    ghost use Rattle.mf_rows.specs.Dots.{Dot, IsPicture};
+    ghost use Rattle.mf_rows.specs.Dots.{Dot};
 
     ghost Value = { List Dot };
 
-    ghost use Rattle.mf_rows.specs.Pixels.{dots_of_pixels};
+    ghost use Rattle.mf_rows.specs.Bands.{rows_of_bands};
+    ghost use Rattle.mf_rows.specs.Edges.{AreRows, picture_of_rows};
 
-    ghost view = { λ p. dots_of_pixels p.pixels.items };
+    ghost view = { λ p. picture_of_rows (rows_of_bands p.bands.items) };
 
-    ghost invariant = { λ p. IsPicture (dots_of_pixels p.pixels.items) };
+    ghost invariant = { λ p. AreRows (rows_of_bands p.bands.items) };
 }
 
 impl Picture {
+    ghost use Rattle.mf_rows.specs.Bands.{rows_of_bands};
     ghost use Rattle.mf_rows.specs.Bounds.{IsLeastBox};
+    ghost use Rattle.mf_rows.specs.Corners.{AreCorners, with_corners_at};
     ghost use Rattle.mf_rows.specs.Dots.{IsPicture, weight_at, total_of};
-    ghost use Rattle.mf_rows.specs.Pixels.{dots_of_pixels};
-    ghost use Rattle.mf_rows.specs.Places.{IsAtPlace, HasNoneAt};
+    ghost use Rattle.mf_rows.specs.Edges.{picture_of_rows};
+    ghost use Rattle.mf_rows.specs.Parts.{AreParts};
     ghost use Rattle.mf_rows.specs.Runs.{runs_of};
+    ghost use Rattle.mf_rows.specs.Sums.{HasWeights, IsUnlawfulSomewhere, with_rows_at};
     ghost use Rattle.mf_rows.specs.Walk.{runs_left};
 
     /// The blank picture, METAFONT's `nullpicture`: every weight is 0.
@@ -42,8 +61,18 @@ impl Picture {
         ensures { result ≡ [] }
     {
         Picture {
-            pixels: Vec::new(alloc),
+            bands: Vec::new(alloc),
         }
+    }
+
+    /// An equal picture, which shares the rows of this one. Refusal OutOfMemory (14).
+    pub fn copy(&self, alloc: Global) -> Result<Picture, OutOfMemory>
+        ensures value { IfOk result (λ copy. copy ≡ self.now) }
+        ensures lawful { IsPicture self.now }
+    {
+        let mut bands = Vec::new(alloc);
+        push_shared(&mut bands, &self.bands)?;
+        Ok(Picture { bands })
     }
 
     /// The weight of the pixel (x, y), 0 outside the field.
@@ -51,13 +80,9 @@ impl Picture {
         ensures weight { result ≡ weight_at self.now x y }
         ensures lawful { IsPicture self.now }
     {
-        let pixels = &self.pixels;
-        if !is_in_field(x, y) {
-            return 0;
-        }
-        match self.search(place_of(x, y)) {
-            Ok(at) => pixels[at].weight,
-            Err(_) => 0,
+        match find_row(&self.bands, y) {
+            Some(row) => weight_at_column(row.edges(), x),
+            None => 0,
         }
     }
 
@@ -67,8 +92,8 @@ impl Picture {
         ensures lawful { IsPicture self.now }
     {
         let mut sum = 0i64;
-        for pixel in &self.pixels {
-            sum += i64::from(pixel.weight);
+        for run in self.runs() {
+            sum += run.total();
         }
         sum
     }
@@ -79,9 +104,10 @@ impl Picture {
         ensures least { IfSome result (IsLeastBox self.now) }
         ensures lawful { IsPicture self.now }
     {
-        let mut bounds = self.pixels.first()?.as_box();
-        for pixel in &self.pixels {
-            bounds = pixel.widened(bounds);
+        let mut runs = self.runs();
+        let mut bounds = runs.next()?.as_box();
+        for run in runs {
+            bounds = run.widened(bounds);
         }
         Some(bounds)
     }
@@ -91,7 +117,7 @@ impl Picture {
         ensures runs { runs_left result ≡ runs_of self.now }
         ensures lawful { IsPicture self.now }
     {
-        Runs::over(&self.pixels)
+        Runs::over(&self.bands)
     }
 
     /// The k-th of these runs, counted from 0.
@@ -102,27 +128,98 @@ impl Picture {
         self.runs().nth(k)
     }
 
-    /// The picture of these pixels.
-    pub(crate) fn from_pixels(pixels: Vec<Pixel>) -> Picture
-        requires { IsPicture (dots_of_pixels pixels.items) }
-        ensures { result ≡ dots_of_pixels pixels.items }
+    /// The picture with corners added to it; the given one is unchanged. It shares the bands of rows that
+    /// the corners do not reach. There are at most 8192 corners, with coordinates in -4095..4095 and weights
+    /// in -3..3, and together they add nothing right of the field. Refusals WeightTooLarge (12), where a
+    /// weight would pass 32767 in size, and OutOfMemory (14).
+    pub fn with_corners(&self, alloc: Global, corners: Vec<Corner>) -> Result<Picture, AddFault>
+        requires { AreCorners corners.items }
+        ensures weights { IfOk result (HasWeights (with_corners_at self.now corners.items)) }
+        ensures lawful { IfOk result IsPicture }
+        ensures too_large { IfErr result (λ fault. fault ≢ AddFault.OutOfMemory → IsUnlawfulSomewhere (with_corners_at self.now corners.items)) }
     {
-        Picture { pixels }
+        let rows = rows_of_corners(alloc, corners)?;
+        self.with_rows(alloc, &rows)
     }
 
-    /// Where the pixel of a place stands, if it does.
-    fn search(&self, place: i64) -> Result<usize, usize>
-        ensures found { IfOk result (IsAtPlace self.now place) }
-        ensures absent { OnErr result (HasNoneAt self.now place) }
+    /// The picture with rows added to it.
+    fn with_rows(&self, alloc: Global, rows: &[Row]) -> Result<Picture, AddFault>
+        requires { AreRows (edge_rows rows.now) }
+        ensures weights { IfOk result (HasWeights (with_rows_at self.now (edge_rows rows.now))) }
+        ensures lawful { IfOk result IsPicture }
+        ensures too_large { IfErr result (λ fault. fault ≢ AddFault.OutOfMemory → IsUnlawfulSomewhere (with_rows_at self.now (edge_rows rows.now))) }
     {
-        self.pixels
-            .binary_search_by_key(&place, |pixel| pixel.place())
+        match heights_of(rows) {
+            Some((low, high)) => self.with_rows_between(alloc, rows, low, high),
+            None => Ok(self.copy(alloc)?),
+        }
+    }
+
+    /// The picture with rows from height `low` to height `high` added to it.
+    fn with_rows_between(
+        &self,
+        alloc: Global,
+        rows: &[Row],
+        low: i32,
+        high: i32,
+    ) -> Result<Picture, AddFault>
+        requires rows { AreRows (edge_rows rows.now) }
+        requires between { AreBetween low high (edge_rows rows.now) }
+        ensures weights { IfOk result (HasWeights (with_rows_at self.now (edge_rows rows.now))) }
+        ensures lawful { IfOk result IsPicture }
+        ensures too_large { IfErr result (λ fault. fault ≢ AddFault.OutOfMemory → IsUnlawfulSomewhere (with_rows_at self.now (edge_rows rows.now))) }
+    {
+        let (above, touched, below) = self.parts(low, high);
+        let sum = sum_of_rows(alloc, &rows_of(alloc, touched)?, rows)?;
+        Ok(Picture::from_parts(alloc, above, sum, below)?)
+    }
+
+    /// The bands wholly above height `high`, the bands from there down to height `low`, and the bands wholly
+    /// below that.
+    fn parts(&self, low: i32, high: i32) -> (&[Arc<Band>], &[Arc<Band>], &[Arc<Band>])
+        ensures { AreParts self.now (rows_of_bands result.0.now) (rows_of_bands result.1.now) (rows_of_bands result.2.now) low high }
+    {
+        let (above, others) = self.bands.split_at(count_above(&self.bands, high));
+        let (touched, below) = others.split_at(count_down_to(others, low));
+        (above, touched, below)
+    }
+
+    /// The picture of bands, of rows below them, and of bands below those; it shares the bands.
+    fn from_parts(
+        alloc: Global,
+        above: &[Arc<Band>],
+        rows: Vec<Row>,
+        below: &[Arc<Band>],
+    ) -> Result<Picture, OutOfMemory>
+        requires { AreRows ((rows_of_bands above.now ++ edge_rows rows.items) ++ rows_of_bands below.now) }
+        ensures { IfOk result (λ picture. picture ≡ picture_of_rows ((rows_of_bands above.now ++ edge_rows rows.items) ++ rows_of_bands below.now)) }
+    {
+        let mut bands = Vec::new(alloc);
+        push_shared(&mut bands, above)?;
+        push_rows(alloc, &mut bands, rows)?;
+        push_shared(&mut bands, below)?;
+        Ok(Picture { bands })
+    }
+
+    /// The picture of these rows.
+    pub(crate) fn from_rows(alloc: Global, rows: Vec<Row>) -> Result<Picture, OutOfMemory>
+        requires { AreRows (edge_rows rows.items) }
+        ensures { IfOk result (λ picture. picture ≡ picture_of_rows (edge_rows rows.items)) }
+    {
+        let mut bands = Vec::new(alloc);
+        push_rows(alloc, &mut bands, rows)?;
+        Ok(Picture { bands })
     }
 }
 
-/// Whether the pixel (x, y) lies in the field.
-fn is_in_field(x: i32, y: i32) -> bool
-    ensures { IsTrue result ↔ IsInField x y }
+/// The lowest and the highest row of the bands of the field that these rows belong to; none where there are
+/// no rows.
+fn heights_of(rows: &[Row]) -> Option<(i32, i32)>
+    requires { AreRows (edge_rows rows.now) }
+    ensures between { IfSome result (λ heights. AreBetween heights.0 heights.1 (edge_rows rows.now)) }
+    ensures blank { IsNone result → edge_rows rows.now ≡ [] }
 {
-    FIELD_START <= x && x < FIELD_END && FIELD_START <= y && y < FIELD_END
+    let highest = rows.first()?;
+    let lowest = rows.last()?;
+    Some((band_bottom(lowest.y), band_top(highest.y)))
 }

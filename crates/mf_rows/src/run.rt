@@ -1,9 +1,12 @@
 //! Runs of pixels.
-ghost use Rattle.std.specs.Prelude.{◌≢◌, ◌↔◌, IsTrue, pos, negsuc, ◌+ℤ◌, ◌≤ℤ◌};
-ghost use Rattle.mf_rows.specs.Dots.{IsLawfulWeight};
+ghost use Rattle.std.specs.Prelude.{◌≡◌, ◌≢◌, ◌↔◌, IsTrue, pos, negsuc, ◌+ℤ◌, ◌-ℤ◌, ◌≤ℤ◌};
+ghost use Rattle.mf_rows.specs.Dots.{IsLawfulWeight, total_of};
 ghost use Rattle.mf_rows.specs.Order.{IsRun};
+ghost use Rattle.mf_rows.specs.Runs.{dots_of};
+ghost use Rattle.mf_rows.specs.Widening.{box_of_run, widened};
 
-use crate::pixel::{FIELD_END, FIELD_START, MAX_WEIGHT};
+use crate::bounds::Box4;
+use crate::field::{FIELD_END, FIELD_START, is_lawful_weight};
 
 /// `len` pixels of row `y` from column `x` to the right, all of one weight. As an answer it is maximal:
 /// neither neighbour in its row has its weight.
@@ -21,6 +24,48 @@ impl Run {
         ensures { IsTrue result ↔ IsRun self.now }
     {
         self.len > 0 && self.lies_in_columns() && self.lies_in_rows() && self.has_weight()
+    }
+
+    /// The sum of the weights of its pixels.
+    pub(crate) fn total(&self) -> i64
+        requires { IsRun self.now }
+        ensures { result ≡ total_of (dots_of self.now) }
+    {
+        i64::from(self.len) * i64::from(self.weight)
+    }
+
+    /// The box of its pixels.
+    pub(crate) fn as_box(&self) -> Box4
+        requires { IsRun self.now }
+        ensures { result ≡ box_of_run self.now }
+    {
+        Box4 {
+            min_x: self.x,
+            max_x: self.last_column(),
+            min_y: self.y,
+            max_y: self.y,
+        }
+    }
+
+    /// The least box round its pixels and another box.
+    pub(crate) fn widened(&self, bounds: Box4) -> Box4
+        requires { IsRun self.now }
+        ensures { result ≡ widened bounds (box_of_run self.now) }
+    {
+        Box4 {
+            min_x: bounds.min_x.min(self.x),
+            max_x: bounds.max_x.max(self.last_column()),
+            min_y: bounds.min_y.min(self.y),
+            max_y: bounds.max_y.max(self.y),
+        }
+    }
+
+    /// The column of its last pixel.
+    fn last_column(&self) -> i32
+        requires { IsRun self.now }
+        ensures { result ≡ (self.now.x +ℤ pos self.now.len) -ℤ pos 1 }
+    {
+        self.x + (self.len - 1) as i32
     }
 
     /// Whether all its columns are columns of the field.
@@ -41,6 +86,6 @@ impl Run {
     fn has_weight(&self) -> bool
         ensures { IsTrue result ↔ (IsLawfulWeight self.now.weight × (self.now.weight ≢ pos 0)) }
     {
-        self.weight != 0 && -MAX_WEIGHT <= self.weight && self.weight <= MAX_WEIGHT
+        self.weight != 0 && is_lawful_weight(self.weight)
     }
 }

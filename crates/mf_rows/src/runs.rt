@@ -1,28 +1,85 @@
 //! The maximal runs of a picture, one after another.
-ghost use Rattle.std.specs.Prelude.{◌≡◌, ◌<◌, ◌≤◌, ◌^◌, length};
-ghost use Rattle.mf_rows.specs.Next.{more_after};
-ghost use Rattle.mf_rows.specs.Pixels.{dot_of_pixel, dots_of_pixels};
+ghost use Rattle.std.specs.Prelude.{◌≡◌, ◌≢◌, [], IfNone, IfSome, pos, negsuc};
+ghost use Rattle.mf_rows.specs.Bands.{rows_of_bands};
+ghost use Rattle.mf_rows.specs.Edges.{AreRows, picture_of_rows};
+ghost use Rattle.mf_rows.specs.Rest.{rows_left, IsRestOfRow, IsRestOfRow-prop, AreEdgeRows, AreEdgeRows-prop};
 
-use crate::pixel::Pixel;
+use crate::band::Band;
+use crate::edge::Edge;
+use crate::rows::Rows;
 use crate::run::Run;
+use std::sync::Arc;
 
-/// An iterator over the maximal runs of a picture, rows from the top and columns rising.
+/// An iterator over the maximal runs of a picture, rows from the top and columns rising. It walks the
+/// edges once.
 #[derive(Drop)]
 pub struct Runs<'a> {
-    rest: &'a [Pixel],
-    ghost countable: { length rest.now < 2 ^ 32 },
+    /// Rows that are still to come.
+    rows: Rows<'a>,
+    /// Edges of row `y` that are still to come, and the weight left of them.
+    edges: &'a [Edge],
+    y: i32,
+    weight: i32,
+    ghost rest: { IsRestOfRow (negsuc 4094) weight edges.now } by { IsRestOfRow-prop (negsuc 4094) weight edges.now },
+    ghost others: { AreEdgeRows (rows_left rows) } by { AreEdgeRows-prop (rows_left rows) },
 }
 
 impl<'a> Runs<'a> {
     ghost use Rattle.mf_rows.specs.Runs.{runs_of};
-    ghost use Rattle.mf_rows.specs.Walk.{runs_left};
+    ghost use Rattle.mf_rows.specs.Walk.{runs_left, IsEdgeTaken};
 
-    /// The runs of these pixels, of which there are few enough that a run can count its own.
-    pub(crate) fn over(pixels: &'a [Pixel]) -> Runs<'a>
-        requires { length pixels.now < 2 ^ 32 }
-        ensures { runs_left result ≡ runs_of (dots_of_pixels pixels.now) }
+    /// The runs of these bands.
+    pub(crate) fn over(bands: &'a [Arc<Band>]) -> Runs<'a>
+        requires { AreRows (rows_of_bands bands.now) }
+        ensures { runs_left result ≡ runs_of (picture_of_rows (rows_of_bands bands.now)) }
     {
-        Runs { rest: pixels }
+        Runs {
+            rows: Rows::over(bands),
+            edges: &[],
+            y: 0,
+            weight: 0,
+        }
+    }
+
+    /// Goes on to the edge at which the next run begins, and gives its column.
+    fn next_start(&mut self) -> Option<i32>
+        ensures start { IfSome result (λ x. IsEdgeTaken self.old x self.new) }
+        ensures nonzero { IfSome result (λ _. self.new.weight ≢ pos 0) }
+        ensures none { IfNone result ((runs_left self.old ≡ []) × (runs_left self.new ≡ [])) }
+    {
+        let x = self.next_edge()?;
+        if self.weight != 0 {
+            return Some(x);
+        }
+        self.next_edge()
+    }
+
+    /// Goes on to the next edge, and gives its column.
+    fn next_edge(&mut self) -> Option<i32>
+        ensures edge { IfSome result (λ x. IsEdgeTaken self.old x self.new) }
+        ensures changed { IfSome result (λ _. self.new.weight ≢ self.old.weight) }
+        ensures none { IfNone result ((runs_left self.old ≡ []) × (runs_left self.new ≡ [])) }
+    {
+        self.enter_row();
+        let (edge, edges) = self.edges.split_first()?;
+        self.edges = edges;
+        self.weight += edge.weight;
+        Some(edge.x)
+    }
+
+    /// Enters the next row where this one is over.
+    fn enter_row(&mut self)
+        ensures left { runs_left self.new ≡ runs_left self.old }
+        ensures over { self.new.edges.now ≡ [] → runs_left self.new ≡ [] }
+        ensures weight { self.new.weight ≡ self.old.weight }
+    {
+        if !self.edges.is_empty() {
+            return;
+        }
+        if let Some(row) = self.rows.next() {
+            self.y = row.y;
+            self.edges = row.edges();
+        }
     }
 }
 
@@ -37,29 +94,13 @@ impl Iterator for Runs<'_> {
     ghost remaining = { item_count runs_left };
 
     fn next(&mut self) -> Option<Run> {
-        let (first, others) = self.rest.split_first()?;
-        let more = more_of_run(first, others);
-        self.rest = &others[more..];
+        let x = self.next_start()?;
+        let end = self.edges.first()?;
         Some(Run {
-            y: first.y,
-            x: first.x,
-            len: more as u32 + 1,
-            weight: first.weight,
+            y: self.y,
+            x,
+            len: end.x.abs_diff(x),
+            weight: self.weight,
         })
     }
-}
-
-/// How many of the pixels behind the first belong to its run.
-fn more_of_run(first: &Pixel, others: &[Pixel]) -> usize
-    ensures more { result ≡ more_after (dot_of_pixel first.now) (dots_of_pixels others.now) }
-    ensures within { result ≤ length others.now }
-{
-    let mut last = first;
-    for (count, pixel) in others.iter().enumerate() {
-        if !last.is_followed_by(pixel) {
-            return count;
-        }
-        last = pixel;
-    }
-    others.len()
 }

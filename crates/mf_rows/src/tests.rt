@@ -1,4 +1,9 @@
-//! Tests with values worked out by hand.
+//! Tests with values worked out by hand, and below them tests against a slow form of pictures.
+
+mod chance;
+mod corners;
+mod generated;
+mod slow;
 
 use crate::bounds::Box4;
 use crate::builder::RowBuilder;

@@ -199,3 +199,24 @@ fn winds_round_pixels(rt: HostRuntime) -> Result<(), Fail> {
     }
     Ok(())
 }
+
+#[test]
+fn gives_its_edges(rt: HostRuntime) -> Result<(), Fail> {
+    let rectangle: Corners = &[(0, 0), (3, 0), (3, 2), (0, 2)];
+    // The last edge leads back.
+    let ends: [(i32, i32); 4] = [(3, 0), (3, 2), (0, 2), (0, 0)];
+    match Cycle::new(walk(rt.alloc(), rectangle, 1)?) {
+        Ok(cycle) => {
+            assert_eq!(rt; cycle.points().len(), 4, "the points of {cycle:?}");
+            for (place, (from, to)) in rectangle.iter().zip(&ends).enumerate() {
+                if place < cycle.points().len() {
+                    let edge = cycle.edge(place);
+                    assert_eq!(rt; (edge.0.x, edge.0.y), *from, "edge {place} begins");
+                    assert_eq!(rt; (edge.1.x, edge.1.y), *to, "edge {place} ends");
+                }
+            }
+        }
+        Err((fault, back)) => assert!(rt; false, "{back:?} is refused: {fault:?}"),
+    }
+    Ok(())
+}

@@ -2,10 +2,10 @@ use Rattle.std.proofs.Common.{◌≡◌, ◌∙◌, ap, refl, Some, None, arith,
 use Rattle.std.proofs.lemmas.Bool.{false≢true}
 use Rattle.std.proofs.lemmas.Int.{ints}
 use Rattle.mf_geom.specs.Lawful.{IsCycle, IsFault}
-use Rattle.mf_cli.specs.ContourWeight.{IsContourWeight}
-use Rattle.mf_cli.specs.Step.{fault_of}
-use Rattle.mf_cli.specs.declared.op.Op.TheVariants.{Contour}
-use Rattle.mf_cli.specs.declared.op.OpFault.TheVariants as faults
+use Rattle.mf_ops.specs.ContourWeight.{IsContourWeight}
+use Rattle.mf_ops.specs.Step.{fault_of}
+use Rattle.mf_ops.specs.declared.op.Op.TheVariants.{Contour}
+use Rattle.mf_ops.specs.declared.op.OpFault.TheVariants as faults
 use Rattle.mf_cli.specs.declared.refusal.Refusal.TheVariants as refusal
 use Rattle.mf_cli.proofs.Refusing.{contour_refusal-fault, contour_refusal-weight, contour_refusal-none, contour_refusal-some}
 use Rattle.mf_cli.proofs.script.with_contour.Goals as goal

@@ -1,27 +1,21 @@
 use Rattle.std.proofs.Common.{◌≡◌, ◌-ℤ◌, arith, ◌∙◌, to_z, of_z, w32}
 use Rattle.std.proofs.lemmas.Int.{ints}
 use Rattle.mf_geom.specs.Crossing.{passed, crossing, crossing_at}
-use Rattle.mf_geom.specs.Path.{edge_at, point_at}
 use Rattle.mf_geom.proofs.Crossings.{passed-beyond, passed-reached}
 use Rattle.mf_geom.proofs.winding.crossing.Goals as goal
 
 pub returns-then-x-from-clause-value : goal.returns-then-x-from-clause-value
-unfolding crossing_at crossing edge_at point_at
+unfolding crossing_at crossing
 returns-then-x-from-clause-value c =
-    let ps = c.args.points.now in
-    let from = point_at ps c.args.edge in
-    let in_reach = c.requires.reach.in_reach c.args.edge c.requires.within in
+    let from = c.ends.result.0 in
     let beyond = passed-beyond c.args.x from.x (omega (arith, ints)) in
-    rw beyond (omega (arith, ints))
+    rw (← c.ends.ensures.from, beyond) (omega (arith, ints))
 
 pub returns-clause-value : goal.returns-clause-value
-unfolding crossing_at crossing edge_at point_at
+unfolding crossing_at crossing
 returns-clause-value c =
-    let ps = c.args.points.now in
-    let from = point_at ps c.args.edge in
-    let to = point_at ps c.next_place.result in
-    let from_in_reach = c.requires.reach.in_reach c.args.edge c.requires.within in
-    let to_in_reach = c.requires.reach.in_reach c.next_place.result c.next_place.ensures.within in
+    let from = c.ends.result.0 in
+    let to = c.ends.result.1 in
     let y_is : to_z w32 (of_z w32 c.args.y) ≡ c.args.y = omega (arith, ints) in
     let from_is : to_z w32 (of_z w32 from.y) ≡ from.y = omega (arith, ints) in
     let to_is : to_z w32 (of_z w32 to.y) ≡ to.y = omega (arith, ints) in
@@ -29,4 +23,4 @@ returns-clause-value c =
     let below_from : c.passed-2.result ≡ passed c.args.y from.y = c.passed-2.ensures.value ∙ (λ t. passed (y_is t) (from_is t)) in
     let difference : to_z w32 (of_z w32 (to_z w32 (of_z w32 c.passed.result) -ℤ to_z w32 (of_z w32 c.passed-2.result))) ≡ c.passed.result -ℤ c.passed-2.result = omega (arith, ints) in
     let reached = passed-reached c.args.x from.x (omega (arith, ints)) in
-    rw (difference, below_to, below_from, reached, ← c.next_place.ensures.value) (omega (arith, ints))
+    rw (difference, below_to, below_from, ← c.ends.ensures.from, ← c.ends.ensures.to, reached) (omega (arith, ints))

@@ -1,9 +1,9 @@
 use Rattle.std.proofs.Common.{◌≡◌, refl, Some, None, arith, to_z, of_z, w32}
 use Rattle.std.proofs.lemmas.Int.{ints}
 use Rattle.std.proofs.lemmas.Result.{IfOk-weaker}
+use Rattle.mf_ops.specs.Step.{stepped}
+use Rattle.mf_ops.specs.declared.op.Op.TheVariants.{Contour}
 use Rattle.mf_cli.specs.Script.{answer_to, contour_refusal}
-use Rattle.mf_cli.specs.Step.{stepped}
-use Rattle.mf_cli.specs.declared.op.Op.TheVariants.{Contour}
 use Rattle.mf_cli.proofs.script.Script.add_contour.Goals as goal
 
 pub returns-in-Ok-clause-text : goal.returns-in-Ok-clause-text

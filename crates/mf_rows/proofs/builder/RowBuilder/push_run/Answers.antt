@@ -1,36 +1,21 @@
-use Rattle.std.proofs.Common.{◌≡◌, sym, subst, ◌∙◌, arith}
-use Rattle.std.proofs.lemmas.Int.{ints}
-use Rattle.std.proofs.lemmas.List.{append-nil}
-use Rattle.mf_rows.specs.Dots.{IsPicture}
-use Rattle.mf_rows.specs.Runs.{stretch, dots_of}
-use Rattle.mf_rows.proofs.RunDots.{picture-push, pushed_more}
+use Rattle.std.proofs.Common.{◌∙◌, subst, sym}
+use Rattle.std.proofs.lemmas.Bool.{false≢true}
+use Rattle.mf_rows.specs.Building.{EndInRow}
+use Rattle.mf_rows.specs.Order.{Fits}
+use Rattle.mf_rows.proofs.BuildingLemmas.{rows-pushed_behind, picture-pushed_behind}
 use Rattle.mf_rows.proofs.builder.RowBuilder.push_run.Goals as goal
 
-pub loop-column-init : goal.loop-column-init
-unfolding stretch
-loop-column-init c = record {
-  pushed = rw (c.in_ok-reserve.ensures.items, c.self.view_is) (sym (append-nil _));
-  room = omega (arith, c.in_ok-reserve.ensures.ok);
-}
-
-pub loop-column-preserved : goal.loop-column-preserved
-loop-column-preserved c =
-    let run = c.requires.run in
-    let old = c.loop-column.self-inside.pixels.items in
-    record {
-      pushed = rw c.push_reserved.ensures.items (pushed_more old _ _ _ _ _ _ c.loop-column.invariant.pushed (omega (arith, ints, run.bottom, run.top)) (omega (arith, ints, run.left, run.right)) (omega (arith, ints, run.lawful)));
-      room = omega (arith, c.push_reserved.ensures.len, c.push_reserved.ensures.capacity, c.loop-column.invariant.room);
-    }
-
--- all pixels of the run are pushed
-pub invariant_of-self-in-loop-column : goal.invariant_of-self-in-loop-column
-unfolding dots_of
-invariant_of-self-in-loop-column c =
-    let all : c.loop-column.column ≡ c.args.run.len = omega arith in
-    rw (c.loop-column.invariant.pushed, all) (picture-push c.args.self.now c.args.run (subst IsPicture c.self.view_is c.self.invariant) c.requires)
+pub invariant_of-self-2 : goal.invariant_of-self-2
+invariant_of-self-2 c =
+    let rows = c.self.inside.rows.items in
+    let fits = subst (λ ds. Fits ds c.args.run) (sym c.self.view_is) c.requires in
+    let not_there = λ (there : EndInRow rows c.args.run.y). false≢true (sym c.if-end_in_row.false ∙ c.end_in_row.ensures.1 (rw c.deref.ensures.value there)) in
+    rw c.in_ok-push.ensures.items (rows-pushed_behind rows c.in_ok-with_run.field-0 c.args.run c.self.invariant fits not_there c.in_ok-with_run.ensures)
 
 pub returns-clause-ok : goal.returns-clause-ok
-unfolding dots_of
 returns-clause-ok c =
-    let all : c.loop-column.column ≡ c.args.run.len = omega arith in
-    c.loop-column.invariant.pushed ∙ rw all
+    let rows = c.self.inside.rows.items in
+    let fits = subst (λ ds. Fits ds c.args.run) (sym c.self.view_is) c.requires in
+    let not_there = λ (there : EndInRow rows c.args.run.y). false≢true (sym c.if-end_in_row.false ∙ c.end_in_row.ensures.1 (rw c.deref.ensures.value there)) in
+    rw (c.in_ok-push.ensures.items, ← c.self.view_is)
+    (picture-pushed_behind rows c.in_ok-with_run.field-0 c.args.run c.self.invariant fits not_there c.in_ok-with_run.ensures)

@@ -1,6 +1,6 @@
-use Rattle.mf_rows.specs.Pixels.{dots_of_pixels}
-use Rattle.mf_rows.proofs.Boxes.{IsBoxOf}
+use Rattle.mf_rows.specs.Walk.{runs_left}
+use Rattle.mf_rows.proofs.RunBoxes.{IsBoxBefore}
 use Rattle.mf_rows.proofs.picture.Picture.bounds.Given as goal
 
-abbrev pub invariant-loop-pixel : goal.invariant-loop-pixel
-invariant-loop-pixel l = IsBoxOf (dots_of_pixels l.pixel-items) l.pixel-index l.bounds
+abbrev pub invariant-loop-run : goal.invariant-loop-run
+invariant-loop-run l = IsBoxBefore l.self (runs_left l.run-iterator) l.bounds

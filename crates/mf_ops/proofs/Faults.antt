@@ -1,0 +1,90 @@
+-- The picture after an operation, and when the operation is refused.
+use Rattle.std.proofs.Common.{◌≡◌, ◌≢◌, Bool, true, false, cond, None, Some, ℤ, pos, ◌+ℤ◌, List, [], ◌∷◌, refl, sym, ◌∙◌, subst, arith}
+use Rattle.std.proofs.lemmas.Int.{ints}
+use Rattle.std.proofs.lemmas.Bool.{cond_both, or_from, true_from_ne_false, or_parts, both_ways}
+use Rattle.std.specs.List.{list_any}
+use Rattle.mf_geom.specs.Field.{IsInField}
+use Rattle.mf_rows.specs.declared.fault.AddFault.{AddFault}
+use Rattle.mf_rows.specs.declared.fault.AddFault.TheVariants as add
+use Rattle.mf_rows.specs.Dots.{Dot, IsLawfulWeight, AreDotsFrom, IsPicture, weight_at, place}
+use Rattle.mf_rows.specs.Sums.{HasWeights, IsUnlawfulSomewhere}
+use Rattle.mf_rows.specs.Weights.{picture_of}
+use Rattle.mf_rows.proofs.WeightsLemmas.{weight_at-picture_of, picture_of-from_weights}
+use Rattle.mf_ops.specs.Faults.{op_fault}
+use Rattle.mf_ops.specs.Weights.{is_too_large, IsTooLargeSomewhere}
+use Rattle.mf_ops.specs.Step.{step_at, stepped, fault_of}
+use Rattle.mf_ops.specs.declared.op.Op.{Op}
+use Rattle.mf_ops.specs.declared.op.OpFault.TheVariants.{WeightTooLarge, OutOfMemory}
+
+is_too_large-lawful : (w : ℤ) → IsLawfulWeight w → is_too_large w ≡ false
+is_too_large-lawful w lawful = grind (arith, ints)
+
+IsLawfulWeight-from_false : (w : ℤ) → is_too_large w ≡ false → IsLawfulWeight w
+IsLawfulWeight-from_false w passes = record { least = grind (arith, ints); greatest = grind (arith, ints) }
+
+is_too_large-unlawful : (w : ℤ) → ¬ IsLawfulWeight w → is_too_large w ≡ true
+is_too_large-unlawful w unlawful = true_from_ne_false _ (λ passes. unlawful (IsLawfulWeight-from_false w passes))
+
+none_too_large : (low : ℤ) (ds : List Dot) → AreDotsFrom low ds → list_any (λ d. is_too_large d.weight) ds ≡ false
+none_too_large low [] dots = refl
+none_too_large low (d ∷ ds) dots =
+    or_from _ _ (is_too_large-lawful d.weight dots.0.lawful) (none_too_large (place d.x d.y +ℤ pos 1) ds dots.2)
+
+-- where no dot is too heavy, no pixel is
+weight_at-not_too_large : (ds : List Dot) (x y : ℤ) → list_any (λ d. is_too_large d.weight) ds ≡ false → is_too_large (weight_at ds x y) ≡ false
+unfolding weight_at
+weight_at-not_too_large [] x y none = refl
+weight_at-not_too_large (d ∷ ds) x y none =
+    let parts = or_parts (is_too_large d.weight) (list_any (λ e. is_too_large e.weight) ds) none in
+    cond_both _ d.weight (weight_at ds x y) (λ w. is_too_large w ≡ false) (λ here. parts.0) (λ elsewhere. weight_at-not_too_large ds x y parts.1)
+
+some_too_large : (f : ℤ → ℤ → ℤ) → IsTooLargeSomewhere f → list_any (λ d. is_too_large d.weight) (picture_of f) ≡ true
+some_too_large f at =
+    let weight = weight_at-picture_of f at.x at.y at.in_field in
+    true_from_ne_false _ (λ none. both_ways (is_too_large (f at.x at.y)) (rw weight at (weight_at-not_too_large (picture_of f) at.x at.y none)) at.too_large)
+
+-- a picture that has weights has all that are the same
+pub HasWeights-same : (f g : ℤ → ℤ → ℤ) (ds : List Dot) → ((x y : ℤ) → f x y ≡ g x y) → HasWeights f ds → HasWeights g ds
+HasWeights-same f g ds same has = record { weights = λ x y in_field. has.weights x y in_field ∙ same x y }
+
+pub IsUnlawfulSomewhere-same : (f g : ℤ → ℤ → ℤ) → ((x y : ℤ) → f x y ≡ g x y) → IsUnlawfulSomewhere f → IsUnlawfulSomewhere g
+IsUnlawfulSomewhere-same f g same at =
+    record { x = at.x; y = at.y; in_field = at.in_field; unlawful = λ lawful. at.unlawful (subst IsLawfulWeight (sym (same at.x at.y)) lawful) }
+
+-- a picture with the weights of a step is the picture after it
+pub stepped-from_weights : (ds : List Dot) (op : Op) (new : List Dot) → IsPicture new → HasWeights (step_at ds op) new → new ≡ stepped ds op
+unfolding stepped
+stepped-from_weights ds op new picture has = picture_of-from_weights new (step_at ds op) picture has.weights
+
+-- so the step is not refused
+pub fault_of-from_weights : (ds : List Dot) (op : Op) (new : List Dot) → IsPicture new → HasWeights (step_at ds op) new → fault_of ds op ≡ None
+unfolding fault_of
+fault_of-from_weights ds op new picture has =
+    let is = stepped-from_weights ds op new picture has in
+    let none = none_too_large _ new picture.dots in
+    (λ t. cond (list_any (λ d. is_too_large d.weight) (sym is t)) (Some WeightTooLarge) None) ∙ (λ t. cond (none t) (Some WeightTooLarge) None)
+
+pub fault_of-too_large : (ds : List Dot) (op : Op) → IsTooLargeSomewhere (step_at ds op) → fault_of ds op ≡ Some WeightTooLarge
+unfolding fault_of stepped
+fault_of-too_large ds op too_large = λ t. cond (some_too_large (step_at ds op) too_large t) (Some WeightTooLarge) None
+
+-- a step with an unlawful weight is refused
+pub fault_of-unlawful : (ds : List Dot) (op : Op) → IsUnlawfulSomewhere (step_at ds op) → fault_of ds op ≡ Some WeightTooLarge
+fault_of-unlawful ds op at =
+    fault_of-too_large ds op record { x = at.x; y = at.y; in_field = at.in_field; too_large = is_too_large-unlawful (step_at ds op at.x at.y) at.unlawful }
+
+-- where adding to a picture is refused, be it not for want of memory, the step is refused for the same cause
+pub fault_of-op_fault : (ds : List Dot) (op : Op) (fault : AddFault) → (fault ≢ add.OutOfMemory → IsUnlawfulSomewhere (step_at ds op)) → op_fault fault ≢ OutOfMemory → fault_of ds op ≡ Some (op_fault fault)
+fault_of-op_fault ds op add.WeightTooLarge unlawful other = fault_of-unlawful ds op (unlawful (λ same. cc))
+fault_of-op_fault ds op add.OutOfMemory unlawful other = absurd (other refl)
+
+none_where_lawful : (b : Bool) → cond b (Some WeightTooLarge) None ≡ None → b ≡ false
+none_where_lawful true none = cc
+none_where_lawful false none = refl
+
+pub not_too_large-accepted : (ds : List Dot) (op : Op) → fault_of ds op ≡ None → (x y : ℤ) → IsInField x y → is_too_large (step_at ds op x y) ≡ false
+unfolding fault_of stepped
+not_too_large-accepted ds op none x y in_field =
+    let lawful = none_where_lawful _ none in
+    let weight = weight_at-picture_of (step_at ds op) x y in_field in
+    rw weight at (weight_at-not_too_large (picture_of (step_at ds op)) x y lawful)

@@ -1,0 +1,2 @@
+mod Faults
+mod Sides

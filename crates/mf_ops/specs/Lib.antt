@@ -1,0 +1,5 @@
+pub mod ContourWeight
+pub mod Faults
+pub mod Sides
+pub mod Step
+pub mod Weights

@@ -1,0 +1,16 @@
+//! Laws of the definitions: each is the contract of a function that does nothing.
+ghost use Rattle.std.specs.Prelude.{◌≡◌, false, ℤ, List, Some, None};
+ghost use Rattle.mf_geom.specs.Field.{IsInField};
+ghost use Rattle.mf_rows.specs.Dots.{Dot};
+ghost use Rattle.mf_ops.specs.Step.{step_at, fault_of};
+ghost use Rattle.mf_ops.specs.Weights.{is_too_large, IsTooLargeSomewhere};
+ghost use Rattle.mf_ops.specs.declared.op.Op.{Op};
+ghost use Rattle.mf_ops.specs.declared.op.OpFault.TheVariants.{WeightTooLarge};
+
+/// An operation is refused exactly where the weight of some pixel of the field would pass 32767 in size.
+pub fn refused_where_too_large()
+    ensures refused { (ds : List Dot) (op : Op) → IsTooLargeSomewhere (step_at ds op) →
+        fault_of ds op ≡ Some WeightTooLarge }
+    ensures accepted { (ds : List Dot) (op : Op) → fault_of ds op ≡ None →
+        (x y : ℤ) → IsInField x y → is_too_large (step_at ds op x y) ≡ false }
+{}

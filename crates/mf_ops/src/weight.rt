@@ -1,0 +1,50 @@
+//! The weights that a contour may be filled with.
+ghost use Rattle.std.specs.Prelude.{◌≡◌, ◌↔◌, IsOk, IfOk};
+
+use std::marker::Model;
+
+/// Refusal 7: a weight other than -3, -2, -1, 1, 2 and 3.
+#[derive(Clone, Copy, Debug, PartialEq, Eq)]
+pub struct BadWeight;
+
+/// The weight of a contour: -3, -2, -1, 1, 2 or 3 (The METAFONTbook, chapter 13, `withweight`).
+#[derive(Clone, Copy, Debug, PartialEq, Eq)]
+pub struct Weight {
+    weight: i32,
+}
+
+impl Model for Weight {
+    ghost use Rattle.std.specs.Prelude.{ℤ};
+    ghost use Rattle.mf_ops.specs.ContourWeight.{IsContourWeight};
+
+    ghost Value = { ℤ };
+
+    ghost view = { λ w. w.weight };
+
+    ghost invariant = { λ w. IsContourWeight w.weight };
+
+    ghost inverse = { λ z. record { weight = z } };
+}
+
+impl Weight {
+    ghost use Rattle.mf_ops.specs.ContourWeight.{IsContourWeight};
+
+    /// The weight of this number; any other number is refused with BadWeight (7).
+    pub fn new(weight: i32) -> Result<Weight, BadWeight>
+        ensures accepted { IsOk result ↔ IsContourWeight weight }
+        ensures value { IfOk result (λ made. made ≡ weight) }
+    {
+        if weight == 0 || !(-3..=3).contains(&weight) {
+            return Err(BadWeight);
+        }
+        Ok(Weight { weight })
+    }
+
+    /// The number.
+    pub fn get(&self) -> i32
+        ensures value { result ≡ self.now }
+        ensures lawful { IsContourWeight self.now }
+    {
+        self.weight
+    }
+}

@@ -1,0 +1,256 @@
+-- Corners from the top downwards, and the edges and rows that they make.
+use Rattle.std.proofs.Common.{◌≡◌, ◌&&◌, ℕ, suc, ◌+◌, ◌*◌, ◌<◌, ℤ, pos, negsuc, ◌+ℤ◌, ◌-ℤ◌, ◌≤ℤ◌, ◌<ℤ◌, int_le, int_lt, Bool, true, false, List, [], ◌∷◌, length, get_or, drop, to_z, of_z, w32, add-one, refl, sym, ◌∙◌, arith, if◌then◌else◌}
+use Rattle.std.specs.List.{All, sum_by}
+use Rattle.std.specs.List.Sorted.{IsPermutation, IsSortedBy}
+use Rattle.std.specs.Ordering.{int_cmp, is_lt}
+use Rattle.std.proofs.lemmas.Cmp.{by_ranked, int_ranked}
+use Rattle.std.proofs.lemmas.Int.{ints, by_lt_z}
+use Rattle.std.proofs.lemmas.List.{drop_more}
+use Rattle.std.proofs.lemmas.List.Elements.{All-head, All-tail, All-nil}
+use Rattle.std.proofs.lemmas.List.Sorted.{sum_by-IsPermutation, length_permutation, All-permutation}
+use Rattle.std.proofs.lemmas.List.Sums.{sum_by-cons}
+use Rattle.mf_geom.specs.Field.{IsInField}
+use Rattle.mf_rows.specs.declared.corner.Corner.{Corner}
+use Rattle.mf_rows.specs.declared.edge.Edge.{Edge}
+use Rattle.mf_rows.specs.Corners.{added_by, added_by_all, IsCorner, AreCorners}
+use Rattle.mf_rows.specs.Dots.{IsLawfulWeight}
+use Rattle.mf_rows.specs.Edges.{weight_in, AreEdgesFrom, AreOpenEdges, AreEdges, EdgeRow, AreRows, weight_in_rows}
+use Rattle.mf_rows.specs.Strips.{first_height_of, ReachDownTo, HasStrip}
+use Rattle.mf_rows.specs.Sums.{HaveWeights, HaveFieldWeights, with_edge_in}
+
+-- ---- what corners add does not depend on their order: it is the difference of two sums of naturals
+
+plus : ℤ → ℕ
+plus (pos n) = n
+plus (negsuc n) = 0
+
+minus : ℤ → ℕ
+minus (pos n) = 0
+minus (negsuc n) = suc n
+
+difference : (z : ℤ) → z ≡ pos (plus z) -ℤ pos (minus z)
+unfolding plus minus
+difference (pos n) = omega (arith, ints)
+difference (negsuc n) = omega (arith, ints)
+
+added_as_sums : (ks : List Corner) (x y : ℤ) → added_by_all ks x y ≡ pos (sum_by (λ k. plus (added_by k x y)) ks) -ℤ pos (sum_by (λ k. minus (added_by k x y)) ks)
+unfolding added_by_all
+added_as_sums [] x y = omega (arith, ints)
+added_as_sums (k ∷ ks) x y =
+    let greater = sum_by-cons (λ k. plus (added_by k x y)) k ks in
+    let less = sum_by-cons (λ k. minus (added_by k x y)) k ks in
+    omega (arith, ints, added_as_sums ks x y, difference (added_by k x y), greater, less)
+
+pub added_by_permuted : (ks ls : List Corner) (x y : ℤ) → IsPermutation ks ls → added_by_all ls x y ≡ added_by_all ks x y
+added_by_permuted ks ls x y moved =
+    let greater = sum_by-IsPermutation (λ k. plus (added_by k x y)) ks ls moved in
+    let less = sum_by-IsPermutation (λ k. minus (added_by k x y)) ks ls moved in
+    omega (arith, ints, added_as_sums ks x y, added_as_sums ls x y, greater, less)
+
+pub corners_permuted : (ks ls : List Corner) → IsPermutation ks ls → AreCorners ks → AreCorners ls
+corners_permuted ks ls moved corners = record {
+  few = rw (length_permutation ks ls moved) corners.few;
+  corners = All-permutation IsCorner ks ls moved corners.corners;
+  closed = λ y. added_by_permuted ks ls (pos 4095) y moved ∙ corners.closed y;
+}
+
+-- ---- corners sorted by falling height
+
+-- no corner is higher than the one before it, and the first is at height `top` or below
+abbrev pub AreFalling : ℤ → List Corner → Type 0
+AreFalling top [] = Unit {0}
+AreFalling top (k ∷ ks) = (k.y ≤ℤ top) × AreFalling k.y ks
+
+not_above : (a b : ℤ) → is_lt (int_cmp a b) ≡ false → b ≤ℤ a
+not_above a b not_less =
+    by_ranked _ _ _ (int_cmp a b) (int_ranked a b (int_cmp a b) refl)
+    (λ less under. absurd (grind (arith, less, not_less)))
+    (λ equal same. omega (arith, ints, same))
+    (λ greater over. omega (arith, ints, over))
+
+falling_by_index : (top : ℤ) (ks : List Corner) → first_height_of ks ≤ℤ top → ((i : ℕ) (d : Corner) → suc i < length ks → (get_or ks (suc i) d).y ≤ℤ (get_or ks i d).y) → AreFalling top ks
+falling_by_index top [] first falls = tt
+falling_by_index top (k ∷ []) first falls = (first, tt)
+falling_by_index top (k ∷ l ∷ ks) first falls =
+    (first, falling_by_index k.y (l ∷ ks) (falls 0 k (omega arith)) (λ i d lt. falls (suc i) d (omega arith)))
+
+first_below_field_top : (ks : List Corner) → All IsCorner ks → first_height_of ks ≤ℤ pos 4095
+first_below_field_top [] corners = omega (arith, ints)
+first_below_field_top (k ∷ ks) corners = (All-head IsCorner k ks corners).top
+
+pub falling_from_sorted : (ks : List Corner) → All IsCorner ks → IsSortedBy (λ k l. is_lt (int_cmp l.y k.y)) ks → AreFalling (pos 4095) ks
+falling_from_sorted ks corners sorted = falling_by_index (pos 4095) ks (first_below_field_top ks corners) (λ i d lt.
+    let step = sorted i d (omega arith) (omega arith) in
+    not_above _ _ (rw add-one at step))
+
+-- the first of the corners behind one stands no higher
+next_height_falls : (k : Corner) (ks : List Corner) → IsCorner k → AreFalling k.y ks → first_height_of ks ≤ℤ k.y
+next_height_falls k [] corner falling = corner.bottom
+next_height_falls k (l ∷ ks) corner falling = falling.0
+
+next_height_in_field : (ks : List Corner) → All IsCorner ks → negsuc 4094 ≤ℤ first_height_of ks
+next_height_in_field [] corners = omega (arith, ints)
+next_height_in_field (k ∷ ks) corners = (All-head IsCorner k ks corners).bottom
+
+falling_higher : (top high : ℤ) (ks : List Corner) → top ≤ℤ high → AreFalling top ks → AreFalling high ks
+falling_higher top high [] le falling = tt
+falling_higher top high (k ∷ ks) le falling = (omega (arith, ints, falling.0), falling.1)
+
+-- ---- what a corner adds above and below its height
+
+lt_test : (a b : ℤ) → a <ℤ b → int_lt a b ≡ true
+lt_test a b lt = grind (arith, ints)
+
+ge_test : (a b : ℤ) → b ≤ℤ a → int_lt a b ≡ false
+ge_test a b ge = grind (arith, ints)
+
+-- two tests in a row, the second with a known answer
+last_fails : (b t : Bool) (w : ℤ) → t ≡ false → (if b && t then w else pos 0) ≡ pos 0
+last_fails true t w fails = rw fails
+last_fails false t w fails = refl
+
+last_passes : (b t : Bool) (w : ℤ) → t ≡ true → (if b && t then w else pos 0) ≡ (if b then w else pos 0)
+last_passes true t w passes = rw passes
+last_passes false t w passes = refl
+
+added_above : (k : Corner) (x y : ℤ) → k.y ≤ℤ y → added_by k x y ≡ pos 0
+unfolding added_by
+added_above k x y above = last_fails (int_le k.x x) (int_lt y k.y) k.weight (ge_test y k.y above)
+
+added_below : (k : Corner) (x y : ℤ) → y <ℤ k.y → added_by k x y ≡ (if int_le k.x x then k.weight else pos 0)
+unfolding added_by
+added_below k x y below = last_passes (int_le k.x x) (int_lt y k.y) k.weight (lt_test y k.y below)
+
+-- corners add nothing at or above the first of them
+added_falling : (top : ℤ) (ks : List Corner) (x y : ℤ) → AreFalling top ks → top ≤ℤ y → added_by_all ks x y ≡ pos 0
+unfolding added_by_all
+added_falling top [] x y falling above = refl
+added_falling top (k ∷ ks) x y falling above =
+    let under : k.y ≤ℤ y = omega (arith, ints, falling.0) in
+    omega (arith, ints, added_above k x y under, added_falling k.y ks x y falling.1 under)
+
+added_above_first : (top : ℤ) (ks : List Corner) (x y : ℤ) → AreFalling top ks → first_height_of ks ≤ℤ y → added_by_all ks x y ≡ pos 0
+unfolding added_by_all
+added_above_first top [] x y falling above = refl
+added_above_first top (k ∷ ks) x y falling above = added_falling k.y (k ∷ ks) x y (omega (arith, ints), falling.1) above
+
+-- ---- a sweep over the corners from the top
+
+-- the corners before those left have been added: the rows down to the first of those left are there, and the edges
+-- are those of the rows below it, as far as the corners left add nothing
+pub record IsSwept (all left : List Corner) (es : List Edge) (rs : List EdgeRow) : Type 0 where
+  pub corners : All IsCorner left
+  pub falling : AreFalling (pos 4095) left
+  pub rows : ReachDownTo (first_height_of left) rs
+  pub above : (x y : ℤ) → IsInField x y → first_height_of left ≤ℤ y → weight_in_rows rs x y ≡ added_by_all all x y
+  pub below : (x y : ℤ) → y <ℤ first_height_of left → added_by_all all x y ≡ weight_in es x +ℤ added_by_all left x y
+  pub sorted : AreEdgesFrom (negsuc 4094) es
+  pub least : (x : ℤ) → negsuc 24575 ≤ℤ (weight_in es x -ℤ pos (3 * length left))
+  pub greatest : (x : ℤ) → (weight_in es x +ℤ pos (3 * length left)) ≤ℤ pos 24576
+
+pub swept_none : (all : List Corner) → AreCorners all → AreFalling (pos 4095) all → IsSwept all all [] []
+unfolding weight_in weight_in_rows
+swept_none all corners falling = record {
+  corners = corners.corners;
+  falling = falling;
+  rows = record { rows = tt; reach = All-nil (λ r. first_height_of all ≤ℤ r.y) };
+  above = λ x y inside above. sym (added_above_first (pos 4095) all x y falling above);
+  below = λ x y below. omega (arith, ints);
+  sorted = tt;
+  least = λ x. omega (arith, ints, corners.few);
+  greatest = λ x. omega (arith, ints, corners.few);
+}
+
+pub swept_all : (all : List Corner) (es : List Edge) (rs : List EdgeRow) → IsSwept all [] es rs → AreRows rs × HaveFieldWeights (added_by_all all) rs
+swept_all all es rs swept = (record { rows = swept.rows.rows }, record { weights = λ x y inside. swept.above x y inside inside.bottom })
+
+pub swept_edges : (all left : List Corner) (es : List Edge) (rs : List EdgeRow) → IsSwept all left es rs → AreOpenEdges es
+swept_edges all left es rs swept = record {
+  sorted = swept.sorted;
+  lawful = λ x. record { least = omega (arith, ints, swept.least x); greatest = omega (arith, ints, swept.greatest x) };
+}
+
+part_is_small : (b : Bool) (w : ℤ) → negsuc 2 ≤ℤ w → w ≤ℤ pos 3 → record { least : negsuc 2 ≤ℤ (if b then w else pos 0); greatest : (if b then w else pos 0) ≤ℤ pos 3 }
+part_is_small true w least greatest = record { least = least; greatest = greatest }
+part_is_small false w least greatest = record { least = omega (arith, ints); greatest = omega (arith, ints) }
+
+-- the next corner becomes an edge, and the rows above the one behind it are made
+module _ (all : List Corner) (k : Corner) (left : List Corner) (es fs : List Edge) (rs : List EdgeRow) (corners : AreCorners all) (swept : IsSwept all (k ∷ left) es rs) (sorted : AreEdgesFrom (negsuc 4094) fs) (added : HaveWeights (with_edge_in es k.x k.weight) fs) where
+  corner : IsCorner k
+  corner = All-head IsCorner k left swept.corners
+
+  corners_left : All IsCorner left
+  corners_left = All-tail IsCorner k left swept.corners
+
+  weight_added : (x : ℤ) → weight_in fs x ≡ weight_in es x +ℤ (if int_le k.x x then k.weight else pos 0)
+  unfolding with_edge_in
+  weight_added x = added.weights x
+
+  below_corner : (x y : ℤ) → y <ℤ k.y → added_by_all all x y ≡ weight_in fs x +ℤ added_by_all left x y
+  unfolding added_by_all
+  below_corner x y below = omega (arith, ints, swept.below x y below, added_below k x y below, weight_added x)
+
+  small : (x : ℤ) → record { least : negsuc 24575 ≤ℤ (weight_in fs x -ℤ pos (3 * length left)); greatest : (weight_in fs x +ℤ pos (3 * length left)) ≤ℤ pos 24576 }
+  small x =
+      let part = part_is_small (int_le k.x x) k.weight corner.least corner.greatest in
+      record { least = omega (arith, ints, swept.least x, weight_added x, part); greatest = omega (arith, ints, swept.greatest x, weight_added x, part) }
+
+  -- the edges of a level are closed, as nothing is added right of the field
+  pub level_edges : first_height_of left <ℤ k.y → AreEdges fs
+  level_edges some = record {
+    sorted = sorted;
+    lawful = λ x. record { least = omega (arith, ints, small x); greatest = omega (arith, ints, small x) };
+    closed =
+        let level = below_corner (pos 4095) (first_height_of left) some in
+        let nothing = added_above_first k.y left (pos 4095) (first_height_of left) swept.falling.1 (omega (arith, ints)) in
+        omega (arith, ints, corners.closed (first_height_of left), level, nothing);
+  }
+
+  pub level_order : first_height_of left ≤ℤ k.y
+  level_order = next_height_falls k left corner swept.falling.1
+
+  pub level_in_field : negsuc 4094 ≤ℤ first_height_of left
+  level_in_field = next_height_in_field left corners_left
+
+  module _ (ss : List EdgeRow) (strip : HasStrip rs fs (first_height_of left) k.y ss) where
+    swept_above : (x y : ℤ) → IsInField x y → first_height_of left ≤ℤ y → weight_in_rows ss x y ≡ added_by_all all x y
+    swept_above x y inside above = by_lt_z y k.y
+        (λ below.
+        let nothing = added_above_first k.y left x y swept.falling.1 above in
+        omega (arith, ints, strip.strip x y above below, below_corner x y below, nothing))
+        (λ higher. strip.above x y higher ∙ swept.above x y inside higher)
+
+    pub swept_more : IsSwept all left fs ss
+    swept_more = record {
+      corners = corners_left;
+      falling = falling_higher k.y (pos 4095) left corner.top swept.falling.1;
+      rows = strip.rows;
+      above = swept_above;
+      below = λ x y below. below_corner x y (omega (arith, ints, below, level_order));
+      sorted = sorted;
+      least = λ x. (small x).least;
+      greatest = λ x. (small x).greatest;
+    }
+
+-- ---- the corner at a place, as the code reads it
+
+pub swept_at : (all : List Corner) (place : ℕ) (d : Corner) (es : List Edge) (rs : List EdgeRow) → place < length all → IsSwept all (drop place all) es rs → IsSwept all (get_or all place d ∷ drop (place + 1) all) es rs
+swept_at all place d es rs lt swept = rw (drop_more all place d lt) at swept
+
+-- its numbers pass through bits unchanged
+pub record IsReadBack (k : Corner) : Type 0 where
+  pub x : to_z w32 (of_z w32 k.x) ≡ k.x
+  pub y : to_z w32 (of_z w32 k.y) ≡ k.y
+  pub weight : to_z w32 (of_z w32 k.weight) ≡ k.weight
+  pub lawful : IsLawfulWeight k.weight
+
+pub corner_read_back : (k : Corner) → IsCorner k → IsReadBack k
+corner_read_back k corner = record {
+  x = omega (arith, ints);
+  y = omega (arith, ints);
+  weight = omega (arith, ints);
+  lawful = record { least = omega (arith, ints); greatest = omega (arith, ints) };
+}
+
+pub height_read_back : (ks : List Corner) (n : ℤ) → All IsCorner ks → n ≡ first_height_of ks → to_z w32 (of_z w32 n) ≡ first_height_of ks
+height_read_back ks n corners is = omega (arith, ints, next_height_in_field ks corners, first_below_field_top ks corners)

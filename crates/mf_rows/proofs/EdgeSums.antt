@@ -1,0 +1,233 @@
+-- The sum of two rows of edges, column by column.
+use Rattle.std.proofs.Common.{◌≡◌, ◌≢◌, Bool, true, false, cond, ℤ, pos, negsuc, ◌+ℤ◌, ◌-ℤ◌, ◌≤ℤ◌, ◌<ℤ◌, List, [], ◌∷◌, ◌++◌, refl, ap, sym, subst, ◌∙◌, ⊎_elim, arith}
+use Rattle.std.specs.List.{All}
+use Rattle.std.specs.Int.RustNames.{int_le}
+use Rattle.std.specs.Ordering.{int_eq}
+use Rattle.std.proofs.lemmas.Bool.{cond-true, cond-false, cond_both}
+use Rattle.std.proofs.lemmas.Bool.Decides.{Decides-int_eq, not_from_Decides}
+use Rattle.std.proofs.lemmas.Int.{ints, by_lt_z}
+use Rattle.std.proofs.lemmas.List.{append-nil}
+use Rattle.std.proofs.lemmas.List.Elements.{All-head, All-tail, All-cons, All-nil, All-weaker, All-push}
+use Rattle.mf_rows.specs.declared.edge.Edge.{Edge}
+use Rattle.mf_rows.specs.Dots.{IsLawfulWeight}
+use Rattle.mf_rows.specs.Edges.{weight_in, AreEdgesFrom, AreEdges, AreOpenEdges}
+use Rattle.mf_rows.specs.Merging.{IsChange, AreEdgesLeft, BeginAt, IsFirstColumn, IsSplitAt, unless_zero}
+use Rattle.mf_rows.specs.Sums.{HaveWeights, with_edge_in, weight_in_both}
+use Rattle.mf_rows.proofs.EdgesLemmas.{weight_in-append, weight_in-left, weight_in-right, weight_in-before, edges_from-append}
+
+-- ---- one edge more
+
+-- left of its column an edge changes nothing, elsewhere it adds its weight
+with_edge_in-before : (es : List Edge) (x w c : ℤ) → c <ℤ x → with_edge_in es x w c ≡ weight_in es c
+unfolding with_edge_in
+with_edge_in-before es x w c left =
+    let test : int_le x c ≡ false = grind (arith, ints) in
+    rw (cond-false (int_le x c) w (pos 0) test) (omega (arith, ints))
+
+with_edge_in-behind : (es : List Edge) (x w c : ℤ) → x ≤ℤ c → with_edge_in es x w c ≡ weight_in es c +ℤ w
+unfolding with_edge_in
+with_edge_in-behind es x w c right =
+    let test : int_le x c ≡ true = grind (arith, ints) in
+    ap (λ w. weight_in es c +ℤ w) (cond-true (int_le x c) w (pos 0) test)
+
+with_edge_in-none : (es : List Edge) (x c : ℤ) → with_edge_in es x (pos 0) c ≡ weight_in es c
+with_edge_in-none es x c =
+    by_lt_z c x (with_edge_in-before es x (pos 0) c) (λ right. with_edge_in-behind es x (pos 0) c right ∙ omega (arith, ints))
+
+-- ---- the edges at a column
+
+split_first : (e : Edge) (es : List Edge) (x : ℤ) → AreEdgesLeft x (e ∷ es) → e.x ≡ x → IsSplitAt (e ∷ es) x e.weight es
+split_first e es x left here = record {
+  weights = record {
+    weights = λ c. by_lt_z c x
+        (λ before. weight_in-right e es c (omega (arith, ints)) ∙ sym (with_edge_in-before es x e.weight c before))
+        (λ behind. let whole = weight_in-left e es c (omega (arith, ints)) in let split = with_edge_in-behind es x e.weight c behind in omega (arith, ints));
+  };
+  change = All-head (λ e. IsChange e.weight) e es left.changes;
+  left = record { sorted = rw (← here) left.sorted.2; changes = All-tail (λ e. IsChange e.weight) e es left.changes };
+  no_longer = omega arith;
+  shorter = λ _. omega arith;
+}
+
+pub split_here : (es : List Edge) (e : Edge) (others : List Edge) (x : ℤ) → AreEdgesLeft x es → es ≡ e ∷ others → e.x ≡ x → IsSplitAt es x e.weight others
+split_here es e others x left is here = rw is (split_first e others x (subst (AreEdgesLeft x) is left) here)
+
+pub begins_elsewhere : (es : List Edge) (e : Edge) (others : List Edge) (x : ℤ) → es ≡ e ∷ others → e.x ≢ x → BeginAt x es → ⊥
+begins_elsewhere es e others x is apart here = apart (subst (BeginAt x) is here)
+
+begins_behind : (es : List Edge) (x : ℤ) → AreEdgesFrom x es → (BeginAt x es → ⊥) → AreEdgesFrom (x +ℤ pos 1) es
+begins_behind [] x sorted apart = tt
+begins_behind (e ∷ es) x sorted apart =
+    let start : x ≤ℤ e.x = sorted.1 in
+    (sorted.0, by_lt_z x e.x (λ lt. omega (arith, ints)) (λ le. absurd (apart (omega (arith, ints)))), sorted.2)
+
+pub split_behind : (es : List Edge) (x : ℤ) → AreEdgesLeft x es → (BeginAt x es → ⊥) → IsSplitAt es x (pos 0) es
+split_behind es x left apart = record {
+  weights = record { weights = λ c. sym (with_edge_in-none es x c) };
+  change = record { least = omega (arith, ints); greatest = omega (arith, ints) };
+  left = record { sorted = begins_behind es x left.sorted apart; changes = left.changes };
+  no_longer = omega arith;
+  shorter = λ here. absurd (apart here);
+}
+
+-- ---- the first column
+
+-- a column in reach, at or right of column low
+record IsColumnFrom (low x : ℤ) : Type 0 where
+  from : low ≤ℤ x
+  left : negsuc 4094 ≤ℤ x
+  right : x ≤ℤ pos 4095
+
+begins_in_reach : (low x : ℤ) (es : List Edge) → AreEdgesFrom low es → BeginAt x es → IsColumnFrom low x
+begins_in_reach low x [] sorted at = absurd at
+begins_in_reach low x (e ∷ es) sorted at =
+    let start : low ≤ℤ e.x = sorted.1 in
+    record { from = omega (arith, ints); left = omega (arith, ints, sorted.0.left); right = omega (arith, ints, sorted.0.right) }
+
+first_in_reach : (low x : ℤ) (es fs : List Edge) → AreEdgesLeft low es → AreEdgesLeft low fs → IsFirstColumn es fs x → IsColumnFrom low x
+first_in_reach low x es fs left right first = ⊎_elim (begins_in_reach low x es left.sorted) (begins_in_reach low x fs right.sorted) first.reached
+
+-- ---- the changes of lawful rows
+
+zero_lawful : IsLawfulWeight (pos 0)
+zero_lawful = record { least = omega (arith, ints); greatest = omega (arith, ints) }
+
+-- where the weights are lawful that edges make of a lawful weight, each edge is a change
+changes_from : (low weight : ℤ) (es : List Edge) → AreEdgesFrom low es → ((x : ℤ) → IsLawfulWeight (weight +ℤ weight_in es x)) → All (λ e. IsChange e.weight) es
+changes_from low weight [] sorted lawful = All-nil (λ e. IsChange e.weight)
+changes_from low weight (e ∷ es) sorted lawful =
+    let before = weight_in-right e es (e.x -ℤ pos 1) (omega (arith, ints)) in
+    let none_before = weight_in-before (e.x +ℤ pos 1) es (e.x -ℤ pos 1) sorted.2 (omega (arith, ints)) in
+    let here = weight_in-left e es e.x (omega (arith, ints)) in
+    let none_here = weight_in-before (e.x +ℤ pos 1) es e.x sorted.2 (omega (arith, ints)) in
+    let old = lawful (e.x -ℤ pos 1) in
+    let new = lawful e.x in
+    All-cons (λ e. IsChange e.weight) e es
+    (record { least = omega (arith, ints, old.greatest, new.least); greatest = omega (arith, ints, old.least, new.greatest) })
+    (changes_from (e.x +ℤ pos 1) (weight +ℤ e.weight) es sorted.2 (λ x. by_lt_z x e.x
+    (λ lt. let none = weight_in-before (e.x +ℤ pos 1) es x sorted.2 (omega (arith, ints)) in subst IsLawfulWeight (omega (arith, ints)) new)
+    (λ le. let whole = weight_in-left e es x le in subst IsLawfulWeight (omega (arith, ints)) (lawful x))))
+
+edges_left : (es : List Edge) → AreEdges es → AreEdgesLeft (negsuc 4094) es
+edges_left es lawful = record {
+  sorted = lawful.sorted;
+  changes = changes_from (negsuc 4094) (pos 0) es lawful.sorted (λ x. subst IsLawfulWeight (omega (arith, ints)) (lawful.lawful x));
+}
+
+-- ---- the sum so far
+
+-- a sum has the weights of two rows left of a column, and the others are those of what is left of the rows; at and
+-- behind the column its weight is the running one
+pub record IsSumSoFar (whole_left whole_right sum es fs : List Edge) (weight : ℤ) : Type 0 where
+  pub low : ℤ
+  pub edges : AreOpenEdges sum
+  pub before : All (λ e. e.x <ℤ low) sum
+  pub left : AreEdgesLeft low es
+  pub right : AreEdgesLeft low fs
+  pub running : (x : ℤ) → low ≤ℤ x → weight_in sum x ≡ weight
+  pub lawful : IsLawfulWeight weight
+  pub weights : (x : ℤ) → weight_in sum x +ℤ weight_in_both es fs x ≡ weight_in_both whole_left whole_right x
+
+pub sum_none : (es fs : List Edge) → AreEdges es → AreEdges fs → IsSumSoFar es fs [] es fs (pos 0)
+unfolding weight_in
+sum_none es fs left right = record {
+  low = negsuc 4094;
+  edges = record { sorted = tt; lawful = λ x. zero_lawful };
+  before = All-nil (λ e. e.x <ℤ negsuc 4094);
+  left = edges_left es left;
+  right = edges_left fs right;
+  running = λ x le. refl;
+  lawful = zero_lawful;
+  weights = λ x. omega (arith, ints);
+}
+
+-- an edge more at the end of the sum, unless it is of weight 0
+by_push : (P : List Edge → Type 0) (sum : List Edge) (x w : ℤ) → (w ≡ pos 0 → P sum) → (w ≢ pos 0 → P (sum ++ record { x = x; weight = w } ∷ [])) → P (sum ++ unless_zero (record { x = x; weight = w }))
+by_push P sum x w none some =
+    cond_both (int_eq w (pos 0)) [] (record { x = x; weight = w } ∷ []) (λ es. P (sum ++ es))
+    (λ test. rw (append-nil sum) (none ((Decides-int_eq w (pos 0)).0 test)))
+    (λ test. some (not_from_Decides (int_eq w (pos 0)) (Decides-int_eq w (pos 0)) test))
+
+weight_in-push : (sum : List Edge) (x w c : ℤ) → weight_in (sum ++ unless_zero (record { x = x; weight = w })) c ≡ with_edge_in sum x w c
+unfolding weight_in with_edge_in
+weight_in-push sum x w c =
+    by_push (λ es. weight_in es c ≡ with_edge_in sum x w c) sum x w
+    (λ zero. rw zero (sym (with_edge_in-none sum x c)))
+    (λ _. weight_in-append sum (record { x = x; weight = w } ∷ []) c ∙ omega (arith, ints))
+
+sorted_push : (sum : List Edge) (low x w : ℤ) → AreEdgesFrom (negsuc 4094) sum → All (λ e. e.x <ℤ low) sum → IsColumnFrom low x → AreEdgesFrom (negsuc 4094) (sum ++ unless_zero (record { x = x; weight = w }))
+sorted_push sum low x w sorted before reach =
+    by_push (AreEdgesFrom (negsuc 4094)) sum x w (λ _. sorted) (λ nonzero.
+    edges_from-append (negsuc 4094) x sum (record { x = x; weight = w } ∷ []) reach.left sorted
+    (All-weaker (λ e. e.x <ℤ low) (λ e. e.x <ℤ x) (λ e lt. omega (arith, ints)) sum before)
+    (record { left = reach.left; right = reach.right; nonzero = nonzero }, omega (arith, ints), tt))
+
+before_push : (sum : List Edge) (low x w : ℤ) → All (λ e. e.x <ℤ low) sum → low ≤ℤ x → All (λ e. e.x <ℤ (x +ℤ pos 1)) (sum ++ unless_zero (record { x = x; weight = w }))
+before_push sum low x w before le =
+    let old = All-weaker (λ e. e.x <ℤ low) (λ e. e.x <ℤ (x +ℤ pos 1)) (λ e lt. omega (arith, ints)) sum before in
+    by_push (All (λ e. e.x <ℤ (x +ℤ pos 1))) sum x w (λ _. old) (λ _. All-push (λ e. e.x <ℤ (x +ℤ pos 1)) sum (record { x = x; weight = w }) old (omega (arith, ints)))
+
+cond-sum : (test : Bool) (v w : ℤ) → cond test (v +ℤ w) (pos 0) ≡ cond test v (pos 0) +ℤ cond test w (pos 0)
+cond-sum true v w = refl
+cond-sum false v w = refl
+
+module _ (whole_left whole_right sum es fs : List Edge) (weight : ℤ) (so_far : IsSumSoFar whole_left whole_right sum es fs weight) (x : ℤ) (first : IsFirstColumn es fs x) where
+  reach : IsColumnFrom so_far.low x
+  reach = first_in_reach so_far.low x es fs so_far.left so_far.right first
+
+  module _ (others_left others_right : List Edge) (v w : ℤ) (split_left : IsSplitAt es x v others_left) (split_right : IsSplitAt fs x w others_right) where
+    pub sum_at_column : weight_in_both whole_left whole_right x ≡ weight +ℤ (v +ℤ w)
+    unfolding weight_in_both
+    sum_at_column =
+        let old = so_far.weights x in
+        let running = so_far.running x reach.from in
+        let left = split_left.weights.weights x ∙ with_edge_in-behind others_left x v x (omega (arith, ints)) in
+        let right = split_right.weights.weights x ∙ with_edge_in-behind others_right x w x (omega (arith, ints)) in
+        let none_left = weight_in-before (x +ℤ pos 1) others_left x split_left.left.sorted (omega (arith, ints)) in
+        let none_right = weight_in-before (x +ℤ pos 1) others_right x split_right.left.sorted (omega (arith, ints)) in
+        omega (arith, ints)
+
+    running_more : (c : ℤ) → x ≤ℤ c → weight_in (sum ++ unless_zero (record { x = x; weight = v +ℤ w })) c ≡ weight +ℤ (v +ℤ w)
+    running_more c le =
+        let old = so_far.running c (omega (arith, ints, reach.from)) in
+        let more = weight_in-push sum x (v +ℤ w) c ∙ with_edge_in-behind sum x (v +ℤ w) c le in
+        omega (arith, ints)
+
+    weights_more : (c : ℤ) → weight_in (sum ++ unless_zero (record { x = x; weight = v +ℤ w })) c +ℤ weight_in_both others_left others_right c ≡ weight_in_both whole_left whole_right c
+    unfolding weight_in_both with_edge_in
+    weights_more c =
+        let old = so_far.weights c in
+        let more = weight_in-push sum x (v +ℤ w) c in
+        let left = split_left.weights.weights c in
+        let right = split_right.weights.weights c in
+        let both = cond-sum (int_le x c) v w in
+        omega (arith, ints)
+
+    pub sum_more : IsLawfulWeight (weight +ℤ (v +ℤ w)) → IsSumSoFar whole_left whole_right (sum ++ unless_zero (record { x = x; weight = v +ℤ w })) others_left others_right (weight +ℤ (v +ℤ w))
+    sum_more lawful = record {
+      low = x +ℤ pos 1;
+      edges = record {
+        sorted = sorted_push sum so_far.low x (v +ℤ w) so_far.edges.sorted so_far.before reach;
+        lawful = λ c. by_lt_z c x
+            (λ before. subst IsLawfulWeight (sym (weight_in-push sum x (v +ℤ w) c ∙ with_edge_in-before sum x (v +ℤ w) c before)) (so_far.edges.lawful c))
+            (λ behind. subst IsLawfulWeight (sym (running_more c behind)) lawful);
+      };
+      before = before_push sum so_far.low x (v +ℤ w) so_far.before reach.from;
+      left = split_left.left;
+      right = split_right.left;
+      running = λ c le. running_more c (omega (arith, ints));
+      lawful = lawful;
+      weights = weights_more;
+    }
+
+pub sum_all_weights : (whole_left whole_right sum : List Edge) (weight : ℤ) → IsSumSoFar whole_left whole_right sum [] [] weight → HaveWeights (weight_in_both whole_left whole_right) sum
+unfolding weight_in_both weight_in
+sum_all_weights whole_left whole_right sum weight so_far = record { weights = λ x. let all = so_far.weights x in omega (arith, ints) }
+
+pub sum_all : (whole_left whole_right sum : List Edge) (weight : ℤ) → AreEdges whole_left → AreEdges whole_right → IsSumSoFar whole_left whole_right sum [] [] weight → AreEdges sum
+unfolding weight_in_both
+sum_all whole_left whole_right sum weight left right so_far = record {
+  sorted = so_far.edges.sorted;
+  lawful = so_far.edges.lawful;
+  closed = let all = (sum_all_weights whole_left whole_right sum weight so_far).weights (pos 4095) in omega (arith, ints, left.closed, right.closed);
+}

@@ -1,0 +1,258 @@
+-- The sum of two lists of rows, row by row.
+use Rattle.std.proofs.Common.{◌≡◌, ◌≢◌, ◌<◌, ℤ, pos, negsuc, ◌+ℤ◌, ◌-ℤ◌, ◌≤ℤ◌, ◌<ℤ◌, List, [], ◌∷◌, ◌++◌, length, get_or, refl, ap, sym, subst, ◌∙◌, inl, inr, ⊎_elim, arith}
+use Rattle.std.specs.Int.{int_max}
+use Rattle.std.specs.List.{All}
+use Rattle.std.proofs.lemmas.Int.{ints, clamps, by_lt_z}
+use Rattle.std.proofs.lemmas.List.{append-nil}
+use Rattle.std.proofs.lemmas.List.Elements.{All-head, All-cons, All-nil, All-weaker, All-append}
+use Rattle.mf_rows.specs.declared.edge.Edge.{Edge}
+use Rattle.mf_rows.specs.declared.row.Row.{Row}
+use Rattle.mf_rows.specs.Bands.{edge_rows, AreAbove, AreBelow}
+use Rattle.mf_rows.specs.Dots.{IsLawfulWeight}
+use Rattle.mf_rows.specs.Edges.{weight_in, EdgeRow, IsEdgeRow, AreEdges, AreEdgesFrom, AreRowsFrom, AreRows, weight_in_rows}
+use Rattle.mf_rows.specs.Merging.{RowsBeginAt, IsFirstHeight, IsRowAt, IsSplitAtHeight, HasRowSum, IsUnlawfulInRow}
+use Rattle.mf_rows.specs.Sums.{weight_in_all, HaveRowWeights, IsUnlawfulSomewhere, IsUnlawfulColumn, StayWithin, weight_in_both, HaveWeights}
+use Rattle.mf_rows.proofs.EdgesLemmas.{weight_in-left, weight_in-before, weight_in-outside, weight_in_rows-append, weight_in_rows-here, weight_in_rows-elsewhere, weight_in_rows-above, weight_in_rows-below, rows_from-higher, rows_from-below, rows_from-append, by_field}
+
+-- ---- the first row
+
+-- the first row of two lists is the higher one of theirs
+pub first_of_both : (rows others : List Row) (r s : Row) (y : ℤ) → 0 < length rows → r ≡ get_or rows 0 r → 0 < length others → s ≡ get_or others 0 s → y ≡ int_max r.y s.y → IsFirstHeight (edge_rows rows) (edge_rows others) y
+first_of_both [] others r s y some r_is more s_is y_is = absurd (omega arith)
+first_of_both (a ∷ rows) [] r s y some r_is more s_is y_is = absurd (omega arith)
+first_of_both (a ∷ rows) (b ∷ others) r s y some r_is more s_is y_is =
+    let a_is : r.y ≡ a.y = ap (λ (r : Row). r.y) r_is in
+    let b_is : s.y ≡ b.y = ap (λ (r : Row). r.y) s_is in
+    record {
+      left = omega (arith, ints, clamps);
+      right = omega (arith, ints, clamps);
+      reached = by_lt_z r.y s.y (λ lt. inr (omega (arith, ints, clamps))) (λ le. inl (omega (arith, ints, clamps)));
+    }
+
+-- ---- what a sum has in one row
+
+by_height : {P : Type 0} (c y : ℤ) → (c ≡ y → P) → (c ≢ y → P) → P
+by_height c y here elsewhere =
+    by_lt_z c y (λ lower. elsewhere (λ is. omega (arith, ints)))
+    (λ not_lower. by_lt_z y c (λ higher. elsewhere (λ is. omega (arith, ints))) (λ not_higher. here (omega (arith, ints))))
+
+row_is : (y : ℤ) (r : EdgeRow) → IsRowAt y (r ∷ []) → r.y ≡ y
+row_is y r here =
+    let le : r.y ≤ℤ y = here.rows.1 in
+    let lt : (y -ℤ pos 1) <ℤ r.y = All-head (λ r. (y -ℤ pos 1) <ℤ r.y) r [] here.above in
+    omega (arith, ints)
+
+row_of_edges : (y : ℤ) (r : EdgeRow) → IsEdgeRow r → r.y ≡ y → IsRowAt y (r ∷ [])
+row_of_edges y r row is = record {
+  rows = (row, omega (arith, ints), tt);
+  above = All-cons (λ r. (y -ℤ pos 1) <ℤ r.y) r [] (omega (arith, ints)) (All-nil (λ r. (y -ℤ pos 1) <ℤ r.y));
+}
+
+weight_in_rows-other : (y c x : ℤ) (rs : List EdgeRow) → IsRowAt y rs → c ≢ y → weight_in_rows rs x c ≡ pos 0
+weight_in_rows-other y c x rs here apart =
+    by_lt_z y c
+    (λ higher. weight_in_rows-below rs x c (rows_from-below y c rs here.rows higher))
+    (λ le. weight_in_rows-above rs x c (All-weaker (λ r. (y -ℤ pos 1) <ℤ r.y) (λ r. c <ℤ r.y)
+    (λ r lt. by_lt_z c y (λ lower. omega (arith, ints)) (λ same. absurd (apart (omega (arith, ints))))) rs here.above))
+
+weight_in_row : (y : ℤ) (r : EdgeRow) (x : ℤ) → r.y ≡ y → weight_in_rows (r ∷ []) x y ≡ weight_in r.edges x
+unfolding weight_in_rows
+weight_in_row y r x is = let here = weight_in_rows-here r [] x y is in omega (arith, ints)
+
+module _ (y : ℤ) (l r : EdgeRow) (left : IsRowAt y (l ∷ [])) (right : IsRowAt y (r ∷ [])) where
+  weight_in_all-here : (x : ℤ) → weight_in_all (l ∷ []) (r ∷ []) x y ≡ weight_in_both l.edges r.edges x
+  unfolding weight_in_all weight_in_both
+  weight_in_all-here x =
+      let own_left = weight_in_row y l x (row_is y l left) in
+      let own_right = weight_in_row y r x (row_is y r right) in
+      omega (arith, ints)
+
+  weight_in_all-other : (x c : ℤ) → c ≢ y → weight_in_all (l ∷ []) (r ∷ []) x c ≡ pos 0
+  unfolding weight_in_all
+  weight_in_all-other x c apart =
+      let none_left = weight_in_rows-other y c x (l ∷ []) left apart in
+      let none_right = weight_in_rows-other y c x (r ∷ []) right apart in
+      omega (arith, ints)
+
+  -- outside the field both have weight 0, so a column of an unlawful weight lies in it
+  pub unlawful_in_row : IsUnlawfulColumn (weight_in_both l.edges r.edges) → IsUnlawfulInRow (weight_in_all (l ∷ []) (r ∷ [])) y
+  unfolding weight_in_both
+  unlawful_in_row column = by_field column.x y
+      (λ inside. record { x = column.x; in_field = inside; unlawful = λ lawful. column.unlawful (subst IsLawfulWeight (weight_in_all-here column.x) lawful) })
+      (λ outside.
+      let off : negsuc 4094 ≤ℤ column.x → column.x ≤ℤ pos 4094 → ⊥ = λ lower upper. outside (record {
+        left = lower;
+        right = upper;
+        bottom = omega (arith, ints, row_is y l left, left.rows.0.bottom);
+        top = omega (arith, ints, row_is y l left, left.rows.0.top);
+      }) in
+      let none_left = weight_in-outside l.edges column.x left.rows.0.edges off in
+      let none_right = weight_in-outside r.edges column.x right.rows.0.edges off in
+      absurd (column.unlawful (record { least = omega (arith, ints); greatest = omega (arith, ints) })))
+
+  -- two rows that cancel leave no row
+  pub sum_of_both-blank : (before : List EdgeRow) (es : List Edge) → es ≡ [] → HaveWeights (weight_in_both l.edges r.edges) es → HasRowSum before y (l ∷ []) (r ∷ []) before
+  unfolding weight_in weight_in_rows
+  sum_of_both-blank before es none weights = record {
+    more = [];
+    all = sym (append-nil before);
+    here = record { rows = tt; above = All-nil (λ r. (y -ℤ pos 1) <ℤ r.y) };
+    weights = record {
+      weights = λ x c. by_height c y
+          (λ here. rw here (ap (λ es. weight_in es x) (sym none) ∙ weights.weights x ∙ sym (weight_in_all-here x)))
+          (λ apart. sym (weight_in_all-other x c apart));
+    };
+  }
+
+  pub sum_of_both-some : (before : List EdgeRow) (es : List Edge) → es ≢ [] → AreEdges es → HaveWeights (weight_in_both l.edges r.edges) es → HasRowSum before y (l ∷ []) (r ∷ []) (before ++ record { y = y; edges = es } ∷ [])
+  sum_of_both-some before es some edges weights =
+      let row : IsEdgeRow (record { y = y; edges = es }) = record {
+        bottom = omega (arith, ints, row_is y l left, left.rows.0.bottom);
+        top = omega (arith, ints, row_is y l left, left.rows.0.top);
+        some = some;
+        edges = edges;
+      } in
+      let here = row_of_edges y (record { y = y; edges = es }) row refl in
+      record {
+        more = record { y = y; edges = es } ∷ [];
+        all = refl;
+        here = here;
+        weights = record {
+          weights = λ x c. by_height c y
+              (λ at. rw at (weight_in_row y (record { y = y; edges = es }) x refl ∙ weights.weights x ∙ sym (weight_in_all-here x)))
+              (λ apart. weight_in_rows-other y c x (record { y = y; edges = es } ∷ []) here apart ∙ sym (weight_in_all-other x c apart));
+        };
+      }
+
+-- a row that only one of them has
+pub sum_of_left : (before : List EdgeRow) (y : ℤ) (rs : List EdgeRow) → IsRowAt y rs → HasRowSum before y rs [] (before ++ rs)
+unfolding weight_in_all weight_in_rows
+sum_of_left before y rs here = record { more = rs; all = refl; here = here; weights = record { weights = λ x c. omega (arith, ints) } }
+
+pub sum_of_right : (before : List EdgeRow) (y : ℤ) (ss : List EdgeRow) → IsRowAt y ss → HasRowSum before y [] ss (before ++ ss)
+unfolding weight_in_all weight_in_rows
+sum_of_right before y ss here = record { more = ss; all = refl; here = here; weights = record { weights = λ x c. omega (arith, ints) } }
+
+-- ---- the sum so far
+
+-- a sum has the weights of two lists of rows above a height, and the others are those of what is left of the lists
+pub record IsRowSumSoFar (whole_left whole_right sum rs ss : List EdgeRow) : Type 0 where
+  pub top : ℤ
+  pub in_field : top ≤ℤ pos 4094
+  pub rows : AreRowsFrom (pos 4094) sum
+  pub above : AreAbove top sum
+  pub left : AreRowsFrom top rs
+  pub right : AreRowsFrom top ss
+  pub weights : (x y : ℤ) → weight_in_rows sum x y +ℤ weight_in_all rs ss x y ≡ weight_in_all whole_left whole_right x y
+
+pub sum_none : (rs ss : List EdgeRow) → AreRows rs → AreRows ss → IsRowSumSoFar rs ss [] rs ss
+unfolding weight_in_rows
+sum_none rs ss left right = record {
+  top = pos 4094;
+  in_field = omega (arith, ints);
+  rows = tt;
+  above = All-nil (λ r. pos 4094 <ℤ r.y);
+  left = left.rows;
+  right = right.rows;
+  weights = λ x y. omega (arith, ints);
+}
+
+begins_in_reach : (top y : ℤ) (rs : List EdgeRow) → AreRowsFrom top rs → RowsBeginAt y rs → y ≤ℤ top
+begins_in_reach top y [] rows at = absurd at
+begins_in_reach top y (r ∷ rs) rows at = let le : r.y ≤ℤ top = rows.1 in omega (arith, ints)
+
+module _ (whole_left whole_right sum rs ss : List EdgeRow) (so_far : IsRowSumSoFar whole_left whole_right sum rs ss) (y : ℤ) (first : IsFirstHeight rs ss y) where
+  in_reach : y ≤ℤ so_far.top
+  in_reach = ⊎_elim (begins_in_reach so_far.top y rs so_far.left) (begins_in_reach so_far.top y ss so_far.right) first.reached
+
+  above_first : AreAbove y sum
+  above_first = All-weaker (λ r. so_far.top <ℤ r.y) (λ r. y <ℤ r.y) (λ r lt. omega (arith, ints, in_reach)) sum so_far.above
+
+  module _ (found_left found_right others_left others_right : List EdgeRow) (split_left : IsSplitAtHeight rs y found_left others_left) (split_right : IsSplitAtHeight ss y found_right others_right) where
+    weight_in_all-split : (x c : ℤ) → weight_in_all rs ss x c ≡ weight_in_all found_left found_right x c +ℤ weight_in_all others_left others_right x c
+    unfolding weight_in_all
+    weight_in_all-split x c =
+        let left = weight_in_rows-append found_left others_left x c in
+        let right = weight_in_rows-append found_right others_right x c in
+        rw (split_left.all, split_right.all) (omega (arith, ints))
+
+    -- no other row stands at the height
+    weight_in_all-first : (x : ℤ) → weight_in_all whole_left whole_right x y ≡ weight_in_all found_left found_right x y
+    unfolding weight_in_all
+    weight_in_all-first x =
+        let old = so_far.weights x y in
+        let split = weight_in_all-split x y in
+        let none_before = weight_in_rows-above sum x y above_first in
+        let none_left = weight_in_rows-below others_left x y (rows_from-below (y -ℤ pos 1) y others_left split_left.left (omega (arith, ints))) in
+        let none_right = weight_in_rows-below others_right x y (rows_from-below (y -ℤ pos 1) y others_right split_right.left (omega (arith, ints))) in
+        omega (arith, ints)
+
+    pub unlawful_somewhere : IsUnlawfulInRow (weight_in_all found_left found_right) y → IsUnlawfulSomewhere (weight_in_all whole_left whole_right)
+    unlawful_somewhere column = record {
+      x = column.x;
+      y = y;
+      in_field = column.in_field;
+      unlawful = λ lawful. column.unlawful (subst IsLawfulWeight (weight_in_all-first column.x) lawful);
+    }
+
+    pub sum_more : (after : List EdgeRow) → HasRowSum sum y found_left found_right after → IsRowSumSoFar whole_left whole_right after others_left others_right
+    sum_more after more = rw more.all (record {
+      top = y -ℤ pos 1;
+      in_field = omega (arith, ints, so_far.in_field, in_reach);
+      rows = rows_from-append (pos 4094) sum more.more so_far.rows
+          (rows_from-higher (pos 4094) y more.more (omega (arith, ints, so_far.in_field, in_reach)) more.here.rows)
+          (All-weaker (λ r. y <ℤ r.y) (λ r. AreBelow r.y more.more) (λ r lt. rows_from-below y r.y more.more more.here.rows lt) sum above_first);
+      above = All-append (λ r. (y -ℤ pos 1) <ℤ r.y) sum more.more
+          (All-weaker (λ r. y <ℤ r.y) (λ r. (y -ℤ pos 1) <ℤ r.y) (λ r lt. omega (arith, ints)) sum above_first) more.here.above;
+      left = split_left.left;
+      right = split_right.left;
+      weights = λ x c.
+          let old = so_far.weights x c in
+          let split = weight_in_all-split x c in
+          let sum_is = weight_in_rows-append sum more.more x c in
+          let more_is = more.weights.weights x c in
+          omega (arith, ints);
+    })
+
+pub sum_all_weights : (whole_left whole_right sum : List EdgeRow) → IsRowSumSoFar whole_left whole_right sum [] [] → HaveRowWeights (weight_in_all whole_left whole_right) sum
+unfolding weight_in_all weight_in_rows
+sum_all_weights whole_left whole_right sum so_far = record { weights = λ x y. let all = so_far.weights x y in omega (arith, ints) }
+
+-- ---- how far a sum reaches
+
+no_edges : (low : ℤ) (es : List Edge) → AreEdgesFrom low es → ((x : ℤ) → weight_in es x ≡ pos 0) → es ≡ []
+no_edges low [] sorted blank = refl
+no_edges low (e ∷ es) sorted blank =
+    let here = weight_in-left e es e.x (omega (arith, ints)) in
+    let none = weight_in-before (e.x +ℤ pos 1) es e.x sorted.2 (omega (arith, ints)) in
+    absurd (sorted.0.nonzero (omega (arith, ints, blank e.x)))
+
+-- where all weights of a row are 0, the row is not there
+no_row : (top y : ℤ) (rs : List EdgeRow) → AreRowsFrom top rs → ((x : ℤ) → weight_in_rows rs x y ≡ pos 0) → All (λ r. r.y ≢ y) rs
+no_row top y [] rows blank = All-nil (λ r. r.y ≢ y)
+no_row top y (r ∷ rs) rows blank =
+    let apart : r.y ≢ y = λ here. rows.0.some (no_edges (negsuc 4094) r.edges rows.0.edges.sorted (λ x.
+    let own = weight_in_rows-here r rs x y here in
+    let others = weight_in_rows-below rs x y (rows_from-below (r.y -ℤ pos 1) y rs rows.2 (omega (arith, ints))) in
+    omega (arith, ints, blank x))) in
+    All-cons (λ r. r.y ≢ y) r rs apart (no_row (r.y -ℤ pos 1) y rs rows.2 (λ x. sym (weight_in_rows-elsewhere r rs x y apart) ∙ blank x))
+
+no_row_of_sum : (rs ss sum : List EdgeRow) (y : ℤ) → AreRows sum → HaveRowWeights (weight_in_all rs ss) sum → ((x : ℤ) → weight_in_rows rs x y ≡ pos 0) → ((x : ℤ) → weight_in_rows ss x y ≡ pos 0) → All (λ r. r.y ≢ y) sum
+unfolding weight_in_all
+no_row_of_sum rs ss sum y rows weights blank_left blank_right =
+    no_row (pos 4094) y sum rows.rows (λ x. let both = weights.weights x y in omega (arith, ints, blank_left x, blank_right x))
+
+pub stay_within : (rs ss sum : List EdgeRow) → AreRows sum → HaveRowWeights (weight_in_all rs ss) sum → StayWithin rs ss sum
+stay_within rs ss sum rows weights =
+    let higher = λ (y c : ℤ) (rs : List EdgeRow) (above : AreAbove y rs) (le : c ≤ℤ y). All-weaker (λ r. y <ℤ r.y) (λ r. c <ℤ r.y) (λ r lt. omega (arith, ints)) rs above in
+    let lower = λ (y c : ℤ) (rs : List EdgeRow) (below : AreBelow y rs) (le : y ≤ℤ c). All-weaker (λ r. r.y <ℤ y) (λ r. r.y <ℤ c) (λ r lt. omega (arith, ints)) rs below in
+    record {
+      above = λ y left right k d lt.
+          let c = (get_or sum k d).y in
+          by_lt_z y c (λ above. above) (λ le. absurd (no_row_of_sum rs ss sum c rows weights
+          (λ x. weight_in_rows-above rs x c (higher y c rs left le)) (λ x. weight_in_rows-above ss x c (higher y c ss right le)) k d lt refl));
+      below = λ y left right k d lt.
+          let c = (get_or sum k d).y in
+          by_lt_z c y (λ below. below) (λ le. absurd (no_row_of_sum rs ss sum c rows weights
+          (λ x. weight_in_rows-below rs x c (lower y c rs left le)) (λ x. weight_in_rows-below ss x c (lower y c ss right le)) k d lt refl));
+    }

@@ -1,0 +1,170 @@
+-- The two edges of a run, behind the edges of its row.
+use Rattle.std.proofs.Common.{◌≡◌, ◌≢◌, ℕ, zero, suc, ◌-◌, ◌<◌, ℤ, pos, negsuc, ◌+ℤ◌, ◌-ℤ◌, ◌≤ℤ◌, ◌<ℤ◌, int_le, true, false, List, [], ◌∷◌, length, get_or, refl, sym, ap, ◌∙◌, subst, arith}
+use Rattle.std.proofs.lemmas.Bool.{cond-true, cond-false}
+use Rattle.std.proofs.lemmas.Int.{ints, by_lt_z}
+use Rattle.std.proofs.lemmas.List.Elements.{All-nil, All-cons, All-head, All-tail}
+use Rattle.mf_rows.specs.declared.edge.Edge.{Edge}
+use Rattle.mf_rows.specs.declared.run.Run.{Run}
+use Rattle.mf_rows.specs.Building.{EndAt, HasRun}
+use Rattle.mf_rows.specs.Dots.{IsLawfulWeight}
+use Rattle.mf_rows.specs.Edges.{weight_in, AreEdgesFrom, AreEdges, AreOpenEdges, EdgeRow}
+use Rattle.mf_rows.specs.Order.{IsRun}
+use Rattle.mf_rows.specs.Sums.{HaveWeights, with_edge_in}
+use Rattle.mf_rows.proofs.EdgesLemmas.{weight_in-left, weight_in-right, weight_in-before, weight_in-behind}
+
+-- ---- the ends of edges
+
+EndAt-from_last : (low : ℤ) (es : List Edge) (k : ℕ) (e : Edge) (x : ℤ) → AreEdgesFrom low es → suc k ≡ length es → (get_or es k e).x ≤ℤ x → EndAt x es
+EndAt-from_last low [] k d x edges last le = absurd (omega arith)
+EndAt-from_last low (e ∷ []) zero d x edges last le = All-cons (λ e. e.x ≤ℤ x) e [] le (All-nil (λ e. e.x ≤ℤ x))
+EndAt-from_last low (e ∷ f ∷ es) zero d x edges last le = absurd (omega arith)
+EndAt-from_last low (e ∷ []) (suc k) d x edges last le = absurd (omega arith)
+EndAt-from_last low (e ∷ f ∷ es) (suc k) d x edges last le =
+    let others = EndAt-from_last (e.x +ℤ pos 1) (f ∷ es) k d x edges.2 (omega arith) le in
+    let after : (e.x +ℤ pos 1) ≤ℤ f.x = edges.2.1 in
+    let first : f.x ≤ℤ x = All-head (λ e. e.x ≤ℤ x) f es others in
+    All-cons (λ e. e.x ≤ℤ x) e (f ∷ es) (omega (arith, ints)) others
+
+-- the last of sorted edges says where they end
+pub last_decides_end : (es : List Edge) (last : Edge) (x : ℤ) → AreEdges es → 0 < length es → last ≡ get_or es (length es - 1) last → (last.x ≤ℤ x → EndAt x es) × (EndAt x es → last.x ≤ℤ x)
+last_decides_end es last x edges some is_last = (
+  λ le. EndAt-from_last (negsuc 4094) es (length es - 1) last x edges.sorted (omega arith) (subst (λ e. e.x ≤ℤ x) is_last le),
+  λ end. subst (λ e. e.x ≤ℤ x) (sym is_last) (end (length es - 1) last (omega arith)),
+)
+
+-- the weights change at each edge, so they are constant only behind all edges
+pub EndAt-from_constant : (low : ℤ) (es : List Edge) (x w : ℤ) → AreEdgesFrom low es → ((u : ℤ) → x ≤ℤ u → weight_in es u ≡ w) → EndAt x es
+EndAt-from_constant low [] x w edges constant = All-nil (λ e. e.x ≤ℤ x)
+EndAt-from_constant low (e ∷ es) x w edges constant =
+    by_lt_z x e.x
+    (λ before.
+    let weight : weight_in (e ∷ es) e.x ≡ e.weight +ℤ weight_in es e.x = weight_in-left e es e.x (omega (arith, ints)) in
+    let left : weight_in (e ∷ es) (e.x -ℤ pos 1) ≡ weight_in es (e.x -ℤ pos 1) = weight_in-right e es (e.x -ℤ pos 1) (omega (arith, ints)) in
+    let none : weight_in es e.x ≡ pos 0 = weight_in-before (e.x +ℤ pos 1) es e.x edges.2 (omega (arith, ints)) in
+    let none_left : weight_in es (e.x -ℤ pos 1) ≡ pos 0 = weight_in-before (e.x +ℤ pos 1) es (e.x -ℤ pos 1) edges.2 (omega (arith, ints)) in
+    let here = constant e.x (omega (arith, ints)) in
+    let there = constant (e.x -ℤ pos 1) (omega (arith, ints)) in
+    absurd (edges.0.nonzero (omega (arith, ints))))
+    (λ behind.
+    let others = EndAt-from_constant (e.x +ℤ pos 1) es x (w -ℤ e.weight) edges.2
+    (λ u le.
+    let here : weight_in (e ∷ es) u ≡ e.weight +ℤ weight_in es u = weight_in-left e es u (omega (arith, ints)) in
+    let same = constant u le in
+    omega (arith, ints)) in
+    All-cons (λ e. e.x ≤ℤ x) e es behind others)
+
+-- a row may have no edges yet
+pub no_edges : AreEdges []
+unfolding weight_in
+no_edges = record { sorted = tt; lawful = λ x. record { least = omega (arith, ints); greatest = omega (arith, ints) }; closed = refl }
+
+-- behind all edges the weight stays as it is
+weight_in-constant : (es : List Edge) (x u : ℤ) → EndAt x es → x ≤ℤ u → weight_in es u ≡ weight_in es x
+unfolding weight_in
+weight_in-constant [] x u end le = refl
+weight_in-constant (e ∷ es) x u end le =
+    let first : e.x ≤ℤ x = All-head (λ e. e.x ≤ℤ x) e es end in
+    let here = weight_in-left e es x first in
+    let there = weight_in-left e es u (omega (arith, ints)) in
+    let others = weight_in-constant es x u (All-tail (λ e. e.x ≤ℤ x) e es end) le in
+    omega (arith, ints)
+
+-- behind all edges of a row the weight is 0
+pub weight_in-end : (es : List Edge) (x u : ℤ) → AreEdges es → EndAt x es → x ≤ℤ u → weight_in es u ≡ pos 0
+weight_in-end es x u edges end le =
+    by_lt_z u (pos 4095)
+    (λ inside. weight_in-constant es x u end le ∙ sym (weight_in-constant es x (pos 4095) end (omega (arith, ints))) ∙ edges.closed)
+    (λ behind. weight_in-behind (negsuc 4094) es u edges.sorted behind ∙ edges.closed)
+
+-- a row with an edge has a weight that is not 0
+pub some_weight : (es : List Edge) → es ≢ [] → AreEdgesFrom (negsuc 4094) es → ((x : ℤ) → negsuc 4094 ≤ℤ x → weight_in es x ≡ pos 0) → ⊥
+some_weight [] some edges none = some refl
+some_weight (e ∷ es) some edges none =
+    let weight : weight_in (e ∷ es) e.x ≡ e.weight +ℤ weight_in es e.x = weight_in-left e es e.x (omega (arith, ints)) in
+    let others : weight_in es e.x ≡ pos 0 = weight_in-before (e.x +ℤ pos 1) es e.x edges.2 (omega (arith, ints)) in
+    let here = none e.x edges.0.left in
+    edges.0.nonzero (omega (arith, ints))
+
+-- ---- the edges of a run
+
+le_test : (a b : ℤ) → a ≤ℤ b → int_le a b ≡ true
+le_test a b le = grind (arith, ints)
+
+gt_test : (a b : ℤ) → b <ℤ a → int_le a b ≡ false
+gt_test a b gt = grind (arith, ints)
+
+-- an added edge adds its weight from its column on
+with_edge_in-from : (es : List Edge) (x w c : ℤ) → x ≤ℤ c → with_edge_in es x w c ≡ weight_in es c +ℤ w
+unfolding with_edge_in
+with_edge_in-from es x w c from = ap (λ v. weight_in es c +ℤ v) (cond-true (int_le x c) w (pos 0) (le_test x c from))
+
+with_edge_in-before : (es : List Edge) (x w c : ℤ) → c <ℤ x → with_edge_in es x w c ≡ weight_in es c
+unfolding with_edge_in
+with_edge_in-before es x w c before = omega (arith, ints, cond-false (int_le x c) w (pos 0) (gt_test x c before))
+
+-- a column is left of a run, in it, or right of it
+pub by_columns : {P : Type 0} (r : Run) (c : ℤ) → (c <ℤ r.x → P) → (r.x ≤ℤ c → c <ℤ (r.x +ℤ pos r.len) → P) → ((r.x +ℤ pos r.len) ≤ℤ c → P) → P
+by_columns r c left inside right = by_lt_z c r.x left (λ from. by_lt_z c (r.x +ℤ pos r.len) (inside from) right)
+
+-- with the first edge of a run behind its edges, a row has the run's weight from there on
+weight-from_run : (es mid : List Edge) (r : Run) (c : ℤ) → AreEdges es → EndAt r.x es → HaveWeights (with_edge_in es r.x r.weight) mid → r.x ≤ℤ c → weight_in mid c ≡ r.weight
+weight-from_run es mid r c edges end first from =
+    let none = weight_in-end es r.x c edges end from in
+    let sum = with_edge_in-from es r.x r.weight c from in
+    omega (arith, ints, first.weights c)
+
+-- so its weights are lawful still
+pub run_begun : (es mid : List Edge) (r : Run) → AreEdges es → EndAt r.x es → IsLawfulWeight r.weight → AreEdgesFrom (negsuc 4094) mid → HaveWeights (with_edge_in es r.x r.weight) mid → AreOpenEdges mid
+run_begun es mid r edges end lawful sorted first = record {
+  sorted = sorted;
+  lawful = λ c. by_lt_z c r.x
+      (λ before. subst IsLawfulWeight (sym (first.weights c ∙ with_edge_in-before es r.x r.weight c before)) (edges.lawful c))
+      (λ from. subst IsLawfulWeight (sym (weight-from_run es mid r c edges end first from)) lawful);
+}
+
+-- the weights of edges to which a run is added
+record HaveRun (es : List Edge) (r : Run) (new : List Edge) : Type 0 where
+  pub inside : (c : ℤ) → r.x ≤ℤ c → c <ℤ (r.x +ℤ pos r.len) → weight_in new c ≡ r.weight
+  pub outside : (c : ℤ) → (r.x ≤ℤ c → c <ℤ (r.x +ℤ pos r.len) → ⊥) → weight_in new c ≡ weight_in es c
+
+-- the second edge of the run takes its weight away again
+run_ended : (es mid new : List Edge) (r : Run) → AreEdges es → EndAt r.x es → HaveWeights (with_edge_in es r.x r.weight) mid → HaveWeights (with_edge_in mid (r.x +ℤ pos r.len) (pos 0 -ℤ r.weight)) new → HaveRun es r new
+run_ended es mid new r edges end first second =
+    let end_of_run = r.x +ℤ pos r.len in
+    record {
+      inside = λ c from to. second.weights c ∙ with_edge_in-before mid end_of_run (pos 0 -ℤ r.weight) c to ∙ weight-from_run es mid r c edges end first from;
+      outside = λ c outside. by_columns r c
+          (λ before. second.weights c ∙ with_edge_in-before mid end_of_run (pos 0 -ℤ r.weight) c (omega (arith, ints)) ∙ first.weights c ∙ with_edge_in-before es r.x r.weight c before)
+          (λ from to. absurd (outside from to))
+          (λ behind.
+          let sum = with_edge_in-from mid end_of_run (pos 0 -ℤ r.weight) c behind in
+          let weight = weight-from_run es mid r c edges end first (omega (arith, ints)) in
+          let none = weight_in-end es r.x c edges end (omega (arith, ints)) in
+          omega (arith, ints, second.weights c));
+    }
+
+-- and leaves lawful edges
+lawful_run : (es new : List Edge) (r : Run) → AreEdges es → IsRun r → AreEdgesFrom (negsuc 4094) new → HaveRun es r new → AreEdges new
+lawful_run es new r edges run sorted have =
+    let outside = λ (c : ℤ) (out : r.x ≤ℤ c → c <ℤ (r.x +ℤ pos r.len) → ⊥). subst IsLawfulWeight (sym (have.outside c out)) (edges.lawful c) in
+    record {
+      sorted = sorted;
+      lawful = λ c. by_columns r c
+          (λ before. outside c (λ from to. omega (arith, ints)))
+          (λ from to. subst IsLawfulWeight (sym (have.inside c from to)) run.lawful)
+          (λ behind. outside c (λ from to. omega (arith, ints)));
+      closed = have.outside (pos 4095) (λ from to. omega (arith, ints, run.right)) ∙ edges.closed;
+    }
+
+-- so the run is added by two edges
+pub run_added : (old new : EdgeRow) (mid : List Edge) (r : Run) → IsRun r → AreEdges old.edges → EndAt r.x old.edges → new.y ≡ r.y → AreEdgesFrom (negsuc 4094) new.edges → HaveWeights (with_edge_in old.edges r.x r.weight) mid → HaveWeights (with_edge_in mid (r.x +ℤ pos r.len) (pos 0 -ℤ r.weight)) new.edges → HasRun old r new
+run_added old new mid r run edges end row sorted first second =
+    let have = run_ended old.edges mid new.edges r edges end first second in
+    record { row = row; edges = lawful_run old.edges new.edges r edges run sorted have; inside = have.inside; outside = have.outside }
+
+-- a row with a run has an edge
+pub some_edge : (old new : EdgeRow) (r : Run) → IsRun r → HasRun old r new → new.edges ≢ []
+unfolding weight_in
+some_edge old new r run has none =
+    let weight = has.inside r.x (omega (arith, ints)) (omega (arith, ints, run.some)) in
+    run.nonzero (sym weight ∙ rw none)

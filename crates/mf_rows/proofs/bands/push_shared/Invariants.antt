@@ -1,0 +1,6 @@
+use Rattle.std.proofs.Common.{◌≡◌, ◌++◌, take}
+use Rattle.mf_rows.specs.Bands.{rows_of_bands}
+use Rattle.mf_rows.proofs.bands.push_shared.Given as goal
+
+abbrev pub invariant-loop-band : goal.invariant-loop-band
+invariant-loop-band l = rows_of_bands l.bands.items ≡ rows_of_bands l.fn.bands.items ++ rows_of_bands (take l.band-index l.others)

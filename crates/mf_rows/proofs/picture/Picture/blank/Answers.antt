@@ -1,0 +1,5 @@
+use Rattle.mf_rows.proofs.EdgesLemmas.{picture_of_rows-none}
+use Rattle.mf_rows.proofs.picture.Picture.blank.Goals as goal
+
+pub returns : goal.returns
+returns c = rw c.new.ensures.items picture_of_rows-none

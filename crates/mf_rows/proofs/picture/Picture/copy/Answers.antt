@@ -1,0 +1,10 @@
+use Rattle.std.proofs.Common.{subst}
+use Rattle.mf_rows.specs.Dots.{IsPicture}
+use Rattle.mf_rows.proofs.EdgesLemmas.{lawful_picture_of_rows}
+use Rattle.mf_rows.proofs.picture.Picture.copy.Goals as goal
+
+pub returns-in_err-push_shared-clause-lawful : goal.returns-in_err-push_shared-clause-lawful
+returns-in_err-push_shared-clause-lawful c = subst IsPicture c.self.view_is (lawful_picture_of_rows _ c.self.invariant)
+
+pub returns-clause-lawful : goal.returns-clause-lawful
+returns-clause-lawful c = subst IsPicture c.self.view_is (lawful_picture_of_rows _ c.self.invariant)

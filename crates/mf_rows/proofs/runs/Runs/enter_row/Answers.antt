@@ -1,0 +1,31 @@
+use Rattle.std.proofs.Common.{◌≡◌, to_z, of_z, w32, FitsSigned, refl, sym, subst, ◌∙◌, rules, arith}
+use Rattle.std.proofs.lemmas.Bool.{eqb-true}
+use Rattle.std.proofs.lemmas.Int.{ints}
+use Rattle.std.proofs.lemmas.List.{nil_from_length}
+use Rattle.std.proofs.lemmas.List.Elements.{All-rest}
+use Rattle.mf_rows.specs.Edges.{IsEdgeRow}
+use Rattle.mf_rows.specs.Rest.{AreEdgeRows}
+use Rattle.mf_rows.specs.Walk.{runs_of_edges}
+use Rattle.mf_rows.proofs.RunsLeft.{rest_entered, runs_entered}
+use Rattle.mf_rows.proofs.runs.Runs.enter_row.Goals as goal
+
+pub invariant_of-self : goal.invariant_of-self
+invariant_of-self c =
+    let over = nil_from_length _ (eqb-true _ _ (sym c.is_empty.ensures ∙ c.if-not-is_empty.false)) in
+    let rows = subst AreEdgeRows c.in-Some.ensures.steps c.args.self.now.others in
+    record {
+      rest = rw c.edges-self.ensures (rest_entered _ _ _ _ over c.args.self.now.rest rows);
+      others = All-rest IsEdgeRow _ _ _ c.in-Some.ensures.steps c.args.self.now.others;
+    }
+
+pub returns-in-Some-clause-left : goal.returns-in-Some-clause-left
+returns-in-Some-clause-left c =
+    let over = nil_from_length _ (eqb-true _ _ (sym c.is_empty.ensures ∙ c.if-not-is_empty.false)) in
+    let y_fits : FitsSigned w32 c.in-Some.row.now.y = search rules in
+    let y : to_z w32 (of_z w32 c.in-Some.row.now.y) ≡ c.in-Some.row.now.y = omega (arith, ints) in
+    rw (y, c.edges-self.ensures, c.in-Some.ensures.steps) (runs_entered _ _ _ _ _ over c.args.self.now.rest)
+
+-- no row is left
+pub returns-in_default-clause-over : goal.returns-in_default-clause-over
+unfolding runs_of_edges
+returns-in_default-clause-over c = λ over. rw (over, c.in_default.ensures.steps.1) refl

@@ -1,0 +1,25 @@
+use Rattle.std.proofs.Common.{sym, ◌∙◌}
+use Rattle.mf_rows.proofs.RunsLeft.{rest_taken, rest_behind, fits_taken, weight_taken, column_taken, runs_taken}
+use Rattle.mf_rows.proofs.runs.Runs.next_edge.Goals as goal
+
+pub overflow_add-self : goal.overflow_add-self
+overflow_add-self c =
+    fits_taken _ _ _ (rest_taken _ _ _ _ c.in_ok-edge.ensures.cases.0 c.enter_row.new.self.rest)
+
+pub invariant_of-self : goal.invariant_of-self
+invariant_of-self c =
+    let rest = rest_taken _ _ _ _ c.in_ok-edge.ensures.cases.0 c.enter_row.new.self.rest in
+    record { rest = rw (weight_taken _ _ _ rest) (rest_behind _ _ _ rest); others = c.enter_row.new.self.others }
+
+pub returns-clause-edge : goal.returns-clause-edge
+returns-clause-edge c =
+    let row = c.enter_row.new.self in
+    let edge = c.in_ok-edge.edge.now in
+    let edges = c.in_ok-edge.edges.now in
+    let rest = rest_taken _ _ _ _ c.in_ok-edge.ensures.cases.0 row.rest in
+    let x = column_taken _ _ _ rest in
+    record {
+      left = sym c.enter_row.ensures.left ∙ rw (c.in_ok-edge.ensures.cases.0, weight_taken _ _ _ rest, x) (runs_taken row.y row.weight edge edges _);
+      column = rw x rest.sorted.0.left;
+      behind = rw x rest.sorted.2;
+    }

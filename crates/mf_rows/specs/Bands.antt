@@ -1,0 +1,70 @@
+-- The rows that are kept in bands.
+use Rattle.std.specs.Prelude.{◌≡◌, ℤ, pos, ◌<ℤ◌, All, List, [], ◌∷◌, map, flat_map}
+use Rattle.std.specs.Arc.{arc_value}
+use Rattle.std.specs.declared.alloc.Global.{Global}
+use Rattle.std.specs.declared.sync.Arc.{Arc}
+use Rattle.mf_rows.specs.declared.band.Band.{Band}
+use Rattle.mf_rows.specs.declared.row.Row.{Row}
+use Rattle.mf_rows.specs.declared.edge.Edge.{Edge}
+use Rattle.mf_rows.specs.Edges.{EdgeRow, AreEdges, IsEdgeRow, AreRows, weight_in, weight_in_rows}
+
+-- a row as its edges
+abbrev pub edge_row : Row → EdgeRow
+edge_row r = record { y = r.y; edges = (arc_value r.edges).items }
+
+-- a row of the field that is not blank
+abbrev pub IsRow : Row → Type 0
+IsRow r = IsEdgeRow (edge_row r)
+
+-- rows as their edges
+abbrev pub edge_rows : List Row → List EdgeRow
+edge_rows rows = map edge_row rows
+
+-- the rows of a band
+abbrev pub rows_in : Band → List EdgeRow
+rows_in band = edge_rows band.rows.items
+
+-- the height of the first of some rows
+abbrev pub first_height : List EdgeRow → ℤ
+first_height [] = pos 0
+first_height (r ∷ rs) = r.y
+
+-- the height of the last of them
+abbrev pub last_height : List EdgeRow → ℤ
+last_height [] = pos 0
+last_height (r ∷ []) = r.y
+last_height (r ∷ s ∷ rs) = last_height (s ∷ rs)
+
+-- the highest row of a band
+abbrev pub top_of : Band → ℤ
+top_of band = first_height (rows_in band)
+
+-- its lowest row
+abbrev pub bottom_of : Band → ℤ
+bottom_of band = last_height (rows_in band)
+
+-- the rows of bands, one band after another
+abbrev pub rows_of_bands : List (Arc Band Global) → List EdgeRow
+rows_of_bands bands = flat_map (λ band. rows_in (arc_value band)) bands
+
+-- the edges of row y
+pub record HasRow (rs : List EdgeRow) (y : ℤ) (es : List Edge) : Type 0 where
+  pub edges : AreEdges es
+  pub weights : (x : ℤ) → weight_in_rows rs x y ≡ weight_in es x
+
+-- row y is blank
+pub record HasNoRow (rs : List EdgeRow) (y : ℤ) : Type 0 where
+  pub weights : (x : ℤ) → weight_in_rows rs x y ≡ pos 0
+
+-- row y is the same in some rows as in all of them
+pub record HasSameRow (all : List EdgeRow) (y : ℤ) (rs : List EdgeRow) : Type 0 where
+  pub lawful : AreRows rs
+  pub weights : (x : ℤ) → weight_in_rows all x y ≡ weight_in_rows rs x y
+
+-- rows above row y
+abbrev pub AreAbove : ℤ → List EdgeRow → Type 0
+AreAbove y rs = All (λ r. y <ℤ r.y) rs
+
+-- rows below row y
+abbrev pub AreBelow : ℤ → List EdgeRow → Type 0
+AreBelow y rs = All (λ r. r.y <ℤ y) rs

@@ -1,0 +1,36 @@
+-- The rows of a picture that is being built.
+use Rattle.std.specs.Prelude.{◌≡◌, ◌<◌, ◌-◌, ℤ, pos, ◌+ℤ◌, ◌≤ℤ◌, ◌<ℤ◌, All, List, map, length}
+use Rattle.std.specs.List.{HoldsAt}
+use Rattle.mf_rows.specs.declared.edge.Edge.{Edge}
+use Rattle.mf_rows.specs.declared.builder.OpenRow.{OpenRow}
+use Rattle.mf_rows.specs.declared.run.Run.{Run}
+use Rattle.mf_rows.specs.Edges.{EdgeRow, AreEdges, weight_in}
+
+-- a row that gets its runs, as its edges
+abbrev pub open_row : OpenRow → EdgeRow
+open_row r = record { y = r.y; edges = r.edges.items }
+
+-- rows that get their runs, as their edges
+abbrev pub open_rows : List OpenRow → List EdgeRow
+open_rows rows = map open_row rows
+
+-- the last of the rows is row y
+pub record EndInRow (rows : List OpenRow) (y : ℤ) : Type 0 where
+  pub some : 0 < length rows
+  pub last : HoldsAt (λ r. r.y ≡ y) rows (length rows - 1)
+
+-- edges that stand at or left of column x
+abbrev pub EndAt : ℤ → List Edge → Type 0
+EndAt x es = All (λ e. e.x ≤ℤ x) es
+
+-- a row ends before a run: the run is in a row below, or it is in this row and begins at or right of all edges
+pub record EndsBefore (last : EdgeRow) (r : Run) : Type 0 where
+  pub row : r.y ≤ℤ last.y
+  pub columns : last.y ≡ r.y → EndAt r.x last.edges
+
+-- a row to which a run is added: its columns have its weight, and all others the weights that they had
+pub record HasRun (old : EdgeRow) (r : Run) (new : EdgeRow) : Type 0 where
+  pub row : new.y ≡ r.y
+  pub edges : AreEdges new.edges
+  pub inside : (x : ℤ) → r.x ≤ℤ x → x <ℤ (r.x +ℤ pos r.len) → weight_in new.edges x ≡ r.weight
+  pub outside : (x : ℤ) → (r.x ≤ℤ x → x <ℤ (r.x +ℤ pos r.len) → ⊥) → weight_in new.edges x ≡ weight_in old.edges x

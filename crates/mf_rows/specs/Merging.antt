@@ -1,0 +1,99 @@
+-- What is left of two rows, or of two lists of rows, while their sum is made.
+use Rattle.std.specs.Prelude.{◌≡◌, ◌⊎◌, ◌<◌, ◌≤◌, ℤ, pos, negsuc, ◌+ℤ◌, ◌-ℤ◌, ◌≤ℤ◌, All, List, [], ◌∷◌, ◌++◌, length, if◌then◌else◌, Option, Some, None}
+use Rattle.std.specs.Borrow.{Bor}
+use Rattle.std.specs.Ordering.{int_eq}
+use Rattle.mf_geom.specs.Field.{IsInField}
+use Rattle.mf_rows.specs.declared.edge.Edge.{Edge}
+use Rattle.mf_rows.specs.declared.row.Row.{Row}
+use Rattle.mf_rows.specs.Bands.{edge_row, AreAbove}
+use Rattle.mf_rows.specs.Dots.{IsLawfulWeight}
+use Rattle.mf_rows.specs.Edges.{EdgeRow, AreEdgesFrom, AreRowsFrom}
+use Rattle.mf_rows.specs.Sums.{HaveWeights, HaveRowWeights, weight_in_all, with_edge_in}
+
+-- ---- edges
+
+-- an edge between lawful weights changes them by at most 65534
+pub record IsChange (w : ℤ) : Type 0 where
+  pub least : negsuc 65533 ≤ℤ w
+  pub greatest : w ≤ℤ pos 65534
+
+-- edges that are still to be added: sorted, the first of them at or right of column low
+pub record AreEdgesLeft (low : ℤ) (es : List Edge) : Type 0 where
+  pub sorted : AreEdgesFrom low es
+  pub changes : All (λ e. IsChange e.weight) es
+
+-- the first edge, if there is one, stands at or right of column x
+abbrev pub BeginFrom : ℤ → List Edge → Type 0
+BeginFrom x [] = Unit {0}
+BeginFrom x (e ∷ es) = x ≤ℤ e.x
+
+-- the first edge stands at column x
+abbrev pub BeginAt : ℤ → List Edge → Type 0
+BeginAt x [] = ⊥
+BeginAt x (e ∷ es) = e.x ≡ x
+
+-- column x is the first at which an edge of two rows stands
+pub record IsFirstColumn (es fs : List Edge) (x : ℤ) : Type 0 where
+  pub left : BeginFrom x es
+  pub right : BeginFrom x fs
+  pub reached : BeginAt x es ⊎ BeginAt x fs
+
+-- the edge at column x has weight w, or none stands there and w is 0, and the others are left
+pub record IsSplitAt (es : List Edge) (x w : ℤ) (others : List Edge) : Type 0 where
+  pub weights : HaveWeights (with_edge_in others x w) es
+  pub change : IsChange w
+  pub left : AreEdgesLeft (x +ℤ pos 1) others
+  pub no_longer : length others ≤ length es
+  pub shorter : BeginAt x es → length others < length es
+
+-- an edge, unless its weight is 0
+abbrev pub unless_zero : Edge → List Edge
+unless_zero e = if int_eq e.weight (pos 0) then [] else (e ∷ [])
+
+-- ---- rows
+
+-- the first row, if there is one, is row y or one below it
+abbrev pub RowsBeginFrom : ℤ → List EdgeRow → Type 0
+RowsBeginFrom y [] = Unit {0}
+RowsBeginFrom y (r ∷ rs) = r.y ≤ℤ y
+
+-- the first row is row y
+abbrev pub RowsBeginAt : ℤ → List EdgeRow → Type 0
+RowsBeginAt y [] = ⊥
+RowsBeginAt y (r ∷ rs) = r.y ≡ y
+
+-- row y is the highest of two lists of rows
+pub record IsFirstHeight (rs ss : List EdgeRow) (y : ℤ) : Type 0 where
+  pub left : RowsBeginFrom y rs
+  pub right : RowsBeginFrom y ss
+  pub reached : RowsBeginAt y rs ⊎ RowsBeginAt y ss
+
+-- a list has row y alone, or no row
+pub record IsRowAt (y : ℤ) (rs : List EdgeRow) : Type 0 where
+  pub rows : AreRowsFrom y rs
+  pub above : AreAbove (y -ℤ pos 1) rs
+
+-- the row that was found
+abbrev pub row_found : Option (Bor Row) → List EdgeRow
+row_found None = []
+row_found (Some r) = edge_row r.now ∷ []
+
+-- row y is found, where there is one, and the others are left
+pub record IsSplitAtHeight (rs : List EdgeRow) (y : ℤ) (found others : List EdgeRow) : Type 0 where
+  pub all : rs ≡ found ++ others
+  pub here : IsRowAt y found
+  pub left : AreRowsFrom (y -ℤ pos 1) others
+  pub shorter : RowsBeginAt y rs → 0 < length found
+
+-- behind rows there is now row y with the weights of two rows together, unless it is blank
+pub record HasRowSum (before : List EdgeRow) (y : ℤ) (rs ss after : List EdgeRow) : Type 0 where
+  pub more : List EdgeRow
+  pub all : after ≡ before ++ more
+  pub here : IsRowAt y more
+  pub weights : HaveRowWeights (weight_in_all rs ss) more
+
+-- at some pixel of row y, which lies in the field, the weight f is not lawful
+pub record IsUnlawfulInRow (f : ℤ → ℤ → ℤ) (y : ℤ) : Type 0 where
+  pub x : ℤ
+  pub in_field : IsInField x y
+  pub unlawful : IsLawfulWeight (f x y) → ⊥

@@ -1,0 +1,38 @@
+-- What is left of a row behind some of its edges, and of a picture behind some of its rows.
+use Rattle.std.specs.Prelude.{◌≡◌, ℤ, pos, ◌+ℤ◌, ◌++◌, All, List, [], ◌∷◌}
+use Rattle.std.specs.Coded.{Unit-prop}
+use Rattle.std.proofs.Props.{props}
+use Rattle.mf_rows.specs.declared.edge.Edge.{Edge}
+use Rattle.mf_rows.specs.declared.rows.Rows.{Rows}
+use Rattle.mf_rows.specs.Bands.{edge_rows, rows_of_bands}
+use Rattle.mf_rows.specs.Dots.{IsLawfulWeight}
+use Rattle.mf_rows.specs.Edges.{weight_in, AreEdgesFrom, AreEdges, EdgeRow, IsEdgeRow}
+
+-- the edges of a row from column low on, where the weight left of them is w
+pub record IsRestOfRow (low w : ℤ) (es : List Edge) : Type 0 where
+  pub sorted : AreEdgesFrom low es
+  pub lawful : (x : ℤ) → IsLawfulWeight (w +ℤ weight_in es x)
+  pub closed : w +ℤ weight_in es (pos 4095) ≡ pos 0
+
+-- the rows that are still to come
+abbrev pub rows_left : Rows → List EdgeRow
+rows_left r = edge_rows r.rows.now ++ rows_of_bands r.bands.now
+
+-- rows of the field that are not blank
+abbrev pub AreEdgeRows : List EdgeRow → Type 0
+AreEdgeRows rs = All IsEdgeRow rs
+
+-- ---- each of these facts has one proof at most
+
+AreEdgesFrom-prop : (low : ℤ) (es : List Edge) → IsProp (AreEdgesFrom low es)
+AreEdgesFrom-prop low [] = Unit-prop
+AreEdgesFrom-prop low (e ∷ es) = hlevel (props, AreEdgesFrom-prop (e.x +ℤ pos 1) es)
+
+pub IsRestOfRow-prop : (low w : ℤ) (es : List Edge) → IsProp (IsRestOfRow low w es)
+IsRestOfRow-prop low w es = hlevel (props, AreEdgesFrom-prop)
+
+AreEdges-prop : (es : List Edge) → IsProp (AreEdges es)
+AreEdges-prop es = hlevel (props, AreEdgesFrom-prop)
+
+pub AreEdgeRows-prop : (rs : List EdgeRow) → IsProp (AreEdgeRows rs)
+AreEdgeRows-prop rs = hlevel (props, AreEdges-prop)

@@ -1,0 +1,82 @@
+//! Corners, and the rows that they make.
+ghost use Rattle.std.specs.Prelude.{◌≡◌, ◌+◌, ◌<◌, IfOk, OnOk, pos, negsuc, ◌≤ℤ◌, ◌<ℤ◌, drop, length};
+ghost use Rattle.mf_rows.specs.Bands.{edge_rows};
+ghost use Rattle.mf_rows.specs.Corners.{AreCorners, added_by_all};
+ghost use Rattle.mf_rows.specs.Edges.{AreEdges, AreRows};
+ghost use Rattle.mf_rows.specs.Strips.{first_height_of, ReachDownTo, HasStrip};
+ghost use Rattle.mf_rows.specs.Sums.{HaveFieldWeights};
+
+use crate::edge::{Edge, add_edge};
+use crate::field::FIELD_START;
+use crate::row::Row;
+use mf_geom::OutOfMemory;
+use std::alloc::Global;
+use std::cmp::Reverse;
+
+/// A corner adds its weight to every pixel at or right of column `x` and below height `y`. An upright
+/// side, from whose column on the weights of its rows change, is a corner at its upper end and one of the
+/// negated weight at its lower end (mf.web inserts the edges of a side row by row). Coordinates are points
+/// of the plane in pixels, -4095..4095, and weights -3..3, where corners are added to a picture.
+#[derive(Clone, Copy, Debug, PartialEq, Eq)]
+pub struct Corner {
+    pub x: i32,
+    pub y: i32,
+    pub weight: i32,
+}
+
+/// The rows that have the weights of these corners.
+pub(crate) fn rows_of_corners(alloc: Global, corners: Vec<Corner>) -> Result<Vec<Row>, OutOfMemory>
+    requires { AreCorners corners.items }
+    ensures rows { IfOk result (λ rows. AreRows (edge_rows rows.items)) }
+    ensures weights { IfOk result (λ rows. HaveFieldWeights (added_by_all corners.items) (edge_rows rows.items)) }
+{
+    let mut corners = corners;
+    corners.sort_unstable_by_key(|corner| Reverse(corner.y));
+    let mut rows = Vec::new(alloc);
+    let mut edges = Vec::new(alloc);
+    for (place, corner) in corners.iter().enumerate() {
+        add_edge(&mut edges, corner.x, corner.weight)?;
+        let next = next_height(&corners, place);
+        push_strip(alloc, &mut rows, &edges, next, corner.y)?;
+    }
+    Ok(rows)
+}
+
+/// The height of the corner behind a place, and behind the last one the bottom of the field.
+fn next_height(corners: &[Corner], place: usize) -> i32
+    requires { place < length corners.now }
+    ensures { result ≡ first_height_of (drop (place + 1) corners.now) }
+{
+    match corners.get(place + 1) {
+        Some(next) => next.y,
+        None => FIELD_START,
+    }
+}
+
+/// Adds the rows from height `bottom` to height `top`, from the top, which all have these edges; where
+/// there are no edges it adds none.
+fn push_strip(
+    alloc: Global,
+    rows: &mut Vec<Row>,
+    edges: &[Edge],
+    bottom: i32,
+    top: i32,
+) -> Result<(), OutOfMemory>
+    requires bottom { negsuc 4094 ≤ℤ bottom }
+    requires order { bottom ≤ℤ top }
+    requires top { top ≤ℤ pos 4095 }
+    requires edges { bottom <ℤ top → AreEdges edges.now }
+    requires rows { ReachDownTo top (edge_rows rows.old.items) }
+    ensures { OnOk result (HasStrip (edge_rows rows.old.items) edges.now bottom top (edge_rows rows.new.items)) }
+{
+    if edges.is_empty() || bottom == top {
+        return Ok(());
+    }
+    let mut kept = Vec::new(alloc);
+    kept.extend_from_slice(edges)?;
+    let first = Row::new(alloc, top - 1, kept)?;
+    for down in 0..top - bottom {
+        rows.push(first.share_at(top - 1 - down)?)?;
+    }
+    Ok(())
+}

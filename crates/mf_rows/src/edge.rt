@@ -1,0 +1,79 @@
+//! Edges of rows, and the weights between them.
+ghost use Rattle.std.specs.Prelude.{◌≡◌, ◌<◌, ◌≤◌, ◌+◌, IsOk, OnOk, OnErr, pos, negsuc, ◌≤ℤ◌, length};
+ghost use Rattle.std.specs.List.{HoldsAt};
+ghost use Rattle.std.specs.Vec.{vec_len, vec_capacity};
+ghost use Rattle.mf_rows.specs.Dots.{IsLawfulWeight};
+ghost use Rattle.mf_rows.specs.Edges.{AreEdges, AreEdgesFrom, AreOpenEdges, weight_in};
+ghost use Rattle.mf_rows.specs.Sums.{HaveWeights, with_edge_in};
+
+use mf_geom::OutOfMemory;
+
+/// An edge: from its column on, the weights of a row are greater by its weight (mf.web, "edge
+/// structures").
+#[derive(Clone, Copy, Debug)]
+pub(crate) struct Edge {
+    pub(crate) x: i32,
+    pub(crate) weight: i32,
+}
+
+/// The weight at column x of a row with these edges.
+pub(crate) fn weight_at_column(edges: &[Edge], x: i32) -> i32
+    requires { AreEdges edges.now }
+    ensures { result ≡ weight_in edges.now x }
+{
+    let mut weight = 0;
+    for edge in edges {
+        if x < edge.x {
+            return weight;
+        }
+        weight += edge.weight;
+    }
+    weight
+}
+
+/// Adds a weight from a column on: to the edge that stands there, which goes where the two cancel, or as
+/// an edge of its own.
+pub(crate) fn add_edge(edges: &mut Vec<Edge>, x: i32, weight: i32) -> Result<(), OutOfMemory>
+    requires edges { AreOpenEdges edges.old.items }
+    requires left { negsuc 4094 ≤ℤ x }
+    requires right { x ≤ℤ pos 4095 }
+    requires weight { IsLawfulWeight weight }
+    ensures sorted { AreEdgesFrom (negsuc 4094) edges.new.items }
+    ensures weights { OnOk result (HaveWeights (with_edge_in edges.old.items x weight) edges.new.items) }
+    ensures unchanged { OnErr result (edges.new.items ≡ edges.old.items) }
+    ensures succeeds { vec_len edges.old < vec_capacity edges.old → IsOk result }
+    ensures capacity { vec_capacity edges.old ≤ vec_capacity edges.new }
+    ensures len { vec_len edges.new ≤ vec_len edges.old + 1 }
+{
+    match edges.binary_search_by_key(&x, |edge| edge.x) {
+        Ok(at) => change_edge(edges, at, weight),
+        Err(at) => {
+            if weight != 0 {
+                edges.insert(at, Edge { x, weight })?;
+            }
+        }
+    }
+    Ok(())
+}
+
+/// Adds a weight to an edge, which goes where the two cancel.
+fn change_edge(edges: &mut Vec<Edge>, at: usize, weight: i32)
+    requires edges { AreOpenEdges edges.old.items }
+    requires weight { IsLawfulWeight weight }
+    requires in_range { at < vec_len edges.old }
+    ensures sorted { AreEdgesFrom (negsuc 4094) edges.new.items }
+    ensures weights { HoldsAt (λ edge. HaveWeights (with_edge_in edges.old.items edge.x weight) edges.new.items) edges.old.items at }
+    ensures capacity { vec_capacity edges.new ≡ vec_capacity edges.old }
+    ensures len { vec_len edges.new ≤ vec_len edges.old }
+{
+    let edge = edges[at];
+    let changed = edge.weight + weight;
+    if changed == 0 {
+        edges.remove(at);
+    } else {
+        edges[at] = Edge {
+            x: edge.x,
+            weight: changed,
+        };
+    }
+}

@@ -1,0 +1,107 @@
+//! The sum of two lists of rows.
+ghost use Rattle.std.specs.Prelude.{◌≡◌, ◌≢◌, ◌∷◌, ◌++◌, [], IfOk, IfErr, OnOk, IfSome, IsNone};
+ghost use Rattle.mf_rows.specs.Bands.{edge_row, edge_rows};
+ghost use Rattle.mf_rows.specs.Edges.{AreRows, AreRowsFrom};
+ghost use Rattle.mf_rows.specs.Merging.{IsFirstHeight, IsRowAt, row_found, IsSplitAtHeight, HasRowSum, IsUnlawfulInRow};
+ghost use Rattle.mf_rows.specs.Sums.{weight_in_all, HaveRowWeights, StayWithin, IsUnlawfulSomewhere};
+
+use crate::edge_sum::sum_of_edges;
+use crate::fault::AddFault;
+use crate::row::Row;
+use mf_geom::OutOfMemory;
+use std::alloc::Global;
+
+/// The rows of two lists together; rows that only one of them has are shared. It is WeightTooLarge where
+/// a weight would pass 32767 in size.
+pub(crate) fn sum_of_rows(alloc: Global, left: &[Row], right: &[Row]) -> Result<Vec<Row>, AddFault>
+    requires left { AreRows (edge_rows left.now) }
+    requires right { AreRows (edge_rows right.now) }
+    ensures rows { IfOk result (λ sum. AreRows (edge_rows sum.items)) }
+    ensures weights { IfOk result (λ sum. HaveRowWeights (weight_in_all (edge_rows left.now) (edge_rows right.now)) (edge_rows sum.items)) }
+    ensures within { IfOk result (λ sum. StayWithin (edge_rows left.now) (edge_rows right.now) (edge_rows sum.items)) }
+    ensures too_large { IfErr result (λ fault. fault ≢ AddFault.OutOfMemory → IsUnlawfulSomewhere (weight_in_all (edge_rows left.now) (edge_rows right.now))) }
+{
+    let mut sum = Vec::new(alloc);
+    let (mut left, mut right) = (left, right);
+    while let Some(y) = first_height(left, right) {
+        let (row_left, rest_left) = split_at_height(left, y);
+        let (row_right, rest_right) = split_at_height(right, y);
+        push_sum(alloc, &mut sum, y, row_left, row_right)?;
+        (left, right) = (rest_left, rest_right);
+    }
+    Ok(sum)
+}
+
+/// The height of the first row of two lists.
+fn first_height(left: &[Row], right: &[Row]) -> Option<i32>
+    ensures first { IfSome result (IsFirstHeight (edge_rows left.now) (edge_rows right.now)) }
+    ensures none_left { IsNone result → left.now ≡ [] }
+    ensures none_right { IsNone result → right.now ≡ [] }
+{
+    match (left.first(), right.first()) {
+        (Some(l), Some(r)) => Some(l.y.max(r.y)),
+        (Some(row), None) | (None, Some(row)) => Some(row.y),
+        (None, None) => None,
+    }
+}
+
+/// The first row, where it has this height, and the rows below this height.
+fn split_at_height(rows: &[Row], y: i32) -> (Option<&Row>, &[Row])
+    requires { AreRowsFrom y (edge_rows rows.now) }
+    ensures { IsSplitAtHeight (edge_rows rows.now) y (row_found result.0) (edge_rows result.1.now) }
+{
+    match rows.split_first() {
+        Some((row, rest)) if row.y == y => (Some(row), rest),
+        _ => (None, rows),
+    }
+}
+
+/// Adds the sum of what two lists have in row y to a list of rows, unless it is blank.
+fn push_sum(
+    alloc: Global,
+    sum: &mut Vec<Row>,
+    y: i32,
+    left: Option<&Row>,
+    right: Option<&Row>,
+) -> Result<(), AddFault>
+    requires left { IsRowAt y (row_found left) }
+    requires right { IsRowAt y (row_found right) }
+    ensures pushed { OnOk result (HasRowSum (edge_rows sum.old.items) y (row_found left.entry) (row_found right.entry) (edge_rows sum.new.items)) }
+    ensures too_large { IfErr result (λ fault. fault ≢ AddFault.OutOfMemory → IsUnlawfulInRow (weight_in_all (row_found left.entry) (row_found right.entry)) y) }
+{
+    match (left, right) {
+        (None, _) => Ok(push_shared(sum, right)?),
+        (_, None) => Ok(push_shared(sum, left)?),
+        (Some(left), Some(right)) => push_sum_of_both(alloc, sum, y, left, right),
+    }
+}
+
+/// Adds a row, where there is one, to a list of rows, which shares it.
+fn push_shared(rows: &mut Vec<Row>, row: Option<&Row>) -> Result<(), OutOfMemory>
+    ensures { OnOk result (edge_rows rows.new.items ≡ edge_rows rows.old.items ++ row_found row.entry) }
+{
+    if let Some(row) = row {
+        rows.push(row.share()?)?;
+    }
+    Ok(())
+}
+
+/// Adds the sum of two rows y to a list of rows, unless it is blank.
+fn push_sum_of_both(
+    alloc: Global,
+    sum: &mut Vec<Row>,
+    y: i32,
+    left: &Row,
+    right: &Row,
+) -> Result<(), AddFault>
+    requires left { IsRowAt y (edge_row left.now ∷ []) }
+    requires right { IsRowAt y (edge_row right.now ∷ []) }
+    ensures pushed { OnOk result (HasRowSum (edge_rows sum.old.items) y (edge_row left.now ∷ []) (edge_row right.now ∷ []) (edge_rows sum.new.items)) }
+    ensures too_large { IfErr result (λ fault. fault ≢ AddFault.OutOfMemory → IsUnlawfulInRow (weight_in_all (edge_row left.now ∷ []) (edge_row right.now ∷ [])) y) }
+{
+    let edges = sum_of_edges(alloc, left.edges(), right.edges())?;
+    if edges.is_empty() {
+        return Ok(());
+    }
+    Ok(sum.push(Row::new(alloc, y, edges)?)?)
+}

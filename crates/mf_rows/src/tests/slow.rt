@@ -1,0 +1,178 @@
+//! The slow form of a picture: the list of its pixels. Its answers are worked out pixel by pixel, and tests
+//! compare those of pictures with them.
+
+use crate::bounds::Box4;
+use crate::builder::RowBuilder;
+use crate::picture::Picture;
+use crate::run::Run;
+use mf_geom::OutOfMemory;
+use std::alloc::Global;
+use std::process::Abort;
+
+/// No run is longer than a row of the field.
+const ROW_LEN: u32 = 8190;
+
+/// How far from a pixel the weights of others are compared.
+const NEAR: [i32; 5] = [-2, -1, 0, 1, 2];
+
+/// A pixel of nonzero weight.
+#[derive(Clone, Copy, Debug)]
+struct Pixel {
+    y: i32,
+    x: i32,
+    weight: i32,
+}
+
+/// The pixels of a picture, rows from the top and columns rising.
+#[derive(Debug, Drop)]
+pub(crate) struct SlowPicture {
+    pixels: Vec<Pixel>,
+}
+
+impl SlowPicture {
+    /// The picture with no pixel.
+    pub(crate) fn blank(alloc: Global) -> SlowPicture {
+        SlowPicture {
+            pixels: Vec::new(alloc),
+        }
+    }
+
+    /// Adds the pixel (x, y), which stands behind the others, unless its weight is 0.
+    pub(crate) fn push_pixel(&mut self, x: i32, y: i32, weight: i32) -> Result<(), OutOfMemory> {
+        if weight != 0 {
+            self.pixels.push(Pixel { y, x, weight })?;
+        }
+        Ok(())
+    }
+
+    /// Adds the pixels of a run, which stand behind the others.
+    pub(crate) fn push_run(&mut self, run: &Run) -> Result<(), OutOfMemory> {
+        for column in 0..run.len.min(ROW_LEN) {
+            self.push_pixel(run.x.wrapping_add(column as i32), run.y, run.weight)?;
+        }
+        Ok(())
+    }
+
+    /// The weight of the pixel (x, y).
+    pub(crate) fn weight(&self, x: i32, y: i32) -> i32 {
+        for pixel in &self.pixels {
+            if pixel.x == x && pixel.y == y {
+                return pixel.weight;
+            }
+        }
+        0
+    }
+
+    /// The sum of all weights.
+    pub(crate) fn total(&self) -> i64 {
+        let mut sum = 0i64;
+        for pixel in &self.pixels {
+            sum = sum.wrapping_add(i64::from(pixel.weight));
+        }
+        sum
+    }
+
+    /// The least box of the pixels.
+    pub(crate) fn bounds(&self) -> Option<Box4> {
+        let first = self.pixels.first()?;
+        let mut bounds = Box4 {
+            min_x: first.x,
+            max_x: first.x,
+            min_y: first.y,
+            max_y: first.y,
+        };
+        for pixel in &self.pixels {
+            bounds.min_x = bounds.min_x.min(pixel.x);
+            bounds.max_x = bounds.max_x.max(pixel.x);
+            bounds.min_y = bounds.min_y.min(pixel.y);
+            bounds.max_y = bounds.max_y.max(pixel.y);
+        }
+        Some(bounds)
+    }
+
+    /// The maximal runs: each begins at a pixel whose left neighbour has another weight.
+    pub(crate) fn runs(&self, alloc: Global) -> Result<Vec<Run>, OutOfMemory> {
+        let mut runs = Vec::new(alloc);
+        for pixel in &self.pixels {
+            if self.weight(pixel.x.wrapping_sub(1), pixel.y) != pixel.weight {
+                runs.push(self.run_from(pixel))?;
+            }
+        }
+        Ok(runs)
+    }
+
+    /// The run from a pixel to the right, up to the first pixel of another weight.
+    fn run_from(&self, first: &Pixel) -> Run {
+        let mut len = 0;
+        for column in 0..ROW_LEN {
+            if self.weight(first.x.wrapping_add(column as i32), first.y) != first.weight {
+                break;
+            }
+            len = column + 1;
+        }
+        Run {
+            y: first.y,
+            x: first.x,
+            len,
+            weight: first.weight,
+        }
+    }
+
+    /// Asserts that a picture answers all calls as this one does.
+    pub(crate) fn assert_answers_of(
+        &self,
+        rt: &impl Abort,
+        alloc: Global,
+        case: usize,
+        picture: &Picture,
+    ) -> Result<(), OutOfMemory> {
+        self.assert_weights_of(rt, case, picture);
+        assert_eq!(rt; picture.total(), self.total(), "total in case {case}");
+        assert_eq!(rt; picture.bounds(), self.bounds(), "bounds in case {case}");
+        let expected = self.runs(alloc)?;
+        let runs: Vec<Run> = picture.runs().collect(alloc)?;
+        assert_eq!(rt; runs.as_slice(), expected.as_slice(), "runs in case {case}");
+        for (k, run) in expected.iter().enumerate() {
+            assert_eq!(rt; picture.run(k), Some(*run), "run {k} in case {case}");
+        }
+        assert_eq!(rt;
+            picture.run(expected.len()),
+            None,
+            "last run in case {case}"
+        );
+        Ok(())
+    }
+
+    /// Asserts that a picture has the weights of this one, at its pixels and at those near them.
+    fn assert_weights_of(&self, rt: &impl Abort, case: usize, picture: &Picture) {
+        for pixel in &self.pixels {
+            for up in NEAR {
+                for right in NEAR {
+                    let (x, y) = (pixel.x.wrapping_add(right), pixel.y.wrapping_add(up));
+                    let weight = self.weight(x, y);
+                    assert_eq!(rt;
+                        picture.weight(x, y),
+                        weight,
+                        "weight at ({x}, {y}) in case {case}"
+                    );
+                }
+            }
+        }
+    }
+}
+
+/// The picture of those of these runs that fit, and its slow form.
+pub(crate) fn both_forms(
+    alloc: Global,
+    runs: &[Run],
+) -> Result<(Picture, SlowPicture), OutOfMemory> {
+    let mut builder = RowBuilder::new(alloc);
+    let mut slow = SlowPicture::blank(alloc);
+    for run in runs {
+        if builder.fits(run) {
+            builder.push_run(*run)?;
+            slow.push_run(run)?;
+        }
+    }
+    Ok((builder.finish()?, slow))
+}
