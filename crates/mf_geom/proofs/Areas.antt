@@ -1,5 +1,6 @@
 -- The area of a rectilinear cycle is the sum of its winding numbers over the field.
 use Rattle.std.proofs.Common.{◌≡◌, ℕ, zero, suc, ◌-◌, ◌<◌, ◌≤◌, ℤ, pos, negsuc, ◌+ℤ◌, ◌-ℤ◌, ◌*ℤ◌, ◌≤ℤ◌, nat_abs, int_div, List, length, sym, ◌∙◌, ap, inl, inr, arith}
+use Rattle.std.specs.Int.{int_signum}
 use Rattle.std.proofs.lemmas.Int.{ints}
 use Rattle.std.proofs.lemmas.Bool.{cases_lt}
 use Rattle.mf_geom.specs.declared.point.Point.{Point}
@@ -9,10 +10,11 @@ use Rattle.mf_geom.specs.Field.{sum_over_field}
 use Rattle.mf_geom.specs.Lawful.{IsRectilinearCycle}
 use Rattle.mf_geom.specs.Path.{Edge, point_at, next_place, edge_at, across, up, IsInReach, IsRectilinear}
 use Rattle.mf_geom.specs.Sum.{sum_below}
-use Rattle.mf_geom.specs.Winding.{winding}
+use Rattle.mf_geom.specs.Turning.{turning}
+use Rattle.mf_geom.specs.Winding.{winding, contour}
 use Rattle.mf_geom.proofs.Crossings.{passed-reached, passed-beyond, winding-crossings}
 use Rattle.mf_geom.proofs.Products.{mul-sub, mul-self, sub-mul, int_div-mul}
-use Rattle.mf_geom.proofs.Sums.{next_place-below, sum_below-same, sum_below-sub, sum_below-mul_and_differences, sum_over_field-product, sum_over_field-sum}
+use Rattle.mf_geom.proofs.Sums.{next_place-below, sum_below-same, sum_below-sub, sum_below-mul_and_differences, sum_over_field-mul, sum_over_field-product, sum_over_field-sum}
 
 -- of the n numbers from a on, n - k have passed the one that is k further
 sum_below-passed_after : (n k : ℕ) (a : ℤ) → sum_below n (λ i. passed (a +ℤ pos i) (a +ℤ pos k)) ≡ pos (n - k)
@@ -90,7 +92,7 @@ area-strips ps cycle =
 pub shoelace-area : (ps : List Point) → IsRectilinearCycle ps → sum_below (length ps) (shoelace_at ps) ≡ pos 2 *ℤ area ps
 shoelace-area ps cycle = shoelace-strips ps cycle ∙ ap (λ n. pos 2 *ℤ n) (sym (area-strips ps cycle))
 
-pub sum_over_field-winding : (ps : List Point) → IsRectilinearCycle ps → sum_over_field (winding ps) ≡ area ps
+sum_over_field-winding : (ps : List Point) → IsRectilinearCycle ps → sum_over_field (winding ps) ≡ area ps
 unfolding crossing_at edge_at
 sum_over_field-winding ps cycle =
     let in_reach = cycle.reach.in_reach in
@@ -99,3 +101,10 @@ sum_over_field-winding ps cycle =
     ∙ sum_below-same (length ps) (λ i. sum_over_field (λ x y. crossing_at ps x y i)) (λ i. strip (edge_at ps i))
     (λ i below. sum_over_field-crossing (edge_at ps i) (in_reach i below) (in_reach (next_place ps i) (next_place-below ps i below)))
     ∙ sym (area-strips ps cycle)
+
+-- the weight comes out of the sum of the winding numbers, which is the area
+pub sum_over_field-contour : (ps : List Point) (w : ℤ) → IsRectilinearCycle ps → sum_over_field (contour ps w) ≡ (w *ℤ int_signum (turning ps)) *ℤ area ps
+unfolding contour
+sum_over_field-contour ps w cycle =
+    let weight = w *ℤ int_signum (turning ps) in
+    sum_over_field-mul weight (winding ps) ∙ ap (λ s. weight *ℤ s) (sum_over_field-winding ps cycle)

@@ -1,8 +1,10 @@
 //! Cycles: closed rectilinear paths that can be filled.
 ghost use Rattle.std.specs.Prelude.{◌≡◌, ◌↔◌, ◌<◌, pos, negsuc, ◌≤ℤ◌, length, IsOk, IfOk, IfErr};
 
+use crate::memory::OutOfMemory;
 use crate::point::Point;
 use crate::{edge, path, winding};
+use std::alloc::Global;
 use std::error::Error;
 use std::fmt;
 use std::marker::Model;
@@ -88,6 +90,16 @@ impl Cycle {
         }
     }
 
+    /// A cycle through the same points. Refusal OutOfMemory (14).
+    pub fn copy(&self, alloc: Global) -> Result<Cycle, OutOfMemory>
+        ensures value { IfOk result (λ copy. copy ≡ self.now) }
+        ensures lawful { IsCycle self.now }
+    {
+        let mut points = Vec::new(alloc);
+        points.extend_from_slice(&self.points)?;
+        Ok(Cycle { points })
+    }
+
     /// The points, in the order in which they were given.
     pub fn points(&self) -> &[Point]
         ensures points { result.now ≡ self.now }
@@ -96,7 +108,8 @@ impl Cycle {
         &self.points
     }
 
-    /// The ends of the edge that leaves vertex `place`: the last one leads back to the first point.
+    /// The ends of the edge that leaves vertex `place`, which is below the number of points: the last one leads
+    /// back to the first point.
     pub fn edge(&self, place: usize) -> (Point, Point)
         requires { place < length self.now }
         ensures from { result.0 ≡ (edge_at self.now place).from }

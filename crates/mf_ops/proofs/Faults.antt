@@ -2,6 +2,8 @@
 use Rattle.std.proofs.Common.{◌≡◌, ◌≢◌, Bool, true, false, cond, None, Some, ℤ, pos, ◌+ℤ◌, List, [], ◌∷◌, refl, sym, ◌∙◌, subst, arith}
 use Rattle.std.proofs.lemmas.Int.{ints}
 use Rattle.std.proofs.lemmas.Bool.{cond_both, or_from, true_from_ne_false, or_parts, both_ways}
+use Rattle.std.proofs.lemmas.List.Elements.{All-contains}
+use Rattle.std.proofs.lemmas.List.Folds.{Any-from_list_any}
 use Rattle.std.specs.List.{list_any}
 use Rattle.mf_geom.specs.Field.{IsInField}
 use Rattle.mf_rows.specs.declared.fault.AddFault.{AddFault}
@@ -9,7 +11,7 @@ use Rattle.mf_rows.specs.declared.fault.AddFault.TheVariants as add
 use Rattle.mf_rows.specs.Dots.{Dot, IsLawfulWeight, AreDotsFrom, IsPicture, weight_at, place}
 use Rattle.mf_rows.specs.Sums.{HasWeights, IsUnlawfulSomewhere}
 use Rattle.mf_rows.specs.Weights.{picture_of}
-use Rattle.mf_rows.proofs.WeightsLemmas.{weight_at-picture_of, picture_of-from_weights}
+use Rattle.mf_rows.proofs.WeightsLemmas.{IsDotOf, weight_at-picture_of, picture_of-from_weights, picture_of-dots}
 use Rattle.mf_ops.specs.Faults.{op_fault}
 use Rattle.mf_ops.specs.Weights.{is_too_large, IsTooLargeSomewhere}
 use Rattle.mf_ops.specs.Step.{step_at, stepped, fault_of}
@@ -88,3 +90,19 @@ not_too_large-accepted ds op none x y in_field =
     let lawful = none_where_lawful _ none in
     let weight = weight_at-picture_of (step_at ds op) x y in_field in
     rw weight at (weight_at-not_too_large (picture_of (step_at ds op)) x y lawful)
+
+some_where_refused : (b : Bool) → cond b (Some WeightTooLarge) None ≡ Some WeightTooLarge → b ≡ true
+some_where_refused true some = refl
+some_where_refused false some = cc
+
+-- a dot that is too heavy is a pixel of the field
+found_too_large : (f : ℤ → ℤ → ℤ) → list_any (λ d. is_too_large d.weight) (picture_of f) ≡ true → IsTooLargeSomewhere f
+found_too_large f some =
+    let found = Any-from_list_any (λ d. is_too_large d.weight) (picture_of f) some in
+    let d = found.1 in
+    let dot = All-contains (IsDotOf f) (picture_of f) d (picture_of-dots f) (found.0, found.2, found.3) in
+    record { x = d.x; y = d.y; in_field = dot.in_field; too_large = rw dot.weight at found.4 }
+
+pub too_large-refused : (ds : List Dot) (op : Op) → fault_of ds op ≡ Some WeightTooLarge → IsTooLargeSomewhere (step_at ds op)
+unfolding fault_of stepped
+too_large-refused ds op refused = found_too_large (step_at ds op) (some_where_refused _ refused)

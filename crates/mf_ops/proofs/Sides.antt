@@ -1,10 +1,7 @@
 -- The sides of a contour add its weight times the winding number.
-use Rattle.std.proofs.Common.{◌≡◌, ◌≢◌, ◌&&◌, Bool, not, cond, int_le, int_lt, ℕ, ◌+◌, ◌*◌, ◌<◌, ◌≤◌, ℤ, pos, negsuc, neg_ℤ, ◌+ℤ◌, ◌-ℤ◌, ◌*ℤ◌, ◌≤ℤ◌, List, [], ◌∷◌, ◌++◌, length, All, sym, ap, ◌∙◌, inl, inr, arith, length-append, add-one}
-use Rattle.std.proofs.lemmas.Bool.{cond_both, cond-true, cond-false, false_from_ne_true}
-use Rattle.std.proofs.lemmas.Bool.Decides.{Decides-int_eq}
+use Rattle.std.proofs.Common.{◌≡◌, ◌≢◌, ◌&&◌, Bool, not, cond, int_le, int_lt, ℕ, ◌+◌, ◌*◌, ◌<◌, ◌≤◌, ℤ, pos, negsuc, neg_ℤ, ◌+ℤ◌, ◌-ℤ◌, ◌*ℤ◌, ◌≤ℤ◌, List, [], ◌∷◌, ◌++◌, length, All, refl, sym, ap, ◌∙◌, inl, inr, arith, length-append, add-one}
 use Rattle.std.proofs.lemmas.Int.{ints}
 use Rattle.std.specs.Int.{int_signum}
-use Rattle.std.specs.Ordering.{int_eq}
 use Rattle.std.proofs.lemmas.List.Elements.{All-nil, All-cons, All-append}
 use Rattle.mf_geom.specs.declared.point.Point.{Point}
 use Rattle.mf_geom.specs.Crossing.{passed, crossing, crossing_at}
@@ -19,7 +16,7 @@ use Rattle.mf_geom.proofs.Sums.{next_place-below}
 use Rattle.mf_rows.specs.declared.corner.Corner.{Corner}
 use Rattle.mf_rows.specs.Corners.{IsCorner, AreCorners, added_by, added_by_all, with_corners_at}
 use Rattle.mf_rows.specs.Dots.{Dot, weight_at}
-use Rattle.mf_ops.specs.Sides.{corners_along, AddWinding}
+use Rattle.mf_ops.specs.Sides.{HasSide, AddWinding}
 use Rattle.mf_ops.specs.Step.{step_at}
 use Rattle.mf_ops.specs.declared.op.Op.TheVariants.{Contour}
 
@@ -29,14 +26,6 @@ pub record AreSides (ps : List Point) (w : ℤ) (n : ℕ) (ks : List Corner) : T
   pub corners : All IsCorner ks
   pub added : (x y : ℤ) → added_by_all ks x y ≡ w *ℤ sum_below n (crossing_at ps x y)
 
-pub corners_along-upright : (w : ℤ) (e : Edge) → e.from.x ≡ e.to.x → corners_along w e ≡ record { x = e.from.x; y = e.from.y; weight = w } ∷ record { x = e.to.x; y = e.to.y; weight = neg_ℤ w } ∷ []
-unfolding corners_along
-corners_along-upright w e upright = cond-true _ _ _ ((Decides-int_eq e.from.x e.to.x).1 upright)
-
-pub corners_along-level : (w : ℤ) (e : Edge) → e.from.x ≢ e.to.x → corners_along w e ≡ []
-unfolding corners_along
-corners_along-level w e level = cond-false _ _ _ (false_from_ne_true _ (λ same. level ((Decides-int_eq e.from.x e.to.x).0 same)))
-
 added_by_all-append : (ks ls : List Corner) (x y : ℤ) → added_by_all (ks ++ ls) x y ≡ added_by_all ks x y +ℤ added_by_all ls x y
 unfolding added_by_all
 added_by_all-append [] ls x y = omega (arith, ints)
@@ -45,43 +34,48 @@ added_by_all-append (k ∷ ks) ls x y = let rest = added_by_all-append ks ls x y
 int_le-not_lt : (a x : ℤ) → int_le a x ≡ not (int_lt x a)
 int_le-not_lt a x = grind (arith, ints)
 
--- the same over truth values: whether the column lies beyond, and whether the pixel lies under each end
+-- what the ends of a vertical edge add, over truth values: whether the pixel lies left of the edge, and under each end
 ends-crossing : (beyond under under' : Bool) (w : ℤ) → cond (not beyond && under) w (pos 0) +ℤ cond (not beyond && under') (neg_ℤ w) (pos 0) ≡ w *ℤ (cond beyond (pos 0) (pos 1) *ℤ (cond under' (pos 0) (pos 1) -ℤ cond under (pos 0) (pos 1)))
 ends-crossing beyond under under' w = grind (arith, ints)
 
--- the two corners of an upright edge add the weight times its crossing
-added_by-ends : (w x y : ℤ) (e : Edge) → e.to.x ≡ e.from.x → added_by (record { x = e.from.x; y = e.from.y; weight = w }) x y +ℤ added_by (record { x = e.to.x; y = e.to.y; weight = neg_ℤ w }) x y ≡ w *ℤ crossing x y e
-unfolding crossing passed added_by
-added_by-ends w x y e upright =
-    rw (upright, int_le-not_lt) (ends-crossing (int_lt x e.from.x) (int_lt y e.from.y) (int_lt y e.to.y) w)
+-- the ends of an edge as corners, the second with the negated weight
+abbrev pub ends_of : ℤ → Edge → List Corner
+ends_of w e = record { x = e.from.x; y = e.from.y; weight = w } ∷ record { x = e.to.x; y = e.to.y; weight = neg_ℤ w } ∷ []
 
--- what the corners of an edge add
-added_by_all-corners_along : (w x y : ℤ) (e : Edge) → IsRectilinear e → added_by_all (corners_along w e) x y ≡ w *ℤ crossing x y e
-unfolding added_by_all crossing IsRectilinear across up
-added_by_all-corners_along w x y e (inl level) =
-    let same_height : e.to.y ≡ e.from.y = let rise = level.1 in omega (arith, ints) in
-    let none = corners_along-level w e (λ same. level.0 (omega (arith, ints))) in
-    rw (none, same_height, mul-self (passed x e.from.x) (passed y e.from.y)) (omega (arith, ints))
-added_by_all-corners_along w x y e (inr upright) =
-    let same_column : e.to.x ≡ e.from.x = let run = upright.0 in omega (arith, ints) in
-    let both = corners_along-upright w e (sym same_column) in
-    let ends = added_by-ends w x y e same_column in
-    rw both (omega (arith, ints))
+-- those of a vertical edge add the weight times its crossing
+added_by_all-ends : (w x y : ℤ) (e : Edge) → e.to.x ≡ e.from.x → added_by_all (ends_of w e) x y ≡ w *ℤ crossing x y e
+unfolding crossing passed added_by_all added_by
+added_by_all-ends w x y e vertical =
+    let ends = ends-crossing (int_lt x e.from.x) (int_lt y e.from.y) (int_lt y e.to.y) w in
+    rw (vertical, int_le-not_lt) (omega (arith, ints, ends))
 
-corners_along-few : (w : ℤ) (e : Edge) → length (corners_along w e) ≤ 2
-unfolding corners_along
-corners_along-few w e = cond_both (int_eq e.from.x e.to.x) (record { x = e.from.x; y = e.from.y; weight = w } ∷ record { x = e.to.x; y = e.to.y; weight = neg_ℤ w } ∷ []) [] (λ ks. length ks ≤ 2) (λ upright. omega arith) (λ level. omega arith)
+crossing-horizontal : (x y : ℤ) (e : Edge) → e.to.y ≡ e.from.y → crossing x y e ≡ pos 0
+unfolding crossing
+crossing-horizontal x y e horizontal = rw (horizontal, mul-self (passed x e.from.x) (passed y e.from.y)) refl
 
-corners_along-lawful : (w : ℤ) (e : Edge) → negsuc 2 ≤ℤ w → w ≤ℤ pos 3 → IsInReach e.from → IsInReach e.to → All IsCorner (corners_along w e)
-unfolding corners_along
-corners_along-lawful w e least greatest from to =
+lawful_ends : (w : ℤ) (e : Edge) → negsuc 2 ≤ℤ w → w ≤ℤ pos 3 → IsInReach e.from → IsInReach e.to → All IsCorner (ends_of w e)
+lawful_ends w e least greatest from to =
     let first : Corner = record { x = e.from.x; y = e.from.y; weight = w } in
     let second : Corner = record { x = e.to.x; y = e.to.y; weight = neg_ℤ w } in
-    let second_lawful : IsCorner second = record { left = to.left; right = to.right; bottom = to.bottom; top = to.top; least = omega (arith, ints); greatest = omega (arith, ints) } in
     let first_lawful : IsCorner first = record { left = from.left; right = from.right; bottom = from.bottom; top = from.top; least = least; greatest = greatest } in
-    cond_both (int_eq e.from.x e.to.x) (first ∷ second ∷ []) [] (All IsCorner)
-    (λ upright. All-cons IsCorner first (second ∷ []) first_lawful (All-cons IsCorner second [] second_lawful (All-nil IsCorner)))
-    (λ level. All-nil IsCorner)
+    let second_lawful : IsCorner second = record { left = to.left; right = to.right; bottom = to.bottom; top = to.top; least = omega (arith, ints); greatest = omega (arith, ints) } in
+    All-cons IsCorner first (second ∷ []) first_lawful (All-cons IsCorner second [] second_lawful (All-nil IsCorner))
+
+-- so a vertical edge is a side by its ends
+pub HasSide-vertical : (w : ℤ) (e : Edge) (ks : List Corner) → negsuc 2 ≤ℤ w → w ≤ℤ pos 3 → IsInReach e.from → IsInReach e.to → e.to.x ≡ e.from.x → All IsCorner ks → HasSide w e ks (ks ++ ends_of w e)
+HasSide-vertical w e ks least greatest from to vertical corners = record {
+  few = let two = length-append ks (ends_of w e) in omega (arith, two);
+  corners = All-append IsCorner ks (ends_of w e) corners (lawful_ends w e least greatest from to);
+  added = λ x y. added_by_all-append ks (ends_of w e) x y ∙ (λ t. added_by_all ks x y +ℤ added_by_all-ends w x y e vertical t);
+}
+
+-- and a horizontal one needs no corners
+pub HasSide-horizontal : (w : ℤ) (e : Edge) (ks : List Corner) → IsRectilinear e → e.to.x ≢ e.from.x → All IsCorner ks → HasSide w e ks ks
+unfolding IsRectilinear across up
+HasSide-horizontal w e ks (inl horizontal) apart corners =
+    let same_height : e.to.y ≡ e.from.y = let rise = horizontal.1 in omega (arith, ints) in
+    record { few = omega arith; corners = corners; added = λ x y. rw (crossing-horizontal x y e same_height) (omega (arith, ints)) }
+HasSide-horizontal w e ks (inr vertical) apart corners = absurd (apart (let run = vertical.0 in omega (arith, ints)))
 
 -- the ends of an edge are in reach
 pub IsInReach-ends : (ps : List Point) (n : ℕ) → IsRectilinearCycle ps → n < length ps → IsInReach (edge_at ps n).from × IsInReach (edge_at ps n).to
@@ -92,23 +86,15 @@ pub AreSides-none : (ps : List Point) (w : ℤ) → AreSides ps w 0 []
 unfolding added_by_all sum_below
 AreSides-none ps w = record { few = omega arith; corners = All-nil IsCorner; added = λ x y. omega (arith, ints) }
 
-pub AreSides-more : (ps : List Point) (w : ℤ) (n : ℕ) (ks : List Corner) → IsRectilinearCycle ps → n < length ps → negsuc 2 ≤ℤ w → w ≤ℤ pos 3 → AreSides ps w n ks → AreSides ps w (n + 1) (ks ++ corners_along w (edge_at ps n))
+pub AreSides-more : (ps : List Point) (w : ℤ) (n : ℕ) (ks ls : List Corner) → AreSides ps w n ks → HasSide w (edge_at ps n) ks ls → AreSides ps w (n + 1) ls
 unfolding sum_below crossing_at
-AreSides-more ps w n ks cycle below least greatest sides =
-    let e = edge_at ps n in
-    let more = corners_along w e in
-    let ends = IsInReach-ends ps n cycle below in
-    let lawful = corners_along-lawful w e least greatest ends.0 ends.1 in
-    let count = length-append ks more in
-    let at_most_two = corners_along-few w e in
-    record {
-      few = omega (arith, sides.few);
-      corners = All-append IsCorner ks more sides.corners lawful;
-      added = λ x y.
-          let here = added_by_all-corners_along w x y e (cycle.rectilinear n below) in
-          let so_far = sides.added x y in
-          rw add-one (added_by_all-append ks more x y ∙ (λ t. so_far t +ℤ here t) ∙ sym (mul-add w (sum_below n (crossing_at ps x y)) (crossing x y e)));
-    }
+AreSides-more ps w n ks ls sides side = record {
+  few = omega (arith, sides.few, side.few);
+  corners = side.corners;
+  added = λ x y.
+      let e = edge_at ps n in
+      rw add-one (side.added x y ∙ (λ t. sides.added x y t +ℤ w *ℤ crossing x y e) ∙ sym (mul-add w (sum_below n (crossing_at ps x y)) (crossing x y e)));
+}
 
 -- the sides of the whole cycle add nothing right of the field
 pub AreCorners-sides : (ps : List Point) (w : ℤ) (ks : List Corner) → IsRectilinearCycle ps → AreSides ps w (length ps) ks → AreCorners ks

@@ -1,10 +1,10 @@
-//! Filling a contour: the upright edges of its cycle become corners, which are added to the picture.
-ghost use Rattle.std.specs.Prelude.{◌≡◌, ◌≢◌, ◌++◌, None, Some, IfOk, IfErr, OnOk, pos, negsuc, ◌*ℤ◌, ◌≤ℤ◌};
+//! Filling a contour: the vertical edges of its cycle become corners, which are added to the picture.
+ghost use Rattle.std.specs.Prelude.{◌≡◌, ◌≢◌, None, Some, IfOk, IfErr, OnOk, pos, negsuc, ◌*ℤ◌, ◌≤ℤ◌, All};
 ghost use Rattle.std.specs.Int.{int_signum};
-ghost use Rattle.mf_geom.specs.Path.{IsInReach};
+ghost use Rattle.mf_geom.specs.Path.{IsInReach, IsRectilinear};
 ghost use Rattle.mf_geom.specs.Turning.{turning};
-ghost use Rattle.mf_rows.specs.Corners.{AreCorners};
-ghost use Rattle.mf_ops.specs.Sides.{corners_along, AddWinding};
+ghost use Rattle.mf_rows.specs.Corners.{IsCorner, AreCorners};
+ghost use Rattle.mf_ops.specs.Sides.{HasSide, AddWinding};
 ghost use Rattle.mf_ops.specs.Step.{stepped, fault_of};
 ghost use Rattle.mf_ops.specs.declared.op.Op.TheVariants.{Contour};
 
@@ -54,18 +54,20 @@ fn corners_of(alloc: Global, cycle: &Cycle, weight: i32) -> Result<Vec<Corner>, 
     Ok(corners)
 }
 
-/// Appends the corners of an edge: two where it is upright, and none where it is level.
+/// Appends the corners of an edge: two where it is vertical, and none where it is horizontal.
 fn push_side(
     corners: &mut Vec<Corner>,
     from: Point,
     to: Point,
     weight: i32,
 ) -> Result<(), OutOfMemory>
+    requires corners { All IsCorner corners.old.items }
+    requires edge { IsRectilinear (record { from = from; to = to }) }
     requires from { IsInReach from }
     requires to { IsInReach to }
     requires least { negsuc 2 ≤ℤ weight }
     requires greatest { weight ≤ℤ pos 3 }
-    ensures ok { OnOk result (corners.new.items ≡ corners.old.items ++ corners_along weight (record { from = from; to = to })) }
+    ensures { OnOk result (HasSide weight (record { from = from; to = to }) corners.old.items corners.new.items) }
 {
     if from.x == to.x {
         corners.push(Corner {

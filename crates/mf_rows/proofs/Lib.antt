@@ -6,6 +6,8 @@ pub mod DotsLemmas
 mod EdgeRuns
 mod EdgeSums
 pub mod EdgesLemmas
+mod EqualRuns
+pub mod FieldTotals
 mod LongestRuns
 mod MaximalRuns
 mod PassedRuns

@@ -47,7 +47,7 @@ weight_size (negsuc n) lawful = omega (arith, ints, lawful.least)
 pub run_total_fits : (r : Run) → IsRun r → FitsSigned w64 (pos r.len *ℤ r.weight)
 run_total_fits r run = fits_signed_mul w64 (pos r.len) r.weight 8190 32767 (omega (arith, ints, run.left, run.right)) (weight_size r.weight run.lawful) (omega arith)
 
-total_of-append : (ds es : List Dot) → total_of (ds ++ es) ≡ total_of ds +ℤ total_of es
+pub total_of-append : (ds es : List Dot) → total_of (ds ++ es) ≡ total_of ds +ℤ total_of es
 unfolding total_of
 total_of-append [] es = omega (arith, ints)
 total_of-append (d ∷ ds) es = omega (arith, ints, total_of-append ds es)

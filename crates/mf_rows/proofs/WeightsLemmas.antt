@@ -5,7 +5,7 @@ use Rattle.std.specs.Ordering.{int_eq}
 use Rattle.std.proofs.lemmas.Bool.{cond_both}
 use Rattle.std.proofs.lemmas.Bool.Decides.{Decides-int_eq, not_from_Decides}
 use Rattle.std.proofs.lemmas.Int.{ints, by_lt_z}
-use Rattle.std.proofs.lemmas.List.Elements.{All-head, All-tail}
+use Rattle.std.proofs.lemmas.List.Elements.{All-nil, All-cons, All-append, All-head, All-tail}
 use Rattle.mf_geom.specs.Field.{IsInField}
 use Rattle.mf_rows.specs.Dots.{Dot, IsDot, IsLawfulWeight, IsPicture, AreDotsFrom, place, start_of_field, weight_at}
 use Rattle.mf_rows.specs.Weights.{row_of, rows_of, picture_of, HaveSameWeights}
@@ -154,3 +154,33 @@ pub picture_of-from_weights : (ds : List Dot) (f : ℤ → ℤ → ℤ) → IsPi
 picture_of-from_weights ds f picture weights =
     let lawful : (x y : ℤ) → IsInField x y → IsLawfulWeight (f x y) = λ x y inside. subst IsLawfulWeight (weights x y inside) (lawful_weight_at ds x y (dots_from-lawful start_of_field ds picture.dots)) in
     same_pictures ds (picture_of f) picture (lawful_picture_of f lawful) (record { same = λ x y inside. weights x y inside ∙ sym (weight_at-picture_of f x y inside) })
+
+-- ---- each dot of the picture of given weights is a pixel of the field with its weight
+
+pub record IsDotOf (f : ℤ → ℤ → ℤ) (d : Dot) : Type 0 where
+  pub in_field : IsInField d.x d.y
+  pub weight : d.weight ≡ f d.x d.y
+
+row_of-dots : (f : ℤ → ℤ → ℤ) (y x : ℤ) (n : ℕ) → AreColumns x y n → All (IsDotOf f) (row_of f y x n)
+unfolding row_of
+row_of-dots f y x zero columns = All-nil (IsDotOf f)
+row_of-dots f y x (suc n) columns =
+    let first : Dot = record { y = y; x = x; weight = f x y } in
+    let first_is : IsDotOf f first = record { in_field = first_column x y n columns; weight = refl } in
+    let others = row_of f y (x +ℤ pos 1) n in
+    let others_are = row_of-dots f y (x +ℤ pos 1) n (next_columns x y n columns) in
+    cond_both (int_eq (f x y) (pos 0)) others (first ∷ others) (All (IsDotOf f))
+    (λ blank. others_are)
+    (λ dotted. All-cons (IsDotOf f) first others first_is others_are)
+
+rows_of-dots : (f : ℤ → ℤ → ℤ) (y : ℤ) (n : ℕ) → (negsuc 4095 +ℤ pos n) ≤ℤ y → y ≤ℤ pos 4094 → All (IsDotOf f) (rows_of f y n)
+unfolding rows_of
+rows_of-dots f y zero bottom top = All-nil (IsDotOf f)
+rows_of-dots f y (suc n) bottom top =
+    All-append (IsDotOf f) (row_of f y (negsuc 4094) 8190) (rows_of f (y -ℤ pos 1) n)
+    (row_of-dots f y (negsuc 4094) 8190 (record { left = omega (arith, ints); right = omega (arith, ints); bottom = omega (arith, ints); top = top }))
+    (rows_of-dots f (y -ℤ pos 1) n (omega (arith, ints)) (omega (arith, ints)))
+
+pub picture_of-dots : (f : ℤ → ℤ → ℤ) → All (IsDotOf f) (picture_of f)
+unfolding picture_of
+picture_of-dots f = rows_of-dots f (pos 4094) 8190 (omega (arith, ints)) (omega (arith, ints))

@@ -24,12 +24,12 @@ edge_rows rows = map edge_row rows
 abbrev pub rows_in : Band → List EdgeRow
 rows_in band = edge_rows band.rows.items
 
--- the height of the first of some rows
+-- the height of the first of some rows, 0 where there are none
 abbrev pub first_height : List EdgeRow → ℤ
 first_height [] = pos 0
 first_height (r ∷ rs) = r.y
 
--- the height of the last of them
+-- the height of the last of them, 0 where there are none
 abbrev pub last_height : List EdgeRow → ℤ
 last_height [] = pos 0
 last_height (r ∷ []) = r.y
@@ -47,7 +47,7 @@ bottom_of band = last_height (rows_in band)
 abbrev pub rows_of_bands : List (Arc Band Global) → List EdgeRow
 rows_of_bands bands = flat_map (λ band. rows_in (arc_value band)) bands
 
--- the edges of row y
+-- these are lawful edges, which have the weights of row y
 pub record HasRow (rs : List EdgeRow) (y : ℤ) (es : List Edge) : Type 0 where
   pub edges : AreEdges es
   pub weights : (x : ℤ) → weight_in_rows rs x y ≡ weight_in es x

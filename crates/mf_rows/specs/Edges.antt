@@ -17,7 +17,7 @@ pub record IsEdge (e : Edge) : Type 0 where
   pub right : e.x ≤ℤ pos 4095
   pub nonzero : e.weight ≢ pos 0
 
--- edges sorted by column, at most one a column, the first of them at or right of column low
+-- lawful edges sorted by column, at most one a column, the first of them at or right of column low
 abbrev pub AreEdgesFrom : ℤ → List Edge → Type 0
 AreEdgesFrom low [] = Unit {0}
 AreEdgesFrom low (e ∷ es) = IsEdge e × (low ≤ℤ e.x) × AreEdgesFrom (e.x +ℤ pos 1) es

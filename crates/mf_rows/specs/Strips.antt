@@ -14,7 +14,7 @@ pub record ReachDownTo (bottom : ℤ) (rs : List EdgeRow) : Type 0 where
   pub rows : AreRowsFrom (pos 4094) rs
   pub reach : All (λ r. bottom ≤ℤ r.y) rs
 
--- new rows are old ones, and from height `bottom` to height `top` those with these edges
+-- new rows are old ones, and from row `bottom` up to the row below height `top` those with these edges
 pub record HasStrip (old : List EdgeRow) (es : List Edge) (bottom top : ℤ) (new : List EdgeRow) : Type 0 where
   pub rows : ReachDownTo bottom new
   pub strip : (x y : ℤ) → bottom ≤ℤ y → y <ℤ top → weight_in_rows new x y ≡ weight_in es x

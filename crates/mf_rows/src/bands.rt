@@ -12,7 +12,8 @@ use std::alloc::Global;
 use std::mem::replace;
 use std::sync::Arc;
 
-/// Rows of the field in a band.
+/// Rows of the field in a band: as many as make copying a band and copying the list of bands cost about the
+/// same in a tall picture.
 const BAND_HEIGHT: i32 = 64;
 
 /// The row y, where it is not blank.
@@ -24,7 +25,7 @@ pub(crate) fn find_row(bands: &[Arc<Band>], y: i32) -> Option<&Row>
     find_row_in(&find_band(bands, y)?.rows, y)
 }
 
-/// The band in which row y stands, where it is not blank.
+/// The only band in which row y may stand.
 fn find_band(bands: &[Arc<Band>], y: i32) -> Option<&Band>
     requires { AreRows (rows_of_bands bands.now) }
     ensures found { IfSome result (λ band. HasSameRow (rows_of_bands bands.now) y (rows_in band.now)) }
@@ -159,7 +160,7 @@ pub(crate) fn band_top(y: i32) -> i32
     y + place_in_band(y)
 }
 
-/// The lowest row of this band.
+/// The row at the lower end of a band of 64 rows that begins there.
 pub(crate) fn band_bottom(y: i32) -> i32
     requires bottom { negsuc 4094 ≤ℤ y }
     requires top { y ≤ℤ pos 4094 }

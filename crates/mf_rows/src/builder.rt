@@ -67,7 +67,7 @@ impl RowBuilder {
         run.is_lawful() && end_before(rows, run)
     }
 
-    /// Adds a run that fits. Want of memory leaves the builder as it was.
+    /// Adds a run that fits. Refusal OutOfMemory (14) leaves the builder as it was.
     pub fn push_run(&mut self, run: Run) -> Result<(), OutOfMemory>
         requires { Fits self.old run }
         ensures ok { OnOk result (self.new ≡ self.old ++ dots_of run) }
@@ -80,7 +80,7 @@ impl RowBuilder {
         Ok(())
     }
 
-    /// The picture of exactly the pushed runs.
+    /// The picture of exactly the pushed runs. Refusal OutOfMemory (14), with which the builder is gone.
     pub fn finish(self) -> Result<Picture, OutOfMemory>
         ensures value { IfOk result (λ picture. picture ≡ self) }
         ensures lawful { IfOk result IsPicture }

@@ -13,10 +13,11 @@ use mf_geom::OutOfMemory;
 use std::alloc::Global;
 use std::cmp::Reverse;
 
-/// A corner adds its weight to every pixel at or right of column `x` and below height `y`. An upright
+/// A corner adds its weight to every pixel at or right of column `x` and below height `y`. A vertical
 /// side, from whose column on the weights of its rows change, is a corner at its upper end and one of the
-/// negated weight at its lower end (mf.web inserts the edges of a side row by row). Coordinates are points
-/// of the plane in pixels, -4095..4095, and weights -3..3, where corners are added to a picture.
+/// negated weight at its lower end (mf.web inserts the edges of a side row by row). `x` and `y` are a point
+/// of the plane, in pixels; where corners are added to a picture they are in -4095..4095, and weights in
+/// -3..3.
 #[derive(Clone, Copy, Debug, PartialEq, Eq)]
 pub struct Corner {
     pub x: i32,
@@ -24,7 +25,7 @@ pub struct Corner {
     pub weight: i32,
 }
 
-/// The rows that have the weights of these corners.
+/// The rows in which each pixel of the field has what these corners add to it.
 pub(crate) fn rows_of_corners(alloc: Global, corners: Vec<Corner>) -> Result<Vec<Row>, OutOfMemory>
     requires { AreCorners corners.items }
     ensures rows { IfOk result (λ rows. AreRows (edge_rows rows.items)) }

@@ -10,8 +10,8 @@ use crate::field::is_lawful_weight;
 use mf_geom::OutOfMemory;
 use std::alloc::Global;
 
-/// The edges of two rows together. It is WeightTooLarge where a weight between them would pass 32767 in
-/// size.
+/// The edges of two rows together. Refused with WeightTooLarge where a weight between them would pass 32767
+/// in size.
 pub(crate) fn sum_of_edges(
     alloc: Global,
     left: &[Edge],
@@ -38,6 +38,8 @@ pub(crate) fn sum_of_edges(
         push_unless_zero(&mut sum, Edge { x, weight: more })?;
         (left, right) = (rest_left, rest_right);
     }
+    // Edges that cancelled leave room that nobody would use again.
+    sum.shrink_to_fit();
     Ok(sum)
 }
 

@@ -2,13 +2,13 @@
 ghost use Rattle.std.specs.Prelude.{◌↔◌, IsTrue};
 ghost use Rattle.mf_rows.specs.Dots.{IsLawfulWeight};
 
-/// The first column and the lowest row of the field.
+/// The first column and the lowest row of the field (mf.web bounds coordinates by 4095).
 pub(crate) const FIELD_START: i32 = -4095;
 
 /// The column behind the last and the row above the highest of the field.
 pub(crate) const FIELD_END: i32 = 4095;
 
-/// Greatest size of the weight of a pixel.
+/// Greatest size of the weight of a pixel, a limit of this project.
 pub const MAX_WEIGHT: i32 = 32767;
 
 /// Whether a pixel may have this weight.

@@ -1,7 +1,7 @@
 //! Laws of the definitions: each is the contract of a function that does nothing.
 ghost use Rattle.std.specs.Prelude.{◌≡◌, ◌≢◌, ℤ, pos, All, Contains, List, flat_map};
-ghost use Rattle.mf_geom.specs.Field.{IsInField};
-ghost use Rattle.mf_rows.specs.Dots.{Dot, IsLawfulWeight, IsPicture, weight_at};
+ghost use Rattle.mf_geom.specs.Field.{IsInField, sum_over_field};
+ghost use Rattle.mf_rows.specs.Dots.{Dot, IsLawfulWeight, IsPicture, total_of, weight_at};
 ghost use Rattle.mf_rows.specs.Edges.{EdgeRow, AreRows, weight_in, weight_in_rows, picture_of_rows};
 ghost use Rattle.mf_rows.specs.Runs.{dots_of, runs_of, AreMaximal, IsMaximalRun};
 ghost use Rattle.mf_rows.specs.Weights.{picture_of, HaveSameWeights};
@@ -28,13 +28,18 @@ pub fn same_weights_make_same_pictures()
     ensures { (ds es : List Dot) → IsPicture ds → IsPicture es → HaveSameWeights ds es → ds ≡ es }
 {}
 
-/// The edges of a row tell the weights of its pixels (mf.web, "edge structures": an edge at column x says by
-/// how much the weight of column x differs from that of the column before it). Rows of edges stand for a
-/// picture, in which each pixel has the sum of the edges of its row at or left of its column, and pixels of
-/// other rows have weight 0.
+/// Rows of edges (mf.web, "edge structures") stand for a picture, in which each pixel has the sum of the edges
+/// of its row at or left of its column, and pixels of other rows have weight 0.
 pub fn weight_is_the_sum_of_edges()
     ensures lawful { (rs : List EdgeRow) → AreRows rs → IsPicture (picture_of_rows rs) }
     ensures edges { (rs : List EdgeRow) (x y : ℤ) → AreRows rs → weight_at (picture_of_rows rs) x y ≡ weight_in_rows rs x y }
     ensures row { (rs : List EdgeRow) (r : EdgeRow) (x : ℤ) → AreRows rs → Contains rs r → weight_at (picture_of_rows rs) x r.y ≡ weight_in r.edges x }
     ensures other_rows { (rs : List EdgeRow) (x y : ℤ) → AreRows rs → All (λ r. r.y ≢ y) rs → weight_at (picture_of_rows rs) x y ≡ pos 0 }
+{}
+
+/// The total weight of a picture is the sum of its weights over all pixels of the field, as each pixel of
+/// weight 0 adds nothing.
+pub fn total_is_the_sum_over_the_field()
+    ensures weights { (f : ℤ → ℤ → ℤ) → total_of (picture_of f) ≡ sum_over_field f }
+    ensures picture { (ds : List Dot) → IsPicture ds → total_of ds ≡ sum_over_field (weight_at ds) }
 {}

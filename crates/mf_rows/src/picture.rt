@@ -1,5 +1,5 @@
 //! Pictures.
-ghost use Rattle.std.specs.Prelude.{◌≡◌, ◌≢◌, [], ◌++◌, IsNone, IfSome, IfOk, IfErr, slice_get, ◌↔◌};
+ghost use Rattle.std.specs.Prelude.{◌≡◌, ◌≢◌, [], ◌++◌, IsNone, IfSome, IfOk, IfErr, IsTrue, slice_get, ◌↔◌};
 ghost use Rattle.mf_rows.specs.Bands.{edge_rows};
 ghost use Rattle.mf_rows.specs.Edges.{AreRows};
 ghost use Rattle.mf_rows.specs.Parts.{AreBetween};
@@ -55,6 +55,7 @@ impl Picture {
     ghost use Rattle.mf_rows.specs.Runs.{runs_of};
     ghost use Rattle.mf_rows.specs.Sums.{HasWeights, IsUnlawfulSomewhere, with_rows_at};
     ghost use Rattle.mf_rows.specs.Walk.{runs_left};
+    ghost use Rattle.mf_rows.specs.Weights.{HaveSameWeights};
 
     /// The blank picture, METAFONT's `nullpicture`: every weight is 0.
     pub fn blank(alloc: Global) -> Picture
@@ -73,6 +74,15 @@ impl Picture {
         let mut bands = Vec::new(alloc);
         push_shared(&mut bands, &self.bands)?;
         Ok(Picture { bands })
+    }
+
+    /// Whether both pictures have the same weight at every pixel.
+    pub fn equal(&self, other: &Picture) -> bool
+        ensures answer { IsTrue result ↔ (self.now ≡ other.now) }
+        ensures weights { IsTrue result ↔ HaveSameWeights self.now other.now }
+        ensures lawful { IsPicture self.now }
+    {
+        self.runs().eq(other.runs())
     }
 
     /// The weight of the pixel (x, y), 0 outside the field.
@@ -128,8 +138,8 @@ impl Picture {
         self.runs().nth(k)
     }
 
-    /// The picture with corners added to it; the given one is unchanged. It shares the bands of rows that
-    /// the corners do not reach. There are at most 8192 corners, with coordinates in -4095..4095 and weights
+    /// The picture with corners added to it; the given one is unchanged. It shares the bands wholly above
+    /// and wholly below the rows that the corners reach. There are at most 8192 corners, with coordinates in -4095..4095 and weights
     /// in -3..3, and together they add nothing right of the field. Refusals WeightTooLarge (12), where a
     /// weight would pass 32767 in size, and OutOfMemory (14).
     pub fn with_corners(&self, alloc: Global, corners: Vec<Corner>) -> Result<Picture, AddFault>
@@ -155,7 +165,7 @@ impl Picture {
         }
     }
 
-    /// The picture with rows from height `low` to height `high` added to it.
+    /// The picture with rows added to it that are row `low`, row `high` or between them.
     fn with_rows_between(
         &self,
         alloc: Global,
@@ -174,8 +184,8 @@ impl Picture {
         Ok(Picture::from_parts(alloc, above, sum, below)?)
     }
 
-    /// The bands wholly above height `high`, the bands from there down to height `low`, and the bands wholly
-    /// below that.
+    /// The bands wholly above row `high`, the bands from there down to row `low`, and the bands wholly below
+    /// that.
     fn parts(&self, low: i32, high: i32) -> (&[Arc<Band>], &[Arc<Band>], &[Arc<Band>])
         ensures { AreParts self.now (rows_of_bands result.0.now) (rows_of_bands result.1.now) (rows_of_bands result.2.now) low high }
     {
@@ -223,3 +233,6 @@ fn heights_of(rows: &[Row]) -> Option<(i32, i32)>
     let lowest = rows.last()?;
     Some((band_bottom(lowest.y), band_top(highest.y)))
 }
+
+#[cfg(test)]
+mod tests;

@@ -1,6 +1,5 @@
 //! Rows of edges, which pictures share.
 ghost use Rattle.std.specs.Prelude.{◌≡◌, IfOk};
-ghost use Rattle.std.specs.Arc.{arc_value};
 ghost use Rattle.mf_rows.specs.Bands.{edge_row};
 
 use crate::edge::Edge;

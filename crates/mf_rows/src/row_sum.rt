@@ -11,8 +11,8 @@ use crate::row::Row;
 use mf_geom::OutOfMemory;
 use std::alloc::Global;
 
-/// The rows of two lists together; rows that only one of them has are shared. It is WeightTooLarge where
-/// a weight would pass 32767 in size.
+/// The rows of two lists together; rows that only one of them has are shared. Refused with WeightTooLarge
+/// where a weight would pass 32767 in size.
 pub(crate) fn sum_of_rows(alloc: Global, left: &[Row], right: &[Row]) -> Result<Vec<Row>, AddFault>
     requires left { AreRows (edge_rows left.now) }
     requires right { AreRows (edge_rows right.now) }

@@ -1,7 +1,8 @@
 //! Tests with values worked out by hand, and below them tests against a slow form of pictures.
 
 mod chance;
-mod corners;
+pub(crate) mod corners;
+mod equal;
 mod generated;
 mod slow;
 

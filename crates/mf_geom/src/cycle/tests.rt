@@ -220,3 +220,29 @@ fn gives_its_edges(rt: HostRuntime) -> Result<(), Fail> {
     }
     Ok(())
 }
+
+#[test]
+fn copies_cycles(rt: HostRuntime) -> Result<(), Fail> {
+    let cycles: [(Corners, usize); 4] = [
+        (&[(0, 0), (3, 0), (3, 2), (0, 2)], 1),
+        (&[(0, 0), (0, 2), (2, 2), (2, 0)], 3),
+        (PIXEL, 1024),
+        (REACH, 1),
+    ];
+    for (corners, times) in cycles {
+        match Cycle::new(walk(rt.alloc(), corners, times)?) {
+            Ok(cycle) => {
+                let copy = cycle.copy(rt.alloc())?;
+                assert!(rt; copy.points() == cycle.points(), "the points of {copy:?}");
+                assert_eq!(rt;
+                    copy.turning(),
+                    cycle.turning(),
+                    "the turning number of {copy:?}"
+                );
+                assert_eq!(rt; copy.area(), cycle.area(), "the area of {copy:?}");
+            }
+            Err((fault, back)) => assert!(rt; false, "{back:?} is refused: {fault:?}"),
+        }
+    }
+    Ok(())
+}

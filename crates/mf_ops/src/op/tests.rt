@@ -282,7 +282,7 @@ fn contours_cancel(rt: HostRuntime) -> Result<(), Fail> {
 }
 
 #[test]
-fn fills_rows_4031_and_4030(rt: HostRuntime) -> Result<(), Fail> {
+fn fills_across_a_border_of_bands(rt: HostRuntime) -> Result<(), Fail> {
     let across: &[(i32, i32)] = &[(-1, 4029), (1, 4029), (1, 4033), (-1, 4033)];
     let picture = filled(&rt, rt.alloc(), &[(across, 1)])?;
     assert_runs(

@@ -3,8 +3,8 @@ ghost use Rattle.std.specs.Prelude.{IfOk, OnOk, ◌≡◌, pos, negsuc, ◌≤�
 ghost use Rattle.mf_rows.specs.Corners.{AreCorners};
 
 use super::chance::Chance;
-use super::make_run;
 use super::slow::{SlowPicture, both_forms};
+use super::{block, make_run, picture_of};
 use crate::bounds::Box4;
 use crate::corner::Corner;
 use crate::fault::AddFault;
@@ -29,7 +29,7 @@ const LISTS: u32 = 40;
 
 /// A rectangle of pixels of one weight: columns `left` to before `right`, rows `bottom` to before `top`.
 #[derive(Clone, Copy, Debug)]
-struct Rectangle {
+pub(crate) struct Rectangle {
     left: i32,
     bottom: i32,
     right: i32,
@@ -37,7 +37,13 @@ struct Rectangle {
     weight: i32,
 }
 
-fn make_rectangle(left: i32, bottom: i32, right: i32, top: i32, weight: i32) -> Rectangle {
+pub(crate) fn make_rectangle(
+    left: i32,
+    bottom: i32,
+    right: i32,
+    top: i32,
+    weight: i32,
+) -> Rectangle {
     Rectangle {
         left,
         bottom,
@@ -71,7 +77,7 @@ impl Rectangle {
 }
 
 /// The corners of rectangles.
-fn corners_of(
+pub(crate) fn corners_of(
     rt: &impl Abort,
     alloc: Global,
     rectangles: &[Rectangle],
@@ -386,6 +392,27 @@ fn cancel_to_the_blank_picture(rt: HostRuntime) -> Result<(), Fail> {
 }
 
 #[test]
+fn give_equal_pictures_back_where_they_are_taken_away(rt: HostRuntime) -> Result<(), Fail> {
+    let blank = Picture::blank(rt.alloc());
+    let low = make_rectangle(0, 0, 3, 2, 1);
+    let high = make_rectangle(-2, 3960, 7, 4040, 2);
+    let first = with_all(&rt, rt.alloc(), &blank, &[low])?;
+    assert!(rt;
+        first.equal(&picture_of(&rt, rt.alloc(), &block())?),
+        "corners and runs"
+    );
+    let both = with_all(&rt, rt.alloc(), &first, &[high])?;
+    assert!(rt; !both.equal(&first), "with a second rectangle");
+    let again = with_all(&rt, rt.alloc(), &both, &[negated(high)])?;
+    assert!(rt; again.equal(&first), "without it again");
+    assert!(rt; !again.equal(&blank), "the first and none");
+    let none = with_all(&rt, rt.alloc(), &again, &[negated(low)])?;
+    assert!(rt; none.equal(&blank), "none again");
+    assert!(rt; blank.equal(&none), "none and none again");
+    Ok(())
+}
+
+#[test]
 fn change_the_rows_that_they_reach(rt: HostRuntime) -> Result<(), Fail> {
     let (pole, flag) = (
         make_rectangle(-5, -4095, 5, 4095, 1),
@@ -423,7 +450,7 @@ fn change_the_rows_that_they_reach(rt: HostRuntime) -> Result<(), Fail> {
 #[test]
 fn stop_at_the_greatest_weight(rt: HostRuntime) -> Result<(), Fail> {
     let runs = [make_run(4031, 0, 4, 32766), make_run(4030, 0, 4, -32766)];
-    let (picture, slow) = both_forms(rt.alloc(), &runs)?;
+    let (picture, slow) = both_forms(&rt, rt.alloc(), &runs)?;
     for (y, weight, expected) in [
         (4031, 1, Ok(32767)),
         (4030, -1, Ok(-32767)),
@@ -445,7 +472,11 @@ fn stop_at_the_greatest_weight(rt: HostRuntime) -> Result<(), Fail> {
 
 #[test]
 fn add_nothing_where_there_are_none(rt: HostRuntime) -> Result<(), Fail> {
-    let (picture, slow) = both_forms(rt.alloc(), &[make_run(5, 0, 4, 7), make_run(-70, 2, 1, -7)])?;
+    let (picture, slow) = both_forms(
+        &rt,
+        rt.alloc(),
+        &[make_run(5, 0, 4, 7), make_run(-70, 2, 1, -7)],
+    )?;
     slow.assert_answers_of(
         &rt,
         rt.alloc(),

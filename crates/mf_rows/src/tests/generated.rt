@@ -50,7 +50,7 @@ fn answer_as_their_slow_forms(rt: HostRuntime) -> Result<(), Fail> {
     for start in STARTS {
         for seed in 0..PICTURES {
             let runs = runs_by_chance(rt.alloc(), seed, start)?;
-            let (picture, slow) = both_forms(rt.alloc(), &runs)?;
+            let (picture, slow) = both_forms(&rt, rt.alloc(), &runs)?;
             assert!(rt; slow.bounds().is_some(), "runs of case {seed}");
             slow.assert_answers_of(&rt, rt.alloc(), seed as usize, &picture)?;
         }
@@ -62,7 +62,7 @@ fn answer_as_their_slow_forms(rt: HostRuntime) -> Result<(), Fail> {
 fn copies_answer_as_their_originals(rt: HostRuntime) -> Result<(), Fail> {
     for seed in 0..PICTURES {
         let runs = runs_by_chance(rt.alloc(), seed, -9)?;
-        let (picture, slow) = both_forms(rt.alloc(), &runs)?;
+        let (picture, slow) = both_forms(&rt, rt.alloc(), &runs)?;
         let copy = picture.copy(rt.alloc())?;
         slow.assert_answers_of(&rt, rt.alloc(), seed as usize, &copy)?;
         drop(picture);
@@ -92,7 +92,7 @@ fn single_pixels_answer_as_their_slow_forms(rt: HostRuntime) -> Result<(), Fail>
                     len: 1,
                     weight,
                 }];
-                let (picture, slow) = both_forms(rt.alloc(), &runs)?;
+                let (picture, slow) = both_forms(&rt, rt.alloc(), &runs)?;
                 assert_eq!(rt; picture.weight(x, y), weight, "weight at ({x}, {y})");
                 assert_eq!(rt; picture.run(0), Some(runs[0]), "run at ({x}, {y})");
                 slow.assert_answers_of(&rt, rt.alloc(), 0, &picture)?;

@@ -15,8 +15,12 @@ const ROW_LEN: u32 = 8190;
 /// How far from a pixel the weights of others are compared.
 const NEAR: [i32; 5] = [-2, -1, 0, 1, 2];
 
+/// Pixels whose weights are compared in every picture: in the middle of the field, at two of its corners, and
+/// outside.
+const FIXED: [(i32, i32); 5] = [(0, 0), (-4095, 4094), (4094, -4095), (4095, 0), (0, -4096)];
+
 /// A pixel of nonzero weight.
-#[derive(Clone, Copy, Debug)]
+#[derive(Clone, Copy, Debug, PartialEq, Eq)]
 struct Pixel {
     y: i32,
     x: i32,
@@ -51,6 +55,11 @@ impl SlowPicture {
             self.push_pixel(run.x.wrapping_add(column as i32), run.y, run.weight)?;
         }
         Ok(())
+    }
+
+    /// Whether both have the same pixels.
+    pub(crate) fn has_pixels_of(&self, other: &SlowPicture) -> bool {
+        self.pixels.as_slice() == other.pixels.as_slice()
     }
 
     /// The weight of the pixel (x, y).
@@ -127,6 +136,7 @@ impl SlowPicture {
         picture: &Picture,
     ) -> Result<(), OutOfMemory> {
         self.assert_weights_of(rt, case, picture);
+        self.assert_equality_of(rt, alloc, case, picture)?;
         assert_eq!(rt; picture.total(), self.total(), "total in case {case}");
         assert_eq!(rt; picture.bounds(), self.bounds(), "bounds in case {case}");
         let expected = self.runs(alloc)?;
@@ -143,8 +153,35 @@ impl SlowPicture {
         Ok(())
     }
 
-    /// Asserts that a picture has the weights of this one, at its pixels and at those near them.
+    /// Asserts that a picture is equal to that of the pixels, and not to that of all but the last of them.
+    fn assert_equality_of(
+        &self,
+        rt: &impl Abort,
+        alloc: Global,
+        case: usize,
+        picture: &Picture,
+    ) -> Result<(), OutOfMemory> {
+        let same = picture_of_pixels(alloc, &self.pixels)?;
+        assert!(rt; picture.equal(&same), "equality in case {case}");
+        assert!(rt; same.equal(picture), "equality in case {case}");
+        if let Some((_, others)) = self.pixels.split_last() {
+            let other = picture_of_pixels(alloc, others)?;
+            assert!(rt; !picture.equal(&other), "difference in case {case}");
+            assert!(rt; !other.equal(picture), "difference in case {case}");
+        }
+        Ok(())
+    }
+
+    /// Asserts that a picture has the weights of this one, at its pixels, at those near them and at some others.
     fn assert_weights_of(&self, rt: &impl Abort, case: usize, picture: &Picture) {
+        for (x, y) in FIXED {
+            let weight = self.weight(x, y);
+            assert_eq!(rt;
+                picture.weight(x, y),
+                weight,
+                "weight at ({x}, {y}) in case {case}"
+            );
+        }
         for pixel in &self.pixels {
             for up in NEAR {
                 for right in NEAR {
@@ -161,14 +198,35 @@ impl SlowPicture {
     }
 }
 
-/// The picture of those of these runs that fit, and its slow form.
+/// The picture of pixels, each of which is pushed as a run of its own.
+fn picture_of_pixels(alloc: Global, pixels: &[Pixel]) -> Result<Picture, OutOfMemory> {
+    let mut builder = RowBuilder::new(alloc);
+    for pixel in pixels {
+        let run = Run {
+            y: pixel.y,
+            x: pixel.x,
+            len: 1,
+            weight: pixel.weight,
+        };
+        if builder.fits(&run) {
+            builder.push_run(run)?;
+        }
+    }
+    builder.finish()
+}
+
+/// The picture of those of these runs that lie in the field, which all come one after another, and its slow
+/// form.
 pub(crate) fn both_forms(
+    rt: &impl Abort,
     alloc: Global,
     runs: &[Run],
 ) -> Result<(Picture, SlowPicture), OutOfMemory> {
     let mut builder = RowBuilder::new(alloc);
     let mut slow = SlowPicture::blank(alloc);
     for run in runs {
+        let in_field = i64::from(run.x) + i64::from(run.len) <= 4095;
+        assert_eq!(rt; builder.fits(run), in_field, "{run:?}");
         if builder.fits(run) {
             builder.push_run(*run)?;
             slow.push_run(run)?;

@@ -1,7 +1,7 @@
-use Rattle.std.proofs.Common.{◌≡◌, ◌++◌, ◌<◌, length, ap, arith, to_z, of_z, w32}
+use Rattle.std.proofs.Common.{◌≡◌, ◌<◌, length, ap, arith, to_z, of_z, w32}
 use Rattle.std.proofs.lemmas.Int.{ints}
 use Rattle.mf_geom.specs.Path.{edge_at}
-use Rattle.mf_ops.specs.Sides.{corners_along}
+use Rattle.mf_ops.specs.Sides.{HasSide}
 use Rattle.mf_ops.proofs.Sides.{AreSides, AreSides-none, AreSides-more, IsInReach-ends, AreCorners-sides, AddWinding-sides}
 use Rattle.mf_ops.proofs.fill.corners_of.Goals as goal
 
@@ -10,21 +10,29 @@ loop-place-init c = rw c.new-corners.ensures.items (AreSides-none _ _)
 
 pub push_side-requires : goal.push_side-requires
 push_side-requires c =
+    let ps = c.args.cycle.now in
+    let cycle = c.edge.ensures.lawful.onward.rectilinear in
+    let weight_is : to_z w32 (of_z w32 c.args.weight) ≡ c.args.weight = omega (arith, ints) in
     let count_is = ap length c.points-count.ensures.points in
-    let ends = IsInReach-ends c.args.cycle.now c.loop-place.place c.edge.ensures.lawful.onward.rectilinear (omega (arith, count_is)) in
-    record { from = rw c.edge.ensures.from ends.0; to = rw c.edge.ensures.to ends.1; least = omega (arith, ints); greatest = omega (arith, ints) }
+    let below : c.loop-place.place < length ps = omega (arith, count_is) in
+    let ends = IsInReach-ends ps c.loop-place.place cycle below in
+    rw (c.edge.ensures.from, c.edge.ensures.to) record {
+      corners = c.loop-place.invariant.corners;
+      edge = cycle.rectilinear c.loop-place.place below;
+      from = ends.0;
+      to = ends.1;
+      least = omega (arith, ints);
+      greatest = omega (arith, ints);
+    }
 
 pub loop-place-preserved : goal.loop-place-preserved
 loop-place-preserved c =
     let ps = c.args.cycle.now in
-    let corners = c.loop-place.corners.items in
     let weight_is : to_z w32 (of_z w32 c.args.weight) ≡ c.args.weight = omega (arith, ints) in
-    let count_is = ap length c.points-count.ensures.points in
-    let below : c.loop-place.place < length ps = omega (arith, count_is) in
-    let pushed : c.push_side.new.corners.items ≡ corners ++ corners_along c.args.weight (edge_at ps c.loop-place.place) =
-    rw (weight_is, c.edge.ensures.from, c.edge.ensures.to) at c.in_ok-push_side.ensures.ok in
-    let so_far : AreSides ps c.args.weight c.loop-place.place corners = rw weight_is at c.loop-place.invariant in
-    rw (weight_is, pushed) (AreSides-more ps c.args.weight c.loop-place.place corners c.edge.ensures.lawful.onward.rectilinear below c.requires.least c.requires.greatest so_far)
+    let side : HasSide c.args.weight (edge_at ps c.loop-place.place) c.loop-place.corners.items c.push_side.new.corners.items =
+    rw (weight_is, c.edge.ensures.from, c.edge.ensures.to) at c.in_ok-push_side.ensures in
+    let so_far : AreSides ps c.args.weight c.loop-place.place c.loop-place.corners.items = rw weight_is at c.loop-place.invariant in
+    rw weight_is (AreSides-more ps c.args.weight c.loop-place.place _ _ so_far side)
 
 pub returns : goal.returns
 returns c =

@@ -49,8 +49,8 @@ loop-x-preserved c =
 pub returns-clause-edges : goal.returns-clause-edges
 returns-clause-edges c =
     let all = rw (c.in_default.ensures.none_left refl, c.in_default.ensures.none_right refl) at c.loop-x.invariant in
-    sum_all c.args.left.now c.args.right.now c.loop-x.sum.items _ c.requires.left c.requires.right all
+    rw c.shrink_to_fit.ensures.items (sum_all c.args.left.now c.args.right.now c.loop-x.sum.items _ c.requires.left c.requires.right all)
 
 pub returns-clause-weights : goal.returns-clause-weights
 returns-clause-weights c =
-    sum_all_weights c.args.left.now c.args.right.now c.loop-x.sum.items _ (rw (c.in_default.ensures.none_left refl, c.in_default.ensures.none_right refl) at c.loop-x.invariant)
+    rw c.shrink_to_fit.ensures.items (sum_all_weights c.args.left.now c.args.right.now c.loop-x.sum.items _ (rw (c.in_default.ensures.none_left refl, c.in_default.ensures.none_right refl) at c.loop-x.invariant))

@@ -1,0 +1,56 @@
+-- The total weight of a picture is the sum of its weights over the field.
+use Rattle.std.proofs.Common.{◌≡◌, ℕ, zero, suc, ℤ, pos, negsuc, ◌+ℤ◌, ◌-ℤ◌, List, ◌∷◌, refl, sym, ap, ◌∙◌, arith}
+use Rattle.std.specs.Ordering.{int_eq}
+use Rattle.std.proofs.lemmas.Bool.{cond_both}
+use Rattle.std.proofs.lemmas.Bool.Decides.{Decides-int_eq}
+use Rattle.std.proofs.lemmas.Int.{ints}
+use Rattle.mf_geom.specs.Field.{sum_over_field}
+use Rattle.mf_geom.specs.Sum.{sum_below}
+use Rattle.mf_rows.specs.Dots.{Dot, IsPicture, weight_at, total_of}
+use Rattle.mf_rows.specs.Weights.{row_of, rows_of, picture_of}
+use Rattle.mf_rows.proofs.Totals.{total_of-append}
+use Rattle.mf_rows.proofs.WeightsLemmas.{picture_of-from_weights}
+
+-- the first term may stand alone in front
+sum_below-first : (n : ℕ) (g : ℕ → ℤ) → g 0 +ℤ sum_below n (λ i. g (suc i)) ≡ sum_below (suc n) g
+unfolding sum_below
+sum_below-first zero g = omega (arith, ints)
+sum_below-first (suc n) g = let before = sum_below-first n g in omega (arith, ints)
+
+-- a pixel of weight 0 has no dot and adds nothing
+total_of-row : (f : ℤ → ℤ → ℤ) (y x : ℤ) (n : ℕ) → total_of (row_of f y x n) ≡ sum_below n (λ i. f (x +ℤ pos i) y)
+unfolding row_of total_of sum_below
+total_of-row f y x zero = refl
+total_of-row f y x (suc n) =
+    let first : Dot = record { y = y; x = x; weight = f x y } in
+    let others = row_of f y (x +ℤ pos 1) n in
+    let column : (i : ℕ) → (x +ℤ pos 1) +ℤ pos i ≡ x +ℤ pos (suc i) = λ i. omega (arith, ints) in
+    let start : x +ℤ pos 0 ≡ x = omega (arith, ints) in
+    let from_first = sum_below-first n (λ i. f (x +ℤ pos i) y) in
+    let behind : total_of others ≡ sum_below n (λ i. f (x +ℤ pos (suc i)) y) = total_of-row f y (x +ℤ pos 1) n ∙ (λ t. sum_below n (λ i. f (column i t) y)) in
+    let whole : f x y +ℤ total_of others ≡ sum_below (suc n) (λ i. f (x +ℤ pos i) y) = (λ t. f (sym start t) y +ℤ behind t) ∙ from_first in
+    cond_both (int_eq (f x y) (pos 0)) others (first ∷ others) (λ row. total_of row ≡ sum_below (suc n) (λ i. f (x +ℤ pos i) y))
+    (λ blank. let none = (Decides-int_eq (f x y) (pos 0)).0 blank in omega (arith, ints))
+    (λ dotted. whole)
+
+-- n rows down to the one above bottom, the top one first, add up from the lowest
+total_of-rows : (f : ℤ → ℤ → ℤ) (bottom : ℤ) (n : ℕ) → total_of (rows_of f (bottom +ℤ pos n) n) ≡ sum_below n (λ j. total_of (row_of f (bottom +ℤ pos (suc j)) (negsuc 4094) 8190))
+unfolding rows_of total_of sum_below
+total_of-rows f bottom zero = refl
+total_of-rows f bottom (suc n) =
+    let top = row_of f (bottom +ℤ pos (suc n)) (negsuc 4094) 8190 in
+    let next : (bottom +ℤ pos (suc n)) -ℤ pos 1 ≡ bottom +ℤ pos n = omega (arith, ints) in
+    let others : total_of (rows_of f ((bottom +ℤ pos (suc n)) -ℤ pos 1) n) ≡ sum_below n (λ j. total_of (row_of f (bottom +ℤ pos (suc j)) (negsuc 4094) 8190)) = (λ t. total_of (rows_of f (next t) n)) ∙ total_of-rows f bottom n in
+    total_of-append top (rows_of f ((bottom +ℤ pos (suc n)) -ℤ pos 1) n) ∙ omega (arith, ints, others)
+
+pub total_of-picture_of : (f : ℤ → ℤ → ℤ) → total_of (picture_of f) ≡ sum_over_field f
+unfolding picture_of sum_over_field
+total_of-picture_of f =
+    let height : (j : ℕ) → negsuc 4095 +ℤ pos (suc j) ≡ negsuc 4094 +ℤ pos j = λ j. omega (arith, ints) in
+    total_of-rows f (negsuc 4095) 8190
+    ∙ (λ t. sum_below 8190 (λ j. (total_of-row f (negsuc 4095 +ℤ pos (suc j)) (negsuc 4094) 8190 ∙ ap (λ y. sum_below 8190 (λ i. f (negsuc 4094 +ℤ pos i) y)) (height j)) t))
+
+-- a picture is that of its own weights
+pub total_of-picture : (ds : List Dot) → IsPicture ds → total_of ds ≡ sum_over_field (weight_at ds)
+total_of-picture ds picture =
+    ap total_of (picture_of-from_weights ds (weight_at ds) picture (λ x y inside. refl)) ∙ total_of-picture_of (weight_at ds)

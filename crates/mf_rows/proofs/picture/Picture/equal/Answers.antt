@@ -1,0 +1,11 @@
+use Rattle.mf_rows.specs.Walk.{runs_left}
+use Rattle.mf_rows.proofs.EqualRuns.{run_decides, eq_decides, same_from_runs, same_weights}
+use Rattle.mf_rows.proofs.picture.Picture.equal.Goals as goal
+
+pub returns-clause-answer : goal.returns-clause-answer
+returns-clause-answer c =
+    same_from_runs _ _ _ _ _ c.runs.ensures.runs c.runs-2.ensures.runs (eq_decides runs_left runs_left _ run_decides _ _ _ c.eq.ensures.ran)
+
+pub returns-clause-weights : goal.returns-clause-weights
+returns-clause-weights c =
+    same_weights _ _ _ c.runs.ensures.lawful c.runs-2.ensures.lawful (returns-clause-answer c)

@@ -1,0 +1,81 @@
+//! What pictures share.
+use super::*;
+use crate::builder::RowBuilder;
+use crate::tests::corners::{corners_of, make_rectangle};
+use std::process::Abort;
+use std::test::Fail;
+
+/// A picture with a run in each row of the field.
+fn tall(alloc: Global) -> Result<Picture, OutOfMemory> {
+    let mut builder = RowBuilder::new(alloc);
+    for y in (-4095..4095).rev() {
+        let run = Run {
+            y,
+            x: 0,
+            len: 3,
+            weight: 1,
+        };
+        if builder.fits(&run) {
+            builder.push_run(run)?;
+        }
+    }
+    builder.finish()
+}
+
+/// How many bands of a picture have so many owners.
+fn count_owned(picture: &Picture, owners: usize) -> usize {
+    let mut count = 0usize;
+    for band in &picture.bands {
+        if Arc::strong_count(band) == owners {
+            count = count.wrapping_add(1);
+        }
+    }
+    count
+}
+
+#[test]
+fn copies_share_all_bands(rt: HostRuntime) -> Result<(), Fail> {
+    let picture = tall(rt.alloc())?;
+    assert_eq!(rt; picture.bands.len(), 128, "8190 rows in bands of 64");
+    assert_eq!(rt; count_owned(&picture, 1), 128, "bands of one picture");
+    let copy = picture.copy(rt.alloc())?;
+    assert_eq!(rt; count_owned(&copy, 2), 128, "bands of two pictures");
+    Ok(())
+}
+
+#[test]
+fn changes_share_the_bands_that_they_do_not_reach(rt: HostRuntime) -> Result<(), Fail> {
+    let picture = tall(rt.alloc())?;
+    // The second band begins at y = 4030.
+    for (bottom, top, made) in [
+        (0, 1, 1),
+        (4030, 4031, 1),
+        (4030, 4032, 2),
+        (-4095, -4094, 1),
+    ] {
+        let rectangle = make_rectangle(1, bottom, 5, top, 2);
+        let corners = corners_of(&rt, rt.alloc(), &[rectangle])?;
+        let new = picture.with_corners(rt.alloc(), corners)?;
+        assert_eq!(rt;
+            new.bands.len(),
+            128,
+            "bands with rows {bottom} to {top} changed"
+        );
+        assert_eq!(rt;
+            count_owned(&new, 1),
+            made,
+            "bands made for rows {bottom} to {top}"
+        );
+        assert_eq!(rt;
+            count_owned(&new, 2),
+            128 - made,
+            "bands shared beside them"
+        );
+    }
+    assert_eq!(rt;
+        count_owned(&picture, 1),
+        128,
+        "bands when the new pictures are gone"
+    );
+    Ok(())
+}
