@@ -11,7 +11,7 @@ use Rattle.mf_rows.specs.declared.fault.AddFault.TheVariants as add
 use Rattle.mf_rows.specs.Dots.{Dot, IsLawfulWeight, AreDotsFrom, IsPicture, weight_at, place}
 use Rattle.mf_rows.specs.Sums.{HasWeights, IsUnlawfulSomewhere}
 use Rattle.mf_rows.specs.Weights.{picture_of}
-use Rattle.mf_rows.proofs.WeightsLemmas.{IsDotOf, weight_at-picture_of, picture_of-from_weights, picture_of-dots}
+use Rattle.mf_rows.proofs.WeightsLemmas.{IsDotOf, weight_at-picture_of, lawful_picture_of, picture_of-from_weights, picture_of-dots}
 use Rattle.mf_ops.specs.Faults.{op_fault}
 use Rattle.mf_ops.specs.Weights.{is_too_large, IsTooLargeSomewhere}
 use Rattle.mf_ops.specs.Step.{step_at, stepped, fault_of}
@@ -106,3 +106,8 @@ found_too_large f some =
 pub too_large-refused : (ds : List Dot) (op : Op) → fault_of ds op ≡ Some WeightTooLarge → IsTooLargeSomewhere (step_at ds op)
 unfolding fault_of stepped
 too_large-refused ds op refused = found_too_large (step_at ds op) (some_where_refused _ refused)
+
+-- a step that is not refused makes a picture
+pub IsPicture-stepped : (ds : List Dot) (op : Op) → fault_of ds op ≡ None → IsPicture (stepped ds op)
+unfolding stepped
+IsPicture-stepped ds op none = lawful_picture_of (step_at ds op) (λ x y in_field. IsLawfulWeight-from_false _ (not_too_large-accepted ds op none x y in_field))

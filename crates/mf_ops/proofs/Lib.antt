@@ -1,2 +1,4 @@
+mod Adding
 mod Faults
+mod Operations
 mod Sides

@@ -1,8 +1,12 @@
 //! Operations on pictures, and what they make of a picture.
 ghost use Rattle.std.specs.Prelude.{◌≡◌, ◌≢◌, None, Some, IfOk, IfErr, OnOk};
 ghost use Rattle.mf_ops.specs.Step.{stepped, fault_of};
+ghost use Rattle.mf_ops.specs.declared.op.Op.TheVariants as ops;
 
+use crate::add::add;
+use crate::cull::Cull;
 use crate::fill::fill;
+use crate::sign::Sign;
 use crate::weight::Weight;
 use mf_geom::{Cycle, OutOfMemory};
 use mf_rows::{AddFault, Picture};
@@ -14,6 +18,14 @@ pub enum Op {
     /// `addto p contour c withweight w`: adds to each pixel the weight times the winding number of the
     /// cycle round it, negated where the cycle turns clockwise (The METAFONTbook, chapter 13).
     Contour(Cycle, Weight),
+    /// `addto p also q` and `addto p also -q`: adds to each pixel its weight in another picture, or that
+    /// weight negated. The other picture may be a copy of the changed one.
+    Also(Picture, Sign),
+    /// `cull p keeping (a, b) withweight w` and `cull p dropping (a, b) withweight w`: gives each pixel the
+    /// weight or 0, by the range in which its weight lies.
+    Cull(Cull),
+    /// `p := nullpicture`: every weight becomes 0.
+    Clear,
 }
 
 /// Why an operation is refused.
@@ -50,8 +62,22 @@ impl From<AddFault> for OpFault {
     }
 }
 
-/// The picture after an operation; the given one is unchanged. Refusals WeightTooLarge (12) and
-/// OutOfMemory (14).
+impl Op {
+    /// The same operation again. Refusal OutOfMemory (14).
+    pub fn copy(&self, alloc: Global) -> Result<Op, OutOfMemory>
+        ensures { IfOk result (λ copy. copy ≡ self.now) }
+    {
+        match self {
+            Op::Contour(cycle, weight) => Ok(Op::Contour(cycle.copy(alloc)?, *weight)),
+            Op::Also(picture, sign) => Ok(Op::Also(picture.copy(alloc)?, *sign)),
+            Op::Cull(cull) => Ok(Op::Cull(*cull)),
+            Op::Clear => Ok(Op::Clear),
+        }
+    }
+}
+
+/// The picture after an operation; the given one is unchanged. Refusals WeightTooLarge (12), exactly where
+/// the weight of a pixel would pass 32767 in size, and OutOfMemory (14).
 pub fn after(alloc: Global, picture: &Picture, op: &Op) -> Result<Picture, OpFault>
     ensures step { IfOk result (λ new. new ≡ stepped picture.now op.now) }
     ensures accepted { OnOk result (fault_of picture.now op.now ≡ None) }
@@ -59,8 +85,25 @@ pub fn after(alloc: Global, picture: &Picture, op: &Op) -> Result<Picture, OpFau
 {
     match op {
         Op::Contour(cycle, weight) => fill(alloc, picture, cycle, *weight),
+        Op::Also(other, sign) => add(alloc, picture, other, *sign),
+        Op::Cull(cull) => after_cull(alloc, picture, *cull),
+        Op::Clear => Ok(after_clear(alloc, picture)),
     }
 }
 
-#[cfg(test)]
-mod tests;
+/// The picture after a cull.
+fn after_cull(alloc: Global, picture: &Picture, cull: Cull) -> Result<Picture, OpFault>
+    ensures step { IfOk result (λ new. new ≡ stepped picture.now (ops.Cull cull)) }
+    ensures accepted { OnOk result (fault_of picture.now (ops.Cull cull) ≡ None) }
+    ensures refused { IfErr result (λ fault. fault ≡ OpFault.OutOfMemory) }
+{
+    Ok(picture.map_weights(alloc, &cull.weight_map())?)
+}
+
+/// The picture after it was cleared.
+fn after_clear(alloc: Global, picture: &Picture) -> Picture
+    ensures step { result ≡ stepped picture.now ops.Clear }
+    ensures accepted { fault_of picture.now ops.Clear ≡ None }
+{
+    Picture::blank(alloc)
+}

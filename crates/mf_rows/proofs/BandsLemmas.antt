@@ -1,4 +1,4 @@
--- Bands of rows: over bands the highest and the lowest rows fall, so a row is found by halving.
+-- Bands of rows: over bands the lowest rows fall, so a row is found by halving.
 use Rattle.std.proofs.Common.{◌≡◌, ◌≢◌, ℕ, zero, suc, ◌+◌, ◌<◌, ◌≤◌, ℤ, pos, ◌+ℤ◌, ◌-ℤ◌, ◌≤ℤ◌, ◌<ℤ◌, List, [], ◌∷◌, ◌++◌, Bool, true, false, length, take, drop, get_or, subst, sym, ap, ◌∙◌, arith}
 use Rattle.std.specs.List.{All, AllWithin}
 use Rattle.std.specs.List.Sorted.{IsPartitionedBy}
@@ -9,11 +9,11 @@ use Rattle.std.proofs.lemmas.List.Elements.{All-nil, All-cons, All-head, All-tai
 use Rattle.std.specs.Arc.{arc_value}
 use Rattle.std.specs.declared.alloc.Global.{Global}
 use Rattle.std.specs.declared.sync.Arc.{Arc}
-use lib.Signed.{lt_z, le_z}
+use lib.Signed.{lt_z}
 use Rattle.mf_rows.specs.declared.band.Band.{Band}
 use Rattle.mf_rows.specs.declared.edge.Edge.{Edge}
 use Rattle.mf_rows.specs.declared.row.Row.{Row}
-use Rattle.mf_rows.specs.Bands.{IsRow, edge_row, edge_rows, first_height, last_height, rows_in, top_of, bottom_of, rows_of_bands, HasRow, HasNoRow, HasSameRow, AreAbove, AreBelow}
+use Rattle.mf_rows.specs.Bands.{IsRow, edge_row, edge_rows, last_height, rows_in, bottom_of, rows_of_bands, HasRow, HasNoRow, HasSameRow, AreAbove, AreBelow}
 use Rattle.mf_rows.specs.Dots.{IsLawfulWeight}
 use Rattle.mf_rows.specs.Edges.{weight_in, AreEdgesFrom, AreEdges, EdgeRow, AreRowsFrom, AreRows, weight_in_rows}
 use Rattle.mf_rows.proofs.EdgesLemmas.{weight_in-left, weight_in-right, weight_in-before, weight_in_rows-append, weight_in_rows-above, weight_in_rows-below, rows_from-below, rows_from-front, rows_from-back, rows_from-apart, weight_in_rows-here}
@@ -21,12 +21,12 @@ use Rattle.mf_rows.proofs.EdgesLemmas.{weight_in-left, weight_in-right, weight_i
 -- ---- lists whose heights fall
 
 -- each height is below all before it
-abbrev Falls : {X : Type 0} → (X → ℤ) → List X → Type 0
+abbrev pub Falls : {X : Type 0} → (X → ℤ) → List X → Type 0
 Falls f [] = Unit {0}
 Falls f (x ∷ xs) = All (λ y. f y <ℤ f x) xs × Falls f xs
 
 -- a test that passes with every height above one that passes is passed by the first elements
-IsPartitionedBy-falls : {X : Type 0} (f : X → ℤ) (p : X → Bool) → ((a b : X) → f a ≤ℤ f b → p a ≡ true → p b ≡ true) → (xs : List X) → Falls f xs → IsPartitionedBy p xs
+pub IsPartitionedBy-falls : {X : Type 0} (f : X → ℤ) (p : X → Bool) → ((a b : X) → f a ≤ℤ f b → p a ≡ true → p b ≡ true) → (xs : List X) → Falls f xs → IsPartitionedBy p xs
 IsPartitionedBy-falls f p up [] falls i j d le lt e = absurd (omega arith)
 IsPartitionedBy-falls f p up (x ∷ xs) falls zero zero d le lt e = e
 IsPartitionedBy-falls f p up (x ∷ xs) falls zero (suc j) d le lt e =
@@ -36,12 +36,12 @@ IsPartitionedBy-falls f p up (x ∷ xs) falls (suc i) zero d le lt e = absurd (o
 IsPartitionedBy-falls f p up (x ∷ xs) falls (suc i) (suc j) d le lt e = IsPartitionedBy-falls f p up xs falls.1 i j d (omega arith) (omega arith) e
 
 -- what a partition point says of the elements before it, and of those behind it
-All-take_within : {X : Type 0} (P : X → Type 0) (xs : List X) (n : ℕ) → n ≤ length xs → AllWithin P xs 0 n → All P (take n xs)
+pub All-take_within : {X : Type 0} (P : X → Type 0) (xs : List X) (n : ℕ) → n ≤ length xs → AllWithin P xs 0 n → All P (take n xs)
 All-take_within P xs n le within k d lt =
     let inside : k < n = omega (arith, length-take-le n xs le) in
     rw (get_or-take n xs k d inside) (within k d (omega arith) inside)
 
-All-drop_within : {X : Type 0} (P : X → Type 0) (xs : List X) (n : ℕ) → AllWithin P xs n (length xs) → All P (drop n xs)
+pub All-drop_within : {X : Type 0} (P : X → Type 0) (xs : List X) (n : ℕ) → AllWithin P xs n (length xs) → All P (drop n xs)
 All-drop_within P xs n within k d lt = rw get_or-drop (within (n + k) d (omega arith) (omega (arith, length-drop n xs)))
 
 -- ---- lists of rows
@@ -69,17 +69,7 @@ last_is_least top (r ∷ s ∷ rs) rows =
     let falls = rows.2.1 in
     All-cons (λ t. last_height (s ∷ rs) ≤ℤ t.y) r (s ∷ rs) (omega (arith, ints)) least
 
-first_is_greatest : (top : ℤ) (rs : List EdgeRow) → AreRowsFrom top rs → All (λ r. r.y ≤ℤ first_height rs) rs
-first_is_greatest top [] rows = All-nil (λ r. r.y ≤ℤ first_height [])
-first_is_greatest top (r ∷ rs) rows =
-    let below = rows_from-below (r.y -ℤ pos 1) r.y rs rows.2 (omega (arith, ints)) in
-    All-cons (λ s. s.y ≤ℤ r.y) r rs (omega (arith, ints)) (All-weaker (λ s. s.y <ℤ r.y) (λ s. s.y ≤ℤ r.y) (λ s lower. omega (arith, ints)) rs below)
-
--- what holds of the heights of all rows holds of the first and of the last of them
-at_first : (P : ℤ → Type 0) (rs : List EdgeRow) → 0 < length rs → All (λ r. P r.y) rs → P (first_height rs)
-at_first P [] some all = absurd (omega arith)
-at_first P (r ∷ rs) some all = All-head (λ s. P s.y) r rs all
-
+-- what holds of the heights of all rows holds of the last of them
 at_last : (P : ℤ → Type 0) (rs : List EdgeRow) → 0 < length rs → All (λ r. P r.y) rs → P (last_height rs)
 at_last P [] some all = absurd (omega arith)
 at_last P (r ∷ []) some all = All-head (λ s. P s.y) r [] all
@@ -101,13 +91,10 @@ rows_fall top (r ∷ rows) lawful =
 
 -- ---- lists of bands
 
-at_top : (P : ℤ → Type 0) (band : Band) → All (λ r. P r.y) (rows_in band) → P (top_of band)
-at_top P band all = at_first P (rows_in band) (omega (arith, length-map band.rows.items edge_row)) all
-
-at_bottom : (P : ℤ → Type 0) (band : Band) → All (λ r. P r.y) (rows_in band) → P (bottom_of band)
+pub at_bottom : (P : ℤ → Type 0) (band : Band) → All (λ r. P r.y) (rows_in band) → P (bottom_of band)
 at_bottom P band all = at_last P (rows_in band) (omega (arith, length-map band.rows.items edge_row)) all
 
-rows_of_bands-split : (n : ℕ) (bs : List (Arc Band Global)) → rows_of_bands bs ≡ rows_of_bands (take n bs) ++ rows_of_bands (drop n bs)
+pub rows_of_bands-split : (n : ℕ) (bs : List (Arc Band Global)) → rows_of_bands bs ≡ rows_of_bands (take n bs) ++ rows_of_bands (drop n bs)
 rows_of_bands-split n bs = ap rows_of_bands (sym (take-append-drop n bs)) ∙ flat_map-append (λ band. rows_in (arc_value band)) (take n bs) (drop n bs)
 
 All-bands : (P : EdgeRow → Type 0) (bs : List (Arc Band Global)) → All P (rows_of_bands bs) → All (λ b. All P (rows_in (arc_value b))) bs
@@ -116,18 +103,18 @@ All-bands P (b ∷ bs) all =
     All-cons (λ c. All P (rows_in (arc_value c))) b bs (All-front P (rows_in (arc_value b)) (rows_of_bands bs) all)
     (All-bands P bs (All-back P (rows_in (arc_value b)) (rows_of_bands bs) all))
 
--- over bands the height of a certain row of each falls
-bands_fall : (height : Band → ℤ) → ((P : ℤ → Type 0) (band : Band) → All (λ r. P r.y) (rows_in band) → P (height band)) → (top : ℤ) (bs : List (Arc Band Global)) → AreRowsFrom top (rows_of_bands bs) → Falls (λ b. height (arc_value b)) bs
-bands_fall height at top [] rows = tt
-bands_fall height at top (b ∷ bs) rows =
-    let here = height (arc_value b) in
+-- over bands the lowest rows fall
+pub bands_fall : (top : ℤ) (bs : List (Arc Band Global)) → AreRowsFrom top (rows_of_bands bs) → Falls (λ b. bottom_of (arc_value b)) bs
+bands_fall top [] rows = tt
+bands_fall top (b ∷ bs) rows =
+    let here = bottom_of (arc_value b) in
     let apart = rows_from-apart top (rows_in (arc_value b)) (rows_of_bands bs) rows in
-    let below = All-bands (λ r. r.y <ℤ here) bs (at (λ y. AreBelow y (rows_of_bands bs)) (arc_value b) apart) in (
-      All-weaker (λ c. All (λ r. r.y <ℤ here) (rows_in (arc_value c))) (λ c. height (arc_value c) <ℤ here) (λ c lower. at (λ y. y <ℤ here) (arc_value c) lower) bs below,
-      bands_fall height at top bs (rows_from-back top (rows_in (arc_value b)) (rows_of_bands bs) rows),
+    let below = All-bands (λ r. r.y <ℤ here) bs (at_bottom (λ y. AreBelow y (rows_of_bands bs)) (arc_value b) apart) in (
+      All-weaker (λ c. All (λ r. r.y <ℤ here) (rows_in (arc_value c))) (λ c. bottom_of (arc_value c) <ℤ here) (λ c lower. at_bottom (λ y. y <ℤ here) (arc_value c) lower) bs below,
+      bands_fall top bs (rows_from-back top (rows_in (arc_value b)) (rows_of_bands bs) rows),
     )
 
--- rows above a row, by their bands' lowest ones, and below it, by their bands' highest ones
+-- rows above a row, by their bands' lowest ones
 above_from_bottoms : (top y : ℤ) (bs : List (Arc Band Global)) → AreRowsFrom top (rows_of_bands bs) → All (λ b. y <ℤ bottom_of (arc_value b)) bs → AreAbove y (rows_of_bands bs)
 above_from_bottoms top y [] rows above = All-nil (λ r. y <ℤ r.y)
 above_from_bottoms top y (b ∷ bs) rows above =
@@ -137,30 +124,14 @@ above_from_bottoms top y (b ∷ bs) rows above =
     All-append (λ r. y <ℤ r.y) rs (rows_of_bands bs) (All-weaker (λ r. last_height rs ≤ℤ r.y) (λ r. y <ℤ r.y) (λ r lowest. omega (arith, ints)) rs least)
     (above_from_bottoms top y bs (rows_from-back top rs (rows_of_bands bs) rows) (All-tail (λ c. y <ℤ bottom_of (arc_value c)) b bs above))
 
-below_from_tops : (top y : ℤ) (bs : List (Arc Band Global)) → AreRowsFrom top (rows_of_bands bs) → All (λ b. top_of (arc_value b) <ℤ y) bs → AreBelow y (rows_of_bands bs)
-below_from_tops top y [] rows below = All-nil (λ r. r.y <ℤ y)
-below_from_tops top y (b ∷ bs) rows below =
-    let rs = rows_in (arc_value b) in
-    let lower = All-head (λ c. top_of (arc_value c) <ℤ y) b bs below in
-    let greatest = first_is_greatest top rs (rows_from-front top rs (rows_of_bands bs) rows) in
-    All-append (λ r. r.y <ℤ y) rs (rows_of_bands bs) (All-weaker (λ r. r.y ≤ℤ first_height rs) (λ r. r.y <ℤ y) (λ r highest. omega (arith, ints)) rs greatest)
-    (below_from_tops top y bs (rows_from-back top rs (rows_of_bands bs) rows) (All-tail (λ c. top_of (arc_value c) <ℤ y) b bs below))
-
 -- ---- the places at which bands are split
 
 -- whether a band stands wholly above row y
 abbrev pub stands_above : ℤ → Arc Band Global → Bool
 stands_above y band = lt_z y (bottom_of (arc_value band))
 
--- whether it does not stand wholly below it
-abbrev pub reaches : ℤ → Arc Band Global → Bool
-reaches y band = le_z y (top_of (arc_value band))
-
 pub IsPartitionedBy-stands_above : (y : ℤ) (bs : List (Arc Band Global)) → AreRows (rows_of_bands bs) → IsPartitionedBy (stands_above y) bs
-IsPartitionedBy-stands_above y bs lawful = IsPartitionedBy-falls (λ b. bottom_of (arc_value b)) (stands_above y) (λ a b le above. grind (arith, ints)) bs (bands_fall bottom_of at_bottom (pos 4094) bs lawful.rows)
-
-pub IsPartitionedBy-reaches : (y : ℤ) (bs : List (Arc Band Global)) → AreRows (rows_of_bands bs) → IsPartitionedBy (reaches y) bs
-IsPartitionedBy-reaches y bs lawful = IsPartitionedBy-falls (λ b. top_of (arc_value b)) (reaches y) (λ a b le above. grind (arith, ints)) bs (bands_fall top_of at_top (pos 4094) bs lawful.rows)
+IsPartitionedBy-stands_above y bs lawful = IsPartitionedBy-falls (λ b. bottom_of (arc_value b)) (stands_above y) (λ a b le above. grind (arith, ints)) bs (bands_fall (pos 4094) bs lawful.rows)
 
 -- what the places say of the rows before them and of the bands behind them
 pub above_split : (y : ℤ) (n : ℕ) (bs : List (Arc Band Global)) → AreRows (rows_of_bands bs) → n ≤ length bs → AllWithin (λ b. stands_above y b ≡ true) bs 0 n → AreAbove y (rows_of_bands (take n bs))
@@ -172,12 +143,6 @@ above_split y n bs lawful le passed =
 pub others_split : (y : ℤ) (n : ℕ) (bs : List (Arc Band Global)) → AllWithin (λ b. stands_above y b ≡ false) bs n (length bs) → All (λ b. bottom_of (arc_value b) ≤ℤ y) (drop n bs)
 others_split y n bs failed =
     All-weaker (λ b. stands_above y b ≡ false) (λ b. bottom_of (arc_value b) ≤ℤ y) (λ b not_above. grind (arith, ints)) (drop n bs) (All-drop_within (λ b. stands_above y b ≡ false) bs n failed)
-
-pub below_split : (y : ℤ) (n : ℕ) (bs : List (Arc Band Global)) → AreRows (rows_of_bands bs) → AllWithin (λ b. reaches y b ≡ false) bs n (length bs) → AreBelow y (rows_of_bands (drop n bs))
-below_split y n bs lawful failed =
-    let back = rows_from-back (pos 4094) (rows_of_bands (take n bs)) (rows_of_bands (drop n bs)) (subst (AreRowsFrom (pos 4094)) (rows_of_bands-split n bs) lawful.rows) in
-    below_from_tops (pos 4094) y (drop n bs) back
-    (All-weaker (λ b. reaches y b ≡ false) (λ b. top_of (arc_value b) <ℤ y) (λ b below. grind (arith, ints)) (drop n bs) (All-drop_within (λ b. reaches y b ≡ false) bs n failed))
 
 -- ---- the row in its band
 
@@ -276,9 +241,6 @@ pub absent_band_all : (y : ℤ) (n : ℕ) (bs : List (Arc Band Global)) → leng
 absent_band_all y n bs outside above = record { weights = λ x. weight_in_rows-above (rows_of_bands bs) x y (subst (λ cs. AreAbove y (rows_of_bands cs)) (take_all n bs outside) above) }
 
 -- ---- rows that are put into bands
-
-pub row_read : (rows : List Row) (k : ℕ) (row : Row) → All IsRow rows → k < length rows → row ≡ get_or rows k row → IsRow row
-row_read rows k row all inside read = subst IsRow (sym read) (all k row inside)
 
 pub All-rows : (top : ℤ) (rows : List Row) → AreRowsFrom top (edge_rows rows) → All IsRow rows
 All-rows top [] lawful = All-nil IsRow

@@ -18,13 +18,13 @@ use Rattle.mf_rows.proofs.EdgesLemmas.{weight_in-append, weight_in-left, weight_
 -- ---- one edge more
 
 -- left of its column an edge changes nothing, elsewhere it adds its weight
-with_edge_in-before : (es : List Edge) (x w c : ℤ) → c <ℤ x → with_edge_in es x w c ≡ weight_in es c
+pub with_edge_in-before : (es : List Edge) (x w c : ℤ) → c <ℤ x → with_edge_in es x w c ≡ weight_in es c
 unfolding with_edge_in
 with_edge_in-before es x w c left =
     let test : int_le x c ≡ false = grind (arith, ints) in
     rw (cond-false (int_le x c) w (pos 0) test) (omega (arith, ints))
 
-with_edge_in-behind : (es : List Edge) (x w c : ℤ) → x ≤ℤ c → with_edge_in es x w c ≡ weight_in es c +ℤ w
+pub with_edge_in-behind : (es : List Edge) (x w c : ℤ) → x ≤ℤ c → with_edge_in es x w c ≡ weight_in es c +ℤ w
 unfolding with_edge_in
 with_edge_in-behind es x w c right =
     let test : int_le x c ≡ true = grind (arith, ints) in
@@ -73,10 +73,10 @@ split_behind es x left apart = record {
 -- ---- the first column
 
 -- a column in reach, at or right of column low
-record IsColumnFrom (low x : ℤ) : Type 0 where
-  from : low ≤ℤ x
-  left : negsuc 4094 ≤ℤ x
-  right : x ≤ℤ pos 4095
+pub record IsColumnFrom (low x : ℤ) : Type 0 where
+  pub from : low ≤ℤ x
+  pub left : negsuc 4094 ≤ℤ x
+  pub right : x ≤ℤ pos 4095
 
 begins_in_reach : (low x : ℤ) (es : List Edge) → AreEdgesFrom low es → BeginAt x es → IsColumnFrom low x
 begins_in_reach low x [] sorted at = absurd at
@@ -89,7 +89,7 @@ first_in_reach low x es fs left right first = ⊎_elim (begins_in_reach low x es
 
 -- ---- the changes of lawful rows
 
-zero_lawful : IsLawfulWeight (pos 0)
+pub zero_lawful : IsLawfulWeight (pos 0)
 zero_lawful = record { least = omega (arith, ints); greatest = omega (arith, ints) }
 
 -- where the weights are lawful that edges make of a lawful weight, each edge is a change
@@ -148,21 +148,21 @@ by_push P sum x w none some =
     (λ test. rw (append-nil sum) (none ((Decides-int_eq w (pos 0)).0 test)))
     (λ test. some (not_from_Decides (int_eq w (pos 0)) (Decides-int_eq w (pos 0)) test))
 
-weight_in-push : (sum : List Edge) (x w c : ℤ) → weight_in (sum ++ unless_zero (record { x = x; weight = w })) c ≡ with_edge_in sum x w c
+pub weight_in-push : (sum : List Edge) (x w c : ℤ) → weight_in (sum ++ unless_zero (record { x = x; weight = w })) c ≡ with_edge_in sum x w c
 unfolding weight_in with_edge_in
 weight_in-push sum x w c =
     by_push (λ es. weight_in es c ≡ with_edge_in sum x w c) sum x w
     (λ zero. rw zero (sym (with_edge_in-none sum x c)))
     (λ _. weight_in-append sum (record { x = x; weight = w } ∷ []) c ∙ omega (arith, ints))
 
-sorted_push : (sum : List Edge) (low x w : ℤ) → AreEdgesFrom (negsuc 4094) sum → All (λ e. e.x <ℤ low) sum → IsColumnFrom low x → AreEdgesFrom (negsuc 4094) (sum ++ unless_zero (record { x = x; weight = w }))
+pub sorted_push : (sum : List Edge) (low x w : ℤ) → AreEdgesFrom (negsuc 4094) sum → All (λ e. e.x <ℤ low) sum → IsColumnFrom low x → AreEdgesFrom (negsuc 4094) (sum ++ unless_zero (record { x = x; weight = w }))
 sorted_push sum low x w sorted before reach =
     by_push (AreEdgesFrom (negsuc 4094)) sum x w (λ _. sorted) (λ nonzero.
     edges_from-append (negsuc 4094) x sum (record { x = x; weight = w } ∷ []) reach.left sorted
     (All-weaker (λ e. e.x <ℤ low) (λ e. e.x <ℤ x) (λ e lt. omega (arith, ints)) sum before)
     (record { left = reach.left; right = reach.right; nonzero = nonzero }, omega (arith, ints), tt))
 
-before_push : (sum : List Edge) (low x w : ℤ) → All (λ e. e.x <ℤ low) sum → low ≤ℤ x → All (λ e. e.x <ℤ (x +ℤ pos 1)) (sum ++ unless_zero (record { x = x; weight = w }))
+pub before_push : (sum : List Edge) (low x w : ℤ) → All (λ e. e.x <ℤ low) sum → low ≤ℤ x → All (λ e. e.x <ℤ (x +ℤ pos 1)) (sum ++ unless_zero (record { x = x; weight = w }))
 before_push sum low x w before le =
     let old = All-weaker (λ e. e.x <ℤ low) (λ e. e.x <ℤ (x +ℤ pos 1)) (λ e lt. omega (arith, ints)) sum before in
     by_push (All (λ e. e.x <ℤ (x +ℤ pos 1))) sum x w (λ _. old) (λ _. All-push (λ e. e.x <ℤ (x +ℤ pos 1)) sum (record { x = x; weight = w }) old (omega (arith, ints)))

@@ -31,7 +31,7 @@ first_of_both (a ∷ rows) (b ∷ others) r s y some r_is more s_is y_is =
 
 -- ---- what a sum has in one row
 
-by_height : {P : Type 0} (c y : ℤ) → (c ≡ y → P) → (c ≢ y → P) → P
+pub by_height : {P : Type 0} (c y : ℤ) → (c ≡ y → P) → (c ≢ y → P) → P
 by_height c y here elsewhere =
     by_lt_z c y (λ lower. elsewhere (λ is. omega (arith, ints)))
     (λ not_lower. by_lt_z y c (λ higher. elsewhere (λ is. omega (arith, ints))) (λ not_higher. here (omega (arith, ints))))

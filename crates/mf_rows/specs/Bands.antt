@@ -24,22 +24,13 @@ edge_rows rows = map edge_row rows
 abbrev pub rows_in : Band → List EdgeRow
 rows_in band = edge_rows band.rows.items
 
--- the height of the first of some rows, 0 where there are none
-abbrev pub first_height : List EdgeRow → ℤ
-first_height [] = pos 0
-first_height (r ∷ rs) = r.y
-
--- the height of the last of them, 0 where there are none
+-- the height of the last of some rows, 0 where there are none
 abbrev pub last_height : List EdgeRow → ℤ
 last_height [] = pos 0
 last_height (r ∷ []) = r.y
 last_height (r ∷ s ∷ rs) = last_height (s ∷ rs)
 
--- the highest row of a band
-abbrev pub top_of : Band → ℤ
-top_of band = first_height (rows_in band)
-
--- its lowest row
+-- the lowest row of a band
 abbrev pub bottom_of : Band → ℤ
 bottom_of band = last_height (rows_in band)
 

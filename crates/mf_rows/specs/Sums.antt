@@ -25,9 +25,9 @@ weight_in_both es fs x = weight_in es x +ℤ weight_in fs x
 unfoldable pub weight_in_all : List EdgeRow → List EdgeRow → ℤ → ℤ → ℤ
 weight_in_all rs ss x y = weight_in_rows rs x y +ℤ weight_in_rows ss x y
 
--- the weight of the pixel (x, y) where rows are added to a picture
-unfoldable pub with_rows_at : List Dot → List EdgeRow → ℤ → ℤ → ℤ
-with_rows_at ds rs x y = weight_at ds x y +ℤ weight_in_rows rs x y
+-- the weight of the pixel (x, y) of two pictures together
+unfoldable pub sum_at : List Dot → List Dot → ℤ → ℤ → ℤ
+sum_at ds es x y = weight_at ds x y +ℤ weight_at es x y
 
 -- at some column the weight f is not lawful
 pub record IsUnlawfulColumn (f : ℤ → ℤ) : Type 0 where

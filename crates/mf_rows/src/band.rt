@@ -1,5 +1,6 @@
 //! Bands of rows.
-ghost use Rattle.std.specs.Prelude.{◌≡◌, ◌<◌, length};
+ghost use Rattle.std.specs.Prelude.{◌<◌, length};
+ghost use Rattle.mf_rows.specs.FieldBands.{AreOfBand, AreOfBand-prop};
 
 use crate::row::Row;
 
@@ -7,19 +8,16 @@ use crate::row::Row;
 /// is made, so pictures share it.
 #[derive(Debug, Drop)]
 pub(crate) struct Band {
+    /// Which band of the field it is, counted from 0 at the top.
+    pub(crate) number: i32,
     pub(crate) rows: Vec<Row>,
     ghost some: { 0 < length rows.items },
+    ghost of_band: { AreOfBand number rows.items } by { AreOfBand-prop number rows.items },
 }
 
 impl Band {
-    ghost use Rattle.mf_rows.specs.Bands.{bottom_of, top_of};
-
-    /// Its highest row.
-    pub(crate) fn top(&self) -> i32
-        ensures { result ≡ top_of self.now }
-    {
-        self.rows[0].y
-    }
+    ghost use Rattle.std.specs.Prelude.{◌≡◌};
+    ghost use Rattle.mf_rows.specs.Bands.{bottom_of};
 
     /// Its lowest row.
     pub(crate) fn bottom(&self) -> i32

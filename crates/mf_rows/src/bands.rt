@@ -1,8 +1,10 @@
 //! Lists of bands: an operation makes the bands anew that it touches, and shares the others.
 ghost use Rattle.std.specs.Prelude.{◌≡◌, ◌++◌, ◌≤◌, pos, negsuc, IsNone, IfSome, IfOk, OnOk, ◌≤ℤ◌, length, take, drop, All};
 ghost use Rattle.std.specs.Arc.{arc_value};
-ghost use Rattle.mf_rows.specs.Bands.{IsRow, bottom_of, edge_row, edge_rows, rows_in, rows_of_bands, HasRow, HasNoRow, HasSameRow, AreAbove, AreBelow};
+ghost use Rattle.mf_rows.specs.Bands.{bottom_of, edge_row, edge_rows, rows_in, rows_of_bands, HasRow, HasNoRow, HasSameRow, AreAbove};
+ghost use Rattle.mf_rows.specs.BandSums.{AreUpTo, AreBehind, AreNumberedBehind};
 ghost use Rattle.mf_rows.specs.Edges.{AreRows};
+ghost use Rattle.mf_rows.specs.FieldBands.{IsOfBand, AreOfBand};
 
 use crate::band::Band;
 use crate::field::FIELD_END;
@@ -65,13 +67,15 @@ pub(crate) fn count_above(bands: &[Arc<Band>], y: i32) -> usize
     bands.partition_point(|band| band.bottom() > y)
 }
 
-/// How many bands, the first ones, do not stand wholly below row y.
-pub(crate) fn count_down_to(bands: &[Arc<Band>], y: i32) -> usize
+/// How many bands, the first ones, have a number up to this one.
+pub(crate) fn count_up_to(bands: &[Arc<Band>], number: i32) -> usize
     requires { AreRows (rows_of_bands bands.now) }
     ensures within { result ≤ length bands.now }
-    ensures below { AreBelow y (rows_of_bands (drop result bands.now)) }
+    ensures above { AreUpTo number (rows_of_bands (take result bands.now)) }
+    ensures below { AreBehind number (rows_of_bands (drop result bands.now)) }
+    ensures others { AreNumberedBehind number (drop result bands.now) }
 {
-    bands.partition_point(|band| band.top() >= y)
+    bands.partition_point(|band| band.number <= number)
 }
 
 /// The rows of bands, which are shared.
@@ -120,61 +124,40 @@ pub(crate) fn push_rows(
     ensures { OnOk result (rows_of_bands bands.new.items ≡ rows_of_bands bands.old.items ++ edge_rows rows.items) }
 {
     let mut open = Vec::new(alloc);
+    let mut number = 0;
     for row in rows {
-        if is_of_another_band(&open, &row) {
-            close_band(alloc, bands, replace(&mut open, Vec::new(alloc)))?;
+        let own = band_of(row.y);
+        if own != number {
+            close_band(alloc, bands, number, replace(&mut open, Vec::new(alloc)))?;
+            number = own;
         }
         open.push(row)?;
     }
-    close_band(alloc, bands, open)
+    close_band(alloc, bands, number, open)
 }
 
-/// Whether a row belongs to another band of the field than rows before it.
-fn is_of_another_band(rows: &[Row], row: &Row) -> bool
-    requires rows { All IsRow rows.now }
-    requires row { IsRow row.now }
-{
-    match rows.first() {
-        Some(first) => band_top(first.y) != band_top(row.y),
-        None => false,
-    }
-}
-
-/// Adds rows to a list of bands, as one band; where there are no rows it adds none.
-fn close_band(alloc: Global, bands: &mut Vec<Arc<Band>>, rows: Vec<Row>) -> Result<(), OutOfMemory>
+/// Adds rows of the band of this number to a list of bands; where there are no rows it adds none.
+fn close_band(
+    alloc: Global,
+    bands: &mut Vec<Arc<Band>>,
+    number: i32,
+    rows: Vec<Row>,
+) -> Result<(), OutOfMemory>
+    requires { AreOfBand number rows.items }
     ensures { OnOk result (rows_of_bands bands.new.items ≡ rows_of_bands bands.old.items ++ edge_rows rows.items) }
 {
     if rows.is_empty() {
         return Ok(());
     }
-    bands.push(Arc::new(alloc, Band { rows })?)?;
+    bands.push(Arc::new(alloc, Band { number, rows })?)?;
     Ok(())
 }
 
-/// The highest row of the band of the field to which row y belongs.
-pub(crate) fn band_top(y: i32) -> i32
+/// The number of the band of the field to which row y belongs.
+fn band_of(y: i32) -> i32
     requires bottom { negsuc 4094 ≤ℤ y }
     requires top { y ≤ℤ pos 4094 }
-    ensures { y ≤ℤ result }
+    ensures { IsOfBand result y }
 {
-    y + place_in_band(y)
-}
-
-/// The row at the lower end of a band of 64 rows that begins there.
-pub(crate) fn band_bottom(y: i32) -> i32
-    requires bottom { negsuc 4094 ≤ℤ y }
-    requires top { y ≤ℤ pos 4094 }
-    ensures { result ≤ℤ y }
-{
-    y + place_in_band(y) - (BAND_HEIGHT - 1)
-}
-
-/// How many rows of its band stand above row y; the bands begin at the highest row of the field.
-fn place_in_band(y: i32) -> i32
-    requires bottom { negsuc 4094 ≤ℤ y }
-    requires top { y ≤ℤ pos 4094 }
-    ensures least { pos 0 ≤ℤ result }
-    ensures greatest { result ≤ℤ pos 63 }
-{
-    (FIELD_END - 1 - y) % BAND_HEIGHT
+    (FIELD_END - 1 - y) / BAND_HEIGHT
 }

@@ -1,16 +1,17 @@
 //! Edges of rows, and the weights between them.
-ghost use Rattle.std.specs.Prelude.{◌≡◌, ◌<◌, ◌≤◌, ◌+◌, IsOk, OnOk, OnErr, pos, negsuc, ◌≤ℤ◌};
+ghost use Rattle.std.specs.Prelude.{◌≡◌, ◌<◌, ◌≤◌, ◌+◌, ◌++◌, IsOk, OnOk, OnErr, pos, negsuc, ◌≤ℤ◌};
 ghost use Rattle.std.specs.List.{HoldsAt};
 ghost use Rattle.std.specs.Vec.{vec_len, vec_capacity};
 ghost use Rattle.mf_rows.specs.Dots.{IsLawfulWeight};
 ghost use Rattle.mf_rows.specs.Edges.{AreEdges, AreEdgesFrom, AreOpenEdges, weight_in};
+ghost use Rattle.mf_rows.specs.Merging.{unless_zero};
 ghost use Rattle.mf_rows.specs.Sums.{HaveWeights, with_edge_in};
 
 use mf_geom::OutOfMemory;
 
 /// An edge: from its column on, the weights of a row are greater by its weight (mf.web, "edge
 /// structures").
-#[derive(Clone, Copy, Debug)]
+#[derive(Clone, Copy, Debug, PartialEq, Eq)]
 pub(crate) struct Edge {
     pub(crate) x: i32,
     pub(crate) weight: i32,
@@ -76,4 +77,14 @@ fn change_edge(edges: &mut Vec<Edge>, at: usize, weight: i32)
             weight: changed,
         };
     }
+}
+
+/// Adds an edge to a list of edges, unless its weight is 0.
+pub(crate) fn push_unless_zero(edges: &mut Vec<Edge>, edge: Edge) -> Result<(), OutOfMemory>
+    ensures { OnOk result (edges.new.items ≡ edges.old.items ++ unless_zero edge) }
+{
+    if edge.weight != 0 {
+        edges.push(edge)?;
+    }
+    Ok(())
 }

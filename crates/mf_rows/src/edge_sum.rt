@@ -1,10 +1,10 @@
 //! The sum of two rows of edges.
-ghost use Rattle.std.specs.Prelude.{◌≡◌, ◌≢◌, ◌++◌, [], IfOk, IfErr, OnOk, IfSome, IsNone};
+ghost use Rattle.std.specs.Prelude.{◌≡◌, ◌≢◌, [], IfOk, IfErr, IfSome, IsNone};
 ghost use Rattle.mf_rows.specs.Edges.{AreEdges};
-ghost use Rattle.mf_rows.specs.Merging.{AreEdgesLeft, IsFirstColumn, IsSplitAt, unless_zero};
+ghost use Rattle.mf_rows.specs.Merging.{AreEdgesLeft, IsFirstColumn, IsSplitAt};
 ghost use Rattle.mf_rows.specs.Sums.{weight_in_both, HaveWeights, IsUnlawfulColumn};
 
-use crate::edge::Edge;
+use crate::edge::{Edge, push_unless_zero};
 use crate::fault::AddFault;
 use crate::field::is_lawful_weight;
 use mf_geom::OutOfMemory;
@@ -66,14 +66,4 @@ fn split_at(edges: &[Edge], x: i32) -> (i32, &[Edge])
         Some((edge, rest)) if edge.x == x => (edge.weight, rest),
         _ => (0, edges),
     }
-}
-
-/// Adds an edge to a list of edges, unless its weight is 0.
-fn push_unless_zero(edges: &mut Vec<Edge>, edge: Edge) -> Result<(), OutOfMemory>
-    ensures { OnOk result (edges.new.items ≡ edges.old.items ++ unless_zero edge) }
-{
-    if edge.weight != 0 {
-        edges.push(edge)?;
-    }
-    Ok(())
 }

@@ -2,6 +2,7 @@
 #![tactic(auto)]
 
 mod band;
+mod band_sum;
 mod bands;
 mod bounds;
 mod builder;
@@ -13,12 +14,14 @@ mod field;
 pub mod laws;
 mod picture;
 mod row;
+mod row_map;
 mod row_sum;
 mod rows;
 mod run;
 mod runs;
 #[cfg(test)]
 mod tests;
+mod weight_map;
 
 pub use bounds::Box4;
 pub use builder::RowBuilder;
@@ -29,3 +32,4 @@ pub use mf_geom::OutOfMemory;
 pub use picture::Picture;
 pub use run::Run;
 pub use runs::Runs;
+pub use weight_map::{Choice, WeightMap};

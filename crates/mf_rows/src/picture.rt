@@ -1,21 +1,20 @@
 //! Pictures.
-ghost use Rattle.std.specs.Prelude.{◌≡◌, ◌≢◌, [], ◌++◌, IsNone, IfSome, IfOk, IfErr, IsTrue, slice_get, ◌↔◌};
+ghost use Rattle.std.specs.Prelude.{◌≡◌, ◌≢◌, [], IsNone, IfSome, IfOk, IfErr, IsTrue, slice_get, ◌↔◌};
 ghost use Rattle.mf_rows.specs.Bands.{edge_rows};
 ghost use Rattle.mf_rows.specs.Edges.{AreRows};
-ghost use Rattle.mf_rows.specs.Parts.{AreBetween};
 
 use crate::band::Band;
-use crate::bands::{
-    band_bottom, band_top, count_above, count_down_to, find_row, push_rows, push_shared, rows_of,
-};
+use crate::band_sum::sum_of_bands;
+use crate::bands::{find_row, push_rows, push_shared, rows_of};
 use crate::bounds::Box4;
 use crate::corner::{Corner, rows_of_corners};
 use crate::edge::weight_at_column;
 use crate::fault::AddFault;
 use crate::row::Row;
-use crate::row_sum::sum_of_rows;
+use crate::row_map::mapped_rows;
 use crate::run::Run;
 use crate::runs::Runs;
+use crate::weight_map::WeightMap;
 use mf_geom::OutOfMemory;
 use std::alloc::Global;
 use std::marker::Model;
@@ -51,10 +50,10 @@ impl Picture {
     ghost use Rattle.mf_rows.specs.Corners.{AreCorners, with_corners_at};
     ghost use Rattle.mf_rows.specs.Dots.{IsPicture, weight_at, total_of};
     ghost use Rattle.mf_rows.specs.Edges.{picture_of_rows};
-    ghost use Rattle.mf_rows.specs.Parts.{AreParts};
     ghost use Rattle.mf_rows.specs.Runs.{runs_of};
-    ghost use Rattle.mf_rows.specs.Sums.{HasWeights, IsUnlawfulSomewhere, with_rows_at};
+    ghost use Rattle.mf_rows.specs.Sums.{HasWeights, IsUnlawfulSomewhere, sum_at};
     ghost use Rattle.mf_rows.specs.Walk.{runs_left};
+    ghost use Rattle.mf_rows.specs.WeightMaps.{IsWeightMap, mapped_at};
     ghost use Rattle.mf_rows.specs.Weights.{HaveSameWeights};
 
     /// The blank picture, METAFONT's `nullpicture`: every weight is 0.
@@ -138,77 +137,41 @@ impl Picture {
         self.runs().nth(k)
     }
 
-    /// The picture with corners added to it; the given one is unchanged. It shares the bands wholly above
-    /// and wholly below the rows that the corners reach. There are at most 8192 corners, with coordinates in -4095..4095 and weights
-    /// in -3..3, and together they add nothing right of the field. Refusals WeightTooLarge (12), where a
+    /// The picture whose weight at each pixel is the sum of those of this picture and of another; both are
+    /// unchanged. It shares the bands that only one of them has. Refusals WeightTooLarge (12), where a
     /// weight would pass 32767 in size, and OutOfMemory (14).
+    pub fn plus(&self, alloc: Global, other: &Picture) -> Result<Picture, AddFault>
+        ensures weights { IfOk result (HasWeights (sum_at self.now other.now)) }
+        ensures lawful { IfOk result IsPicture }
+        ensures too_large { IfErr result (λ fault. fault ≢ AddFault.OutOfMemory → IsUnlawfulSomewhere (sum_at self.now other.now)) }
+    {
+        let bands = sum_of_bands(alloc, &self.bands, &other.bands)?;
+        Ok(Picture { bands })
+    }
+
+    /// The picture in which each weight is mapped by itself; this one is unchanged. Weight 0 must stay 0,
+    /// and lawful weights must become lawful ones. Refusal OutOfMemory (14).
+    pub fn map_weights(&self, alloc: Global, map: &WeightMap) -> Result<Picture, OutOfMemory>
+        requires { IsWeightMap map.now }
+        ensures weights { IfOk result (HasWeights (mapped_at map.now self.now)) }
+        ensures lawful { IfOk result IsPicture }
+    {
+        let rows = rows_of(alloc, &self.bands)?;
+        Picture::from_rows(alloc, mapped_rows(alloc, &rows, map)?)
+    }
+
+    /// The picture with corners added to it; the given one is unchanged. It shares the bands that no corner
+    /// reaches. There are at most 8192 corners, with coordinates in -4095..4095 and weights in -3..3, and
+    /// together they add nothing right of the field. Refusals WeightTooLarge (12), where a weight would pass
+    /// 32767 in size, and OutOfMemory (14).
     pub fn with_corners(&self, alloc: Global, corners: Vec<Corner>) -> Result<Picture, AddFault>
         requires { AreCorners corners.items }
         ensures weights { IfOk result (HasWeights (with_corners_at self.now corners.items)) }
         ensures lawful { IfOk result IsPicture }
         ensures too_large { IfErr result (λ fault. fault ≢ AddFault.OutOfMemory → IsUnlawfulSomewhere (with_corners_at self.now corners.items)) }
     {
-        let rows = rows_of_corners(alloc, corners)?;
-        self.with_rows(alloc, &rows)
-    }
-
-    /// The picture with rows added to it.
-    fn with_rows(&self, alloc: Global, rows: &[Row]) -> Result<Picture, AddFault>
-        requires { AreRows (edge_rows rows.now) }
-        ensures weights { IfOk result (HasWeights (with_rows_at self.now (edge_rows rows.now))) }
-        ensures lawful { IfOk result IsPicture }
-        ensures too_large { IfErr result (λ fault. fault ≢ AddFault.OutOfMemory → IsUnlawfulSomewhere (with_rows_at self.now (edge_rows rows.now))) }
-    {
-        match heights_of(rows) {
-            Some((low, high)) => self.with_rows_between(alloc, rows, low, high),
-            None => Ok(self.copy(alloc)?),
-        }
-    }
-
-    /// The picture with rows added to it that are row `low`, row `high` or between them.
-    fn with_rows_between(
-        &self,
-        alloc: Global,
-        rows: &[Row],
-        low: i32,
-        high: i32,
-    ) -> Result<Picture, AddFault>
-        requires rows { AreRows (edge_rows rows.now) }
-        requires between { AreBetween low high (edge_rows rows.now) }
-        ensures weights { IfOk result (HasWeights (with_rows_at self.now (edge_rows rows.now))) }
-        ensures lawful { IfOk result IsPicture }
-        ensures too_large { IfErr result (λ fault. fault ≢ AddFault.OutOfMemory → IsUnlawfulSomewhere (with_rows_at self.now (edge_rows rows.now))) }
-    {
-        let (above, touched, below) = self.parts(low, high);
-        let sum = sum_of_rows(alloc, &rows_of(alloc, touched)?, rows)?;
-        Ok(Picture::from_parts(alloc, above, sum, below)?)
-    }
-
-    /// The bands wholly above row `high`, the bands from there down to row `low`, and the bands wholly below
-    /// that.
-    fn parts(&self, low: i32, high: i32) -> (&[Arc<Band>], &[Arc<Band>], &[Arc<Band>])
-        ensures { AreParts self.now (rows_of_bands result.0.now) (rows_of_bands result.1.now) (rows_of_bands result.2.now) low high }
-    {
-        let (above, others) = self.bands.split_at(count_above(&self.bands, high));
-        let (touched, below) = others.split_at(count_down_to(others, low));
-        (above, touched, below)
-    }
-
-    /// The picture of bands, of rows below them, and of bands below those; it shares the bands.
-    fn from_parts(
-        alloc: Global,
-        above: &[Arc<Band>],
-        rows: Vec<Row>,
-        below: &[Arc<Band>],
-    ) -> Result<Picture, OutOfMemory>
-        requires { AreRows ((rows_of_bands above.now ++ edge_rows rows.items) ++ rows_of_bands below.now) }
-        ensures { IfOk result (λ picture. picture ≡ picture_of_rows ((rows_of_bands above.now ++ edge_rows rows.items) ++ rows_of_bands below.now)) }
-    {
-        let mut bands = Vec::new(alloc);
-        push_shared(&mut bands, above)?;
-        push_rows(alloc, &mut bands, rows)?;
-        push_shared(&mut bands, below)?;
-        Ok(Picture { bands })
+        let added = Picture::from_rows(alloc, rows_of_corners(alloc, corners)?)?;
+        self.plus(alloc, &added)
     }
 
     /// The picture of these rows.
@@ -220,18 +183,6 @@ impl Picture {
         push_rows(alloc, &mut bands, rows)?;
         Ok(Picture { bands })
     }
-}
-
-/// The lowest and the highest row of the bands of the field that these rows belong to; none where there are
-/// no rows.
-fn heights_of(rows: &[Row]) -> Option<(i32, i32)>
-    requires { AreRows (edge_rows rows.now) }
-    ensures between { IfSome result (λ heights. AreBetween heights.0 heights.1 (edge_rows rows.now)) }
-    ensures blank { IsNone result → edge_rows rows.now ≡ [] }
-{
-    let highest = rows.first()?;
-    let lowest = rows.last()?;
-    Some((band_bottom(lowest.y), band_top(highest.y)))
 }
 
 #[cfg(test)]

@@ -5,6 +5,7 @@ pub(crate) mod corners;
 mod equal;
 mod generated;
 mod slow;
+mod sums;
 
 use crate::bounds::Box4;
 use crate::builder::RowBuilder;

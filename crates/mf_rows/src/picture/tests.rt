@@ -79,3 +79,46 @@ fn changes_share_the_bands_that_they_do_not_reach(rt: HostRuntime) -> Result<(),
     );
     Ok(())
 }
+
+#[test]
+fn sums_share_the_bands_that_only_one_has(rt: HostRuntime) -> Result<(), Fail> {
+    let tall = tall(rt.alloc())?;
+    let blank = Picture::blank(rt.alloc());
+    // Rows of the first and the second band, and of the last.
+    let corners = corners_of(
+        &rt,
+        rt.alloc(),
+        &[
+            make_rectangle(1, 4000, 5, 4035, 2),
+            make_rectangle(1, -4095, 5, -4094, 2),
+        ],
+    )?;
+    let few = blank.with_corners(rt.alloc(), corners)?;
+    assert_eq!(rt; few.bands.len(), 3, "bands of few rows");
+    let sum = few.plus(rt.alloc(), &tall)?;
+    assert_eq!(rt; count_owned(&sum, 1), 3, "bands made for the sum");
+    assert_eq!(rt;
+        count_owned(&tall, 2),
+        125,
+        "bands shared with the tall picture"
+    );
+    let alone = few.plus(rt.alloc(), &blank)?;
+    assert_eq!(rt; count_owned(&alone, 2), 3, "bands shared with the other");
+    Ok(())
+}
+
+#[test]
+fn neighbours_with_the_same_edges_share_them(rt: HostRuntime) -> Result<(), Fail> {
+    let negated = tall(rt.alloc())?.map_weights(rt.alloc(), &WeightMap::Negate)?;
+    for band in &negated.bands {
+        for row in &band.rows {
+            assert_eq!(rt;
+                Arc::strong_count(&row.edges),
+                8190,
+                "owners of row {}",
+                row.y
+            );
+        }
+    }
+    Ok(())
+}

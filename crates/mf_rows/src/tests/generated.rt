@@ -10,12 +10,12 @@ use std::alloc::Global;
 use std::test::Fail;
 
 /// Rows at the edges of the field, on both sides of borders of bands, and in the middle.
-const ROWS: [i32; 13] = [
+pub(crate) const ROWS: [i32; 13] = [
     4094, 4093, 4031, 4030, 3967, 3966, 1, 0, -1, -4033, -4034, -4094, -4095,
 ];
 
 /// Columns at which rows begin: the first of the field, in its middle, and near the last.
-const STARTS: [i32; 3] = [-4095, -9, 4075];
+pub(crate) const STARTS: [i32; 3] = [-4095, -9, 4075];
 
 /// Weights of runs: few, so that touching runs often have equal or opposite weights.
 const WEIGHTS: [i32; 5] = [1, -1, 2, 32767, -32767];
@@ -25,7 +25,11 @@ const PICTURES: u32 = 12;
 
 /// Runs by chance in each of the rows, with gaps of up to two columns. Some pass the right edge of the
 /// field.
-fn runs_by_chance(alloc: Global, seed: u32, start: i32) -> Result<Vec<Run>, OutOfMemory> {
+pub(crate) fn runs_by_chance(
+    alloc: Global,
+    seed: u32,
+    start: i32,
+) -> Result<Vec<Run>, OutOfMemory> {
     let mut chance = Chance::new(seed);
     let mut runs = Vec::new(alloc);
     for y in ROWS {

@@ -1,31 +1,49 @@
-use Rattle.std.proofs.Common.{◌≡◌, ◌++◌, pos, subst, refl, append-nil}
+use Rattle.std.proofs.Common.{◌≡◌, ◌++◌, pos, w32, to_z, of_z, subst, refl, sym, ap, arith, append-nil}
 use Rattle.std.specs.List.{All}
+use Rattle.std.proofs.lemmas.Int.{ints}
 use Rattle.std.proofs.lemmas.List.Elements.{All-nil, All-push, All-head, All-tail}
 use Rattle.mf_rows.specs.Bands.{IsRow, edge_rows, rows_of_bands}
+use Rattle.mf_rows.specs.FieldBands.{IsOfBand, AreOfBand}
 use Rattle.mf_rows.proofs.BandsLemmas.{All-rows, one_more_row}
 use Rattle.mf_rows.proofs.bands.push_rows.Goals as goal
-use Rattle.mf_rows.proofs.bands.push_rows.Goals.{then-is_of_another_band+in_ok-close_band, else-is_of_another_band}
+use Rattle.mf_rows.proofs.bands.push_rows.Goals.{then-own-number+in_ok-close_band, else-own-number}
 
 pub loop-row-init : goal.loop-row-init
 loop-row-init c =
-    let lawful = All-rows (pos 4094) c.args.rows.items c.requires.rows in
-    rw (c.new-open.ensures.items, c.into_iter-row-iterator.ensures.into_iter_gives.0) (refl, All-nil IsRow, lawful)
+    rw (c.new-open.ensures.items, c.into_iter-row-iterator.ensures.into_iter_gives.0)
+    record { same = refl; open_of_band = All-nil (λ row. IsOfBand (pos 0) row.y); left = All-rows (pos 4094) c.args.rows.items c.requires.rows }
 
-pub is_of_another_band-requires-clause-row : goal.is_of_another_band-requires-clause-row
-is_of_another_band-requires-clause-row c =
-    All-head IsRow c.in-Some.row _ (subst (All IsRow) c.in-Some.ensures.steps.0 c.loop-row.invariant.2)
+pub band_of-own-requires : goal.band_of-own-requires
+band_of-own-requires c =
+    let in_field = All-head IsRow c.in-Some.row _ (subst (All IsRow) c.in-Some.ensures.steps.0 c.loop-row.invariant.left) in
+    record { bottom = omega (arith, ints, in_field.bottom); top = omega (arith, ints, in_field.top) }
+
+pub close_band-requires : goal.close_band-requires
+close_band-requires c = rw c.replace.ensures.value c.loop-row.invariant.open_of_band
 
 pub loop-row-preserved : goal.loop-row-preserved
 loop-row-preserved c =
-    let kept : (rows_of_bands c.if-is_of_another_band.bands.items ++ edge_rows c.if-is_of_another_band.open.items ≡ rows_of_bands c.args.bands.now.items ++ edge_rows c.loop-row.yielded) × All IsRow c.if-is_of_another_band.open.items =
-    elim c.if-is_of_another_band.branch [
-      | then-is_of_another_band+in_ok-close_band w ↦
-          rw (w.bands-is, w.open-is, w.replace.ensures.after, w.new.ensures.items, w.in_ok-close_band.ensures, w.replace.ensures.value, append-nil) (c.loop-row.invariant.0, All-nil IsRow)
-      | else-is_of_another_band w ↦ rw (w.bands-is, w.open-is) (c.loop-row.invariant.0, c.loop-row.invariant.1)
+    let number = to_z w32 c.if-own-number.number-bits in
+    let open_rows = c.if-own-number.open.items in
+    let own = to_z w32 (of_z w32 c.band_of-own.result) in
+    let y_is : to_z w32 (of_z w32 c.in-Some.row.y) ≡ c.in-Some.row.y = omega (arith, ints) in
+    let own_is : own ≡ c.band_of-own.result = omega (arith, ints) in
+    let of_own_band : IsOfBand own c.in-Some.row.y = rw (own_is, ← y_is) c.band_of-own.ensures in
+    let kept : (rows_of_bands c.if-own-number.bands.items ++ edge_rows open_rows ≡ rows_of_bands c.args.bands.now.items ++ edge_rows c.loop-row.yielded) × AreOfBand number open_rows × IsOfBand number c.in-Some.row.y =
+    elim c.if-own-number.branch [
+      | then-own-number+in_ok-close_band w ↦
+          rw (w.bands-is, w.open-is, w.number-is, w.replace.ensures.after, w.new.ensures.items, w.in_ok-close_band.ensures, w.replace.ensures.value, append-nil)
+          (c.loop-row.invariant.same, All-nil (λ row. IsOfBand own row.y), of_own_band)
+      | else-own-number w ↦
+          let same_number : to_z w32 c.loop-row.number-bits ≡ own = ap (to_z w32) (sym w.if-own-number.false) in
+          rw (w.bands-is, w.open-is, w.number-is) (c.loop-row.invariant.same, c.loop-row.invariant.open_of_band, rw same_number of_own_band)
     ] in
-    let left = subst (All IsRow) c.in-Some.ensures.steps.0 c.loop-row.invariant.2 in
-    rw c.in_ok-push.ensures.items (
-      one_more_row (rows_of_bands c.if-is_of_another_band.bands.items) (rows_of_bands c.args.bands.now.items) c.if-is_of_another_band.open.items c.loop-row.yielded c.in-Some.row kept.0,
-      All-push IsRow c.if-is_of_another_band.open.items c.in-Some.row kept.1 (All-head IsRow c.in-Some.row _ left),
-      All-tail IsRow c.in-Some.row _ left,
-    )
+    let left = subst (All IsRow) c.in-Some.ensures.steps.0 c.loop-row.invariant.left in
+    rw c.in_ok-push.ensures.items record {
+      same = one_more_row (rows_of_bands c.if-own-number.bands.items) (rows_of_bands c.args.bands.now.items) open_rows c.loop-row.yielded c.in-Some.row kept.0;
+      open_of_band = All-push (λ row. IsOfBand number row.y) open_rows c.in-Some.row kept.1 kept.2;
+      left = All-tail IsRow c.in-Some.row _ left;
+    }
+
+pub close_band-requires-2 : goal.close_band-requires-2
+close_band-requires-2 c = c.loop-row.invariant.open_of_band

@@ -4,10 +4,10 @@ use Rattle.mf_rows.proofs.picture.Picture.with_corners.Goals as goal
 
 pub returns-clause-weights : goal.returns-clause-weights
 returns-clause-weights c =
-    let added = rw (← c.deref.ensures.value) at c.in_ok-rows.ensures.weights in
-    MatchResult-weaker c.with_rows.result c.with_rows.ensures.weights (λ picture has. weights_with_corners _ _ added has) (λ fault none. none)
+    let has = rw c.in_ok-added.ensures at c.plus.ensures.weights in
+    MatchResult-weaker c.plus.result has (λ sum weights. weights_with_corners _ _ c.in_ok-rows_of_corners.ensures.rows c.in_ok-rows_of_corners.ensures.weights weights) (λ fault none. none)
 
 pub returns-clause-too_large : goal.returns-clause-too_large
 returns-clause-too_large c =
-    let added = rw (← c.deref.ensures.value) at c.in_ok-rows.ensures.weights in
-    MatchResult-weaker c.with_rows.result c.with_rows.ensures.too_large (λ picture none. none) (λ fault unlawful not_memory. unlawful_with_corners _ _ added (unlawful not_memory))
+    let has = rw c.in_ok-added.ensures at c.plus.ensures.too_large in
+    MatchResult-weaker c.plus.result has (λ sum none. none) (λ fault unlawful some. unlawful_with_corners _ _ c.in_ok-rows_of_corners.ensures.rows c.in_ok-rows_of_corners.ensures.weights (unlawful some))

@@ -1,0 +1,40 @@
+-- Pictures with the weights of sums, differences and culls.
+use Rattle.std.proofs.Common.{◌≡◌, ℤ, pos, List, [], subst, refl, arith}
+use Rattle.std.proofs.lemmas.Int.{ints}
+use Rattle.mf_rows.specs.declared.weight_map.WeightMap.{WeightMap}
+use Rattle.mf_rows.specs.declared.weight_map.WeightMap.TheVariants.{Negate}
+use Rattle.mf_rows.specs.Dots.{Dot, IsLawfulWeight, IsPicture, weight_at}
+use Rattle.mf_rows.specs.Sums.{HasWeights, IsUnlawfulSomewhere, sum_at}
+use Rattle.mf_rows.specs.WeightMaps.{mapped_to, mapped_at}
+use Rattle.mf_ops.specs.Cull.{culled}
+use Rattle.mf_ops.specs.Step.{step_at}
+use Rattle.mf_ops.specs.declared.cull.CullRule.{CullRule}
+use Rattle.mf_ops.specs.declared.op.Op.TheVariants.{Also, Cull}
+use Rattle.mf_ops.specs.declared.sign.Sign.TheVariants.{Plus, Minus}
+
+pub sum_at-plus : (ds es : List Dot) (x y : ℤ) → sum_at ds es x y ≡ step_at ds (Also es Plus) x y
+unfolding sum_at
+sum_at-plus ds es x y = refl
+
+-- the sum with the negated picture is the difference
+pub HasWeights-minus : (ds es negated new : List Dot) → HasWeights (mapped_at Negate es) negated → HasWeights (sum_at ds negated) new → HasWeights (step_at ds (Also es Minus)) new
+unfolding sum_at mapped_at
+HasWeights-minus ds es negated new negates has = record { weights = λ x y in_field. omega (arith, ints, negates.weights x y in_field, has.weights x y in_field) }
+
+pub IsUnlawfulSomewhere-minus : (ds es negated : List Dot) → HasWeights (mapped_at Negate es) negated → IsUnlawfulSomewhere (sum_at ds negated) → IsUnlawfulSomewhere (step_at ds (Also es Minus))
+unfolding sum_at mapped_at
+IsUnlawfulSomewhere-minus ds es negated negates at =
+    let same : step_at ds (Also es Minus) at.x at.y ≡ sum_at ds negated at.x at.y = omega (arith, ints, negates.weights at.x at.y at.in_field) in
+    record { x = at.x; y = at.y; in_field = at.in_field; unlawful = λ lawful. at.unlawful (subst IsLawfulWeight same lawful) }
+
+pub mapped_at-culled : (ds : List Dot) (c : CullRule) (m : WeightMap) → ((v : ℤ) → mapped_to m v ≡ culled c v) → (x y : ℤ) → mapped_at m ds x y ≡ step_at ds (Cull c) x y
+unfolding mapped_at
+mapped_at-culled ds c m same x y = same (weight_at ds x y)
+
+-- the blank picture has weight 0 everywhere
+pub IsPicture-blank : IsPicture []
+IsPicture-blank = record { dots = tt }
+
+pub HasWeights-blank : HasWeights (λ x y. pos 0) []
+unfolding weight_at
+HasWeights-blank = record { weights = λ x y in_field. refl }

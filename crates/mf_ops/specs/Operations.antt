@@ -1,0 +1,27 @@
+-- The pictures of lists of operations.
+use Rattle.std.specs.Prelude.{◌≡◌, ℕ, List, [], ◌∷◌, length, None}
+use Rattle.mf_rows.specs.Dots.{Dot}
+use Rattle.mf_ops.specs.Step.{stepped, fault_of}
+use Rattle.mf_ops.specs.declared.op.Op.{Op}
+
+-- the picture after operations, in order, on the picture ds
+unfoldable pub after_all : List Dot → List Op → List Dot
+after_all ds [] = ds
+after_all ds (op ∷ ops) = after_all (stepped ds op) ops
+
+-- the picture of a list of operations: blank at first, then changed by each of them in order
+unfoldable pub picture_after : List Op → List Dot
+picture_after ops = after_all [] ops
+
+-- its revision number: how many operations they are
+unfoldable pub revision_after : List Op → ℕ
+revision_after ops = length ops
+
+-- none of the operations, in order, is refused on the picture ds
+abbrev pub AreAcceptedOn : List Dot → List Op → Type 0
+AreAcceptedOn ds [] = Unit {0}
+AreAcceptedOn ds (op ∷ ops) = (fault_of ds op ≡ None) × AreAcceptedOn (stepped ds op) ops
+
+-- none of a list of operations is refused
+pub record AreAccepted (ops : List Op) : Type 0 where
+  pub steps : AreAcceptedOn [] ops

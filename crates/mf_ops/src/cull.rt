@@ -1,0 +1,93 @@
+//! Culls: what becomes of the weights of a picture by a range of them.
+ghost use Rattle.std.specs.Prelude.{◌≡◌, ◌↔◌, ℤ, IsOk, IfOk};
+ghost use Rattle.mf_rows.specs.WeightMaps.{IsWeightMap, mapped_to};
+ghost use Rattle.mf_ops.specs.Cull.{IsLawfulCull, culled};
+ghost use Rattle.mf_ops.specs.declared.cull.CullRule.TheVariants.{Keeping, Dropping};
+
+use crate::weight::Weight;
+use mf_rows::{Choice, WeightMap};
+use std::marker::Model;
+
+/// Refusal 8: a range of weights that no cull has (METAFONT's "Bad culling amounts").
+#[derive(Clone, Copy, Debug, PartialEq, Eq)]
+pub struct BadCull;
+
+/// What a cull makes of weights, by a range from a least to a greatest weight, both of which belong to it.
+#[derive(Clone, Copy, Debug, PartialEq, Eq)]
+pub(crate) enum CullRule {
+    /// Weights in the range become the weight, and all others 0.
+    Keeping(i32, i32, Weight),
+    /// Weights in the range become 0, and all others the weight.
+    Dropping(i32, i32, Weight),
+}
+
+/// A cull, METAFONT's `cull p keeping (a, b) withweight w` or `cull p dropping (a, b) withweight w` (The
+/// METAFONTbook, chapter 13). It leaves pixels of weight 0 at 0.
+#[derive(Clone, Copy, Debug, PartialEq, Eq)]
+pub struct Cull {
+    rule: CullRule,
+}
+
+impl Model for Cull {
+    ghost use Rattle.mf_ops.specs.Cull.{IsLawfulCull};
+    ghost use Rattle.mf_ops.specs.declared.cull.CullRule.{CullRule};
+
+    ghost Value = { CullRule };
+
+    ghost view = { λ c. c.rule };
+
+    ghost invariant = { λ c. IsLawfulCull c.rule };
+
+    ghost inverse = { λ r. record { rule = r } };
+}
+
+impl Cull {
+    /// The cull that keeps the weights in `low..=high`: these become the weight, and all others 0. Refused
+    /// with BadCull (8) where `low` is greater than `high`, and where 0 is in the range.
+    pub fn keeping(low: i32, high: i32, weight: Weight) -> Result<Cull, BadCull>
+        ensures accepted { IsOk result ↔ IsLawfulCull (Keeping low high weight) }
+        ensures value { IfOk result (λ cull. cull ≡ Keeping low high weight) }
+    {
+        if low > high || (low <= 0 && 0 <= high) {
+            return Err(BadCull);
+        }
+        Ok(Cull {
+            rule: CullRule::Keeping(low, high, weight),
+        })
+    }
+
+    /// The cull that drops the weights in `low..=high`: these become 0, and all others the weight. Refused
+    /// with BadCull (8) where 0 is not in the range, which it never is where `low` is greater than `high`.
+    pub fn dropping(low: i32, high: i32, weight: Weight) -> Result<Cull, BadCull>
+        ensures accepted { IsOk result ↔ IsLawfulCull (Dropping low high weight) }
+        ensures value { IfOk result (λ cull. cull ≡ Dropping low high weight) }
+    {
+        if low > 0 || 0 > high {
+            return Err(BadCull);
+        }
+        Ok(Cull {
+            rule: CullRule::Dropping(low, high, weight),
+        })
+    }
+
+    /// What it makes of each weight.
+    pub(crate) fn weight_map(&self) -> WeightMap
+        ensures lawful { IsWeightMap result }
+        ensures value { (v : ℤ) → mapped_to result v ≡ culled self.now v }
+    {
+        WeightMap::Choose(match self.rule {
+            CullRule::Keeping(low, high, weight) => Choice {
+                low,
+                high,
+                inside: weight.get(),
+                outside: 0,
+            },
+            CullRule::Dropping(low, high, weight) => Choice {
+                low,
+                high,
+                inside: 0,
+                outside: weight.get(),
+            },
+        })
+    }
+}

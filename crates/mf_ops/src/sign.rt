@@ -1,0 +1,8 @@
+//! Signs of pictures that are added.
+
+/// Whether a picture is added or subtracted: METAFONT's `also p` and `also -p`.
+#[derive(Clone, Copy, Debug, PartialEq, Eq)]
+pub enum Sign {
+    Plus,
+    Minus,
+}

@@ -1,0 +1,42 @@
+-- The sum of two lists of bands, made in steps that end at the lower end of a band of the field.
+use Rattle.std.specs.Prelude.{◌≡◌, ◌⊎◌, ℤ, pos, ◌-ℤ◌, ◌*ℤ◌, ◌≤ℤ◌, ◌<ℤ◌, All, List, [], ◌∷◌, ◌++◌}
+use Rattle.std.specs.Arc.{arc_value}
+use Rattle.std.specs.declared.alloc.Global.{Global}
+use Rattle.std.specs.declared.sync.Arc.{Arc}
+use Rattle.mf_rows.specs.declared.band.Band.{Band}
+use Rattle.mf_rows.specs.Bands.{AreAbove, AreBelow}
+use Rattle.mf_rows.specs.Edges.{EdgeRow, AreRows}
+use Rattle.mf_rows.specs.Sums.{HaveRowWeights, StayWithin, weight_in_all}
+
+-- the lowest row of band n of the field
+abbrev pub lowest_of : ℤ → ℤ
+lowest_of n = pos 4031 -ℤ (pos 64 *ℤ n)
+
+-- rows that belong to bands up to band n
+abbrev pub AreUpTo : ℤ → List EdgeRow → Type 0
+AreUpTo n rs = AreAbove (lowest_of n -ℤ pos 1) rs
+
+-- rows that belong to bands behind band n
+abbrev pub AreBehind : ℤ → List EdgeRow → Type 0
+AreBehind n rs = AreBelow (lowest_of n) rs
+
+-- bands with numbers behind n
+abbrev pub AreNumberedBehind : ℤ → List (Arc Band Global) → Type 0
+AreNumberedBehind n bs = All (λ (b : Arc Band Global). n <ℤ (arc_value b).number) bs
+
+-- the first band has a number up to n
+abbrev pub BeginUpTo : ℤ → List (Arc Band Global) → Type 0
+BeginUpTo n [] = ⊥
+BeginUpTo n (b ∷ bs) = (arc_value b).number ≤ℤ n
+
+-- the first band of one of two lists has a number up to n
+pub record IsStep (bs cs : List (Arc Band Global)) (n : ℤ) : Type 0 where
+  pub reached : BeginUpTo n bs ⊎ BeginUpTo n cs
+
+-- behind rows there are now rows with the weights of two lists of rows together, which reach no further than these
+pub record HasSum (before rs ss after : List EdgeRow) : Type 0 where
+  pub more : List EdgeRow
+  pub all : after ≡ before ++ more
+  pub rows : AreRows more
+  pub weights : HaveRowWeights (weight_in_all rs ss) more
+  pub within : StayWithin rs ss more

@@ -1,0 +1,74 @@
+//! The sum of two lists of bands.
+ghost use Rattle.std.specs.Prelude.{◌≡◌, ◌≢◌, ◌⊎◌, [], IfOk, IfErr, OnOk, IfSome, IsNone};
+ghost use Rattle.mf_rows.specs.Bands.{rows_of_bands};
+ghost use Rattle.mf_rows.specs.BandSums.{IsStep, HasSum};
+ghost use Rattle.mf_rows.specs.Edges.{AreRows};
+ghost use Rattle.mf_rows.specs.Sums.{weight_in_all, HaveRowWeights, IsUnlawfulSomewhere};
+
+use crate::band::Band;
+use crate::bands::{count_up_to, push_rows, push_shared, rows_of};
+use crate::fault::AddFault;
+use crate::row_sum::sum_of_rows;
+use std::alloc::Global;
+use std::sync::Arc;
+
+/// The bands of two lists together; bands of the field that only one of them has are shared. Refused with
+/// WeightTooLarge where a weight would pass 32767 in size.
+pub(crate) fn sum_of_bands(
+    alloc: Global,
+    left: &[Arc<Band>],
+    right: &[Arc<Band>],
+) -> Result<Vec<Arc<Band>>, AddFault>
+    requires left { AreRows (rows_of_bands left.now) }
+    requires right { AreRows (rows_of_bands right.now) }
+    ensures rows { IfOk result (λ sum. AreRows (rows_of_bands sum.items)) }
+    ensures weights { IfOk result (λ sum. HaveRowWeights (weight_in_all (rows_of_bands left.now) (rows_of_bands right.now)) (rows_of_bands sum.items)) }
+    ensures too_large { IfErr result (λ fault. fault ≢ AddFault.OutOfMemory → IsUnlawfulSomewhere (weight_in_all (rows_of_bands left.now) (rows_of_bands right.now))) }
+{
+    let mut sum = Vec::new(alloc);
+    let (mut left, mut right) = (left, right);
+    while let Some(number) = end_of_step(left, right) {
+        let (first_left, rest_left) = left.split_at(count_up_to(left, number));
+        let (first_right, rest_right) = right.split_at(count_up_to(right, number));
+        push_sum(alloc, &mut sum, first_left, first_right)?;
+        (left, right) = (rest_left, rest_right);
+    }
+    push_shared(&mut sum, left)?;
+    push_shared(&mut sum, right)?;
+    Ok(sum)
+}
+
+/// The number up to which bands are added in one step: that of the first bands where both lists begin with
+/// it, else the number before the first one that both may have. None where a list is empty.
+fn end_of_step(left: &[Arc<Band>], right: &[Arc<Band>]) -> Option<i32>
+    ensures step { IfSome result (IsStep left.now right.now) }
+    ensures none { IsNone result → (left.now ≡ []) ⊎ (right.now ≡ []) }
+{
+    let (left, right) = (left.first()?.number, right.first()?.number);
+    if left == right {
+        return Some(left);
+    }
+    Some(left.max(right) - 1)
+}
+
+/// Adds the sum of some bands to a list of bands, which shares them where only one of the two has any.
+fn push_sum(
+    alloc: Global,
+    sum: &mut Vec<Arc<Band>>,
+    left: &[Arc<Band>],
+    right: &[Arc<Band>],
+) -> Result<(), AddFault>
+    requires left { AreRows (rows_of_bands left.now) }
+    requires right { AreRows (rows_of_bands right.now) }
+    ensures pushed { OnOk result (HasSum (rows_of_bands sum.old.items) (rows_of_bands left.now) (rows_of_bands right.now) (rows_of_bands sum.new.items)) }
+    ensures too_large { IfErr result (λ fault. fault ≢ AddFault.OutOfMemory → IsUnlawfulSomewhere (weight_in_all (rows_of_bands left.now) (rows_of_bands right.now))) }
+{
+    if left.is_empty() {
+        return Ok(push_shared(sum, right)?);
+    }
+    if right.is_empty() {
+        return Ok(push_shared(sum, left)?);
+    }
+    let rows = sum_of_rows(alloc, &rows_of(alloc, left)?, &rows_of(alloc, right)?)?;
+    Ok(push_rows(alloc, sum, rows)?)
+}
