@@ -5,11 +5,13 @@ use Rattle.std.proofs.lemmas.Int.{ints, by_lt_z}
 use Rattle.std.proofs.lemmas.List.{drop_more}
 use Rattle.std.proofs.lemmas.List.Elements.{All-nil}
 use Rattle.mf_rows.specs.declared.edge.Edge.{Edge}
+use Rattle.mf_rows.specs.declared.row_change.RowChange.TheVariants.{Weights}
 use Rattle.mf_rows.specs.declared.weight_map.WeightMap.{WeightMap}
 use Rattle.mf_rows.specs.Dots.{IsLawfulWeight}
 use Rattle.mf_rows.specs.Edges.{weight_in, AreEdgesFrom, AreEdges}
 use Rattle.mf_rows.specs.Merging.{unless_zero}
-use Rattle.mf_rows.specs.WeightMaps.{mapped_to, mapped_in, IsWeightMap, AreMapped}
+use Rattle.mf_rows.specs.RowChanges.{changed_in, AreChanged}
+use Rattle.mf_rows.specs.WeightMaps.{mapped_to, IsWeightMap}
 use Rattle.mf_rows.proofs.EdgesLemmas.{weight_in-left, weight_in-right, weight_in-before}
 use Rattle.mf_rows.proofs.EdgeSums.{with_edge_in-before, with_edge_in-behind, weight_in-push, sorted_push, before_push, zero_lawful, IsColumnFrom}
 
@@ -96,8 +98,8 @@ module _ (m : WeightMap) (es mapped : List Edge) (e : Edge) (rest : List Edge) (
       image_is = next_is;
     }
 
-pub mapped_all : (m : WeightMap) (es mapped : List Edge) (weight image : ℤ) → AreEdges es → IsWeightMap m → IsMappedSoFar m es mapped [] weight image → AreMapped m es mapped
-unfolding weight_in mapped_in
+pub mapped_all : (m : WeightMap) (es mapped : List Edge) (weight image : ℤ) → AreEdges es → IsWeightMap m → IsMappedSoFar m es mapped [] weight image → AreChanged (Weights m) es mapped
+unfolding weight_in changed_in
 mapped_all m es mapped weight image row map so_far =
     let weights : (x : ℤ) → weight_in mapped x ≡ mapped_to m (weight_in es x) = λ x. mapped_where_none m es mapped [] weight image so_far x refl in
     record {

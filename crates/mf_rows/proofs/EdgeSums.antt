@@ -11,7 +11,7 @@ use Rattle.std.proofs.lemmas.List.Elements.{All-head, All-tail, All-cons, All-ni
 use Rattle.mf_rows.specs.declared.edge.Edge.{Edge}
 use Rattle.mf_rows.specs.Dots.{IsLawfulWeight}
 use Rattle.mf_rows.specs.Edges.{weight_in, AreEdgesFrom, AreEdges, AreOpenEdges}
-use Rattle.mf_rows.specs.Merging.{IsChange, AreEdgesLeft, BeginAt, IsFirstColumn, IsSplitAt, unless_zero}
+use Rattle.mf_rows.specs.Merging.{IsChange, IsDifference, AreChanges, AreEdgesLeft, BeginAt, IsFirstColumn, IsSplitAt, unless_zero}
 use Rattle.mf_rows.specs.Sums.{HaveWeights, with_edge_in, weight_in_both}
 use Rattle.mf_rows.proofs.EdgesLemmas.{weight_in-append, weight_in-left, weight_in-right, weight_in-before, edges_from-append}
 
@@ -43,8 +43,8 @@ split_first e es x left here = record {
         (λ before. weight_in-right e es c (omega (arith, ints)) ∙ sym (with_edge_in-before es x e.weight c before))
         (λ behind. let whole = weight_in-left e es c (omega (arith, ints)) in let split = with_edge_in-behind es x e.weight c behind in omega (arith, ints));
   };
-  change = All-head (λ e. IsChange e.weight) e es left.changes;
-  left = record { sorted = rw (← here) left.sorted.2; changes = All-tail (λ e. IsChange e.weight) e es left.changes };
+  difference = All-head (λ e. IsDifference e.weight) e es left.differences;
+  left = record { sorted = rw (← here) left.sorted.2; differences = All-tail (λ e. IsDifference e.weight) e es left.differences };
   no_longer = omega arith;
   shorter = λ _. omega arith;
 }
@@ -64,8 +64,8 @@ begins_behind (e ∷ es) x sorted apart =
 pub split_behind : (es : List Edge) (x : ℤ) → AreEdgesLeft x es → (BeginAt x es → ⊥) → IsSplitAt es x (pos 0) es
 split_behind es x left apart = record {
   weights = record { weights = λ c. sym (with_edge_in-none es x c) };
-  change = record { least = omega (arith, ints); greatest = omega (arith, ints) };
-  left = record { sorted = begins_behind es x left.sorted apart; changes = left.changes };
+  difference = record { least = omega (arith, ints); greatest = omega (arith, ints) };
+  left = record { sorted = begins_behind es x left.sorted apart; differences = left.differences };
   no_longer = omega arith;
   shorter = λ here. absurd (apart here);
 }
@@ -87,31 +87,39 @@ begins_in_reach low x (e ∷ es) sorted at =
 first_in_reach : (low x : ℤ) (es fs : List Edge) → AreEdgesLeft low es → AreEdgesLeft low fs → IsFirstColumn es fs x → IsColumnFrom low x
 first_in_reach low x es fs left right first = ⊎_elim (begins_in_reach low x es left.sorted) (begins_in_reach low x fs right.sorted) first.reached
 
--- ---- the changes of lawful rows
+-- ---- rows of edges as changes
 
 pub zero_lawful : IsLawfulWeight (pos 0)
 zero_lawful = record { least = omega (arith, ints); greatest = omega (arith, ints) }
 
--- where the weights are lawful that edges make of a lawful weight, each edge is a change
-changes_from : (low weight : ℤ) (es : List Edge) → AreEdgesFrom low es → ((x : ℤ) → IsLawfulWeight (weight +ℤ weight_in es x)) → All (λ e. IsChange e.weight) es
-changes_from low weight [] sorted lawful = All-nil (λ e. IsChange e.weight)
-changes_from low weight (e ∷ es) sorted lawful =
+-- the edges of a row are changes too, of weights that were 0
+pub changes_of_edges : (es : List Edge) → AreEdges es → AreChanges es
+changes_of_edges es edges = record {
+  sorted = edges.sorted;
+  changes = λ x. let lawful = edges.lawful x in record { least = omega (arith, ints, lawful.least); greatest = omega (arith, ints, lawful.greatest) };
+  closed = edges.closed;
+}
+
+-- where edges make changes of a change, each edge is the difference of two of them
+differences_from : (low weight : ℤ) (es : List Edge) → AreEdgesFrom low es → ((x : ℤ) → IsChange (weight +ℤ weight_in es x)) → All (λ e. IsDifference e.weight) es
+differences_from low weight [] sorted changes = All-nil (λ e. IsDifference e.weight)
+differences_from low weight (e ∷ es) sorted changes =
     let before = weight_in-right e es (e.x -ℤ pos 1) (omega (arith, ints)) in
     let none_before = weight_in-before (e.x +ℤ pos 1) es (e.x -ℤ pos 1) sorted.2 (omega (arith, ints)) in
     let here = weight_in-left e es e.x (omega (arith, ints)) in
     let none_here = weight_in-before (e.x +ℤ pos 1) es e.x sorted.2 (omega (arith, ints)) in
-    let old = lawful (e.x -ℤ pos 1) in
-    let new = lawful e.x in
-    All-cons (λ e. IsChange e.weight) e es
+    let old = changes (e.x -ℤ pos 1) in
+    let new = changes e.x in
+    All-cons (λ e. IsDifference e.weight) e es
     (record { least = omega (arith, ints, old.greatest, new.least); greatest = omega (arith, ints, old.least, new.greatest) })
-    (changes_from (e.x +ℤ pos 1) (weight +ℤ e.weight) es sorted.2 (λ x. by_lt_z x e.x
-    (λ lt. let none = weight_in-before (e.x +ℤ pos 1) es x sorted.2 (omega (arith, ints)) in subst IsLawfulWeight (omega (arith, ints)) new)
-    (λ le. let whole = weight_in-left e es x le in subst IsLawfulWeight (omega (arith, ints)) (lawful x))))
+    (differences_from (e.x +ℤ pos 1) (weight +ℤ e.weight) es sorted.2 (λ x. by_lt_z x e.x
+    (λ lt. let none = weight_in-before (e.x +ℤ pos 1) es x sorted.2 (omega (arith, ints)) in subst IsChange (omega (arith, ints)) new)
+    (λ le. let whole = weight_in-left e es x le in subst IsChange (omega (arith, ints)) (changes x))))
 
-edges_left : (es : List Edge) → AreEdges es → AreEdgesLeft (negsuc 4094) es
-edges_left es lawful = record {
-  sorted = lawful.sorted;
-  changes = changes_from (negsuc 4094) (pos 0) es lawful.sorted (λ x. subst IsLawfulWeight (omega (arith, ints)) (lawful.lawful x));
+pub changes_left : (es : List Edge) → AreChanges es → AreEdgesLeft (negsuc 4094) es
+changes_left es changes = record {
+  sorted = changes.sorted;
+  differences = differences_from (negsuc 4094) (pos 0) es changes.sorted (λ x. subst IsChange (omega (arith, ints)) (changes.changes x));
 }
 
 -- ---- the sum so far
@@ -128,14 +136,14 @@ pub record IsSumSoFar (whole_left whole_right sum es fs : List Edge) (weight : �
   pub lawful : IsLawfulWeight weight
   pub weights : (x : ℤ) → weight_in sum x +ℤ weight_in_both es fs x ≡ weight_in_both whole_left whole_right x
 
-pub sum_none : (es fs : List Edge) → AreEdges es → AreEdges fs → IsSumSoFar es fs [] es fs (pos 0)
+pub sum_none : (es fs : List Edge) → AreEdges es → AreChanges fs → IsSumSoFar es fs [] es fs (pos 0)
 unfolding weight_in
 sum_none es fs left right = record {
   low = negsuc 4094;
   edges = record { sorted = tt; lawful = λ x. zero_lawful };
   before = All-nil (λ e. e.x <ℤ negsuc 4094);
-  left = edges_left es left;
-  right = edges_left fs right;
+  left = changes_left es (changes_of_edges es left);
+  right = changes_left fs right;
   running = λ x le. refl;
   lawful = zero_lawful;
   weights = λ x. omega (arith, ints);
@@ -224,7 +232,7 @@ pub sum_all_weights : (whole_left whole_right sum : List Edge) (weight : ℤ) �
 unfolding weight_in_both weight_in
 sum_all_weights whole_left whole_right sum weight so_far = record { weights = λ x. let all = so_far.weights x in omega (arith, ints) }
 
-pub sum_all : (whole_left whole_right sum : List Edge) (weight : ℤ) → AreEdges whole_left → AreEdges whole_right → IsSumSoFar whole_left whole_right sum [] [] weight → AreEdges sum
+pub sum_all : (whole_left whole_right sum : List Edge) (weight : ℤ) → AreEdges whole_left → AreChanges whole_right → IsSumSoFar whole_left whole_right sum [] [] weight → AreEdges sum
 unfolding weight_in_both
 sum_all whole_left whole_right sum weight left right so_far = record {
   sorted = so_far.edges.sorted;

@@ -1,9 +1,11 @@
 mod AddedEdges
 mod BandSumsLemmas
 mod BandsLemmas
+mod BlankRowsLemmas
 mod BuildingLemmas
 mod CornersLemmas
 pub mod DotsLemmas
+mod EdgeChanges
 mod EdgeMaps
 mod EdgeRuns
 mod EdgeSums
@@ -16,14 +18,21 @@ mod MaximalRuns
 mod PassedRuns
 mod PictureRows
 pub mod PlacesLemmas
-mod RowMapsLemmas
+mod RowChangesLemmas
+mod RowMoves
 mod RowRuns
+mod RowStretches
 mod RowSums
 mod RunBoxes
 pub mod RunDots
 mod RunEdges
 mod RunsLeft
 pub mod RunsLemmas
+mod Sources
+mod StretchBounds
 mod StripsLemmas
 pub mod Totals
+mod TurnChanges
+mod TurnEdges
+mod TurnedRows
 pub mod WeightsLemmas

@@ -4,13 +4,16 @@ use Rattle.std.specs.List.{All, Contains}
 use Rattle.std.proofs.lemmas.Int.{ints}
 use Rattle.mf_rows.specs.declared.corner.Corner.{Corner}
 use Rattle.mf_rows.specs.declared.edge.Edge.{Edge}
+use Rattle.mf_rows.specs.declared.row_change.RowChange.TheVariants as change
+use Rattle.mf_rows.specs.declared.weight_map.WeightMap.{WeightMap}
 use Rattle.mf_rows.specs.Bands.{HasRow, HasNoRow}
 use Rattle.mf_rows.specs.Corners.{added_by_all, with_corners_at}
 use Rattle.mf_rows.specs.Dots.{Dot, IsLawfulWeight, weight_at}
 use Rattle.mf_rows.specs.Edges.{weight_in, EdgeRow, AreRowsFrom, AreRows, weight_in_rows, picture_of_rows}
+use Rattle.mf_rows.specs.Moves.{opposite, columns_mirrored_at, rows_mirrored_at, turned_at}
+use Rattle.mf_rows.specs.RowChanges.{changed_in_rows, mirrored_in_rows, turned_in_rows}
 use Rattle.mf_rows.specs.Sums.{HasWeights, IsUnlawfulSomewhere, weight_in_all, sum_at, HaveFieldWeights, HaveRowWeights}
-use Rattle.mf_rows.specs.WeightMaps.{mapped_to, mapped_at, mapped_in_rows}
-use Rattle.mf_rows.specs.declared.weight_map.WeightMap.{WeightMap}
+use Rattle.mf_rows.specs.WeightMaps.{mapped_to, mapped_at}
 use Rattle.mf_rows.proofs.EdgesLemmas.{weight_in_rows-here, weight_in_rows-elsewhere, weight_in_rows-none, weight_in_rows-below, rows_from-below, weight_at-picture_of_rows}
 
 -- ---- one row among rows
@@ -73,10 +76,30 @@ unlawful_with_corners ds ks {rs = rs} rows added unlawful =
     let same : with_corners_at ds ks x y ≡ sum_at ds (picture_of_rows rs) x y = omega (arith, ints, added.weights x y unlawful.in_field, weight_at-picture_of_rows rs x y rows) in
     record { x = x; y = y; in_field = unlawful.in_field; unlawful = λ lawful. unlawful.unlawful (subst IsLawfulWeight same lawful) }
 
--- ---- weights are mapped
+-- ---- rows are changed, or change places
 
-pub weights_mapped : (m : WeightMap) (rs mapped : List EdgeRow) → AreRows rs → AreRows mapped → HaveRowWeights (mapped_in_rows m rs) mapped → HasWeights (mapped_at m (picture_of_rows rs)) (picture_of_rows mapped)
-unfolding mapped_at mapped_in_rows
+pub weights_mapped : (m : WeightMap) (rs mapped : List EdgeRow) → AreRows rs → AreRows mapped → HaveRowWeights (changed_in_rows (change.Weights m) rs) mapped → HasWeights (mapped_at m (picture_of_rows rs)) (picture_of_rows mapped)
+unfolding mapped_at changed_in_rows
 weights_mapped m rs mapped rows lawful has = record {
   weights = λ x y inside. weight_at-picture_of_rows mapped x y lawful ∙ has.weights x y ∙ ap (mapped_to m) (sym (weight_at-picture_of_rows rs x y rows));
+}
+
+pub weights_of_columns_mirrored : (rs mirrored : List EdgeRow) → AreRows rs → AreRows mirrored → HaveRowWeights (changed_in_rows change.Mirror rs) mirrored → HasWeights (columns_mirrored_at (picture_of_rows rs)) (picture_of_rows mirrored)
+unfolding columns_mirrored_at changed_in_rows
+weights_of_columns_mirrored rs mirrored rows lawful has = record {
+  weights = λ x y inside. weight_at-picture_of_rows mirrored x y lawful ∙ has.weights x y ∙ sym (weight_at-picture_of_rows rs (opposite x) y rows);
+}
+
+pub weights_of_rows_mirrored : (rs mirrored : List EdgeRow) → AreRows rs → AreRows mirrored → HaveRowWeights (mirrored_in_rows rs) mirrored → HasWeights (rows_mirrored_at (picture_of_rows rs)) (picture_of_rows mirrored)
+unfolding rows_mirrored_at mirrored_in_rows
+weights_of_rows_mirrored rs mirrored rows lawful has = record {
+  weights = λ x y inside. weight_at-picture_of_rows mirrored x y lawful ∙ has.weights x y ∙ sym (weight_at-picture_of_rows rs x (opposite y) rows);
+}
+
+-- ---- pictures are turned
+
+pub weights_turned : (rs turned : List EdgeRow) → AreRows rs → AreRows turned → HaveRowWeights (turned_in_rows rs) turned → HasWeights (turned_at (picture_of_rows rs)) (picture_of_rows turned)
+unfolding turned_at turned_in_rows
+weights_turned rs turned rows lawful has = record {
+  weights = λ x y inside. weight_at-picture_of_rows turned x y lawful ∙ has.weights x y ∙ sym (weight_at-picture_of_rows rs y (opposite x) rows);
 }

@@ -59,7 +59,7 @@ unfolding weight_in
 no_edges = record { sorted = tt; lawful = λ x. record { least = omega (arith, ints); greatest = omega (arith, ints) }; closed = refl }
 
 -- behind all edges the weight stays as it is
-weight_in-constant : (es : List Edge) (x u : ℤ) → EndAt x es → x ≤ℤ u → weight_in es u ≡ weight_in es x
+pub weight_in-constant : (es : List Edge) (x u : ℤ) → EndAt x es → x ≤ℤ u → weight_in es u ≡ weight_in es x
 unfolding weight_in
 weight_in-constant [] x u end le = refl
 weight_in-constant (e ∷ es) x u end le =

@@ -1,5 +1,6 @@
 pub mod BandSums
 pub mod Bands
+pub mod BlankRows
 pub mod Bounds
 pub mod Building
 pub mod Corners
@@ -7,13 +8,16 @@ pub mod Dots
 pub mod Edges
 pub mod FieldBands
 pub mod Merging
+pub mod Moves
 pub mod Order
 pub mod Places
 pub mod Rest
-pub mod RowMaps
+pub mod RowChanges
+pub mod RowMoves
 pub mod Runs
 pub mod Strips
 pub mod Sums
+pub mod Turns
 pub mod Walk
 pub mod WeightMaps
 pub mod Weights

@@ -7,20 +7,31 @@ use Rattle.mf_rows.specs.declared.edge.Edge.{Edge}
 use Rattle.mf_rows.specs.declared.row.Row.{Row}
 use Rattle.mf_rows.specs.Bands.{edge_row, AreAbove}
 use Rattle.mf_rows.specs.Dots.{IsLawfulWeight}
-use Rattle.mf_rows.specs.Edges.{EdgeRow, AreEdgesFrom, AreRowsFrom}
+use Rattle.mf_rows.specs.Edges.{EdgeRow, AreEdgesFrom, AreRowsFrom, weight_in}
 use Rattle.mf_rows.specs.Sums.{HaveWeights, HaveRowWeights, weight_in_all, with_edge_in}
 
 -- ---- edges
 
--- an edge between lawful weights changes them by at most 65534
+-- the difference of two lawful weights is at most 65534 in size
 pub record IsChange (w : ℤ) : Type 0 where
   pub least : negsuc 65533 ≤ℤ w
   pub greatest : w ≤ℤ pos 65534
 
+-- and the difference of two such changes is at most 131068
+pub record IsDifference (w : ℤ) : Type 0 where
+  pub least : negsuc 131067 ≤ℤ w
+  pub greatest : w ≤ℤ pos 131068
+
+-- edges between changes of weights: sorted, and with changes that sum to 0
+pub record AreChanges (es : List Edge) : Type 0 where
+  pub sorted : AreEdgesFrom (negsuc 4094) es
+  pub changes : (x : ℤ) → IsChange (weight_in es x)
+  pub closed : weight_in es (pos 4095) ≡ pos 0
+
 -- edges that are still to be added: sorted, the first of them at or right of column low
 pub record AreEdgesLeft (low : ℤ) (es : List Edge) : Type 0 where
   pub sorted : AreEdgesFrom low es
-  pub changes : All (λ e. IsChange e.weight) es
+  pub differences : All (λ e. IsDifference e.weight) es
 
 -- the first edge, if there is one, stands at or right of column x
 abbrev pub BeginFrom : ℤ → List Edge → Type 0
@@ -41,7 +52,7 @@ pub record IsFirstColumn (es fs : List Edge) (x : ℤ) : Type 0 where
 -- the edge at column x has weight w, or none stands there and w is 0, and the others are left
 pub record IsSplitAt (es : List Edge) (x w : ℤ) (others : List Edge) : Type 0 where
   pub weights : HaveWeights (with_edge_in others x w) es
-  pub change : IsChange w
+  pub difference : IsDifference w
   pub left : AreEdgesLeft (x +ℤ pos 1) others
   pub no_longer : length others ≤ length es
   pub shorter : BeginAt x es → length others < length es

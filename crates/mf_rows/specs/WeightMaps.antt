@@ -1,12 +1,9 @@
 -- What becomes of weights where each of them is mapped by itself.
 use Rattle.std.specs.Prelude.{◌≡◌, ◌&&◌, ℤ, pos, neg_ℤ, int_le, List, if◌then◌else◌}
-use Rattle.mf_rows.specs.declared.edge.Edge.{Edge}
 use Rattle.mf_rows.specs.declared.weight_map.Choice.{Choice}
 use Rattle.mf_rows.specs.declared.weight_map.WeightMap.{WeightMap}
 use Rattle.mf_rows.specs.declared.weight_map.WeightMap.TheVariants as map
 use Rattle.mf_rows.specs.Dots.{Dot, IsLawfulWeight, weight_at}
-use Rattle.mf_rows.specs.Edges.{EdgeRow, AreEdges, weight_in, weight_in_rows}
-use Rattle.mf_rows.specs.Sums.{HaveWeights}
 
 -- the weight that weight v becomes by a choice
 abbrev pub chosen : Choice → ℤ → ℤ
@@ -25,16 +22,3 @@ pub record IsWeightMap (m : WeightMap) : Type 0 where
 -- the weight of the pixel (x, y) of a picture of which each weight is mapped
 unfoldable pub mapped_at : WeightMap → List Dot → ℤ → ℤ → ℤ
 mapped_at m ds x y = mapped_to m (weight_at ds x y)
-
--- the weight at column x of a row of which each weight is mapped
-unfoldable pub mapped_in : WeightMap → List Edge → ℤ → ℤ
-mapped_in m es x = mapped_to m (weight_in es x)
-
--- the weight of the pixel (x, y) of rows of which each weight is mapped
-unfoldable pub mapped_in_rows : WeightMap → List EdgeRow → ℤ → ℤ → ℤ
-mapped_in_rows m rs x y = mapped_to m (weight_in_rows rs x y)
-
--- edges have the mapped weights of other edges
-pub record AreMapped (m : WeightMap) (es mapped : List Edge) : Type 0 where
-  pub edges : AreEdges mapped
-  pub weights : HaveWeights (mapped_in m es) mapped

@@ -1,7 +1,7 @@
 //! The sum of two rows of edges.
 ghost use Rattle.std.specs.Prelude.{◌≡◌, ◌≢◌, [], IfOk, IfErr, IfSome, IsNone};
 ghost use Rattle.mf_rows.specs.Edges.{AreEdges};
-ghost use Rattle.mf_rows.specs.Merging.{AreEdgesLeft, IsFirstColumn, IsSplitAt};
+ghost use Rattle.mf_rows.specs.Merging.{AreChanges, AreEdgesLeft, IsFirstColumn, IsSplitAt};
 ghost use Rattle.mf_rows.specs.Sums.{weight_in_both, HaveWeights, IsUnlawfulColumn};
 
 use crate::edge::{Edge, push_unless_zero};
@@ -10,15 +10,15 @@ use crate::field::is_lawful_weight;
 use mf_geom::OutOfMemory;
 use std::alloc::Global;
 
-/// The edges of two rows together. Refused with WeightTooLarge where a weight between them would pass 32767
-/// in size.
+/// The edges of a row and of what is added to it together. Refused with WeightTooLarge where a weight
+/// between them would pass 32767 in size.
 pub(crate) fn sum_of_edges(
     alloc: Global,
     left: &[Edge],
     right: &[Edge],
 ) -> Result<Vec<Edge>, AddFault>
     requires left { AreEdges left.now }
-    requires right { AreEdges right.now }
+    requires right { AreChanges right.now }
     ensures edges { IfOk result (λ sum. AreEdges sum.items) }
     ensures weights { IfOk result (λ sum. HaveWeights (weight_in_both left.now right.now) sum.items) }
     ensures too_large { IfErr result (λ fault. fault ≢ AddFault.OutOfMemory → IsUnlawfulColumn (weight_in_both left.now right.now)) }

@@ -11,9 +11,12 @@ use crate::corner::{Corner, rows_of_corners};
 use crate::edge::weight_at_column;
 use crate::fault::AddFault;
 use crate::row::Row;
-use crate::row_map::mapped_rows;
+use crate::row_change::{RowChange, changed_rows, with_columns_stretched};
+use crate::row_move::{mirrored_rows, stretched_rows};
 use crate::run::Run;
 use crate::runs::Runs;
+use crate::stretch::Stretch;
+use crate::turn::turned_rows;
 use crate::weight_map::WeightMap;
 use mf_geom::OutOfMemory;
 use std::alloc::Global;
@@ -50,6 +53,7 @@ impl Picture {
     ghost use Rattle.mf_rows.specs.Corners.{AreCorners, with_corners_at};
     ghost use Rattle.mf_rows.specs.Dots.{IsPicture, weight_at, total_of};
     ghost use Rattle.mf_rows.specs.Edges.{picture_of_rows};
+    ghost use Rattle.mf_rows.specs.Moves.{IsStretch, StayInside, columns_mirrored_at, rows_mirrored_at, stretched_at, turned_at};
     ghost use Rattle.mf_rows.specs.Runs.{runs_of};
     ghost use Rattle.mf_rows.specs.Sums.{HasWeights, IsUnlawfulSomewhere, sum_at};
     ghost use Rattle.mf_rows.specs.Walk.{runs_left};
@@ -157,7 +161,60 @@ impl Picture {
         ensures lawful { IfOk result IsPicture }
     {
         let rows = rows_of(alloc, &self.bands)?;
-        Picture::from_rows(alloc, mapped_rows(alloc, &rows, map)?)
+        let changed = changed_rows(alloc, &rows, &RowChange::Weights(*map))?;
+        Picture::from_rows(alloc, changed)
+    }
+
+    /// The picture reflected in the line between columns -1 and 0: column x becomes column -x - 1. Refusal
+    /// OutOfMemory (14).
+    pub fn mirror_columns(&self, alloc: Global) -> Result<Picture, OutOfMemory>
+        ensures weights { IfOk result (HasWeights (columns_mirrored_at self.now)) }
+        ensures lawful { IfOk result IsPicture }
+    {
+        let rows = rows_of(alloc, &self.bands)?;
+        let changed = changed_rows(alloc, &rows, &RowChange::Mirror)?;
+        Picture::from_rows(alloc, changed)
+    }
+
+    /// The picture reflected in the line between rows -1 and 0: row y becomes row -y - 1. The rows are shared.
+    /// Refusal OutOfMemory (14).
+    pub fn mirror_rows(&self, alloc: Global) -> Result<Picture, OutOfMemory>
+        ensures weights { IfOk result (HasWeights (rows_mirrored_at self.now)) }
+        ensures lawful { IfOk result IsPicture }
+    {
+        let rows = rows_of(alloc, &self.bands)?;
+        Picture::from_rows(alloc, mirrored_rows(alloc, &rows)?)
+    }
+
+    /// The picture of which the columns and the rows are stretched, so that each pixel becomes a rectangle of
+    /// its weight. All of these must lie in the field. Rows that come from one share their edges. Refusal
+    /// OutOfMemory (14).
+    pub fn stretch(
+        &self,
+        alloc: Global,
+        columns: &Stretch,
+        rows: &Stretch,
+    ) -> Result<Picture, OutOfMemory>
+        requires columns { IsStretch columns.now }
+        requires rows { IsStretch rows.now }
+        requires inside { StayInside columns.now rows.now self.now }
+        ensures weights { IfOk result (HasWeights (stretched_at columns.now rows.now self.now)) }
+        ensures lawful { IfOk result IsPicture }
+    {
+        let old = rows_of(alloc, &self.bands)?;
+        let changed = with_columns_stretched(alloc, old, columns)?;
+        Picture::from_rows(alloc, stretched_rows(alloc, &changed, rows)?)
+    }
+
+    /// The picture turned by 90 degrees counterclockwise round the point (0, 0): the pixel (x, y) becomes the
+    /// pixel (-y - 1, x). Refused with OutOfMemory (14) alone.
+    pub fn turn(&self, alloc: Global) -> Result<Picture, AddFault>
+        ensures weights { IfOk result (HasWeights (turned_at self.now)) }
+        ensures lawful { IfOk result IsPicture }
+        ensures memory { IfErr result (λ fault. fault ≡ AddFault.OutOfMemory) }
+    {
+        let rows = rows_of(alloc, &self.bands)?;
+        Ok(Picture::from_rows(alloc, turned_rows(alloc, &rows)?)?)
     }
 
     /// The picture with corners added to it; the given one is unchanged. It shares the bands that no corner

@@ -4,6 +4,7 @@ mod chance;
 pub(crate) mod corners;
 mod equal;
 mod generated;
+mod moves;
 mod slow;
 mod sums;
 

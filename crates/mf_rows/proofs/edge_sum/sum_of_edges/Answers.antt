@@ -18,7 +18,7 @@ returns-then-not-is_lawful_weight-clause-too_large c =
     λ _. record {
       x = x;
       unlawful = λ lawful. both_ways c.is_lawful_weight.result c.if-not-is_lawful_weight.true
-          (c.is_lawful_weight.ensures.1 (subst IsLawfulWeight (omega (arith, ints, here, left.change, right.change, c.loop-x.invariant.lawful)) lawful));
+          (c.is_lawful_weight.ensures.1 (subst IsLawfulWeight (omega (arith, ints, here, left.difference, right.difference, c.loop-x.invariant.lawful)) lawful));
     }
 
 -- one of the two rows has an edge at the first column
@@ -37,11 +37,11 @@ loop-x-preserved c =
     let x_is : to_z w32 (of_z w32 x) ≡ x = omega (arith, ints) in
     let left = rw x_is at c.split_at-more_left.ensures in
     let right = rw x_is at c.split_at-more_right.ensures in
-    let v_is : to_z w32 (of_z w32 v) ≡ v = omega (arith, ints, left.change) in
-    let w_is : to_z w32 (of_z w32 w) ≡ w = omega (arith, ints, right.change) in
-    let more_is : to_z w32 (of_z w32 (v +ℤ w)) ≡ v +ℤ w = omega (arith, ints, left.change, right.change) in
+    let v_is : to_z w32 (of_z w32 v) ≡ v = omega (arith, ints, left.difference) in
+    let w_is : to_z w32 (of_z w32 w) ≡ w = omega (arith, ints, right.difference) in
+    let more_is : to_z w32 (of_z w32 (v +ℤ w)) ≡ v +ℤ w = omega (arith, ints, left.difference, right.difference) in
     let weight = to_z w32 c.loop-x.weight-bits in
-    let total_is : to_z w32 (of_z w32 (weight +ℤ (v +ℤ w))) ≡ weight +ℤ (v +ℤ w) = omega (arith, ints, left.change, right.change, c.loop-x.invariant.lawful) in
+    let total_is : to_z w32 (of_z w32 (weight +ℤ (v +ℤ w))) ≡ weight +ℤ (v +ℤ w) = omega (arith, ints, left.difference, right.difference, c.loop-x.invariant.lawful) in
     let lawful = rw (v_is, w_is, more_is, total_is) at (c.is_lawful_weight.ensures.0 c.if-not-is_lawful_weight.false) in
     rw (c.in_ok-push_unless_zero.ensures, x_is, v_is, w_is, more_is, total_is)
     (sum_more _ _ _ _ _ _ c.loop-x.invariant x c.in-Some.ensures.first _ _ v w left right lawful)

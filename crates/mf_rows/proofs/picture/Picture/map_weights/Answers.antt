@@ -1,10 +1,10 @@
-use Rattle.std.proofs.Common.{◌≡◌, subst, ap, ◌∙◌}
+use Rattle.std.proofs.Common.{◌≡◌}
 use Rattle.std.proofs.lemmas.Result.{IfOk-weaker}
 use Rattle.mf_rows.specs.Bands.{edge_rows, rows_of_bands}
 use Rattle.mf_rows.specs.Dots.{IsPicture}
 use Rattle.mf_rows.specs.Edges.{picture_of_rows}
-use Rattle.mf_rows.specs.Sums.{HasWeights, HaveRowWeights}
-use Rattle.mf_rows.specs.WeightMaps.{mapped_at, mapped_in_rows}
+use Rattle.mf_rows.specs.Sums.{HasWeights}
+use Rattle.mf_rows.specs.WeightMaps.{mapped_at}
 use Rattle.mf_rows.proofs.EdgesLemmas.{lawful_picture_of_rows}
 use Rattle.mf_rows.proofs.PictureRows.{weights_mapped}
 use Rattle.mf_rows.proofs.picture.Picture.map_weights.Goals as goal
@@ -12,15 +12,14 @@ use Rattle.mf_rows.proofs.picture.Picture.map_weights.Goals as goal
 pub returns-clause-weights : goal.returns-clause-weights
 returns-clause-weights c =
     let rows = rows_of_bands c.self.inside.bands.items in
-    let mapped = edge_rows c.in_ok-mapped_rows.field-0.items in
-    let all : edge_rows c.deref-2.result.now ≡ rows = ap edge_rows c.deref-2.ensures.value ∙ c.in_ok-rows.ensures ∙ ap rows_of_bands c.deref.ensures.value in
-    let weights = subst (λ ss. HaveRowWeights (mapped_in_rows c.args.map.now ss) mapped) all c.in_ok-mapped_rows.ensures.weights in
-    let has = subst (λ ds. HasWeights (mapped_at c.args.map.now ds) (picture_of_rows mapped)) c.self.view_is (weights_mapped c.args.map.now rows mapped c.self.invariant c.in_ok-mapped_rows.ensures.rows weights) in
+    let mapped = edge_rows c.in_ok-changed.changed.items in
+    let weights = rw (c.deref-2.ensures.value, c.in_ok-rows.ensures, c.deref.ensures.value) at c.in_ok-changed.ensures.weights in
+    let has = rw c.self.view_is at (weights_mapped c.args.map.now rows mapped c.self.invariant c.in_ok-changed.ensures.rows weights) in
     IfOk-weaker c.from_rows.result (λ picture. picture ≡ picture_of_rows mapped) (HasWeights (mapped_at c.args.map.now c.args.self.now))
     (λ picture is. rw is has) c.from_rows.ensures
 
 pub returns-clause-lawful : goal.returns-clause-lawful
 returns-clause-lawful c =
-    let mapped = edge_rows c.in_ok-mapped_rows.field-0.items in
+    let mapped = edge_rows c.in_ok-changed.changed.items in
     IfOk-weaker c.from_rows.result (λ picture. picture ≡ picture_of_rows mapped) IsPicture
-    (λ picture is. rw is (lawful_picture_of_rows mapped c.in_ok-mapped_rows.ensures.rows)) c.from_rows.ensures
+    (λ picture is. rw is (lawful_picture_of_rows mapped c.in_ok-changed.ensures.rows)) c.from_rows.ensures

@@ -3,7 +3,7 @@ use Rattle.std.proofs.lemmas.Int.{ints}
 use Rattle.std.proofs.lemmas.List.{drop_all}
 use Rattle.mf_rows.specs.declared.edge.Edge.{Edge}
 use Rattle.mf_rows.proofs.EdgeMaps.{mapped_none, mapped_read, lawful_more, mapped_more, mapped_all}
-use Rattle.mf_rows.proofs.row_map.mapped_edges.Goals as goal
+use Rattle.mf_rows.proofs.edge_change.mapped_edges.Goals as goal
 
 pub loop-edge-init : goal.loop-edge-init
 loop-edge-init c = rw c.new-mapped.ensures.items (mapped_none c.args.map.now c.args.edges.now c.requires.edges c.requires.map)

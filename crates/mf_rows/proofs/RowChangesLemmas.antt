@@ -1,0 +1,171 @@
+-- Rows that are changed each by itself, one row after another.
+use Rattle.std.proofs.Common.{◌≡◌, ◌≢◌, ℕ, ◌+◌, ◌<◌, ℤ, pos, negsuc, ◌+ℤ◌, ◌-ℤ◌, ◌*ℤ◌, ◌≤ℤ◌, ◌<ℤ◌, of_z, w32, Bool, true, false, not, List, [], ◌∷◌, ◌++◌, length, drop, get_or, refl, sym, ap, subst, ◌∙◌, arith}
+use Rattle.std.specs.Bool.{Decides}
+use Rattle.std.specs.Cmp.Lexicographic.{pointwise}
+use Rattle.std.specs.List.{All}
+use Rattle.std.proofs.lemmas.Bool.{false≢true}
+use Rattle.std.proofs.lemmas.Bool.Decides.{Decides-int_eq, Decides-and, Decides-like}
+use Rattle.std.proofs.lemmas.Int.{ints}
+use Rattle.std.proofs.lemmas.List.{drop_more}
+use Rattle.std.proofs.lemmas.List.Elements.{All-nil, All-tail, All-append, All-weaker, All-head}
+use Rattle.std.proofs.lemmas.Slice.Eq.{slice_eq-Decides}
+use Rattle.mf_rows.specs.contracts.edge.EdgePartialEq.TheImpl as edge_eq
+use Rattle.mf_rows.specs.declared.edge.Edge.{Edge}
+use Rattle.mf_rows.specs.declared.row.Row.{Row}
+use Rattle.mf_rows.specs.declared.row_change.RowChange.{RowChange}
+use Rattle.mf_rows.specs.declared.row_change.RowChange.TheVariants as change
+use Rattle.mf_rows.specs.declared.stretch.Stretch.{Stretch}
+use Rattle.mf_rows.specs.Bands.{edge_row, edge_rows, AreBelow}
+use Rattle.mf_rows.specs.BlankRows.{unless_blank}
+use Rattle.mf_rows.specs.Edges.{weight_in, AreEdges, EdgeRow, AreRowsFrom, AreRows, weight_in_rows}
+use Rattle.mf_rows.specs.Moves.{IsStretch, IsPointInReach, stretched_to, source_of}
+use Rattle.mf_rows.specs.RowChanges.{row_image, IsRowChange, AllowsChange, AllowChange, changed_in, changed_in_rows, AreChanged}
+use Rattle.mf_rows.specs.Sums.{HaveRowWeights}
+use Rattle.mf_rows.proofs.BlankRowsLemmas.{weight_in_rows-unless_blank, rows_from-unless_blank, All-unless_blank}
+use Rattle.mf_rows.proofs.EdgesLemmas.{weight_in_rows-append, weight_in_rows-here, weight_in_rows-elsewhere, weight_in_rows-below, rows_from-higher, rows_from-below, rows_from-append}
+use Rattle.mf_rows.proofs.RowSums.{by_height}
+use Rattle.mf_rows.proofs.Sources.{source_of-is}
+
+-- ---- edges that are compared
+
+same_edge : (d e : Edge) → d.x ≡ e.x → d.weight ≡ e.weight → d ≡ e
+same_edge d e column weight = λ i. record { x = column i; weight = weight i }
+
+-- edges compare as equal exactly where they are
+edge_decides : (d e : Edge) → Decides ((edge_eq.eq-value).it d e) (d ≡ e)
+edge_decides d e =
+    Decides-like ((edge_eq.eq-value).it d e) (λ same. same_edge d e same.0 same.1) (λ same. (ap (λ t. t.x) same, ap (λ t. t.weight) same))
+    (Decides-and _ _ (Decides-int_eq d.x e.x) (Decides-int_eq d.weight e.weight))
+
+true_from_not : (b : Bool) → false ≡ not b → b ≡ true
+true_from_not true e = refl
+true_from_not false e = absurd (false≢true e)
+
+pub same_edges : (es fs : List Edge) → false ≡ not (pointwise (edge_eq.eq-value).it es fs) → es ≡ fs
+same_edges es fs no_other = (slice_eq-Decides edge_decides es fs _ refl).0 (true_from_not _ no_other)
+
+-- ---- one row
+
+-- a blank row stays blank
+image_of_blank : (c : RowChange) (x : ℤ) → IsRowChange c → row_image c (λ z. pos 0) x ≡ pos 0
+image_of_blank (change.Weights m) x lawful = lawful.zero
+image_of_blank change.Mirror x lawful = refl
+image_of_blank (change.Columns s) x lawful = refl
+
+-- rows with the same weights have the same image
+same_image : (c : RowChange) (f g : ℤ → ℤ) (x : ℤ) → ((z : ℤ) → f z ≡ g z) → row_image c f x ≡ row_image c g x
+same_image c f g x same = λ t. row_image c (λ z. same z t) x
+
+pub changed-none : (c : RowChange) → IsRowChange c → AreChanged c [] []
+unfolding weight_in changed_in
+changed-none c lawful = record {
+  edges = record { sorted = tt; lawful = λ x. record { least = omega (arith, ints); greatest = omega (arith, ints) }; closed = refl };
+  weights = record { weights = λ x. sym (image_of_blank c x lawful) };
+}
+
+-- the row and those below it have their weights at different heights, so each is changed by itself
+changed_in_rows-cons : (c : RowChange) (r : EdgeRow) (rest : List EdgeRow) (image : List Edge) (x v : ℤ) → IsRowChange c → AreBelow r.y rest → AreChanged c r.edges image → weight_in_rows (unless_blank (record { y = r.y; edges = image })) x v +ℤ changed_in_rows c rest x v ≡ changed_in_rows c (r ∷ rest) x v
+unfolding changed_in_rows changed_in weight_in_rows
+changed_in_rows-cons c r rest image x v lawful below changed =
+    let row : EdgeRow = record { y = r.y; edges = image } in
+    let kept = weight_in_rows-unless_blank r.y image x v in
+    by_height r.y v
+    (λ here.
+    let none : (z : ℤ) → weight_in_rows rest z v ≡ pos 0 = λ z. weight_in_rows-below rest z v (subst (λ y. AreBelow y rest) here below) in
+    let none_changed = same_image c _ _ x none ∙ image_of_blank c x lawful in
+    let whole : (z : ℤ) → weight_in_rows (r ∷ rest) z v ≡ weight_in r.edges z = λ z. omega (arith, ints, weight_in_rows-here r rest z v here, none z) in
+    let whole_changed = same_image c _ _ x whole in
+    let own = weight_in_rows-here row [] x v here in
+    let has = changed.weights.weights x in
+    omega (arith, ints))
+    (λ apart.
+    let none = weight_in_rows-elsewhere row [] x v apart in
+    let others = same_image c _ _ x (λ z. weight_in_rows-elsewhere r rest z v apart) in
+    omega (arith, ints))
+
+-- ---- the rows so far
+
+-- rows have the weights of all rows after the change but those that are left, and stand above these
+pub record IsChangeSoFar (c : RowChange) (whole left changed : List EdgeRow) : Type 0 where
+  pub to_come : AreRowsFrom (pos 4094) left
+  pub allowed : AllowChange c left
+  pub rows : AreRowsFrom (pos 4094) changed
+  pub apart : All (λ r. AreBelow r.y left) changed
+  pub weights : (x y : ℤ) → weight_in_rows changed x y +ℤ changed_in_rows c left x y ≡ changed_in_rows c whole x y
+
+pub change_none : (c : RowChange) (whole : List EdgeRow) → AreRows whole → AllowChange c whole → IsChangeSoFar c whole whole []
+unfolding weight_in_rows
+change_none c whole rows allowed = record {
+  to_come = rows.rows;
+  allowed = allowed;
+  rows = tt;
+  apart = All-nil (λ r. AreBelow r.y whole);
+  weights = λ x y. omega (arith, ints);
+}
+
+-- the first of the rows that are left
+pub change_next : {c : RowChange} {whole changed : List EdgeRow} (rows : List Row) (k : ℕ) (row : Row) → k < length rows → row ≡ get_or rows k row → IsChangeSoFar c whole (edge_rows (drop k rows)) changed → IsChangeSoFar c whole (edge_row row ∷ edge_rows (drop (k + 1) rows)) changed
+change_next {c = c} {whole = whole} {changed = changed} rows k row inside read so_far =
+    subst (λ left. IsChangeSoFar c whole left changed) (ap edge_rows (drop_more rows k row inside) ∙ ap (λ r. edge_row r ∷ edge_rows (drop (k + 1) rows)) (sym read)) so_far
+
+pub allowed_next : {c : RowChange} {whole rest changed : List EdgeRow} {r : EdgeRow} → IsChangeSoFar c whole (r ∷ rest) changed → AllowsChange c r.edges
+allowed_next {c = c} {rest = rest} {r = r} so_far = All-head (λ r. AllowsChange c r.edges) r rest so_far.allowed
+
+pub change_more : (c : RowChange) (whole rest changed : List EdgeRow) (r : EdgeRow) (image : List Edge) → IsRowChange c → IsChangeSoFar c whole (r ∷ rest) changed → AreChanged c r.edges image → IsChangeSoFar c whole rest (changed ++ unless_blank (record { y = r.y; edges = image }))
+change_more c whole rest changed r image lawful so_far has =
+    let row : EdgeRow = record { y = r.y; edges = image } in
+    let first = so_far.to_come.0 in
+    let below = rows_from-below (r.y -ℤ pos 1) r.y rest so_far.to_come.2 (omega (arith, ints)) in
+    record {
+      to_come = rows_from-higher (pos 4094) (r.y -ℤ pos 1) rest (omega (arith, ints, first.top)) so_far.to_come.2;
+      allowed = All-tail (λ r. AllowsChange c r.edges) r rest so_far.allowed;
+      rows = rows_from-append (pos 4094) changed (unless_blank row) so_far.rows
+          (rows_from-higher (pos 4094) r.y (unless_blank row) first.top (rows_from-unless_blank r.y image first.bottom first.top has.edges))
+          (All-weaker (λ s. AreBelow s.y (r ∷ rest)) (λ s. AreBelow s.y (unless_blank row))
+          (λ s lower. All-unless_blank (λ t. t.y <ℤ s.y) r.y image (All-head (λ t. t.y <ℤ s.y) r rest lower)) changed so_far.apart);
+      apart = All-append (λ s. AreBelow s.y rest) changed (unless_blank row)
+          (All-weaker (λ s. AreBelow s.y (r ∷ rest)) (λ s. AreBelow s.y rest) (λ s lower. All-tail (λ t. t.y <ℤ s.y) r rest lower) changed so_far.apart)
+          (All-unless_blank (λ s. AreBelow s.y rest) r.y image below);
+      weights = λ x y.
+          let old = so_far.weights x y in
+          let parts = weight_in_rows-append changed (unless_blank row) x y in
+          let next = changed_in_rows-cons c r rest image x y lawful below has in
+          omega (arith, ints);
+    }
+
+pub change_all : (c : RowChange) (whole changed : List EdgeRow) → IsRowChange c → IsChangeSoFar c whole [] changed → HaveRowWeights (changed_in_rows c whole) changed
+unfolding weight_in_rows changed_in_rows
+change_all c whole changed lawful so_far = record { weights = λ x y. let all = so_far.weights x y in omega (arith, ints, image_of_blank c x lawful) }
+
+-- ---- columns that stay in their places
+
+once : (p f o : ℤ) → f ≡ pos 1 → (p *ℤ f) +ℤ o ≡ p +ℤ o
+once p f o one = rw one (omega (arith, ints))
+
+source_of-same : (s : Stretch) (q : ℤ) → IsStretch s → s.factor ≡ pos 1 → s.offset ≡ pos 0 → source_of s q ≡ q
+source_of-same s q stretch one none =
+    let start : stretched_to s q ≡ q +ℤ s.offset = once q s.factor s.offset one in
+    let behind : stretched_to s (q +ℤ pos 1) ≡ q +ℤ pos 1 +ℤ s.offset = once (q +ℤ pos 1) s.factor s.offset one in
+    source_of-is s q q stretch (omega (arith, ints)) (omega (arith, ints))
+
+columns_stay : (s : Stretch) (rs : List EdgeRow) → IsStretch s → s.factor ≡ pos 1 → s.offset ≡ pos 0 → HaveRowWeights (changed_in_rows (change.Columns s) rs) rs
+unfolding changed_in_rows
+columns_stay s rs stretch one none = record { weights = λ x y. ap (λ z. weight_in_rows rs z y) (sym (source_of-same s x stretch one none)) }
+
+-- an edge that stays in reach bounds the offset
+short_offset : (s : Stretch) (es : List Edge) → es ≢ [] → AreEdges es → AllowsChange (change.Columns s) es → s.factor ≡ pos 1 → (negsuc 8189 ≤ℤ s.offset) × (s.offset ≤ℤ pos 8190)
+short_offset s [] some edges allowed one = absurd (some refl)
+short_offset s (e ∷ es) some edges allowed one =
+    let reach = All-head (λ e. IsPointInReach (stretched_to s e.x)) e es allowed in
+    let edge = edges.sorted.0 in
+    let moved : stretched_to s e.x ≡ e.x +ℤ s.offset = once e.x s.factor s.offset one in
+    (omega (arith, ints, reach.least, edge.right), omega (arith, ints, reach.greatest, edge.left))
+
+pub columns_same : (s : Stretch) (rs : List EdgeRow) → AreRows rs → AllowChange (change.Columns s) rs → IsStretch s → of_z w32 s.factor ≡ 1 → of_z w32 s.offset ≡ 0 → HaveRowWeights (changed_in_rows (change.Columns s) rs) rs
+unfolding changed_in_rows weight_in_rows
+columns_same s [] rows allowed stretch one none = record { weights = λ x y. refl }
+columns_same s (r ∷ rs) rows allowed stretch one none =
+    let factor : s.factor ≡ pos 1 = omega (arith, ints, stretch.least, stretch.greatest) in
+    let row = rows.rows.0 in
+    let short = short_offset s r.edges row.some row.edges (All-head (λ r. AllowsChange (change.Columns s) r.edges) r rs allowed) factor in
+    columns_stay s (r ∷ rs) stretch factor (omega (arith, ints, short.0, short.1))

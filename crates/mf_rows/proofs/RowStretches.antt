@@ -1,0 +1,202 @@
+-- Rows that are stretched, each of which becomes a strip of rows.
+use Rattle.std.proofs.Common.{◌≡◌, ◌≢◌, ℕ, zero, suc, ◌+◌, ◌<◌, ℤ, pos, negsuc, ◌+ℤ◌, ◌-ℤ◌, ◌*ℤ◌, ◌≤ℤ◌, ◌<ℤ◌, List, [], ◌∷◌, ◌++◌, length, drop, get_or, refl, sym, ap, subst, ◌∙◌, append_assoc, append-nil, FitsSigned, to_z, of_z, w32, arith}
+use Rattle.std.specs.Int.RustNames.{unsigned_abs}
+use Rattle.std.specs.List.{All}
+use Rattle.std.proofs.lemmas.Int.{ints, to_z-of_z, fits_signed_mul, by_lt_z}
+use Rattle.std.proofs.lemmas.List.Elements.{All-nil, All-cons, All-head, All-tail, All-append, All-weaker}
+use Rattle.std.proofs.lemmas.List.{drop_more}
+use Rattle.mf_rows.specs.declared.edge.Edge.{Edge}
+use Rattle.mf_rows.specs.declared.row.Row.{Row}
+use Rattle.mf_rows.specs.declared.stretch.Stretch.{Stretch}
+use Rattle.mf_rows.specs.Bands.{edge_row, edge_rows, AreBelow}
+use Rattle.mf_rows.specs.Edges.{weight_in, AreEdges, EdgeRow, AreRowsFrom, AreRows, weight_in_rows}
+use Rattle.mf_rows.specs.Moves.{IsStretch, StaysInside, source_of, stretched_to}
+use Rattle.mf_rows.specs.RowChanges.{AllowStretch, stretched_in_rows}
+use Rattle.mf_rows.specs.RowMoves.{strip, HasStretched}
+use Rattle.mf_rows.specs.Sums.{HaveRowWeights}
+use Rattle.mf_rows.proofs.EdgesLemmas.{weight_in_rows-append, weight_in_rows-here, weight_in_rows-elsewhere, weight_in_rows-none, weight_in_rows-below, rows_from-higher, rows_from-below, rows_from-append}
+use Rattle.mf_rows.proofs.RowSums.{by_height}
+use Rattle.mf_rows.proofs.Sources.{stretched_to-le, stretched_to-next, source_of-reached, source_of-from, source_of-is}
+
+-- ---- the strip of a row
+
+-- behind rows there are now the first `down` of those that a row becomes: with the others they are all
+pub record IsStripSoFar (before : List EdgeRow) (r : EdgeRow) (s : Stretch) (down : ℤ) (after : List EdgeRow) : Type 0 where
+  pub all : after ++ strip (stretched_to s r.y) r.edges (unsigned_abs (s.factor -ℤ down)) ≡ before ++ strip (stretched_to s r.y) r.edges (unsigned_abs s.factor)
+
+pub strip_none : (before : List EdgeRow) (r : EdgeRow) (s : Stretch) → IsStripSoFar before r s (pos 0) before
+strip_none before r s =
+    let all : s.factor -ℤ pos 0 ≡ s.factor = omega (arith, ints) in
+    record { all = rw all refl }
+
+-- a number and the next one, as sizes
+record AreSizes (larger smaller : ℤ) : Type 0 where
+  next : unsigned_abs larger ≡ suc (unsigned_abs smaller)
+  size : pos (unsigned_abs smaller) ≡ smaller
+
+are_sizes : (larger smaller : ℤ) → pos 0 ≤ℤ smaller → larger ≡ smaller +ℤ pos 1 → AreSizes larger smaller
+are_sizes larger smaller least next = record { next = omega (arith, ints); size = omega (arith, ints) }
+
+-- the next row goes below them
+pub strip_more : (before : List EdgeRow) (r : EdgeRow) (s : Stretch) (down : ℤ) (after : List EdgeRow) (row : EdgeRow) → (down +ℤ pos 1) ≤ℤ s.factor → IsStripSoFar before r s down after → row ≡ record { y = stretched_to s r.y +ℤ (s.factor -ℤ (down +ℤ pos 1)); edges = r.edges } → IsStripSoFar before r s (down +ℤ pos 1) (after ++ row ∷ [])
+unfolding strip
+strip_more before r s down after row le so_far is =
+    let bottom = stretched_to s r.y in
+    let below = s.factor -ℤ (down +ℤ pos 1) in
+    let sizes = are_sizes (s.factor -ℤ down) below (omega (arith, ints)) (omega (arith, ints)) in
+    let n = unsigned_abs below in
+    let row_is : row ≡ record { y = bottom +ℤ pos n; edges = r.edges } = is ∙ rw sizes.size refl in
+    record { all = append_assoc after (row ∷ []) (strip bottom r.edges n) ∙ ap (λ t. after ++ t ∷ strip bottom r.edges n) row_is ∙ rw sizes.next at so_far.all }
+
+-- all rows of the strip are there
+pub strip_all : (before : List EdgeRow) (r : EdgeRow) (s : Stretch) (down : ℤ) (after : List EdgeRow) → s.factor ≡ down → IsStripSoFar before r s down after → HasStretched before r s after
+unfolding strip
+strip_all before r s down after end so_far =
+    let none : s.factor -ℤ down ≡ pos 0 = omega (arith, ints) in
+    record { all = sym (append-nil after) ∙ rw none at so_far.all }
+
+-- ---- numbers that the code computes
+
+pub product_read_back : (y f : ℤ) → negsuc 4094 ≤ℤ y → y ≤ℤ pos 4094 → pos 1 ≤ℤ f → f ≤ℤ pos 4095 → to_z w32 (of_z w32 (y *ℤ f)) ≡ y *ℤ f
+product_read_back y f bottom top least greatest = to_z-of_z w32 (y *ℤ f) (fits_signed_mul w32 y f 4095 4095 (omega (arith, ints)) (omega (arith, ints)) (omega arith))
+
+-- where the next row of a strip stands, as the code computes it
+pub record NextStripRow (s : Stretch) (y down : ℤ) : Type 0 where
+  pub more : to_z w32 (of_z w32 (down +ℤ pos 1)) ≡ down +ℤ pos 1
+  pub bottom : to_z w32 (of_z w32 (to_z w32 (of_z w32 (to_z w32 (of_z w32 y) *ℤ to_z w32 (of_z w32 s.factor))) +ℤ to_z w32 (of_z w32 s.offset))) ≡ stretched_to s y
+  pub up : to_z w32 (of_z w32 (to_z w32 (of_z w32 (to_z w32 (of_z w32 s.factor) -ℤ pos 1)) -ℤ down)) ≡ s.factor -ℤ (down +ℤ pos 1)
+  pub fits : FitsSigned w32 (stretched_to s y +ℤ (s.factor -ℤ (down +ℤ pos 1)))
+  pub row : to_z w32 (of_z w32 (stretched_to s y +ℤ (s.factor -ℤ (down +ℤ pos 1)))) ≡ stretched_to s y +ℤ (s.factor -ℤ (down +ℤ pos 1))
+
+pub next_strip_row : (s : Stretch) (y down : ℤ) → IsStretch s → negsuc 4094 ≤ℤ y → y ≤ℤ pos 4094 → StaysInside s y → to_z w32 (of_z w32 s.offset) ≡ s.offset → pos 0 ≤ℤ down → (down +ℤ pos 1) ≤ℤ s.factor → NextStripRow s y down
+next_strip_row s y down stretch bottom top inside offset least greatest =
+    let product = product_read_back y s.factor bottom top stretch.least stretch.greatest in
+    let y_is : to_z w32 (of_z w32 y) ≡ y = omega (arith, ints) in
+    let factor_is : to_z w32 (of_z w32 s.factor) ≡ s.factor = omega (arith, ints) in
+    record {
+      more = omega (arith, ints);
+      bottom = rw (y_is, factor_is, product, offset) (omega (arith, ints));
+      up = rw factor_is (omega (arith, ints));
+      fits = omega (arith, ints);
+      row = omega (arith, ints);
+    }
+
+-- ---- the weights of a strip
+
+-- its rows stand in their range of heights
+strip_heights : (bottom : ℤ) (es : List Edge) (n : ℕ) → All (λ t. (bottom ≤ℤ t.y) × (t.y <ℤ (bottom +ℤ pos n))) (strip bottom es n)
+unfolding strip
+strip_heights bottom es zero = All-nil (λ t. (bottom ≤ℤ t.y) × (t.y <ℤ (bottom +ℤ pos zero)))
+strip_heights bottom es (suc n) =
+    All-cons (λ t. (bottom ≤ℤ t.y) × (t.y <ℤ (bottom +ℤ pos (suc n)))) (record { y = bottom +ℤ pos n; edges = es }) (strip bottom es n) (omega (arith, ints), omega (arith, ints))
+    (All-weaker (λ t. (bottom ≤ℤ t.y) × (t.y <ℤ (bottom +ℤ pos n))) (λ t. (bottom ≤ℤ t.y) × (t.y <ℤ (bottom +ℤ pos (suc n)))) (λ t within. (within.0, omega (arith, ints))) (strip bottom es n) (strip_heights bottom es n))
+
+strip_weight-outside : (bottom : ℤ) (es : List Edge) (n : ℕ) (x v : ℤ) → (bottom ≤ℤ v → v <ℤ (bottom +ℤ pos n) → ⊥) → weight_in_rows (strip bottom es n) x v ≡ pos 0
+strip_weight-outside bottom es n x v outside =
+    weight_in_rows-none (strip bottom es n) x v (All-weaker (λ t. (bottom ≤ℤ t.y) × (t.y <ℤ (bottom +ℤ pos n))) (λ t. t.y ≢ v)
+    (λ t within same. outside (omega (arith, ints)) (omega (arith, ints))) (strip bottom es n) (strip_heights bottom es n))
+
+strip_weight-inside : (bottom : ℤ) (es : List Edge) (n : ℕ) (x v : ℤ) → bottom ≤ℤ v → v <ℤ (bottom +ℤ pos n) → weight_in_rows (strip bottom es n) x v ≡ weight_in es x
+unfolding strip
+strip_weight-inside bottom es zero x v above below = absurd (omega (arith, ints))
+strip_weight-inside bottom es (suc n) x v above below =
+    let row : EdgeRow = record { y = bottom +ℤ pos n; edges = es } in
+    by_height (bottom +ℤ pos n) v
+    (λ here. let others = strip_weight-outside bottom es n x v (λ least lower. omega (arith, ints)) in omega (arith, ints, others, weight_in_rows-here row (strip bottom es n) x v here))
+    (λ apart. weight_in_rows-elsewhere row (strip bottom es n) x v apart ∙ strip_weight-inside bottom es n x v above (omega (arith, ints)))
+
+strip_rows : (top bottom : ℤ) (es : List Edge) (n : ℕ) → negsuc 4094 ≤ℤ bottom → (bottom +ℤ pos n) ≤ℤ pos 4095 → (bottom +ℤ pos n) ≤ℤ (top +ℤ pos 1) → es ≢ [] → AreEdges es → AreRowsFrom top (strip bottom es n)
+unfolding strip
+strip_rows top bottom es zero low high reach some edges = tt
+strip_rows top bottom es (suc n) low high reach some edges = (
+  record { bottom = omega (arith, ints); top = omega (arith, ints); some = some; edges = edges },
+  omega (arith, ints),
+  strip_rows ((bottom +ℤ pos n) -ℤ pos 1) bottom es n low (omega (arith, ints)) (omega (arith, ints)) some edges,
+)
+
+-- ---- the rows so far
+
+-- rows have the stretched weights of all rows but those that are left, and stand above the strips of these
+pub record IsStretchSoFar (s : Stretch) (whole left stretched : List EdgeRow) : Type 0 where
+  pub to_come : AreRowsFrom (pos 4094) left
+  pub inside : AllowStretch s left
+  pub rows : AreRowsFrom (pos 4094) stretched
+  pub apart : All (λ t. All (λ r. stretched_to s (r.y +ℤ pos 1) ≤ℤ t.y) left) stretched
+  pub weights : (x v : ℤ) → weight_in_rows stretched x v +ℤ stretched_in_rows s left x v ≡ stretched_in_rows s whole x v
+
+pub stretch_none : (s : Stretch) (whole : List EdgeRow) → AreRows whole → AllowStretch s whole → IsStretchSoFar s whole whole []
+unfolding weight_in_rows
+stretch_none s whole rows inside = record {
+  to_come = rows.rows;
+  inside = inside;
+  rows = tt;
+  apart = All-nil (λ t. All (λ r. stretched_to s (r.y +ℤ pos 1) ≤ℤ t.y) whole);
+  weights = λ x v. omega (arith, ints);
+}
+
+-- the first of the rows that are left
+pub stretch_next : {s : Stretch} {whole stretched : List EdgeRow} (rows : List Row) (k : ℕ) (row : Row) → k < length rows → row ≡ get_or rows k row → IsStretchSoFar s whole (edge_rows (drop k rows)) stretched → IsStretchSoFar s whole (edge_row row ∷ edge_rows (drop (k + 1) rows)) stretched
+stretch_next {s = s} {whole = whole} {stretched = stretched} rows k row inside read so_far =
+    subst (λ left. IsStretchSoFar s whole left stretched) (ap edge_rows (drop_more rows k row inside) ∙ ap (λ r. edge_row r ∷ edge_rows (drop (k + 1) rows)) (sym read)) so_far
+
+-- the strip of a row has its weights where they come from, and those of the rows below it come from elsewhere
+stretched_in_rows-cons : (s : Stretch) (r : EdgeRow) (rest : List EdgeRow) (n : ℕ) (x v : ℤ) → IsStretch s → pos n ≡ s.factor → AreBelow r.y rest → weight_in_rows (strip (stretched_to s r.y) r.edges n) x v +ℤ stretched_in_rows s rest x v ≡ stretched_in_rows s (r ∷ rest) x v
+unfolding stretched_in_rows
+stretched_in_rows-cons s r rest n x v stretch size below =
+    let bottom = stretched_to s r.y in
+    let next = stretched_to-next s r.y in
+    by_height r.y (source_of s v)
+    (λ here.
+    let above : bottom ≤ℤ v = source_of-reached s r.y v stretch (omega (arith, ints)) in
+    let under : v <ℤ (bottom +ℤ pos n) = by_lt_z v (bottom +ℤ pos n) (λ lt. lt) (λ ge.
+    let from = source_of-from s (r.y +ℤ pos 1) v stretch (omega (arith, ints)) in
+    absurd (omega (arith, ints))) in
+    let own = strip_weight-inside bottom r.edges n x v above under in
+    let none = weight_in_rows-below rest x (source_of s v) (subst (λ y. AreBelow y rest) here below) in
+    let all = weight_in_rows-here r rest x (source_of s v) here in
+    omega (arith, ints))
+    (λ apart.
+    let own = strip_weight-outside bottom r.edges n x v (λ above under. apart (sym (source_of-is s r.y v stretch above (omega (arith, ints))))) in
+    let others = weight_in_rows-elsewhere r rest x (source_of s v) apart in
+    omega (arith, ints))
+
+-- the next row becomes its strip
+pub stretch_more : (s : Stretch) (whole rest stretched after : List EdgeRow) (r : EdgeRow) → IsStretch s → IsStretchSoFar s whole (r ∷ rest) stretched → HasStretched stretched r s after → IsStretchSoFar s whole rest after
+stretch_more s whole rest stretched after r stretch so_far has =
+    let bottom = stretched_to s r.y in
+    let n = unsigned_abs s.factor in
+    let own = strip bottom r.edges n in
+    let size : pos n ≡ s.factor = omega (arith, ints) in
+    let next = stretched_to-next s r.y in
+    let lawful = so_far.to_come.0 in
+    let inside = All-head (λ r. StaysInside s r.y) r rest so_far.inside in
+    let below = rows_from-below (r.y -ℤ pos 1) r.y rest so_far.to_come.2 (omega (arith, ints)) in
+    let heights = strip_heights bottom r.edges n in
+    let under : All (λ t. AreBelow t.y own) stretched =
+    All-weaker (λ t. All (λ q. stretched_to s (q.y +ℤ pos 1) ≤ℤ t.y) (r ∷ rest)) (λ t. AreBelow t.y own)
+    (λ t over.
+    let end = All-head (λ q. stretched_to s (q.y +ℤ pos 1) ≤ℤ t.y) r rest over in
+    All-weaker (λ q. (bottom ≤ℤ q.y) × (q.y <ℤ (bottom +ℤ pos n))) (λ q. q.y <ℤ t.y) (λ q within. omega (arith, ints)) own heights) stretched so_far.apart in
+    let over_rest : All (λ t. All (λ q. stretched_to s (q.y +ℤ pos 1) ≤ℤ t.y) rest) own =
+    All-weaker (λ t. (bottom ≤ℤ t.y) × (t.y <ℤ (bottom +ℤ pos n))) (λ t. All (λ q. stretched_to s (q.y +ℤ pos 1) ≤ℤ t.y) rest)
+    (λ t within. All-weaker (λ q. q.y <ℤ r.y) (λ q. stretched_to s (q.y +ℤ pos 1) ≤ℤ t.y)
+    (λ q lower. let le = stretched_to-le s (q.y +ℤ pos 1) r.y stretch (omega (arith, ints)) in omega (arith, ints)) rest below) own heights in
+    let lawful_strip = strip_rows (pos 4094) bottom r.edges n inside.start.least (omega (arith, ints)) (omega (arith, ints)) lawful.some lawful.edges in
+    rw has.all (record {
+      to_come = rows_from-higher (pos 4094) (r.y -ℤ pos 1) rest (omega (arith, ints)) so_far.to_come.2;
+      inside = All-tail (λ r. StaysInside s r.y) r rest so_far.inside;
+      rows = rows_from-append (pos 4094) stretched own so_far.rows lawful_strip under;
+      apart = All-append (λ t. All (λ q. stretched_to s (q.y +ℤ pos 1) ≤ℤ t.y) rest) stretched own
+          (All-weaker (λ t. All (λ q. stretched_to s (q.y +ℤ pos 1) ≤ℤ t.y) (r ∷ rest)) (λ t. All (λ q. stretched_to s (q.y +ℤ pos 1) ≤ℤ t.y) rest)
+          (λ t over. All-tail (λ q. stretched_to s (q.y +ℤ pos 1) ≤ℤ t.y) r rest over) stretched so_far.apart)
+          over_rest;
+      weights = λ x v.
+          let old = so_far.weights x v in
+          let parts = weight_in_rows-append stretched own x v in
+          let new = stretched_in_rows-cons s r rest n x v stretch size below in
+          omega (arith, ints);
+    })
+
+pub stretch_all : (s : Stretch) (whole stretched : List EdgeRow) → IsStretchSoFar s whole [] stretched → HaveRowWeights (stretched_in_rows s whole) stretched
+unfolding weight_in_rows stretched_in_rows
+stretch_all s whole stretched so_far = record { weights = λ x v. let all = so_far.weights x v in omega (arith, ints) }

@@ -1,0 +1,145 @@
+-- What a stretch that stays inside the field needs of the rows and edges of a picture, and the picture that it gives.
+use Rattle.std.proofs.Common.{◌≡◌, ◌≢◌, ℤ, pos, negsuc, ◌+ℤ◌, ◌-ℤ◌, ◌≤ℤ◌, List, [], ◌∷◌, refl, sym, subst, ◌∙◌, arith}
+use Rattle.std.specs.List.{All}
+use Rattle.std.proofs.lemmas.Int.{ints}
+use Rattle.std.proofs.lemmas.List.Elements.{All-nil, All-cons, All-head, All-tail, All-weaker}
+use Rattle.mf_rows.specs.declared.edge.Edge.{Edge}
+use Rattle.mf_rows.specs.declared.row_change.RowChange.TheVariants as change
+use Rattle.mf_rows.specs.declared.stretch.Stretch.{Stretch}
+use Rattle.mf_rows.specs.Dots.{Dot, weight_at}
+use Rattle.mf_rows.specs.Edges.{weight_in, AreEdgesFrom, EdgeRow, IsEdgeRow, AreRowsFrom, AreRows, weight_in_rows, picture_of_rows}
+use Rattle.mf_rows.specs.Moves.{IsPointInReach, StaysInside, StayInside, source_of, stretched_to, stretched_at}
+use Rattle.mf_rows.specs.RowChanges.{AllowChange, AllowStretch, changed_in_rows, stretched_in_rows}
+use Rattle.mf_rows.specs.Sums.{HasWeights, HaveRowWeights}
+use Rattle.mf_rows.proofs.DotsLemmas.{IsAt, weight_at-elsewhere}
+use Rattle.mf_rows.proofs.EdgesLemmas.{weight_in-left, weight_in-right, weight_in-before, weight_in_rows-here, weight_in_rows-elsewhere, weight_in_rows-below, rows_from-below, weight_at-picture_of_rows}
+use Rattle.mf_rows.proofs.RowSums.{by_height}
+
+-- ---- pixels that are not 0
+
+-- what holds of all dots holds of each pixel of nonzero weight
+holds_at_weight : (P : ℤ → ℤ → Type 0) (ds : List Dot) (x y : ℤ) → All (λ d. P d.x d.y) ds → weight_at ds x y ≢ pos 0 → P x y
+unfolding weight_at
+holds_at_weight P [] x y all nonzero = absurd (nonzero refl)
+holds_at_weight P (d ∷ ds) x y all nonzero =
+    let others = λ (elsewhere : IsAt d x y → ⊥). holds_at_weight P ds x y (All-tail (λ d. P d.x d.y) d ds all) (λ zero. nonzero (weight_at-elsewhere d ds x y elsewhere ∙ zero)) in
+    by_height d.x x
+    (λ column. by_height d.y y
+    (λ row. subst (λ a. P a y) column (subst (λ b. P d.x b) row (All-head (λ d. P d.x d.y) d ds all)))
+    (λ apart. others (λ here. apart here.row)))
+    (λ apart. others (λ here. apart here.column))
+
+-- ---- rows
+
+-- a row has its weights among rows, of which none stands higher than `top`
+record IsOneOf (top : ℤ) (rs : List EdgeRow) (r : EdgeRow) : Type 0 where
+  row : IsEdgeRow r
+  reach : r.y ≤ℤ top
+  weights : (x : ℤ) → weight_in_rows rs x r.y ≡ weight_in r.edges x
+
+each_row : (top : ℤ) (rs : List EdgeRow) → AreRowsFrom top rs → All (IsOneOf top rs) rs
+each_row top [] rows = All-nil (IsOneOf top [])
+each_row top (r ∷ rs) rows =
+    let start : r.y ≤ℤ top = rows.1 in
+    let below = rows_from-below (r.y -ℤ pos 1) r.y rs rows.2 (omega (arith, ints)) in
+    All-cons (IsOneOf top (r ∷ rs)) r rs
+    (record {
+      row = rows.0;
+      reach = start;
+      weights = λ x. omega (arith, ints, weight_in_rows-here r rs x r.y refl, weight_in_rows-below rs x r.y below);
+    })
+    (All-weaker (IsOneOf (r.y -ℤ pos 1) rs) (IsOneOf top (r ∷ rs))
+    (λ s own. record {
+      row = own.row;
+      reach = omega (arith, ints);
+      weights = λ x. weight_in_rows-elsewhere r rs x s.y (λ same. omega (arith, ints)) ∙ own.weights x;
+    }) rs (each_row (r.y -ℤ pos 1) rs rows.2))
+
+-- a row that is not blank has a weight at its first edge
+first_weight : {P : Type 0} (low : ℤ) (es : List Edge) → es ≢ [] → AreEdgesFrom low es → ((x : ℤ) → weight_in es x ≢ pos 0 → P) → P
+first_weight low [] some edges use_at = absurd (some refl)
+first_weight low (e ∷ es) some edges use_at =
+    let none = weight_in-before (e.x +ℤ pos 1) es e.x edges.2 (omega (arith, ints)) in
+    let here = weight_in-left e es e.x (omega (arith, ints)) in
+    use_at e.x (λ zero. edges.0.nonzero (omega (arith, ints)))
+
+-- so a stretch keeps rows inside where it keeps the pixels of nonzero weight inside
+pub rows_stay : (s : Stretch) (rs : List EdgeRow) → AreRows rs → ((x y : ℤ) → weight_in_rows rs x y ≢ pos 0 → StaysInside s y) → AllowStretch s rs
+rows_stay s rs rows inside =
+    All-weaker (IsOneOf (pos 4094) rs) (λ r. StaysInside s r.y)
+    (λ r own. first_weight (negsuc 4094) r.edges own.row.some own.row.edges.sorted (λ x nonzero. inside x r.y (λ zero. nonzero (sym (own.weights x) ∙ zero))))
+    rs (each_row (pos 4094) rs rows.rows)
+
+-- ---- edges
+
+-- at an edge the weight changes
+record IsJump (low : ℤ) (es : List Edge) (e : Edge) : Type 0 where
+  reach : low ≤ℤ e.x
+  nonzero : e.weight ≢ pos 0
+  jump : weight_in es e.x ≡ weight_in es (e.x -ℤ pos 1) +ℤ e.weight
+
+jumps : (low : ℤ) (es : List Edge) → AreEdgesFrom low es → All (IsJump low es) es
+jumps low [] edges = All-nil (IsJump low [])
+jumps low (e ∷ es) edges =
+    let start : low ≤ℤ e.x = edges.1 in
+    All-cons (IsJump low (e ∷ es)) e es
+    (record {
+      reach = start;
+      nonzero = edges.0.nonzero;
+      jump =
+          let here = weight_in-before (e.x +ℤ pos 1) es e.x edges.2 (omega (arith, ints)) in
+          let before = weight_in-before (e.x +ℤ pos 1) es (e.x -ℤ pos 1) edges.2 (omega (arith, ints)) in
+          let with_e = weight_in-left e es e.x (omega (arith, ints)) in
+          let without = weight_in-right e es (e.x -ℤ pos 1) (omega (arith, ints)) in
+          omega (arith, ints);
+    })
+    (All-weaker (IsJump (e.x +ℤ pos 1) es) (IsJump low (e ∷ es))
+    (λ f is. record {
+      reach = omega (arith, ints);
+      nonzero = is.nonzero;
+      jump =
+          let here = weight_in-left e es f.x (omega (arith, ints)) in
+          let before = weight_in-left e es (f.x -ℤ pos 1) (omega (arith, ints)) in
+          omega (arith, ints);
+    }) es (jumps (e.x +ℤ pos 1) es edges.2))
+
+-- so the pixel at the edge or the one left of it is not 0, and the edge is at an end of its stretch
+edges_stay : (s : Stretch) (low : ℤ) (es : List Edge) → AreEdgesFrom low es → ((x : ℤ) → weight_in es x ≢ pos 0 → StaysInside s x) → All (λ e. IsPointInReach (stretched_to s e.x)) es
+edges_stay s low es edges inside =
+    All-weaker (IsJump low es) (λ e. IsPointInReach (stretched_to s e.x))
+    (λ e is. by_height (weight_in es e.x) (pos 0)
+    (λ zero.
+    let left = inside (e.x -ℤ pos 1) (λ none. is.nonzero (omega (arith, ints))) in
+    let same : (e.x -ℤ pos 1) +ℤ pos 1 ≡ e.x = omega (arith, ints) in
+    subst (λ x. IsPointInReach (stretched_to s x)) same left.end)
+    (λ nonzero. (inside e.x nonzero).start))
+    es (jumps low es edges)
+
+pub columns_stay : (s : Stretch) (rs : List EdgeRow) → AreRows rs → ((x y : ℤ) → weight_in_rows rs x y ≢ pos 0 → StaysInside s x) → AllowChange (change.Columns s) rs
+columns_stay s rs rows inside =
+    All-weaker (IsOneOf (pos 4094) rs) (λ r. All (λ e. IsPointInReach (stretched_to s e.x)) r.edges)
+    (λ r own. edges_stay s (negsuc 4094) r.edges own.row.edges.sorted (λ x nonzero. inside x r.y (λ zero. nonzero (sym (own.weights x) ∙ zero))))
+    rs (each_row (pos 4094) rs rows.rows)
+
+-- ---- the picture
+
+module _ (columns rows : Stretch) (rs : List EdgeRow) (lawful : AreRows rs) where
+  pub columns_allowed : StayInside columns rows (picture_of_rows rs) → AllowChange (change.Columns columns) rs
+  columns_allowed inside =
+      columns_stay columns rs lawful (λ x y nonzero. holds_at_weight (λ a b. StaysInside columns a) (picture_of_rows rs) x y inside.across
+      (λ zero. nonzero (sym (weight_at-picture_of_rows rs x y lawful) ∙ zero)))
+
+  -- rows keep their heights where their columns are stretched
+  pub rows_allowed : (changed : List EdgeRow) → StayInside columns rows (picture_of_rows rs) → AreRows changed → HaveRowWeights (changed_in_rows (change.Columns columns) rs) changed → AllowStretch rows changed
+  unfolding changed_in_rows
+  rows_allowed changed inside lawful_changed has =
+      rows_stay rows changed lawful_changed (λ x y nonzero. holds_at_weight (λ a b. StaysInside rows b) (picture_of_rows rs) (source_of columns x) y inside.up
+      (λ zero. nonzero (has.weights x y ∙ sym (weight_at-picture_of_rows rs (source_of columns x) y lawful) ∙ zero)))
+
+  pub weights_stretched : (changed stretched : List EdgeRow) → AreRows stretched → HaveRowWeights (changed_in_rows (change.Columns columns) rs) changed → HaveRowWeights (stretched_in_rows rows changed) stretched → HasWeights (stretched_at columns rows (picture_of_rows rs)) (picture_of_rows stretched)
+  unfolding changed_in_rows stretched_in_rows stretched_at
+  weights_stretched changed stretched lawful_stretched has has_stretched = record {
+    weights = λ x y inside.
+        weight_at-picture_of_rows stretched x y lawful_stretched ∙ has_stretched.weights x y ∙ has.weights x (source_of rows y)
+        ∙ sym (weight_at-picture_of_rows rs (source_of columns x) (source_of rows y) lawful);
+  }

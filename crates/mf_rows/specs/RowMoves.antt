@@ -1,0 +1,16 @@
+-- Rows that were pushed for one row that is stretched.
+use Rattle.std.specs.Prelude.{◌≡◌, ℕ, zero, suc, ℤ, pos, ◌+ℤ◌, List, [], ◌∷◌, ◌++◌}
+use Rattle.std.specs.Int.RustNames.{unsigned_abs}
+use Rattle.mf_rows.specs.declared.edge.Edge.{Edge}
+use Rattle.mf_rows.specs.declared.stretch.Stretch.{Stretch}
+use Rattle.mf_rows.specs.Edges.{EdgeRow}
+use Rattle.mf_rows.specs.Moves.{stretched_to}
+
+-- n rows with these edges, from the top, the lowest of which is row y
+unfoldable pub strip : ℤ → List Edge → ℕ → List EdgeRow
+strip y es zero = []
+strip y es (suc n) = record { y = y +ℤ pos n; edges = es } ∷ strip y es n
+
+-- behind rows there are now those that a row becomes
+pub record HasStretched (before : List EdgeRow) (r : EdgeRow) (s : Stretch) (after : List EdgeRow) : Type 0 where
+  pub all : after ≡ before ++ strip (stretched_to s r.y) r.edges (unsigned_abs s.factor)

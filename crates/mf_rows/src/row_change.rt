@@ -1,0 +1,101 @@
+//! Changes of rows, each by itself.
+ghost use Rattle.std.specs.Prelude.{◌≡◌, ◌++◌, ◌≢◌, [], IfOk, OnOk};
+ghost use Rattle.mf_rows.specs.Bands.{edge_row, edge_rows};
+ghost use Rattle.mf_rows.specs.BlankRows.{unless_blank};
+ghost use Rattle.mf_rows.specs.Edges.{AreEdges, AreRows};
+ghost use Rattle.mf_rows.specs.Moves.{IsStretch};
+ghost use Rattle.mf_rows.specs.RowChanges.{AllowChange, AllowsChange, AreChanged, IsRowChange, changed_in_rows};
+ghost use Rattle.mf_rows.specs.Sums.{HaveRowWeights};
+
+use crate::edge::Edge;
+use crate::edge_change::{mapped_edges, mirrored_edges, stretched_edges};
+use crate::row::Row;
+use crate::stretch::Stretch;
+use crate::weight_map::WeightMap;
+use mf_geom::OutOfMemory;
+use std::alloc::Global;
+
+/// A change that each row undergoes by itself.
+#[derive(Clone, Copy, Debug)]
+pub(crate) enum RowChange {
+    /// Each weight is mapped.
+    Weights(WeightMap),
+    /// The columns change sides.
+    Mirror,
+    /// The columns are stretched.
+    Columns(Stretch),
+}
+
+/// The rows after a change; rows that become blank go. Neighbours with the same edges share theirs
+/// afterwards.
+pub(crate) fn changed_rows(
+    alloc: Global,
+    rows: &[Row],
+    change: &RowChange,
+) -> Result<Vec<Row>, OutOfMemory>
+    requires rows { AreRows (edge_rows rows.now) }
+    requires change { IsRowChange change.now }
+    requires allowed { AllowChange change.now (edge_rows rows.now) }
+    ensures rows { IfOk result (λ changed. AreRows (edge_rows changed.items)) }
+    ensures weights { IfOk result (λ changed. HaveRowWeights (changed_in_rows change.now (edge_rows rows.now)) (edge_rows changed.items)) }
+{
+    let mut changed = Vec::new(alloc);
+    // The last edges, and a row with what they became; at first no edges, which stay none.
+    let mut last: &[Edge] = &[];
+    let mut image = Row::new(alloc, 0, Vec::new(alloc))?;
+    for row in rows {
+        if row.edges() != last {
+            last = row.edges();
+            image = Row::new(alloc, row.y, changed_edges(alloc, last, change)?)?;
+        }
+        push_unless_blank(&mut changed, &image, row.y)?;
+    }
+    Ok(changed)
+}
+
+/// The rows of which the columns are stretched. Where the stretch leaves them in their places, these are the
+/// same rows.
+pub(crate) fn with_columns_stretched(
+    alloc: Global,
+    rows: Vec<Row>,
+    stretch: &Stretch,
+) -> Result<Vec<Row>, OutOfMemory>
+    requires rows { AreRows (edge_rows rows.items) }
+    requires stretch { IsStretch stretch.now }
+    requires allowed { AllowChange (RowChange.Columns stretch.now) (edge_rows rows.items) }
+    ensures rows { IfOk result (λ changed. AreRows (edge_rows changed.items)) }
+    ensures weights { IfOk result (λ changed. HaveRowWeights (changed_in_rows (RowChange.Columns stretch.now) (edge_rows rows.items)) (edge_rows changed.items)) }
+{
+    if stretch.factor == 1 && stretch.offset == 0 {
+        return Ok(rows);
+    }
+    changed_rows(alloc, &rows, &RowChange::Columns(*stretch))
+}
+
+/// Adds row y with the edges of another row, which are shared, to a list of rows, unless there are none.
+pub(crate) fn push_unless_blank(rows: &mut Vec<Row>, row: &Row, y: i32) -> Result<(), OutOfMemory>
+    ensures { OnOk result (edge_rows rows.new.items ≡ edge_rows rows.old.items ++ unless_blank (record { y = y; edges = (edge_row row.now).edges })) }
+{
+    if !row.edges().is_empty() {
+        rows.push(row.share_at(y)?)?;
+    }
+    Ok(())
+}
+
+/// The edges of a row after a change.
+fn changed_edges(
+    alloc: Global,
+    edges: &[Edge],
+    change: &RowChange,
+) -> Result<Vec<Edge>, OutOfMemory>
+    requires edges { AreEdges edges.now }
+    requires change { IsRowChange change.now }
+    requires allowed { AllowsChange change.now edges.now }
+    ensures { IfOk result (λ changed. AreChanged change.now edges.now changed.items) }
+{
+    match change {
+        RowChange::Weights(map) => mapped_edges(alloc, edges, map),
+        RowChange::Mirror => mirrored_edges(alloc, edges),
+        RowChange::Columns(stretch) => stretched_edges(alloc, edges, stretch),
+    }
+}
