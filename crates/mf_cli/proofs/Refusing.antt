@@ -11,7 +11,7 @@ use Rattle.mf_rows.specs.Dots.{Dot}
 use Rattle.mf_ops.specs.ContourWeight.{IsContourWeight}
 use Rattle.mf_ops.specs.Step as steps
 use Rattle.mf_ops.specs.declared.op.Op.TheVariants.{Contour}
-use Rattle.mf_ops.specs.declared.op.OpFault.TheVariants as faults
+use Rattle.mf_ops.specs.declared.op.OpFault.{OpFault}
 use Rattle.mf_cli.specs.Script.{contour_refusal, is_bad_weight}
 use Rattle.mf_cli.specs.declared.refusal.Refusal.{Refusal}
 use Rattle.mf_cli.specs.declared.refusal.Refusal.TheVariants as refusal
@@ -51,7 +51,7 @@ contour_refusal-none ds ps w cycle lawful none =
     contour_refusal-cycle ds ps w cycle
     ∙ (λ t. from_weight (is_bad_weight-lawful w lawful t) (option_map (λ fault. refusal.WeightTooLarge) (none t)))
 
-pub contour_refusal-some : (ds : List Dot) (ps : List Point) (w : ℤ) → IsCycle ps → IsContourWeight w → steps.fault_of ds (Contour ps w) ≡ Some faults.WeightTooLarge → contour_refusal ds ps w ≡ Some refusal.WeightTooLarge
-contour_refusal-some ds ps w cycle lawful some =
+pub contour_refusal-some : (ds : List Dot) (ps : List Point) (w : ℤ) (fault : OpFault) → IsCycle ps → IsContourWeight w → steps.fault_of ds (Contour ps w) ≡ Some fault → contour_refusal ds ps w ≡ Some refusal.WeightTooLarge
+contour_refusal-some ds ps w fault cycle lawful some =
     contour_refusal-cycle ds ps w cycle
     ∙ (λ t. from_weight (is_bad_weight-lawful w lawful t) (option_map (λ fault. refusal.WeightTooLarge) (some t)))

@@ -1,5 +1,5 @@
 //! The state of a script, and what its lines do.
-ghost use Rattle.std.specs.Prelude.{◌≡◌, ◌++◌, ℤ, codes, None, Some, IfOk, IfErr, OnErr, OnOk};
+ghost use Rattle.std.specs.Prelude.{◌≡◌, ◌≢◌, ◌++◌, ℤ, codes, None, Some, IfOk, IfErr, OnErr, OnOk};
 ghost use Rattle.std.specs.Fmt.{signed_decimal};
 ghost use Rattle.mf_ops.specs.Step.{stepped};
 ghost use Rattle.mf_ops.specs.declared.op.Op.TheVariants.{Contour};
@@ -116,8 +116,18 @@ fn with_contour(alloc: Global, picture: &Picture, path: Path, weight: i32) -> Re
     };
     match after(alloc, picture, &Op::Contour(cycle, weight)) {
         Ok(new) => Ok(new),
-        Err(OpFault::WeightTooLarge) => Err(Stop::Refused(Refusal::WeightTooLarge)),
-        Err(OpFault::OutOfMemory) => Err(Stop::OutOfMemory),
+        Err(fault) => Err(stop_of(fault)),
+    }
+}
+
+/// What stops a contour that is refused as an operation. A contour never leaves the field.
+fn stop_of(fault: OpFault) -> Stop
+    ensures refused { fault ≢ OpFault.OutOfMemory → result ≡ Stop.Refused Refusal.WeightTooLarge }
+    ensures memory { fault ≡ OpFault.OutOfMemory → result ≡ Stop.OutOfMemory }
+{
+    match fault {
+        OpFault::OutOfField | OpFault::WeightTooLarge => Stop::Refused(Refusal::WeightTooLarge),
+        OpFault::OutOfMemory => Stop::OutOfMemory,
     }
 }
 

@@ -33,7 +33,7 @@ sum_below-passed n a p from to =
     let further : p ≡ a +ℤ pos k = omega (arith, ints) in
     (λ t. sum_below n (λ i. passed (a +ℤ pos i) (further t))) ∙ sum_below-passed_after n k a ∙ omega (arith, ints)
 
-sum_below-passed_in_field : (p : ℤ) → negsuc 4094 ≤ℤ p → p ≤ℤ pos 4095 → sum_below 8190 (λ i. passed (negsuc 4094 +ℤ pos i) p) ≡ pos 4095 -ℤ p
+pub sum_below-passed_in_field : (p : ℤ) → negsuc 4094 ≤ℤ p → p ≤ℤ pos 4095 → sum_below 8190 (λ i. passed (negsuc 4094 +ℤ pos i) p) ≡ pos 4095 -ℤ p
 sum_below-passed_in_field p = sum_below-passed 8190 (negsuc 4094) p
 
 -- what an edge adds to the sum of the winding numbers: the area between it and the right side of the

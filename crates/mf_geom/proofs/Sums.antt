@@ -43,7 +43,7 @@ sum_below-swap (suc m) n f =
     ∙ sym (sum_below-add n (λ i. sum_below m (λ j. f j i)) (f m))
 
 -- one place further on, the first term is lost and a last one won
-sum_below-next : (n : ℕ) (f : ℕ → ℤ) → sum_below n (λ i. f (i + 1)) +ℤ f 0 ≡ sum_below n f +ℤ f n
+pub sum_below-next : (n : ℕ) (f : ℕ → ℤ) → sum_below n (λ i. f (i + 1)) +ℤ f 0 ≡ sum_below n f +ℤ f n
 unfolding sum_below
 sum_below-next zero f = refl
 sum_below-next (suc n) f =

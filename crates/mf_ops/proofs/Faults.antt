@@ -14,9 +14,15 @@ use Rattle.mf_rows.specs.Weights.{picture_of}
 use Rattle.mf_rows.proofs.WeightsLemmas.{IsDotOf, weight_at-picture_of, lawful_picture_of, picture_of-from_weights, picture_of-dots}
 use Rattle.mf_ops.specs.Faults.{op_fault}
 use Rattle.mf_ops.specs.Weights.{is_too_large, IsTooLargeSomewhere}
-use Rattle.mf_ops.specs.Step.{step_at, stepped, fault_of}
+use Rattle.mf_ops.specs.Step.{step_at, stepped, leaves, StaysInField, weight_fault, fault_of}
+use Rattle.mf_ops.specs.declared.cull.CullRule.{CullRule}
 use Rattle.mf_ops.specs.declared.op.Op.{Op}
-use Rattle.mf_ops.specs.declared.op.OpFault.TheVariants.{WeightTooLarge, OutOfMemory}
+use Rattle.mf_ops.specs.declared.op.Op.TheVariants as ops
+use Rattle.mf_ops.specs.declared.op.Op.TheVariants.{Contour, Also, Cull, Clear}
+use Rattle.mf_ops.specs.declared.op.OpFault.TheVariants.{OutOfField, WeightTooLarge, OutOfMemory}
+use Rattle.mf_ops.specs.declared.quarter.Quarter.{Quarter}
+use Rattle.mf_ops.specs.declared.sign.Sign.{Sign}
+use Rattle.mf_geom.specs.declared.point.Point.{Point}
 
 is_too_large-lawful : (w : ℤ) → IsLawfulWeight w → is_too_large w ≡ false
 is_too_large-lawful w lawful = grind (arith, ints)
@@ -58,42 +64,105 @@ pub stepped-from_weights : (ds : List Dot) (op : Op) (new : List Dot) → IsPict
 unfolding stepped
 stepped-from_weights ds op new picture has = picture_of-from_weights new (step_at ds op) picture has.weights
 
--- so the step is not refused
-pub fault_of-from_weights : (ds : List Dot) (op : Op) (new : List Dot) → IsPicture new → HasWeights (step_at ds op) new → fault_of ds op ≡ None
+-- where no pixel leaves the field, the weights alone decide
+fault_of-inside : (ds : List Dot) (op : Op) → StaysInField ds op → fault_of ds op ≡ weight_fault (stepped ds op)
 unfolding fault_of
-fault_of-from_weights ds op new picture has =
+fault_of-inside ds op stays = λ t. cond (stays.none_leaves t) (Some OutOfField) (weight_fault (stepped ds op))
+
+pub fault_of-leaves : (ds : List Dot) (op : Op) → list_any (leaves op) ds ≡ true → fault_of ds op ≡ Some OutOfField
+unfolding fault_of
+fault_of-leaves ds op leaves_it = λ t. cond (leaves_it t) (Some OutOfField) (weight_fault (stepped ds op))
+
+-- so a step with the weights of a picture is not refused
+pub fault_of-from_weights : (ds : List Dot) (op : Op) (new : List Dot) → StaysInField ds op → IsPicture new → HasWeights (step_at ds op) new → fault_of ds op ≡ None
+fault_of-from_weights ds op new stays picture has =
     let is = stepped-from_weights ds op new picture has in
     let none = none_too_large _ new picture.dots in
-    (λ t. cond (list_any (λ d. is_too_large d.weight) (sym is t)) (Some WeightTooLarge) None) ∙ (λ t. cond (none t) (Some WeightTooLarge) None)
+    fault_of-inside ds op stays ∙ (λ t. weight_fault (sym is t)) ∙ (λ t. cond (none t) (Some WeightTooLarge) None)
 
-pub fault_of-too_large : (ds : List Dot) (op : Op) → IsTooLargeSomewhere (step_at ds op) → fault_of ds op ≡ Some WeightTooLarge
-unfolding fault_of stepped
-fault_of-too_large ds op too_large = λ t. cond (some_too_large (step_at ds op) too_large t) (Some WeightTooLarge) None
+pub fault_of-too_large : (ds : List Dot) (op : Op) → StaysInField ds op → IsTooLargeSomewhere (step_at ds op) → fault_of ds op ≡ Some WeightTooLarge
+unfolding stepped
+fault_of-too_large ds op stays too_large = fault_of-inside ds op stays ∙ (λ t. cond (some_too_large (step_at ds op) too_large t) (Some WeightTooLarge) None)
 
 -- a step with an unlawful weight is refused
-pub fault_of-unlawful : (ds : List Dot) (op : Op) → IsUnlawfulSomewhere (step_at ds op) → fault_of ds op ≡ Some WeightTooLarge
-fault_of-unlawful ds op at =
-    fault_of-too_large ds op record { x = at.x; y = at.y; in_field = at.in_field; too_large = is_too_large-unlawful (step_at ds op at.x at.y) at.unlawful }
+pub fault_of-unlawful : (ds : List Dot) (op : Op) → StaysInField ds op → IsUnlawfulSomewhere (step_at ds op) → fault_of ds op ≡ Some WeightTooLarge
+fault_of-unlawful ds op stays at =
+    fault_of-too_large ds op stays record { x = at.x; y = at.y; in_field = at.in_field; too_large = is_too_large-unlawful (step_at ds op at.x at.y) at.unlawful }
 
 -- where adding to a picture is refused, be it not for want of memory, the step is refused for the same cause
-pub fault_of-op_fault : (ds : List Dot) (op : Op) (fault : AddFault) → (fault ≢ add.OutOfMemory → IsUnlawfulSomewhere (step_at ds op)) → op_fault fault ≢ OutOfMemory → fault_of ds op ≡ Some (op_fault fault)
-fault_of-op_fault ds op add.WeightTooLarge unlawful other = fault_of-unlawful ds op (unlawful (λ same. cc))
-fault_of-op_fault ds op add.OutOfMemory unlawful other = absurd (other refl)
+pub fault_of-op_fault : (ds : List Dot) (op : Op) (fault : AddFault) → StaysInField ds op → (fault ≢ add.OutOfMemory → IsUnlawfulSomewhere (step_at ds op)) → op_fault fault ≢ OutOfMemory → fault_of ds op ≡ Some (op_fault fault)
+fault_of-op_fault ds op add.WeightTooLarge stays unlawful other = fault_of-unlawful ds op stays (unlawful (λ same. cc))
+fault_of-op_fault ds op add.OutOfMemory stays unlawful other = absurd (other refl)
 
-none_where_lawful : (b : Bool) → cond b (Some WeightTooLarge) None ≡ None → b ≡ false
-none_where_lawful true none = cc
-none_where_lawful false none = refl
+-- most operations take no pixel anywhere
+never : (ds : List Dot) → list_any (λ d. false) ds ≡ false
+never [] = refl
+never (d ∷ ds) = never ds
+
+pub contour_stays : (ds : List Dot) (ps : List Point) (w : ℤ) → StaysInField ds (Contour ps w)
+contour_stays ds ps w = record { none_leaves = never ds }
+
+pub also_stays : (ds es : List Dot) (s : Sign) → StaysInField ds (Also es s)
+also_stays ds es s = record { none_leaves = never ds }
+
+pub cull_stays : (ds : List Dot) (c : CullRule) → StaysInField ds (Cull c)
+cull_stays ds c = record { none_leaves = never ds }
+
+pub quarter_stays : (ds : List Dot) (q : Quarter) → StaysInField ds (ops.Quarter q)
+quarter_stays ds q = record { none_leaves = never ds }
+
+pub clear_stays : (ds : List Dot) → StaysInField ds Clear
+clear_stays ds = record { none_leaves = never ds }
+
+-- so their steps are not refused with OutOfField
+weight_fault-not_out : (large : Bool) → cond large (Some WeightTooLarge) None ≢ Some OutOfField
+weight_fault-not_out true same = cc
+weight_fault-not_out false same = cc
+
+pub not_out : (ds : List Dot) (op : Op) → StaysInField ds op → fault_of ds op ≢ Some OutOfField
+not_out ds op stays out = weight_fault-not_out _ (sym (fault_of-inside ds op stays) ∙ out)
+
+pub contour_not_out : (ds : List Dot) (ps : List Point) (w : ℤ) → fault_of ds (Contour ps w) ≢ Some OutOfField
+contour_not_out ds ps w = not_out ds (Contour ps w) (contour_stays ds ps w)
+
+pub also_not_out : (ds es : List Dot) (s : Sign) → fault_of ds (Also es s) ≢ Some OutOfField
+also_not_out ds es s = not_out ds (Also es s) (also_stays ds es s)
+
+pub cull_not_out : (ds : List Dot) (c : CullRule) → fault_of ds (Cull c) ≢ Some OutOfField
+cull_not_out ds c = not_out ds (Cull c) (cull_stays ds c)
+
+pub quarter_not_out : (ds : List Dot) (q : Quarter) → fault_of ds (ops.Quarter q) ≢ Some OutOfField
+quarter_not_out ds q = not_out ds (ops.Quarter q) (quarter_stays ds q)
+
+pub clear_not_out : (ds : List Dot) → fault_of ds Clear ≢ Some OutOfField
+clear_not_out ds = not_out ds Clear (clear_stays ds)
+
+-- what each answer says of the two tests
+none_where_lawful : (out large : Bool) → cond out (Some OutOfField) (cond large (Some WeightTooLarge) None) ≡ None → (out ≡ false) × (large ≡ false)
+none_where_lawful true large none = cc
+none_where_lawful false true none = cc
+none_where_lawful false false none = (refl, refl)
+
+some_where_too_large : (out large : Bool) → cond out (Some OutOfField) (cond large (Some WeightTooLarge) None) ≡ Some WeightTooLarge → (out ≡ false) × (large ≡ true)
+some_where_too_large true large some = cc
+some_where_too_large false true some = (refl, refl)
+some_where_too_large false false some = cc
+
+some_where_out : (out large : Bool) → cond out (Some OutOfField) (cond large (Some WeightTooLarge) None) ≡ Some OutOfField → out ≡ true
+some_where_out true large some = refl
+some_where_out false true some = cc
+some_where_out false false some = cc
+
+pub stays-accepted : (ds : List Dot) (op : Op) → fault_of ds op ≡ None → StaysInField ds op
+unfolding fault_of
+stays-accepted ds op none = record { none_leaves = (none_where_lawful _ _ none).0 }
 
 pub not_too_large-accepted : (ds : List Dot) (op : Op) → fault_of ds op ≡ None → (x y : ℤ) → IsInField x y → is_too_large (step_at ds op x y) ≡ false
 unfolding fault_of stepped
 not_too_large-accepted ds op none x y in_field =
-    let lawful = none_where_lawful _ none in
+    let lawful = (none_where_lawful _ _ none).1 in
     let weight = weight_at-picture_of (step_at ds op) x y in_field in
     rw weight at (weight_at-not_too_large (picture_of (step_at ds op)) x y lawful)
-
-some_where_refused : (b : Bool) → cond b (Some WeightTooLarge) None ≡ Some WeightTooLarge → b ≡ true
-some_where_refused true some = refl
-some_where_refused false some = cc
 
 -- a dot that is too heavy is a pixel of the field
 found_too_large : (f : ℤ → ℤ → ℤ) → list_any (λ d. is_too_large d.weight) (picture_of f) ≡ true → IsTooLargeSomewhere f
@@ -103,9 +172,15 @@ found_too_large f some =
     let dot = All-contains (IsDotOf f) (picture_of f) d (picture_of-dots f) (found.0, found.2, found.3) in
     record { x = d.x; y = d.y; in_field = dot.in_field; too_large = rw dot.weight at found.4 }
 
-pub too_large-refused : (ds : List Dot) (op : Op) → fault_of ds op ≡ Some WeightTooLarge → IsTooLargeSomewhere (step_at ds op)
+pub too_large-refused : (ds : List Dot) (op : Op) → fault_of ds op ≡ Some WeightTooLarge → StaysInField ds op × IsTooLargeSomewhere (step_at ds op)
 unfolding fault_of stepped
-too_large-refused ds op refused = found_too_large (step_at ds op) (some_where_refused _ refused)
+too_large-refused ds op refused =
+    let tests = some_where_too_large _ _ refused in
+    (record { none_leaves = tests.0 }, found_too_large (step_at ds op) tests.1)
+
+pub leaves-refused : (ds : List Dot) (op : Op) → fault_of ds op ≡ Some OutOfField → list_any (leaves op) ds ≡ true
+unfolding fault_of
+leaves-refused ds op refused = some_where_out _ _ refused
 
 -- a step that is not refused makes a picture
 pub IsPicture-stepped : (ds : List Dot) (op : Op) → fault_of ds op ≡ None → IsPicture (stepped ds op)

@@ -1,4 +1,11 @@
 mod Adding
+mod AxisSums
 mod Faults
+mod Leaving
+mod MovedTotals
 mod Operations
+mod OutOfField
+mod Places
+mod Scaling
 mod Sides
+mod Turning

@@ -1,7 +1,9 @@
 pub mod ContourWeight
 pub mod Cull
 pub mod Faults
+pub mod Moves
 pub mod Operations
+pub mod Reflections
 pub mod Sides
 pub mod Step
 pub mod Weights

@@ -1,15 +1,17 @@
 -- What an operation makes of a picture, pixel by pixel.
-use Rattle.std.specs.Prelude.{ℤ, pos, ◌+ℤ◌, ◌-ℤ◌, List, Option, None, Some, if◌then◌else◌}
+use Rattle.std.specs.Prelude.{◌≡◌, ◌≢◌, ◌&&◌, Bool, false, not, ℤ, pos, ◌+ℤ◌, ◌-ℤ◌, List, Option, None, Some, if◌then◌else◌}
 use Rattle.std.specs.List.{list_any}
+use Rattle.mf_geom.specs.Field.{IsInField}
 use Rattle.mf_geom.specs.Winding.{contour}
 use Rattle.mf_rows.specs.Dots.{Dot, weight_at}
 use Rattle.mf_rows.specs.Weights.{picture_of}
 use Rattle.mf_ops.specs.Cull.{culled}
+use Rattle.mf_ops.specs.Moves.{scale_source, turned_by, stays_inside}
 use Rattle.mf_ops.specs.Weights.{is_too_large}
 use Rattle.mf_ops.specs.declared.op.Op.{Op}
-use Rattle.mf_ops.specs.declared.op.Op.TheVariants.{Contour, Also, Cull, Clear}
+use Rattle.mf_ops.specs.declared.op.Op.TheVariants.{Contour, Also, Cull, Shift, Scale, Quarter, Clear}
 use Rattle.mf_ops.specs.declared.op.OpFault.{OpFault}
-use Rattle.mf_ops.specs.declared.op.OpFault.TheVariants.{WeightTooLarge}
+use Rattle.mf_ops.specs.declared.op.OpFault.TheVariants.{OutOfField, WeightTooLarge}
 use Rattle.mf_ops.specs.declared.sign.Sign.TheVariants.{Plus, Minus}
 
 -- the weight of the pixel (x, y) after an operation on the picture ds
@@ -18,12 +20,40 @@ step_at ds (Contour ps w) x y = weight_at ds x y +ℤ contour ps w x y
 step_at ds (Also es Plus) x y = weight_at ds x y +ℤ weight_at es x y
 step_at ds (Also es Minus) x y = weight_at ds x y -ℤ weight_at es x y
 step_at ds (Cull c) x y = culled c (weight_at ds x y)
+step_at ds (Shift dx dy) x y = weight_at ds (x -ℤ dx) (y -ℤ dy)
+step_at ds (Scale s) x y = weight_at ds (scale_source s.x x) (scale_source s.y y)
+step_at ds (Quarter q) x y = turned_by q (weight_at ds) x y
 step_at ds Clear x y = pos 0
 
 -- the picture after an operation on the picture ds, be its weights lawful or not
 unfoldable pub stepped : List Dot → Op → List Dot
 stepped ds op = picture_of (step_at ds op)
 
+-- whether an operation takes a pixel out of the field; a turn takes the field to itself
+abbrev pub leaves : Op → Dot → Bool
+leaves (Contour ps w) d = false
+leaves (Also es s) d = false
+leaves (Cull c) d = false
+leaves (Shift dx dy) d = not (stays_inside (pos 1) dx d.x && stays_inside (pos 1) dy d.y)
+leaves (Scale s) d = not (stays_inside s.x (pos 0) d.x && stays_inside s.y (pos 0) d.y)
+leaves (Quarter q) d = false
+leaves Clear d = false
+
+-- an operation takes no pixel of the picture ds out of the field
+pub record StaysInField (ds : List Dot) (op : Op) : Type 0 where
+  pub none_leaves : list_any (leaves op) ds ≡ false
+
+-- why a picture is refused for its weights, if it is
+abbrev pub weight_fault : List Dot → Option OpFault
+weight_fault ds = if list_any (λ d. is_too_large d.weight) ds then Some WeightTooLarge else None
+
 -- why an operation on the picture ds is refused, if it is
 unfoldable pub fault_of : List Dot → Op → Option OpFault
-fault_of ds op = if list_any (λ d. is_too_large d.weight) (stepped ds op) then Some WeightTooLarge else None
+fault_of ds op = if list_any (leaves op) ds then Some OutOfField else weight_fault (stepped ds op)
+
+-- at some pixel outside the field the weight f is not 0
+pub record LiesOutside (f : ℤ → ℤ → ℤ) : Type 0 where
+  pub x : ℤ
+  pub y : ℤ
+  pub outside : IsInField x y → ⊥
+  pub nonzero : f x y ≢ pos 0

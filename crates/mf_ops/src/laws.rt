@@ -1,6 +1,7 @@
 //! Laws of the definitions: each is the contract of a function that does nothing.
-ghost use Rattle.std.specs.Prelude.{◌≡◌, ◌≢◌, ◌↔◌, false, ℤ, pos, ◌*ℤ◌, ◌≤ℤ◌, ◌+◌, List, [], ◌∷◌, ◌++◌, Some, None};
+ghost use Rattle.std.specs.Prelude.{◌≡◌, ◌≢◌, ◌↔◌, false, ℤ, pos, negsuc, neg_ℤ, ◌*ℤ◌, ◌-ℤ◌, ◌≤ℤ◌, ◌+◌, List, [], ◌∷◌, ◌++◌, Some, None};
 ghost use Rattle.std.specs.Int.{int_signum};
+ghost use Rattle.std.specs.Int.RustNames.{unsigned_abs};
 ghost use Rattle.mf_geom.specs.declared.point.Point.{Point};
 ghost use Rattle.mf_geom.specs.Area.{area};
 ghost use Rattle.mf_geom.specs.Field.{IsInField};
@@ -8,23 +9,63 @@ ghost use Rattle.mf_geom.specs.Lawful.{IsRectilinearCycle};
 ghost use Rattle.mf_geom.specs.Turning.{turning};
 ghost use Rattle.mf_rows.specs.Dots.{Dot, IsPicture, total_of, weight_at};
 ghost use Rattle.mf_ops.specs.Cull.{IsLawfulCull, culled};
+ghost use Rattle.mf_ops.specs.Moves.{Factors, AreFactors, IsFactor, HasPlace, scale_source, turned};
 ghost use Rattle.mf_ops.specs.Operations.{AreAccepted, picture_after, revision_after};
-ghost use Rattle.mf_ops.specs.Step.{step_at, stepped, fault_of};
+ghost use Rattle.mf_ops.specs.Step.{step_at, stepped, fault_of, StaysInField, LiesOutside};
 ghost use Rattle.mf_ops.specs.Weights.{is_too_large, IsTooLargeSomewhere};
 ghost use Rattle.mf_ops.specs.declared.op.Op.{Op};
 ghost use Rattle.mf_ops.specs.declared.cull.CullRule.TheVariants.{Keeping, Dropping};
-ghost use Rattle.mf_ops.specs.declared.op.Op.TheVariants.{Contour, Also};
+ghost use Rattle.mf_ops.specs.declared.op.Op.TheVariants as ops;
+ghost use Rattle.mf_ops.specs.declared.op.Op.TheVariants.{Contour, Also, Shift, Scale};
 ghost use Rattle.mf_ops.specs.declared.sign.Sign.TheVariants.{Minus};
-ghost use Rattle.mf_ops.specs.declared.op.OpFault.TheVariants.{WeightTooLarge};
+ghost use Rattle.mf_ops.specs.declared.op.OpFault.TheVariants.{OutOfField, WeightTooLarge};
+ghost use Rattle.mf_ops.specs.declared.quarter.Quarter.{Quarter};
 
-/// An operation is refused exactly where the weight of some pixel of the field would pass 32767 in size.
+/// An operation that takes no pixel of a picture out of the field is refused exactly where the weight of some
+/// pixel of the field would pass 32767 in size.
 pub fn refused_where_too_large()
-    ensures refused { (ds : List Dot) (op : Op) → IsTooLargeSomewhere (step_at ds op) →
+    ensures refused { (ds : List Dot) (op : Op) → StaysInField ds op → IsTooLargeSomewhere (step_at ds op) →
         fault_of ds op ≡ Some WeightTooLarge }
     ensures accepted { (ds : List Dot) (op : Op) → fault_of ds op ≡ None →
         (x y : ℤ) → IsInField x y → is_too_large (step_at ds op x y) ≡ false }
     ensures only { (ds : List Dot) (op : Op) → fault_of ds op ≡ Some WeightTooLarge →
-        IsTooLargeSomewhere (step_at ds op) }
+        StaysInField ds op × IsTooLargeSomewhere (step_at ds op) }
+{}
+
+/// A shift or a scale is refused with OutOfField exactly where some pixel outside the field would have a weight
+/// other than 0. A turn never is, and it gives no pixel outside the field a weight.
+pub fn refused_where_a_pixel_leaves()
+    ensures shift { (ds : List Dot) (dx dy : ℤ) → IsPicture ds →
+        (fault_of ds (Shift dx dy) ≡ Some OutOfField) ↔ LiesOutside (step_at ds (Shift dx dy)) }
+    ensures scale { (ds : List Dot) (s : Factors) → IsPicture ds → AreFactors s →
+        (fault_of ds (Scale s) ≡ Some OutOfField) ↔ LiesOutside (step_at ds (Scale s)) }
+    ensures turn { (ds : List Dot) (q : Quarter) → IsPicture ds →
+        (fault_of ds (ops.Quarter q) ≢ Some OutOfField) × (LiesOutside (step_at ds (ops.Quarter q)) → ⊥) }
+{}
+
+/// Under a scale each column, or row, comes from exactly one: the part of the axis to which the scale takes that
+/// one has it.
+pub fn one_source_under_a_scale()
+    ensures covered { (f q : ℤ) → IsFactor f → HasPlace f (scale_source f q) q }
+    ensures only { (f p q : ℤ) → IsFactor f → HasPlace f p q → scale_source f q ≡ p }
+{}
+
+/// Four turns by 90 degrees leave each weight in its place, and so do two reflections in one line.
+pub fn turns_and_reflections_return()
+    ensures turns { (f : ℤ → ℤ → ℤ) (x y : ℤ) → turned (turned (turned (turned f))) x y ≡ f x y }
+    ensures reflections { (q : ℤ) → scale_source (negsuc 0) (scale_source (negsuc 0) q) ≡ q }
+    ensures reflection { (q : ℤ) → scale_source (negsuc 0) q ≡ neg_ℤ q -ℤ pos 1 }
+{}
+
+/// A shift, a turn and a reflection keep the total weight, and a scale multiplies it by the size of the product of
+/// its factors, where they are not refused.
+pub fn totals_after_moves()
+    ensures shift { (ds : List Dot) (dx dy : ℤ) → IsPicture ds → fault_of ds (Shift dx dy) ≡ None →
+        total_of (stepped ds (Shift dx dy)) ≡ total_of ds }
+    ensures turn { (ds : List Dot) (q : Quarter) → IsPicture ds →
+        total_of (stepped ds (ops.Quarter q)) ≡ total_of ds }
+    ensures scale { (ds : List Dot) (s : Factors) → IsPicture ds → AreFactors s → fault_of ds (Scale s) ≡ None →
+        total_of (stepped ds (Scale s)) ≡ pos (unsigned_abs (s.x *ℤ s.y)) *ℤ total_of ds }
 {}
 
 /// The total weight of a blank picture after a contour is the contour's weight times the sign of its turning

@@ -6,12 +6,17 @@ mod cull;
 mod fill;
 pub mod laws;
 mod op;
+mod quarter;
+mod scale;
 mod sign;
 #[cfg(test)]
 mod tests;
+mod transform;
 mod weight;
 
 pub use cull::{BadCull, Cull};
 pub use op::{Op, OpFault, after};
+pub use quarter::{BadTurn, Quarter};
+pub use scale::{BadScale, Scale};
 pub use sign::Sign;
 pub use weight::{BadWeight, Weight};

@@ -1,12 +1,15 @@
 //! Operations on pictures, and what they make of a picture.
-ghost use Rattle.std.specs.Prelude.{◌≡◌, ◌≢◌, None, Some, IfOk, IfErr, OnOk};
+ghost use Rattle.std.specs.Prelude.{◌≡◌, ◌≢◌, None, Some, Err, IfOk, IfErr, OnOk};
 ghost use Rattle.mf_ops.specs.Step.{stepped, fault_of};
 ghost use Rattle.mf_ops.specs.declared.op.Op.TheVariants as ops;
 
 use crate::add::add;
 use crate::cull::Cull;
 use crate::fill::fill;
+use crate::quarter::Quarter;
+use crate::scale::Scale;
 use crate::sign::Sign;
+use crate::transform::{scale, shift, turn};
 use crate::weight::Weight;
 use mf_geom::{Cycle, OutOfMemory};
 use mf_rows::{AddFault, Picture};
@@ -24,6 +27,14 @@ pub enum Op {
     /// `cull p keeping (a, b) withweight w` and `cull p dropping (a, b) withweight w`: gives each pixel the
     /// weight or 0, by the range in which its weight lies.
     Cull(Cull),
+    /// `p := p shifted (dx, dy)`: moves each pixel by `dx` columns to the right and `dy` rows upwards.
+    Shift(i32, i32),
+    /// `p := p xscaled sx`, `yscaled sy`, `scaled s`: stretches each pixel by whole factors. A negative factor
+    /// reflects: with -1 column x becomes column -x - 1.
+    Scale(Scale),
+    /// `p := p rotated d` for quarter turns counterclockwise round the point (0, 0): by 90 degrees the pixel
+    /// (x, y) becomes the pixel (-y - 1, x).
+    Quarter(Quarter),
     /// `p := nullpicture`: every weight becomes 0.
     Clear,
 }
@@ -31,9 +42,11 @@ pub enum Op {
 /// Why an operation is refused.
 #[derive(Clone, Copy, Debug, PartialEq, Eq)]
 pub enum OpFault {
+    /// Refusal 11: a pixel of nonzero weight would leave the field.
+    OutOfField,
     /// Refusal 12: a weight would pass 32767 in size.
     WeightTooLarge,
-    /// Refusal 14. It may come in the place of 12.
+    /// Refusal 14. It may come in the place of 12, never of 11.
     OutOfMemory,
 }
 
@@ -71,22 +84,31 @@ impl Op {
             Op::Contour(cycle, weight) => Ok(Op::Contour(cycle.copy(alloc)?, *weight)),
             Op::Also(picture, sign) => Ok(Op::Also(picture.copy(alloc)?, *sign)),
             Op::Cull(cull) => Ok(Op::Cull(*cull)),
+            Op::Shift(right, up) => Ok(Op::Shift(*right, *up)),
+            Op::Scale(scale) => Ok(Op::Scale(*scale)),
+            Op::Quarter(quarter) => Ok(Op::Quarter(*quarter)),
             Op::Clear => Ok(Op::Clear),
         }
     }
 }
 
-/// The picture after an operation; the given one is unchanged. Refusals WeightTooLarge (12), exactly where
-/// the weight of a pixel would pass 32767 in size, and OutOfMemory (14).
+/// The picture after an operation; the given one is unchanged. Refusals OutOfField (11), exactly where a pixel
+/// of nonzero weight would leave the field, else WeightTooLarge (12), exactly where the weight of a pixel would
+/// pass 32767 in size, and OutOfMemory (14), which may come in the place of WeightTooLarge alone.
+#[tactic(auto, using(crate::proofs::Faults::contour_not_out, crate::proofs::Faults::also_not_out, crate::proofs::Faults::cull_not_out, crate::proofs::Faults::quarter_not_out, crate::proofs::Faults::clear_not_out))]
 pub fn after(alloc: Global, picture: &Picture, op: &Op) -> Result<Picture, OpFault>
     ensures step { IfOk result (λ new. new ≡ stepped picture.now op.now) }
     ensures accepted { OnOk result (fault_of picture.now op.now ≡ None) }
     ensures refused { IfErr result (λ fault. fault ≢ OpFault.OutOfMemory → fault_of picture.now op.now ≡ Some fault) }
+    ensures out_of_field { fault_of picture.now op.now ≡ Some OpFault.OutOfField → result ≡ Err OpFault.OutOfField }
 {
     match op {
         Op::Contour(cycle, weight) => fill(alloc, picture, cycle, *weight),
         Op::Also(other, sign) => add(alloc, picture, other, *sign),
         Op::Cull(cull) => after_cull(alloc, picture, *cull),
+        Op::Shift(right, up) => shift(alloc, picture, *right, *up),
+        Op::Scale(factors) => scale(alloc, picture, *factors),
+        Op::Quarter(quarter) => turn(alloc, picture, *quarter),
         Op::Clear => Ok(after_clear(alloc, picture)),
     }
 }

@@ -3,6 +3,7 @@
 mod contours;
 mod copies;
 mod culls;
+mod moves;
 mod sums;
 
 use crate::op::{Op, after};

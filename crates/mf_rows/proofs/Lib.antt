@@ -28,7 +28,7 @@ pub mod RunDots
 mod RunEdges
 mod RunsLeft
 pub mod RunsLemmas
-mod Sources
+pub mod Sources
 mod StretchBounds
 mod StripsLemmas
 pub mod Totals

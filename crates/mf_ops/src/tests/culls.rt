@@ -38,7 +38,7 @@ fn drop_range(
     after(alloc, picture, &Op::Cull(cull)).expect(rt, "the picture is culled")
 }
 
-/// Three bars over one another: weights 1, 2 and 3 in row 0.
+/// Three bars over one another: weights 1, 2 and 3 side by side.
 fn bars(rt: &impl Abort, alloc: Global) -> Result<Picture, AllocError> {
     let long: &[(i32, i32)] = &[(0, 0), (3, 0), (3, 1), (0, 1)];
     let middle: &[(i32, i32)] = &[(1, 0), (3, 0), (3, 1), (1, 1)];

@@ -1,4 +1,4 @@
-use Rattle.std.proofs.Common.{◌≡◌, ◌∙◌, ap, refl, Some, None, arith, to_z, of_z, w32}
+use Rattle.std.proofs.Common.{◌≡◌, ◌≢◌, ◌∙◌, ap, refl, Some, None, arith, to_z, of_z, w32}
 use Rattle.std.proofs.lemmas.Bool.{false≢true}
 use Rattle.std.proofs.lemmas.Int.{ints}
 use Rattle.mf_geom.specs.Lawful.{IsCycle, IsFault}
@@ -34,16 +34,16 @@ returns-in-Ok-after-clause-lawful c =
     let none : fault_of c.args.picture.now (Contour c.args.path c.args.weight) ≡ None = rw (path_is, made_is) at c.in-Ok-after.ensures.accepted in
     contour_refusal-none c.args.picture.now c.args.path c.args.weight cycle lawful none
 
-pub returns-in-Err-WeightTooLarge-clause-refused : goal.returns-in-Err-WeightTooLarge-clause-refused
-returns-in-Err-WeightTooLarge-clause-refused c why is =
-    let same : refusal.WeightTooLarge ≡ why = cc in
+pub returns-clause-refused : goal.returns-clause-refused
+returns-clause-refused c why is =
     let weight_is : to_z w32 (of_z w32 c.args.weight) ≡ c.args.weight = omega (arith, ints) in
     let cycle : IsCycle c.args.path = rw c.into_points.ensures at (c.in-Ok.ensures.accepted.0 refl) in
     let lawful : IsContourWeight c.args.weight = rw weight_is at (c.in-Ok-new.ensures.accepted.0 refl) in
     let path_is : c.in-Ok.cycle ≡ c.args.path = c.in-Ok.ensures.kept ∙ c.into_points.ensures in
     let made_is : c.in-Ok-new.weight ≡ c.args.weight = c.in-Ok-new.ensures.value ∙ weight_is in
-    let too_large : c.in-Err-WeightTooLarge.field-0 ≡ faults.WeightTooLarge = c.in-Err-WeightTooLarge.field-0-is in
-    let found : fault_of c.args.picture.now (Contour c.in-Ok.cycle c.in-Ok-new.weight) ≡ Some faults.WeightTooLarge =
-    c.in-Err-WeightTooLarge.ensures.refused (λ no_memory. absurd (cc)) ∙ ap Some too_large in
-    let some : fault_of c.args.picture.now (Contour c.args.path c.args.weight) ≡ Some faults.WeightTooLarge = rw (path_is, made_is) at found in
-    contour_refusal-some c.args.picture.now c.args.path c.args.weight cycle lawful some ∙ ap Some same
+    let other : c.in-Err-after.fault ≢ faults.OutOfMemory = λ memory. let stopped = c.stop_of.ensures.memory memory in absurd (cc) in
+    let found : fault_of c.args.picture.now (Contour c.in-Ok.cycle c.in-Ok-new.weight) ≡ Some c.in-Err-after.fault = c.in-Err-after.ensures.refused other in
+    let some : fault_of c.args.picture.now (Contour c.args.path c.args.weight) ≡ Some c.in-Err-after.fault = rw (path_is, made_is) at found in
+    let stopped = c.stop_of.ensures.refused other in
+    let same : refusal.WeightTooLarge ≡ why = cc in
+    contour_refusal-some c.args.picture.now c.args.path c.args.weight _ cycle lawful some ∙ ap Some same

@@ -2,7 +2,7 @@ use Rattle.std.proofs.lemmas.Result.{err_from_is_err_and}
 use Rattle.mf_ops.specs.declared.op.Op.TheVariants.{Also}
 use Rattle.mf_ops.specs.declared.sign.Sign.TheVariants.{Minus}
 use Rattle.mf_ops.proofs.Adding.{HasWeights-minus, IsUnlawfulSomewhere-minus}
-use Rattle.mf_ops.proofs.Faults.{stepped-from_weights, fault_of-from_weights, fault_of-op_fault}
+use Rattle.mf_ops.proofs.Faults.{stepped-from_weights, fault_of-from_weights, fault_of-op_fault, also_stays}
 use Rattle.mf_ops.proofs.add.minus.Goals as goal
 
 pub returns-in_err-plus-clause-refused : goal.returns-in_err-plus-clause-refused
@@ -10,7 +10,7 @@ returns-in_err-plus-clause-refused c =
     let ds = c.args.picture.now in
     let es = c.args.other.now in
     let passed_on = err_from_is_err_and c.from_residual-in_err-plus.result c.from_residual-in_err-plus.ensures.1 in
-    rw (passed_on.1, passed_on.2) (fault_of-op_fault ds (Also es Minus) _ (λ other. IsUnlawfulSomewhere-minus ds es _ c.in_ok-negated.ensures.weights (c.in_err-plus.ensures.too_large other)))
+    rw (passed_on.1, passed_on.2) (fault_of-op_fault ds (Also es Minus) _ (also_stays ds es Minus) (λ other. IsUnlawfulSomewhere-minus ds es _ c.in_ok-negated.ensures.weights (c.in_err-plus.ensures.too_large other)))
 
 pub returns : goal.returns
 returns c =
@@ -18,4 +18,4 @@ returns c =
     let es = c.args.other.now in
     let has = HasWeights-minus ds es _ _ c.in_ok-negated.ensures.weights c.in_ok-plus.ensures.weights in
     let picture = c.in_ok-plus.ensures.lawful in
-    record { step = stepped-from_weights ds (Also es Minus) _ picture has; accepted = fault_of-from_weights ds (Also es Minus) _ picture has; refused = tt }
+    record { step = stepped-from_weights ds (Also es Minus) _ picture has; accepted = fault_of-from_weights ds (Also es Minus) _ (also_stays ds es Minus) picture has; refused = tt }

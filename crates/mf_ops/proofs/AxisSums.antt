@@ -1,0 +1,204 @@
+-- Sums over one axis of the field, and over the field, of what was moved.
+use Rattle.std.proofs.Common.{◌≡◌, ◌≢◌, ℕ, zero, suc, ◌+◌, ◌*◌, ◌<◌, inl, inr, Bool, true, false, ◌&&◌, ℤ, pos, negsuc, ◌+ℤ◌, ◌-ℤ◌, ◌*ℤ◌, ◌≤ℤ◌, ◌<ℤ◌, nat_abs, refl, sym, ◌∙◌, ap, arith}
+use Rattle.std.specs.Bool.{Decides}
+use Rattle.std.specs.Ordering.{int_eq}
+use Rattle.std.proofs.Math.IntN.{*ℤ_comm, *ℤ-zero, zero-*ℤ}
+use Rattle.std.proofs.lemmas.Bool.{cases_eq, cases_Bool, and_left, and_right, both_ways}
+use Rattle.std.proofs.lemmas.Bool.Decides.{Decides-int_eq}
+use Rattle.std.proofs.lemmas.Int.{ints, by_lt_z}
+use Rattle.mf_geom.specs.Crossing.{passed}
+use Rattle.mf_geom.specs.Field.{sum_over_field}
+use Rattle.mf_geom.specs.Sum.{sum_below}
+use Rattle.mf_geom.proofs.Areas.{sum_below-passed_in_field}
+use Rattle.mf_geom.proofs.Crossings.{passed-reached, passed-beyond}
+use Rattle.mf_geom.proofs.Sums.{sum_below-same, sum_below-zero, sum_below-next, sum_below-sub, sum_below-mul, sum_below-swap}
+use Rattle.mf_rows.specs.Moves.{opposite}
+use borrow.Author.Differences.{up, down, product_is}
+
+-- the sum over the columns, or rows, of the field
+abbrev axis_sum : (ℤ → ℤ) → ℤ
+axis_sum g = sum_below 8190 (λ i. g (negsuc 4094 +ℤ pos i))
+
+sum_below-none : (n : ℕ) (f : ℕ → ℤ) → ((i : ℕ) → i < n → f i ≡ pos 0) → sum_below n f ≡ pos 0
+sum_below-none n f none = sum_below-same n f (λ i. pos 0) none ∙ sum_below-zero n
+
+sum_below-alone : (n k : ℕ) (f : ℕ → ℤ) → k < n → ((i : ℕ) → i ≢ k → f i ≡ pos 0) → sum_below n f ≡ f k
+unfolding sum_below
+sum_below-alone zero k f below others = absurd (omega arith)
+sum_below-alone (suc n) k f below others =
+    elim (cases_eq n k) [
+      | inl last ↦
+          let before = sum_below-none n f (λ i i_below. others i (λ same. omega arith)) in
+          let is_last : f n ≡ f k = ap f last in
+          omega (arith, ints)
+      | inr earlier ↦
+          let before = sum_below-alone n k f (omega arith) others in
+          let none = others n earlier in
+          omega (arith, ints)
+    ]
+
+-- the last n numbers up to b, one by one downwards, are the n numbers from a on
+sum_below-downwards : (n : ℕ) (a b : ℤ) (g : ℤ → ℤ) → a +ℤ pos n ≡ b +ℤ pos 1 → sum_below n (λ i. g (b -ℤ pos i)) ≡ sum_below n (λ i. g (a +ℤ pos i))
+unfolding sum_below
+sum_below-downwards zero a b g ends = refl
+sum_below-downwards (suc n) a b g ends =
+    let before = sum_below-downwards n (a +ℤ pos 1) b g (omega (arith, ints)) in
+    let column : (i : ℕ) → (a +ℤ pos 1) +ℤ pos i ≡ a +ℤ pos (i + 1) = λ i. omega (arith, ints) in
+    let from_next : sum_below n (λ i. g ((a +ℤ pos 1) +ℤ pos i)) ≡ sum_below n (λ i. g (a +ℤ pos (i + 1))) = λ t. sum_below n (λ i. g (column i t)) in
+    let from_first = sum_below-next n (λ i. g (a +ℤ pos i)) in
+    let last : g (b -ℤ pos n) ≡ g (a +ℤ pos 0) = ap g (omega (arith, ints)) in
+    omega (arith, ints)
+
+axis_sum-same : (f g : ℤ → ℤ) → ((q : ℤ) → f q ≡ g q) → axis_sum f ≡ axis_sum g
+axis_sum-same f g same = λ t. sum_below 8190 (λ i. same (negsuc 4094 +ℤ pos i) t)
+
+axis_sum-none : (g : ℤ → ℤ) → ((q : ℤ) → g q ≡ pos 0) → axis_sum g ≡ pos 0
+axis_sum-none g none = axis_sum-same g (λ q. pos 0) none ∙ sum_below-zero 8190
+
+axis_sum-alone : (g : ℤ → ℤ) (p : ℤ) → negsuc 4094 ≤ℤ p → p ≤ℤ pos 4094 → ((q : ℤ) → q ≢ p → g q ≡ pos 0) → axis_sum g ≡ g p
+axis_sum-alone g p least greatest others =
+    let k = nat_abs (p -ℤ negsuc 4094) in
+    let at_k : negsuc 4094 +ℤ pos k ≡ p = omega (arith, ints) in
+    sum_below-alone 8190 k (λ i. g (negsuc 4094 +ℤ pos i)) (omega (arith, ints)) (λ i other. others (negsuc 4094 +ℤ pos i) (λ same. other (omega (arith, ints)))) ∙ ap g at_k
+
+axis_sum-swap : (f : ℤ → ℤ → ℤ) → axis_sum (λ q. axis_sum (f q)) ≡ axis_sum (λ p. axis_sum (λ q. f q p))
+axis_sum-swap f = sum_below-swap 8190 8190 (λ j i. f (negsuc 4094 +ℤ pos j) (negsuc 4094 +ℤ pos i))
+
+axis_sum-mul : (a : ℤ) (g : ℤ → ℤ) → axis_sum (λ q. a *ℤ g q) ≡ a *ℤ axis_sum g
+axis_sum-mul a g = sum_below-mul 8190 a (λ i. g (negsuc 4094 +ℤ pos i))
+
+sum_over_field-axes : (f : ℤ → ℤ → ℤ) → sum_over_field f ≡ axis_sum (λ y. axis_sum (λ x. f x y))
+unfolding sum_over_field
+sum_over_field-axes f = refl
+
+-- the axis read from its other end
+axis_sum-opposite : (g : ℤ → ℤ) → axis_sum (λ q. g (opposite q)) ≡ axis_sum g
+axis_sum-opposite g =
+    let column : (i : ℕ) → opposite (negsuc 4094 +ℤ pos i) ≡ pos 4094 -ℤ pos i = λ i. omega (arith, ints) in
+    (λ t. sum_below 8190 (λ i. g (column i t))) ∙ sum_below-downwards 8190 (negsuc 4094) (pos 4094) g refl
+
+-- a turn by 90 degrees takes the field to itself
+pub sum_over_field-turned : (f : ℤ → ℤ → ℤ) → sum_over_field (λ x y. f y (opposite x)) ≡ sum_over_field f
+sum_over_field-turned f =
+    sum_over_field-axes (λ x y. f y (opposite x))
+    ∙ axis_sum-swap (λ y x. f y (opposite x))
+    ∙ axis_sum-opposite (λ y. axis_sum (λ x. f x y))
+    ∙ sym (sum_over_field-axes f)
+
+-- A move of the axis takes each column, or row, p to the n columns from first p on, and column q comes from
+-- source q alone. Kept columns lie in the field before and after it.
+pub record IsMove (n : ℕ) (source : ℤ → ℤ) (kept : ℤ → Bool) : Type 0 where
+  pub first : ℤ → ℤ
+  pub start : (q : ℤ) → first (source q) ≤ℤ q
+  pub end : (q : ℤ) → q <ℤ (first (source q) +ℤ pos n)
+  pub only : (p q : ℤ) → first p ≤ℤ q → q <ℤ (first p +ℤ pos n) → source q ≡ p
+  pub before : (p : ℤ) → kept p ≡ true → (negsuc 4094 ≤ℤ p) × (p ≤ℤ pos 4094)
+  pub after : (p : ℤ) → kept p ≡ true → (negsuc 4094 ≤ℤ first p) × ((first p +ℤ pos n) ≤ℤ pos 4095)
+
+-- 1 at the n columns from s on, and 0 elsewhere
+abbrev among : ℕ → ℤ → ℤ → ℤ
+among n s q = passed q s -ℤ passed q (s +ℤ pos n)
+
+among-inside : (n : ℕ) (s q : ℤ) → s ≤ℤ q → q <ℤ (s +ℤ pos n) → among n s q ≡ pos 1
+among-inside n s q start end =
+    let reached = passed-reached q s start in
+    let beyond = passed-beyond q (s +ℤ pos n) end in
+    omega (arith, ints)
+
+among-outside : (n : ℕ) (s q : ℤ) → (s ≤ℤ q → q <ℤ (s +ℤ pos n) → ⊥) → among n s q ≡ pos 0
+among-outside n s q outside =
+    by_lt_z q s
+    (λ left.
+    let start = passed-beyond q s left in
+    let end = passed-beyond q (s +ℤ pos n) (omega (arith, ints)) in
+    omega (arith, ints))
+    (λ right.
+    by_lt_z q (s +ℤ pos n)
+    (λ inside. absurd (outside right inside))
+    (λ behind.
+    let start = passed-reached q s right in
+    let end = passed-reached q (s +ℤ pos n) behind in
+    omega (arith, ints)))
+
+axis_sum-among : (n : ℕ) (s : ℤ) → negsuc 4094 ≤ℤ s → (s +ℤ pos n) ≤ℤ pos 4095 → axis_sum (among n s) ≡ pos n
+axis_sum-among n s start end =
+    let from_start = sum_below-passed_in_field s start (omega (arith, ints)) in
+    let from_end = sum_below-passed_in_field (s +ℤ pos n) (omega (arith, ints)) end in
+    sum_below-sub 8190 (λ i. passed (negsuc 4094 +ℤ pos i) s) (λ i. passed (negsuc 4094 +ℤ pos i) (s +ℤ pos n)) ∙ omega (arith, ints)
+
+times_twice : (m n : ℕ) (a : ℤ) → pos n *ℤ (pos m *ℤ a) ≡ pos (m * n) *ℤ a
+times_twice m n a =
+    let product = product_is (pos m) a in
+    let ups : n * up (pos m *ℤ a) ≡ n * (m * up a) = ap (λ k. n * k) (omega arith) in
+    let downs : n * down (pos m *ℤ a) ≡ n * (m * down a) = ap (λ k. n * k) (omega arith) in
+    omega (arith, ints)
+
+-- what the column p adds at the column q, where its n columns begin at s
+abbrev part : ℕ → ℤ → (ℤ → ℤ) → ℤ → ℤ → ℤ
+part n s g q p = g p *ℤ among n s q
+
+part-other : (n : ℕ) (s : ℤ) (g : ℤ → ℤ) (q p : ℤ) → (s ≤ℤ q → q <ℤ (s +ℤ pos n) → ⊥) → part n s g q p ≡ pos 0
+part-other n s g q p outside = ap (λ a. g p *ℤ a) (among-outside n s q outside) ∙ *ℤ-zero (g p)
+
+part-zero : (n : ℕ) (s : ℤ) (g : ℤ → ℤ) (q p : ℤ) → g p ≡ pos 0 → part n s g q p ≡ pos 0
+part-zero n s g q p none = ap (λ a. a *ℤ among n s q) none ∙ zero-*ℤ (among n s q)
+
+-- at the column q only its source adds anything
+from_source : (n : ℕ) (source : ℤ → ℤ) (kept : ℤ → Bool) (g : ℤ → ℤ) (q : ℤ) → (move : IsMove n source kept) → ((p : ℤ) → kept p ≡ false → g p ≡ pos 0) → axis_sum (λ p. part n (move.first p) g q p) ≡ g (source q)
+from_source n source kept g q move none =
+    let p = source q in
+    let parts : ℤ → ℤ = λ o. part n (move.first o) g q o in
+    let others : (o : ℤ) → o ≢ p → parts o ≡ pos 0 = λ o other. part-other n (move.first o) g q o (λ start end. other (sym (move.only o q start end))) in
+    elim (cases_Bool (kept p)) [
+      | inl is_kept ↦
+          let inside = move.before p is_kept in
+          axis_sum-alone parts p inside.0 inside.1 others
+          ∙ ap (λ a. g p *ℤ a) (among-inside n (move.first p) q (move.start q) (move.end q))
+          ∙ omega (arith, ints)
+      | inr lost ↦
+          let blank = none p lost in
+          let is_p : (o : ℤ) → Decides (int_eq o p) (o ≡ p) = λ o. Decides-int_eq o p in
+          axis_sum-none parts (λ o. elim (cases_Bool (int_eq o p)) [
+            | inl same ↦ part-zero n (move.first o) g q o (ap g ((is_p o).0 same) ∙ blank)
+            | inr other ↦ others o (λ same. both_ways (int_eq o p) other ((is_p o).1 same))
+          ])
+          ∙ sym blank
+    ]
+
+-- the column p adds n times what it has
+to_columns : (n : ℕ) (source : ℤ → ℤ) (kept : ℤ → Bool) (g : ℤ → ℤ) (p : ℤ) → (move : IsMove n source kept) → ((o : ℤ) → kept o ≡ false → g o ≡ pos 0) → axis_sum (λ q. part n (move.first p) g q p) ≡ pos n *ℤ g p
+to_columns n source kept g p move none =
+    elim (cases_Bool (kept p)) [
+      | inl is_kept ↦
+          let inside = move.after p is_kept in
+          axis_sum-mul (g p) (among n (move.first p))
+          ∙ ap (λ a. g p *ℤ a) (axis_sum-among n (move.first p) inside.0 inside.1)
+          ∙ *ℤ_comm (g p) (pos n)
+      | inr lost ↦
+          let blank = none p lost in
+          axis_sum-none (λ q. part n (move.first p) g q p) (λ q. part-zero n (move.first p) g q p blank)
+          ∙ sym (ap (λ a. pos n *ℤ a) blank ∙ *ℤ-zero (pos n))
+    ]
+
+-- Where columns that leave the field have 0, a move multiplies the sum by the number of columns to which it takes
+-- each. Both sums add up the same parts, one by their sources and the other by their places.
+axis_sum-moved : (n : ℕ) (source : ℤ → ℤ) (kept : ℤ → Bool) (g : ℤ → ℤ) → IsMove n source kept → ((p : ℤ) → kept p ≡ false → g p ≡ pos 0) → axis_sum (λ q. g (source q)) ≡ pos n *ℤ axis_sum g
+axis_sum-moved n source kept g move none =
+    let parts : ℤ → ℤ → ℤ = λ q p. part n (move.first p) g q p in
+    axis_sum-same (λ q. g (source q)) (λ q. axis_sum (parts q)) (λ q. sym (from_source n source kept g q move none))
+    ∙ axis_sum-swap parts
+    ∙ axis_sum-same (λ p. axis_sum (λ q. parts q p)) (λ p. pos n *ℤ g p) (λ p. to_columns n source kept g p move none)
+    ∙ axis_sum-mul (pos n) g
+
+-- the rows move, and in each row the columns
+pub sum_over_field-moved : (m n : ℕ) (column row : ℤ → ℤ) (kept_column kept_row : ℤ → Bool) (f : ℤ → ℤ → ℤ) → IsMove m column kept_column → IsMove n row kept_row → ((x y : ℤ) → (kept_column x && kept_row y) ≡ false → f x y ≡ pos 0) → sum_over_field (λ x y. f (column x) (row y)) ≡ pos (m * n) *ℤ sum_over_field f
+sum_over_field-moved m n column row kept_column kept_row f columns rows none =
+    let moved_row : ℤ → ℤ = λ y. axis_sum (λ x. f (column x) y) in
+    let whole_row : ℤ → ℤ = λ y. axis_sum (λ x. f x y) in
+    let blank : (y : ℤ) → kept_row y ≡ false → moved_row y ≡ pos 0 = λ y lost. axis_sum-none (λ x. f (column x) y) (λ x. none (column x) y (and_right (kept_column (column x)) (kept_row y) lost)) in
+    let times : (y : ℤ) → moved_row y ≡ pos m *ℤ whole_row y = λ y. axis_sum-moved m column kept_column (λ x. f x y) columns (λ x lost. none x y (and_left (kept_column x) (kept_row y) lost)) in
+    sum_over_field-axes (λ x y. f (column x) (row y))
+    ∙ axis_sum-moved n row kept_row moved_row rows blank
+    ∙ ap (λ s. pos n *ℤ s) (axis_sum-same moved_row (λ y. pos m *ℤ whole_row y) times ∙ axis_sum-mul (pos m) whole_row)
+    ∙ times_twice m n (axis_sum whole_row)
+    ∙ ap (λ s. pos (m * n) *ℤ s) (sym (sum_over_field-axes f))

@@ -1,0 +1,166 @@
+-- When a picture leaves the field as its columns and rows are stretched, as a shift and a scale do: its least box tells.
+use Rattle.std.proofs.Common.{◌≡◌, ◌&&◌, Bool, true, false, not, ℕ, ◌+◌, ◌*◌, ◌≤◌, mul-le-mul_right, ℤ, pos, negsuc, ◌+ℤ◌, ◌*ℤ◌, ◌≤ℤ◌, List, [], ◌∷◌, subst, sym, w32, to_z, of_z, arith}
+use Rattle.std.proofs.lemmas.Bool.{and_from, and_parts, or_parts, not-false, not_from_true, true_from_ne_false}
+use Rattle.std.proofs.lemmas.Int.{ints}
+use Rattle.std.proofs.lemmas.List.Elements.{All-nil, All-cons, All-contains}
+use Rattle.std.proofs.lemmas.List.Folds.{list_any_none}
+use Rattle.std.specs.List.{All, Any, list_any}
+use borrow.Author.Differences.{up, down}
+use Rattle.mf_rows.proofs.DotsLemmas.{dots_from-lawful}
+use Rattle.mf_rows.specs.Bounds.{IsLeastBox}
+use Rattle.mf_rows.specs.declared.bounds.Box4.{Box4}
+use Rattle.mf_rows.specs.declared.stretch.Stretch.{Stretch}
+use Rattle.mf_rows.specs.Dots.{Dot, IsPicture, start_of_field}
+use Rattle.mf_rows.specs.Moves.{IsPointInReach, StaysInside, StayInside}
+use Rattle.mf_ops.specs.Moves.{Factors, is_in_reach, stays_inside}
+use Rattle.mf_ops.specs.Step.{leaves, StaysInField}
+use Rattle.mf_ops.specs.declared.op.Op.TheVariants.{Shift, Scale}
+
+is_in_reach-point : (x : ℤ) → IsPointInReach x → is_in_reach x ≡ true
+is_in_reach-point x point = grind (arith, ints)
+
+IsPointInReach-from_test : (x : ℤ) → is_in_reach x ≡ true → IsPointInReach x
+IsPointInReach-from_test x passes = record { least = grind (arith, ints); greatest = grind (arith, ints) }
+
+stays_inside-place : (s : Stretch) (p : ℤ) → StaysInside s p → stays_inside s.factor s.offset p ≡ true
+stays_inside-place s p inside = and_from _ _ (is_in_reach-point _ inside.start) (is_in_reach-point _ inside.end)
+
+StaysInside-from_test : (s : Stretch) (p : ℤ) → stays_inside s.factor s.offset p ≡ true → StaysInside s p
+StaysInside-from_test s p passes =
+    let ends = and_parts _ _ passes in
+    record { start = IsPointInReach-from_test _ ends.0; end = IsPointInReach-from_test _ ends.1 }
+
+-- whether a dot leaves the field where its column and its row are stretched
+abbrev leaves_by : Stretch → Stretch → Dot → Bool
+leaves_by columns rows d = not (stays_inside columns.factor columns.offset d.x && stays_inside rows.factor rows.offset d.y)
+
+none_leaves : (columns rows : Stretch) (ds : List Dot) → StayInside columns rows ds → list_any (leaves_by columns rows) ds ≡ false
+none_leaves columns rows ds inside =
+    list_any_none (leaves_by columns rows) ds
+    (λ k d lt. not_from_true _ (and_from _ _ (stays_inside-place columns _ (inside.across k d lt)) (stays_inside-place rows _ (inside.up k d lt))))
+
+StayInside-none_leaves : (columns rows : Stretch) (ds : List Dot) → list_any (leaves_by columns rows) ds ≡ false → StayInside columns rows ds
+StayInside-none_leaves columns rows [] none = record { across = All-nil (λ d. StaysInside columns d.x); up = All-nil (λ d. StaysInside rows d.y) }
+StayInside-none_leaves columns rows (d ∷ ds) none =
+    let parts = or_parts (leaves_by columns rows d) (list_any (leaves_by columns rows) ds) none in
+    let tests = and_parts _ _ (not-false _ parts.0) in
+    let rest = StayInside-none_leaves columns rows ds parts.1 in
+    record {
+      across = All-cons (λ e. StaysInside columns e.x) d ds (StaysInside-from_test columns d.x tests.0) rest.across;
+      up = All-cons (λ e. StaysInside rows e.y) d ds (StaysInside-from_test rows d.y tests.1) rest.up;
+    }
+
+some_leaves : (columns rows : Stretch) (ds : List Dot) → ¬ StayInside columns rows ds → list_any (leaves_by columns rows) ds ≡ true
+some_leaves columns rows ds outside = true_from_ne_false _ (λ none. outside (StayInside-none_leaves columns rows ds none))
+
+-- a shift stretches by 1, a scale without an offset
+pub stays_in_field-shift : (ds : List Dot) (dx dy : ℤ) → StayInside (record { factor = pos 1; offset = dx }) (record { factor = pos 1; offset = dy }) ds → StaysInField ds (Shift dx dy)
+stays_in_field-shift ds dx dy inside = record { none_leaves = none_leaves (record { factor = pos 1; offset = dx }) (record { factor = pos 1; offset = dy }) ds inside }
+
+pub leaves-shift : (ds : List Dot) (dx dy : ℤ) → (StayInside (record { factor = pos 1; offset = dx }) (record { factor = pos 1; offset = dy }) ds → ⊥) → list_any (leaves (Shift dx dy)) ds ≡ true
+leaves-shift ds dx dy outside = some_leaves (record { factor = pos 1; offset = dx }) (record { factor = pos 1; offset = dy }) ds outside
+
+pub stays_in_field-scale : (ds : List Dot) (s : Factors) → StayInside (record { factor = s.x; offset = pos 0 }) (record { factor = s.y; offset = pos 0 }) ds → StaysInField ds (Scale s)
+stays_in_field-scale ds s inside = record { none_leaves = none_leaves (record { factor = s.x; offset = pos 0 }) (record { factor = s.y; offset = pos 0 }) ds inside }
+
+pub leaves-scale : (ds : List Dot) (s : Factors) → (StayInside (record { factor = s.x; offset = pos 0 }) (record { factor = s.y; offset = pos 0 }) ds → ⊥) → list_any (leaves (Scale s)) ds ≡ true
+leaves-scale ds s outside = some_leaves (record { factor = s.x; offset = pos 0 }) (record { factor = s.y; offset = pos 0 }) ds outside
+
+-- a product with a whole number keeps the order, or turns it round
+mul-le : (n : ℕ) (a b : ℤ) → a ≤ℤ b → (a *ℤ pos n) ≤ℤ (b *ℤ pos n)
+mul-le n a b le =
+    let parts : up a + down b ≤ up b + down a = omega (arith, ints) in
+    let times : (up a + down b) * n ≤ (up b + down a) * n = mul-le-mul_right n parts in
+    omega (arith, ints)
+
+mul-ge : (n : ℕ) (a b : ℤ) → a ≤ℤ b → (b *ℤ negsuc n) ≤ℤ (a *ℤ negsuc n)
+mul-ge n a b le =
+    let parts : up a + down b ≤ up b + down a = omega (arith, ints) in
+    let times : (up a + down b) * (n + 1) ≤ (up b + down a) * (n + 1) = mul-le-mul_right (n + 1) parts in
+    omega (arith, ints)
+
+-- so where two points stay in reach, those between them do
+IsPointInReach-between : (f o a p b : ℤ) → a ≤ℤ p → p ≤ℤ b → IsPointInReach ((a *ℤ f) +ℤ o) → IsPointInReach ((b *ℤ f) +ℤ o) → IsPointInReach ((p *ℤ f) +ℤ o)
+IsPointInReach-between (pos n) o a p b after before first last =
+    let above = mul-le n a p after in
+    let below = mul-le n p b before in
+    record { least = omega (arith, ints, first.least); greatest = omega (arith, ints, last.greatest) }
+IsPointInReach-between (negsuc n) o a p b after before first last =
+    let below = mul-ge n a p after in
+    let above = mul-ge n p b before in
+    record { least = omega (arith, ints, last.least); greatest = omega (arith, ints, first.greatest) }
+
+StaysInside-between : (s : Stretch) (a p b : ℤ) → a ≤ℤ p → p ≤ℤ b → StaysInside s a → StaysInside s b → StaysInside s p
+StaysInside-between s a p b after before first last =
+    record {
+      start = IsPointInReach-between s.factor s.offset a p b after before first.start last.start;
+      end = IsPointInReach-between s.factor s.offset (a +ℤ pos 1) (p +ℤ pos 1) (b +ℤ pos 1) (omega (arith, ints)) (omega (arith, ints)) first.end last.end;
+    }
+
+-- what is true of each dot's column, or row, is true of a side of the least box
+at_side : (P : ℤ → Type 0) (f : Dot → ℤ) (ds : List Dot) (side : ℤ) → All (λ d. P (f d)) ds → Any (λ d. f d ≡ side) ds → P side
+at_side P f ds side all at = subst P at.4 (All-contains (λ d. P (f d)) ds at.1 all (at.0, at.2, at.3))
+
+-- the sides of the least box stay inside
+pub record SidesStayInside (columns rows : Stretch) (b : Box4) : Type 0 where
+  pub left : StaysInside columns b.min_x
+  pub right : StaysInside columns b.max_x
+  pub bottom : StaysInside rows b.min_y
+  pub top : StaysInside rows b.max_y
+
+-- a picture stays inside where they do
+pub StayInside-from_sides : (columns rows : Stretch) (ds : List Dot) (b : Box4) → IsLeastBox ds b → SidesStayInside columns rows b → StayInside columns rows ds
+StayInside-from_sides columns rows ds b box sides =
+    record {
+      across = λ k d lt. let within = box.within k d lt in StaysInside-between columns b.min_x _ b.max_x within.left within.right sides.left sides.right;
+      up = λ k d lt. let within = box.within k d lt in StaysInside-between rows b.min_y _ b.max_y within.bottom within.top sides.bottom sides.top;
+    }
+
+pub sides_from_StayInside : (columns rows : Stretch) (ds : List Dot) (b : Box4) → IsLeastBox ds b → StayInside columns rows ds → SidesStayInside columns rows b
+sides_from_StayInside columns rows ds b box inside =
+    record {
+      left = at_side (StaysInside columns) (λ d. d.x) ds b.min_x inside.across box.left;
+      right = at_side (StaysInside columns) (λ d. d.x) ds b.max_x inside.across box.right;
+      bottom = at_side (StaysInside rows) (λ d. d.y) ds b.min_y inside.up box.bottom;
+      top = at_side (StaysInside rows) (λ d. d.y) ds b.max_y inside.up box.top;
+    }
+
+-- a column or row of the field
+pub record IsInRange (p : ℤ) : Type 0 where
+  pub least : negsuc 4094 ≤ℤ p
+  pub greatest : p ≤ℤ pos 4094
+
+-- the sides of the least box of a picture are such
+pub record AreSidesInField (b : Box4) : Type 0 where
+  pub left : IsInRange b.min_x
+  pub right : IsInRange b.max_x
+  pub bottom : IsInRange b.min_y
+  pub top : IsInRange b.max_y
+
+sides_in_field : (ds : List Dot) (b : Box4) → IsPicture ds → IsLeastBox ds b → AreSidesInField b
+sides_in_field ds b picture box =
+    let dots = dots_from-lawful start_of_field ds picture.dots in
+    let columns : All (λ d. IsInRange d.x) ds = λ k d lt. let dot = dots k d lt in record { least = dot.in_field.left; greatest = dot.in_field.right } in
+    let rows : All (λ d. IsInRange d.y) ds = λ k d lt. let dot = dots k d lt in record { least = dot.in_field.bottom; greatest = dot.in_field.top } in
+    record {
+      left = at_side IsInRange (λ d. d.x) ds b.min_x columns box.left;
+      right = at_side IsInRange (λ d. d.x) ds b.max_x columns box.right;
+      bottom = at_side IsInRange (λ d. d.y) ds b.min_y rows box.bottom;
+      top = at_side IsInRange (λ d. d.y) ds b.max_y rows box.top;
+    }
+
+-- so they are read back from 32 bits
+abbrev pub read_back : Box4 → Box4
+read_back b = record { min_x = to_z w32 (of_z w32 b.min_x); max_x = to_z w32 (of_z w32 b.max_x); min_y = to_z w32 (of_z w32 b.min_y); max_y = to_z w32 (of_z w32 b.max_y) }
+
+read_back-place : (p : ℤ) → IsInRange p → to_z w32 (of_z w32 p) ≡ p
+read_back-place p place = omega (arith, ints, place.least, place.greatest)
+
+pub IsLeastBox-read_back : (ds : List Dot) (b : Box4) → IsPicture ds → IsLeastBox ds b → IsLeastBox ds (read_back b)
+IsLeastBox-read_back ds b picture box =
+    let sides = sides_in_field ds b picture box in
+    let same : read_back b ≡ b = λ t. record { min_x = read_back-place b.min_x sides.left t; max_x = read_back-place b.max_x sides.right t; min_y = read_back-place b.min_y sides.bottom t; max_y = read_back-place b.max_y sides.top t } in
+    subst (IsLeastBox ds) (sym same) box
+
+pub sides_read_back : (ds : List Dot) (b : Box4) → IsPicture ds → IsLeastBox ds b → AreSidesInField (read_back b)
+sides_read_back ds b picture box = sides_in_field ds (read_back b) picture (IsLeastBox-read_back ds b picture box)

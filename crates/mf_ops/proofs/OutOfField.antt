@@ -1,0 +1,233 @@
+-- When a shift, a scale or a turn takes a pixel out of the field.
+use Rattle.std.proofs.Common.{◌≡◌, ◌≢◌, ◌&&◌, Bool, true, false, ℤ, pos, negsuc, ◌+ℤ◌, ◌-ℤ◌, ◌*ℤ◌, ◌≤ℤ◌, List, [], ◌∷◌, Some, refl, sym, ◌∙◌, inl, inr, arith}
+use Rattle.std.specs.Int.{int_max, int_min}
+use Rattle.std.specs.List.{list_any}
+use Rattle.std.specs.Ordering.{int_eq}
+use Rattle.std.proofs.lemmas.Bool.{and_parts, and_from, and_cases, not-true, not_from_false, false_from_ne_true, or_left, or_right, both_ways, cond_both}
+use Rattle.std.proofs.lemmas.Bool.Decides.{Decides-int_eq}
+use Rattle.std.proofs.lemmas.Int.{ints, clamps, by_lt_z}
+use Rattle.std.proofs.lemmas.List.Elements.{All-contains}
+use Rattle.std.proofs.lemmas.List.Folds.{Any-from_list_any}
+use Rattle.mf_geom.specs.Field.{IsInField}
+use Rattle.mf_rows.specs.Dots.{Dot, IsDot, IsPicture, start_of_field, weight_at}
+use Rattle.mf_rows.specs.Moves.{opposite, IsPointInReach, StaysInside}
+use Rattle.mf_rows.proofs.DotsLemmas.{IsAt, weight_at-dot, dots_from-lawful, weight_at-outside}
+use Rattle.mf_ops.specs.Moves.{Factors, AreFactors, IsFactor, HasPlace, scale_source, is_in_reach, stays_inside, turned, turned_by}
+use Rattle.mf_ops.specs.Step.{step_at, leaves, fault_of, LiesOutside}
+use Rattle.mf_ops.specs.declared.op.Op.{Op}
+use Rattle.mf_ops.specs.declared.op.Op.TheVariants as ops
+use Rattle.mf_ops.specs.declared.op.Op.TheVariants.{Shift, Scale}
+use Rattle.mf_ops.specs.declared.op.OpFault.TheVariants.{OutOfField}
+use Rattle.mf_ops.specs.declared.quarter.Quarter.{Quarter}
+use Rattle.mf_ops.specs.declared.quarter.Quarter.TheVariants.{Once, Twice, Thrice}
+use Rattle.mf_ops.proofs.Faults.{leaves-refused, fault_of-leaves, quarter_stays}
+use Rattle.mf_ops.proofs.Places.{scale_source-covered, scale_source-only, HasPlace-first, HasPlace-last}
+
+-- where the weight is not 0 a dot stands
+list_any-at : (test : Dot → Bool) (ds : List Dot) (x y : ℤ) → weight_at ds x y ≢ pos 0 → ((d : Dot) → IsAt d x y → test d ≡ true) → list_any test ds ≡ true
+unfolding weight_at
+list_any-at test [] x y nonzero passes = absurd (nonzero refl)
+list_any-at test (d ∷ ds) x y nonzero passes =
+    cond_both (int_eq d.x x && int_eq d.y y) d.weight (weight_at ds x y) (λ w. w ≢ pos 0 → list_any test (d ∷ ds) ≡ true)
+    (λ here other.
+    let tests = and_parts (int_eq d.x x) (int_eq d.y y) here in
+    or_left (test d) (list_any test ds) (passes d (record { column = (Decides-int_eq d.x x).0 tests.0; row = (Decides-int_eq d.y y).0 tests.1 })))
+    (λ elsewhere other. or_right (test d) (list_any test ds) (list_any-at test ds x y other passes))
+    nonzero
+
+-- an operation is refused where the dot of some pixel leaves
+refused_at : (ds : List Dot) (op : Op) (x y : ℤ) → weight_at ds x y ≢ pos 0 → ((d : Dot) → IsAt d x y → leaves op d ≡ true) → fault_of ds op ≡ Some OutOfField
+refused_at ds op x y nonzero leave = fault_of-leaves ds op (list_any-at (leaves op) ds x y nonzero leave)
+
+-- a dot of a picture that leaves
+record IsLeaving (ds : List Dot) (op : Op) (d : Dot) : Type 0 where
+  pub nonzero : weight_at ds d.x d.y ≢ pos 0
+  pub leaving : leaves op d ≡ true
+
+some_dot_leaves : (ds : List Dot) (op : Op) → IsPicture ds → fault_of ds op ≡ Some OutOfField → (d : Dot) × IsLeaving ds op d
+some_dot_leaves ds op picture refused =
+    let found = Any-from_list_any (leaves op) ds (leaves-refused ds op refused) in
+    let d = found.1 in
+    let dot = All-contains IsDot ds d (dots_from-lawful start_of_field ds picture.dots) (found.0, found.2, found.3) in
+    let weight = rw found.3 at (weight_at-dot start_of_field ds picture.dots found.0 d found.2) in
+    (d, record { nonzero = λ zero. dot.nonzero (sym weight ∙ zero); leaving = found.4 })
+
+-- ---- axes
+
+reach-from_test : (x : ℤ) → is_in_reach x ≡ true → IsPointInReach x
+reach-from_test x test = record { least = grind (arith, ints); greatest = grind (arith, ints) }
+
+test-reach : (x : ℤ) → IsPointInReach x → is_in_reach x ≡ true
+test-reach x reach = grind (arith, ints)
+
+-- both ends of column p stay in reach where the test says so
+ends_in_reach : (f d p : ℤ) → stays_inside f d p ≡ true → StaysInside (record { factor = f; offset = d }) p
+ends_in_reach f d p stays =
+    let tests = and_parts (is_in_reach ((p *ℤ f) +ℤ d)) (is_in_reach (((p +ℤ pos 1) *ℤ f) +ℤ d)) stays in
+    record { start = reach-from_test ((p *ℤ f) +ℤ d) tests.0; end = reach-from_test (((p +ℤ pos 1) *ℤ f) +ℤ d) tests.1 }
+
+stays-from_ends : (f d p : ℤ) → StaysInside (record { factor = f; offset = d }) p → stays_inside f d p ≡ true
+stays-from_ends f d p ends =
+    and_from (is_in_reach ((p *ℤ f) +ℤ d)) (is_in_reach (((p +ℤ pos 1) *ℤ f) +ℤ d))
+    (test-reach ((p *ℤ f) +ℤ d) ends.start)
+    (test-reach (((p +ℤ pos 1) *ℤ f) +ℤ d) ends.end)
+
+-- a column, or row, of the field
+record IsInside (q : ℤ) : Type 0 where
+  pub least : negsuc 4094 ≤ℤ q
+  pub greatest : q ≤ℤ pos 4094
+
+in_field : (x y : ℤ) → IsInside x → IsInside y → IsInField x y
+in_field x y column row = record { left = column.least; right = column.greatest; bottom = row.least; top = row.greatest }
+
+column_inside : (x y : ℤ) → IsInField x y → IsInside x
+column_inside x y field = record { least = field.left; greatest = field.right }
+
+row_inside : (x y : ℤ) → IsInField x y → IsInside y
+row_inside x y field = record { least = field.bottom; greatest = field.top }
+
+shifted_inside : (d p : ℤ) → stays_inside (pos 1) d p ≡ true → IsInside (p +ℤ d)
+shifted_inside d p stays =
+    let ends = ends_in_reach (pos 1) d p stays in
+    record { least = let least = ends.start.least in omega (arith, ints); greatest = let greatest = ends.end.greatest in omega (arith, ints) }
+
+stays-inside : (d p : ℤ) → IsInside (p +ℤ d) → stays_inside (pos 1) d p ≡ true
+stays-inside d p inside =
+    let least = inside.least in
+    let greatest = inside.greatest in
+    stays-from_ends (pos 1) d p record {
+      start = record { least = omega (arith, ints); greatest = omega (arith, ints) };
+      end = record { least = omega (arith, ints); greatest = omega (arith, ints) };
+    }
+
+-- where column p stays, so do all columns of its part
+place_inside : (f p q : ℤ) → HasPlace f p q → stays_inside f (pos 0) p ≡ true → IsInside q
+place_inside f p q has stays =
+    let ends = ends_in_reach f (pos 0) p stays in
+    let start = ends.start in
+    let end = ends.end in
+    record { least = omega (arith, ints, clamps); greatest = omega (arith, ints, clamps) }
+
+-- where it doesn't, some column of its part lies outside: the first or the last
+record HasOutside (f p : ℤ) : Type 0 where
+  pub q : ℤ
+  pub has : HasPlace f p q
+  pub outside : IsInside q → ⊥
+
+some_outside : (f p : ℤ) → IsFactor f → stays_inside f (pos 0) p ≡ false → HasOutside f p
+some_outside f p factor leaves =
+    let low = int_min (p *ℤ f) ((p +ℤ pos 1) *ℤ f) in
+    let high = int_max (p *ℤ f) ((p +ℤ pos 1) *ℤ f) in
+    by_lt_z low (negsuc 4094)
+    (λ lt. record { q = low; has = HasPlace-first f p factor; outside = λ inside. let least = inside.least in omega (arith, ints) })
+    (λ least.
+    by_lt_z (pos 4095) high
+    (λ lt. record { q = high -ℤ pos 1; has = HasPlace-last f p factor; outside = λ inside. let greatest = inside.greatest in omega (arith, ints) })
+    (λ greatest.
+    let ends : StaysInside (record { factor = f; offset = pos 0 }) p = record {
+      start = record { least = omega (arith, ints, clamps); greatest = omega (arith, ints, clamps) };
+      end = record { least = omega (arith, ints, clamps); greatest = omega (arith, ints, clamps) };
+    } in
+    absurd (both_ways (stays_inside f (pos 0) p) leaves (stays-from_ends f (pos 0) p ends))))
+
+-- ---- shifts
+
+pub shift-refused : (ds : List Dot) (dx dy : ℤ) → IsPicture ds → fault_of ds (Shift dx dy) ≡ Some OutOfField → LiesOutside (step_at ds (Shift dx dy))
+shift-refused ds dx dy picture refused =
+    let found = some_dot_leaves ds (Shift dx dy) picture refused in
+    let d = found.0 in
+    let back_x : (d.x +ℤ dx) -ℤ dx ≡ d.x = omega (arith, ints) in
+    let back_y : (d.y +ℤ dy) -ℤ dy ≡ d.y = omega (arith, ints) in
+    record {
+      x = d.x +ℤ dx;
+      y = d.y +ℤ dy;
+      outside = λ field.
+          both_ways _ (not-true _ found.1.leaving)
+          (and_from (stays_inside (pos 1) dx d.x) (stays_inside (pos 1) dy d.y)
+          (stays-inside dx d.x (column_inside (d.x +ℤ dx) (d.y +ℤ dy) field))
+          (stays-inside dy d.y (row_inside (d.x +ℤ dx) (d.y +ℤ dy) field)));
+      nonzero = rw (back_x, back_y) found.1.nonzero;
+    }
+
+pub shift-outside : (ds : List Dot) (dx dy : ℤ) → LiesOutside (step_at ds (Shift dx dy)) → fault_of ds (Shift dx dy) ≡ Some OutOfField
+shift-outside ds dx dy at =
+    refused_at ds (Shift dx dy) (at.x -ℤ dx) (at.y -ℤ dy) at.nonzero (λ d here.
+    not_from_false (stays_inside (pos 1) dx d.x && stays_inside (pos 1) dy d.y) (false_from_ne_true _ (λ stays.
+    let tests = and_parts (stays_inside (pos 1) dx d.x) (stays_inside (pos 1) dy d.y) stays in
+    let place_x : d.x +ℤ dx ≡ at.x = let column = here.column in omega (arith, ints) in
+    let place_y : d.y +ℤ dy ≡ at.y = let row = here.row in omega (arith, ints) in
+    at.outside (in_field at.x at.y (rw place_x at (shifted_inside dx d.x tests.0)) (rw place_y at (shifted_inside dy d.y tests.1))))))
+
+-- ---- scales
+
+-- the pixel of which the part of a dot has the column and the row gets the dot's weight
+scaled_weight : (ds : List Dot) (s : Factors) (d : Dot) (x y : ℤ) → AreFactors s → HasPlace s.x d.x x → HasPlace s.y d.y y → weight_at ds d.x d.y ≢ pos 0 → step_at ds (Scale s) x y ≢ pos 0
+scaled_weight ds s d x y factors column row nonzero =
+    rw (scale_source-only s.x d.x x factors.columns column, scale_source-only s.y d.y y factors.rows row) nonzero
+
+pub scale-refused : (ds : List Dot) (s : Factors) → IsPicture ds → AreFactors s → fault_of ds (Scale s) ≡ Some OutOfField → LiesOutside (step_at ds (Scale s))
+scale-refused ds s picture factors refused =
+    let found = some_dot_leaves ds (Scale s) picture refused in
+    let d = found.0 in
+    let first_x = int_min (d.x *ℤ s.x) ((d.x +ℤ pos 1) *ℤ s.x) in
+    let first_y = int_min (d.y *ℤ s.y) ((d.y +ℤ pos 1) *ℤ s.y) in
+    elim (and_cases (stays_inside s.x (pos 0) d.x) (stays_inside s.y (pos 0) d.y) (not-true _ found.1.leaving)) [
+      | inl across ↦
+          let out = some_outside s.x d.x factors.columns across in
+          record {
+            x = out.q;
+            y = first_y;
+            outside = λ field. out.outside (column_inside out.q first_y field);
+            nonzero = scaled_weight ds s d out.q first_y factors out.has (HasPlace-first s.y d.y factors.rows) found.1.nonzero;
+          }
+      | inr up ↦
+          let out = some_outside s.y d.y factors.rows up in
+          record {
+            x = first_x;
+            y = out.q;
+            outside = λ field. out.outside (row_inside first_x out.q field);
+            nonzero = scaled_weight ds s d first_x out.q factors (HasPlace-first s.x d.x factors.columns) out.has found.1.nonzero;
+          }
+    ]
+
+pub scale-outside : (ds : List Dot) (s : Factors) → AreFactors s → LiesOutside (step_at ds (Scale s)) → fault_of ds (Scale s) ≡ Some OutOfField
+scale-outside ds s factors at =
+    refused_at ds (Scale s) (scale_source s.x at.x) (scale_source s.y at.y) at.nonzero (λ d here.
+    not_from_false (stays_inside s.x (pos 0) d.x && stays_inside s.y (pos 0) d.y) (false_from_ne_true _ (λ stays.
+    let tests = and_parts (stays_inside s.x (pos 0) d.x) (stays_inside s.y (pos 0) d.y) stays in
+    let column : HasPlace s.x d.x at.x = rw here.column (scale_source-covered s.x at.x factors.columns) in
+    let row : HasPlace s.y d.y at.y = rw here.row (scale_source-covered s.y at.y factors.rows) in
+    at.outside (in_field at.x at.y (place_inside s.x d.x at.x column tests.0) (place_inside s.y d.y at.y row tests.1)))))
+
+-- ---- turns
+
+pub turn-accepted : (ds : List Dot) (q : Quarter) → fault_of ds (ops.Quarter q) ≢ Some OutOfField
+turn-accepted ds q refused = both_ways _ (quarter_stays ds q).none_leaves (leaves-refused ds (ops.Quarter q) refused)
+
+opposite_inside : (p : ℤ) → IsInside (opposite p) → IsInside p
+opposite_inside p inside =
+    let least = inside.least in
+    let greatest = inside.greatest in
+    record { least = omega (arith, ints); greatest = omega (arith, ints) }
+
+-- where the turned place of a pixel lies in the field, so does the pixel
+turned_in_field : (x y : ℤ) → IsInField y (opposite x) → IsInField x y
+turned_in_field x y field = in_field x y (opposite_inside x (row_inside y (opposite x) field)) (column_inside y (opposite x) field)
+
+-- weights that are 0 outside the field stay so under a turn
+ZeroOutside : (ℤ → ℤ → ℤ) → Type 0
+ZeroOutside f = (x y : ℤ) → (IsInField x y → ⊥) → f x y ≡ pos 0
+
+turned_outside : (f : ℤ → ℤ → ℤ) → ZeroOutside f → ZeroOutside (turned f)
+unfolding ZeroOutside
+turned_outside f zero x y outside = zero y (opposite x) (λ field. outside (turned_in_field x y field))
+
+turned_by-outside : (q : Quarter) (f : ℤ → ℤ → ℤ) → ZeroOutside f → ZeroOutside (turned_by q f)
+turned_by-outside Once f zero = turned_outside f zero
+turned_by-outside Twice f zero = turned_outside (turned f) (turned_outside f zero)
+turned_by-outside Thrice f zero = turned_outside (turned (turned f)) (turned_outside (turned f) (turned_outside f zero))
+
+pub turn-inside : (ds : List Dot) (q : Quarter) → IsPicture ds → LiesOutside (step_at ds (ops.Quarter q)) → ⊥
+unfolding ZeroOutside
+turn-inside ds q picture at =
+    at.nonzero (turned_by-outside q (weight_at ds) (λ x y outside. weight_at-outside ds x y picture outside) at.x at.y at.outside)

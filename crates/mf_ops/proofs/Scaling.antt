@@ -1,0 +1,176 @@
+-- Pictures that are scaled: a negative factor reflects, and the sizes of the factors stretch.
+use Rattle.std.proofs.Common.{◌≡◌, ◌≢◌, ◌&&◌, ⊎_elim, ℕ, Bool, true, false, zero, suc, ℤ, pos, negsuc, neg_ℤ, nat_abs, ◌+ℤ◌, ◌-ℤ◌, ◌*ℤ◌, ◌≤ℤ◌, int_lt, List, [], ◌∷◌, get_or, refl, sym, subst, ◌∙◌, ap, arith}
+use Rattle.std.proofs.lemmas.Bool.{cases_Bool, cond-true, cond-false, and_parts}
+use Rattle.std.proofs.lemmas.Bool.Decides.{Decides-int_eq}
+use Rattle.std.proofs.lemmas.Int.{ints, by_lt_z}
+use Rattle.std.proofs.lemmas.List.Elements.{All-head, All-tail}
+use Rattle.std.specs.Int.{int_div_euclid}
+use Rattle.std.specs.List.{All}
+use Rattle.std.specs.Ordering.{int_eq}
+use Rattle.mf_geom.specs.Field.{IsInField}
+use Rattle.mf_rows.specs.declared.stretch.Stretch.{Stretch}
+use Rattle.mf_rows.specs.Dots.{Dot, IsPicture, start_of_field, weight_at}
+use Rattle.mf_rows.specs.Moves.{IsStretch, IsPointInReach, StaysInside, StayInside, opposite, stretched_to, source_of, stretched_at}
+use Rattle.mf_rows.specs.Sums.{HasWeights}
+use Rattle.mf_rows.proofs.DotsLemmas.{dots_from-lawful, weight_at-dot}
+use Rattle.mf_rows.proofs.Sources.{source_of-reached, source_of-from}
+use Rattle.mf_ops.specs.Moves.{Factors, AreFactors, IsFactor, scale_source}
+use Rattle.mf_ops.specs.Reflections.{on_side, reflected_at}
+use Rattle.mf_ops.specs.Step.{step_at}
+use Rattle.mf_ops.specs.declared.op.Op.TheVariants.{Scale}
+use mir.Syntax.{w32}
+use mir.Val.{to_z, of_z}
+
+-- stretches by a factor, and by its size, with no offset
+abbrev pub by_factor : ℤ → Stretch
+by_factor f = record { factor = f; offset = pos 0 }
+
+abbrev by_size : ℤ → Stretch
+by_size f = by_factor (pos (nat_abs f))
+
+IsStretch-size : (f : ℤ) → IsFactor f → IsStretch (by_size f)
+IsStretch-size (pos zero) is_factor = absurd (is_factor.nonzero refl)
+IsStretch-size (pos (suc n)) is_factor = let greatest = is_factor.greatest in record { least = omega (arith, ints); greatest = omega (arith, ints) }
+IsStretch-size (negsuc n) is_factor = let least = is_factor.least in record { least = omega (arith, ints); greatest = omega (arith, ints) }
+
+pub factor_passed : (z f : ℤ) → IsFactor z → z ≡ f → to_z w32 (of_z w32 z) ≡ f
+factor_passed z f is_factor value =
+    let least = is_factor.least in
+    let greatest = is_factor.greatest in
+    let passed : to_z w32 (of_z w32 z) ≡ z = omega (arith, ints) in
+    passed ∙ value
+
+-- what the code makes of a factor f: a, passed on, and the stretches by it and by its size
+pub record AreMade (f a : ℤ) (signed sized : Stretch) : Type 0 where
+  pub factor : IsFactor f
+  pub passed : a ≡ f
+  pub signed_is : signed ≡ by_factor f
+  pub sized_is : sized ≡ by_size f
+
+pub stretches_made : (z f n : ℤ) (signed sized : Stretch) → IsFactor z → z ≡ f → signed ≡ by_factor (to_z w32 (of_z w32 z)) → n ≡ pos (nat_abs (to_z w32 (of_z w32 z))) → sized ≡ by_factor (to_z w32 (of_z w32 n)) → AreMade f (to_z w32 (of_z w32 z)) signed sized
+stretches_made z f n signed sized is_factor value signed_made size sized_made =
+    let factor = subst IsFactor value is_factor in
+    let passed = factor_passed z f is_factor value in
+    let is_size : n ≡ pos (nat_abs f) = size ∙ ap (λ a. pos (nat_abs a)) passed in
+    let stretch = IsStretch-size f factor in
+    let least : pos 1 ≤ℤ n = subst (λ a. pos 1 ≤ℤ a) (sym is_size) stretch.least in
+    let greatest : n ≤ℤ pos 4095 = subst (λ a. a ≤ℤ pos 4095) (sym is_size) stretch.greatest in
+    let size_passed : to_z w32 (of_z w32 n) ≡ n = omega (arith, ints) in
+    record { factor = factor; passed = passed; signed_is = signed_made ∙ ap by_factor passed; sized_is = sized_made ∙ ap by_factor (size_passed ∙ is_size) }
+
+pub IsStretch-made : (f a : ℤ) (signed sized : Stretch) → AreMade f a signed sized → IsStretch sized
+IsStretch-made f a signed sized made = rw made.sized_is (IsStretch-size f made.factor)
+
+not_negative : (n : ℕ) → int_lt (pos n) (pos 0) ≡ false
+not_negative n = grind (arith, ints)
+
+int_div_euclid-negative : (q : ℤ) (n : ℕ) → int_div_euclid q (negsuc n) ≡ neg_ℤ (int_div_euclid q (pos (suc n)))
+int_div_euclid-negative (pos a) n = refl
+int_div_euclid-negative (negsuc a) n = refl
+
+-- the part of an axis that has q comes from the other side where the factor is negative
+scale_source-size : (f q : ℤ) → IsFactor f → scale_source f q ≡ on_side (int_lt f (pos 0)) (source_of (by_size f) q)
+unfolding scale_source source_of
+scale_source-size (pos zero) q is_factor = absurd (is_factor.nonzero refl)
+scale_source-size (pos (suc n)) q is_factor =
+    let positive : int_lt (pos 0) (pos (suc n)) ≡ true = grind (arith, ints) in
+    let same : q ≡ q -ℤ pos 0 = omega (arith, ints) in
+    let source = int_div_euclid q (pos (suc n)) in
+    let with_offset = int_div_euclid (q -ℤ pos 0) (pos (suc n)) in
+    cond-true _ source (source -ℤ pos 1) positive
+    ∙ (λ t. int_div_euclid (same t) (pos (suc n)))
+    ∙ sym (cond-false _ (opposite with_offset) with_offset (not_negative (suc n)))
+scale_source-size (negsuc n) q is_factor =
+    let same : q ≡ q -ℤ pos 0 = omega (arith, ints) in
+    ap (λ source. source -ℤ pos 1) (int_div_euclid-negative q n) ∙ (λ t. opposite (int_div_euclid (same t) (pos (suc n))))
+
+-- a place of the field comes from one of the field
+source_of-least : (f q : ℤ) → IsFactor f → negsuc 4094 ≤ℤ q → negsuc 4094 ≤ℤ source_of (by_size f) q
+source_of-least f q is_factor least =
+    let stretch = IsStretch-size f is_factor in
+    let at_least = stretch.least in
+    source_of-from (by_size f) (negsuc 4094) q stretch (omega (arith, ints))
+
+source_of-greatest : (f q : ℤ) → IsFactor f → q ≤ℤ pos 4094 → source_of (by_size f) q ≤ℤ pos 4094
+source_of-greatest f q is_factor greatest =
+    by_lt_z (pos 4094) (source_of (by_size f) q)
+    (λ beyond.
+    let stretch = IsStretch-size f is_factor in
+    let at_least = stretch.least in
+    let reached = source_of-reached (by_size f) (pos 4095) q stretch (omega (arith, ints)) in
+    absurd (omega (arith, ints)))
+    (λ within. within)
+
+IsInField-sources : (s : Factors) (x y : ℤ) → AreFactors s → IsInField x y → IsInField (source_of (by_size s.x) x) (source_of (by_size s.y) y)
+IsInField-sources s x y factors in_field = record {
+  left = source_of-least s.x x factors.columns in_field.left;
+  right = source_of-greatest s.x x factors.columns in_field.right;
+  bottom = source_of-least s.y y factors.rows in_field.bottom;
+  top = source_of-greatest s.y y factors.rows in_field.top;
+}
+
+-- the reflected picture, stretched, is the scaled one
+HasWeights-reflected : (ds middle new : List Dot) (s : Factors) → AreFactors s → HasWeights (reflected_at (int_lt s.x (pos 0)) (int_lt s.y (pos 0)) ds) middle → HasWeights (stretched_at (by_size s.x) (by_size s.y) middle) new → HasWeights (step_at ds (Scale s)) new
+unfolding reflected_at stretched_at
+HasWeights-reflected ds middle new s factors reflected has = record {
+  weights = λ x y in_field.
+      has.weights x y in_field
+      ∙ reflected.weights (source_of (by_size s.x) x) (source_of (by_size s.y) y) (IsInField-sources s x y factors in_field)
+      ∙ (λ t. weight_at ds (sym (scale_source-size s.x x factors.columns) t) (sym (scale_source-size s.y y factors.rows) t));
+}
+
+pub HasWeights-scale : (ds middle new : List Dot) (s : Factors) (a b : ℤ) (columns rows sized_columns sized_rows : Stretch) → AreMade s.x a columns sized_columns → AreMade s.y b rows sized_rows → HasWeights (reflected_at (int_lt a (pos 0)) (int_lt b (pos 0)) ds) middle → HasWeights (stretched_at sized_columns sized_rows middle) new → HasWeights (step_at ds (Scale s)) new
+HasWeights-scale ds middle new s a b columns rows sized_columns sized_rows x y reflected stretched =
+    HasWeights-reflected ds middle new s (record { columns = x.factor; rows = y.factor }) (rw (x.passed, y.passed) at reflected) (rw (x.sized_is, y.sized_is) at stretched)
+
+-- what holds of each dot holds of each pixel that has a weight
+at_weight : (P : ℤ → ℤ → Type 0) (ds : List Dot) (x y : ℤ) → All (λ d. P d.x d.y) ds → weight_at ds x y ≢ pos 0 → P x y
+unfolding weight_at
+at_weight P [] x y holds nonzero = absurd (nonzero refl)
+at_weight P (d ∷ ds) x y holds nonzero =
+    ⊎_elim
+    (λ here.
+    let parts = and_parts (int_eq d.x x) (int_eq d.y y) here in
+    let head = All-head (λ e. P e.x e.y) d ds holds in
+    rw ((Decides-int_eq d.x x).0 parts.0, (Decides-int_eq d.y y).0 parts.1) at head)
+    (λ elsewhere.
+    at_weight P ds x y (All-tail (λ e. P e.x e.y) d ds holds) (λ blank. nonzero (cond-false _ d.weight (weight_at ds x y) elsewhere ∙ blank)))
+    (cases_Bool (int_eq d.x x && int_eq d.y y))
+
+product-opposite : (a : ℤ) (n : ℕ) → neg_ℤ a *ℤ negsuc n ≡ a *ℤ pos (suc n)
+product-opposite (pos zero) n = omega (arith, ints)
+product-opposite (pos (suc k)) n = refl
+product-opposite (negsuc k) n = refl
+
+-- the ends of a column, or row, on the other side change places
+StaysInside-size : (f p : ℤ) → StaysInside (by_factor f) (on_side (int_lt f (pos 0)) p) → StaysInside (by_size f) p
+StaysInside-size (pos n) p inside = subst (StaysInside (by_factor (pos n))) (cond-false _ (opposite p) p (not_negative n)) inside
+StaysInside-size (negsuc n) p inside =
+    let start : opposite p ≡ neg_ℤ (p +ℤ pos 1) = omega (arith, ints) in
+    let end : opposite p +ℤ pos 1 ≡ neg_ℤ p = omega (arith, ints) in
+    let start_is : stretched_to (by_factor (negsuc n)) (opposite p) ≡ stretched_to (by_size (negsuc n)) (p +ℤ pos 1) =
+    λ t. (((λ u. start u *ℤ negsuc n) ∙ product-opposite (p +ℤ pos 1) n) t) +ℤ pos 0 in
+    let end_is : stretched_to (by_factor (negsuc n)) (opposite p +ℤ pos 1) ≡ stretched_to (by_size (negsuc n)) p =
+    λ t. (((λ u. end u *ℤ negsuc n) ∙ product-opposite p n) t) +ℤ pos 0 in
+    record { start = subst IsPointInReach end_is inside.end; end = subst IsPointInReach start_is inside.start }
+
+-- a dot of the reflected picture is one of the picture
+reflected_dots : (columns rows : Bool) (ds middle : List Dot) → IsPicture middle → HasWeights (reflected_at columns rows ds) middle → All (λ d. weight_at ds (on_side columns d.x) (on_side rows d.y) ≢ pos 0) middle
+unfolding reflected_at
+reflected_dots columns rows ds middle picture reflected k d lt =
+    let e = get_or middle k d in
+    let dot = dots_from-lawful start_of_field middle picture.dots k d lt in
+    λ blank. dot.nonzero (sym (weight_at-dot start_of_field middle picture.dots k d lt) ∙ reflected.weights e.x e.y dot.in_field ∙ blank)
+
+-- so the reflected picture stays in the field, too
+StayInside-reflected : (ds middle : List Dot) (s : Factors) → IsPicture middle → HasWeights (reflected_at (int_lt s.x (pos 0)) (int_lt s.y (pos 0)) ds) middle → StayInside (by_factor s.x) (by_factor s.y) ds → StayInside (by_size s.x) (by_size s.y) middle
+StayInside-reflected ds middle s picture reflected inside =
+    let nonzero = reflected_dots _ _ ds middle picture reflected in
+    record {
+      across = λ k d lt. StaysInside-size s.x _ (at_weight (λ x y. StaysInside (by_factor s.x) x) ds _ _ inside.across (nonzero k d lt));
+      up = λ k d lt. StaysInside-size s.y _ (at_weight (λ x y. StaysInside (by_factor s.y) y) ds _ _ inside.up (nonzero k d lt));
+    }
+
+pub StayInside-scale : (ds middle : List Dot) (s : Factors) (a b : ℤ) (columns rows sized_columns sized_rows : Stretch) → AreMade s.x a columns sized_columns → AreMade s.y b rows sized_rows → IsPicture middle → HasWeights (reflected_at (int_lt a (pos 0)) (int_lt b (pos 0)) ds) middle → StayInside columns rows ds → StayInside sized_columns sized_rows middle
+StayInside-scale ds middle s a b columns rows sized_columns sized_rows x y picture reflected inside =
+    rw (x.sized_is, y.sized_is) (StayInside-reflected ds middle s picture (rw (x.passed, y.passed) at reflected) (rw (x.signed_is, y.signed_is) at inside))

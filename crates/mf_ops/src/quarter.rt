@@ -1,0 +1,34 @@
+//! Turns by quarters of a circle.
+ghost use Rattle.std.specs.Prelude.{◌≡◌, ◌↔◌, ◌⊎◌, IsOk, IfOk, pos};
+ghost use Rattle.mf_ops.specs.Moves.{degrees};
+
+/// Refusal 10: an angle other than 90, 180 and 270 degrees.
+#[derive(Clone, Copy, Debug, PartialEq, Eq)]
+pub struct BadTurn;
+
+/// Quarter turns counterclockwise round the point (0, 0): METAFONT's `rotated` (The METAFONTbook, chapter 15) for
+/// these angles.
+#[derive(Clone, Copy, Debug, PartialEq, Eq)]
+pub enum Quarter {
+    /// By 90 degrees.
+    Once,
+    /// By 180 degrees.
+    Twice,
+    /// By 270 degrees.
+    Thrice,
+}
+
+impl Quarter {
+    /// The turn by 90, 180 or 270 degrees. Any other angle is refused with BadTurn (10).
+    pub fn new(angle: i32) -> Result<Quarter, BadTurn>
+        ensures accepted { IsOk result ↔ ((angle ≡ pos 90) ⊎ (angle ≡ pos 180) ⊎ (angle ≡ pos 270)) }
+        ensures value { IfOk result (λ quarter. degrees quarter ≡ angle) }
+    {
+        match angle {
+            90 => Ok(Quarter::Once),
+            180 => Ok(Quarter::Twice),
+            270 => Ok(Quarter::Thrice),
+            _ => Err(BadTurn),
+        }
+    }
+}

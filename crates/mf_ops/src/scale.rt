@@ -1,0 +1,66 @@
+//! Scales by two whole factors.
+ghost use Rattle.std.specs.Prelude.{◌≡◌, ◌↔◌, IsOk, IfOk, IsTrue};
+ghost use Rattle.mf_ops.specs.Moves.{AreFactors, IsFactor};
+
+use std::marker::Model;
+
+/// Refusal 9: a factor that is 0 or not in -4095..4095.
+#[derive(Clone, Copy, Debug, PartialEq, Eq)]
+pub struct BadScale;
+
+/// The factors of a scale, METAFONT's `xscaled`, `yscaled` and `scaled` (The METAFONTbook, chapter 15) for whole
+/// numbers in -4095..4095 that are not 0. A negative factor reflects, too.
+#[derive(Clone, Copy, Debug, PartialEq, Eq)]
+pub struct Scale {
+    x: i32,
+    y: i32,
+}
+
+impl Model for Scale {
+    ghost use Rattle.mf_ops.specs.Moves.{Factors, AreFactors};
+
+    ghost Value = { Factors };
+
+    ghost view = { λ s. record { x = s.x; y = s.y } };
+
+    ghost invariant = { λ s. AreFactors (record { x = s.x; y = s.y }) };
+
+    ghost inverse = { λ f. record { x = f.x; y = f.y } };
+}
+
+impl Scale {
+    /// The scale by these factors, of columns and of rows. Refused with BadScale (9) where one of them is 0 or
+    /// not in -4095..4095.
+    pub fn new(x: i32, y: i32) -> Result<Scale, BadScale>
+        ensures accepted { IsOk result ↔ AreFactors (record { x = x; y = y }) }
+        ensures value { IfOk result (λ scale. scale ≡ record { x = x; y = y }) }
+    {
+        if !is_factor(x) || !is_factor(y) {
+            return Err(BadScale);
+        }
+        Ok(Scale { x, y })
+    }
+
+    /// The factor of columns.
+    pub(crate) fn x(&self) -> i32
+        ensures value { result ≡ self.now.x }
+        ensures factor { IsFactor result }
+    {
+        self.x
+    }
+
+    /// The factor of rows.
+    pub(crate) fn y(&self) -> i32
+        ensures value { result ≡ self.now.y }
+        ensures factor { IsFactor result }
+    {
+        self.y
+    }
+}
+
+/// Whether a number may be a factor.
+fn is_factor(factor: i32) -> bool
+    ensures { IsTrue result ↔ IsFactor factor }
+{
+    factor != 0 && -4095 <= factor && factor <= 4095
+}

@@ -1,0 +1,148 @@
+//! Shifts, scales and turns.
+ghost use Rattle.std.specs.Prelude.{◌≡◌, ◌≢◌, ◌↔◌, None, Some, Err, IfOk, IfErr, OnOk, IsTrue, pos, negsuc, ◌≤ℤ◌};
+ghost use Rattle.mf_rows.specs.Dots.{IsPicture};
+ghost use Rattle.mf_rows.specs.Moves.{StayInside, StaysInside, IsPointInReach, stretched_to};
+ghost use Rattle.mf_rows.specs.Sums.{HasWeights};
+ghost use Rattle.mf_ops.specs.Moves.{IsFactor};
+ghost use Rattle.mf_ops.specs.Reflections.{reflected_at};
+ghost use Rattle.mf_ops.specs.Step.{stepped, fault_of};
+ghost use Rattle.mf_ops.specs.declared.op.Op.TheVariants as ops;
+
+use crate::op::OpFault;
+use crate::quarter::Quarter;
+use crate::scale::Scale;
+use mf_geom::OutOfMemory;
+use mf_rows::{Picture, Stretch};
+use std::alloc::Global;
+
+/// Greatest size of a coordinate (mf.web: 4095).
+const REACH: i64 = 4095;
+
+/// The picture after a shift, by columns to the right and by rows upwards.
+pub fn shift(alloc: Global, picture: &Picture, right: i32, up: i32) -> Result<Picture, OpFault>
+    ensures step { IfOk result (λ new. new ≡ stepped picture.now (ops.Shift right up)) }
+    ensures accepted { OnOk result (fault_of picture.now (ops.Shift right up) ≡ None) }
+    ensures refused { IfErr result (λ fault. fault ≢ OpFault.OutOfMemory → fault_of picture.now (ops.Shift right up) ≡ Some fault) }
+    ensures out_of_field { fault_of picture.now (ops.Shift right up) ≡ Some OpFault.OutOfField → result ≡ Err OpFault.OutOfField }
+{
+    let columns = stretch(1, right);
+    let rows = stretch(1, up);
+    if !stays_inside(picture, &columns, &rows) {
+        return Err(OpFault::OutOfField);
+    }
+    Ok(picture.stretch(alloc, &columns, &rows)?)
+}
+
+/// The picture after a scale: where a factor is negative, it is reflected first.
+pub fn scale(alloc: Global, picture: &Picture, scale: Scale) -> Result<Picture, OpFault>
+    ensures step { IfOk result (λ new. new ≡ stepped picture.now (ops.Scale scale)) }
+    ensures accepted { OnOk result (fault_of picture.now (ops.Scale scale) ≡ None) }
+    ensures refused { IfErr result (λ fault. fault ≢ OpFault.OutOfMemory → fault_of picture.now (ops.Scale scale) ≡ Some fault) }
+    ensures out_of_field { fault_of picture.now (ops.Scale scale) ≡ Some OpFault.OutOfField → result ≡ Err OpFault.OutOfField }
+{
+    let (x, y) = (scale.x(), scale.y());
+    if !stays_inside(picture, &stretch(x, 0), &stretch(y, 0)) {
+        return Err(OpFault::OutOfField);
+    }
+    let reflected = reflect(alloc, picture, x < 0, y < 0)?;
+    Ok(reflected.stretch(alloc, &stretch(x.abs(), 0), &stretch(y.abs(), 0))?)
+}
+
+/// The picture after a turn.
+pub fn turn(alloc: Global, picture: &Picture, quarter: Quarter) -> Result<Picture, OpFault>
+    ensures step { IfOk result (λ new. new ≡ stepped picture.now (ops.Quarter quarter)) }
+    ensures accepted { OnOk result (fault_of picture.now (ops.Quarter quarter) ≡ None) }
+    ensures refused { IfErr result (λ fault. fault ≡ OpFault.OutOfMemory) }
+{
+    match quarter {
+        Quarter::Once => turn_once(alloc, picture),
+        Quarter::Twice => turn_twice(alloc, picture),
+        Quarter::Thrice => turn_thrice(alloc, picture),
+    }
+}
+
+/// The picture after a turn by 90 degrees.
+fn turn_once(alloc: Global, picture: &Picture) -> Result<Picture, OpFault>
+    ensures step { IfOk result (λ new. new ≡ stepped picture.now (ops.Quarter Quarter.Once)) }
+    ensures accepted { OnOk result (fault_of picture.now (ops.Quarter Quarter.Once) ≡ None) }
+    ensures refused { IfErr result (λ fault. fault ≡ OpFault.OutOfMemory) }
+{
+    Ok(picture.turn(alloc)?)
+}
+
+/// The picture after a turn by 180 degrees.
+fn turn_twice(alloc: Global, picture: &Picture) -> Result<Picture, OpFault>
+    ensures step { IfOk result (λ new. new ≡ stepped picture.now (ops.Quarter Quarter.Twice)) }
+    ensures accepted { OnOk result (fault_of picture.now (ops.Quarter Quarter.Twice) ≡ None) }
+    ensures refused { IfErr result (λ fault. fault ≡ OpFault.OutOfMemory) }
+{
+    Ok(reflect(alloc, picture, true, true)?)
+}
+
+/// The picture after a turn by 270 degrees: by 90 and then by 180.
+fn turn_thrice(alloc: Global, picture: &Picture) -> Result<Picture, OpFault>
+    ensures step { IfOk result (λ new. new ≡ stepped picture.now (ops.Quarter Quarter.Thrice)) }
+    ensures accepted { OnOk result (fault_of picture.now (ops.Quarter Quarter.Thrice) ≡ None) }
+    ensures refused { IfErr result (λ fault. fault ≡ OpFault.OutOfMemory) }
+{
+    let turned = picture.turn(alloc)?;
+    Ok(reflect(alloc, &turned, true, true)?)
+}
+
+/// The picture with its columns, its rows, or both on the other side of 0.
+fn reflect(
+    alloc: Global,
+    picture: &Picture,
+    columns: bool,
+    rows: bool,
+) -> Result<Picture, OutOfMemory>
+    ensures weights { IfOk result (HasWeights (reflected_at columns rows picture.now)) }
+    ensures lawful { IfOk result IsPicture }
+{
+    match (columns, rows) {
+        (false, false) => picture.copy(alloc),
+        (true, false) => picture.mirror_columns(alloc),
+        (false, true) => picture.mirror_rows(alloc),
+        (true, true) => picture.mirror_columns(alloc)?.mirror_rows(alloc),
+    }
+}
+
+/// Whether all pixels of nonzero weight lie in the field after the columns and the rows were stretched.
+fn stays_inside(picture: &Picture, columns: &Stretch, rows: &Stretch) -> bool
+    ensures { IsTrue result ↔ StayInside columns.now rows.now picture.now }
+{
+    match picture.bounds() {
+        Some(bounds) => {
+            lies_inside(columns, bounds.min_x)
+                && lies_inside(columns, bounds.max_x)
+                && lies_inside(rows, bounds.min_y)
+                && lies_inside(rows, bounds.max_y)
+        }
+        None => true,
+    }
+}
+
+/// Whether both ends of a column, or row, lie in reach after a stretch.
+fn lies_inside(stretch: &Stretch, place: i32) -> bool
+    requires least { negsuc 4094 ≤ℤ place }
+    requires greatest { place ≤ℤ pos 4094 }
+    ensures { IsTrue result ↔ StaysInside stretch.now place }
+{
+    is_in_reach(stretch, place) && is_in_reach(stretch, place + 1)
+}
+
+/// Whether a point lies in reach after a stretch.
+fn is_in_reach(stretch: &Stretch, point: i32) -> bool
+    requires least { negsuc 4094 ≤ℤ point }
+    requires greatest { point ≤ℤ pos 4095 }
+    ensures { IsTrue result ↔ IsPointInReach (stretched_to stretch.now point) }
+{
+    let new = i64::from(point) * i64::from(stretch.factor) + i64::from(stretch.offset);
+    -REACH <= new && new <= REACH
+}
+
+fn stretch(factor: i32, offset: i32) -> Stretch
+    ensures { result ≡ record { factor = factor; offset = offset } }
+{
+    Stretch { factor, offset }
+}
