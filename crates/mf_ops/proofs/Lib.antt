@@ -3,7 +3,7 @@ mod AxisSums
 mod Faults
 mod Leaving
 mod MovedTotals
-mod Operations
+pub mod Operations
 mod OutOfField
 mod Places
 mod Scaling

@@ -1,0 +1,21 @@
+-- Beginnings of lists of events.
+use Rattle.std.proofs.Common.{◌≡◌, ◌≤◌, List, [], ◌∷◌, length, refl, ap, sym, ◌∙◌, arith, length-append}
+use Rattle.std.proofs.lemmas.List.{append-nil}
+use mathlib.Core.List.{IsPrefix}
+
+pub prefix-length : {A : Type 0} (xs ys : List A) → IsPrefix xs ys → length xs ≤ length ys
+prefix-length xs ys begins = omega (arith, length-append xs begins.0, ap length begins.1)
+
+-- of two beginnings of one list the shorter begins the longer
+pub prefix-shorter : {A : Type 0} (xs ys zs : List A) → IsPrefix xs zs → IsPrefix ys zs → length xs ≤ length ys → IsPrefix xs ys
+prefix-shorter [] ys zs one other shorter = (ys, refl)
+prefix-shorter (x ∷ xs) [] zs one other shorter = absurd (omega arith)
+prefix-shorter (x ∷ xs) (y ∷ ys) [] one other shorter = absurd (cc (one.1))
+prefix-shorter (x ∷ xs) (y ∷ ys) (z ∷ zs) one other shorter =
+    let same : x ≡ y = cc (one.1, other.1) in
+    let tails : IsPrefix xs ys = prefix-shorter xs ys zs (one.0, cc (one.1)) (other.0, cc (other.1)) (omega arith) in (tails.0, cc (same, tails.1))
+
+-- a beginning as long as the whole is the whole
+pub prefix-same : {A : Type 0} (xs ys : List A) → IsPrefix xs ys → length ys ≤ length xs → xs ≡ ys
+prefix-same xs ys ([], whole) long = sym (append-nil xs) ∙ whole
+prefix-same xs ys (y ∷ rest, whole) long = absurd (omega (arith, length-append xs (y ∷ rest), ap length whole))

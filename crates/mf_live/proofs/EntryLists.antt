@@ -1,0 +1,94 @@
+-- What one entry more makes of a list of entries.
+use Rattle.std.proofs.Common.{◌≡◌, ◌≤◌, ◌+◌, ◌||◌, ◌∙◌, Bool, true, false, ℕ, List, [], ◌∷◌, ◌++◌, length, None, refl, sym, ap, append_assoc, arith, length-append}
+use Rattle.std.proofs.lemmas.List.{append-nil}
+use Rattle.mf_ops.specs.Operations.{picture_after, revision_after}
+use Rattle.mf_ops.specs.Step.{stepped, fault_of}
+use Rattle.mf_ops.specs.declared.op.Op.{Op}
+use Rattle.mf_ops.proofs.Operations.{picture_after-push, AreAccepted-push}
+use Rattle.mf_live.specs.Entries.{Change, Operation, End, Entry, entry, operation_of, operations, pic, rev, IsUnrefused, is_end, is_closed, ends_last}
+use Rattle.mf_live.specs.Prefixes.{IsWholePrefix}
+
+pub operations-append : (xs ys : List Entry) → operations (xs ++ ys) ≡ operations xs ++ operations ys
+operations-append [] ys = refl
+operations-append (e ∷ xs) ys = rw (operations-append xs ys) (sym (append_assoc (operation_of e.change) (operations xs) (operations ys)))
+
+operations-end : (L : List Entry) (n : ℕ) → operations (L ++ entry n End ∷ []) ≡ operations L
+operations-end L n = operations-append L (entry n End ∷ []) ∙ append-nil (operations L)
+
+pub pic-push : (L : List Entry) (n : ℕ) (op : Op) → pic (L ++ entry n (Operation op) ∷ []) ≡ stepped (pic L) op
+pic-push L n op = ap picture_after (operations-append L (entry n (Operation op) ∷ [])) ∙ picture_after-push (operations L) op
+
+pub rev-append : (xs ys : List Entry) → rev (xs ++ ys) ≡ rev xs + rev ys
+unfolding revision_after
+rev-append xs ys = ap length (operations-append xs ys) ∙ length-append (operations xs) (operations ys)
+
+pub rev-push : (L : List Entry) (n : ℕ) (op : Op) → rev (L ++ entry n (Operation op) ∷ []) ≡ rev L + 1
+unfolding revision_after
+rev-push L n op = rev-append L (entry n (Operation op) ∷ [])
+
+pub pic-end : (L : List Entry) (n : ℕ) → pic (L ++ entry n End ∷ []) ≡ pic L
+pic-end L n = ap picture_after (operations-end L n)
+
+pub rev-end : (L : List Entry) (n : ℕ) → rev (L ++ entry n End ∷ []) ≡ rev L
+rev-end L n = ap revision_after (operations-end L n)
+
+pub rev-whole : (S L : List Entry) → IsWholePrefix S L → rev S ≤ rev L
+rev-whole S L whole =
+    let sum : rev L ≡ rev S + rev whole.rest = ap rev whole.whole ∙ rev-append S whole.rest in
+    omega arith
+
+pub unrefused-push : (L : List Entry) (n : ℕ) (op : Op) → IsUnrefused L → fault_of (pic L) op ≡ None → IsUnrefused (L ++ entry n (Operation op) ∷ [])
+unrefused-push L n op unrefused allowed = rw (operations-append L (entry n (Operation op) ∷ [])) (AreAccepted-push (operations L) op unrefused allowed)
+
+pub unrefused-end : (L : List Entry) (n : ℕ) → IsUnrefused L → IsUnrefused (L ++ entry n End ∷ [])
+unrefused-end L n unrefused = rw (operations-end L n) unrefused
+
+or-assoc : (a b c : Bool) → (a || (b || c)) ≡ ((a || b) || c)
+or-assoc true b c = refl
+or-assoc false b c = refl
+
+pub is_closed-append : (xs ys : List Entry) → is_closed (xs ++ ys) ≡ (is_closed xs || is_closed ys)
+is_closed-append [] ys = refl
+is_closed-append (e ∷ xs) ys = rw (is_closed-append xs ys) (or-assoc (is_end e.change) (is_closed xs) (is_closed ys))
+
+ends-alone : (n : ℕ) (c : Change) → ends_last (entry n c ∷ []) ≡ true
+ends-alone n (Operation op) = refl
+ends-alone n End = refl
+
+ends_last-step : (n : ℕ) (c : Change) (L more : List Entry) → is_closed (entry n c ∷ L) ≡ false → ends_last (entry n c ∷ L) ≡ true
+    → (is_closed L ≡ false → ends_last L ≡ true → ends_last (L ++ more) ≡ true) → ends_last (entry n c ∷ L ++ more) ≡ true
+ends_last-step n (Operation op) L more not_closed ends rest = rest not_closed ends
+ends_last-step n End L more not_closed ends rest = cc
+
+pub ends_last-push : (L : List Entry) (e : Entry) → is_closed L ≡ false → ends_last L ≡ true → ends_last (L ++ e ∷ []) ≡ true
+ends_last-push [] e not_closed ends = ends-alone e.label e.change
+ends_last-push (first ∷ L) e not_closed ends =
+    ends_last-step first.label first.change L (e ∷ []) not_closed ends (ends_last-push L e)
+
+nothing_after_end : (n : ℕ) (S rest : List Entry) → ends_last (entry n End ∷ S ++ rest) ≡ true → rest ≡ []
+nothing_after_end n [] [] ends = refl
+nothing_after_end n [] (e ∷ rest) ends = cc
+nothing_after_end n (e ∷ S) rest ends = cc
+
+nothing_follows-step : (n : ℕ) (c : Change) (S rest : List Entry) → ends_last (entry n c ∷ S ++ rest) ≡ true → is_closed (entry n c ∷ S) ≡ true
+    → (ends_last (S ++ rest) ≡ true → is_closed S ≡ true → rest ≡ []) → rest ≡ []
+nothing_follows-step n (Operation op) S rest ends closed follows = follows ends closed
+nothing_follows-step n End S rest ends closed follows = nothing_after_end n S rest ends
+
+-- nothing follows a closed list
+pub nothing_follows : (S rest : List Entry) → ends_last (S ++ rest) ≡ true → is_closed S ≡ true → rest ≡ []
+nothing_follows [] rest ends closed = cc
+nothing_follows (e ∷ S) rest ends closed =
+    nothing_follows-step e.label e.change S rest ends closed (nothing_follows S rest)
+
+length-rev-step : (n : ℕ) (c : Change) (L : List Entry) → ends_last (entry n c ∷ L) ≡ true
+    → (ends_last L ≡ true → length L ≤ rev L + 1) → length (entry n c ∷ L) ≤ rev (entry n c ∷ L) + 1
+unfolding revision_after
+length-rev-step n (Operation op) L ends rest = let few : length L ≤ rev L + 1 = rest ends in omega arith
+length-rev-step n End [] ends rest = omega arith
+length-rev-step n End (e ∷ L) ends rest = cc
+
+-- all entries but the end mark are operations
+pub length-rev : (L : List Entry) → ends_last L ≡ true → length L ≤ rev L + 1
+length-rev [] ends = omega arith
+length-rev (e ∷ L) ends = length-rev-step e.label e.change L ends (length-rev L)

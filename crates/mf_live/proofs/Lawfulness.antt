@@ -1,0 +1,166 @@
+-- Each event that may happen keeps a world lawful.
+use Rattle.std.proofs.Common.{◌≡◌, ◌≢◌, ◌≤◌, ◌+◌, ◌-◌, ◌==◌, ℕ, zero, suc, Bool, true, false, List, [], ◌∷◌, ◌++◌, length, get_or, inr, refl, sym, ◌∙◌, ap, subst, arith, zero-le}
+use Rattle.std.specs.List.{All}
+use Rattle.std.proofs.Math.Seq.{get_or-append_seam}
+use Rattle.std.proofs.Math.ListN.{get_or-append}
+use Rattle.std.proofs.lemmas.Bool.{cond_both, cond-true, eq-eqb}
+use Rattle.std.proofs.lemmas.List.{append_assoc, append-nil, length-append}
+use Rattle.std.proofs.lemmas.List.Elements.{All-nil, All-head, All-tail, All-push, All-weaker}
+use Rattle.mf_ops.specs.Operations.{revision_after}
+use Rattle.mf_live.specs.declared.event.Event.{Event}
+use Rattle.mf_live.specs.declared.event.Event.TheVariants.{Accept, Refuse, Close, Publish, Discard, Look, Tell, Learn}
+use Rattle.mf_live.specs.Entries.{Change, Operation, End, Entry, entry, rev, next, next_after, is_closed, IsUnrefused}
+use Rattle.mf_live.specs.Prefixes.{IsWholePrefix, IsCutAmong, labels, longer}
+use Rattle.mf_live.specs.World.{World, start, May, after_event, notice_at, put, IsPending, IsLawful, ShowsMore}
+use Rattle.mf_live.proofs.EntryLists.{rev-push, rev-end, unrefused-push, unrefused-end, ends_last-push}
+use Rattle.mf_live.proofs.WholePrefixes.{labels-append, length-labels, whole-self, whole-nil, whole-trans, whole-length, whole-longer}
+
+-- the next label is the last one and 1
+last-label : (n : ℕ) (e : Entry) (es : List Entry) → get_or (labels (e ∷ es)) (length es) 0 + 1 ≡ next_after n (e ∷ es)
+last-label n e [] = refl
+last-label n e (f ∷ fs) = last-label (e.label + 1) f fs
+
+-- where labels end with the one before q, and q follows, the two differ
+ends_apart : (ns more : List ℕ) (n k q : ℕ) → length ns ≡ n → n ≡ suc k → get_or ns k 0 + 1 ≡ q → get_or (ns ++ q ∷ more) (n - 1) 0 ≢ get_or (ns ++ q ∷ more) n 0
+ends_apart ns more n k q long some last same =
+    let place : n - 1 ≡ k = omega arith in
+    let before = get_or-append ns (q ∷ more) 0 k (omega arith) in
+    let after = rw long at (get_or-append_seam ns q more 0) in
+    let equal = rw place at same in
+    absurd (omega arith)
+
+-- what is published is whole, since every entry after it has the next label
+pending-whole : (P rest : List Entry) → All (λ (e : Entry). e.label ≡ next P) rest → IsWholePrefix P (P ++ rest)
+pending-whole [] rest labelled = whole-nil rest
+pending-whole (p ∷ ps) [] labelled = rw (append-nil (p ∷ ps)) (whole-self (p ∷ ps))
+pending-whole (p ∷ ps) (q ∷ qs) labelled =
+    let front = labels (p ∷ ps) in
+    let long = length-labels (p ∷ ps) in
+    let label = All-head (λ (e : Entry). e.label ≡ next (p ∷ ps)) q qs labelled in
+    let apart = ends_apart front (labels qs) (length (p ∷ ps)) (length ps) q.label long refl (last-label 0 p ps ∙ sym label) in
+    let cut : IsCutAmong (front ++ q.label ∷ labels qs) (length (p ∷ ps)) = inr (inr (omega arith, omega (arith, length-append front (q.label ∷ labels qs)), apart)) in
+    record {
+      rest = q ∷ qs;
+      whole = refl;
+      cut = subst (λ ns. IsCutAmong ns (length (p ∷ ps))) (sym (labels-append (p ∷ ps) (q ∷ qs))) cut;
+    }
+
+whole_from : (P A : List Entry) → IsPending P A → IsWholePrefix P A
+whole_from P A pending = rw pending.are (pending-whole P pending.pending pending.labelled)
+
+pending-push : (P A : List Entry) (c : Change) → IsPending P A → IsPending P (A ++ entry (next P) c ∷ [])
+pending-push P A c pending = record {
+  pending = pending.pending ++ entry (next P) c ∷ [];
+  are = ap (λ list. list ++ entry (next P) c ∷ []) pending.are ∙ append_assoc P pending.pending (entry (next P) c ∷ []);
+  labelled = All-push (λ (e : Entry). e.label ≡ next P) pending.pending (entry (next P) c) pending.labelled refl;
+}
+
+none_pending : (A : List Entry) → IsPending A A
+none_pending A = record { pending = []; are = sym (append-nil A); labelled = All-nil (λ (e : Entry). e.label ≡ next A) }
+
+notice-whole : (ns : List (List Entry)) (k : ℕ) (P : List Entry) → All (λ n. IsWholePrefix n P) ns → IsWholePrefix (notice_at ns k) P
+notice-whole [] k P each = whole-nil P
+notice-whole (n ∷ ns) zero P each = All-head (λ n. IsWholePrefix n P) n ns each
+notice-whole (n ∷ ns) (suc k) P each = notice-whole ns k P (All-tail (λ n. IsWholePrefix n P) n ns each)
+
+-- what one viewer sees more leaves the others
+put-whole : (seen : ℕ → List Entry) (i : ℕ) (L P : List Entry) → ((j : ℕ) → IsWholePrefix (seen j) P) → IsWholePrefix L P → (j : ℕ) → IsWholePrefix (put seen i L j) P
+put-whole seen i L P each more j = cond_both (j == i) L (seen j) (λ S. IsWholePrefix S P) (λ _. more) (λ _. each j)
+
+rev-nil : rev [] ≡ 0
+unfolding revision_after
+rev-nil = refl
+
+pub lawful_start : (max_ops : ℕ) → IsLawful max_ops start
+lawful_start max_ops = record {
+  unrefused = record { steps = tt };
+  few = rw rev-nil zero-le;
+  whole = whole-nil [];
+  pending = none_pending [];
+  each_seen = λ i. whole-nil [];
+  each_notice = All-nil (λ n. IsWholePrefix n []);
+  ended = refl;
+}
+
+abbrev with_change : World → Change → List Entry
+with_change w c = w.accepted ++ entry (next w.published) c ∷ []
+
+-- the writer accepts one change more
+accepts : (max_ops : ℕ) (w : World) (c : Change) → IsLawful max_ops w → IsUnrefused (with_change w c) → rev (with_change w c) ≤ max_ops → is_closed w.accepted ≡ false → IsLawful max_ops (record w { accepted = with_change w c })
+accepts max_ops w c lawful unrefused few not_closed = record {
+  unrefused = unrefused;
+  few = few;
+  whole = whole_from w.published (with_change w c) (pending-push w.published w.accepted c lawful.pending);
+  pending = pending-push w.published w.accepted c lawful.pending;
+  each_seen = lawful.each_seen;
+  each_notice = lawful.each_notice;
+  ended = ends_last-push w.accepted (entry (next w.published) c) not_closed lawful.ended;
+}
+
+-- or publishes all that it has accepted
+publishes_all : (max_ops : ℕ) (w : World) (gone : Bool) → IsLawful max_ops w → IsLawful max_ops (record w { published = w.accepted; dropped = gone })
+publishes_all max_ops w gone lawful = record {
+  unrefused = lawful.unrefused;
+  few = lawful.few;
+  whole = whole-self w.accepted;
+  pending = none_pending w.accepted;
+  each_seen = λ i. whole-trans (w.seen i) w.published w.accepted (lawful.each_seen i) lawful.whole;
+  each_notice = All-weaker (λ n. IsWholePrefix n w.published) (λ n. IsWholePrefix n w.accepted) (λ n begins. whole-trans n w.published w.accepted begins lawful.whole) w.notices lawful.each_notice;
+  ended = lawful.ended;
+}
+
+-- or leaves the list as it is, whatever others have seen of it
+leaves_list : (max_ops : ℕ) (w : World) (seen : ℕ → List Entry) (notices : List (List Entry)) (gone : Bool) → IsLawful max_ops w → ((i : ℕ) → IsWholePrefix (seen i) w.published) → All (λ n. IsWholePrefix n w.published) notices → IsLawful max_ops (record w { seen = seen; notices = notices; dropped = gone })
+leaves_list max_ops w seen notices gone lawful each_seen each_notice = record {
+  unrefused = lawful.unrefused;
+  few = lawful.few;
+  whole = lawful.whole;
+  pending = lawful.pending;
+  each_seen = each_seen;
+  each_notice = each_notice;
+  ended = lawful.ended;
+}
+
+-- a viewer sees a list that is whole in what is published
+sees : (max_ops : ℕ) (w : World) (i : ℕ) (L : List Entry) → IsLawful max_ops w → IsWholePrefix L w.published → IsLawful max_ops (record w { seen = put w.seen i L })
+sees max_ops w i L lawful more = leaves_list max_ops w (put w.seen i L) w.notices w.dropped lawful (put-whole w.seen i L w.published lawful.each_seen more) lawful.each_notice
+
+pub lawful_event : (max_ops : ℕ) (w : World) (e : Event) → IsLawful max_ops w → May max_ops w e → IsLawful max_ops (after_event w e)
+lawful_event max_ops w (Accept op) lawful may =
+    let unrefused = unrefused-push w.accepted (next w.published) op lawful.unrefused may.3 in
+    accepts max_ops w (Operation op) lawful unrefused (omega (arith, rev-push w.accepted (next w.published) op)) may.1
+lawful_event max_ops w Refuse lawful may = lawful
+lawful_event max_ops w Close lawful may =
+    let unrefused = unrefused-end w.accepted (next w.published) lawful.unrefused in
+    accepts max_ops w End lawful unrefused (omega (arith, lawful.few, rev-end w.accepted (next w.published))) may.1
+lawful_event max_ops w Publish lawful may = publishes_all max_ops w w.dropped lawful
+lawful_event max_ops w (Discard true) lawful may = publishes_all max_ops w true lawful
+lawful_event max_ops w (Discard false) lawful may = leaves_list max_ops w w.seen w.notices true lawful lawful.each_seen lawful.each_notice
+lawful_event max_ops w (Look i) lawful may = sees max_ops w i w.published lawful (whole-self w.published)
+lawful_event max_ops w Tell lawful may =
+    leaves_list max_ops w w.seen (w.notices ++ w.published ∷ []) w.dropped lawful lawful.each_seen
+    (All-push (λ n. IsWholePrefix n w.published) w.notices w.published lawful.each_notice (whole-self w.published))
+lawful_event max_ops w (Learn i k) lawful may =
+    sees max_ops w i (longer (w.seen i) (notice_at w.notices k)) lawful
+    (whole-longer (w.seen i) (notice_at w.notices k) w.published (lawful.each_seen i) (notice-whole w.notices k w.published lawful.each_notice))
+
+-- an event leaves what was published, or publishes more
+pub published-event : (max_ops : ℕ) (w : World) (e : Event) → IsLawful max_ops w → IsWholePrefix w.published (after_event w e).published
+published-event max_ops w Publish lawful = lawful.whole
+published-event max_ops w (Discard true) lawful = lawful.whole
+published-event max_ops w e lawful = whole-self w.published
+
+-- each look shows more
+pub shows_more : (max_ops : ℕ) (w : World) (e : Event) → IsLawful max_ops w → ShowsMore w e
+shows_more max_ops w (Look i) lawful = (lawful.each_seen i, cond-true (i == i) w.published (w.seen i) (eq-eqb i i refl))
+shows_more max_ops w e lawful = tt
+
+one_more : (L : List Entry) (e : Entry) (P : List Entry) → IsWholePrefix P L → L ++ e ∷ [] ≡ P → ⊥
+one_more L e P whole same = absurd (omega (arith, whole-length P L whole, length-append L (e ∷ []), ap length same))
+
+-- an event after which all is published has accepted nothing, since that would not be published yet
+pub accepted-event : (max_ops : ℕ) (w : World) (e : Event) → IsLawful max_ops w → (after_event w e).accepted ≡ (after_event w e).published → w.accepted ≡ (after_event w e).accepted
+accepted-event max_ops w (Accept op) lawful all_published =
+    absurd (one_more w.accepted (entry (next w.published) (Operation op)) w.published lawful.whole all_published)
+accepted-event max_ops w Close lawful all_published = absurd (one_more w.accepted (entry (next w.published) End) w.published lawful.whole all_published)
+accepted-event max_ops w e lawful all_published = refl

@@ -1,0 +1,13 @@
+pub mod Beginnings
+pub mod Blank
+pub mod Ending
+pub mod EntryLists
+pub mod Histories
+pub mod Lawfulness
+pub mod Looking
+pub mod Publishing
+pub mod Seats
+pub mod WholePrefixes
+pub mod WholePublishes
+pub mod Worlds
+pub mod Writing

@@ -1,0 +1,114 @@
+-- Whole prefixes of lists of entries.
+use Rattle.std.proofs.Common.{◌≡◌, ◌≤◌, ◌<◌, ◌-◌, ℕ, List, [], ◌++◌, length, take, drop, nat_lt, inl, inr, refl, sym, ◌∙◌, ap, arith}
+use Rattle.std.proofs.Math.ListN.{get_or-append}
+use Rattle.std.proofs.Math.Seq.{take-append_seam}
+use Rattle.std.proofs.lemmas.Bool.{cases_lt, cond-true, cond-false, lt-ltb, le-ltb, cond_both}
+use Rattle.std.proofs.lemmas.List.{append_assoc, append-nil, length-append, length-map, map-append, nil_from_length, take-append-le, take-append-drop}
+use Rattle.mf_live.specs.Entries.{Entry}
+use Rattle.mf_live.specs.Prefixes.{IsWholePrefix, IsCutAmong, IsCut, labels, longer}
+
+pub length-labels : (L : List Entry) → length (labels L) ≡ length L
+length-labels L = length-map L (λ (e : Entry). e.label)
+
+pub labels-append : (xs ys : List Entry) → labels (xs ++ ys) ≡ labels xs ++ labels ys
+labels-append xs ys = map-append (λ (e : Entry). e.label) xs ys
+
+-- a place before the end of some labels stays one when more labels follow
+cut_among-append : (ns more : List ℕ) (n : ℕ) → n < length ns → IsCutAmong ns n → IsCutAmong (ns ++ more) n
+cut_among-append ns more n inside (inl first) = inl first
+cut_among-append ns more n inside (inr (inl last)) = absurd (omega arith)
+cut_among-append ns more n inside (inr (inr between)) =
+    let before = get_or-append ns more 0 (n - 1) (omega arith) in
+    let after = get_or-append ns more 0 n inside in
+    inr (inr (between.0, omega (arith, length-append ns more), λ same. between.2 (sym before ∙ same ∙ after)))
+
+cut_among-front : (ns more : List ℕ) (n : ℕ) → n ≤ length ns → IsCutAmong (ns ++ more) n → IsCutAmong ns n
+cut_among-front ns more n inside (inl first) = inl first
+cut_among-front ns more n inside (inr (inl last)) = inr (inl (omega (arith, length-append ns more)))
+cut_among-front ns more n inside (inr (inr between)) = elim (cases_lt n (length ns)) [
+  | inl below ↦
+      let before = get_or-append ns more 0 (n - 1) (omega arith) in
+      let after = get_or-append ns more 0 n below in
+      inr (inr (between.0, below, λ same. between.2 (before ∙ same ∙ sym after)))
+  | inr end ↦ inr (inl (omega arith))
+]
+
+-- so with a place of a list
+cut-append : (L more : List Entry) (n : ℕ) → n < length L → IsCut L n → IsCut (L ++ more) n
+cut-append L more n inside cut = rw (labels-append L more) (cut_among-append (labels L) (labels more) n (omega (arith, length-labels L)) cut)
+
+cut-front : (L more : List Entry) (n : ℕ) → n ≤ length L → IsCut (L ++ more) n → IsCut L n
+cut-front L more n inside cut = cut_among-front (labels L) (labels more) n (omega (arith, length-labels L)) (rw (labels-append L more) at cut)
+
+cut-end : (L : List Entry) (n : ℕ) → n ≡ length L → IsCut L n
+cut-end L n end = inr (inl (end ∙ sym (length-labels L)))
+
+pub whole-self : (L : List Entry) → IsWholePrefix L L
+whole-self L = record { rest = []; whole = sym (append-nil L); cut = cut-end L (length L) refl }
+
+pub whole-nil : (L : List Entry) → IsWholePrefix [] L
+whole-nil L = record { rest = L; whole = refl; cut = inl refl }
+
+pub whole-length : (S L : List Entry) → IsWholePrefix S L → length S ≤ length L
+whole-length S L whole = omega (arith, length-append S whole.rest, ap length whole.whole)
+
+-- a prefix as long as the list is the list
+pub whole-same : (S L : List Entry) → IsWholePrefix S L → length L ≤ length S → S ≡ L
+whole-same S L whole long =
+    let none = nil_from_length whole.rest (omega (arith, length-append S whole.rest, ap length whole.whole)) in
+    sym (whole.whole ∙ ap (λ rest. S ++ rest) none ∙ append-nil S)
+
+pub whole-trans : (A B C : List Entry) → IsWholePrefix A B → IsWholePrefix B C → IsWholePrefix A C
+whole-trans A B C first second = record {
+  rest = first.rest ++ second.rest;
+  whole = second.whole ∙ ap (λ front. front ++ second.rest) first.whole ∙ append_assoc A first.rest second.rest;
+  cut = elim (cases_lt (length A) (length B)) [
+    | inl shorter ↦ rw second.whole (cut-append B second.rest (length A) shorter first.cut)
+    | inr long ↦ rw (whole-same A B first long) second.cut
+  ];
+}
+
+-- of two whole prefixes the shorter is one of the longer
+pub whole-shorter : (a b L : List Entry) → IsWholePrefix a L → IsWholePrefix b L → length a ≤ length b → IsWholePrefix a b
+whole-shorter a b L one other shorter =
+    let front : a ≡ take (length a) b =
+    sym (take-append_seam a one.rest)
+    ∙ ap (λ list. take (length a) list) (sym one.whole ∙ other.whole)
+    ∙ take-append-le (length a) b other.rest shorter in
+    record {
+      rest = drop (length a) b;
+      whole = sym (ap (λ start. start ++ drop (length a) b) front ∙ take-append-drop (length a) b);
+      cut = cut-front b other.rest (length a) shorter (rw other.whole at one.cut);
+    }
+
+-- the longer of two whole prefixes is one
+pub whole-longer : (a b L : List Entry) → IsWholePrefix a L → IsWholePrefix b L → IsWholePrefix (longer a b) L
+whole-longer a b L one other = cond_both (nat_lt (length a) (length b)) b a (λ S. IsWholePrefix S L) (λ _. other) (λ _. one)
+
+longer-shorter : (a b : List Entry) → length a < length b → longer a b ≡ b
+longer-shorter a b shorter = cond-true (nat_lt (length a) (length b)) b a (lt-ltb (length a) (length b) shorter)
+
+longer-long : (a b : List Entry) → length b ≤ length a → longer a b ≡ a
+longer-long a b long = cond-false (nat_lt (length a) (length b)) b a (le-ltb (length a) (length b) long)
+
+pub longer-assoc : (a b c : List Entry) → longer a (longer b c) ≡ longer (longer a b) c
+longer-assoc a b c = elim (cases_lt (length a) (length b)) [
+  | inl below ↦ elim (cases_lt (length b) (length c)) [
+    | inl less ↦ rw (longer-shorter a b below, longer-shorter b c less, longer-shorter a c (omega arith)) refl
+    | inr more ↦ rw (longer-shorter a b below, longer-long b c more, longer-shorter a b below) refl
+  ]
+  | inr above ↦ elim (cases_lt (length b) (length c)) [
+    | inl less ↦ rw (longer-long a b above, longer-shorter b c less) refl
+    | inr more ↦ rw (longer-long a b above, longer-long b c more, longer-long a b above, longer-long a c (omega arith)) refl
+  ]
+]
+
+-- where one is a whole prefix of the other, the longer is that
+pub longer-whole : (a b : List Entry) → IsWholePrefix a b → longer a b ≡ b
+longer-whole a b whole = elim (cases_lt (length a) (length b)) [
+  | inl shorter ↦ longer-shorter a b shorter
+  | inr long ↦ longer-long a b long ∙ whole-same a b whole long
+]
+
+pub longer-of_whole : (a b : List Entry) → IsWholePrefix b a → longer a b ≡ a
+longer-of_whole a b whole = longer-long a b (whole-length b a whole)

@@ -1,0 +1,119 @@
+-- Labels never fall, so that a beginning that cuts no publish in two has of each publish nothing or all.
+use Rattle.std.proofs.Common.{◌≡◌, ◌≢◌, ◌≤◌, ◌<◌, ◌+◌, ◌-◌, ◌==◌, ◌⊎◌, inl, inr, ◌∙◌, true, ℕ, zero, suc, List, [], ◌∷◌, ◌++◌, length, get_or, refl, sym, ap, arith, length-append}
+use Rattle.std.proofs.lemmas.Bool.{cases_lt, ne_eqb}
+use Rattle.std.proofs.lemmas.List.{append-nil, get_or_append_left, get_or_at, nil_from_length}
+use Rattle.std.proofs.lemmas.List.Elements.{filter-append}
+use Rattle.mf_live.specs.declared.event.Event.{Event}
+use Rattle.mf_live.specs.declared.event.Event.TheVariants.{Accept, Close, Publish, Discard}
+use Rattle.mf_live.specs.Entries.{Change, Operation, End, Entry, entry, next_after, next}
+use Rattle.mf_live.specs.Prefixes.{labels, IsCut, IsWholePrefix, labelled, HasWholePublishes}
+use Rattle.mf_live.specs.World.{World, start, after_event, world_after, published_of}
+use Rattle.mf_live.proofs.WholePrefixes.{labels-append, length-labels}
+
+-- the labels of a list go from at least m up to at most n, and never fall
+abbrev Rises : ℕ → List Entry → ℕ → Type 0
+Rises m [] n = m ≤ n
+Rises m (e ∷ es) n = (m ≤ e.label) × Rises e.label es n
+
+Rises-bounds : (m : ℕ) (L : List Entry) (n : ℕ) → Rises m L n → m ≤ n
+Rises-bounds m [] n rises = rises
+Rises-bounds m (e ∷ L) n rises = let rest : e.label ≤ n = Rises-bounds e.label L n rises.1 in let first : m ≤ e.label = rises.0 in omega arith
+
+Rises-push : (m : ℕ) (L : List Entry) (n : ℕ) (c : Change) → Rises m L n → Rises m (L ++ entry n c ∷ []) n
+Rises-push m [] n c rises = (rises, omega arith)
+Rises-push m (e ∷ L) n c rises = (rises.0, Rises-push e.label L n c rises.1)
+
+Rises-next : (m k : ℕ) (L : List Entry) (n : ℕ) → m ≤ k → Rises m L n → Rises m L (next_after k L)
+Rises-next m k [] n below rises = below
+Rises-next m k (e ∷ L) n below rises = (rises.0, Rises-next e.label (e.label + 1) L n (omega arith) rises.1)
+
+Rises-parts : (m : ℕ) (S : List Entry) (e : Entry) (rest : List Entry) (n : ℕ) → Rises m (S ++ e ∷ rest) n → Rises m S e.label × Rises e.label rest n
+Rises-parts m [] e rest n rises = rises
+Rises-parts m (first ∷ S) e rest n rises =
+    let parts = Rises-parts first.label S e rest n rises.1 in
+    ((rises.0, parts.0), parts.1)
+
+-- the greatest label is the last
+Rises-last : (m : ℕ) (L : List Entry) (n i : ℕ) → suc i ≡ length L → Rises m L n → Rises m L (get_or (labels L) i 0) × (get_or (labels L) i 0 ≤ n)
+Rises-last m [] n i last rises = absurd (omega arith)
+Rises-last m (e ∷ []) n zero last rises = ((rises.0, omega arith), rises.1)
+Rises-last m (e ∷ []) n (suc i) last rises = absurd (omega arith)
+Rises-last m (e ∷ f ∷ L) n zero last rises = absurd (omega arith)
+Rises-last m (e ∷ f ∷ L) n (suc i) last rises =
+    let rest = Rises-last e.label (f ∷ L) n i (omega arith) rises.1 in
+    ((rises.0, rest.0), rest.1)
+
+none_below : (m : ℕ) (L : List Entry) (n k : ℕ) → Rises m L n → k < m → labelled k L ≡ []
+none_below m [] n k rises below = refl
+none_below m (e ∷ L) n k rises below =
+    let first : m ≤ e.label = rises.0 in
+    rw (ne_eqb e.label k (λ same. omega arith)) (none_below e.label L n k rises.1 (omega arith))
+
+none_above : (m : ℕ) (L : List Entry) (n k : ℕ) → Rises m L n → n < k → labelled k L ≡ []
+none_above m [] n k rises above = refl
+none_above m (e ∷ L) n k rises above =
+    let greatest : e.label ≤ n = Rises-bounds e.label L n rises.1 in
+    rw (ne_eqb e.label k (λ same. omega arith)) (none_above e.label L n k rises.1 above)
+
+-- at a place where the labels on the two sides differ
+whole_at_change : (S : List Entry) (e : Entry) (rest : List Entry) (n k : ℕ) → 0 < length S → Rises 0 (S ++ e ∷ rest) n
+    → get_or (labels (S ++ e ∷ rest)) (length S - 1) 0 ≢ get_or (labels (S ++ e ∷ rest)) (length S) 0
+    → (labelled k S ≡ []) ⊎ (labelled k S ≡ labelled k (S ++ e ∷ rest))
+whole_at_change S e rest n k some rises differ =
+    let more : List ℕ = labels (e ∷ rest) in
+    let i : ℕ = length S - 1 in
+    let last : ℕ = get_or (labels S) i 0 in
+    let parts = Rises-parts 0 S e rest n rises in
+    let front : Rises 0 S last × (last ≤ e.label) = Rises-last 0 S e.label i (omega arith) parts.0 in
+    let change : get_or (labels S ++ more) i 0 ≢ get_or (labels S ++ more) (length S) 0 = rw labels-append at differ in
+    let before : get_or (labels S ++ more) i 0 ≡ last = get_or_append_left (labels S) more 0 i (rw length-labels (omega arith)) in
+    let after : get_or (labels S ++ more) (length S) 0 ≡ e.label = get_or_at (labels S) e.label (labels rest) 0 (length S) (length-labels S) in
+    let less : last < e.label = omega arith in
+    elim (cases_lt k e.label) [
+      | inl below ↦
+          let none : labelled k (e ∷ rest) ≡ [] = none_below e.label (e ∷ rest) n k (omega arith, parts.1) below in
+          let same : labelled k (S ++ e ∷ rest) ≡ labelled k S ++ labelled k (e ∷ rest) = filter-append (λ (f : Entry). f.label == k) S (e ∷ rest) in
+          inr (sym (rw none at same ∙ append-nil (labelled k S)))
+      | inr above ↦ inl (none_above 0 S last k front.0 (omega arith))
+    ]
+
+at_cut : (S rest : List Entry) (n k : ℕ) → IsCut (S ++ rest) (length S) → Rises 0 (S ++ rest) n
+    → (labelled k S ≡ []) ⊎ (labelled k S ≡ labelled k (S ++ rest))
+at_cut S [] n k cut rises = inr (ap (labelled k) (sym (append-nil S)))
+at_cut S (e ∷ rest) n k (inl none) rises = inl (ap (labelled k) (nil_from_length S none))
+at_cut S (e ∷ rest) n k (inr (inl all)) rises =
+    let long = length-labels (S ++ e ∷ rest) ∙ length-append S (e ∷ rest) in
+    absurd (omega arith)
+at_cut S (e ∷ rest) n k (inr (inr change)) rises = whole_at_change S e rest n k change.0 rises change.2
+
+-- the labels of a world never fall, and none passes the next one
+record AreRising (w : World) : Type 0 where
+  accepted : Rises 0 w.accepted (next w.published)
+  published : Rises 0 w.published (next w.published)
+
+rising-all : (w : World) → AreRising w → Rises 0 w.accepted (next w.accepted)
+rising-all w rising = Rises-next 0 0 w.accepted (next w.published) (omega arith) rising.accepted
+
+rising-push : (w : World) (c : Change) → AreRising w → Rises 0 (w.accepted ++ entry (next w.published) c ∷ []) (next w.published)
+rising-push w c rising = Rises-push 0 w.accepted (next w.published) c rising.accepted
+
+rising-event : (w : World) (e : Event) → AreRising w → AreRising (after_event w e)
+rising-event w (Accept op) rising = record { accepted = rising-push w (Operation op) rising; published = rising.published }
+rising-event w Close rising = record { accepted = rising-push w End rising; published = rising.published }
+rising-event w Publish rising = record { accepted = rising-all w rising; published = rising-all w rising }
+rising-event w (Discard true) rising = record { accepted = rising-all w rising; published = rising-all w rising }
+rising-event w e rising = record { accepted = rising.accepted; published = rising.published }
+
+rising-after : (w : World) (events : List Event) → AreRising w → AreRising (world_after w events)
+rising-after w [] rising = rising
+rising-after w (e ∷ events) rising = rising-after (after_event w e) events (rising-event w e rising)
+
+-- a whole prefix of what is published has of each publish nothing, or all
+pub whole_publishes : (S : List Entry) (events : List Event) → IsWholePrefix S (published_of events) → HasWholePublishes S (published_of events)
+whole_publishes S events whole =
+    let L : List Entry = published_of events in
+    let rising : AreRising (world_after start events) =
+    rising-after start events (record { accepted = omega arith; published = omega arith }) in
+    let cut : IsCut (S ++ whole.rest) (length S) = rw (← whole.whole) whole.cut in
+    let rises : Rises 0 (S ++ whole.rest) (next L) = rw (← whole.whole) rising.published in
+    record { nothing_or_all = λ k. rw whole.whole (at_cut S whole.rest (next L) k cut rises) }

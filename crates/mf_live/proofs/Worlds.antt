@@ -1,0 +1,67 @@
+-- Lists of events and the worlds after them.
+use Rattle.std.proofs.Common.{◌≡◌, ℕ, List, [], ◌∷◌, ◌++◌, refl, sym, ◌∙◌, ap}
+use Rattle.mf_live.specs.declared.event.Event.{Event}
+use Rattle.mf_live.specs.Prefixes.{IsWholePrefix}
+use Rattle.mf_live.specs.World.{World, start, Happen, May, after_event, world_after, IsLawful, EverySchedule, StaysLawful, accepted_of, published_of}
+use Rattle.mf_live.proofs.Lawfulness.{lawful_start, lawful_event, published-event, shows_more, accepted-event}
+use Rattle.mf_live.proofs.WholePrefixes.{whole-self, whole-trans}
+
+pub world_after-append : (w : World) (xs ys : List Event) → world_after w (xs ++ ys) ≡ world_after (world_after w xs) ys
+world_after-append w [] ys = refl
+world_after-append w (x ∷ xs) ys = world_after-append (after_event w x) xs ys
+
+pub world_after-push : (w : World) (xs : List Event) (e : Event) → world_after w (xs ++ e ∷ []) ≡ after_event (world_after w xs) e
+world_after-push w xs e = world_after-append w xs (e ∷ [])
+
+pub Happen-append : (max_ops : ℕ) (w : World) (xs ys : List Event) → Happen max_ops w xs → Happen max_ops (world_after w xs) ys → Happen max_ops w (xs ++ ys)
+Happen-append max_ops w [] ys first second = second
+Happen-append max_ops w (x ∷ xs) ys first second = (first.0, Happen-append max_ops (after_event w x) xs ys first.1 second)
+
+pub Happen-push : (max_ops : ℕ) (w : World) (xs : List Event) (e : Event) → Happen max_ops w xs → May max_ops (world_after w xs) e → Happen max_ops w (xs ++ e ∷ [])
+Happen-push max_ops w xs e first may = Happen-append max_ops w xs (e ∷ []) first (may, tt)
+
+pub Happen-front : (max_ops : ℕ) (w : World) (xs ys : List Event) → Happen max_ops w (xs ++ ys) → Happen max_ops w xs
+Happen-front max_ops w [] ys happen = tt
+Happen-front max_ops w (x ∷ xs) ys happen = (happen.0, Happen-front max_ops (after_event w x) xs ys happen.1)
+
+pub Happen-rest : (max_ops : ℕ) (w : World) (xs ys : List Event) → Happen max_ops w (xs ++ ys) → Happen max_ops (world_after w xs) ys
+Happen-rest max_ops w [] ys happen = happen
+Happen-rest max_ops w (x ∷ xs) ys happen = Happen-rest max_ops (after_event w x) xs ys happen.1
+
+stays_lawful : (max_ops : ℕ) (w : World) (events : List Event) → IsLawful max_ops w → Happen max_ops w events → StaysLawful max_ops w events
+stays_lawful max_ops w [] lawful happen = lawful
+stays_lawful max_ops w (e ∷ es) lawful happen =
+    (lawful, shows_more max_ops w e lawful, stays_lawful max_ops (after_event w e) es (lawful_event max_ops w e lawful happen.0) happen.1)
+
+pub every_schedule : (max_ops : ℕ) → EverySchedule max_ops
+every_schedule max_ops events happen = stays_lawful max_ops start events (lawful_start max_ops) happen
+
+lawful-on : (max_ops : ℕ) (w : World) (xs : List Event) → IsLawful max_ops w → Happen max_ops w xs → IsLawful max_ops (world_after w xs)
+lawful-on max_ops w [] lawful happen = lawful
+lawful-on max_ops w (x ∷ xs) lawful happen = lawful-on max_ops (after_event w x) xs (lawful_event max_ops w x lawful happen.0) happen.1
+
+-- what happens from the start leaves a lawful world
+pub lawful-after : (max_ops : ℕ) (xs : List Event) → Happen max_ops start xs → IsLawful max_ops (world_after start xs)
+lawful-after max_ops xs happen = lawful-on max_ops start xs (lawful_start max_ops) happen
+
+published-on : (max_ops : ℕ) (w : World) (xs : List Event) → IsLawful max_ops w → Happen max_ops w xs → IsWholePrefix w.published (world_after w xs).published
+published-on max_ops w [] lawful happen = whole-self w.published
+published-on max_ops w (x ∷ xs) lawful happen =
+    let w_next = after_event w x in
+    let later = published-on max_ops w_next xs (lawful_event max_ops w x lawful happen.0) happen.1 in
+    whole-trans w.published w_next.published (world_after w_next xs).published (published-event max_ops w x lawful) later
+
+-- what was published begins, whole, what is published later
+pub published-grows : (max_ops : ℕ) (xs ys : List Event) → Happen max_ops start (xs ++ ys) → IsWholePrefix (published_of xs) (published_of (xs ++ ys))
+published-grows max_ops xs ys happen =
+    let lawful = lawful-after max_ops xs (Happen-front max_ops start xs ys happen) in
+    rw (world_after-append start xs ys, published_of) (published-on max_ops (world_after start xs) ys lawful (Happen-rest max_ops start xs ys happen))
+
+-- the event after which all is published was the publish, or changed nothing
+pub same_accepted : (max_ops : ℕ) (xs : List Event) (e : Event) → Happen max_ops start (xs ++ e ∷ []) → accepted_of (xs ++ e ∷ []) ≡ published_of (xs ++ e ∷ []) → accepted_of xs ≡ accepted_of (xs ++ e ∷ [])
+same_accepted max_ops xs e happen all_published =
+    let lawful = lawful-after max_ops xs (Happen-front max_ops start xs (e ∷ []) happen) in
+    let after = world_after-push start xs e in
+    let accepted = ap (λ (w : World). w.accepted) after in
+    let published = ap (λ (w : World). w.published) after in
+    accepted-event max_ops (world_after start xs) e lawful (sym accepted ∙ all_published ∙ published) ∙ sym accepted

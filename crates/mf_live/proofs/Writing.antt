@@ -1,0 +1,72 @@
+-- The step that writes events keeps the rule of the book.
+use Rattle.std.proofs.Common.{◌≡◌, ◌+◌, ◌<◌, ◌==◌, ℕ, Bool, true, false, List, [], ◌∷◌, ◌++◌, length, None, inl, refl, ap, sym, subst, arith, length-append}
+use Rattle.std.proofs.lemmas.Bool.Decides.{nat_tests}
+use Rattle.std.proofs.lemmas.List.{append-nil}
+use mathlib.Core.List.{IsPrefix}
+use prog.Atomic.{either}
+use Rattle.logbook.specs.Pages.{Cell, cell, View, keeps, no_nib, step, Goes, Moves}
+use Rattle.mf_live.specs.declared.event.Event.{Event}
+use Rattle.mf_live.specs.declared.event.Event.TheVariants.{Refuse}
+use Rattle.mf_live.specs.Books.{most, IsKept, Writes}
+use Rattle.mf_live.specs.World.{Happen, start, world_after}
+use Rattle.mf_live.proofs.Beginnings.{prefix-same}
+use Rattle.mf_live.proofs.Worlds.{Happen-append}
+
+abbrev pub nothing_shown : List Event → List Event
+nothing_shown events = []
+
+abbrev pub any_move : List Event → List Event → ℕ → Type 0
+any_move before after answer = Unit {0}
+
+-- the words of a book
+abbrev pub counting : ℕ → List Cell
+counting n = (n, true) ∷ (0, true) ∷ []
+
+module _ (seen more : List Event) (old count : ℕ) where
+  abbrev pub exchanged : ℕ → ℕ
+  exchanged n = either (n == old) (old + count) n
+
+  abbrev pub view : View Event ℕ
+  view = (seen, (no_nib, None))
+
+  abbrev pub told : ℕ → View Event ℕ → Type 0
+  told = Writes more (step 0 old (old + count) Refuse) view
+
+  abbrev pub Steps : List Cell → List Event → Type 0
+  Steps = Goes IsKept nothing_shown any_move 0 view exchanged told
+
+  -- the word has `old`, so all of the log was seen, and the events are added
+  adds : old ≡ length seen → count ≡ length more → Happen most (world_after start seen) more
+      → (log : List Event) → Happen most start log → IsPrefix seen log → (length log == old) ≡ true → Steps (counting (length log)) log
+  adds all counted may log lawful begins found =
+      let whole : seen ≡ log = prefix-same seen log begins (grind (arith, nat_tests)) in
+      let appended : seen ++ more ≡ log ++ more = ap (λ L. L ++ more) whole in
+      let seen_lawful : Happen most start seen = subst (Happen most start) (sym whole) lawful in
+      let both_lawful : Happen most start (log ++ more) = subst (Happen most start) appended (Happen-append most start seen more seen_lawful may) in
+      let word : exchanged (length log) ≡ length (log ++ more) = rw found (omega (arith, length-append log more, ap length whole)) in (
+        keeps,
+        more,
+        None,
+        tt,
+        record { words = ap counting word; lawful = both_lawful },
+        inl (refl, refl),
+        rw found (sym appended, both_lawful),
+      )
+
+  -- the word has another number, and keeps it
+  leaves : (log : List Event) → Happen most start log → (length log == old) ≡ false → Steps (counting (length log)) log
+  leaves log lawful found =
+      let same : log ≡ log ++ [] = sym (append-nil log) in
+      let word : exchanged (length log) ≡ length (log ++ []) = rw found (ap length same) in
+      (keeps, [], None, tt, record { words = ap counting word; lawful = subst (Happen most start) same lawful }, inl (refl, refl), rw found tt)
+
+  -- whatever the book has, the step adds the events to all that was seen, or leaves it
+  pub writes : old ≡ length seen → count ≡ length more → Happen most (world_after start seen) more
+      → Moves IsKept nothing_shown any_move 0 view exchanged told
+  writes all counted may cells log kept begins away =
+      let P : List Cell → Type 0 = λ cs. (0 < length cs) × ((cell cs 0).1 ≡ true) × Steps cs log in
+      subst P (sym kept.words) (omega arith, refl, by_test (length log == old) refl)
+    where
+      by_test : (b : Bool) → (length log == old) ≡ b → Steps (counting (length log)) log
+      by_test true found = adds all counted may log kept.lawful begins found
+      by_test false found = leaves log kept.lawful found

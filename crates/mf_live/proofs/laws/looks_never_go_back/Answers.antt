@@ -1,0 +1,12 @@
+use Rattle.std.proofs.Common.{◌++◌}
+use Rattle.mf_live.specs.World.{published_of}
+use Rattle.mf_live.proofs.EntryLists.{rev-whole}
+use Rattle.mf_live.proofs.Worlds.{published-grows}
+use Rattle.mf_live.proofs.laws.looks_never_go_back.Goals as goal
+
+pub returns-clause-prefix : goal.returns-clause-prefix
+returns-clause-prefix c = published-grows c.args.max_ops
+
+pub returns-clause-revision : goal.returns-clause-revision
+returns-clause-revision c before between happen =
+    rev-whole (published_of before) (published_of (before ++ between)) (published-grows c.args.max_ops before between happen)

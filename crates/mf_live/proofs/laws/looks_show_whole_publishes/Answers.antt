@@ -1,0 +1,8 @@
+use Rattle.std.proofs.Common.{◌++◌}
+use Rattle.mf_live.specs.World.{published_of}
+use Rattle.mf_live.proofs.WholePublishes.{whole_publishes}
+use Rattle.mf_live.proofs.Worlds.{published-grows}
+use Rattle.mf_live.proofs.laws.looks_show_whole_publishes.Goals as goal
+
+pub returns : goal.returns
+returns c = λ before after happen. whole_publishes (published_of before) (before ++ after) (published-grows c.args.max_ops before after happen)

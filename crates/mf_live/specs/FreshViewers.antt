@@ -1,0 +1,9 @@
+-- That viewers have seen nothing is a fact with one proof at most.
+use Rattle.std.specs.Prelude.{All, List}
+use Rattle.std.proofs.Props.{props}
+use Rattle.mf_live.specs.declared.history.Token.{Token}
+use Rattle.mf_live.specs.declared.viewer.Viewer.{Viewer}
+use Rattle.mf_live.specs.Viewers.{IsFresh}
+
+pub are_fresh-prop : (t : Token) (viewers : List Viewer) → IsProp (All (IsFresh t) viewers)
+are_fresh-prop t viewers = hlevel props

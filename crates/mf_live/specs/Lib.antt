@@ -1,0 +1,12 @@
+pub mod Books
+pub mod Desks
+pub mod Entries
+pub mod FreshViewers
+pub mod Happening
+pub mod Holders
+pub mod Prefixes
+pub mod Rule
+pub mod Sheets
+pub mod Viewers
+pub mod World
+pub mod Writers

@@ -1,0 +1,24 @@
+-- What a clause reads of the taking of a sheet.
+use Rattle.std.specs.Prelude.{◌≡◌}
+use Rattle.mf_live.specs.declared.sheet.Sheet.{Sheet}
+use Rattle.mf_live.specs.declared.sheet.SheetFault.{SheetFault}
+use Rattle.mf_live.specs.declared.sheet.SheetFault.TheVariants.{NoLook, OutOfMemory}
+use Rattle.mf_live.specs.declared.viewer.Viewer.{Viewer}
+use Rattle.mf_live.specs.Entries.{pic, rev}
+use Rattle.mf_live.specs.Viewers.{Extends, SeesTheSame, looked, seen}
+
+-- a viewer has looked
+pub record HasLooked (before after : Viewer) : Type 0 where
+  pub extends : Extends before (looked after)
+  pub seen : seen after ≡ looked after
+
+-- a sheet has what its look showed
+pub record IsTaken (before after : Viewer) (sheet : Sheet) : Type 0 where
+  pub look : HasLooked before after
+  pub picture : sheet.picture ≡ pic (looked after)
+  pub revision : sheet.revision ≡ rev (looked after)
+
+-- where no sheet was given, the viewer has not looked, or memory was wanting after it had
+abbrev pub IsNotTaken : Viewer → Viewer → SheetFault → Type 0
+IsNotTaken before after NoLook = SeesTheSame before after
+IsNotTaken before after OutOfMemory = HasLooked before after

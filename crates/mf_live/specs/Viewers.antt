@@ -1,0 +1,60 @@
+-- What a clause reads of viewers, looks and notices.
+use Rattle.std.specs.Prelude.{◌≡◌, List, []}
+use Rattle.logbook.specs.Pages.{Book}
+use Rattle.left_right.specs.Sides.{view}
+use Rattle.mf_live.specs.declared.history.Token.{Token}
+use Rattle.mf_live.specs.declared.look.Look.{Look}
+use Rattle.mf_live.specs.declared.notice.Notice.{Notice}
+use Rattle.mf_live.specs.declared.viewer.Viewer.{Viewer}
+use Rattle.mf_live.specs.Entries.{Entry}
+use Rattle.mf_live.specs.Prefixes.{IsWholePrefix, longer}
+use Rattle.mf_live.specs.Rule.{kept_by}
+use Rattle.mf_live.specs.World.{accepted_of, published_of}
+
+-- which picture a notice is of
+abbrev pub notice_name : Notice → Book
+notice_name n = n.front.token.seen.book
+
+-- the list that it tells
+abbrev pub told : Notice → List Entry
+told n = published_of n.front.token.seen.log
+
+-- which picture a viewer looks at
+abbrev pub name : Viewer → Book
+name v = notice_name v.known
+
+-- the list of the last look that was answered
+abbrev pub looked : Viewer → List Entry
+looked v = accepted_of (kept_by v.missed (view v.reader.place)).seen.log
+
+-- the longest list that was learnt
+abbrev pub learnt : Viewer → List Entry
+learnt v = told v.known
+
+-- what was looked at or learnt of
+abbrev pub seen : Viewer → List Entry
+seen v = longer (looked v) (learnt v)
+
+-- L begins, whole, with all that the viewer has looked at or learnt of
+pub record Extends (v : Viewer) (L : List Entry) : Type 0 where
+  pub looked : IsWholePrefix (looked v) L
+  pub learnt : IsWholePrefix (learnt v) L
+  pub seen : IsWholePrefix (seen v) L
+
+-- a viewer has seen what it had seen
+pub record SeesTheSame (before after : Viewer) : Type 0 where
+  pub looked : looked after ≡ looked before
+  pub learnt : learnt after ≡ learnt before
+
+abbrev pub look_name : Look → Book
+look_name l = notice_name l.known
+
+-- the list that a look shows
+abbrev pub shown : Look → List Entry
+shown l = accepted_of (view l.reading.place).now.seen.log
+
+-- a viewer that has seen nothing, of the picture with this token
+pub record IsFresh (t : Token) (v : Viewer) : Type 0 where
+  pub name : name v ≡ t.seen.book
+  pub looked : looked v ≡ []
+  pub learnt : learnt v ≡ []

@@ -1,0 +1,100 @@
+-- One published list, and what may happen to it.
+use Rattle.std.specs.Prelude.{◌≡◌, ◌<◌, ◌≤◌, ◌++◌, ◌==◌, Bool, true, false, ℕ, zero, suc, List, [], ◌∷◌, All, length, None, if◌then◌else◌}
+use Rattle.mf_ops.specs.Step.{fault_of}
+use Rattle.mf_live.specs.declared.event.Event.{Event}
+use Rattle.mf_live.specs.declared.event.Event.TheVariants.{Accept, Refuse, Close, Publish, Discard, Look, Tell, Learn}
+use Rattle.mf_live.specs.Entries.{Operation, End, Entry, entry, pic, rev, next, is_closed, ends_last, IsUnrefused}
+use Rattle.mf_live.specs.Prefixes.{IsWholePrefix, longer}
+
+pub record World : Type 0 where
+  pub accepted : List Entry
+  pub published : List Entry
+  -- what each viewer has looked at or learnt of
+  pub seen : ℕ → List Entry
+  pub notices : List (List Entry)
+  -- whether the writer is gone
+  pub dropped : Bool
+
+abbrev pub start : World
+start = record { accepted = []; published = []; seen = λ i. []; notices = []; dropped = false }
+
+-- the k-th notice, or nothing
+abbrev pub notice_at : List (List Entry) → ℕ → List Entry
+notice_at [] k = []
+notice_at (n ∷ ns) zero = n
+notice_at (n ∷ ns) (suc k) = notice_at ns k
+
+-- the viewer i has seen L, and the others what they had
+abbrev pub put : (ℕ → List Entry) → ℕ → List Entry → ℕ → List Entry
+put seen i L j = if j == i then L else seen j
+
+-- the writer is there, and accepts changes
+abbrev pub IsOpen : World → Type 0
+IsOpen w = (w.dropped ≡ false) × (is_closed w.accepted ≡ false)
+
+-- when an event may happen, if so many operations may be accepted
+abbrev pub May : ℕ → World → Event → Type 0
+May max_ops w (Accept op) = (w.dropped ≡ false) × (is_closed w.accepted ≡ false) × (rev w.accepted < max_ops) × (fault_of (pic w.accepted) op ≡ None)
+May max_ops w Refuse = Unit {0}
+May max_ops w Close = (w.dropped ≡ false) × (is_closed w.accepted ≡ false)
+May max_ops w Publish = w.dropped ≡ false
+May max_ops w (Discard publishes) = w.dropped ≡ false
+May max_ops w (Look i) = Unit {0}
+May max_ops w Tell = w.dropped ≡ false
+May max_ops w (Learn i k) = k < length w.notices
+
+-- what an event does
+abbrev pub after_event : World → Event → World
+after_event w (Accept op) = record w { accepted = w.accepted ++ entry (next w.published) (Operation op) ∷ [] }
+after_event w Refuse = w
+after_event w Close = record w { accepted = w.accepted ++ entry (next w.published) End ∷ [] }
+after_event w Publish = record w { published = w.accepted }
+after_event w (Discard publishes) = record w { published = (if publishes then w.accepted else w.published); dropped = true }
+after_event w (Look i) = record w { seen = put w.seen i w.published }
+after_event w Tell = record w { notices = w.notices ++ w.published ∷ [] }
+after_event w (Learn i k) = record w { seen = put w.seen i (longer (w.seen i) (notice_at w.notices k)) }
+
+-- each event may happen where it stands
+abbrev pub Happen : ℕ → World → List Event → Type 0
+Happen max_ops w [] = Unit {0}
+Happen max_ops w (e ∷ es) = May max_ops w e × Happen max_ops (after_event w e) es
+
+abbrev pub world_after : World → List Event → World
+world_after w [] = w
+world_after w (e ∷ es) = world_after (after_event w e) es
+
+-- every entry after the published ones has the next label
+pub record IsPending (published accepted : List Entry) : Type 0 where
+  pub pending : List Entry
+  pub are : accepted ≡ published ++ pending
+  pub labelled : All (λ (e : Entry). e.label ≡ next published) pending
+
+pub record IsLawful (max_ops : ℕ) (w : World) : Type 0 where
+  pub unrefused : IsUnrefused w.accepted
+  pub few : rev w.accepted ≤ max_ops
+  pub whole : IsWholePrefix w.published w.accepted
+  pub pending : IsPending w.published w.accepted
+  pub each_seen : (i : ℕ) → IsWholePrefix (w.seen i) w.published
+  pub each_notice : All (λ n. IsWholePrefix n w.published) w.notices
+  pub ended : ends_last w.accepted ≡ true
+
+-- what a look shows begins, whole, with what its viewer had seen, and is what the viewer has seen then
+abbrev pub ShowsMore : World → Event → Type 0
+ShowsMore w (Look i) = IsWholePrefix (w.seen i) w.published × ((after_event w (Look i)).seen i ≡ w.published)
+ShowsMore w e = Unit {0}
+
+-- the world is lawful before and after each event, and each look shows more
+abbrev pub StaysLawful : ℕ → World → List Event → Type 0
+StaysLawful max_ops w [] = IsLawful max_ops w
+StaysLawful max_ops w (e ∷ es) = IsLawful max_ops w × ShowsMore w e × StaysLawful max_ops (after_event w e) es
+
+-- whatever happens from the start, in whatever order, stays lawful
+abbrev pub EverySchedule : ℕ → Type 0
+EverySchedule max_ops = (events : List Event) → Happen max_ops start events → StaysLawful max_ops start events
+
+-- what was accepted, and what was published, once these events have happened
+abbrev pub accepted_of : List Event → List Entry
+accepted_of events = (world_after start events).accepted
+
+abbrev pub published_of : List Event → List Entry
+published_of events = (world_after start events).published

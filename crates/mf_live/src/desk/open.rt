@@ -1,0 +1,81 @@
+//! Opening a live picture.
+ghost use Rattle.std.specs.Prelude.{◌≡◌, ◌≤◌, [], All, length, IfOk, IfSome};
+ghost use Rattle.left_right.specs.Sides.{view};
+ghost use Rattle.mf_live.specs.Desks.{desk_name, left};
+ghost use Rattle.mf_live.specs.Holders as holders;
+ghost use Rattle.mf_live.specs.Rule.{knowing};
+ghost use Rattle.mf_live.specs.Viewers.{IsFresh};
+ghost use Rattle.mf_live.specs.Writers as writers;
+
+use super::Desk;
+use crate::holder::Holder;
+use crate::rule::{Takes, Twice};
+use crate::viewer::Viewer;
+use crate::writer::Writer;
+use mf_geom::OutOfMemory;
+use std::alloc::Global;
+use std::sync::Wait;
+
+/// A blank picture of revision 0, its writer, and a desk with at most so many viewers. The writer accepts at most
+/// `max_ops` operations. Refusal OutOfMemory (14). The caller owes that the places are at most 64. It waits for
+/// nobody, since nobody looks yet.
+pub fn open_picture<R: Wait>(
+    rt: &R,
+    alloc: Global,
+    places: u32,
+    max_ops: u32,
+) -> Result<(Writer, Desk), OutOfMemory>
+    requires { places ≤ 64 }
+    ensures accepted { IfOk result (λ opened. writers.accepted opened.0 ≡ []) }
+    ensures published { IfOk result (λ opened. writers.published opened.0 ≡ []) }
+    ensures limit { IfOk result (λ opened. opened.0.max_ops ≡ max_ops) }
+    ensures name { IfOk result (λ opened. desk_name opened.1 ≡ writers.name opened.0) }
+    ensures places { IfOk result (λ opened. left opened.1 ≤ places) }
+{
+    let mut viewers = Vec::with_capacity(alloc, places as usize)?;
+    let mut holder = Holder::open(rt, alloc, places.max(1) as usize)?;
+    seat_all(&mut holder, &mut viewers, places);
+    let known = holder.told.again();
+    Ok((Writer { holder, max_ops }, Desk { viewers, known }))
+}
+
+/// Makes the viewers of a picture in which nothing has happened: as many as can be had.
+fn seat_all(holder: &mut Holder, viewers: &mut Vec<Viewer>, places: u32)
+    requires named { view holder.old.swap.desk.place ≡ knowing holder.old.told.front.token }
+    requires empty { holder.old.told.front.token.seen.log ≡ [] }
+    requires none { viewers.old.items ≡ [] }
+    ensures told { holder.new.told.front.token ≡ holder.old.told.front.token }
+    ensures accepted { holders.accepted holder.new ≡ holders.accepted holder.old }
+    ensures published { holders.published holder.new ≡ holders.published holder.old }
+    ensures fresh { All (IsFresh holder.old.told.front.token) viewers.new.items }
+    ensures few { length viewers.new.items ≤ places }
+{
+    for _ in 0..places {
+        let Some(viewer) = seat_one(holder) else {
+            break;
+        };
+        if viewers.push(viewer).is_err() {
+            break;
+        }
+    }
+}
+
+/// A viewer of a picture in which nothing has happened, if it can be had.
+fn seat_one(holder: &mut Holder) -> Option<Viewer>
+    requires named { view holder.old.swap.desk.place ≡ knowing holder.old.told.front.token }
+    requires empty { holder.old.told.front.token.seen.log ≡ [] }
+    ensures named { view holder.new.swap.desk.place ≡ knowing holder.old.told.front.token }
+    ensures told { holder.new.told.front.token ≡ holder.old.told.front.token }
+    ensures accepted { holders.accepted holder.new ≡ holders.accepted holder.old }
+    ensures published { holders.published holder.new ≡ holders.published holder.old }
+    ensures fresh { IfSome result (IsFresh holder.old.told.front.token) }
+{
+    let mut reader = holder.swap.factory().reader().ok()?;
+    let note = holder.swap.tell::<Twice>();
+    reader.learn::<Takes>(note);
+    Some(Viewer {
+        reader,
+        known: holder.told.again(),
+        missed: false,
+    })
+}

@@ -1,0 +1,22 @@
+//! Giving out viewers.
+ghost use Rattle.std.specs.Prelude.{◌≡◌, ◌+◌, [], IfOk, MatchResult};
+ghost use Rattle.mf_live.specs.Desks.{desk_name, left};
+ghost use Rattle.mf_live.specs.Viewers.{name, looked, learnt, seen};
+
+use super::{Desk, NoPlace};
+use crate::viewer::Viewer;
+
+impl Desk {
+    /// A viewer that has seen nothing. Refusal NoPlace (15) where none is left: a viewer's place is given once.
+    pub fn viewer(&mut self) -> Result<Viewer, NoPlace>
+        ensures name { desk_name self.new ≡ desk_name self.old }
+        ensures left { MatchResult result (λ _. left self.new + 1 ≡ left self.old) (λ _. left self.new ≡ left self.old) }
+        ensures viewer_name { IfOk result (λ viewer. name viewer ≡ desk_name self.old) }
+        ensures newcomer { IfOk result (λ viewer. (looked viewer ≡ []) × (learnt viewer ≡ []) × (seen viewer ≡ [])) }
+    {
+        match self.viewers.pop() {
+            Some(viewer) => Ok(viewer),
+            None => Err(NoPlace),
+        }
+    }
+}

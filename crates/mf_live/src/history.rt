@@ -1,0 +1,28 @@
+//! How much of the history of a picture is known.
+ghost use Rattle.std.specs.Prelude.{◌≡◌, length};
+ghost use Rattle.mf_live.specs.World.{Happen, start};
+ghost use Rattle.mf_live.specs.Books.{most};
+ghost use Rattle.mf_live.specs.Happening.{Happen-prop};
+
+use crate::book::Law;
+use crate::event::Event;
+use logbook::Seen;
+
+mod steps;
+
+pub(crate) use steps::{open_history, write};
+
+/// The beginning of a history.
+#[derive(Drop)]
+pub struct Token {
+    pub(crate) seen: Seen<Event, u64, Law>,
+}
+
+/// The beginning of a history, and how many events it has.
+#[derive(Drop)]
+pub struct Front {
+    pub(crate) events: u64,
+    pub(crate) token: Token,
+    ghost counted: { events ≡ length token.seen.log },
+    ghost lawful: { Happen most start token.seen.log } by { Happen-prop most start token.seen.log },
+}

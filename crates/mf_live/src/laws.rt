@@ -1,0 +1,42 @@
+//! Laws of the live picture: each is the contract of a function that does nothing, or only calls another.
+ghost use Rattle.std.specs.Prelude.{◌≡◌, ◌≤◌, true, ℕ, List, [], ◌∷◌, ◌++◌, IfOk};
+ghost use Rattle.mf_live.specs.declared.event.Event.{Event};
+ghost use Rattle.mf_live.specs.declared.event.Event.TheVariants.{Look};
+ghost use Rattle.mf_live.specs.Entries.{rev, is_closed};
+ghost use Rattle.mf_live.specs.Prefixes.{IsWholePrefix, HasWholePublishes};
+ghost use Rattle.mf_live.specs.Viewers as viewers;
+ghost use Rattle.mf_live.specs.World.{start, Happen, EverySchedule, accepted_of, published_of};
+
+use crate::look::NoLook;
+use crate::notice::Notice;
+use crate::viewer::Viewer;
+
+/// For every list of events, of one writer and any number of viewers, in every order: no operation of what was
+/// accepted is refused; what is published begins that, whole, and so does what each viewer has seen and what each
+/// notice tells; and each look shows what is published, which begins, whole, with all that its viewer had looked at
+/// or learnt of.
+pub fn every_schedule(max_ops: u32)
+    ensures { EverySchedule max_ops }
+{}
+
+/// A later look begins, whole, with what an earlier one has shown, whoever looks: none goes back.
+pub fn looks_never_go_back(max_ops: u32)
+    ensures prefix { (before between : List Event) → Happen max_ops start (before ++ between) → IsWholePrefix (published_of before) (published_of (before ++ between)) }
+    ensures revision { (before between : List Event) → Happen max_ops start (before ++ between) → rev (published_of before) ≤ rev (published_of (before ++ between)) }
+{}
+
+/// Of each publish, a look shows nothing, or all that it has published.
+pub fn looks_show_whole_publishes(max_ops: u32)
+    ensures { (before after : List Event) → Happen max_ops start (before ++ after) → HasWholePublishes (published_of before) (published_of (before ++ after)) }
+{}
+
+/// What a viewer sees that has learnt of the end is the whole list.
+pub fn last_look(viewer: Viewer, notice: Notice) -> Result<crate::look::Look, (Viewer, NoLook)>
+    requires name { viewers.notice_name notice ≡ viewers.name viewer }
+    requires closed { is_closed (viewers.told notice) ≡ true }
+    ensures { IfOk result (λ look. viewers.shown look ≡ viewers.told notice) }
+{
+    let mut viewer = viewer;
+    viewer.learn(notice);
+    viewer.look()
+}

@@ -1,0 +1,35 @@
+//! Looks.
+ghost use Rattle.std.specs.Prelude.{◌≡◌, ◌≤◌, true, length};
+ghost use Rattle.left_right.specs.Sides.{view};
+ghost use Rattle.mf_live.specs.Rule.{token_of};
+ghost use Rattle.mf_live.specs.World.{accepted_of, published_of};
+
+use crate::live::Live;
+use crate::notice::Notice;
+use crate::rule::Lists;
+use crate::view::View;
+use left_right::reader::Reading;
+
+mod steps;
+
+/// Refusal 26: a look is not answered.
+#[derive(Clone, Copy, Debug, PartialEq, Eq)]
+pub struct NoLook;
+
+/// What a viewer looks at, which stays as it is until the look ends. The writer waits for a look that is held
+/// before it changes that copy.
+pub struct Look {
+    pub(crate) reading: Reading<Live, View, Lists>,
+    pub(crate) known: Notice,
+    ghost named: { (view reading.place).named ≡ true },
+    ghost book: { (view reading.place).now.seen.book ≡ known.front.token.seen.book },
+    ghost token: { (view reading.place).now ≡ token_of reading.part.value },
+    ghost enough: { length (published_of known.front.token.seen.log) ≤ length (accepted_of (view reading.place).now.seen.log) },
+}
+
+impl Drop for Look {
+    fn drop(self) {
+        let Look { reading, known: _ } = self;
+        reading.leave();
+    }
+}

@@ -1,0 +1,119 @@
+//! The rule over the picture that is shown, and what its steps tell.
+use crate::live::Live;
+use crate::version::Version;
+use crate::view::View;
+use atomic_table::{Join, Split};
+use crossbeam_utils::rule::{Outcome, Protocol};
+use left_right::writer::Writer;
+use std::marker::{Brand, PhantomData};
+
+/// The rule: what any seat has seen begins what is shown.
+pub struct Lists;
+
+impl Protocol<Live, View> for Lists {
+    ghost use Rattle.mf_live.specs.Rule.{Kept, newcomer};
+
+    ghost holds = { Kept };
+
+    ghost first = { newcomer };
+}
+
+/// A look after one that was answered, and a publish.
+pub struct Looks;
+
+impl Outcome<Live, View> for Looks {
+    ghost use Rattle.mf_live.specs.Rule.{Looked, now_of};
+
+    ghost then = { Looked now_of };
+}
+
+/// A look after one that was not answered.
+pub struct LooksAgain;
+
+impl Outcome<Live, View> for LooksAgain {
+    ghost use Rattle.mf_live.specs.Rule.{Looked, last_of};
+
+    ghost then = { Looked last_of };
+}
+
+/// The publish that opens a picture: the writer knows from then on which picture it is.
+pub struct Names;
+
+impl Outcome<Live, View> for Names {
+    ghost use Rattle.mf_live.specs.Rule.{Named};
+
+    ghost then = { Named };
+}
+
+/// The writer gives away what it knows, and keeps it.
+pub struct Twice;
+
+impl Split<View> for Twice {
+    ghost left = { λ v. v };
+
+    ghost right = { λ v. v };
+}
+
+/// A newcomer takes over what the writer knows.
+pub struct Takes;
+
+impl Join<View> for Takes {
+    ghost use Rattle.mf_live.specs.Rule.{newcomer};
+
+    ghost both = { λ v w. w };
+
+    ghost spent = { newcomer };
+}
+
+/// The operation that the writer accepts. Each call picks it.
+pub trait Accepting {
+    ghost use Rattle.mf_ops.specs.declared.op.Op.{Op};
+
+    ghost op: { Op };
+}
+
+impl Accepting for Brand {
+    ghost use Rattle.mf_ops.specs.declared.op.Op.TheVariants.{Clear};
+
+    ghost op = { Clear };
+}
+
+/// The writer accepts an operation, and has that to write into the book.
+pub struct Accepts<N> {
+    op: PhantomData<N>,
+}
+
+impl<N: Accepting> Split<View> for Accepts<N> {
+    ghost use Rattle.mf_live.specs.Rule.{with_event, newcomer};
+    ghost use Rattle.mf_live.specs.declared.event.Event.TheVariants.{Accept};
+
+    ghost left = { λ v. with_event v (Accept N.op) };
+
+    ghost right = { λ v. newcomer };
+}
+
+/// The writer sets the end mark, and has that to write into the book.
+pub struct Ends;
+
+impl Split<View> for Ends {
+    ghost use Rattle.mf_live.specs.Rule.{with_event, newcomer};
+    ghost use Rattle.mf_live.specs.declared.event.Event.TheVariants.{Close};
+
+    ghost left = { λ v. with_event v Close };
+
+    ghost right = { λ v. newcomer };
+}
+
+/// The writer has written all its events into the book.
+pub struct Wrote;
+
+impl Split<View> for Wrote {
+    ghost use Rattle.mf_live.specs.Rule.{with_all_written, newcomer};
+
+    ghost left = { with_all_written };
+
+    ghost right = { λ v. newcomer };
+}
+
+/// The two copies.
+pub type Swap = Writer<Live, Version, View, Lists>;

@@ -1,0 +1,55 @@
+//! Taking sheets.
+ghost use Rattle.std.specs.Prelude.{◌≡◌, MatchResult};
+ghost use Rattle.mf_live.specs.Sheets.{IsTaken, IsNotTaken};
+ghost use Rattle.mf_live.specs.Viewers.{name};
+
+use super::{Sheet, SheetFault};
+use crate::viewer::Viewer;
+use core::mem::replace_with;
+use mf_rows::Picture;
+use std::alloc::Global;
+
+impl Sheet {
+    /// The picture.
+    pub fn picture(&self) -> &Picture
+        ensures { result.now ≡ self.now.picture }
+    {
+        &self.picture
+    }
+
+    /// The number of its operations.
+    pub fn revision(&self) -> u32
+        ensures { result ≡ self.now.revision }
+    {
+        self.revision
+    }
+}
+
+/// Looks, and takes a sheet.
+fn take_sheet(viewer: Viewer, alloc: Global) -> (Viewer, Result<Sheet, SheetFault>)
+    ensures name { name result.0 ≡ name viewer }
+    ensures taken { MatchResult result.1 (λ sheet. IsTaken viewer result.0 sheet) (λ fault. IsNotTaken viewer result.0 fault) }
+{
+    let look = match viewer.look() {
+        Ok(look) => look,
+        Err((viewer, _)) => return (viewer, Err(SheetFault::NoLook)),
+    };
+    let copy = look.picture().copy(alloc);
+    let revision = look.revision();
+    let viewer = look.leave();
+    match copy {
+        Ok(picture) => (viewer, Ok(Sheet { picture, revision })),
+        Err(_) => (viewer, Err(SheetFault::OutOfMemory)),
+    }
+}
+
+impl Viewer {
+    /// Looks, and takes what is shown as a sheet. Refusals NoLook (26), after which the viewer has seen what it had
+    /// seen, and OutOfMemory (14), after which it has looked.
+    pub fn sheet(&mut self, alloc: Global) -> Result<Sheet, SheetFault>
+        ensures name { name self.new ≡ name self.old }
+        ensures taken { MatchResult result (λ sheet. IsTaken self.old self.new sheet) (λ fault. IsNotTaken self.old self.new fault) }
+    {
+        replace_with(self, alloc, |viewer, alloc| take_sheet(viewer, alloc))
+    }
+}

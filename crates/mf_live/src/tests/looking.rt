@@ -1,0 +1,68 @@
+//! What looks show, and what notices tell.
+
+use super::{RECT, apply, assert_shows, close, contour, publish, publish_rectangle};
+use crate::desk::open_picture;
+use mf_ops::Op;
+use std::test::Fail;
+
+#[test]
+fn shows_what_is_published(rt: HostRuntime) -> Result<(), Fail> {
+    let alloc = rt.alloc();
+    let (mut writer, mut desk) = open_picture(&rt, alloc, 1, 10)?;
+    let viewer = desk.viewer().expect(&rt, "a place is left");
+    let viewer = assert_shows(&rt, viewer, 0, 0);
+    apply(&rt, alloc, &mut writer, contour(&rt, alloc, RECT, 1));
+    let viewer = assert_shows(&rt, viewer, 0, 0);
+    publish(&rt, &mut writer);
+    let mut viewer = assert_shows(&rt, viewer, 1, 6);
+    viewer.learn(writer.tell());
+    let viewer = assert_shows(&rt, viewer, 1, 6);
+    assert_shows(&rt, viewer, 1, 6);
+    writer.discard(&rt);
+    Ok(())
+}
+
+#[test]
+fn has_so_many_places(rt: HostRuntime) -> Result<(), Fail> {
+    let alloc = rt.alloc();
+    let (mut writer, mut desk) = open_picture(&rt, alloc, 0, 10)?;
+    assert!(rt; desk.viewer().is_err(), "no place is left");
+    publish_rectangle(&rt, alloc, &mut writer);
+    close(&rt, writer).discard(&rt);
+
+    let (writer, mut desk) = open_picture(&rt, alloc, 2, 10)?;
+    for _ in 0..2 {
+        assert!(rt; desk.viewer().is_ok(), "a place is left");
+    }
+    assert!(rt; desk.viewer().is_err(), "places are given once");
+    writer.discard(&rt);
+    Ok(())
+}
+
+#[test]
+fn learns_in_any_order(rt: HostRuntime) -> Result<(), Fail> {
+    let alloc = rt.alloc();
+    let (mut writer, mut desk) = open_picture(&rt, alloc, 1, 10)?;
+    let mut viewer = desk.viewer().expect(&rt, "a place is left");
+    publish_rectangle(&rt, alloc, &mut writer);
+    let first = writer.tell();
+    apply(&rt, alloc, &mut writer, Op::Clear);
+    publish(&rt, &mut writer);
+    viewer.learn(writer.tell());
+    viewer.learn(first);
+    assert_shows(&rt, viewer, 2, 0);
+    writer.discard(&rt);
+    Ok(())
+}
+
+#[test]
+fn publishes_after_a_viewer_is_gone(rt: HostRuntime) -> Result<(), Fail> {
+    let alloc = rt.alloc();
+    let (mut writer, mut desk) = open_picture(&rt, alloc, 1, 10)?;
+    let viewer = desk.viewer().expect(&rt, "a place is left");
+    publish_rectangle(&rt, alloc, &mut writer);
+    drop(viewer);
+    publish_rectangle(&rt, alloc, &mut writer);
+    writer.discard(&rt);
+    Ok(())
+}

@@ -1,0 +1,16 @@
+//! What a seat at the live picture knows.
+use crate::event::Event;
+use crate::history::Token;
+use std::collections::LinkedList;
+
+/// What a seat knows. No value of it is made.
+pub struct View {
+    /// Whether it knows which picture it is.
+    pub named: bool,
+    /// What it had seen before its last look.
+    pub last: Token,
+    /// What it saw at its last look.
+    pub now: Token,
+    /// Of the writer: the events that are not in the book yet.
+    pub unwritten: LinkedList<Event>,
+}

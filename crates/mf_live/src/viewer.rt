@@ -1,0 +1,23 @@
+//! Viewers.
+ghost use Rattle.std.specs.Prelude.{◌≡◌, true};
+ghost use Rattle.left_right.specs.Sides.{view};
+
+use crate::live::Live;
+use crate::notice::Notice;
+use crate::rule::Lists;
+use crate::view::View;
+use left_right::reader::Reader;
+
+mod steps;
+
+/// A place from which the picture can be looked at. It may go to any thread, and has one look at a time.
+#[derive(Drop)]
+pub struct Viewer {
+    pub(crate) reader: Reader<Live, View, Lists>,
+    /// The longest notice that was learnt.
+    pub(crate) known: Notice,
+    /// Whether the last look was not answered.
+    pub(crate) missed: bool,
+    ghost named: { (view reader.place).named ≡ true },
+    ghost book: { (view reader.place).now.seen.book ≡ known.front.token.seen.book },
+}

@@ -1,0 +1,82 @@
+//! What a viewer does.
+ghost use Rattle.std.specs.Prelude.{◌≡◌, List, true, length, ◌≤◌, MatchResult};
+ghost use Rattle.left_right.specs.Sides.{view};
+ghost use Rattle.mf_live.specs.Entries.{Entry, ends_last};
+ghost use Rattle.mf_live.specs.Prefixes.{IsWholePrefix, longer};
+ghost use Rattle.mf_live.specs.Rule.{Looked, kept_by};
+ghost use Rattle.mf_live.specs.Viewers.{name, seen, Extends, SeesTheSame, notice_name, told, look_name, shown};
+
+use super::Viewer;
+use crate::live::Live;
+use crate::look::{Look, NoLook};
+use crate::notice::Notice;
+use crate::rule::{Lists, Looks, LooksAgain};
+use crate::view::View;
+use left_right::reader::{Reader, Reading};
+
+/// Takes the copy that is shown.
+fn enter(
+    reader: Reader<Live, View, Lists>,
+    missed: bool,
+) -> Result<Reading<Live, View, Lists>, Reader<Live, View, Lists>>
+    ensures { MatchResult result (λ r. Looked (kept_by missed) (view reader.place) r.part.value r.part.value (view r.place)) (λ r. view r.place ≡ view reader.place) }
+{
+    if missed {
+        return reader.enter_as::<LooksAgain>();
+    }
+    reader.enter_as::<Looks>()
+}
+
+impl Viewer {
+    /// Looks at what is published. It waits for nobody and takes no memory. Refusal NoLook (26) hands the viewer
+    /// back, which has seen what it had seen. What the look shows begins, whole, with all that the viewer had
+    /// looked at or learnt of.
+    pub fn look(self) -> Result<Look, (Viewer, NoLook)>
+        ensures name { MatchResult result (λ look. look_name look ≡ name self) (λ refused. name refused.0 ≡ name self) }
+        ensures extends { MatchResult result (λ look. Extends self (shown look)) (λ refused. SeesTheSame self refused.0) }
+        ensures ends { MatchResult result (λ look. ends_last (shown look) ≡ true) (λ refused. seen refused.0 ≡ seen self) }
+    {
+        let Viewer {
+            reader,
+            known,
+            missed,
+        } = self;
+        let reading = match enter(reader, missed) {
+            Ok(reading) => reading,
+            Err(reader) => {
+                let viewer = Viewer {
+                    reader,
+                    known,
+                    missed,
+                };
+                return Err((viewer, NoLook));
+            }
+        };
+        let front = &reading.get().version.front;
+        let _both = front.joins(&known.front);
+        // A notice has one event more than the copy that its publish has shown.
+        if known.front.events.saturating_sub(front.events) > 1 {
+            let viewer = Viewer {
+                reader: reading.leave(),
+                known,
+                missed: true,
+            };
+            return Err((viewer, NoLook));
+        }
+        Ok(Look { reading, known })
+    }
+
+    /// Learns what a notice tells: the looks that follow include that. The caller owes that the notice is of the
+    /// picture of this viewer.
+    pub fn learn(&mut self, notice: Notice)
+        requires { notice_name notice ≡ name self.old }
+        ensures name { name self.new ≡ name self.old }
+        ensures seen { seen self.new ≡ longer (seen self.old) (told notice) }
+        ensures keeps { (L : List Entry) → Extends self.new L → Extends self.old L × IsWholePrefix (told notice) L }
+    {
+        let _both = self.known.front.joins(&notice.front);
+        if self.known.front.events < notice.front.events {
+            self.known = notice;
+        }
+    }
+}

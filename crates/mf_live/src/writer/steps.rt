@@ -1,0 +1,96 @@
+//! What a writer does.
+ghost use Rattle.std.specs.Prelude.{◌≡◌, ◌≢◌, ◌-◌, ◌<◌, [], ◌∷◌, ◌++◌, None, Some, Err, IfErr, OnOk, MatchResult, ◌↔◌};
+ghost use Rattle.mf_ops.specs.Step.{fault_of};
+ghost use Rattle.mf_live.specs.Entries.{entry, pic, rev, next, Operation};
+ghost use Rattle.mf_live.specs.Holders as holders;
+ghost use Rattle.mf_live.specs.Viewers.{notice_name, told};
+ghost use Rattle.mf_live.specs.Writers.{name, accepted, published, IsSameWriter};
+
+use super::Writer;
+use crate::fault::Fault;
+use crate::holder::Holder;
+use crate::notice::Notice;
+use core::mem::replace_with;
+use mf_geom::OutOfMemory;
+use mf_ops::{Op, OpFault, after};
+use mf_rows::Picture;
+use std::alloc::Global;
+use std::sync::Wait;
+
+/// Publishes what a holder has.
+fn publish_held<R: Wait>(holder: &mut Holder, rt: &R) -> Result<(), OutOfMemory>
+    ensures name { holders.name holder.new ≡ holders.name holder.old }
+    ensures accepted { holders.accepted holder.new ≡ holders.accepted holder.old }
+    ensures published { MatchResult result (λ _. holders.published holder.new ≡ holders.accepted holder.old) (λ _. holders.published holder.new ≡ holders.published holder.old) }
+{
+    replace_with(holder, rt, |holder, rt| holder.publish(rt))
+}
+
+impl Writer {
+    /// Accepts an operation: the working picture is then the one after it, and what is published stays. Refusals
+    /// TooManyOperations (13), exactly where as many operations as may be were accepted, else OutOfField (11) and
+    /// WeightTooLarge (12), where the operation is refused on the working picture, and OutOfMemory (14), which may
+    /// come in the place of WeightTooLarge alone. A refusal changes nothing and hands the operation back.
+    pub fn apply(&mut self, alloc: Global, op: Op) -> Result<(), (Op, Fault)>
+        ensures name { name self.new ≡ name self.old }
+        ensures published { published self.new ≡ published self.old }
+        ensures limit { self.new.max_ops ≡ self.old.max_ops }
+        ensures accepted { MatchResult result (λ _. accepted self.new ≡ accepted self.old ++ entry (next (published self.old)) (Operation op) ∷ []) (λ _. accepted self.new ≡ accepted self.old) }
+        ensures allowed { OnOk result ((rev (accepted self.old) < self.old.max_ops) × (fault_of (pic (accepted self.old)) op ≡ None)) }
+        ensures handed_back { IfErr result (λ refused. refused.0 ≡ op) }
+        ensures too_many { (rev (accepted self.old) ≡ self.old.max_ops) ↔ (result ≡ Err (op, Fault.TooManyOperations)) }
+        ensures out_of_field { rev (accepted self.old) < self.old.max_ops → fault_of (pic (accepted self.old)) op ≡ Some OpFault.OutOfField → result ≡ Err (op, Fault.Refused OpFault.OutOfField) }
+        ensures refused { IfErr result (λ refused. (fault : OpFault) → refused.1 ≡ Fault.Refused fault → fault ≢ OpFault.OutOfMemory → fault_of (pic (accepted self.old)) op ≡ Some fault) }
+    {
+        if self.holder.revision == self.max_ops {
+            return Err((op, Fault::TooManyOperations));
+        }
+        match after(alloc, &self.holder.working, &op) {
+            Ok(new) => {
+                self.holder.accept(&op, new);
+                Ok(())
+            }
+            Err(fault) => Err((op, Fault::Refused(fault))),
+        }
+    }
+
+    /// The picture of all operations that were accepted.
+    pub fn working(&self) -> &Picture
+        ensures { result.now ≡ pic (accepted self.now) }
+    {
+        &self.holder.working
+    }
+
+    /// How many operations were accepted and are not published.
+    pub fn pending(&self) -> u32
+        ensures { result ≡ rev (accepted self.now) - rev (published self.now) }
+    {
+        self.holder.revision - self.holder.told.number
+    }
+
+    /// Publishes at once all operations that were accepted. It may wait for looks that are held. Refusal OutOfMemory
+    /// (14): nothing is published then, and it may be tried again.
+    pub fn publish<R: Wait>(&mut self, rt: &R) -> Result<(), OutOfMemory>
+        ensures name { name self.new ≡ name self.old }
+        ensures accepted { accepted self.new ≡ accepted self.old }
+        ensures published { MatchResult result (λ _. published self.new ≡ accepted self.old) (λ _. published self.new ≡ published self.old) }
+        ensures limit { self.new.max_ops ≡ self.old.max_ops }
+    {
+        publish_held(&mut self.holder, rt)
+    }
+
+    /// A notice of what is published.
+    pub fn tell(&mut self) -> Notice
+        ensures same { IsSameWriter self.old self.new }
+        ensures name { notice_name result ≡ name self.old }
+        ensures told { told result ≡ published self.old }
+    {
+        self.holder.told.again()
+    }
+
+    /// Ends it with no end mark. It may wait for looks that are held, and looks may be refused from then on.
+    pub fn discard<R: Wait>(self, rt: &R) {
+        let Writer { holder, max_ops: _ } = self;
+        holder.discard(rt);
+    }
+}
