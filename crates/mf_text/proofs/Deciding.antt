@@ -1,0 +1,406 @@
+-- Whether a line begins with tokens.
+use Rattle.std.proofs.Common.{◌≡◌, ◌⊎◌, inl, inr, ℕ, zero, suc, ◌<◌, ◌≤◌, Bool, true, false, eqb, List, rules, [], ◌∷◌, ◌++◌, length, Option, Some, None, refl, ap, sym, subst, ◌∙◌, append_assoc, arith, length-append}
+use Rattle.std.proofs.lemmas.Bool.{cases_Bool, eqb-true, eqb-false}
+use Rattle.std.proofs.lemmas.List.{append_cancel_left}
+use denote.Enum.Bare.{sameb, same_true, same_false}
+use Rattle.mf_text.specs.contracts.token.Mark.{the_type as mark_type}
+use Rattle.mf_text.specs.contracts.token.Word.{the_type as word_type}
+use Rattle.mf_text.specs.declared.command.Name.{Name}
+use Rattle.mf_text.specs.declared.command.Name.TheVariants.{Current, Register}
+use Rattle.mf_text.specs.declared.command.Source.{Source}
+use Rattle.mf_text.specs.declared.command.Source.TheVariants.{Null, Named}
+use Rattle.mf_text.specs.declared.token.Mark.{Mark}
+use Rattle.mf_text.specs.declared.token.Mark.TheVariants as mark
+use Rattle.mf_text.specs.declared.token.Token.{Token}
+use Rattle.mf_text.specs.declared.token.Token.TheVariants as token
+use Rattle.mf_text.specs.declared.token.Word.{Word}
+use Rattle.mf_text.specs.declared.token.Word.TheVariants as word
+use Rattle.mf_text.specs.Grammar.{Int, Pair, spell_word, spell_mark, spell_int, spell_pair, spell_name, spell_source, spell_weight, spell_corner, spell_path, spell_end}
+use Rattle.mf_text.specs.Phrases.{literal, BeginsPhrase}
+use Rattle.mf_text.specs.Tails.{spell_last_weight}
+use Rattle.mf_text.proofs.Paths.{corners_split, same_behind}
+use Rattle.mf_text.proofs.Sequences.{IsPrefixFree, IsJoin, literal-free, int-free, name-free, source-free, as_int, closing_join, closing-free, second_join, second-free, inside_join, inside-free, pair_join, pair-free, corner_join, corner-free, spell_corners, corners-cons, corners-free, path_join, path-free}
+
+-- tokens begin a phrase, or a phrase begins them, or neither
+pub data Look {A : Type 0} (spell : A → List Token) (ts : List Token) : Type 0 where
+  Within : BeginsPhrase spell ts → Look spell ts
+  Over : (a : A) (rest : List Token) → ts ≡ spell a ++ rest → Look spell ts
+  Off : ((a : A) (more rest : List Token) → ts ++ more ≡ spell a ++ rest → ⊥) → Look spell ts
+
+-- which of these is told, and no phrase begins another
+pub record Tells {A : Type 0} (spell : A → List Token) : Type 0 where
+  pub some : A
+  pub free : IsPrefixFree spell
+  pub look : (ts : List Token) → Look spell ts
+
+-- whether tokens begin a phrase
+pub record Decides {A : Type 0} (spell : A → List Token) : Type 0 where
+  pub some : A
+  pub begins : (ts : List Token) → BeginsPhrase spell ts ⊎ (BeginsPhrase spell ts → ⊥)
+
+begun : {A : Type 0} {spell : A → List Token} (ts rest : List Token) (tree : A) → ts ++ rest ≡ spell tree → BeginsPhrase spell ts
+begun ts rest tree spelled = record { rest = rest; phrase = record { tree = tree; spelled = spelled } }
+
+rest_same : {A : Type 0} {spell : A → List Token} → IsPrefixFree spell → (a b : A) (x y : List Token) → spell a ++ x ≡ spell b ++ y → x ≡ y
+rest_same {spell} free a b x y e = append_cancel_left (spell b) x y (subst (λ c. spell c ++ x ≡ spell b ++ y) (free.same a b x y e) e)
+
+-- ---- one phrase and then another
+
+module _ {A B C : Type 0} {one : A → List Token} {other : B → List Token} {both : C → List Token} (join : IsJoin one other both) (first : Tells one)
+    (second : Tells other) where
+  split : (c : C) (rest : List Token) → both c ++ rest ≡ one (join.first c) ++ (other (join.second c) ++ rest)
+  split c rest = ap (λ ts. ts ++ rest) (join.splits c) ∙ append_assoc (one (join.first c)) (other (join.second c)) rest
+
+  behind : (a : A) (rest ts : List Token) → ts ≡ one a ++ rest → Look other rest → Look both ts
+  behind a rest ts e (Within begins) =
+      Within
+      (begun ts begins.rest (join.made a begins.phrase.tree) (ap (λ xs. xs ++ begins.rest) e ∙ append_assoc (one a) rest begins.rest ∙ ap (λ xs. one a ++ xs) begins.phrase.spelled ∙ sym (join.joins a begins.phrase.tree)))
+  behind a rest ts e (Over b more is) =
+      Over (join.made a b) more
+      (e ∙ ap (λ xs. one a ++ xs) is ∙ sym (append_assoc (one a) (other b) more) ∙ ap (λ xs. xs ++ more) (sym (join.joins a b)))
+  behind a rest ts e (Off never) = Off (λ c more end both_is.
+      let same : one a ++ (rest ++ more) ≡ one (join.first c) ++ (other (join.second c) ++ end) =
+      sym (append_assoc (one a) rest more) ∙ ap (λ xs. xs ++ more) (sym e) ∙ both_is ∙ split c end in
+      never (join.second c) more end (rest_same first.free a (join.first c) _ _ same))
+
+  from_first : (ts : List Token) → Look one ts → Look both ts
+  from_first ts (Within begins) =
+      Within (begun ts (begins.rest ++ other second.some) (join.made begins.phrase.tree second.some)
+      (sym (append_assoc ts begins.rest (other second.some)) ∙ ap (λ xs. xs ++ other second.some) begins.phrase.spelled ∙ sym (join.joins begins.phrase.tree second.some)))
+  from_first ts (Over a rest e) = behind a rest ts e (second.look rest)
+  from_first ts (Off never) = Off (λ c more end e. never (join.first c) more (other (join.second c) ++ end) (e ∙ split c end))
+
+  pub tells-join : IsPrefixFree both → Tells both
+  tells-join free = record { some = join.made first.some second.some; free = free; look = λ ts. from_first ts (first.look ts) }
+
+-- a phrase, and then one that may depend on it
+abbrev pub cat : {A B : Type 0} → (A → List Token) → (A → B → List Token) → A × B → List Token
+cat one other pair = one pair.0 ++ other pair.0 pair.1
+
+module _ {A B : Type 0} {one : A → List Token} {other : A → B → List Token} (first : Tells one) (second : (a : A) → Decides (other a)) where
+  decide_behind : (a : A) (rest ts : List Token) → ts ≡ one a ++ rest → BeginsPhrase (other a) rest ⊎ (BeginsPhrase (other a) rest → ⊥)
+      → BeginsPhrase (cat one other) ts ⊎ (BeginsPhrase (cat one other) ts → ⊥)
+  decide_behind a rest ts e (inl begins) =
+      inl
+      (begun ts begins.rest (a, begins.phrase.tree) (ap (λ xs. xs ++ begins.rest) e ∙ append_assoc (one a) rest begins.rest ∙ ap (λ xs. one a ++ xs) begins.phrase.spelled))
+  decide_behind a rest ts e (inr never) = inr (λ begins.
+      let (c, d) = begins.phrase.tree in
+      let same : one a ++ (rest ++ begins.rest) ≡ one c ++ other c d =
+      sym (append_assoc (one a) rest begins.rest) ∙ ap (λ xs. xs ++ begins.rest) (sym e) ∙ begins.phrase.spelled in
+      never (begun rest begins.rest d (rest_same first.free a c _ _ same ∙ ap (λ x. other x d) (sym (first.free.same a c _ _ same)))))
+
+  decide_first : (ts : List Token) → Look one ts → BeginsPhrase (cat one other) ts ⊎ (BeginsPhrase (cat one other) ts → ⊥)
+  decide_first ts (Within begins) =
+      let a = begins.phrase.tree in
+      let b = (second a).some in
+      inl
+      (begun ts (begins.rest ++ other a b) (a, b) (sym (append_assoc ts begins.rest (other a b)) ∙ ap (λ xs. xs ++ other a b) begins.phrase.spelled))
+  decide_first ts (Over a rest e) = decide_behind a rest ts e ((second a).begins rest)
+  decide_first ts (Off never) =
+      inr (λ begins. never begins.phrase.tree.0 begins.rest (other begins.phrase.tree.0 begins.phrase.tree.1) begins.phrase.spelled)
+
+  pub decides-cat : Decides (cat one other)
+  decides-cat = record { some = (first.some, (second first.some).some); begins = λ ts. decide_first ts (first.look ts) }
+
+-- ---- words, marks, numbers and names
+
+data Same (t u : Token) : Type 0 where
+  Is : t ≡ u → Same t u
+  Differs : (t ≡ u → ⊥) → Same t u
+
+same_word : (v w : Word) → Same (token.Word v) (token.Word w)
+same_word v w =
+    elim (cases_Bool (sameb word_type v w)) [
+      | inl is ↦ Is (ap token.Word (same_true word_type (search rules) v w is))
+      | inr is ↦ Differs (λ e. same_false word_type v w is (cc))
+    ]
+
+same_mark : (m n : Mark) → Same (token.Mark m) (token.Mark n)
+same_mark m n =
+    elim (cases_Bool (sameb mark_type m n)) [
+      | inl is ↦ Is (ap token.Mark (same_true mark_type (search rules) m n is))
+      | inr is ↦ Differs (λ e. same_false mark_type m n is (cc))
+    ]
+
+word_is : (t : Token) (w : Word) → Same t (token.Word w)
+word_is (token.Word v) w = same_word v w
+word_is (token.Letter n) w = Differs (λ e. cc)
+word_is (token.Number n) w = Differs (λ e. cc)
+word_is (token.Mark m) w = Differs (λ e. cc)
+word_is token.Unknown w = Differs (λ e. cc)
+
+mark_is : (t : Token) (m : Mark) → Same t (token.Mark m)
+mark_is (token.Word v) m = Differs (λ e. cc)
+mark_is (token.Letter n) m = Differs (λ e. cc)
+mark_is (token.Number n) m = Differs (λ e. cc)
+mark_is (token.Mark n) m = same_mark n m
+mark_is token.Unknown m = Differs (λ e. cc)
+
+look_one : (t : Token) → ((u : Token) → Same u t) → (ts : List Token) → Look (literal (t ∷ [])) ts
+look_one t compare [] = Within (begun [] (t ∷ []) tt refl)
+look_one t compare (u ∷ ts) =
+    elim (compare u) [
+      | Is e ↦ Over tt ts (ap (λ v. v ∷ ts) e)
+      | Differs never ↦ Off (λ one more rest e. never (cc))
+    ]
+
+tells_one : (t : Token) → ((u : Token) → Same u t) → Tells (literal (t ∷ []))
+tells_one t compare = record { some = tt; free = literal-free (t ∷ []); look = look_one t compare }
+
+pub tells-word : (w : Word) → Tells (literal (spell_word w))
+tells-word w = tells_one (token.Word w) (λ t. word_is t w)
+
+pub tells-mark : (m : Mark) → Tells (literal (spell_mark m))
+tells-mark m = tells_one (token.Mark m) (λ t. mark_is t m)
+
+name_off : (t : Token) → (t ≡ token.Word word.CurrentPicture → ⊥) → ((n : ℕ) → t ≡ token.Letter n → ⊥) → (ts more rest : List Token) (name : Name)
+    → (t ∷ ts) ++ more ≡ spell_name name ++ rest → ⊥
+name_off t no_picture no_letter ts more rest Current e = no_picture (cc)
+name_off t no_picture no_letter ts more rest (Register n) e = no_letter n (cc)
+
+other_name : (t : Token) (ts : List Token) → (t ≡ token.Word word.CurrentPicture → ⊥) → ((n : ℕ) → t ≡ token.Letter n → ⊥) → Look spell_name (t ∷ ts)
+other_name t ts no_picture no_letter = Off (λ name more rest e. name_off t no_picture no_letter ts more rest name e)
+
+look_name : (ts : List Token) → Look spell_name ts
+look_name [] = Within (begun [] (spell_name Current) Current refl)
+look_name (token.Word w ∷ ts) =
+    elim (same_word w word.CurrentPicture) [
+      | Is e ↦ Over Current ts (ap (λ v. v ∷ ts) e)
+      | Differs never ↦ other_name (token.Word w) ts never (λ n e. cc)
+    ]
+look_name (token.Letter n ∷ ts) = Over (Register n) ts refl
+look_name (token.Number n ∷ ts) = other_name (token.Number n) ts (λ e. cc) (λ k e. cc)
+look_name (token.Mark m ∷ ts) = other_name (token.Mark m) ts (λ e. cc) (λ k e. cc)
+look_name (token.Unknown ∷ ts) = other_name token.Unknown ts (λ e. cc) (λ k e. cc)
+
+pub tells-name : Tells spell_name
+tells-name = record { some = Current; free = name-free; look = look_name }
+
+source_off : (t : Token) (ts : List Token) → (t ≡ token.Word word.NullPicture → ⊥)
+    → ((name : Name) (more rest : List Token) → (t ∷ ts) ++ more ≡ spell_name name ++ rest → ⊥) → (source : Source) (more rest : List Token)
+    → (t ∷ ts) ++ more ≡ spell_source source ++ rest → ⊥
+source_off t ts no_null no_name Null more rest e = no_null (cc)
+source_off t ts no_null no_name (Named name) more rest e = no_name name more rest e
+
+look_named : (t : Token) (ts : List Token) → (t ≡ token.Word word.NullPicture → ⊥) → Look spell_name (t ∷ ts) → Look spell_source (t ∷ ts)
+look_named t ts no_null (Within begins) = Within (begun (t ∷ ts) begins.rest (Named begins.phrase.tree) begins.phrase.spelled)
+look_named t ts no_null (Over name rest e) = Over (Named name) rest e
+look_named t ts no_null (Off never) = Off (source_off t ts no_null never)
+
+look_source : (ts : List Token) → Look spell_source ts
+look_source [] = Within (begun [] (spell_source Null) Null refl)
+look_source (t ∷ ts) =
+    elim (word_is t word.NullPicture) [
+      | Is e ↦ Over Null ts (ap (λ v. v ∷ ts) e)
+      | Differs never ↦ look_named t ts never (look_name (t ∷ ts))
+    ]
+
+pub tells-source : Tells spell_source
+tells-source = record { some = Null; free = source-free; look = look_source }
+
+-- a number behind `-`, or no `-`
+abbrev spell_number : ℕ → List Token
+spell_number n = token.Number n ∷ []
+
+look_number : (ts : List Token) → Look spell_number ts
+look_number [] = Within (begun [] (spell_number 0) 0 refl)
+look_number (token.Word w ∷ ts) = Off (λ n more rest e. cc)
+look_number (token.Letter n ∷ ts) = Off (λ k more rest e. cc)
+look_number (token.Number n ∷ ts) = Over n ts refl
+look_number (token.Mark m ∷ ts) = Off (λ n more rest e. cc)
+look_number (token.Unknown ∷ ts) = Off (λ n more rest e. cc)
+
+negative_off : (t : Token) (ts : List Token) → t ≡ token.Mark mark.Minus
+    → ((n : ℕ) (more rest : List Token) → ts ++ more ≡ spell_number n ++ rest → ⊥) → (negative : Bool) (n : ℕ) (more rest : List Token)
+    → (t ∷ ts) ++ more ≡ spell_int (as_int negative n) ++ rest → ⊥
+negative_off t ts minus never true n more rest e = never n more rest (cc)
+negative_off t ts minus never false n more rest e = cc
+
+look_negative : (t : Token) (ts : List Token) → t ≡ token.Mark mark.Minus → Look spell_number ts → Look spell_int (t ∷ ts)
+look_negative t ts minus (Within begins) =
+    Within (begun (t ∷ ts) begins.rest (as_int true begins.phrase.tree) (let spelled = begins.phrase.spelled in cc))
+look_negative t ts minus (Over n rest e) = Over (as_int true n) rest (cc)
+look_negative t ts minus (Off never) = Off (λ tree. negative_off t ts minus never tree.negative tree.magnitude)
+
+positive_off : (t : Token) (ts : List Token) → (t ≡ token.Mark mark.Minus → ⊥)
+    → ((n : ℕ) (more rest : List Token) → (t ∷ ts) ++ more ≡ spell_number n ++ rest → ⊥) → (negative : Bool) (n : ℕ) (more rest : List Token)
+    → (t ∷ ts) ++ more ≡ spell_int (as_int negative n) ++ rest → ⊥
+positive_off t ts no_minus never true n more rest e = no_minus (cc)
+positive_off t ts no_minus never false n more rest e = never n more rest e
+
+look_positive : (t : Token) (ts : List Token) → (t ≡ token.Mark mark.Minus → ⊥) → Look spell_number (t ∷ ts) → Look spell_int (t ∷ ts)
+look_positive t ts no_minus (Within begins) = Within (begun (t ∷ ts) begins.rest (as_int false begins.phrase.tree) begins.phrase.spelled)
+look_positive t ts no_minus (Over n rest e) = Over (as_int false n) rest e
+look_positive t ts no_minus (Off never) = Off (λ tree. positive_off t ts no_minus never tree.negative tree.magnitude)
+
+look_int : (ts : List Token) → Look spell_int ts
+look_int [] = Within (begun [] (spell_number 0) (as_int false 0) refl)
+look_int (t ∷ ts) =
+    elim (mark_is t mark.Minus) [
+      | Is minus ↦ look_negative t ts minus (look_number ts)
+      | Differs no_minus ↦ look_positive t ts no_minus (look_number (t ∷ ts))
+    ]
+
+pub tells-int : Tells spell_int
+tells-int = record { some = as_int false 0; free = int-free; look = look_int }
+
+pub tells-pair : Tells spell_pair
+tells-pair =
+    let closing = tells-join closing_join tells-int (tells-mark mark.Close) closing-free in
+    let second = tells-join second_join (tells-mark mark.Comma) closing second-free in
+    tells-join pair_join (tells-mark mark.Open) (tells-join inside_join tells-int second inside-free) pair-free
+
+tells-corner : Tells spell_corner
+tells-corner = tells-join corner_join tells-pair (tells-mark mark.Join) corner-free
+
+-- ---- corners up to `cycle`
+
+corners_off : (t : Token) (ts : List Token) → (t ≡ token.Word word.Cycle → ⊥)
+    → ((p : Pair) (more rest : List Token) → (t ∷ ts) ++ more ≡ spell_corner p ++ rest → ⊥) → (ps : List Pair) (more rest : List Token)
+    → (t ∷ ts) ++ more ≡ spell_corners ps ++ rest → ⊥
+corners_off t ts no_cycle never [] more rest e = no_cycle (cc)
+corners_off t ts no_cycle never (p ∷ ps) more rest e = never p more (spell_corners ps ++ rest) (e ∙ corners_split p ps rest)
+
+behind_off : (p : Pair) (rest : List Token) → ((ps : List Pair) (more end : List Token) → rest ++ more ≡ spell_corners ps ++ end → ⊥)
+    → (ps : List Pair) (more end : List Token) → spell_corner p ++ (rest ++ more) ≡ spell_corners ps ++ end → ⊥
+behind_off p rest never [] more end e = cc
+behind_off p rest never (q ∷ qs) more end e = never qs more end (same_behind p q _ _ (e ∙ corners_split q qs end))
+
+corners_behind : (p : Pair) (ts rest : List Token) → ts ≡ spell_corner p ++ rest → Look spell_corners rest → Look spell_corners ts
+corners_behind p ts rest e (Within begins) =
+    let ps = begins.phrase.tree in
+    Within
+    (begun ts begins.rest (p ∷ ps) (ap (λ xs. xs ++ begins.rest) e ∙ append_assoc (spell_corner p) rest begins.rest ∙ ap (λ xs. spell_corner p ++ xs) begins.phrase.spelled ∙ sym (corners-cons p ps)))
+corners_behind p ts rest e (Over ps more is) = Over (p ∷ ps) more (e ∙ ap (λ xs. spell_corner p ++ xs) is ∙ sym (corners_split p ps more))
+corners_behind p ts rest e (Off never) = Off (λ ps more end is.
+    let split : spell_corner p ++ (rest ++ more) ≡ spell_corners ps ++ end =
+    sym (append_assoc (spell_corner p) rest more) ∙ ap (λ xs. xs ++ more) (sym e) ∙ is in
+    behind_off p rest never ps more end split)
+
+corner_within : (ts : List Token) → BeginsPhrase spell_corner ts → Look spell_corners ts
+corner_within ts begins =
+    let p = begins.phrase.tree in
+    Within (begun ts (begins.rest ++ spell_word word.Cycle) (p ∷ [])
+    (sym (append_assoc ts begins.rest (spell_word word.Cycle)) ∙ ap (λ xs. xs ++ spell_word word.Cycle) begins.phrase.spelled ∙ sym (corners-cons p [])))
+
+corner_shorter : (ts rest : List Token) (p : Pair) → ts ≡ spell_corner p ++ rest → length rest < length ts
+corner_shorter ts rest p e = omega (arith, ap length e, length-append (spell_corner p) rest)
+
+-- at most n tokens
+look_corners : (n : ℕ) (ts : List Token) → length ts ≤ n → Look spell_corners ts
+look_corners n [] short = Within (begun [] (spell_corners []) [] refl)
+look_corners zero (t ∷ ts) short = absurd (omega arith)
+look_corners (suc n) (t ∷ ts) short =
+    elim (word_is t word.Cycle) [
+      | Is e ↦ Over [] ts (ap (λ v. v ∷ ts) e)
+      | Differs no_cycle ↦
+          elim (tells-corner.look (t ∷ ts)) [
+            | Within begins ↦ corner_within (t ∷ ts) begins
+            | Over p rest e ↦ let shorter = corner_shorter (t ∷ ts) rest p e in corners_behind p (t ∷ ts) rest e (look_corners n rest (omega arith))
+            | Off never ↦ Off (corners_off t ts no_cycle never)
+          ]
+    ]
+
+tells-corners : Tells spell_corners
+tells-corners = record { some = []; free = corners-free; look = λ ts. look_corners (length ts) ts (omega arith) }
+
+pub tells-path : Tells spell_path
+tells-path = tells-join path_join tells-corner tells-corners path-free
+
+-- ---- ends of lines
+
+end_off : (t : Token) (ts : List Token) → (t ≡ token.Mark mark.Semicolon → ⊥) → (rest : List Token) (ended : Bool)
+    → (t ∷ ts) ++ rest ≡ spell_end ended → ⊥
+end_off t ts never rest true e = never (cc)
+end_off t ts never rest false e = cc
+
+end_more : (t u : Token) (ts rest : List Token) (ended : Bool) → (t ∷ u ∷ ts) ++ rest ≡ spell_end ended → ⊥
+end_more t u ts rest true e = cc
+end_more t u ts rest false e = cc
+
+begins_end : (ts : List Token) → BeginsPhrase spell_end ts ⊎ (BeginsPhrase spell_end ts → ⊥)
+begins_end [] = inl (begun [] [] false refl)
+begins_end (t ∷ []) =
+    elim (mark_is t mark.Semicolon) [
+      | Is e ↦ inl (begun (t ∷ []) [] true (ap (λ u. u ∷ []) e))
+      | Differs never ↦ inr (λ begins. end_off t [] never begins.rest begins.phrase.tree begins.phrase.spelled)
+    ]
+begins_end (t ∷ u ∷ ts) = inr (λ begins. end_more t u ts begins.rest begins.phrase.tree begins.phrase.spelled)
+
+pub decides-end : Decides spell_end
+decides-end = record { some = false; begins = begins_end }
+
+-- a phrase and what ends the line
+abbrev pub spell_closed : {A : Type 0} → (A → List Token) → A × Bool → List Token
+spell_closed spell = cat spell (λ a. spell_end)
+
+pub decides-closed : {A : Type 0} {spell : A → List Token} → Tells spell → Decides (spell_closed spell)
+decides-closed phrase = decides-cat phrase (λ a. decides-end)
+
+-- a literal and what stands behind it
+abbrev pub spell_behind : {A : Type 0} → List Token → (A → List Token) → A → List Token
+spell_behind front spell a = front ++ spell a
+
+pub decides-behind : {A : Type 0} {front : List Token} {spell : A → List Token} → Tells (literal front) → Decides spell
+    → Decides (spell_behind front spell)
+decides-behind one last = record {
+  some = last.some;
+  begins = λ ts.
+      elim ((decides-cat one (λ literal. last)).begins ts) [
+        | inl begins ↦ inl (begun ts begins.rest begins.phrase.tree.1 begins.phrase.spelled)
+        | inr never ↦ inr (λ begins. never (begun ts begins.rest (tt, begins.phrase.tree) begins.phrase.spelled))
+      ];
+}
+
+weight_off : (t : Token) (ts : List Token) → (t ≡ token.Word word.WithWeight → ⊥) → (BeginsPhrase spell_end (t ∷ ts) → ⊥)
+    → (rest : List Token) (weight : Option Int) (ended : Bool) → (t ∷ ts) ++ rest ≡ spell_weight weight ++ spell_end ended → ⊥
+weight_off t ts no_weight never rest None ended e = never (begun (t ∷ ts) rest ended e)
+weight_off t ts no_weight never rest (Some n) ended e = no_weight (cc)
+
+weight_only : (t : Token) (ts : List Token) → t ≡ token.Word word.WithWeight → (BeginsPhrase (spell_closed spell_int) ts → ⊥)
+    → (rest : List Token) (weight : Option Int) (ended : Bool) → (t ∷ ts) ++ rest ≡ spell_weight weight ++ spell_end ended → ⊥
+weight_only t ts is never rest None true e = cc
+weight_only t ts is never rest None false e = cc
+weight_only t ts is never rest (Some n) ended e = never (begun ts rest (n, ended) (cc))
+
+begins_weight : (ts : List Token) → BeginsPhrase spell_last_weight ts ⊎ (BeginsPhrase spell_last_weight ts → ⊥)
+begins_weight [] = inl (begun [] [] (record { weight = None; ended = false }) refl)
+begins_weight (t ∷ ts) =
+    elim (word_is t word.WithWeight) [
+      | Is e ↦
+          elim ((decides-closed tells-int).begins ts) [
+            | inl begins ↦ inl (begun (t ∷ ts) begins.rest (record { weight = Some begins.phrase.tree.0; ended = begins.phrase.tree.1 }) (let spelled = begins.phrase.spelled in cc))
+            | inr never ↦ inr
+                (λ begins. weight_only t ts e never begins.rest begins.phrase.tree.weight begins.phrase.tree.ended begins.phrase.spelled)
+          ]
+      | Differs no_weight ↦
+          elim (begins_end (t ∷ ts)) [
+            | inl begins ↦ inl (begun (t ∷ ts) begins.rest (record { weight = None; ended = begins.phrase.tree }) begins.phrase.spelled)
+            | inr never ↦ inr
+                (λ begins. weight_off t ts no_weight never begins.rest begins.phrase.tree.weight begins.phrase.tree.ended begins.phrase.spelled)
+          ]
+    ]
+
+pub decides-weight : Decides spell_last_weight
+decides-weight = record { some = record { weight = None; ended = false }; begins = begins_weight }
+
+-- ---- a token and what stands behind it
+
+same_letter : (m n : ℕ) → Same (token.Letter m) (token.Letter n)
+same_letter m n =
+    elim (cases_Bool (eqb m n)) [
+      | inl is ↦ Is (ap token.Letter (eqb-true m n is))
+      | inr is ↦ Differs (λ e. eqb-false m n is (cc))
+    ]
+
+letter_is : (t : Token) (n : ℕ) → Same t (token.Letter n)
+letter_is (token.Word w) n = Differs (λ e. cc)
+letter_is (token.Letter m) n = same_letter m n
+letter_is (token.Number m) n = Differs (λ e. cc)
+letter_is (token.Mark m) n = Differs (λ e. cc)
+letter_is token.Unknown n = Differs (λ e. cc)
+
+-- the same name once more
+pub tells-same_name : (name : Name) → Tells (literal (spell_name name))
+tells-same_name Current = tells-word word.CurrentPicture
+tells-same_name (Register n) = tells_one (token.Letter n) (λ t. letter_is t n)

@@ -1,0 +1,75 @@
+-- The least box of a picture.
+use Rattle.std.proofs.Common.{◌≡◌, pos, negsuc, ◌≤ℤ◌, List, [], arith}
+use Rattle.std.specs.List.{All, Any}
+use Rattle.std.proofs.lemmas.Int.{ints}
+use Rattle.std.proofs.lemmas.List.Elements.{All-contains}
+use Rattle.mf_rows.specs.declared.bounds.Box4.{Box4}
+use Rattle.mf_rows.specs.Bounds.{IsWithin, IsLeastBox}
+use Rattle.mf_rows.specs.Dots.{Dot, IsDot, IsPicture, start_of_field}
+use Rattle.mf_rows.proofs.DotsLemmas.{dots_from-lawful}
+
+-- what all dots are is also that dot which some property finds
+found : (P Q : Dot → Type 0) (ds : List Dot) (some : Any P ds) → All Q ds → Q some.1
+found P Q ds some all = All-contains Q ds some.1 all (some.0, some.2, some.3)
+
+-- a box has columns and rows, all of them of the field
+pub record IsBoxOfField (b : Box4) : Type 0 where
+  pub left : negsuc 4094 ≤ℤ b.min_x
+  pub right : b.max_x ≤ℤ pos 4094
+  pub bottom : negsuc 4094 ≤ℤ b.min_y
+  pub top : b.max_y ≤ℤ pos 4094
+  pub columns : b.min_x ≤ℤ b.max_x
+  pub rows : b.min_y ≤ℤ b.max_y
+
+pub least_box_of_field : (ds : List Dot) (b : Box4) → IsPicture ds → IsLeastBox ds b → IsBoxOfField b
+least_box_of_field ds b picture box =
+    let dots = dots_from-lawful start_of_field ds picture.dots in
+    let at_left = (found (λ d. d.x ≡ b.min_x) IsDot ds box.left dots).in_field in
+    let at_right = (found (λ d. d.x ≡ b.max_x) IsDot ds box.right dots).in_field in
+    let at_bottom = (found (λ d. d.y ≡ b.min_y) IsDot ds box.bottom dots).in_field in
+    let at_top = (found (λ d. d.y ≡ b.max_y) IsDot ds box.top dots).in_field in
+    let left_within = found (λ d. d.x ≡ b.min_x) (IsWithin b) ds box.left box.within in
+    let bottom_within = found (λ d. d.y ≡ b.min_y) (IsWithin b) ds box.bottom box.within in
+    record {
+      left = omega (arith, ints, at_left.left, box.left.4);
+      right = omega (arith, ints, at_right.right, box.right.4);
+      bottom = omega (arith, ints, at_bottom.bottom, box.bottom.4);
+      top = omega (arith, ints, at_top.top, box.top.4);
+      columns = omega (arith, ints, left_within.right, box.left.4);
+      rows = omega (arith, ints, bottom_within.top, box.bottom.4);
+    }
+
+-- one box lies in another
+record IsInside (a b : Box4) : Type 0 where
+  left : b.min_x ≤ℤ a.min_x
+  right : a.max_x ≤ℤ b.max_x
+  bottom : b.min_y ≤ℤ a.min_y
+  top : a.max_y ≤ℤ b.max_y
+
+least_inside : (ds : List Dot) (a b : Box4) → IsLeastBox ds a → IsLeastBox ds b → IsInside a b
+least_inside ds a b one other =
+    let at_left = found (λ d. d.x ≡ a.min_x) (IsWithin b) ds one.left other.within in
+    let at_right = found (λ d. d.x ≡ a.max_x) (IsWithin b) ds one.right other.within in
+    let at_bottom = found (λ d. d.y ≡ a.min_y) (IsWithin b) ds one.bottom other.within in
+    let at_top = found (λ d. d.y ≡ a.max_y) (IsWithin b) ds one.top other.within in
+    record {
+      left = omega (arith, ints, at_left.left, one.left.4);
+      right = omega (arith, ints, at_right.right, one.right.4);
+      bottom = omega (arith, ints, at_bottom.bottom, one.bottom.4);
+      top = omega (arith, ints, at_top.top, one.top.4);
+    }
+
+-- there is one least box at most
+pub same_least_box : (ds : List Dot) (a b : Box4) → IsLeastBox ds a → IsLeastBox ds b → a ≡ b
+same_least_box ds a b one other =
+    let here = least_inside ds a b one other in
+    let there = least_inside ds b a other one in
+    let left : a.min_x ≡ b.min_x = omega (arith, ints, here.left, there.left) in
+    let right : a.max_x ≡ b.max_x = omega (arith, ints, here.right, there.right) in
+    let bottom : a.min_y ≡ b.min_y = omega (arith, ints, here.bottom, there.bottom) in
+    let top : a.max_y ≡ b.max_y = omega (arith, ints, here.top, there.top) in
+    λ i. record { min_x = left i; max_x = right i; min_y = bottom i; max_y = top i }
+
+-- and none where no pixel has a weight
+pub least_box_of_some : (b : Box4) → IsLeastBox [] b → ⊥
+least_box_of_some b box = omega (arith, box.left.2)

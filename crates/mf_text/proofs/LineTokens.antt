@@ -1,0 +1,165 @@
+-- The tokens of a line, one at a time.
+use Rattle.std.proofs.Common.{◌≡◌, ◌≢◌, ℕ, zero, suc, ◌+◌, ◌-◌, ◌<◌, ◌≤◌, Bool, true, false, cond, eqb, ltb, List, [], ◌∷◌, Option, None, Some, length, get_or, take, drop, refl, sym, subst, arith, length-drop}
+use Rattle.std.specs.Char.{is_ascii_alphabetic, is_ascii_digit}
+use Rattle.std.specs.Iterator.{YieldsFirst}
+use Rattle.std.specs.List.{prefix_len, AllByRecursion}
+use Rattle.std.specs.Str.Parse.{AllDigits}
+use Rattle.std.proofs.lemmas.Bool.{leb-true, ltb-true, ne_eqb}
+use Rattle.std.proofs.lemmas.List.{take_rest}
+use Rattle.std.proofs.lemmas.List.Folds.{length-prefix_len}
+use Rattle.std.proofs.lemmas.List.Sums.{prefix_len-le-length}
+use Rattle.mf_text.specs.declared.token.Mark.{Mark}
+use Rattle.mf_text.specs.declared.token.Placed.{Placed}
+use Rattle.mf_text.specs.declared.token.Token.{Token}
+use Rattle.mf_text.specs.declared.token.Word.{Word}
+use Rattle.mf_text.specs.declared.tokens.Tokens.{Tokens}
+use Rattle.mf_text.specs.Bytes.{is_blank}
+use Rattle.mf_text.specs.Left.{tokens_left}
+use Rattle.mf_text.specs.Short.{IsShort, IsNextShort, IsClear}
+use Rattle.mf_text.specs.Tokens.{Taken, placed, known_word, word_token, number_token, marks, mark_among, first_token, tokens_within, tokens_from}
+use Rattle.mf_text.proofs.Digits.{digits_of_row, short_value}
+
+-- ---- how many bytes a token takes
+
+-- at least one of the bytes, and at most n
+record TakesSome (n : ℕ) (t : Taken) : Type 0 where
+  pub some : 0 < t.bytes
+  pub within : t.bytes ≤ n
+
+if_taken : (n : ℕ) (c : Bool) (x y : Taken) → (c ≡ true → TakesSome n x) → TakesSome n y → TakesSome n (cond c x y)
+if_taken n true x y p q = p refl
+if_taken n false x y p q = q
+
+taken : (n : ℕ) (t : Taken) → 0 < t.bytes → t.bytes ≤ n → TakesSome n t
+taken n t p q = record { some = p; within = q }
+
+mark_taken : (b : ℕ) (bs : List ℕ) → TakesSome (suc (length bs)) (mark_among marks (b ∷ bs))
+unfolding mark_among
+mark_taken b [] = search (if_taken, taken, arith) depth 20
+mark_taken b (other ∷ bs) = search (if_taken, taken, arith) depth 20
+
+first_taken : (b : ℕ) (bs : List ℕ) → TakesSome (suc (length bs)) (first_token (b ∷ bs))
+unfolding first_token
+first_taken b bs =
+    let row : (p : ℕ → Bool) (t : Token) → ltb 0 (length (take (prefix_len p (b ∷ bs)) (b ∷ bs))) ≡ true
+    → TakesSome (suc (length bs)) (record { token = t; bytes = length (take (prefix_len p (b ∷ bs)) (b ∷ bs)) }) =
+    λ p t e. record { some = ltb-true _ _ e; within = omega (arith, length-prefix_len p (b ∷ bs), prefix_len-le-length p (b ∷ bs)) } in
+    if_taken _ _ _ _ (row is_ascii_alphabetic _) (if_taken _ _ _ _ (row is_ascii_digit _) (mark_taken b bs))
+
+-- ---- a line from its front
+
+-- the bytes behind the first token are fewer
+rest_shorter : (b : ℕ) (bs : List ℕ) → length (drop (first_token (b ∷ bs)).bytes (b ∷ bs)) ≤ length bs
+rest_shorter b bs =
+    let some = first_taken b bs in
+    omega (arith, some.some, some.within, length-drop (first_token (b ∷ bs)).bytes (b ∷ bs))
+
+-- more steps than bytes find the same tokens
+tokens_within-same : (m n column : ℕ) (bs : List ℕ) → length bs ≤ m → length bs ≤ n → tokens_within m column bs ≡ tokens_within n column bs
+unfolding tokens_within
+tokens_within-same zero zero column bs p q = refl
+tokens_within-same zero (suc n) column [] p q = refl
+tokens_within-same zero (suc n) column (b ∷ bs) p q = absurd (omega arith)
+tokens_within-same (suc m) zero column [] p q = refl
+tokens_within-same (suc m) zero column (b ∷ bs) p q = absurd (omega arith)
+tokens_within-same (suc m) (suc n) column [] p q = refl
+tokens_within-same (suc m) (suc n) column (b ∷ bs) p q =
+    let first = first_token (b ∷ bs) in
+    let shorter = rest_shorter b bs in
+    rw (
+      tokens_within-same m n (column + 1) bs (omega arith) (omega arith),
+      tokens_within-same m n (column + first.bytes) (drop first.bytes (b ∷ bs)) (omega arith) (omega arith),
+    ) refl
+
+tokens-blank : (column b : ℕ) (bs : List ℕ) → is_blank b ≡ true → tokens_from column (b ∷ bs) ≡ tokens_from (column + 1) bs
+unfolding tokens_from tokens_within
+tokens-blank column b bs blank = rw blank refl
+
+tokens-step : (column b : ℕ) (bs : List ℕ) → is_blank b ≡ false → eqb b 37 ≡ false
+    → tokens_from column (b ∷ bs) ≡ placed column (first_token (b ∷ bs))
+    ∷ tokens_from (column + (first_token (b ∷ bs)).bytes) (drop (first_token (b ∷ bs)).bytes (b ∷ bs))
+unfolding tokens_from tokens_within
+tokens-step column b bs clear token =
+    let first = first_token (b ∷ bs) in
+    let rest = drop first.bytes (b ∷ bs) in
+    rw (clear, token, tokens_within-same (length bs) (length rest) (column + first.bytes) rest (rest_shorter b bs) (omega arith)) refl
+
+-- ---- what an iterator yields
+
+pub tokens_at_end : (column : ℕ) (text : List ℕ) → length text < 1 → tokens_from column text ≡ []
+unfolding tokens_from tokens_within
+tokens_at_end column [] short = refl
+tokens_at_end column (b ∷ bs) short = absurd (omega arith)
+
+pub tokens_at_comment : (column : ℕ) (text : List ℕ) → 1 ≤ length text → get_or text 0 0 ≡ 37 → tokens_from column text ≡ []
+unfolding tokens_from tokens_within
+tokens_at_comment column [] long comment = absurd (omega arith)
+tokens_at_comment column (b ∷ bs) long comment = rw comment refl
+
+pub tokens_at_blank : (column : ℕ) (text : List ℕ) → 1 ≤ length text → is_blank (get_or text 0 0) ≡ true
+    → tokens_from (column + 1) (take (length text - 1) (drop 1 text)) ≡ tokens_from column text
+tokens_at_blank column [] long blank = absurd (omega arith)
+tokens_at_blank column (b ∷ bs) long blank = rw (take_rest (b ∷ bs) 1) (sym (tokens-blank column b bs blank))
+
+pub tokens_at_token : (column : ℕ) (text : List ℕ) (t : Token) (n : ℕ) → IsClear text → 1 ≤ length text → get_or text 0 0 ≢ 37
+    → t ≡ (first_token text).token → n ≡ (first_token text).bytes
+    → tokens_from column text ≡ record { token = t; column = column; after = column + n } ∷ tokens_from (column + n) (take (length text - n) (drop n text))
+tokens_at_token column [] t n clear long token is_t is_n = absurd (omega arith)
+tokens_at_token column (b ∷ bs) t n clear long token is_t is_n = rw (take_rest (b ∷ bs) n, is_t, is_n) (tokens-step column b bs clear (ne_eqb b 37 token))
+
+-- ---- every token of a line is short
+
+if_short : (c : Bool) (x y : Token) → (c ≡ true → IsShort x) → IsShort y → IsShort (cond c x y)
+if_short true x y p q = p refl
+if_short false x y p q = q
+
+if_begins_short : (c : Bool) (x y : Taken) → (c ≡ true → IsShort x.token) → IsShort y.token → IsShort (cond c x y).token
+if_begins_short true x y p q = p refl
+if_begins_short false x y p q = q
+
+known_short : (word : Option Word) → IsShort (known_word word)
+known_short None = tt
+known_short (Some w) = tt
+
+word_short : (letters : List ℕ) → IsShort (word_token letters)
+unfolding word_token
+word_short letters = search (if_short, known_short)
+
+mark_short : (entries : List (List ℕ × Mark)) (bs : List ℕ) → IsShort (mark_among entries bs).token
+unfolding mark_among
+mark_short [] bs = tt
+mark_short (entry ∷ entries) bs = search (if_begins_short, mark_short entries bs)
+
+number_short : (ds : List ℕ) → AllDigits 10 ds → IsShort (number_token ds)
+unfolding number_token
+number_short ds all = if_short _ _ _ (λ few. short_value ds all (leb-true _ _ few)) tt
+
+row_short : (bs : List ℕ) → IsShort (number_token (take (prefix_len is_ascii_digit bs) bs))
+row_short bs = number_short (take (prefix_len is_ascii_digit bs) bs) (digits_of_row bs)
+
+first_short : (bs : List ℕ) → IsShort (first_token bs).token
+unfolding first_token
+first_short bs = search (if_begins_short, word_short, row_short, mark_short)
+
+AreShort : List Placed → Type 0
+AreShort ps = AllByRecursion (λ p. IsShort p.token) ps
+
+if_all_short : (c : Bool) (xs ys : List Placed) → AreShort xs → AreShort ys → AreShort (cond c xs ys)
+if_all_short true xs ys p q = p
+if_all_short false xs ys p q = q
+
+within_short : (n column : ℕ) (bs : List ℕ) → AreShort (tokens_within n column bs)
+unfolding tokens_within AreShort
+within_short zero column bs = tt
+within_short (suc n) column [] = tt
+within_short (suc n) column (b ∷ bs) =
+    let first = first_token (b ∷ bs) in
+    let begun : List Placed = placed column first ∷ tokens_within n (column + first.bytes) (drop first.bytes (b ∷ bs)) in
+    if_all_short (is_blank b) (tokens_within n (column + 1) bs) (cond (eqb b 37) [] begun) (within_short n (column + 1) bs)
+    (if_all_short (eqb b 37) [] begun tt (first_short (b ∷ bs), within_short n (column + first.bytes) (drop first.bytes (b ∷ bs))))
+
+-- what `next` of an iterator gives is short
+pub next_short : (before : Tokens) (next : Option Placed) (after : Tokens) → YieldsFirst tokens_left before next after → IsNextShort next
+unfolding tokens_from AreShort
+next_short before None after e = tt
+next_short before (Some p) after e = (subst AreShort e (within_short (length before.rest.now) before.column before.rest.now)).0

@@ -1,0 +1,5 @@
+use Rattle.mf_text.proofs.Beginnings.{begins_or_not}
+use Rattle.mf_text.proofs.laws.begins_or_not.Goals as goal
+
+pub returns : goal.returns
+returns c = begins_or_not

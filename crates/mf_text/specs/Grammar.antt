@@ -1,0 +1,134 @@
+-- The lines that a script may have, and how each is spelled in tokens.
+use Rattle.std.specs.Prelude.{Bool, ℕ, List, [], ◌∷◌, ◌++◌, Option, Some, None, ℤ, pos, neg_ℤ, map, flat_map, if◌then◌else◌}
+use Rattle.mf_geom.specs.declared.point.Point.{Point}
+use Rattle.mf_ops.specs.declared.sign.Sign.{Sign}
+use Rattle.mf_ops.specs.declared.sign.Sign.TheVariants.{Plus, Minus}
+use Rattle.mf_text.specs.declared.command.Name.{Name}
+use Rattle.mf_text.specs.declared.command.Name.TheVariants.{Current, Register}
+use Rattle.mf_text.specs.declared.command.Source.{Source}
+use Rattle.mf_text.specs.declared.command.Source.TheVariants.{Null, Named}
+use Rattle.mf_text.specs.declared.token.Mark.{Mark}
+use Rattle.mf_text.specs.declared.token.Mark.TheVariants as mark
+use Rattle.mf_text.specs.declared.token.Token.{Token}
+use Rattle.mf_text.specs.declared.token.Token.TheVariants as token
+use Rattle.mf_text.specs.declared.token.Word.{Word}
+use Rattle.mf_text.specs.declared.token.Word.TheVariants as word
+
+abbrev pub spell_word : Word → List Token
+spell_word w = token.Word w ∷ []
+
+abbrev pub spell_mark : Mark → List Token
+spell_mark m = token.Mark m ∷ []
+
+-- int: [`-`] number
+pub record Int : Type 0 where
+  pub negative : Bool
+  pub magnitude : ℕ
+
+abbrev pub spell_int : Int → List Token
+spell_int n = if n.negative then (token.Mark mark.Minus ∷ token.Number n.magnitude ∷ []) else (token.Number n.magnitude ∷ [])
+
+abbrev pub int_value : Int → ℤ
+int_value n = if n.negative then neg_ℤ (pos n.magnitude) else pos n.magnitude
+
+-- pair: `(` int `,` int `)`
+pub record Pair : Type 0 where
+  pub across : Int
+  pub up : Int
+
+abbrev pub spell_pair : Pair → List Token
+spell_pair p = spell_mark mark.Open ++ spell_int p.across ++ spell_mark mark.Comma ++ spell_int p.up ++ spell_mark mark.Close
+
+abbrev pub pair_value : Pair → Point
+pair_value p = record { x = int_value p.across; y = int_value p.up }
+
+-- name: `currentpicture`, or one letter
+abbrev pub spell_name : Name → List Token
+spell_name Current = spell_word word.CurrentPicture
+spell_name (Register letter) = token.Letter letter ∷ []
+
+-- source: name, or `nullpicture`
+abbrev pub spell_source : Source → List Token
+spell_source Null = spell_word word.NullPicture
+spell_source (Named name) = spell_name name
+
+-- a source, and `-` before it where it is subtracted
+abbrev pub spell_signed : Sign → Source → List Token
+spell_signed Plus source = spell_source source
+spell_signed Minus source = spell_mark mark.Minus ++ spell_source source
+
+-- [`withweight` int]: without it the weight is 1
+abbrev pub spell_weight : Option Int → List Token
+spell_weight None = []
+spell_weight (Some n) = spell_word word.WithWeight ++ spell_int n
+
+abbrev pub weight_value : Option Int → ℤ
+weight_value None = pos 1
+weight_value (Some n) = int_value n
+
+-- path: pair `--` .. `--` pair `--` `cycle`, with at least one pair
+pub record Path : Type 0 where
+  pub first : Pair
+  pub others : List Pair
+
+abbrev pub spell_corner : Pair → List Token
+spell_corner p = spell_pair p ++ spell_mark mark.Join
+
+abbrev pub spell_path : Path → List Token
+spell_path p = flat_map spell_corner (p.first ∷ p.others) ++ spell_word word.Cycle
+
+abbrev pub path_value : Path → List Point
+path_value p = map pair_value (p.first ∷ p.others)
+
+-- `shifted` pair, `scaled` int, `xscaled` int, `yscaled` int, `rotated` int
+pub data Transform : Type 0 where
+  Shifted : Pair → Transform
+  Scaled : Int → Transform
+  XScaled : Int → Transform
+  YScaled : Int → Transform
+  Rotated : Int → Transform
+
+abbrev pub spell_transform : Transform → List Token
+spell_transform (Shifted p) = spell_word word.Shifted ++ spell_pair p
+spell_transform (Scaled n) = spell_word word.Scaled ++ spell_int n
+spell_transform (XScaled n) = spell_word word.XScaled ++ spell_int n
+spell_transform (YScaled n) = spell_word word.YScaled ++ spell_int n
+spell_transform (Rotated n) = spell_word word.Rotated ++ spell_int n
+
+-- the forms of commands, by what they do
+pub data Form : Type 0 where
+  Nothing : Form
+  AddContour : Name → Path → Option Int → Form
+  AddPicture : Name → Sign → Source → Form
+  CullKeeping : Name → Pair → Option Int → Form
+  CullDropping : Name → Pair → Option Int → Form
+  Clear : Name → Form
+  Move : Name → Transform → Form
+  ShowTotal : Source → Form
+  ShowPicture : Source → Form
+  ShowProof : Source → Form
+  PublishAll : Form
+
+abbrev pub spell_form : Form → List Token
+spell_form Nothing = []
+spell_form (AddContour name path weight) = spell_word word.Addto ++ spell_name name ++ spell_word word.Contour ++ spell_path path ++ spell_weight weight
+spell_form (AddPicture name sign source) = spell_word word.Addto ++ spell_name name ++ spell_word word.Also ++ spell_signed sign source
+spell_form (CullKeeping name range weight) = spell_word word.Cull ++ spell_name name ++ spell_word word.Keeping ++ spell_pair range ++ spell_weight weight
+spell_form (CullDropping name range weight) = spell_word word.Cull ++ spell_name name ++ spell_word word.Dropping ++ spell_pair range ++ spell_weight weight
+spell_form (Clear name) = spell_name name ++ spell_mark mark.Becomes ++ spell_word word.NullPicture
+spell_form (Move name transform) = spell_name name ++ spell_mark mark.Becomes ++ spell_name name ++ spell_transform transform
+spell_form (ShowTotal source) = spell_word word.Show ++ spell_word word.TotalWeight ++ spell_source source
+spell_form (ShowPicture source) = spell_word word.Show ++ spell_source source
+spell_form (ShowProof source) = spell_word word.Proof ++ spell_source source
+spell_form PublishAll = spell_word word.Publish
+
+-- line: [command] [`;`]
+pub record Line : Type 0 where
+  pub form : Form
+  pub ended : Bool
+
+abbrev pub spell_end : Bool → List Token
+spell_end ended = if ended then spell_mark mark.Semicolon else []
+
+abbrev pub spell_line : Line → List Token
+spell_line l = spell_form l.form ++ spell_end l.ended

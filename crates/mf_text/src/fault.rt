@@ -1,0 +1,82 @@
+//! Why lines and texts are refused.
+use mf_geom::{CycleFault, OutOfMemory};
+use std::error::Error;
+use std::fmt;
+
+/// Why a line is no command. Refusals 16, 17 and 18 come first, in that order, then the others in rising number.
+#[derive(Clone, Copy, Debug, PartialEq, Eq)]
+pub enum TextFault {
+    /// Refusals 1 to 6: the points of the contour are no cycle.
+    Cycle(CycleFault),
+    /// Refusal 7: a weight other than -3, -2, -1, 1, 2 and 3.
+    BadWeight,
+    /// Refusal 8: a range of weights that no cull has.
+    BadCull,
+    /// Refusal 9: a factor that is 0 or beyond 4095 in size.
+    BadScale,
+    /// Refusal 10: an angle other than 90, 180 and 270 degrees.
+    BadTurn,
+    /// Refusal 14. It may come in the place of 1 to 7.
+    OutOfMemory,
+    /// Refusal 16: more than 65,536 bytes.
+    LineTooLong,
+    /// Refusal 17: a byte that is neither a tab nor a printed character of ASCII.
+    NotAscii,
+    /// Refusal 18: no line of the grammar, with the column, counted in bytes from 1, of the first token with which no
+    /// line begins, or the column one past the last token.
+    Syntax(u32),
+}
+
+impl fmt::Display for TextFault {
+    ghost use Rattle.std.specs.Prelude.{Some};
+    ghost use Rattle.mf_text.specs.Names.{text_fault_text};
+
+    ghost output = { λ fault. Some (text_fault_text fault) };
+
+    fn fmt<W: fmt::Write>(&self, f: &mut fmt::Formatter<W>) -> fmt::Result {
+        match self {
+            TextFault::Cycle(fault) => write!(f, "{fault}"),
+            TextFault::BadWeight => write!(f, "BadWeight"),
+            TextFault::BadCull => write!(f, "BadCull"),
+            TextFault::BadScale => write!(f, "BadScale"),
+            TextFault::BadTurn => write!(f, "BadTurn"),
+            TextFault::OutOfMemory => write!(f, "OutOfMemory"),
+            TextFault::LineTooLong => write!(f, "LineTooLong"),
+            TextFault::NotAscii => write!(f, "NotAscii"),
+            TextFault::Syntax(column) => write!(f, "Syntax {column}"),
+        }
+    }
+}
+
+impl Error for TextFault {}
+
+/// Why a picture has no grid text.
+#[derive(Clone, Copy, Debug, PartialEq, Eq)]
+pub enum GridFault {
+    /// Refusal 23: the least box is wider or higher than 128 pixels.
+    ProofTooLarge,
+    /// Refusal 14. It never comes in the place of 23.
+    OutOfMemory,
+}
+
+impl From<OutOfMemory> for TextFault {
+    ghost use Rattle.std.specs.Prelude.{◌≡◌};
+    ghost use Rattle.mf_text.specs.declared.fault.TextFault.TheVariants.{OutOfMemory};
+
+    ghost from_gives = { λ _ fault. fault ≡ OutOfMemory };
+
+    fn from(_fault: OutOfMemory) -> TextFault {
+        TextFault::OutOfMemory
+    }
+}
+
+impl From<OutOfMemory> for GridFault {
+    ghost use Rattle.std.specs.Prelude.{◌≡◌};
+    ghost use Rattle.mf_text.specs.declared.fault.GridFault.TheVariants.{OutOfMemory};
+
+    ghost from_gives = { λ _ fault. fault ≡ OutOfMemory };
+
+    fn from(_fault: OutOfMemory) -> GridFault {
+        GridFault::OutOfMemory
+    }
+}

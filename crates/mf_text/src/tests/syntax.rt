@@ -1,0 +1,116 @@
+//! Where lines go wrong.
+
+use super::assert_refused;
+use crate::fault::TextFault;
+use crate::value::read_command;
+use std::test::Fail;
+
+/// Lines that are in no grammar, each with the column at which that shows.
+const LINES: &[(&str, u32)] = &[
+    ("addto currentpicture contur", 22),
+    ("show", 5),
+    ("a := b shifted (1,0)", 6),
+    ("shipout a code 65 dx 0 width 0", 1),
+    ("show totalweight a!", 19),
+    ("addto a contour (0,0)--(1234567890,0)--cycle", 25),
+    ("addto a contour (0,0)--(1,0)--", 31),
+    ("addto a contour (0,0", 21),
+    ("a := a shifted (1;0)", 18),
+    ("cull a keeping (1,2) withweight", 32),
+    ("show a ; show b", 10),
+    (";;", 2),
+    ("addto a also --b", 14),
+    ("a : = nullpicture", 3),
+    ("AddTo a also a", 1),
+    ("show  % x", 5),
+    ("a := b", 6),
+    ("a := a", 7),
+    ("a := a ;", 8),
+    ("nullpicture := a", 1),
+    ("a := a scaled 0000000001", 15),
+    ("addto a contour (0,0)--(1,0)--cyclewithweight 2", 31),
+    ("addto a contour (0,0)---(1,0)--cycle", 24),
+    ("addto a contour (0,0)- -cycle", 22),
+    ("addto a contour (--1,0)--cycle", 18),
+    ("a ::= nullpicture", 3),
+    ("currentpicture := a scaled 2", 19),
+    ("a := currentpicture", 6),
+    ("ab := nullpicture", 1),
+    ("show nullpicture totalweight", 18),
+    ("proof", 6),
+    ("publish publish", 9),
+    ("addto a contour cycle", 17),
+    ("cull a shifted (1,0)", 8),
+    ("addto a also - - b", 16),
+    ("\tshow\tx y", 9),
+    ("show $", 6),
+    ("5", 1),
+];
+
+#[test]
+fn columns(rt: HostRuntime) -> Result<(), Fail> {
+    for (line, column) in LINES {
+        assert_refused(&rt, rt.alloc(), line, TextFault::Syntax(*column));
+    }
+    Ok(())
+}
+
+/// Columns count from 1, so this says that the form of a cut line is lawful.
+const WHOLE: u32 = 0;
+
+/// Lines of the grammar, each with the column at which it goes wrong where only its first 0, 1, 2, .. bytes are there.
+const CUTS: &[(&str, &[u32])] = &[
+    (
+        "a := a shifted (1,-2)",
+        &[
+            WHOLE, 2, 2, 3, 5, 5, 7, 7, 8, 8, 8, 8, 8, 8, 15, 15, 17, 18, 19, 20, 21,
+        ],
+    ),
+    (
+        "show totalweight b ;",
+        &[
+            WHOLE, 2, 1, 1, 5, 5, WHOLE, 6, 6, 6, 6, 6, 6, 6, 6, 6, 17, 17, WHOLE, WHOLE,
+        ],
+    ),
+    (
+        "cull a keeping (1,3) withweight -2;",
+        &[
+            WHOLE, 2, 1, 1, 5, 5, 7, 7, 8, 8, 8, 8, 8, 8, 15, 15, 17, 18, 19, 20, WHOLE, WHOLE, 22,
+            22, 22, 22, 22, 22, 22, 22, 22, 32, 32, 34, WHOLE,
+        ],
+    ),
+    (
+        "addto b also -currentpicture",
+        &[
+            WHOLE, 2, 1, 1, 1, 6, 6, 8, 8, 9, 9, 9, 13, 13, 15, WHOLE, 15, 15, 15, 15, 15, 15, 15,
+            15, 15, 15, 15, 15,
+        ],
+    ),
+    (
+        "addto a contour (0,-1)--cycle;",
+        &[
+            WHOLE, 2, 1, 1, 1, 6, 6, 8, 8, 9, 9, 9, 9, 9, 9, 16, 16, 18, 19, 20, 21, 22, 23, 23,
+            25, 25, 25, 25, 25, WHOLE,
+        ],
+    ),
+    (
+        "z:=z rotated 90",
+        &[WHOLE, 2, 2, 4, 5, 5, 6, 6, 6, 6, 6, 6, 13, 13, WHOLE],
+    ),
+];
+
+#[test]
+fn cut_lines(rt: HostRuntime) -> Result<(), Fail> {
+    for (line, columns) in CUTS {
+        assert_eq!(rt; columns.len(), line.len(), "{line}");
+        for (end, column) in columns.iter().enumerate() {
+            let found = match read_command(rt.alloc(), &line.as_bytes()[..end]) {
+                Err(TextFault::Syntax(found)) => found,
+                // A value may be refused where the form is lawful.
+                _ => WHOLE,
+            };
+            assert_eq!(rt; found, *column, "{line} cut at {end}");
+        }
+    }
+    Ok(())
+}

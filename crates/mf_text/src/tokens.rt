@@ -1,0 +1,217 @@
+//! The tokens of a line, one after another.
+ghost use Rattle.std.specs.Prelude.{◌≡◌, ◌+◌, ◌<◌, ◌≤◌, ◌^◌, length};
+ghost use Rattle.std.specs.Char.{is_ascii_alphabetic, is_ascii_digit};
+ghost use Rattle.std.specs.List.{prefix_len};
+ghost use Rattle.std.specs.Str.Parse.{AllDigits};
+ghost use Rattle.mf_text.specs.Short.{IsClear};
+ghost use Rattle.mf_text.specs.Tokens.{first_token, marks, mark_among, number_token, words, word_among, word_token};
+
+use crate::token::{Mark, Placed, Token, Word};
+
+/// Most digits that a number has.
+const MAX_DIGITS: usize = 9;
+
+/// The tokens of a line, from the left. The line is shorter than 2^31 bytes.
+#[derive(Clone, Copy, Debug)]
+pub struct Tokens<'a> {
+    rest: &'a [u8],
+    /// The column of the first byte of the rest, from 1.
+    column: u32,
+    ghost short: { length rest.now + column < 2 ^ 32 },
+}
+
+impl<'a> Tokens<'a> {
+    ghost use Rattle.std.specs.Prelude.{◌≡◌, ◌<◌, ◌^◌, length};
+    ghost use Rattle.mf_text.specs.Left.{tokens_left};
+    ghost use Rattle.mf_text.specs.Tokens.{tokens};
+
+    /// The tokens of this line.
+    pub fn new(line: &'a [u8]) -> Tokens<'a>
+        requires { length line.now < 2 ^ 31 }
+        ensures { tokens_left result ≡ tokens line.now }
+    {
+        Tokens {
+            rest: line,
+            column: 1,
+        }
+    }
+
+    /// Goes on behind the blanks at the front.
+    fn skip_blanks(&mut self)
+        ensures same { tokens_left self.new ≡ tokens_left self.old }
+        ensures clear { IsClear self.new.rest.now }
+    {
+        while let [b' ' | b'\t', after @ ..] = self.rest {
+            *self = Tokens {
+                rest: after,
+                column: self.column + 1,
+            };
+        }
+    }
+}
+
+impl Iterator for Tokens<'_> {
+    ghost use Rattle.std.specs.Iterator.{YieldsFirst, item_count};
+    ghost use Rattle.mf_text.specs.Left.{tokens_left};
+
+    type Item = Placed;
+
+    ghost next_gives = { YieldsFirst tokens_left };
+
+    ghost remaining = { item_count tokens_left };
+
+    fn next(&mut self) -> Option<Placed> {
+        self.skip_blanks();
+        if let [] | [b'%', ..] = self.rest {
+            return None;
+        }
+        let (token, bytes) = first_token(self.rest);
+        let column = self.column;
+        let after = column + bytes as u32;
+        *self = Tokens {
+            rest: &self.rest[bytes..],
+            column: after,
+        };
+        Some(Placed {
+            token,
+            column,
+            after,
+        })
+    }
+}
+
+/// The token at the front, and how many bytes it takes.
+#[tactic(auto, unfolding(crate::specs::Tokens::first_token))]
+fn first_token(text: &[u8]) -> (Token, usize)
+    requires { 0 < length text.now }
+    ensures token { result.0 ≡ (first_token text.now).token }
+    ensures bytes { result.1 ≡ (first_token text.now).bytes }
+    ensures some { 0 < result.1 }
+    ensures within { result.1 ≤ length text.now }
+{
+    let letters = letters_at(text);
+    if letters > 0 {
+        return (word_token(&text[..letters]), letters);
+    }
+    let digits = digits_at(text);
+    if digits > 0 {
+        return (number_token(&text[..digits]), digits);
+    }
+    mark_token(text)
+}
+
+/// How many bytes at the front are letters.
+fn letters_at(text: &[u8]) -> usize
+    ensures { result ≡ prefix_len is_ascii_alphabetic text.now }
+{
+    text.iter()
+        .take_while(|byte| byte.is_ascii_alphabetic())
+        .count()
+}
+
+/// How many bytes at the front are digits.
+fn digits_at(text: &[u8]) -> usize
+    ensures { result ≡ prefix_len is_ascii_digit text.now }
+{
+    text.iter().take_while(|byte| byte.is_ascii_digit()).count()
+}
+
+/// The token of a row of letters.
+#[tactic(auto, unfolding(crate::specs::Tokens::word_token))]
+fn word_token(letters: &[u8]) -> Token
+    ensures { result ≡ word_token letters.now }
+{
+    if let [letter @ b'a'..=b'z'] = letters {
+        return Token::Letter(*letter - b'a');
+    }
+    match word(letters) {
+        Some(word) => Token::Word(word),
+        None => Token::Unknown,
+    }
+}
+
+/// The word that these letters are.
+#[tactic(auto, unfolding(crate::specs::Tokens::word_among))]
+fn word(letters: &[u8]) -> Option<Word>
+    ensures { result ≡ word_among words letters.now }
+{
+    let word = if letters == b"addto".as_slice() {
+        Word::Addto
+    } else if letters == b"also".as_slice() {
+        Word::Also
+    } else if letters == b"contour".as_slice() {
+        Word::Contour
+    } else if letters == b"cull".as_slice() {
+        Word::Cull
+    } else if letters == b"currentpicture".as_slice() {
+        Word::CurrentPicture
+    } else if letters == b"cycle".as_slice() {
+        Word::Cycle
+    } else if letters == b"dropping".as_slice() {
+        Word::Dropping
+    } else if letters == b"keeping".as_slice() {
+        Word::Keeping
+    } else if letters == b"nullpicture".as_slice() {
+        Word::NullPicture
+    } else if letters == b"proof".as_slice() {
+        Word::Proof
+    } else if letters == b"publish".as_slice() {
+        Word::Publish
+    } else if letters == b"rotated".as_slice() {
+        Word::Rotated
+    } else if letters == b"scaled".as_slice() {
+        Word::Scaled
+    } else if letters == b"shifted".as_slice() {
+        Word::Shifted
+    } else if letters == b"show".as_slice() {
+        Word::Show
+    } else if letters == b"totalweight".as_slice() {
+        Word::TotalWeight
+    } else if letters == b"withweight".as_slice() {
+        Word::WithWeight
+    } else if letters == b"xscaled".as_slice() {
+        Word::XScaled
+    } else if letters == b"yscaled".as_slice() {
+        Word::YScaled
+    } else {
+        return None;
+    };
+    Some(word)
+}
+
+/// The token of a row of digits.
+#[tactic(auto, using(crate::proofs::Digits::grows), unfolding(crate::specs::Tokens::number_token))]
+fn number_token(digits: &[u8]) -> Token
+    requires { AllDigits 10 digits.now }
+    ensures { result ≡ number_token digits.now }
+{
+    if digits.len() > MAX_DIGITS {
+        return Token::Unknown;
+    }
+    let mut value = 0;
+    for digit in digits {
+        value = 10 * value + u32::from(*digit - b'0');
+    }
+    Token::Number(value)
+}
+
+/// The token of other bytes, and how many of them it takes: of `--` and `-` the longer.
+#[tactic(auto, unfolding(crate::specs::Tokens::mark_among))]
+fn mark_token(text: &[u8]) -> (Token, usize)
+    requires { 0 < length text.now }
+    ensures token { result.0 ≡ (mark_among marks text.now).token }
+    ensures bytes { result.1 ≡ (mark_among marks text.now).bytes }
+    ensures some { 0 < result.1 }
+    ensures within { result.1 ≤ length text.now }
+{
+    match text {
+        [b'-', b'-', ..] => (Token::Mark(Mark::Join), 2),
+        [b'-', ..] => (Token::Mark(Mark::Minus), 1),
+        [b':', b'=', ..] => (Token::Mark(Mark::Becomes), 2),
+        [b'(', ..] => (Token::Mark(Mark::Open), 1),
+        [b')', ..] => (Token::Mark(Mark::Close), 1),
+        [b',', ..] => (Token::Mark(Mark::Comma), 1),
+        [b';', ..] => (Token::Mark(Mark::Semicolon), 1),
+        _ => (Token::Unknown, 1),
+    }
+}
