@@ -1,13 +1,1 @@
-pub mod Ended
-pub mod Fault
-pub mod Grammar
-pub mod Left
-pub mod Performer
-pub mod Progress
-pub mod Reading
-pub mod Refusals
-pub mod Script
-pub mod Short
 pub mod Statuses
-pub mod Tokens
-pub mod Transcript

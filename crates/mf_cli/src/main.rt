@@ -1,25 +1,10 @@
 //! The program `mfpic`: reads a script of picture commands and writes its transcript.
 #![tactic(auto)]
 
-mod fault;
-mod laws;
-mod line_buffer;
-mod output;
-mod performer;
 mod program;
-mod progress;
-mod reading;
-mod refusal;
-mod run;
-mod script;
-mod sentence;
-#[cfg(test)]
-mod streams;
-mod tokens;
 
-use fault::RunFault;
+use mf_desk::RunFault;
 use program::{program, refuse_words, report};
-use std::alloc::AllocError;
 use std::env;
 use std::io::{self, ErrorKind};
 use std::process::ExitCode;
@@ -28,6 +13,7 @@ fn main(rt: HostRuntime) -> ExitCode {
     let mut errors = rt.stderr();
     let status = match words_of(&rt) {
         Ok(words) => program(
+            &rt,
             rt.alloc(),
             words,
             &mut rt.stdin(),

@@ -1,13 +1,16 @@
 //! The program behind `main`: from its words and streams to its exit status.
 ghost use Rattle.std.specs.Prelude.{◌≡◌, ◌<◌, ◌↔◌, ◌⊎◌, IfSome, vec_len};
-ghost use Rattle.std.specs.Io.KnownBytes.{Appends, IsAtEnd};
+ghost use Rattle.std.specs.Io.KnownBytes.{IsAtEnd};
 ghost use Rattle.mf_cli.specs.Statuses.{status_of};
-ghost use Rattle.mf_cli.specs.Transcript.{transcript};
+ghost use Rattle.mf_desk.specs.Transcript.{GetsTranscript};
 
-use crate::fault::RunFault;
-use crate::run::run;
+use mf_desk::{RunFault, run};
 use std::alloc::Global;
 use std::io::{Read, Write};
+use std::sync::Wait;
+
+/// Greatest number of operations on `currentpicture` that a script may have accepted.
+pub const MAX_OPS: u32 = 1_000_000;
 
 /// Status of a run that reached the end of its script.
 pub const DONE: u8 = 0;
@@ -23,8 +26,9 @@ pub const NO_MEMORY: u8 = 4;
 
 /// Performs the script that `reader` gives, writes its transcript to `writer` and a message of what went
 /// wrong to `errors`, and answers the exit status. `words` are those of the command line, of which the first
-/// is the program's name. A fault of `errors` changes no status.
-pub fn program<R: Read, W: Write, E: Write>(
+/// is the program's name. A fault of `errors` changes no status. Nobody looks on, so it waits for nobody.
+pub fn program<S: Wait, R: Read, W: Write, E: Write>(
+    rt: &S,
     alloc: Global,
     words: Vec<String>,
     reader: &mut R,
@@ -36,13 +40,13 @@ pub fn program<R: Read, W: Write, E: Write>(
     ensures unread { 1 < vec_len words → reader.new ≡ reader.old }
     ensures unwritten { 1 < vec_len words → writer.new ≡ writer.old }
     ensures quiet { result ≡ DONE → errors.new ≡ errors.old }
-    ensures transcript { result ≡ DONE → IfSome (R.remaining reader.old) (λ input. Appends (W.contents writer.old) (W.contents writer.new) (transcript input)) }
+    ensures transcript { result ≡ DONE → IfSome (R.remaining reader.old) (GetsTranscript MAX_OPS (W.contents writer.old) (W.contents writer.new)) }
     ensures end { result ≡ DONE → IsAtEnd (R.remaining reader.new) }
 {
     if words.len() > 1 {
         return refuse_words(errors);
     }
-    match run(alloc, reader, writer) {
+    match run(rt, alloc, reader, writer, MAX_OPS) {
         Ok(()) => DONE,
         Err(fault) => report(errors, fault),
     }

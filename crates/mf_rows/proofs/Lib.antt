@@ -23,7 +23,7 @@ mod RowMoves
 mod RowRuns
 mod RowStretches
 mod RowSums
-mod RunBoxes
+pub mod RunBoxes
 pub mod RunDots
 mod RunEdges
 mod RunsLeft

@@ -68,7 +68,7 @@ within_first a b d inside = record { left = omega (arith, ints, clamps, inside.l
 within_second : (a b : Box4) (d : Dot) → IsWithin b d → IsWithin (widened a b) d
 within_second a b d inside = record { left = omega (arith, ints, clamps, inside.left); right = omega (arith, ints, clamps, inside.right); bottom = omega (arith, ints, clamps, inside.bottom); top = omega (arith, ints, clamps, inside.top) }
 
-least_box_of_both : (ds es : List Dot) (a b : Box4) → IsLeastBox ds a → IsLeastBox es b → IsLeastBox (ds ++ es) (widened a b)
+pub least_box_of_both : (ds es : List Dot) (a b : Box4) → IsLeastBox ds a → IsLeastBox es b → IsLeastBox (ds ++ es) (widened a b)
 least_box_of_both ds es a b first second =
     let all = ds ++ es in
     let at_x = λ (x : ℤ) (d : Dot). d.x ≡ x in

@@ -11,7 +11,7 @@ use Rattle.mf_rows.specs.Runs.{dots_of, runs_of}
 use Rattle.mf_rows.proofs.RunsLemmas.{dots_of-runs_of}
 use Rattle.mf_text.specs.Grid.{character, extent, row_text, rows_text, box_text, IsGridText, IsTooLarge}
 use Rattle.mf_text.specs.RunsAhead.{AreInOrder, AreSameFrom}
-use Rattle.mf_text.proofs.LeastBoxes.{IsBoxOfField, same_least_box, least_box_of_some}
+use Rattle.mf_text.proofs.LeastBoxes.{IsBoxOfField, same_least_box, least_box_of_some, some_least_box}
 use Rattle.mf_text.proofs.PassedPixels.{all_in_order, same_all}
 
 extent-next : (x last : ℤ) → x ≤ℤ last → extent x last ≡ suc (extent (x +ℤ pos 1) last)
@@ -144,6 +144,11 @@ grid_of_box ds b text box drawn = record {
   blank = λ none. absurd (least_box_of_some b (subst (λ all. IsLeastBox all b) none box));
   drawn = λ c least. drawn ∙ ap (box_text ds) (same_least_box ds b c box least);
 }
+
+-- a picture has one grid text
+pub one_grid_text : (ds : List Dot) (one other : List ℕ) → IsGridText ds one → IsGridText ds other → one ≡ other
+one_grid_text [] one other p q = p.blank refl ∙ sym (q.blank refl)
+one_grid_text (d ∷ ds) one other p q = let (b, least) = some_least_box d ds in p.drawn b least ∙ sym (q.drawn b least)
 
 pub too_large : (ds : List Dot) (b : Box4) (columns rows : ℕ) → IsLeastBox ds b → columns ≡ extent b.min_x b.max_x → rows ≡ extent b.min_y b.max_y
     → (128 < columns) ⊎ ((columns ≤ 128) × (128 < rows)) → IsTooLarge ds

@@ -1,12 +1,14 @@
 -- The least box of a picture.
-use Rattle.std.proofs.Common.{◌≡◌, pos, negsuc, ◌≤ℤ◌, List, [], arith}
+use Rattle.std.proofs.Common.{◌≡◌, pos, negsuc, ◌≤ℤ◌, List, [], ◌∷◌, refl, arith}
 use Rattle.std.specs.List.{All, Any}
 use Rattle.std.proofs.lemmas.Int.{ints}
-use Rattle.std.proofs.lemmas.List.Elements.{All-contains}
+use Rattle.std.proofs.lemmas.List.Elements.{All-contains, All-nil, All-cons}
 use Rattle.mf_rows.specs.declared.bounds.Box4.{Box4}
 use Rattle.mf_rows.specs.Bounds.{IsWithin, IsLeastBox}
 use Rattle.mf_rows.specs.Dots.{Dot, IsDot, IsPicture, start_of_field}
+use Rattle.mf_rows.specs.Widening.{widened}
 use Rattle.mf_rows.proofs.DotsLemmas.{dots_from-lawful}
+use Rattle.mf_rows.proofs.RunBoxes.{least_box_of_both}
 
 -- what all dots are is also that dot which some property finds
 found : (P Q : Dot → Type 0) (ds : List Dot) (some : Any P ds) → All Q ds → Q some.1
@@ -73,3 +75,24 @@ same_least_box ds a b one other =
 -- and none where no pixel has a weight
 pub least_box_of_some : (b : Box4) → IsLeastBox [] b → ⊥
 least_box_of_some b box = omega (arith, box.left.2)
+
+-- the box of one dot
+abbrev box_of_dot : Dot → Box4
+box_of_dot d = record { min_x = d.x; max_x = d.x; min_y = d.y; max_y = d.y }
+
+least_box_of_dot : (d : Dot) → IsLeastBox (d ∷ []) (box_of_dot d)
+least_box_of_dot d =
+    record {
+      within = All-cons (IsWithin (box_of_dot d)) d [] (record { left = omega (arith, ints); right = omega (arith, ints); bottom = omega (arith, ints); top = omega (arith, ints) }) (All-nil (IsWithin (box_of_dot d)));
+      left = (0, d, omega arith, refl, refl);
+      right = (0, d, omega arith, refl, refl);
+      bottom = (0, d, omega arith, refl, refl);
+      top = (0, d, omega arith, refl, refl);
+    }
+
+-- and there is one where some pixel has a weight
+pub some_least_box : (d : Dot) (ds : List Dot) → (b : Box4) × IsLeastBox (d ∷ ds) b
+some_least_box d [] = (box_of_dot d, least_box_of_dot d)
+some_least_box d (e ∷ ds) =
+    let (b, least) = some_least_box e ds in
+    (widened (box_of_dot d) b, least_box_of_both (d ∷ []) (e ∷ ds) (box_of_dot d) b (least_box_of_dot d) least)

@@ -17,6 +17,7 @@ pub mod PassedPixels
 pub mod Paths
 pub mod Points
 pub mod ReadBack
+pub mod Registers
 pub mod Said
 pub mod Sequences
 pub mod Skips

@@ -8,6 +8,7 @@ pub mod Meaning
 pub mod Names
 pub mod Phrases
 pub mod Readers
+pub mod Registers
 pub mod RunText
 pub mod RunsAhead
 pub mod Sentences

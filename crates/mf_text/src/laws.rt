@@ -1,10 +1,13 @@
 //! Laws of the command language: each is the contract of a function that does nothing.
 ghost use Rattle.std.specs.Prelude.{◌≡◌, ◌≢◌, ◌⊎◌, ℕ, List};
+ghost use Rattle.mf_rows.specs.Dots.{Dot};
 ghost use Rattle.mf_text.specs.declared.command.Command.{Command};
 ghost use Rattle.mf_text.specs.declared.token.Token.{Token};
 ghost use Rattle.mf_text.specs.Ahead.{Ahead};
 ghost use Rattle.mf_text.specs.Grammar.{Line, spell_line};
+ghost use Rattle.mf_text.specs.Grid.{IsGridText};
 ghost use Rattle.mf_text.specs.Lines.{Gives, IsRefused};
+ghost use Rattle.mf_text.specs.Registers.{HasNames};
 ghost use Rattle.mf_text.specs.Syntax.{IsLine, BeginsLine, IsSyntaxFault};
 ghost use Rattle.mf_text.specs.Tokens.{kinds};
 
@@ -30,4 +33,14 @@ pub fn wrong_is_no_line()
 /// A line of the grammar begins with some tokens, or none does.
 pub fn begins_or_not()
     ensures { (ts : List Token) → BeginsLine ts ⊎ (BeginsLine ts → ⊥) }
+{}
+
+/// The registers that the command of a line names are letters.
+pub fn registers_are_letters()
+    ensures { (bytes : List ℕ) (given : Command) → Gives bytes given → HasNames given }
+{}
+
+/// A picture has one grid text.
+pub fn one_grid_text()
+    ensures { (ds : List Dot) (one other : List ℕ) → IsGridText ds one → IsGridText ds other → one ≡ other }
 {}

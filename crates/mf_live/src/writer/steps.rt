@@ -61,6 +61,13 @@ impl Writer {
         &self.holder.working
     }
 
+    /// The revision of that picture: how many operations were accepted.
+    pub fn revision(&self) -> u32
+        ensures { result ≡ rev (accepted self.now) }
+    {
+        self.holder.revision
+    }
+
     /// How many operations were accepted and are not published.
     pub fn pending(&self) -> u32
         ensures { result ≡ rev (accepted self.now) - rev (published self.now) }

@@ -1,0 +1,11 @@
+//! What the tests of several crates share: scripts with their transcripts, and readers and writers that give and take
+//! pieces, and fail.
+#![tactic(auto)]
+
+mod scripts;
+mod streams;
+#[cfg(test)]
+mod tests;
+
+pub use scripts::SCRIPTS;
+pub use streams::{LineFeeds, Pieces, Sink};

@@ -1,0 +1,436 @@
+//! Scripts and their transcripts.
+
+/// Scripts, each with its transcript, by subject. Every line of both ends with a line feed.
+pub const SCRIPTS: &[(&str, &str)] = &[
+    // Contours: their total weights and runs.
+    (
+        "addto currentpicture contour (0,0)--(3,0)--(3,2)--(0,2)--cycle\n\
+         show totalweight currentpicture\n\
+         show currentpicture\n",
+        "totalweight 6\n\
+         1 0 2 1\n\
+         0 0 2 1\n",
+    ),
+    (
+        "addto currentpicture contour (0,0)--(0,2)--(3,2)--(3,0)--cycle\n\
+         show totalweight currentpicture\n\
+         addto a contour (0,0)--(0,2)--(3,2)--(3,0)--cycle withweight -2\n\
+         show totalweight a\n",
+        "totalweight 6\n\
+         totalweight -12\n",
+    ),
+    (
+        "addto a contour (0,0)--(2,0)--(2,2)--(0,2)--(0,0)--(2,0)--(2,2)--(0,2)--cycle\n\
+         show a\n\
+         show totalweight a\n",
+        "1 0 1 2\n\
+         0 0 1 2\n\
+         totalweight 8\n",
+    ),
+    (
+        "addto a contour (0,0)--(1,0)--(3,0)--(3,2)--(0,2)--cycle\n\
+         show totalweight a\n",
+        "totalweight 6\n",
+    ),
+    // The list may begin in the middle of a side.
+    (
+        "addto a contour (1,0)--(3,0)--(3,2)--(0,2)--(0,0)--cycle\n\
+         show totalweight a\n",
+        "totalweight 6\n",
+    ),
+    (
+        "addto currentpicture contour (0,0)--(2000,0)--(2000,2000)--(0,2000)--cycle\n\
+         show totalweight currentpicture\n",
+        "totalweight 4000000\n",
+    ),
+    (
+        "addto currentpicture contour(0,0)--(400,0)--(400,-400)--(0,-400)--cycle withweight-3\n\
+         show\n\
+         show totalweight currentpicture\n",
+        "refused Syntax 5\n\
+         totalweight -480000\n",
+    ),
+    // The whole field.
+    (
+        "addto a contour (-4095,-4095)--(4095,-4095)--(4095,4095)--(-4095,4095)--cycle\n\
+         show totalweight a\n\
+         a := a xscaled -1\n\
+         show totalweight a\n\
+         cull a keeping (1,1) withweight 3\n\
+         show totalweight a\n",
+        "totalweight 67076100\n\
+         totalweight 67076100\n\
+         totalweight 201228300\n",
+    ),
+    // Contours that are refused change nothing.
+    (
+        "addto a contour (0,0)--(1,0)--(1,2)--(2,2)--(2,1)--(0,1)--cycle\n\
+         show a\n",
+        "refused TurningZero\n\
+         blank\n",
+    ),
+    (
+        "addto a contour (0,0)--(3,0)--(1,0)--(1,1)--(0,1)--cycle\n\
+         addto a contour (0,0)--(1,0)--cycle\n\
+         show a\n",
+        "refused Backtracks 1\n\
+         refused Backtracks 0\n\
+         blank\n",
+    ),
+    // Reversals at the first and at the last vertex.
+    (
+        "addto a contour (0,0)--(1,0)--(1,1)--(2,1)--(2,0)--cycle\n\
+         addto a contour (1,0)--(1,1)--(2,1)--(2,0)--(0,0)--cycle\n\
+         show a\n",
+        "refused Backtracks 0\n\
+         refused Backtracks 4\n\
+         blank\n",
+    ),
+    (
+        "addto a contour (0,0)--(1,1)--(0,1)--cycle\n\
+         addto a contour (0,0)--cycle\n\
+         addto a contour (0,0)--(4096,0)--(4096,1)--(0,1)--cycle\n\
+         addto a contour (0,0)--(1,0)--(1,1)--(0,1)--cycle withweight 4\n\
+         show a\n",
+        "refused NotRectilinear 0\n\
+         refused TooFewPoints\n\
+         refused PointOutOfRange 1\n\
+         refused BadWeight\n\
+         blank\n",
+    ),
+    // Repeated points: within the list, and the first point at its end.
+    (
+        "addto a contour (0,0)--(1,0)--(1,0)--(1,1)--(0,1)--cycle\n\
+         addto a contour (0,0)--(1,0)--(1,1)--(0,1)--(0,0)--cycle\n\
+         show a\n",
+        "refused NotRectilinear 1\n\
+         refused NotRectilinear 4\n\
+         blank\n",
+    ),
+    // A cycle is looked at before its weight, and the weight of a cull before its range.
+    (
+        "addto currentpicture contour (0,0)--(1,0)--cycle withweight 4\n\
+         addto currentpicture contour (0,0)--(1,0)--(1,1)--(0,1)--cycle\n\
+         cull currentpicture keeping (0,3) withweight 0\n\
+         show currentpicture\n",
+        "refused Backtracks 0\n\
+         refused BadWeight\n\
+         0 0 0 1\n",
+    ),
+    // Sums of pictures.
+    (
+        "addto currentpicture contour (0,0)--(3,0)--(3,2)--(0,2)--cycle\n\
+         addto currentpicture also currentpicture\n\
+         show totalweight currentpicture\n\
+         addto currentpicture also -currentpicture\n\
+         show currentpicture\n",
+        "totalweight 12\n\
+         blank\n",
+    ),
+    (
+        "addto currentpicture contour (0,0)--(1,0)--(1,1)--(0,1)--cycle withweight 3\n\
+         addto currentpicture also currentpicture\n\
+         addto currentpicture also currentpicture\n\
+         addto currentpicture also currentpicture\n\
+         addto currentpicture also currentpicture\n\
+         addto currentpicture also currentpicture\n\
+         addto currentpicture also currentpicture\n\
+         addto currentpicture also currentpicture\n\
+         addto currentpicture also currentpicture\n\
+         addto currentpicture also currentpicture\n\
+         addto currentpicture also currentpicture\n\
+         addto currentpicture also currentpicture\n\
+         addto currentpicture also currentpicture\n\
+         addto currentpicture also currentpicture\n\
+         show totalweight currentpicture\n\
+         addto currentpicture also currentpicture\n\
+         show totalweight currentpicture\n",
+        "totalweight 24576\n\
+         refused WeightTooLarge\n\
+         totalweight 24576\n",
+    ),
+    (
+        "addto a contour (0,0)--(1,0)--(1,1)--(0,1)--cycle withweight -3\n\
+         addto a also a\n\
+         addto a also a\n\
+         addto a also a\n\
+         addto a also a\n\
+         addto a also a\n\
+         addto a also a\n\
+         addto a also a\n\
+         addto a also a\n\
+         addto a also a\n\
+         addto a also a\n\
+         addto a also a\n\
+         addto a also a\n\
+         addto a also a\n\
+         addto a also a\n\
+         show totalweight a\n",
+        "refused WeightTooLarge\n\
+         totalweight -24576\n",
+    ),
+    // Each register has a picture of its own.
+    (
+        "addto a contour (0,0)--(1,0)--(1,1)--(0,1)--cycle\n\
+         addto z contour (0,0)--(1,0)--(1,1)--(0,1)--cycle withweight 2\n\
+         addto currentpicture also z\n\
+         addto currentpicture also -a\n\
+         show a\n\
+         show b\n\
+         show z\n\
+         show currentpicture\n\
+         show nullpicture\n\
+         a := nullpicture\n\
+         show a\n\
+         show z\n\
+         show currentpicture\n",
+        "0 0 0 1\n\
+         blank\n\
+         0 0 0 2\n\
+         0 0 0 1\n\
+         blank\n\
+         blank\n\
+         0 0 0 2\n\
+         0 0 0 1\n",
+    ),
+    // Culls, and weights as characters.
+    (
+        "addto a contour (0,0)--(3,0)--(3,1)--(0,1)--cycle\n\
+         addto a contour (1,0)--(3,0)--(3,1)--(1,1)--cycle\n\
+         addto a contour (2,0)--(3,0)--(3,1)--(2,1)--cycle\n\
+         show a\n\
+         proof a\n\
+         cull a keeping (0,3)\n\
+         cull a dropping (1,3)\n\
+         cull a keeping (3,2)\n\
+         cull a keeping (2,3) withweight 2\n\
+         show a\n\
+         addto b contour (0,0)--(1,0)--(1,1)--(0,1)--cycle withweight -2\n\
+         proof b\n\
+         cull b dropping (-1,1)\n\
+         show b\n",
+        "0 0 0 1\n\
+         0 1 1 2\n\
+         0 2 2 3\n\
+         123\n\
+         refused BadCull\n\
+         refused BadCull\n\
+         refused BadCull\n\
+         0 1 2 2\n\
+         b\n\
+         0 0 0 1\n",
+    ),
+    (
+        "addto b contour (0,0)--(1,0)--(1,1)--(0,1)--cycle withweight 3\n\
+         addto b also b\n\
+         addto b also b\n\
+         proof b\n\
+         c := nullpicture\n\
+         addto c also -b\n\
+         proof c\n\
+         proof nullpicture\n",
+        "+\n\
+         -\n\
+         blank\n",
+    ),
+    (
+        "addto a contour (0,0)--(1,0)--(1,1)--(0,1)--cycle\n\
+         a := a xscaled 129\n\
+         proof a\n",
+        "refused ProofTooLarge\n",
+    ),
+    (
+        "addto a contour (0,0)--(1,0)--(1,1)--(0,1)--cycle\n\
+         a := a xscaled 128\n\
+         proof a\n",
+        "1111111111111111111111111111111111111111111111111111111111111111\
+         1111111111111111111111111111111111111111111111111111111111111111\n",
+    ),
+    // The pixel (0, 0) under transforms.
+    (
+        "addto a contour (0,0)--(1,0)--(1,1)--(0,1)--cycle\n\
+         a := a xscaled -1\n\
+         show a\n",
+        "0 -1 -1 1\n",
+    ),
+    (
+        "addto a contour (0,0)--(1,0)--(1,1)--(0,1)--cycle\n\
+         a := a xscaled -2\n\
+         show a\n",
+        "0 -2 -1 1\n",
+    ),
+    (
+        "addto a contour (0,0)--(1,0)--(1,1)--(0,1)--cycle\n\
+         a := a yscaled -1\n\
+         show a\n",
+        "-1 0 0 1\n",
+    ),
+    (
+        "addto a contour (0,0)--(1,0)--(1,1)--(0,1)--cycle\n\
+         a := a scaled 2\n\
+         show a\n",
+        "1 0 1 1\n\
+         0 0 1 1\n",
+    ),
+    (
+        "addto a contour (0,0)--(1,0)--(1,1)--(0,1)--cycle\n\
+         a := a rotated 90\n\
+         show a\n",
+        "0 -1 -1 1\n",
+    ),
+    (
+        "addto a contour (0,0)--(1,0)--(1,1)--(0,1)--cycle\n\
+         a := a rotated 180\n\
+         show a\n",
+        "-1 -1 -1 1\n",
+    ),
+    (
+        "addto a contour (0,0)--(1,0)--(1,1)--(0,1)--cycle\n\
+         a := a rotated 270\n\
+         show a\n",
+        "-1 0 0 1\n",
+    ),
+    (
+        "addto a contour (0,0)--(1,0)--(1,1)--(0,1)--cycle\n\
+         a := a shifted (2,-1)\n\
+         show a\n",
+        "-1 2 2 1\n",
+    ),
+    (
+        "addto a contour (0,0)--(1,0)--(1,1)--(0,1)--cycle\n\
+         a := a scaled 0\n\
+         show a\n",
+        "refused BadScale\n\
+         0 0 0 1\n",
+    ),
+    (
+        "addto a contour (0,0)--(1,0)--(1,1)--(0,1)--cycle\n\
+         a := a rotated 45\n\
+         show a\n",
+        "refused BadTurn\n\
+         0 0 0 1\n",
+    ),
+    // Transforms at the ends of the field.
+    (
+        "addto a contour (4094,0)--(4095,0)--(4095,1)--(4094,1)--cycle\n\
+         a := a shifted (1,0)\n\
+         show a\n\
+         a := a xscaled -1\n\
+         show a\n",
+        "refused OutOfField\n\
+         0 4094 4094 1\n\
+         0 -4095 -4095 1\n",
+    ),
+    (
+        "addto b contour (0,0)--(1,0)--(1,1)--(0,1)--cycle\n\
+         b := b xscaled 4095\n\
+         show totalweight b\n",
+        "totalweight 4095\n",
+    ),
+    // Publishing.
+    (
+        "addto currentpicture contour (0,0)--(3,0)--(3,2)--(0,2)--cycle\n\
+         publish\n",
+        "published 1\n",
+    ),
+    (
+        "addto currentpicture contour (0,0)--(1,0)--(1,1)--(0,1)--cycle\n\
+         publish\n\
+         publish\n",
+        "published 1\n\
+         published 1\n",
+    ),
+    // Operations on registers and refused ones are not counted.
+    (
+        "publish\n\
+         addto a contour (0,0)--(1,0)--(1,1)--(0,1)--cycle\n\
+         addto currentpicture contour (0,0)--(1,0)--cycle\n\
+         currentpicture := currentpicture shifted (4096,0)\n\
+         addto currentpicture also a\n\
+         currentpicture := currentpicture shifted (4096,0)\n\
+         currentpicture := nullpicture\n\
+         publish\n",
+        "published 0\n\
+         refused Backtracks 0\n\
+         refused OutOfField\n\
+         published 3\n",
+    ),
+    // Lines without a command.
+    ("\n;\n  % note\n \t\n;% ;\nshow a\n", "blank\n"),
+    (
+        "show totalweight currentpicture ; % note\n",
+        "totalweight 0\n",
+    ),
+    // Tokens may touch, and a minus may stand apart from its number.
+    (
+        "\taddto\ta contour ( - 0 , 00000 ) --(1,0)--(1,1)--(0,1)-- cycle withweight-2;% note\n\
+         a:=a shifted(- 1 ,0)%x\n\
+         show a;\n",
+        "0 -1 -1 -2\n",
+    ),
+    ("a:=a shifted(1,0)%x\nshow a\n", "blank\n"),
+    (
+        "addto a contour (0,0)--(1,0)--(1,1)--(0,1)--cycle\n\
+         a := a xscaled-1\n\
+         a := a rotated90\n\
+         show a\n",
+        "-1 -1 -1 1\n",
+    ),
+    // Lines that are no commands: words.
+    ("addto currentpicture contur\n", "refused Syntax 22\n"),
+    ("AddTo a also a\n", "refused Syntax 1\n"),
+    ("Show totalweight currentpicture\n", "refused Syntax 1\n"),
+    ("show totalweight a!\n", "refused Syntax 19\n"),
+    (
+        "addto currentpicture contour cycle\n",
+        "refused Syntax 30\n",
+    ),
+    (
+        "addto a contour (0,0)--(1,0)--cyclewithweight 2\n",
+        "refused Syntax 31\n",
+    ),
+    // Names.
+    ("a := b shifted (1,0)\n", "refused Syntax 6\n"),
+    ("a := b\n", "refused Syntax 6\n"),
+    ("nullpicture := a\n", "refused Syntax 1\n"),
+    // Marks.
+    ("a : = nullpicture\n", "refused Syntax 3\n"),
+    ("a ::= nullpicture\n", "refused Syntax 3\n"),
+    ("a := a shifted (1;0)\n", "refused Syntax 18\n"),
+    ("addto a also --b\n", "refused Syntax 14\n"),
+    (
+        "addto a contour (0,0)---(1,0)--cycle\n",
+        "refused Syntax 24\n",
+    ),
+    ("addto a contour (0,0)- -cycle\n", "refused Syntax 22\n"),
+    ("addto a contour (--1,0)--cycle\n", "refused Syntax 18\n"),
+    // Numbers of more than nine digits.
+    (
+        "addto a contour (0,0)--(1234567890,0)--cycle\n",
+        "refused Syntax 25\n",
+    ),
+    ("a := a scaled 0000000001\n", "refused Syntax 15\n"),
+    // Lines that are cut: the column is one past the last token.
+    ("show\n", "refused Syntax 5\n"),
+    ("show  % x\n", "refused Syntax 5\n"),
+    ("a := a\n", "refused Syntax 7\n"),
+    ("addto a contour (0,0\n", "refused Syntax 21\n"),
+    ("addto a contour (0,0)--(1,0)--\n", "refused Syntax 31\n"),
+    ("cull a keeping (1,2) withweight\n", "refused Syntax 32\n"),
+    // What follows a command.
+    ("a := a ;\n", "refused Syntax 8\n"),
+    ("show a ; show b\n", "refused Syntax 10\n"),
+    (";;\n", "refused Syntax 2\n"),
+    ("show totalweight currentpicture;;\n", "refused Syntax 33\n"),
+    // The form of a line is looked at before its values.
+    ("a := a scaled 0 0\n", "refused Syntax 17\n"),
+    // Other bytes, also in a comment.
+    (
+        "show a % caf\u{e9}\nshow\u{a0}a\n",
+        "refused NotAscii\nrefused NotAscii\n",
+    ),
+    (
+        "show a\r\r\nshow \ra\n",
+        "refused NotAscii\nrefused NotAscii\n",
+    ),
+];

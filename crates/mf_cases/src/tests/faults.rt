@@ -1,0 +1,94 @@
+//! What faults of readers and writers leave.
+
+use super::{MAX_OPS, joined};
+use crate::streams::{LineFeeds, Pieces, Sink};
+use mf_desk::{RunFault, run};
+use std::test::Fail;
+
+/// A line that prints nothing, and one that prints a total weight.
+const CONTOUR: &[u8] = b"addto currentpicture contour (0,0)--(3,0)--(3,2)--(0,2)--cycle";
+
+const TOTAL: &[u8] = b"show totalweight currentpicture";
+
+/// What the second prints behind the first, and alone.
+const SIX: &[u8] = b"totalweight 6\n";
+
+const NOTHING: &[u8] = b"totalweight 0\n";
+
+#[test]
+fn reader_fails(rt: HostRuntime) -> Result<(), Fail> {
+    let alloc = rt.alloc();
+    let scripts: [(&[&[u8]], &[u8]); 5] = [
+        (&[], b""),
+        (&[CONTOUR, b"\n"], b""),
+        (&[CONTOUR, b"\n", TOTAL], b""),
+        (&[TOTAL, b"\n", TOTAL], NOTHING),
+        (&[CONTOUR, b"\n", TOTAL, b"\n", TOTAL], SIX),
+    ];
+    for (parts, text) in scripts {
+        let script = joined(alloc, parts)?;
+        let mut reader = Pieces::failing(&script);
+        let mut writer = Sink::new(alloc);
+        let result = run(&rt, alloc, &mut reader, &mut writer, MAX_OPS);
+        assert_eq!(rt; result, Err(RunFault::ReadFault), "after {script:?}");
+        assert_eq!(rt; writer.taken(), text, "after {script:?}");
+    }
+    Ok(())
+}
+
+/// The read that answers the end counts.
+#[test]
+fn reads_end(rt: HostRuntime) {
+    let alloc = rt.alloc();
+    let ends: [(u32, Result<(), RunFault>); 2] = [
+        (1_048_575, Ok(())),
+        (1_048_576, Err(RunFault::ReadFault)),
+    ];
+    for (left, end) in ends {
+        let mut reader = LineFeeds { left };
+        let mut writer = Sink::new(alloc);
+        let result = run(&rt, alloc, &mut reader, &mut writer, MAX_OPS);
+        assert_eq!(rt; result, end, "{left} line feeds");
+        assert!(rt; writer.taken().is_empty());
+    }
+}
+
+#[test]
+fn writer_fails(rt: HostRuntime) -> Result<(), Fail> {
+    let alloc = rt.alloc();
+    let script = joined(alloc, &[CONTOUR, b"\n", TOTAL, b"\n", TOTAL, b"\n"])?;
+    let texts = joined(alloc, &[SIX, SIX])?;
+    for room in [0, 5, 14, 20] {
+        let mut writer = Sink::failing(alloc, room);
+        let result = run(
+            &rt,
+            alloc,
+            &mut Pieces::whole(&script),
+            &mut writer,
+            MAX_OPS,
+        );
+        assert_eq!(rt; result, Err(RunFault::WriteFault(room as u128)));
+        assert!(rt; texts.starts_with(writer.taken()), "room for {room}");
+        assert_eq!(rt; writer.taken().len(), room);
+    }
+    let mut writer = Sink::full(alloc);
+    let result = run(
+        &rt,
+        alloc,
+        &mut Pieces::whole(&script),
+        &mut writer,
+        MAX_OPS,
+    );
+    assert_eq!(rt; result, Err(RunFault::WriteFault(0)));
+    let mut writer = Sink::bytewise(alloc);
+    let result = run(
+        &rt,
+        alloc,
+        &mut Pieces::whole(&script),
+        &mut writer,
+        MAX_OPS,
+    );
+    assert_eq!(rt; result, Ok(()));
+    assert_eq!(rt; writer.taken(), texts.as_slice());
+    Ok(())
+}

@@ -1,0 +1,77 @@
+//! How many operations `currentpicture` accepts.
+
+use crate::streams::{Pieces, Sink};
+use mf_desk::run;
+use std::process::Abort;
+use std::sync::Wait;
+
+/// The script prints this where so many operations on `currentpicture` are accepted.
+fn assert_prints_within<R: Abort + Wait + AllocGlobal>(
+    rt: &R,
+    max_ops: u32,
+    script: &str,
+    transcript: &str,
+) {
+    let alloc = rt.alloc();
+    let mut writer = Sink::new(alloc);
+    let mut reader = Pieces::whole(script.as_bytes());
+    let result = run(rt, alloc, &mut reader, &mut writer, max_ops);
+    assert_eq!(rt; result, Ok(()), "{script}");
+    assert_eq!(rt; writer.taken(), transcript.as_bytes(), "{script}");
+}
+
+#[test]
+fn one_operation(rt: HostRuntime) {
+    assert_prints_within(
+        &rt,
+        1,
+        "addto currentpicture contour (0,0)--(1,0)--(1,1)--(0,1)--cycle\n\
+         addto currentpicture contour (0,0)--(1,0)--(1,1)--(0,1)--cycle\n\
+         show totalweight currentpicture\n",
+        "refused TooManyOperations\n\
+         totalweight 1\n",
+    );
+}
+
+/// Refused operations use up nothing, and a line's own refusals come first.
+#[test]
+fn refused_operations(rt: HostRuntime) {
+    assert_prints_within(
+        &rt,
+        1,
+        "addto currentpicture contour (0,0)--(1,0)--cycle\n\
+         addto currentpicture contour (4094,0)--(4095,0)--(4095,1)--(4094,1)--cycle\n\
+         currentpicture := currentpicture shifted (1,0)\n\
+         currentpicture := nullpicture\n\
+         cull currentpicture keeping (0,1)\n\
+         show totalweight currentpicture\n\
+         publish\n\
+         publish\n",
+        "refused Backtracks 0\n\
+         refused TooManyOperations\n\
+         refused TooManyOperations\n\
+         refused BadCull\n\
+         totalweight 1\n\
+         published 1\n\
+         published 1\n",
+    );
+}
+
+/// A register accepts any number of operations.
+#[test]
+fn registers_have_no_limit(rt: HostRuntime) {
+    assert_prints_within(
+        &rt,
+        0,
+        "addto a contour (0,0)--(1,0)--(1,1)--(0,1)--cycle\n\
+         addto a also a\n\
+         addto currentpicture also a\n\
+         show totalweight a\n\
+         show currentpicture\n\
+         publish\n",
+        "refused TooManyOperations\n\
+         totalweight 2\n\
+         blank\n\
+         published 0\n",
+    );
+}

@@ -1,0 +1,96 @@
+//! Sessions, called directly.
+
+use super::MAX_OPS;
+use crate::scripts::SCRIPTS;
+use mf_desk::Session;
+use mf_text::Name;
+use std::alloc::Global;
+use std::process::Abort;
+use std::sync::Wait;
+use std::test::Fail;
+
+/// Performs a line, and says what it prints.
+fn perform<R: Abort + Wait>(rt: &R, alloc: Global, session: &mut Session, line: &str) -> Vec<u8> {
+    session
+        .command(rt, alloc, line.as_bytes())
+        .expect(rt, "there is room for the line")
+}
+
+/// The lines of a script print its transcript, one after another.
+#[test]
+fn perform_scripts(rt: HostRuntime) -> Result<(), Fail> {
+    let alloc = rt.alloc();
+    for (script, transcript) in SCRIPTS {
+        let (mut session, _) = Session::new(&rt, alloc, 0, MAX_OPS)?;
+        let mut printed = Vec::new(alloc);
+        for line in script.lines() {
+            let text = perform(&rt, alloc, &mut session, line);
+            printed
+                .extend_from_slice(&text)
+                .expect(&rt, "there is room for the text");
+        }
+        session.discard(&rt);
+        assert_eq!(rt; printed.as_slice(), transcript.as_bytes(), "{script}");
+    }
+    Ok(())
+}
+
+#[test]
+fn lend_pictures(rt: HostRuntime) -> Result<(), Fail> {
+    let alloc = rt.alloc();
+    let (mut session, _) = Session::new(&rt, alloc, 0, 2)?;
+    for (line, text) in [
+        (
+            "addto currentpicture contour (0,0)--(3,0)--(3,2)--(0,2)--cycle",
+            "",
+        ),
+        ("addto z also currentpicture", ""),
+        ("z := z shifted (0,4094)", "refused OutOfField\n"),
+        ("addto z also z", ""),
+        ("currentpicture := currentpicture yscaled 3", ""),
+        (
+            "currentpicture := nullpicture",
+            "refused TooManyOperations\n",
+        ),
+        ("publish", "published 2\n"),
+    ] {
+        let printed = perform(&rt, alloc, &mut session, line);
+        assert_eq!(rt; printed.as_slice(), text.as_bytes(), "{line}");
+    }
+    let totals = [
+        (Name::Current, 18),
+        (Name::Register(0), 0),
+        (Name::Register(24), 0),
+        (Name::Register(25), 12),
+    ];
+    for (name, total) in totals {
+        let picture = session.picture(&name);
+        assert_eq!(rt; picture.total(), total, "{name:?}");
+    }
+    session.discard(&rt);
+    Ok(())
+}
+
+/// The desk of a session gives out viewers of its `currentpicture`.
+#[test]
+fn have_viewers(rt: HostRuntime) -> Result<(), Fail> {
+    let alloc = rt.alloc();
+    let (mut session, mut desk) = Session::new(&rt, alloc, 1, MAX_OPS)?;
+    let viewer = desk.viewer().expect(&rt, "a place is left");
+    let fill = "addto currentpicture contour (0,0)--(3,0)--(3,2)--(0,2)--cycle";
+    for (line, text) in [(fill, ""), ("publish", "published 1\n"), (fill, "")] {
+        let printed = perform(&rt, alloc, &mut session, line);
+        assert_eq!(rt; printed.as_slice(), text.as_bytes(), "{line}");
+    }
+    match viewer.look() {
+        Ok(look) => {
+            assert_eq!(rt; look.revision(), 1);
+            assert_eq!(rt; look.picture().total(), 6);
+            drop(look);
+        }
+        Err(_) => panic!(rt; "the writer is there"),
+    }
+    assert_eq!(rt; session.picture(&Name::Current).total(), 12);
+    session.discard(&rt);
+    Ok(())
+}

@@ -1,9 +1,0 @@
-use Rattle.std.proofs.Common.{◌+◌, ◌*◌, ◌≤◌, ◌^◌, ◌++◌, Option, List, ℕ, take}
-use Rattle.mf_cli.specs.Progress.{IsAfter}
-use Rattle.mf_cli.proofs.progress.Progress.take.Given as goal
-
-abbrev pub invariant-loop-byte : goal.invariant-loop-byte
-invariant-loop-byte g l =
-    (l.self.performer.written ≤ l.initial.self.performer.written + l.byte-index * 2 ^ 64)
-    × ((held : Option (List ℕ)) (read : List ℕ) → IsAfter held read l.initial.self (g.W.Write.contents l.initial.writer)
-    → IsAfter held (read ++ take l.byte-index l.bytes) l.self (g.W.Write.contents l.writer))

@@ -1,0 +1,6 @@
+mod Ended
+mod KnownTexts
+mod LongLines
+mod OneTranscript
+pub mod Performing
+mod Stages

@@ -1,0 +1,65 @@
+-- A line that is too long may be cut, where it stays too long.
+use Rattle.std.proofs.Common.{◌≡◌, ℕ, ◌+◌, ◌-◌, ◌<◌, ◌≤◌, List, [], ◌∷◌, ◌++◌, eqb, length, take, get_or, sym, ap, ◌∙◌, subst, arith, ⊎_elim, inr, length-take}
+use Rattle.std.proofs.lemmas.Bool.{cases_lt, cond_both}
+use Rattle.std.proofs.lemmas.List.{take_all, take-append-le, length-take-le}
+use Rattle.std.specs.Str.Lines.{strip_carriage_return}
+use Rattle.mf_text.specs.Lines.{IsRefused}
+use Rattle.mf_text.specs.declared.fault.TextFault.{TextFault}
+use Rattle.mf_text.specs.declared.fault.TextFault.TheVariants.{Cycle, BadWeight, BadCull, BadScale, BadTurn, OutOfMemory, LineTooLong, NotAscii, Syntax}
+use Rattle.mf_desk.specs.Answers.{Answers, IsPerformed, IsRefusedLine}
+use Rattle.mf_desk.specs.States.{State}
+
+-- a line that is too long has no other refusal
+refused-too_long : (xs ys : List ℕ) (fault : TextFault) → 65536 < length xs → 65536 < length ys → IsRefused xs fault → IsRefused ys fault
+refused-too_long xs ys (Cycle fault) long longer refused = absurd (omega (arith, refused.line_is.text.short))
+refused-too_long xs ys BadWeight long longer refused = absurd (omega (arith, refused.line_is.text.short))
+refused-too_long xs ys BadCull long longer refused = absurd (omega (arith, refused.line_is.text.short))
+refused-too_long xs ys BadScale long longer refused = absurd (omega (arith, refused.line_is.text.short))
+refused-too_long xs ys BadTurn long longer refused = absurd (omega (arith, refused.line_is.text.short))
+refused-too_long xs ys OutOfMemory long longer refused = refused
+refused-too_long xs ys LineTooLong long longer refused = longer
+refused-too_long xs ys NotAscii long longer refused = absurd (omega (arith, refused.short))
+refused-too_long xs ys (Syntax column) long longer refused = absurd (omega (arith, refused.text.short))
+
+-- so what one line that is too long answers, another one answers, too
+Answers-too_long : (max_ops : ℕ) (s t : State) (xs ys text : List ℕ) → 65536 < length xs → 65536 < length ys → Answers max_ops s xs text t → Answers max_ops s ys text t
+Answers-too_long max_ops s t xs ys text long longer answer =
+    ⊎_elim
+    (λ (done : IsPerformed max_ops s xs text t). absurd (omega (arith, done.given.line_is.text.short)))
+    (λ (no : IsRefusedLine s xs text t). inr (record { fault = no.fault; told = no.told; refused = refused-too_long xs ys no.fault long longer no.refused; answer = no.answer }))
+    answer
+
+-- what is kept of a longer line is as much of one byte more
+pub take-push : (n : ℕ) (xs : List ℕ) (b : ℕ) → take n (take n xs ++ b ∷ []) ≡ take n (xs ++ b ∷ [])
+take-push n xs b =
+    ⊎_elim
+    (λ longer.
+    let within : n ≤ length xs = omega arith in
+    let kept : n ≤ length (take n xs) = omega (arith, length-take-le n xs within) in
+    take-append-le n (take n xs) (b ∷ []) kept ∙ take_all n (take n xs) (omega (arith, length-take-le n xs within)) ∙ sym (take-append-le n xs (b ∷ []) within))
+    (λ fits. ap (λ line. take n (line ++ b ∷ [])) (take_all n xs fits))
+    (cases_lt n (length xs))
+
+-- a line loses at most the carriage return at its end
+length-stripped : (line : List ℕ) → length line ≤ length (strip_carriage_return line) + 1
+length-stripped line =
+    cond_both (eqb (get_or line (length line - 1) 0) 13) (take (length line - 1) line) line (λ kept. length line ≤ length kept + 1)
+    (λ _. omega (arith, length-take (length line - 1) line))
+    (λ _. omega arith)
+
+pub Answers-kept : (max_ops : ℕ) (s t : State) (line text : List ℕ) → Answers max_ops s (take 65538 line) text t → Answers max_ops s line text t
+Answers-kept max_ops s t line text answer =
+    ⊎_elim
+    (λ longer. Answers-too_long max_ops s t (take 65538 line) line text (omega (arith, length-take 65538 line)) (omega arith) answer)
+    (λ fits. subst (λ kept. Answers max_ops s kept text t) (take_all 65538 line fits) answer)
+    (cases_lt 65538 (length line))
+
+pub Answers-stripped : (max_ops : ℕ) (s t : State) (line text : List ℕ) → Answers max_ops s (strip_carriage_return (take 65538 line)) text t → Answers max_ops s (strip_carriage_return line) text t
+Answers-stripped max_ops s t line text answer =
+    ⊎_elim
+    (λ longer.
+    Answers-too_long max_ops s t (strip_carriage_return (take 65538 line)) (strip_carriage_return line) text
+    (omega (arith, length-stripped (take 65538 line), length-take 65538 line))
+    (omega (arith, length-stripped line)) answer)
+    (λ fits. subst (λ kept. Answers max_ops s (strip_carriage_return kept) text t) (take_all 65538 line fits) answer)
+    (cases_lt 65538 (length line))

@@ -1,0 +1,69 @@
+use Rattle.std.proofs.Common.{◌≡◌, ◌<◌, ◌++◌, Option, [], List, ℕ, length, take, refl, ap, ◌∙◌, subst, append-nil, arith}
+use Rattle.std.proofs.KnownBytes.{Consumes-nil, Consumes-trans, Consumes-kept, Consumes-whole}
+use Rattle.std.proofs.lemmas.Result.{err_from_is_err_and, on_ok_weaker, IfErr-weaker}
+use Rattle.std.specs.Io.KnownBytes.{Consumes, IsAtEnd}
+use Rattle.mf_desk.specs.Sessions.{limit}
+use Rattle.mf_desk.specs.Transcript.{GetsTranscript}
+use Rattle.mf_desk.proofs.Stages.{CutsShort-reads}
+use Rattle.mf_desk.proofs.progress.Progress.read_all.Goals as goal
+
+-- a read that gives no byte
+Consumes-none : (unread left rest : Option (List ℕ)) (read chunk : List ℕ) (n : ℕ) → Consumes unread left read → n ≡ 0 → Consumes left rest (take n chunk) → Consumes unread rest read
+Consumes-none unread left rest read chunk n before none more =
+    subst (Consumes unread rest) (ap (λ m. read ++ take m chunk) none ∙ append-nil read) (Consumes-trans unread left rest read _ before more)
+
+pub reads-init : goal.reads-init
+reads-init g c = (omega (arith, c.requires.unwritten), ([], Consumes-nil _, c.requires.start _), refl)
+
+pub returns-in-Err-clause-fault : goal.returns-in-Err-clause-fault
+returns-in-Err-clause-fault g c =
+    let (read, consumed, after) = c.reads.invariant.1 in
+    (read, Consumes-kept _ _ _ read consumed c.in-Err.ensures.bytes, rw (← c.reads.invariant.2) (CutsShort-reads _ _ read c.reads.self after))
+
+pub returns-in-Ok-eq0-clause-end : goal.returns-in-Ok-eq0-clause-end
+returns-in-Ok-eq0-clause-end g c =
+    let has_room : 0 < length c.read.new.buf = omega (arith, c.read.auto.buf, c.reads.auto.chunk, c.requires.some) in
+    let at_end : IsAtEnd (g.R.Read.remaining c.read.new.self) = c.in-Ok-eq0.ensures.bytes.1 c.in-Ok-eq0.field-0-test has_room in
+    on_ok_weaker c.finish.result (λ _. at_end) c.finish.ensures.done
+
+pub returns-in-Ok-eq0-clause-transcript : goal.returns-in-Ok-eq0-clause-transcript
+returns-in-Ok-eq0-clause-transcript g c =
+    let (read, consumed, after) = c.reads.invariant.1 in
+    let has_room : 0 < length c.read.new.buf = omega (arith, c.read.auto.buf, c.reads.auto.chunk, c.requires.some) in
+    let at_end : IsAtEnd (g.R.Read.remaining c.read.new.self) = c.in-Ok-eq0.ensures.bytes.1 c.in-Ok-eq0.field-0-test has_room in
+    let all_read = Consumes-none _ _ _ read c.read.new.buf _ consumed c.in-Ok-eq0.field-0-test c.in-Ok-eq0.ensures.bytes.0 in
+    rw (← c.reads.invariant.2) (
+    on_ok_weaker c.finish.result
+    (λ done.
+    Consumes-whole (g.R.Read.remaining c.args.reader.now) (g.R.Read.remaining c.read.new.self) read
+    (GetsTranscript (limit c.reads.self.performer.session) (g.W.Write.contents c.args.writer.now) (g.W.Write.contents c.finish.new.writer)) all_read at_end (done _ read after))
+    c.finish.ensures.done)
+
+pub returns-in-Ok-eq0-clause-fault : goal.returns-in-Ok-eq0-clause-fault
+returns-in-Ok-eq0-clause-fault g c =
+    let (read, consumed, after) = c.reads.invariant.1 in
+    let all_read = Consumes-none _ _ _ read c.read.new.buf _ consumed c.in-Ok-eq0.field-0-test c.in-Ok-eq0.ensures.bytes.0 in
+    rw (← c.reads.invariant.2) (IfErr-weaker c.finish.result _ _ (λ fault cut_short. (read, all_read, cut_short _ read after)) c.finish.ensures.fault)
+
+pub returns-in_err-take-in-Ok-clause-fault : goal.returns-in_err-take-in-Ok-clause-fault
+returns-in_err-take-in-Ok-clause-fault g c =
+    let (read, consumed, after) = c.reads.invariant.1 in
+    let passed_on = err_from_is_err_and c.from_residual.result c.from_residual.ensures.1 in
+    rw (passed_on.1, passed_on.2, ← c.reads.invariant.2) (
+      read ++ take c.in-Ok.count c.read.new.buf,
+      Consumes-trans _ _ _ read _ consumed c.in-Ok.ensures.bytes.0,
+      c.in_err-take-in-Ok.ensures.fault _ read after,
+    )
+
+pub reads-preserved : goal.reads-preserved
+reads-preserved g c =
+    let (read, consumed, after) = c.reads.invariant.1 in (
+      omega (arith, c.in-Ok.ensures.bound, c.in_ok-take-in-Ok.ensures.at_most, c.read.auto.buf, c.reads.auto.chunk, c.requires.few),
+      (read ++ take c.in-Ok.count c.read.new.buf, Consumes-trans _ _ _ read _ consumed c.in-Ok.ensures.bytes.0, c.in_ok-take-in-Ok.ensures.after _ read after),
+      c.take.ensures.limit ∙ c.reads.invariant.2,
+    )
+
+pub returns-clause-fault : goal.returns-clause-fault
+returns-clause-fault g c =
+    let (read, consumed, after) = c.reads.invariant.1 in
+    (read, consumed, rw (← c.reads.invariant.2) (CutsShort-reads _ _ read c.reads.self after))

@@ -1,0 +1,9 @@
+pub mod Answers
+pub mod Ended
+pub mod Fault
+pub mod Performer
+pub mod Progress
+pub mod Refusals
+pub mod Sessions
+pub mod States
+pub mod Transcript

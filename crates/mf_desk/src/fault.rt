@@ -1,0 +1,39 @@
+//! The faults that end a run before the end of its script.
+ghost use Rattle.std.specs.Prelude.{◌≡◌};
+ghost use Rattle.mf_desk.specs.declared.fault.RunFault.TheVariants.{OutOfMemory as NoMemory};
+
+use mf_geom::OutOfMemory;
+use std::alloc::AllocError;
+use thiserror::Error;
+
+/// Why a run ended before the end of its script. Its message is its name.
+#[derive(Clone, Copy, Debug, PartialEq, Eq, Error)]
+pub enum RunFault {
+    /// Refusal 14: a growth was refused. What the writer got is the texts of the first lines, whole.
+    #[error("OutOfMemory")]
+    OutOfMemory,
+    /// Refusal 24: the reader answered an error, or 1,048,576 reads did not reach the end of the script.
+    /// Every line that a line feed ended has been performed and its text written, and no other line.
+    #[error("ReadFault")]
+    ReadFault,
+    /// Refusal 25: the writer answered an error or took no byte. The number counts the bytes that went out
+    /// in this run, from 0; they are a front of the transcript.
+    #[error("WriteFault")]
+    WriteFault(u128),
+}
+
+impl From<OutOfMemory> for RunFault {
+    ghost from_gives = { λ _ fault. fault ≡ NoMemory };
+
+    fn from(_fault: OutOfMemory) -> RunFault {
+        RunFault::OutOfMemory
+    }
+}
+
+impl From<AllocError> for RunFault {
+    ghost from_gives = { λ _ fault. fault ≡ NoMemory };
+
+    fn from(_fault: AllocError) -> RunFault {
+        RunFault::OutOfMemory
+    }
+}

@@ -1,0 +1,80 @@
+//! The bytes of the line that no line feed has ended yet.
+ghost use Rattle.std.specs.Prelude.{◌≡◌, ◌==◌, ◌++◌, ◌∷◌, [], OnErr, OnOk, length, take};
+ghost use Rattle.std.specs.Str.Lines.{strip_carriage_return};
+
+use std::alloc::{AllocError, Global};
+use std::marker::Model;
+
+/// Greatest number of bytes of a line that are kept: one more than a lawful line and the carriage return
+/// behind it have (65,536 and 1), so that a line that is cut is still too long.
+pub const MAX_KEPT: usize = 65_538;
+
+/// The unended line of a script, of which the bytes behind the first [`MAX_KEPT`] are not kept.
+#[derive(Drop)]
+pub struct LineBuffer {
+    kept: Vec<u8>,
+}
+
+impl Model for LineBuffer {
+    ghost use Rattle.std.specs.Prelude.{◌≤◌, List, ℕ, length};
+    ghost use Rattle.mf_desk.specs.declared.line_buffer.TheConstants.{MAX_KEPT};
+
+    ghost Value = { List ℕ };
+
+    ghost view = { λ line. line.kept.items };
+
+    ghost invariant = { λ line. length line.kept.items ≤ MAX_KEPT };
+}
+
+impl LineBuffer {
+    /// A line of no bytes.
+    pub fn new(alloc: Global) -> LineBuffer
+        ensures { result ≡ [] }
+    {
+        LineBuffer {
+            kept: Vec::new(alloc),
+        }
+    }
+
+    /// Whether the line has no byte.
+    pub fn is_empty(&self) -> bool
+        ensures { result ≡ (length self.now == 0) }
+    {
+        self.kept.is_empty()
+    }
+
+    /// Adds a byte behind the others. Want of memory changes nothing.
+    pub fn push(&mut self, byte: u8) -> Result<(), AllocError>
+        ensures added { OnOk result (self.new ≡ take MAX_KEPT (self.old ++ byte ∷ [])) }
+        ensures unchanged { OnErr result (self.new ≡ self.old) }
+    {
+        if self.kept.len() < MAX_KEPT {
+            self.kept.push(byte)?;
+        }
+        Ok(())
+    }
+
+    /// The line without the bytes that it had.
+    pub fn clear(&mut self)
+        ensures { self.new ≡ [] }
+    {
+        self.kept.clear();
+    }
+
+    /// The bytes of the line where the script ends behind it: a carriage return at their end belongs to it.
+    pub fn at_end(&self) -> &[u8]
+        ensures { result.now ≡ self.now }
+    {
+        &self.kept
+    }
+
+    /// The bytes of the line where a line feed follows: a carriage return at their end is no part of it.
+    pub fn at_line_feed(&self) -> &[u8]
+        ensures { result.now ≡ strip_carriage_return self.now }
+    {
+        match self.kept.as_slice() {
+            [line @ .., b'\r'] => line,
+            line => line,
+        }
+    }
+}

@@ -1,0 +1,152 @@
+//! A run in progress: the lines that have been performed, and the bytes of the one that has not ended yet.
+ghost use Rattle.std.specs.Io.KnownBytes.{IsAtEnd};
+ghost use Rattle.std.specs.Prelude.{◌≡◌, ◌≢◌, ◌+◌, ◌*◌, ◌<◌, ◌≤◌, ◌^◌, ◌++◌, ◌∷◌, Option, List, ℕ, [], IfErr, IfOk, IfSome, OnOk, length};
+ghost use Rattle.mf_desk.specs.Fault.{CutsShort, EndsEarly};
+ghost use Rattle.mf_desk.specs.Progress.{IsAfter};
+ghost use Rattle.mf_desk.specs.Sessions.{limit};
+ghost use Rattle.mf_desk.specs.Transcript.{GetsTranscript};
+
+use crate::fault::RunFault;
+use crate::line_buffer::LineBuffer;
+use crate::performer::Performer;
+use std::alloc::Global;
+use std::io::{Read, Write};
+use std::sync::Wait;
+
+/// Greatest number of reads of a run, the one that answers the end among them.
+const MAX_READS: u32 = 1_048_576;
+
+/// A run in progress.
+pub struct Progress {
+    pub performer: Performer,
+    pub line: LineBuffer,
+}
+
+impl Progress {
+    /// A run that has read nothing.
+    pub fn new<S: Wait>(rt: &S, alloc: Global, max_ops: u32) -> Result<Progress, RunFault>
+        ensures start { IfOk result (λ progress. (held : Option (List ℕ)) → IsAfter held [] progress held) }
+        ensures limit { IfOk result (λ progress. limit progress.performer.session ≡ max_ops) }
+        ensures written { IfOk result (λ progress. progress.performer.written ≡ 0) }
+        ensures memory { IfErr result (λ fault. fault ≡ RunFault.OutOfMemory) }
+    {
+        Ok(Progress {
+            performer: Performer::new(rt, alloc, max_ops)?,
+            line: LineBuffer::new(alloc),
+        })
+    }
+
+    /// Reads a script to its end, performs its lines and writes their texts. The chunk is what a read is given.
+    pub fn read_all<S: Wait, R: Read, W: Write>(
+        &mut self,
+        rt: &S,
+        alloc: Global,
+        reader: &mut R,
+        writer: &mut W,
+        chunk: &mut [u8],
+    ) -> Result<(), RunFault>
+        requires start { (held : Option (List ℕ)) → IsAfter held [] self.old held }
+        requires unwritten { self.old.performer.written ≡ 0 }
+        requires some { 0 < length chunk.old }
+        requires few { length chunk.old ≤ 2 ^ 16 }
+        ensures transcript { OnOk result (IfSome (R.remaining reader.old) (GetsTranscript (limit self.old.performer.session) (W.contents writer.old) (W.contents writer.new))) }
+        ensures end { OnOk result (IsAtEnd (R.remaining reader.new)) }
+        ensures fault { IfErr result (λ fault. EndsEarly (limit self.old.performer.session) fault (R.remaining reader.old) (R.remaining reader.new) (W.contents writer.old) (W.contents writer.new)) }
+    {
+        'reads: for _ in 0..MAX_READS {
+            match reader.read(chunk) {
+                Err(_) => return Err(RunFault::ReadFault),
+                Ok(0) => return self.finish(rt, alloc, writer),
+                Ok(count) => self.take(rt, alloc, writer, &chunk[..count])?,
+            }
+        }
+        Err(RunFault::ReadFault)
+    }
+
+    /// Takes the next bytes of the script: performs each line that a line feed ends, and writes its text
+    /// before it performs the next.
+    fn take<S: Wait, W: Write>(
+        &mut self,
+        rt: &S,
+        alloc: Global,
+        writer: &mut W,
+        bytes: &[u8],
+    ) -> Result<(), RunFault>
+        requires { self.old.performer.written + length bytes.now * 2 ^ 64 ≤ 2 ^ 127 }
+        ensures after { OnOk result ((held : Option (List ℕ)) (read : List ℕ) → IsAfter held read self.old (W.contents writer.old)
+            → IsAfter held (read ++ bytes.now) self.new (W.contents writer.new)) }
+        ensures at_most { OnOk result (self.new.performer.written ≤ self.old.performer.written + length bytes.now * 2 ^ 64) }
+        ensures limit { limit self.new.performer.session ≡ limit self.old.performer.session }
+        ensures fault { IfErr result (λ fault. (held : Option (List ℕ)) (read : List ℕ) → IsAfter held read self.old (W.contents writer.old)
+            → CutsShort (limit self.old.performer.session) fault (read ++ bytes.now) held (W.contents writer.new)) }
+    {
+        for &byte in bytes {
+            if byte == b'\n' {
+                self.end_line(rt, alloc, writer)?;
+            } else {
+                self.keep(byte)?;
+            }
+        }
+        Ok(())
+    }
+
+    /// Ends the script: the bytes behind its last line feed are a line where there are any.
+    fn finish<S: Wait, W: Write>(
+        &mut self,
+        rt: &S,
+        alloc: Global,
+        writer: &mut W,
+    ) -> Result<(), RunFault>
+        requires { self.old.performer.written + 2 ^ 64 ≤ 2 ^ 127 }
+        ensures done { OnOk result ((held : Option (List ℕ)) (read : List ℕ) → IsAfter held read self.old (W.contents writer.old)
+            → GetsTranscript (limit self.old.performer.session) held (W.contents writer.new) read) }
+        ensures fault { IfErr result (λ fault. (held : Option (List ℕ)) (read : List ℕ) → IsAfter held read self.old (W.contents writer.old)
+            → CutsShort (limit self.old.performer.session) fault read held (W.contents writer.new)) }
+    {
+        if self.line.is_empty() {
+            return Ok(());
+        }
+        self.performer
+            .perform(rt, alloc, writer, self.line.at_end())
+    }
+
+    /// Performs the line, which a line feed ends, and writes its text.
+    fn end_line<S: Wait, W: Write>(
+        &mut self,
+        rt: &S,
+        alloc: Global,
+        writer: &mut W,
+    ) -> Result<(), RunFault>
+        requires { self.old.performer.written + 2 ^ 64 ≤ 2 ^ 127 }
+        ensures after { OnOk result ((held : Option (List ℕ)) (read : List ℕ) → IsAfter held read self.old (W.contents writer.old)
+            → IsAfter held (read ++ 10 ∷ []) self.new (W.contents writer.new)) }
+        ensures at_most { OnOk result (self.new.performer.written ≤ self.old.performer.written + 2 ^ 64) }
+        ensures limit { limit self.new.performer.session ≡ limit self.old.performer.session }
+        ensures fault { IfErr result (λ fault. (held : Option (List ℕ)) (read more : List ℕ) → IsAfter held read self.old (W.contents writer.old)
+            → CutsShort (limit self.old.performer.session) fault (read ++ 10 ∷ more) held (W.contents writer.new)) }
+    {
+        self.performer
+            .perform(rt, alloc, writer, self.line.at_line_feed())?;
+        self.line.clear();
+        Ok(())
+    }
+
+    /// Keeps a byte that is no line feed.
+    fn keep(&mut self, byte: u8) -> Result<(), RunFault>
+        requires { byte ≢ 10 }
+        ensures after { OnOk result ((held : Option (List ℕ)) (read : List ℕ) (holds : Option (List ℕ)) → IsAfter held read self.old holds
+            → IsAfter held (read ++ byte ∷ []) self.new holds) }
+        ensures same { self.new.performer ≡ self.old.performer }
+        ensures fault { IfErr result (λ fault. (held : Option (List ℕ)) (read more : List ℕ) (holds : Option (List ℕ)) → IsAfter held read self.old holds
+            → CutsShort (limit self.old.performer.session) fault (read ++ more) held holds) }
+    {
+        self.line.push(byte)?;
+        Ok(())
+    }
+
+    /// Ends it.
+    pub fn discard<S: Wait>(self, rt: &S) {
+        let Progress { performer, line: _ } = self;
+        performer.discard(rt);
+    }
+}

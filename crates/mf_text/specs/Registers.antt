@@ -1,0 +1,32 @@
+-- The registers that commands name.
+use Rattle.std.specs.Prelude.{◌<◌}
+use Rattle.mf_text.specs.declared.command.Command.{Command}
+use Rattle.mf_text.specs.declared.command.Command.TheVariants.{Nothing, Contour, Also, Cull, Clear, Shift, Scale, Quarter, Total, Show, Proof, Publish}
+use Rattle.mf_text.specs.declared.command.Name.{Name}
+use Rattle.mf_text.specs.declared.command.Name.TheVariants.{Current, Register}
+use Rattle.mf_text.specs.declared.command.Source.{Source}
+use Rattle.mf_text.specs.declared.command.Source.TheVariants.{Null, Named}
+
+-- a register is one of the 26 letters
+abbrev pub IsName : Name → Type 0
+IsName Current = Unit {0}
+IsName (Register letter) = letter < 26
+
+abbrev pub IsSource : Source → Type 0
+IsSource Null = Unit {0}
+IsSource (Named name) = IsName name
+
+-- the registers that a command names are letters
+abbrev pub HasNames : Command → Type 0
+HasNames Nothing = Unit {0}
+HasNames (Contour name cycle weight) = IsName name
+HasNames (Also name source sign) = IsName name × IsSource source
+HasNames (Cull name cull) = IsName name
+HasNames (Clear name) = IsName name
+HasNames (Shift name dx dy) = IsName name
+HasNames (Scale name factors) = IsName name
+HasNames (Quarter name quarter) = IsName name
+HasNames (Total source) = IsSource source
+HasNames (Show source) = IsSource source
+HasNames (Proof source) = IsSource source
+HasNames Publish = Unit {0}
