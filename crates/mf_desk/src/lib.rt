@@ -5,7 +5,6 @@
 mod fault;
 pub mod laws;
 mod line_buffer;
-mod output;
 mod performer;
 mod progress;
 mod refusal;

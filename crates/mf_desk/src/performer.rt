@@ -5,8 +5,8 @@ ghost use Rattle.mf_desk.specs.Sessions.{limit, state};
 ghost use Rattle.mf_desk.specs.States.{start};
 
 use crate::fault::RunFault;
-use crate::output::write_counted;
 use crate::session::Session;
+use mf_gf::write_counted;
 use std::alloc::Global;
 use std::io::Write;
 use std::sync::Wait;

@@ -14,8 +14,8 @@ mod EqualRuns
 mod FieldBandsLemmas
 pub mod FieldTotals
 mod LongestRuns
-mod MaximalRuns
-mod PassedRuns
+pub mod MaximalRuns
+pub mod PassedRuns
 mod PictureRows
 pub mod PlacesLemmas
 mod RowChangesLemmas

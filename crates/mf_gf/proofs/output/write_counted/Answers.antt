@@ -1,6 +1,6 @@
 use Rattle.std.proofs.Common.{arith, length-take, length-drop}
-use Rattle.mf_desk.proofs.KnownTexts.{Appends-more}
-use Rattle.mf_desk.proofs.output.write_counted.Goals as goal
+use Rattle.mf_gf.proofs.KnownTexts.{Appends-more}
+use Rattle.mf_gf.proofs.output.write_counted.Goals as goal
 
 pub loop-sent-preserved : goal.loop-sent-preserved
 loop-sent-preserved g c = (

@@ -1,0 +1,129 @@
+-- The black pixels of a picture, and the runs that have them.
+use Rattle.std.proofs.Common.{◌≡◌, ℕ, zero, suc, true, false, ℤ, pos, ◌+ℤ◌, ◌≤ℤ◌, List, [], ◌∷◌, ◌++◌, refl, sym, ap, ◌∙◌, arith}
+use Rattle.std.specs.Prelude.{int_lt}
+use Rattle.std.specs.List.{All, flat_map}
+use Rattle.std.proofs.lemmas.Bool.{cond-true, cond-false, cond_both}
+use Rattle.std.proofs.lemmas.Int.{ints}
+use Rattle.std.proofs.lemmas.List.Elements.{All-nil, All-cons, All-head, All-tail}
+use Rattle.mf_rows.specs.declared.run.Run.{Run}
+use Rattle.mf_rows.specs.Dots.{Dot, IsLawfulWeight, IsPicture, AreDotsFrom, place, start_of_field}
+use Rattle.mf_rows.specs.Order.{IsRun}
+use Rattle.mf_rows.specs.Runs.{stretch, dots_of, runs_of}
+use Rattle.mf_rows.proofs.DotsLemmas.{dots_from-lower}
+use Rattle.mf_rows.proofs.RunsLemmas.{dots_of-runs_of}
+use Rattle.mf_rows.proofs.Totals.{total_none}
+use Rattle.mf_gf.specs.Ahead.{blacks, AreInOrder}
+use Rattle.mf_gf.specs.Pixels.{black}
+
+-- ---- the dots of a run are black, or none is
+
+black-stretch : (y x w : ℤ) (n : ℕ) (ds : List Dot) → int_lt (pos 0) w ≡ true → black (stretch y x w n ++ ds) ≡ stretch y x (pos 1) n ++ black ds
+unfolding black stretch
+black-stretch y x w zero ds positive = refl
+black-stretch y x w (suc n) ds positive =
+    let others = stretch y (x +ℤ pos 1) w n ++ ds in
+    let first : Dot = record { y = y; x = x; weight = pos 1 } in
+    cond-true (int_lt (pos 0) w) (first ∷ black others) (black others) positive
+    ∙ ap (λ dots. first ∷ dots) (black-stretch y (x +ℤ pos 1) w n ds positive)
+
+black-skip : (y x w : ℤ) (n : ℕ) (ds : List Dot) → int_lt (pos 0) w ≡ false → black (stretch y x w n ++ ds) ≡ black ds
+unfolding black stretch
+black-skip y x w zero ds not_positive = refl
+black-skip y x w (suc n) ds not_positive =
+    let others = stretch y (x +ℤ pos 1) w n ++ ds in
+    cond-false (int_lt (pos 0) w) (record { y = y; x = x; weight = pos 1 } ∷ black others) (black others) not_positive
+    ∙ black-skip y (x +ℤ pos 1) w n ds not_positive
+
+black-runs : (rs : List Run) → black (flat_map dots_of rs) ≡ flat_map dots_of (blacks rs)
+unfolding black blacks dots_of
+black-runs [] = refl
+black-runs (r ∷ rs) =
+    cond_both (int_lt (pos 0) r.weight) (record { y = r.y; x = r.x; len = r.len; weight = pos 1 } ∷ blacks rs) (blacks rs) (λ all. black (dots_of r ++ flat_map dots_of rs) ≡ flat_map dots_of all)
+    (λ yes. black-stretch r.y r.x r.weight r.len (flat_map dots_of rs) yes ∙ ap (λ dots. stretch r.y r.x (pos 1) r.len ++ dots) (black-runs rs))
+    (λ no. black-skip r.y r.x r.weight r.len (flat_map dots_of rs) no ∙ black-runs rs)
+
+-- the black pixels are those of the black runs
+pub black-blacks : (ds : List Dot) → flat_map dots_of (blacks (runs_of ds)) ≡ black ds
+black-blacks ds = sym (black-runs (runs_of ds)) ∙ ap black (dots_of-runs_of ds)
+
+-- ---- they are in reading order
+
+pub black-from : (low : ℤ) (ds : List Dot) → AreDotsFrom low ds → AreDotsFrom low (black ds)
+unfolding black
+black-from low [] dots = tt
+black-from low (d ∷ ds) dots =
+    let start : low ≤ℤ place d.x d.y = dots.1 in
+    let others = black-from (place d.x d.y +ℤ pos 1) ds dots.2 in
+    let lawful : IsLawfulWeight (pos 1) = record { least = omega (arith, ints); greatest = omega (arith, ints) } in
+    cond_both (int_lt (pos 0) d.weight) (record { y = d.y; x = d.x; weight = pos 1 } ∷ black ds) (black ds) (AreDotsFrom low)
+    (λ yes. (record { in_field = dots.0.in_field; lawful = lawful; nonzero = λ none. omega (arith, ints) }, start, others))
+    (λ no. dots_from-lower low (place d.x d.y +ℤ pos 1) (black ds) (omega (arith, ints)) others)
+
+pub black_picture : (ds : List Dot) → IsPicture ds → IsPicture (black ds)
+black_picture ds picture = record { dots = black-from start_of_field ds picture.dots }
+
+-- the stretches of black pixels lie in the field
+pub stretches-lawful : (ds : List Dot) → IsPicture ds → All IsRun (runs_of (black ds))
+stretches-lawful ds picture = (total_none (black ds) (runs_of (black ds)) (black_picture ds picture) refl).passes.runs
+
+-- ---- the black runs of a picture
+
+-- a run of weight 1
+abbrev pub IsBlack : Run → Type 0
+IsBlack r = r.weight ≡ pos 1
+
+as_black : (r : Run) → IsRun r → IsRun (record { y = r.y; x = r.x; len = r.len; weight = pos 1 })
+as_black r run = record {
+  some = run.some;
+  left = run.left;
+  right = run.right;
+  bottom = run.bottom;
+  top = run.top;
+  lawful = record { least = omega (arith, ints); greatest = omega (arith, ints) };
+  nonzero = λ none. omega (arith, ints);
+}
+
+blacks-lawful : (rs : List Run) → All IsRun rs → All IsRun (blacks rs)
+unfolding blacks
+blacks-lawful [] runs = All-nil IsRun
+blacks-lawful (r ∷ rs) runs =
+    let others = blacks-lawful rs (All-tail IsRun r rs runs) in
+    let first : Run = record { y = r.y; x = r.x; len = r.len; weight = pos 1 } in
+    cond_both (int_lt (pos 0) r.weight) (first ∷ blacks rs) (blacks rs) (All IsRun)
+    (λ yes. All-cons IsRun first (blacks rs) (as_black r (All-head IsRun r rs runs)) others)
+    (λ no. others)
+
+blacks-ones : (rs : List Run) → All IsBlack (blacks rs)
+unfolding blacks
+blacks-ones [] = All-nil IsBlack
+blacks-ones (r ∷ rs) =
+    let first : Run = record { y = r.y; x = r.x; len = r.len; weight = pos 1 } in
+    cond_both (int_lt (pos 0) r.weight) (first ∷ blacks rs) (blacks rs) (All IsBlack)
+    (λ yes. All-cons IsBlack first (blacks rs) refl (blacks-ones rs))
+    (λ no. blacks-ones rs)
+
+pub blacks_in_order : (ds : List Dot) → IsPicture ds → AreInOrder (blacks (runs_of ds))
+blacks_in_order ds picture = record {
+  runs = blacks-lawful (runs_of ds) (total_none ds (runs_of ds) picture refl).passes.runs;
+  ones = blacks-ones (runs_of ds);
+  low = start_of_field;
+  dots = rw (black-blacks ds) (black_picture ds picture).dots;
+}
+
+-- ---- the runs of an iterator, passed one after another
+
+-- a run of positive weight is the next black one
+pub black_taken : (rs others : List Run) (r : Run) → rs ≡ r ∷ others → int_lt (pos 0) r.weight ≡ true → blacks rs ≡ record { y = r.y; x = r.x; len = r.len; weight = pos 1 } ∷ blacks others
+unfolding blacks
+black_taken rs others r first positive =
+    ap blacks first ∙ cond-true (int_lt (pos 0) r.weight) (record { y = r.y; x = r.x; len = r.len; weight = pos 1 } ∷ blacks others) (blacks others) positive
+
+-- any other run is passed
+pub other_passed : (rs others : List Run) (r : Run) → rs ≡ r ∷ others → int_lt (pos 0) r.weight ≡ false → blacks rs ≡ blacks others
+unfolding blacks
+other_passed rs others r first not_positive =
+    ap blacks first ∙ cond-false (int_lt (pos 0) r.weight) (record { y = r.y; x = r.x; len = r.len; weight = pos 1 } ∷ blacks others) (blacks others) not_positive
+
+pub blacks-none : (rs : List Run) → rs ≡ [] → blacks rs ≡ []
+unfolding blacks
+blacks-none rs none = rw none refl

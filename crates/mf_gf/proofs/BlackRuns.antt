@@ -1,0 +1,68 @@
+-- The runs of a set of pixels, as stretches of black pixels that a pen goes to one after another.
+use Rattle.std.proofs.Common.{◌≡◌, ℤ, pos, negsuc, ◌+ℤ◌, ◌≤ℤ◌, List, [], ◌∷◌, sym, subst, subst₂, arith}
+use Rattle.std.specs.List.{All}
+use Rattle.std.proofs.lemmas.Bool.{cond_both}
+use Rattle.std.proofs.lemmas.Int.{ints}
+use Rattle.std.proofs.lemmas.List.Elements.{All-head, All-tail}
+use Rattle.mf_rows.specs.declared.run.Run.{Run}
+use Rattle.mf_rows.specs.Dots.{Dot, IsDot, AreDotsFrom, place}
+use Rattle.mf_rows.specs.Runs.{continues, run_from, with_dot, runs_of, IsFollowedBy}
+use Rattle.mf_rows.proofs.PlacesLemmas.{place-next}
+use Rattle.mf_rows.proofs.RunsLemmas.{continued}
+use Rattle.mf_gf.proofs.DrawnRows.{IsNext, AreNext}
+
+-- a dot of weight 1 at or behind a place
+next_dot : (left row column : ℤ) (d : Dot) → negsuc 4094 ≤ℤ left → left ≤ℤ column → row ≤ℤ pos 4094 → IsDot d → d.weight ≡ pos 1 → left ≤ℤ d.x → place column row ≤ℤ place d.x d.y → IsNext left row column (run_from d 0)
+unfolding run_from place
+next_dot left row column d field_left column_left field_top dot one start behind =
+    let field = dot.in_field in
+    record {
+      weight = one;
+      field_left = field_left;
+      column_left = column_left;
+      start = start;
+      end = omega (arith, ints, field);
+      field_top = field_top;
+      top = omega (arith, ints, field, behind, field_left, column_left);
+      bottom = field.bottom;
+      behind = λ same. omega (arith, ints, behind, same);
+    }
+
+-- and the run that it lengthens
+next_longer : (left row column : ℤ) (d : Dot) (r : Run) → IsNext left row column (run_from d 0) → IsFollowedBy (run_from d 0) r → IsNext left d.y (d.x +ℤ pos 1) r → IsNext left row column (run_from d r.len)
+unfolding run_from
+next_longer left row column d r first joined next = record {
+  weight = first.weight;
+  field_left = first.field_left;
+  column_left = first.column_left;
+  start = first.start;
+  end = omega (arith, ints, joined.column, next.end);
+  field_top = first.field_top;
+  top = first.top;
+  bottom = first.bottom;
+  behind = first.behind;
+}
+
+next_with_dot : (left row column : ℤ) (d : Dot) (rs : List Run) → IsNext left row column (run_from d 0) → AreNext left d.y (d.x +ℤ pos 1) rs → AreNext left row column (with_dot d rs)
+unfolding with_dot run_from
+next_with_dot left row column d [] first others = (first, tt)
+next_with_dot left row column d (r ∷ rs) first others =
+    cond_both (continues d r) (run_from d r.len ∷ rs) (run_from d 0 ∷ r ∷ rs) (AreNext left row column)
+    (λ yes.
+    let joined = (continued d r).0 yes in (
+      next_longer left row column d r first joined others.0,
+      subst₂ (λ y x. AreNext left y x rs) (sym joined.row) (omega (arith, ints, joined.column)) others.1,
+    ))
+    (λ no. (first, others))
+
+-- the runs of dots of weight 1, each from a place on
+pub next_runs : (left row column : ℤ) (ds : List Dot) → negsuc 4094 ≤ℤ left → left ≤ℤ column → row ≤ℤ pos 4094 → AreDotsFrom (place column row) ds → All (λ d. d.weight ≡ pos 1) ds → All (λ d. left ≤ℤ d.x) ds → AreNext left row column (runs_of ds)
+unfolding runs_of
+next_runs left row column [] field_left column_left field_top dots ones starts = tt
+next_runs left row column (d ∷ ds) field_left column_left field_top dots ones starts =
+    let start : left ≤ℤ d.x = All-head (λ d. left ≤ℤ d.x) d ds starts in
+    next_with_dot left row column d (runs_of ds)
+    (next_dot left row column d field_left column_left field_top dots.0 (All-head (λ d. d.weight ≡ pos 1) d ds ones) start dots.1)
+    (next_runs left d.y (d.x +ℤ pos 1) ds field_left (omega (arith, ints, start)) dots.0.in_field.top
+    (subst (λ p. AreDotsFrom p ds) (sym (place-next d.x d.y)) dots.2)
+    (All-tail (λ d. d.weight ≡ pos 1) d ds ones) (All-tail (λ d. left ≤ℤ d.x) d ds starts))

@@ -1,0 +1,94 @@
+-- The box of pixels of the field, and the bytes that begin its character, read back.
+use Rattle.std.proofs.Common.{◌≡◌, ℕ, suc, ◌-◌, ◌^◌, nat_lt, true, ◌&&◌, ℤ, pos, negsuc, ◌+ℤ◌, ◌-ℤ◌, ◌≤ℤ◌, unsigned_abs, List, [], ◌∷◌, ◌++◌, refl, ap, ap₂, ◌∙◌, arith, lt-ltb, le-ltb}
+use Rattle.std.specs.List.{All}
+use Rattle.std.proofs.lemmas.Bool.{cond_both, cond-true, cond-false, and_parts, false≢true}
+use Rattle.std.proofs.lemmas.Int.{ints, clamps}
+use Rattle.std.proofs.lemmas.List.Elements.{All-head, All-cons, All-nil, All-weaker}
+use Rattle.byteorder.specs.Endian.{big_number, twos_complement}
+use Rattle.byteorder.specs.Numbers.{big_number-reads_back}
+use Rattle.mf_rows.specs.Dots.{Dot, IsDot, AreDotsFrom, place}
+use Rattle.mf_gf.specs.declared.boxes.CharacterBox.{CharacterBox}
+use Rattle.mf_gf.specs.Boxes.{box_of, box_of_pixel, joined}
+use Rattle.mf_gf.specs.Numbers.{word}
+use Rattle.mf_gf.specs.Painting as painting
+use Rattle.mf_gf.specs.Painting.{drawn_from}
+use Rattle.mf_gf.specs.Spelling.{is_byte, is_short, short_begin, long_begin, begin}
+
+-- the left end and the top of a box are numbers of the field
+pub record IsSmall (b : CharacterBox) : Type 0 where
+  pub left : negsuc 4094 ≤ℤ b.min_m
+  pub right : b.min_m ≤ℤ pos 4094
+  pub bottom : negsuc 4094 ≤ℤ b.max_n
+  pub top : b.max_n ≤ℤ pos 4094
+
+-- a pixel stands in or behind the first column of a box, in its top row or below
+pub record StandsIn (b : CharacterBox) (d : Dot) : Type 0 where
+  pub column : b.min_m ≤ℤ d.x
+  pub row : d.y ≤ℤ b.max_n
+
+-- a box lies round pixels, as far as its left end and its top go
+pub record IsBoxRound (b : CharacterBox) (ds : List Dot) : Type 0 where
+  pub small : IsSmall b
+  pub dots : All (StandsIn b) ds
+
+box_round_pixel : (d : Dot) → IsDot d → IsBoxRound (box_of_pixel d) (d ∷ [])
+box_round_pixel d dot = record {
+  small = record { left = dot.in_field.left; right = dot.in_field.right; bottom = dot.in_field.bottom; top = dot.in_field.top };
+  dots = All-cons (StandsIn (box_of_pixel d)) d [] (record { column = omega (arith, ints); row = omega (arith, ints) }) (All-nil (StandsIn (box_of_pixel d)));
+}
+
+box_round_more : (b : CharacterBox) (d : Dot) (ds : List Dot) → IsDot d → IsBoxRound b ds → IsBoxRound (joined (box_of_pixel d) b) (d ∷ ds)
+box_round_more b d ds dot others =
+    let all = joined (box_of_pixel d) b in
+    let field = dot.in_field in
+    let small = others.small in
+    record {
+      small = record { left = omega (arith, ints, clamps, field, small); right = omega (arith, ints, clamps, field, small); bottom = omega (arith, ints, clamps, field, small); top = omega (arith, ints, clamps, field, small) };
+      dots = All-cons (StandsIn all) d ds (record { column = omega (arith, ints, clamps); row = omega (arith, ints, clamps) })
+          (All-weaker (StandsIn b) (StandsIn all) (λ e stands. record { column = omega (arith, ints, clamps, stands); row = omega (arith, ints, clamps, stands) }) ds others.dots);
+    }
+
+pub box_round_dots : (low : ℤ) (ds : List Dot) → AreDotsFrom low ds → IsBoxRound (box_of ds) ds
+unfolding box_of
+box_round_dots low [] dots = record { small = record { left = omega (arith, ints); right = omega (arith, ints); bottom = omega (arith, ints); top = omega (arith, ints) }; dots = All-nil (StandsIn (box_of [])) }
+box_round_dots low (d ∷ []) dots = box_round_pixel d dots.0
+box_round_dots low (d ∷ e ∷ ds) dots = box_round_more (box_of (e ∷ ds)) d (e ∷ ds) dots.0 (box_round_dots (place d.x d.y +ℤ pos 1) (e ∷ ds) dots.2)
+
+-- so the pixels may be painted from its left end and top on
+pub dots_from_box : (low : ℤ) (b : CharacterBox) (ds : List Dot) → AreDotsFrom low ds → IsBoxRound b ds → AreDotsFrom (place b.min_m b.max_n) ds
+unfolding place
+dots_from_box low b [] dots round = tt
+dots_from_box low b (d ∷ ds) dots round = let first = All-head (StandsIn b) d ds round.dots in (dots.0, omega (arith, ints, first), dots.2)
+
+-- a signed number of four bytes
+pub word-reads_back : (z : ℤ) (rest : List ℕ) → negsuc 4094 ≤ℤ z → z ≤ℤ pos 4094 → twos_complement 4 (big_number 4 (word z ++ rest)) ≡ z
+word-reads_back (pos n) rest least greatest =
+    ap (twos_complement 4) (big_number-reads_back 4 n rest (omega (arith, ints)))
+    ∙ cond-true (nat_lt n (2 ^ 31)) _ _ (lt-ltb n (2 ^ 31) (omega (arith, ints)))
+word-reads_back (negsuc n) rest least greatest =
+    let x = 2 ^ 32 - suc n in
+    ap (twos_complement 4) (big_number-reads_back 4 x rest (omega (arith, ints)))
+    ∙ cond-false (nat_lt x (2 ^ 31)) (pos x) (pos x -ℤ pos (2 ^ 32)) (le-ltb x (2 ^ 31) (omega (arith, ints)))
+    ∙ omega (arith, ints)
+
+byte-reads_back : (z : ℤ) → is_byte z ≡ true → pos (unsigned_abs z) ≡ z
+byte-reads_back (pos n) fits = refl
+byte-reads_back (negsuc n) fits = absurd (false≢true fits)
+
+-- the bytes that begin a character give its left end and its top
+pub paint-begin : (code : ℕ) (b : CharacterBox) (rest : List ℕ) → IsSmall b → painting.paint (begin code b ++ rest) ≡ drawn_from b.min_m b.max_n rest
+unfolding painting.paint
+paint-begin code b rest small =
+    cond_both (is_short b) (short_begin code b) (long_begin code b) (λ bytes. painting.paint (bytes ++ rest) ≡ drawn_from b.min_m b.max_n rest)
+    (λ short.
+    let width = and_parts (is_byte (b.max_m -ℤ b.min_m)) (is_byte b.max_m && (is_byte (b.max_n -ℤ b.min_n) && is_byte b.max_n)) short in
+    let right = and_parts (is_byte b.max_m) (is_byte (b.max_n -ℤ b.min_n) && is_byte b.max_n) width.1 in
+    let height = and_parts (is_byte (b.max_n -ℤ b.min_n)) (is_byte b.max_n) right.1 in
+    let columns = byte-reads_back (b.max_m -ℤ b.min_m) width.0 in
+    let last = byte-reads_back b.max_m right.0 in
+    let left : pos (unsigned_abs b.max_m) -ℤ pos (unsigned_abs (b.max_m -ℤ b.min_m)) ≡ b.min_m = omega (arith, ints, columns, last) in
+    ap₂ (λ l t. drawn_from l t rest) left (byte-reads_back b.max_n height.1))
+    (λ long.
+    ap₂ (λ l t. drawn_from l t rest)
+    (word-reads_back b.min_m (word b.max_m ++ word b.min_n ++ word b.max_n ++ rest) small.left small.right)
+    (word-reads_back b.max_n rest small.bottom small.top))

@@ -1,0 +1,64 @@
+-- The ends of the box of a picture are numbers that the field allows.
+use Rattle.std.proofs.Common.{◌≡◌, ℤ, pos, ◌+ℤ◌, List, [], ◌∷◌, sym, ap, subst, ◌∙◌, arith}
+use Rattle.std.specs.Prelude.{int_lt}
+use Rattle.std.specs.Int.{int_max, int_min}
+use Rattle.std.specs.List.{flat_map}
+use Rattle.std.proofs.lemmas.Bool.{cond_both}
+use Rattle.std.proofs.lemmas.Int.{ints}
+use Rattle.mf_rows.specs.Dots.{Dot, IsDot, IsPicture, AreDotsFrom, place}
+use Rattle.mf_rows.specs.Runs.{dots_of, runs_of}
+use Rattle.mf_rows.proofs.RunsLemmas.{dots_of-runs_of}
+use Rattle.mf_gf.specs.declared.boxes.CharacterBox.{CharacterBox}
+use Rattle.mf_gf.specs.declared.stretches.Stretches.{Stretches}
+use Rattle.mf_gf.specs.Ahead.{AreInOrder, blacks_ahead, stretches_left}
+use Rattle.mf_gf.specs.Boxes.{box_of, box_of_pixel}
+use Rattle.mf_gf.specs.Places.{IsInReach}
+use Rattle.mf_gf.proofs.SpelledRows.{picture_from}
+
+pub record IsBoxInReach (b : CharacterBox) : Type 0 where
+  pub columns : IsInReach b.min_m × IsInReach b.max_m
+  pub rows : IsInReach b.min_n × IsInReach b.max_n
+
+min_in_reach : (x y : ℤ) → IsInReach x → IsInReach y → IsInReach (int_min x y)
+min_in_reach x y first second = cond_both (int_lt y x) y x IsInReach (λ _. second) (λ _. first)
+
+max_in_reach : (x y : ℤ) → IsInReach x → IsInReach y → IsInReach (int_max x y)
+max_in_reach x y first second = cond_both (int_lt y x) x y IsInReach (λ _. first) (λ _. second)
+
+pixel_in_reach : (d : Dot) → IsDot d → IsBoxInReach (box_of_pixel d)
+pixel_in_reach d dot =
+    let inside = dot.in_field in
+    record {
+      columns = (
+        record { least = inside.left; greatest = omega (arith, ints, inside.right) },
+        record { least = omega (arith, ints, inside.left); greatest = omega (arith, ints, inside.right) },
+      );
+      rows = (
+        record { least = inside.bottom; greatest = omega (arith, ints, inside.top) },
+        record { least = inside.bottom; greatest = omega (arith, ints, inside.top) },
+      );
+    }
+
+box_from : (low : ℤ) (ds : List Dot) → AreDotsFrom low ds → IsBoxInReach (box_of ds)
+unfolding box_of
+box_from low [] dots =
+    let zero : IsInReach (pos 0) = record { least = omega (arith, ints); greatest = omega (arith, ints) } in
+    record { columns = (zero, zero); rows = (zero, zero) }
+box_from low (d ∷ []) dots = pixel_in_reach d dots.0
+box_from low (d ∷ e ∷ ds) dots =
+    let first = pixel_in_reach d dots.0 in
+    let others = box_from (place d.x d.y +ℤ pos 1) (e ∷ ds) dots.2 in
+    record {
+      columns = (min_in_reach _ _ first.columns.0 others.columns.0, max_in_reach _ _ first.columns.1 others.columns.1);
+      rows = (min_in_reach _ _ first.rows.0 others.rows.0, max_in_reach _ _ first.rows.1 others.rows.1);
+    }
+
+-- dots whose stretches lie before an iterator are a picture
+picture_ahead : (s : Stretches) (ds : List Dot) → AreInOrder (blacks_ahead s) → stretches_left s ≡ runs_of ds → IsPicture ds
+picture_ahead s ds order ahead =
+    let dots = flat_map dots_of (blacks_ahead s) in
+    let same : dots ≡ ds = sym (dots_of-runs_of dots) ∙ ap (flat_map dots_of) ahead ∙ dots_of-runs_of ds in
+    subst IsPicture same (picture_from order.low dots order.dots)
+
+pub bounds_in_reach : (s : Stretches) (ds : List Dot) (b : CharacterBox) → b ≡ box_of ds → AreInOrder (blacks_ahead s) → stretches_left s ≡ runs_of ds → IsBoxInReach b
+bounds_in_reach s ds b bounds order ahead = subst IsBoxInReach (sym bounds) (box_from _ ds (picture_ahead s ds order ahead).dots)

@@ -1,0 +1,36 @@
+-- The ending of a file, whose padding is known only where what stands before it has room.
+use Rattle.std.proofs.Common.{◌≡◌, ℕ, ◌+◌, ◌<◌, List, [], ◌∷◌, ◌++◌, length, take, pos, subst, ◌∙◌, ⊎_elim, arith, length-append}
+use Rattle.std.specs.Prelude.{replicate}
+use Rattle.std.proofs.lemmas.Bool.{cases_lt}
+use Rattle.std.proofs.lemmas.List.{take-replicate}
+use Rattle.mf_gf.specs.declared.spelling.Spelling.{Spelling}
+use Rattle.mf_gf.specs.Files.{ending, padding}
+use Rattle.mf_gf.specs.Numbers.{word}
+use Rattle.mf_gf.specs.Spellings.{Holds}
+use Rattle.mf_gf.proofs.Writing.{Writes, write_both, write_same}
+
+-- of texts that find no room only that is known
+pub holds_beyond : (s : Spelling) (text other : List ℕ) → s.room < length text → s.room < length other → Holds s text → Holds s other
+holds_beyond s text other long other_long held = record {
+  counted = λ fits. absurd (omega arith);
+  beyond = λ _. held.beyond long;
+  kept = λ _ fits. absurd (omega arith);
+}
+
+module _ (before opened placed named after : Spelling) (place written : ℕ) where
+  whole_ending : Writes before opened (249 ∷ []) → Writes opened placed (word (pos place)) → Writes placed named (131 ∷ [])
+      → Writes named after (take (padding (place + written + 6)) (replicate 7 223)) → Writes before after (ending place (place + written))
+  whole_ending opens places names pads =
+      let padded = write_same _ _ _ _ (take-replicate (padding (place + written + 6)) 7 223 (omega arith)) pads in
+      write_both _ _ _ _ _ (write_both _ _ _ _ _ (write_both _ _ _ _ _ opens places) names) padded
+
+  pub ending_held : Writes before opened (249 ∷ []) → Writes opened placed (word (pos place)) → Writes placed named (131 ∷ [])
+      → Writes named after (take (padding (place + written + 6)) (replicate 7 223)) → after.room ≡ before.room → written ≡ before.length
+      → (text : List ℕ) → Holds before text → Holds after (text ++ ending place (place + length text))
+  ending_held opens places names pads room counts text held =
+      let all = whole_ending opens places names pads text held in
+      ⊎_elim
+      (λ long. holds_beyond after (text ++ ending place (place + written)) (text ++ ending place (place + length text))
+      (omega (arith, length-append text (ending place (place + written)))) (omega (arith, length-append text (ending place (place + length text)))) all)
+      (λ fits. subst (λ n. Holds after (text ++ ending place (place + n))) (counts ∙ held.counted fits) all)
+      (cases_lt before.room (length text))

@@ -1,0 +1,175 @@
+-- Stretches that are lengthened by the runs that continue them.
+use Rattle.std.proofs.Common.{◌≡◌, ℕ, zero, suc, ◌+◌, ◌≤◌, ℤ, pos, ◌+ℤ◌, Option, None, Some, List, [], ◌∷◌, ◌++◌, refl, sym, ap, ◌∙◌, subst, arith}
+use Rattle.std.specs.List.{All, flat_map}
+use Rattle.std.proofs.lemmas.Bool.{cond_both}
+use Rattle.std.proofs.lemmas.Int.{ints}
+use Rattle.std.proofs.lemmas.List.{append_assoc}
+use Rattle.std.proofs.lemmas.List.Elements.{All-nil, All-cons, All-head, All-tail}
+use Rattle.mf_rows.specs.declared.run.Run.{Run}
+use Rattle.mf_rows.specs.Dots.{Dot, AreDotsFrom, place}
+use Rattle.mf_rows.specs.Order.{IsRun}
+use Rattle.mf_rows.specs.Runs.{stretch, dots_of, continues, run_from, with_dot, runs_of, IsFollowedBy, AreMaximal}
+use Rattle.mf_rows.proofs.MaximalRuns.{runs_of-dots_of}
+use Rattle.mf_rows.proofs.RunsLemmas.{dots_of-runs_of, maximal_runs_of, runs_of-first}
+use Rattle.mf_gf.specs.Ahead.{AreInOrder, with_next}
+use Rattle.mf_gf.proofs.BlackDots.{IsBlack}
+
+-- ---- runs in order
+
+-- dots behind others are in order, too
+dots_behind : (low : ℤ) (ds es : List Dot) → AreDotsFrom low (ds ++ es) → (p : ℤ) × AreDotsFrom p es
+dots_behind low [] es dots = (low, dots)
+dots_behind low (d ∷ ds) es dots = dots_behind (place d.x d.y +ℤ pos 1) ds es dots.2
+
+pub order_behind : (r : Run) (rs : List Run) → AreInOrder (r ∷ rs) → AreInOrder rs
+order_behind r rs ordered =
+    let behind = dots_behind ordered.low (dots_of r) (flat_map dots_of rs) ordered.dots in
+    record { runs = All-tail IsRun r rs ordered.runs; ones = All-tail IsBlack r rs ordered.ones; low = behind.0; dots = behind.1 }
+
+-- ---- a stretch so far
+
+-- a stretch and the runs ahead have the dots of all these runs
+pub record IsBegun (all : List Run) (r : Run) (rs : List Run) : Type 0 where
+  pub order : AreInOrder (r ∷ rs)
+  pub same : flat_map dots_of (r ∷ rs) ≡ flat_map dots_of all
+
+-- two stretches side by side are one
+stretch-joined : (y x w : ℤ) (m n : ℕ) → stretch y x w (m + n) ≡ stretch y x w m ++ stretch y (x +ℤ pos m) w n
+unfolding stretch
+stretch-joined y x w zero n =
+    let count : 0 + n ≡ n = omega arith in
+    let column : x +ℤ pos 0 ≡ x = omega (arith, ints) in
+    rw (count, column) refl
+stretch-joined y x w (suc m) n =
+    let count : suc m + n ≡ suc (m + n) = omega arith in
+    let column : (x +ℤ pos 1) +ℤ pos m ≡ x +ℤ pos (suc m) = omega (arith, ints) in
+    rw count (ap (λ dots. record { y = y; x = x; weight = w } ∷ dots) (rw column at (stretch-joined y (x +ℤ pos 1) w m n)))
+
+-- a run begins behind the last column of another, in its row
+pub record IsNext (r s : Run) : Type 0 where
+  pub row : s.y ≡ r.y
+  pub column : s.x ≡ r.x +ℤ pos r.len
+
+abbrev pub with_more : Run → Run → Run
+with_more r s = record { y = r.y; x = r.x; len = r.len + s.len; weight = r.weight }
+
+dots_of-joined : (r s : Run) → r.weight ≡ s.weight → IsNext r s → dots_of (with_more r s) ≡ dots_of r ++ dots_of s
+unfolding dots_of
+dots_of-joined r s weight next = rw (weight, next.row, next.column) (stretch-joined r.y r.x s.weight r.len s.len)
+
+lengthened_run : (r s : Run) → IsRun r → IsRun s → IsNext r s → IsRun (with_more r s)
+lengthened_run r s run further next = record {
+  some = omega (arith, run.some);
+  left = run.left;
+  right = omega (arith, ints, further.right, next.column);
+  bottom = run.bottom;
+  top = run.top;
+  lawful = run.lawful;
+  nonzero = run.nonzero;
+}
+
+-- a run that follows lengthens it
+pub lengthened : (all : List Run) (r s : Run) (rs : List Run) → IsNext r s → IsBegun all r (s ∷ rs) → IsBegun all (with_more r s) rs
+lengthened all r s rs next so_far =
+    let ordered = so_far.order in
+    let behind = order_behind r (s ∷ rs) ordered in
+    let one = All-head IsBlack r (s ∷ rs) ordered.ones in
+    let joined = dots_of-joined r s (one ∙ sym (All-head IsBlack s rs behind.ones)) next in
+    let dots : flat_map dots_of (with_more r s ∷ rs) ≡ flat_map dots_of (r ∷ s ∷ rs) = ap (λ first. first ++ flat_map dots_of rs) joined ∙ append_assoc (dots_of r) (dots_of s) (flat_map dots_of rs) in
+    let run = lengthened_run r s (All-head IsRun r (s ∷ rs) ordered.runs) (All-head IsRun s rs behind.runs) next in
+    record {
+      order = record {
+        runs = All-cons IsRun (with_more r s) rs run (All-tail IsRun s rs behind.runs);
+        ones = All-cons IsBlack (with_more r s) rs one (All-tail IsBlack s rs behind.ones);
+        low = ordered.low;
+        dots = subst (AreDotsFrom ordered.low) (sym dots) ordered.dots;
+      };
+      same = dots ∙ so_far.same;
+    }
+
+-- ---- a stretch that nothing continues
+
+abbrev HasPixel : Run → Type 0
+HasPixel r = 1 ≤ r.len
+
+some_with_dot : (d : Dot) (rs : List Run) → All HasPixel rs → All HasPixel (with_dot d rs)
+unfolding with_dot run_from
+some_with_dot d [] some = All-cons HasPixel (run_from d 0) [] (omega arith) some
+some_with_dot d (r ∷ rs) some =
+    cond_both (continues d r) (run_from d r.len ∷ rs) (run_from d 0 ∷ r ∷ rs) (All HasPixel)
+    (λ yes. All-cons HasPixel (run_from d r.len) rs (omega arith) (All-tail HasPixel r rs some))
+    (λ no. All-cons HasPixel (run_from d 0) (r ∷ rs) (omega arith) some)
+
+some_of_runs : (ds : List Dot) → All HasPixel (runs_of ds)
+unfolding runs_of
+some_of_runs [] = All-nil HasPixel
+some_of_runs (d ∷ ds) = some_with_dot d (runs_of ds) (some_of_runs ds)
+
+-- it is the first of the runs where the next one does not follow it
+stretch_first : (all : List Run) (r : Run) (rs : List Run) → AreMaximal (r ∷ runs_of (flat_map dots_of rs)) → IsBegun all r rs
+    → runs_of (flat_map dots_of all) ≡ r ∷ runs_of (flat_map dots_of rs)
+stretch_first all r rs maximal so_far =
+    let dots = flat_map dots_of rs in
+    let some = All-cons HasPixel r (runs_of dots) (All-head IsRun r rs so_far.order.runs).some (some_of_runs dots) in
+    ap runs_of (sym so_far.same ∙ ap (λ others. dots_of r ++ others) (sym (dots_of-runs_of dots)))
+    ∙ runs_of-dots_of (r ∷ runs_of dots) some maximal
+
+maximal_before : (r : Run) (d : Dot) (ds : List Dot) → (IsFollowedBy r (run_from d 0) → ⊥) → AreMaximal (r ∷ runs_of (d ∷ ds))
+unfolding run_from
+maximal_before r d ds apart =
+    rw (runs_of-first d ds) (
+      (λ followed. apart (record { row = followed.row; column = followed.column; weight = followed.weight })),
+      rw (runs_of-first d ds) at (maximal_runs_of (d ∷ ds)),
+    )
+
+maximal_apart : (r : Run) (y x w : ℤ) (n : ℕ) (ds : List Dot) → 1 ≤ n → (IsFollowedBy r (record { y = y; x = x; len = n; weight = w }) → ⊥)
+    → AreMaximal (r ∷ runs_of (stretch y x w n ++ ds))
+unfolding stretch run_from
+maximal_apart r y x w zero ds some apart = absurd (omega arith)
+maximal_apart r y x w (suc n) ds some apart =
+    maximal_before r (record { y = y; x = x; weight = w }) (stretch y (x +ℤ pos 1) w n ++ ds)
+    (λ followed. apart (record { row = followed.row; column = followed.column; weight = followed.weight }))
+
+ended_before : (all : List Run) (r s : Run) (rs : List Run) → (IsNext r s → ⊥) → IsBegun all r (s ∷ rs)
+    → runs_of (flat_map dots_of all) ≡ r ∷ runs_of (flat_map dots_of (s ∷ rs))
+unfolding dots_of
+ended_before all r s rs apart so_far =
+    let behind = All-head IsRun s rs (order_behind r (s ∷ rs) so_far.order).runs in
+    let maximal = maximal_apart r s.y s.x s.weight s.len (flat_map dots_of rs) behind.some (λ followed. apart (record { row = sym followed.row; column = sym followed.column })) in
+    stretch_first all r (s ∷ rs) maximal so_far
+
+-- ---- a stretch before the next black run of an iterator
+
+next_first : (o : Option Run) (s : Run) (rs : List Run) → o ≡ Some s → with_next o rs ≡ s ∷ rs
+next_first o s rs some = rw some refl
+
+pub next_is_run : (all : List Run) (r s : Run) (o : Option Run) (rs : List Run) → o ≡ Some s → IsBegun all r (with_next o rs) → IsRun s
+next_is_run all r s o rs some so_far =
+    All-head IsRun s rs (subst (All IsRun) (next_first o s rs some) (order_behind r (with_next o rs) so_far.order).runs)
+
+pub first_is_run : (all : List Run) (r : Run) (rs : List Run) → IsBegun all r rs → IsRun r
+first_is_run all r rs so_far = All-head IsRun r rs so_far.order.runs
+
+pub one_more_joined : (all : List Run) (r s : Run) (o p : Option Run) (rs others : List Run) → o ≡ Some s → IsNext r s → rs ≡ with_next p others
+    → IsBegun all r (with_next o rs) → IsBegun all (with_more r s) (with_next p others)
+one_more_joined all r s o p rs others some next ahead so_far =
+    subst (IsBegun all (with_more r s)) ahead (lengthened all r s rs next (subst (IsBegun all r) (next_first o s rs some) so_far))
+
+-- the stretch ends where the next run does not continue it
+pub ended_at_run : (all : List Run) (r s : Run) (o : Option Run) (rs : List Run) → o ≡ Some s → (IsNext r s → ⊥) → IsBegun all r (with_next o rs)
+    → runs_of (flat_map dots_of all) ≡ r ∷ runs_of (flat_map dots_of (with_next o rs))
+ended_at_run all r s o rs some apart so_far =
+    let first = next_first o s rs some in
+    rw first (ended_before all r s rs apart (subst (IsBegun all r) first so_far))
+
+-- or where there is none
+pub ended_at_none : (all : List Run) (r : Run) (o : Option Run) (rs : List Run) → o ≡ None → IsBegun all r (with_next o rs)
+    → runs_of (flat_map dots_of all) ≡ r ∷ runs_of (flat_map dots_of (with_next o rs))
+unfolding runs_of
+ended_at_none all r None rs none so_far = stretch_first all r [] tt so_far
+ended_at_none all r (Some s) rs none so_far = absurd cc
+
+-- where no run is ahead no stretch is left
+pub none_left : (o : Option Run) (rs : List Run) → o ≡ None → runs_of (flat_map dots_of (with_next o rs)) ≡ []
+unfolding runs_of
+none_left o rs none = rw none refl

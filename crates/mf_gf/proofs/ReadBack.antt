@@ -1,0 +1,114 @@
+-- The bytes of painting commands, read back.
+use Rattle.std.proofs.Common.{◌≡◌, ℕ, zero, suc, ◌+◌, ◌-◌, ◌≤◌, ◌<◌, nat_le, ◌==◌, List, [], ◌∷◌, ◌++◌, length, Option, None, Some, option_map, refl, sym, ap, ◌∙◌, append_assoc, append-nil, length-append, arith, le-leb, ne_eqb}
+use Rattle.std.proofs.lemmas.Bool.{cond-true, cond_both, lt-leb, eqb-true}
+use Rattle.std.proofs.lemmas.Iterator.Adapters.{option_map_id}
+use Rattle.byteorder.specs.Endian.{big_bytes, big_number}
+use Rattle.byteorder.specs.Numbers.{big_number-reads_back}
+use Rattle.mf_gf.specs.Painting.{Stroke, Paint, Skip, NewRow, Read, with_bytes, read_stroke, ended, strokes_within, strokes}
+use Rattle.mf_gf.specs.Spelling.{with_parameter, paint, skip, new_row}
+
+-- a command stands before a rest
+abbrev read_as : Stroke → List ℕ → Option Read
+read_as stroke rest = Some (record { stroke = Some stroke; rest = rest })
+
+-- bytes with which a command is written, whatever stands behind them
+pub record Writes (bytes : List ℕ) (stroke : Stroke) : Type 0 where
+  pub some : 1 ≤ length bytes
+  pub read : (rest : List ℕ) → read_stroke (bytes ++ rest) ≡ read_as stroke rest
+
+-- a parameter of one byte or of two, behind the opcodes of a command
+writes_parameter : (command : ℕ → Stroke) (opcode n : ℕ) → n < 65536
+    → ((bytes : List ℕ) → read_stroke (opcode ∷ bytes) ≡ Some (with_bytes command 1 bytes))
+    → ((bytes : List ℕ) → read_stroke ((opcode + 1) ∷ bytes) ≡ Some (with_bytes command 2 bytes))
+    → Writes (with_parameter opcode n) (command n)
+writes_parameter command opcode n fits one two =
+    cond_both (nat_le n 255) (opcode ∷ n ∷ []) (((opcode + 1) ∷ []) ++ big_bytes 2 n) (λ bytes. Writes bytes (command n))
+    (λ yes. record {
+      some = omega arith;
+      read = λ rest.
+          let number : big_number 1 (n ∷ rest) ≡ n = omega arith in
+          one (n ∷ rest) ∙ ap (λ m. read_as (command m) rest) number;
+    })
+    (λ no. record {
+      some = omega arith;
+      read = λ rest. two (big_bytes 2 n ++ rest) ∙ ap (λ m. read_as (command m) rest) (big_number-reads_back 2 n rest fits);
+    })
+
+pub writes_paint : (n : ℕ) → n < 65536 → Writes (paint n) (Paint n)
+unfolding paint read_stroke
+writes_paint n fits =
+    cond_both (nat_le n 63) (n ∷ []) (with_parameter 64 n) (λ bytes. Writes bytes (Paint n))
+    (λ yes. record { some = omega arith; read = λ rest. cond-true (nat_le n 63) _ _ yes })
+    (λ no. writes_parameter Paint 64 n fits (λ bytes. refl) (λ bytes. refl))
+
+pub writes_skip : (n : ℕ) → n < 65536 → Writes (skip n) (Skip n)
+unfolding skip read_stroke
+writes_skip n fits =
+    cond_both (n == 0) (70 ∷ []) (with_parameter 71 n) (λ bytes. Writes bytes (Skip n))
+    (λ yes. record { some = omega arith; read = λ rest. ap (λ m. read_as (Skip m) rest) (sym (eqb-true n 0 yes)) })
+    (λ no. writes_parameter Skip 71 n fits (λ bytes. refl) (λ bytes. refl))
+
+pub writes_new_row : (n : ℕ) → n ≤ 164 → Writes (new_row n) (NewRow n)
+unfolding read_stroke
+writes_new_row n fits =
+    let b = 74 + n in
+    let offset : b - 74 ≡ n = omega arith in
+    record {
+      some = omega arith;
+      read = λ rest.
+          rw (lt-leb b 63 (omega arith), lt-leb b 66 (omega arith), ne_eqb b 69 (λ same. omega arith), ne_eqb b 70 (λ same. omega arith), le-leb 71 b (omega arith), lt-leb b 73 (omega arith), le-leb 74 b (omega arith), le-leb b 238 (omega arith), offset) refl;
+    }
+
+-- commands that are read back one after another, whatever stands behind them
+pub record Spells (bytes : List ℕ) (commands : List Stroke) : Type 0 where
+  pub few : length commands ≤ length bytes
+  pub read : (m n : ℕ) (rest : List ℕ) → m ≡ length commands + n → strokes_within m (bytes ++ rest) ≡ option_map (λ others. commands ++ others) (strokes_within n rest)
+
+pub spells_none : Spells [] []
+spells_none = record {
+  few = omega arith;
+  read = λ m n rest same. let equal : m ≡ n = omega (arith, same) in ap (λ fuel. strokes_within fuel rest) equal ∙ sym (option_map_id (strokes_within n rest));
+}
+
+-- the commands from one on, where it was read with so many more allowed
+abbrev from_read : ℕ → Option Read → Option (List Stroke)
+from_read n next = elim next [
+  | None ↦ None
+  | Some read ↦ elim read.stroke [
+    | None ↦ ended read.rest
+    | Some stroke ↦ option_map (λ strokes. stroke ∷ strokes) (strokes_within n read.rest)
+  ]
+]
+
+one_read : (m n : ℕ) (bytes rest : List ℕ) (stroke : Stroke) → m ≡ 1 + n → read_stroke bytes ≡ read_as stroke rest → strokes_within m bytes ≡ option_map (λ others. stroke ∷ others) (strokes_within n rest)
+unfolding strokes_within
+one_read zero n bytes rest stroke same read = absurd (omega arith)
+one_read (suc m) n bytes rest stroke same read = let less : m ≡ n = omega arith in ap (from_read m) read ∙ ap (λ fuel. option_map (λ others. stroke ∷ others) (strokes_within fuel rest)) less
+
+pub spells_one : (bytes : List ℕ) (stroke : Stroke) → Writes bytes stroke → Spells bytes (stroke ∷ [])
+spells_one bytes stroke writes = record {
+  few = writes.some;
+  read = λ m n rest same. one_read m n (bytes ++ rest) rest stroke same (writes.read rest);
+}
+
+all_of_both : (ss ts : List Stroke) (others : Option (List Stroke)) → option_map (λ more. ss ++ more) (option_map (λ more. ts ++ more) others) ≡ option_map (λ more. (ss ++ ts) ++ more) others
+all_of_both ss ts None = refl
+all_of_both ss ts (Some more) = ap (λ all. Some all) (sym (append_assoc ss ts more))
+
+pub spells_both : (front back : List ℕ) (ss ts : List Stroke) → Spells front ss → Spells back ts → Spells (front ++ back) (ss ++ ts)
+spells_both front back ss ts first second = record {
+  few = omega (arith, length-append front back, length-append ss ts, first.few, second.few);
+  read = λ m n rest same.
+      rw (append_assoc front back rest)
+      (first.read m (length ts + n) (back ++ rest) (omega (arith, same, length-append ss ts))
+      ∙ ap (option_map (λ more. ss ++ more)) (second.read (length ts + n) n rest refl)
+      ∙ all_of_both ss ts (strokes_within n rest));
+}
+
+-- with the end of the character behind them
+pub strokes-spelled : (bytes : List ℕ) (commands : List Stroke) → Spells bytes commands → strokes (bytes ++ 69 ∷ []) ≡ Some commands
+unfolding strokes_within read_stroke
+strokes-spelled bytes commands spells =
+    let left = length bytes - length commands in
+    spells.read (length (bytes ++ 69 ∷ [])) (suc left) (69 ∷ []) (omega (arith, spells.few, length-append bytes (69 ∷ [])))
+    ∙ ap (λ all. Some all) (append-nil commands)

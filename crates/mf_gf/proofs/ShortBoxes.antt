@@ -1,0 +1,52 @@
+-- Boxes that fit into fields of one byte.
+use Rattle.std.proofs.Common.{◌≡◌, ◌&&◌, Bool, true, false, ℤ, pos, negsuc, ◌-ℤ◌, ◌≤ℤ◌, int_le, nat_abs, Fits, w8, arith}
+use Rattle.std.specs.Prelude.{T}
+use lib.Signed.{non_neg}
+use Rattle.std.proofs.lemmas.Bool.{and_parts}
+use Rattle.std.proofs.lemmas.Int.{ints}
+use Rattle.mf_gf.specs.declared.boxes.CharacterBox.{CharacterBox}
+use Rattle.mf_gf.specs.Spelling.{is_byte, is_short}
+
+pub record IsByte (z : ℤ) : Type 0 where
+  pub least : pos 0 ≤ℤ z
+  pub greatest : z ≤ℤ pos 255
+
+pub record IsShortBox (b : CharacterBox) : Type 0 where
+  pub width : IsByte (b.max_m -ℤ b.min_m)
+  pub right : IsByte b.max_m
+  pub height : IsByte (b.max_n -ℤ b.min_n)
+  pub top : IsByte b.max_n
+
+le_from_test : (a b : ℤ) → int_le a b ≡ true → a ≤ℤ b
+le_from_test a b test = grind (arith, ints)
+
+byte_from_test : (z : ℤ) → is_byte z ≡ true → IsByte z
+byte_from_test z test =
+    let parts = and_parts (int_le (pos 0) z) (int_le z (pos 255)) test in
+    record { least = le_from_test (pos 0) z parts.0; greatest = le_from_test z (pos 255) parts.1 }
+
+pub short_box : (b : CharacterBox) → is_short b ≡ true → IsShortBox b
+short_box b test =
+    let width = and_parts (is_byte (b.max_m -ℤ b.min_m)) _ test in
+    let right = and_parts (is_byte b.max_m) _ width.1 in
+    let height = and_parts (is_byte (b.max_n -ℤ b.min_n)) (is_byte b.max_n) right.1 in
+    record {
+      width = byte_from_test _ width.0;
+      right = byte_from_test _ right.0;
+      height = byte_from_test _ height.0;
+      top = byte_from_test _ height.1;
+    }
+
+-- the value of `x && y`, where y is asked for only if x holds
+pub and_then : (x y a b : Bool) → x ≡ true → x ≡ a → y ≡ b → y ≡ (a && b)
+and_then x y true b holds x_is y_is = y_is
+and_then x y false b holds x_is y_is = cc
+
+pub and_else : (x a b : Bool) → x ≡ false → x ≡ a → x ≡ (a && b)
+and_else x true b fails x_is = cc
+and_else x false b fails x_is = x_is
+
+-- such a number may be cast to one byte
+pub byte_fits : (z : ℤ) → IsByte z → T (non_neg z) × Fits w8 (nat_abs z)
+byte_fits (pos n) byte = (tt, record { fits = omega (arith, ints, byte.greatest) })
+byte_fits (negsuc n) byte = absurd (omega (arith, ints, byte.least))

@@ -1,0 +1,88 @@
+-- The stretches of a picture, spelled one after another.
+use Rattle.std.proofs.Common.{◌≡◌, ℕ, ℤ, pos, ◌+ℤ◌, List, [], ◌∷◌, ◌++◌, refl, sym, ap, subst, ◌∙◌, arith, append_assoc}
+use Rattle.std.specs.List.{All}
+use Rattle.std.proofs.lemmas.Int.{ints}
+use Rattle.std.proofs.lemmas.List.{append-nil}
+use Rattle.std.proofs.lemmas.List.Elements.{All-head, All-same, All-rest}
+use Rattle.mf_rows.specs.declared.run.Run.{Run}
+use Rattle.mf_rows.specs.Dots.{Dot, IsPicture, AreDotsFrom}
+use Rattle.mf_rows.specs.Order.{IsRun}
+use Rattle.mf_rows.specs.Runs.{runs_of}
+use Rattle.mf_rows.proofs.PlacesLemmas.{start_of_field-le}
+use Rattle.mf_rows.proofs.Totals.{total_none}
+use Rattle.mf_gf.specs.declared.boxes.CharacterBox.{CharacterBox}
+use Rattle.mf_gf.specs.declared.spelling.Spelling.{Spelling}
+use Rattle.mf_gf.specs.Boxes.{box_of}
+use Rattle.mf_gf.specs.Places.{IsInReach}
+use Rattle.mf_gf.specs.Spelling.{approach, begin, paint, rows, spell}
+use Rattle.mf_gf.specs.Spellings.{Holds}
+use Rattle.mf_gf.proofs.Writing.{Writes, write_both, write_same}
+
+-- lawful dots in reading order are a picture, wherever they begin
+pub picture_from : (low : ℤ) (ds : List Dot) → AreDotsFrom low ds → IsPicture ds
+picture_from low [] dots = record { dots = tt }
+picture_from low (d ∷ ds) dots = record { dots = (dots.0, start_of_field-le d.x d.y dots.0.in_field, dots.2) }
+
+-- each stretch of it is a run
+pub stretches_are_runs : (ds : List Dot) → IsPicture ds → All IsRun (runs_of ds)
+stretches_are_runs ds picture = (total_none ds (runs_of ds) picture refl).passes.runs
+
+-- the stretches up to a place are spelled, and those behind it are still to come
+pub record AreSpelled (before : Spelling) (left : ℤ) (text : List ℕ) (out : Spelling) (row column : ℤ) (rs : List Run) : Type 0 where
+  pub written : List ℕ
+  pub writes : Writes before out written
+  pub rest : written ++ rows left row column rs ≡ text
+  pub room : out.room ≡ before.room
+  pub runs : All IsRun rs
+  pub row_in_reach : IsInReach row
+  pub column_in_reach : IsInReach column
+
+pub none_spelled : (before : Spelling) (left row column : ℤ) (rs : List Run) → All IsRun rs → IsInReach row → IsInReach column
+    → AreSpelled before left (rows left row column rs) before row column rs
+none_spelled before left row column rs runs row_in_reach column_in_reach = record {
+  written = [];
+  writes = λ text held. subst (Holds before) (sym (append-nil text)) held;
+  rest = refl;
+  room = refl;
+  runs = runs;
+  row_in_reach = row_in_reach;
+  column_in_reach = column_in_reach;
+}
+
+rows-cons : (left row column : ℤ) (r : Run) (rs : List Run) → rows left row column (r ∷ rs) ≡ approach left row column r ++ paint r.len ++ rows left r.y (r.x +ℤ pos r.len) rs
+unfolding rows
+rows-cons left row column r rs = refl
+
+rows-nil : (left row column : ℤ) → rows left row column [] ≡ []
+unfolding rows
+rows-nil left row column = refl
+
+module _ (before : Spelling) (left : ℤ) (text : List ℕ) (out : Spelling) (row column : ℤ) (rs : List Run) where
+  pub next_is_run : (r : Run) (others : List Run) → rs ≡ r ∷ others → AreSpelled before left text out row column rs → IsRun r
+  next_is_run r others first so_far = All-head IsRun r others (All-same IsRun (r ∷ others) rs (sym first) so_far.runs)
+
+  pub one_more_spelled : (r : Run) (others : List Run) (gone painted : Spelling) → rs ≡ r ∷ others → Writes out gone (approach left row column r) → Writes gone painted (paint r.len)
+      → gone.room ≡ out.room → painted.room ≡ gone.room → AreSpelled before left text out row column rs → AreSpelled before left text painted r.y (r.x +ℤ pos r.len) others
+  one_more_spelled r others gone painted first goes paints gone_room painted_room so_far =
+      let run = next_is_run r others first so_far in
+      let stroke = approach left row column r ++ paint r.len in
+      record {
+        written = so_far.written ++ stroke;
+        writes = write_both _ _ _ _ _ so_far.writes (write_both _ _ _ _ _ goes paints);
+        rest = append_assoc so_far.written stroke (rows left r.y (r.x +ℤ pos r.len) others) ∙ ap (λ bytes. so_far.written ++ bytes) (sym (rows-cons left row column r others))
+            ∙ ap (λ rs. so_far.written ++ rows left row column rs) (sym first) ∙ so_far.rest;
+        room = painted_room ∙ gone_room ∙ so_far.room;
+        runs = All-rest IsRun r others rs first so_far.runs;
+        row_in_reach = record { least = run.bottom; greatest = omega (arith, ints, run.top) };
+        column_in_reach = record { least = omega (arith, ints, run.left); greatest = run.right };
+      }
+
+  pub all_spelled : rs ≡ [] → AreSpelled before left text out row column rs → Writes before out text
+  all_spelled none so_far =
+      write_same _ _ _ _
+      (sym (append-nil so_far.written) ∙ ap (λ bytes. so_far.written ++ bytes) (sym (rows-nil left row column)) ∙ ap (λ rs. so_far.written ++ rows left row column rs) (sym none) ∙ so_far.rest)
+      so_far.writes
+
+pub spell-is : (code : ℕ) (ds : List Dot) (b : CharacterBox) (rs : List Run) → b ≡ box_of ds → rs ≡ runs_of ds → begin code b ++ rows b.min_m b.max_n b.min_m rs ++ 69 ∷ [] ≡ spell code ds
+unfolding spell
+spell-is code ds b rs bounds all = rw (bounds, all) refl

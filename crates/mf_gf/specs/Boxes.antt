@@ -1,0 +1,37 @@
+-- The boxes of characters.
+use Rattle.std.specs.Prelude.{pos, ◌+ℤ◌, List, [], ◌∷◌, Option, None, Some}
+use Rattle.std.specs.Int.{int_max, int_min}
+use Rattle.mf_rows.specs.declared.run.Run.{Run}
+use Rattle.mf_rows.specs.Dots.{Dot}
+use Rattle.mf_gf.specs.declared.boxes.CharacterBox.{CharacterBox}
+
+-- the box of a character with no black pixel
+abbrev pub no_box : CharacterBox
+no_box = record { min_m = pos 0; max_m = pos 0; min_n = pos 0; max_n = pos 0 }
+
+-- the box of a pixel: m may stand at its left and right edge
+abbrev pub box_of_pixel : Dot → CharacterBox
+box_of_pixel d = record { min_m = d.x; max_m = d.x +ℤ pos 1; min_n = d.y; max_n = d.y }
+
+abbrev pub box_of_run : Run → CharacterBox
+box_of_run r = record { min_m = r.x; max_m = r.x +ℤ pos r.len; min_n = r.y; max_n = r.y }
+
+-- the least box round two boxes
+abbrev pub joined : CharacterBox → CharacterBox → CharacterBox
+joined a b = record {
+  min_m = int_min a.min_m b.min_m;
+  max_m = int_max a.max_m b.max_m;
+  min_n = int_min a.min_n b.min_n;
+  max_n = int_max a.max_n b.max_n;
+}
+
+-- and the least one round a box, where there is one, and another
+abbrev pub widened : Option CharacterBox → CharacterBox → CharacterBox
+widened None b = b
+widened (Some before) b = joined before b
+
+-- the box of a set of pixels
+unfoldable pub box_of : List Dot → CharacterBox
+box_of [] = no_box
+box_of (d ∷ []) = box_of_pixel d
+box_of (d ∷ e ∷ ds) = joined (box_of_pixel d) (box_of (e ∷ ds))

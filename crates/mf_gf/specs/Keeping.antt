@@ -1,0 +1,47 @@
+-- What a file that is being made stands for.
+use Rattle.std.specs.Prelude.{◌≡◌, ℕ, ℤ, List, [], ◌∷◌, ◌++◌, Option, None, Some, Result, Ok, Err}
+use Rattle.mf_rows.specs.Dots.{Dot}
+use Rattle.mf_gf.specs.declared.boxes.CharacterBox.{CharacterBox}
+use Rattle.mf_gf.specs.declared.fault.GfFault.{GfFault}
+use Rattle.mf_gf.specs.declared.file.GfFile.{GfFile}
+use Rattle.mf_gf.specs.declared.finished.GfBytes.{GfBytes}
+use Rattle.mf_gf.specs.declared.locator.Locator.{Locator}
+use Rattle.mf_gf.specs.Boxes.{widened}
+use Rattle.mf_gf.specs.Files.{Character, box_of_all, front, located}
+use Rattle.mf_gf.specs.Pixels.{black}
+
+-- the character of a picture
+abbrev pub character : ℕ → ℤ → ℤ → List Dot → Character
+character code dx width ds = record { code = code; dx = dx; width = width; black = black ds }
+
+abbrev pub bounds_of : List Character → Option CharacterBox
+bounds_of [] = None
+bounds_of (c ∷ cs) = Some (box_of_all (c ∷ cs))
+
+-- a file keeps what its end needs of a comment and characters
+pub record Keeps (file : GfFile) (comment : List ℕ) (characters : List Character) : Type 0 where
+  pub bytes : file.bytes.items ≡ front comment characters
+  pub locators : file.locators.items ≡ located comment characters
+  pub bounds : file.bounds ≡ bounds_of characters
+
+-- most bytes of the file
+abbrev pub limit : GfFile → ℕ
+limit file = file.max_bytes
+
+-- a file is as it was
+pub record IsSameFile (before after : GfFile) : Type 0 where
+  pub bytes : after.bytes.items ≡ before.bytes.items
+  pub locators : after.locators.items ≡ before.locators.items
+  pub bounds : after.bounds ≡ before.bounds
+  pub max_bytes : after.max_bytes ≡ before.max_bytes
+
+-- a character with these bytes was appended
+pub record IsAppended (before after : GfFile) (l : Locator) (b : CharacterBox) (spelled : List ℕ) : Type 0 where
+  pub bytes : after.bytes.items ≡ before.bytes.items ++ spelled
+  pub locators : after.locators.items ≡ before.locators.items ++ l ∷ []
+  pub bounds : after.bounds ≡ Some (widened before.bounds b)
+
+-- the file comes back with this fault
+abbrev pub IsRefusedAs : GfFault → Result GfBytes (GfFile × GfFault) → Type 0
+IsRefusedAs fault (Ok bytes) = ⊥
+IsRefusedAs fault (Err refused) = refused.1 ≡ fault

@@ -1,0 +1,11 @@
+pub mod Ahead
+pub mod Boxes
+pub mod Files
+pub mod Keeping
+pub mod Numbers
+pub mod Painting
+pub mod Pixels
+pub mod Places
+pub mod Spelling
+pub mod Spellings
+pub mod Tails

@@ -1,0 +1,12 @@
+-- Numbers in the fields of a GF file, the highest byte first.
+use Rattle.std.specs.Prelude.{ℕ, ℤ, List, drop}
+use Rattle.std.specs.Int.{cast_unsigned, w32}
+use Rattle.byteorder.specs.Endian.{big_bytes, big_number, twos_complement}
+
+-- the four bytes of a number, in two's complement
+abbrev pub word : ℤ → List ℕ
+word z = big_bytes 4 (cast_unsigned w32 z)
+
+-- the signed number in the four bytes from place i
+abbrev pub word_at : ℕ → List ℕ → ℤ
+word_at i bytes = twos_complement 4 (big_number 4 (drop i bytes))

@@ -1,0 +1,97 @@
+-- The painting machine: what the bytes of a character make black (gftype.web; The METAFONTbook, Appendix G).
+use Rattle.std.specs.Prelude.{◌==◌, ◌&&◌, ◌+◌, ◌-◌, Bool, true, false, not, ℕ, zero, suc, nat_le, ℤ, pos, ◌+ℤ◌, ◌-ℤ◌, List, [], ◌∷◌, ◌++◌, length, drop, slice_index, Option, None, Some, option_map, if◌then◌else◌}
+use Rattle.byteorder.specs.Endian.{big_number}
+use Rattle.mf_rows.specs.Dots.{Dot}
+use Rattle.mf_rows.specs.Runs.{stretch}
+use Rattle.mf_gf.specs.Numbers.{word_at}
+
+-- a painting command: paint so many pixels, skip so many rows and one, or go to the next row at an offset
+pub data Stroke : Type 0 where
+  Paint : ℕ → Stroke
+  Skip : ℕ → Stroke
+  NewRow : ℕ → Stroke
+
+-- a command and the bytes behind it; none is the end of the character
+pub record Read : Type 0 where
+  pub stroke : Option Stroke
+  pub rest : List ℕ
+
+-- a command whose parameter has n bytes
+abbrev pub with_bytes : (ℕ → Stroke) → ℕ → List ℕ → Read
+with_bytes command n bytes = record { stroke = Some (command (big_number n bytes)); rest = drop n bytes }
+
+-- the command with which the bytes begin: paint_0 to paint_63, paint1 to paint3, eoc, skip0, skip1 to skip3,
+-- new_row_0 to new_row_164
+unfoldable pub read_stroke : List ℕ → Option Read
+read_stroke [] = None
+read_stroke (b ∷ bytes) =
+    if nat_le b 63 then Some (record { stroke = Some (Paint b); rest = bytes })
+    else (if nat_le b 66 then Some (with_bytes Paint (b - 63) bytes)
+    else (if b == 69 then Some (record { stroke = None; rest = bytes })
+    else (if b == 70 then Some (record { stroke = Some (Skip 0); rest = bytes })
+    else (if nat_le 71 b && nat_le b 73 then Some (with_bytes Skip (b - 70) bytes)
+    else (if nat_le 74 b && nat_le b 238 then Some (record { stroke = Some (NewRow (b - 74)); rest = bytes })
+    else None)))))
+
+-- no byte stands behind the end of the character
+abbrev pub ended : List ℕ → Option (List Stroke)
+ended bytes = if length bytes == 0 then Some [] else None
+
+-- the commands up to the end of the character, which ends the bytes, within n of them
+unfoldable pub strokes_within : ℕ → List ℕ → Option (List Stroke)
+strokes_within zero bytes = None
+strokes_within (suc n) bytes = elim (read_stroke bytes) [
+  | None ↦ None
+  | Some read ↦ elim read.stroke [
+    | None ↦ ended read.rest
+    | Some stroke ↦ option_map (λ strokes. stroke ∷ strokes) (strokes_within n read.rest)
+  ]
+]
+
+abbrev pub strokes : List ℕ → Option (List Stroke)
+strokes bytes = strokes_within (length bytes) bytes
+
+-- where the machine stands (GF: n and m), the left end of its box, and its colour
+pub record Pen : Type 0 where
+  pub row : ℤ
+  pub column : ℤ
+  pub left : ℤ
+  pub is_black : Bool
+
+-- at the beginning of a character: at the left end of its top row, and white
+abbrev pub pen_at : ℤ → ℤ → Pen
+pen_at left top = record { row = top; column = left; left = left; is_black = false }
+
+-- the pixels that a command makes black
+abbrev pub painted : Pen → Stroke → List Dot
+painted pen (Paint k) = if pen.is_black then stretch pen.row pen.column (pos 1) k else []
+painted pen (Skip k) = []
+painted pen (NewRow k) = []
+
+-- the machine after a command
+abbrev pub moved : Pen → Stroke → Pen
+moved pen (Paint k) = record pen { column = pen.column +ℤ pos k; is_black = not pen.is_black }
+moved pen (Skip k) = record pen { row = pen.row -ℤ pos (k + 1); column = pen.left; is_black = false }
+moved pen (NewRow k) = record pen { row = pen.row -ℤ pos 1; column = pen.left +ℤ pos k; is_black = true }
+
+-- the pixels that commands make black, in the order in which they are painted
+unfoldable pub drawn : Pen → List Stroke → List Dot
+drawn pen [] = []
+drawn pen (stroke ∷ strokes) = painted pen stroke ++ drawn (moved pen stroke) strokes
+
+-- the pixels that the commands make black, from the left end and the top of a box on
+abbrev pub drawn_from : ℤ → ℤ → List ℕ → Option (List Dot)
+drawn_from left top bytes = option_map (drawn (pen_at left top)) (strokes bytes)
+
+-- boc1: the code, the width of the box, its right end, its height and its top, a byte each
+abbrev pub after_boc1 : List ℕ → Option (List Dot)
+after_boc1 bytes = drawn_from (pos (slice_index bytes 2) -ℤ pos (slice_index bytes 1)) (pos (slice_index bytes 4)) (drop 5 bytes)
+
+-- boc: the code, a place, and the least and greatest m and n, four bytes each
+abbrev pub after_boc : List ℕ → Option (List Dot)
+after_boc bytes = drawn_from (word_at 8 bytes) (word_at 20 bytes) (drop 24 bytes)
+
+-- the pixels that a character makes black
+unfoldable pub paint : List ℕ → Option (List Dot)
+paint [] = None
+paint (b ∷ bytes) = if b == 68 then after_boc1 bytes else (if b == 67 then after_boc bytes else None)

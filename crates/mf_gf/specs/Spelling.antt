@@ -1,0 +1,67 @@
+-- The bytes of a character (The METAFONTbook, Appendix G).
+use Rattle.std.specs.Prelude.{◌+◌, ◌-◌, ◌==◌, ◌&&◌, Bool, ℕ, nat_le, ℤ, pos, negsuc, ◌+ℤ◌, ◌-ℤ◌, int_le, List, [], ◌∷◌, ◌++◌, if◌then◌else◌}
+use Rattle.std.specs.Int.RustNames.{unsigned_abs}
+use Rattle.std.specs.Ordering.{int_eq}
+use Rattle.byteorder.specs.Endian.{big_bytes}
+use Rattle.mf_rows.specs.declared.run.Run.{Run}
+use Rattle.mf_rows.specs.Dots.{Dot}
+use Rattle.mf_rows.specs.Runs.{runs_of}
+use Rattle.mf_gf.specs.declared.boxes.CharacterBox.{CharacterBox}
+use Rattle.mf_gf.specs.Boxes.{box_of}
+use Rattle.mf_gf.specs.Numbers.{word}
+
+-- an opcode for a parameter of one byte, or the next for one of two
+abbrev pub with_parameter : ℕ → ℕ → List ℕ
+with_parameter opcode n = if nat_le n 255 then (opcode ∷ n ∷ []) else ((opcode + 1) ∷ []) ++ big_bytes 2 n
+
+-- paint_0 to paint_63, paint1, paint2
+unfoldable pub paint : ℕ → List ℕ
+paint n = if nat_le n 63 then n ∷ [] else with_parameter 64 n
+
+-- skip0, skip1, skip2: so many blank rows
+unfoldable pub skip : ℕ → List ℕ
+skip n = if n == 0 then 70 ∷ [] else with_parameter 71 n
+
+-- new_row_0 to new_row_164
+abbrev pub new_row : ℕ → List ℕ
+new_row n = (74 + n) ∷ []
+
+-- so many columns, or rows, lie between
+abbrev pub between : ℤ → ℤ → ℕ
+between a b = unsigned_abs (a -ℤ b)
+
+-- from a place to the beginning of a stretch of black pixels: in the same row by white; into the next row by new_row,
+-- if the offset from the left end of the box allows it; else by a skip and white
+abbrev pub approach : ℤ → ℤ → ℤ → Run → List ℕ
+approach left row column r =
+    if int_eq r.y row then paint (between r.x column)
+    else (if between row r.y == 1 && nat_le (between r.x left) 164 then new_row (between r.x left)
+    else skip (between row r.y - 1) ++ paint (between r.x left))
+
+-- stretches of black pixels, one after another, from a place on
+unfoldable pub rows : ℤ → ℤ → ℤ → List Run → List ℕ
+rows left row column [] = []
+rows left row column (r ∷ rs) = approach left row column r ++ paint r.len ++ rows left r.y (r.x +ℤ pos r.len) rs
+
+-- a number fits into one byte
+abbrev pub is_byte : ℤ → Bool
+is_byte z = int_le (pos 0) z && int_le z (pos 255)
+
+-- a box fits into fields of one byte
+abbrev pub is_short : CharacterBox → Bool
+is_short b = is_byte (b.max_m -ℤ b.min_m) && (is_byte b.max_m && (is_byte (b.max_n -ℤ b.min_n) && is_byte b.max_n))
+
+-- boc1
+abbrev pub short_begin : ℕ → CharacterBox → List ℕ
+short_begin code b = 68 ∷ code ∷ unsigned_abs (b.max_m -ℤ b.min_m) ∷ unsigned_abs b.max_m ∷ unsigned_abs (b.max_n -ℤ b.min_n) ∷ unsigned_abs b.max_n ∷ []
+
+-- boc, with no earlier character of this code
+abbrev pub long_begin : ℕ → CharacterBox → List ℕ
+long_begin code b = (67 ∷ []) ++ word (pos code) ++ word (negsuc 0) ++ word b.min_m ++ word b.max_m ++ word b.min_n ++ word b.max_n
+
+abbrev pub begin : ℕ → CharacterBox → List ℕ
+begin code b = if is_short b then short_begin code b else long_begin code b
+
+-- the bytes of a character with these black pixels
+unfoldable pub spell : ℕ → List Dot → List ℕ
+spell code ds = begin code (box_of ds) ++ rows (box_of ds).min_m (box_of ds).max_n (box_of ds).min_m (runs_of ds) ++ (69 ∷ [])

@@ -1,0 +1,9 @@
+-- What a spelling stands for.
+use Rattle.std.specs.Prelude.{◌≡◌, ◌<◌, ◌≤◌, ℕ, false, List, length}
+use Rattle.mf_gf.specs.declared.spelling.Spelling.{Spelling}
+
+-- these bytes were written, and are there as far as room and memory allowed
+pub record Holds (s : Spelling) (text : List ℕ) : Type 0 where
+  pub counted : length text ≤ s.room → s.length ≡ length text
+  pub beyond : s.room < length text → s.room < s.length
+  pub kept : s.is_wanting ≡ false → length text ≤ s.room → s.bytes.items ≡ text

@@ -1,0 +1,80 @@
+//! Boxes of characters.
+ghost use Rattle.std.specs.Prelude.{◌≡◌};
+ghost use Rattle.mf_gf.specs.Boxes.{box_of, box_of_run, joined, no_box, widened};
+ghost use Rattle.mf_gf.specs.Pixels.{black};
+ghost use Rattle.mf_rows.specs.Dots.{IsPicture};
+ghost use Rattle.mf_rows.specs.Order.{IsRun};
+
+use crate::stretches::Stretches;
+use mf_rows::{Picture, Run};
+
+/// The box of a character, in pixels: the columns of its black pixels, and one column more at the right, where the
+/// painting position stands at last; and their rows.
+#[derive(Clone, Copy, Debug, PartialEq, Eq)]
+pub(crate) struct CharacterBox {
+    pub min_m: i32,
+    pub max_m: i32,
+    pub min_n: i32,
+    pub max_n: i32,
+}
+
+impl CharacterBox {
+    /// The box of a character with no black pixel.
+    pub(crate) fn none() -> CharacterBox
+        ensures { result ≡ no_box }
+    {
+        CharacterBox {
+            min_m: 0,
+            max_m: 0,
+            min_n: 0,
+            max_n: 0,
+        }
+    }
+
+    /// The box of a stretch.
+    fn of_run(run: &Run) -> CharacterBox
+        requires { IsRun run.now }
+        ensures { result ≡ box_of_run run.now }
+    {
+        CharacterBox {
+            min_m: run.x,
+            max_m: run.x + run.len as i32,
+            min_n: run.y,
+            max_n: run.y,
+        }
+    }
+
+    /// The least box round two boxes.
+    fn joined(&self, other: &CharacterBox) -> CharacterBox
+        ensures { result ≡ joined self.now other.now }
+    {
+        CharacterBox {
+            min_m: self.min_m.min(other.min_m),
+            max_m: self.max_m.max(other.max_m),
+            min_n: self.min_n.min(other.min_n),
+            max_n: self.max_n.max(other.max_n),
+        }
+    }
+
+    /// The least box round a box, where there is one, and another.
+    pub(crate) fn widened(bounds: Option<CharacterBox>, other: CharacterBox) -> CharacterBox
+        ensures { result ≡ widened bounds other }
+    {
+        match bounds {
+            Some(before) => before.joined(&other),
+            None => other,
+        }
+    }
+
+    /// The box of the black pixels of a picture.
+    pub(crate) fn of_black(picture: &Picture) -> CharacterBox
+        ensures value { result ≡ box_of (black picture.now) }
+        ensures lawful { IsPicture picture.now }
+    {
+        let mut bounds = None;
+        for stretch in Stretches::over(picture) {
+            bounds = Some(CharacterBox::widened(bounds, CharacterBox::of_run(&stretch)));
+        }
+        bounds.unwrap_or(CharacterBox::none())
+    }
+}

@@ -1,0 +1,36 @@
+//! Files that are being made.
+ghost use Rattle.std.specs.Prelude.{◌≤◌, length};
+
+use crate::boxes::CharacterBox;
+use crate::locator::Locator;
+use std::alloc::Global;
+
+mod steps;
+mod tail;
+
+/// Numbers of a font, which the postamble has: its design size in 1/1048576 point, its checksum, and the pixels per
+/// point, horizontally and vertically, in 1/65536.
+#[derive(Clone, Copy, Debug, PartialEq, Eq)]
+pub struct FontWords {
+    pub ds: i32,
+    pub cs: u32,
+    pub hppp: i32,
+    pub vppp: i32,
+}
+
+/// A GF file that is being made: its preamble, the characters that were shipped, and what its end will tell of them.
+#[derive(Drop)]
+pub struct GfFile {
+    pub(crate) alloc: Global,
+    /// The preamble and the characters.
+    pub(crate) bytes: Vec<u8>,
+    /// The characters, in the order shipped.
+    pub(crate) locators: Vec<Locator>,
+    /// The least box round the boxes of all characters.
+    pub(crate) bounds: Option<CharacterBox>,
+    /// Most bytes of the whole file.
+    pub(crate) max_bytes: u32,
+    ghost small: { max_bytes ≤ 2147483647 },
+    ghost within: { length bytes.items ≤ max_bytes },
+    ghost few: { length locators.items ≤ length bytes.items },
+}

@@ -1,0 +1,125 @@
+//! The end of a file: the postamble, the locators and what stands behind them.
+ghost use Rattle.std.specs.Prelude.{◌≡◌, ◌⊎◌, ◌<◌, ◌≤◌, ◌↔◌, ◌+◌, ◌++◌, [], Err, IfErr, IfOk, List, ℕ, length};
+ghost use Rattle.mf_gf.specs.Files.{Character, ending, file_of, locators_from, locators_of, post};
+ghost use Rattle.mf_gf.specs.Keeping.{IsRefusedAs, IsSameFile, Keeps, limit};
+ghost use Rattle.mf_gf.specs.Spellings.{Holds};
+ghost use Rattle.mf_gf.specs.Tails.{tail_of};
+
+use super::{FontWords, GfFile};
+use crate::boxes::CharacterBox;
+use crate::fault::GfFault;
+use crate::finished::GfBytes;
+use crate::spelling::Spelling;
+
+/// Opcodes of the postamble and of what ends the file, its identification, and the bytes behind it.
+const POST: u8 = 248;
+
+const POST_POST: u8 = 249;
+
+const GF_ID: u8 = 131;
+
+const PADDING: u8 = 223;
+
+/// Bytes of the ending before its padding.
+const ENDING: usize = 6;
+
+impl GfFile {
+    /// The whole file, whose postamble has these numbers. Refusals NoCharacters (21), exactly where no character was
+    /// shipped, else FileTooLong (20), exactly where the file would have more bytes than it may, and OutOfMemory (14).
+    /// A refusal hands the file back as it was.
+    pub fn finish(self, words: FontWords) -> Result<GfBytes, (GfFile, GfFault)>
+        ensures finished { IfOk result (λ bytes. (comment : List ℕ) (characters : List Character) → Keeps self comment characters → bytes ≡ file_of words comment characters) }
+        ensures handed_back { IfErr result (λ refused. IsSameFile self refused.0) }
+        ensures none { (comment : List ℕ) (characters : List Character) → Keeps self comment characters → (characters ≡ []) ↔ IsRefusedAs GfFault.NoCharacters result }
+        ensures too_long { (comment : List ℕ) (characters : List Character) → Keeps self comment characters → (characters ≡ [] → ⊥) → (limit self < length (file_of words comment characters)) ↔ IsRefusedAs GfFault.FileTooLong result }
+        ensures fault { IfErr result (λ refused. (refused.1 ≡ GfFault.NoCharacters) ⊎ (refused.1 ≡ GfFault.FileTooLong) ⊎ (refused.1 ≡ GfFault.OutOfMemory)) }
+    {
+        let Some(bounds) = self.bounds else {
+            return Err((self, GfFault::NoCharacters));
+        };
+        match self.tail(&words, &bounds) {
+            Ok(tail) => self.with_tail(&tail),
+            Err(fault) => Err((self, fault)),
+        }
+    }
+
+    /// The bytes behind the characters.
+    fn tail(&self, words: &FontWords, bounds: &CharacterBox) -> Result<Vec<u8>, GfFault>
+        ensures bytes { IfOk result (λ tail. tail.items ≡ tail_of words.now bounds.now self.now.bytes.items self.now.locators.items) }
+        ensures too_long { (self.now.max_bytes < length (self.now.bytes.items ++ tail_of words.now bounds.now self.now.bytes.items self.now.locators.items)) ↔ (result ≡ Err GfFault.FileTooLong) }
+        ensures fault { IfErr result (λ fault. (fault ≡ GfFault.FileTooLong) ⊎ (fault ≡ GfFault.OutOfMemory)) }
+    {
+        let place = self.bytes.len() as u32;
+        let mut out = Spelling::new(self.alloc, (self.max_bytes - place) as usize);
+        put_post(&mut out, words, bounds, place);
+        self.put_locators(&mut out);
+        out.put_end(place);
+        out.finish()
+    }
+
+    /// The locators, codes rising.
+    fn put_locators(&self, out: &mut Spelling)
+        ensures held { (text : List ℕ) → Holds out.old text → Holds out.new (text ++ locators_from 0 256 self.now.locators.items) }
+        ensures room { out.new.room ≡ out.old.room }
+    {
+        for code in 0..=255u8 {
+            self.put_locators_of(out, code);
+        }
+    }
+
+    /// The locators of a code.
+    fn put_locators_of(&self, out: &mut Spelling, code: u8)
+        ensures held { (text : List ℕ) → Holds out.old text → Holds out.new (text ++ locators_of code self.now.locators.items) }
+        ensures room { out.new.room ≡ out.old.room }
+    {
+        for locator in &self.locators {
+            if locator.code == code {
+                locator.spell(out);
+            }
+        }
+    }
+
+    /// The file with its tail.
+    fn with_tail(mut self, tail: &[u8]) -> Result<GfBytes, (GfFile, GfFault)>
+        requires within { length (self.bytes.items ++ tail.now) ≤ self.max_bytes }
+        ensures finished { IfOk result (λ bytes. bytes ≡ self.bytes.items ++ tail.now) }
+        ensures handed_back { IfErr result (λ refused. IsSameFile self refused.0 × (refused.1 ≡ GfFault.OutOfMemory)) }
+    {
+        match self.bytes.extend_from_slice(tail) {
+            Ok(()) => Ok(GfBytes::new(self.bytes)),
+            Err(_) => Err((self, GfFault::OutOfMemory)),
+        }
+    }
+}
+
+/// The postamble, at this place.
+fn put_post(out: &mut Spelling, words: &FontWords, bounds: &CharacterBox, place: u32)
+    ensures held { (text : List ℕ) → Holds out.old text → Holds out.new (text ++ post words.now bounds.now place) }
+    ensures room { out.new.room ≡ out.old.room }
+{
+    out.put(&[POST]);
+    out.put_unsigned(place);
+    out.put_word(words.ds);
+    out.put_unsigned(words.cs);
+    out.put_word(words.hppp);
+    out.put_word(words.vppp);
+    out.put_word(bounds.min_m);
+    out.put_word(bounds.max_m);
+    out.put_word(bounds.min_n);
+    out.put_word(bounds.max_n);
+}
+
+impl Spelling {
+    /// What ends a file whose postamble has this place and is followed by the bytes of this spelling.
+    fn put_end(&mut self, place: u32)
+        ensures held { (text : List ℕ) → Holds self.old text → Holds self.new (text ++ ending place (place + length text)) }
+        ensures room { self.new.room ≡ self.old.room }
+    {
+        let before = place as usize + self.length() + ENDING;
+        self.put(&[POST_POST]);
+        self.put_unsigned(place);
+        self.put(&[GF_ID]);
+        let padding = [PADDING; 7];
+        self.put(&padding[..7 - (before + 3) % 4]);
+    }
+}

@@ -1,0 +1,48 @@
+//! Finished files.
+ghost use Rattle.std.specs.Io.KnownBytes.{Appends};
+ghost use Rattle.std.specs.Prelude.{◌≡◌, ◌≤◌, IfErr, OnOk, length, take};
+
+use crate::fault::WriteFault;
+use crate::output::write_counted;
+use std::io::Write;
+use std::marker::Model;
+
+/// The bytes of a finished GF file.
+#[derive(Drop)]
+pub struct GfBytes {
+    bytes: Vec<u8>,
+}
+
+impl Model for GfBytes {
+    ghost use Rattle.std.specs.Prelude.{List, ℕ};
+
+    ghost Value = { List ℕ };
+
+    ghost view = { λ file. file.bytes.items };
+}
+
+impl GfBytes {
+    /// A file of these bytes.
+    pub(crate) fn new(bytes: Vec<u8>) -> GfBytes
+        ensures { result ≡ bytes.items }
+    {
+        GfBytes { bytes }
+    }
+
+    /// All its bytes.
+    pub fn bytes(&self) -> &[u8]
+        ensures { result.now ≡ self.now }
+    {
+        &self.bytes
+    }
+
+    /// Writes all its bytes, in as many writes as the writer needs. Refusal WriteFault (25) where the writer answered an
+    /// error or took no byte: exactly so many of the first bytes went out.
+    pub fn write_to<W: Write>(&self, writer: &mut W) -> Result<(), WriteFault>
+        ensures all { OnOk result (Appends (W.contents writer.old) (W.contents writer.new) self.now) }
+        ensures front { IfErr result (λ fault. Appends (W.contents writer.old) (W.contents writer.new) (take fault.0 self.now)) }
+        ensures within { IfErr result (λ fault. fault.0 ≤ length self.now) }
+    {
+        write_counted(writer, &self.bytes).map_err(|count| WriteFault(count as u128))
+    }
+}

@@ -1,0 +1,22 @@
+//! GF files, METAFONT's generic fonts: characters of black pixels, by code (The METAFONTbook, Appendix G).
+#![tactic(auto)]
+
+mod boxes;
+mod character;
+mod fault;
+mod file;
+mod finished;
+pub mod laws;
+mod locator;
+mod output;
+mod rows;
+mod spelling;
+mod stretches;
+mod strokes;
+#[cfg(test)]
+mod tests;
+
+pub use fault::{GfFault, WriteFault};
+pub use file::{FontWords, GfFile};
+pub use finished::GfBytes;
+pub use output::write_counted;

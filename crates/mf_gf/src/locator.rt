@@ -1,0 +1,53 @@
+//! Where the characters of a file stand.
+ghost use Rattle.std.specs.Prelude.{◌≡◌, ◌++◌, List, ℕ};
+ghost use Rattle.mf_gf.specs.Files.{locator_text, short_dx};
+ghost use Rattle.mf_gf.specs.Spellings.{Holds};
+
+use crate::spelling::Spelling;
+
+/// Opcodes of a locator, and of a short one.
+const CHAR_LOC: u8 = 245;
+
+const CHAR_LOC0: u8 = 246;
+
+/// A pixel in the units of `dx`.
+const PIXEL: i32 = 65_536;
+
+/// A character of a file: its code, its escapement in 1/65536 pixel, its width in 1/1048576 of the design size, and its
+/// place, the number of bytes of the file before it.
+#[derive(Clone, Copy, Debug, PartialEq, Eq)]
+pub(crate) struct Locator {
+    pub code: u8,
+    pub dx: i32,
+    pub width: i32,
+    pub place: u32,
+}
+
+impl Locator {
+    /// Spells it: in short where the escapement is a whole number of pixels in 0..255.
+    pub(crate) fn spell(&self, out: &mut Spelling)
+        ensures held { (text : List ℕ) → Holds out.old text → Holds out.new (text ++ locator_text self.now) }
+        ensures room { out.new.room ≡ out.old.room }
+    {
+        match self.whole_pixels() {
+            Some(pixels) => out.put(&[CHAR_LOC0, self.code, pixels]),
+            None => {
+                out.put(&[CHAR_LOC, self.code]);
+                out.put_word(self.dx);
+                out.put_word(0);
+            }
+        }
+        out.put_word(self.width);
+        out.put_unsigned(self.place);
+    }
+
+    /// The escapement in pixels, if it is a whole number of them in 0..255.
+    fn whole_pixels(&self) -> Option<u8>
+        ensures { result ≡ short_dx self.now.dx }
+    {
+        if self.dx < 0 || self.dx % PIXEL != 0 || self.dx / PIXEL > 255 {
+            return None;
+        }
+        Some((self.dx / PIXEL) as u8)
+    }
+}

@@ -1,0 +1,67 @@
+//! The rows of a character.
+ghost use Rattle.std.specs.Prelude.{◌≡◌, ◌++◌, List, ℕ};
+ghost use Rattle.mf_gf.specs.Ahead.{AreInOrder, blacks_ahead, stretches_left};
+ghost use Rattle.mf_gf.specs.Places.{IsInReach};
+ghost use Rattle.mf_gf.specs.Spelling.{approach, rows};
+ghost use Rattle.mf_gf.specs.Spellings.{Holds};
+ghost use Rattle.mf_rows.specs.Order.{IsRun};
+
+use crate::boxes::CharacterBox;
+use crate::spelling::Spelling;
+use crate::stretches::Stretches;
+use mf_rows::Run;
+
+/// Greatest offset of a new row.
+const MOST_NEW_ROW: u32 = 164;
+
+/// Where the painting machine stands.
+#[derive(Clone, Copy, Debug)]
+struct Place {
+    row: i32,
+    column: i32,
+}
+
+/// Spells stretches, one after another, from the left end of the top row of their box on.
+pub(crate) fn spell_rows(out: &mut Spelling, stretches: Stretches<'_>, bounds: &CharacterBox)
+    requires order { AreInOrder (blacks_ahead stretches) }
+    requires left { IsInReach bounds.now.min_m }
+    requires top { IsInReach bounds.now.max_n }
+    ensures held { (text : List ℕ) → Holds out.old text → Holds out.new (text ++ rows bounds.now.min_m bounds.now.max_n bounds.now.min_m (stretches_left stretches.entry)) }
+    ensures room { out.new.room ≡ out.old.room }
+{
+    let mut place = Place {
+        row: bounds.max_n,
+        column: bounds.min_m,
+    };
+    for stretch in stretches {
+        go_to(out, bounds.min_m, place, &stretch);
+        out.paint(stretch.len);
+        place = Place {
+            row: stretch.y,
+            column: stretch.x + stretch.len as i32,
+        };
+    }
+}
+
+/// Goes from a place to the beginning of a stretch, behind which black is painted. `left` is the left end of the box.
+fn go_to(out: &mut Spelling, left: i32, from: Place, stretch: &Run)
+    requires stretch { IsRun stretch.now }
+    requires left { IsInReach left }
+    requires row { IsInReach from.row }
+    requires column { IsInReach from.column }
+    ensures held { (text : List ℕ) → Holds out.old text → Holds out.new (text ++ approach left from.row from.column stretch.now) }
+    ensures room { out.new.room ≡ out.old.room }
+{
+    if stretch.y == from.row {
+        out.paint(stretch.x.abs_diff(from.column));
+        return;
+    }
+    let rows = from.row.abs_diff(stretch.y);
+    let offset = stretch.x.abs_diff(left);
+    if rows == 1 && offset <= MOST_NEW_ROW {
+        out.new_row(offset);
+        return;
+    }
+    out.skip(rows - 1);
+    out.paint(offset);
+}

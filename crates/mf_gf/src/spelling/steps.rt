@@ -1,0 +1,93 @@
+//! How bytes are written.
+ghost use Rattle.std.specs.Prelude.{◌≡◌, ◌↔◌, ◌⊎◌, ◌<◌, ◌≤◌, ◌^◌, ◌++◌, Err, IfErr, IfOk, List, ℕ, [], length, pos};
+ghost use Rattle.byteorder.specs.Endian.{big_bytes};
+ghost use Rattle.mf_gf.specs.Numbers.{word};
+ghost use Rattle.mf_gf.specs.Spellings.{Holds};
+
+use super::Spelling;
+use crate::fault::GfFault;
+use byteorder::{BigEndian, ByteOrder};
+use std::alloc::Global;
+
+impl Spelling {
+    /// No bytes.
+    pub(crate) fn new(alloc: Global, room: usize) -> Spelling
+        requires { room ≤ 2 ^ 31 }
+        ensures empty { Holds result [] }
+        ensures room { result.room ≡ room }
+    {
+        Spelling {
+            bytes: Vec::new(alloc),
+            length: 0,
+            room,
+            is_wanting: false,
+        }
+    }
+
+    /// Number of bytes, where they have room.
+    pub(crate) fn length(&self) -> usize
+        ensures { result ≡ self.now.length }
+    {
+        self.length
+    }
+
+    /// Appends bytes.
+    pub(crate) fn put(&mut self, bytes: &[u8])
+        requires { length bytes.now ≤ 2 ^ 31 }
+        ensures held { (text : List ℕ) → Holds self.old text → Holds self.new (text ++ bytes.now) }
+        ensures room { self.new.room ≡ self.old.room }
+    {
+        if self.length > self.room {
+            return;
+        }
+        self.length += bytes.len();
+        if self.length <= self.room && !self.is_wanting {
+            self.is_wanting = self.bytes.extend_from_slice(bytes).is_err();
+        }
+    }
+
+    /// Appends a number of two bytes, the higher first.
+    pub(crate) fn put_half(&mut self, number: u16)
+        ensures held { (text : List ℕ) → Holds self.old text → Holds self.new (text ++ big_bytes 2 number) }
+        ensures room { self.new.room ≡ self.old.room }
+    {
+        let mut field = [0u8; 2];
+        BigEndian::write_u16(&mut field, number);
+        self.put(&field);
+    }
+
+    /// Appends a signed number of four bytes in two's complement, the highest first.
+    pub(crate) fn put_word(&mut self, number: i32)
+        ensures held { (text : List ℕ) → Holds self.old text → Holds self.new (text ++ word number) }
+        ensures room { self.new.room ≡ self.old.room }
+    {
+        let mut field = [0u8; 4];
+        BigEndian::write_i32(&mut field, number);
+        self.put(&field);
+    }
+
+    /// Appends a number of four bytes, the highest first.
+    pub(crate) fn put_unsigned(&mut self, number: u32)
+        ensures held { (text : List ℕ) → Holds self.old text → Holds self.new (text ++ word (pos number)) }
+        ensures room { self.new.room ≡ self.old.room }
+    {
+        let mut field = [0u8; 4];
+        BigEndian::write_u32(&mut field, number);
+        self.put(&field);
+    }
+
+    /// All the bytes. Refusals FileTooLong (20), exactly where they are more than the room, and OutOfMemory (14).
+    pub(crate) fn finish(self) -> Result<Vec<u8>, GfFault>
+        ensures bytes { IfOk result (λ bytes. (text : List ℕ) → Holds self text → bytes.items ≡ text) }
+        ensures too_long { (text : List ℕ) → Holds self text → (self.room < length text) ↔ (result ≡ Err GfFault.FileTooLong) }
+        ensures fault { IfErr result (λ fault. (fault ≡ GfFault.FileTooLong) ⊎ (fault ≡ GfFault.OutOfMemory)) }
+    {
+        if self.length > self.room {
+            return Err(GfFault::FileTooLong);
+        }
+        if self.is_wanting {
+            return Err(GfFault::OutOfMemory);
+        }
+        Ok(self.bytes)
+    }
+}

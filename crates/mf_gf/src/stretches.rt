@@ -1,0 +1,79 @@
+//! The stretches of black pixels of a picture, one after another.
+ghost use Rattle.std.specs.Prelude.{◌≡◌, ◌∷◌, flat_map};
+ghost use Rattle.mf_gf.specs.Ahead.{AreInOrder, blacks, blacks_ahead, stretches_left, with_next};
+ghost use Rattle.mf_gf.specs.Pixels.{black};
+ghost use Rattle.mf_rows.specs.Dots.{IsPicture};
+ghost use Rattle.mf_rows.specs.Runs.{dots_of, runs_of};
+ghost use Rattle.mf_rows.specs.Walk.{runs_left};
+
+use mf_rows::{Picture, Run, Runs};
+
+/// An iterator over the stretches of black pixels of a picture, rows from the top and columns rising: the maximal
+/// runs of pixels of positive weight, given with weight 1. It passes the runs of the picture once and takes no memory.
+#[derive(Drop)]
+pub(crate) struct Stretches<'a> {
+    /// The first run of positive weight that is still to come, and the runs behind it.
+    next: Option<Run>,
+    runs: Runs<'a>,
+}
+
+impl<'a> Stretches<'a> {
+    /// The stretches of a picture.
+    pub(crate) fn over(picture: &'a Picture) -> Stretches<'a>
+        ensures order { AreInOrder (blacks_ahead result) }
+        ensures stretches { stretches_left result ≡ runs_of (black picture.now) }
+        ensures lawful { IsPicture picture.now }
+    {
+        let mut runs = picture.runs();
+        let next = next_black(&mut runs);
+        Stretches { next, runs }
+    }
+
+    /// The stretch that begins with this one and has the runs that continue it, which are passed.
+    fn lengthened(&mut self, begun: Run) -> Run
+        requires order { AreInOrder (begun ∷ blacks_ahead self.old) }
+        ensures order { AreInOrder (blacks_ahead self.new) }
+        ensures stretch { runs_of (flat_map dots_of (begun ∷ blacks_ahead self.old)) ≡ result ∷ stretches_left self.new }
+    {
+        let mut stretch = begun;
+        while let Some(run) = self.next {
+            if run.y != stretch.y || run.x != stretch.x + stretch.len as i32 {
+                break;
+            }
+            stretch.len += run.len;
+            self.next = next_black(&mut self.runs);
+        }
+        stretch
+    }
+}
+
+impl Iterator for Stretches<'_> {
+    ghost use Rattle.std.specs.Iterator.{YieldsFirst, item_count};
+    ghost use Rattle.mf_gf.specs.Ahead.{AreInOrder, blacks_ahead, stretches_left};
+
+    type Item = Run;
+
+    ghost can_next = { λ s. AreInOrder (blacks_ahead s) };
+
+    ghost next_gives = { YieldsFirst stretches_left };
+
+    ghost remaining = { item_count stretches_left };
+
+    fn next(&mut self) -> Option<Run> {
+        let begun = self.next?;
+        self.next = next_black(&mut self.runs);
+        Some(self.lengthened(begun))
+    }
+}
+
+/// The next run of positive weight, as one of weight 1.
+fn next_black(runs: &mut Runs<'_>) -> Option<Run>
+    ensures next { blacks (runs_left runs.old) ≡ with_next result (blacks (runs_left runs.new)) }
+{
+    while let Some(run) = runs.next() {
+        if run.weight > 0 {
+            return Some(Run { weight: 1, ..run });
+        }
+    }
+    None
+}

@@ -1,0 +1,71 @@
+//! The painting commands of a character.
+ghost use Rattle.std.specs.Prelude.{◌≡◌, ◌<◌, ◌≤◌, ◌^◌, ◌++◌, List, ℕ};
+ghost use Rattle.mf_gf.specs.Spelling.{new_row, paint, skip, with_parameter};
+ghost use Rattle.mf_gf.specs.Spellings.{Holds};
+
+use crate::spelling::Spelling;
+
+/// Opcode of a paint whose length is its parameter of one byte; of one whose length is the opcode, the greatest.
+const PAINT1: u8 = 64;
+
+const MOST_PAINTED: u32 = 63;
+
+/// Opcodes of a skip of no row, and of one that has its number of rows as a parameter of one byte.
+const SKIP0: u8 = 70;
+
+const SKIP1: u8 = 71;
+
+/// Opcode of a new row that begins at the left end of the box.
+const NEW_ROW_0: u8 = 74;
+
+impl Spelling {
+    /// Paints so many pixels.
+    pub(crate) fn paint(&mut self, length: u32)
+        requires { length < 2 ^ 16 }
+        ensures held { (text : List ℕ) → Holds self.old text → Holds self.new (text ++ paint length) }
+        ensures room { self.new.room ≡ self.old.room }
+    {
+        if length <= MOST_PAINTED {
+            self.put(&[length as u8]);
+        } else {
+            self.put_parameter(PAINT1, length);
+        }
+    }
+
+    /// Passes so many blank rows.
+    pub(crate) fn skip(&mut self, rows: u32)
+        requires { rows < 2 ^ 16 }
+        ensures held { (text : List ℕ) → Holds self.old text → Holds self.new (text ++ skip rows) }
+        ensures room { self.new.room ≡ self.old.room }
+    {
+        if rows == 0 {
+            self.put(&[SKIP0]);
+        } else {
+            self.put_parameter(SKIP1, rows);
+        }
+    }
+
+    /// Begins the next row at this offset from the left end of the box.
+    pub(crate) fn new_row(&mut self, offset: u32)
+        requires { offset ≤ 164 }
+        ensures held { (text : List ℕ) → Holds self.old text → Holds self.new (text ++ new_row offset) }
+        ensures room { self.new.room ≡ self.old.room }
+    {
+        self.put(&[NEW_ROW_0 + offset as u8]);
+    }
+
+    /// An opcode with its parameter: this one for a parameter of one byte, the next for one of two.
+    fn put_parameter(&mut self, opcode: u8, parameter: u32)
+        requires opcode { opcode < 255 }
+        requires parameter { parameter < 2 ^ 16 }
+        ensures held { (text : List ℕ) → Holds self.old text → Holds self.new (text ++ with_parameter opcode parameter) }
+        ensures room { self.new.room ≡ self.old.room }
+    {
+        if parameter <= 255 {
+            self.put(&[opcode, parameter as u8]);
+        } else {
+            self.put(&[opcode + 1]);
+            self.put_half(parameter as u16);
+        }
+    }
+}
