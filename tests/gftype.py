@@ -1,9 +1,13 @@
 #!/usr/bin/env python3
-"""Asks gftype (Debian package texlive-binaries) about the characters that mf_gf's tests expect.
+"""Asks gftype and gftopk (Debian package texlive-binaries) about GF files.
+
+    tests/gftype.py [PROGRAM]
 
 The tests of mf_gf compare each character that the library writes with the bytes in a table. This script reads that
 table, wraps each character into a GF file with a postamble of its own, has gftype print it with its images, and
-compares: gftype has no complaint, and its image is the black pixels that the table names. It is run by hand.
+compares: gftype has no complaint, and its image is the black pixels that the table names. Then PROGRAM, which is
+`mfpic` beside this folder unless another is named, ships the letters of examples/font.mfp: their images are the grids
+that `proof` shows before each, and gftopk packs the file. It is run by hand.
 """
 
 import ast
@@ -14,7 +18,9 @@ import subprocess
 import sys
 import tempfile
 
-TABLE = pathlib.Path(__file__).parent.parent / "crates/mf_gf/src/tests/characters.rt"
+ROOT = pathlib.Path(__file__).parent.parent
+TABLE = ROOT / "crates/mf_gf/src/tests/characters.rt"
+FONT = ROOT / "examples/font.mfp"
 
 CASE = re.compile(
     r'Case \{\s*about: "(?P<about>[^"]*)",\s*code: (?P<code>\d+),\s*'
@@ -26,8 +32,10 @@ CASE = re.compile(
 LAWFUL = re.compile(
     r"^\s*$|^This is GFtype|^Options selected|^''$|^\d+: (beginning of char|eoc|newrow|skip|paint)"
     r"|^\(initially n=|^\(The character is entirely blank|^Postamble starts|^design size|^check sum|^hppp|^vppp"
-    r"|^min [mn] = |^Character \d+: dx |^The file had 1 character"
+    r"|^min [mn] = |^Character \d+: dx |^The file had \d+ characters?"
 )
+
+BEGINNING = re.compile(r"^\d+: beginning of char (\d+)")
 
 CORNER = re.compile(r"^\.<--This pixel's (lower|upper) left corner is at \((-?\d+),(-?\d+)\)")
 
@@ -88,7 +96,63 @@ def complaints(case, folder):
     return wrong
 
 
+def images_of(lines):
+    """The image of each character that gftype prints, by code, and the lines beside them."""
+    images, others, code, part = {}, [], None, []
+    for line in [*lines, None]:
+        begins = BEGINNING.match(line) if line is not None else None
+        if begins or line is None:
+            black, more = image_of(part)
+            others += more
+            if code is not None:
+                images[code] = black
+            part = []
+        if begins:
+            code = int(begins.group(1))
+        part.append(line)
+    return images, others
+
+
+def at_corner(pixels):
+    """Pixels, moved so that their least column and row are 0."""
+    left, low = min(x for x, _ in pixels), min(y for _, y in pixels)
+    return {(x - left, y - low) for x, y in pixels}
+
+
+def grids_of(transcript):
+    """The pixels of the grid before each code that a transcript shows, by code."""
+    grids, grid = {}, []
+    for line in transcript.splitlines():
+        if shipped := re.fullmatch(r"\[(\d+)\]", line):
+            rows = enumerate(reversed(grid))
+            grids[int(shipped.group(1))] = at_corner({(x, y) for y, row in rows for x, mark in enumerate(row) if mark == "1"})
+            grid = []
+        elif re.fullmatch(r"[.1]+", line):
+            grid.append(line)
+    return grids
+
+
+def complaints_about_font(program, folder):
+    """What is wrong with the font that the program ships."""
+    path = folder / "font.gf"
+    with FONT.open(encoding="ascii") as script:
+        ran = subprocess.run([program, "--gf", str(path)], stdin=script, capture_output=True, text=True, check=False)
+    if ran.returncode != 0:
+        return [f"the program ends with status {ran.returncode}: {ran.stderr}"]
+    shown = subprocess.run(["gftype", "-mnemonics", "-images", str(path)], capture_output=True, text=True, check=False)
+    images, others = images_of(shown.stdout.splitlines())
+    wrong = [line for line in others if line is not None and not LAWFUL.match(line)]
+    grids = grids_of(ran.stdout)
+    if not grids or {code: at_corner(black) for code, black in images.items()} != grids:
+        wrong.append("the images differ from the grids")
+    packed = subprocess.run(["gftopk", str(path), str(folder / "font.pk")], capture_output=True, text=True, check=False)
+    if packed.returncode != 0:
+        wrong.append(f"gftopk ends with status {packed.returncode}: {packed.stdout}")
+    return wrong
+
+
 def main():
+    program = sys.argv[1] if len(sys.argv) > 1 else str(ROOT / "mfpic")
     cases = [match.groupdict() for match in CASE.finditer(TABLE.read_text())]
     if not cases:
         sys.exit("the table has no case")
@@ -99,8 +163,11 @@ def main():
             failed += bool(wrong)
             for line in wrong:
                 print(f"{case['about']}: {line}")
-    print(f"{len(cases)} characters, {failed} with complaints")
-    sys.exit(failed > 0)
+        wrong = complaints_about_font(program, pathlib.Path(folder))
+        for line in wrong:
+            print(f"{FONT.name}: {line}")
+    print(f"{len(cases)} characters, {failed} with complaints; {FONT.name}, {len(wrong)} complaints")
+    sys.exit(failed > 0 or bool(wrong))
 
 
 if __name__ == "__main__":

@@ -355,6 +355,34 @@ pub const SCRIPTS: &[(&str, &str)] = &[
          refused OutOfField\n\
          published 3\n",
     ),
+    // Shipping: a code is shipped once, and what is shipped is no operation.
+    (
+        "addto currentpicture contour (0,0)--(3,0)--(3,2)--(0,2)--cycle\n\
+         shipout currentpicture code 65 dx 327680 width 0\n\
+         shipout nullpicture code 65 dx 0 width 0\n\
+         shipout a code 0 dx -1 width -1\n\
+         shipout b code -0 dx 0 width 0\n\
+         publish\n",
+        "[65]\n\
+         refused CodeShipped\n\
+         [0]\n\
+         refused CodeShipped\n\
+         published 1\n",
+    ),
+    (
+        "shipout a code255dx-999999999width999999999;\n\
+         shipout a code 256 dx 0 width 0\n\
+         shipout a code -5 dx 0 width 0\n\
+         shipout a code - 5\n\
+         shipout a code -x\n\
+         shipout a code 1 dx 0\n",
+        "[255]\n\
+         refused Syntax 16\n\
+         refused Syntax 16\n\
+         refused Syntax 16\n\
+         refused Syntax 17\n\
+         refused Syntax 22\n",
+    ),
     // Lines without a command.
     ("\n;\n  % note\n \t\n;% ;\nshow a\n", "blank\n"),
     (

@@ -1,6 +1,7 @@
 //! Tests of scripts, from the bytes that are read to the bytes that are written, and of sessions.
 
 mod faults;
+mod fonts;
 mod lengths;
 mod limits;
 mod lines;
@@ -8,13 +9,23 @@ mod sessions;
 mod transcripts;
 
 use crate::streams::{Pieces, Sink};
-use mf_desk::run;
+use mf_desk::{Settings, run};
+use mf_gf::FontWords;
 use std::alloc::{AllocError, Global};
 use std::process::Abort;
 use std::sync::Wait;
 
-/// So many operations on `currentpicture` are more than any of these scripts has.
-const MAX_OPS: u32 = 1_000_000;
+/// More operations on `currentpicture` and more bytes of a font file than any of these scripts has.
+const AMPLE: Settings = Settings {
+    max_ops: 1_000_000,
+    max_bytes: 1_000_000,
+    font: FontWords {
+        ds: 0,
+        cs: 0,
+        hppp: 0,
+        vppp: 0,
+    },
+};
 
 /// These parts, one after another.
 fn joined(alloc: Global, parts: &[&[u8]]) -> Result<Vec<u8>, AllocError> {
@@ -34,7 +45,7 @@ fn assert_prints<R: Abort + Wait + AllocGlobal>(
 ) {
     let alloc = rt.alloc();
     let mut writer = Sink::new(alloc);
-    let result = run(rt, alloc, &mut reader, &mut writer, MAX_OPS);
-    assert_eq!(rt; result, Ok(()), "{about}");
+    let result = run(rt, alloc, &mut reader, &mut writer, &AMPLE);
+    assert_eq!(rt; result.err(), None, "{about}");
     assert_eq!(rt; writer.taken(), transcript, "{about}");
 }

@@ -1,10 +1,13 @@
 -- The exit statuses of the program.
 use Rattle.std.specs.Prelude.{ℕ}
-use Rattle.mf_desk.specs.declared.fault.RunFault.{RunFault}
-use Rattle.mf_desk.specs.declared.fault.RunFault.TheVariants.{OutOfMemory, ReadFault, WriteFault}
+use Rattle.mf_cli.specs.declared.fault.ProgramFault.{ProgramFault}
+use Rattle.mf_cli.specs.declared.fault.ProgramFault.TheVariants.{Run, NoCharacters}
+use Rattle.mf_desk.specs.declared.fault.RunFault.TheVariants.{OutOfMemory, FileTooLong, ReadFault, WriteFault}
 
--- the status after a fault: 3 where a stream failed, 4 where memory was wanting
-abbrev pub status_of : RunFault → ℕ
-status_of ReadFault = 3
-status_of (WriteFault count) = 3
-status_of OutOfMemory = 4
+-- the status after a fault: 4 where memory was wanting, else 3
+abbrev pub status_of : ProgramFault → ℕ
+status_of (Run OutOfMemory) = 4
+status_of (Run FileTooLong) = 3
+status_of (Run ReadFault) = 3
+status_of (Run (WriteFault count)) = 3
+status_of NoCharacters = 3

@@ -1,8 +1,11 @@
-//! The program `mfpic`: reads a script of picture commands and writes its transcript.
+//! The program `mfpic`: reads a script of picture commands, writes its transcript, and the font file of what it ships.
 #![tactic(auto)]
 
+mod fault;
 mod program;
+mod words;
 
+use fault::ProgramFault;
 use mf_desk::RunFault;
 use program::{program, refuse_words, report};
 use std::env;
@@ -22,7 +25,7 @@ fn main(rt: HostRuntime) -> ExitCode {
         ),
         Err(fault) if fault.kind() == ErrorKind::OutOfMemory => report(
             &mut errors,
-            RunFault::OutOfMemory,
+            ProgramFault::Run(RunFault::OutOfMemory),
         ),
         Err(_) => refuse_words(&mut errors),
     };

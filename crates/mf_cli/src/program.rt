@@ -1,33 +1,49 @@
 //! The program behind `main`: from its words and streams to its exit status.
-ghost use Rattle.std.specs.Prelude.{◌≡◌, ◌<◌, ◌↔◌, ◌⊎◌, IfSome, vec_len};
 ghost use Rattle.std.specs.Io.KnownBytes.{IsAtEnd};
+ghost use Rattle.std.specs.Prelude.{◌≡◌, ◌⊎◌, IfSome, OnOk, map, string_bytes};
+ghost use Rattle.mf_cli.specs.CommandLine.{IsCommandLine};
 ghost use Rattle.mf_cli.specs.Statuses.{status_of};
+ghost use Rattle.mf_desk.specs.States.{limits_of};
 ghost use Rattle.mf_desk.specs.Transcript.{GetsTranscript};
 
-use mf_desk::{RunFault, run};
+use crate::fault::ProgramFault;
+use crate::words::{USAGE, Words, WordsFault, read_words};
+use mf_desk::{RunFault, Settings, run};
+use mf_gf::{FontWords, GfBytes};
 use std::alloc::Global;
+use std::fs;
 use std::io::{Read, Write};
+use std::rt::Files;
 use std::sync::Wait;
 
-/// Greatest number of operations on `currentpicture` that a script may have accepted.
-pub const MAX_OPS: u32 = 1_000_000;
+/// What a script may do, and the numbers of its font.
+const SETTINGS: Settings = Settings {
+    max_ops: 1_000_000,
+    max_bytes: 16_777_216,
+    font: FontWords {
+        ds: 0,
+        cs: 0,
+        hppp: 0,
+        vppp: 0,
+    },
+};
 
-/// Status of a run that reached the end of its script.
+/// Status of a run that reached the end of its script, and wrote the font file that was asked for.
 pub const DONE: u8 = 0;
 
-/// Status where the command line has words behind the program's name.
+/// Status where the command line has other words than the program knows.
 pub const BAD_WORDS: u8 = 2;
 
-/// Status after a ReadFault or a WriteFault.
+/// Status where a stream or the font file failed.
 pub const STREAM_FAULT: u8 = 3;
 
 /// Status where memory was wanting.
 pub const NO_MEMORY: u8 = 4;
 
-/// Performs the script that `reader` gives, writes its transcript to `writer` and a message of what went
-/// wrong to `errors`, and answers the exit status. `words` are those of the command line, of which the first
-/// is the program's name. A fault of `errors` changes no status. Nobody looks on, so it waits for nobody.
-pub fn program<S: Wait, R: Read, W: Write, E: Write>(
+/// Performs the script that `reader` gives, writes its transcript to `writer`, the font file where the words ask for it,
+/// and a message of what went wrong to `errors`, and answers the exit status. `words` are those of the command line, of
+/// which the first is the program's name. A fault of `errors` changes no status. Nobody looks on, so it waits for nobody.
+pub fn program<S: Wait + Files, R: Read, W: Write, E: Write>(
     rt: &S,
     alloc: Global,
     words: Vec<String>,
@@ -36,19 +52,54 @@ pub fn program<S: Wait, R: Read, W: Write, E: Write>(
     errors: &mut E,
 ) -> u8
     ensures statuses { (result ≡ DONE) ⊎ (result ≡ BAD_WORDS) ⊎ (result ≡ STREAM_FAULT) ⊎ (result ≡ NO_MEMORY) }
-    ensures bad_words { (result ≡ BAD_WORDS) ↔ (1 < vec_len words) }
-    ensures unread { 1 < vec_len words → reader.new ≡ reader.old }
-    ensures unwritten { 1 < vec_len words → writer.new ≡ writer.old }
+    ensures bad_words { result ≡ BAD_WORDS → IsCommandLine (map string_bytes words.items) → ⊥ }
+    ensures refused { (IsCommandLine (map string_bytes words.items) → ⊥) → (result ≡ BAD_WORDS) ⊎ (result ≡ NO_MEMORY) }
+    ensures unread { (IsCommandLine (map string_bytes words.items) → ⊥) → reader.new ≡ reader.old }
+    ensures unwritten { (IsCommandLine (map string_bytes words.items) → ⊥) → writer.new ≡ writer.old }
     ensures quiet { result ≡ DONE → errors.new ≡ errors.old }
-    ensures transcript { result ≡ DONE → IfSome (R.remaining reader.old) (GetsTranscript MAX_OPS (W.contents writer.old) (W.contents writer.new)) }
+    ensures transcript { result ≡ DONE → IfSome (R.remaining reader.old) (GetsTranscript (limits_of 1000000 16777216) (W.contents writer.old) (W.contents writer.new)) }
     ensures end { result ≡ DONE → IsAtEnd (R.remaining reader.new) }
 {
-    if words.len() > 1 {
-        return refuse_words(errors);
-    }
-    match run(rt, alloc, reader, writer, MAX_OPS) {
+    let words = match read_words(alloc, words) {
+        Ok(words) => words,
+        Err(WordsFault::BadWords) => return refuse_words(errors),
+        Err(WordsFault::OutOfMemory) => return report(errors, RunFault::OutOfMemory.into()),
+    };
+    match perform(rt, alloc, reader, writer, &words) {
         Ok(()) => DONE,
         Err(fault) => report(errors, fault),
+    }
+}
+
+/// Performs the script, and then writes the font file where the words ask for it.
+fn perform<S: Wait + Files, R: Read, W: Write>(
+    rt: &S,
+    alloc: Global,
+    reader: &mut R,
+    writer: &mut W,
+    words: &Words,
+) -> Result<(), ProgramFault>
+    ensures transcript { OnOk result (IfSome (R.remaining reader.old) (GetsTranscript (limits_of 1000000 16777216) (W.contents writer.old) (W.contents writer.new))) }
+    ensures end { OnOk result (IsAtEnd (R.remaining reader.new)) }
+{
+    let outcome = run(rt, alloc, reader, writer, &SETTINGS)?;
+    let Some(path) = &words.gf else {
+        return Ok(());
+    };
+    match outcome.gf {
+        Some(file) => Ok(write_file(rt, path, &file)?),
+        None => Err(ProgramFault::NoCharacters),
+    }
+}
+
+/// Writes a font file, which is made, or replaces what was there. Refusal WriteFault (25), also where it cannot be made.
+fn write_file<S: Files>(rt: &S, path: &str, file: &GfBytes) -> Result<(), RunFault> {
+    let Ok(mut out) = fs::create(rt, path) else {
+        return Err(RunFault::WriteFault(0));
+    };
+    match file.write_to(&mut out) {
+        Ok(()) => Ok(()),
+        Err(fault) => Err(RunFault::WriteFault(fault.0)),
     }
 }
 
@@ -57,18 +108,20 @@ pub fn program<S: Wait, R: Read, W: Write, E: Write>(
 pub fn refuse_words<E: Write>(errors: &mut E) -> u8
     ensures { result ≡ BAD_WORDS }
 {
-    let _ = writeln!(errors, "usage: mfpic");
+    let _ = writeln!(errors, "{USAGE}");
     BAD_WORDS
 }
 
 /// Reports a fault by its name, as far as `errors` takes it, and answers the status.
-pub fn report<E: Write>(errors: &mut E, fault: RunFault) -> u8
+pub fn report<E: Write>(errors: &mut E, fault: ProgramFault) -> u8
     ensures { result ≡ status_of fault }
 {
     let _ = writeln!(errors, "mfpic: {fault}");
     match fault {
-        RunFault::ReadFault | RunFault::WriteFault(_) => STREAM_FAULT,
-        RunFault::OutOfMemory => NO_MEMORY,
+        ProgramFault::Run(RunFault::OutOfMemory) => NO_MEMORY,
+        ProgramFault::Run(RunFault::FileTooLong | RunFault::ReadFault | RunFault::WriteFault(_)) =>
+            STREAM_FAULT,
+        ProgramFault::NoCharacters => STREAM_FAULT,
     }
 }
 

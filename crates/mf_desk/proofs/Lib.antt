@@ -1,6 +1,10 @@
 mod Ended
+mod FontFiles
 mod KnownTexts
 mod LongLines
 mod OneTranscript
 pub mod Performing
+mod Runs
+mod Shipping
 mod Stages
+mod Standing

@@ -7,7 +7,7 @@ use Rattle.mf_text.specs.Lines.{IsRefused}
 use Rattle.mf_text.specs.declared.fault.TextFault.{TextFault}
 use Rattle.mf_text.specs.declared.fault.TextFault.TheVariants.{Cycle, BadWeight, BadCull, BadScale, BadTurn, OutOfMemory, LineTooLong, NotAscii, Syntax}
 use Rattle.mf_desk.specs.Answers.{Answers, IsPerformed, IsRefusedLine}
-use Rattle.mf_desk.specs.States.{State}
+use Rattle.mf_desk.specs.States.{State, Limits}
 
 -- a line that is too long has no other refusal
 refused-too_long : (xs ys : List ℕ) (fault : TextFault) → 65536 < length xs → 65536 < length ys → IsRefused xs fault → IsRefused ys fault
@@ -22,10 +22,10 @@ refused-too_long xs ys NotAscii long longer refused = absurd (omega (arith, refu
 refused-too_long xs ys (Syntax column) long longer refused = absurd (omega (arith, refused.text.short))
 
 -- so what one line that is too long answers, another one answers, too
-Answers-too_long : (max_ops : ℕ) (s t : State) (xs ys text : List ℕ) → 65536 < length xs → 65536 < length ys → Answers max_ops s xs text t → Answers max_ops s ys text t
-Answers-too_long max_ops s t xs ys text long longer answer =
+Answers-too_long : (limits : Limits) (s t : State) (xs ys text : List ℕ) → 65536 < length xs → 65536 < length ys → Answers limits s xs text t → Answers limits s ys text t
+Answers-too_long limits s t xs ys text long longer answer =
     ⊎_elim
-    (λ (done : IsPerformed max_ops s xs text t). absurd (omega (arith, done.given.line_is.text.short)))
+    (λ (done : IsPerformed limits s xs text t). absurd (omega (arith, done.given.line_is.text.short)))
     (λ (no : IsRefusedLine s xs text t). inr (record { fault = no.fault; told = no.told; refused = refused-too_long xs ys no.fault long longer no.refused; answer = no.answer }))
     answer
 
@@ -47,19 +47,19 @@ length-stripped line =
     (λ _. omega (arith, length-take (length line - 1) line))
     (λ _. omega arith)
 
-pub Answers-kept : (max_ops : ℕ) (s t : State) (line text : List ℕ) → Answers max_ops s (take 65538 line) text t → Answers max_ops s line text t
-Answers-kept max_ops s t line text answer =
+pub Answers-kept : (limits : Limits) (s t : State) (line text : List ℕ) → Answers limits s (take 65538 line) text t → Answers limits s line text t
+Answers-kept limits s t line text answer =
     ⊎_elim
-    (λ longer. Answers-too_long max_ops s t (take 65538 line) line text (omega (arith, length-take 65538 line)) (omega arith) answer)
-    (λ fits. subst (λ kept. Answers max_ops s kept text t) (take_all 65538 line fits) answer)
+    (λ longer. Answers-too_long limits s t (take 65538 line) line text (omega (arith, length-take 65538 line)) (omega arith) answer)
+    (λ fits. subst (λ kept. Answers limits s kept text t) (take_all 65538 line fits) answer)
     (cases_lt 65538 (length line))
 
-pub Answers-stripped : (max_ops : ℕ) (s t : State) (line text : List ℕ) → Answers max_ops s (strip_carriage_return (take 65538 line)) text t → Answers max_ops s (strip_carriage_return line) text t
-Answers-stripped max_ops s t line text answer =
+pub Answers-stripped : (limits : Limits) (s t : State) (line text : List ℕ) → Answers limits s (strip_carriage_return (take 65538 line)) text t → Answers limits s (strip_carriage_return line) text t
+Answers-stripped limits s t line text answer =
     ⊎_elim
     (λ longer.
-    Answers-too_long max_ops s t (strip_carriage_return (take 65538 line)) (strip_carriage_return line) text
+    Answers-too_long limits s t (strip_carriage_return (take 65538 line)) (strip_carriage_return line) text
     (omega (arith, length-stripped (take 65538 line), length-take 65538 line))
     (omega (arith, length-stripped line)) answer)
-    (λ fits. subst (λ kept. Answers max_ops s (strip_carriage_return kept) text t) (take_all 65538 line fits) answer)
+    (λ fits. subst (λ kept. Answers limits s (strip_carriage_return kept) text t) (take_all 65538 line fits) answer)
     (cases_lt 65538 (length line))

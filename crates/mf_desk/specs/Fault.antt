@@ -1,46 +1,71 @@
--- What has gone out where a run ends before the end of its script.
-use Rattle.std.specs.Prelude.{ℕ, List, ◌++◌, Option, ◌≡◌, length}
+-- What has gone out where a run ends with a fault.
+use Rattle.std.specs.Prelude.{ℕ, List, [], ◌++◌, Option, ◌≡◌, ◌⊎◌, ◌<◌, length}
 use Rattle.std.specs.Io.{StartsWith}
 use Rattle.std.specs.Io.KnownBytes.{Appends, Consumes}
 use Rattle.std.specs.Str.Lines.{lines}
+use Rattle.mf_gf.specs.Files.{preamble}
 use Rattle.mf_desk.specs.Ended.{ended_lines}
-use Rattle.mf_desk.specs.States.{State, start}
+use Rattle.mf_desk.specs.Runs.{IsLongFile, limits_set}
+use Rattle.mf_desk.specs.States.{State, Limits, start}
 use Rattle.mf_desk.specs.Transcript.{Perform}
 use Rattle.mf_desk.specs.declared.fault.RunFault.{RunFault}
-use Rattle.mf_desk.specs.declared.fault.RunFault.TheVariants.{OutOfMemory, ReadFault, WriteFault}
+use Rattle.mf_desk.specs.declared.fault.RunFault.TheVariants.{OutOfMemory, FileTooLong, ReadFault, WriteFault}
+use Rattle.mf_desk.specs.declared.settings.Settings.{Settings}
 
 -- this is what the first lines of the bytes print
-pub record IsFirstText (max_ops : ℕ) (read text : List ℕ) : Type 0 where
+pub record IsFirstText (limits : Limits) (read text : List ℕ) : Type 0 where
   pub done : List (List ℕ)
   pub more : List (List ℕ)
   pub last : State
   pub first : lines read ≡ done ++ more
-  pub performed : Perform max_ops start done text last
+  pub performed : Perform limits start done text last
 
 -- this is what the lines print that a line feed ended
-pub record IsEndedText (max_ops : ℕ) (read text : List ℕ) : Type 0 where
+pub record IsEndedText (limits : Limits) (read text : List ℕ) : Type 0 where
   pub last : State
-  pub performed : Perform max_ops start (ended_lines read) text last
+  pub performed : Perform limits start (ended_lines read) text last
 
 -- these are so many bytes, with which the text of the first lines begins
-pub record IsCutText (max_ops : ℕ) (read written : List ℕ) (count : ℕ) : Type 0 where
+pub record IsCutText (limits : Limits) (read written : List ℕ) (count : ℕ) : Type 0 where
   pub text : List ℕ
-  pub first : IsFirstText max_ops read text
+  pub first : IsFirstText limits read text
   pub begins : StartsWith text written
   pub counted : length written ≡ count
 
--- what a fault says of the bytes that were written, where these were read: after a ReadFault they are the texts of
--- the lines that a line feed ended; after want of memory those of the first lines, so no text is cut; after a
--- WriteFault a front of such texts, which its number counts
-abbrev pub Tells : ℕ → RunFault → List ℕ → List ℕ → Type 0
-Tells max_ops ReadFault read written = IsEndedText max_ops read written
-Tells max_ops OutOfMemory read written = IsFirstText max_ops read written
-Tells max_ops (WriteFault count) read written = IsCutText max_ops read written count
+-- no file has so few bytes, so nothing was read
+pub record HasNoRoom (limits : Limits) (read text : List ℕ) : Type 0 where
+  pub small : limits.max_bytes < length (preamble [])
+  pub unread : read ≡ []
+  pub nothing : text ≡ []
+
+-- this is the whole transcript, and the file of the characters has more bytes than it may
+pub record IsBeforeLongFile (settings : Settings) (read text : List ℕ) : Type 0 where
+  pub last : State
+  pub performed : Perform (limits_set settings) start (lines read) text last
+  pub too_long : IsLongFile (limits_set settings).max_bytes settings.font last.characters
+
+-- what a fault of the script, its reader or its writer says of the bytes that were written, where these were read:
+-- after a ReadFault they are the texts of the lines that a line feed ended; after want of memory those of the first
+-- lines, so no text is cut; after a WriteFault a front of such texts, which its number counts
+abbrev pub Breaks : Limits → RunFault → List ℕ → List ℕ → Type 0
+Breaks limits OutOfMemory read written = IsFirstText limits read written
+Breaks limits FileTooLong read written = ⊥
+Breaks limits ReadFault read written = IsEndedText limits read written
+Breaks limits (WriteFault count) read written = IsCutText limits read written count
+
+-- what each fault says: after FileTooLong they are the whole transcript, or nothing
+abbrev pub Tells : Settings → RunFault → List ℕ → List ℕ → Type 0
+Tells settings FileTooLong read written = HasNoRoom (limits_set settings) read written ⊎ IsBeforeLongFile settings read written
+Tells settings fault read written = Breaks (limits_set settings) fault read written
 
 -- a fault came when these bytes had been read: a writer that held some bytes has got the bytes that the fault tells
-abbrev pub CutsShort : ℕ → RunFault → List ℕ → Option (List ℕ) → Option (List ℕ) → Type 0
-CutsShort max_ops fault read held holds = (written : List ℕ) × Appends held holds written × Tells max_ops fault read written
+abbrev pub CutsShort : Limits → RunFault → List ℕ → Option (List ℕ) → Option (List ℕ) → Type 0
+CutsShort limits fault read held holds = (written : List ℕ) × Appends held holds written × Breaks limits fault read written
 
--- a fault came when the reader had given some bytes, and the writer has got the bytes that the fault tells
-abbrev pub EndsEarly : ℕ → RunFault → Option (List ℕ) → Option (List ℕ) → Option (List ℕ) → Option (List ℕ) → Type 0
-EndsEarly max_ops fault unread left held holds = (read : List ℕ) × Consumes unread left read × CutsShort max_ops fault read held holds
+-- the same where the reader had given some bytes
+abbrev pub BreaksScript : Limits → RunFault → Option (List ℕ) → Option (List ℕ) → Option (List ℕ) → Option (List ℕ) → Type 0
+BreaksScript limits fault unread left held holds = (read : List ℕ) × Consumes unread left read × CutsShort limits fault read held holds
+
+-- a fault ended a run: the reader had given some bytes, and the writer has got the bytes that the fault tells
+abbrev pub EndsEarly : Settings → RunFault → Option (List ℕ) → Option (List ℕ) → Option (List ℕ) → Option (List ℕ) → Type 0
+EndsEarly settings fault unread left held holds = (read : List ℕ) × Consumes unread left read × ((written : List ℕ) × Appends held holds written × Tells settings fault read written)

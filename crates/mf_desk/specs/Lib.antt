@@ -1,9 +1,14 @@
 pub mod Answers
+pub mod Changes
 pub mod Ended
 pub mod Fault
 pub mod Performer
+pub mod Pictures
 pub mod Progress
 pub mod Refusals
+pub mod Runs
 pub mod Sessions
+pub mod Shipments
 pub mod States
 pub mod Transcript
+pub mod Variables

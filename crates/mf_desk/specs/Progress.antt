@@ -1,18 +1,34 @@
 -- The state of a run whose bytes so far are known.
 use Rattle.std.specs.Prelude.{ℕ, List, Option, ◌≡◌, length, take}
-use Rattle.std.specs.Io.KnownBytes.{Appends}
+use Rattle.std.specs.Io.KnownBytes.{Appends, Consumes}
+use Rattle.std.specs.Str.Lines.{lines}
 use Rattle.mf_desk.specs.Ended.{ended_lines, unended}
-use Rattle.mf_desk.specs.Sessions.{limit, state}
-use Rattle.mf_desk.specs.States.{start}
+use Rattle.mf_desk.specs.Sessions.{StandsFor, limits}
+use Rattle.mf_desk.specs.States.{State, start}
 use Rattle.mf_desk.specs.Transcript.{Perform}
 use Rattle.mf_desk.specs.declared.line_buffer.TheConstants.{MAX_KEPT}
 use Rattle.mf_desk.specs.declared.progress.Progress.{Progress}
+use Rattle.mf_desk.specs.declared.session.Session.{Session}
 
 -- the run after these bytes of the script, by a writer that held some bytes and now holds others: the lines that a line
 -- feed ended have been performed and their texts written, and of the one that is not ended enough is kept
 pub record IsAfter (held : Option (List ℕ)) (read : List ℕ) (progress : Progress) (holds : Option (List ℕ)) : Type 0 where
   pub text : List ℕ
-  pub performed : Perform (limit progress.performer.session) start (ended_lines read) text (state progress.performer.session)
+  pub last : State
+  pub performed : Perform (limits progress.performer.session) start (ended_lines read) text last
+  pub stands : StandsFor progress.performer.session last
   pub line : progress.line ≡ take MAX_KEPT (unended read)
   pub out : Appends held holds text
   pub counted : progress.performer.written ≡ length text
+
+-- the run at the end of the script: all lines have been performed, and their texts written
+pub record IsThrough (held : Option (List ℕ)) (read : List ℕ) (session : Session) (holds : Option (List ℕ)) : Type 0 where
+  pub text : List ℕ
+  pub last : State
+  pub performed : Perform (limits session) start (lines read) text last
+  pub stands : StandsFor session last
+  pub out : Appends held holds text
+
+-- all that a reader had was read, and performed
+abbrev pub ReadsThrough : Option (List ℕ) → Option (List ℕ) → Option (List ℕ) → Session → Option (List ℕ) → Type 0
+ReadsThrough unread left held session holds = (read : List ℕ) × Consumes unread left read × IsThrough held read session holds

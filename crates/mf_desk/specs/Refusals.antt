@@ -6,7 +6,7 @@ use Rattle.mf_ops.specs.declared.op.OpFault.{OpFault}
 use Rattle.mf_ops.specs.declared.op.OpFault.TheVariants.{OutOfField, WeightTooLarge, OutOfMemory}
 use Rattle.mf_text.specs.Names.{text_fault_text}
 use Rattle.mf_desk.specs.declared.refusal.Refusal.{Refusal}
-use Rattle.mf_desk.specs.declared.refusal.Refusal.TheVariants.{Line, Operation, ProofTooLarge}
+use Rattle.mf_desk.specs.declared.refusal.Refusal.TheVariants.{Line, Operation, CodeShipped, FileTooLong, ProofTooLarge}
 
 abbrev pub operation_text : OpFault → List ℕ
 operation_text OutOfField = codes "OutOfField"
@@ -21,6 +21,8 @@ fault_text (Refused fault) = operation_text fault
 abbrev pub refusal_text : Refusal → List ℕ
 refusal_text (Line fault) = text_fault_text fault
 refusal_text (Operation fault) = fault_text fault
+refusal_text CodeShipped = codes "CodeShipped"
+refusal_text FileTooLong = codes "FileTooLong"
 refusal_text ProofTooLarge = codes "ProofTooLarge"
 
 -- the line that tells of a refusal

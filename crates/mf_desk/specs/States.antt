@@ -1,28 +1,22 @@
--- The state of a script: the live picture `currentpicture` and the pictures of the registers.
-use Rattle.std.specs.Prelude.{List, [], replicate, slice_index_or}
-use Rattle.mf_live.specs.Entries.{Entry, pic}
-use Rattle.mf_rows.specs.Dots.{Dot}
-use Rattle.mf_text.specs.declared.command.Name.{Name}
-use Rattle.mf_text.specs.declared.command.Name.TheVariants.{Current, Register}
-use Rattle.mf_text.specs.declared.command.Source.{Source}
-use Rattle.mf_text.specs.declared.command.Source.TheVariants.{Null, Named}
+-- The state of a script, and its limits.
+use Rattle.std.specs.Prelude.{ℕ, List, [], min}
+use Rattle.mf_gf.specs.Files.{Character}
+use Rattle.mf_desk.specs.Pictures.{Pictures, blank_pictures}
 
--- what `currentpicture` has accepted, what of it is published, and the picture of each register from `a` on
+-- the pictures, and the characters that were shipped
 pub record State : Type 0 where
-  pub accepted : List Entry
-  pub published : List Entry
-  pub registers : List (List Dot)
+  pub pictures : Pictures
+  pub characters : List Character
 
--- no operation, and all pictures blank
+-- all pictures blank, and nothing shipped
 abbrev pub start : State
-start = record { accepted = []; published = []; registers = replicate 26 [] }
+start = record { pictures = blank_pictures; characters = [] }
 
--- the picture of a name
-abbrev pub picture : State → Name → List Dot
-picture s Current = pic s.accepted
-picture s (Register letter) = slice_index_or s.registers letter []
+-- how many operations `currentpicture` accepts, and how many bytes the font file may have
+pub record Limits : Type 0 where
+  pub max_ops : ℕ
+  pub max_bytes : ℕ
 
--- the picture that a command reads
-abbrev pub source_picture : State → Source → List Dot
-source_picture s Null = []
-source_picture s (Named name) = picture s name
+-- no font file has more bytes than 2,147,483,647
+abbrev pub limits_of : ℕ → ℕ → Limits
+limits_of max_ops max_bytes = record { max_ops = max_ops; max_bytes = min max_bytes 2147483647 }

@@ -3,22 +3,22 @@ use Rattle.std.specs.Prelude.{◌≡◌, ℕ, List, [], ◌∷◌, ◌++◌, Opt
 use Rattle.std.specs.Io.KnownBytes.{Appends}
 use Rattle.std.specs.Str.Lines.{lines}
 use Rattle.mf_desk.specs.Answers.{Answers}
-use Rattle.mf_desk.specs.States.{State, start}
+use Rattle.mf_desk.specs.States.{State, Limits, start}
 
 -- lines, performed one after another from a state on: what they print, and the state after them
-abbrev pub Perform : ℕ → State → List (List ℕ) → List ℕ → State → Type 0
-Perform max_ops s [] text t = (text ≡ []) × (t ≡ s)
-Perform max_ops s (line ∷ more) text t =
-    (first : List ℕ) × (rest : List ℕ) × (next : State) × Answers max_ops s line first next × Perform max_ops next more rest t × (text ≡ first ++ rest)
+abbrev pub Perform : Limits → State → List (List ℕ) → List ℕ → State → Type 0
+Perform limits s [] text t = (text ≡ []) × (t ≡ s)
+Perform limits s (line ∷ more) text t =
+    (first : List ℕ) × (rest : List ℕ) × (next : State) × Answers limits s line first next × Perform limits next more rest t × (text ≡ first ++ rest)
 
 -- the transcript of the bytes of a script; a line ends at a line feed, a carriage return directly before it is no part
 -- of the line, and bytes after the last line feed are a line
-pub record IsTranscript (max_ops : ℕ) (input text : List ℕ) : Type 0 where
+pub record IsTranscript (limits : Limits) (input text : List ℕ) : Type 0 where
   pub last : State
-  pub performed : Perform max_ops start (lines input) text last
+  pub performed : Perform limits start (lines input) text last
 
 -- a writer that held some bytes has got the transcript
-pub record GetsTranscript (max_ops : ℕ) (held holds : Option (List ℕ)) (input : List ℕ) : Type 0 where
+pub record GetsTranscript (limits : Limits) (held holds : Option (List ℕ)) (input : List ℕ) : Type 0 where
   pub text : List ℕ
-  pub is : IsTranscript max_ops input text
+  pub is : IsTranscript limits input text
   pub out : Appends held holds text

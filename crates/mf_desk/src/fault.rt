@@ -12,6 +12,10 @@ pub enum RunFault {
     /// Refusal 14: a growth was refused. What the writer got is the texts of the first lines, whole.
     #[error("OutOfMemory")]
     OutOfMemory,
+    /// Refusal 20: a font file of the characters that were shipped would have more bytes than it may, and the writer got
+    /// the whole transcript; or no file has so few bytes, and nothing was read or written.
+    #[error("FileTooLong")]
+    FileTooLong,
     /// Refusal 24: the reader answered an error, or 1,048,576 reads did not reach the end of the script.
     /// Every line that a line feed ended has been performed and its text written, and no other line.
     #[error("ReadFault")]

@@ -1,12 +1,15 @@
 //! Performs one line after another, and writes what each prints before the next.
-ghost use Rattle.std.specs.Prelude.{◌≡◌, ◌+◌, ◌≤◌, ◌^◌, IfErr, IfOk, OnOk};
+ghost use Rattle.std.specs.Prelude.{◌≡◌, ◌⊎◌, ◌+◌, ◌<◌, ◌≤◌, ◌^◌, ◌↔◌, [], Err, IfErr, IfOk, OnOk};
+ghost use Rattle.mf_gf.specs.Keeping.{Keeps, limit};
 ghost use Rattle.mf_desk.specs.Performer.{BreaksOff, IsWritten};
-ghost use Rattle.mf_desk.specs.Sessions.{limit, state};
-ghost use Rattle.mf_desk.specs.States.{start};
+ghost use Rattle.mf_desk.specs.Runs.{limits_set};
+ghost use Rattle.mf_desk.specs.Sessions.{StandsFor, limits};
+ghost use Rattle.mf_desk.specs.States.{State, start};
 
 use crate::fault::RunFault;
 use crate::session::Session;
-use mf_gf::write_counted;
+use crate::settings::Settings;
+use mf_gf::{GfFault, GfFile, write_counted};
 use std::alloc::Global;
 use std::io::Write;
 use std::sync::Wait;
@@ -20,17 +23,21 @@ pub struct Performer {
 
 impl Performer {
     /// A performer of a script of which no line has been performed. Nobody looks on.
-    pub fn new<S: Wait>(rt: &S, alloc: Global, max_ops: u32) -> Result<Performer, RunFault>
-        ensures start { IfOk result (λ performer. state performer.session ≡ start) }
-        ensures limit { IfOk result (λ performer. limit performer.session ≡ max_ops) }
+    pub fn new<S: Wait>(rt: &S, alloc: Global, settings: &Settings) -> Result<Performer, RunFault>
+        ensures start { IfOk result (λ performer. StandsFor performer.session start) }
+        ensures limits { IfOk result (λ performer. limits performer.session ≡ limits_set settings.now) }
         ensures written { IfOk result (λ performer. performer.written ≡ 0) }
-        ensures memory { IfErr result (λ fault. fault ≡ RunFault.OutOfMemory) }
+        ensures too_long { (settings.now.max_bytes < 3) ↔ (result ≡ Err RunFault.FileTooLong) }
+        ensures fault { IfErr result (λ fault. (fault ≡ RunFault.FileTooLong) ⊎ (fault ≡ RunFault.OutOfMemory)) }
     {
-        let (session, _) = Session::new(rt, alloc, 0, max_ops)?;
-        Ok(Performer {
-            session,
-            written: 0,
-        })
+        match Session::new(rt, alloc, 0, settings.max_ops, settings.max_bytes) {
+            Ok((session, _)) => Ok(Performer {
+                session,
+                written: 0,
+            }),
+            Err(GfFault::FileTooLong) => Err(RunFault::FileTooLong),
+            Err(_) => Err(RunFault::OutOfMemory),
+        }
     }
 
     /// Performs a line and writes its text. The count of a WriteFault is that of all bytes that went out.
@@ -42,9 +49,10 @@ impl Performer {
         line: &[u8],
     ) -> Result<(), RunFault>
         requires { self.old.written + 2 ^ 64 ≤ 2 ^ 127 }
-        ensures written { OnOk result (IsWritten self.old self.new line.now (W.contents writer.old) (W.contents writer.new)) }
-        ensures limit { limit self.new.session ≡ limit self.old.session }
-        ensures fault { IfErr result (λ fault. BreaksOff fault self.old line.now (W.contents writer.old) (W.contents writer.new)) }
+        ensures written { OnOk result ((s : State) → StandsFor self.old.session s → IsWritten self.old s self.new line.now (W.contents writer.old) (W.contents writer.new)) }
+        ensures at_most { OnOk result (self.new.written ≤ self.old.written + 2 ^ 64) }
+        ensures limits { limits self.new.session ≡ limits self.old.session }
+        ensures fault { IfErr result (λ fault. (s : State) → StandsFor self.old.session s → BreaksOff fault self.old s line.now (W.contents writer.old) (W.contents writer.new)) }
     {
         let text = self.session.command(rt, alloc, line)?;
         match write_counted(writer, text.as_slice()) {
@@ -54,6 +62,18 @@ impl Performer {
             }
             Err(count) => Err(RunFault::WriteFault(self.written + count as u128)),
         }
+    }
+
+    /// Ends it, and hands out the font file of the characters that were shipped.
+    pub fn finish<S: Wait>(self, rt: &S) -> GfFile
+        ensures kept { (s : State) → StandsFor self.session s → Keeps result [] s.characters }
+        ensures limit { limit result ≡ (limits self.session).max_bytes }
+    {
+        let Performer {
+            session,
+            written: _,
+        } = self;
+        session.finish(rt)
     }
 
     /// Ends it.

@@ -1,14 +1,18 @@
 //! A run in progress: the lines that have been performed, and the bytes of the one that has not ended yet.
 ghost use Rattle.std.specs.Io.KnownBytes.{IsAtEnd};
-ghost use Rattle.std.specs.Prelude.{◌≡◌, ◌≢◌, ◌+◌, ◌*◌, ◌<◌, ◌≤◌, ◌^◌, ◌++◌, ◌∷◌, Option, List, ℕ, [], IfErr, IfOk, IfSome, OnOk, length};
-ghost use Rattle.mf_desk.specs.Fault.{CutsShort, EndsEarly};
-ghost use Rattle.mf_desk.specs.Progress.{IsAfter};
-ghost use Rattle.mf_desk.specs.Sessions.{limit};
-ghost use Rattle.mf_desk.specs.Transcript.{GetsTranscript};
+ghost use Rattle.std.specs.Prelude.{◌≡◌, ◌≢◌, ◌⊎◌, ◌+◌, ◌*◌, ◌<◌, ◌≤◌, ◌^◌, ◌↔◌, ◌++◌, ◌∷◌, Err, Option, List, ℕ, [], IfErr, IfOk, OnOk, length};
+ghost use Rattle.mf_gf.specs.Keeping.{Keeps, limit};
+ghost use Rattle.mf_desk.specs.Fault.{BreaksScript, CutsShort};
+ghost use Rattle.mf_desk.specs.Progress.{IsAfter, IsThrough, ReadsThrough};
+ghost use Rattle.mf_desk.specs.Runs.{limits_set};
+ghost use Rattle.mf_desk.specs.Sessions.{StandsFor, limits};
+ghost use Rattle.mf_desk.specs.States.{State};
 
 use crate::fault::RunFault;
 use crate::line_buffer::LineBuffer;
 use crate::performer::Performer;
+use crate::settings::Settings;
+use mf_gf::GfFile;
 use std::alloc::Global;
 use std::io::{Read, Write};
 use std::sync::Wait;
@@ -24,14 +28,15 @@ pub struct Progress {
 
 impl Progress {
     /// A run that has read nothing.
-    pub fn new<S: Wait>(rt: &S, alloc: Global, max_ops: u32) -> Result<Progress, RunFault>
+    pub fn new<S: Wait>(rt: &S, alloc: Global, settings: &Settings) -> Result<Progress, RunFault>
         ensures start { IfOk result (λ progress. (held : Option (List ℕ)) → IsAfter held [] progress held) }
-        ensures limit { IfOk result (λ progress. limit progress.performer.session ≡ max_ops) }
+        ensures limits { IfOk result (λ progress. limits progress.performer.session ≡ limits_set settings.now) }
         ensures written { IfOk result (λ progress. progress.performer.written ≡ 0) }
-        ensures memory { IfErr result (λ fault. fault ≡ RunFault.OutOfMemory) }
+        ensures too_long { (settings.now.max_bytes < 3) ↔ (result ≡ Err RunFault.FileTooLong) }
+        ensures fault { IfErr result (λ fault. (fault ≡ RunFault.FileTooLong) ⊎ (fault ≡ RunFault.OutOfMemory)) }
     {
         Ok(Progress {
-            performer: Performer::new(rt, alloc, max_ops)?,
+            performer: Performer::new(rt, alloc, settings)?,
             line: LineBuffer::new(alloc),
         })
     }
@@ -49,9 +54,10 @@ impl Progress {
         requires unwritten { self.old.performer.written ≡ 0 }
         requires some { 0 < length chunk.old }
         requires few { length chunk.old ≤ 2 ^ 16 }
-        ensures transcript { OnOk result (IfSome (R.remaining reader.old) (GetsTranscript (limit self.old.performer.session) (W.contents writer.old) (W.contents writer.new))) }
+        ensures through { OnOk result (ReadsThrough (R.remaining reader.old) (R.remaining reader.new) (W.contents writer.old) self.new.performer.session (W.contents writer.new)) }
+        ensures limits { limits self.new.performer.session ≡ limits self.old.performer.session }
         ensures end { OnOk result (IsAtEnd (R.remaining reader.new)) }
-        ensures fault { IfErr result (λ fault. EndsEarly (limit self.old.performer.session) fault (R.remaining reader.old) (R.remaining reader.new) (W.contents writer.old) (W.contents writer.new)) }
+        ensures fault { IfErr result (λ fault. BreaksScript (limits self.old.performer.session) fault (R.remaining reader.old) (R.remaining reader.new) (W.contents writer.old) (W.contents writer.new)) }
     {
         'reads: for _ in 0..MAX_READS {
             match reader.read(chunk) {
@@ -76,9 +82,9 @@ impl Progress {
         ensures after { OnOk result ((held : Option (List ℕ)) (read : List ℕ) → IsAfter held read self.old (W.contents writer.old)
             → IsAfter held (read ++ bytes.now) self.new (W.contents writer.new)) }
         ensures at_most { OnOk result (self.new.performer.written ≤ self.old.performer.written + length bytes.now * 2 ^ 64) }
-        ensures limit { limit self.new.performer.session ≡ limit self.old.performer.session }
+        ensures limits { limits self.new.performer.session ≡ limits self.old.performer.session }
         ensures fault { IfErr result (λ fault. (held : Option (List ℕ)) (read : List ℕ) → IsAfter held read self.old (W.contents writer.old)
-            → CutsShort (limit self.old.performer.session) fault (read ++ bytes.now) held (W.contents writer.new)) }
+            → CutsShort (limits self.old.performer.session) fault (read ++ bytes.now) held (W.contents writer.new)) }
     {
         for &byte in bytes {
             if byte == b'\n' {
@@ -99,9 +105,10 @@ impl Progress {
     ) -> Result<(), RunFault>
         requires { self.old.performer.written + 2 ^ 64 ≤ 2 ^ 127 }
         ensures done { OnOk result ((held : Option (List ℕ)) (read : List ℕ) → IsAfter held read self.old (W.contents writer.old)
-            → GetsTranscript (limit self.old.performer.session) held (W.contents writer.new) read) }
+            → IsThrough held read self.new.performer.session (W.contents writer.new)) }
+        ensures limits { limits self.new.performer.session ≡ limits self.old.performer.session }
         ensures fault { IfErr result (λ fault. (held : Option (List ℕ)) (read : List ℕ) → IsAfter held read self.old (W.contents writer.old)
-            → CutsShort (limit self.old.performer.session) fault read held (W.contents writer.new)) }
+            → CutsShort (limits self.old.performer.session) fault read held (W.contents writer.new)) }
     {
         if self.line.is_empty() {
             return Ok(());
@@ -121,9 +128,9 @@ impl Progress {
         ensures after { OnOk result ((held : Option (List ℕ)) (read : List ℕ) → IsAfter held read self.old (W.contents writer.old)
             → IsAfter held (read ++ 10 ∷ []) self.new (W.contents writer.new)) }
         ensures at_most { OnOk result (self.new.performer.written ≤ self.old.performer.written + 2 ^ 64) }
-        ensures limit { limit self.new.performer.session ≡ limit self.old.performer.session }
+        ensures limits { limits self.new.performer.session ≡ limits self.old.performer.session }
         ensures fault { IfErr result (λ fault. (held : Option (List ℕ)) (read more : List ℕ) → IsAfter held read self.old (W.contents writer.old)
-            → CutsShort (limit self.old.performer.session) fault (read ++ 10 ∷ more) held (W.contents writer.new)) }
+            → CutsShort (limits self.old.performer.session) fault (read ++ 10 ∷ more) held (W.contents writer.new)) }
     {
         self.performer
             .perform(rt, alloc, writer, self.line.at_line_feed())?;
@@ -138,10 +145,19 @@ impl Progress {
             → IsAfter held (read ++ byte ∷ []) self.new holds) }
         ensures same { self.new.performer ≡ self.old.performer }
         ensures fault { IfErr result (λ fault. (held : Option (List ℕ)) (read more : List ℕ) (holds : Option (List ℕ)) → IsAfter held read self.old holds
-            → CutsShort (limit self.old.performer.session) fault (read ++ more) held holds) }
+            → CutsShort (limits self.old.performer.session) fault (read ++ more) held holds) }
     {
         self.line.push(byte)?;
         Ok(())
+    }
+
+    /// Ends it, and hands out the font file of the characters that were shipped.
+    pub fn file<S: Wait>(self, rt: &S) -> GfFile
+        ensures kept { (s : State) → StandsFor self.performer.session s → Keeps result [] s.characters }
+        ensures limit { limit result ≡ (limits self.performer.session).max_bytes }
+    {
+        let Progress { performer, line: _ } = self;
+        performer.finish(rt)
     }
 
     /// Ends it.

@@ -1,11 +1,16 @@
-//! A run: reads a script to its end and writes its transcript.
+//! A run: reads a script to its end, writes its transcript, and makes the font file of what it ships.
 ghost use Rattle.std.specs.Io.KnownBytes.{IsAtEnd};
-ghost use Rattle.std.specs.Prelude.{IfErr, IfSome, OnOk};
+ghost use Rattle.std.specs.Prelude.{◌≡◌, ◌⊎◌, ◌≤◌, ◌↔◌, [], Err, IfErr, IfOk, IfSome, OnOk, List};
+ghost use Rattle.mf_gf.specs.Files.{Character};
+ghost use Rattle.mf_gf.specs.Keeping.{Keeps, limit};
 ghost use Rattle.mf_desk.specs.Fault.{EndsEarly};
-ghost use Rattle.mf_desk.specs.Transcript.{GetsTranscript};
+ghost use Rattle.mf_desk.specs.Runs.{IsLongFile, IsRun, font_file};
 
 use crate::fault::RunFault;
+use crate::outcome::Outcome;
 use crate::progress::Progress;
+use crate::settings::Settings;
+use mf_gf::{FontWords, GfBytes, GfFault, GfFile};
 use std::alloc::Global;
 use std::io::{Read, Write};
 use std::sync::Wait;
@@ -14,23 +19,42 @@ use std::sync::Wait;
 const CHUNK_SIZE: usize = 65_536;
 
 /// Reads a script to its end, line by line, and writes the transcript: the text of each line goes out before
-/// the next line is performed. At most `max_ops` operations on `currentpicture` are accepted. Refusals: OutOfMemory
-/// (14), ReadFault (24), WriteFault (25), each with what [`RunFault`] says of the bytes that went out. It keeps at
-/// most one line, and of a line that is too long no more than shows this. Nobody looks on, so it waits for nobody.
+/// the next line is performed. Its outcome is the font file of the characters that the script has shipped. Refusals:
+/// OutOfMemory (14), FileTooLong (20), ReadFault (24), WriteFault (25), each with what [`RunFault`] says of the bytes
+/// that went out. It keeps at most one line, and of a line that is too long no more than shows this. Nobody looks on,
+/// so it waits for nobody.
 pub fn run<S: Wait, R: Read, W: Write>(
     rt: &S,
     alloc: Global,
     reader: &mut R,
     writer: &mut W,
-    max_ops: u32,
-) -> Result<(), RunFault>
-    ensures transcript { OnOk result (IfSome (R.remaining reader.old) (GetsTranscript max_ops (W.contents writer.old) (W.contents writer.new))) }
+    settings: &Settings,
+) -> Result<Outcome, RunFault>
+    ensures transcript { IfOk result (λ outcome. IfSome (R.remaining reader.old) (IsRun settings.now outcome (W.contents writer.old) (W.contents writer.new))) }
     ensures end { OnOk result (IsAtEnd (R.remaining reader.new)) }
-    ensures fault { IfErr result (λ fault. EndsEarly max_ops fault (R.remaining reader.old) (R.remaining reader.new) (W.contents writer.old) (W.contents writer.new)) }
+    ensures fault { IfErr result (λ fault. EndsEarly settings.now fault (R.remaining reader.old) (R.remaining reader.new) (W.contents writer.old) (W.contents writer.new)) }
+    ensures all_read { result ≡ Err RunFault.FileTooLong → 3 ≤ settings.now.max_bytes → IsAtEnd (R.remaining reader.new) }
 {
     let mut memory = vec![in alloc; 0u8; CHUNK_SIZE]?;
-    let mut progress = Progress::new(rt, alloc, max_ops)?;
-    let result = progress.read_all(rt, alloc, reader, writer, memory.as_mut_slice());
-    progress.discard(rt);
-    result
+    let mut progress = Progress::new(rt, alloc, settings)?;
+    if let Err(fault) = progress.read_all(rt, alloc, reader, writer, memory.as_mut_slice()) {
+        progress.discard(rt);
+        return Err(fault);
+    }
+    let gf = finished(progress.file(rt), settings.font)?;
+    Ok(Outcome { gf })
+}
+
+/// The font file of the characters that were shipped, if any was.
+fn finished(file: GfFile, font: FontWords) -> Result<Option<GfBytes>, RunFault>
+    ensures some { IfOk result (λ gf. (characters : List Character) → Keeps file [] characters → gf ≡ font_file font characters) }
+    ensures too_long { (characters : List Character) → Keeps file [] characters → IsLongFile (limit file) font characters ↔ (result ≡ Err RunFault.FileTooLong) }
+    ensures fault { IfErr result (λ fault. (fault ≡ RunFault.FileTooLong) ⊎ (fault ≡ RunFault.OutOfMemory)) }
+{
+    match file.finish(font) {
+        Ok(bytes) => Ok(Some(bytes)),
+        Err((_, GfFault::NoCharacters)) => Ok(None),
+        Err((_, GfFault::FileTooLong)) => Err(RunFault::FileTooLong),
+        Err(_) => Err(RunFault::OutOfMemory),
+    }
 }

@@ -1,19 +1,13 @@
 //! A session: what a script has made so far.
-ghost use Rattle.std.specs.Prelude.{◌≡◌, []};
-
-use crate::registers::Registers;
-use mf_live::Writer;
-use mf_rows::Picture;
+use crate::variables::Variables;
+use mf_gf::GfFile;
 
 mod commands;
 mod steps;
 
-/// The state of a script that is being performed: the live picture `currentpicture`, by its writer, and the pictures
-/// of the registers. It is not `Drop`: end it by `discard`.
+/// The state of a script that is being performed: the picture variables, and the font file with the characters that
+/// were shipped. It is not `Drop`: end it by `finish` or by `discard`.
 pub struct Session {
-    pub(crate) writer: Writer,
-    pub(crate) registers: Registers,
-    /// `nullpicture`
-    pub(crate) null: Picture,
-    ghost blank: { null ≡ [] },
+    pub(crate) variables: Variables,
+    pub(crate) file: GfFile,
 }

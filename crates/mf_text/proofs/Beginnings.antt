@@ -8,10 +8,10 @@ use Rattle.mf_text.specs.declared.token.Token.{Token}
 use Rattle.mf_text.specs.declared.token.Token.TheVariants as token
 use Rattle.mf_text.specs.declared.token.Word.{Word}
 use Rattle.mf_text.specs.declared.token.Word.TheVariants as word
-use Rattle.mf_text.specs.Grammar.{Pair, Path, Transform, Shifted, Scaled, XScaled, YScaled, Rotated, Form, Nothing, AddContour, AddPicture, CullKeeping, CullDropping, Clear, Move, ShowTotal, ShowPicture, ShowProof, PublishAll, Line, spell_word, spell_mark, spell_pair, spell_name, spell_source, spell_weight, spell_path, spell_transform, spell_end, spell_line}
+use Rattle.mf_text.specs.Grammar.{Int, Code, Pair, Path, Transform, Shifted, Scaled, XScaled, YScaled, Rotated, Form, Nothing, AddContour, AddPicture, CullKeeping, CullDropping, Clear, Move, ShowTotal, ShowPicture, ShowProof, ShipOut, PublishAll, Line, spell_word, spell_mark, spell_int, spell_code, spell_pair, spell_name, spell_source, spell_weight, spell_path, spell_transform, spell_end, spell_line}
 use Rattle.mf_text.specs.Syntax.{BeginsLine}
 use Rattle.mf_text.specs.Tails.{LastWeight}
-use Rattle.mf_text.proofs.Deciding.{Tells, Decides, decides-cat, decides-closed, decides-behind, decides-end, decides-weight, tells-word, tells-mark, tells-name, tells-same_name, tells-source, tells-int, tells-pair, tells-path}
+use Rattle.mf_text.proofs.Deciding.{Tells, Decides, decides-cat, decides-closed, decides-behind, decides-end, decides-weight, tells-word, tells-mark, tells-name, tells-same_name, tells-source, tells-int, tells-code, tells-pair, tells-path}
 
 regrouped : (a b c d e : List Token) → a ++ b ++ c ++ d ++ e ≡ a ++ (b ++ (c ++ (d ++ e)))
 regrouped a b c d e = simp append_assoc
@@ -21,6 +21,9 @@ regrouped_weight a b c d e f = simp append_assoc
 
 cleared_regrouped : (a b c d : List Token) → a ++ b ++ c ++ d ≡ a ++ (b ++ (c ++ d))
 cleared_regrouped a b c d = simp append_assoc
+
+shipped_regrouped : (a b c d e f g h i : List Token) → a ++ b ++ c ++ d ++ e ++ f ++ g ++ h ++ i ≡ a ++ (b ++ (c ++ (d ++ (e ++ (f ++ (g ++ (h ++ i)))))))
+shipped_regrouped a b c d e f g h i = simp append_assoc
 
 abbrev ended_by : Form → Bool → Line
 ended_by form ended = record { form = form; ended = ended }
@@ -123,6 +126,17 @@ module _ (ts : List Token) where
   try_proofs : Tried proofs
   try_proofs = tried proofs (λ a. refl) (decides-behind (tells-word word.Proof) (decides-closed tells-source))
 
+  abbrev shipped : Source × (Code × (Int × (Int × Bool))) → Line
+  shipped a = ended_by (ShipOut a.0 a.1.0 a.1.1.0 a.1.1.1.0) a.1.1.1.1
+
+  try_shipped : Tried shipped
+  try_shipped =
+      tried shipped
+      (λ a. shipped_regrouped (spell_word word.Shipout) (spell_source a.0) (spell_word word.Code) (spell_code a.1.0) (spell_word word.Dx) (spell_int a.1.1.0)
+      (spell_word word.Width) (spell_int a.1.1.1.0) (spell_end a.1.1.1.1))
+      (decides-behind (tells-word word.Shipout) (decides-cat tells-source (λ source. decides-behind (tells-word word.Code) (decides-cat tells-code (λ code.
+      decides-behind (tells-word word.Dx) (decides-cat tells-int (λ dx. decides-behind (tells-word word.Width) (decides-closed tells-int))))))))
+
   abbrev published : Bool → Line
   published ended = ended_by PublishAll ended
 
@@ -154,7 +168,7 @@ module _ (ts : List Token) where
       (never_kept : Never kept) (never_dropped : Never dropped) (never_cleared : Never cleared)
       (never_shifted : Never (moved Shifted)) (never_scaled : Never (moved Scaled)) (never_xscaled : Never (moved XScaled))
       (never_yscaled : Never (moved YScaled)) (never_rotated : Never (moved Rotated))
-      (never_total : Never totals) (never_picture : Never pictures) (never_proof : Never proofs) (never_published : Never published) where
+      (never_total : Never totals) (never_picture : Never pictures) (never_proof : Never proofs) (never_shipped : Never shipped) (never_published : Never published) where
     no_form : (form : Form) → NoForm form
     no_form Nothing ended rest e = never_empty ended rest e
     no_form (AddContour name path weight) ended rest e = never_contour (name, (path, record { weight = weight; ended = ended })) rest e
@@ -171,15 +185,16 @@ module _ (ts : List Token) where
     no_form (ShowTotal source) ended rest e = never_total (source, ended) rest e
     no_form (ShowPicture source) ended rest e = never_picture (source, ended) rest e
     no_form (ShowProof source) ended rest e = never_proof (source, ended) rest e
+    no_form (ShipOut source code dx width) ended rest e = never_shipped (source, (code, (dx, (width, ended)))) rest e
     no_form PublishAll ended rest e = never_published ended rest e
 
   any_form : BeginsLine ts ⊎ ((form : Form) → NoForm form)
   any_form =
-      and_so (λ p. let q = p.1.1.1.1.1.1.1 in no_form p.0 p.1.0 p.1.1.0 p.1.1.1.0 p.1.1.1.1.0 p.1.1.1.1.1.0 p.1.1.1.1.1.1.0 q.0 q.1.0 q.1.1.0 q.1.1.1.0 q.1.1.1.1.0 q.1.1.1.1.1.0 q.1.1.1.1.1.1.0 q.1.1.1.1.1.1.1.0 q.1.1.1.1.1.1.1.1)
+      and_so (λ p. let q = p.1.1.1.1.1.1.1 in no_form p.0 p.1.0 p.1.1.0 p.1.1.1.0 p.1.1.1.1.0 p.1.1.1.1.1.0 p.1.1.1.1.1.1.0 q.0 q.1.0 q.1.1.0 q.1.1.1.0 q.1.1.1.1.0 q.1.1.1.1.1.0 q.1.1.1.1.1.1.0 q.1.1.1.1.1.1.1.0 q.1.1.1.1.1.1.1.1.0 q.1.1.1.1.1.1.1.1.1)
       (or_else try_empty (or_else try_contours (or_else try_added (or_else try_subtracted (or_else try_kept (or_else try_dropped (or_else try_cleared
       (or_else (try_moved word.Shifted Shifted (λ a. refl) tells-pair) (or_else (try_moved word.Scaled Scaled (λ a. refl) tells-int) (or_else (try_moved word.XScaled XScaled (λ a. refl) tells-int)
       (or_else (try_moved word.YScaled YScaled (λ a. refl) tells-int) (or_else (try_moved word.Rotated Rotated (λ a. refl) tells-int)
-      (or_else try_totals (or_else try_pictures (or_else try_proofs try_published)))))))))))))))
+      (or_else try_totals (or_else try_pictures (or_else try_proofs (or_else try_shipped try_published))))))))))))))))
 
   pub begins_or_not : BeginsLine ts ⊎ (BeginsLine ts → ⊥)
   begins_or_not =

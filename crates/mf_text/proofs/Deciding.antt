@@ -1,6 +1,6 @@
 -- Whether a line begins with tokens.
 use Rattle.std.proofs.Common.{◌≡◌, ◌⊎◌, inl, inr, ℕ, zero, suc, ◌<◌, ◌≤◌, Bool, true, false, eqb, List, rules, [], ◌∷◌, ◌++◌, length, Option, Some, None, refl, ap, sym, subst, ◌∙◌, append_assoc, arith, length-append}
-use Rattle.std.proofs.lemmas.Bool.{cases_Bool, eqb-true, eqb-false}
+use Rattle.std.proofs.lemmas.Bool.{cases_Bool, eqb-true, eqb-false, false≢true}
 use Rattle.std.proofs.lemmas.List.{append_cancel_left}
 use denote.Enum.Bare.{sameb, same_true, same_false}
 use Rattle.mf_text.specs.contracts.token.Mark.{the_type as mark_type}
@@ -15,9 +15,10 @@ use Rattle.mf_text.specs.declared.token.Token.{Token}
 use Rattle.mf_text.specs.declared.token.Token.TheVariants as token
 use Rattle.mf_text.specs.declared.token.Word.{Word}
 use Rattle.mf_text.specs.declared.token.Word.TheVariants as word
-use Rattle.mf_text.specs.Grammar.{Int, Pair, spell_word, spell_mark, spell_int, spell_pair, spell_name, spell_source, spell_weight, spell_corner, spell_path, spell_end}
+use Rattle.mf_text.specs.Grammar.{Int, Pair, spell_word, spell_mark, spell_int, spell_code, spell_pair, spell_name, spell_source, spell_weight, spell_corner, spell_path, spell_end}
 use Rattle.mf_text.specs.Phrases.{literal, BeginsPhrase}
 use Rattle.mf_text.specs.Tails.{spell_last_weight}
+use Rattle.mf_text.proofs.Codes.{is_byte, as_code, zero_code, code-free}
 use Rattle.mf_text.proofs.Paths.{corners_split, same_behind}
 use Rattle.mf_text.proofs.Sequences.{IsPrefixFree, IsJoin, literal-free, int-free, name-free, source-free, as_int, closing_join, closing-free, second_join, second-free, inside_join, inside-free, pair_join, pair-free, corner_join, corner-free, spell_corners, corners-cons, corners-free, path_join, path-free}
 
@@ -243,6 +244,47 @@ look_int (t ∷ ts) =
 
 pub tells-int : Tells spell_int
 tells-int = record { some = as_int false 0; free = int-free; look = look_int }
+
+-- an int that is a byte or not, where tokens begin with one
+look_byte : (n : Int) (rest ts : List Token) → ts ≡ spell_int n ++ rest → Look spell_code ts
+look_byte n rest ts e =
+    elim (cases_Bool (is_byte n)) [
+      | inl byte ↦ Over (as_code n byte) rest e
+      | inr other ↦ Off (λ code more end is.
+          let both : spell_int n ++ (rest ++ more) ≡ spell_int code.int ++ end = sym (append_assoc (spell_int n) rest more) ∙ ap (λ xs. xs ++ more) (sym e) ∙ is in
+          let same = int-free.same n code.int (rest ++ more) end both in
+          false≢true (sym other ∙ ap is_byte same ∙ code.is_byte))
+    ]
+
+code_off : (ts : List Token) → ((n : Int) (more rest : List Token) → ts ++ more ≡ spell_int n ++ rest → ⊥) → Look spell_code ts
+code_off ts never = Off (λ code. never code.int)
+
+-- behind a `-`
+look_negative_code : (t : Token) (ts : List Token) → t ≡ token.Mark mark.Minus → Look spell_code (t ∷ ts)
+look_negative_code t [] minus = Within (begun (t ∷ []) (token.Number 0 ∷ []) (zero_code true) (ap (λ u. u ∷ token.Number 0 ∷ []) minus))
+look_negative_code t (token.Number n ∷ ts) minus = look_byte (as_int true n) ts (t ∷ token.Number n ∷ ts) (ap (λ u. u ∷ token.Number n ∷ ts) minus)
+look_negative_code t (token.Word w ∷ ts) minus = code_off _ (λ n. negative_off t (token.Word w ∷ ts) minus (λ k more rest e. cc) n.negative n.magnitude)
+look_negative_code t (token.Letter k ∷ ts) minus = code_off _ (λ n. negative_off t (token.Letter k ∷ ts) minus (λ k more rest e. cc) n.negative n.magnitude)
+look_negative_code t (token.Mark m ∷ ts) minus = code_off _ (λ n. negative_off t (token.Mark m ∷ ts) minus (λ k more rest e. cc) n.negative n.magnitude)
+look_negative_code t (token.Unknown ∷ ts) minus = code_off _ (λ n. negative_off t (token.Unknown ∷ ts) minus (λ k more rest e. cc) n.negative n.magnitude)
+
+look_positive_code : (t : Token) (ts : List Token) → (t ≡ token.Mark mark.Minus → ⊥) → Look spell_code (t ∷ ts)
+look_positive_code (token.Number n) ts no_minus = look_byte (as_int false n) ts (token.Number n ∷ ts) refl
+look_positive_code (token.Word w) ts no_minus = code_off _ (λ n. positive_off (token.Word w) ts no_minus (λ k more rest e. cc) n.negative n.magnitude)
+look_positive_code (token.Letter k) ts no_minus = code_off _ (λ n. positive_off (token.Letter k) ts no_minus (λ k more rest e. cc) n.negative n.magnitude)
+look_positive_code (token.Mark m) ts no_minus = code_off _ (λ n. positive_off (token.Mark m) ts no_minus (λ k more rest e. cc) n.negative n.magnitude)
+look_positive_code token.Unknown ts no_minus = code_off _ (λ n. positive_off token.Unknown ts no_minus (λ k more rest e. cc) n.negative n.magnitude)
+
+look_code : (ts : List Token) → Look spell_code ts
+look_code [] = Within (begun [] (spell_number 0) (zero_code false) refl)
+look_code (t ∷ ts) =
+    elim (mark_is t mark.Minus) [
+      | Is minus ↦ look_negative_code t ts minus
+      | Differs no_minus ↦ look_positive_code t ts no_minus
+    ]
+
+pub tells-code : Tells spell_code
+tells-code = record { some = zero_code false; free = code-free; look = look_code }
 
 pub tells-pair : Tells spell_pair
 tells-pair =

@@ -5,7 +5,7 @@ use Rattle.mf_text.specs.declared.token.Token.{Token}
 use Rattle.mf_text.specs.declared.sentence.Sentence.{Sentence}
 use Rattle.mf_text.specs.Ahead.{Ahead, skip, column_at}
 use Rattle.mf_text.specs.Grammar.{Form, Line, spell_form, spell_end, spell_line}
-use Rattle.mf_text.specs.Phrases.{IsPhrase, BeginsPhrase, IsTaken, IsStuck, IsWrongAt, IsWrong}
+use Rattle.mf_text.specs.Phrases.{IsPhrase, BeginsPhrase, IsTaken, IsStuckAt, IsStuck, IsWrongAt, IsWrong}
 use Rattle.mf_text.specs.Syntax.{IsLine, BeginsLine, Says, IsWrongBehind}
 use Rattle.mf_text.specs.Tokens.{kinds}
 use Rattle.mf_text.proofs.Skips.{column_at-skip}
@@ -100,21 +100,20 @@ begins_itself : {form : Form} (ts : List Token) → IsOfForm ts form → BeginsL
 begins_itself ts is = let line = line_of is in record { rest = []; phrase = record { tree = line.tree; spelled = append-nil ts ∙ line.spelled } }
 
 -- stuck where a phrase is expected
+pub stuck_at-behind : {A : Type 0} {spell : A → List Token} {Next : Option Token → Type 0} (before : List Token) → Expects before Next spell
+    → (ts : List Token) (k : ℕ) → Next (first ts) → IsStuckAt spell ts k → IsWrongAt spell_line (before ++ ts) (length before + k)
+stuck_at-behind {Next = Next} before expects ts k next stuck =
+    wrong_at before ts k stuck.within (begins-behind before (take k ts) stuck.begins expects.each)
+    (λ below line.
+    let follows =
+    expects.only line.phrase.tree (take (suc k) ts ++ line.rest) (behind_some before ts k line) (rw (first_same ts line.rest k below) next) in
+    stuck.wrong below follows.tree follows.rest line.rest (sym follows.spelled))
+    (λ all line. let follows = expects.only line.tree ts line.spelled next in stuck.unended all follows.tree follows.rest follows.spelled)
+
 pub stuck-behind : {A : Type 0} {spell : A → List Token} {Next : Option Token → Type 0} (before : List Token) → Expects before Next spell
     → (ahead : Ahead) (column : ℕ) → Next (first (kinds ahead.tokens)) → IsStuck spell ahead column → IsWrongBehind before ahead column
-stuck-behind {Next = Next} before expects ahead column next stuck =
-    let ts : List Token = kinds ahead.tokens in
-    let k : ℕ = stuck.place in
-    record {
-      place = k;
-      at = wrong_at before ts k stuck.at.within (begins-behind before (take k ts) stuck.at.begins expects.each)
-          (λ below line.
-          let follows =
-          expects.only line.phrase.tree (take (suc k) ts ++ line.rest) (behind_some before ts k line) (rw (first_same ts line.rest k below) next) in
-          stuck.at.wrong below follows.tree follows.rest line.rest (sym follows.spelled))
-          (λ all line. let follows = expects.only line.tree ts line.spelled next in stuck.at.unended all follows.tree follows.rest follows.spelled);
-      column_is = stuck.column_is;
-    }
+stuck-behind before expects ahead column next stuck =
+    record { place = stuck.place; at = stuck_at-behind before expects (kinds ahead.tokens) stuck.place next stuck.at; column_is = stuck.column_is }
 
 -- wrong where the end of a line is expected
 pub wrong-behind : {A : Type 0} {spell : A → List Token} {Next : Option Token → Type 0} {form : A → Form} (before : List Token)

@@ -18,13 +18,13 @@ use Rattle.mf_text.specs.Syntax.{IsLine, BeginsLine}
 use Rattle.mf_text.specs.Tails.{LastInt, LastWeight, LastSource, LastRange, spell_last_int, spell_last_weight, spell_last_source, spell_last_pair, spell_last_range}
 use Rattle.mf_text.proofs.Expected.{first, IsNoneOf, Any, IsFollowedBy, IsOfForm, line_of, Expects, ExpectsLast}
 use Rattle.mf_text.proofs.Sequences.{path-free}
-use Rattle.mf_text.proofs.Starts.{Addition, OfContour, OfPicture, spell_addition, Culling, OfKept, OfDropped, spell_culling, Showing, OfTotal, OfPixels, spell_showing, Assignment, OfNothing, OfMoved, spell_assignment, Start, Empty, Ended, Adds, Culls, Shows, Proofs, Publishes, AssignsCurrent, AssignsRegister, spell_start, started}
+use Rattle.mf_text.proofs.Starts.{Addition, OfContour, OfPicture, spell_addition, Culling, OfKept, OfDropped, spell_culling, Showing, OfTotal, OfPixels, spell_showing, Assignment, OfNothing, OfMoved, spell_assignment, Start, Empty, Ended, Adds, Culls, Shows, Proofs, Ships, Publishes, AssignsCurrent, AssignsRegister, spell_start, started}
 
 -- what begins a line does so without its end
 begins_line : (ts more : List Token) → IsLine (ts ++ more) → BeginsLine ts
 begins_line ts more line = record { rest = more; phrase = line }
 
-begins_form : {form : Form} (ts more : List Token) → IsOfForm (ts ++ more) form → BeginsLine ts
+pub begins_form : {form : Form} (ts more : List Token) → IsOfForm (ts ++ more) form → BeginsLine ts
 begins_form ts more is = begins_line ts more (line_of is)
 
 one_more : (ts : List Token) (t : Token) (more : List Token) → ts ++ t ∷ [] ++ more ≡ ts ++ t ∷ more
@@ -77,17 +77,18 @@ front-end = record {
 
 abbrev pub no_name_first : List (Option Token)
 no_name_first =
-    Some (token.Word word.Publish) ∷ Some (token.Word word.Proof) ∷ Some (token.Word word.Show) ∷ Some (token.Word word.Cull) ∷ Some (token.Word word.Addto)
-    ∷ Some (token.Mark mark.Semicolon) ∷ None ∷ []
+    Some (token.Word word.Shipout) ∷ Some (token.Word word.Publish) ∷ Some (token.Word word.Proof) ∷ Some (token.Word word.Show)
+    ∷ Some (token.Word word.Cull) ∷ Some (token.Word word.Addto) ∷ Some (token.Mark mark.Semicolon) ∷ None ∷ []
 
 front-name_from : (start : Start) (more : List Token) → more ≡ spell_start start → IsNoneOf no_name_first (first more) → IsFollowedBy spell_name more
-front-name_from (Publishes ended) more e next = absurd (next.0 (ap first e))
-front-name_from (Proofs last) more e next = absurd (next.1.0 (ap first e))
-front-name_from (Shows showing) more e next = absurd (next.1.1.0 (ap first e))
-front-name_from (Culls name culling) more e next = absurd (next.1.1.1.0 (ap first e))
-front-name_from (Adds name addition) more e next = absurd (next.1.1.1.1.0 (ap first e))
-front-name_from Ended more e next = absurd (next.1.1.1.1.1.0 (ap first e))
-front-name_from Empty more e next = absurd (next.1.1.1.1.1.1.0 (ap first e))
+front-name_from (Ships source code measures) more e next = absurd (next.0 (ap first e))
+front-name_from (Publishes ended) more e next = absurd (next.1.0 (ap first e))
+front-name_from (Proofs last) more e next = absurd (next.1.1.0 (ap first e))
+front-name_from (Shows showing) more e next = absurd (next.1.1.1.0 (ap first e))
+front-name_from (Culls name culling) more e next = absurd (next.1.1.1.1.0 (ap first e))
+front-name_from (Adds name addition) more e next = absurd (next.1.1.1.1.1.0 (ap first e))
+front-name_from Ended more e next = absurd (next.1.1.1.1.1.1.0 (ap first e))
+front-name_from Empty more e next = absurd (next.1.1.1.1.1.1.1.0 (ap first e))
 front-name_from (AssignsCurrent assignment) more e next = record { tree = Current; rest = token.Mark mark.Becomes ∷ spell_assignment Current assignment; spelled = e }
 front-name_from (AssignsRegister letter assignment) more e next =
     record { tree = Register letter; rest = token.Mark mark.Becomes ∷ spell_assignment (Register letter) assignment; spelled = e }

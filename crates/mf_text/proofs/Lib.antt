@@ -1,5 +1,6 @@
 pub mod Beginnings
 pub mod Behind
+pub mod Codes
 pub mod Deciding
 pub mod Digits
 pub mod Ends
@@ -17,9 +18,11 @@ pub mod PassedPixels
 pub mod Paths
 pub mod Points
 pub mod ReadBack
+pub mod ReadCodes
 pub mod Registers
 pub mod Said
 pub mod Sequences
+pub mod Shipments
 pub mod Skips
 pub mod Starts
 pub mod StuckFirst

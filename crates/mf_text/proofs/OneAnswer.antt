@@ -17,11 +17,11 @@ use Rattle.mf_text.specs.declared.fault.TextFault.{TextFault}
 use Rattle.mf_text.specs.declared.fault.TextFault.TheVariants as faults
 use Rattle.mf_text.specs.declared.token.Token.{Token}
 use Rattle.mf_text.specs.Ahead.{Ahead, column_at}
-use Rattle.mf_text.specs.Grammar.{Form, Nothing, AddContour, AddPicture, CullKeeping, CullDropping, Clear, Move, ShowTotal, ShowPicture, ShowProof, PublishAll, Transform, Shifted, Scaled, XScaled, YScaled, Rotated, Line, spell_line}
+use Rattle.mf_text.specs.Grammar.{Form, Nothing, AddContour, AddPicture, CullKeeping, CullDropping, Clear, Move, ShowTotal, ShowPicture, ShowProof, ShipOut, PublishAll, Transform, Shifted, Scaled, XScaled, YScaled, Rotated, Line, spell_line}
 use Rattle.mf_text.specs.Lines.{IsText, front, IsLineOf, Gives, HasBadValues, HasOtherBytes, HasSyntaxFault, IsRefused}
 use Rattle.mf_text.specs.Meaning.{IsContour, IsCull, IsMoveOf, IsCommandOf, IsNoCycle, IsBadMove, IsRefusalOf}
 use Rattle.mf_text.specs.Phrases.{IsPhrase, BeginsPhrase, IsWrongAt}
-use Rattle.mf_text.specs.Syntax.{IsLine, IsSyntaxFault}
+use Rattle.mf_text.specs.Syntax.{IsLine, shown_at, IsSyntaxFault}
 use Rattle.mf_text.specs.Tokens.{kinds}
 use Rattle.mf_text.specs.Values.{IsRefusedContour, IsRefusedCull}
 use Rattle.mf_text.proofs.ReadBack.{same_line}
@@ -55,6 +55,7 @@ one_command (Move name (Rotated n)) one other p q =
 one_command (ShowTotal source) one other p q = cc
 one_command (ShowPicture source) one other p q = cc
 one_command (ShowProof source) one other p q = cc
+one_command (ShipOut source code dx width) one other p q = cc
 one_command PublishAll one other p q = cc
 
 no_cycle-cycle : (points : List Point) (fault : TextFault) → IsNoCycle points fault → IsCycle points → ⊥
@@ -91,6 +92,7 @@ one_refusal (Move name transform) one other p q = move_refusal transform one oth
 one_refusal (ShowTotal source) one other p q = absurd p
 one_refusal (ShowPicture source) one other p q = absurd p
 one_refusal (ShowProof source) one other p q = absurd p
+one_refusal (ShipOut source code dx width) one other p q = absurd p
 one_refusal PublishAll one other p q = absurd p
 
 contour_not_both : (name : Name) (points : List Point) (weight : ℤ) (given : Command) (fault : TextFault) → IsContour name points weight given
@@ -122,6 +124,7 @@ form_not_both (Move name transform) given fault p q = move_not_both name transfo
 form_not_both (ShowTotal source) given fault p q = q
 form_not_both (ShowPicture source) given fault p q = q
 form_not_both (ShowProof source) given fault p q = q
+form_not_both (ShipOut source code dx width) given fault p q = q
 form_not_both PublishAll given fault p q = q
 
 -- ---- where tokens go wrong
@@ -156,7 +159,8 @@ one_place spell ts j k p q =
 
 one_column : (ahead : Ahead) (one other : ℕ) → IsSyntaxFault ahead one → IsSyntaxFault ahead other → one ≡ other
 one_column ahead one other p q =
-    p.column_is ∙ ap (column_at ahead) (one_place spell_line (kinds ahead.tokens) p.place q.place p.at q.at) ∙ sym q.column_is
+    let ts = kinds ahead.tokens in
+    p.column_is ∙ ap (λ k. column_at ahead (shown_at ts k)) (one_place spell_line ts p.place q.place p.at q.at) ∙ sym q.column_is
 
 -- and they are no phrase
 wrong_is_no_phrase : {A : Type 0} (spell : A → List Token) (ts : List Token) (k : ℕ) → IsWrongAt spell ts k → IsPhrase spell ts → ⊥

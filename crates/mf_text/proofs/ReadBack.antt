@@ -11,7 +11,8 @@ use Rattle.mf_text.specs.declared.token.Mark.TheVariants as mark
 use Rattle.mf_text.specs.declared.token.Token.{Token}
 use Rattle.mf_text.specs.declared.token.Token.TheVariants as token
 use Rattle.mf_text.specs.declared.token.Word.TheVariants as word
-use Rattle.mf_text.specs.Grammar.{Int, spell_int, Pair, spell_pair, spell_signed, spell_weight, Path, spell_corner, spell_path, spell_word, Transform, Shifted, Scaled, XScaled, YScaled, Rotated, spell_transform, Form, Nothing, AddContour, AddPicture, CullKeeping, CullDropping, Clear, Move, ShowTotal, ShowPicture, ShowProof, PublishAll, spell_form, Line, spell_end, spell_line}
+use Rattle.mf_text.specs.Grammar.{Int, spell_int, Code, spell_code, Pair, spell_pair, spell_signed, spell_weight, Path, spell_corner, spell_path, spell_word, Transform, Shifted, Scaled, XScaled, YScaled, Rotated, spell_transform, Form, Nothing, AddContour, AddPicture, CullKeeping, CullDropping, Clear, Move, ShowTotal, ShowPicture, ShowProof, ShipOut, PublishAll, spell_form, Line, spell_end, spell_line}
+use Rattle.mf_text.proofs.Codes.{code_of, code_of-back}
 
 -- ---- reading tokens as a phrase, whatever they are
 
@@ -130,11 +131,23 @@ abbrev shown : Token → List Token → Line
 shown (token.Word word.TotalWeight) ts = line_of (ShowTotal (source_of (next ts))) (drop 1 ts)
 shown t ts = line_of (ShowPicture (source_of t)) ts
 
+unfoldable code_in : List Token → Code
+code_in ts = code_of (int_in ts)
+
+-- behind an int and a word
+unfoldable after_int_word : List Token → List Token
+after_int_word ts = drop 1 (after_int ts)
+
+abbrev shipped : Source → List Token → Line
+shipped source ts =
+    line_of (ShipOut source (code_in ts) (int_in (after_int_word ts)) (int_in (after_int_word (after_int_word ts)))) (after_int (after_int_word (after_int_word ts)))
+
 abbrev line_from : Token → List Token → Line
 line_from (token.Word word.Addto) ts = added (name_of (next ts)) (next (drop 1 ts)) (drop 2 ts)
 line_from (token.Word word.Cull) ts = culled (name_of (next ts)) (next (drop 1 ts)) (drop 2 ts)
 line_from (token.Word word.Show) ts = shown (next ts) (drop 1 ts)
 line_from (token.Word word.Proof) ts = line_of (ShowProof (source_of (next ts))) (drop 1 ts)
+line_from (token.Word word.Shipout) ts = shipped (source_of (next ts)) (drop 2 ts)
 line_from (token.Word word.Publish) ts = line_of PublishAll ts
 line_from (token.Word word.CurrentPicture) ts = assigned Current (next (drop 1 ts)) (drop 2 ts)
 line_from (token.Letter letter) ts = assigned (Register letter) (next (drop 1 ts)) (drop 2 ts)
@@ -299,6 +312,35 @@ range-back form range weight ended =
     rw (append_assoc (spell_pair range) (spell_weight weight) (spell_end ended))
     (rw (pair-back, pair-passed, weight-back, weight-passed, end-back) refl)
 
+code-back : (code : Code) (rest : List Token) → code_in (spell_code code ++ rest) ≡ code
+unfolding code_in
+code-back code rest = ap code_of (int-back code.int rest) ∙ code_of-back code
+
+int_word-passed : (n : Int) (t : Token) (rest : List Token) → after_int_word (spell_int n ++ t ∷ rest) ≡ rest
+unfolding after_int_word
+int_word-passed n t rest = ap (drop 1) (int-passed n (t ∷ rest))
+
+ship-spelled : (dx width : Token) (n m k end : List Token)
+    → n ++ dx ∷ [] ++ m ++ width ∷ [] ++ k ++ end ≡ n ++ dx ∷ (m ++ width ∷ (k ++ end))
+ship-spelled dx width n m k end = simp append_assoc
+
+ship-back : (source : Source) (code : Code) (dx width : Int) (ended : Bool)
+    → shipped source (spell_code code ++ spell_word word.Dx ++ spell_int dx ++ spell_word word.Width ++ spell_int width ++ spell_end ended)
+    ≡ record { form = ShipOut source code dx width; ended = ended }
+ship-back source code dx width ended =
+    let behind_dx = spell_int width ++ spell_end ended in
+    let behind = spell_int dx ++ token.Word word.Width ∷ behind_dx in
+    rw (ship-spelled (token.Word word.Dx) (token.Word word.Width) (spell_code code) (spell_int dx) (spell_int width) (spell_end ended))
+    (rw (
+      code-back code (token.Word word.Dx ∷ behind),
+      int_word-passed code.int (token.Word word.Dx) behind,
+      int-back dx (token.Word word.Width ∷ behind_dx),
+      int_word-passed dx (token.Word word.Width) behind_dx,
+      int-back width (spell_end ended),
+      int-passed width (spell_end ended),
+      end-back,
+    ) refl)
+
 transform-back : (name : Name) (transform : Transform) (ended : Bool)
     → moved name (next (spell_transform transform ++ spell_end ended))
     (drop 1 (spell_transform transform ++ spell_end ended)) ≡ record { form = Move name transform; ended = ended }
@@ -333,6 +375,9 @@ form-back (ShowPicture (Named (Register letter))) ended = rw end-back refl
 form-back (ShowProof Null) ended = rw end-back refl
 form-back (ShowProof (Named Current)) ended = rw end-back refl
 form-back (ShowProof (Named (Register letter))) ended = rw end-back refl
+form-back (ShipOut Null code dx width) ended = ship-back Null code dx width ended
+form-back (ShipOut (Named Current) code dx width) ended = ship-back (Named Current) code dx width ended
+form-back (ShipOut (Named (Register letter)) code dx width) ended = ship-back (Named (Register letter)) code dx width ended
 form-back PublishAll ended = rw end-back refl
 
 line-back : (l : Line) → line_in (spell_line l) ≡ l

@@ -23,7 +23,7 @@ use Rattle.mf_text.proofs.Expected.{ExpectsLast, line_of}
 use Rattle.mf_text.proofs.Followers.{front-end, publish-end, proof-source, total-source, show-source, adds_contour, contour-weight, adds_picture, minus-source, also-source, culls_keeping, keeping-range, culls_dropping, dropping-range, null-end, assigns_same, shifted-pair, scaled-int, xscaled-int, yscaled-int, rotated-int}
 
 -- what is said with what ends the line
-says-whole : {A V : Type 0} {spell : A → List Token} {Value : A → V → Type 0} {Next : Option Token → Type 0} {form : A → Form} (before : List Token)
+pub says-whole : {A V : Type 0} {spell : A → List Token} {Value : A → V → Type 0} {Next : Option Token → Type 0} {form : A → Form} (before : List Token)
     (expects : ExpectsLast before Next spell form) (ahead : Ahead) (v : V) (said : Sentence) (whole : IsWhole spell Value ahead v) → IsSaid said (form whole.tree) → Says before ahead said
 says-whole before expects ahead v said whole is =
     let line = line_of (expects.each whole.tree) in

@@ -29,7 +29,7 @@ pub record IsJoin {A B C : Type 0} (one : A → List Token) (other : B → List 
   pub joins : (a : A) (b : B) → both (made a b) ≡ one a ++ other b
 
 -- what stands behind a phrase that no other begins
-rest_same : {A : Type 0} {spell : A → List Token} → IsPrefixFree spell → (a b : A) (x y : List Token) → spell a ++ x ≡ spell b ++ y → x ≡ y
+pub rest_same : {A : Type 0} {spell : A → List Token} → IsPrefixFree spell → (a b : A) (x y : List Token) → spell a ++ x ≡ spell b ++ y → x ≡ y
 rest_same {spell} free a b x y e = append_cancel_left (spell b) x y (subst (λ c. spell c ++ x ≡ spell b ++ y) (free.same a b x y e) e)
 
 -- tokens up to a place of the second of two lists

@@ -1,5 +1,5 @@
 -- The lines that a script may have, and how each is spelled in tokens.
-use Rattle.std.specs.Prelude.{Bool, ℕ, List, [], ◌∷◌, ◌++◌, Option, Some, None, ℤ, pos, neg_ℤ, map, flat_map, if◌then◌else◌}
+use Rattle.std.specs.Prelude.{◌≡◌, ◌&&◌, int_le, true, Bool, ℕ, List, [], ◌∷◌, ◌++◌, Option, Some, None, ℤ, pos, neg_ℤ, map, flat_map, if◌then◌else◌}
 use Rattle.mf_geom.specs.declared.point.Point.{Point}
 use Rattle.mf_ops.specs.declared.sign.Sign.{Sign}
 use Rattle.mf_ops.specs.declared.sign.Sign.TheVariants.{Plus, Minus}
@@ -30,6 +30,17 @@ spell_int n = if n.negative then (token.Mark mark.Minus ∷ token.Number n.magni
 
 abbrev pub int_value : Int → ℤ
 int_value n = if n.negative then neg_ℤ (pos n.magnitude) else pos n.magnitude
+
+-- the int after `code`, which lies in 0..255: of 0 there are two, since `-` may stand before it
+pub record Code : Type 0 where
+  pub int : Int
+  pub is_byte : int_le (pos 0) (int_value int) && int_le (int_value int) (pos 255) ≡ true
+
+abbrev pub spell_code : Code → List Token
+spell_code code = spell_int code.int
+
+abbrev pub code_value : Code → ℕ
+code_value code = code.int.magnitude
 
 -- pair: `(` int `,` int `)`
 pub record Pair : Type 0 where
@@ -107,6 +118,7 @@ pub data Form : Type 0 where
   ShowTotal : Source → Form
   ShowPicture : Source → Form
   ShowProof : Source → Form
+  ShipOut : Source → Code → Int → Int → Form
   PublishAll : Form
 
 abbrev pub spell_form : Form → List Token
@@ -120,6 +132,7 @@ spell_form (Move name transform) = spell_name name ++ spell_mark mark.Becomes ++
 spell_form (ShowTotal source) = spell_word word.Show ++ spell_word word.TotalWeight ++ spell_source source
 spell_form (ShowPicture source) = spell_word word.Show ++ spell_source source
 spell_form (ShowProof source) = spell_word word.Proof ++ spell_source source
+spell_form (ShipOut source code dx width) = spell_word word.Shipout ++ spell_source source ++ spell_word word.Code ++ spell_code code ++ spell_word word.Dx ++ spell_int dx ++ spell_word word.Width ++ spell_int width
 spell_form PublishAll = spell_word word.Publish
 
 -- line: [command] [`;`]

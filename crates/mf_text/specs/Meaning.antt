@@ -14,7 +14,7 @@ use Rattle.mf_text.specs.declared.command.Command.TheVariants as command
 use Rattle.mf_text.specs.declared.command.Name.{Name}
 use Rattle.mf_text.specs.declared.fault.TextFault.{TextFault}
 use Rattle.mf_text.specs.declared.fault.TextFault.TheVariants as faults
-use Rattle.mf_text.specs.Grammar.{Form, Nothing, AddContour, AddPicture, CullKeeping, CullDropping, Clear, Move, ShowTotal, ShowPicture, ShowProof, PublishAll, Transform, Shifted, Scaled, XScaled, YScaled, Rotated, int_value, pair_value, weight_value, path_value}
+use Rattle.mf_text.specs.Grammar.{Form, Nothing, AddContour, AddPicture, CullKeeping, CullDropping, Clear, Move, ShowTotal, ShowPicture, ShowProof, ShipOut, PublishAll, Transform, Shifted, Scaled, XScaled, YScaled, Rotated, int_value, code_value, pair_value, weight_value, path_value}
 
 -- a contour through these points
 pub record IsContour (name : Name) (points : List Point) (weight : ℤ) (given : Command) : Type 0 where
@@ -67,6 +67,7 @@ IsCommandOf (Move name transform) given = IsMoveOf name transform given
 IsCommandOf (ShowTotal source) given = given ≡ command.Total source
 IsCommandOf (ShowPicture source) given = given ≡ command.Show source
 IsCommandOf (ShowProof source) given = given ≡ command.Proof source
+IsCommandOf (ShipOut source code dx width) given = given ≡ command.Ship source (code_value code) (int_value dx) (int_value width)
 IsCommandOf PublishAll given = given ≡ command.Publish
 
 -- points that are no cycle

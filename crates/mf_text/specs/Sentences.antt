@@ -6,7 +6,7 @@ use Rattle.mf_text.specs.declared.sentence.Motion.{Motion}
 use Rattle.mf_text.specs.declared.sentence.Motion.TheVariants as motion
 use Rattle.mf_text.specs.declared.sentence.Sentence.{Sentence}
 use Rattle.mf_text.specs.declared.sentence.Sentence.TheVariants as sentence
-use Rattle.mf_text.specs.Grammar.{Form, Nothing, AddContour, AddPicture, CullKeeping, CullDropping, Clear, Move, ShowTotal, ShowPicture, ShowProof, PublishAll, Transform, Shifted, Scaled, XScaled, YScaled, Rotated, Path, int_value, pair_value, weight_value}
+use Rattle.mf_text.specs.Grammar.{Form, Nothing, AddContour, AddPicture, CullKeeping, CullDropping, Clear, Move, ShowTotal, ShowPicture, ShowProof, ShipOut, PublishAll, Transform, Shifted, Scaled, XScaled, YScaled, Rotated, Path, int_value, code_value, pair_value, weight_value}
 use Rattle.mf_text.specs.Readers.{IsPathOf}
 
 -- how a transform moves
@@ -35,4 +35,5 @@ IsSaid said (Move name transform) = said ≡ sentence.Move name (motion_of trans
 IsSaid said (ShowTotal source) = said ≡ sentence.ShowTotal source
 IsSaid said (ShowPicture source) = said ≡ sentence.ShowPicture source
 IsSaid said (ShowProof source) = said ≡ sentence.ShowProof source
+IsSaid said (ShipOut source code dx width) = said ≡ sentence.ShipOut source (code_value code) (int_value dx) (int_value width)
 IsSaid said PublishAll = said ≡ sentence.PublishAll

@@ -1,10 +1,13 @@
 -- Which lists of tokens are lines, and where others go wrong.
-use Rattle.std.specs.Prelude.{◌≡◌, ◌+◌, ℕ, List, ◌++◌, length}
+use Rattle.std.specs.Prelude.{◌≡◌, ◌+◌, ◌-◌, ◌&&◌, ℕ, Bool, true, false, eqb, List, ◌∷◌, ◌++◌, length, if◌then◌else◌}
 use Rattle.mf_text.specs.declared.sentence.Sentence.{Sentence}
+use Rattle.mf_text.specs.declared.token.Mark.TheVariants as mark
 use Rattle.mf_text.specs.declared.token.Token.{Token}
+use Rattle.mf_text.specs.declared.token.Token.TheVariants as token
+use Rattle.mf_text.specs.declared.token.Word.TheVariants as word
 use Rattle.mf_text.specs.Ahead.{Ahead, column_at}
-use Rattle.mf_text.specs.Grammar.{Line, spell_line}
-use Rattle.mf_text.specs.Phrases.{IsPhrase, BeginsPhrase, IsWrongAt, IsWrong}
+use Rattle.mf_text.specs.Grammar.{Line, spell_code, spell_line}
+use Rattle.mf_text.specs.Phrases.{IsPhrase, BeginsPhrase, IsStuckAt, IsWrongAt}
 use Rattle.mf_text.specs.Sentences.{IsSaid}
 use Rattle.mf_text.specs.Tokens.{kinds}
 
@@ -16,9 +19,37 @@ IsLine ts = IsPhrase spell_line ts
 abbrev pub BeginsLine : List Token → Type 0
 BeginsLine ts = BeginsPhrase spell_line ts
 
--- what is ahead is no line: it goes wrong at this column
-abbrev pub IsSyntaxFault : Ahead → ℕ → Type 0
-IsSyntaxFault ahead column = IsWrong spell_line ahead column
+-- `-` and a number
+abbrev pub is_negative_int : List Token → Bool
+is_negative_int (token.Mark mark.Minus ∷ token.Number n ∷ ts) = true
+is_negative_int ts = false
+
+-- `shipout`, a source and `code`, and then `-` and a number
+abbrev pub is_negative_code : List Token → Bool
+is_negative_code (token.Word word.Shipout ∷ source ∷ token.Word word.Code ∷ ts) = is_negative_int ts
+is_negative_code ts = false
+
+-- the token that shows what goes wrong at the token k: that one, but the number of an int after `code` shows at its `-`
+abbrev pub shown_at : List Token → ℕ → ℕ
+shown_at ts k = if is_negative_code ts && eqb k 4 then 3 else k
+
+-- no int of a code could be taken, which shows at this column: an int that is no byte shows at its first token
+pub record IsNoCode (ahead : Ahead) (column : ℕ) : Type 0 where
+  pub place : ℕ
+  pub at : IsStuckAt spell_code (kinds ahead.tokens) place
+  pub column_is : column ≡ column_at ahead (if is_negative_int (kinds ahead.tokens) && eqb place 1 then 0 else place)
+
+-- what is ahead is no line, which shows at this column
+pub record IsSyntaxFault (ahead : Ahead) (column : ℕ) : Type 0 where
+  pub place : ℕ
+  pub at : IsWrongAt spell_line (kinds ahead.tokens) place
+  pub column_is : column ≡ column_at ahead (shown_at (kinds ahead.tokens) place)
+
+-- behind these tokens, what is ahead goes wrong, which shows at this column
+pub record IsShownBehind (before : List Token) (ahead : Ahead) (column : ℕ) : Type 0 where
+  pub place : ℕ
+  pub at : IsWrongAt spell_line (before ++ kinds ahead.tokens) (length before + place)
+  pub column_is : column ≡ column_at ahead (shown_at (before ++ kinds ahead.tokens) (length before + place) - length before)
 
 -- behind these tokens, what is ahead goes wrong at this column
 pub record IsWrongBehind (before : List Token) (ahead : Ahead) (column : ℕ) : Type 0 where

@@ -17,12 +17,14 @@ use Rattle.mf_text.specs.Bytes.{is_blank}
 -- the words, as they are written
 abbrev pub words : List (List ℕ × Word)
 words =
-    (codes "addto", word.Addto) ∷ (codes "also", word.Also) ∷ (codes "contour", word.Contour) ∷ (codes "cull", word.Cull)
-    ∷ (codes "currentpicture", word.CurrentPicture) ∷ (codes "cycle", word.Cycle) ∷ (codes "dropping", word.Dropping)
-    ∷ (codes "keeping", word.Keeping) ∷ (codes "nullpicture", word.NullPicture) ∷ (codes "proof", word.Proof)
-    ∷ (codes "publish", word.Publish) ∷ (codes "rotated", word.Rotated) ∷ (codes "scaled", word.Scaled)
-    ∷ (codes "shifted", word.Shifted) ∷ (codes "show", word.Show) ∷ (codes "totalweight", word.TotalWeight)
-    ∷ (codes "withweight", word.WithWeight) ∷ (codes "xscaled", word.XScaled) ∷ (codes "yscaled", word.YScaled) ∷ []
+    (codes "addto", word.Addto) ∷ (codes "also", word.Also) ∷ (codes "code", word.Code) ∷ (codes "contour", word.Contour)
+    ∷ (codes "cull", word.Cull) ∷ (codes "currentpicture", word.CurrentPicture) ∷ (codes "cycle", word.Cycle)
+    ∷ (codes "dropping", word.Dropping) ∷ (codes "dx", word.Dx) ∷ (codes "keeping", word.Keeping)
+    ∷ (codes "nullpicture", word.NullPicture) ∷ (codes "proof", word.Proof) ∷ (codes "publish", word.Publish)
+    ∷ (codes "rotated", word.Rotated) ∷ (codes "scaled", word.Scaled) ∷ (codes "shifted", word.Shifted)
+    ∷ (codes "shipout", word.Shipout) ∷ (codes "show", word.Show) ∷ (codes "totalweight", word.TotalWeight)
+    ∷ (codes "width", word.Width) ∷ (codes "withweight", word.WithWeight) ∷ (codes "xscaled", word.XScaled)
+    ∷ (codes "yscaled", word.YScaled) ∷ []
 
 -- the marks, as they are written: of `--` and `-` the longer comes first
 abbrev pub marks : List (List ℕ × Mark)

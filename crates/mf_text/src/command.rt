@@ -44,6 +44,9 @@ pub enum Command {
     Show(Source),
     /// `proof p`
     Proof(Source),
+    /// `shipout p code c dx d width w`: the code, from 0 to 255, the escapement in 1/65536 pixel, and the width in
+    /// 1/1048576 of the design size
+    Ship(Source, u8, i32, i32),
     /// `publish`
     Publish,
 }

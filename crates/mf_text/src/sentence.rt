@@ -20,6 +20,7 @@ pub enum Sentence<'a> {
     ShowTotal(Source),
     ShowPicture(Source),
     ShowProof(Source),
+    ShipOut(Source, u8, i32, i32),
     PublishAll,
 }
 

@@ -139,6 +139,8 @@ fn word(letters: &[u8]) -> Option<Word>
         Word::Addto
     } else if letters == b"also".as_slice() {
         Word::Also
+    } else if letters == b"code".as_slice() {
+        Word::Code
     } else if letters == b"contour".as_slice() {
         Word::Contour
     } else if letters == b"cull".as_slice() {
@@ -149,6 +151,8 @@ fn word(letters: &[u8]) -> Option<Word>
         Word::Cycle
     } else if letters == b"dropping".as_slice() {
         Word::Dropping
+    } else if letters == b"dx".as_slice() {
+        Word::Dx
     } else if letters == b"keeping".as_slice() {
         Word::Keeping
     } else if letters == b"nullpicture".as_slice() {
@@ -163,10 +167,14 @@ fn word(letters: &[u8]) -> Option<Word>
         Word::Scaled
     } else if letters == b"shifted".as_slice() {
         Word::Shifted
+    } else if letters == b"shipout".as_slice() {
+        Word::Shipout
     } else if letters == b"show".as_slice() {
         Word::Show
     } else if letters == b"totalweight".as_slice() {
         Word::TotalWeight
+    } else if letters == b"width".as_slice() {
+        Word::Width
     } else if letters == b"withweight".as_slice() {
         Word::WithWeight
     } else if letters == b"xscaled".as_slice() {

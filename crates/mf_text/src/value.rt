@@ -75,6 +75,7 @@ fn command_of(alloc: Global, said: Sentence<'_>) -> Result<Command, TextFault>
         Sentence::ShowTotal(source) => Ok(Command::Total(source)),
         Sentence::ShowPicture(source) => Ok(Command::Show(source)),
         Sentence::ShowProof(source) => Ok(Command::Proof(source)),
+        Sentence::ShipOut(source, code, dx, width) => Ok(Command::Ship(source, code, dx, width)),
         Sentence::PublishAll => Ok(Command::Publish),
     }
 }

@@ -1,6 +1,6 @@
 //! What faults of readers and writers leave.
 
-use super::{MAX_OPS, joined};
+use super::{AMPLE, joined};
 use crate::streams::{LineFeeds, Pieces, Sink};
 use mf_desk::{RunFault, run};
 use std::test::Fail;
@@ -29,8 +29,8 @@ fn reader_fails(rt: HostRuntime) -> Result<(), Fail> {
         let script = joined(alloc, parts)?;
         let mut reader = Pieces::failing(&script);
         let mut writer = Sink::new(alloc);
-        let result = run(&rt, alloc, &mut reader, &mut writer, MAX_OPS);
-        assert_eq!(rt; result, Err(RunFault::ReadFault), "after {script:?}");
+        let result = run(&rt, alloc, &mut reader, &mut writer, &AMPLE);
+        assert_eq!(rt; result.err(), Some(RunFault::ReadFault), "after {script:?}");
         assert_eq!(rt; writer.taken(), text, "after {script:?}");
     }
     Ok(())
@@ -40,15 +40,15 @@ fn reader_fails(rt: HostRuntime) -> Result<(), Fail> {
 #[test]
 fn reads_end(rt: HostRuntime) {
     let alloc = rt.alloc();
-    let ends: [(u32, Result<(), RunFault>); 2] = [
-        (1_048_575, Ok(())),
-        (1_048_576, Err(RunFault::ReadFault)),
+    let ends: [(u32, Option<RunFault>); 2] = [
+        (1_048_575, None),
+        (1_048_576, Some(RunFault::ReadFault)),
     ];
     for (left, end) in ends {
         let mut reader = LineFeeds { left };
         let mut writer = Sink::new(alloc);
-        let result = run(&rt, alloc, &mut reader, &mut writer, MAX_OPS);
-        assert_eq!(rt; result, end, "{left} line feeds");
+        let result = run(&rt, alloc, &mut reader, &mut writer, &AMPLE);
+        assert_eq!(rt; result.err(), end, "{left} line feeds");
         assert!(rt; writer.taken().is_empty());
     }
 }
@@ -60,35 +60,17 @@ fn writer_fails(rt: HostRuntime) -> Result<(), Fail> {
     let texts = joined(alloc, &[SIX, SIX])?;
     for room in [0, 5, 14, 20] {
         let mut writer = Sink::failing(alloc, room);
-        let result = run(
-            &rt,
-            alloc,
-            &mut Pieces::whole(&script),
-            &mut writer,
-            MAX_OPS,
-        );
-        assert_eq!(rt; result, Err(RunFault::WriteFault(room as u128)));
+        let result = run(&rt, alloc, &mut Pieces::whole(&script), &mut writer, &AMPLE);
+        assert_eq!(rt; result.err(), Some(RunFault::WriteFault(room as u128)));
         assert!(rt; texts.starts_with(writer.taken()), "room for {room}");
         assert_eq!(rt; writer.taken().len(), room);
     }
     let mut writer = Sink::full(alloc);
-    let result = run(
-        &rt,
-        alloc,
-        &mut Pieces::whole(&script),
-        &mut writer,
-        MAX_OPS,
-    );
-    assert_eq!(rt; result, Err(RunFault::WriteFault(0)));
+    let result = run(&rt, alloc, &mut Pieces::whole(&script), &mut writer, &AMPLE);
+    assert_eq!(rt; result.err(), Some(RunFault::WriteFault(0)));
     let mut writer = Sink::bytewise(alloc);
-    let result = run(
-        &rt,
-        alloc,
-        &mut Pieces::whole(&script),
-        &mut writer,
-        MAX_OPS,
-    );
-    assert_eq!(rt; result, Ok(()));
+    let result = run(&rt, alloc, &mut Pieces::whole(&script), &mut writer, &AMPLE);
+    assert_eq!(rt; result.err(), None);
     assert_eq!(rt; writer.taken(), texts.as_slice());
     Ok(())
 }

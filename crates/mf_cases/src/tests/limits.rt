@@ -1,7 +1,8 @@
 //! How many operations `currentpicture` accepts.
 
+use super::AMPLE;
 use crate::streams::{Pieces, Sink};
-use mf_desk::run;
+use mf_desk::{Settings, run};
 use std::process::Abort;
 use std::sync::Wait;
 
@@ -15,8 +16,9 @@ fn assert_prints_within<R: Abort + Wait + AllocGlobal>(
     let alloc = rt.alloc();
     let mut writer = Sink::new(alloc);
     let mut reader = Pieces::whole(script.as_bytes());
-    let result = run(rt, alloc, &mut reader, &mut writer, max_ops);
-    assert_eq!(rt; result, Ok(()), "{script}");
+    let settings = Settings { max_ops, ..AMPLE };
+    let result = run(rt, alloc, &mut reader, &mut writer, &settings);
+    assert_eq!(rt; result.err(), None, "{script}");
     assert_eq!(rt; writer.taken(), transcript.as_bytes(), "{script}");
 }
 

@@ -1,13 +1,19 @@
 //! Sessions, called directly.
 
-use super::MAX_OPS;
+use super::AMPLE;
 use crate::scripts::SCRIPTS;
 use mf_desk::Session;
+use mf_live::Desk;
 use mf_text::Name;
 use std::alloc::Global;
 use std::process::Abort;
 use std::sync::Wait;
 use std::test::Fail;
+
+/// A session of which so many operations on `currentpicture` are accepted, and its desk with one place.
+fn opened<R: Abort + Wait>(rt: &R, alloc: Global, max_ops: u32) -> (Session, Desk) {
+    Session::new(rt, alloc, 1, max_ops, AMPLE.max_bytes).expect(rt, "there is room for a session")
+}
 
 /// Performs a line, and says what it prints.
 fn perform<R: Abort + Wait>(rt: &R, alloc: Global, session: &mut Session, line: &str) -> Vec<u8> {
@@ -21,7 +27,7 @@ fn perform<R: Abort + Wait>(rt: &R, alloc: Global, session: &mut Session, line: 
 fn perform_scripts(rt: HostRuntime) -> Result<(), Fail> {
     let alloc = rt.alloc();
     for (script, transcript) in SCRIPTS {
-        let (mut session, _) = Session::new(&rt, alloc, 0, MAX_OPS)?;
+        let (mut session, _) = opened(&rt, alloc, AMPLE.max_ops);
         let mut printed = Vec::new(alloc);
         for line in script.lines() {
             let text = perform(&rt, alloc, &mut session, line);
@@ -38,7 +44,7 @@ fn perform_scripts(rt: HostRuntime) -> Result<(), Fail> {
 #[test]
 fn lend_pictures(rt: HostRuntime) -> Result<(), Fail> {
     let alloc = rt.alloc();
-    let (mut session, _) = Session::new(&rt, alloc, 0, 2)?;
+    let (mut session, _) = opened(&rt, alloc, 2);
     for (line, text) in [
         (
             "addto currentpicture contour (0,0)--(3,0)--(3,2)--(0,2)--cycle",
@@ -75,7 +81,7 @@ fn lend_pictures(rt: HostRuntime) -> Result<(), Fail> {
 #[test]
 fn have_viewers(rt: HostRuntime) -> Result<(), Fail> {
     let alloc = rt.alloc();
-    let (mut session, mut desk) = Session::new(&rt, alloc, 1, MAX_OPS)?;
+    let (mut session, mut desk) = opened(&rt, alloc, AMPLE.max_ops);
     let viewer = desk.viewer().expect(&rt, "a place is left");
     let fill = "addto currentpicture contour (0,0)--(3,0)--(3,2)--(0,2)--cycle";
     for (line, text) in [(fill, ""), ("publish", "published 1\n"), (fill, "")] {

@@ -1,17 +1,18 @@
 //! What a session does.
-ghost use Rattle.std.specs.Prelude.{◌≡◌, ◌≤◌, IfOk, OnErr};
-ghost use Rattle.mf_desk.specs.Answers.{Answers};
-ghost use Rattle.mf_desk.specs.Sessions.{name, limit, state};
-ghost use Rattle.mf_desk.specs.States.{picture, start};
+ghost use Rattle.std.specs.Prelude.{◌≡◌, ◌⊎◌, ◌<◌, ◌≤◌, ◌↔◌, [], Err, IfErr, IfOk, OnErr};
+ghost use Rattle.mf_gf.specs.Keeping.{Keeps, limit};
 ghost use Rattle.mf_live.specs.Desks.{desk_name, left};
 ghost use Rattle.mf_text.specs.Registers.{IsName};
+ghost use Rattle.mf_desk.specs.Pictures.{picture};
+ghost use Rattle.mf_desk.specs.Sessions.{IsAnswered, StandsFor, limits, name};
+ghost use Rattle.mf_desk.specs.States.{State, limits_of, start};
 
 use super::Session;
-use super::commands::refused;
-use crate::refusal::Refusal;
-use crate::registers::Registers;
+use crate::refusal::{Refusal, refused};
+use crate::variables::Variables;
 use mf_geom::OutOfMemory;
-use mf_live::{Desk, open_picture};
+use mf_gf::{GfFault, GfFile};
+use mf_live::Desk;
 use mf_rows::Picture;
 use mf_text::{Name, TextFault, read_command};
 use std::alloc::Global;
@@ -19,40 +20,37 @@ use std::sync::Wait;
 
 impl Session {
     /// A session in which nothing has happened, and the desk at which viewers of its `currentpicture` are given out:
-    /// at most so many. It accepts at most `max_ops` operations on `currentpicture`. Refusal OutOfMemory (14). The
-    /// caller owes that the places are at most 64.
+    /// at most so many. It accepts at most `max_ops` operations on `currentpicture`, and its font file, which has no
+    /// comment, has at most `max_bytes` bytes; more than 2,147,483,647 count as that. Refusals FileTooLong (20),
+    /// exactly where a file of three bytes is too long, and OutOfMemory (14). The caller owes that the places are at
+    /// most 64.
     pub fn new<R: Wait>(
         rt: &R,
         alloc: Global,
         places: u32,
         max_ops: u32,
-    ) -> Result<(Session, Desk), OutOfMemory>
+        max_bytes: u32,
+    ) -> Result<(Session, Desk), GfFault>
         requires { places ≤ 64 }
-        ensures start { IfOk result (λ made. state made.0 ≡ start) }
-        ensures limit { IfOk result (λ made. limit made.0 ≡ max_ops) }
+        ensures start { IfOk result (λ made. StandsFor made.0 start) }
+        ensures limits { IfOk result (λ made. limits made.0 ≡ limits_of max_ops max_bytes) }
         ensures name { IfOk result (λ made. desk_name made.1 ≡ name made.0) }
         ensures places { IfOk result (λ made. left made.1 ≤ places) }
+        ensures too_long { (max_bytes < 3) ↔ (result ≡ Err GfFault.FileTooLong) }
+        ensures fault { IfErr result (λ fault. (fault ≡ GfFault.FileTooLong) ⊎ (fault ≡ GfFault.OutOfMemory)) }
     {
-        let registers = Registers::blank(alloc)?;
-        let (writer, desk) = open_picture(rt, alloc, places, max_ops)?;
-        let session = Session {
-            writer,
-            registers,
-            null: Picture::blank(alloc),
-        };
-        Ok((session, desk))
+        let file = GfFile::new(alloc, &[], max_bytes)?;
+        let (variables, desk) = Variables::blank(rt, alloc, places, max_ops)?;
+        Ok((Session { variables, file }, desk))
     }
 
     /// The picture of this name: that of all operations that `currentpicture` has accepted, or that of a register.
     /// The caller owes that a register's number is at most 25.
     pub fn picture(&self, name: &Name) -> &Picture
         requires { IsName name.now }
-        ensures { result.now ≡ picture (state self.now) name.now }
+        ensures { (s : State) → StandsFor self.now s → result.now ≡ picture s.pictures name.now }
     {
-        match name {
-            Name::Current => self.writer.working(),
-            Name::Register(letter) => self.registers.picture(*letter),
-        }
+        self.variables.picture(name)
     }
 
     /// Performs a line of a script, which is given without its end, and answers what it prints. A line that is refused
@@ -64,9 +62,9 @@ impl Session {
         alloc: Global,
         line: &[u8],
     ) -> Result<Vec<u8>, OutOfMemory>
-        ensures answer { IfOk result (λ text. Answers (limit self.old) (state self.old) line.now text.items (state self.new)) }
-        ensures unchanged { OnErr result (state self.new ≡ state self.old) }
-        ensures limit { limit self.new ≡ limit self.old }
+        ensures answer { IfOk result (λ text. (s : State) → StandsFor self.old s → IsAnswered self.old s line.now text.items self.new) }
+        ensures unchanged { OnErr result ((s : State) → StandsFor self.old s → StandsFor self.new s) }
+        ensures limits { limits self.new ≡ limits self.old }
         ensures name { name self.new ≡ name self.old }
     {
         match read_command(alloc, line) {
@@ -76,13 +74,20 @@ impl Session {
         }
     }
 
+    /// Ends it, and hands out the font file of the characters that were shipped. It may wait for looks that are held,
+    /// and looks may be refused from then on.
+    pub fn finish<R: Wait>(self, rt: &R) -> GfFile
+        ensures kept { (s : State) → StandsFor self s → Keeps result [] s.characters }
+        ensures limit { limit result ≡ (limits self).max_bytes }
+    {
+        let Session { variables, file } = self;
+        variables.discard(rt);
+        file
+    }
+
     /// Ends it. It may wait for looks that are held, and looks may be refused from then on.
     pub fn discard<R: Wait>(self, rt: &R) {
-        let Session {
-            writer,
-            registers: _,
-            null: _,
-        } = self;
-        writer.discard(rt);
+        let Session { variables, file: _ } = self;
+        variables.discard(rt);
     }
 }

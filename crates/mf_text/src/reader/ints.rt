@@ -1,8 +1,9 @@
 //! Whole numbers, pairs, and what ends a line.
 ghost use Rattle.std.specs.Prelude.{◌≡◌, IfOk, IfErr};
-ghost use Rattle.mf_text.specs.Grammar.{spell_int, int_value, spell_pair, pair_value, spell_end};
+ghost use Rattle.mf_text.specs.Grammar.{spell_int, int_value, spell_code, code_value, spell_pair, pair_value, spell_end};
 ghost use Rattle.mf_text.specs.Phrases.{IsTaken, IsStuck, IsWhole, IsWrong};
 ghost use Rattle.mf_text.specs.Readers.{ahead};
+ghost use Rattle.mf_text.specs.Syntax.{IsNoCode};
 ghost use Rattle.mf_text.specs.Tails.{spell_last_int, spell_last_weight, last_weight_value};
 
 use super::{Reader, Syntax};
@@ -27,6 +28,18 @@ impl Reader<'_> {
             return Ok(-(magnitude as i32));
         }
         Ok(magnitude as i32)
+    }
+
+    /// Takes the int behind `code`, which is a byte. Of another the refusal is that of its first token.
+    pub fn code(&mut self) -> Result<u8, Syntax>
+        ensures taken { IfOk result (λ n. IsTaken spell_code (λ tree value. value ≡ code_value tree) (ahead self.old) n (ahead self.new)) }
+        ensures stuck { IfErr result (λ fault. IsNoCode (ahead self.old) fault.column) }
+    {
+        let first = self.syntax();
+        match u8::try_from(self.int()?) {
+            Ok(code) => Ok(code),
+            Err(_) => Err(first),
+        }
     }
 
     /// Takes a pair.

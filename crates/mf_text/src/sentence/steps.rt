@@ -2,7 +2,7 @@
 ghost use Rattle.std.specs.Prelude.{◌≡◌, ◌++◌, [], IfOk, IfErr};
 ghost use Rattle.mf_text.specs.Grammar.{spell_word, spell_mark, spell_name};
 ghost use Rattle.mf_text.specs.Readers.{ahead};
-ghost use Rattle.mf_text.specs.Syntax.{Says, IsWrongBehind};
+ghost use Rattle.mf_text.specs.Syntax.{IsShownBehind, IsSyntaxFault, IsWrongBehind, Says};
 
 use super::{Motion, Sentence};
 use crate::command::Name;
@@ -14,7 +14,7 @@ impl<'a> Reader<'a> {
     /// Reads a line.
     pub fn line(&mut self) -> Result<Sentence<'a>, Syntax>
         ensures says { IfOk result (Says [] (ahead self.old)) }
-        ensures wrong { IfErr result (λ fault. IsWrongBehind [] (ahead self.old) fault.column) }
+        ensures wrong { IfErr result (λ fault. IsSyntaxFault (ahead self.old) fault.column) }
     {
         let Some(placed) = self.next else {
             return Ok(Sentence::Nothing);
@@ -38,6 +38,9 @@ impl<'a> Reader<'a> {
         if self.takes(Token::Word(Word::Publish)) {
             self.end()?;
             return Ok(Sentence::PublishAll);
+        }
+        if self.takes(Token::Word(Word::Shipout)) {
+            return self.shipout();
         }
         let name = self.name()?;
         self.assignment(name)
@@ -103,6 +106,21 @@ impl<'a> Reader<'a> {
             return Ok(Sentence::ShowTotal(self.last_source()?));
         }
         Ok(Sentence::ShowPicture(self.last_source()?))
+    }
+
+    /// Reads what stands behind `shipout`.
+    fn shipout(&mut self) -> Result<Sentence<'a>, Syntax>
+        ensures says { IfOk result (Says (spell_word Word.Shipout) (ahead self.old)) }
+        ensures wrong { IfErr result (λ fault. IsShownBehind (spell_word Word.Shipout) (ahead self.old) fault.column) }
+    {
+        let source = self.source()?;
+        self.word(Word::Code)?;
+        let code = self.code()?;
+        self.word(Word::Dx)?;
+        let dx = self.int()?;
+        self.word(Word::Width)?;
+        let width = self.last_int()?;
+        Ok(Sentence::ShipOut(source, code, dx, width))
     }
 
     /// Reads what stands behind the name at the front.

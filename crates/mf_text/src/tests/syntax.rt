@@ -10,7 +10,7 @@ const LINES: &[(&str, u32)] = &[
     ("addto currentpicture contur", 22),
     ("show", 5),
     ("a := b shifted (1,0)", 6),
-    ("shipout a code 65 dx 0 width 0", 1),
+    ("ship a code 65 dx 0 width 0", 1),
     ("show totalweight a!", 19),
     ("addto a contour (0,0)--(1234567890,0)--cycle", 25),
     ("addto a contour (0,0)--(1,0)--", 31),
@@ -45,6 +45,26 @@ const LINES: &[(&str, u32)] = &[
     ("\tshow\tx y", 9),
     ("show $", 6),
     ("5", 1),
+    ("shipout", 8),
+    ("shipout -a", 9),
+    ("shipout a dx 0", 11),
+    ("shipout a codedx 0", 11),
+    ("shipout a code", 15),
+    ("shipout a code 256 dx 0 width 0", 16),
+    ("shipout a code -5 dx 0 width 0", 16),
+    ("shipout a code - 5", 16),
+    ("shipout a code 256 foo", 16),
+    ("shipout a code 1234567890", 16),
+    ("shipout a code -", 17),
+    ("shipout a code -x", 17),
+    ("shipout a code -1234567890", 17),
+    ("shipout a code - 1234567890", 18),
+    ("shipout a code -0", 18),
+    ("shipout a code -0 -0", 19),
+    ("shipout a code 1 dx 0", 22),
+    ("shipout a code 1 dx 1234567890", 21),
+    ("shipout a code 1 dx 0 width", 28),
+    ("shipout a code 65 dx 0 width 0 0", 32),
 ];
 
 #[test]
@@ -91,6 +111,13 @@ const CUTS: &[(&str, &[u32])] = &[
         &[
             WHOLE, 2, 1, 1, 1, 6, 6, 8, 8, 9, 9, 9, 9, 9, 9, 16, 16, 18, 19, 20, 21, 22, 23, 23,
             25, 25, 25, 25, 25, WHOLE,
+        ],
+    ),
+    (
+        "shipout a code 65 dx 327680 width -12;",
+        &[
+            WHOLE, 2, 1, 1, 1, 1, 1, 8, 8, 10, 10, 11, 11, 11, 15, 15, 17, 18, 18, 19, 21, 21, 23,
+            24, 25, 26, 27, 28, 28, 29, 29, 29, 29, 34, 34, 36, WHOLE, WHOLE,
         ],
     ),
     (

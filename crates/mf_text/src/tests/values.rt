@@ -135,6 +135,38 @@ fn contours(rt: HostRuntime) -> Result<(), Fail> {
 }
 
 #[test]
+fn shipments(rt: HostRuntime) -> Result<(), Fail> {
+    let a = Source::Named(Name::Register(0));
+    for (line, expected) in [
+        (
+            "shipout currentpicture code 65 dx 327680 width 0",
+            (Source::Named(Name::Current), 65, 327_680, 0),
+        ),
+        ("shipout a code 0 dx -5 width -7", (a, 0, -5, -7)),
+        ("shipout a code 1 dx -5 width -7;", (a, 1, -5, -7)),
+        (
+            "shipout nullpicture code 255 dx 0 width 0",
+            (Source::Null, 255, 0, 0),
+        ),
+        ("shipout a code -0 dx 1 width 2", (a, 0, 1, 2)),
+        ("shipout a code - 0 dx - 1 width 2", (a, 0, -1, 2)),
+        ("shipout a code065dx0width0", (a, 65, 0, 0)),
+        (
+            "shipout a code 000000255 dx 999999999 width -999999999 ; % far",
+            (a, 255, 999_999_999, -999_999_999),
+        ),
+    ] {
+        match read(&rt, rt.alloc(), line) {
+            Command::Ship(source, code, dx, width) => {
+                assert_eq!(rt; (source, code, dx, width), expected, "{line}")
+            }
+            _ => assert!(rt; false, "{line} ships nothing"),
+        }
+    }
+    Ok(())
+}
+
+#[test]
 fn other_commands(rt: HostRuntime) -> Result<(), Fail> {
     let alloc = rt.alloc();
     let (a, b) = (Name::Register(0), Name::Register(1));

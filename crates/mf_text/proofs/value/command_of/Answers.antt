@@ -9,7 +9,7 @@ use Rattle.mf_text.specs.declared.fault.TextFault.TheVariants.{OutOfMemory}
 use Rattle.mf_text.specs.declared.path.Path as passed
 use Rattle.mf_text.specs.declared.sentence.Sentence.{Sentence}
 use Rattle.mf_text.specs.declared.sentence.Sentence.TheVariants as sentence
-use Rattle.mf_text.specs.Grammar.{Form, Nothing, AddContour, AddPicture, CullKeeping, CullDropping, Clear, Move, ShowTotal, ShowPicture, ShowProof, PublishAll, Path, path_value, weight_value}
+use Rattle.mf_text.specs.Grammar.{Form, Nothing, AddContour, AddPicture, CullKeeping, CullDropping, Clear, Move, ShowTotal, ShowPicture, ShowProof, ShipOut, PublishAll, Path, path_value, weight_value}
 use Rattle.mf_text.specs.Meaning.{IsRefusalOf}
 use Rattle.mf_text.specs.Readers.{IsPathOf}
 use Rattle.mf_text.specs.Sentences.{IsSaid}
@@ -31,6 +31,7 @@ module _ (name : Name) (path : passed.Path) (weight : ℤ) where
   refusal fault refuses (ShowTotal source) said = absurd (cc)
   refusal fault refuses (ShowPicture source) said = absurd (cc)
   refusal fault refuses (ShowProof source) said = absurd (cc)
+  refusal fault refuses (ShipOut source code dx width) said = absurd (cc)
   refusal fault refuses PublishAll said = absurd (cc)
 
   refused : (said : Sentence) (r : Result Command TextFault) → said ≡ sentence.AddContour name path weight

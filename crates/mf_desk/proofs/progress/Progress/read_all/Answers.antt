@@ -1,9 +1,7 @@
 use Rattle.std.proofs.Common.{◌≡◌, ◌<◌, ◌++◌, Option, [], List, ℕ, length, take, refl, ap, ◌∙◌, subst, append-nil, arith}
-use Rattle.std.proofs.KnownBytes.{Consumes-nil, Consumes-trans, Consumes-kept, Consumes-whole}
+use Rattle.std.proofs.KnownBytes.{Consumes-nil, Consumes-trans, Consumes-kept}
 use Rattle.std.proofs.lemmas.Result.{err_from_is_err_and, on_ok_weaker, IfErr-weaker}
 use Rattle.std.specs.Io.KnownBytes.{Consumes, IsAtEnd}
-use Rattle.mf_desk.specs.Sessions.{limit}
-use Rattle.mf_desk.specs.Transcript.{GetsTranscript}
 use Rattle.mf_desk.proofs.Stages.{CutsShort-reads}
 use Rattle.mf_desk.proofs.progress.Progress.read_all.Goals as goal
 
@@ -26,18 +24,11 @@ returns-in-Ok-eq0-clause-end g c =
     let at_end : IsAtEnd (g.R.Read.remaining c.read.new.self) = c.in-Ok-eq0.ensures.bytes.1 c.in-Ok-eq0.field-0-test has_room in
     on_ok_weaker c.finish.result (λ _. at_end) c.finish.ensures.done
 
-pub returns-in-Ok-eq0-clause-transcript : goal.returns-in-Ok-eq0-clause-transcript
-returns-in-Ok-eq0-clause-transcript g c =
+pub returns-in-Ok-eq0-clause-through : goal.returns-in-Ok-eq0-clause-through
+returns-in-Ok-eq0-clause-through g c =
     let (read, consumed, after) = c.reads.invariant.1 in
-    let has_room : 0 < length c.read.new.buf = omega (arith, c.read.auto.buf, c.reads.auto.chunk, c.requires.some) in
-    let at_end : IsAtEnd (g.R.Read.remaining c.read.new.self) = c.in-Ok-eq0.ensures.bytes.1 c.in-Ok-eq0.field-0-test has_room in
     let all_read = Consumes-none _ _ _ read c.read.new.buf _ consumed c.in-Ok-eq0.field-0-test c.in-Ok-eq0.ensures.bytes.0 in
-    rw (← c.reads.invariant.2) (
-    on_ok_weaker c.finish.result
-    (λ done.
-    Consumes-whole (g.R.Read.remaining c.args.reader.now) (g.R.Read.remaining c.read.new.self) read
-    (GetsTranscript (limit c.reads.self.performer.session) (g.W.Write.contents c.args.writer.now) (g.W.Write.contents c.finish.new.writer)) all_read at_end (done _ read after))
-    c.finish.ensures.done)
+    on_ok_weaker c.finish.result (λ done. (read, all_read, done _ read after)) c.finish.ensures.done
 
 pub returns-in-Ok-eq0-clause-fault : goal.returns-in-Ok-eq0-clause-fault
 returns-in-Ok-eq0-clause-fault g c =
@@ -60,7 +51,7 @@ reads-preserved g c =
     let (read, consumed, after) = c.reads.invariant.1 in (
       omega (arith, c.in-Ok.ensures.bound, c.in_ok-take-in-Ok.ensures.at_most, c.read.auto.buf, c.reads.auto.chunk, c.requires.few),
       (read ++ take c.in-Ok.count c.read.new.buf, Consumes-trans _ _ _ read _ consumed c.in-Ok.ensures.bytes.0, c.in_ok-take-in-Ok.ensures.after _ read after),
-      c.take.ensures.limit ∙ c.reads.invariant.2,
+      c.take.ensures.limits ∙ c.reads.invariant.2,
     )
 
 pub returns-clause-fault : goal.returns-clause-fault

@@ -1,7 +1,7 @@
 use Rattle.std.proofs.Common.{◌≡◌, ◌*◌, ◌≤◌, ◌^◌, List, ℕ}
 use Rattle.std.specs.Io.KnownBytes.{Consumes}
 use Rattle.mf_desk.specs.Progress.{IsAfter}
-use Rattle.mf_desk.specs.Sessions.{limit}
+use Rattle.mf_desk.specs.Sessions.{limits}
 use Rattle.mf_desk.proofs.progress.Progress.read_all.Given as goal
 
 abbrev pub invariant-reads : goal.invariant-reads
@@ -9,4 +9,4 @@ invariant-reads g l =
     (l.self.performer.written ≤ l.counter * 2 ^ 80)
     × ((read : List ℕ) × Consumes (g.R.Read.remaining l.initial.reader) (g.R.Read.remaining l.reader) read
     × IsAfter (g.W.Write.contents l.initial.writer) read l.self (g.W.Write.contents l.writer))
-    × (limit l.self.performer.session ≡ limit l.initial.self.performer.session)
+    × (limits l.self.performer.session ≡ limits l.initial.self.performer.session)

@@ -2,7 +2,7 @@ use Rattle.std.proofs.Common.{◌≡◌, ◌+◌, ◌<◌, ◌++◌, ◌∷◌, 
 use Rattle.std.proofs.lemmas.List.{drop_more}
 use Rattle.std.proofs.lemmas.Result.{err_from_is_err_and}
 use Rattle.mf_desk.specs.Fault.{CutsShort}
-use Rattle.mf_desk.specs.Sessions.{limit}
+use Rattle.mf_desk.specs.Sessions.{limits}
 use Rattle.mf_desk.proofs.progress.Progress.take.Goals as goal
 
 -- the bytes so far and the rest
@@ -22,7 +22,7 @@ returns-in_err-end_line-clause-fault g c =
     rw (passed_on.1, passed_on.2) (
     λ held read after.
     rw (← c.loop-byte.invariant.2)
-    (subst (λ all. CutsShort (limit c.loop-byte.self.performer.session) c.in_err-end_line.field-0.0 all held (g.W.Write.contents c.end_line.new.writer)) (rest_at read bytes i 10 c.loop-byte-test.true c.if-byte-eq10.true)
+    (subst (λ all. CutsShort (limits c.loop-byte.self.performer.session) c.in_err-end_line.field-0.0 all held (g.W.Write.contents c.end_line.new.writer)) (rest_at read bytes i 10 c.loop-byte-test.true c.if-byte-eq10.true)
     (c.in_err-end_line.ensures.fault held (read ++ take i bytes) (drop (i + 1) bytes) (c.loop-byte.invariant.1 held read after)))
     )
 
@@ -34,6 +34,6 @@ returns-in_err-keep-clause-fault g c =
     rw (passed_on.1, passed_on.2) (
     λ held read after.
     rw (← c.loop-byte.invariant.2)
-    (subst (λ all. CutsShort (limit c.loop-byte.self.performer.session) c.in_err-keep.field-0.0 all held (g.W.Write.contents c.loop-byte.writer)) (rest_after read bytes i)
+    (subst (λ all. CutsShort (limits c.loop-byte.self.performer.session) c.in_err-keep.field-0.0 all held (g.W.Write.contents c.loop-byte.writer)) (rest_after read bytes i)
     (c.in_err-keep.ensures.fault held (read ++ take i bytes) (drop i bytes) _ (c.loop-byte.invariant.1 held read after)))
     )
