@@ -1,19 +1,26 @@
 //! Tests of scripts, from the bytes that are read to the bytes that are written, and of sessions.
+ghost use Rattle.std.specs.Prelude.{◌≤◌};
 
 mod faults;
+mod flags;
 mod fonts;
+mod gates;
 mod lengths;
 mod limits;
 mod lines;
+mod session_ends;
 mod sessions;
 mod transcripts;
+mod viewer_faults;
+mod viewers;
 
 use crate::streams::{Pieces, Sink};
-use mf_desk::{Settings, run};
+use mf_desk::{Glance, OpenGate, Outcome, RunFault, Settings, perform, run};
 use mf_gf::FontWords;
 use std::alloc::{AllocError, Global};
 use std::process::Abort;
-use std::sync::Wait;
+use std::sync::{Arc, Wait};
+use std::thread::Threads;
 
 /// More operations on `currentpicture` and more bytes of a font file than any of these scripts has.
 const AMPLE: Settings = Settings {
@@ -25,6 +32,26 @@ const AMPLE: Settings = Settings {
         hppp: 0,
         vppp: 0,
     },
+};
+
+/// A rectangle of 3 by 2 pixels, published.
+const PUBLISHED: &str = "addto currentpicture contour (0,0)--(3,0)--(3,2)--(0,2)--cycle\n\
+                         publish\n";
+
+/// What it prints beside two viewers.
+const PUBLISHED_TEXT: &str = "published 1\n\
+                              viewer 0 revision 1 totalweight 6\n\
+                              viewer 1 revision 1 totalweight 6\n";
+
+/// What is seen before it is published, and after that.
+const BLANK: Glance = Glance {
+    revision: 0,
+    total: 0,
+};
+
+const SIX: Glance = Glance {
+    revision: 1,
+    total: 6,
 };
 
 /// These parts, one after another.
@@ -48,4 +75,29 @@ fn assert_prints<R: Abort + Wait + AllocGlobal>(
     let result = run(rt, alloc, &mut reader, &mut writer, &AMPLE);
     assert_eq!(rt; result.err(), None, "{about}");
     assert_eq!(rt; writer.taken(), transcript, "{about}");
+}
+
+/// Performs the reader's script beside so many viewers, who look so many times each.
+fn performed<R: Abort + Wait + Threads + AllocGlobal>(
+    rt: &R,
+    mut reader: Pieces<'_>,
+    writer: &mut Sink,
+    settings: &Settings,
+    viewers: u32,
+    looks: u32,
+) -> Result<Outcome, RunFault>
+    requires { viewers ≤ 64 }
+{
+    let alloc = rt.alloc();
+    let gate = Arc::new(alloc, OpenGate).expect(rt, "there is room for a gate");
+    perform(
+        rt,
+        alloc,
+        &mut reader,
+        writer,
+        settings,
+        viewers,
+        looks,
+        &gate,
+    )
 }

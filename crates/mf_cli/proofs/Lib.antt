@@ -1,1 +1,3 @@
 mod CommandLines
+mod Outputs
+mod ViewersRead

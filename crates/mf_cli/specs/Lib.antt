@@ -1,2 +1,3 @@
 pub mod CommandLine
+pub mod Output
 pub mod Statuses

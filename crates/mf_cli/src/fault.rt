@@ -8,7 +8,7 @@ use thiserror::Error;
 /// Why the program ends with a fault, once its words are read. Its message is its name.
 #[derive(Clone, Copy, Debug, PartialEq, Eq, Error)]
 pub enum ProgramFault {
-    /// Refusals 14, 20, 24 and 25: the run of the script, or the writing of the font file.
+    /// Refusals 14, 15, 20 and 24 to 26: the run of the script, or the writing of the font file.
     #[error("{0}")]
     Run(RunFault),
     /// Refusal 21: a font file was asked for, and no character was shipped.

@@ -1,20 +1,21 @@
 //! The program behind `main`: from its words and streams to its exit status.
 ghost use Rattle.std.specs.Io.KnownBytes.{IsAtEnd};
-ghost use Rattle.std.specs.Prelude.{◌≡◌, ◌⊎◌, IfSome, OnOk, map, string_bytes};
-ghost use Rattle.mf_cli.specs.CommandLine.{IsCommandLine};
+ghost use Rattle.std.specs.Prelude.{◌≡◌, ◌≤◌, ◌⊎◌, IfSome, OnOk, map, string_bytes};
+ghost use Rattle.mf_cli.specs.CommandLine.{IsCommandLine, viewers_in};
+ghost use Rattle.mf_cli.specs.Output.{GetsOutput};
 ghost use Rattle.mf_cli.specs.Statuses.{status_of};
 ghost use Rattle.mf_desk.specs.States.{limits_of};
-ghost use Rattle.mf_desk.specs.Transcript.{GetsTranscript};
 
 use crate::fault::ProgramFault;
 use crate::words::{USAGE, Words, WordsFault, read_words};
-use mf_desk::{RunFault, Settings, run};
+use mf_desk::{OpenGate, Outcome, RunFault, Settings};
 use mf_gf::{FontWords, GfBytes};
 use std::alloc::Global;
 use std::fs;
 use std::io::{Read, Write};
 use std::rt::Files;
-use std::sync::Wait;
+use std::sync::{Arc, Wait};
+use std::thread::Threads;
 
 /// What a script may do, and the numbers of its font.
 const SETTINGS: Settings = Settings {
@@ -28,6 +29,9 @@ const SETTINGS: Settings = Settings {
     },
 };
 
+/// Number of looks of each viewer while the script runs.
+const LOOKS: u32 = 16;
+
 /// Status of a run that reached the end of its script, and wrote the font file that was asked for.
 pub const DONE: u8 = 0;
 
@@ -37,13 +41,14 @@ pub const BAD_WORDS: u8 = 2;
 /// Status where a stream or the font file failed.
 pub const STREAM_FAULT: u8 = 3;
 
-/// Status where memory was wanting.
+/// Status where memory, a viewer's place or a look was wanting.
 pub const NO_MEMORY: u8 = 4;
 
-/// Performs the script that `reader` gives, writes its transcript to `writer`, the font file where the words ask for it,
-/// and a message of what went wrong to `errors`, and answers the exit status. `words` are those of the command line, of
-/// which the first is the program's name. A fault of `errors` changes no status. Nobody looks on, so it waits for nobody.
-pub fn program<S: Wait + Files, R: Read, W: Write, E: Write>(
+/// Performs the script that `reader` gives beside as many viewers as the words ask for, writes its transcript and then
+/// the line of each viewer to `writer`, the font file where the words ask for it, and a message of what went wrong to
+/// `errors`, and answers the exit status. `words` are those of the command line, of which the first is the program's
+/// name. A fault of `errors` changes no status.
+pub fn program<S: Wait + Threads + Files, R: Read, W: Write, E: Write>(
     rt: &S,
     alloc: Global,
     words: Vec<String>,
@@ -57,7 +62,7 @@ pub fn program<S: Wait + Files, R: Read, W: Write, E: Write>(
     ensures unread { (IsCommandLine (map string_bytes words.items) → ⊥) → reader.new ≡ reader.old }
     ensures unwritten { (IsCommandLine (map string_bytes words.items) → ⊥) → writer.new ≡ writer.old }
     ensures quiet { result ≡ DONE → errors.new ≡ errors.old }
-    ensures transcript { result ≡ DONE → IfSome (R.remaining reader.old) (GetsTranscript (limits_of 1000000 16777216) (W.contents writer.old) (W.contents writer.new)) }
+    ensures transcript { result ≡ DONE → IfSome (R.remaining reader.old) (GetsOutput (limits_of 1000000 16777216) (viewers_in (map string_bytes words.items)) (W.contents writer.old) (W.contents writer.new)) }
     ensures end { result ≡ DONE → IsAtEnd (R.remaining reader.new) }
 {
     let words = match read_words(alloc, words) {
@@ -71,25 +76,45 @@ pub fn program<S: Wait + Files, R: Read, W: Write, E: Write>(
     }
 }
 
-/// Performs the script, and then writes the font file where the words ask for it.
-fn perform<S: Wait + Files, R: Read, W: Write>(
+/// Performs the script as the words ask for, and then writes the font file where they ask for it.
+fn perform<S: Wait + Threads + Files, R: Read, W: Write>(
     rt: &S,
     alloc: Global,
     reader: &mut R,
     writer: &mut W,
     words: &Words,
 ) -> Result<(), ProgramFault>
-    ensures transcript { OnOk result (IfSome (R.remaining reader.old) (GetsTranscript (limits_of 1000000 16777216) (W.contents writer.old) (W.contents writer.new))) }
+    requires { words.now.viewers ≤ 16 }
+    ensures transcript { OnOk result (IfSome (R.remaining reader.old) (GetsOutput (limits_of 1000000 16777216) words.now.viewers (W.contents writer.old) (W.contents writer.new))) }
     ensures end { OnOk result (IsAtEnd (R.remaining reader.new)) }
 {
-    let outcome = run(rt, alloc, reader, writer, &SETTINGS)?;
+    let Outcome { gf, .. } = run_script(rt, alloc, reader, writer, words.viewers)?;
     let Some(path) = &words.gf else {
         return Ok(());
     };
-    match outcome.gf {
+    match gf {
         Some(file) => Ok(write_file(rt, path, &file)?),
         None => Err(ProgramFault::NoCharacters),
     }
+}
+
+/// Performs the script beside so many viewers. Where nobody looks on, it waits for nobody.
+fn run_script<S: Wait + Threads, R: Read, W: Write>(
+    rt: &S,
+    alloc: Global,
+    reader: &mut R,
+    writer: &mut W,
+    viewers: u32,
+) -> Result<Outcome, RunFault>
+    requires { viewers ≤ 16 }
+    ensures transcript { OnOk result (IfSome (R.remaining reader.old) (GetsOutput (limits_of 1000000 16777216) viewers (W.contents writer.old) (W.contents writer.new))) }
+    ensures end { OnOk result (IsAtEnd (R.remaining reader.new)) }
+{
+    if viewers == 0 {
+        return mf_desk::run(rt, alloc, reader, writer, &SETTINGS);
+    }
+    let gate = Arc::new(alloc, OpenGate)?;
+    mf_desk::perform(rt, alloc, reader, writer, &SETTINGS, viewers, LOOKS, &gate)
 }
 
 /// Writes a font file, which is made, or replaces what was there. Refusal WriteFault (25), also where it cannot be made.
@@ -118,7 +143,8 @@ pub fn report<E: Write>(errors: &mut E, fault: ProgramFault) -> u8
 {
     let _ = writeln!(errors, "mfpic: {fault}");
     match fault {
-        ProgramFault::Run(RunFault::OutOfMemory) => NO_MEMORY,
+        ProgramFault::Run(RunFault::OutOfMemory | RunFault::NoPlace | RunFault::NoLook) =>
+            NO_MEMORY,
         ProgramFault::Run(RunFault::FileTooLong | RunFault::ReadFault | RunFault::WriteFault(_)) =>
             STREAM_FAULT,
         ProgramFault::NoCharacters => STREAM_FAULT,

@@ -1,20 +1,22 @@
 //! The words of the command line: what they ask for, as clap reads them.
-ghost use Rattle.std.specs.Prelude.{◌≡◌, IfOk, IsErrOf, OnOk, map, option_map, string_bytes};
+ghost use Rattle.std.specs.Prelude.{◌≡◌, ◌≤◌, IfOk, IsErrOf, OnOk, map, option_map, string_bytes};
 ghost use Rattle.clap.specs.Words.{app_of, kind_of};
-ghost use Rattle.mf_cli.specs.CommandLine.{IsCommandLine, file_in, mfpic, words_fault};
+ghost use Rattle.mf_cli.specs.CommandLine.{IsCommandLine, file_in, mfpic, viewers_in, words_fault};
 ghost use Rattle.mf_cli.specs.declared.words.WordsFault.TheVariants.{OutOfMemory as NoMemory};
 
 use clap::error::ErrorKind;
-use clap::{Arg, Command};
+use clap::{Arg, Command, value_parser};
 use std::alloc::{AllocError, Global};
 use thiserror::Error;
 
 /// How the program is used.
-pub const USAGE: &str = "usage: mfpic [--gf FILE]";
+pub const USAGE: &str = "usage: mfpic [--viewers 0..16] [--gf FILE]";
 
 /// What the words of the command line ask for.
 #[derive(Debug, Drop)]
 pub struct Words {
+    /// The N of `--viewers N`, and 0 where the words have none.
+    pub viewers: u32,
     /// The FILE of `--gf FILE`, as the word stands.
     pub gf: Option<String>,
 }
@@ -50,28 +52,35 @@ impl From<clap::Error> for WordsFault {
 }
 
 /// Reads the words of the command line, of which the first is the program's name. Refused with BadWords (27)
-/// where they are not `[--gf FILE]`, and OutOfMemory (14).
+/// where they are not `[--viewers 0..16] [--gf FILE]`, in either order, and OutOfMemory (14).
 pub fn read_words(alloc: Global, words: Vec<String>) -> Result<Words, WordsFault>
     ensures accepted { OnOk result (IsCommandLine (map string_bytes words.items)) }
     ensures refused { IsErrOf result WordsFault.BadWords → ¬ IsCommandLine (map string_bytes words.items) }
+    ensures viewers { IfOk result (λ asked. asked.viewers ≡ viewers_in (map string_bytes words.items)) }
+    ensures few { IfOk result (λ asked. asked.viewers ≤ 16) }
     ensures gf { IfOk result (λ asked. option_map string_bytes asked.gf ≡ file_in (map string_bytes words.items)) }
 {
     let matches = command(alloc)?.try_get_matches_from(words.as_slice())?;
+    let viewers = matches.get_one::<u32>("viewers").unwrap_or(0);
     let gf = match matches.get_str("gf") {
         Some(file) => Some(String::from_str(alloc, file)?),
         None => None,
     };
-    Ok(Words { gf })
+    Ok(Words { viewers, gf })
 }
 
-/// The command line of the program: `[--gf FILE]`, and no flag for help or a version.
+/// The command line of the program: `[--viewers 0..16] [--gf FILE]`, and no flag for help or a version.
 fn command<'a>(alloc: Global) -> Result<Command<'a>, AllocError>
     ensures { IfOk result (λ made. app_of made ≡ mfpic) }
 {
+    let viewers = Arg::new(alloc, "viewers")
+        .long("viewers")
+        .value_parser(value_parser!(u32).range(0..=16));
     let gf = Arg::new(alloc, "gf").long("gf");
     Command::new(alloc, "mfpic")
         .disable_help_flag(true)
         .disable_version_flag(true)
+        .arg(viewers)?
         .arg(gf)
 }
 

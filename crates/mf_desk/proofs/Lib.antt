@@ -1,10 +1,14 @@
 mod Ended
 mod FontFiles
+mod Glances
 mod KnownTexts
 mod LongLines
 mod OneTranscript
+mod Performances
 pub mod Performing
 mod Runs
 mod Shipping
+mod Showing
 mod Stages
 mod Standing
+mod ViewerLines

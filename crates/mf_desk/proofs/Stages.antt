@@ -6,7 +6,7 @@ use Rattle.std.proofs.KnownBytes.{Appends-nil, Appends-trans}
 use Rattle.std.proofs.lemmas.Bool.{ne_eqb, eqb-true, eqb-false}
 use Rattle.std.proofs.lemmas.List.{nil_from_length}
 use Rattle.mf_desk.specs.declared.fault.RunFault.{RunFault}
-use Rattle.mf_desk.specs.declared.fault.RunFault.TheVariants.{OutOfMemory, FileTooLong, ReadFault, WriteFault}
+use Rattle.mf_desk.specs.declared.fault.RunFault.TheVariants.{OutOfMemory, NoPlace, FileTooLong, ReadFault, WriteFault, NoLook}
 use Rattle.mf_desk.specs.declared.progress.Progress.{Progress}
 use Rattle.mf_desk.specs.Answers.{Answers}
 use Rattle.mf_desk.specs.Ended.{ended_of_parts, last_part, ended_lines, unended}
@@ -88,6 +88,8 @@ CutsShort-text : (fault : RunFault) (held holds later : Option (List ℕ)) (read
     → lines bytes ≡ first ++ behind
     → ((more : List ℕ) (next : State) → Answers (limits progress.performer.session) after.last line more next → Perform (limits progress.performer.session) start first (after.text ++ more) next)
     → BreaksOff fault progress.performer after.last line holds later → CutsShort (limits progress.performer.session) fault bytes held later
+CutsShort-text NoPlace held holds later read bytes line others first behind progress after before with_line performs broken = absurd broken
+CutsShort-text NoLook held holds later read bytes line others first behind progress after before with_line performs broken = absurd broken
 CutsShort-text FileTooLong held holds later read bytes line others first behind progress after before with_line performs broken = absurd broken
 CutsShort-text ReadFault held holds later read bytes line others first behind progress after before with_line performs broken = absurd broken
 CutsShort-text OutOfMemory held holds later read bytes line others first behind progress after before with_line performs nothing = (
@@ -143,7 +145,7 @@ CutsShort-last fault held holds later read progress after some broken =
 
 -- no byte is behind the last line feed
 pub IsThrough-none : (held holds : Option (List ℕ)) (read : List ℕ) (progress : Progress) → IsAfter held read progress holds → eqb (length progress.line) 0 ≡ true
-    → IsThrough held read progress.performer.session holds
+    → IsThrough held read progress.performer holds
 IsThrough-none held holds read progress after none =
     let kept : length (take 65538 (unended read)) ≡ 0 = ap length (sym after.line) ∙ eqb-true (length progress.line) 0 none in
     let empty : unended read ≡ [] = nil_from_length (unended read) (omega (arith, length-take 65538 (unended read))) in
@@ -153,11 +155,12 @@ IsThrough-none held holds read progress after none =
       performed = subst (λ ls. Perform (limits progress.performer.session) start ls after.text after.last) (sym (lines-none read empty)) after.performed;
       stands = after.stands;
       out = after.out;
+      counted = after.counted;
     }
 
 -- the last line ends with the script
 pub IsThrough-last : (held holds later : Option (List ℕ)) (read : List ℕ) (old new : Progress) (after : IsAfter held read old holds) → eqb (length old.line) 0 ≡ false
-    → limits new.performer.session ≡ limits old.performer.session → IsWritten old.performer after.last new.performer old.line holds later → IsThrough held read new.performer.session later
+    → limits new.performer.session ≡ limits old.performer.session → IsWritten old.performer after.last new.performer old.line holds later → IsThrough held read new.performer later
 IsThrough-last held holds later read old new after some same written =
     let whole = lines-last read (some-unended held holds read old after some) in
     record {
@@ -168,6 +171,7 @@ IsThrough-last held holds later read old new after some same written =
           (performed-last held holds read written.text old written.next after written.answer));
       stands = written.stands;
       out = Appends-trans held holds later after.text written.text after.out written.out;
+      counted = written.counted ∙ ap (λ n. n + length written.text) after.counted ∙ sym (length-append after.text written.text);
     }
 
 -- memory was wanting before anything was read

@@ -9,7 +9,7 @@ use Rattle.mf_desk.specs.Runs.{IsLongFile, limits_set}
 use Rattle.mf_desk.specs.States.{State, Limits, start}
 use Rattle.mf_desk.specs.Transcript.{Perform}
 use Rattle.mf_desk.specs.declared.fault.RunFault.{RunFault}
-use Rattle.mf_desk.specs.declared.fault.RunFault.TheVariants.{OutOfMemory, FileTooLong, ReadFault, WriteFault}
+use Rattle.mf_desk.specs.declared.fault.RunFault.TheVariants.{OutOfMemory, NoPlace, FileTooLong, ReadFault, WriteFault, NoLook}
 use Rattle.mf_desk.specs.declared.settings.Settings.{Settings}
 
 -- this is what the first lines of the bytes print
@@ -49,9 +49,11 @@ pub record IsBeforeLongFile (settings : Settings) (read text : List ℕ) : Type 
 -- lines, so no text is cut; after a WriteFault a front of such texts, which its number counts
 abbrev pub Breaks : Limits → RunFault → List ℕ → List ℕ → Type 0
 Breaks limits OutOfMemory read written = IsFirstText limits read written
+Breaks limits NoPlace read written = ⊥
 Breaks limits FileTooLong read written = ⊥
 Breaks limits ReadFault read written = IsEndedText limits read written
 Breaks limits (WriteFault count) read written = IsCutText limits read written count
+Breaks limits NoLook read written = ⊥
 
 -- what each fault says: after FileTooLong they are the whole transcript, or nothing
 abbrev pub Tells : Settings → RunFault → List ℕ → List ℕ → Type 0

@@ -1,7 +1,10 @@
 pub mod Answers
 pub mod Changes
 pub mod Ended
+pub mod EndedRuns
+pub mod Endings
 pub mod Fault
+pub mod Performances
 pub mod Performer
 pub mod Pictures
 pub mod Progress
@@ -12,3 +15,5 @@ pub mod Shipments
 pub mod States
 pub mod Transcript
 pub mod Variables
+pub mod Watchers
+pub mod Watching

@@ -5,7 +5,7 @@ use Rattle.mf_desk.specs.Answers.{Answers}
 use Rattle.mf_desk.specs.Sessions.{StandsFor, limits}
 use Rattle.mf_desk.specs.States.{State}
 use Rattle.mf_desk.specs.declared.fault.RunFault.{RunFault}
-use Rattle.mf_desk.specs.declared.fault.RunFault.TheVariants.{OutOfMemory, FileTooLong, ReadFault, WriteFault}
+use Rattle.mf_desk.specs.declared.fault.RunFault.TheVariants.{OutOfMemory, NoPlace, FileTooLong, ReadFault, WriteFault, NoLook}
 use Rattle.mf_desk.specs.declared.performer.Performer.{Performer}
 
 -- a line was performed, and its text has gone out
@@ -30,6 +30,8 @@ pub record IsBrokenOff (before : Performer) (s : State) (line : List ℕ) (held 
 -- a fault came where the text of a line was due
 abbrev pub BreaksOff : RunFault → Performer → State → List ℕ → Option (List ℕ) → Option (List ℕ) → Type 0
 BreaksOff OutOfMemory before s line held holds = Appends held holds []
+BreaksOff NoPlace before s line held holds = ⊥
 BreaksOff FileTooLong before s line held holds = ⊥
 BreaksOff ReadFault before s line held holds = ⊥
 BreaksOff (WriteFault count) before s line held holds = IsBrokenOff before s line held holds count
+BreaksOff NoLook before s line held holds = ⊥

@@ -7,8 +7,8 @@ use Rattle.mf_desk.specs.Sessions.{StandsFor, limits}
 use Rattle.mf_desk.specs.States.{State, start}
 use Rattle.mf_desk.specs.Transcript.{Perform}
 use Rattle.mf_desk.specs.declared.line_buffer.TheConstants.{MAX_KEPT}
+use Rattle.mf_desk.specs.declared.performer.Performer.{Performer}
 use Rattle.mf_desk.specs.declared.progress.Progress.{Progress}
-use Rattle.mf_desk.specs.declared.session.Session.{Session}
 
 -- the run after these bytes of the script, by a writer that held some bytes and now holds others: the lines that a line
 -- feed ended have been performed and their texts written, and of the one that is not ended enough is kept
@@ -22,13 +22,14 @@ pub record IsAfter (held : Option (List ℕ)) (read : List ℕ) (progress : Prog
   pub counted : progress.performer.written ≡ length text
 
 -- the run at the end of the script: all lines have been performed, and their texts written
-pub record IsThrough (held : Option (List ℕ)) (read : List ℕ) (session : Session) (holds : Option (List ℕ)) : Type 0 where
+pub record IsThrough (held : Option (List ℕ)) (read : List ℕ) (performer : Performer) (holds : Option (List ℕ)) : Type 0 where
   pub text : List ℕ
   pub last : State
-  pub performed : Perform (limits session) start (lines read) text last
-  pub stands : StandsFor session last
+  pub performed : Perform (limits performer.session) start (lines read) text last
+  pub stands : StandsFor performer.session last
   pub out : Appends held holds text
+  pub counted : performer.written ≡ length text
 
 -- all that a reader had was read, and performed
-abbrev pub ReadsThrough : Option (List ℕ) → Option (List ℕ) → Option (List ℕ) → Session → Option (List ℕ) → Type 0
-ReadsThrough unread left held session holds = (read : List ℕ) × Consumes unread left read × IsThrough held read session holds
+abbrev pub ReadsThrough : Option (List ℕ) → Option (List ℕ) → Option (List ℕ) → Performer → Option (List ℕ) → Type 0
+ReadsThrough unread left held performer holds = (read : List ℕ) × Consumes unread left read × IsThrough held read performer holds

@@ -23,7 +23,7 @@ pub record IsLongFile (max_bytes : ℕ) (font : FontWords) (characters : List Ch
   pub too_long : max_bytes < length (file_of font [] characters)
 
 -- a run of these bytes: a writer that held some bytes has got the transcript, and the outcome is the font file of
--- exactly the characters that were shipped
+-- exactly the characters that were shipped; nobody has looked on
 pub record IsRun (settings : Settings) (outcome : Outcome) (held holds : Option (List ℕ)) (input : List ℕ) : Type 0 where
   pub text : List ℕ
   pub last : State
@@ -31,3 +31,4 @@ pub record IsRun (settings : Settings) (outcome : Outcome) (held holds : Option 
   pub out : Appends held holds text
   pub fits : IsLongFile (limits_set settings).max_bytes settings.font last.characters → ⊥
   pub font : outcome.gf ≡ font_file settings.font last.characters
+  pub unseen : outcome.seen.items ≡ []

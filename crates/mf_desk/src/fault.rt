@@ -1,19 +1,24 @@
 //! The faults that end a run before the end of its script.
 ghost use Rattle.std.specs.Prelude.{◌≡◌};
-ghost use Rattle.mf_desk.specs.declared.fault.RunFault.TheVariants.{OutOfMemory as NoMemory};
+ghost use Rattle.mf_desk.specs.declared.fault.RunFault.TheVariants.{OutOfMemory as NoMemory, NoPlace as NoPlaceLeft};
 
 use mf_geom::OutOfMemory;
-use std::alloc::AllocError;
+use mf_live::NoPlace;
+use std::alloc::{AllocError, AllocFailed};
 use thiserror::Error;
 
 /// Why a run ended before the end of its script. Its message is its name.
 #[derive(Clone, Copy, Debug, PartialEq, Eq, Error)]
 pub enum RunFault {
-    /// Refusal 14: a growth was refused. What the writer got is the texts of the first lines, whole.
+    /// Refusal 14: a growth was refused. What the writer got is the texts of the first lines, whole,
+    /// and behind the whole transcript the lines of the first viewers, whole.
     #[error("OutOfMemory")]
     OutOfMemory,
+    /// Refusal 15: a place or a thread could not be had for a viewer. Nothing was read or written.
+    #[error("NoPlace")]
+    NoPlace,
     /// Refusal 20: a font file of the characters that were shipped would have more bytes than it may, and the writer got
-    /// the whole transcript; or no file has so few bytes, and nothing was read or written.
+    /// the whole transcript, and the line of each viewer; or no file has so few bytes, and nothing was read or written.
     #[error("FileTooLong")]
     FileTooLong,
     /// Refusal 24: the reader answered an error, or 1,048,576 reads did not reach the end of the script.
@@ -21,9 +26,12 @@ pub enum RunFault {
     #[error("ReadFault")]
     ReadFault,
     /// Refusal 25: the writer answered an error or took no byte. The number counts the bytes that went out
-    /// in this run, from 0; they are a front of the transcript.
+    /// in this run, from 0; they are a front of the transcript and the lines of the viewers.
     #[error("WriteFault")]
     WriteFault(u128),
+    /// Refusal 26: a look was refused. The writer got the whole transcript, and the lines of the first viewers, whole.
+    #[error("NoLook")]
+    NoLook,
 }
 
 impl From<OutOfMemory> for RunFault {
@@ -39,5 +47,21 @@ impl From<AllocError> for RunFault {
 
     fn from(_fault: AllocError) -> RunFault {
         RunFault::OutOfMemory
+    }
+}
+
+impl<T: Drop> From<AllocFailed<T>> for RunFault {
+    ghost from_gives = { λ _ fault. fault ≡ NoMemory };
+
+    fn from(_fault: AllocFailed<T>) -> RunFault {
+        RunFault::OutOfMemory
+    }
+}
+
+impl From<NoPlace> for RunFault {
+    ghost from_gives = { λ _ fault. fault ≡ NoPlaceLeft };
+
+    fn from(_fault: NoPlace) -> RunFault {
+        RunFault::NoPlace
     }
 }

@@ -2,10 +2,13 @@
 //! and the font file of the characters that they ship.
 #![tactic(auto)]
 
+mod ended_run;
 mod fault;
+mod gate;
 pub mod laws;
 mod line_buffer;
 mod outcome;
+mod performance;
 mod performer;
 mod progress;
 mod refusal;
@@ -14,9 +17,13 @@ mod script;
 mod session;
 mod settings;
 mod variables;
+mod watcher;
+mod watching;
 
 pub use fault::RunFault;
-pub use outcome::Outcome;
+pub use gate::{Gate, OpenGate};
+pub use outcome::{Glance, Outcome};
+pub use performance::perform;
 pub use script::run;
-pub use session::Session;
+pub use session::{EndFault, Session};
 pub use settings::Settings;

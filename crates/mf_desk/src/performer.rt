@@ -1,15 +1,18 @@
 //! Performs one line after another, and writes what each prints before the next.
-ghost use Rattle.std.specs.Prelude.{◌≡◌, ◌⊎◌, ◌+◌, ◌<◌, ◌≤◌, ◌^◌, ◌↔◌, [], Err, IfErr, IfOk, OnOk};
-ghost use Rattle.mf_gf.specs.Keeping.{Keeps, limit};
+ghost use Rattle.std.specs.Prelude.{◌≡◌, ◌⊎◌, ◌+◌, ◌<◌, ◌≤◌, ◌^◌, ◌↔◌, Err, IfErr, IfOk, OnOk};
+ghost use Rattle.mf_live.specs.Desks.{desk_name};
+ghost use Rattle.mf_desk.specs.EndedRuns.{IsEndOf};
 ghost use Rattle.mf_desk.specs.Performer.{BreaksOff, IsWritten};
 ghost use Rattle.mf_desk.specs.Runs.{limits_set};
-ghost use Rattle.mf_desk.specs.Sessions.{StandsFor, limits};
+ghost use Rattle.mf_desk.specs.Sessions.{StandsFor, limits, name};
 ghost use Rattle.mf_desk.specs.States.{State, start};
 
+use crate::ended_run::EndedRun;
 use crate::fault::RunFault;
 use crate::session::Session;
 use crate::settings::Settings;
-use mf_gf::{GfFault, GfFile, write_counted};
+use mf_gf::{GfFault, write_counted};
+use mf_live::Desk;
 use std::alloc::Global;
 use std::io::Write;
 use std::sync::Wait;
@@ -22,19 +25,29 @@ pub struct Performer {
 }
 
 impl Performer {
-    /// A performer of a script of which no line has been performed. Nobody looks on.
-    pub fn new<S: Wait>(rt: &S, alloc: Global, settings: &Settings) -> Result<Performer, RunFault>
-        ensures start { IfOk result (λ performer. StandsFor performer.session start) }
-        ensures limits { IfOk result (λ performer. limits performer.session ≡ limits_set settings.now) }
-        ensures written { IfOk result (λ performer. performer.written ≡ 0) }
+    /// A performer of a script of which no line has been performed, and the desk of at most so many viewers.
+    pub fn new<S: Wait>(
+        rt: &S,
+        alloc: Global,
+        settings: &Settings,
+        viewers: u32,
+    ) -> Result<(Performer, Desk), RunFault>
+        requires { viewers ≤ 64 }
+        ensures start { IfOk result (λ made. StandsFor made.0.session start) }
+        ensures limits { IfOk result (λ made. limits made.0.session ≡ limits_set settings.now) }
+        ensures name { IfOk result (λ made. desk_name made.1 ≡ name made.0.session) }
+        ensures written { IfOk result (λ made. made.0.written ≡ 0) }
         ensures too_long { (settings.now.max_bytes < 3) ↔ (result ≡ Err RunFault.FileTooLong) }
         ensures fault { IfErr result (λ fault. (fault ≡ RunFault.FileTooLong) ⊎ (fault ≡ RunFault.OutOfMemory)) }
     {
-        match Session::new(rt, alloc, 0, settings.max_ops, settings.max_bytes) {
-            Ok((session, _)) => Ok(Performer {
-                session,
-                written: 0,
-            }),
+        match Session::new(rt, alloc, viewers, settings.max_ops, settings.max_bytes) {
+            Ok((session, desk)) => {
+                let performer = Performer {
+                    session,
+                    written: 0,
+                };
+                Ok((performer, desk))
+            }
             Err(GfFault::FileTooLong) => Err(RunFault::FileTooLong),
             Err(_) => Err(RunFault::OutOfMemory),
         }
@@ -52,6 +65,7 @@ impl Performer {
         ensures written { OnOk result ((s : State) → StandsFor self.old.session s → IsWritten self.old s self.new line.now (W.contents writer.old) (W.contents writer.new)) }
         ensures at_most { OnOk result (self.new.written ≤ self.old.written + 2 ^ 64) }
         ensures limits { limits self.new.session ≡ limits self.old.session }
+        ensures name { name self.new.session ≡ name self.old.session }
         ensures fault { IfErr result (λ fault. (s : State) → StandsFor self.old.session s → BreaksOff fault self.old s line.now (W.contents writer.old) (W.contents writer.new)) }
     {
         let text = self.session.command(rt, alloc, line)?;
@@ -64,16 +78,23 @@ impl Performer {
         }
     }
 
-    /// Ends it, and hands out the font file of the characters that were shipped.
-    pub fn finish<S: Wait>(self, rt: &S) -> GfFile
-        ensures kept { (s : State) → StandsFor self.session s → Keeps result [] s.characters }
-        ensures limit { limit result ≡ (limits self.session).max_bytes }
+    /// Ends the script. Refusal OutOfMemory (14).
+    pub fn finish<S: Wait>(self, rt: &S) -> Result<EndedRun, RunFault>
+        ensures ended { IfOk result (λ run. (s : State) → StandsFor self.session s → IsEndOf self s run) }
+        ensures fault { IfErr result (λ fault. fault ≡ RunFault.OutOfMemory) }
     {
-        let Performer {
-            session,
-            written: _,
-        } = self;
-        session.finish(rt)
+        let Performer { session, written } = self;
+        match session.finish(rt) {
+            Ok((ended, file)) => Ok(EndedRun {
+                ended,
+                file,
+                written,
+            }),
+            Err(fault) => {
+                fault.discard(rt);
+                Err(RunFault::OutOfMemory)
+            }
+        }
     }
 
     /// Ends it.

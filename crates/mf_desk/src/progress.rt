@@ -1,18 +1,20 @@
 //! A run in progress: the lines that have been performed, and the bytes of the one that has not ended yet.
 ghost use Rattle.std.specs.Io.KnownBytes.{IsAtEnd};
 ghost use Rattle.std.specs.Prelude.{◌≡◌, ◌≢◌, ◌⊎◌, ◌+◌, ◌*◌, ◌<◌, ◌≤◌, ◌^◌, ◌↔◌, ◌++◌, ◌∷◌, Err, Option, List, ℕ, [], IfErr, IfOk, OnOk, length};
-ghost use Rattle.mf_gf.specs.Keeping.{Keeps, limit};
+ghost use Rattle.mf_live.specs.Desks.{desk_name};
+ghost use Rattle.mf_live.specs.Writers.{ended_name};
+ghost use Rattle.mf_desk.specs.EndedRuns.{EndsWith};
 ghost use Rattle.mf_desk.specs.Fault.{BreaksScript, CutsShort};
 ghost use Rattle.mf_desk.specs.Progress.{IsAfter, IsThrough, ReadsThrough};
 ghost use Rattle.mf_desk.specs.Runs.{limits_set};
-ghost use Rattle.mf_desk.specs.Sessions.{StandsFor, limits};
-ghost use Rattle.mf_desk.specs.States.{State};
+ghost use Rattle.mf_desk.specs.Sessions.{limits, name};
 
+use crate::ended_run::EndedRun;
 use crate::fault::RunFault;
 use crate::line_buffer::LineBuffer;
 use crate::performer::Performer;
 use crate::settings::Settings;
-use mf_gf::GfFile;
+use mf_live::Desk;
 use std::alloc::Global;
 use std::io::{Read, Write};
 use std::sync::Wait;
@@ -27,22 +29,60 @@ pub struct Progress {
 }
 
 impl Progress {
-    /// A run that has read nothing.
-    pub fn new<S: Wait>(rt: &S, alloc: Global, settings: &Settings) -> Result<Progress, RunFault>
-        ensures start { IfOk result (λ progress. (held : Option (List ℕ)) → IsAfter held [] progress held) }
-        ensures limits { IfOk result (λ progress. limits progress.performer.session ≡ limits_set settings.now) }
-        ensures written { IfOk result (λ progress. progress.performer.written ≡ 0) }
+    /// A run that has read nothing, and the desk of at most so many viewers.
+    pub fn new<S: Wait>(
+        rt: &S,
+        alloc: Global,
+        settings: &Settings,
+        viewers: u32,
+    ) -> Result<(Progress, Desk), RunFault>
+        requires { viewers ≤ 64 }
+        ensures start { IfOk result (λ made. (held : Option (List ℕ)) → IsAfter held [] made.0 held) }
+        ensures limits { IfOk result (λ made. limits made.0.performer.session ≡ limits_set settings.now) }
+        ensures name { IfOk result (λ made. desk_name made.1 ≡ name made.0.performer.session) }
+        ensures written { IfOk result (λ made. made.0.performer.written ≡ 0) }
         ensures too_long { (settings.now.max_bytes < 3) ↔ (result ≡ Err RunFault.FileTooLong) }
         ensures fault { IfErr result (λ fault. (fault ≡ RunFault.FileTooLong) ⊎ (fault ≡ RunFault.OutOfMemory)) }
     {
-        Ok(Progress {
-            performer: Performer::new(rt, alloc, settings)?,
-            line: LineBuffer::new(alloc),
-        })
+        let (performer, desk) = Performer::new(rt, alloc, settings, viewers)?;
+        let line = LineBuffer::new(alloc);
+        Ok((Progress { performer, line }, desk))
     }
 
-    /// Reads a script to its end, performs its lines and writes their texts. The chunk is what a read is given.
-    pub fn read_all<S: Wait, R: Read, W: Write>(
+    /// Reads a script to its end, performs its lines, writes their texts, and ends it. The chunk is what a read is given.
+    pub fn complete<S: Wait, R: Read, W: Write>(
+        self,
+        rt: &S,
+        alloc: Global,
+        reader: &mut R,
+        writer: &mut W,
+        chunk: &mut [u8],
+    ) -> Result<EndedRun, RunFault>
+        requires start { (held : Option (List ℕ)) → IsAfter held [] self held }
+        requires unwritten { self.performer.written ≡ 0 }
+        requires some { 0 < length chunk.old }
+        requires few { length chunk.old ≤ 2 ^ 16 }
+        ensures over { IfOk result (λ run. EndsWith (limits self.performer.session) (R.remaining reader.old) (R.remaining reader.new) (W.contents writer.old) run (W.contents writer.new)) }
+        ensures name { IfOk result (λ run. ended_name run.ended ≡ name self.performer.session) }
+        ensures short { IfOk result (λ run. run.written ≤ 2 ^ 101) }
+        ensures end { OnOk result (IsAtEnd (R.remaining reader.new)) }
+        ensures fault { IfErr result (λ fault. BreaksScript (limits self.performer.session) fault (R.remaining reader.old) (R.remaining reader.new) (W.contents writer.old) (W.contents writer.new)) }
+    {
+        let mut progress = self;
+        match progress.read_all(rt, alloc, reader, writer, chunk) {
+            Ok(()) => {
+                let Progress { performer, line: _ } = progress;
+                performer.finish(rt)
+            }
+            Err(fault) => {
+                progress.discard(rt);
+                Err(fault)
+            }
+        }
+    }
+
+    /// Reads a script to its end, performs its lines and writes their texts.
+    fn read_all<S: Wait, R: Read, W: Write>(
         &mut self,
         rt: &S,
         alloc: Global,
@@ -54,8 +94,10 @@ impl Progress {
         requires unwritten { self.old.performer.written ≡ 0 }
         requires some { 0 < length chunk.old }
         requires few { length chunk.old ≤ 2 ^ 16 }
-        ensures through { OnOk result (ReadsThrough (R.remaining reader.old) (R.remaining reader.new) (W.contents writer.old) self.new.performer.session (W.contents writer.new)) }
+        ensures through { OnOk result (ReadsThrough (R.remaining reader.old) (R.remaining reader.new) (W.contents writer.old) self.new.performer (W.contents writer.new)) }
+        ensures short { OnOk result (self.new.performer.written ≤ 2 ^ 101) }
         ensures limits { limits self.new.performer.session ≡ limits self.old.performer.session }
+        ensures name { name self.new.performer.session ≡ name self.old.performer.session }
         ensures end { OnOk result (IsAtEnd (R.remaining reader.new)) }
         ensures fault { IfErr result (λ fault. BreaksScript (limits self.old.performer.session) fault (R.remaining reader.old) (R.remaining reader.new) (W.contents writer.old) (W.contents writer.new)) }
     {
@@ -83,6 +125,7 @@ impl Progress {
             → IsAfter held (read ++ bytes.now) self.new (W.contents writer.new)) }
         ensures at_most { OnOk result (self.new.performer.written ≤ self.old.performer.written + length bytes.now * 2 ^ 64) }
         ensures limits { limits self.new.performer.session ≡ limits self.old.performer.session }
+        ensures name { name self.new.performer.session ≡ name self.old.performer.session }
         ensures fault { IfErr result (λ fault. (held : Option (List ℕ)) (read : List ℕ) → IsAfter held read self.old (W.contents writer.old)
             → CutsShort (limits self.old.performer.session) fault (read ++ bytes.now) held (W.contents writer.new)) }
     {
@@ -105,8 +148,10 @@ impl Progress {
     ) -> Result<(), RunFault>
         requires { self.old.performer.written + 2 ^ 64 ≤ 2 ^ 127 }
         ensures done { OnOk result ((held : Option (List ℕ)) (read : List ℕ) → IsAfter held read self.old (W.contents writer.old)
-            → IsThrough held read self.new.performer.session (W.contents writer.new)) }
+            → IsThrough held read self.new.performer (W.contents writer.new)) }
+        ensures at_most { OnOk result (self.new.performer.written ≤ self.old.performer.written + 2 ^ 64) }
         ensures limits { limits self.new.performer.session ≡ limits self.old.performer.session }
+        ensures name { name self.new.performer.session ≡ name self.old.performer.session }
         ensures fault { IfErr result (λ fault. (held : Option (List ℕ)) (read : List ℕ) → IsAfter held read self.old (W.contents writer.old)
             → CutsShort (limits self.old.performer.session) fault read held (W.contents writer.new)) }
     {
@@ -129,6 +174,7 @@ impl Progress {
             → IsAfter held (read ++ 10 ∷ []) self.new (W.contents writer.new)) }
         ensures at_most { OnOk result (self.new.performer.written ≤ self.old.performer.written + 2 ^ 64) }
         ensures limits { limits self.new.performer.session ≡ limits self.old.performer.session }
+        ensures name { name self.new.performer.session ≡ name self.old.performer.session }
         ensures fault { IfErr result (λ fault. (held : Option (List ℕ)) (read more : List ℕ) → IsAfter held read self.old (W.contents writer.old)
             → CutsShort (limits self.old.performer.session) fault (read ++ 10 ∷ more) held (W.contents writer.new)) }
     {
@@ -149,15 +195,6 @@ impl Progress {
     {
         self.line.push(byte)?;
         Ok(())
-    }
-
-    /// Ends it, and hands out the font file of the characters that were shipped.
-    pub fn file<S: Wait>(self, rt: &S) -> GfFile
-        ensures kept { (s : State) → StandsFor self.performer.session s → Keeps result [] s.characters }
-        ensures limit { limit result ≡ (limits self.performer.session).max_bytes }
-    {
-        let Progress { performer, line: _ } = self;
-        performer.finish(rt)
     }
 
     /// Ends it.

@@ -16,7 +16,7 @@ use std::io::{Read, Write};
 use std::sync::Wait;
 
 /// Number of bytes that a read asks for.
-const CHUNK_SIZE: usize = 65_536;
+pub const CHUNK_SIZE: usize = 65_536;
 
 /// Reads a script to its end, line by line, and writes the transcript: the text of each line goes out before
 /// the next line is performed. Its outcome is the font file of the characters that the script has shipped. Refusals:
@@ -36,17 +36,17 @@ pub fn run<S: Wait, R: Read, W: Write>(
     ensures all_read { result ≡ Err RunFault.FileTooLong → 3 ≤ settings.now.max_bytes → IsAtEnd (R.remaining reader.new) }
 {
     let mut memory = vec![in alloc; 0u8; CHUNK_SIZE]?;
-    let mut progress = Progress::new(rt, alloc, settings)?;
-    if let Err(fault) = progress.read_all(rt, alloc, reader, writer, memory.as_mut_slice()) {
-        progress.discard(rt);
-        return Err(fault);
-    }
-    let gf = finished(progress.file(rt), settings.font)?;
-    Ok(Outcome { gf })
+    let (progress, _) = Progress::new(rt, alloc, settings, 0)?;
+    let ended = progress.complete(rt, alloc, reader, writer, memory.as_mut_slice())?;
+    let gf = finished(ended.file(rt), settings.font)?;
+    Ok(Outcome {
+        gf,
+        seen: Vec::new(alloc),
+    })
 }
 
 /// The font file of the characters that were shipped, if any was.
-fn finished(file: GfFile, font: FontWords) -> Result<Option<GfBytes>, RunFault>
+pub fn finished(file: GfFile, font: FontWords) -> Result<Option<GfBytes>, RunFault>
     ensures some { IfOk result (λ gf. (characters : List Character) → Keeps file [] characters → gf ≡ font_file font characters) }
     ensures too_long { (characters : List Character) → Keeps file [] characters → IsLongFile (limit file) font characters ↔ (result ≡ Err RunFault.FileTooLong) }
     ensures fault { IfErr result (λ fault. (fault ≡ RunFault.FileTooLong) ⊎ (fault ≡ RunFault.OutOfMemory)) }

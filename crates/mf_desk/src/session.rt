@@ -1,6 +1,7 @@
 //! A session: what a script has made so far.
 use crate::variables::Variables;
 use mf_gf::GfFile;
+use mf_live::Closing;
 
 mod commands;
 mod steps;
@@ -10,4 +11,12 @@ mod steps;
 pub struct Session {
     pub(crate) variables: Variables,
     pub(crate) file: GfFile,
+}
+
+/// What is handed back where memory was wanting to end a session.
+pub enum EndFault {
+    /// The session, as it was.
+    Kept(Session),
+    /// The end mark of `currentpicture` is set, and nothing was published; and the font file of what was shipped.
+    Halfway(Closing, GfFile),
 }

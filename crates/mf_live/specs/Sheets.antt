@@ -1,16 +1,17 @@
 -- What a clause reads of the taking of a sheet.
-use Rattle.std.specs.Prelude.{◌≡◌}
+use Rattle.std.specs.Prelude.{◌≡◌, true}
 use Rattle.mf_live.specs.declared.sheet.Sheet.{Sheet}
 use Rattle.mf_live.specs.declared.sheet.SheetFault.{SheetFault}
 use Rattle.mf_live.specs.declared.sheet.SheetFault.TheVariants.{NoLook, OutOfMemory}
 use Rattle.mf_live.specs.declared.viewer.Viewer.{Viewer}
-use Rattle.mf_live.specs.Entries.{pic, rev}
+use Rattle.mf_live.specs.Entries.{ends_last, pic, rev}
 use Rattle.mf_live.specs.Viewers.{Extends, SeesTheSame, looked, seen}
 
--- a viewer has looked
+-- a viewer has looked, at a list in which nothing follows the end mark
 pub record HasLooked (before after : Viewer) : Type 0 where
   pub extends : Extends before (looked after)
   pub seen : seen after ≡ looked after
+  pub ends : ends_last (looked after) ≡ true
 
 -- a sheet has what its look showed
 pub record IsTaken (before after : Viewer) (sheet : Sheet) : Type 0 where

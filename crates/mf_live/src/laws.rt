@@ -1,15 +1,17 @@
 //! Laws of the live picture: each is the contract of a function that does nothing, or only calls another.
-ghost use Rattle.std.specs.Prelude.{◌≡◌, ◌≤◌, true, ℕ, List, [], ◌∷◌, ◌++◌, IfOk};
+ghost use Rattle.std.specs.Prelude.{◌≡◌, ◌≤◌, true, ℕ, List, [], ◌∷◌, ◌++◌, IfOk, OnOk};
 ghost use Rattle.mf_live.specs.declared.event.Event.{Event};
 ghost use Rattle.mf_live.specs.declared.event.Event.TheVariants.{Look};
-ghost use Rattle.mf_live.specs.Entries.{rev, is_closed};
+ghost use Rattle.mf_live.specs.Entries.{rev, is_closed, pic};
 ghost use Rattle.mf_live.specs.Prefixes.{IsWholePrefix, HasWholePublishes};
 ghost use Rattle.mf_live.specs.Viewers as viewers;
 ghost use Rattle.mf_live.specs.World.{start, Happen, EverySchedule, accepted_of, published_of};
 
-use crate::look::NoLook;
+use crate::look::{Look, NoLook};
 use crate::notice::Notice;
+use crate::sheet::{Sheet, SheetFault};
 use crate::viewer::Viewer;
+use std::alloc::Global;
 
 /// For every list of events, of one writer and any number of viewers, in every order: no operation of what was
 /// accepted is refused; what is published begins that, whole, and so does what each viewer has seen and what each
@@ -31,7 +33,7 @@ pub fn looks_show_whole_publishes(max_ops: u32)
 {}
 
 /// What a viewer sees that has learnt of the end is the whole list.
-pub fn last_look(viewer: Viewer, notice: Notice) -> Result<crate::look::Look, (Viewer, NoLook)>
+pub fn last_look(viewer: Viewer, notice: Notice) -> Result<Look, (Viewer, NoLook)>
     requires name { viewers.notice_name notice ≡ viewers.name viewer }
     requires closed { is_closed (viewers.told notice) ≡ true }
     ensures { IfOk result (λ look. viewers.shown look ≡ viewers.told notice) }
@@ -39,4 +41,18 @@ pub fn last_look(viewer: Viewer, notice: Notice) -> Result<crate::look::Look, (V
     let mut viewer = viewer;
     viewer.learn(notice);
     viewer.look()
+}
+
+/// The sheet of a viewer that has learnt of the end is the last picture, and the whole list begins, whole, with all
+/// that the viewer had seen.
+pub fn last_sheet(viewer: &mut Viewer, alloc: Global, notice: Notice) -> Result<Sheet, SheetFault>
+    requires name { viewers.notice_name notice ≡ viewers.name viewer.old }
+    requires closed { is_closed (viewers.told notice) ≡ true }
+    ensures name { viewers.name viewer.new ≡ viewers.name viewer.old }
+    ensures picture { IfOk result (λ sheet. sheet.picture ≡ pic (viewers.told notice)) }
+    ensures revision { IfOk result (λ sheet. sheet.revision ≡ rev (viewers.told notice)) }
+    ensures extends { OnOk result (viewers.Extends viewer.old (viewers.told notice)) }
+{
+    viewer.learn(notice);
+    viewer.sheet(alloc)
 }

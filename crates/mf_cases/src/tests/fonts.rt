@@ -9,11 +9,11 @@ use std::sync::Wait;
 use std::test::Fail;
 
 /// A rectangle of 3 by 2 pixels, shipped with an escapement of five pixels.
-const RECT: &str = "addto currentpicture contour (0,0)--(3,0)--(3,2)--(0,2)--cycle\n\
+pub(crate) const RECT: &str = "addto currentpicture contour (0,0)--(3,0)--(3,2)--(0,2)--cycle\n\
                     shipout currentpicture code 65 dx 327680 width 0\n";
 
 /// Its file, of 72 bytes.
-const RECT_FILE: &[u8] = b"\xf7\x83\x00\
+pub(crate) const RECT_FILE: &[u8] = b"\xf7\x83\x00\
     \x44\x41\x03\x03\x01\x01\
     \x00\x03\x4a\x03\x45\
     \xf8\x00\x00\x00\x0e\

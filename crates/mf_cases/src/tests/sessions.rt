@@ -1,4 +1,8 @@
 //! Sessions, called directly.
+ghost use Rattle.std.specs.Prelude.{◌≡◌};
+ghost use Rattle.mf_desk.specs.Sessions.{StandsFor, name};
+ghost use Rattle.mf_desk.specs.States.{State, start};
+ghost use Rattle.mf_live.specs.Desks.{desk_name};
 
 use super::AMPLE;
 use crate::scripts::SCRIPTS;
@@ -11,12 +15,23 @@ use std::sync::Wait;
 use std::test::Fail;
 
 /// A session of which so many operations on `currentpicture` are accepted, and its desk with one place.
-fn opened<R: Abort + Wait>(rt: &R, alloc: Global, max_ops: u32) -> (Session, Desk) {
+pub(crate) fn opened<R: Abort + Wait>(rt: &R, alloc: Global, max_ops: u32) -> (Session, Desk)
+    ensures start { StandsFor result.0 start }
+    ensures name { desk_name result.1 ≡ name result.0 }
+{
     Session::new(rt, alloc, 1, max_ops, AMPLE.max_bytes).expect(rt, "there is room for a session")
 }
 
 /// Performs a line, and says what it prints.
-fn perform<R: Abort + Wait>(rt: &R, alloc: Global, session: &mut Session, line: &str) -> Vec<u8> {
+pub(crate) fn perform<R: Abort + Wait>(
+    rt: &R,
+    alloc: Global,
+    session: &mut Session,
+    line: &str,
+) -> Vec<u8>
+    ensures stands { (s : State) → StandsFor session.old s → (t : State) × StandsFor session.new t }
+    ensures name { name session.new ≡ name session.old }
+{
     session
         .command(rt, alloc, line.as_bytes())
         .expect(rt, "there is room for the line")

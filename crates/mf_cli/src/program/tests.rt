@@ -9,6 +9,7 @@ use std::process::Abort;
 use std::rt::Files;
 use std::sync::Wait;
 use std::test::Fail;
+use std::thread::Threads;
 use std::{env, fs, process};
 
 /// A line, and its text.
@@ -46,6 +47,79 @@ fn performs_scripts(rt: HostRuntime) -> Result<(), Fail> {
     Ok(())
 }
 
+/// The script is performed beside so many viewers, with no fault: this is written.
+fn written<R: Abort + Wait + Threads + Files + AllocGlobal>(
+    rt: &R,
+    viewers: &str,
+    script: &str,
+) -> Result<String, Fail> {
+    let alloc = rt.alloc();
+    let mut writer = Sink::new(alloc);
+    let mut errors = Sink::new(alloc);
+    let words = words_of(alloc, &["mfpic", "--viewers", viewers])?;
+    let mut reader = Pieces::whole(script.as_bytes());
+    let status = program(rt, alloc, words, &mut reader, &mut writer, &mut errors);
+    assert_eq!(rt; status, DONE, "{viewers} {script}");
+    assert!(rt; errors.taken().is_empty(), "{viewers} {script}");
+    Ok(String::from_str(alloc, str::from_utf8(writer.taken())?)?)
+}
+
+/// Viewers see the last picture, published or not.
+#[test]
+fn writes_the_lines_of_viewers(rt: HostRuntime) -> Result<(), Fail> {
+    let unpublished = "addto currentpicture contour (0,0)--(3,0)--(3,2)--(0,2)--cycle\n";
+    let published = "addto currentpicture contour (0,0)--(3,0)--(3,2)--(0,2)--cycle\npublish\n";
+    for (viewers, script, text) in [
+        (
+            "2",
+            published,
+            "published 1\n\
+             viewer 0 revision 1 totalweight 6\n\
+             viewer 1 revision 1 totalweight 6\n",
+        ),
+        (
+            "2",
+            unpublished,
+            "viewer 0 revision 1 totalweight 6\n\
+             viewer 1 revision 1 totalweight 6\n",
+        ),
+        (
+            "2",
+            "",
+            "viewer 0 revision 0 totalweight 0\n\
+             viewer 1 revision 0 totalweight 0\n",
+        ),
+        ("0", published, "published 1\n"),
+        ("0", unpublished, ""),
+    ] {
+        let written = written(&rt, viewers, script)?;
+        assert_eq!(rt; written.as_str(), text, "{viewers} {script}");
+    }
+    Ok(())
+}
+
+/// 16 viewers see the same at the end, however their looks fell.
+#[test]
+fn performs_scripts_beside_viewers(rt: HostRuntime) -> Result<(), Fail> {
+    let alloc = rt.alloc();
+    for (script, transcript) in SCRIPTS {
+        let first = written(&rt, "16", script)?;
+        let second = written(&rt, "16", script)?;
+        assert_eq!(rt; first.as_str(), second.as_str(), "{script}");
+        let lines = first.strip_prefix(*transcript).unwrap_or("");
+        let line = lines.lines().next().unwrap_or("");
+        let seen = line.strip_prefix("viewer 0 revision ").unwrap_or("");
+        assert!(rt; seen.contains(" totalweight "), "{script}");
+        let mut expected = String::new(alloc);
+        for viewer in 0..16 {
+            let line = format!(in alloc; "viewer {viewer} revision {seen}\n")?;
+            expected.push_str(line.as_str())?;
+        }
+        assert_eq!(rt; lines, expected.as_str(), "{script}");
+    }
+    Ok(())
+}
+
 /// Words are looked at before the script, of which nothing is read.
 #[test]
 fn refuses_words(rt: HostRuntime) -> Result<(), Fail> {
@@ -55,7 +129,7 @@ fn refuses_words(rt: HostRuntime) -> Result<(), Fail> {
         &["mfpic", "--gf"],
         &["mfpic", "--help"],
         &["mfpic", "--gf", "a", "--gf", "b"],
-        &["mfpic", "--viewers", "2"],
+        &["mfpic", "--viewers", "17"],
     ];
     for words in cases {
         let mut writer = Sink::new(alloc);
@@ -69,7 +143,10 @@ fn refuses_words(rt: HostRuntime) -> Result<(), Fail> {
             &mut errors,
         );
         assert_eq!(rt; status, BAD_WORDS);
-        assert_eq!(rt; errors.taken(), b"usage: mfpic [--gf FILE]\n".as_slice());
+        assert_eq!(rt;
+            errors.taken(),
+            b"usage: mfpic [--viewers 0..16] [--gf FILE]\n".as_slice()
+        );
         assert!(rt; writer.taken().is_empty());
     }
     Ok(())
@@ -97,7 +174,7 @@ fn path_of(rt: &HostRuntime, name: &str) -> Result<PathBuf, Fail> {
 }
 
 /// The words ask for this file, and the program ends with this status, this transcript and this message.
-fn assert_ends<R: Abort + Wait + Files + AllocGlobal>(
+fn assert_ends<R: Abort + Wait + Threads + Files + AllocGlobal>(
     rt: &R,
     path: &str,
     reader: &mut Pieces<'_>,
@@ -125,6 +202,32 @@ fn writes_the_font_file(rt: HostRuntime) -> Result<(), Fail> {
         assert_eq!(rt; fs::read(&rt, path.as_path())?.as_slice(), PIXEL_FILE);
         fs::write(&rt, path.as_path(), [b'x'; 200].as_slice())?;
     }
+    fs::remove_file(&rt, path.as_path())?;
+    Ok(())
+}
+
+/// The file holds what was shipped, whoever looks on.
+#[test]
+fn writes_the_font_file_beside_viewers(rt: HostRuntime) -> Result<(), Fail> {
+    let alloc = rt.alloc();
+    let path = path_of(&rt, "viewed")?;
+    let mut writer = Sink::new(alloc);
+    let mut errors = Sink::new(alloc);
+    let status = program(
+        &rt,
+        alloc,
+        words_of(alloc, &["mfpic", "--viewers", "1", "--gf", path.as_str()])?,
+        &mut Pieces::whole(PIXEL),
+        &mut writer,
+        &mut errors,
+    );
+    assert_eq!(rt; status, DONE);
+    assert_eq!(rt;
+        writer.taken(),
+        b"[65]\nviewer 0 revision 0 totalweight 0\n".as_slice()
+    );
+    assert!(rt; errors.taken().is_empty());
+    assert_eq!(rt; fs::read(&rt, path.as_path())?.as_slice(), PIXEL_FILE);
     fs::remove_file(&rt, path.as_path())?;
     Ok(())
 }
@@ -202,8 +305,10 @@ fn reports_a_write_fault(rt: HostRuntime) -> Result<(), Fail> {
 
 #[test]
 fn reports_other_faults(rt: HostRuntime) {
-    let cases: [(RunFault, u8, &[u8]); 2] = [
+    let cases: [(RunFault, u8, &[u8]); 4] = [
         (RunFault::OutOfMemory, NO_MEMORY, b"mfpic: OutOfMemory\n"),
+        (RunFault::NoPlace, NO_MEMORY, b"mfpic: NoPlace\n"),
+        (RunFault::NoLook, NO_MEMORY, b"mfpic: NoLook\n"),
         (RunFault::FileTooLong, STREAM_FAULT, b"mfpic: FileTooLong\n"),
     ];
     for (fault, status, message) in cases {

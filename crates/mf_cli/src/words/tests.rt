@@ -26,9 +26,90 @@ fn file_of(words: &Words) -> Option<&str> {
 #[test]
 fn needs_no_words(rt: HostRuntime) -> Result<(), Fail> {
     let alloc = rt.alloc();
-    assert!(rt; read(alloc, &[])?.gf.is_none());
-    assert!(rt; read(alloc, &["--"])?.gf.is_none());
-    assert!(rt; read_words(alloc, Vec::new(alloc))?.gf.is_none());
+    for asked in [
+        read(alloc, &[])?,
+        read(alloc, &["--"])?,
+        read_words(alloc, Vec::new(alloc))?,
+    ] {
+        assert!(rt; asked.gf.is_none());
+        assert_eq!(rt; asked.viewers, 0);
+    }
+    Ok(())
+}
+
+/// N is what a 64-bit number may be written as, from 0 to 16.
+#[test]
+fn reads_the_number(rt: HostRuntime) -> Result<(), Fail> {
+    let alloc = rt.alloc();
+    for (number, viewers) in [
+        ("0", 0),
+        ("1", 1),
+        ("16", 16),
+        ("+3", 3),
+        ("03", 3),
+        ("+016", 16),
+        ("000000000000000000000000000007", 7),
+    ] {
+        let asked = read(alloc, &["--viewers", number])?;
+        assert_eq!(rt; asked.viewers, viewers, "--viewers {number}");
+        assert!(rt; asked.gf.is_none());
+    }
+    for (word, viewers) in [
+        ("--viewers=16", 16),
+        ("--viewers=+3", 3),
+        ("--viewers=-0", 0),
+    ] {
+        assert_eq!(rt; read(alloc, &[word])?.viewers, viewers, "{word}");
+    }
+    Ok(())
+}
+
+#[test]
+fn refuses_what_is_no_number_of_viewers(rt: HostRuntime) -> Result<(), Fail> {
+    let alloc = rt.alloc();
+    for number in [
+        "17",
+        "-1",
+        "=3",
+        "x",
+        "",
+        " 3",
+        "3 ",
+        "3.0",
+        "0x3",
+        "+",
+        "++3",
+        "+-3",
+        "٣",
+        "4294967295",
+        "4294967296",
+        "18446744073709551616",
+        "--",
+        "--gf",
+        "--viewers",
+    ] {
+        let fault = read(alloc, &["--viewers", number]).err();
+        assert!(rt; fault == Some(WordsFault::BadWords), "--viewers {number}");
+        let word = format!(in alloc; "--viewers={number}")?;
+        let fault = read(alloc, &[word.as_str()]).err();
+        assert!(rt; fault == Some(WordsFault::BadWords), "{word}");
+    }
+    Ok(())
+}
+
+#[test]
+fn reads_both_in_either_order(rt: HostRuntime) -> Result<(), Fail> {
+    let alloc = rt.alloc();
+    for words in [
+        ["--viewers", "2", "--gf", "a"],
+        ["--gf", "a", "--viewers", "2"],
+        ["--gf", "a", "--viewers=2", "--"],
+        ["--viewers", "+2", "--gf=a", "--"],
+    ] {
+        let asked = read(alloc, words.as_slice())?;
+        assert_eq!(rt; asked.viewers, 2);
+        assert!(rt; file_of(&asked) == Some("a"));
+    }
     Ok(())
 }
 
@@ -120,7 +201,13 @@ fn refuses_two_words(rt: HostRuntime) {
         ("--", "--"),
         ("-g", "x"),
         ("x", "--gf=a"),
-        ("--viewers", "3"),
+        ("--view", "3"),
+        ("--viewer", "3"),
+        ("-v", "3"),
+        ("--viewers", "-0"),
+        ("--viewers=2", "--viewers=2"),
+        ("--viewers=2", "--viewers"),
+        ("--viewers=2", "3"),
     ] {
         let fault = read(alloc, &[first, second]).err();
         assert!(rt; fault == Some(WordsFault::BadWords), "{first} {second}");
@@ -136,6 +223,12 @@ fn refuses_more_words(rt: HostRuntime) {
         ["--gf", "--", "a"],
         ["--", "--gf", "a"],
         ["x", "--gf", "a"],
+        ["--gf", "--viewers", "3"],
+        ["--gf", "--viewers=3", "a"],
+        ["--viewers", "--gf", "a"],
+        ["--viewers", "3", "4"],
+        ["--viewers", "3", "--viewers"],
+        ["--viewers", "3", "--viewers=3"],
     ] {
         let fault = read(alloc, words.as_slice()).err();
         let [first, second, third] = words;
@@ -144,8 +237,20 @@ fn refuses_more_words(rt: HostRuntime) {
             "{first} {second} {third}"
         );
     }
-    let twice = read(alloc, &["--gf", "a", "--gf", "a"]).err();
-    assert!(rt; twice == Some(WordsFault::BadWords));
+    for words in [
+        ["--gf", "a", "--gf", "a"],
+        ["--viewers", "2", "--viewers", "2"],
+        ["--viewers", "17", "--gf", "a"],
+        ["--gf", "a", "--viewers", "17"],
+        ["--gf", "a", "b", "--viewers=2"],
+    ] {
+        let fault = read(alloc, words.as_slice()).err();
+        let [first, second, third, fourth] = words;
+        assert!(rt;
+            fault == Some(WordsFault::BadWords),
+            "{first} {second} {third} {fourth}"
+        );
+    }
 }
 
 /// The first word is no argument, whatever it is.

@@ -1,18 +1,18 @@
 //! What a session does.
 ghost use Rattle.std.specs.Prelude.{◌≡◌, ◌⊎◌, ◌<◌, ◌≤◌, ◌↔◌, [], Err, IfErr, IfOk, OnErr};
-ghost use Rattle.mf_gf.specs.Keeping.{Keeps, limit};
 ghost use Rattle.mf_live.specs.Desks.{desk_name, left};
 ghost use Rattle.mf_text.specs.Registers.{IsName};
+ghost use Rattle.mf_desk.specs.Endings.{HasEnded, IsHandedBack};
 ghost use Rattle.mf_desk.specs.Pictures.{picture};
 ghost use Rattle.mf_desk.specs.Sessions.{IsAnswered, StandsFor, limits, name};
 ghost use Rattle.mf_desk.specs.States.{State, limits_of, start};
 
-use super::Session;
+use super::{EndFault, Session};
 use crate::refusal::{Refusal, refused};
 use crate::variables::Variables;
 use mf_geom::OutOfMemory;
 use mf_gf::{GfFault, GfFile};
-use mf_live::Desk;
+use mf_live::{CloseFault, Desk, Ended};
 use mf_rows::Picture;
 use mf_text::{Name, TextFault, read_command};
 use std::alloc::Global;
@@ -74,20 +74,46 @@ impl Session {
         }
     }
 
-    /// Ends it, and hands out the font file of the characters that were shipped. It may wait for looks that are held,
-    /// and looks may be refused from then on.
-    pub fn finish<R: Wait>(self, rt: &R) -> GfFile
-        ensures kept { (s : State) → StandsFor self s → Keeps result [] s.characters }
-        ensures limit { limit result ≡ (limits self).max_bytes }
+    /// Ends the script: sets the end mark of `currentpicture`, publishes all that it has accepted, and hands out the font
+    /// file of the characters that were shipped. It may wait for looks that are held. Where memory is wanting, either the
+    /// session comes back as it was, or the end mark is set and can be published later.
+    pub fn finish<R: Wait>(self, rt: &R) -> Result<(Ended, GfFile), EndFault>
+        ensures ended { IfOk result (λ made. (s : State) → StandsFor self s → HasEnded self s made.0 made.1) }
+        ensures handed_back { IfErr result (λ fault. (s : State) → StandsFor self s → IsHandedBack self s fault) }
     {
         let Session { variables, file } = self;
-        variables.discard(rt);
-        file
+        let Variables {
+            writer,
+            registers,
+            null,
+        } = variables;
+        match writer.close(rt) {
+            Ok(ended) => Ok((ended, file)),
+            Err(CloseFault::Kept(writer)) => {
+                let variables = Variables {
+                    writer,
+                    registers,
+                    null,
+                };
+                Err(EndFault::Kept(Session { variables, file }))
+            }
+            Err(CloseFault::Halfway(closing)) => Err(EndFault::Halfway(closing, file)),
+        }
     }
 
     /// Ends it. It may wait for looks that are held, and looks may be refused from then on.
     pub fn discard<R: Wait>(self, rt: &R) {
         let Session { variables, file: _ } = self;
         variables.discard(rt);
+    }
+}
+
+impl EndFault {
+    /// Ends what was handed back. It may wait for looks that are held, and looks may be refused from then on.
+    pub fn discard<R: Wait>(self, rt: &R) {
+        match self {
+            EndFault::Kept(session) => session.discard(rt),
+            EndFault::Halfway(closing, _) => closing.discard(rt),
+        }
     }
 }

@@ -1,14 +1,21 @@
-use Rattle.std.proofs.Common.{◌≡◌, ◌∙◌, Some, ap, ap₂, codes, map, string_bytes, sym, subst}
+use Rattle.std.proofs.Common.{◌≡◌, ◌∙◌, ℕ, Result, Some, ap, ap₂, codes, map, string_bytes, sym, subst}
 use Rattle.std.proofs.lemmas.Result.{err_from_is_err_and}
-use Rattle.clap.proofs.WalkLemmas.{first_value-rows}
+use Rattle.std.specs.Str.Parse.{ExplainsUnsignedError, HasUnsignedDigitsIfOk, ParsesUnsigned}
+use Rattle.std.specs.declared.num.ParseIntError.{ParseIntError}
+use Rattle.clap.proofs.WalkLemmas.{first_value-rows, one_text-rows}
 use Rattle.clap.specs.Faults.{is_simple_and_free}
 use Rattle.clap.specs.Kinds.{HasKind}
-use Rattle.clap.specs.Words.{fault_of, first_of, found_of, is_simple, kind_of, matches_of}
+use Rattle.clap.specs.Words.{Text, fault_of, first_of, found_of, is_simple, kind_of, matches_of, one_of}
 use Rattle.mf_cli.proofs.CommandLines.{is_no_command_line, mfpic-free, mfpic-simple}
-use Rattle.mf_cli.specs.CommandLine.{words_fault}
+use Rattle.mf_cli.proofs.ViewersRead.{viewers_read}
+use Rattle.mf_cli.specs.CommandLine.{number_of, words_fault}
 use Rattle.mf_cli.specs.declared.words.WordsFault.TheVariants.{BadWords}
 use Rattle.mf_cli.proofs.words.read_words.Goals.{in-Some+in_ok-from_str-in-Some, in-None}
 use Rattle.mf_cli.proofs.words.read_words.Goals as goal
+
+-- how the text of a `u32` is read
+abbrev Reads : Text → Result ℕ ParseIntError → Type 0
+Reads = λ bs r. ParsesUnsigned 32 10 bs r × ExplainsUnsignedError 10 bs r × HasUnsignedDigitsIfOk bs r
 
 pub returns-in_err-matches-clause-refused : goal.returns-in_err-matches-clause-refused
 returns-in_err-matches-clause-refused c bad =
@@ -35,3 +42,17 @@ returns-clause-gf c =
       | in-Some+in_ok-from_str-in-Some w ↦ rw w.gf-is (ap Some w.in_ok-from_str-in-Some.ensures.ok ∙ (rw w.in-Some.is at file))
       | in-None w ↦ rw w.gf-is (rw w.in-None.is at file)
     ]
+
+pub returns-clause-viewers : goal.returns-clause-viewers
+returns-clause-viewers c =
+    let same = c.in_ok-command.ensures in
+    let words_are = ap (map string_bytes) c.as_slice.ensures.value in
+    let rows = (c.in_ok-matches.ensures.matches (ap is_simple same ∙ mfpic-simple)).0 ∙ ap₂ matches_of same words_are in
+    let read = viewers_read _ Reads c.in_ok-command.field-0 c.in_ok-matches.matches c.get_one.result same c.in_ok-matches.ensures.parsed c.get_one.ensures.none c.get_one.ensures.value (λ t x h. h.0) in
+    c.unwrap_or-viewers.ensures ∙ read.0 ∙ ap number_of (one_text-rows (found_of c.in_ok-matches.matches) (codes "viewers") ∙ ap (one_of (codes "viewers")) rows)
+
+pub returns-clause-few : goal.returns-clause-few
+returns-clause-few c =
+    let same = c.in_ok-command.ensures in
+    let read = viewers_read _ Reads c.in_ok-command.field-0 c.in_ok-matches.matches c.get_one.result same c.in_ok-matches.ensures.parsed c.get_one.ensures.none c.get_one.ensures.value (λ t x h. h.0) in
+    rw c.unwrap_or-viewers.ensures read.1

@@ -11,7 +11,7 @@ Consumes-none unread left rest read chunk n before none more =
     subst (Consumes unread rest) (ap (λ m. read ++ take m chunk) none ∙ append-nil read) (Consumes-trans unread left rest read _ before more)
 
 pub reads-init : goal.reads-init
-reads-init g c = (omega (arith, c.requires.unwritten), ([], Consumes-nil _, c.requires.start _), refl)
+reads-init g c = (omega (arith, c.requires.unwritten), ([], Consumes-nil _, c.requires.start _), refl, refl)
 
 pub returns-in-Err-clause-fault : goal.returns-in-Err-clause-fault
 returns-in-Err-clause-fault g c =
@@ -52,6 +52,7 @@ reads-preserved g c =
       omega (arith, c.in-Ok.ensures.bound, c.in_ok-take-in-Ok.ensures.at_most, c.read.auto.buf, c.reads.auto.chunk, c.requires.few),
       (read ++ take c.in-Ok.count c.read.new.buf, Consumes-trans _ _ _ read _ consumed c.in-Ok.ensures.bytes.0, c.in_ok-take-in-Ok.ensures.after _ read after),
       c.take.ensures.limits ∙ c.reads.invariant.2,
+      c.take.ensures.name ∙ c.reads.invariant.3,
     )
 
 pub returns-clause-fault : goal.returns-clause-fault

@@ -1,6 +1,6 @@
 use Rattle.std.proofs.Common.{◌≡◌, ◌+◌, ◌*◌, ◌≤◌, ◌^◌, ◌++◌, Option, List, ℕ, take}
 use Rattle.mf_desk.specs.Progress.{IsAfter}
-use Rattle.mf_desk.specs.Sessions.{limits}
+use Rattle.mf_desk.specs.Sessions.{limits, name}
 use Rattle.mf_desk.proofs.progress.Progress.take.Given as goal
 
 abbrev pub invariant-loop-byte : goal.invariant-loop-byte
@@ -9,3 +9,4 @@ invariant-loop-byte g l =
     × ((held : Option (List ℕ)) (read : List ℕ) → IsAfter held read l.initial.self (g.W.Write.contents l.initial.writer)
     → IsAfter held (read ++ take l.byte-index l.bytes) l.self (g.W.Write.contents l.writer))
     × (limits l.self.performer.session ≡ limits l.initial.self.performer.session)
+    × (name l.self.performer.session ≡ name l.initial.self.performer.session)

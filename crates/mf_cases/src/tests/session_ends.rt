@@ -1,0 +1,141 @@
+//! Sessions that end: their notices, font files and last pictures.
+ghost use Rattle.std.specs.Prelude.{◌≡◌};
+ghost use Rattle.mf_desk.specs.Sessions.{StandsFor, name};
+ghost use Rattle.mf_desk.specs.States.{State};
+ghost use Rattle.mf_live.specs.Viewers as viewers;
+ghost use Rattle.mf_live.specs.Writers.{ended_name};
+
+use super::AMPLE;
+use super::fonts::{RECT, RECT_FILE};
+use super::sessions::{opened, perform};
+use mf_desk::Session;
+use mf_gf::{GfFault, GfFile};
+use mf_live::{Ended, Viewer};
+use std::alloc::Global;
+use std::process::Abort;
+use std::sync::Wait;
+
+/// Ends the script of a session.
+fn finish<R: Abort + Wait>(rt: &R, session: Session) -> (Ended, GfFile)
+    ensures { (s : State) → StandsFor session s → ended_name result.0 ≡ name session }
+{
+    match session.finish(rt) {
+        Ok(ended) => ended,
+        Err(fault) => {
+            fault.discard(rt);
+            panic!(rt; "no room to end the script")
+        }
+    }
+}
+
+/// A session ends that has performed these lines.
+fn finished<R: Abort + Wait>(rt: &R, alloc: Global, script: &str) -> (Ended, GfFile) {
+    let (mut session, _) = opened(rt, alloc, AMPLE.max_ops);
+    for line in script.lines() {
+        perform(rt, alloc, &mut session, line);
+    }
+    finish(rt, session)
+}
+
+/// A look shows so many operations, and a picture of this total.
+fn assert_shows<R: Abort>(rt: &R, viewer: Viewer, revision: u32, total: i64) -> Viewer
+    ensures { viewers.name result ≡ viewers.name viewer }
+{
+    match viewer.look() {
+        Ok(look) => {
+            assert_eq!(rt; look.revision(), revision);
+            assert_eq!(rt; look.picture().total(), total);
+            look.leave()
+        }
+        Err(_) => panic!(rt; "the look is not answered"),
+    }
+}
+
+/// The notice of the end tells of each operation that was accepted, published or not.
+#[test]
+fn tell_of_all_operations(rt: HostRuntime) {
+    for (script, revision) in [
+        ("", 0),
+        ("publish\nshow currentpicture\n", 0),
+        (
+            "addto currentpicture contour (0,0)--(3,0)--(3,2)--(0,2)--cycle\n",
+            1,
+        ),
+        (
+            "addto currentpicture contour (0,0)--(3,0)--(3,2)--(0,2)--cycle\n\
+             publish\n",
+            1,
+        ),
+        // Operations on registers and refused ones are not counted, and neither is what is shipped.
+        (
+            "addto a contour (0,0)--(3,0)--(3,2)--(0,2)--cycle\n\
+             addto currentpicture also a\n\
+             publish\n\
+             currentpicture := currentpicture shifted (4096,0)\n\
+             currentpicture := currentpicture shifted (7,7)\n\
+             shipout currentpicture code 65 dx 0 width 0\n\
+             currentpicture := nullpicture\n",
+            3,
+        ),
+    ] {
+        let (mut ended, _) = finished(&rt, rt.alloc(), script);
+        assert_eq!(rt; ended.notice().revision(), revision, "{script}");
+        ended.discard(&rt);
+    }
+}
+
+/// What is shipped goes into the file that the end hands out.
+#[test]
+fn hand_out_the_font_file(rt: HostRuntime) {
+    let (ended, file) = finished(&rt, rt.alloc(), RECT);
+    ended.discard(&rt);
+    assert_eq!(rt; file.count(), 1);
+    match file.finish(AMPLE.font) {
+        Ok(gf) => assert_eq!(rt; gf.bytes(), RECT_FILE),
+        Err((_, fault)) => panic!(rt; "{fault:?}"),
+    }
+    for script in ["", "show a\n", "shipout a code 256 dx 0 width 0\n"] {
+        let (ended, file) = finished(&rt, rt.alloc(), script);
+        ended.discard(&rt);
+        match file.finish(AMPLE.font) {
+            Ok(_) => panic!(rt; "nothing was shipped: {script}"),
+            Err((_, fault)) => assert_eq!(rt; fault, GfFault::NoCharacters, "{script}"),
+        }
+    }
+}
+
+/// A viewer that has looked at the blank picture, and learns of the end behind these lines, sees so many operations and
+/// a picture of this total.
+fn assert_ends_with<R: Abort + Wait + AllocGlobal>(
+    rt: &R,
+    lines: (&str, &str),
+    revision: u32,
+    total: i64,
+) {
+    let alloc = rt.alloc();
+    let (mut session, mut desk) = opened(rt, alloc, AMPLE.max_ops);
+    let viewer = desk.viewer().expect(rt, "a place is left");
+    let mut viewer = assert_shows(rt, viewer, 0, 0);
+    perform(rt, alloc, &mut session, lines.0);
+    perform(rt, alloc, &mut session, lines.1);
+    let (mut ended, _) = finish(rt, session);
+    viewer.learn(ended.notice());
+    assert_shows(rt, viewer, revision, total);
+    ended.discard(rt);
+}
+
+#[test]
+fn show_the_end_to_their_viewers(rt: HostRuntime) {
+    let fill = "addto currentpicture contour (0,0)--(3,0)--(3,2)--(0,2)--cycle";
+    assert_ends_with(&rt, ("show a", "publish"), 0, 0);
+    assert_ends_with(&rt, (fill, ""), 1, 6);
+    assert_ends_with(&rt, (fill, "publish"), 1, 6);
+    assert_ends_with(&rt, ("publish", fill), 1, 6);
+    assert_ends_with(
+        &rt,
+        (fill, "addto currentpicture also currentpicture"),
+        2,
+        12,
+    );
+    assert_ends_with(&rt, (fill, "currentpicture := nullpicture"), 2, 0);
+}

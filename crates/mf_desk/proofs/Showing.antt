@@ -1,0 +1,85 @@
+-- The lines of the viewers of a run whose script has ended, one after another.
+use Rattle.std.proofs.Common.{◌≡◌, ◌≤◌, ◌<◌, ◌+◌, ◌*◌, ◌^◌, ℕ, List, [], ◌++◌, Option, length, refl, sym, ap, ◌∙◌, subst, arith, append_assoc, append-nil, length-append}
+use Rattle.std.specs.Io.KnownBytes.{Appends}
+use Rattle.std.proofs.KnownBytes.{Appends-nil, Appends-trans}
+use Rattle.mf_desk.specs.declared.ended_run.EndedRun.{EndedRun}
+use Rattle.mf_desk.specs.declared.fault.RunFault.{RunFault}
+use Rattle.mf_desk.specs.declared.fault.RunFault.TheVariants.{OutOfMemory, NoPlace, FileTooLong, ReadFault, WriteFault, NoLook}
+use Rattle.mf_desk.specs.EndedRuns.{BreaksLine, HasShownSome, IsSameEnd, StopsShowing, glance}
+use Rattle.mf_desk.specs.Performances.{viewer_line, viewer_lines}
+use Rattle.mf_desk.specs.Watchers.{glance_at}
+use Rattle.mf_desk.proofs.ViewerLines.{lines-nobody, lines-more}
+
+-- the lines of the first so many viewers have gone out, and are counted
+pub record IsShown (run now : EndedRun) (shown : ℕ) (held holds : Option (List ℕ)) : Type 0 where
+  pub same : IsSameEnd run now
+  pub out : Appends held holds (viewer_lines shown (glance run))
+  pub counted : now.written ≡ run.written + length (viewer_lines shown (glance run))
+  pub at_most : now.written ≤ run.written + shown * 2 ^ 64
+
+-- at first no line has gone out
+pub IsShown-start : (run : EndedRun) (held : Option (List ℕ)) → IsShown run run 0 held held
+IsShown-start run held =
+    let none = lines-nobody (glance run) in
+    record {
+      same = record { name = refl; published = refl; file = refl };
+      out = rw none (Appends-nil held);
+      counted = omega (arith, ap length none);
+      at_most = omega arith;
+    }
+
+-- another number may say how many
+pub IsShown-number : (run now : EndedRun) (shown number : ℕ) (held holds : Option (List ℕ)) → number ≡ shown → IsShown run now shown held holds → IsShown run now number held holds
+IsShown-number run now shown number held holds same is = subst (λ n. IsShown run now n held holds) (sym same) is
+
+-- the same is seen of both
+same_glance : (run now : EndedRun) → IsSameEnd run now → glance now ≡ glance run
+same_glance run now same = ap glance_at same.published
+
+-- one line more goes out
+pub IsShown-next : (run before after : EndedRun) (shown : ℕ) (held holds later : Option (List ℕ)) → IsShown run before shown held holds → IsSameEnd before after
+    → Appends holds later (viewer_line shown (glance before)) → after.written ≡ before.written + length (viewer_line shown (glance before)) → after.written ≤ before.written + 2 ^ 64
+    → IsShown run after (shown + 1) held later
+IsShown-next run before after shown held holds later is same out counted at_most =
+    let lines = viewer_lines shown (glance run) in
+    let line = viewer_line shown (glance run) in
+    let seen = same_glance run before is.same in
+    let more = lines-more shown (glance run) in
+    let added : after.written ≡ before.written + length line = subst (λ g. after.written ≡ before.written + length (viewer_line shown g)) seen counted in
+    record {
+      same = record { name = same.name ∙ is.same.name; published = same.published ∙ is.same.published; file = same.file ∙ is.same.file };
+      out = rw more (Appends-trans held holds later lines line is.out (subst (λ g. Appends holds later (viewer_line shown g)) seen out));
+      counted = added ∙ omega (arith, is.counted, ap length more, length-append lines line);
+      at_most = omega (arith, is.at_most);
+    }
+
+-- memory is wanting behind these lines
+pub StopsShowing-behind : (run now : EndedRun) (shown viewers : ℕ) (held holds : Option (List ℕ)) → shown ≤ viewers → IsShown run now shown held holds → StopsShowing run viewers OutOfMemory held holds
+StopsShowing-behind run now shown viewers held holds few is = record { shown = shown; few = few; out = is.out }
+
+-- nothing goes out behind these lines
+shown_some : (run before : EndedRun) (shown viewers : ℕ) (held holds later : Option (List ℕ)) → shown ≤ viewers → IsShown run before shown held holds → Appends holds later [] → HasShownSome run viewers held later
+shown_some run before shown viewers held holds later few is nothing =
+    let lines = viewer_lines shown (glance run) in
+    record { shown = shown; few = few; out = subst (Appends held later) (append-nil lines) (Appends-trans held holds later lines [] is.out nothing) }
+
+-- a fault comes where the next line is due
+pub StopsShowing-line : (fault : RunFault) (run before : EndedRun) (shown viewers : ℕ) (held holds later : Option (List ℕ)) → shown < viewers → IsShown run before shown held holds
+    → BreaksLine before shown fault holds later → StopsShowing run viewers fault held later
+StopsShowing-line OutOfMemory run before shown viewers held holds later few is broken = shown_some run before shown viewers held holds later (omega arith) is broken
+StopsShowing-line NoLook run before shown viewers held holds later few is broken = shown_some run before shown viewers held holds later (omega arith) is broken
+StopsShowing-line NoPlace run before shown viewers held holds later few is broken = absurd broken
+StopsShowing-line FileTooLong run before shown viewers held holds later few is broken = absurd broken
+StopsShowing-line ReadFault run before shown viewers held holds later few is broken = absurd broken
+StopsShowing-line (WriteFault count) run before shown viewers held holds later few is broken =
+    let lines = viewer_lines shown (glance run) in
+    let line = subst (λ g. viewer_line shown g ≡ broken.front ++ broken.rest) (same_glance run before is.same) broken.line in
+    record {
+      shown = shown + 1;
+      few = omega arith;
+      front = lines ++ broken.front;
+      rest = broken.rest;
+      lines_are = lines-more shown (glance run) ∙ ap (λ more. lines ++ more) line ∙ sym (append_assoc lines broken.front broken.rest);
+      out = Appends-trans held holds later lines broken.front is.out broken.out;
+      counted = omega (arith, broken.counted, is.counted, length-append lines broken.front);
+    }

@@ -1,0 +1,15 @@
+-- The lines of viewers.
+use Rattle.std.proofs.Common.{◌≡◌, ◌+◌, ℕ, [], ◌++◌, refl}
+use native.Mathlib.Numerals.{unary_clauses}
+use Rattle.mf_desk.specs.declared.outcome.Glance.{Glance}
+use Rattle.mf_desk.specs.Performances.{viewer_line, viewer_lines}
+
+-- of no viewer
+pub lines-nobody : (g : Glance) → viewer_lines 0 g ≡ []
+unfolding viewer_lines
+lines-nobody g = refl
+
+-- and of one more
+pub lines-more : (n : ℕ) (g : Glance) → viewer_lines (n + 1) g ≡ viewer_lines n g ++ viewer_line n g
+unfolding viewer_lines
+lines-more n g = simp unary_clauses

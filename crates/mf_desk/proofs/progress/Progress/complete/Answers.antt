@@ -1,0 +1,18 @@
+use Rattle.std.proofs.Common.{subst}
+use Rattle.std.proofs.lemmas.Result.{IfOk-weaker, IfErr-weaker}
+use Rattle.mf_desk.specs.EndedRuns.{IsOver}
+use Rattle.mf_desk.proofs.Runs.{BreaksScript-unended, IsOver-ended}
+use Rattle.mf_desk.proofs.progress.Progress.complete.Goals as goal
+
+pub returns-in-Ok-clause-over : goal.returns-in-Ok-clause-over
+returns-in-Ok-clause-over g c =
+    let (read, consumed, through) = c.in-Ok.ensures.through in
+    let held = g.W.Write.contents c.args.writer.now in
+    let holds = g.W.Write.contents c.read_all.new.writer in
+    let performer = c.read_all.new.self.performer in
+    IfOk-weaker c.finish.result _ _ (λ run ended.
+    (read, consumed, subst (λ l. IsOver l held read run holds) c.in-Ok.ensures.limits (IsOver-ended held holds read performer run through (ended through.last through.stands)))) c.finish.ensures.ended
+
+pub returns-in-Ok-clause-fault : goal.returns-in-Ok-clause-fault
+returns-in-Ok-clause-fault g c =
+    IfErr-weaker c.finish.result _ _ (BreaksScript-unended _ _ _ _ _ c.read_all.new.self.performer c.in-Ok.ensures.limits c.in-Ok.ensures.through) c.finish.ensures.fault

@@ -1,0 +1,87 @@
+-- What a run with viewers answers.
+use Rattle.std.specs.Prelude.{◌≡◌, ◌≤◌, ◌⊎◌, ℕ, zero, suc, All, List, [], ◌++◌, Option, codes, decimal, length}
+use Rattle.std.specs.Fmt.{signed_decimal}
+use Rattle.std.specs.Io.{StartsWith}
+use Rattle.std.specs.Io.KnownBytes.{Appends, Consumes, IsAtEnd}
+use Rattle.std.specs.Str.Lines.{lines}
+use Rattle.mf_desk.specs.declared.fault.RunFault.{RunFault}
+use Rattle.mf_desk.specs.declared.fault.RunFault.TheVariants.{OutOfMemory, NoPlace, FileTooLong, ReadFault, WriteFault, NoLook}
+use Rattle.mf_desk.specs.declared.outcome.Glance.{Glance}
+use Rattle.mf_desk.specs.declared.outcome.Outcome.{Outcome}
+use Rattle.mf_desk.specs.declared.settings.Settings.{Settings}
+use Rattle.mf_desk.specs.Endings.{whole_list}
+use Rattle.mf_desk.specs.Fault.{HasNoRoom, IsEndedText, IsFirstText}
+use Rattle.mf_desk.specs.Runs.{IsLongFile, font_file, limits_set}
+use Rattle.mf_desk.specs.States.{State, Limits, start}
+use Rattle.mf_desk.specs.Transcript.{Perform}
+use Rattle.mf_desk.specs.Watchers.{HasSeen, glance_at}
+
+-- the line of the viewer of this number, who has seen this last
+abbrev pub viewer_line : ℕ → Glance → List ℕ
+viewer_line number g = codes "viewer " ++ decimal number ++ codes " revision " ++ decimal g.revision ++ codes " totalweight " ++ signed_decimal g.total ++ codes "\n"
+
+-- the lines of the first so many viewers
+unfoldable pub viewer_lines : ℕ → Glance → List ℕ
+viewer_lines zero g = []
+viewer_lines (suc n) g = viewer_lines n g ++ viewer_line n g
+
+-- what is seen of the last picture of a state
+abbrev pub last_glance : State → Glance
+last_glance s = glance_at (whole_list s.pictures)
+
+-- the transcript of these bytes of a script, which ends in this state, and the lines of so many viewers
+pub record IsLongerText (limits : Limits) (read : List ℕ) (last : State) (viewers : ℕ) (text : List ℕ) : Type 0 where
+  pub transcript : List ℕ
+  pub performed : Perform limits start (lines read) transcript last
+  pub is : text ≡ transcript ++ viewer_lines viewers (last_glance last)
+
+-- a run of these bytes beside so many viewers, who looked so many times each: a writer that held some bytes has got the
+-- transcript and the line of each viewer, and the outcome is the font file of exactly the characters that were shipped,
+-- and what each viewer has seen
+pub record IsPerformance (settings : Settings) (viewers looks : ℕ) (outcome : Outcome) (held holds : Option (List ℕ)) (input : List ℕ) : Type 0 where
+  pub text : List ℕ
+  pub last : State
+  pub performed : IsLongerText (limits_set settings) input last viewers text
+  pub out : Appends held holds text
+  pub fits : IsLongFile (limits_set settings).max_bytes settings.font last.characters → ⊥
+  pub font : outcome.gf ≡ font_file settings.font last.characters
+  pub count : length outcome.seen.items ≡ viewers
+  pub seen : All (λ v. HasSeen (whole_list last.pictures) looks v.items) outcome.seen.items
+
+-- this is the whole transcript, and the lines of the first of so many viewers
+pub record IsShownText (limits : Limits) (viewers : ℕ) (read text : List ℕ) : Type 0 where
+  pub last : State
+  pub shown : ℕ
+  pub few : shown ≤ viewers
+  pub performed : IsLongerText limits read last shown text
+
+-- no line of this is cut
+abbrev pub IsUncutText : Limits → ℕ → List ℕ → List ℕ → Type 0
+IsUncutText limits viewers read text = IsFirstText limits read text ⊎ IsShownText limits viewers read text
+
+-- these are so many bytes, with which such a text begins
+pub record IsCutLongerText (limits : Limits) (viewers : ℕ) (read written : List ℕ) (count : ℕ) : Type 0 where
+  pub text : List ℕ
+  pub uncut : IsUncutText limits viewers read text
+  pub begins : StartsWith text written
+  pub counted : length written ≡ count
+
+-- this is the whole transcript and all lines, and the file of the characters has more bytes than it may
+pub record IsBeforeLongerFile (settings : Settings) (viewers : ℕ) (read text : List ℕ) : Type 0 where
+  pub last : State
+  pub performed : IsLongerText (limits_set settings) read last viewers text
+  pub too_long : IsLongFile (limits_set settings).max_bytes settings.font last.characters
+
+-- what each fault says of the bytes that were written, where these were read and those are left
+abbrev pub TellsLonger : Settings → ℕ → RunFault → Option (List ℕ) → List ℕ → List ℕ → Type 0
+TellsLonger settings viewers OutOfMemory left read written = IsUncutText (limits_set settings) viewers read written
+TellsLonger settings viewers NoPlace left read written = (read ≡ []) × (written ≡ [])
+TellsLonger settings viewers FileTooLong left read written = HasNoRoom (limits_set settings) read written ⊎ (IsAtEnd left × IsBeforeLongerFile settings viewers read written)
+TellsLonger settings viewers ReadFault left read written = IsEndedText (limits_set settings) read written
+TellsLonger settings viewers (WriteFault count) left read written = IsCutLongerText (limits_set settings) viewers read written count
+TellsLonger settings viewers NoLook left read written = IsAtEnd left × IsShownText (limits_set settings) viewers read written
+
+-- a fault ended a run beside so many viewers: the reader had given some bytes, and the writer has got the bytes that the
+-- fault tells
+abbrev pub StopsEarly : Settings → ℕ → RunFault → Option (List ℕ) → Option (List ℕ) → Option (List ℕ) → Option (List ℕ) → Type 0
+StopsEarly settings viewers fault unread left held holds = (read : List ℕ) × Consumes unread left read × ((written : List ℕ) × Appends held holds written × TellsLonger settings viewers fault left read written)

@@ -1,0 +1,128 @@
+//! A run whose script has ended: its viewers are shown the last picture.
+ghost use Rattle.std.specs.Io.KnownBytes.{Appends};
+ghost use Rattle.std.specs.Prelude.{◌≡◌, ◌+◌, ◌≤◌, ◌^◌, ℕ, All, IfErr, IfOk, OnOk, length};
+ghost use Rattle.mf_live.specs.Writers.{ended_name, ended_published};
+ghost use Rattle.mf_desk.specs.EndedRuns.{BreaksLine, IsSameEnd, StopsShowing};
+ghost use Rattle.mf_desk.specs.Performances.{viewer_line, viewer_lines};
+ghost use Rattle.mf_desk.specs.Watchers.{HasRoom, HasSeen, IsRecord, glance_at, name};
+
+use crate::fault::RunFault;
+use crate::outcome::Glance;
+use crate::watcher::Watcher;
+use mf_gf::{GfFile, write_counted};
+use mf_live::{Ended, NoLook};
+use std::alloc::{AllocError, Global};
+use std::io::Write;
+use std::sync::Wait;
+
+/// A run whose script has ended. It is not `Drop`: end it by `file`.
+pub struct EndedRun {
+    pub ended: Ended,
+    pub file: GfFile,
+    /// Number of bytes that went out since the run began.
+    pub written: u128,
+}
+
+impl EndedRun {
+    /// Lets each viewer look once more, and writes its line, in order. Answers what they have seen. Refusals
+    /// OutOfMemory (14), WriteFault (25) and NoLook (26), also where a look was refused before.
+    pub fn show<W: Write>(
+        &mut self,
+        alloc: Global,
+        writer: &mut W,
+        joined: Result<Vec<Watcher>, NoLook>,
+    ) -> Result<Vec<Vec<Glance>>, RunFault>
+        requires names { IfOk joined (λ watchers. All (λ w. name w ≡ ended_name self.old.ended) watchers.items) }
+        requires rooms { IfOk joined (λ watchers. All (HasRoom 1) watchers.items) }
+        requires few { IfOk joined (λ watchers. length watchers.items ≤ 64) }
+        requires short { self.old.written ≤ 2 ^ 101 }
+        ensures same { IsSameEnd self.old self.new }
+        ensures shown { IfOk result (λ seen. Appends (W.contents writer.old) (W.contents writer.new) (viewer_lines (length seen.items) (glance_at (ended_published self.old.ended)))) }
+        ensures count { IfOk result (λ seen. (viewers : ℕ) → IfOk joined (λ watchers. length watchers.items ≡ viewers) → length seen.items ≡ viewers) }
+        ensures seen { IfOk result (λ seen. (looks : ℕ) → IfOk joined (λ watchers. All (IsRecord looks) watchers.items) → All (λ v. HasSeen (ended_published self.old.ended) looks v.items) seen.items) }
+        ensures fault { IfErr result (λ fault. (viewers : ℕ) → IfOk joined (λ watchers. length watchers.items ≡ viewers) → StopsShowing self.old viewers fault (W.contents writer.old) (W.contents writer.new)) }
+    {
+        match joined {
+            Ok(watchers) => self.show_all(alloc, writer, watchers),
+            Err(NoLook) => Err(RunFault::NoLook),
+        }
+    }
+
+    /// Lets each viewer look once more, and writes its line.
+    fn show_all<W: Write>(
+        &mut self,
+        alloc: Global,
+        writer: &mut W,
+        watchers: Vec<Watcher>,
+    ) -> Result<Vec<Vec<Glance>>, RunFault>
+        requires names { All (λ w. name w ≡ ended_name self.old.ended) watchers.items }
+        requires rooms { All (HasRoom 1) watchers.items }
+        requires few { length watchers.items ≤ 64 }
+        requires short { self.old.written ≤ 2 ^ 101 }
+        ensures same { IsSameEnd self.old self.new }
+        ensures shown { OnOk result (Appends (W.contents writer.old) (W.contents writer.new) (viewer_lines (length watchers.items) (glance_at (ended_published self.old.ended)))) }
+        ensures count { IfOk result (λ seen. length seen.items ≡ length watchers.items) }
+        ensures seen { IfOk result (λ seen. (looks : ℕ) → All (IsRecord looks) watchers.items → All (λ v. HasSeen (ended_published self.old.ended) looks v.items) seen.items) }
+        ensures fault { IfErr result (λ fault. StopsShowing self.old (length watchers.items) fault (W.contents writer.old) (W.contents writer.new)) }
+    {
+        let mut seen = Vec::with_capacity(alloc, watchers.len())?;
+        for watcher in watchers {
+            let number = seen.len() as u32;
+            seen.push(self.show_one(alloc, writer, number, watcher)?)?;
+        }
+        Ok(seen)
+    }
+
+    /// Lets a viewer look once more, and writes its line.
+    fn show_one<W: Write>(
+        &mut self,
+        alloc: Global,
+        writer: &mut W,
+        number: u32,
+        watcher: Watcher,
+    ) -> Result<Vec<Glance>, RunFault>
+        requires name { name watcher ≡ ended_name self.old.ended }
+        requires room { HasRoom 1 watcher }
+        requires short { self.old.written + 2 ^ 64 ≤ 2 ^ 127 }
+        ensures same { IsSameEnd self.old self.new }
+        ensures shown { OnOk result (Appends (W.contents writer.old) (W.contents writer.new) (viewer_line number (glance_at (ended_published self.old.ended)))) }
+        ensures counted { OnOk result (self.new.written ≡ self.old.written + length (viewer_line number (glance_at (ended_published self.old.ended)))) }
+        ensures at_most { OnOk result (self.new.written ≤ self.old.written + 2 ^ 64) }
+        ensures seen { IfOk result (λ seen. (looks : ℕ) → IsRecord looks watcher → HasSeen (ended_published self.old.ended) looks seen.items) }
+        ensures fault { IfErr result (λ fault. BreaksLine self.old number fault (W.contents writer.old) (W.contents writer.new)) }
+    {
+        let mut watcher = watcher;
+        let glance = watcher.look_last(alloc, self.ended.notice())?;
+        let line = viewer_line(alloc, number, glance)?;
+        match write_counted(writer, line.as_slice()) {
+            Ok(()) => {
+                self.written += line.len() as u128;
+                let Watcher { viewer: _, seen } = watcher;
+                Ok(seen)
+            }
+            Err(count) => Err(RunFault::WriteFault(self.written + count as u128)),
+        }
+    }
+
+    /// Ends it, and hands out the font file. Nobody looks any more, so it waits for nobody.
+    pub fn file<S: Wait>(self, rt: &S) -> GfFile
+        ensures { result ≡ self.file }
+    {
+        let EndedRun {
+            ended,
+            file,
+            written: _,
+        } = self;
+        ended.discard(rt);
+        file
+    }
+}
+
+/// The line of the viewer of this number, who has seen this last.
+fn viewer_line(alloc: Global, number: u32, glance: Glance) -> Result<Vec<u8>, AllocError>
+    ensures { IfOk result (λ line. line.items ≡ Rattle.mf_desk.specs.Performances.viewer_line number glance) }
+{
+    let Glance { revision, total } = glance;
+    let line = format!(in alloc; "viewer {number} revision {revision} totalweight {total}\n")?;
+    Ok(line.into_bytes())
+}

@@ -1,0 +1,60 @@
+//! A run beside viewers in threads.
+ghost use Rattle.std.specs.Io.KnownBytes.{IsAtEnd};
+ghost use Rattle.std.specs.Prelude.{◌≤◌, IfErr, IfOk, IfSome, OnOk};
+ghost use Rattle.mf_desk.specs.Performances.{IsPerformance, StopsEarly};
+
+use crate::fault::RunFault;
+use crate::gate::Gate;
+use crate::outcome::Outcome;
+use crate::progress::Progress;
+use crate::script::{CHUNK_SIZE, finished};
+use crate::settings::Settings;
+use crate::watching::Watching;
+use std::alloc::Global;
+use std::io::{Read, Write};
+use std::sync::{Arc, Wait};
+use std::thread::Threads;
+
+/// Runs a script as [`run`](crate::run) does, while viewers look on: each in a thread of its own, which is started before
+/// the first read and looks so many times; the gate is told of each look while it is held. When the script has ended and
+/// its picture is closed, the threads are joined, each viewer looks once more, at the last picture, and a line
+/// `viewer k revision r totalweight t` is written for each, in order. The font file is finished after that. The caller
+/// owes that the viewers are at most 64.
+///
+/// Refusals: those of `run`; NoPlace (15), where a place or a thread could not be had, and nothing was read or written;
+/// NoLook (26), where a look was refused. A fault of the script or of its end comes first, then a look that was refused
+/// in a thread, then what the last looks, the lines and the font file meet. After each the threads are joined. A publish
+/// waits for looks that are held.
+pub fn perform<S: Wait + Threads, R: Read, W: Write, G: Gate + 'static>(
+    rt: &S,
+    alloc: Global,
+    reader: &mut R,
+    writer: &mut W,
+    settings: &Settings,
+    viewers: u32,
+    looks: u32,
+    gate: &Arc<G>,
+) -> Result<Outcome, RunFault>
+    requires { viewers ≤ 64 }
+    ensures performance { IfOk result (λ outcome. IfSome (R.remaining reader.old) (IsPerformance settings.now viewers looks outcome (W.contents writer.old) (W.contents writer.new))) }
+    ensures end { OnOk result (IsAtEnd (R.remaining reader.new)) }
+    ensures fault { IfErr result (λ fault. StopsEarly settings.now viewers fault (R.remaining reader.old) (R.remaining reader.new) (W.contents writer.old) (W.contents writer.new)) }
+{
+    let mut memory = vec![in alloc; 0u8; CHUNK_SIZE]?;
+    let (progress, desk) = Progress::new(rt, alloc, settings, viewers)?;
+    let watching = match Watching::start(rt, alloc, desk, viewers, looks, gate) {
+        Ok(watching) => watching,
+        Err(fault) => {
+            progress.discard(rt);
+            return Err(fault);
+        }
+    };
+    let completed = progress.complete(rt, alloc, reader, writer, memory.as_mut_slice());
+    let joined = watching.join(rt);
+    let mut ended = completed?;
+    let shown = ended.show(alloc, writer, joined);
+    let file = ended.file(rt);
+    let seen = shown?;
+    let gf = finished(file, settings.font)?;
+    Ok(Outcome { gf, seen })
+}

@@ -1,0 +1,39 @@
+use Rattle.std.proofs.Common.{◌≡◌, true, List, Result, Ok, Err, IfOk, OnOk, MatchResult, ap, ◌∙◌, subst}
+use Rattle.mf_live.specs.declared.sheet.Sheet.{Sheet}
+use Rattle.mf_live.specs.declared.viewer.Viewer.{Viewer}
+use Rattle.mf_live.specs.Entries.{Entry, is_closed, pic, rev}
+use Rattle.mf_live.specs.Prefixes.{IsWholePrefix}
+use Rattle.mf_live.specs.Sheets.{HasLooked, IsTaken}
+use Rattle.mf_live.specs.Viewers.{Extends, looked}
+use Rattle.mf_live.proofs.Looking.{shown-last}
+use Rattle.mf_live.proofs.laws.last_sheet.Goals as goal
+
+-- what was looked at last, where it begins with a closed list
+looked_last : (before after : Viewer) (told : List Entry) → ((L : List Entry) → Extends before L → IsWholePrefix told L) → is_closed told ≡ true → HasLooked before after → looked after ≡ told
+looked_last before after told includes closed look = shown-last told (looked after) (includes (looked after) look.extends) look.ends closed
+
+module _ {E : Type 0} (Q : E → Type 0) (before after : Viewer) (told : List Entry) (includes : (L : List Entry) → Extends before L → IsWholePrefix told L) (closed : is_closed told ≡ true) where
+  sheet_picture : (answer : Result Sheet E) → MatchResult answer (λ sheet. IsTaken before after sheet) Q → IfOk answer (λ sheet. sheet.picture ≡ pic told)
+  sheet_picture (Ok sheet) taken = taken.picture ∙ ap pic (looked_last before after told includes closed taken.look)
+  sheet_picture (Err fault) taken = tt
+
+  sheet_revision : (answer : Result Sheet E) → MatchResult answer (λ sheet. IsTaken before after sheet) Q → IfOk answer (λ sheet. sheet.revision ≡ rev told)
+  sheet_revision (Ok sheet) taken = taken.revision ∙ ap rev (looked_last before after told includes closed taken.look)
+  sheet_revision (Err fault) taken = tt
+
+  sheet_extends : (first : Viewer) → ((L : List Entry) → Extends before L → Extends first L) → (answer : Result Sheet E)
+      → MatchResult answer (λ sheet. IsTaken before after sheet) Q → OnOk answer (Extends first told)
+  sheet_extends first earlier (Ok sheet) taken = earlier told (subst (λ L. Extends before L) (looked_last before after told includes closed taken.look) taken.look.extends)
+  sheet_extends first earlier (Err fault) taken = tt
+
+pub returns-clause-picture : goal.returns-clause-picture
+returns-clause-picture c =
+    sheet_picture _ _ c.sheet.new.self _ (λ L extends. (c.learn.ensures.keeps L extends).1) c.requires.closed c.sheet.result c.sheet.ensures.taken
+
+pub returns-clause-revision : goal.returns-clause-revision
+returns-clause-revision c =
+    sheet_revision _ _ c.sheet.new.self _ (λ L extends. (c.learn.ensures.keeps L extends).1) c.requires.closed c.sheet.result c.sheet.ensures.taken
+
+pub returns-clause-extends : goal.returns-clause-extends
+returns-clause-extends c =
+    sheet_extends _ _ c.sheet.new.self _ (λ L extends. (c.learn.ensures.keeps L extends).1) c.requires.closed _ (λ L extends. (c.learn.ensures.keeps L extends).0) c.sheet.result c.sheet.ensures.taken
