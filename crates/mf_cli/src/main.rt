@@ -9,18 +9,22 @@ use fault::ProgramFault;
 use mf_desk::RunFault;
 use program::{program, refuse_words, report};
 use std::env;
-use std::io::{self, ErrorKind};
+use std::io::{self, BufWriter, ErrorKind};
 use std::process::ExitCode;
+use std::rt::Stdout;
+
+/// Number of bytes that a write to standard output is given, where there are so many.
+const OUTPUT_SIZE: usize = 65_536;
 
 fn main(rt: HostRuntime) -> ExitCode {
     let mut errors = rt.stderr();
-    let status = match words_of(&rt) {
-        Ok(words) => program(
+    let status = match words_and_output(&rt) {
+        Ok((words, mut output)) => program(
             &rt,
             rt.alloc(),
             words,
             &mut rt.stdin(),
-            &mut rt.stdout(),
+            &mut output,
             &mut errors,
         ),
         Err(fault) if fault.kind() == ErrorKind::OutOfMemory => report(
@@ -30,6 +34,13 @@ fn main(rt: HostRuntime) -> ExitCode {
         Err(_) => refuse_words(&mut errors),
     };
     ExitCode::from(status)
+}
+
+/// The words of the command line, and standard output, which is given the texts of many lines at once.
+fn words_and_output(rt: &HostRuntime) -> io::Result<(Vec<String>, BufWriter<Stdout>)> {
+    let words = words_of(rt)?;
+    let output = BufWriter::with_capacity(rt.alloc(), OUTPUT_SIZE, rt.stdout())?;
+    Ok((words, output))
 }
 
 /// The words of the command line. A word that is no UTF-8 is a fault.

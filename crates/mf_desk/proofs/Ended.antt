@@ -1,7 +1,8 @@
 -- The lines and the unended line of a script, byte by byte.
-use Rattle.std.proofs.Common.{◌≡◌, ℕ, Bool, true, false, cond, eqb, List, [], ◌∷◌, ◌++◌, length, refl, sym, ap, ◌∙◌, ⊎_elim, append_assoc, append-nil}
-use Rattle.std.proofs.lemmas.Bool.{eqb-true, cases_Bool, cond-false}
-use Rattle.std.specs.Prelude.{if◌then◌else◌, ◌==◌}
+use Rattle.std.proofs.Common.{◌≡◌, ◌≢◌, ℕ, Bool, true, false, cond, eqb, List, [], ◌∷◌, ◌++◌, length, refl, sym, ap, ◌∙◌, ⊎_elim, append_assoc, append-nil}
+use Rattle.std.proofs.lemmas.Bool.{eqb-true, ne_eqb, cases_Bool, cond-false}
+use Rattle.std.proofs.lemmas.List.Elements.{All-head, All-tail}
+use Rattle.std.specs.Prelude.{if◌then◌else◌, ◌==◌, All}
 use Rattle.std.specs.List.{slice_split, onto_first}
 use Rattle.std.specs.Str.Lines.{lines, lines_of_parts, strip_carriage_return}
 use Rattle.mf_desk.specs.Ended.{ended_of_parts, last_part, ended_lines, unended}
@@ -108,13 +109,28 @@ pub unended-line_feed : (read : List ℕ) → unended (read ++ 10 ∷ []) ≡ []
 unfolding unended
 unended-line_feed read = ap last_part (parts-line_feed read) ∙ last_part-new (parts_of read)
 
-pub ended_lines-other : (read : List ℕ) (byte : ℕ) → eqb byte 10 ≡ false → ended_lines (read ++ byte ∷ []) ≡ ended_lines read
+ended_lines-other : (read : List ℕ) (byte : ℕ) → eqb byte 10 ≡ false → ended_lines (read ++ byte ∷ []) ≡ ended_lines read
 unfolding ended_lines
 ended_lines-other read byte other = ap ended_of_parts (parts-other read byte other) ∙ ended_of_parts-onto_last (parts_of read) byte
 
-pub unended-other : (read : List ℕ) (byte : ℕ) → eqb byte 10 ≡ false → unended (read ++ byte ∷ []) ≡ unended read ++ byte ∷ []
+unended-other : (read : List ℕ) (byte : ℕ) → eqb byte 10 ≡ false → unended (read ++ byte ∷ []) ≡ unended read ++ byte ∷ []
 unfolding unended
 unended-other read byte other = ap last_part (parts-other read byte other) ∙ last_part-onto_last (parts_of read) byte
+
+-- bytes without a line feed end no line
+pub ended_lines-unbroken : (read bytes : List ℕ) → All (λ b. b ≢ 10) bytes → ended_lines (read ++ bytes) ≡ ended_lines read
+ended_lines-unbroken read [] unbroken = ap ended_lines (append-nil read)
+ended_lines-unbroken read (b ∷ more) unbroken =
+    let other = ne_eqb b 10 (All-head (λ x. x ≢ 10) b more unbroken) in
+    ap ended_lines (sym (append_assoc read (b ∷ []) more)) ∙ ended_lines-unbroken (read ++ b ∷ []) more (All-tail (λ x. x ≢ 10) b more unbroken) ∙ ended_lines-other read b other
+
+-- they go behind the last line feed
+pub unended-unbroken : (read bytes : List ℕ) → All (λ b. b ≢ 10) bytes → unended (read ++ bytes) ≡ unended read ++ bytes
+unended-unbroken read [] unbroken = ap unended (append-nil read) ∙ sym (append-nil (unended read))
+unended-unbroken read (b ∷ more) unbroken =
+    let other = ne_eqb b 10 (All-head (λ x. x ≢ 10) b more unbroken) in
+    ap unended (sym (append_assoc read (b ∷ []) more)) ∙ unended-unbroken (read ++ b ∷ []) more (All-tail (λ x. x ≢ 10) b more unbroken) ∙ ap (λ line. line ++ more) (unended-other read b other)
+    ∙ append_assoc (unended read) (b ∷ []) more
 
 pub lines-ended : (read : List ℕ) → lines read ≡ ended_lines read ++ last_line (unended read)
 unfolding ended_lines unended

@@ -1,4 +1,5 @@
 mod Ended
+mod Flushes
 mod FontFiles
 mod Glances
 mod KnownTexts

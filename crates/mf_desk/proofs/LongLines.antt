@@ -1,5 +1,5 @@
 -- A line that is too long may be cut, where it stays too long.
-use Rattle.std.proofs.Common.{◌≡◌, ℕ, ◌+◌, ◌-◌, ◌<◌, ◌≤◌, List, [], ◌∷◌, ◌++◌, eqb, length, take, get_or, sym, ap, ◌∙◌, subst, arith, ⊎_elim, inr, length-take}
+use Rattle.std.proofs.Common.{◌≡◌, ℕ, ◌+◌, ◌-◌, ◌<◌, ◌≤◌, List, ◌++◌, eqb, length, take, get_or, sym, ap, ◌∙◌, subst, arith, ⊎_elim, inr, length-take}
 use Rattle.std.proofs.lemmas.Bool.{cases_lt, cond_both}
 use Rattle.std.proofs.lemmas.List.{take_all, take-append-le, length-take-le}
 use Rattle.std.specs.Str.Lines.{strip_carriage_return}
@@ -29,15 +29,15 @@ Answers-too_long limits s t xs ys text long longer answer =
     (λ (no : IsRefusedLine s xs text t). inr (record { fault = no.fault; told = no.told; refused = refused-too_long xs ys no.fault long longer no.refused; answer = no.answer }))
     answer
 
--- what is kept of a longer line is as much of one byte more
-pub take-push : (n : ℕ) (xs : List ℕ) (b : ℕ) → take n (take n xs ++ b ∷ []) ≡ take n (xs ++ b ∷ [])
-take-push n xs b =
+-- what is kept of a longer line is as much of more bytes
+pub take-taken : (n : ℕ) (xs ys : List ℕ) → take n (take n xs ++ ys) ≡ take n (xs ++ ys)
+take-taken n xs ys =
     ⊎_elim
     (λ longer.
     let within : n ≤ length xs = omega arith in
     let kept : n ≤ length (take n xs) = omega (arith, length-take-le n xs within) in
-    take-append-le n (take n xs) (b ∷ []) kept ∙ take_all n (take n xs) (omega (arith, length-take-le n xs within)) ∙ sym (take-append-le n xs (b ∷ []) within))
-    (λ fits. ap (λ line. take n (line ++ b ∷ [])) (take_all n xs fits))
+    take-append-le n (take n xs) ys kept ∙ take_all n (take n xs) (omega (arith, length-take-le n xs within)) ∙ sym (take-append-le n xs ys within))
+    (λ fits. ap (λ line. take n (line ++ ys)) (take_all n xs fits))
     (cases_lt n (length xs))
 
 -- a line loses at most the carriage return at its end

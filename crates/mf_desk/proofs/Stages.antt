@@ -1,12 +1,14 @@
 -- The stages of a run: what each step makes of the state after some bytes.
-use Rattle.std.proofs.Common.{◌≡◌, ℕ, true, false, ◌+◌, List, [], ◌∷◌, ◌++◌, Option, eqb, length, take, refl, sym, ap, ◌∙◌, subst, append_assoc, append-nil, arith, length-append, length-take}
-use Rattle.std.specs.Io.KnownBytes.{Appends}
+use Rattle.std.proofs.Common.{◌≡◌, ◌≢◌, ℕ, true, false, ◌+◌, List, [], ◌∷◌, ◌++◌, Option, eqb, length, take, refl, sym, ap, ◌∙◌, subst, append_assoc, append-nil, arith, length-append, length-take}
+use Rattle.std.specs.Io.KnownBytes.{Appends, Keeps}
+use Rattle.std.specs.Prelude.{All}
 use Rattle.std.specs.Str.Lines.{lines, strip_carriage_return}
 use Rattle.std.proofs.KnownBytes.{Appends-nil, Appends-trans}
 use Rattle.std.proofs.lemmas.Bool.{ne_eqb, eqb-true, eqb-false}
 use Rattle.std.proofs.lemmas.List.{nil_from_length}
 use Rattle.mf_desk.specs.declared.fault.RunFault.{RunFault}
 use Rattle.mf_desk.specs.declared.fault.RunFault.TheVariants.{OutOfMemory, NoPlace, FileTooLong, ReadFault, WriteFault, NoLook}
+use Rattle.mf_desk.specs.declared.performer.Performer.{Performer}
 use Rattle.mf_desk.specs.declared.progress.Progress.{Progress}
 use Rattle.mf_desk.specs.Answers.{Answers}
 use Rattle.mf_desk.specs.Ended.{ended_of_parts, last_part, ended_lines, unended}
@@ -16,9 +18,10 @@ use Rattle.mf_desk.specs.Progress.{IsAfter, IsThrough}
 use Rattle.mf_desk.specs.Sessions.{StandsFor, limits}
 use Rattle.mf_desk.specs.States.{State, Limits, start}
 use Rattle.mf_desk.specs.Transcript.{Perform}
-use Rattle.mf_desk.proofs.Ended.{ended_lines-line_feed, unended-line_feed, ended_lines-other, unended-other, lines-front, lines-none, lines-last}
+use Rattle.mf_desk.proofs.Ended.{ended_lines-line_feed, unended-line_feed, ended_lines-unbroken, unended-unbroken, lines-front, lines-none, lines-last}
+use Rattle.mf_desk.proofs.Flushes.{Appends-kept}
 use Rattle.mf_desk.proofs.KnownTexts.{StartsWith-front}
-use Rattle.mf_desk.proofs.LongLines.{take-push, Answers-kept, Answers-stripped}
+use Rattle.mf_desk.proofs.LongLines.{take-taken, Answers-kept, Answers-stripped}
 use Rattle.mf_desk.proofs.Performing.{Perform-line}
 
 -- nothing has been read
@@ -26,18 +29,16 @@ pub IsAfter-start : (held : Option (List ℕ)) (progress : Progress) → StandsF
 unfolding ended_of_parts last_part ended_lines unended
 IsAfter-start held progress stands written line = record { text = []; last = start; performed = (refl, refl); stands = stands; line = line; out = Appends-nil held; counted = written }
 
--- a byte that is no line feed
-pub IsAfter-other : (held holds : Option (List ℕ)) (read : List ℕ) (byte : ℕ) (old new : Progress) → (byte ≡ 10 → ⊥) → new.performer ≡ old.performer
-    → new.line ≡ take 65538 (old.line ++ byte ∷ []) → IsAfter held read old holds → IsAfter held (read ++ byte ∷ []) new holds
-IsAfter-other held holds read byte old new other same line after =
-    let no_line_feed = ne_eqb byte 10 other in
-    let ended = ended_lines-other read byte no_line_feed in
+-- bytes of which none is a line feed
+abbrev pub IsAfter-unbroken : (held holds : Option (List ℕ)) (read bytes : List ℕ) (old new : Progress) → All (λ byte. byte ≢ 10) bytes → new.performer ≡ old.performer
+    → new.line ≡ take 65538 (old.line ++ bytes) → IsAfter held read old holds → IsAfter held (read ++ bytes) new holds
+IsAfter-unbroken held holds read bytes old new unbroken same line after =
     record {
       text = after.text;
       last = after.last;
-      performed = rw (same, ended) after.performed;
+      performed = rw (same, ended_lines-unbroken read bytes unbroken) after.performed;
       stands = rw same after.stands;
-      line = line ∙ ap (λ kept. take 65538 (kept ++ byte ∷ [])) after.line ∙ take-push 65538 (unended read) byte ∙ ap (take 65538) (sym (unended-other read byte no_line_feed));
+      line = line ∙ ap (λ kept. take 65538 (kept ++ bytes)) after.line ∙ take-taken 65538 (unended read) bytes ∙ ap (take 65538) (sym (unended-unbroken read bytes unbroken));
       out = after.out;
       counted = rw same after.counted;
     }
@@ -49,32 +50,47 @@ performed-more : (held holds : Option (List ℕ)) (read line more : List ℕ) (p
 performed-more held holds read line more progress next after answer =
     Perform-line (limits progress.performer.session) start after.last next (ended_lines read) line after.text more after.performed answer
 
+-- what this line answers, the whole line answers that a line feed ends
+abbrev StandsForEnded : (progress : Progress) (s : State) (read line : List ℕ) → Type 0
+StandsForEnded progress s read line = (text : List ℕ) (next : State) → Answers (limits progress.performer.session) s line text next
+    → Answers (limits progress.performer.session) s (strip_carriage_return (unended read)) text next
+
 -- the line that a line feed ends
-performed-ended : (held holds : Option (List ℕ)) (read more : List ℕ) (progress : Progress) (next : State) (after : IsAfter held read progress holds)
-    → Answers (limits progress.performer.session) after.last (strip_carriage_return progress.line) more next
+performed-ended : (held holds : Option (List ℕ)) (read line more : List ℕ) (progress : Progress) (next : State) (after : IsAfter held read progress holds)
+    → StandsForEnded progress after.last read line → Answers (limits progress.performer.session) after.last line more next
     → Perform (limits progress.performer.session) start (ended_lines (read ++ 10 ∷ [])) (after.text ++ more) next
-performed-ended held holds read more progress next after answer =
-    let l = limits progress.performer.session in
-    let s = after.last in
-    let kept = subst (λ line. Answers l s (strip_carriage_return line) more next) after.line answer in
-    let whole = Answers-stripped l s next (unended read) more kept in
-    subst (λ ls. Perform l start ls (after.text ++ more) next) (sym (ended_lines-line_feed read)) (performed-more held holds read (strip_carriage_return (unended read)) more progress next after whole)
+performed-ended held holds read line more progress next after whole answer =
+    subst (λ ls. Perform (limits progress.performer.session) start ls (after.text ++ more) next) (sym (ended_lines-line_feed read))
+    (performed-more held holds read (strip_carriage_return (unended read)) more progress next after (whole more next answer))
 
 -- a line feed whose line has been performed
-pub IsAfter-line_feed : (held holds later : Option (List ℕ)) (read : List ℕ) (old new : Progress) (after : IsAfter held read old holds)
-    → IsWritten old.performer after.last new.performer (strip_carriage_return old.line) holds later → limits new.performer.session ≡ limits old.performer.session → new.line ≡ []
+IsAfter-ended : (held holds later : Option (List ℕ)) (read line : List ℕ) (old new : Progress) (after : IsAfter held read old holds) → StandsForEnded old after.last read line
+    → IsWritten old.performer after.last new.performer line holds later → limits new.performer.session ≡ limits old.performer.session → new.line ≡ []
     → IsAfter held (read ++ 10 ∷ []) new later
-IsAfter-line_feed held holds later read old new after written same line =
+IsAfter-ended held holds later read line old new after whole written same empty =
     record {
       text = after.text ++ written.text;
       last = written.next;
       performed = subst (λ l. Perform l start (ended_lines (read ++ 10 ∷ [])) (after.text ++ written.text) written.next) (sym same)
-          (performed-ended held holds read written.text old written.next after written.answer);
+          (performed-ended held holds read line written.text old written.next after whole written.answer);
       stands = written.stands;
-      line = line ∙ ap (take 65538) (sym (unended-line_feed read));
+      line = empty ∙ ap (take 65538) (sym (unended-line_feed read));
       out = Appends-trans held holds later after.text written.text after.out written.out;
       counted = written.counted ∙ ap (λ n. n + length written.text) after.counted ∙ sym (length-append after.text written.text);
     }
+
+-- the line that was kept may be cut
+kept-ended : (held holds : Option (List ℕ)) (read : List ℕ) (progress : Progress) (after : IsAfter held read progress holds) → StandsForEnded progress after.last read (strip_carriage_return progress.line)
+kept-ended held holds read progress after text next answer =
+    let m = limits progress.performer.session in
+    let s = after.last in
+    Answers-stripped m s next (unended read) text (subst (λ line. Answers m s (strip_carriage_return line) text next) after.line answer)
+
+pub IsAfter-line_feed : (held holds later : Option (List ℕ)) (read : List ℕ) (old new : Progress) (after : IsAfter held read old holds)
+    → IsWritten old.performer after.last new.performer (strip_carriage_return old.line) holds later → limits new.performer.session ≡ limits old.performer.session → new.line ≡ []
+    → IsAfter held (read ++ 10 ∷ []) new later
+IsAfter-line_feed held holds later read old new after =
+    IsAfter-ended held holds later read (strip_carriage_return old.line) old new after (kept-ended held holds read old after)
 
 -- memory was wanting between two lines
 pub CutsShort-between : (held holds : Option (List ℕ)) (read more : List ℕ) (progress : Progress) → IsAfter held read progress holds → CutsShort (limits progress.performer.session) OutOfMemory (read ++ more) held holds
@@ -110,15 +126,21 @@ CutsShort-text (WriteFault count) held holds later read bytes line others first 
     )
 
 -- the text of a line that a line feed ends broke off
-pub CutsShort-line_feed : (fault : RunFault) (held holds later : Option (List ℕ)) (read more : List ℕ) (progress : Progress) (after : IsAfter held read progress holds)
-    → BreaksOff fault progress.performer after.last (strip_carriage_return progress.line) holds later → CutsShort (limits progress.performer.session) fault (read ++ 10 ∷ more) held later
-CutsShort-line_feed fault held holds later read more progress after broken =
+CutsShort-ended : (fault : RunFault) (held holds later : Option (List ℕ)) (read more line : List ℕ) (progress : Progress) (after : IsAfter held read progress holds)
+    → StandsForEnded progress after.last read line → BreaksOff fault progress.performer after.last line holds later
+    → CutsShort (limits progress.performer.session) fault (read ++ 10 ∷ more) held later
+CutsShort-ended fault held holds later read more line progress after whole broken =
     let (others, before) = lines-front read (10 ∷ more) in
     let (behind, with_line) = lines-front (read ++ 10 ∷ []) more in
-    CutsShort-text fault held holds later read (read ++ 10 ∷ more) (strip_carriage_return progress.line) others (ended_lines (read ++ 10 ∷ [])) behind progress after before
+    CutsShort-text fault held holds later read (read ++ 10 ∷ more) line others (ended_lines (read ++ 10 ∷ [])) behind progress after before
     (ap lines (sym (append_assoc read (10 ∷ []) more)) ∙ with_line)
-    (λ text next answer. performed-ended held holds read text progress next after answer)
+    (λ text next answer. performed-ended held holds read line text progress next after whole answer)
     broken
+
+pub CutsShort-line_feed : (fault : RunFault) (held holds later : Option (List ℕ)) (read more : List ℕ) (progress : Progress) (after : IsAfter held read progress holds)
+    → BreaksOff fault progress.performer after.last (strip_carriage_return progress.line) holds later → CutsShort (limits progress.performer.session) fault (read ++ 10 ∷ more) held later
+CutsShort-line_feed fault held holds later read more progress after =
+    CutsShort-ended fault held holds later read more (strip_carriage_return progress.line) progress after (kept-ended held holds read progress after)
 
 -- bytes are behind the last line feed
 some-unended : (held holds : Option (List ℕ)) (read : List ℕ) (progress : Progress) → IsAfter held read progress holds → eqb (length progress.line) 0 ≡ false → eqb (length (unended read)) 0 ≡ false
@@ -144,11 +166,15 @@ CutsShort-last fault held holds later read progress after some broken =
     broken
 
 -- no byte is behind the last line feed
+empty-unended : (held holds : Option (List ℕ)) (read : List ℕ) (progress : Progress) → IsAfter held read progress holds → eqb (length progress.line) 0 ≡ true → unended read ≡ []
+empty-unended held holds read progress after none =
+    let kept : length (take 65538 (unended read)) ≡ 0 = ap length (sym after.line) ∙ eqb-true (length progress.line) 0 none in
+    nil_from_length (unended read) (omega (arith, length-take 65538 (unended read)))
+
 pub IsThrough-none : (held holds : Option (List ℕ)) (read : List ℕ) (progress : Progress) → IsAfter held read progress holds → eqb (length progress.line) 0 ≡ true
     → IsThrough held read progress.performer holds
 IsThrough-none held holds read progress after none =
-    let kept : length (take 65538 (unended read)) ≡ 0 = ap length (sym after.line) ∙ eqb-true (length progress.line) 0 none in
-    let empty : unended read ≡ [] = nil_from_length (unended read) (omega (arith, length-take 65538 (unended read))) in
+    let empty = empty-unended held holds read progress after none in
     record {
       text = after.text;
       last = after.last;
@@ -181,3 +207,83 @@ CutsShort-nothing l held = ([], Appends-nil held, record { done = []; more = [];
 -- the texts of the lines that a line feed ended
 pub CutsShort-reads : (held holds : Option (List ℕ)) (read : List ℕ) (progress : Progress) → IsAfter held read progress holds → CutsShort (limits progress.performer.session) ReadFault read held holds
 CutsShort-reads held holds read progress after = (after.text, after.out, record { last = after.last; performed = after.performed })
+
+-- a line of which nothing was kept, and which ends with these bytes
+module _ (held holds : Option (List ℕ)) (read bytes : List ℕ) (old : Progress) (after : IsAfter held read old holds) (none : eqb (length old.line) 0 ≡ true) (unbroken : All (λ byte. byte ≢ 10) bytes) where
+  abbrev with_bytes : Progress
+  with_bytes = record { performer = old.performer; line = take 65538 (old.line ++ bytes) }
+
+  abbrev after_bytes : IsAfter held (read ++ bytes) with_bytes holds
+  after_bytes = IsAfter-unbroken held holds read bytes old with_bytes unbroken refl refl after
+
+  whole_line : StandsForEnded with_bytes after.last (read ++ bytes) (strip_carriage_return bytes)
+  whole_line text next answer =
+      let whole : unended (read ++ bytes) ≡ bytes = unended-unbroken read bytes unbroken ∙ ap (λ line. line ++ bytes) (empty-unended held holds read old after none) in
+      subst (λ line. Answers (limits old.performer.session) after.last (strip_carriage_return line) text next) (sym whole) answer
+
+  pub IsAfter-whole : (later : Option (List ℕ)) (new : Progress) → IsWritten old.performer after.last new.performer (strip_carriage_return bytes) holds later
+      → limits new.performer.session ≡ limits old.performer.session → new.line ≡ [] → IsAfter held (read ++ bytes ++ 10 ∷ []) new later
+  IsAfter-whole later new = IsAfter-ended held holds later (read ++ bytes) (strip_carriage_return bytes) with_bytes new after_bytes whole_line
+
+  pub CutsShort-whole : (fault : RunFault) (later : Option (List ℕ)) (more : List ℕ) → BreaksOff fault old.performer after.last (strip_carriage_return bytes) holds later
+      → CutsShort (limits old.performer.session) fault (read ++ bytes ++ 10 ∷ more) held later
+  CutsShort-whole fault later more = CutsShort-ended fault held holds later (read ++ bytes) more (strip_carriage_return bytes) with_bytes after_bytes whole_line
+
+-- the writer hands on what it holds
+pub IsAfter-flushed : (held holds later : Option (List ℕ)) (read : List ℕ) (progress : Progress) → Keeps holds later → IsAfter held read progress holds → IsAfter held read progress later
+IsAfter-flushed held holds later read progress same after = record {
+  text = after.text;
+  last = after.last;
+  performed = after.performed;
+  stands = after.stands;
+  line = after.line;
+  out = Appends-kept held holds later after.text after.out same;
+  counted = after.counted;
+}
+
+pub IsThrough-flushed : (held holds later : Option (List ℕ)) (read : List ℕ) (performer : Performer) → Keeps holds later → IsThrough held read performer holds → IsThrough held read performer later
+IsThrough-flushed held holds later read performer same through = record {
+  text = through.text;
+  last = through.last;
+  performed = through.performed;
+  stands = through.stands;
+  out = Appends-kept held holds later through.text through.out same;
+  counted = through.counted;
+}
+
+-- it does not hand on the texts of the lines that a line feed ended
+pub CutsShort-unflushed : (held holds later : Option (List ℕ)) (read : List ℕ) (progress : Progress) → Keeps holds later → IsAfter held read progress holds
+    → (fault : RunFault) → fault ≡ WriteFault progress.performer.written → CutsShort (limits progress.performer.session) fault read held later
+CutsShort-unflushed held holds later read progress same after fault is =
+    let (others, first) = lines-front read [] in
+    subst (λ f. CutsShort (limits progress.performer.session) f read held later) (sym is) (
+      after.text,
+      Appends-kept held holds later after.text after.out same,
+      record {
+        text = after.text;
+        first = record { done = ended_lines read; more = others; last = after.last; first = ap lines (sym (append-nil read)) ∙ first; performed = after.performed };
+        begins = StartsWith-front after.text after.text [] (sym (append-nil after.text));
+        counted = sym after.counted;
+      },
+    )
+
+-- or those of all lines
+pub CutsShort-last_unflushed : (l : Limits) (held holds later : Option (List ℕ)) (read : List ℕ) (performer : Performer) → limits performer.session ≡ l → Keeps holds later → IsThrough held read performer holds
+    → (fault : RunFault) → fault ≡ WriteFault performer.written → CutsShort l fault read held later
+CutsShort-last_unflushed l held holds later read performer limits_are same through fault is =
+    subst (λ f. CutsShort l f read held later) (sym is) (
+      through.text,
+      Appends-kept held holds later through.text through.out same,
+      record {
+        text = through.text;
+        first = record {
+          done = lines read;
+          more = [];
+          last = through.last;
+          first = sym (append-nil (lines read));
+          performed = subst (λ m. Perform m start (lines read) through.text through.last) limits_are through.performed;
+        };
+        begins = StartsWith-front through.text through.text [] (sym (append-nil through.text));
+        counted = sym through.counted;
+      },
+    )

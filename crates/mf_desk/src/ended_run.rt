@@ -8,6 +8,7 @@ ghost use Rattle.mf_desk.specs.Watchers.{HasRoom, HasSeen, IsRecord, glance_at, 
 
 use crate::fault::RunFault;
 use crate::outcome::Glance;
+use crate::output::flush;
 use crate::watcher::Watcher;
 use mf_gf::{GfFile, write_counted};
 use mf_live::{Ended, NoLook};
@@ -48,7 +49,7 @@ impl EndedRun {
         }
     }
 
-    /// Lets each viewer look once more, and writes its line.
+    /// Lets each viewer look once more, and writes its line. The writer hands on what it holds.
     fn show_all<W: Write>(
         &mut self,
         alloc: Global,
@@ -70,6 +71,7 @@ impl EndedRun {
             let number = seen.len() as u32;
             seen.push(self.show_one(alloc, writer, number, watcher)?)?;
         }
+        flush(writer, self.written)?;
         Ok(seen)
     }
 

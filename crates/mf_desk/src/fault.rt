@@ -25,8 +25,8 @@ pub enum RunFault {
     /// Every line that a line feed ended has been performed and its text written, and no other line.
     #[error("ReadFault")]
     ReadFault,
-    /// Refusal 25: the writer answered an error or took no byte. The number counts the bytes that went out
-    /// in this run, from 0; they are a front of the transcript and the lines of the viewers.
+    /// Refusal 25: the writer answered an error, also where it was flushed, or took no byte. The number counts the bytes
+    /// that it took in this run, from 0; they are a front of the transcript and the lines of the viewers.
     #[error("WriteFault")]
     WriteFault(u128),
     /// Refusal 26: a look was refused. The writer got the whole transcript, and the lines of the first viewers, whole.

@@ -8,6 +8,7 @@ mod gate;
 pub mod laws;
 mod line_buffer;
 mod outcome;
+mod output;
 mod performance;
 mod performer;
 mod progress;

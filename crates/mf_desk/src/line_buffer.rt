@@ -1,5 +1,5 @@
 //! The bytes of the line that no line feed has ended yet.
-ghost use Rattle.std.specs.Prelude.{◌≡◌, ◌==◌, ◌++◌, ◌∷◌, [], OnErr, OnOk, length, take};
+ghost use Rattle.std.specs.Prelude.{◌≡◌, ◌==◌, ◌++◌, [], OnErr, OnOk, length, take};
 ghost use Rattle.std.specs.Str.Lines.{strip_carriage_return};
 
 use std::alloc::{AllocError, Global};
@@ -43,15 +43,14 @@ impl LineBuffer {
         self.kept.is_empty()
     }
 
-    /// Adds a byte behind the others. Want of memory changes nothing.
-    pub fn push(&mut self, byte: u8) -> Result<(), AllocError>
-        ensures added { OnOk result (self.new ≡ take MAX_KEPT (self.old ++ byte ∷ [])) }
+    /// Adds bytes behind the others. Want of memory changes nothing.
+    pub fn extend(&mut self, bytes: &[u8]) -> Result<(), AllocError>
+        ensures added { OnOk result (self.new ≡ take MAX_KEPT (self.old ++ bytes.now)) }
         ensures unchanged { OnErr result (self.new ≡ self.old) }
     {
-        if self.kept.len() < MAX_KEPT {
-            self.kept.push(byte)?;
-        }
-        Ok(())
+        let room = MAX_KEPT - self.kept.len();
+        let count = room.min(bytes.len());
+        self.kept.extend_from_slice(&bytes[..count])
     }
 
     /// The line without the bytes that it had.
@@ -72,9 +71,16 @@ impl LineBuffer {
     pub fn at_line_feed(&self) -> &[u8]
         ensures { result.now ≡ strip_carriage_return self.now }
     {
-        match self.kept.as_slice() {
-            [line @ .., b'\r'] => line,
-            line => line,
-        }
+        before_line_feed(self.kept.as_slice())
+    }
+}
+
+/// The bytes of a line that a line feed follows: a carriage return at their end is no part of it.
+pub fn before_line_feed(bytes: &[u8]) -> &[u8]
+    ensures { result.now ≡ strip_carriage_return bytes.now }
+{
+    match bytes {
+        [line @ .., b'\r'] => line,
+        line => line,
     }
 }

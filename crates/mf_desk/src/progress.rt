@@ -1,6 +1,6 @@
 //! A run in progress: the lines that have been performed, and the bytes of the one that has not ended yet.
 ghost use Rattle.std.specs.Io.KnownBytes.{IsAtEnd};
-ghost use Rattle.std.specs.Prelude.{◌≡◌, ◌≢◌, ◌⊎◌, ◌+◌, ◌*◌, ◌<◌, ◌≤◌, ◌^◌, ◌↔◌, ◌++◌, ◌∷◌, Err, Option, List, ℕ, [], IfErr, IfOk, OnOk, length};
+ghost use Rattle.std.specs.Prelude.{◌≡◌, ◌≢◌, ◌⊎◌, ◌+◌, ◌*◌, ◌<◌, ◌≤◌, ◌^◌, ◌↔◌, ◌++◌, ◌∷◌, All, Err, Option, List, ℕ, [], IfErr, IfOk, OnOk, length};
 ghost use Rattle.mf_live.specs.Desks.{desk_name};
 ghost use Rattle.mf_live.specs.Writers.{ended_name};
 ghost use Rattle.mf_desk.specs.EndedRuns.{EndsWith};
@@ -11,9 +11,11 @@ ghost use Rattle.mf_desk.specs.Sessions.{limits, name};
 
 use crate::ended_run::EndedRun;
 use crate::fault::RunFault;
-use crate::line_buffer::LineBuffer;
+use crate::line_buffer::{LineBuffer, before_line_feed};
+use crate::output::flush;
 use crate::performer::Performer;
 use crate::settings::Settings;
+use memchr::memchr;
 use mf_live::Desk;
 use std::alloc::Global;
 use std::io::{Read, Write};
@@ -81,7 +83,8 @@ impl Progress {
         }
     }
 
-    /// Reads a script to its end, performs its lines and writes their texts.
+    /// Reads a script to its end, performs its lines and writes their texts. The writer hands on what it holds before
+    /// each read, which may wait for somebody who waits for these texts.
     fn read_all<S: Wait, R: Read, W: Write>(
         &mut self,
         rt: &S,
@@ -102,6 +105,7 @@ impl Progress {
         ensures fault { IfErr result (λ fault. BreaksScript (limits self.old.performer.session) fault (R.remaining reader.old) (R.remaining reader.new) (W.contents writer.old) (W.contents writer.new)) }
     {
         'reads: for _ in 0..MAX_READS {
+            flush(writer, self.performer.written)?;
             match reader.read(chunk) {
                 Err(_) => return Err(RunFault::ReadFault),
                 Ok(0) => return self.finish(rt, alloc, writer),
@@ -129,17 +133,42 @@ impl Progress {
         ensures fault { IfErr result (λ fault. (held : Option (List ℕ)) (read : List ℕ) → IsAfter held read self.old (W.contents writer.old)
             → CutsShort (limits self.old.performer.session) fault (read ++ bytes.now) held (W.contents writer.new)) }
     {
-        for &byte in bytes {
-            if byte == b'\n' {
-                self.end_line(rt, alloc, writer)?;
-            } else {
-                self.keep(byte)?;
-            }
+        let mut rest = bytes;
+        'lines: while let Some(place) = memchr(b'\n', rest) {
+            self.take_line(rt, alloc, writer, &rest[..place])?;
+            rest = &rest[place + 1..];
         }
-        Ok(())
+        self.keep(rest)
     }
 
-    /// Ends the script: the bytes behind its last line feed are a line where there are any.
+    /// Takes the bytes before a line feed, and it: performs the line that it ends, and writes its text. A line of which
+    /// no byte was kept is performed where it stands.
+    fn take_line<S: Wait, W: Write>(
+        &mut self,
+        rt: &S,
+        alloc: Global,
+        writer: &mut W,
+        bytes: &[u8],
+    ) -> Result<(), RunFault>
+        requires room { self.old.performer.written + 2 ^ 64 ≤ 2 ^ 127 }
+        requires unbroken { All (λ byte. byte ≢ 10) bytes.now }
+        ensures after { OnOk result ((held : Option (List ℕ)) (read : List ℕ) → IsAfter held read self.old (W.contents writer.old)
+            → IsAfter held (read ++ bytes.now ++ 10 ∷ []) self.new (W.contents writer.new)) }
+        ensures at_most { OnOk result (self.new.performer.written ≤ self.old.performer.written + 2 ^ 64) }
+        ensures limits { limits self.new.performer.session ≡ limits self.old.performer.session }
+        ensures name { name self.new.performer.session ≡ name self.old.performer.session }
+        ensures fault { IfErr result (λ fault. (held : Option (List ℕ)) (read more : List ℕ) → IsAfter held read self.old (W.contents writer.old)
+            → CutsShort (limits self.old.performer.session) fault (read ++ bytes.now ++ 10 ∷ more) held (W.contents writer.new)) }
+    {
+        if self.line.is_empty() {
+            let line = before_line_feed(bytes);
+            return self.performer.perform(rt, alloc, writer, line);
+        }
+        self.keep(bytes)?;
+        self.end_line(rt, alloc, writer)
+    }
+
+    /// Ends the script: the bytes behind its last line feed are a line where there are any. The writer hands on its text.
     fn finish<S: Wait, W: Write>(
         &mut self,
         rt: &S,
@@ -159,7 +188,8 @@ impl Progress {
             return Ok(());
         }
         self.performer
-            .perform(rt, alloc, writer, self.line.at_end())
+            .perform(rt, alloc, writer, self.line.at_end())?;
+        flush(writer, self.performer.written)
     }
 
     /// Performs the line, which a line feed ends, and writes its text.
@@ -184,16 +214,16 @@ impl Progress {
         Ok(())
     }
 
-    /// Keeps a byte that is no line feed.
-    fn keep(&mut self, byte: u8) -> Result<(), RunFault>
-        requires { byte ≢ 10 }
+    /// Keeps bytes of which none is a line feed.
+    fn keep(&mut self, bytes: &[u8]) -> Result<(), RunFault>
+        requires { All (λ byte. byte ≢ 10) bytes.now }
         ensures after { OnOk result ((held : Option (List ℕ)) (read : List ℕ) (holds : Option (List ℕ)) → IsAfter held read self.old holds
-            → IsAfter held (read ++ byte ∷ []) self.new holds) }
+            → IsAfter held (read ++ bytes.now) self.new holds) }
         ensures same { self.new.performer ≡ self.old.performer }
         ensures fault { IfErr result (λ fault. (held : Option (List ℕ)) (read more : List ℕ) (holds : Option (List ℕ)) → IsAfter held read self.old holds
             → CutsShort (limits self.old.performer.session) fault (read ++ more) held holds) }
     {
-        self.line.push(byte)?;
+        self.line.extend(bytes)?;
         Ok(())
     }
 

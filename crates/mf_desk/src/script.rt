@@ -18,11 +18,11 @@ use std::sync::Wait;
 /// Number of bytes that a read asks for.
 pub const CHUNK_SIZE: usize = 65_536;
 
-/// Reads a script to its end, line by line, and writes the transcript: the text of each line goes out before
-/// the next line is performed. Its outcome is the font file of the characters that the script has shipped. Refusals:
-/// OutOfMemory (14), FileTooLong (20), ReadFault (24), WriteFault (25), each with what [`RunFault`] says of the bytes
-/// that went out. It keeps at most one line, and of a line that is too long no more than shows this. Nobody looks on,
-/// so it waits for nobody.
+/// Reads a script to its end, line by line, and writes the transcript: the text of each line is given to the writer
+/// before the next line is performed, and the writer is flushed before each read and behind the last text. Its outcome
+/// is the font file of the characters that the script has shipped. Refusals: OutOfMemory (14), FileTooLong (20),
+/// ReadFault (24), WriteFault (25), each with what [`RunFault`] says of the bytes that went out. It keeps at most one
+/// line, and of a line that is too long no more than shows this. Nobody looks on, so it waits for nobody.
 pub fn run<S: Wait, R: Read, W: Write>(
     rt: &S,
     alloc: Global,

@@ -1,19 +1,21 @@
 -- Bands of the field: over bands their numbers rise, so the bands up to a number are found by halving.
-use Rattle.std.proofs.Common.{◌≡◌, ◌≢◌, ℕ, ◌<◌, ◌≤◌, ℤ, pos, ◌-ℤ◌, ◌≤ℤ◌, ◌<ℤ◌, List, [], ◌∷◌, Bool, true, false, length, take, drop, get_or, inl, inr, subst, arith}
+use Rattle.std.proofs.Common.{◌≡◌, ◌≢◌, ℕ, ◌<◌, ◌≤◌, ℤ, pos, ◌+ℤ◌, ◌-ℤ◌, ◌≤ℤ◌, ◌<ℤ◌, List, [], ◌∷◌, Bool, true, false, length, take, drop, get_or, inl, inr, subst, arith}
 use Rattle.std.specs.Int.{int_max}
 use Rattle.std.specs.List.{All, AllWithin}
 use Rattle.std.specs.List.Sorted.{IsPartitionedBy}
 use Rattle.std.proofs.lemmas.Int.{ints, clamps, by_lt_z}
-use Rattle.std.proofs.lemmas.List.Elements.{All-nil, All-head, All-tail, All-append, All-weaker, All-map}
+use Rattle.std.proofs.lemmas.List.Elements.{All-nil, All-cons, All-head, All-tail, All-append, All-weaker, All-map}
 use Rattle.std.specs.Arc.{arc_value}
 use Rattle.std.specs.declared.alloc.Global.{Global}
 use Rattle.std.specs.declared.sync.Arc.{Arc}
 use lib.Signed.{le_z}
 use Rattle.mf_rows.specs.declared.band.Band.{Band}
-use Rattle.mf_rows.specs.Bands.{edge_row, rows_in, bottom_of, rows_of_bands}
+use Rattle.mf_rows.specs.declared.row.Row.{Row}
+use Rattle.mf_rows.specs.Bands.{AreAbove, AreBelow, edge_row, edge_rows, rows_in, bottom_of, rows_of_bands}
 use Rattle.mf_rows.specs.BandSums.{lowest_of, AreUpTo, AreBehind, AreNumberedBehind, BeginUpTo, IsStep}
 use Rattle.mf_rows.specs.Edges.{AreRows}
-use Rattle.mf_rows.specs.FieldBands.{IsOfBand}
+use Rattle.mf_rows.specs.FieldBands.{IsOfBand, AreOfBand}
+use Rattle.mf_rows.specs.Sums.{StayWithin}
 use Rattle.mf_rows.proofs.BandsLemmas.{IsPartitionedBy-falls, All-take_within, All-drop_within, at_bottom, bands_fall}
 
 -- ---- the rows of bands
@@ -29,6 +31,31 @@ All-rows_of_bands N P holds (b ∷ bs) all =
     All-append (λ r. P r.y) (rows_in (arc_value b)) (rows_of_bands bs)
     (All-weaker (λ r. IsOfBand (arc_value b).number r.y) (λ r. P r.y) (λ r of_band. holds (arc_value b).number r.y numbered of_band) (rows_in (arc_value b)) (rows_of_band (arc_value b)))
     (All-rows_of_bands N P holds bs (All-tail (λ (c : Arc Band Global). N (arc_value c).number) b bs all))
+
+-- the rows between the ends of a band belong to it
+between_ends : (n : ℤ) (rows : List Row) → AreAbove (lowest_of n -ℤ pos 1) (edge_rows rows) → AreBelow (lowest_of n +ℤ pos 64) (edge_rows rows) → AreOfBand n rows
+between_ends n [] above below = All-nil (λ row. IsOfBand n row.y)
+between_ends n (row ∷ rows) above below =
+    let bottom = All-head (λ r. (lowest_of n -ℤ pos 1) <ℤ r.y) (edge_row row) (edge_rows rows) above in
+    let top = All-head (λ r. r.y <ℤ (lowest_of n +ℤ pos 64)) (edge_row row) (edge_rows rows) below in
+    All-cons (λ row. IsOfBand n row.y) row rows
+    (record { top = omega (arith, ints, top); bottom = omega (arith, ints, bottom) })
+    (between_ends n rows
+    (All-tail (λ r. (lowest_of n -ℤ pos 1) <ℤ r.y) (edge_row row) (edge_rows rows) above)
+    (All-tail (λ r. r.y <ℤ (lowest_of n +ℤ pos 64)) (edge_row row) (edge_rows rows) below))
+
+above_end : (n : ℤ) (band : Band) → band.number ≡ n → AreAbove (lowest_of n -ℤ pos 1) (rows_in band)
+above_end n band is = All-weaker (λ r. IsOfBand band.number r.y) (λ r. (lowest_of n -ℤ pos 1) <ℤ r.y) (λ r own. let own : IsOfBand n r.y = rw (← is) own in omega (arith, ints, own.bottom)) (rows_in band) (rows_of_band band)
+
+below_end : (n : ℤ) (band : Band) → band.number ≡ n → AreBelow (lowest_of n +ℤ pos 64) (rows_in band)
+below_end n band is = All-weaker (λ r. IsOfBand band.number r.y) (λ r. r.y <ℤ (lowest_of n +ℤ pos 64)) (λ r own. let own : IsOfBand n r.y = rw (← is) own in omega (arith, ints, own.top)) (rows_in band) (rows_of_band band)
+
+-- and so do those of the sum of two bands of its number
+pub sum_of_band : (n : ℤ) (left right : Band) (rows : List Row) → left.number ≡ n → right.number ≡ n → StayWithin (rows_in left) (rows_in right) (edge_rows rows) → AreOfBand n rows
+sum_of_band n left right rows of_left of_right within =
+    between_ends n rows
+    (within.above (lowest_of n -ℤ pos 1) (above_end n left of_left) (above_end n right of_right))
+    (within.below (lowest_of n +ℤ pos 64) (below_end n left of_left) (below_end n right of_right))
 
 -- ---- the place at which bands are split
 

@@ -17,6 +17,7 @@ pub mod RowMoves
 pub mod Runs
 pub mod Strips
 pub mod Sums
+pub mod SumsSoFar
 pub mod Turns
 pub mod Walk
 pub mod WeightMaps

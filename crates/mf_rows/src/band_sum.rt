@@ -1,12 +1,12 @@
 //! The sum of two lists of bands.
 ghost use Rattle.std.specs.Prelude.{◌≡◌, ◌≢◌, ◌⊎◌, [], IfOk, IfErr, OnOk, IfSome, IsNone};
-ghost use Rattle.mf_rows.specs.Bands.{rows_of_bands};
+ghost use Rattle.mf_rows.specs.Bands.{rows_in, rows_of_bands};
 ghost use Rattle.mf_rows.specs.BandSums.{IsStep, HasSum};
 ghost use Rattle.mf_rows.specs.Edges.{AreRows};
 ghost use Rattle.mf_rows.specs.Sums.{weight_in_all, HaveRowWeights, IsUnlawfulSomewhere};
 
 use crate::band::Band;
-use crate::bands::{count_up_to, push_rows, push_shared, rows_of};
+use crate::bands::{close_band, count_up_to, push_rows, push_shared, rows_of};
 use crate::fault::AddFault;
 use crate::row_sum::sum_of_rows;
 use std::alloc::Global;
@@ -69,6 +69,30 @@ fn push_sum(
     if right.is_empty() {
         return Ok(push_shared(sum, left)?);
     }
-    let rows = sum_of_rows(alloc, &rows_of(alloc, left)?, &rows_of(alloc, right)?)?;
-    Ok(push_rows(alloc, sum, rows)?)
+    match (left, right) {
+        ([left], [right]) if left.number == right.number => push_sum_of_both(
+            alloc, sum, left, right,
+        ),
+        _ => {
+            let rows = sum_of_rows(alloc, &rows_of(alloc, left)?, &rows_of(alloc, right)?)?;
+            Ok(push_rows(alloc, sum, rows)?)
+        }
+    }
+}
+
+/// Adds the sum of two bands of one number to a list of bands.
+fn push_sum_of_both(
+    alloc: Global,
+    sum: &mut Vec<Arc<Band>>,
+    left: &Band,
+    right: &Band,
+) -> Result<(), AddFault>
+    requires left { AreRows (rows_in left.now) }
+    requires right { AreRows (rows_in right.now) }
+    requires same { left.now.number ≡ right.now.number }
+    ensures pushed { OnOk result (HasSum (rows_of_bands sum.old.items) (rows_in left.now) (rows_in right.now) (rows_of_bands sum.new.items)) }
+    ensures too_large { IfErr result (λ fault. fault ≢ AddFault.OutOfMemory → IsUnlawfulSomewhere (weight_in_all (rows_in left.now) (rows_in right.now))) }
+{
+    let rows = sum_of_rows(alloc, &left.rows, &right.rows)?;
+    Ok(close_band(alloc, sum, left.number, rows)?)
 }

@@ -137,7 +137,7 @@ pub(crate) fn push_rows(
 }
 
 /// Adds rows of the band of this number to a list of bands; where there are no rows it adds none.
-fn close_band(
+pub(crate) fn close_band(
     alloc: Global,
     bands: &mut Vec<Arc<Band>>,
     number: i32,

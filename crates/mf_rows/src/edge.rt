@@ -88,3 +88,12 @@ pub(crate) fn push_unless_zero(edges: &mut Vec<Edge>, edge: Edge) -> Result<(), 
     }
     Ok(())
 }
+
+/// Gives back the room that edges which cancelled have left, where it is more than half of all.
+pub(crate) fn give_back_room(edges: &mut Vec<Edge>)
+    ensures { edges.new.items ≡ edges.old.items }
+{
+    if edges.len() < edges.capacity() / 2 {
+        edges.shrink_to_fit();
+    }
+}

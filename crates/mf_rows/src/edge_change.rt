@@ -6,7 +6,7 @@ ghost use Rattle.mf_rows.specs.RowChanges.{AreChanged};
 ghost use Rattle.mf_rows.specs.WeightMaps.{IsWeightMap};
 ghost use Rattle.mf_rows.specs.declared.row_change.RowChange.TheVariants.{Weights, Mirror, Columns};
 
-use crate::edge::{Edge, push_unless_zero};
+use crate::edge::{Edge, give_back_room, push_unless_zero};
 use crate::stretch::Stretch;
 use crate::weight_map::WeightMap;
 use mf_geom::OutOfMemory;
@@ -23,6 +23,7 @@ pub(crate) fn mapped_edges(
     ensures { IfOk result (λ mapped. AreChanged (Weights map.now) edges.now mapped.items) }
 {
     let mut mapped = Vec::new(alloc);
+    mapped.reserve(edges.len())?;
     let (mut weight, mut image) = (0, 0);
     for edge in edges {
         weight += edge.weight;
@@ -36,7 +37,7 @@ pub(crate) fn mapped_edges(
         )?;
         image = next;
     }
-    mapped.shrink_to_fit();
+    give_back_room(&mut mapped);
     Ok(mapped)
 }
 
@@ -46,6 +47,7 @@ pub(crate) fn mirrored_edges(alloc: Global, edges: &[Edge]) -> Result<Vec<Edge>,
     ensures { IfOk result (λ mirrored. AreChanged Mirror edges.now mirrored.items) }
 {
     let mut mirrored = Vec::new(alloc);
+    mirrored.reserve(edges.len())?;
     for edge in edges.iter().rev() {
         mirrored.push(Edge {
             x: -edge.x,
@@ -67,6 +69,7 @@ pub(crate) fn stretched_edges(
     ensures { IfOk result (λ stretched. AreChanged (Columns stretch.now) edges.now stretched.items) }
 {
     let mut stretched = Vec::new(alloc);
+    stretched.reserve(edges.len())?;
     for edge in edges {
         stretched.push(Edge {
             x: edge.x * stretch.factor + stretch.offset,

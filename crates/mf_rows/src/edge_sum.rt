@@ -1,10 +1,12 @@
 //! The sum of two rows of edges.
-ghost use Rattle.std.specs.Prelude.{◌≡◌, ◌≢◌, [], IfOk, IfErr, IfSome, IsNone};
+ghost use Rattle.std.specs.Prelude.{◌≡◌, ◌≢◌, ◌≤◌, IfOk, IfErr, All, drop, length};
+ghost use Rattle.mf_rows.specs.Dots.{IsLawfulWeight};
 ghost use Rattle.mf_rows.specs.Edges.{AreEdges};
-ghost use Rattle.mf_rows.specs.Merging.{AreChanges, AreEdgesLeft, IsFirstColumn, IsSplitAt};
+ghost use Rattle.mf_rows.specs.Merging.{AreChanges, AreEdgesLeft, BeginFrom, IsDifference, IsSplitAt};
+ghost use Rattle.mf_rows.specs.SumsSoFar.{ArePassed, AreStopped};
 ghost use Rattle.mf_rows.specs.Sums.{weight_in_both, HaveWeights, IsUnlawfulColumn};
 
-use crate::edge::{Edge, push_unless_zero};
+use crate::edge::{Edge, give_back_room, push_unless_zero};
 use crate::fault::AddFault;
 use crate::field::is_lawful_weight;
 use mf_geom::OutOfMemory;
@@ -27,33 +29,62 @@ pub(crate) fn sum_of_edges(
     sum.reserve(left.len() + right.len())?;
     let (mut left, mut right) = (left, right);
     let mut weight = 0;
-    while let Some(x) = first_column(left, right) {
-        let (more_left, rest_left) = split_at(left, x);
-        let (more_right, rest_right) = split_at(right, x);
-        let more = more_left + more_right;
-        weight += more;
+    while let Some((change, changes)) = right.split_first() {
+        let passed = pass_edges(left, change.x, weight)?;
+        let (kept, others) = left.split_at(passed.count);
+        sum.extend_from_slice(kept)?;
+        let (edge, rest) = split_at(others, change.x);
+        let more = edge + change.weight;
+        weight = passed.weight + more;
         if !is_lawful_weight(weight) {
             return Err(AddFault::WeightTooLarge);
         }
-        push_unless_zero(&mut sum, Edge { x, weight: more })?;
-        (left, right) = (rest_left, rest_right);
+        push_unless_zero(
+            &mut sum,
+            Edge {
+                x: change.x,
+                weight: more,
+            },
+        )?;
+        (left, right) = (rest, changes);
     }
-    // Edges that cancelled leave room that nobody would use again.
-    sum.shrink_to_fit();
+    sum.extend_from_slice(left)?;
+    give_back_room(&mut sum);
     Ok(sum)
 }
 
-/// The column of the first edge of two rows.
-fn first_column(left: &[Edge], right: &[Edge]) -> Option<i32>
-    ensures first { IfSome result (IsFirstColumn left.now right.now) }
-    ensures none_left { IsNone result → left.now ≡ [] }
-    ensures none_right { IsNone result → right.now ≡ [] }
+/// Edges that were passed: how many, and the weight behind them.
+#[derive(Clone, Copy)]
+struct Passed {
+    count: usize,
+    weight: i32,
+}
+
+/// Passes the edges left of column x, from this weight on. Refused with WeightTooLarge where a weight between
+/// them passes 32767 in size.
+fn pass_edges(edges: &[Edge], x: i32, weight: i32) -> Result<Passed, AddFault>
+    requires differences { All (λ edge. IsDifference edge.weight) edges.now }
+    requires weight { IsLawfulWeight weight }
+    ensures within { IfOk result (λ passed. passed.count ≤ length edges.now) }
+    ensures stops { IfOk result (λ passed. BeginFrom x (drop passed.count edges.now)) }
+    ensures passed { IfOk result (λ passed. ArePassed edges.now x weight passed.count passed.weight) }
+    ensures too_large { IfErr result (λ _. AreStopped edges.now x weight) }
 {
-    match (left.first(), right.first()) {
-        (Some(l), Some(r)) => Some(l.x.min(r.x)),
-        (Some(edge), None) | (None, Some(edge)) => Some(edge.x),
-        (None, None) => None,
+    let mut passed = Passed { count: 0, weight };
+    for edge in edges {
+        if x <= edge.x {
+            break;
+        }
+        let next = passed.weight + edge.weight;
+        if !is_lawful_weight(next) {
+            return Err(AddFault::WeightTooLarge);
+        }
+        passed = Passed {
+            count: passed.count + 1,
+            weight: next,
+        };
     }
+    Ok(passed)
 }
 
 /// The weight of the edge at a column, 0 where the first edge stands behind it, and the edges behind the

@@ -40,6 +40,7 @@ pub(crate) fn changed_rows(
     ensures weights { IfOk result (λ changed. HaveRowWeights (changed_in_rows change.now (edge_rows rows.now)) (edge_rows changed.items)) }
 {
     let mut changed = Vec::new(alloc);
+    changed.reserve(rows.len())?;
     // The last edges, and a row with what they became; at first no edges, which stay none.
     let mut last: &[Edge] = &[];
     let mut image = Row::new(alloc, 0, Vec::new(alloc))?;

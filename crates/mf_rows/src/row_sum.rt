@@ -22,6 +22,7 @@ pub(crate) fn sum_of_rows(alloc: Global, left: &[Row], right: &[Row]) -> Result<
     ensures too_large { IfErr result (λ fault. fault ≢ AddFault.OutOfMemory → IsUnlawfulSomewhere (weight_in_all (edge_rows left.now) (edge_rows right.now))) }
 {
     let mut sum = Vec::new(alloc);
+    sum.reserve(left.len() + right.len())?;
     let (mut left, mut right) = (left, right);
     while let Some(y) = first_height(left, right) {
         let (row_left, rest_left) = split_at_height(left, y);

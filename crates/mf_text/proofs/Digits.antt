@@ -1,12 +1,19 @@
 -- A row of at most nine digits, and its number.
-use Rattle.std.proofs.Common.{◌≡◌, ℕ, suc, ◌+◌, ◌-◌, ◌*◌, ◌^◌, ◌<◌, ◌≤◌, Bool, true, false, cond, List, [], ◌∷◌, length, get_or, take, refl, arith}
+use Rattle.std.proofs.Common.{◌≡◌, ◌≢◌, inl, inr, ℕ, suc, ◌+◌, ◌-◌, ◌*◌, ◌^◌, ◌<◌, ◌≤◌, Bool, true, false, cond, List, [], ◌∷◌, length, get_or, take, refl, ap, sym, subst, arith}
 use Rattle.std.specs.Char.{digit_value, is_ascii_digit}
-use Rattle.std.specs.List.{prefix_len}
+use Rattle.std.specs.List.{prefix_len, take_while}
 use Rattle.std.specs.Str.Parse.{AllDigits, digits_value}
+use Rattle.std.proofs.Math.Nat.{eq-or-lt_of_le}
+use Rattle.std.proofs.lemmas.Bool.{le-leb, lt-leb}
 use Rattle.std.proofs.lemmas.Bool.Decides.{nat_tests}
-use Rattle.std.proofs.lemmas.Int.Digits.{digits_value_more}
+use Rattle.std.proofs.lemmas.Int.Digits.{digits_more, digits_value_more}
+use Rattle.std.proofs.lemmas.List.{length-take-le}
+use Rattle.std.proofs.lemmas.List.Folds.{length-prefix_len}
+use Rattle.std.proofs.lemmas.List.Sums.{prefix_len-le-length, prefix_len_passes, prefix_len_stops}
 use Rattle.std.proofs.lemmas.Str.{digit_value_digit}
-use Rattle.std.proofs.lemmas.Str.Parse.{numerals_by_value, tells_digits, digits_value_short, digits_value-take-le, digit_at}
+use Rattle.std.proofs.lemmas.Str.Parse.{numerals_by_value, tells_digits, digits_value_short, digit_from_value}
+use Rattle.mf_text.specs.declared.token.Token.TheVariants as token
+use Rattle.mf_text.specs.Tokens.{number_token}
 
 digit_below_ten : (c : ℕ) → is_ascii_digit c ≡ true → digit_value c < 10
 digit_below_ten c e = grind (arith, nat_tests)
@@ -25,19 +32,79 @@ digits_of_row (b ∷ bs) = row_from b bs (is_ascii_digit b) refl (digits_of_row 
 pub short_value : (ds : List ℕ) → AllDigits 10 ds → length ds ≤ 9 → digits_value 10 ds < 10 ^ 9
 short_value ds all short = digits_value_short (numerals_by_value (AllDigits 10) tells_digits) ds 9 all short
 
--- one more digit
-pub record Grows (ds : List ℕ) (i : ℕ) : Type 0 where
-  pub digit : 48 ≤ get_or ds i 0
-  pub value : 10 * digits_value 10 (take i ds) + (get_or ds i 0 - 48) ≡ digits_value 10 (take (i + 1) ds)
-  pub fits : digits_value 10 (take (i + 1) ds) < 10 ^ 9
+-- ---- the number of the digits at the front of a text
 
-pub grows : (ds : List ℕ) (i : ℕ) → AllDigits 10 ds → length ds ≤ 9 → i < length ds → Grows ds i
-grows ds i all short below =
-    let in_range = digit_at ds i all below in
-    let worth : digit_value (get_or ds i 0) + 48 ≡ get_or ds i 0 = digit_value_digit (get_or ds i 0) in_range in
-    let more = digits_value_more 10 ds i below in
+-- so many digits at the front, at most nine, and their number
+pub record IsNumberTo (text : List ℕ) (i value : ℕ) : Type 0 where
+  pub few : i ≤ 9
+  pub front : i ≤ prefix_len is_ascii_digit text
+  pub digits : AllDigits 10 (take i text)
+  pub value_is : value ≡ digits_value 10 (take i text)
+
+pub number-none : (text : List ℕ) → IsNumberTo text 0 0
+number-none text = record { few = omega arith; front = omega arith; digits = tt; value_is = refl }
+
+-- a digit at i goes on with the digits before it
+digit_goes_on : (text : List ℕ) (i : ℕ) → i ≤ prefix_len is_ascii_digit text → i < length text → is_ascii_digit (get_or text i 0) ≡ true
+    → i < prefix_len is_ascii_digit text
+digit_goes_on text i front inside digit =
+    let stops : i ≡ prefix_len is_ascii_digit text → is_ascii_digit (get_or text i 0) ≡ false =
+    λ ends. subst (λ n. is_ascii_digit (get_or text n 0) ≡ false) (sym ends) (prefix_len_stops is_ascii_digit text 0 (omega (arith, ends, inside))) in
+    elim (eq-or-lt_of_le front) [
+      | inl ends ↦ absurd (let no = stops ends in cc)
+      | inr goes_on ↦ goes_on
+    ]
+
+-- another byte at i ends them
+digits_end : (text : List ℕ) (i : ℕ) → i ≤ prefix_len is_ascii_digit text → is_ascii_digit (get_or text i 0) ≡ false
+    → i ≡ prefix_len is_ascii_digit text
+digits_end text i front other =
+    elim (eq-or-lt_of_le front) [
+      | inl ends ↦ ends
+      | inr goes_on ↦ absurd (let yes = prefix_len_passes is_ascii_digit text i 0 goes_on in cc)
+    ]
+
+-- one more digit, which is not the tenth
+pub record GoesOn (text : List ℕ) (i value : ℕ) : Type 0 where
+  pub digit : 48 ≤ get_or text i 0
+  pub fits : 10 * value + (get_or text i 0 - 48) < 10 ^ 9
+  pub more : IsNumberTo text (i + 1) (10 * value + (get_or text i 0 - 48))
+
+pub number-more : (text : List ℕ) (i value : ℕ) → IsNumberTo text i value → i < length text → is_ascii_digit (get_or text i 0) ≡ true → i ≢ 9
+    → GoesOn text i value
+number-more text i value to inside digit not_last =
+    let below = digit_below_ten (get_or text i 0) digit in
+    let ranged = digit_from_value (get_or text i 0) below in
+    let worth = digit_value_digit (get_or text i 0) ranged in
+    let longer = digits_more 10 text i inside to.digits below in
+    let value_is : 10 * value + (get_or text i 0 - 48) ≡ digits_value 10 (take (i + 1) text) =
+    omega (arith, worth, digits_value_more 10 text i inside, to.value_is, ranged.0) in
     record {
-      digit = in_range.0;
-      value = omega (arith, worth, more, in_range.0);
-      fits = omega (arith, digits_value-take-le 10 ds (i + 1) (omega arith), short_value ds all short);
+      digit = ranged.0;
+      fits = omega (arith, value_is, short_value (take (i + 1) text) longer (omega (arith, to.few, not_last, length-take-le (i + 1) text (omega arith))));
+      more = record {
+        few = omega (arith, to.few, not_last);
+        front = omega (arith, digit_goes_on text i to.front inside digit);
+        digits = longer;
+        value_is = value_is;
+      };
     }
+
+pub number-ends : (text : List ℕ) (i value : ℕ) → IsNumberTo text i value → i ≡ prefix_len is_ascii_digit text
+    → token.Number value ≡ number_token (take_while is_ascii_digit text)
+unfolding number_token
+number-ends text i value to ends =
+    rw (sym ends, le-leb (length (take i text)) 9 (omega (arith, to.few, length-take-le i text (omega (arith, to.front, prefix_len-le-length is_ascii_digit text))))) (ap token.Number to.value_is)
+
+pub number-stops : (text : List ℕ) (i value : ℕ) → IsNumberTo text i value → is_ascii_digit (get_or text i 0) ≡ false → i ≡ prefix_len is_ascii_digit text
+number-stops text i value to other = digits_end text i to.front other
+
+pub number-whole : (text : List ℕ) (i value : ℕ) → IsNumberTo text i value → length text ≤ i → i ≡ prefix_len is_ascii_digit text
+number-whole text i value to ended = omega (arith, to.front, ended, prefix_len-le-length is_ascii_digit text)
+
+pub number-long : (text : List ℕ) (i value : ℕ) → IsNumberTo text i value → i ≡ 9 → i < length text → is_ascii_digit (get_or text i 0) ≡ true
+    → token.Unknown ≡ number_token (take_while is_ascii_digit text)
+unfolding number_token
+number-long text i value to last inside digit =
+    let long = digit_goes_on text i to.front inside digit in
+    rw (lt-leb (length (take_while is_ascii_digit text)) 9 (omega (arith, last, long, length-prefix_len is_ascii_digit text))) refl

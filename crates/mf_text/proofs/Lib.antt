@@ -16,7 +16,6 @@ pub mod OneAnswer
 pub mod Pairs
 pub mod PassedPixels
 pub mod Paths
-pub mod Points
 pub mod ReadBack
 pub mod ReadCodes
 pub mod Registers

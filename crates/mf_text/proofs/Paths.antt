@@ -1,8 +1,8 @@
 -- Paths, one corner after another.
 use Rattle.std.proofs.Common.{◌≡◌, ℕ, zero, suc, ◌+◌, ◌^◌, ◌<◌, ◌≤◌, Bool, true, false, cond, eqb, Option, Some, None, List, [], ◌∷◌, ◌++◌, length, take, drop, refl, ap, sym, subst, ◌∙◌, append_assoc, append-nil, arith, length-append}
-use Rattle.std.specs.Prelude.{flat_map}
+use Rattle.std.specs.Prelude.{flat_map, map}
 use Rattle.std.proofs.Math.Seq.{take-append-add}
-use Rattle.std.proofs.lemmas.List.{append_cancel_left, length-map}
+use Rattle.std.proofs.lemmas.List.{append_cancel_left, length-map, map-append}
 use Rattle.mf_geom.specs.declared.point.Point.{Point}
 use Rattle.mf_text.specs.declared.path.Path as passed
 use Rattle.mf_text.specs.declared.reader.Reader.{Reader}
@@ -15,7 +15,8 @@ use Rattle.mf_text.specs.Ahead.{Ahead, skip, column_at}
 use Rattle.mf_text.specs.Grammar.{Pair, pair_value, Path, spell_corner, spell_path, spell_word}
 use Rattle.mf_text.specs.Phrases.{BeginsPhrase, IsStuckAt, IsTaken, IsStuck}
 use Rattle.mf_text.specs.Left.{tokens_left}
-use Rattle.mf_text.specs.Readers.{with_next, ahead, kinds_ahead, IsNotNext, IsPathOf}
+use Rattle.mf_text.specs.Paths.{HasPoints}
+use Rattle.mf_text.specs.Readers.{with_next, kinds_ahead, IsNotNext, IsPathOf}
 use Rattle.mf_text.specs.Tokens.{kinds, first_token, tokens_within, tokens_from}
 use Rattle.mf_text.proofs.Sequences.{corner-free, spell_corners, corners-cons}
 use Rattle.mf_text.proofs.Skips.{skip-add, column_at-skip}
@@ -108,33 +109,34 @@ module _ (ts : List Token) (k : ℕ) (no_cycle : (rest : List Token) → ts ≡ 
 
 -- ---- what a reader of a path has passed
 
--- these corners, as many as n
-pub record HasPassed (before now : Ahead) (n : ℕ) : Type 0 where
+-- these corners, whose points a path has
+pub record HasPassed (before now : Ahead) (path : passed.Path) : Type 0 where
   pub first : Pair
   pub others : List Pair
   pub spelled : kinds before.tokens ≡ spell_front (first ∷ others) ++ kinds now.tokens
   pub goes_on : now ≡ skip (length (spell_front (first ∷ others))) before
-  pub counted : n ≡ length others + 1
+  pub kept : HasPoints path (map pair_value (first ∷ others))
 
 module _ (before : Ahead) where
-  pub passed-first : (after : Ahead) (p : Point) → IsTaken spell_corner (λ tree value. value ≡ pair_value tree) before p after
-      → HasPassed before after 1
-  passed-first after p taken =
+  pub passed-first : (after : Ahead) (p : Point) (path : passed.Path) → IsTaken spell_corner (λ tree value. value ≡ pair_value tree) before p after
+      → HasPoints path (p ∷ []) → HasPassed before after path
+  passed-first after p path taken has =
       let alone : spell_front (taken.tree ∷ []) ≡ spell_corner taken.tree = append-nil (spell_corner taken.tree) in
       record {
         first = taken.tree;
         others = [];
         spelled = taken.spelled ∙ ap (λ ts. ts ++ kinds after.tokens) (sym alone);
         goes_on = taken.goes_on ∙ ap (λ ts. skip (length ts) before) (sym alone);
-        counted = refl;
+        kept = subst (λ q. HasPoints path (q ∷ [])) taken.value_is has;
       }
 
-  pub passed-same : (now later : Ahead) (n : ℕ) → HasPassed before now n → later ≡ now → HasPassed before later n
-  passed-same now later n passed same = subst (λ (a : Ahead). HasPassed before a n) (sym same) passed
+  pub passed-same : (now later : Ahead) (path : passed.Path) → HasPassed before now path → later ≡ now → HasPassed before later path
+  passed-same now later path passed same = subst (λ (a : Ahead). HasPassed before a path) (sym same) passed
 
-  pub passed-more : (now after : Ahead) (n : ℕ) (p : Point) → HasPassed before now n
-      → IsTaken spell_corner (λ tree value. value ≡ pair_value tree) now p after → HasPassed before after (n + 1)
-  passed-more now after n p passed taken =
+  pub passed-more : (now after : Ahead) (path longer_path : passed.Path) (p : Point) → HasPassed before now path
+      → IsTaken spell_corner (λ tree value. value ≡ pair_value tree) now p after
+      → ((ps : List Point) → HasPoints path ps → HasPoints longer_path (ps ++ p ∷ [])) → HasPassed before after longer_path
+  passed-more now after path longer_path p passed taken pushed =
       let front = spell_front (passed.first ∷ passed.others) in
       let longer : spell_front ((passed.first ∷ passed.others) ++ taken.tree ∷ []) ≡ front ++ spell_corner taken.tree =
       front-more (passed.first ∷ passed.others) taken.tree in
@@ -148,13 +150,15 @@ module _ (before : Ahead) where
             taken.goes_on ∙ ap (skip (length (spell_corner taken.tree))) passed.goes_on
             ∙ sym (skip-add (length front) (length (spell_corner taken.tree)) before)
             ∙ ap (λ n. skip n before) (sym (ap length longer ∙ length-append front (spell_corner taken.tree)));
-        counted = omega (arith, passed.counted, length-append passed.others (taken.tree ∷ []));
+        kept = subst (HasPoints longer_path)
+            (ap (λ q. map pair_value (passed.first ∷ passed.others) ++ q ∷ []) taken.value_is ∙ sym (map-append pair_value (passed.first ∷ passed.others) (taken.tree ∷ [])))
+            (pushed (map pair_value (passed.first ∷ passed.others)) passed.kept);
       }
 
   -- stuck behind the first corner, where no `cycle` comes
-  pub path-stuck : (now later : Ahead) (n column : ℕ) → HasPassed before now n → later ≡ now → IsNotNext (token.Word word.Cycle) now
+  pub path-stuck : (now later : Ahead) (path : passed.Path) (column : ℕ) → HasPassed before now path → later ≡ now → IsNotNext (token.Word word.Cycle) now
       → IsStuck spell_corner later column → IsStuck spell_path before column
-  path-stuck now later n column passed same no_cycle stuck_later =
+  path-stuck now later path column passed same no_cycle stuck_later =
       let stuck = subst (λ (a : Ahead). IsStuck spell_corner a column) same stuck_later in
       let front = spell_front (passed.first ∷ passed.others) in
       record {
@@ -164,10 +168,9 @@ module _ (before : Ahead) where
       }
 
   -- `cycle` behind corners
-  pub path-taken : (now after : Ahead) (n : ℕ) (path : passed.Path) → HasPassed before now n
-      → kinds now.tokens ≡ token.Word word.Cycle ∷ kinds after.tokens → after ≡ skip 1 now
-      → ahead path.start ≡ before → path.corners ≡ n → IsTaken spell_path IsPathOf before path after
-  path-taken now after n path passed cycle goes_on start corners =
+  pub path-taken : (now after : Ahead) (path : passed.Path) → HasPassed before now path
+      → kinds now.tokens ≡ token.Word word.Cycle ∷ kinds after.tokens → after ≡ skip 1 now → IsTaken spell_path IsPathOf before path after
+  path-taken now after path passed cycle goes_on =
       let front = spell_front (passed.first ∷ passed.others) in
       let tree : Path = record { first = passed.first; others = passed.others } in
       let spelled : kinds before.tokens ≡ spell_path tree ++ kinds after.tokens =
@@ -175,8 +178,7 @@ module _ (before : Ahead) where
       record {
         tree = tree;
         spelled = spelled;
-        value_is =
-            record { rest = kinds after.tokens; spelled = ap (λ (a : Ahead). kinds a.tokens) start ∙ spelled; counted = corners ∙ passed.counted };
+        value_is = passed.kept;
         goes_on =
             goes_on ∙ ap (skip 1) passed.goes_on ∙ sym (skip-add (length front) 1 before)
             ∙ ap (λ n. skip n before) (sym (length-append front (spell_word word.Cycle)));
@@ -187,10 +189,10 @@ front_long : (ps : List Pair) → length ps ≤ length (spell_front ps)
 front_long [] = omega arith
 front_long (p ∷ ps) = let more = front_long ps in omega (arith, length-append (spell_corner p) (spell_front ps))
 
-pub passed-few : (before now : Ahead) (n : ℕ) → HasPassed before now n → n ≤ length (kinds before.tokens)
-passed-few before now n passed =
+pub passed-few : (before now : Ahead) (path : passed.Path) → HasPassed before now path → path.corners ≤ length (kinds before.tokens)
+passed-few before now path passed =
     let front = spell_front (passed.first ∷ passed.others) in
-    omega (arith, passed.counted, front_long (passed.first ∷ passed.others), ap length passed.spelled, length-append front (kinds now.tokens))
+    omega (arith, passed.kept.counted, length-map passed.others pair_value, front_long (passed.first ∷ passed.others), ap length passed.spelled, length-append front (kinds now.tokens))
 
 pub corner-shorter : (now after : Ahead) (p : Point) → IsTaken spell_corner (λ tree value. value ≡ pair_value tree) now p after
     → length (kinds after.tokens) < length (kinds now.tokens)

@@ -6,6 +6,7 @@ pub mod Left
 pub mod Lines
 pub mod Meaning
 pub mod Names
+pub mod Paths
 pub mod Phrases
 pub mod Readers
 pub mod Registers

@@ -1,5 +1,5 @@
 -- What a reader of tokens has before it.
-use Rattle.std.specs.Prelude.{◌≡◌, ◌+◌, List, [], ◌∷◌, ◌++◌, length, Option, None, Some}
+use Rattle.std.specs.Prelude.{◌≡◌, List, [], ◌∷◌, Option, None, Some}
 use Rattle.mf_text.specs.declared.path.Path.{Path}
 use Rattle.mf_text.specs.declared.reader.Reader.{Reader}
 use Rattle.mf_text.specs.declared.token.Placed.{Placed}
@@ -7,6 +7,7 @@ use Rattle.mf_text.specs.declared.token.Token.{Token}
 use Rattle.mf_text.specs.Ahead.{Ahead}
 use Rattle.mf_text.specs.Grammar as grammar
 use Rattle.mf_text.specs.Left.{tokens_left}
+use Rattle.mf_text.specs.Paths.{HasPoints}
 use Rattle.mf_text.specs.Tokens.{kinds}
 
 -- the next token and those behind it; where there is no next one, there is none
@@ -26,7 +27,5 @@ abbrev pub IsNotNext : Token → Ahead → Type 0
 IsNotNext t a = (rest : List Token) → kinds a.tokens ≡ t ∷ rest → ⊥
 
 -- a path that was passed is that of this tree
-pub record IsPathOf (tree : grammar.Path) (path : Path) : Type 0 where
-  pub rest : List Token
-  pub spelled : kinds_ahead path.start ≡ grammar.spell_path tree ++ rest
-  pub counted : path.corners ≡ length tree.others + 1
+abbrev pub IsPathOf : grammar.Path → Path → Type 0
+IsPathOf tree path = HasPoints path (grammar.path_value tree)

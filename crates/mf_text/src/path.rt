@@ -1,11 +1,51 @@
 //! Paths of contours.
-use crate::reader::Reader;
+ghost use Rattle.std.specs.Prelude.{◌≡◌, ◌<◌, ◌^◌, ◌++◌, ◌∷◌, [], IfOk, IfErr, List};
+ghost use Rattle.mf_geom.specs.declared.point.Point as points;
+ghost use Rattle.mf_text.specs.Paths.{HasPoints};
 
-/// A path of a line, which was passed and found to be one. Its points are read when the whole line is known to be in
-/// the grammar.
-#[derive(Clone, Copy, Debug)]
-pub struct Path<'a> {
-    pub(crate) start: Reader<'a>,
+use mf_geom::{OutOfMemory, Point};
+use std::alloc::Global;
+
+/// The points of a path, as far as there is memory for them: whether the line is in the grammar shows without it.
+#[derive(Debug, Drop)]
+pub struct Path {
+    points: Vec<Point>,
     /// How many points it has.
     pub(crate) corners: usize,
+    /// Whether memory was wanting for some of them.
+    is_wanting: bool,
+}
+
+impl Path {
+    /// A path of no points.
+    pub fn new(alloc: Global) -> Path
+        ensures { HasPoints result [] }
+    {
+        Path {
+            points: Vec::new(alloc),
+            corners: 0,
+            is_wanting: false,
+        }
+    }
+
+    /// Adds a point behind the others.
+    pub fn push(&mut self, point: Point)
+        requires { self.old.corners < 2 ^ 63 }
+        ensures { (before : List points.Point) → HasPoints self.old before → HasPoints self.new (before ++ point ∷ []) }
+    {
+        self.corners += 1;
+        if !self.is_wanting {
+            self.is_wanting = self.points.push(point).is_err();
+        }
+    }
+
+    /// Its points. Refusal OutOfMemory (14), where memory was wanting for them.
+    pub fn points(self) -> Result<Vec<Point>, OutOfMemory>
+        ensures { (all : List points.Point) → HasPoints self all → IfOk result (λ points. points.items ≡ all) }
+    {
+        if self.is_wanting {
+            return Err(OutOfMemory);
+        }
+        Ok(self.points)
+    }
 }

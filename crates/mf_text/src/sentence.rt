@@ -7,10 +7,10 @@ use mf_ops::Sign;
 mod steps;
 
 /// What a line of the grammar says, with its numbers as they are.
-#[derive(Clone, Copy, Debug)]
-pub enum Sentence<'a> {
+#[derive(Debug, Drop)]
+pub enum Sentence {
     Nothing,
-    AddContour(Name, Path<'a>, i32),
+    AddContour(Name, Path, i32),
     AddPicture(Name, Sign, Source),
     /// A range from a least to a greatest weight, and the weight.
     CullKeeping(Name, Point, i32),

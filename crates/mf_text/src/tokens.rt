@@ -1,8 +1,7 @@
 //! The tokens of a line, one after another.
 ghost use Rattle.std.specs.Prelude.{◌≡◌, ◌+◌, ◌<◌, ◌≤◌, ◌^◌, length};
 ghost use Rattle.std.specs.Char.{is_ascii_alphabetic, is_ascii_digit};
-ghost use Rattle.std.specs.List.{prefix_len};
-ghost use Rattle.std.specs.Str.Parse.{AllDigits};
+ghost use Rattle.std.specs.List.{prefix_len, take_while};
 ghost use Rattle.mf_text.specs.Short.{IsClear};
 ghost use Rattle.mf_text.specs.Tokens.{first_token, marks, mark_among, number_token, words, word_among, word_token};
 
@@ -89,15 +88,39 @@ fn first_token(text: &[u8]) -> (Token, usize)
     ensures some { 0 < result.1 }
     ensures within { result.1 ≤ length text.now }
 {
+    match text {
+        [b'0'..=b'9', ..] => number_at(text),
+        [b'a'..=b'z' | b'A'..=b'Z', ..] => word_at(text),
+        _ => mark_token(text),
+    }
+}
+
+/// The token of the letters at the front, and how many there are.
+fn word_at(text: &[u8]) -> (Token, usize)
+    ensures token { result.0 ≡ word_token (take_while is_ascii_alphabetic text.now) }
+    ensures bytes { result.1 ≡ prefix_len is_ascii_alphabetic text.now }
+{
     let letters = letters_at(text);
-    if letters > 0 {
-        return (word_token(&text[..letters]), letters);
+    (word_token(&text[..letters]), letters)
+}
+
+/// The token of the digits at the front, and how many there are.
+#[tactic(auto, unfolding(crate::specs::Tokens::number_token))]
+fn number_at(text: &[u8]) -> (Token, usize)
+    ensures token { result.0 ≡ number_token (take_while is_ascii_digit text.now) }
+    ensures bytes { result.1 ≡ prefix_len is_ascii_digit text.now }
+{
+    let mut value = 0;
+    for (digits, byte) in text.iter().enumerate() {
+        if !byte.is_ascii_digit() {
+            return (Token::Number(value), digits);
+        }
+        if digits == MAX_DIGITS {
+            return (Token::Unknown, digits_at(text));
+        }
+        value = 10 * value + u32::from(*byte - b'0');
     }
-    let digits = digits_at(text);
-    if digits > 0 {
-        return (number_token(&text[..digits]), digits);
-    }
-    mark_token(text)
+    (Token::Number(value), text.len())
 }
 
 /// How many bytes at the front are letters.
@@ -185,22 +208,6 @@ fn word(letters: &[u8]) -> Option<Word>
         return None;
     };
     Some(word)
-}
-
-/// The token of a row of digits.
-#[tactic(auto, using(crate::proofs::Digits::grows), unfolding(crate::specs::Tokens::number_token))]
-fn number_token(digits: &[u8]) -> Token
-    requires { AllDigits 10 digits.now }
-    ensures { result ≡ number_token digits.now }
-{
-    if digits.len() > MAX_DIGITS {
-        return Token::Unknown;
-    }
-    let mut value = 0;
-    for digit in digits {
-        value = 10 * value + u32::from(*digit - b'0');
-    }
-    Token::Number(value)
 }
 
 /// The token of other bytes, and how many of them it takes: of `--` and `-` the longer.

@@ -15,7 +15,7 @@ use crate::fault::TextFault;
 use crate::path::Path;
 use crate::reader::Reader;
 use crate::sentence::{Motion, Sentence};
-use mf_geom::{Cycle, CycleFault, OutOfMemory, Point};
+use mf_geom::{Cycle, CycleFault, Point};
 use mf_ops::{Cull, Quarter, Scale, Weight};
 use std::alloc::Global;
 
@@ -39,8 +39,8 @@ pub fn read_command(alloc: Global, line: &[u8]) -> Result<Command, TextFault>
     if !is_text(line) {
         return Err(TextFault::NotAscii);
     }
-    match Reader::new(line).line() {
-        Ok(said) => command_of(alloc, said),
+    match Reader::new(line).line(alloc) {
+        Ok(said) => command_of(said),
         Err(syntax) => Err(TextFault::Syntax(syntax.column)),
     }
 }
@@ -49,7 +49,11 @@ pub fn read_command(alloc: Global, line: &[u8]) -> Result<Command, TextFault>
 fn is_text(line: &[u8]) -> bool
     ensures { result ≡ list_all is_text_byte line.now }
 {
-    line.iter().all(|byte| is_text_byte(*byte))
+    let mut text = true;
+    for byte in line {
+        text &= is_text_byte(*byte);
+    }
+    text
 }
 
 /// Whether a byte is a tab or a printed character of ASCII.
@@ -60,13 +64,13 @@ fn is_text_byte(byte: u8) -> bool
 }
 
 /// The command of a sentence.
-fn command_of(alloc: Global, said: Sentence<'_>) -> Result<Command, TextFault>
-    ensures given { IfOk result (λ command. (form : grammar.Form) → IsSaid said.entry form → IsCommandOf form command) }
-    ensures refused { IfErr result (λ fault. fault ≢ TextFault.OutOfMemory → (form : grammar.Form) → IsSaid said.entry form → IsRefusalOf form fault) }
+fn command_of(said: Sentence) -> Result<Command, TextFault>
+    ensures given { IfOk result (λ command. (form : grammar.Form) → IsSaid said form → IsCommandOf form command) }
+    ensures refused { IfErr result (λ fault. fault ≢ TextFault.OutOfMemory → (form : grammar.Form) → IsSaid said form → IsRefusalOf form fault) }
 {
     match said {
         Sentence::Nothing => Ok(Command::Nothing),
-        Sentence::AddContour(name, path, weight) => contour(alloc, name, path, weight),
+        Sentence::AddContour(name, path, weight) => contour(name, path, weight),
         Sentence::AddPicture(name, sign, source) => Ok(Command::Also(name, source, sign)),
         Sentence::CullKeeping(name, range, weight) => keeping(name, range, weight),
         Sentence::CullDropping(name, range, weight) => dropping(name, range, weight),
@@ -81,36 +85,28 @@ fn command_of(alloc: Global, said: Sentence<'_>) -> Result<Command, TextFault>
 }
 
 /// The command of a contour.
-fn contour(alloc: Global, name: Name, path: Path<'_>, weight: i32) -> Result<Command, TextFault>
-    ensures given { IfOk result (λ command. (tree : grammar.Path) → IsPathOf tree path.entry → IsContour name (grammar.path_value tree) weight command) }
-    ensures refused { IfErr result (λ fault. fault ≢ TextFault.OutOfMemory → (tree : grammar.Path) → IsPathOf tree path.entry → IsRefusedContour (grammar.path_value tree) weight fault) }
+fn contour(name: Name, path: Path, weight: i32) -> Result<Command, TextFault>
+    ensures given { IfOk result (λ command. (tree : grammar.Path) → IsPathOf tree path → IsContour name (grammar.path_value tree) weight command) }
+    ensures refused { IfErr result (λ fault. fault ≢ TextFault.OutOfMemory → (tree : grammar.Path) → IsPathOf tree path → IsRefusedContour (grammar.path_value tree) weight fault) }
 {
     if path.corners > MAX_POINTS {
         return Err(TextFault::Cycle(CycleFault::TooManyPoints));
     }
-    let cycle = match Cycle::new(path.points(alloc)?) {
+    contour_through(name, path.points()?, weight)
+}
+
+/// The command of a contour through these points.
+fn contour_through(name: Name, points: Vec<Point>, weight: i32) -> Result<Command, TextFault>
+    ensures given { IfOk result (IsContour name points.items weight) }
+    ensures refused { IfErr result (IsRefusedContour points.items weight) }
+{
+    let cycle = match Cycle::new(points) {
         Ok(cycle) => cycle,
         Err((fault, _)) => return Err(TextFault::Cycle(fault)),
     };
     match Weight::new(weight) {
         Ok(weight) => Ok(Command::Contour(name, cycle, weight)),
         Err(_) => Err(TextFault::BadWeight),
-    }
-}
-
-impl Path<'_> {
-    /// The points of the path.
-    fn points(&self, alloc: Global) -> Result<Vec<Point>, OutOfMemory>
-        ensures { IfOk result (λ points. (tree : grammar.Path) → IsPathOf tree self.now → points.items ≡ grammar.path_value tree) }
-    {
-        let mut reader = self.start;
-        let mut points = Vec::with_capacity(alloc, self.corners)?;
-        for _ in 0..self.corners {
-            if let Ok(point) = reader.corner() {
-                points.push(point)?;
-            }
-        }
-        Ok(points)
     }
 }
 

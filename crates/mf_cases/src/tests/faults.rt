@@ -3,6 +3,7 @@
 use super::{AMPLE, joined};
 use crate::streams::{LineFeeds, Pieces, Sink};
 use mf_desk::{RunFault, run};
+use std::io::BufWriter;
 use std::test::Fail;
 
 /// A line that prints nothing, and one that prints a total weight.
@@ -72,5 +73,24 @@ fn writer_fails(rt: HostRuntime) -> Result<(), Fail> {
     let result = run(&rt, alloc, &mut Pieces::whole(&script), &mut writer, &AMPLE);
     assert_eq!(rt; result.err(), None);
     assert_eq!(rt; writer.taken(), texts.as_slice());
+    Ok(())
+}
+
+/// A writer that keeps bytes back has handed them on when the run ends, and its faults are found.
+#[test]
+fn writer_keeps_bytes_back(rt: HostRuntime) -> Result<(), Fail> {
+    let alloc = rt.alloc();
+    let script = joined(alloc, &[CONTOUR, b"\n", TOTAL, b"\n", TOTAL])?;
+    let texts = joined(alloc, &[SIX, SIX])?;
+    let mut writer = BufWriter::new(alloc, Sink::new(alloc))?;
+    let result = run(&rt, alloc, &mut Pieces::whole(&script), &mut writer, &AMPLE);
+    assert_eq!(rt; result.err(), None);
+    assert_eq!(rt; writer.get_ref().taken(), texts.as_slice());
+    for (room, count) in [(5, 14), (20, 28)] {
+        let mut writer = BufWriter::new(alloc, Sink::failing(alloc, room))?;
+        let result = run(&rt, alloc, &mut Pieces::whole(&script), &mut writer, &AMPLE);
+        assert_eq!(rt; result.err(), Some(RunFault::WriteFault(count)));
+        assert_eq!(rt; writer.get_ref().taken().len(), room);
+    }
     Ok(())
 }

@@ -84,6 +84,28 @@ fn ship_pictures_as_they_are(rt: HostRuntime) -> Result<(), Fail> {
     Ok(())
 }
 
+/// The whole field, reflected and culled, is shipped: each of its 8,190 rows takes a byte to begin it and three to paint
+/// it, so the postamble stands behind 32,789 bytes.
+#[test]
+fn ship_the_whole_field(rt: HostRuntime) {
+    let outcome = outcome_of(
+        &rt,
+        &AMPLE,
+        "addto a contour (-4095,-4095)--(4095,-4095)--(4095,4095)--(-4095,4095)--cycle\n\
+         show totalweight a\n\
+         a := a xscaled -1\n\
+         show totalweight a\n\
+         cull a keeping (1,1) withweight 3\n\
+         show totalweight a\n\
+         shipout a code 97 dx 0 width 0\n",
+        "totalweight 67076100\ntotalweight 67076100\ntotalweight 201228300\n[97]\n",
+    );
+    let gf = outcome.gf.expect(&rt, "a character was shipped");
+    assert_eq!(rt; gf.bytes().len(), 32_848);
+    let postamble = b"\xf8\x00\x00\x80\x15".as_slice();
+    assert_eq!(rt; &gf.bytes()[32_789..32_794], postamble);
+}
+
 /// Negative weights are not black, and a code is shipped once.
 #[test]
 fn ship_black_pixels(rt: HostRuntime) {

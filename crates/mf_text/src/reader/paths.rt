@@ -10,8 +10,9 @@ use crate::command::Source;
 use crate::path::Path;
 use crate::token::{Mark, Token, Word};
 use mf_geom::Point;
+use std::alloc::Global;
 
-impl<'a> Reader<'a> {
+impl Reader<'_> {
     /// Takes a pair and the `--` behind it.
     pub fn corner(&mut self) -> Result<Point, Syntax>
         ensures taken { IfOk result (λ p. IsTaken spell_corner (λ tree value. value ≡ pair_value tree) (ahead self.old) p (ahead self.new)) }
@@ -23,18 +24,16 @@ impl<'a> Reader<'a> {
     }
 
     /// Takes a path: at least one corner, and `cycle`.
-    pub fn path(&mut self) -> Result<Path<'a>, Syntax>
+    pub fn path(&mut self, alloc: Global) -> Result<Path, Syntax>
         ensures taken { IfOk result (λ path. IsTaken spell_path IsPathOf (ahead self.old) path (ahead self.new)) }
         ensures stuck { IfErr result (λ fault. IsStuck spell_path (ahead self.old) fault.column) }
     {
-        let start = *self;
-        self.corner()?;
-        let mut corners = 1;
+        let mut path = Path::new(alloc);
+        path.push(self.corner()?);
         while !self.takes(Token::Word(Word::Cycle)) {
-            self.corner()?;
-            corners += 1;
+            path.push(self.corner()?);
         }
-        Ok(Path { start, corners })
+        Ok(path)
     }
 
     /// Takes a source and the end of the line.

@@ -9,10 +9,11 @@ use crate::command::Name;
 use crate::reader::{Reader, Syntax};
 use crate::token::{Mark, Token, Word};
 use mf_ops::Sign;
+use std::alloc::Global;
 
-impl<'a> Reader<'a> {
+impl Reader<'_> {
     /// Reads a line.
-    pub fn line(&mut self) -> Result<Sentence<'a>, Syntax>
+    pub fn line(&mut self, alloc: Global) -> Result<Sentence, Syntax>
         ensures says { IfOk result (Says [] (ahead self.old)) }
         ensures wrong { IfErr result (λ fault. IsSyntaxFault (ahead self.old) fault.column) }
     {
@@ -24,7 +25,7 @@ impl<'a> Reader<'a> {
             return Ok(Sentence::Nothing);
         }
         if self.takes(Token::Word(Word::Addto)) {
-            return self.addto();
+            return self.addto(alloc);
         }
         if self.takes(Token::Word(Word::Cull)) {
             return self.cull();
@@ -47,30 +48,30 @@ impl<'a> Reader<'a> {
     }
 
     /// Reads what stands behind `addto`.
-    fn addto(&mut self) -> Result<Sentence<'a>, Syntax>
+    fn addto(&mut self, alloc: Global) -> Result<Sentence, Syntax>
         ensures says { IfOk result (Says (spell_word Word.Addto) (ahead self.old)) }
         ensures wrong { IfErr result (λ fault. IsWrongBehind (spell_word Word.Addto) (ahead self.old) fault.column) }
     {
         let name = self.name()?;
         if self.takes(Token::Word(Word::Contour)) {
-            return self.contour(name);
+            return self.contour(alloc, name);
         }
         self.word(Word::Also)?;
         self.also(name)
     }
 
     /// Reads what stands behind `contour`.
-    fn contour(&mut self, name: Name) -> Result<Sentence<'a>, Syntax>
+    fn contour(&mut self, alloc: Global, name: Name) -> Result<Sentence, Syntax>
         ensures says { IfOk result (Says (spell_word Word.Addto ++ spell_name name ++ spell_word Word.Contour) (ahead self.old)) }
         ensures wrong { IfErr result (λ fault. IsWrongBehind (spell_word Word.Addto ++ spell_name name ++ spell_word Word.Contour) (ahead self.old) fault.column) }
     {
-        let path = self.path()?;
+        let path = self.path(alloc)?;
         let weight = self.last_weight()?;
         Ok(Sentence::AddContour(name, path, weight))
     }
 
     /// Reads what stands behind `also`.
-    fn also(&mut self, name: Name) -> Result<Sentence<'a>, Syntax>
+    fn also(&mut self, name: Name) -> Result<Sentence, Syntax>
         ensures says { IfOk result (Says (spell_word Word.Addto ++ spell_name name ++ spell_word Word.Also) (ahead self.old)) }
         ensures wrong { IfErr result (λ fault. IsWrongBehind (spell_word Word.Addto ++ spell_name name ++ spell_word Word.Also) (ahead self.old) fault.column) }
     {
@@ -83,7 +84,7 @@ impl<'a> Reader<'a> {
     }
 
     /// Reads what stands behind `cull`.
-    fn cull(&mut self) -> Result<Sentence<'a>, Syntax>
+    fn cull(&mut self) -> Result<Sentence, Syntax>
         ensures says { IfOk result (Says (spell_word Word.Cull) (ahead self.old)) }
         ensures wrong { IfErr result (λ fault. IsWrongBehind (spell_word Word.Cull) (ahead self.old) fault.column) }
     {
@@ -98,7 +99,7 @@ impl<'a> Reader<'a> {
     }
 
     /// Reads what stands behind `show`.
-    fn show(&mut self) -> Result<Sentence<'a>, Syntax>
+    fn show(&mut self) -> Result<Sentence, Syntax>
         ensures says { IfOk result (Says (spell_word Word.Show) (ahead self.old)) }
         ensures wrong { IfErr result (λ fault. IsWrongBehind (spell_word Word.Show) (ahead self.old) fault.column) }
     {
@@ -109,7 +110,7 @@ impl<'a> Reader<'a> {
     }
 
     /// Reads what stands behind `shipout`.
-    fn shipout(&mut self) -> Result<Sentence<'a>, Syntax>
+    fn shipout(&mut self) -> Result<Sentence, Syntax>
         ensures says { IfOk result (Says (spell_word Word.Shipout) (ahead self.old)) }
         ensures wrong { IfErr result (λ fault. IsShownBehind (spell_word Word.Shipout) (ahead self.old) fault.column) }
     {
@@ -124,7 +125,7 @@ impl<'a> Reader<'a> {
     }
 
     /// Reads what stands behind the name at the front.
-    fn assignment(&mut self, name: Name) -> Result<Sentence<'a>, Syntax>
+    fn assignment(&mut self, name: Name) -> Result<Sentence, Syntax>
         ensures says { IfOk result (Says (spell_name name) (ahead self.old)) }
         ensures wrong { IfErr result (λ fault. IsWrongBehind (spell_name name) (ahead self.old) fault.column) }
     {
@@ -138,7 +139,7 @@ impl<'a> Reader<'a> {
     }
 
     /// Reads what stands behind the second name.
-    fn transform(&mut self, name: Name) -> Result<Sentence<'a>, Syntax>
+    fn transform(&mut self, name: Name) -> Result<Sentence, Syntax>
         ensures says { IfOk result (Says (spell_name name ++ spell_mark Mark.Becomes ++ spell_name name) (ahead self.old)) }
         ensures wrong { IfErr result (λ fault. IsWrongBehind (spell_name name ++ spell_mark Mark.Becomes ++ spell_name name) (ahead self.old) fault.column) }
     {

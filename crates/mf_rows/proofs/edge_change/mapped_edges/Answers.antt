@@ -6,7 +6,7 @@ use Rattle.mf_rows.proofs.EdgeMaps.{mapped_none, mapped_read, lawful_more, mappe
 use Rattle.mf_rows.proofs.edge_change.mapped_edges.Goals as goal
 
 pub loop-edge-init : goal.loop-edge-init
-loop-edge-init c = rw c.new-mapped.ensures.items (mapped_none c.args.map.now c.args.edges.now c.requires.edges c.requires.map)
+loop-edge-init c = rw (c.in_ok-reserve.ensures.items, c.new-mapped.ensures.items) (mapped_none c.args.map.now c.args.edges.now c.requires.edges c.requires.map)
 
 pub overflow_add-weight : goal.overflow_add-weight
 overflow_add-weight c =
@@ -44,4 +44,4 @@ loop-edge-preserved c =
     (mapped_more _ _ _ _ _ _ _ so_far next value c.requires.edges)
 
 pub returns : goal.returns
-returns c = rw c.shrink_to_fit.ensures.items (mapped_all c.args.map.now c.args.edges.now c.loop-edge.mapped.items _ _ c.requires.edges c.requires.map (rw (drop_all _ c.args.edges.now c.loop-edge-test.false) at c.loop-edge.invariant))
+returns c = rw c.give_back_room.ensures (mapped_all c.args.map.now c.args.edges.now c.loop-edge.mapped.items _ _ c.requires.edges c.requires.map (rw (drop_all _ c.args.edges.now c.loop-edge-test.false) at c.loop-edge.invariant))

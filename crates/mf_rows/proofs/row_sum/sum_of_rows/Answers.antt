@@ -6,7 +6,7 @@ use Rattle.mf_rows.proofs.RowSums.{sum_none, sum_more, sum_all_weights, unlawful
 use Rattle.mf_rows.proofs.row_sum.sum_of_rows.Goals as goal
 
 pub loop-y-init : goal.loop-y-init
-loop-y-init c = rw c.new-sum.ensures.items (sum_none (edge_rows c.args.left.now) (edge_rows c.args.right.now) c.requires.left c.requires.right)
+loop-y-init c = rw (c.in_ok-reserve.ensures.items, c.new-sum.ensures.items) (sum_none (edge_rows c.args.left.now) (edge_rows c.args.right.now) c.requires.left c.requires.right)
 
 pub returns-in_err-push_sum-clause-too_large : goal.returns-in_err-push_sum-clause-too_large
 returns-in_err-push_sum-clause-too_large c =
@@ -14,7 +14,7 @@ returns-in_err-push_sum-clause-too_large c =
     let left = rw y_is at c.split_at_height.ensures in
     let right = rw y_is at c.split_at_height-in-Some.ensures in
     let unlawful = rw y_is at c.in_err-push_sum.ensures.too_large in
-    let p = err_from_is_err_and c.from_residual.result c.from_residual.ensures.1 in
+    let p = err_from_is_err_and c.from_residual-in_err-push_sum.result c.from_residual-in_err-push_sum.ensures.1 in
     rw (p.1, p.2) (λ fault. unlawful_somewhere _ _ _ _ _ c.loop-y.invariant c.in-Some.y c.in-Some.ensures.first _ _ _ _ left right (unlawful fault))
 
 pub loop-y-preserved : goal.loop-y-preserved

@@ -1,17 +1,38 @@
-use Rattle.std.proofs.Common.{sym}
-use Rattle.std.proofs.lemmas.Result.{on_ok_weaker, IfErr-weaker}
-use Rattle.mf_desk.proofs.Stages.{IsThrough-none, IsThrough-last, CutsShort-last}
+use Rattle.std.proofs.Common.{Result, Ok, Err, sym}
+use Rattle.std.specs.Prelude.{OnOk}
+use Rattle.std.proofs.lemmas.Result.{err_from_is_err_and, IfErr-weaker}
+use Rattle.mf_desk.specs.declared.progress.Progress.{Progress}
+use Rattle.mf_desk.proofs.Stages.{IsThrough-none, IsThrough-last, IsThrough-flushed, CutsShort-last, CutsShort-last_unflushed}
 use Rattle.mf_desk.proofs.progress.Progress.finish.Goals as goal
 
 pub returns-then-is_empty-clause-done : goal.returns-then-is_empty-clause-done
 returns-then-is_empty-clause-done g c = λ held read after. IsThrough-none held _ read c.args.self.now after (sym c.if-is_empty.ensures)
 
+-- what holds in any case
+always : {T E : Type 0} {P : Type 0} (r : Result T E) → P → OnOk r P
+always (Ok done) holds = holds
+always (Err fault) holds = tt
+
+pub returns-in_err-perform-clause-fault : goal.returns-in_err-perform-clause-fault
+returns-in_err-perform-clause-fault g c =
+    let passed_on = err_from_is_err_and c.from_residual.result c.from_residual.ensures.1 in
+    let broken_off = rw c.at_end.ensures at c.in_err-perform.ensures.fault in
+    rw (passed_on.1, passed_on.2) (λ held read after. CutsShort-last c.in_err-perform.field-0.0 held _ _ read c.args.self.now after (sym (c.if-is_empty.ensures)) (broken_off after.last after.stands))
+
 pub returns-clause-done : goal.returns-clause-done
 returns-clause-done g c =
-    let written = rw c.at_end.ensures at c.perform.ensures.written in
-    on_ok_weaker c.perform.result (λ done held read after. IsThrough-last held _ _ read c.args.self.now (record { performer = c.perform.new.self; line = c.args.self.now.line }) after (sym c.if-is_empty.ensures) c.perform.ensures.limits (done after.last after.stands)) written
+    let old = c.args.self.now in
+    let new : Progress = record { performer = c.perform.new.self; line = old.line } in
+    let written = rw c.at_end.ensures at c.in_ok-perform.ensures.written in
+    always c.flush.result (λ held read after.
+    IsThrough-flushed held _ _ read c.perform.new.self c.flush.ensures.kept
+    (IsThrough-last held _ _ read old new after (sym (c.if-is_empty.ensures)) c.perform.ensures.limits (written after.last after.stands)))
 
 pub returns-clause-fault : goal.returns-clause-fault
 returns-clause-fault g c =
-    let broken_off = rw c.at_end.ensures at c.perform.ensures.fault in
-    IfErr-weaker c.perform.result _ _ (λ fault broken held read after. CutsShort-last fault held _ _ read c.args.self.now after (sym c.if-is_empty.ensures) (broken after.last after.stands)) broken_off
+    let old = c.args.self.now in
+    let new : Progress = record { performer = c.perform.new.self; line = old.line } in
+    let written = rw c.at_end.ensures at c.in_ok-perform.ensures.written in
+    IfErr-weaker c.flush.result _ _ (λ fault is held read after.
+    CutsShort-last_unflushed _ held _ _ read c.perform.new.self c.perform.ensures.limits c.flush.ensures.kept
+    (IsThrough-last held _ _ read old new after (sym (c.if-is_empty.ensures)) c.perform.ensures.limits (written after.last after.stands)) fault is) c.flush.ensures.fault

@@ -1,12 +1,12 @@
 use Rattle.std.proofs.Common.{refl}
 use Rattle.std.proofs.lemmas.Result.{err_from_is_err_and}
-use Rattle.mf_desk.proofs.Stages.{IsAfter-other, CutsShort-between}
+use Rattle.mf_desk.proofs.Stages.{IsAfter-unbroken, CutsShort-between}
 use Rattle.mf_desk.proofs.progress.Progress.keep.Goals as goal
 
 pub returns-clause-after : goal.returns-clause-after
-returns-clause-after c = λ held read holds after. IsAfter-other held holds read c.args.byte c.args.self.now _ c.requires refl c.in_ok-push.ensures.added after
+returns-clause-after c = λ held read holds after. IsAfter-unbroken held holds read c.args.bytes.now c.args.self.now _ c.requires refl c.in_ok-extend.ensures.added after
 
-pub returns-in_err-push-clause-fault : goal.returns-in_err-push-clause-fault
-returns-in_err-push-clause-fault c =
+pub returns-in_err-extend-clause-fault : goal.returns-in_err-extend-clause-fault
+returns-in_err-extend-clause-fault c =
     let wanting = err_from_is_err_and c.from_residual.result c.from_residual.ensures.1 in
     rw (wanting.1, wanting.2) (λ held read more holds after. CutsShort-between held holds read more c.args.self.now after)

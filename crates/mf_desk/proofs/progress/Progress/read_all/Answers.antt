@@ -2,7 +2,7 @@ use Rattle.std.proofs.Common.{◌≡◌, ◌<◌, ◌++◌, Option, [], List, �
 use Rattle.std.proofs.KnownBytes.{Consumes-nil, Consumes-trans, Consumes-kept}
 use Rattle.std.proofs.lemmas.Result.{err_from_is_err_and, on_ok_weaker, IfErr-weaker}
 use Rattle.std.specs.Io.KnownBytes.{Consumes, IsAtEnd}
-use Rattle.mf_desk.proofs.Stages.{CutsShort-reads}
+use Rattle.mf_desk.proofs.Stages.{CutsShort-reads, CutsShort-unflushed, IsAfter-flushed}
 use Rattle.mf_desk.proofs.progress.Progress.read_all.Goals as goal
 
 -- a read that gives no byte
@@ -13,9 +13,16 @@ Consumes-none unread left rest read chunk n before none more =
 pub reads-init : goal.reads-init
 reads-init g c = (omega (arith, c.requires.unwritten), ([], Consumes-nil _, c.requires.start _), refl, refl)
 
+pub returns-in_err-flush-clause-fault : goal.returns-in_err-flush-clause-fault
+returns-in_err-flush-clause-fault g c =
+    let (read, consumed, after) = c.reads.invariant.1 in
+    let passed_on = err_from_is_err_and c.from_residual.result c.from_residual.ensures.1 in
+    rw (passed_on.1, passed_on.2, ← c.reads.invariant.2) (read, consumed, CutsShort-unflushed _ _ _ read c.reads.self c.flush.ensures.kept after c.in_err-flush.field-0.0 c.in_err-flush.ensures.fault)
+
 pub returns-in-Err-clause-fault : goal.returns-in-Err-clause-fault
 returns-in-Err-clause-fault g c =
-    let (read, consumed, after) = c.reads.invariant.1 in
+    let (read, consumed, before) = c.reads.invariant.1 in
+    let after = IsAfter-flushed _ _ _ read c.reads.self c.flush.ensures.kept before in
     (read, Consumes-kept _ _ _ read consumed c.in-Err.ensures.bytes, rw (← c.reads.invariant.2) (CutsShort-reads _ _ read c.reads.self after))
 
 pub returns-in-Ok-eq0-clause-end : goal.returns-in-Ok-eq0-clause-end
@@ -26,20 +33,23 @@ returns-in-Ok-eq0-clause-end g c =
 
 pub returns-in-Ok-eq0-clause-through : goal.returns-in-Ok-eq0-clause-through
 returns-in-Ok-eq0-clause-through g c =
-    let (read, consumed, after) = c.reads.invariant.1 in
+    let (read, consumed, before) = c.reads.invariant.1 in
+    let after = IsAfter-flushed _ _ _ read c.reads.self c.flush.ensures.kept before in
     let all_read = Consumes-none _ _ _ read c.read.new.buf _ consumed c.in-Ok-eq0.field-0-test c.in-Ok-eq0.ensures.bytes.0 in
     on_ok_weaker c.finish.result (λ done. (read, all_read, done _ read after)) c.finish.ensures.done
 
 pub returns-in-Ok-eq0-clause-fault : goal.returns-in-Ok-eq0-clause-fault
 returns-in-Ok-eq0-clause-fault g c =
-    let (read, consumed, after) = c.reads.invariant.1 in
+    let (read, consumed, before) = c.reads.invariant.1 in
+    let after = IsAfter-flushed _ _ _ read c.reads.self c.flush.ensures.kept before in
     let all_read = Consumes-none _ _ _ read c.read.new.buf _ consumed c.in-Ok-eq0.field-0-test c.in-Ok-eq0.ensures.bytes.0 in
     rw (← c.reads.invariant.2) (IfErr-weaker c.finish.result _ _ (λ fault cut_short. (read, all_read, cut_short _ read after)) c.finish.ensures.fault)
 
 pub returns-in_err-take-in-Ok-clause-fault : goal.returns-in_err-take-in-Ok-clause-fault
 returns-in_err-take-in-Ok-clause-fault g c =
-    let (read, consumed, after) = c.reads.invariant.1 in
-    let passed_on = err_from_is_err_and c.from_residual.result c.from_residual.ensures.1 in
+    let (read, consumed, before) = c.reads.invariant.1 in
+    let after = IsAfter-flushed _ _ _ read c.reads.self c.flush.ensures.kept before in
+    let passed_on = err_from_is_err_and c.from_residual-in_err-take-in-Ok.result c.from_residual-in_err-take-in-Ok.ensures.1 in
     rw (passed_on.1, passed_on.2, ← c.reads.invariant.2) (
       read ++ take c.in-Ok.count c.read.new.buf,
       Consumes-trans _ _ _ read _ consumed c.in-Ok.ensures.bytes.0,
@@ -48,7 +58,8 @@ returns-in_err-take-in-Ok-clause-fault g c =
 
 pub reads-preserved : goal.reads-preserved
 reads-preserved g c =
-    let (read, consumed, after) = c.reads.invariant.1 in (
+    let (read, consumed, before) = c.reads.invariant.1 in
+    let after = IsAfter-flushed _ _ _ read c.reads.self c.flush.ensures.kept before in (
       omega (arith, c.in-Ok.ensures.bound, c.in_ok-take-in-Ok.ensures.at_most, c.read.auto.buf, c.reads.auto.chunk, c.requires.few),
       (read ++ take c.in-Ok.count c.read.new.buf, Consumes-trans _ _ _ read _ consumed c.in-Ok.ensures.bytes.0, c.in_ok-take-in-Ok.ensures.after _ read after),
       c.take.ensures.limits ∙ c.reads.invariant.2,

@@ -1,39 +1,60 @@
-use Rattle.std.proofs.Common.{◌≡◌, ◌+◌, ◌<◌, ◌++◌, ◌∷◌, List, ℕ, length, get_or, take, drop, sym, ap, ◌∙◌, subst, append_assoc, take-append-drop}
-use Rattle.std.proofs.lemmas.List.{drop_more}
-use Rattle.std.proofs.lemmas.Result.{err_from_is_err_and}
+use Rattle.std.proofs.Common.{◌≡◌, ◌+◌, ◌<◌, ◌==◌, ◌++◌, ◌∷◌, [], List, ℕ, true, length, get_or, take, drop, sym, ap, ◌∙◌, subst, arith, append_assoc, length-append, take-append-drop}
+use Rattle.std.proofs.lemmas.Bool.{eqb-true, eq-eqb}
+use Rattle.std.proofs.lemmas.List.{drop_more, get_or_default, take_rest}
+use Rattle.std.proofs.lemmas.Result.{err_from_is_err_and, IfErr-weaker}
 use Rattle.mf_desk.specs.Fault.{CutsShort}
+use Rattle.mf_desk.specs.Progress.{IsAfter}
 use Rattle.mf_desk.specs.Sessions.{limits}
 use Rattle.mf_desk.proofs.progress.Progress.take.Goals as goal
 
--- the bytes so far and the rest
-rest_after : (read bytes : List ℕ) (i : ℕ) → (read ++ take i bytes) ++ drop i bytes ≡ read ++ bytes
-rest_after read bytes i = append_assoc read (take i bytes) (drop i bytes) ∙ ap (λ all. read ++ all) (take-append-drop i bytes)
+-- the bytes before a line feed, it, and the rest
+around : (rest : List ℕ) (at : ℕ) → at < length rest → (get_or rest at 0 == 10) ≡ true → rest ≡ take at rest ++ 10 ∷ drop (at + 1) rest
+around rest at within is =
+    sym (take-append-drop at rest) ∙ ap (λ more. take at rest ++ more) (drop_more rest at 0 within ∙ ap (λ b. b ∷ drop (at + 1) rest) (eqb-true _ 10 is))
 
--- the bytes so far, a byte, and the rest
-rest_at : (read bytes : List ℕ) (i byte : ℕ) → i < length bytes → get_or bytes i 0 ≡ byte → (read ++ take i bytes) ++ byte ∷ drop (i + 1) bytes ≡ read ++ bytes
-rest_at read bytes i byte within is =
-    ap (λ b. (read ++ take i bytes) ++ b ∷ drop (i + 1) bytes) (sym is) ∙ ap (λ more. (read ++ take i bytes) ++ more) (sym (drop_more bytes i 0 within)) ∙ rest_after read bytes i
+-- the bytes so far, some more, and the rest
+regrouped : (read done front rest : List ℕ) → read ++ done ++ front ++ rest ≡ read ++ (done ++ (front ++ rest))
+regrouped read done front rest = append_assoc (read ++ done) front rest ∙ append_assoc read done (front ++ rest)
 
-pub returns-in_err-end_line-clause-fault : goal.returns-in_err-end_line-clause-fault
-returns-in_err-end_line-clause-fault g c =
-    let bytes = c.args.bytes.now in
-    let i = c.loop-byte.byte-index in
+pub returns-in_err-take_line-clause-fault : goal.returns-in_err-take_line-clause-fault
+returns-in_err-take_line-clause-fault g c =
+    let (done, bytes_are, few, goes_on, same, name_is) = c.lines.invariant in
+    let rest = c.lines.rest.now in
+    let at = c.in-Some.place in
+    let whole : (read : List ℕ) → read ++ done ++ take at rest ++ 10 ∷ drop (at + 1) rest ≡ read ++ c.args.bytes.now =
+    λ read. regrouped read done (take at rest) (10 ∷ drop (at + 1) rest)
+    ∙ ap (λ all. read ++ all) (sym (bytes_are ∙ ap (λ more. done ++ more) (around rest at c.in-Some.ensures.0.high c.in-Some.ensures.1))) in
     let passed_on = err_from_is_err_and c.from_residual.result c.from_residual.ensures.1 in
-    rw (passed_on.1, passed_on.2) (
+    rw (passed_on.1, passed_on.2, ← same) (
     λ held read after.
-    rw (← c.loop-byte.invariant.2)
-    (subst (λ all. CutsShort (limits c.loop-byte.self.performer.session) c.in_err-end_line.field-0.0 all held (g.W.Write.contents c.end_line.new.writer)) (rest_at read bytes i 10 c.loop-byte-test.true c.if-byte-eq10.true)
-    (c.in_err-end_line.ensures.fault held (read ++ take i bytes) (drop (i + 1) bytes) (c.loop-byte.invariant.1 held read after)))
+    subst (λ all. CutsShort (limits c.lines.self.performer.session) c.in_err-take_line.field-0.0 all held (g.W.Write.contents c.take_line.new.writer)) (whole read)
+    (c.in_err-take_line.ensures.fault held (read ++ done) (drop (at + 1) rest) (goes_on held read after))
     )
 
-pub returns-in_err-keep-clause-fault : goal.returns-in_err-keep-clause-fault
-returns-in_err-keep-clause-fault g c =
-    let bytes = c.args.bytes.now in
-    let i = c.loop-byte.byte-index in
-    let passed_on = err_from_is_err_and c.from_residual-in_err-keep.result c.from_residual-in_err-keep.ensures.1 in
-    rw (passed_on.1, passed_on.2) (
-    λ held read after.
-    rw (← c.loop-byte.invariant.2)
-    (subst (λ all. CutsShort (limits c.loop-byte.self.performer.session) c.in_err-keep.field-0.0 all held (g.W.Write.contents c.loop-byte.writer)) (rest_after read bytes i)
-    (c.in_err-keep.ensures.fault held (read ++ take i bytes) (drop i bytes) _ (c.loop-byte.invariant.1 held read after)))
+pub lines-preserved : goal.lines-preserved
+lines-preserved g c =
+    let (done, bytes_are, few, goes_on, same, name_is) = c.lines.invariant in
+    let rest = c.lines.rest.now in
+    let at = c.in-Some.place in
+    let line = take at rest ++ 10 ∷ [] in
+    let all : rest ≡ line ++ drop (at + 1) rest = around rest at c.in-Some.ensures.0.high c.in-Some.ensures.1 ∙ sym (append_assoc (take at rest) (10 ∷ []) (drop (at + 1) rest)) in (
+      done ++ line,
+      rw (take_rest rest (at + 1)) (bytes_are ∙ ap (λ more. done ++ more) all ∙ sym (append_assoc done line (drop (at + 1) rest))),
+      omega (arith, few, c.in_ok-take_line.ensures.at_most, length-append done line, length-append (take at rest) (10 ∷ [])),
+      λ held read after. subst (λ bytes. IsAfter held bytes c.take_line.new.self (g.W.Write.contents c.take_line.new.writer)) (regrouped read done (take at rest) (10 ∷ []))
+          (c.in_ok-take_line.ensures.after held (read ++ done) (goes_on held read after)),
+      c.take_line.ensures.limits ∙ same,
+      c.take_line.ensures.name ∙ name_is,
     )
+
+pub keep-requires : goal.keep-requires
+keep-requires g c = λ k d within is. c.in_default.ensures k (omega arith) within (eq-eqb _ 10 (get_or_default c.lines.rest.now k 0 d within ∙ is))
+
+pub returns-clause-fault : goal.returns-clause-fault
+returns-clause-fault g c =
+    let (done, bytes_are, few, goes_on, same, name_is) = c.lines.invariant in
+    let rest = c.lines.rest.now in
+    let whole : (read : List ℕ) → read ++ done ++ rest ≡ read ++ c.args.bytes.now = λ read. append_assoc read done rest ∙ ap (λ all. read ++ all) (sym bytes_are) in
+    rw (← same) (IfErr-weaker c.keep.result _ _ (λ fault cut_short held read after.
+    subst (λ all. CutsShort (limits c.lines.self.performer.session) fault all held (g.W.Write.contents c.lines.writer)) (whole read)
+    (cut_short held (read ++ done) rest _ (goes_on held read after))) c.keep.ensures.fault)

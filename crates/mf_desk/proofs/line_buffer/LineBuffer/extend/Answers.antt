@@ -1,0 +1,25 @@
+use Rattle.std.proofs.Common.{◌≡◌, ◌+◌, ◌-◌, ◌≤◌, ◌++◌, ℕ, List, Result, Ok, Err, length, take, min, sym, ap, ◌∙◌, arith}
+use Rattle.std.specs.Prelude.{OnOk, is_ok, if◌then◌else◌}
+use Rattle.std.proofs.Math.Seq.{take-append-add}
+use Rattle.std.proofs.lemmas.List.{take_min}
+use Rattle.mf_desk.proofs.line_buffer.LineBuffer.extend.Goals as goal
+
+-- as many bytes more as have room
+kept_more : (n : ℕ) (xs ys : List ℕ) → length xs ≤ n → xs ++ take (min (n - length xs) (length ys)) ys ≡ take n (xs ++ ys)
+kept_more n xs ys fits =
+    let room : length xs + (n - length xs) ≡ n = omega arith in
+    ap (λ front. xs ++ front) (take_min (n - length xs) ys) ∙ sym (take-append-add xs ys (n - length xs)) ∙ ap (λ m. take m (xs ++ ys)) room
+
+-- what a call adds that goes well
+added : {T E : Type 0} (r : Result T E) (old more new kept : List ℕ) → new ≡ (if is_ok r then more else old) → more ≡ kept → OnOk r (new ≡ kept)
+added (Ok done) old more new kept is more_is = is ∙ more_is
+added (Err fault) old more new kept is more_is = tt
+
+pub returns-clause-added : goal.returns-clause-added
+returns-clause-added c =
+    let line = c.self.inside.kept.items in
+    let bytes = c.args.bytes.now in
+    let kept : c.len-room.result ≡ length line = omega arith in
+    let count_is : c.min-count.result ≡ min (65538 - length line) (length bytes) = c.min-count.ensures ∙ ap (λ n. min (65538 - n) (length bytes)) kept in
+    added c.extend_from_slice.result _ _ _ _ c.extend_from_slice.ensures.items
+    (ap (λ count. line ++ take count bytes) count_is ∙ kept_more 65538 line bytes c.self.invariant ∙ ap (λ all. take 65538 (all ++ bytes)) c.self.view_is)

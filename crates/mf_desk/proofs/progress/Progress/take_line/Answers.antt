@@ -1,0 +1,42 @@
+use Rattle.std.proofs.Common.{◌++◌, ◌∷◌, sym, subst, append_assoc}
+use Rattle.std.proofs.lemmas.Bool.{eqb-true}
+use Rattle.std.proofs.lemmas.List.{nil_from_length}
+use Rattle.std.proofs.lemmas.Result.{err_from_is_err_and, on_ok_weaker, IfErr-weaker}
+use Rattle.mf_desk.specs.Fault.{CutsShort}
+use Rattle.mf_desk.specs.Sessions.{limits}
+use Rattle.mf_desk.proofs.Stages.{IsAfter-whole, CutsShort-whole}
+use Rattle.mf_desk.proofs.progress.Progress.take_line.Goals as goal
+
+pub returns-then-is_empty-clause-after : goal.returns-then-is_empty-clause-after
+returns-then-is_empty-clause-after g c =
+    let old = c.args.self.now in
+    let none = sym (c.if-is_empty.ensures) in
+    let written = rw c.before_line_feed-line.ensures at c.perform.ensures.written in
+    on_ok_weaker c.perform.result (λ done held read after.
+    IsAfter-whole held _ read c.args.bytes.now old after none c.requires.unbroken _ (record { performer = c.perform.new.self; line = old.line }) (done after.last after.stands) c.perform.ensures.limits
+    (nil_from_length old.line (eqb-true _ 0 none))) written
+
+pub returns-then-is_empty-clause-fault : goal.returns-then-is_empty-clause-fault
+returns-then-is_empty-clause-fault g c =
+    let broken_off = rw c.before_line_feed-line.ensures at c.perform.ensures.fault in
+    IfErr-weaker c.perform.result _ _ (λ fault broken held read more after.
+    CutsShort-whole held _ read c.args.bytes.now c.args.self.now after (sym (c.if-is_empty.ensures)) c.requires.unbroken fault _ more (broken after.last after.stands)) broken_off
+
+pub returns-in_err-keep-clause-fault : goal.returns-in_err-keep-clause-fault
+returns-in_err-keep-clause-fault g c =
+    let passed_on = err_from_is_err_and c.from_residual.result c.from_residual.ensures.1 in
+    rw (passed_on.1, passed_on.2) (
+    λ held read more after.
+    subst (λ all. CutsShort (limits c.args.self.now.performer.session) c.in_err-keep.field-0.0 all held (g.W.Write.contents c.args.writer.now))
+    (sym (append_assoc read c.args.bytes.now (10 ∷ more))) (c.in_err-keep.ensures.fault held read (c.args.bytes.now ++ 10 ∷ more) _ after)
+    )
+
+pub returns-clause-after : goal.returns-clause-after
+returns-clause-after g c =
+    on_ok_weaker c.end_line.result (λ ended held read after. ended held (read ++ c.args.bytes.now) (c.in_ok-keep.ensures.after held read _ after)) c.end_line.ensures.after
+
+pub returns-clause-fault : goal.returns-clause-fault
+returns-clause-fault g c =
+    IfErr-weaker c.end_line.result _ _ (λ fault cut_short held read more after.
+    subst (λ performer. CutsShort (limits performer.session) fault (read ++ c.args.bytes.now ++ 10 ∷ more) held (g.W.Write.contents c.end_line.new.writer)) c.keep.ensures.same
+    (cut_short held (read ++ c.args.bytes.now) more (c.in_ok-keep.ensures.after held read _ after))) c.end_line.ensures.fault
