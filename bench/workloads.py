@@ -1,0 +1,208 @@
+"""Scripts for measuring, each made by a seed and a size.
+
+A script is a list of lines in the command language of docs/LANGUAGE.md. METAFONT reads the same lines once
+`metafont` below has translated them, one by one.
+"""
+
+import random
+
+HEAD = """delimiters ();
+def --={curl 1}..{curl 1}enddef;
+autorounding:=0; smoothing:=0; granularity:=1; turningcheck:=1;
+picture currentpicture,a,b,c,d,e,f;
+currentpicture:=nullpicture; a:=nullpicture; b:=nullpicture; c:=nullpicture; d:=nullpicture; e:=nullpicture; f:=nullpicture;
+"""
+
+
+def metafont(lines):
+    """The same script for METAFONT. Its pixels of weight 32767 do not come up here, so `infinity` is a limit of its own."""
+    out = [HEAD]
+    for line in lines:
+        words = line.split()
+        if not words or words[0] == "publish":
+            out.append("\n")
+        elif words[0] == "shipout":
+            source, code, dx, width = words[1], words[3], words[5], words[7]
+            out.append(f"charcode:={code};chardx:={int(dx) // 65536};shipout {source};\n")
+        else:
+            out.append(line.replace(",32767)", ",4095)").replace("(-32768,", "(-4095,") + ";\n")
+    out.append("end.\n")
+    return "".join(out)
+
+
+def contour(name, points, weight=1):
+    path = "--".join(f"({x},{y})" for x, y in points)
+    tail = "" if weight == 1 else f" withweight {weight}"
+    return f"addto {name} contour {path}--cycle{tail}"
+
+
+def rectangle(x, y, width, height):
+    return [(x, y), (x + width, y), (x + width, y + height), (x, y + height)]
+
+
+def total(name="currentpicture"):
+    return f"show totalweight {name}"
+
+
+def one_line(seed, size):
+    return [contour("currentpicture", rectangle(0, 0, 3, 2)), total()]
+
+
+def scattered(seed, size, columns, rows):
+    """Rectangles with sides of 1 to 30, drawn evenly, with weights of -3 to 3."""
+    draw = random.Random(seed)
+    lines = []
+    for _ in range(size):
+        width, height = draw.randint(1, 30), min(rows, draw.randint(1, 30))
+        x, y = draw.randint(0, columns - width), draw.randint(0, rows - height)
+        shape = rectangle(x - columns // 2, y - rows // 2, width, height)
+        lines.append(contour("currentpicture", shape, draw.choice((-3, -2, -1, 1, 2, 3))))
+    return lines + [total(), "cull currentpicture keeping (1,32767)", total()]
+
+
+def rectangles(seed, size):
+    return scattered(seed, size, 4000, 4000)
+
+
+def flat_rectangles(seed, size):
+    return scattered(seed, size, 8000, 200)
+
+
+def staircase(x, y, steps):
+    """A triangle with so many steps: 2 points and 2 for each step."""
+    points = [(x, y), (x + steps, y)]
+    for i in range(1, steps + 1):
+        points += [(x + steps - i + 1, y + i), (x + steps - i, y + i)]
+    return points
+
+
+def stairs(seed, size, steps, highest):
+    """So many staircases, drawn evenly up to a highest corner, with weights of -1 and 1."""
+    draw = random.Random(seed)
+    lines = []
+    for _ in range(size):
+        shape = staircase(draw.randint(-4000, highest), draw.randint(-4000, highest), steps)
+        lines.append(contour("currentpicture", shape, draw.choice((-1, 1))))
+    return lines + [total()]
+
+
+def staircases(seed, size):
+    return stairs(seed, size, 2047, 2000)
+
+
+def comb(teeth, rows):
+    """So many teeth of so many rows, each one pixel wide, one pixel apart, from the right to the left."""
+    points = [(0, 0), (2 * teeth - 1, 0)]
+    for i in range(teeth - 1, -1, -1):
+        points += [(2 * i + 1, rows), (2 * i, rows)]
+        if i > 0:
+            points += [(2 * i, 1), (2 * i - 1, 1)]
+    return points
+
+
+def culled_comb(points):
+    return [contour("currentpicture", points), total(), "cull currentpicture keeping (1,1)", total()]
+
+
+def comb_from_right(seed, size):
+    """METAFONT's worst order: it finds the place of each edge of a row by passing those before it."""
+    return culled_comb(comb(size, 300))
+
+
+def comb_from_left(seed, size):
+    """METAFONT's best order, and as many edges as its memory takes."""
+    return culled_comb(comb(size, 1000)[::-1])
+
+
+def rounds(seed, size):
+    """A picture is copied, the copy moved and added, and the sum culled, again and again."""
+    lines = scattered(seed, 1500, 2000, 2000)
+    for _ in range(size):
+        lines += [
+            "a := nullpicture",
+            "addto a also currentpicture",
+            "a := a shifted (1,1)",
+            "addto currentpicture also a",
+            "cull currentpicture keeping (1,3)",
+        ]
+    return lines + [total()]
+
+
+def doubled(name, other, right, up):
+    return [
+        f"{other} := nullpicture",
+        f"addto {other} also {name}",
+        f"{other} := {other} shifted ({right},{up})",
+        f"addto {name} also {other}",
+    ]
+
+
+def checkerboard(seed, size):
+    """A board with sides of 2 ** size pixels, which is then moved, reflected, stretched and turned."""
+    lines = [contour("a", rectangle(0, 0, 1, 1)), contour("a", rectangle(1, 1, 1, 1))]
+    for k in range(1, size):
+        lines += doubled("a", "b", 2**k, 0) + doubled("a", "b", 0, 2**k)
+    lines += [total("a")]
+    for _ in range(4):
+        lines += ["a := a shifted (3,-5)", "a := a xscaled -1", "a := a yscaled -1", "a := a rotated 90", total("a")]
+    return lines + ["a := a xscaled 2", total("a")]
+
+
+def copies(source, target, count, right, up):
+    """So many copies of a picture, each moved from the one before: the source is doubled, and added for each bit of the count."""
+    lines, placed = [f"{target} := nullpicture"], 0
+    for k in range(count.bit_length()):
+        if count >> k & 1:
+            move = f"b := b shifted ({right * placed},{up * placed})"
+            lines += ["b := nullpicture", f"addto b also {source}", move, f"addto {target} also b"]
+            placed += 1 << k
+        if count >> k + 1:
+            lines += doubled(source, "b", right << k, up << k)
+    return lines
+
+
+def page(seed, size):
+    """Text-like: 131 letters on each of 100 lines, of 32 runs each, shipped so many times."""
+    letter = [rectangle(0, 0, 4, 28), rectangle(14, 4, 4, 4), rectangle(4, 12, 12, 4), rectangle(4, 0, 12, 4)]
+    lines = [contour("a", part) for part in letter]
+    lines += copies("a", "c", 131, 30, 0) + copies("c", "d", 100, 0, 40) + [total("d")]
+    return lines + [f"shipout d code {code} dx 0 width 0" for code in range(size)]
+
+
+def trivial_lines(seed, size):
+    """In turn no command, a comment, an operation that changes nothing, and a command that prints a line."""
+    lines = ["", "% a comment", "addto a also nullpicture", total("a")]
+    return lines * (size // 4) + [total()]
+
+
+def contours(seed, size):
+    return stairs(seed, size, 199, 3700)
+
+
+# The name of each workload, what makes it, and its size.
+WORKLOADS = {
+    "one line": (one_line, 1),
+    "10,000 rectangles": (rectangles, 10_000),
+    "100,000 rectangles": (rectangles, 100_000),
+    "10,000 rectangles on 200 rows": (flat_rectangles, 10_000),
+    "200 staircases of 4,096 points": (staircases, 200),
+    "a comb of 4,092 points, from the right": (comb_from_right, 1023),
+    "a comb of 4,092 points, from the left": (comb_from_left, 1023),
+    "150 rounds of copy, shift, add, cull": (rounds, 150),
+    "a checkerboard, moved and turned": (checkerboard, 10),
+    "a page, shipped ten times": (page, 10),
+    "1,000,000 trivial lines": (trivial_lines, 1_000_000),
+    "2,000 contours of 400 points": (contours, 2_000),
+}
+
+# Workloads whose time may be compared at a size, twice and four times that size.
+GROWING = {
+    "rectangles": (rectangles, 25_000),
+    "rectangles on 200 rows": (flat_rectangles, 5_000),
+    "staircases of 4,096 points": (staircases, 100),
+    "teeth of a comb": (comb_from_left, 255),
+    "rounds of copy, shift, add, cull": (rounds, 75),
+    "pages shipped": (page, 10),
+    "trivial lines": (trivial_lines, 500_000),
+    "contours of 400 points": (contours, 1_000),
+}
