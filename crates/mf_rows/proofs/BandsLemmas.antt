@@ -13,9 +13,9 @@ use lib.Signed.{lt_z}
 use Rattle.mf_rows.specs.declared.band.Band.{Band}
 use Rattle.mf_rows.specs.declared.edge.Edge.{Edge}
 use Rattle.mf_rows.specs.declared.row.Row.{Row}
-use Rattle.mf_rows.specs.Bands.{IsRow, edge_row, edge_rows, last_height, rows_in, bottom_of, rows_of_bands, HasRow, HasNoRow, HasSameRow, AreAbove, AreBelow}
+use Rattle.mf_rows.specs.Bands.{edge_row, edge_rows, last_height, rows_in, bottom_of, rows_of_bands, HasRow, HasNoRow, HasSameRow, AreAbove, AreBelow}
 use Rattle.mf_rows.specs.Dots.{IsLawfulWeight}
-use Rattle.mf_rows.specs.Edges.{weight_in, AreEdgesFrom, AreEdges, EdgeRow, AreRowsFrom, AreRows, weight_in_rows}
+use Rattle.mf_rows.specs.Edges.{weight_in, AreEdgesFrom, AreEdges, EdgeRow, IsEdgeRow, AreRowsFrom, AreRows, weight_in_rows}
 use Rattle.mf_rows.proofs.EdgesLemmas.{weight_in-left, weight_in-right, weight_in-before, weight_in_rows-append, weight_in_rows-above, weight_in_rows-below, rows_from-below, rows_from-front, rows_from-back, rows_from-apart, weight_in_rows-here}
 
 -- ---- lists whose heights fall
@@ -241,6 +241,10 @@ pub absent_band_all : (y : ℤ) (n : ℕ) (bs : List (Arc Band Global)) → leng
 absent_band_all y n bs outside above = record { weights = λ x. weight_in_rows-above (rows_of_bands bs) x y (subst (λ cs. AreAbove y (rows_of_bands cs)) (take_all n bs outside) above) }
 
 -- ---- rows that are put into bands
+
+-- a row of the field that is not blank
+abbrev pub IsRow : Row → Type 0
+IsRow r = IsEdgeRow (edge_row r)
 
 pub All-rows : (top : ℤ) (rows : List Row) → AreRowsFrom top (edge_rows rows) → All IsRow rows
 All-rows top [] lawful = All-nil IsRow

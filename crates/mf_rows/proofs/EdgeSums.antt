@@ -1,5 +1,5 @@
 -- The sum of two rows of edges, column by column.
-use Rattle.std.proofs.Common.{◌≡◌, ◌≢◌, ◌<◌, ◌+◌, Bool, true, false, cond, ℕ, ℤ, length, get_or, take, drop, FitsSigned, to_z, of_z, w32, pos, negsuc, ◌+ℤ◌, ◌-ℤ◌, ◌≤ℤ◌, ◌<ℤ◌, List, [], ◌∷◌, ◌++◌, refl, ap, sym, subst, ◌∙◌, ⊎_elim, inl, inr, arith}
+use Rattle.std.proofs.Common.{◌≡◌, ◌≢◌, ◌<◌, ◌+◌, ◌⊎◌, Bool, true, false, cond, ℕ, ℤ, length, get_or, take, drop, FitsSigned, to_z, of_z, w32, pos, negsuc, ◌+ℤ◌, ◌-ℤ◌, ◌≤ℤ◌, ◌<ℤ◌, List, [], ◌∷◌, ◌++◌, refl, ap, sym, subst, ◌∙◌, ⊎_elim, inl, inr, arith}
 use Rattle.std.specs.List.{All}
 use Rattle.std.specs.Int.RustNames.{int_le}
 use Rattle.std.specs.Ordering.{int_eq}
@@ -11,7 +11,7 @@ use Rattle.std.proofs.lemmas.List.Elements.{All-head, All-tail, All-cons, All-ni
 use Rattle.mf_rows.specs.declared.edge.Edge.{Edge}
 use Rattle.mf_rows.specs.Dots.{IsLawfulWeight}
 use Rattle.mf_rows.specs.Edges.{weight_in, AreEdgesFrom, AreEdges}
-use Rattle.mf_rows.specs.Merging.{IsChange, IsDifference, AreChanges, AreEdgesLeft, BeginAt, BeginFrom, IsFirstColumn, IsSplitAt, unless_zero}
+use Rattle.mf_rows.specs.Merging.{IsChange, IsDifference, AreChanges, AreEdgesLeft, BeginAt, BeginFrom, IsSplitAt, unless_zero}
 use Rattle.mf_rows.specs.Sums.{HaveWeights, IsUnlawfulColumn, with_edge_in, weight_in_both}
 use Rattle.mf_rows.specs.SumsSoFar.{IsSumSoFar, ArePassed, AreStopped}
 use Rattle.mf_rows.proofs.EdgesLemmas.{weight_in-append, weight_in-left, weight_in-right, weight_in-before, edges_from-append}
@@ -84,6 +84,12 @@ begins_in_reach low x [] sorted at = absurd at
 begins_in_reach low x (e ∷ es) sorted at =
     let start : low ≤ℤ e.x = sorted.1 in
     record { from = omega (arith, ints); left = omega (arith, ints, sorted.0.left); right = omega (arith, ints, sorted.0.right) }
+
+-- column x is the first at which an edge of two rows stands
+pub record IsFirstColumn (es fs : List Edge) (x : ℤ) : Type 0 where
+  pub left : BeginFrom x es
+  pub right : BeginFrom x fs
+  pub reached : BeginAt x es ⊎ BeginAt x fs
 
 first_in_reach : (low x : ℤ) (es fs : List Edge) → AreEdgesLeft low es → AreEdgesLeft low fs → IsFirstColumn es fs x → IsColumnFrom low x
 first_in_reach low x es fs left right first = ⊎_elim (begins_in_reach low x es left.sorted) (begins_in_reach low x fs right.sorted) first.reached

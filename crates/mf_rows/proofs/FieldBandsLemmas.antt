@@ -1,5 +1,5 @@
 -- Bands of the field: over bands their numbers rise, so the bands up to a number are found by halving.
-use Rattle.std.proofs.Common.{◌≡◌, ◌≢◌, ℕ, ◌<◌, ◌≤◌, ℤ, pos, ◌+ℤ◌, ◌-ℤ◌, ◌≤ℤ◌, ◌<ℤ◌, List, [], ◌∷◌, Bool, true, false, length, take, drop, get_or, inl, inr, subst, arith}
+use Rattle.std.proofs.Common.{◌≡◌, ◌≢◌, ℕ, ◌<◌, ◌≤◌, ℤ, pos, ◌+ℤ◌, ◌-ℤ◌, ◌≤ℤ◌, ◌<ℤ◌, List, [], ◌∷◌, Bool, true, false, length, take, drop, get_or, inl, inr, subst, arith, ◌∙◌}
 use Rattle.std.specs.Int.{int_max}
 use Rattle.std.specs.List.{All, AllWithin}
 use Rattle.std.specs.List.Sorted.{IsPartitionedBy}
@@ -12,7 +12,7 @@ use lib.Signed.{le_z}
 use Rattle.mf_rows.specs.declared.band.Band.{Band}
 use Rattle.mf_rows.specs.declared.row.Row.{Row}
 use Rattle.mf_rows.specs.Bands.{AreAbove, AreBelow, edge_row, edge_rows, rows_in, bottom_of, rows_of_bands}
-use Rattle.mf_rows.specs.BandSums.{lowest_of, AreUpTo, AreBehind, AreNumberedBehind, BeginUpTo, IsStep}
+use Rattle.mf_rows.specs.BandSums.{lowest_of, AreUpTo, AreBehind, AreNumberedBehind, BeginUpTo, IsStep, EndsStep, end_of}
 use Rattle.mf_rows.specs.Edges.{AreRows}
 use Rattle.mf_rows.specs.FieldBands.{IsOfBand, AreOfBand}
 use Rattle.mf_rows.specs.Sums.{StayWithin}
@@ -100,3 +100,16 @@ step_before_greater bs cs b c n some b_is more c_is apart n_is =
           (λ lt. inl (begin_up_to n bs b some b_is (omega (arith, ints, clamps))))
           (λ le. inr (begin_up_to n cs c more c_is (omega (arith, ints, clamps))));
     }
+
+-- a step ends as its first bands say
+end_from_first : (bs cs : List (Arc Band Global)) (b c : Arc Band Global) (n : ℤ) → 0 < length bs → b ≡ get_or bs 0 b → 0 < length cs → c ≡ get_or cs 0 c → n ≡ end_of (arc_value b).number (arc_value c).number → EndsStep bs cs n
+end_from_first [] cs b c n some b_is more c_is n_is = absurd (omega arith)
+end_from_first (a ∷ bs) [] b c n some b_is more c_is n_is = absurd (omega arith)
+end_from_first (a ∷ bs) (d ∷ cs) b c n some b_is more c_is n_is =
+    subst (λ (z : Arc Band Global). n ≡ end_of (arc_value z).number (arc_value d).number) b_is (subst (λ (z : Arc Band Global). n ≡ end_of (arc_value b).number (arc_value z).number) c_is n_is)
+
+end_of-apart : (m n : ℤ) → m ≢ n → int_max m n -ℤ pos 1 ≡ end_of m n
+end_of-apart m n apart = grind (arith, ints, clamps)
+
+pub ends_before_greater : (bs cs : List (Arc Band Global)) (b c : Arc Band Global) (n : ℤ) → 0 < length bs → b ≡ get_or bs 0 b → 0 < length cs → c ≡ get_or cs 0 c → (arc_value b).number ≢ (arc_value c).number → n ≡ int_max (arc_value b).number (arc_value c).number -ℤ pos 1 → EndsStep bs cs n
+ends_before_greater bs cs b c n some b_is more c_is apart n_is = end_from_first bs cs b c n some b_is more c_is (n_is ∙ end_of-apart _ _ apart)

@@ -18,6 +18,7 @@ pub mod MaximalRuns
 pub mod PassedRuns
 mod PictureRows
 pub mod PlacesLemmas
+mod ReachesLemmas
 mod RowChangesLemmas
 mod RowMoves
 mod RowRuns

@@ -1,5 +1,7 @@
 -- The sum of two lists of bands, made in steps that end at the lower end of a band of the field.
-use Rattle.std.specs.Prelude.{◌≡◌, ◌⊎◌, ℤ, pos, ◌-ℤ◌, ◌*ℤ◌, ◌≤ℤ◌, ◌<ℤ◌, All, List, [], ◌∷◌, ◌++◌}
+use Rattle.std.specs.Prelude.{◌≡◌, ◌⊎◌, ℤ, pos, ◌-ℤ◌, ◌*ℤ◌, ◌≤ℤ◌, ◌<ℤ◌, All, List, [], ◌∷◌, ◌++◌, if◌then◌else◌}
+use Rattle.std.specs.Int.{int_max}
+use Rattle.std.specs.Ordering.{int_eq}
 use Rattle.std.specs.Arc.{arc_value}
 use Rattle.std.specs.declared.alloc.Global.{Global}
 use Rattle.std.specs.declared.sync.Arc.{Arc}
@@ -28,6 +30,17 @@ AreNumberedBehind n bs = All (λ (b : Arc Band Global). n <ℤ (arc_value b).num
 abbrev pub BeginUpTo : ℤ → List (Arc Band Global) → Type 0
 BeginUpTo n [] = ⊥
 BeginUpTo n (b ∷ bs) = (arc_value b).number ≤ℤ n
+
+-- the number up to which bands are added in one step, by the numbers of the first ones: theirs where it is the same, else the
+-- one before the greater of them
+abbrev pub end_of : ℤ → ℤ → ℤ
+end_of m n = if int_eq m n then m else (int_max m n -ℤ pos 1)
+
+-- a step ends as the first bands of two lists say
+abbrev pub EndsStep : List (Arc Band Global) → List (Arc Band Global) → ℤ → Type 0
+EndsStep [] cs n = ⊥
+EndsStep (b ∷ bs) [] n = ⊥
+EndsStep (b ∷ bs) (c ∷ cs) n = n ≡ end_of (arc_value b).number (arc_value c).number
 
 -- the first band of one of two lists has a number up to n
 pub record IsStep (bs cs : List (Arc Band Global)) (n : ℤ) : Type 0 where

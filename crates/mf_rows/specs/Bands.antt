@@ -6,15 +6,11 @@ use Rattle.std.specs.declared.sync.Arc.{Arc}
 use Rattle.mf_rows.specs.declared.band.Band.{Band}
 use Rattle.mf_rows.specs.declared.row.Row.{Row}
 use Rattle.mf_rows.specs.declared.edge.Edge.{Edge}
-use Rattle.mf_rows.specs.Edges.{EdgeRow, AreEdges, IsEdgeRow, AreRows, weight_in, weight_in_rows}
+use Rattle.mf_rows.specs.Edges.{EdgeRow, AreEdges, AreRows, weight_in, weight_in_rows}
 
 -- a row as its edges
 abbrev pub edge_row : Row → EdgeRow
 edge_row r = record { y = r.y; edges = (arc_value r.edges).items }
-
--- a row of the field that is not blank
-abbrev pub IsRow : Row → Type 0
-IsRow r = IsEdgeRow (edge_row r)
 
 -- rows as their edges
 abbrev pub edge_rows : List Row → List EdgeRow

@@ -11,6 +11,7 @@ pub mod Merging
 pub mod Moves
 pub mod Order
 pub mod Places
+pub mod Reaches
 pub mod Rest
 pub mod RowChanges
 pub mod RowMoves

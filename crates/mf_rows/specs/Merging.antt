@@ -43,12 +43,6 @@ abbrev pub BeginAt : ℤ → List Edge → Type 0
 BeginAt x [] = ⊥
 BeginAt x (e ∷ es) = e.x ≡ x
 
--- column x is the first at which an edge of two rows stands
-pub record IsFirstColumn (es fs : List Edge) (x : ℤ) : Type 0 where
-  pub left : BeginFrom x es
-  pub right : BeginFrom x fs
-  pub reached : BeginAt x es ⊎ BeginAt x fs
-
 -- the edge at column x has weight w, or none stands there and w is 0, and the others are left
 pub record IsSplitAt (es : List Edge) (x w : ℤ) (others : List Edge) : Type 0 where
   pub weights : HaveWeights (with_edge_in others x w) es

@@ -1,7 +1,7 @@
 //! The sum of two lists of bands.
 ghost use Rattle.std.specs.Prelude.{◌≡◌, ◌≢◌, ◌⊎◌, [], IfOk, IfErr, OnOk, IfSome, IsNone};
 ghost use Rattle.mf_rows.specs.Bands.{rows_in, rows_of_bands};
-ghost use Rattle.mf_rows.specs.BandSums.{IsStep, HasSum};
+ghost use Rattle.mf_rows.specs.BandSums.{EndsStep, IsStep, HasSum};
 ghost use Rattle.mf_rows.specs.Edges.{AreRows};
 ghost use Rattle.mf_rows.specs.Sums.{weight_in_all, HaveRowWeights, IsUnlawfulSomewhere};
 
@@ -42,6 +42,7 @@ pub(crate) fn sum_of_bands(
 /// it, else the number before the first one that both may have. None where a list is empty.
 fn end_of_step(left: &[Arc<Band>], right: &[Arc<Band>]) -> Option<i32>
     ensures step { IfSome result (IsStep left.now right.now) }
+    ensures end { IfSome result (EndsStep left.now right.now) }
     ensures none { IsNone result → (left.now ≡ []) ⊎ (right.now ≡ []) }
 {
     let (left, right) = (left.first()?.number, right.first()?.number);
@@ -73,6 +74,7 @@ fn push_sum(
         ([left], [right]) if left.number == right.number => push_sum_of_both(
             alloc, sum, left, right,
         ),
+        // No picture has two bands of one number, but no invariant says so.
         _ => {
             let rows = sum_of_rows(alloc, &rows_of(alloc, left)?, &rows_of(alloc, right)?)?;
             Ok(push_rows(alloc, sum, rows)?)

@@ -5,6 +5,7 @@ ghost use Rattle.std.specs.Vec.{vec_len, vec_capacity};
 ghost use Rattle.mf_rows.specs.Dots.{IsLawfulWeight};
 ghost use Rattle.mf_rows.specs.Edges.{AreEdges, AreEdgesFrom, AreOpenEdges, weight_in};
 ghost use Rattle.mf_rows.specs.Merging.{unless_zero};
+ghost use Rattle.mf_rows.specs.Reaches.{StaysInReach};
 ghost use Rattle.mf_rows.specs.Sums.{HaveWeights, with_edge_in};
 
 use mf_geom::OutOfMemory;
@@ -30,6 +31,20 @@ pub(crate) fn weight_at_column(edges: &[Edge], x: i32) -> i32
         weight += edge.weight;
     }
     weight
+}
+
+/// The greatest size of a weight between these edges.
+pub(crate) fn reach_of(edges: &[Edge]) -> i32
+    requires { AreEdges edges.now }
+    ensures { StaysInReach result edges.now }
+{
+    let mut weight = 0i32;
+    let mut reach = 0;
+    for edge in edges {
+        weight += edge.weight;
+        reach = reach.max(weight.abs());
+    }
+    reach
 }
 
 /// Adds a weight from a column on: to the edge that stands there, which goes where the two cancel, or as

@@ -3,10 +3,11 @@ ghost use Rattle.std.specs.Prelude.{◌≡◌, ◌≢◌, ◌≤◌, IfOk, IfErr
 ghost use Rattle.mf_rows.specs.Dots.{IsLawfulWeight};
 ghost use Rattle.mf_rows.specs.Edges.{AreEdges};
 ghost use Rattle.mf_rows.specs.Merging.{AreChanges, AreEdgesLeft, BeginFrom, IsDifference, IsSplitAt};
+ghost use Rattle.mf_rows.specs.Reaches.{AddInReach};
 ghost use Rattle.mf_rows.specs.SumsSoFar.{ArePassed, AreStopped};
 ghost use Rattle.mf_rows.specs.Sums.{weight_in_both, HaveWeights, IsUnlawfulColumn};
 
-use crate::edge::{Edge, give_back_room, push_unless_zero};
+use crate::edge::{Edge, add_edge, give_back_room, push_unless_zero};
 use crate::fault::AddFault;
 use crate::field::is_lawful_weight;
 use mf_geom::OutOfMemory;
@@ -51,6 +52,28 @@ pub(crate) fn sum_of_edges(
     sum.extend_from_slice(left)?;
     give_back_room(&mut sum);
     Ok(sum)
+}
+
+/// The edges of a row and of what is added to it together, one change after another: no weight can pass 32767 in
+/// size, so none between them is looked at. It is quicker where there are few changes.
+pub(crate) fn with_changes(
+    alloc: Global,
+    left: &[Edge],
+    right: &[Edge],
+) -> Result<Vec<Edge>, OutOfMemory>
+    requires left { AreEdges left.now }
+    requires right { AreEdges right.now }
+    requires reach { AddInReach left.now right.now }
+    ensures edges { IfOk result (λ sum. AreEdges sum.items) }
+    ensures weights { IfOk result (λ sum. HaveWeights (weight_in_both left.now right.now) sum.items) }
+{
+    let mut edges = Vec::new(alloc);
+    edges.reserve(left.len() + right.len())?;
+    edges.extend_from_slice(left)?;
+    for change in right {
+        add_edge(&mut edges, change.x, change.weight)?;
+    }
+    Ok(edges)
 }
 
 /// Edges that were passed: how many, and the weight behind them.

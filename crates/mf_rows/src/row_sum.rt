@@ -1,15 +1,21 @@
 //! The sum of two lists of rows.
 ghost use Rattle.std.specs.Prelude.{◌≡◌, ◌≢◌, ◌∷◌, ◌++◌, [], IfOk, IfErr, OnOk, IfSome, IsNone};
 ghost use Rattle.mf_rows.specs.Bands.{edge_row, edge_rows};
-ghost use Rattle.mf_rows.specs.Edges.{AreRows, AreRowsFrom};
+ghost use Rattle.mf_rows.specs.Edges.{AreEdges, AreRows, AreRowsFrom};
 ghost use Rattle.mf_rows.specs.Merging.{IsFirstHeight, IsRowAt, row_found, IsSplitAtHeight, HasRowSum, IsUnlawfulInRow};
-ghost use Rattle.mf_rows.specs.Sums.{weight_in_all, HaveRowWeights, StayWithin, IsUnlawfulSomewhere};
+ghost use Rattle.mf_rows.specs.Reaches.{HasReach};
+ghost use Rattle.mf_rows.specs.Sums.{weight_in_all, weight_in_both, HaveRowWeights, HaveWeights, StayWithin, IsUnlawfulColumn, IsUnlawfulSomewhere};
 
-use crate::edge_sum::sum_of_edges;
+use crate::edge::Edge;
+use crate::edge_sum::{sum_of_edges, with_changes};
 use crate::fault::AddFault;
+use crate::field::MAX_WEIGHT;
 use crate::row::Row;
 use mf_geom::OutOfMemory;
 use std::alloc::Global;
+
+/// Most edges of a row that are added one by one; more of them are merged.
+const FEW_EDGES: usize = 8;
 
 /// The rows of two lists together; rows that only one of them has are shared. Refused with WeightTooLarge
 /// where a weight would pass 32767 in size.
@@ -100,9 +106,29 @@ fn push_sum_of_both(
     ensures pushed { OnOk result (HasRowSum (edge_rows sum.old.items) y (edge_row left.now ∷ []) (edge_row right.now ∷ []) (edge_rows sum.new.items)) }
     ensures too_large { IfErr result (λ fault. fault ≢ AddFault.OutOfMemory → IsUnlawfulInRow (weight_in_all (edge_row left.now ∷ []) (edge_row right.now ∷ [])) y) }
 {
-    let edges = sum_of_edges(alloc, left.edges(), right.edges())?;
+    let (edges, reach) = sum_of_both(alloc, left, right)?;
     if edges.is_empty() {
         return Ok(());
     }
-    Ok(sum.push(Row::new(alloc, y, edges)?)?)
+    Ok(sum.push(Row::with_reach(alloc, y, edges, reach)?)?)
+}
+
+/// The edges of two rows together, and their reach, where it is known. Refused with WeightTooLarge where a weight
+/// would pass 32767 in size.
+fn sum_of_both(alloc: Global, left: &Row, right: &Row) -> Result<(Vec<Edge>, Option<u16>), AddFault>
+    requires left { AreEdges (edge_row left.now).edges }
+    requires right { AreEdges (edge_row right.now).edges }
+    ensures edges { IfOk result (λ sum. AreEdges sum.0.items) }
+    ensures weights { IfOk result (λ sum. HaveWeights (weight_in_both (edge_row left.now).edges (edge_row right.now).edges) sum.0.items) }
+    ensures reach { IfOk result (λ sum. HasReach sum.1 sum.0.items) }
+    ensures too_large { IfErr result (λ fault. fault ≢ AddFault.OutOfMemory → IsUnlawfulColumn (weight_in_both (edge_row left.now).edges (edge_row right.now).edges)) }
+{
+    if right.edges().len() <= FEW_EDGES {
+        let (reach, more) = (left.reach(), right.reach());
+        if reach + 2 * more <= MAX_WEIGHT {
+            let sum = with_changes(alloc, left.edges(), right.edges())?;
+            return Ok((sum, Some((reach + more) as u16)));
+        }
+    }
+    Ok((sum_of_edges(alloc, left.edges(), right.edges())?, None))
 }

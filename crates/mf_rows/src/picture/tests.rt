@@ -1,6 +1,7 @@
 //! What pictures share.
 use super::*;
 use crate::builder::RowBuilder;
+use crate::edge::{Edge, give_back_room};
 use crate::tests::corners::{corners_of, make_rectangle};
 use std::process::Abort;
 use std::test::Fail;
@@ -120,5 +121,35 @@ fn neighbours_with_the_same_edges_share_them(rt: HostRuntime) -> Result<(), Fail
             );
         }
     }
+    Ok(())
+}
+
+#[test]
+fn mirrored_rows_share_their_edges(rt: HostRuntime) -> Result<(), Fail> {
+    let corners = corners_of(&rt, rt.alloc(), &[make_rectangle(1, 10, 6, 13, 2)])?;
+    let picture = Picture::blank(rt.alloc()).with_corners(rt.alloc(), corners)?;
+    let mirrored = picture.mirror_rows(rt.alloc())?;
+    for band in &mirrored.bands {
+        assert_eq!(rt; band.rows.len(), 3, "rows of the rectangle");
+        for row in &band.rows {
+            assert_eq!(rt; Arc::strong_count(&row.edges), 6, "owners of row {}", row.y);
+        }
+    }
+    Ok(())
+}
+
+#[test]
+fn room_is_given_back(rt: HostRuntime) -> Result<(), Fail> {
+    let mut edges = Vec::new(rt.alloc());
+    edges.reserve(1000)?;
+    edges.push(Edge { x: 0, weight: 2 })?;
+    edges.push(Edge { x: 3, weight: -2 })?;
+    give_back_room(&mut edges);
+    assert!(rt;
+        edges.capacity() < 1000,
+        "room for {} edges",
+        edges.capacity()
+    );
+    assert_eq!(rt; edges.len(), 2, "edges that stay");
     Ok(())
 }

@@ -2,9 +2,9 @@ use Rattle.std.proofs.Common.{◌≡◌, ◌++◌, pos, w32, to_z, of_z, subst, 
 use Rattle.std.specs.List.{All}
 use Rattle.std.proofs.lemmas.Int.{ints}
 use Rattle.std.proofs.lemmas.List.Elements.{All-nil, All-push, All-head, All-tail}
-use Rattle.mf_rows.specs.Bands.{IsRow, edge_rows, rows_of_bands}
+use Rattle.mf_rows.specs.Bands.{edge_rows, rows_of_bands}
 use Rattle.mf_rows.specs.FieldBands.{IsOfBand, AreOfBand}
-use Rattle.mf_rows.proofs.BandsLemmas.{All-rows, one_more_row}
+use Rattle.mf_rows.proofs.BandsLemmas.{IsRow, All-rows, one_more_row}
 use Rattle.mf_rows.proofs.bands.push_rows.Goals as goal
 use Rattle.mf_rows.proofs.bands.push_rows.Goals.{then-own-number+in_ok-close_band, else-own-number}
 

@@ -1,8 +1,9 @@
 use Rattle.std.proofs.Common.{◌≡◌, ◌++◌}
 use Rattle.std.specs.List.{All}
 use Rattle.std.specs.Vec.Iter.{into_iter_items}
-use Rattle.mf_rows.specs.Bands.{IsRow, edge_rows, rows_of_bands}
+use Rattle.mf_rows.specs.Bands.{edge_rows, rows_of_bands}
 use Rattle.mf_rows.specs.FieldBands.{AreOfBand}
+use Rattle.mf_rows.proofs.BandsLemmas.{IsRow}
 use Rattle.mf_rows.proofs.bands.push_rows.Given as goal
 
 abbrev pub invariant-loop-row : goal.invariant-loop-row

@@ -1,0 +1,73 @@
+//! How rows are made and shared.
+ghost use Rattle.std.specs.Prelude.{◌≡◌, IfOk};
+ghost use Rattle.mf_rows.specs.Bands.{edge_row};
+ghost use Rattle.mf_rows.specs.Edges.{AreEdges};
+ghost use Rattle.mf_rows.specs.Reaches.{HasReach, StaysInReach};
+
+use super::Row;
+use crate::edge::{Edge, reach_of};
+use mf_geom::OutOfMemory;
+use std::alloc::Global;
+use std::sync::Arc;
+
+impl Row {
+    /// Row y with these edges.
+    pub(crate) fn new(alloc: Global, y: i32, edges: Vec<Edge>) -> Result<Row, OutOfMemory>
+        ensures { IfOk result (λ row. edge_row row ≡ record { y = y; edges = edges.items }) }
+    {
+        Row::with_reach(alloc, y, edges, None)
+    }
+
+    /// Row y with these edges, whose reach is known or not.
+    pub(crate) fn with_reach(
+        alloc: Global,
+        y: i32,
+        edges: Vec<Edge>,
+        reach: Option<u16>,
+    ) -> Result<Row, OutOfMemory>
+        requires { HasReach reach edges.items }
+        ensures { IfOk result (λ row. edge_row row ≡ record { y = y; edges = edges.items }) }
+    {
+        Ok(Row {
+            y,
+            reach,
+            edges: Arc::new(alloc, edges)?,
+        })
+    }
+
+    /// The same row again.
+    pub(crate) fn share(&self) -> Result<Row, OutOfMemory>
+        ensures { IfOk result (λ row. edge_row row ≡ edge_row self.now) }
+    {
+        self.share_at(self.y)
+    }
+
+    /// Row y with the edges of this row.
+    pub(crate) fn share_at(&self, y: i32) -> Result<Row, OutOfMemory>
+        ensures { IfOk result (λ row. edge_row row ≡ record { y = y; edges = (edge_row self.now).edges }) }
+    {
+        Ok(Row {
+            y,
+            reach: self.reach,
+            edges: Arc::try_clone(&self.edges)?,
+        })
+    }
+
+    /// Its edges.
+    pub(crate) fn edges(&self) -> &[Edge]
+        ensures { result.now ≡ (edge_row self.now).edges }
+    {
+        &self.edges
+    }
+
+    /// A size that none of its weights passes: the one that is known, or the least.
+    pub(crate) fn reach(&self) -> i32
+        requires { AreEdges (edge_row self.now).edges }
+        ensures { StaysInReach result (edge_row self.now).edges }
+    {
+        match self.reach {
+            Some(reach) => i32::from(reach),
+            None => reach_of(&self.edges),
+        }
+    }
+}
