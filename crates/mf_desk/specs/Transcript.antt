@@ -1,6 +1,5 @@
 -- The transcript of a script: what its lines print, one after another.
-use Rattle.std.specs.Prelude.{◌≡◌, ℕ, List, [], ◌∷◌, ◌++◌, Option}
-use Rattle.std.specs.Io.KnownBytes.{Appends}
+use Rattle.std.specs.Prelude.{◌≡◌, ℕ, List, [], ◌∷◌, ◌++◌}
 use Rattle.std.specs.Str.Lines.{lines}
 use Rattle.mf_desk.specs.Answers.{Answers}
 use Rattle.mf_desk.specs.States.{State, Limits, start}
@@ -16,9 +15,3 @@ Perform limits s (line ∷ more) text t =
 pub record IsTranscript (limits : Limits) (input text : List ℕ) : Type 0 where
   pub last : State
   pub performed : Perform limits start (lines input) text last
-
--- a writer that held some bytes has got the transcript
-pub record GetsTranscript (limits : Limits) (held holds : Option (List ℕ)) (input : List ℕ) : Type 0 where
-  pub text : List ℕ
-  pub is : IsTranscript limits input text
-  pub out : Appends held holds text

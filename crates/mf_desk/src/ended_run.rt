@@ -1,6 +1,6 @@
 //! A run whose script has ended: its viewers are shown the last picture.
 ghost use Rattle.std.specs.Io.KnownBytes.{Appends};
-ghost use Rattle.std.specs.Prelude.{◌≡◌, ◌+◌, ◌≤◌, ◌^◌, ℕ, All, IfErr, IfOk, OnOk, length};
+ghost use Rattle.std.specs.Prelude.{◌≡◌, ◌+◌, ◌≤◌, ◌^◌, ℕ, All, Err, IfErr, IfOk, OnOk, length};
 ghost use Rattle.mf_live.specs.Writers.{ended_name, ended_published};
 ghost use Rattle.mf_desk.specs.EndedRuns.{BreaksLine, IsSameEnd, StopsShowing};
 ghost use Rattle.mf_desk.specs.Performances.{viewer_line, viewer_lines};
@@ -37,6 +37,7 @@ impl EndedRun {
         requires rooms { IfOk joined (λ watchers. All (HasRoom 1) watchers.items) }
         requires few { IfOk joined (λ watchers. length watchers.items ≤ 64) }
         requires short { self.old.written ≤ 2 ^ 101 }
+        ensures no_look { IfErr joined (λ _. result ≡ Err RunFault.NoLook) }
         ensures same { IsSameEnd self.old self.new }
         ensures shown { IfOk result (λ seen. Appends (W.contents writer.old) (W.contents writer.new) (viewer_lines (length seen.items) (glance_at (ended_published self.old.ended)))) }
         ensures count { IfOk result (λ seen. (viewers : ℕ) → IfOk joined (λ watchers. length watchers.items ≡ viewers) → length seen.items ≡ viewers) }

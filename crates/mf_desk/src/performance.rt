@@ -1,6 +1,6 @@
 //! A run beside viewers in threads.
 ghost use Rattle.std.specs.Io.KnownBytes.{IsAtEnd};
-ghost use Rattle.std.specs.Prelude.{◌≤◌, IfErr, IfOk, IfSome, OnOk};
+ghost use Rattle.std.specs.Prelude.{◌≡◌, ◌⊎◌, ◌<◌, ◌≤◌, Err, IfErr, IfOk, IfSome, OnOk};
 ghost use Rattle.mf_desk.specs.Performances.{IsPerformance, StopsEarly};
 
 use crate::fault::RunFault;
@@ -36,6 +36,7 @@ pub fn perform<S: Wait + Threads, R: Read, W: Write, G: Gate + 'static>(
     gate: &Arc<G>,
 ) -> Result<Outcome, RunFault>
     requires { viewers ≤ 64 }
+    ensures too_small { settings.now.max_bytes < 3 → (result ≡ Err RunFault.FileTooLong) ⊎ (result ≡ Err RunFault.OutOfMemory) }
     ensures performance { IfOk result (λ outcome. IfSome (R.remaining reader.old) (IsPerformance settings.now viewers looks outcome (W.contents writer.old) (W.contents writer.new))) }
     ensures end { OnOk result (IsAtEnd (R.remaining reader.new)) }
     ensures fault { IfErr result (λ fault. StopsEarly settings.now viewers fault (R.remaining reader.old) (R.remaining reader.new) (W.contents writer.old) (W.contents writer.new)) }

@@ -7,8 +7,6 @@ use Rattle.mf_geom.specs.declared.cycle.CycleFault.{CycleFault}
 use Rattle.mf_geom.specs.declared.cycle.CycleFault.TheVariants.{TooFewPoints, TooManyPoints, PointOutOfRange, NotRectilinear, Backtracks, TurningZero}
 use Rattle.mf_geom.specs.Path.{Edge, point_at, edge_at, arriving, across, up}
 use Rattle.mf_geom.specs.Turning.{turning}
--- the first of two values that is there, under the name by which other crates cite it
-pub use Rattle.std.specs.Option.{option_or as or_else}
 
 -- the first place below n that passes the test
 unfoldable pub first_place : ℕ → (ℕ → Bool) → Option ℕ

@@ -11,3 +11,7 @@ fault_text (PointOutOfRange i) = codes "PointOutOfRange " ++ decimal i
 fault_text (NotRectilinear i) = codes "NotRectilinear " ++ decimal i
 fault_text (Backtracks i) = codes "Backtracks " ++ decimal i
 fault_text TurningZero = codes "TurningZero"
+
+-- the name of a want of memory
+abbrev pub memory_text : List ℕ
+memory_text = codes "OutOfMemory"

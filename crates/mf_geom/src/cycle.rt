@@ -139,8 +139,8 @@ impl Cycle {
         winding::winding(&self.points, x, y)
     }
 
-    /// The signed area in pixels, by the shoelace formula: positive where the cycle goes
-    /// counterclockwise.
+    /// The signed area in pixels, by the shoelace formula: each pixel counts as often as the cycle winds round
+    /// it counterclockwise.
     pub fn area(&self) -> i64
         ensures value { result ≡ area self.now }
         ensures lawful { IsCycle self.now }

@@ -9,6 +9,11 @@ use std::fmt;
 pub struct OutOfMemory;
 
 impl fmt::Display for OutOfMemory {
+    ghost use Rattle.std.specs.Prelude.{Some};
+    ghost use Rattle.mf_geom.specs.Names.{memory_text};
+
+    ghost output = { λ _. Some memory_text };
+
     fn fmt<W: fmt::Write>(&self, f: &mut fmt::Formatter<W>) -> fmt::Result {
         f.write_str("OutOfMemory")
     }

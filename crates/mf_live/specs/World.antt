@@ -28,10 +28,6 @@ notice_at (n ∷ ns) (suc k) = notice_at ns k
 abbrev pub put : (ℕ → List Entry) → ℕ → List Entry → ℕ → List Entry
 put seen i L j = if j == i then L else seen j
 
--- the writer is there, and accepts changes
-abbrev pub IsOpen : World → Type 0
-IsOpen w = (w.dropped ≡ false) × (is_closed w.accepted ≡ false)
-
 -- when an event may happen, if so many operations may be accepted
 abbrev pub May : ℕ → World → Event → Type 0
 May max_ops w (Accept op) = (w.dropped ≡ false) × (is_closed w.accepted ≡ false) × (rev w.accepted < max_ops) × (fault_of (pic w.accepted) op ≡ None)

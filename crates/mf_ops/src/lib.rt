@@ -1,4 +1,5 @@
-//! Operations that change pictures: filling contours, adding and subtracting pictures, culling and clearing.
+//! Operations that change pictures: filling contours, adding and subtracting pictures, culling, clearing, shifting,
+//! scaling and turning.
 #![tactic(auto)]
 
 mod add;

@@ -1,5 +1,5 @@
 //! Operations on pictures, and what they make of a picture.
-ghost use Rattle.std.specs.Prelude.{◌≡◌, ◌≢◌, None, Some, Err, IfOk, IfErr, OnOk};
+ghost use Rattle.std.specs.Prelude.{◌≡◌, ◌≢◌, None, Some, Err, IsOk, IfOk, IfErr, OnOk};
 ghost use Rattle.mf_ops.specs.Step.{stepped, fault_of};
 ghost use Rattle.mf_ops.specs.declared.op.Op.TheVariants as ops;
 
@@ -94,13 +94,15 @@ impl Op {
 
 /// The picture after an operation; the given one is unchanged. Refusals OutOfField (11), exactly where a pixel
 /// of nonzero weight would leave the field, else WeightTooLarge (12), exactly where the weight of a pixel would
-/// pass 32767 in size, and OutOfMemory (14), which may come in the place of WeightTooLarge alone.
+/// pass 32767 in size, and OutOfMemory (14), which may come in the place of WeightTooLarge alone. A clear is
+/// never refused.
 #[tactic(auto, using(crate::proofs::Faults::contour_not_out, crate::proofs::Faults::also_not_out, crate::proofs::Faults::cull_not_out, crate::proofs::Faults::quarter_not_out, crate::proofs::Faults::clear_not_out))]
 pub fn after(alloc: Global, picture: &Picture, op: &Op) -> Result<Picture, OpFault>
     ensures step { IfOk result (λ new. new ≡ stepped picture.now op.now) }
     ensures accepted { OnOk result (fault_of picture.now op.now ≡ None) }
     ensures refused { IfErr result (λ fault. fault ≢ OpFault.OutOfMemory → fault_of picture.now op.now ≡ Some fault) }
     ensures out_of_field { fault_of picture.now op.now ≡ Some OpFault.OutOfField → result ≡ Err OpFault.OutOfField }
+    ensures clears { op.now ≡ ops.Clear → IsOk result }
 {
     match op {
         Op::Contour(cycle, weight) => fill(alloc, picture, cycle, *weight),

@@ -6,7 +6,7 @@ use Rattle.mf_text.specs.declared.fault.TextFault.{TextFault}
 use Rattle.mf_text.specs.declared.fault.TextFault.TheVariants.{LineTooLong, NotAscii, Syntax, OutOfMemory}
 use Rattle.mf_text.specs.Ahead.{Ahead}
 use Rattle.mf_text.specs.Bytes.{is_text_byte}
-use Rattle.mf_text.specs.Grammar.{Line, spell_line}
+use Rattle.mf_text.specs.Grammar.{Form, AddContour, Line, spell_line}
 use Rattle.mf_text.specs.Meaning.{IsCommandOf, IsRefusalOf}
 use Rattle.mf_text.specs.Syntax.{IsSyntaxFault}
 use Rattle.mf_text.specs.Tokens.{tokens, kinds}
@@ -47,10 +47,22 @@ pub record HasSyntaxFault (bytes : List ℕ) (column : ℕ) : Type 0 where
   pub text : IsText bytes
   pub wrong : IsSyntaxFault (front bytes) column
 
--- why a line is refused, memory aside: too long, else a byte that is no text, else no line of the grammar, else its values
+-- a form takes memory: that of a contour
+abbrev pub TakesMemory : Form → Type 0
+TakesMemory (AddContour name path weight) = Unit {0}
+TakesMemory form = ⊥
+
+-- memory may be wanting for a line: it is that of a contour
+pub record MayWantMemory (bytes : List ℕ) : Type 0 where
+  pub line : Line
+  pub line_is : IsLineOf bytes line
+  pub memory : TakesMemory line.form
+
+-- why a line is refused: too long, else a byte that is no text, else no line of the grammar, else its values; or memory
+-- was wanting
 abbrev pub IsRefused : List ℕ → TextFault → Type 0
 IsRefused bytes LineTooLong = 65536 < length bytes
 IsRefused bytes NotAscii = HasOtherBytes bytes
 IsRefused bytes (Syntax column) = HasSyntaxFault bytes column
-IsRefused bytes OutOfMemory = Unit {0}
+IsRefused bytes OutOfMemory = MayWantMemory bytes
 IsRefused bytes refused = HasBadValues bytes refused

@@ -16,14 +16,15 @@ pub enum TextFault {
     BadScale,
     /// Refusal 10: an angle other than 90, 180 and 270 degrees.
     BadTurn,
-    /// Refusal 14. It may come in the place of 1 to 7.
+    /// Refusal 14. It may come in the place of 1 to 7, of a contour alone.
     OutOfMemory,
     /// Refusal 16: more than 65,536 bytes.
     LineTooLong,
     /// Refusal 17: a byte that is neither a tab nor a printed character of ASCII.
     NotAscii,
     /// Refusal 18: no line of the grammar, with the column, counted in bytes from 1, of the first token with which no
-    /// line begins, or the column one past the last token.
+    /// line begins, or the column one past the last token. Of an int behind `code` that is no byte it is the column of
+    /// the int.
     Syntax(u32),
 }
 

@@ -1,5 +1,5 @@
 //! Paths of contours.
-ghost use Rattle.std.specs.Prelude.{◌≡◌, ◌<◌, ◌^◌, ◌++◌, ◌∷◌, [], IfOk, IfErr, List};
+ghost use Rattle.std.specs.Prelude.{◌≡◌, ◌<◌, ◌^◌, ◌++◌, ◌∷◌, [], IfOk, IsErr, IsTrue, List};
 ghost use Rattle.mf_geom.specs.declared.point.Point as points;
 ghost use Rattle.mf_text.specs.Paths.{HasPoints};
 
@@ -41,7 +41,8 @@ impl Path {
 
     /// Its points. Refusal OutOfMemory (14), where memory was wanting for them.
     pub fn points(self) -> Result<Vec<Point>, OutOfMemory>
-        ensures { (all : List points.Point) → HasPoints self all → IfOk result (λ points. points.items ≡ all) }
+        ensures points { (all : List points.Point) → HasPoints self all → IfOk result (λ points. points.items ≡ all) }
+        ensures refused { IsErr result → IsTrue self.is_wanting }
     {
         if self.is_wanting {
             return Err(OutOfMemory);

@@ -105,7 +105,6 @@ fn word_at(text: &[u8]) -> (Token, usize)
 }
 
 /// The token of the digits at the front, and how many there are.
-#[tactic(auto, unfolding(crate::specs::Tokens::number_token))]
 fn number_at(text: &[u8]) -> (Token, usize)
     ensures token { result.0 ≡ number_token (take_while is_ascii_digit text.now) }
     ensures bytes { result.1 ≡ prefix_len is_ascii_digit text.now }

@@ -3,7 +3,7 @@ ghost use Rattle.std.specs.Prelude.{◌≡◌, ◌≢◌, IfOk, IfErr};
 ghost use Rattle.std.specs.List.{list_all};
 ghost use Rattle.mf_text.specs.Bytes.{is_text_byte};
 ghost use Rattle.mf_text.specs.Grammar as grammar;
-ghost use Rattle.mf_text.specs.Lines.{Gives, IsRefused};
+ghost use Rattle.mf_text.specs.Lines.{Gives, IsRefused, TakesMemory};
 ghost use Rattle.mf_text.specs.Meaning.{IsCommandOf, IsRefusalOf, IsContour, IsCull, IsScale, IsBadScale, IsTurn, IsBadTurn};
 ghost use Rattle.mf_text.specs.Readers.{IsPathOf};
 ghost use Rattle.mf_text.specs.Sentences.{IsSaid};
@@ -67,6 +67,7 @@ fn is_text_byte(byte: u8) -> bool
 fn command_of(said: Sentence) -> Result<Command, TextFault>
     ensures given { IfOk result (λ command. (form : grammar.Form) → IsSaid said form → IsCommandOf form command) }
     ensures refused { IfErr result (λ fault. fault ≢ TextFault.OutOfMemory → (form : grammar.Form) → IsSaid said form → IsRefusalOf form fault) }
+    ensures memory { IfErr result (λ fault. fault ≡ TextFault.OutOfMemory → (form : grammar.Form) → IsSaid said form → TakesMemory form) }
 {
     match said {
         Sentence::Nothing => Ok(Command::Nothing),

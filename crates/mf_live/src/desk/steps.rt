@@ -10,7 +10,7 @@ impl Desk {
     /// A viewer that has seen nothing. Refusal NoPlace (15) where none is left: a viewer's place is given once.
     pub fn viewer(&mut self) -> Result<Viewer, NoPlace>
         ensures name { desk_name self.new ≡ desk_name self.old }
-        ensures left { MatchResult result (λ _. left self.new + 1 ≡ left self.old) (λ _. left self.new ≡ left self.old) }
+        ensures left { MatchResult result (λ _. left self.new + 1 ≡ left self.old) (λ _. (left self.old ≡ 0) × (left self.new ≡ 0)) }
         ensures viewer_name { IfOk result (λ viewer. name viewer ≡ desk_name self.old) }
         ensures newcomer { IfOk result (λ viewer. (looked viewer ≡ []) × (learnt viewer ≡ []) × (seen viewer ≡ [])) }
     {

@@ -3,6 +3,8 @@
 use super::{RECTANGLE, contour, filled, walk};
 use crate::cull::Cull;
 use crate::op::{Op, after};
+use crate::quarter::Quarter;
+use crate::scale::Scale;
 use crate::sign::Sign;
 use crate::weight::Weight;
 use std::test::Fail;
@@ -23,6 +25,15 @@ fn copies_have_the_same_effect(rt: HostRuntime) -> Result<(), Fail> {
         (
             Op::Cull(Cull::dropping(0, 2, three).expect(&rt, "0 is dropped")),
             0,
+        ),
+        (Op::Shift(1, -2), 12),
+        (
+            Op::Scale(Scale::new(-2, 3).expect(&rt, "both are factors")),
+            72,
+        ),
+        (
+            Op::Quarter(Quarter::new(90).expect(&rt, "a quarter turn")),
+            12,
         ),
         (Op::Clear, 0),
     ];

@@ -1,4 +1,4 @@
-use Rattle.std.proofs.Common.{◌≡◌, ◌≤◌, [], Err, All, length, ⊎_elim, sym, ap, subst, ◌∙◌, arith}
+use Rattle.std.proofs.Common.{◌≡◌, ◌≤◌, [], Err, All, length, ⊎_elim, inl, inr, refl, sym, ap, subst, ◌∙◌, arith}
 use Rattle.std.specs.Io.KnownBytes.{Appends}
 use Rattle.std.proofs.KnownBytes.{Consumes-whole}
 use Rattle.std.proofs.lemmas.List.Elements.{All-weaker}
@@ -119,3 +119,28 @@ returns-clause-performance g c =
     let outcome : Outcome = record { gf = c.in_ok-gf.gf; seen = c.in_ok-seen.seen } in
     Consumes-whole _ _ read (IsPerformance settings c.args.viewers c.args.looks outcome held later) consumed c.in_ok-ended.ensures.end
     (IsPerformance-over settings c.args.viewers held holds later read run over c.args.looks outcome out fits (c.in_ok-gf.ensures.some over.last.characters file) count (c.in_ok-seen.ensures.seen c.args.looks records))
+
+pub returns-in_err-memory-clause-too_small : goal.returns-in_err-memory-clause-too_small
+returns-in_err-memory-clause-too_small g c =
+    let wanting = err_from_is_err_and c.from_residual.result c.from_residual.ensures.1 in
+    rw (wanting.1, wanting.2) (λ small. inr refl)
+
+pub returns-in_err-progress-clause-too_small : goal.returns-in_err-progress-clause-too_small
+returns-in_err-progress-clause-too_small g c =
+    let passed_on = err_from_is_err_and c.from_residual-in_err-progress.result c.from_residual-in_err-progress.ensures.1 in
+    rw (passed_on.1, passed_on.2) (λ small. ⊎_elim (λ long. inl (ap Err long)) (λ wanting. inr (ap Err wanting)) c.in_err-progress.ensures.fault)
+
+pub returns-in-Err-clause-too_small : goal.returns-in-Err-clause-too_small
+returns-in-Err-clause-too_small g c = λ small. let refused = c.in_ok-progress.ensures.too_long.0 small in absurd (cc)
+
+pub returns-in_err-ended-clause-too_small : goal.returns-in_err-ended-clause-too_small
+returns-in_err-ended-clause-too_small g c = λ small. let refused = c.in_ok-progress.ensures.too_long.0 small in absurd (cc)
+
+pub returns-in_err-seen-clause-too_small : goal.returns-in_err-seen-clause-too_small
+returns-in_err-seen-clause-too_small g c = λ small. let refused = c.in_ok-progress.ensures.too_long.0 small in absurd (cc)
+
+pub returns-in_err-gf-clause-too_small : goal.returns-in_err-gf-clause-too_small
+returns-in_err-gf-clause-too_small g c = λ small. let refused = c.in_ok-progress.ensures.too_long.0 small in absurd (cc)
+
+pub returns-clause-too_small : goal.returns-clause-too_small
+returns-clause-too_small g c = λ small. let refused = c.in_ok-progress.ensures.too_long.0 small in absurd (cc)

@@ -10,6 +10,7 @@ use Rattle.mf_text.specs.declared.path.Path as passed
 use Rattle.mf_text.specs.declared.sentence.Sentence.{Sentence}
 use Rattle.mf_text.specs.declared.sentence.Sentence.TheVariants as sentence
 use Rattle.mf_text.specs.Grammar.{Form, Nothing, AddContour, AddPicture, CullKeeping, CullDropping, Clear, Move, ShowTotal, ShowPicture, ShowProof, ShipOut, PublishAll, Path, path_value, weight_value}
+use Rattle.mf_text.specs.Lines.{TakesMemory}
 use Rattle.mf_text.specs.Meaning.{IsRefusalOf}
 use Rattle.mf_text.specs.Readers.{IsPathOf}
 use Rattle.mf_text.specs.Sentences.{IsSaid}
@@ -39,6 +40,29 @@ module _ (name : Name) (path : passed.Path) (weight : ℤ) where
       → IfErr r (λ fault. fault ≢ OutOfMemory → (form : Form) → IsSaid said form → IsRefusalOf form fault)
   refused said (Ok given) is refuses = tt
   refused said (Err fault) is refuses = λ memory form form_said. refusal fault (refuses memory) form (subst (λ s. IsSaid s form) is form_said)
+
+  takes : (form : Form) → IsSaid (sentence.AddContour name path weight) form → TakesMemory form
+  takes Nothing said = absurd (cc)
+  takes (AddContour other tree some) said = tt
+  takes (AddPicture other sign source) said = absurd (cc)
+  takes (CullKeeping other range some) said = absurd (cc)
+  takes (CullDropping other range some) said = absurd (cc)
+  takes (Clear other) said = absurd (cc)
+  takes (Move other transform) said = absurd (cc)
+  takes (ShowTotal source) said = absurd (cc)
+  takes (ShowPicture source) said = absurd (cc)
+  takes (ShowProof source) said = absurd (cc)
+  takes (ShipOut source code dx width) said = absurd (cc)
+  takes PublishAll said = absurd (cc)
+
+  wanting : (said : Sentence) (r : Result Command TextFault) → said ≡ sentence.AddContour name path weight
+      → IfErr r (λ fault. fault ≡ OutOfMemory → (form : Form) → IsSaid said form → TakesMemory form)
+  wanting said (Ok given) is = tt
+  wanting said (Err fault) is = λ memory form form_said. takes form (subst (λ s. IsSaid s form) is form_said)
+
+pub returns-in-AddContour-clause-memory : goal.returns-in-AddContour-clause-memory
+returns-in-AddContour-clause-memory c =
+    wanting c.in-AddContour.name c.in-AddContour.path c.in-AddContour.weight c.args.said c.contour.result c.in-AddContour.is
 
 -- src/value.rt:65:57
 pub returns-in-AddContour-clause-refused : goal.returns-in-AddContour-clause-refused

@@ -19,12 +19,12 @@ pub returns-clause-given : goal.returns-clause-given
 returns-clause-given c =
     let fits : to_z w32 (of_z w32 c.args.weight) ≡ c.args.weight = omega (arith, ints) in
     IfOk-weaker c.contour_through.result _ _
-    (λ command given tree is. subst (λ points. IsContour c.args.name points c.args.weight command) (c.in_ok-points.ensures (grammar.path_value tree) is) given)
+    (λ command given tree is. subst (λ points. IsContour c.args.name points c.args.weight command) (c.in_ok-points.ensures.points (grammar.path_value tree) is) given)
     (rw fits at c.contour_through.ensures.given)
 
 pub returns-clause-refused : goal.returns-clause-refused
 returns-clause-refused c =
     let fits : to_z w32 (of_z w32 c.args.weight) ≡ c.args.weight = omega (arith, ints) in
     IfErr-weaker c.contour_through.result _ _
-    (λ fault refused memory tree is. subst (λ points. IsRefusedContour points c.args.weight fault) (c.in_ok-points.ensures (grammar.path_value tree) is) refused)
+    (λ fault refused memory tree is. subst (λ points. IsRefusedContour points c.args.weight fault) (c.in_ok-points.ensures.points (grammar.path_value tree) is) refused)
     (rw fits at c.contour_through.ensures.refused)
