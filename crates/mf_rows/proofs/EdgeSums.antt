@@ -261,12 +261,12 @@ module _ (whole_left whole_right sum : List Edge) (e : Edge) (others fs : List E
   split_right : IsSplitAt fs e.x (pos 0) fs
   split_right = split_behind fs e.x (left_from so_far.low e.x fs so_far.right (begin_earlier x e.x fs (omega (arith, ints)) from)) (begin_not_at x e.x fs lt from)
 
-  kept_at_column : weight_in_both whole_left whole_right e.x ≡ weight +ℤ e.weight
+  pub kept_at_column : weight_in_both whole_left whole_right e.x ≡ weight +ℤ e.weight
   kept_at_column =
       let all = sum_at_column whole_left whole_right sum (e ∷ others) fs weight so_far e.x here others fs e.weight (pos 0) split_left split_right in
       omega (arith, ints)
 
-  kept_more : IsLawfulWeight (weight +ℤ e.weight) → IsSumSoFar whole_left whole_right (sum ++ e ∷ []) others fs (weight +ℤ e.weight)
+  pub kept_more : IsLawfulWeight (weight +ℤ e.weight) → IsSumSoFar whole_left whole_right (sum ++ e ∷ []) others fs (weight +ℤ e.weight)
   kept_more lawful =
       let no_more : e.weight +ℤ pos 0 ≡ e.weight = omega (arith, ints) in
       rw (no_more, unless_zero-some e so_far.left.sorted.0.nonzero) at

@@ -1,17 +1,23 @@
 -- How far the weights of rows go from 0, edge by edge.
-use Rattle.std.proofs.Common.{◌≡◌, ◌<◌, ◌+◌, cond, nat_abs, ℕ, ℤ, get_or, drop, length, int_le, true, T, Fits, w16, FitsSigned, to_z, of_z, w32, neg_ℤ, pos, negsuc, ◌+ℤ◌, ◌*ℤ◌, ◌≤ℤ◌, ◌<ℤ◌, List, [], ◌∷◌, refl, ap, subst, ◌∙◌, arith}
+use Rattle.std.proofs.Common.{◌≡◌, ◌<◌, ◌≤◌, ◌+◌, cond, nat_abs, Bool, true, false, ℕ, zero, suc, ℤ, get_or, take, drop, length, int_le, int_lt, T, Fits, w16, FitsSigned, to_z, of_z, w32, neg_ℤ, pos, negsuc, ◌+ℤ◌, ◌*ℤ◌, ◌≤ℤ◌, ◌<ℤ◌, List, [], ◌∷◌, ◌++◌, refl, ap, subst, ◌∙◌, append-nil, append_assoc, arith}
+use Rattle.std.specs.List.{All, AllWithin}
+use Rattle.std.specs.List.Sorted.{IsPartitionedBy}
 use Rattle.std.specs.Ordering.{int_cmp, is_lt, ord_max}
 use Rattle.std.proofs.lemmas.Cmp.{by_ranked, int_ranked}
 use Rattle.std.proofs.lemmas.Int.{ints, by_lt_z}
 use Rattle.std.proofs.lemmas.List.{drop_more}
+use Rattle.std.proofs.lemmas.List.Elements.{All-nil, All-cons, All-head, All-tail, All-weaker}
 use lib.Signed.{non_neg}
 use Rattle.mf_rows.specs.declared.edge.Edge.{Edge}
 use Rattle.mf_rows.specs.Dots.{IsLawfulWeight}
-use Rattle.mf_rows.specs.Edges.{weight_in, AreEdgesFrom, AreEdges, AreOpenEdges}
+use Rattle.mf_rows.specs.Edges.{weight_in, AreEdgesFrom, AreEdges}
+use Rattle.mf_rows.specs.Merging.{AreEdgesLeft, BeginFrom, IsDifference, IsSplitAt, unless_zero}
 use Rattle.mf_rows.specs.Reaches.{AddInReach, StaysInReach}
-use Rattle.mf_rows.specs.Sums.{HaveWeights, weight_in_both, with_edge_in}
-use Rattle.mf_rows.proofs.EdgesLemmas.{weight_in-left, weight_in-right, weight_in-before}
-use Rattle.mf_rows.proofs.EdgeSums.{with_edge_in-before, with_edge_in-behind}
+use Rattle.mf_rows.specs.Sums.{HaveWeights, weight_in_both}
+use Rattle.mf_rows.specs.SumsSoFar.{IsSumSoFar}
+use Rattle.mf_rows.proofs.BandsLemmas.{Falls, IsPartitionedBy-falls, All-take_within, All-drop_within}
+use Rattle.mf_rows.proofs.EdgesLemmas.{weight_in-left, weight_in-right, weight_in-before, edges_from-lower}
+use Rattle.mf_rows.proofs.EdgeSums.{changes_of_edges, sum_none, kept_at_column, kept_more, left_of_change, change_at_column, change_more}
 
 -- a weight does not pass a reach in size
 pub record IsInReach (reach w : ℤ) : Type 0 where
@@ -194,172 +200,95 @@ reach_all es w reach so_far =
     record { least = omega (arith, ints, now.least); greatest = omega (arith, ints, now.greatest) }) in
     record { most = so_far.most; least = λ x. (all x).least; greatest = λ x. (all x).greatest }
 
--- ---- changes that are added one by one
-
--- some changes of a row were added, and the rest of them are left: at the first of these the row had weight held
-pub record AreAddedBefore (es fs sum rest : List Edge) (low held reach : ℤ) : Type 0 where
-  pub start : negsuc 4094 ≤ℤ low
-  pub edges : AreEdgesFrom (negsuc 4094) sum
-  pub sorted : AreEdgesFrom low rest
-  pub small : IsInReach reach held
-  pub behind : (x : ℤ) → low ≤ℤ x → weight_in fs x ≡ held +ℤ weight_in rest x
-  pub before : (x : ℤ) → x <ℤ low → weight_in sum x ≡ weight_in es x +ℤ weight_in fs x
-  pub after : (x : ℤ) → low ≤ℤ x → weight_in sum x ≡ weight_in es x +ℤ held
-
--- the same, with the column and the weight left open
-pub record AreAdded (es fs sum rest : List Edge) : Type 0 where
-  pub low : ℤ
-  pub held : ℤ
-  pub reach : AddInReach es fs
-  pub so_far : AreAddedBefore es fs sum rest low held reach.right_reach
+-- ---- changes that are added in reach
 
 reach_at : (reach : ℤ) (es : List Edge) (x : ℤ) → StaysInReach reach es → IsInReach reach (weight_in es x)
 reach_at reach es x stays = record { least = stays.least x; greatest = stays.greatest x }
 
-pub added_none : (es fs : List Edge) → AreEdges es → AreEdges fs → AddInReach es fs → AreAdded es fs es fs
-added_none es fs left right reach =
-    let far = reach_at reach.right_reach fs (negsuc 4095) reach.right in
-    let blank = weight_in-before (negsuc 4094) fs (negsuc 4095) right.sorted (omega (arith, ints)) in
-    record {
-      low = negsuc 4094;
-      held = pos 0;
-      reach = reach;
-      so_far = record {
-        start = omega (arith, ints);
-        edges = left.sorted;
-        sorted = right.sorted;
-        small = record { least = omega (arith, ints, far.least); greatest = omega (arith, ints, far.greatest) };
-        behind = λ x le. omega (arith, ints);
-        before = λ x lt. let none = weight_in-before (negsuc 4094) fs x right.sorted lt in omega (arith, ints);
-        after = λ x le. omega (arith, ints);
-      };
-    }
-
-pub added_read : (es fs sum : List Edge) (i : ℕ) (d : Edge) → i < length fs → AreAdded es fs sum (drop i fs) → AreAdded es fs sum (get_or fs i d ∷ drop (i + 1) fs)
-added_read es fs sum i d inside added = subst (λ rest. AreAdded es fs sum rest) (drop_more fs i d inside) added
-
--- the sum so far is lawful
-pub added_open : (es fs sum rest : List Edge) → AreAdded es fs sum rest → AreOpenEdges sum
-added_open es fs sum rest added =
-    let so_far = added.so_far in
-    let room = added.reach.room in
-    let small = so_far.small in
-    record {
-      sorted = so_far.edges;
-      lawful = λ x.
-          let left = reach_at added.reach.left_reach es x added.reach.left in
-          let right = reach_at added.reach.right_reach fs x added.reach.right in
-          by_lt_z x added.low
-          (λ before. let all = so_far.before x before in record { least = omega (arith, ints, left.least, right.least, right.greatest); greatest = omega (arith, ints, left.greatest, right.greatest, right.least) })
-          (λ not_before. let all = so_far.after x (omega (arith, ints)) in record { least = omega (arith, ints, left.least, small.least, small.greatest); greatest = omega (arith, ints, left.greatest, small.greatest, small.least) });
-    }
-
--- the next change is one that may be added
-pub record MayBeAdded (change : Edge) : Type 0 where
-  pub left : negsuc 4094 ≤ℤ change.x
-  pub right : change.x ≤ℤ pos 4095
-  pub lawful : IsLawfulWeight change.weight
-
-pub column_is : (change : Edge) → MayBeAdded change → to_z w32 (of_z w32 change.x) ≡ change.x
-column_is change may = omega (arith, ints, may.left, may.right)
-
-pub weight_is : (change : Edge) → MayBeAdded change → to_z w32 (of_z w32 change.weight) ≡ change.weight
-weight_is change may =
-    let least = may.lawful.least in
-    let greatest = may.lawful.greatest in
-    omega (arith, ints)
-
-next_weight_is : (es fs sum : List Edge) (e : Edge) (rest : List Edge) (low held reach : ℤ) → AreAddedBefore es fs sum (e ∷ rest) low held reach → weight_in fs e.x ≡ held +ℤ e.weight
-next_weight_is es fs sum e rest low held reach so_far =
-    let all = so_far.behind e.x so_far.sorted.1 in
-    let here = rest_at e rest low e.x so_far.sorted refl in
-    omega (arith, ints)
-
-pub added_next : (es fs sum : List Edge) (e : Edge) (rest : List Edge) → AreAdded es fs sum (e ∷ rest) → MayBeAdded e
-added_next es fs sum e rest added =
-    let so_far = added.so_far in
-    let next = next_weight_is es fs sum e rest added.low added.held added.reach.right_reach so_far in
-    let here = reach_at added.reach.right_reach fs e.x added.reach.right in
-    let left = reach_at added.reach.left_reach es e.x added.reach.left in
-    let room = added.reach.room in
-    let small = so_far.small in
-    record {
-      left = so_far.sorted.0.left;
-      right = so_far.sorted.0.right;
-      lawful = record {
-        least = omega (arith, ints, here.least, small.greatest, left.least, left.greatest);
-        greatest = omega (arith, ints, here.greatest, small.least, left.least, left.greatest);
-      };
-    }
-
-pub added_more : (es fs sum : List Edge) (e : Edge) (rest more : List Edge) → AreAdded es fs sum (e ∷ rest) → AreEdgesFrom (negsuc 4094) more → HaveWeights (with_edge_in sum e.x e.weight) more → AreAdded es fs more rest
-added_more es fs sum e rest more added sorted weights =
-    let so_far = added.so_far in
-    let low = added.low in
-    let reached = so_far.sorted.1 in
-    let next = next_weight_is es fs sum e rest low added.held added.reach.right_reach so_far in
-    let here = reach_at added.reach.right_reach fs e.x added.reach.right in
-    record {
-      low = e.x +ℤ pos 1;
-      held = added.held +ℤ e.weight;
-      reach = added.reach;
-      so_far = record {
-        start = omega (arith, ints, so_far.sorted.0.left);
-        edges = sorted;
-        sorted = so_far.sorted.2;
-        small = record { least = omega (arith, ints, here.least); greatest = omega (arith, ints, here.greatest) };
-        behind = λ x le.
-            let all = so_far.behind x (omega (arith, ints)) in
-            let first = weight_in-left e rest x (omega (arith, ints)) in
-            omega (arith, ints);
-        before = λ x lt.
-            let is = weights.weights x in
-            by_lt_z x e.x
-            (λ left.
-            let kept = with_edge_in-before sum e.x e.weight x left in
-            by_lt_z x low
-            (λ further. let all = so_far.before x further in omega (arith, ints))
-            (λ not_further.
-            let all = so_far.after x (omega (arith, ints)) in
-            let whole = so_far.behind x (omega (arith, ints)) in
-            let none = rest_before e rest low x so_far.sorted left in
-            omega (arith, ints)))
-            (λ not_left.
-            let with = with_edge_in-behind sum e.x e.weight x (omega (arith, ints)) in
-            let all = so_far.after x (omega (arith, ints)) in
-            let whole = so_far.behind x (omega (arith, ints)) in
-            let at = rest_at e rest low x so_far.sorted (omega (arith, ints)) in
-            omega (arith, ints));
-        after = λ x le.
-            let is = weights.weights x in
-            let with = with_edge_in-behind sum e.x e.weight x (omega (arith, ints)) in
-            let all = so_far.after x (omega (arith, ints)) in
-            omega (arith, ints);
-      };
-    }
-
-pub added_all : (es fs sum : List Edge) → AreAdded es fs sum [] → HaveWeights (weight_in_both es fs) sum
-unfolding weight_in weight_in_both
-added_all es fs sum added = record {
-  weights = λ x.
-      by_lt_z x added.low
-      (λ before. added.so_far.before x before)
-      (λ not_before.
-      let all = added.so_far.after x (omega (arith, ints)) in
-      let whole = added.so_far.behind x (omega (arith, ints)) in
-      omega (arith, ints));
-}
-
-pub added_edges : (es fs sum : List Edge) → AreEdges es → AreEdges fs → AreAdded es fs sum [] → AreEdges sum
+-- each weight of two rows together is lawful
+pub lawful_in_reach : (es fs : List Edge) → AddInReach es fs → (x : ℤ) → IsLawfulWeight (weight_in_both es fs x)
 unfolding weight_in_both
-added_edges es fs sum left right added =
-    let whole = added_all es fs sum added in
-    let opened = added_open es fs sum [] added in
-    record {
-      sorted = opened.sorted;
-      lawful = opened.lawful;
-      closed = let all = whole.weights (pos 4095) in omega (arith, ints, left.closed, right.closed);
-    }
+lawful_in_reach es fs reach x =
+    let left = reach_at reach.left_reach es x reach.left in
+    let right = reach_at reach.right_reach fs x reach.right in
+    let room = reach.room in
+    record { least = omega (arith, ints, left.least, right.least, right.greatest); greatest = omega (arith, ints, left.greatest, right.greatest, right.least) }
+
+-- a sum so far, whatever its running weight is
+pub record IsSumInReach (whole_left whole_right sum es fs : List Edge) : Type 0 where
+  pub weight : ℤ
+  pub so_far : IsSumSoFar whole_left whole_right sum es fs weight
+
+pub in_reach_none : (es fs : List Edge) → AreEdges es → AreEdges fs → IsSumInReach es fs [] es fs
+in_reach_none es fs left right = record { weight = pos 0; so_far = sum_none es fs left (changes_of_edges fs right) }
+
+-- the edges that are left are sorted
+pub in_reach_sorted : (whole_left whole_right sum es fs : List Edge) → IsSumInReach whole_left whole_right sum es fs → AreEdgesFrom (negsuc 4094) es
+in_reach_sorted whole_left whole_right sum es fs within = edges_from-lower (negsuc 4094) within.so_far.low es within.so_far.reach within.so_far.left.sorted
+
+module _ (whole_left whole_right : List Edge) (lawful : (x : ℤ) → IsLawfulWeight (weight_in_both whole_left whole_right x)) where
+  -- the first edges of the left row join the sum as they are, so many as stand left of the next change
+  in_reach_passed : (sum es : List Edge) (f : Edge) (fs : List Edge) (count : ℕ) → All (λ e. e.x <ℤ f.x) (take count es) → IsSumInReach whole_left whole_right sum es (f ∷ fs)
+      → IsSumInReach whole_left whole_right (sum ++ take count es) (drop count es) (f ∷ fs)
+  in_reach_passed sum es f fs zero left within = rw (append-nil sum) within
+  in_reach_passed sum [] f fs (suc count) left within = rw (append-nil sum) within
+  in_reach_passed sum (e ∷ es) f fs (suc count) left within =
+      let lt : e.x <ℤ f.x = All-head (λ e. e.x <ℤ f.x) e (take count es) left in
+      let from : BeginFrom f.x (f ∷ fs) = omega (arith, ints) in
+      let at = kept_at_column whole_left whole_right sum e es (f ∷ fs) within.weight f.x within.so_far lt from in
+      let more = kept_more whole_left whole_right sum e es (f ∷ fs) within.weight f.x within.so_far lt from (subst IsLawfulWeight at (lawful e.x)) in
+      subst (λ s. IsSumInReach whole_left whole_right s (drop count es) (f ∷ fs)) (append_assoc sum (e ∷ []) (take count es))
+      (in_reach_passed (sum ++ e ∷ []) es f fs count (All-tail (λ e. e.x <ℤ f.x) e (take count es) left) (record { weight = within.weight +ℤ e.weight; so_far = more }))
+
+  module _ (sum es changes : List Edge) (f : Edge) (fs : List Edge) (count : ℕ) (is : changes ≡ f ∷ fs) (within : IsSumInReach whole_left whole_right sum es changes) (left : All (λ e. e.x <ℤ f.x) (take count es)) where
+    pub in_reach_before : IsSumInReach whole_left whole_right (sum ++ take count es) (drop count es) (f ∷ fs)
+    in_reach_before = in_reach_passed sum es f fs count left (subst (λ fs. IsSumInReach whole_left whole_right sum es fs) is within)
+
+    module _ (from : BeginFrom f.x (drop count es)) where
+      pub in_reach_left : AreEdgesLeft f.x (drop count es)
+      in_reach_left = left_of_change _ _ _ _ f fs in_reach_before.weight in_reach_before.so_far from
+
+      pub in_reach_difference : IsDifference f.weight
+      in_reach_difference = All-head (λ e. IsDifference e.weight) f fs in_reach_before.so_far.right.differences
+
+      -- then the change joins, with the edge that stands at its column
+      pub in_reach_more : (v : ℤ) (others : List Edge) → IsSplitAt (drop count es) f.x v others
+          → IsSumInReach whole_left whole_right ((sum ++ take count es) ++ unless_zero (record { x = f.x; weight = v +ℤ f.weight })) others fs
+      in_reach_more v others split =
+          let at = change_at_column _ _ _ _ f fs in_reach_before.weight in_reach_before.so_far from v others split in
+          record {
+            weight = in_reach_before.weight +ℤ (v +ℤ f.weight);
+            so_far = change_more _ _ _ _ f fs in_reach_before.weight in_reach_before.so_far from v others split (subst IsLawfulWeight at (lawful f.x));
+          }
+
+-- ---- edges left of a column
+
+abbrev pub is_left_of : ℤ → Edge → Bool
+is_left_of x e = int_lt e.x x
+
+edges_further : (low : ℤ) (es : List Edge) → AreEdgesFrom low es → All (λ e. low ≤ℤ e.x) es
+edges_further low [] sorted = All-nil (λ e. low ≤ℤ e.x)
+edges_further low (e ∷ es) sorted =
+    let first = sorted.1 in
+    All-cons (λ d. low ≤ℤ d.x) e es first (All-weaker (λ d. (e.x +ℤ pos 1) ≤ℤ d.x) (λ d. low ≤ℤ d.x) (λ d le. omega (arith, ints)) es (edges_further (e.x +ℤ pos 1) es sorted.2))
+
+columns_fall : (low : ℤ) (es : List Edge) → AreEdgesFrom low es → Falls (λ e. neg_ℤ e.x) es
+columns_fall low [] sorted = tt
+columns_fall low (e ∷ es) sorted =
+    (All-weaker (λ d. (e.x +ℤ pos 1) ≤ℤ d.x) (λ d. neg_ℤ d.x <ℤ neg_ℤ e.x) (λ d le. omega (arith, ints)) es (edges_further (e.x +ℤ pos 1) es sorted.2), columns_fall (e.x +ℤ pos 1) es sorted.2)
+
+pub IsPartitionedBy-is_left_of : (x : ℤ) (es : List Edge) → AreEdgesFrom (negsuc 4094) es → IsPartitionedBy (is_left_of x) es
+IsPartitionedBy-is_left_of x es sorted = IsPartitionedBy-falls (λ e. neg_ℤ e.x) (is_left_of x) (λ a b le left. grind (arith, ints)) es (columns_fall (negsuc 4094) es sorted)
+
+pub left_split : (x : ℤ) (n : ℕ) (es : List Edge) → n ≤ length es → AllWithin (λ e. is_left_of x e ≡ true) es 0 n → All (λ e. e.x <ℤ x) (take n es)
+left_split x n es le passed = All-weaker (λ e. is_left_of x e ≡ true) (λ e. e.x <ℤ x) (λ e left. grind (arith, ints)) (take n es) (All-take_within (λ e. is_left_of x e ≡ true) es n le passed)
+
+begin_from : (x : ℤ) (es : List Edge) → All (λ e. x ≤ℤ e.x) es → BeginFrom x es
+begin_from x [] all = tt
+begin_from x (e ∷ es) all = All-head (λ e. x ≤ℤ e.x) e es all
+
+pub right_split : (x : ℤ) (n : ℕ) (es : List Edge) → AllWithin (λ e. is_left_of x e ≡ false) es n (length es) → BeginFrom x (drop n es)
+right_split x n es failed = begin_from x (drop n es) (All-weaker (λ e. is_left_of x e ≡ false) (λ e. x ≤ℤ e.x) (λ e right. grind (arith, ints)) (drop n es) (All-drop_within (λ e. is_left_of x e ≡ false) es n failed))
 
 -- the sum of two reaches is one of the sum
 pub reach_of_sum : (es fs sum : List Edge) (a b : ℤ) → StaysInReach a es → StaysInReach b fs → (a +ℤ b) ≤ℤ pos 32767 → HaveWeights (weight_in_both es fs) sum → StaysInReach (a +ℤ b) sum

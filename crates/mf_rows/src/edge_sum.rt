@@ -1,13 +1,13 @@
 //! The sum of two rows of edges.
-ghost use Rattle.std.specs.Prelude.{◌≡◌, ◌≢◌, ◌≤◌, IfOk, IfErr, All, drop, length};
+ghost use Rattle.std.specs.Prelude.{◌≡◌, ◌≢◌, ◌≤◌, negsuc, ◌<ℤ◌, IfOk, IfErr, All, drop, length, take};
 ghost use Rattle.mf_rows.specs.Dots.{IsLawfulWeight};
-ghost use Rattle.mf_rows.specs.Edges.{AreEdges};
+ghost use Rattle.mf_rows.specs.Edges.{AreEdges, AreEdgesFrom};
 ghost use Rattle.mf_rows.specs.Merging.{AreChanges, AreEdgesLeft, BeginFrom, IsDifference, IsSplitAt};
 ghost use Rattle.mf_rows.specs.Reaches.{AddInReach};
 ghost use Rattle.mf_rows.specs.SumsSoFar.{ArePassed, AreStopped};
 ghost use Rattle.mf_rows.specs.Sums.{weight_in_both, HaveWeights, IsUnlawfulColumn};
 
-use crate::edge::{Edge, add_edge, give_back_room, push_unless_zero};
+use crate::edge::{Edge, give_back_room, push_unless_zero};
 use crate::fault::AddFault;
 use crate::field::is_lawful_weight;
 use mf_geom::OutOfMemory;
@@ -54,8 +54,8 @@ pub(crate) fn sum_of_edges(
     Ok(sum)
 }
 
-/// The edges of a row and of what is added to it together, one change after another: no weight can pass 32767 in
-/// size, so none between them is looked at. It is quicker where there are few changes.
+/// The edges of a row and of what is added to it together: no weight can pass 32767 in size, so none between them is
+/// looked at, and the place of each change is found by halving.
 pub(crate) fn with_changes(
     alloc: Global,
     left: &[Edge],
@@ -69,11 +69,32 @@ pub(crate) fn with_changes(
 {
     let mut edges = Vec::new(alloc);
     edges.reserve(left.len() + right.len())?;
-    edges.extend_from_slice(left)?;
-    for change in right {
-        add_edge(&mut edges, change.x, change.weight)?;
+    let (mut left, mut right) = (left, right);
+    while let Some((change, changes)) = right.split_first() {
+        let (kept, others) = left.split_at(count_left_of(left, change.x));
+        edges.extend_from_slice(kept)?;
+        let (edge, rest) = split_at(others, change.x);
+        push_unless_zero(
+            &mut edges,
+            Edge {
+                x: change.x,
+                weight: edge + change.weight,
+            },
+        )?;
+        (left, right) = (rest, changes);
     }
+    edges.extend_from_slice(left)?;
     Ok(edges)
+}
+
+/// How many edges, the first ones, stand left of column x.
+fn count_left_of(edges: &[Edge], x: i32) -> usize
+    requires { AreEdgesFrom (negsuc 4094) edges.now }
+    ensures within { result ≤ length edges.now }
+    ensures left { All (λ edge. edge.x <ℤ x) (take result edges.now) }
+    ensures others { BeginFrom x (drop result edges.now) }
+{
+    edges.partition_point(|edge| edge.x < x)
 }
 
 /// Edges that were passed: how many, and the weight behind them.
