@@ -137,7 +137,7 @@ unfolding ended_lines unended
 lines-ended read = lines_of_parts-ended (parts_of read)
 
 -- however the script goes on, the lines that are ended stay its first lines
-ended_lines-front : (read more : List ℕ) → (others : List (List ℕ)) × (ended_lines (read ++ more) ≡ ended_lines read ++ others)
+pub ended_lines-front : (read more : List ℕ) → (others : List (List ℕ)) × (ended_lines (read ++ more) ≡ ended_lines read ++ others)
 ended_lines-front read [] = ([], ap ended_lines (append-nil read) ∙ sym (append-nil (ended_lines read)))
 ended_lines-front read (b ∷ more) =
     let (others, is) = ended_lines-front (read ++ b ∷ []) more in
@@ -149,13 +149,6 @@ ended_lines-front read (b ∷ more) =
     (line ∷ others, goes_on ∙ ap (λ ls. ls ++ others) ended ∙ append_assoc (ended_lines read) (line ∷ []) others))
     (λ no. (others, goes_on ∙ ap (λ ls. ls ++ others) (ended_lines-other read b no)))
     (cases_Bool (eqb b 10))
-
--- and its first lines as soon as the script is there
-pub lines-front : (read more : List ℕ) → (others : List (List ℕ)) × (lines (read ++ more) ≡ ended_lines read ++ others)
-lines-front read more =
-    let (others, is) = ended_lines-front read more in
-    let end = last_line (unended (read ++ more)) in
-    (others ++ end, lines-ended (read ++ more) ∙ ap (λ ls. ls ++ end) is ∙ append_assoc (ended_lines read) others end)
 
 -- no byte is behind the last line feed
 pub lines-none : (read : List ℕ) → unended read ≡ [] → lines read ≡ ended_lines read

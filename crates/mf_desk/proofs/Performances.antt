@@ -13,9 +13,10 @@ use Rattle.mf_desk.specs.EndedRuns.{IsOver, StopsShowing, glance}
 use Rattle.mf_desk.specs.Fault.{BreaksScript}
 use Rattle.mf_desk.specs.Performances.{IsLongerText, IsPerformance, StopsEarly, viewer_lines}
 use Rattle.mf_desk.specs.Runs.{IsLongFile, font_file, limits_set}
-use Rattle.mf_desk.specs.States.{Limits, start}
+use Rattle.mf_desk.specs.States.{Limits}
 use Rattle.mf_desk.specs.Watchers.{HasSeen, glance_at}
 use Rattle.mf_desk.proofs.KnownTexts.{StartsWith-front}
+use Rattle.mf_desk.proofs.Stages.{CutsShort-nothing}
 
 module _ (settings : Settings) (viewers : ℕ) where
   -- a fault of the script, its reader or its writer ends the run
@@ -32,7 +33,7 @@ module _ (settings : Settings) (viewers : ℕ) where
   -- nothing was read or written
   pub StopsEarly-nothing : (unread held : Option (List ℕ)) → StopsEarly settings viewers OutOfMemory unread unread held held
   StopsEarly-nothing unread held =
-      ([], Consumes-nil unread, ([], Appends-nil held, inl (record { done = []; more = []; last = start; first = refl; performed = (refl, refl) })))
+      StopsEarly-script (limits_set settings) OutOfMemory unread unread held held refl ([], Consumes-nil unread, CutsShort-nothing (limits_set settings) unread held)
 
   pub StopsEarly-no_room : (unread held : Option (List ℕ)) → settings.max_bytes < 3 → StopsEarly settings viewers FileTooLong unread unread held held
   StopsEarly-no_room unread held few =
@@ -53,7 +54,7 @@ module _ (settings : Settings) (viewers : ℕ) where
       -- a fault came where the last looks and their lines were due
       pub StopsEarly-showing : (fault : RunFault) → StopsShowing run viewers fault holds later → StopsEarly settings viewers fault unread left held later
       StopsEarly-showing OutOfMemory some =
-          (read, consumed, (over.text ++ viewer_lines some.shown (glance run), out-more _ some.out, inr (record { last = over.last; shown = some.shown; few = some.few; performed = longer some.shown })))
+          (read, consumed, (over.text ++ viewer_lines some.shown (glance run), out-more _ some.out, inr (all_read, record { last = over.last; shown = some.shown; few = some.few; performed = longer some.shown })))
       StopsEarly-showing NoLook some =
           (read, consumed, (over.text ++ viewer_lines some.shown (glance run), out-more _ some.out, (all_read, record { last = over.last; shown = some.shown; few = some.few; performed = longer some.shown })))
       StopsEarly-showing (WriteFault count) part =
@@ -65,7 +66,7 @@ module _ (settings : Settings) (viewers : ℕ) where
               out-more part.front part.out,
               record {
                 text = text;
-                uncut = inr (record { last = over.last; shown = part.shown; few = part.few; performed = longer part.shown });
+                uncut = inr (all_read, record { last = over.last; shown = part.shown; few = part.few; performed = longer part.shown });
                 begins = StartsWith-front text (over.text ++ part.front) part.rest (ap (λ more. over.text ++ more) part.lines_are ∙ sym (append_assoc over.text part.front part.rest));
                 counted = length-append over.text part.front ∙ sym (part.counted ∙ ap (λ n. n + length part.front) over.counted);
               },
@@ -83,7 +84,7 @@ module _ (settings : Settings) (viewers : ℕ) where
         -- or memory is wanting for it
         pub StopsEarly-wanting : StopsEarly settings viewers OutOfMemory unread left held later
         StopsEarly-wanting =
-            (read, consumed, (over.text ++ viewer_lines viewers (glance run), out-more _ out, inr (record { last = over.last; shown = viewers; few = omega arith; performed = longer viewers })))
+            (read, consumed, (over.text ++ viewer_lines viewers (glance run), out-more _ out, inr (all_read, record { last = over.last; shown = viewers; few = omega arith; performed = longer viewers })))
 
     -- the run ends well
     pub IsPerformance-over : (looks : ℕ) (outcome : Outcome) → Appends holds later (viewer_lines viewers (glance run))

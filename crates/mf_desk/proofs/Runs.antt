@@ -1,6 +1,6 @@
 -- What a run answers where its script is through, and where it is not.
 use Rattle.std.proofs.Common.{◌≡◌, ◌<◌, ℕ, List, [], Option, inl, inr, refl, sym, subst, ◌∙◌, append-nil, arith}
-use Rattle.std.specs.Io.KnownBytes.{Consumes}
+use Rattle.std.specs.Io.KnownBytes.{Consumes, IsAtEnd}
 use Rattle.std.proofs.Math.Nat.{min-le_left}
 use Rattle.std.proofs.KnownBytes.{Appends-nil, Consumes-nil}
 use Rattle.std.specs.Str.Lines.{lines}
@@ -32,7 +32,7 @@ EndsEarly-script settings l (WriteFault count) unread left held holds same (read
 -- memory was wanting before anything was read
 pub EndsEarly-nothing : (settings : Settings) (unread held : Option (List ℕ)) → EndsEarly settings OutOfMemory unread unread held held
 EndsEarly-nothing settings unread held =
-    EndsEarly-script settings (limits_set settings) OutOfMemory unread unread held held refl ([], Consumes-nil unread, CutsShort-nothing (limits_set settings) held)
+    EndsEarly-script settings (limits_set settings) OutOfMemory unread unread held held refl ([], Consumes-nil unread, CutsShort-nothing (limits_set settings) unread held)
 
 -- nothing has been read where no file is so short
 pub EndsEarly-no_room : (settings : Settings) (unread held : Option (List ℕ)) → settings.max_bytes < 3 → EndsEarly settings FileTooLong unread unread held held
@@ -53,14 +53,14 @@ IsOver-ended held holds read performer run through end = record {
 }
 
 -- or memory is wanting to close it
-pub BreaksScript-unended : (unread left held holds : Option (List ℕ)) (l : Limits) (performer : Performer) → limits performer.session ≡ l → ReadsThrough unread left held performer holds
+pub BreaksScript-unended : (unread left held holds : Option (List ℕ)) (l : Limits) (performer : Performer) → limits performer.session ≡ l → IsAtEnd left → ReadsThrough unread left held performer holds
     → (fault : RunFault) → fault ≡ OutOfMemory → BreaksScript l fault unread left held holds
-BreaksScript-unended unread left held holds l performer same (read, consumed, through) fault is =
-    let first : IsFirstText l read through.text = record {
+BreaksScript-unended unread left held holds l performer same all_read (read, consumed, through) fault is =
+    let first : IsFirstText l left read through.text = record {
       done = lines read;
       more = [];
       last = through.last;
-      first = sym (append-nil (lines read));
+      first = inr (all_read, sym (append-nil (lines read)));
       performed = subst (λ m. Perform m start (lines read) through.text through.last) same through.performed;
     } in
     subst (λ f. BreaksScript l f unread left held holds) (sym is) (read, consumed, (through.text, through.out, first))
@@ -78,9 +78,9 @@ module _ (settings : Settings) (held holds : Option (List ℕ)) (read : List ℕ
   EndsEarly-long unread left consumed long = (read, consumed, (over.text, over.out, inr (record { last = over.last; performed = over.performed; too_long = long })))
 
   -- or memory is wanting for it
-  pub EndsEarly-wanting : (unread left : Option (List ℕ)) → Consumes unread left read → EndsEarly settings OutOfMemory unread left held holds
-  EndsEarly-wanting unread left consumed = (
+  pub EndsEarly-wanting : (unread left : Option (List ℕ)) → Consumes unread left read → IsAtEnd left → EndsEarly settings OutOfMemory unread left held holds
+  EndsEarly-wanting unread left consumed all_read = (
     read,
     consumed,
-    (over.text, over.out, record { done = lines read; more = []; last = over.last; first = sym (append-nil (lines read)); performed = over.performed }),
+    (over.text, over.out, record { done = lines read; more = []; last = over.last; first = inr (all_read, sym (append-nil (lines read))); performed = over.performed }),
   )

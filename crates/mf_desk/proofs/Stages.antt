@@ -1,6 +1,6 @@
 -- The stages of a run: what each step makes of the state after some bytes.
-use Rattle.std.proofs.Common.{◌≡◌, ◌≢◌, ℕ, true, false, ◌+◌, List, [], ◌∷◌, ◌++◌, Option, eqb, length, take, refl, sym, ap, ◌∙◌, subst, append_assoc, append-nil, arith, length-append, length-take}
-use Rattle.std.specs.Io.KnownBytes.{Appends, Keeps}
+use Rattle.std.proofs.Common.{◌≡◌, ◌≢◌, ℕ, true, false, ◌+◌, List, [], ◌∷◌, ◌++◌, Option, eqb, length, take, refl, inl, inr, sym, ap, ◌∙◌, subst, append_assoc, append-nil, arith, length-append, length-take}
+use Rattle.std.specs.Io.KnownBytes.{Appends, IsAtEnd, Keeps}
 use Rattle.std.specs.Prelude.{All}
 use Rattle.std.specs.Str.Lines.{lines, strip_carriage_return}
 use Rattle.std.proofs.KnownBytes.{Appends-nil, Appends-trans}
@@ -12,13 +12,13 @@ use Rattle.mf_desk.specs.declared.performer.Performer.{Performer}
 use Rattle.mf_desk.specs.declared.progress.Progress.{Progress}
 use Rattle.mf_desk.specs.Answers.{Answers}
 use Rattle.mf_desk.specs.Ended.{ended_of_parts, last_part, ended_lines, unended}
-use Rattle.mf_desk.specs.Fault.{CutsShort}
+use Rattle.mf_desk.specs.Fault.{AreWholeLines, CutsShort}
 use Rattle.mf_desk.specs.Performer.{BreaksOff, IsWritten}
 use Rattle.mf_desk.specs.Progress.{IsAfter, IsThrough}
 use Rattle.mf_desk.specs.Sessions.{StandsFor, limits}
 use Rattle.mf_desk.specs.States.{State, Limits, start}
 use Rattle.mf_desk.specs.Transcript.{Perform}
-use Rattle.mf_desk.proofs.Ended.{ended_lines-line_feed, unended-line_feed, ended_lines-unbroken, unended-unbroken, lines-front, lines-none, lines-last}
+use Rattle.mf_desk.proofs.Ended.{ended_lines-line_feed, unended-line_feed, ended_lines-unbroken, unended-unbroken, ended_lines-front, lines-none, lines-last}
 use Rattle.mf_desk.proofs.Flushes.{Appends-kept}
 use Rattle.mf_desk.proofs.KnownTexts.{StartsWith-front}
 use Rattle.mf_desk.proofs.LongLines.{take-taken, Answers-kept, Answers-stripped}
@@ -93,27 +93,28 @@ IsAfter-line_feed held holds later read old new after =
     IsAfter-ended held holds later read (strip_carriage_return old.line) old new after (kept-ended held holds read old after)
 
 -- memory was wanting between two lines
-pub CutsShort-between : (held holds : Option (List ℕ)) (read more : List ℕ) (progress : Progress) → IsAfter held read progress holds → CutsShort (limits progress.performer.session) OutOfMemory (read ++ more) held holds
-CutsShort-between held holds read more progress after =
-    let (others, first) = lines-front read more in
-    (after.text, after.out, record { done = ended_lines read; more = others; last = after.last; first = first; performed = after.performed })
+pub CutsShort-between : (held left holds : Option (List ℕ)) (read more : List ℕ) (progress : Progress) → IsAfter held read progress holds
+    → CutsShort (limits progress.performer.session) OutOfMemory left (read ++ more) held holds
+CutsShort-between held left holds read more progress after =
+    let (others, first) = ended_lines-front read more in
+    (after.text, after.out, record { done = ended_lines read; more = others; last = after.last; first = inl first; performed = after.performed })
 
--- the text of a line broke off, of bytes whose first lines are the performed ones and then this one
-CutsShort-text : (fault : RunFault) (held holds later : Option (List ℕ)) (read bytes line : List ℕ) (others first behind : List (List ℕ)) (progress : Progress) (after : IsAfter held read progress holds)
-    → lines bytes ≡ ended_lines read ++ others
-    → lines bytes ≡ first ++ behind
+-- the text of a line broke off, of bytes whose first whole lines are the performed ones and then this one
+CutsShort-text : (fault : RunFault) (held left holds later : Option (List ℕ)) (read bytes line : List ℕ) (others first behind : List (List ℕ)) (progress : Progress) (after : IsAfter held read progress holds)
+    → AreWholeLines left bytes (ended_lines read ++ others)
+    → AreWholeLines left bytes (first ++ behind)
     → ((more : List ℕ) (next : State) → Answers (limits progress.performer.session) after.last line more next → Perform (limits progress.performer.session) start first (after.text ++ more) next)
-    → BreaksOff fault progress.performer after.last line holds later → CutsShort (limits progress.performer.session) fault bytes held later
-CutsShort-text NoPlace held holds later read bytes line others first behind progress after before with_line performs broken = absurd broken
-CutsShort-text NoLook held holds later read bytes line others first behind progress after before with_line performs broken = absurd broken
-CutsShort-text FileTooLong held holds later read bytes line others first behind progress after before with_line performs broken = absurd broken
-CutsShort-text ReadFault held holds later read bytes line others first behind progress after before with_line performs broken = absurd broken
-CutsShort-text OutOfMemory held holds later read bytes line others first behind progress after before with_line performs nothing = (
+    → BreaksOff fault progress.performer after.last line holds later → CutsShort (limits progress.performer.session) fault left bytes held later
+CutsShort-text NoPlace held left holds later read bytes line others first behind progress after before with_line performs broken = absurd broken
+CutsShort-text NoLook held left holds later read bytes line others first behind progress after before with_line performs broken = absurd broken
+CutsShort-text FileTooLong held left holds later read bytes line others first behind progress after before with_line performs broken = absurd broken
+CutsShort-text ReadFault held left holds later read bytes line others first behind progress after before with_line performs broken = absurd broken
+CutsShort-text OutOfMemory held left holds later read bytes line others first behind progress after before with_line performs nothing = (
   after.text,
   subst (Appends held later) (append-nil after.text) (Appends-trans held holds later after.text [] after.out nothing),
   record { done = ended_lines read; more = others; last = after.last; first = before; performed = after.performed },
 )
-CutsShort-text (WriteFault count) held holds later read bytes line others first behind progress after before with_line performs broken =
+CutsShort-text (WriteFault count) held left holds later read bytes line others first behind progress after before with_line performs broken =
     let text = after.text ++ (broken.front ++ broken.rest) in (
       after.text ++ broken.front,
       Appends-trans held holds later after.text broken.front after.out broken.out,
@@ -126,21 +127,21 @@ CutsShort-text (WriteFault count) held holds later read bytes line others first 
     )
 
 -- the text of a line that a line feed ends broke off
-CutsShort-ended : (fault : RunFault) (held holds later : Option (List ℕ)) (read more line : List ℕ) (progress : Progress) (after : IsAfter held read progress holds)
+CutsShort-ended : (fault : RunFault) (held left holds later : Option (List ℕ)) (read more line : List ℕ) (progress : Progress) (after : IsAfter held read progress holds)
     → StandsForEnded progress after.last read line → BreaksOff fault progress.performer after.last line holds later
-    → CutsShort (limits progress.performer.session) fault (read ++ 10 ∷ more) held later
-CutsShort-ended fault held holds later read more line progress after whole broken =
-    let (others, before) = lines-front read (10 ∷ more) in
-    let (behind, with_line) = lines-front (read ++ 10 ∷ []) more in
-    CutsShort-text fault held holds later read (read ++ 10 ∷ more) line others (ended_lines (read ++ 10 ∷ [])) behind progress after before
-    (ap lines (sym (append_assoc read (10 ∷ []) more)) ∙ with_line)
+    → CutsShort (limits progress.performer.session) fault left (read ++ 10 ∷ more) held later
+CutsShort-ended fault held left holds later read more line progress after whole broken =
+    let (others, before) = ended_lines-front read (10 ∷ more) in
+    let (behind, with_line) = ended_lines-front (read ++ 10 ∷ []) more in
+    CutsShort-text fault held left holds later read (read ++ 10 ∷ more) line others (ended_lines (read ++ 10 ∷ [])) behind progress after (inl before)
+    (inl (ap ended_lines (sym (append_assoc read (10 ∷ []) more)) ∙ with_line))
     (λ text next answer. performed-ended held holds read line text progress next after whole answer)
     broken
 
-pub CutsShort-line_feed : (fault : RunFault) (held holds later : Option (List ℕ)) (read more : List ℕ) (progress : Progress) (after : IsAfter held read progress holds)
-    → BreaksOff fault progress.performer after.last (strip_carriage_return progress.line) holds later → CutsShort (limits progress.performer.session) fault (read ++ 10 ∷ more) held later
-CutsShort-line_feed fault held holds later read more progress after =
-    CutsShort-ended fault held holds later read more (strip_carriage_return progress.line) progress after (kept-ended held holds read progress after)
+pub CutsShort-line_feed : (fault : RunFault) (held left holds later : Option (List ℕ)) (read more : List ℕ) (progress : Progress) (after : IsAfter held read progress holds)
+    → BreaksOff fault progress.performer after.last (strip_carriage_return progress.line) holds later → CutsShort (limits progress.performer.session) fault left (read ++ 10 ∷ more) held later
+CutsShort-line_feed fault held left holds later read more progress after =
+    CutsShort-ended fault held left holds later read more (strip_carriage_return progress.line) progress after (kept-ended held holds read progress after)
 
 -- bytes are behind the last line feed
 some-unended : (held holds : Option (List ℕ)) (read : List ℕ) (progress : Progress) → IsAfter held read progress holds → eqb (length progress.line) 0 ≡ false → eqb (length (unended read)) 0 ≡ false
@@ -157,11 +158,12 @@ performed-last held holds read more progress next after answer =
     performed-more held holds read (unended read) more progress next after
     (Answers-kept m s next (unended read) more (subst (λ line. Answers m s line more next) after.line answer))
 
-pub CutsShort-last : (fault : RunFault) (held holds later : Option (List ℕ)) (read : List ℕ) (progress : Progress) (after : IsAfter held read progress holds) → eqb (length progress.line) 0 ≡ false
-    → BreaksOff fault progress.performer after.last progress.line holds later → CutsShort (limits progress.performer.session) fault read held later
-CutsShort-last fault held holds later read progress after some broken =
+pub CutsShort-last : (fault : RunFault) (held left holds later : Option (List ℕ)) (read : List ℕ) (progress : Progress) → IsAtEnd left → (after : IsAfter held read progress holds) → eqb (length progress.line) 0 ≡ false
+    → BreaksOff fault progress.performer after.last progress.line holds later → CutsShort (limits progress.performer.session) fault left read held later
+CutsShort-last fault held left holds later read progress all_read after some broken =
     let whole = lines-last read (some-unended held holds read progress after some) in
-    CutsShort-text fault held holds later read read progress.line (unended read ∷ []) (ended_lines read ++ unended read ∷ []) [] progress after whole (whole ∙ sym (append-nil _))
+    CutsShort-text fault held left holds later read read progress.line (unended read ∷ []) (ended_lines read ++ unended read ∷ []) [] progress after (inr (all_read, whole))
+    (inr (all_read, whole ∙ sym (append-nil _)))
     (λ text next answer. performed-last held holds read text progress next after answer)
     broken
 
@@ -201,12 +203,12 @@ IsThrough-last held holds later read old new after some same written =
     }
 
 -- memory was wanting before anything was read
-pub CutsShort-nothing : (l : Limits) (held : Option (List ℕ)) → CutsShort l OutOfMemory [] held held
-CutsShort-nothing l held = ([], Appends-nil held, record { done = []; more = []; last = start; first = refl; performed = (refl, refl) })
+pub CutsShort-nothing : (l : Limits) (left held : Option (List ℕ)) → CutsShort l OutOfMemory left [] held held
+CutsShort-nothing l left held = ([], Appends-nil held, record { done = []; more = ended_lines []; last = start; first = inl refl; performed = (refl, refl) })
 
 -- the texts of the lines that a line feed ended
-pub CutsShort-reads : (held holds : Option (List ℕ)) (read : List ℕ) (progress : Progress) → IsAfter held read progress holds → CutsShort (limits progress.performer.session) ReadFault read held holds
-CutsShort-reads held holds read progress after = (after.text, after.out, record { last = after.last; performed = after.performed })
+pub CutsShort-reads : (held left holds : Option (List ℕ)) (read : List ℕ) (progress : Progress) → IsAfter held read progress holds → CutsShort (limits progress.performer.session) ReadFault left read held holds
+CutsShort-reads held left holds read progress after = (after.text, after.out, record { last = after.last; performed = after.performed })
 
 -- a line of which nothing was kept, and which ends with these bytes
 module _ (held holds : Option (List ℕ)) (read bytes : List ℕ) (old : Progress) (after : IsAfter held read old holds) (none : eqb (length old.line) 0 ≡ true) (unbroken : All (λ byte. byte ≢ 10) bytes) where
@@ -225,9 +227,9 @@ module _ (held holds : Option (List ℕ)) (read bytes : List ℕ) (old : Progres
       → limits new.performer.session ≡ limits old.performer.session → new.line ≡ [] → IsAfter held (read ++ bytes ++ 10 ∷ []) new later
   IsAfter-whole later new = IsAfter-ended held holds later (read ++ bytes) (strip_carriage_return bytes) with_bytes new after_bytes whole_line
 
-  pub CutsShort-whole : (fault : RunFault) (later : Option (List ℕ)) (more : List ℕ) → BreaksOff fault old.performer after.last (strip_carriage_return bytes) holds later
-      → CutsShort (limits old.performer.session) fault (read ++ bytes ++ 10 ∷ more) held later
-  CutsShort-whole fault later more = CutsShort-ended fault held holds later (read ++ bytes) more (strip_carriage_return bytes) with_bytes after_bytes whole_line
+  pub CutsShort-whole : (fault : RunFault) (left later : Option (List ℕ)) (more : List ℕ) → BreaksOff fault old.performer after.last (strip_carriage_return bytes) holds later
+      → CutsShort (limits old.performer.session) fault left (read ++ bytes ++ 10 ∷ more) held later
+  CutsShort-whole fault left later more = CutsShort-ended fault held left holds later (read ++ bytes) more (strip_carriage_return bytes) with_bytes after_bytes whole_line
 
 -- the writer hands on what it holds
 pub IsAfter-flushed : (held holds later : Option (List ℕ)) (read : List ℕ) (progress : Progress) → Keeps holds later → IsAfter held read progress holds → IsAfter held read progress later
@@ -252,26 +254,25 @@ IsThrough-flushed held holds later read performer same through = record {
 }
 
 -- it does not hand on the texts of the lines that a line feed ended
-pub CutsShort-unflushed : (held holds later : Option (List ℕ)) (read : List ℕ) (progress : Progress) → Keeps holds later → IsAfter held read progress holds
-    → (fault : RunFault) → fault ≡ WriteFault progress.performer.written → CutsShort (limits progress.performer.session) fault read held later
-CutsShort-unflushed held holds later read progress same after fault is =
-    let (others, first) = lines-front read [] in
-    subst (λ f. CutsShort (limits progress.performer.session) f read held later) (sym is) (
+pub CutsShort-unflushed : (held left holds later : Option (List ℕ)) (read : List ℕ) (progress : Progress) → Keeps holds later → IsAfter held read progress holds
+    → (fault : RunFault) → fault ≡ WriteFault progress.performer.written → CutsShort (limits progress.performer.session) fault left read held later
+CutsShort-unflushed held left holds later read progress same after fault is =
+    subst (λ f. CutsShort (limits progress.performer.session) f left read held later) (sym is) (
       after.text,
       Appends-kept held holds later after.text after.out same,
       record {
         text = after.text;
-        first = record { done = ended_lines read; more = others; last = after.last; first = ap lines (sym (append-nil read)) ∙ first; performed = after.performed };
+        first = record { done = ended_lines read; more = []; last = after.last; first = inl (sym (append-nil (ended_lines read))); performed = after.performed };
         begins = StartsWith-front after.text after.text [] (sym (append-nil after.text));
         counted = sym after.counted;
       },
     )
 
 -- or those of all lines
-pub CutsShort-last_unflushed : (l : Limits) (held holds later : Option (List ℕ)) (read : List ℕ) (performer : Performer) → limits performer.session ≡ l → Keeps holds later → IsThrough held read performer holds
-    → (fault : RunFault) → fault ≡ WriteFault performer.written → CutsShort l fault read held later
-CutsShort-last_unflushed l held holds later read performer limits_are same through fault is =
-    subst (λ f. CutsShort l f read held later) (sym is) (
+pub CutsShort-last_unflushed : (l : Limits) (held left holds later : Option (List ℕ)) (read : List ℕ) (performer : Performer) → IsAtEnd left → limits performer.session ≡ l → Keeps holds later → IsThrough held read performer holds
+    → (fault : RunFault) → fault ≡ WriteFault performer.written → CutsShort l fault left read held later
+CutsShort-last_unflushed l held left holds later read performer all_read limits_are same through fault is =
+    subst (λ f. CutsShort l f left read held later) (sym is) (
       through.text,
       Appends-kept held holds later through.text through.out same,
       record {
@@ -280,7 +281,7 @@ CutsShort-last_unflushed l held holds later read performer limits_are same throu
           done = lines read;
           more = [];
           last = through.last;
-          first = sym (append-nil (lines read));
+          first = inr (all_read, sym (append-nil (lines read)));
           performed = subst (λ m. Perform m start (lines read) through.text through.last) limits_are through.performed;
         };
         begins = StartsWith-front through.text through.text [] (sym (append-nil through.text));

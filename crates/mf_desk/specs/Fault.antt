@@ -1,7 +1,7 @@
 -- What has gone out where a run ends with a fault.
 use Rattle.std.specs.Prelude.{ℕ, List, [], ◌++◌, Option, ◌≡◌, ◌⊎◌, ◌<◌, length}
 use Rattle.std.specs.Io.{StartsWith}
-use Rattle.std.specs.Io.KnownBytes.{Appends, Consumes}
+use Rattle.std.specs.Io.KnownBytes.{Appends, Consumes, IsAtEnd}
 use Rattle.std.specs.Str.Lines.{lines}
 use Rattle.mf_gf.specs.Files.{preamble}
 use Rattle.mf_desk.specs.Ended.{ended_lines}
@@ -12,12 +12,16 @@ use Rattle.mf_desk.specs.declared.fault.RunFault.{RunFault}
 use Rattle.mf_desk.specs.declared.fault.RunFault.TheVariants.{OutOfMemory, NoPlace, FileTooLong, ReadFault, WriteFault, NoLook}
 use Rattle.mf_desk.specs.declared.settings.Settings.{Settings}
 
--- this is what the first lines of the bytes print
-pub record IsFirstText (limits : Limits) (read text : List ℕ) : Type 0 where
+-- these are the lines that have been read whole: those that a line feed ended, or all where no byte is left
+abbrev pub AreWholeLines : Option (List ℕ) → List ℕ → List (List ℕ) → Type 0
+AreWholeLines left read whole = (ended_lines read ≡ whole) ⊎ (IsAtEnd left × (lines read ≡ whole))
+
+-- this is what the first of the lines that have been read whole print
+pub record IsFirstText (limits : Limits) (left : Option (List ℕ)) (read text : List ℕ) : Type 0 where
   pub done : List (List ℕ)
   pub more : List (List ℕ)
   pub last : State
-  pub first : lines read ≡ done ++ more
+  pub first : AreWholeLines left read (done ++ more)
   pub performed : Perform limits start done text last
 
 -- this is what the lines print that a line feed ended
@@ -25,10 +29,10 @@ pub record IsEndedText (limits : Limits) (read text : List ℕ) : Type 0 where
   pub last : State
   pub performed : Perform limits start (ended_lines read) text last
 
--- these are so many bytes, with which the text of the first lines begins
-pub record IsCutText (limits : Limits) (read written : List ℕ) (count : ℕ) : Type 0 where
+-- these are so many bytes, with which the text of such first lines begins
+pub record IsCutText (limits : Limits) (left : Option (List ℕ)) (read written : List ℕ) (count : ℕ) : Type 0 where
   pub text : List ℕ
-  pub first : IsFirstText limits read text
+  pub first : IsFirstText limits left read text
   pub begins : StartsWith text written
   pub counted : length written ≡ count
 
@@ -44,30 +48,32 @@ pub record IsBeforeLongFile (settings : Settings) (read text : List ℕ) : Type 
   pub performed : Perform (limits_set settings) start (lines read) text last
   pub too_long : IsLongFile (limits_set settings).max_bytes settings.font last.characters
 
--- what a fault of the script, its reader or its writer says of the bytes that were written, where these were read:
--- after a ReadFault they are the texts of the lines that a line feed ended; after want of memory those of the first
--- lines, so no text is cut; after a WriteFault a front of such texts, which its number counts
-abbrev pub Breaks : Limits → RunFault → List ℕ → List ℕ → Type 0
-Breaks limits OutOfMemory read written = IsFirstText limits read written
-Breaks limits NoPlace read written = ⊥
-Breaks limits FileTooLong read written = ⊥
-Breaks limits ReadFault read written = IsEndedText limits read written
-Breaks limits (WriteFault count) read written = IsCutText limits read written count
-Breaks limits NoLook read written = ⊥
+-- what a fault of the script, its reader or its writer says of the bytes that were written, where these were read and
+-- those are left: after a ReadFault they are the texts of the lines that a line feed ended; after want of memory those of
+-- the first lines that have been read whole, so neither a text nor a line is cut; after a WriteFault a front of such
+-- texts, which its number counts
+abbrev pub Breaks : Limits → RunFault → Option (List ℕ) → List ℕ → List ℕ → Type 0
+Breaks limits OutOfMemory left read written = IsFirstText limits left read written
+Breaks limits NoPlace left read written = ⊥
+Breaks limits FileTooLong left read written = ⊥
+Breaks limits ReadFault left read written = IsEndedText limits read written
+Breaks limits (WriteFault count) left read written = IsCutText limits left read written count
+Breaks limits NoLook left read written = ⊥
 
 -- what each fault says: after FileTooLong they are the whole transcript, or nothing
-abbrev pub Tells : Settings → RunFault → List ℕ → List ℕ → Type 0
-Tells settings FileTooLong read written = HasNoRoom (limits_set settings) read written ⊎ IsBeforeLongFile settings read written
-Tells settings fault read written = Breaks (limits_set settings) fault read written
+abbrev pub Tells : Settings → RunFault → Option (List ℕ) → List ℕ → List ℕ → Type 0
+Tells settings FileTooLong left read written = HasNoRoom (limits_set settings) read written ⊎ IsBeforeLongFile settings read written
+Tells settings fault left read written = Breaks (limits_set settings) fault left read written
 
--- a fault came when these bytes had been read: a writer that held some bytes has got the bytes that the fault tells
-abbrev pub CutsShort : Limits → RunFault → List ℕ → Option (List ℕ) → Option (List ℕ) → Type 0
-CutsShort limits fault read held holds = (written : List ℕ) × Appends held holds written × Breaks limits fault read written
+-- a fault came when these bytes had been read and those were left: a writer that held some bytes has got the bytes that
+-- the fault tells
+abbrev pub CutsShort : Limits → RunFault → Option (List ℕ) → List ℕ → Option (List ℕ) → Option (List ℕ) → Type 0
+CutsShort limits fault left read held holds = (written : List ℕ) × Appends held holds written × Breaks limits fault left read written
 
 -- the same where the reader had given some bytes
 abbrev pub BreaksScript : Limits → RunFault → Option (List ℕ) → Option (List ℕ) → Option (List ℕ) → Option (List ℕ) → Type 0
-BreaksScript limits fault unread left held holds = (read : List ℕ) × Consumes unread left read × CutsShort limits fault read held holds
+BreaksScript limits fault unread left held holds = (read : List ℕ) × Consumes unread left read × CutsShort limits fault left read held holds
 
 -- a fault ended a run: the reader had given some bytes, and the writer has got the bytes that the fault tells
 abbrev pub EndsEarly : Settings → RunFault → Option (List ℕ) → Option (List ℕ) → Option (List ℕ) → Option (List ℕ) → Type 0
-EndsEarly settings fault unread left held holds = (read : List ℕ) × Consumes unread left read × ((written : List ℕ) × Appends held holds written × Tells settings fault read written)
+EndsEarly settings fault unread left held holds = (read : List ℕ) × Consumes unread left read × ((written : List ℕ) × Appends held holds written × Tells settings fault left read written)

@@ -55,14 +55,15 @@ pub record IsShownText (limits : Limits) (viewers : ℕ) (read text : List ℕ) 
   pub few : shown ≤ viewers
   pub performed : IsLongerText limits read last shown text
 
--- no line of this is cut
-abbrev pub IsUncutText : Limits → ℕ → List ℕ → List ℕ → Type 0
-IsUncutText limits viewers read text = IsFirstText limits read text ⊎ IsShownText limits viewers read text
+-- no line of this is cut: it is what the first of the lines that have been read whole print, or, where no byte is left,
+-- the whole transcript and the lines of the first viewers
+abbrev pub IsUncutText : Limits → ℕ → Option (List ℕ) → List ℕ → List ℕ → Type 0
+IsUncutText limits viewers left read text = IsFirstText limits left read text ⊎ (IsAtEnd left × IsShownText limits viewers read text)
 
 -- these are so many bytes, with which such a text begins
-pub record IsCutLongerText (limits : Limits) (viewers : ℕ) (read written : List ℕ) (count : ℕ) : Type 0 where
+pub record IsCutLongerText (limits : Limits) (viewers : ℕ) (left : Option (List ℕ)) (read written : List ℕ) (count : ℕ) : Type 0 where
   pub text : List ℕ
-  pub uncut : IsUncutText limits viewers read text
+  pub uncut : IsUncutText limits viewers left read text
   pub begins : StartsWith text written
   pub counted : length written ≡ count
 
@@ -74,11 +75,11 @@ pub record IsBeforeLongerFile (settings : Settings) (viewers : ℕ) (read text :
 
 -- what each fault says of the bytes that were written, where these were read and those are left
 abbrev pub TellsLonger : Settings → ℕ → RunFault → Option (List ℕ) → List ℕ → List ℕ → Type 0
-TellsLonger settings viewers OutOfMemory left read written = IsUncutText (limits_set settings) viewers read written
+TellsLonger settings viewers OutOfMemory left read written = IsUncutText (limits_set settings) viewers left read written
 TellsLonger settings viewers NoPlace left read written = (read ≡ []) × (written ≡ [])
 TellsLonger settings viewers FileTooLong left read written = HasNoRoom (limits_set settings) read written ⊎ (IsAtEnd left × IsBeforeLongerFile settings viewers read written)
 TellsLonger settings viewers ReadFault left read written = IsEndedText (limits_set settings) read written
-TellsLonger settings viewers (WriteFault count) left read written = IsCutLongerText (limits_set settings) viewers read written count
+TellsLonger settings viewers (WriteFault count) left read written = IsCutLongerText (limits_set settings) viewers left read written count
 TellsLonger settings viewers NoLook left read written = IsAtEnd left × IsShownText (limits_set settings) viewers read written
 
 -- a fault ended a run beside so many viewers: the reader had given some bytes, and the writer has got the bytes that the

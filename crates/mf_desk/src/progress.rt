@@ -130,8 +130,8 @@ impl Progress {
         ensures at_most { OnOk result (self.new.performer.written ≤ self.old.performer.written + length bytes.now * 2 ^ 64) }
         ensures limits { limits self.new.performer.session ≡ limits self.old.performer.session }
         ensures name { name self.new.performer.session ≡ name self.old.performer.session }
-        ensures fault { IfErr result (λ fault. (held : Option (List ℕ)) (read : List ℕ) → IsAfter held read self.old (W.contents writer.old)
-            → CutsShort (limits self.old.performer.session) fault (read ++ bytes.now) held (W.contents writer.new)) }
+        ensures fault { IfErr result (λ fault. (held left : Option (List ℕ)) (read : List ℕ) → IsAfter held read self.old (W.contents writer.old)
+            → CutsShort (limits self.old.performer.session) fault left (read ++ bytes.now) held (W.contents writer.new)) }
     {
         let mut rest = bytes;
         'lines: while let Some(place) = memchr(b'\n', rest) {
@@ -157,8 +157,8 @@ impl Progress {
         ensures at_most { OnOk result (self.new.performer.written ≤ self.old.performer.written + 2 ^ 64) }
         ensures limits { limits self.new.performer.session ≡ limits self.old.performer.session }
         ensures name { name self.new.performer.session ≡ name self.old.performer.session }
-        ensures fault { IfErr result (λ fault. (held : Option (List ℕ)) (read more : List ℕ) → IsAfter held read self.old (W.contents writer.old)
-            → CutsShort (limits self.old.performer.session) fault (read ++ bytes.now ++ 10 ∷ more) held (W.contents writer.new)) }
+        ensures fault { IfErr result (λ fault. (held left : Option (List ℕ)) (read more : List ℕ) → IsAfter held read self.old (W.contents writer.old)
+            → CutsShort (limits self.old.performer.session) fault left (read ++ bytes.now ++ 10 ∷ more) held (W.contents writer.new)) }
     {
         if self.line.is_empty() {
             let line = before_line_feed(bytes);
@@ -181,8 +181,8 @@ impl Progress {
         ensures at_most { OnOk result (self.new.performer.written ≤ self.old.performer.written + 2 ^ 64) }
         ensures limits { limits self.new.performer.session ≡ limits self.old.performer.session }
         ensures name { name self.new.performer.session ≡ name self.old.performer.session }
-        ensures fault { IfErr result (λ fault. (held : Option (List ℕ)) (read : List ℕ) → IsAfter held read self.old (W.contents writer.old)
-            → CutsShort (limits self.old.performer.session) fault read held (W.contents writer.new)) }
+        ensures fault { IfErr result (λ fault. (held left : Option (List ℕ)) (read : List ℕ) → IsAtEnd left → IsAfter held read self.old (W.contents writer.old)
+            → CutsShort (limits self.old.performer.session) fault left read held (W.contents writer.new)) }
     {
         if self.line.is_empty() {
             return Ok(());
@@ -205,8 +205,8 @@ impl Progress {
         ensures at_most { OnOk result (self.new.performer.written ≤ self.old.performer.written + 2 ^ 64) }
         ensures limits { limits self.new.performer.session ≡ limits self.old.performer.session }
         ensures name { name self.new.performer.session ≡ name self.old.performer.session }
-        ensures fault { IfErr result (λ fault. (held : Option (List ℕ)) (read more : List ℕ) → IsAfter held read self.old (W.contents writer.old)
-            → CutsShort (limits self.old.performer.session) fault (read ++ 10 ∷ more) held (W.contents writer.new)) }
+        ensures fault { IfErr result (λ fault. (held left : Option (List ℕ)) (read more : List ℕ) → IsAfter held read self.old (W.contents writer.old)
+            → CutsShort (limits self.old.performer.session) fault left (read ++ 10 ∷ more) held (W.contents writer.new)) }
     {
         self.performer
             .perform(rt, alloc, writer, self.line.at_line_feed())?;
@@ -220,8 +220,8 @@ impl Progress {
         ensures after { OnOk result ((held : Option (List ℕ)) (read : List ℕ) (holds : Option (List ℕ)) → IsAfter held read self.old holds
             → IsAfter held (read ++ bytes.now) self.new holds) }
         ensures same { self.new.performer ≡ self.old.performer }
-        ensures fault { IfErr result (λ fault. (held : Option (List ℕ)) (read more : List ℕ) (holds : Option (List ℕ)) → IsAfter held read self.old holds
-            → CutsShort (limits self.old.performer.session) fault (read ++ more) held holds) }
+        ensures fault { IfErr result (λ fault. (held left : Option (List ℕ)) (read more : List ℕ) (holds : Option (List ℕ)) → IsAfter held read self.old holds
+            → CutsShort (limits self.old.performer.session) fault left (read ++ more) held holds) }
     {
         self.line.extend(bytes)?;
         Ok(())

@@ -94,3 +94,22 @@ fn writer_keeps_bytes_back(rt: HostRuntime) -> Result<(), Fail> {
     }
     Ok(())
 }
+
+/// Where what is handed on finds no room before the rest of a line is read, the piece of the line that was read has
+/// printed nothing.
+#[test]
+fn piece_of_a_line_is_not_performed(rt: HostRuntime) -> Result<(), Fail> {
+    let alloc = rt.alloc();
+    let script = joined(alloc, &[TOTAL, b"\n", TOTAL, b"\n"])?;
+    for piece in [0, 1, 18, TOTAL.len()] {
+        let mut reader = Pieces::split(&script, TOTAL.len() + 1 + piece);
+        let mut writer = BufWriter::new(alloc, Sink::failing(alloc, 0))?;
+        let result = run(&rt, alloc, &mut reader, &mut writer, &AMPLE);
+        assert_eq!(rt;
+            result.err(),
+            Some(RunFault::WriteFault(14)),
+            "a piece of {piece}"
+        );
+    }
+    Ok(())
+}

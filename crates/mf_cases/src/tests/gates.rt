@@ -183,3 +183,54 @@ fn lines_are_performed_while_a_look_is_held(rt: HostRuntime) -> Result<(), Fail>
     assert_eq!(rt; seen.as_slice(), [BLANK, SIX].as_slice());
     Ok(())
 }
+
+/// A look is held for a while, and no longer than until the script has published twice.
+#[derive(Drop)]
+struct HoldsOn {
+    held: Flag,
+    published: Flag,
+    /// Set where the second publish came through while the look was held.
+    seen: Flag,
+}
+
+impl Gate for HoldsOn {
+    fn hold(&self, _viewer: u32, _look: u32) {
+        self.held.set();
+        if self.published.is_set_within(200_000) {
+            self.seen.set();
+        }
+    }
+}
+
+/// Of two publishes beside a look that is held, the second waits until it is left.
+#[test]
+fn second_publish_waits_for_a_held_look(rt: HostRuntime) -> Result<(), Fail> {
+    let alloc = rt.alloc();
+    let gate = HoldsOn {
+        held: Flag::new(),
+        published: Flag::new(),
+        seen: Flag::new(),
+    };
+    let gate = Arc::new(alloc, gate)?;
+    let script = b"addto currentpicture contour (0,0)--(3,0)--(3,2)--(0,2)--cycle\n\
+                   publish\n\
+                   cull currentpicture keeping (1,1) withweight 2\n\
+                   publish\n";
+    let mut reader = ReadsAfter {
+        flag: &gate.held,
+        pieces: Pieces::whole(script),
+    };
+    let mut writer = Tells {
+        flag: &gate.published,
+        text: b"published 2\n",
+        sink: Sink::new(alloc),
+    };
+    let result = perform(&rt, alloc, &mut reader, &mut writer, &AMPLE, 1, 1, &gate);
+    assert_eq!(rt; result.err(), None);
+    assert!(rt; gate.published.is_set() && !gate.seen.is_set());
+    assert_eq!(rt;
+        writer.sink.taken(),
+        b"published 1\npublished 2\nviewer 0 revision 2 totalweight 12\n".as_slice()
+    );
+    Ok(())
+}

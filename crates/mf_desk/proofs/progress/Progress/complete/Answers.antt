@@ -15,4 +15,4 @@ returns-in-Ok-clause-over g c =
 
 pub returns-in-Ok-clause-fault : goal.returns-in-Ok-clause-fault
 returns-in-Ok-clause-fault g c =
-    IfErr-weaker c.finish.result _ _ (BreaksScript-unended _ _ _ _ _ c.read_all.new.self.performer c.in-Ok.ensures.limits c.in-Ok.ensures.through) c.finish.ensures.fault
+    IfErr-weaker c.finish.result _ _ (BreaksScript-unended _ _ _ _ _ c.read_all.new.self.performer c.in-Ok.ensures.limits c.in-Ok.ensures.end c.in-Ok.ensures.through) c.finish.ensures.fault

@@ -9,4 +9,4 @@ returns-clause-after c = λ held read holds after. IsAfter-unbroken held holds r
 pub returns-in_err-extend-clause-fault : goal.returns-in_err-extend-clause-fault
 returns-in_err-extend-clause-fault c =
     let wanting = err_from_is_err_and c.from_residual.result c.from_residual.ensures.1 in
-    rw (wanting.1, wanting.2) (λ held read more holds after. CutsShort-between held holds read more c.args.self.now after)
+    rw (wanting.1, wanting.2) (λ held left read more holds after. CutsShort-between held left holds read more c.args.self.now after)

@@ -17,13 +17,13 @@ pub returns-in_err-flush-clause-fault : goal.returns-in_err-flush-clause-fault
 returns-in_err-flush-clause-fault g c =
     let (read, consumed, after) = c.reads.invariant.1 in
     let passed_on = err_from_is_err_and c.from_residual.result c.from_residual.ensures.1 in
-    rw (passed_on.1, passed_on.2, ← c.reads.invariant.2) (read, consumed, CutsShort-unflushed _ _ _ read c.reads.self c.flush.ensures.kept after c.in_err-flush.field-0.0 c.in_err-flush.ensures.fault)
+    rw (passed_on.1, passed_on.2, ← c.reads.invariant.2) (read, consumed, CutsShort-unflushed _ _ _ _ read c.reads.self c.flush.ensures.kept after c.in_err-flush.field-0.0 c.in_err-flush.ensures.fault)
 
 pub returns-in-Err-clause-fault : goal.returns-in-Err-clause-fault
 returns-in-Err-clause-fault g c =
     let (read, consumed, before) = c.reads.invariant.1 in
     let after = IsAfter-flushed _ _ _ read c.reads.self c.flush.ensures.kept before in
-    (read, Consumes-kept _ _ _ read consumed c.in-Err.ensures.bytes, rw (← c.reads.invariant.2) (CutsShort-reads _ _ read c.reads.self after))
+    (read, Consumes-kept _ _ _ read consumed c.in-Err.ensures.bytes, rw (← c.reads.invariant.2) (CutsShort-reads _ (g.R.Read.remaining c.read.new.self) _ read c.reads.self after))
 
 pub returns-in-Ok-eq0-clause-end : goal.returns-in-Ok-eq0-clause-end
 returns-in-Ok-eq0-clause-end g c =
@@ -40,10 +40,12 @@ returns-in-Ok-eq0-clause-through g c =
 
 pub returns-in-Ok-eq0-clause-fault : goal.returns-in-Ok-eq0-clause-fault
 returns-in-Ok-eq0-clause-fault g c =
+    let has_room : 0 < length c.read.new.buf = omega (arith, c.read.auto.buf, c.reads.auto.chunk, c.requires.some) in
+    let at_end : IsAtEnd (g.R.Read.remaining c.read.new.self) = c.in-Ok-eq0.ensures.bytes.1 c.in-Ok-eq0.field-0-test has_room in
     let (read, consumed, before) = c.reads.invariant.1 in
     let after = IsAfter-flushed _ _ _ read c.reads.self c.flush.ensures.kept before in
     let all_read = Consumes-none _ _ _ read c.read.new.buf _ consumed c.in-Ok-eq0.field-0-test c.in-Ok-eq0.ensures.bytes.0 in
-    rw (← c.reads.invariant.2) (IfErr-weaker c.finish.result _ _ (λ fault cut_short. (read, all_read, cut_short _ read after)) c.finish.ensures.fault)
+    rw (← c.reads.invariant.2) (IfErr-weaker c.finish.result _ _ (λ fault cut_short. (read, all_read, cut_short _ _ read at_end after)) c.finish.ensures.fault)
 
 pub returns-in_err-take-in-Ok-clause-fault : goal.returns-in_err-take-in-Ok-clause-fault
 returns-in_err-take-in-Ok-clause-fault g c =
@@ -53,7 +55,7 @@ returns-in_err-take-in-Ok-clause-fault g c =
     rw (passed_on.1, passed_on.2, ← c.reads.invariant.2) (
       read ++ take c.in-Ok.count c.read.new.buf,
       Consumes-trans _ _ _ read _ consumed c.in-Ok.ensures.bytes.0,
-      c.in_err-take-in-Ok.ensures.fault _ read after,
+      c.in_err-take-in-Ok.ensures.fault _ _ read after,
     )
 
 pub reads-preserved : goal.reads-preserved
@@ -69,4 +71,4 @@ reads-preserved g c =
 pub returns-clause-fault : goal.returns-clause-fault
 returns-clause-fault g c =
     let (read, consumed, after) = c.reads.invariant.1 in
-    (read, consumed, rw (← c.reads.invariant.2) (CutsShort-reads _ _ read c.reads.self after))
+    (read, consumed, rw (← c.reads.invariant.2) (CutsShort-reads _ (g.R.Read.remaining c.reads.reader) _ read c.reads.self after))

@@ -26,9 +26,9 @@ returns-in_err-take_line-clause-fault g c =
     ∙ ap (λ all. read ++ all) (sym (bytes_are ∙ ap (λ more. done ++ more) (around rest at c.in-Some.ensures.0.high c.in-Some.ensures.1))) in
     let passed_on = err_from_is_err_and c.from_residual.result c.from_residual.ensures.1 in
     rw (passed_on.1, passed_on.2, ← same) (
-    λ held read after.
-    subst (λ all. CutsShort (limits c.lines.self.performer.session) c.in_err-take_line.field-0.0 all held (g.W.Write.contents c.take_line.new.writer)) (whole read)
-    (c.in_err-take_line.ensures.fault held (read ++ done) (drop (at + 1) rest) (goes_on held read after))
+    λ held left read after.
+    subst (λ all. CutsShort (limits c.lines.self.performer.session) c.in_err-take_line.field-0.0 left all held (g.W.Write.contents c.take_line.new.writer)) (whole read)
+    (c.in_err-take_line.ensures.fault held left (read ++ done) (drop (at + 1) rest) (goes_on held read after))
     )
 
 pub lines-preserved : goal.lines-preserved
@@ -55,6 +55,6 @@ returns-clause-fault g c =
     let (done, bytes_are, few, goes_on, same, name_is) = c.lines.invariant in
     let rest = c.lines.rest.now in
     let whole : (read : List ℕ) → read ++ done ++ rest ≡ read ++ c.args.bytes.now = λ read. append_assoc read done rest ∙ ap (λ all. read ++ all) (sym bytes_are) in
-    rw (← same) (IfErr-weaker c.keep.result _ _ (λ fault cut_short held read after.
-    subst (λ all. CutsShort (limits c.lines.self.performer.session) fault all held (g.W.Write.contents c.lines.writer)) (whole read)
-    (cut_short held (read ++ done) rest _ (goes_on held read after))) c.keep.ensures.fault)
+    rw (← same) (IfErr-weaker c.keep.result _ _ (λ fault cut_short held left read after.
+    subst (λ all. CutsShort (limits c.lines.self.performer.session) fault left all held (g.W.Write.contents c.lines.writer)) (whole read)
+    (cut_short held left (read ++ done) rest _ (goes_on held read after))) c.keep.ensures.fault)

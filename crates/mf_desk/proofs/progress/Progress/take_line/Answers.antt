@@ -19,16 +19,16 @@ returns-then-is_empty-clause-after g c =
 pub returns-then-is_empty-clause-fault : goal.returns-then-is_empty-clause-fault
 returns-then-is_empty-clause-fault g c =
     let broken_off = rw c.before_line_feed-line.ensures at c.perform.ensures.fault in
-    IfErr-weaker c.perform.result _ _ (λ fault broken held read more after.
-    CutsShort-whole held _ read c.args.bytes.now c.args.self.now after (sym (c.if-is_empty.ensures)) c.requires.unbroken fault _ more (broken after.last after.stands)) broken_off
+    IfErr-weaker c.perform.result _ _ (λ fault broken held left read more after.
+    CutsShort-whole held _ read c.args.bytes.now c.args.self.now after (sym (c.if-is_empty.ensures)) c.requires.unbroken fault left _ more (broken after.last after.stands)) broken_off
 
 pub returns-in_err-keep-clause-fault : goal.returns-in_err-keep-clause-fault
 returns-in_err-keep-clause-fault g c =
     let passed_on = err_from_is_err_and c.from_residual.result c.from_residual.ensures.1 in
     rw (passed_on.1, passed_on.2) (
-    λ held read more after.
-    subst (λ all. CutsShort (limits c.args.self.now.performer.session) c.in_err-keep.field-0.0 all held (g.W.Write.contents c.args.writer.now))
-    (sym (append_assoc read c.args.bytes.now (10 ∷ more))) (c.in_err-keep.ensures.fault held read (c.args.bytes.now ++ 10 ∷ more) _ after)
+    λ held left read more after.
+    subst (λ all. CutsShort (limits c.args.self.now.performer.session) c.in_err-keep.field-0.0 left all held (g.W.Write.contents c.args.writer.now))
+    (sym (append_assoc read c.args.bytes.now (10 ∷ more))) (c.in_err-keep.ensures.fault held left read (c.args.bytes.now ++ 10 ∷ more) _ after)
     )
 
 pub returns-clause-after : goal.returns-clause-after
@@ -37,6 +37,6 @@ returns-clause-after g c =
 
 pub returns-clause-fault : goal.returns-clause-fault
 returns-clause-fault g c =
-    IfErr-weaker c.end_line.result _ _ (λ fault cut_short held read more after.
-    subst (λ performer. CutsShort (limits performer.session) fault (read ++ c.args.bytes.now ++ 10 ∷ more) held (g.W.Write.contents c.end_line.new.writer)) c.keep.ensures.same
-    (cut_short held (read ++ c.args.bytes.now) more (c.in_ok-keep.ensures.after held read _ after))) c.end_line.ensures.fault
+    IfErr-weaker c.end_line.result _ _ (λ fault cut_short held left read more after.
+    subst (λ performer. CutsShort (limits performer.session) fault left (read ++ c.args.bytes.now ++ 10 ∷ more) held (g.W.Write.contents c.end_line.new.writer)) c.keep.ensures.same
+    (cut_short held left (read ++ c.args.bytes.now) more (c.in_ok-keep.ensures.after held read _ after))) c.end_line.ensures.fault
