@@ -16,7 +16,7 @@ abbrev pub HasReach : Option ℕ → List Edge → Type 0
 HasReach None es = Unit {0}
 HasReach (Some reach) es = StaysInReach (pos reach) es
 
--- an edge of one row changes the other by less than what is left up to 32767
+-- two rows have reaches whose sum, the second counted twice, is at most 32767, so no weight of both together passes that
 pub record AddInReach (es fs : List Edge) : Type 0 where
   pub left_reach : ℤ
   pub right_reach : ℤ

@@ -14,7 +14,7 @@ use crate::row::Row;
 use mf_geom::OutOfMemory;
 use std::alloc::Global;
 
-/// Most edges of a row that are added one by one; more of them are merged.
+/// Most edges of a row whose places in another are found by halving; with more of them the rows are merged.
 const FEW_EDGES: usize = 8;
 
 /// The rows of two lists together; rows that only one of them has are shared. Refused with WeightTooLarge
