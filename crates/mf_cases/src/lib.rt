@@ -7,5 +7,5 @@ mod streams;
 #[cfg(test)]
 mod tests;
 
-pub use scripts::SCRIPTS;
+pub use scripts::{Script, worked_scripts};
 pub use streams::{LineFeeds, Pieces, Sink};

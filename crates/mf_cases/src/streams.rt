@@ -34,7 +34,7 @@ impl<'a> Pieces<'a> {
         }
     }
 
-    /// Gives `first` bytes in its first read.
+    /// Gives at most `first` bytes in its first read, which is at least 1.
     pub fn split(bytes: &'a [u8], first: usize) -> Pieces<'a> {
         Pieces {
             rest: bytes,
@@ -86,7 +86,8 @@ impl Read for LineFeeds {
     }
 }
 
-/// A writer that keeps what it took, and at last answers an error or takes no byte.
+/// A writer that keeps what it took, and at last answers an error or takes no byte. Where memory is wanting it takes nothing
+/// and answers an error.
 #[derive(Drop)]
 pub struct Sink {
     taken: Vec<u8>,

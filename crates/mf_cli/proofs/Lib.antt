@@ -1,3 +1,4 @@
 mod CommandLines
+mod Messages
 mod Outputs
 mod ViewersRead

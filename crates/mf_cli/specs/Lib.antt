@@ -1,3 +1,5 @@
 pub mod CommandLine
+pub mod Faults
+pub mod Messages
 pub mod Output
 pub mod Statuses

@@ -1,15 +1,17 @@
 //! The program behind `main`: from its words and streams to its exit status.
 ghost use Rattle.std.specs.Io.KnownBytes.{IsAtEnd};
-ghost use Rattle.std.specs.Prelude.{◌≡◌, ◌≤◌, ◌⊎◌, IfSome, OnOk, map, string_bytes};
-ghost use Rattle.mf_cli.specs.CommandLine.{IsCommandLine, viewers_in};
-ghost use Rattle.mf_cli.specs.Output.{GetsOutput};
+ghost use Rattle.std.specs.Prelude.{◌≡◌, ◌≤◌, ◌⊎◌, ℕ, IfErr, IfOk, IfSome, OnOk, map, option_map, string_bytes};
+ghost use Rattle.mf_cli.specs.CommandLine.{IsCommandLine, file_in, viewers_in};
+ghost use Rattle.mf_cli.specs.Faults.{EndsBadly, ReportsFault};
+ghost use Rattle.mf_cli.specs.Messages.{GetsMessage, message_of, usage};
+ghost use Rattle.mf_cli.specs.Output.{EndsWell, settings};
 ghost use Rattle.mf_cli.specs.Statuses.{status_of};
-ghost use Rattle.mf_desk.specs.States.{limits_of};
+ghost use Rattle.mf_desk.specs.Performances.{IsPerformance, StopsEarly};
 
 use crate::fault::ProgramFault;
 use crate::words::{USAGE, Words, WordsFault, read_words};
 use mf_desk::{OpenGate, Outcome, RunFault, Settings};
-use mf_gf::{FontWords, GfBytes};
+use mf_gf::{FontWords, GfBytes, write_counted};
 use std::alloc::Global;
 use std::fs;
 use std::io::{Read, Write};
@@ -35,10 +37,10 @@ const LOOKS: u32 = 16;
 /// Status of a run that reached the end of its script, and wrote the font file that was asked for.
 pub const DONE: u8 = 0;
 
-/// Status where the command line has other words than the program knows.
+/// Status where the words are not those of a command line.
 pub const BAD_WORDS: u8 = 2;
 
-/// Status where a stream or the font file failed.
+/// Status where a stream failed, or the font file: it would be too long, has no character, or could not be written.
 pub const STREAM_FAULT: u8 = 3;
 
 /// Status where memory, a viewer's place or a look was wanting.
@@ -62,8 +64,9 @@ pub fn program<S: Wait + Threads + Files, R: Read, W: Write, E: Write>(
     ensures unread { (IsCommandLine (map string_bytes words.items) → ⊥) → reader.new ≡ reader.old }
     ensures unwritten { (IsCommandLine (map string_bytes words.items) → ⊥) → writer.new ≡ writer.old }
     ensures quiet { result ≡ DONE → errors.new ≡ errors.old }
-    ensures transcript { result ≡ DONE → IfSome (R.remaining reader.old) (GetsOutput (limits_of 1000000 16777216) (viewers_in (map string_bytes words.items)) (W.contents writer.old) (W.contents writer.new)) }
-    ensures end { result ≡ DONE → IsAtEnd (R.remaining reader.new) }
+    ensures usage { result ≡ BAD_WORDS → GetsMessage (E.contents errors.old) (E.contents errors.new) usage }
+    ensures done { result ≡ DONE → EndsWell (viewers_in (map string_bytes words.items)) (file_in (map string_bytes words.items)) (R.remaining reader.old) (R.remaining reader.new) (W.contents writer.old) (W.contents writer.new) }
+    ensures fault { (result ≡ STREAM_FAULT) ⊎ (result ≡ NO_MEMORY) → ReportsFault (viewers_in (map string_bytes words.items)) (file_in (map string_bytes words.items)) result (R.remaining reader.old) (R.remaining reader.new) (W.contents writer.old) (W.contents writer.new) (E.contents errors.old) (E.contents errors.new) }
 {
     let words = match read_words(alloc, words) {
         Ok(words) => words,
@@ -85,8 +88,8 @@ fn perform<S: Wait + Threads + Files, R: Read, W: Write>(
     words: &Words,
 ) -> Result<(), ProgramFault>
     requires { words.now.viewers ≤ 16 }
-    ensures transcript { OnOk result (IfSome (R.remaining reader.old) (GetsOutput (limits_of 1000000 16777216) words.now.viewers (W.contents writer.old) (W.contents writer.new))) }
-    ensures end { OnOk result (IsAtEnd (R.remaining reader.new)) }
+    ensures done { OnOk result (EndsWell words.now.viewers (option_map string_bytes words.now.gf) (R.remaining reader.old) (R.remaining reader.new) (W.contents writer.old) (W.contents writer.new)) }
+    ensures fault { IfErr result (λ fault. EndsBadly words.now.viewers (option_map string_bytes words.now.gf) fault (R.remaining reader.old) (R.remaining reader.new) (W.contents writer.old) (W.contents writer.new)) }
 {
     let Outcome { gf, .. } = run_script(rt, alloc, reader, writer, words.viewers)?;
     let Some(path) = &words.gf else {
@@ -107,7 +110,8 @@ fn run_script<S: Wait + Threads, R: Read, W: Write>(
     viewers: u32,
 ) -> Result<Outcome, RunFault>
     requires { viewers ≤ 16 }
-    ensures transcript { OnOk result (IfSome (R.remaining reader.old) (GetsOutput (limits_of 1000000 16777216) viewers (W.contents writer.old) (W.contents writer.new))) }
+    ensures performance { IfOk result (λ outcome. IfSome (R.remaining reader.old) (IsPerformance settings viewers 16 outcome (W.contents writer.old) (W.contents writer.new))) }
+    ensures fault { IfErr result (λ fault. StopsEarly settings viewers fault (R.remaining reader.old) (R.remaining reader.new) (W.contents writer.old) (W.contents writer.new)) }
     ensures end { OnOk result (IsAtEnd (R.remaining reader.new)) }
 {
     if viewers == 0 {
@@ -118,7 +122,9 @@ fn run_script<S: Wait + Threads, R: Read, W: Write>(
 }
 
 /// Writes a font file, which is made, or replaces what was there. Refusal WriteFault (25), also where it cannot be made.
-fn write_file<S: Files>(rt: &S, path: &str, file: &GfBytes) -> Result<(), RunFault> {
+fn write_file<S: Files>(rt: &S, path: &str, file: &GfBytes) -> Result<(), RunFault>
+    ensures { IfErr result (λ fault. (count : ℕ) × (fault ≡ RunFault.WriteFault count)) }
+{
     let Ok(mut out) = fs::create(rt, path) else {
         return Err(RunFault::WriteFault(0));
     };
@@ -131,23 +137,49 @@ fn write_file<S: Files>(rt: &S, path: &str, file: &GfBytes) -> Result<(), RunFau
 /// Refuses the words of the command line: writes how the program is used, as far as `errors` takes it, and
 /// answers the status.
 pub fn refuse_words<E: Write>(errors: &mut E) -> u8
-    ensures { result ≡ BAD_WORDS }
+    ensures status { result ≡ BAD_WORDS }
+    ensures message { GetsMessage (E.contents errors.old) (E.contents errors.new) usage }
 {
-    let _ = writeln!(errors, "{USAGE}");
+    write_message(errors, USAGE);
     BAD_WORDS
 }
 
 /// Reports a fault by its name, as far as `errors` takes it, and answers the status.
 pub fn report<E: Write>(errors: &mut E, fault: ProgramFault) -> u8
-    ensures { result ≡ status_of fault }
+    ensures status { result ≡ status_of fault }
+    ensures message { GetsMessage (E.contents errors.old) (E.contents errors.new) (message_of fault) }
 {
-    let _ = writeln!(errors, "mfpic: {fault}");
+    write_message(errors, message_of(fault));
     match fault {
         ProgramFault::Run(RunFault::OutOfMemory | RunFault::NoPlace | RunFault::NoLook) =>
             NO_MEMORY,
         ProgramFault::Run(RunFault::FileTooLong | RunFault::ReadFault | RunFault::WriteFault(_)) =>
             STREAM_FAULT,
         ProgramFault::NoCharacters => STREAM_FAULT,
+    }
+}
+
+/// The message of a fault: the program's name, and the fault's.
+fn message_of(fault: ProgramFault) -> &'static str
+    ensures { result.now ≡ message_of fault }
+{
+    match fault {
+        ProgramFault::Run(RunFault::OutOfMemory) => "mfpic: OutOfMemory\n",
+        ProgramFault::Run(RunFault::NoPlace) => "mfpic: NoPlace\n",
+        ProgramFault::Run(RunFault::FileTooLong) => "mfpic: FileTooLong\n",
+        ProgramFault::Run(RunFault::ReadFault) => "mfpic: ReadFault\n",
+        ProgramFault::Run(RunFault::WriteFault(_)) => "mfpic: WriteFault\n",
+        ProgramFault::Run(RunFault::NoLook) => "mfpic: NoLook\n",
+        ProgramFault::NoCharacters => "mfpic: NoCharacters\n",
+    }
+}
+
+/// Writes a message, as far as `errors` takes it.
+fn write_message<E: Write>(errors: &mut E, message: &str)
+    ensures { GetsMessage (E.contents errors.old) (E.contents errors.new) message.now }
+{
+    match write_counted(errors, message.as_bytes()) {
+        Ok(()) | Err(_) => (),
     }
 }
 

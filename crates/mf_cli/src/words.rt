@@ -10,7 +10,7 @@ use std::alloc::{AllocError, Global};
 use thiserror::Error;
 
 /// How the program is used.
-pub const USAGE: &str = "usage: mfpic [--viewers 0..16] [--gf FILE]";
+pub const USAGE: &str = "usage: mfpic [--viewers 0..16] [--gf FILE]\n";
 
 /// What the words of the command line ask for.
 #[derive(Debug, Drop)]

@@ -6,8 +6,8 @@ use Rattle.std.specs.Str.Lines.{strip_carriage_return}
 use Rattle.mf_text.specs.Lines.{IsRefused}
 use Rattle.mf_text.specs.declared.fault.TextFault.{TextFault}
 use Rattle.mf_text.specs.declared.fault.TextFault.TheVariants.{Cycle, BadWeight, BadCull, BadScale, BadTurn, OutOfMemory, LineTooLong, NotAscii, Syntax}
-use Rattle.mf_desk.specs.Answers.{Answers, IsPerformed, IsRefusedLine}
-use Rattle.mf_desk.specs.States.{State, Limits}
+use Rattle.mf_session.specs.Answers.{Answers, IsPerformed, IsRefusedLine}
+use Rattle.mf_session.specs.States.{State, Limits}
 
 -- a line that is too long has no other refusal
 refused-too_long : (xs ys : List ℕ) (fault : TextFault) → 65536 < length xs → 65536 < length ys → IsRefused xs fault → IsRefused ys fault

@@ -14,9 +14,9 @@ use Rattle.mf_desk.specs.EndedRuns.{IsEndOf, IsOver}
 use Rattle.mf_desk.specs.Fault.{BreaksScript, EndsEarly, IsFirstText}
 use Rattle.mf_desk.specs.Progress.{IsThrough, ReadsThrough}
 use Rattle.mf_desk.specs.Runs.{IsLongFile, IsRun, font_file, limits_set}
-use Rattle.mf_desk.specs.Sessions.{limits}
-use Rattle.mf_desk.specs.States.{Limits, start}
-use Rattle.mf_desk.specs.Transcript.{Perform}
+use Rattle.mf_session.specs.Sessions.{limits}
+use Rattle.mf_session.specs.States.{Limits, start}
+use Rattle.mf_session.specs.Transcript.{Perform}
 use Rattle.mf_desk.proofs.Stages.{CutsShort-nothing}
 
 -- a fault of the script, its reader or its writer ends the run

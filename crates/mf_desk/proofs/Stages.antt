@@ -10,19 +10,19 @@ use Rattle.mf_desk.specs.declared.fault.RunFault.{RunFault}
 use Rattle.mf_desk.specs.declared.fault.RunFault.TheVariants.{OutOfMemory, NoPlace, FileTooLong, ReadFault, WriteFault, NoLook}
 use Rattle.mf_desk.specs.declared.performer.Performer.{Performer}
 use Rattle.mf_desk.specs.declared.progress.Progress.{Progress}
-use Rattle.mf_desk.specs.Answers.{Answers}
+use Rattle.mf_session.specs.Answers.{Answers}
 use Rattle.mf_desk.specs.Ended.{ended_of_parts, last_part, ended_lines, unended}
 use Rattle.mf_desk.specs.Fault.{AreWholeLines, CutsShort}
 use Rattle.mf_desk.specs.Performer.{BreaksOff, IsWritten}
 use Rattle.mf_desk.specs.Progress.{IsAfter, IsThrough}
-use Rattle.mf_desk.specs.Sessions.{StandsFor, limits}
-use Rattle.mf_desk.specs.States.{State, Limits, start}
-use Rattle.mf_desk.specs.Transcript.{Perform}
+use Rattle.mf_session.specs.Sessions.{StandsFor, limits}
+use Rattle.mf_session.specs.States.{State, Limits, start}
+use Rattle.mf_session.specs.Transcript.{Perform}
 use Rattle.mf_desk.proofs.Ended.{ended_lines-line_feed, unended-line_feed, ended_lines-unbroken, unended-unbroken, ended_lines-front, lines-none, lines-last}
 use Rattle.mf_desk.proofs.Flushes.{Appends-kept}
 use Rattle.mf_desk.proofs.KnownTexts.{StartsWith-front}
 use Rattle.mf_desk.proofs.LongLines.{take-taken, Answers-kept, Answers-stripped}
-use Rattle.mf_desk.proofs.Performing.{Perform-line}
+use Rattle.mf_session.proofs.Performing.{Perform-line}
 
 -- nothing has been read
 pub IsAfter-start : (held : Option (List ℕ)) (progress : Progress) → StandsFor progress.performer.session start → progress.performer.written ≡ 0 → progress.line ≡ [] → IsAfter held [] progress held

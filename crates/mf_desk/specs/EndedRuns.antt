@@ -9,10 +9,10 @@ use Rattle.mf_desk.specs.declared.fault.RunFault.{RunFault}
 use Rattle.mf_desk.specs.declared.fault.RunFault.TheVariants.{OutOfMemory, WriteFault, NoLook}
 use Rattle.mf_desk.specs.declared.outcome.Glance.{Glance}
 use Rattle.mf_desk.specs.declared.performer.Performer.{Performer}
-use Rattle.mf_desk.specs.Endings.{HasEnded, whole_list}
+use Rattle.mf_session.specs.Endings.{HasEnded, whole_list}
 use Rattle.mf_desk.specs.Performances.{viewer_line, viewer_lines}
-use Rattle.mf_desk.specs.States.{State, Limits, start}
-use Rattle.mf_desk.specs.Transcript.{Perform}
+use Rattle.mf_session.specs.States.{State, Limits, start}
+use Rattle.mf_session.specs.Transcript.{Perform}
 use Rattle.mf_desk.specs.Watchers.{glance_at}
 
 -- it is what a script has ended with, whose lines have made this state

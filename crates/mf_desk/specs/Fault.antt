@@ -6,8 +6,8 @@ use Rattle.std.specs.Str.Lines.{lines}
 use Rattle.mf_gf.specs.Files.{preamble}
 use Rattle.mf_desk.specs.Ended.{ended_lines}
 use Rattle.mf_desk.specs.Runs.{IsLongFile, limits_set}
-use Rattle.mf_desk.specs.States.{State, Limits, start}
-use Rattle.mf_desk.specs.Transcript.{Perform}
+use Rattle.mf_session.specs.States.{State, Limits, start}
+use Rattle.mf_session.specs.Transcript.{Perform}
 use Rattle.mf_desk.specs.declared.fault.RunFault.{RunFault}
 use Rattle.mf_desk.specs.declared.fault.RunFault.TheVariants.{OutOfMemory, NoPlace, FileTooLong, ReadFault, WriteFault, NoLook}
 use Rattle.mf_desk.specs.declared.settings.Settings.{Settings}

@@ -9,11 +9,11 @@ use Rattle.mf_desk.specs.declared.fault.RunFault.TheVariants.{OutOfMemory, NoPla
 use Rattle.mf_desk.specs.declared.outcome.Glance.{Glance}
 use Rattle.mf_desk.specs.declared.outcome.Outcome.{Outcome}
 use Rattle.mf_desk.specs.declared.settings.Settings.{Settings}
-use Rattle.mf_desk.specs.Endings.{whole_list}
+use Rattle.mf_session.specs.Endings.{whole_list}
 use Rattle.mf_desk.specs.Fault.{HasNoRoom, IsEndedText, IsFirstText}
 use Rattle.mf_desk.specs.Runs.{IsLongFile, font_file, limits_set}
-use Rattle.mf_desk.specs.States.{State, Limits, start}
-use Rattle.mf_desk.specs.Transcript.{Perform}
+use Rattle.mf_session.specs.States.{State, Limits, start}
+use Rattle.mf_session.specs.Transcript.{Perform}
 use Rattle.mf_desk.specs.Watchers.{HasSeen, glance_at}
 
 -- the line of the viewer of this number, who has seen this last

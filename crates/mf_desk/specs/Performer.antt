@@ -1,9 +1,9 @@
 -- What has gone out where a line is performed.
 use Rattle.std.specs.Prelude.{ℕ, List, [], ◌++◌, Option, ◌≡◌, ◌+◌, ◌<◌, ◌^◌, length}
 use Rattle.std.specs.Io.KnownBytes.{Appends}
-use Rattle.mf_desk.specs.Answers.{Answers}
-use Rattle.mf_desk.specs.Sessions.{StandsFor, limits}
-use Rattle.mf_desk.specs.States.{State}
+use Rattle.mf_session.specs.Answers.{Answers}
+use Rattle.mf_session.specs.Sessions.{StandsFor, limits}
+use Rattle.mf_session.specs.States.{State}
 use Rattle.mf_desk.specs.declared.fault.RunFault.{RunFault}
 use Rattle.mf_desk.specs.declared.fault.RunFault.TheVariants.{OutOfMemory, NoPlace, FileTooLong, ReadFault, WriteFault, NoLook}
 use Rattle.mf_desk.specs.declared.performer.Performer.{Performer}

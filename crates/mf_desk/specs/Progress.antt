@@ -3,9 +3,9 @@ use Rattle.std.specs.Prelude.{ℕ, List, Option, ◌≡◌, length, take}
 use Rattle.std.specs.Io.KnownBytes.{Appends, Consumes}
 use Rattle.std.specs.Str.Lines.{lines}
 use Rattle.mf_desk.specs.Ended.{ended_lines, unended}
-use Rattle.mf_desk.specs.Sessions.{StandsFor, limits}
-use Rattle.mf_desk.specs.States.{State, start}
-use Rattle.mf_desk.specs.Transcript.{Perform}
+use Rattle.mf_session.specs.Sessions.{StandsFor, limits}
+use Rattle.mf_session.specs.States.{State, start}
+use Rattle.mf_session.specs.Transcript.{Perform}
 use Rattle.mf_desk.specs.declared.line_buffer.TheConstants.{MAX_KEPT}
 use Rattle.mf_desk.specs.declared.performer.Performer.{Performer}
 use Rattle.mf_desk.specs.declared.progress.Progress.{Progress}

@@ -4,8 +4,8 @@ use Rattle.std.specs.Io.KnownBytes.{Appends}
 use Rattle.std.specs.Str.Lines.{lines}
 use Rattle.mf_gf.specs.Files.{Character, file_of}
 use Rattle.mf_gf.specs.declared.file.FontWords.{FontWords}
-use Rattle.mf_desk.specs.States.{State, Limits, limits_of, start}
-use Rattle.mf_desk.specs.Transcript.{Perform}
+use Rattle.mf_session.specs.States.{State, Limits, limits_of, start}
+use Rattle.mf_session.specs.Transcript.{Perform}
 use Rattle.mf_desk.specs.declared.settings.Settings.{Settings}
 use Rattle.mf_desk.specs.declared.outcome.Outcome.{Outcome}
 

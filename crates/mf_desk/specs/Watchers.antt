@@ -5,6 +5,8 @@ use Rattle.mf_live.specs.Entries.{Entry, pic, rev}
 use Rattle.mf_live.specs.Prefixes.{IsWholePrefix}
 use Rattle.mf_live.specs.Viewers as viewers
 use Rattle.mf_rows.specs.Dots.{total_of}
+use Rattle.mf_desk.specs.declared.fault.RunFault.{RunFault}
+use Rattle.mf_desk.specs.declared.fault.RunFault.TheVariants.{NoLook, OutOfMemory}
 use Rattle.mf_desk.specs.declared.outcome.Glance.{Glance}
 use Rattle.mf_desk.specs.declared.watcher.Watcher.{Watcher}
 
@@ -52,3 +54,8 @@ pub record IsWatcher (picture : Book) (looks more : ℕ) (w : Watcher) : Type 0 
   pub name_is : name w ≡ picture
   pub record_is : IsRecord looks w
   pub room : HasRoom more w
+
+-- a last look, at this list, was not answered; or memory was wanting after it
+pub record IsMissed (whole : List Entry) (before after : Watcher) (fault : RunFault) : Type 0 where
+  pub unanswered : fault ≡ NoLook → viewers.looked after.viewer ≡ viewers.looked before.viewer
+  pub wanting : fault ≡ OutOfMemory → viewers.looked after.viewer ≡ whole

@@ -1,4 +1,4 @@
-//! The faults that end a run before the end of its script.
+//! The faults that end a run.
 ghost use Rattle.std.specs.Prelude.{◌≡◌};
 ghost use Rattle.mf_desk.specs.declared.fault.RunFault.TheVariants.{OutOfMemory as NoMemory, NoPlace as NoPlaceLeft};
 
@@ -7,7 +7,7 @@ use mf_live::NoPlace;
 use std::alloc::{AllocError, AllocFailed};
 use thiserror::Error;
 
-/// Why a run ended before the end of its script. Its message is its name.
+/// Why a run did not end well. Its message is its name.
 #[derive(Clone, Copy, Debug, PartialEq, Eq, Error)]
 pub enum RunFault {
     /// Refusal 14: a growth was refused. What the writer got is the texts of the first lines, whole,

@@ -4,15 +4,15 @@ ghost use Rattle.mf_live.specs.Desks.{desk_name};
 ghost use Rattle.mf_desk.specs.EndedRuns.{IsEndOf};
 ghost use Rattle.mf_desk.specs.Performer.{BreaksOff, IsWritten};
 ghost use Rattle.mf_desk.specs.Runs.{limits_set};
-ghost use Rattle.mf_desk.specs.Sessions.{StandsFor, limits, name};
-ghost use Rattle.mf_desk.specs.States.{State, start};
+ghost use Rattle.mf_session.specs.Sessions.{StandsFor, limits, name};
+ghost use Rattle.mf_session.specs.States.{State, start};
 
 use crate::ended_run::EndedRun;
 use crate::fault::RunFault;
-use crate::session::Session;
 use crate::settings::Settings;
 use mf_gf::{GfFault, write_counted};
 use mf_live::Desk;
+use mf_session::Session;
 use std::alloc::Global;
 use std::io::Write;
 use std::sync::Wait;

@@ -7,7 +7,7 @@ ghost use Rattle.mf_desk.specs.EndedRuns.{EndsWith};
 ghost use Rattle.mf_desk.specs.Fault.{BreaksScript, CutsShort};
 ghost use Rattle.mf_desk.specs.Progress.{IsAfter, IsThrough, ReadsThrough};
 ghost use Rattle.mf_desk.specs.Runs.{limits_set};
-ghost use Rattle.mf_desk.specs.Sessions.{limits, name};
+ghost use Rattle.mf_session.specs.Sessions.{limits, name};
 
 use crate::ended_run::EndedRun;
 use crate::fault::RunFault;

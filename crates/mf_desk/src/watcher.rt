@@ -3,7 +3,7 @@ ghost use Rattle.std.specs.Prelude.{◌≡◌, ◌⊎◌, ◌+◌, ℕ, true, If
 ghost use Rattle.logbook.specs.Pages.{Book};
 ghost use Rattle.mf_live.specs.Entries.{is_closed};
 ghost use Rattle.mf_live.specs.Viewers as viewers;
-ghost use Rattle.mf_desk.specs.Watchers.{HasRoom, HasSeen, IsRecord, IsWatcher, glance_at, name};
+ghost use Rattle.mf_desk.specs.Watchers.{HasRoom, HasSeen, IsMissed, IsRecord, IsWatcher, glance_at, name};
 
 use crate::fault::RunFault;
 use crate::gate::Gate;
@@ -64,7 +64,8 @@ impl Watcher {
         })
     }
 
-    /// Learns of the end, and looks once more, by a sheet. Refusals NoLook (26) and OutOfMemory (14).
+    /// Learns of the end, and looks once more, by a sheet. Refusals NoLook (26), where the look is not answered, and
+    /// OutOfMemory (14), after it.
     pub fn look_last(&mut self, alloc: Global, notice: Notice) -> Result<Glance, RunFault>
         requires room { HasRoom 1 self.old }
         requires name { viewers.notice_name notice ≡ name self.old }
@@ -72,6 +73,7 @@ impl Watcher {
         ensures glance { IfOk result (λ glance. glance ≡ glance_at (viewers.told notice)) }
         ensures seen { OnOk result ((looks : ℕ) → IsRecord looks self.old → HasSeen (viewers.told notice) looks self.new.seen.items) }
         ensures fault { IfErr result (λ fault. (fault ≡ RunFault.NoLook) ⊎ (fault ≡ RunFault.OutOfMemory)) }
+        ensures missed { IfErr result (IsMissed (viewers.told notice) self.old self.new) }
     {
         let sheet = match last_sheet(&mut self.viewer, alloc, notice) {
             Ok(sheet) => sheet,

@@ -12,4 +12,5 @@ mod winding;
 
 pub use cycle::{Cycle, CycleFault};
 pub use memory::OutOfMemory;
+pub use path::MAX_POINTS;
 pub use point::Point;

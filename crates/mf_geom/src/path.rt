@@ -13,7 +13,7 @@ use crate::point::{MAX_COORDINATE, Point};
 const MIN_POINTS: usize = 2;
 
 /// Greatest number of points of a cycle (`CycleFault::TooManyPoints`).
-const MAX_POINTS: usize = 4096;
+pub const MAX_POINTS: usize = 4096;
 
 /// The first fault of a closed path, if it is no cycle.
 #[tactic(auto, unfolding(crate::specs::Lawful::IsFault))]

@@ -8,6 +8,9 @@ use std::alloc::Global;
 mod steps;
 mod tail;
 
+/// The number that says that a file is a GF file.
+const GF_ID: u8 = 131;
+
 /// Numbers of a font, which the postamble has: its design size in 1/1048576 point, its checksum, and the pixels per
 /// point, horizontally and vertically, in 1/65536.
 #[derive(Clone, Copy, Debug, PartialEq, Eq)]

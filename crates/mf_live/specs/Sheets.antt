@@ -1,10 +1,11 @@
 -- What a clause reads of the taking of a sheet.
-use Rattle.std.specs.Prelude.{◌≡◌, true}
+use Rattle.std.specs.Prelude.{◌≡◌, true, List}
 use Rattle.mf_live.specs.declared.sheet.Sheet.{Sheet}
 use Rattle.mf_live.specs.declared.sheet.SheetFault.{SheetFault}
 use Rattle.mf_live.specs.declared.sheet.SheetFault.TheVariants.{NoLook, OutOfMemory}
 use Rattle.mf_live.specs.declared.viewer.Viewer.{Viewer}
-use Rattle.mf_live.specs.Entries.{ends_last, pic, rev}
+use Rattle.mf_live.specs.Entries.{Entry, ends_last, pic, rev}
+use Rattle.mf_live.specs.Prefixes.{longer}
 use Rattle.mf_live.specs.Viewers.{Extends, SeesTheSame, looked, seen}
 
 -- a viewer has looked, at a list in which nothing follows the end mark
@@ -23,3 +24,14 @@ pub record IsTaken (before after : Viewer) (sheet : Sheet) : Type 0 where
 abbrev pub IsNotTaken : Viewer → Viewer → SheetFault → Type 0
 IsNotTaken before after NoLook = SeesTheSame before after
 IsNotTaken before after OutOfMemory = HasLooked before after
+
+-- a viewer has learnt of a list, and has not looked
+pub record HasLearnt (before : Viewer) (whole : List Entry) (after : Viewer) : Type 0 where
+  pub looked : looked after ≡ looked before
+  pub seen : seen after ≡ longer (seen before) whole
+
+-- where no sheet of the whole list was given, the viewer has learnt of it alone, or memory was wanting after it had
+-- looked at it
+abbrev pub IsLastNotTaken : Viewer → List Entry → Viewer → SheetFault → Type 0
+IsLastNotTaken before whole after NoLook = HasLearnt before whole after
+IsLastNotTaken before whole after OutOfMemory = looked after ≡ whole

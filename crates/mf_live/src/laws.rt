@@ -1,9 +1,10 @@
 //! Laws of the live picture: each is the contract of a function that does nothing, or only calls another.
-ghost use Rattle.std.specs.Prelude.{◌≡◌, ◌≤◌, true, ℕ, List, [], ◌∷◌, ◌++◌, IfOk, OnOk};
+ghost use Rattle.std.specs.Prelude.{◌≡◌, ◌≤◌, true, ℕ, List, [], ◌∷◌, ◌++◌, IfErr, IfOk, OnOk};
 ghost use Rattle.mf_live.specs.declared.event.Event.{Event};
 ghost use Rattle.mf_live.specs.declared.event.Event.TheVariants.{Look};
 ghost use Rattle.mf_live.specs.Entries.{rev, is_closed, pic};
 ghost use Rattle.mf_live.specs.Prefixes.{IsWholePrefix, HasWholePublishes};
+ghost use Rattle.mf_live.specs.Sheets.{IsLastNotTaken};
 ghost use Rattle.mf_live.specs.Viewers as viewers;
 ghost use Rattle.mf_live.specs.World.{start, Happen, EverySchedule, accepted_of, published_of};
 
@@ -44,7 +45,8 @@ pub fn last_look(viewer: Viewer, notice: Notice) -> Result<Look, (Viewer, NoLook
 }
 
 /// The sheet of a viewer that has learnt of the end is the last picture, and the whole list begins, whole, with all
-/// that the viewer had seen.
+/// that the viewer had seen. After NoLook (26) it has not looked, and has learnt of the end; after OutOfMemory (14) it
+/// has looked at the whole list.
 pub fn last_sheet(viewer: &mut Viewer, alloc: Global, notice: Notice) -> Result<Sheet, SheetFault>
     requires name { viewers.notice_name notice ≡ viewers.name viewer.old }
     requires closed { is_closed (viewers.told notice) ≡ true }
@@ -52,6 +54,7 @@ pub fn last_sheet(viewer: &mut Viewer, alloc: Global, notice: Notice) -> Result<
     ensures picture { IfOk result (λ sheet. sheet.picture ≡ pic (viewers.told notice)) }
     ensures revision { IfOk result (λ sheet. sheet.revision ≡ rev (viewers.told notice)) }
     ensures extends { OnOk result (viewers.Extends viewer.old (viewers.told notice)) }
+    ensures not_taken { IfErr result (IsLastNotTaken viewer.old (viewers.told notice) viewer.new) }
 {
     viewer.learn(notice);
     viewer.sheet(alloc)

@@ -11,7 +11,7 @@ use Rattle.mf_rows.specs.Bounds.{IsLeastBox}
 use Rattle.mf_rows.specs.declared.bounds.Box4.{Box4}
 use Rattle.mf_rows.specs.declared.stretch.Stretch.{Stretch}
 use Rattle.mf_rows.specs.Dots.{Dot, IsPicture, start_of_field}
-use Rattle.mf_rows.specs.Moves.{IsPointInReach, StaysInside, StayInside}
+use Rattle.mf_rows.specs.Moves.{IsPointInReach, PlaceStaysInside, PixelsStayInside}
 use Rattle.mf_ops.specs.Moves.{Factors, is_in_reach, stays_inside}
 use Rattle.mf_ops.specs.Step.{leaves, StaysInField}
 use Rattle.mf_ops.specs.declared.op.Op.TheVariants.{Shift, Scale}
@@ -22,11 +22,11 @@ is_in_reach-point x point = grind (arith, ints)
 IsPointInReach-from_test : (x : ℤ) → is_in_reach x ≡ true → IsPointInReach x
 IsPointInReach-from_test x passes = record { least = grind (arith, ints); greatest = grind (arith, ints) }
 
-stays_inside-place : (s : Stretch) (p : ℤ) → StaysInside s p → stays_inside s.factor s.offset p ≡ true
+stays_inside-place : (s : Stretch) (p : ℤ) → PlaceStaysInside s p → stays_inside s.factor s.offset p ≡ true
 stays_inside-place s p inside = and_from _ _ (is_in_reach-point _ inside.start) (is_in_reach-point _ inside.end)
 
-StaysInside-from_test : (s : Stretch) (p : ℤ) → stays_inside s.factor s.offset p ≡ true → StaysInside s p
-StaysInside-from_test s p passes =
+PlaceStaysInside-from_test : (s : Stretch) (p : ℤ) → stays_inside s.factor s.offset p ≡ true → PlaceStaysInside s p
+PlaceStaysInside-from_test s p passes =
     let ends = and_parts _ _ passes in
     record { start = IsPointInReach-from_test _ ends.0; end = IsPointInReach-from_test _ ends.1 }
 
@@ -34,36 +34,36 @@ StaysInside-from_test s p passes =
 abbrev leaves_by : Stretch → Stretch → Dot → Bool
 leaves_by columns rows d = not (stays_inside columns.factor columns.offset d.x && stays_inside rows.factor rows.offset d.y)
 
-none_leaves : (columns rows : Stretch) (ds : List Dot) → StayInside columns rows ds → list_any (leaves_by columns rows) ds ≡ false
+none_leaves : (columns rows : Stretch) (ds : List Dot) → PixelsStayInside columns rows ds → list_any (leaves_by columns rows) ds ≡ false
 none_leaves columns rows ds inside =
     list_any_none (leaves_by columns rows) ds
     (λ k d lt. not_from_true _ (and_from _ _ (stays_inside-place columns _ (inside.across k d lt)) (stays_inside-place rows _ (inside.up k d lt))))
 
-StayInside-none_leaves : (columns rows : Stretch) (ds : List Dot) → list_any (leaves_by columns rows) ds ≡ false → StayInside columns rows ds
-StayInside-none_leaves columns rows [] none = record { across = All-nil (λ d. StaysInside columns d.x); up = All-nil (λ d. StaysInside rows d.y) }
-StayInside-none_leaves columns rows (d ∷ ds) none =
+PixelsStayInside-none_leaves : (columns rows : Stretch) (ds : List Dot) → list_any (leaves_by columns rows) ds ≡ false → PixelsStayInside columns rows ds
+PixelsStayInside-none_leaves columns rows [] none = record { across = All-nil (λ d. PlaceStaysInside columns d.x); up = All-nil (λ d. PlaceStaysInside rows d.y) }
+PixelsStayInside-none_leaves columns rows (d ∷ ds) none =
     let parts = or_parts (leaves_by columns rows d) (list_any (leaves_by columns rows) ds) none in
     let tests = and_parts _ _ (not-false _ parts.0) in
-    let rest = StayInside-none_leaves columns rows ds parts.1 in
+    let rest = PixelsStayInside-none_leaves columns rows ds parts.1 in
     record {
-      across = All-cons (λ e. StaysInside columns e.x) d ds (StaysInside-from_test columns d.x tests.0) rest.across;
-      up = All-cons (λ e. StaysInside rows e.y) d ds (StaysInside-from_test rows d.y tests.1) rest.up;
+      across = All-cons (λ e. PlaceStaysInside columns e.x) d ds (PlaceStaysInside-from_test columns d.x tests.0) rest.across;
+      up = All-cons (λ e. PlaceStaysInside rows e.y) d ds (PlaceStaysInside-from_test rows d.y tests.1) rest.up;
     }
 
-some_leaves : (columns rows : Stretch) (ds : List Dot) → ¬ StayInside columns rows ds → list_any (leaves_by columns rows) ds ≡ true
-some_leaves columns rows ds outside = true_from_ne_false _ (λ none. outside (StayInside-none_leaves columns rows ds none))
+some_leaves : (columns rows : Stretch) (ds : List Dot) → ¬ PixelsStayInside columns rows ds → list_any (leaves_by columns rows) ds ≡ true
+some_leaves columns rows ds outside = true_from_ne_false _ (λ none. outside (PixelsStayInside-none_leaves columns rows ds none))
 
 -- a shift stretches by 1, a scale without an offset
-pub stays_in_field-shift : (ds : List Dot) (dx dy : ℤ) → StayInside (record { factor = pos 1; offset = dx }) (record { factor = pos 1; offset = dy }) ds → StaysInField ds (Shift dx dy)
+pub stays_in_field-shift : (ds : List Dot) (dx dy : ℤ) → PixelsStayInside (record { factor = pos 1; offset = dx }) (record { factor = pos 1; offset = dy }) ds → StaysInField ds (Shift dx dy)
 stays_in_field-shift ds dx dy inside = record { none_leaves = none_leaves (record { factor = pos 1; offset = dx }) (record { factor = pos 1; offset = dy }) ds inside }
 
-pub leaves-shift : (ds : List Dot) (dx dy : ℤ) → (StayInside (record { factor = pos 1; offset = dx }) (record { factor = pos 1; offset = dy }) ds → ⊥) → list_any (leaves (Shift dx dy)) ds ≡ true
+pub leaves-shift : (ds : List Dot) (dx dy : ℤ) → (PixelsStayInside (record { factor = pos 1; offset = dx }) (record { factor = pos 1; offset = dy }) ds → ⊥) → list_any (leaves (Shift dx dy)) ds ≡ true
 leaves-shift ds dx dy outside = some_leaves (record { factor = pos 1; offset = dx }) (record { factor = pos 1; offset = dy }) ds outside
 
-pub stays_in_field-scale : (ds : List Dot) (s : Factors) → StayInside (record { factor = s.x; offset = pos 0 }) (record { factor = s.y; offset = pos 0 }) ds → StaysInField ds (Scale s)
+pub stays_in_field-scale : (ds : List Dot) (s : Factors) → PixelsStayInside (record { factor = s.x; offset = pos 0 }) (record { factor = s.y; offset = pos 0 }) ds → StaysInField ds (Scale s)
 stays_in_field-scale ds s inside = record { none_leaves = none_leaves (record { factor = s.x; offset = pos 0 }) (record { factor = s.y; offset = pos 0 }) ds inside }
 
-pub leaves-scale : (ds : List Dot) (s : Factors) → (StayInside (record { factor = s.x; offset = pos 0 }) (record { factor = s.y; offset = pos 0 }) ds → ⊥) → list_any (leaves (Scale s)) ds ≡ true
+pub leaves-scale : (ds : List Dot) (s : Factors) → (PixelsStayInside (record { factor = s.x; offset = pos 0 }) (record { factor = s.y; offset = pos 0 }) ds → ⊥) → list_any (leaves (Scale s)) ds ≡ true
 leaves-scale ds s outside = some_leaves (record { factor = s.x; offset = pos 0 }) (record { factor = s.y; offset = pos 0 }) ds outside
 
 -- a product with a whole number keeps the order, or turns it round
@@ -90,8 +90,8 @@ IsPointInReach-between (negsuc n) o a p b after before first last =
     let above = mul-ge n p b before in
     record { least = omega (arith, ints, last.least); greatest = omega (arith, ints, first.greatest) }
 
-StaysInside-between : (s : Stretch) (a p b : ℤ) → a ≤ℤ p → p ≤ℤ b → StaysInside s a → StaysInside s b → StaysInside s p
-StaysInside-between s a p b after before first last =
+PlaceStaysInside-between : (s : Stretch) (a p b : ℤ) → a ≤ℤ p → p ≤ℤ b → PlaceStaysInside s a → PlaceStaysInside s b → PlaceStaysInside s p
+PlaceStaysInside-between s a p b after before first last =
     record {
       start = IsPointInReach-between s.factor s.offset a p b after before first.start last.start;
       end = IsPointInReach-between s.factor s.offset (a +ℤ pos 1) (p +ℤ pos 1) (b +ℤ pos 1) (omega (arith, ints)) (omega (arith, ints)) first.end last.end;
@@ -103,26 +103,26 @@ at_side P f ds side all at = subst P at.4 (All-contains (λ d. P (f d)) ds at.1 
 
 -- the sides of the least box stay inside
 pub record SidesStayInside (columns rows : Stretch) (b : Box4) : Type 0 where
-  pub left : StaysInside columns b.min_x
-  pub right : StaysInside columns b.max_x
-  pub bottom : StaysInside rows b.min_y
-  pub top : StaysInside rows b.max_y
+  pub left : PlaceStaysInside columns b.min_x
+  pub right : PlaceStaysInside columns b.max_x
+  pub bottom : PlaceStaysInside rows b.min_y
+  pub top : PlaceStaysInside rows b.max_y
 
 -- a picture stays inside where they do
-pub StayInside-from_sides : (columns rows : Stretch) (ds : List Dot) (b : Box4) → IsLeastBox ds b → SidesStayInside columns rows b → StayInside columns rows ds
-StayInside-from_sides columns rows ds b box sides =
+pub PixelsStayInside-from_sides : (columns rows : Stretch) (ds : List Dot) (b : Box4) → IsLeastBox ds b → SidesStayInside columns rows b → PixelsStayInside columns rows ds
+PixelsStayInside-from_sides columns rows ds b box sides =
     record {
-      across = λ k d lt. let within = box.within k d lt in StaysInside-between columns b.min_x _ b.max_x within.left within.right sides.left sides.right;
-      up = λ k d lt. let within = box.within k d lt in StaysInside-between rows b.min_y _ b.max_y within.bottom within.top sides.bottom sides.top;
+      across = λ k d lt. let within = box.within k d lt in PlaceStaysInside-between columns b.min_x _ b.max_x within.left within.right sides.left sides.right;
+      up = λ k d lt. let within = box.within k d lt in PlaceStaysInside-between rows b.min_y _ b.max_y within.bottom within.top sides.bottom sides.top;
     }
 
-pub sides_from_StayInside : (columns rows : Stretch) (ds : List Dot) (b : Box4) → IsLeastBox ds b → StayInside columns rows ds → SidesStayInside columns rows b
+pub sides_from_StayInside : (columns rows : Stretch) (ds : List Dot) (b : Box4) → IsLeastBox ds b → PixelsStayInside columns rows ds → SidesStayInside columns rows b
 sides_from_StayInside columns rows ds b box inside =
     record {
-      left = at_side (StaysInside columns) (λ d. d.x) ds b.min_x inside.across box.left;
-      right = at_side (StaysInside columns) (λ d. d.x) ds b.max_x inside.across box.right;
-      bottom = at_side (StaysInside rows) (λ d. d.y) ds b.min_y inside.up box.bottom;
-      top = at_side (StaysInside rows) (λ d. d.y) ds b.max_y inside.up box.top;
+      left = at_side (PlaceStaysInside columns) (λ d. d.x) ds b.min_x inside.across box.left;
+      right = at_side (PlaceStaysInside columns) (λ d. d.x) ds b.max_x inside.across box.right;
+      bottom = at_side (PlaceStaysInside rows) (λ d. d.y) ds b.min_y inside.up box.bottom;
+      top = at_side (PlaceStaysInside rows) (λ d. d.y) ds b.max_y inside.up box.top;
     }
 
 -- a column or row of the field

@@ -10,7 +10,7 @@ use Rattle.std.proofs.lemmas.List.Elements.{All-contains}
 use Rattle.std.proofs.lemmas.List.Folds.{Any-from_list_any}
 use Rattle.mf_geom.specs.Field.{IsInField}
 use Rattle.mf_rows.specs.Dots.{Dot, IsDot, IsPicture, start_of_field, weight_at}
-use Rattle.mf_rows.specs.Moves.{opposite, IsPointInReach, StaysInside}
+use Rattle.mf_rows.specs.Moves.{opposite, IsPointInReach, PlaceStaysInside}
 use Rattle.mf_rows.proofs.DotsLemmas.{IsAt, weight_at-dot, dots_from-lawful, weight_at-outside}
 use Rattle.mf_ops.specs.Moves.{Factors, AreFactors, IsFactor, HasPlace, scale_source, is_in_reach, stays_inside, turned, turned_by}
 use Rattle.mf_ops.specs.Step.{step_at, leaves, fault_of, LiesOutside}
@@ -61,12 +61,12 @@ test-reach : (x : ℤ) → IsPointInReach x → is_in_reach x ≡ true
 test-reach x reach = grind (arith, ints)
 
 -- both ends of column p stay in reach where the test says so
-ends_in_reach : (f d p : ℤ) → stays_inside f d p ≡ true → StaysInside (record { factor = f; offset = d }) p
+ends_in_reach : (f d p : ℤ) → stays_inside f d p ≡ true → PlaceStaysInside (record { factor = f; offset = d }) p
 ends_in_reach f d p stays =
     let tests = and_parts (is_in_reach ((p *ℤ f) +ℤ d)) (is_in_reach (((p +ℤ pos 1) *ℤ f) +ℤ d)) stays in
     record { start = reach-from_test ((p *ℤ f) +ℤ d) tests.0; end = reach-from_test (((p +ℤ pos 1) *ℤ f) +ℤ d) tests.1 }
 
-stays-from_ends : (f d p : ℤ) → StaysInside (record { factor = f; offset = d }) p → stays_inside f d p ≡ true
+stays-from_ends : (f d p : ℤ) → PlaceStaysInside (record { factor = f; offset = d }) p → stays_inside f d p ≡ true
 stays-from_ends f d p ends =
     and_from (is_in_reach ((p *ℤ f) +ℤ d)) (is_in_reach (((p +ℤ pos 1) *ℤ f) +ℤ d))
     (test-reach ((p *ℤ f) +ℤ d) ends.start)
@@ -124,7 +124,7 @@ some_outside f p factor leaves =
     by_lt_z (pos 4095) high
     (λ lt. record { q = high -ℤ pos 1; has = HasPlace-last f p factor; outside = λ inside. let greatest = inside.greatest in omega (arith, ints) })
     (λ greatest.
-    let ends : StaysInside (record { factor = f; offset = pos 0 }) p = record {
+    let ends : PlaceStaysInside (record { factor = f; offset = pos 0 }) p = record {
       start = record { least = omega (arith, ints, clamps); greatest = omega (arith, ints, clamps) };
       end = record { least = omega (arith, ints, clamps); greatest = omega (arith, ints, clamps) };
     } in

@@ -10,7 +10,7 @@ use Rattle.std.specs.Ordering.{int_eq}
 use Rattle.mf_geom.specs.Field.{IsInField}
 use Rattle.mf_rows.specs.declared.stretch.Stretch.{Stretch}
 use Rattle.mf_rows.specs.Dots.{Dot, IsPicture, start_of_field, weight_at}
-use Rattle.mf_rows.specs.Moves.{IsStretch, IsPointInReach, StaysInside, StayInside, opposite, stretched_to, source_of, stretched_at}
+use Rattle.mf_rows.specs.Moves.{IsStretch, IsPointInReach, PlaceStaysInside, PixelsStayInside, opposite, stretched_to, source_of, stretched_at}
 use Rattle.mf_rows.specs.Sums.{HasWeights}
 use Rattle.mf_rows.proofs.DotsLemmas.{dots_from-lawful, weight_at-dot}
 use Rattle.mf_rows.proofs.Sources.{source_of-reached, source_of-from}
@@ -143,9 +143,9 @@ product-opposite (pos (suc k)) n = refl
 product-opposite (negsuc k) n = refl
 
 -- the ends of a column, or row, on the other side change places
-StaysInside-size : (f p : ℤ) → StaysInside (by_factor f) (on_side (int_lt f (pos 0)) p) → StaysInside (by_size f) p
-StaysInside-size (pos n) p inside = subst (StaysInside (by_factor (pos n))) (cond-false _ (opposite p) p (not_negative n)) inside
-StaysInside-size (negsuc n) p inside =
+PlaceStaysInside-size : (f p : ℤ) → PlaceStaysInside (by_factor f) (on_side (int_lt f (pos 0)) p) → PlaceStaysInside (by_size f) p
+PlaceStaysInside-size (pos n) p inside = subst (PlaceStaysInside (by_factor (pos n))) (cond-false _ (opposite p) p (not_negative n)) inside
+PlaceStaysInside-size (negsuc n) p inside =
     let start : opposite p ≡ neg_ℤ (p +ℤ pos 1) = omega (arith, ints) in
     let end : opposite p +ℤ pos 1 ≡ neg_ℤ p = omega (arith, ints) in
     let start_is : stretched_to (by_factor (negsuc n)) (opposite p) ≡ stretched_to (by_size (negsuc n)) (p +ℤ pos 1) =
@@ -163,14 +163,14 @@ reflected_dots columns rows ds middle picture reflected k d lt =
     λ blank. dot.nonzero (sym (weight_at-dot start_of_field middle picture.dots k d lt) ∙ reflected.weights e.x e.y dot.in_field ∙ blank)
 
 -- so the reflected picture stays in the field, too
-StayInside-reflected : (ds middle : List Dot) (s : Factors) → IsPicture middle → HasWeights (reflected_at (int_lt s.x (pos 0)) (int_lt s.y (pos 0)) ds) middle → StayInside (by_factor s.x) (by_factor s.y) ds → StayInside (by_size s.x) (by_size s.y) middle
-StayInside-reflected ds middle s picture reflected inside =
+PixelsStayInside-reflected : (ds middle : List Dot) (s : Factors) → IsPicture middle → HasWeights (reflected_at (int_lt s.x (pos 0)) (int_lt s.y (pos 0)) ds) middle → PixelsStayInside (by_factor s.x) (by_factor s.y) ds → PixelsStayInside (by_size s.x) (by_size s.y) middle
+PixelsStayInside-reflected ds middle s picture reflected inside =
     let nonzero = reflected_dots _ _ ds middle picture reflected in
     record {
-      across = λ k d lt. StaysInside-size s.x _ (at_weight (λ x y. StaysInside (by_factor s.x) x) ds _ _ inside.across (nonzero k d lt));
-      up = λ k d lt. StaysInside-size s.y _ (at_weight (λ x y. StaysInside (by_factor s.y) y) ds _ _ inside.up (nonzero k d lt));
+      across = λ k d lt. PlaceStaysInside-size s.x _ (at_weight (λ x y. PlaceStaysInside (by_factor s.x) x) ds _ _ inside.across (nonzero k d lt));
+      up = λ k d lt. PlaceStaysInside-size s.y _ (at_weight (λ x y. PlaceStaysInside (by_factor s.y) y) ds _ _ inside.up (nonzero k d lt));
     }
 
-pub StayInside-scale : (ds middle : List Dot) (s : Factors) (a b : ℤ) (columns rows sized_columns sized_rows : Stretch) → AreMade s.x a columns sized_columns → AreMade s.y b rows sized_rows → IsPicture middle → HasWeights (reflected_at (int_lt a (pos 0)) (int_lt b (pos 0)) ds) middle → StayInside columns rows ds → StayInside sized_columns sized_rows middle
-StayInside-scale ds middle s a b columns rows sized_columns sized_rows x y picture reflected inside =
-    rw (x.sized_is, y.sized_is) (StayInside-reflected ds middle s picture (rw (x.passed, y.passed) at reflected) (rw (x.signed_is, y.signed_is) at inside))
+pub PixelsStayInside-scale : (ds middle : List Dot) (s : Factors) (a b : ℤ) (columns rows sized_columns sized_rows : Stretch) → AreMade s.x a columns sized_columns → AreMade s.y b rows sized_rows → IsPicture middle → HasWeights (reflected_at (int_lt a (pos 0)) (int_lt b (pos 0)) ds) middle → PixelsStayInside columns rows ds → PixelsStayInside sized_columns sized_rows middle
+PixelsStayInside-scale ds middle s a b columns rows sized_columns sized_rows x y picture reflected inside =
+    rw (x.sized_is, y.sized_is) (PixelsStayInside-reflected ds middle s picture (rw (x.passed, y.passed) at reflected) (rw (x.signed_is, y.signed_is) at inside))

@@ -1,7 +1,7 @@
 //! Shifts, scales and turns.
 ghost use Rattle.std.specs.Prelude.{◌≡◌, ◌≢◌, ◌↔◌, None, Some, Err, IfOk, IfErr, OnOk, IsTrue, pos, negsuc, ◌≤ℤ◌};
 ghost use Rattle.mf_rows.specs.Dots.{IsPicture};
-ghost use Rattle.mf_rows.specs.Moves.{StayInside, StaysInside, IsPointInReach, stretched_to};
+ghost use Rattle.mf_rows.specs.Moves.{PixelsStayInside, PlaceStaysInside, IsPointInReach, stretched_to};
 ghost use Rattle.mf_rows.specs.Sums.{HasWeights};
 ghost use Rattle.mf_ops.specs.Moves.{IsFactor};
 ghost use Rattle.mf_ops.specs.Reflections.{reflected_at};
@@ -109,7 +109,7 @@ fn reflect(
 
 /// Whether all pixels of nonzero weight lie in the field after the columns and the rows were stretched.
 fn stays_inside(picture: &Picture, columns: &Stretch, rows: &Stretch) -> bool
-    ensures { IsTrue result ↔ StayInside columns.now rows.now picture.now }
+    ensures { IsTrue result ↔ PixelsStayInside columns.now rows.now picture.now }
 {
     match picture.bounds() {
         Some(bounds) => {
@@ -126,7 +126,7 @@ fn stays_inside(picture: &Picture, columns: &Stretch, rows: &Stretch) -> bool
 fn lies_inside(stretch: &Stretch, place: i32) -> bool
     requires least { negsuc 4094 ≤ℤ place }
     requires greatest { place ≤ℤ pos 4094 }
-    ensures { IsTrue result ↔ StaysInside stretch.now place }
+    ensures { IsTrue result ↔ PlaceStaysInside stretch.now place }
 {
     is_in_reach(stretch, place) && is_in_reach(stretch, place + 1)
 }

@@ -1,5 +1,5 @@
 -- How far the weights of rows go from 0, edge by edge.
-use Rattle.std.proofs.Common.{◌≡◌, ◌<◌, ◌≤◌, ◌+◌, cond, nat_abs, Bool, true, false, ℕ, zero, suc, ℤ, get_or, take, drop, length, int_le, int_lt, T, Fits, w16, FitsSigned, to_z, of_z, w32, neg_ℤ, pos, negsuc, ◌+ℤ◌, ◌*ℤ◌, ◌≤ℤ◌, ◌<ℤ◌, List, [], ◌∷◌, ◌++◌, refl, ap, subst, ◌∙◌, append-nil, append_assoc, arith}
+use Rattle.std.proofs.Common.{◌≡◌, ◌<◌, ◌≤◌, ◌+◌, cond, nat_abs, Bool, true, false, ℕ, zero, suc, ℤ, get_or, take, drop, length, int_le, int_lt, T, Fits, w16, FitsSigned, to_z, of_z, w32, neg_ℤ, pos, negsuc, ◌+ℤ◌, ◌≤ℤ◌, ◌<ℤ◌, List, [], ◌∷◌, ◌++◌, refl, ap, subst, ◌∙◌, append-nil, append_assoc, arith}
 use Rattle.std.specs.List.{All, AllWithin}
 use Rattle.std.specs.List.Sorted.{IsPartitionedBy}
 use Rattle.std.specs.Ordering.{int_cmp, is_lt, ord_max}
@@ -322,20 +322,17 @@ pub record IsSumOfReaches (a b : ℤ) : Type 0 where
   pub least : pos 0 ≤ℤ (a +ℤ b)
   pub greatest : (a +ℤ b) ≤ℤ pos 32767
 
-twice_is : (b : ℤ) → pos 0 ≤ℤ b → b ≤ℤ pos 32767 → to_z w32 (of_z w32 (pos 2 *ℤ b)) ≡ pos 2 *ℤ b
-twice_is b least greatest = omega (arith, ints)
-
-total_is : (a b : ℤ) → pos 0 ≤ℤ a → a ≤ℤ pos 32767 → pos 0 ≤ℤ b → b ≤ℤ pos 32767 → to_z w32 (of_z w32 (a +ℤ (pos 2 *ℤ b))) ≡ a +ℤ (pos 2 *ℤ b)
+total_is : (a b : ℤ) → pos 0 ≤ℤ a → a ≤ℤ pos 32767 → pos 0 ≤ℤ b → b ≤ℤ pos 32767 → to_z w32 (of_z w32 (a +ℤ b)) ≡ a +ℤ b
 total_is a b least_a greatest_a least_b greatest_b = omega (arith, ints)
 
-pub room_of_reaches : (a b : ℤ) (es fs : List Edge) → StaysInReach a es → StaysInReach b fs → int_le (to_z w32 (of_z w32 (to_z w32 (of_z w32 a) +ℤ to_z w32 (of_z w32 (pos 2 *ℤ to_z w32 (of_z w32 b)))))) (pos 32767) ≡ true → (a +ℤ (pos 2 *ℤ b)) ≤ℤ pos 32767
+pub room_of_reaches : (a b : ℤ) (es fs : List Edge) → StaysInReach a es → StaysInReach b fs → int_le (to_z w32 (of_z w32 (to_z w32 (of_z w32 a) +ℤ to_z w32 (of_z w32 b)))) (pos 32767) ≡ true → (a +ℤ b) ≤ℤ pos 32767
 room_of_reaches a b es fs left right test =
     let first = reach_bounds a es left in
     let second = reach_bounds b fs right in
-    let asked = rw (reach_is a es left, reach_is b fs right, twice_is b second.0 second.1, total_is a b first.0 first.1 second.0 second.1) at test in
+    let asked = rw (reach_is a es left, reach_is b fs right, total_is a b first.0 first.1 second.0 second.1) at test in
     omega (arith, ints, asked)
 
-pub sum_of_reaches : (a b : ℤ) (es fs : List Edge) → StaysInReach a es → StaysInReach b fs → (a +ℤ (pos 2 *ℤ b)) ≤ℤ pos 32767 → IsSumOfReaches a b
+pub sum_of_reaches : (a b : ℤ) (es fs : List Edge) → StaysInReach a es → StaysInReach b fs → (a +ℤ b) ≤ℤ pos 32767 → IsSumOfReaches a b
 sum_of_reaches a b es fs left right most =
     let first = reach_bounds a es left in
     let second = reach_bounds b fs right in

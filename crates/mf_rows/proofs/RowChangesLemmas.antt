@@ -19,7 +19,7 @@ use Rattle.mf_rows.specs.Bands.{edge_row, edge_rows, AreBelow}
 use Rattle.mf_rows.specs.BlankRows.{unless_blank}
 use Rattle.mf_rows.specs.Edges.{weight_in, AreEdges, EdgeRow, AreRowsFrom, AreRows, weight_in_rows}
 use Rattle.mf_rows.specs.Moves.{IsStretch, IsPointInReach, stretched_to, source_of}
-use Rattle.mf_rows.specs.RowChanges.{row_image, IsRowChange, AllowsChange, AllowChange, changed_in, changed_in_rows, AreChanged}
+use Rattle.mf_rows.specs.RowChanges.{row_image, IsRowChange, EdgesAllowChange, RowsAllowChange, changed_in, changed_in_rows, AreChanged}
 use Rattle.mf_rows.specs.Sums.{HaveRowWeights}
 use Rattle.mf_rows.proofs.BlankRowsLemmas.{weight_in_rows-unless_blank, rows_from-unless_blank, All-unless_blank}
 use Rattle.mf_rows.proofs.EdgesLemmas.{weight_in_rows-append, weight_in_rows-here, weight_in_rows-elsewhere, weight_in_rows-below, rows_from-higher, rows_from-below, rows_from-append}
@@ -88,12 +88,12 @@ changed_in_rows-cons c r rest image x v lawful below changed =
 -- rows have the weights of all rows after the change but those that are left, and stand above these
 pub record IsChangeSoFar (c : RowChange) (whole left changed : List EdgeRow) : Type 0 where
   pub to_come : AreRowsFrom (pos 4094) left
-  pub allowed : AllowChange c left
+  pub allowed : RowsAllowChange c left
   pub rows : AreRowsFrom (pos 4094) changed
   pub apart : All (λ r. AreBelow r.y left) changed
   pub weights : (x y : ℤ) → weight_in_rows changed x y +ℤ changed_in_rows c left x y ≡ changed_in_rows c whole x y
 
-pub change_none : (c : RowChange) (whole : List EdgeRow) → AreRows whole → AllowChange c whole → IsChangeSoFar c whole whole []
+pub change_none : (c : RowChange) (whole : List EdgeRow) → AreRows whole → RowsAllowChange c whole → IsChangeSoFar c whole whole []
 unfolding weight_in_rows
 change_none c whole rows allowed = record {
   to_come = rows.rows;
@@ -108,8 +108,8 @@ pub change_next : {c : RowChange} {whole changed : List EdgeRow} (rows : List Ro
 change_next {c = c} {whole = whole} {changed = changed} rows k row inside read so_far =
     subst (λ left. IsChangeSoFar c whole left changed) (ap edge_rows (drop_more rows k row inside) ∙ ap (λ r. edge_row r ∷ edge_rows (drop (k + 1) rows)) (sym read)) so_far
 
-pub allowed_next : {c : RowChange} {whole rest changed : List EdgeRow} {r : EdgeRow} → IsChangeSoFar c whole (r ∷ rest) changed → AllowsChange c r.edges
-allowed_next {c = c} {rest = rest} {r = r} so_far = All-head (λ r. AllowsChange c r.edges) r rest so_far.allowed
+pub allowed_next : {c : RowChange} {whole rest changed : List EdgeRow} {r : EdgeRow} → IsChangeSoFar c whole (r ∷ rest) changed → EdgesAllowChange c r.edges
+allowed_next {c = c} {rest = rest} {r = r} so_far = All-head (λ r. EdgesAllowChange c r.edges) r rest so_far.allowed
 
 pub change_more : (c : RowChange) (whole rest changed : List EdgeRow) (r : EdgeRow) (image : List Edge) → IsRowChange c → IsChangeSoFar c whole (r ∷ rest) changed → AreChanged c r.edges image → IsChangeSoFar c whole rest (changed ++ unless_blank (record { y = r.y; edges = image }))
 change_more c whole rest changed r image lawful so_far has =
@@ -118,7 +118,7 @@ change_more c whole rest changed r image lawful so_far has =
     let below = rows_from-below (r.y -ℤ pos 1) r.y rest so_far.to_come.2 (omega (arith, ints)) in
     record {
       to_come = rows_from-higher (pos 4094) (r.y -ℤ pos 1) rest (omega (arith, ints, first.top)) so_far.to_come.2;
-      allowed = All-tail (λ r. AllowsChange c r.edges) r rest so_far.allowed;
+      allowed = All-tail (λ r. EdgesAllowChange c r.edges) r rest so_far.allowed;
       rows = rows_from-append (pos 4094) changed (unless_blank row) so_far.rows
           (rows_from-higher (pos 4094) r.y (unless_blank row) first.top (rows_from-unless_blank r.y image first.bottom first.top has.edges))
           (All-weaker (λ s. AreBelow s.y (r ∷ rest)) (λ s. AreBelow s.y (unless_blank row))
@@ -153,7 +153,7 @@ unfolding changed_in_rows
 columns_stay s rs stretch one none = record { weights = λ x y. ap (λ z. weight_in_rows rs z y) (sym (source_of-same s x stretch one none)) }
 
 -- an edge that stays in reach bounds the offset
-short_offset : (s : Stretch) (es : List Edge) → es ≢ [] → AreEdges es → AllowsChange (change.Columns s) es → s.factor ≡ pos 1 → (negsuc 8189 ≤ℤ s.offset) × (s.offset ≤ℤ pos 8190)
+short_offset : (s : Stretch) (es : List Edge) → es ≢ [] → AreEdges es → EdgesAllowChange (change.Columns s) es → s.factor ≡ pos 1 → (negsuc 8189 ≤ℤ s.offset) × (s.offset ≤ℤ pos 8190)
 short_offset s [] some edges allowed one = absurd (some refl)
 short_offset s (e ∷ es) some edges allowed one =
     let reach = All-head (λ e. IsPointInReach (stretched_to s e.x)) e es allowed in
@@ -161,11 +161,11 @@ short_offset s (e ∷ es) some edges allowed one =
     let moved : stretched_to s e.x ≡ e.x +ℤ s.offset = once e.x s.factor s.offset one in
     (omega (arith, ints, reach.least, edge.right), omega (arith, ints, reach.greatest, edge.left))
 
-pub columns_same : (s : Stretch) (rs : List EdgeRow) → AreRows rs → AllowChange (change.Columns s) rs → IsStretch s → of_z w32 s.factor ≡ 1 → of_z w32 s.offset ≡ 0 → HaveRowWeights (changed_in_rows (change.Columns s) rs) rs
+pub columns_same : (s : Stretch) (rs : List EdgeRow) → AreRows rs → RowsAllowChange (change.Columns s) rs → IsStretch s → of_z w32 s.factor ≡ 1 → of_z w32 s.offset ≡ 0 → HaveRowWeights (changed_in_rows (change.Columns s) rs) rs
 unfolding changed_in_rows weight_in_rows
 columns_same s [] rows allowed stretch one none = record { weights = λ x y. refl }
 columns_same s (r ∷ rs) rows allowed stretch one none =
     let factor : s.factor ≡ pos 1 = omega (arith, ints, stretch.least, stretch.greatest) in
     let row = rows.rows.0 in
-    let short = short_offset s r.edges row.some row.edges (All-head (λ r. AllowsChange (change.Columns s) r.edges) r rs allowed) factor in
+    let short = short_offset s r.edges row.some row.edges (All-head (λ r. EdgesAllowChange (change.Columns s) r.edges) r rs allowed) factor in
     columns_stay s (r ∷ rs) stretch factor (omega (arith, ints, short.0, short.1))

@@ -10,7 +10,7 @@ use Rattle.mf_rows.specs.declared.row.Row.{Row}
 use Rattle.mf_rows.specs.declared.stretch.Stretch.{Stretch}
 use Rattle.mf_rows.specs.Bands.{edge_row, edge_rows, AreBelow}
 use Rattle.mf_rows.specs.Edges.{weight_in, AreEdges, EdgeRow, AreRowsFrom, AreRows, weight_in_rows}
-use Rattle.mf_rows.specs.Moves.{IsStretch, StaysInside, source_of, stretched_to}
+use Rattle.mf_rows.specs.Moves.{IsStretch, PlaceStaysInside, source_of, stretched_to}
 use Rattle.mf_rows.specs.RowChanges.{AllowStretch, stretched_in_rows}
 use Rattle.mf_rows.specs.RowMoves.{strip, HasStretched}
 use Rattle.mf_rows.specs.Sums.{HaveRowWeights}
@@ -68,7 +68,7 @@ pub record NextStripRow (s : Stretch) (y down : ℤ) : Type 0 where
   pub fits : FitsSigned w32 (stretched_to s y +ℤ (s.factor -ℤ (down +ℤ pos 1)))
   pub row : to_z w32 (of_z w32 (stretched_to s y +ℤ (s.factor -ℤ (down +ℤ pos 1)))) ≡ stretched_to s y +ℤ (s.factor -ℤ (down +ℤ pos 1))
 
-pub next_strip_row : (s : Stretch) (y down : ℤ) → IsStretch s → negsuc 4094 ≤ℤ y → y ≤ℤ pos 4094 → StaysInside s y → to_z w32 (of_z w32 s.offset) ≡ s.offset → pos 0 ≤ℤ down → (down +ℤ pos 1) ≤ℤ s.factor → NextStripRow s y down
+pub next_strip_row : (s : Stretch) (y down : ℤ) → IsStretch s → negsuc 4094 ≤ℤ y → y ≤ℤ pos 4094 → PlaceStaysInside s y → to_z w32 (of_z w32 s.offset) ≡ s.offset → pos 0 ≤ℤ down → (down +ℤ pos 1) ≤ℤ s.factor → NextStripRow s y down
 next_strip_row s y down stretch bottom top inside offset least greatest =
     let product = product_read_back y s.factor bottom top stretch.least stretch.greatest in
     let y_is : to_z w32 (of_z w32 y) ≡ y = omega (arith, ints) in
@@ -169,7 +169,7 @@ stretch_more s whole rest stretched after r stretch so_far has =
     let size : pos n ≡ s.factor = omega (arith, ints) in
     let next = stretched_to-next s r.y in
     let lawful = so_far.to_come.0 in
-    let inside = All-head (λ r. StaysInside s r.y) r rest so_far.inside in
+    let inside = All-head (λ r. PlaceStaysInside s r.y) r rest so_far.inside in
     let below = rows_from-below (r.y -ℤ pos 1) r.y rest so_far.to_come.2 (omega (arith, ints)) in
     let heights = strip_heights bottom r.edges n in
     let under : All (λ t. AreBelow t.y own) stretched =
@@ -184,7 +184,7 @@ stretch_more s whole rest stretched after r stretch so_far has =
     let lawful_strip = strip_rows (pos 4094) bottom r.edges n inside.start.least (omega (arith, ints)) (omega (arith, ints)) lawful.some lawful.edges in
     rw has.all (record {
       to_come = rows_from-higher (pos 4094) (r.y -ℤ pos 1) rest (omega (arith, ints)) so_far.to_come.2;
-      inside = All-tail (λ r. StaysInside s r.y) r rest so_far.inside;
+      inside = All-tail (λ r. PlaceStaysInside s r.y) r rest so_far.inside;
       rows = rows_from-append (pos 4094) stretched own so_far.rows lawful_strip under;
       apart = All-append (λ t. All (λ q. stretched_to s (q.y +ℤ pos 1) ≤ℤ t.y) rest) stretched own
           (All-weaker (λ t. All (λ q. stretched_to s (q.y +ℤ pos 1) ≤ℤ t.y) (r ∷ rest)) (λ t. All (λ q. stretched_to s (q.y +ℤ pos 1) ≤ℤ t.y) rest)

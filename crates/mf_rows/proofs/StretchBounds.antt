@@ -8,8 +8,8 @@ use Rattle.mf_rows.specs.declared.row_change.RowChange.TheVariants as change
 use Rattle.mf_rows.specs.declared.stretch.Stretch.{Stretch}
 use Rattle.mf_rows.specs.Dots.{Dot, weight_at}
 use Rattle.mf_rows.specs.Edges.{weight_in, AreEdgesFrom, EdgeRow, IsEdgeRow, AreRowsFrom, AreRows, weight_in_rows, picture_of_rows}
-use Rattle.mf_rows.specs.Moves.{IsPointInReach, StaysInside, StayInside, source_of, stretched_to, stretched_at}
-use Rattle.mf_rows.specs.RowChanges.{AllowChange, AllowStretch, changed_in_rows, stretched_in_rows}
+use Rattle.mf_rows.specs.Moves.{IsPointInReach, PlaceStaysInside, PixelsStayInside, source_of, stretched_to, stretched_at}
+use Rattle.mf_rows.specs.RowChanges.{RowsAllowChange, AllowStretch, changed_in_rows, stretched_in_rows}
 use Rattle.mf_rows.specs.Sums.{HasWeights, HaveRowWeights}
 use Rattle.mf_rows.proofs.DotsLemmas.{IsAt, weight_at-elsewhere}
 use Rattle.mf_rows.proofs.EdgesLemmas.{weight_in-left, weight_in-right, weight_in-before, weight_in_rows-here, weight_in_rows-elsewhere, weight_in_rows-below, rows_from-below, weight_at-picture_of_rows}
@@ -64,9 +64,9 @@ first_weight low (e ∷ es) some edges use_at =
     use_at e.x (λ zero. edges.0.nonzero (omega (arith, ints)))
 
 -- so a stretch keeps rows inside where it keeps the pixels of nonzero weight inside
-pub rows_stay : (s : Stretch) (rs : List EdgeRow) → AreRows rs → ((x y : ℤ) → weight_in_rows rs x y ≢ pos 0 → StaysInside s y) → AllowStretch s rs
+pub rows_stay : (s : Stretch) (rs : List EdgeRow) → AreRows rs → ((x y : ℤ) → weight_in_rows rs x y ≢ pos 0 → PlaceStaysInside s y) → AllowStretch s rs
 rows_stay s rs rows inside =
-    All-weaker (IsOneOf (pos 4094) rs) (λ r. StaysInside s r.y)
+    All-weaker (IsOneOf (pos 4094) rs) (λ r. PlaceStaysInside s r.y)
     (λ r own. first_weight (negsuc 4094) r.edges own.row.some own.row.edges.sorted (λ x nonzero. inside x r.y (λ zero. nonzero (sym (own.weights x) ∙ zero))))
     rs (each_row (pos 4094) rs rows.rows)
 
@@ -104,7 +104,7 @@ jumps low (e ∷ es) edges =
     }) es (jumps (e.x +ℤ pos 1) es edges.2))
 
 -- so the pixel at the edge or the one left of it is not 0, and the edge is at an end of its stretch
-edges_stay : (s : Stretch) (low : ℤ) (es : List Edge) → AreEdgesFrom low es → ((x : ℤ) → weight_in es x ≢ pos 0 → StaysInside s x) → All (λ e. IsPointInReach (stretched_to s e.x)) es
+edges_stay : (s : Stretch) (low : ℤ) (es : List Edge) → AreEdgesFrom low es → ((x : ℤ) → weight_in es x ≢ pos 0 → PlaceStaysInside s x) → All (λ e. IsPointInReach (stretched_to s e.x)) es
 edges_stay s low es edges inside =
     All-weaker (IsJump low es) (λ e. IsPointInReach (stretched_to s e.x))
     (λ e is. by_height (weight_in es e.x) (pos 0)
@@ -115,7 +115,7 @@ edges_stay s low es edges inside =
     (λ nonzero. (inside e.x nonzero).start))
     es (jumps low es edges)
 
-pub columns_stay : (s : Stretch) (rs : List EdgeRow) → AreRows rs → ((x y : ℤ) → weight_in_rows rs x y ≢ pos 0 → StaysInside s x) → AllowChange (change.Columns s) rs
+pub columns_stay : (s : Stretch) (rs : List EdgeRow) → AreRows rs → ((x y : ℤ) → weight_in_rows rs x y ≢ pos 0 → PlaceStaysInside s x) → RowsAllowChange (change.Columns s) rs
 columns_stay s rs rows inside =
     All-weaker (IsOneOf (pos 4094) rs) (λ r. All (λ e. IsPointInReach (stretched_to s e.x)) r.edges)
     (λ r own. edges_stay s (negsuc 4094) r.edges own.row.edges.sorted (λ x nonzero. inside x r.y (λ zero. nonzero (sym (own.weights x) ∙ zero))))
@@ -124,16 +124,16 @@ columns_stay s rs rows inside =
 -- ---- the picture
 
 module _ (columns rows : Stretch) (rs : List EdgeRow) (lawful : AreRows rs) where
-  pub columns_allowed : StayInside columns rows (picture_of_rows rs) → AllowChange (change.Columns columns) rs
+  pub columns_allowed : PixelsStayInside columns rows (picture_of_rows rs) → RowsAllowChange (change.Columns columns) rs
   columns_allowed inside =
-      columns_stay columns rs lawful (λ x y nonzero. holds_at_weight (λ a b. StaysInside columns a) (picture_of_rows rs) x y inside.across
+      columns_stay columns rs lawful (λ x y nonzero. holds_at_weight (λ a b. PlaceStaysInside columns a) (picture_of_rows rs) x y inside.across
       (λ zero. nonzero (sym (weight_at-picture_of_rows rs x y lawful) ∙ zero)))
 
   -- rows keep their heights where their columns are stretched
-  pub rows_allowed : (changed : List EdgeRow) → StayInside columns rows (picture_of_rows rs) → AreRows changed → HaveRowWeights (changed_in_rows (change.Columns columns) rs) changed → AllowStretch rows changed
+  pub rows_allowed : (changed : List EdgeRow) → PixelsStayInside columns rows (picture_of_rows rs) → AreRows changed → HaveRowWeights (changed_in_rows (change.Columns columns) rs) changed → AllowStretch rows changed
   unfolding changed_in_rows
   rows_allowed changed inside lawful_changed has =
-      rows_stay rows changed lawful_changed (λ x y nonzero. holds_at_weight (λ a b. StaysInside rows b) (picture_of_rows rs) (source_of columns x) y inside.up
+      rows_stay rows changed lawful_changed (λ x y nonzero. holds_at_weight (λ a b. PlaceStaysInside rows b) (picture_of_rows rs) (source_of columns x) y inside.up
       (λ zero. nonzero (has.weights x y ∙ sym (weight_at-picture_of_rows rs (source_of columns x) y lawful) ∙ zero)))
 
   pub weights_stretched : (changed stretched : List EdgeRow) → AreRows stretched → HaveRowWeights (changed_in_rows (change.Columns columns) rs) changed → HaveRowWeights (stretched_in_rows rows changed) stretched → HasWeights (stretched_at columns rows (picture_of_rows rs)) (picture_of_rows stretched)

@@ -27,14 +27,14 @@ pub record IsPointInReach (x : ℤ) : Type 0 where
   pub greatest : x ≤ℤ pos 4095
 
 -- a stretch takes the column, or row, p to a part of the field: both its ends
-pub record StaysInside (s : Stretch) (p : ℤ) : Type 0 where
+pub record PlaceStaysInside (s : Stretch) (p : ℤ) : Type 0 where
   pub start : IsPointInReach (stretched_to s p)
   pub end : IsPointInReach (stretched_to s (p +ℤ pos 1))
 
 -- stretches of columns and of rows take all pixels of a picture to pixels of the field
-pub record StayInside (columns rows : Stretch) (ds : List Dot) : Type 0 where
-  pub across : All (λ d. StaysInside columns d.x) ds
-  pub up : All (λ d. StaysInside rows d.y) ds
+pub record PixelsStayInside (columns rows : Stretch) (ds : List Dot) : Type 0 where
+  pub across : All (λ d. PlaceStaysInside columns d.x) ds
+  pub up : All (λ d. PlaceStaysInside rows d.y) ds
 
 -- the weight of the pixel (x, y) after a picture was stretched
 unfoldable pub stretched_at : Stretch → Stretch → List Dot → ℤ → ℤ → ℤ

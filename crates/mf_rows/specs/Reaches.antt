@@ -1,5 +1,5 @@
 -- How far the weights of a row go from 0.
-use Rattle.std.specs.Prelude.{ℕ, ℤ, pos, ◌+ℤ◌, ◌*ℤ◌, ◌≤ℤ◌, List, Option, None, Some}
+use Rattle.std.specs.Prelude.{ℕ, ℤ, pos, ◌+ℤ◌, ◌≤ℤ◌, List, Option, None, Some}
 use Rattle.std.specs.Coded.{Unit-prop}
 use Rattle.std.proofs.Props.{props}
 use Rattle.mf_rows.specs.declared.edge.Edge.{Edge}
@@ -16,13 +16,13 @@ abbrev pub HasReach : Option ℕ → List Edge → Type 0
 HasReach None es = Unit {0}
 HasReach (Some reach) es = StaysInReach (pos reach) es
 
--- two rows have reaches whose sum, the second counted twice, is at most 32767, so no weight of both together passes that
+-- two rows have reaches whose sum is at most 32767, so no weight of both together passes that
 pub record AddInReach (es fs : List Edge) : Type 0 where
   pub left_reach : ℤ
   pub right_reach : ℤ
   pub left : StaysInReach left_reach es
   pub right : StaysInReach right_reach fs
-  pub room : (left_reach +ℤ (pos 2 *ℤ right_reach)) ≤ℤ pos 32767
+  pub room : (left_reach +ℤ right_reach) ≤ℤ pos 32767
 
 -- ---- each of these facts has one proof at most
 

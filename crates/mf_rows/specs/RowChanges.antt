@@ -5,7 +5,7 @@ use Rattle.mf_rows.specs.declared.row_change.RowChange.{RowChange}
 use Rattle.mf_rows.specs.declared.row_change.RowChange.TheVariants as change
 use Rattle.mf_rows.specs.declared.stretch.Stretch.{Stretch}
 use Rattle.mf_rows.specs.Edges.{EdgeRow, AreEdges, weight_in, weight_in_rows}
-use Rattle.mf_rows.specs.Moves.{opposite, source_of, stretched_to, IsStretch, IsPointInReach, StaysInside}
+use Rattle.mf_rows.specs.Moves.{opposite, source_of, stretched_to, IsStretch, IsPointInReach, PlaceStaysInside}
 use Rattle.mf_rows.specs.Sums.{HaveWeights}
 use Rattle.mf_rows.specs.WeightMaps.{mapped_to, IsWeightMap}
 
@@ -22,14 +22,14 @@ IsRowChange change.Mirror = Unit {0}
 IsRowChange (change.Columns s) = IsStretch s
 
 -- what it needs of the edges of a row: no stretch leaves the field
-abbrev pub AllowsChange : RowChange → List Edge → Type 0
-AllowsChange (change.Weights m) es = Unit {0}
-AllowsChange change.Mirror es = Unit {0}
-AllowsChange (change.Columns s) es = All (λ e. IsPointInReach (stretched_to s e.x)) es
+abbrev pub EdgesAllowChange : RowChange → List Edge → Type 0
+EdgesAllowChange (change.Weights m) es = Unit {0}
+EdgesAllowChange change.Mirror es = Unit {0}
+EdgesAllowChange (change.Columns s) es = All (λ e. IsPointInReach (stretched_to s e.x)) es
 
 -- what it needs of the edges of all rows
-abbrev pub AllowChange : RowChange → List EdgeRow → Type 0
-AllowChange c rs = All (λ r. AllowsChange c r.edges) rs
+abbrev pub RowsAllowChange : RowChange → List EdgeRow → Type 0
+RowsAllowChange c rs = All (λ r. EdgesAllowChange c r.edges) rs
 
 -- the weight at column x of a row after a change
 unfoldable pub changed_in : RowChange → List Edge → ℤ → ℤ
@@ -54,7 +54,7 @@ stretched_in_rows s rs x y = weight_in_rows rs x (source_of s y)
 
 -- rows that a stretch takes to rows of the field
 abbrev pub AllowStretch : Stretch → List EdgeRow → Type 0
-AllowStretch s rs = All (λ r. StaysInside s r.y) rs
+AllowStretch s rs = All (λ r. PlaceStaysInside s r.y) rs
 
 -- the weight of the pixel (x, y) after rows were turned by 90 degrees counterclockwise
 unfoldable pub turned_in_rows : List EdgeRow → ℤ → ℤ → ℤ

@@ -53,7 +53,7 @@ impl Picture {
     ghost use Rattle.mf_rows.specs.Corners.{AreCorners, with_corners_at};
     ghost use Rattle.mf_rows.specs.Dots.{IsPicture, weight_at, total_of};
     ghost use Rattle.mf_rows.specs.Edges.{picture_of_rows};
-    ghost use Rattle.mf_rows.specs.Moves.{IsStretch, StayInside, columns_mirrored_at, rows_mirrored_at, stretched_at, turned_at};
+    ghost use Rattle.mf_rows.specs.Moves.{IsStretch, PixelsStayInside, columns_mirrored_at, rows_mirrored_at, stretched_at, turned_at};
     ghost use Rattle.mf_rows.specs.Runs.{runs_of};
     ghost use Rattle.mf_rows.specs.Sums.{HasWeights, IsUnlawfulSomewhere, sum_at};
     ghost use Rattle.mf_rows.specs.Walk.{runs_left};
@@ -197,7 +197,7 @@ impl Picture {
     ) -> Result<Picture, OutOfMemory>
         requires columns { IsStretch columns.now }
         requires rows { IsStretch rows.now }
-        requires inside { StayInside columns.now rows.now self.now }
+        requires inside { PixelsStayInside columns.now rows.now self.now }
         ensures weights { IfOk result (HasWeights (stretched_at columns.now rows.now self.now)) }
         ensures lawful { IfOk result IsPicture }
     {

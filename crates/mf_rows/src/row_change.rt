@@ -4,7 +4,7 @@ ghost use Rattle.mf_rows.specs.Bands.{edge_row, edge_rows};
 ghost use Rattle.mf_rows.specs.BlankRows.{unless_blank};
 ghost use Rattle.mf_rows.specs.Edges.{AreEdges, AreRows};
 ghost use Rattle.mf_rows.specs.Moves.{IsStretch};
-ghost use Rattle.mf_rows.specs.RowChanges.{AllowChange, AllowsChange, AreChanged, IsRowChange, changed_in_rows};
+ghost use Rattle.mf_rows.specs.RowChanges.{RowsAllowChange, EdgesAllowChange, AreChanged, IsRowChange, changed_in_rows};
 ghost use Rattle.mf_rows.specs.Sums.{HaveRowWeights};
 
 use crate::edge::Edge;
@@ -35,7 +35,7 @@ pub(crate) fn changed_rows(
 ) -> Result<Vec<Row>, OutOfMemory>
     requires rows { AreRows (edge_rows rows.now) }
     requires change { IsRowChange change.now }
-    requires allowed { AllowChange change.now (edge_rows rows.now) }
+    requires allowed { RowsAllowChange change.now (edge_rows rows.now) }
     ensures rows { IfOk result (λ changed. AreRows (edge_rows changed.items)) }
     ensures weights { IfOk result (λ changed. HaveRowWeights (changed_in_rows change.now (edge_rows rows.now)) (edge_rows changed.items)) }
 {
@@ -63,7 +63,7 @@ pub(crate) fn with_columns_stretched(
 ) -> Result<Vec<Row>, OutOfMemory>
     requires rows { AreRows (edge_rows rows.items) }
     requires stretch { IsStretch stretch.now }
-    requires allowed { AllowChange (RowChange.Columns stretch.now) (edge_rows rows.items) }
+    requires allowed { RowsAllowChange (RowChange.Columns stretch.now) (edge_rows rows.items) }
     ensures rows { IfOk result (λ changed. AreRows (edge_rows changed.items)) }
     ensures weights { IfOk result (λ changed. HaveRowWeights (changed_in_rows (RowChange.Columns stretch.now) (edge_rows rows.items)) (edge_rows changed.items)) }
 {
@@ -91,7 +91,7 @@ fn changed_edges(
 ) -> Result<Vec<Edge>, OutOfMemory>
     requires edges { AreEdges edges.now }
     requires change { IsRowChange change.now }
-    requires allowed { AllowsChange change.now edges.now }
+    requires allowed { EdgesAllowChange change.now edges.now }
     ensures { IfOk result (λ changed. AreChanged change.now edges.now changed.items) }
 {
     match change {

@@ -2,7 +2,7 @@
 ghost use Rattle.std.specs.Prelude.{◌≡◌, IfOk, OnOk, pos, negsuc, ◌≤ℤ◌};
 ghost use Rattle.mf_rows.specs.Bands.{edge_row, edge_rows};
 ghost use Rattle.mf_rows.specs.Edges.{AreRows};
-ghost use Rattle.mf_rows.specs.Moves.{IsStretch, StaysInside, stretched_to};
+ghost use Rattle.mf_rows.specs.Moves.{IsStretch, PlaceStaysInside, stretched_to};
 ghost use Rattle.mf_rows.specs.RowChanges.{AllowStretch, mirrored_in_rows, stretched_in_rows};
 ghost use Rattle.mf_rows.specs.RowMoves.{HasStretched};
 ghost use Rattle.mf_rows.specs.Sums.{HaveRowWeights};
@@ -50,7 +50,7 @@ fn push_stretched(rows: &mut Vec<Row>, row: &Row, stretch: &Stretch) -> Result<(
     requires stretch { IsStretch stretch.now }
     requires bottom { negsuc 4094 ≤ℤ row.now.y }
     requires top { row.now.y ≤ℤ pos 4094 }
-    requires allowed { StaysInside stretch.now row.now.y }
+    requires allowed { PlaceStaysInside stretch.now row.now.y }
     ensures { OnOk result (HasStretched (edge_rows rows.old.items) (edge_row row.now) stretch.now (edge_rows rows.new.items)) }
 {
     let bottom = row.y * stretch.factor + stretch.offset;

@@ -124,10 +124,10 @@ fn sum_of_both(alloc: Global, left: &Row, right: &Row) -> Result<(Vec<Edge>, Opt
     ensures too_large { IfErr result (λ fault. fault ≢ AddFault.OutOfMemory → IsUnlawfulColumn (weight_in_both (edge_row left.now).edges (edge_row right.now).edges)) }
 {
     if right.edges().len() <= FEW_EDGES {
-        let (reach, more) = (left.reach(), right.reach());
-        if reach + 2 * more <= MAX_WEIGHT {
+        let reach = left.reach() + right.reach();
+        if reach <= MAX_WEIGHT {
             let sum = with_changes(alloc, left.edges(), right.edges())?;
-            return Ok((sum, Some((reach + more) as u16)));
+            return Ok((sum, Some(reach as u16)));
         }
     }
     Ok((sum_of_edges(alloc, left.edges(), right.edges())?, None))

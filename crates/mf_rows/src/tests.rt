@@ -1,10 +1,12 @@
 //! Tests with values worked out by hand, and below them tests against a slow form of pictures.
 
 mod chance;
-pub(crate) mod corners;
+mod corners;
 mod equal;
 mod generated;
 mod moves;
+mod rectangle_sums;
+pub(crate) mod rectangles;
 mod slow;
 mod sums;
 

@@ -15,15 +15,12 @@ use crate::fault::TextFault;
 use crate::path::Path;
 use crate::reader::Reader;
 use crate::sentence::{Motion, Sentence};
-use mf_geom::{Cycle, CycleFault, Point};
+use mf_geom::{Cycle, CycleFault, MAX_POINTS, Point};
 use mf_ops::{Cull, Quarter, Scale, Weight};
 use std::alloc::Global;
 
 /// Most bytes of a line.
 const MAX_LINE: usize = 65536;
-
-/// Most points of a cycle.
-const MAX_POINTS: usize = 4096;
 
 /// The command of a line, which is given without its end. Refusals LineTooLong (16), NotAscii (17), Syntax (18), then
 /// those of the values: of a contour the fault of its cycle (1 to 6) and BadWeight (7), of a cull BadWeight (7) and

@@ -1,16 +1,16 @@
 //! Sessions that end: their notices, font files and last pictures.
 ghost use Rattle.std.specs.Prelude.{◌≡◌};
-ghost use Rattle.mf_desk.specs.Sessions.{StandsFor, name};
-ghost use Rattle.mf_desk.specs.States.{State};
+ghost use Rattle.mf_session.specs.Sessions.{StandsFor, name};
+ghost use Rattle.mf_session.specs.States.{State};
 ghost use Rattle.mf_live.specs.Viewers as viewers;
 ghost use Rattle.mf_live.specs.Writers.{ended_name};
 
 use super::AMPLE;
 use super::fonts::{RECT, RECT_FILE};
 use super::sessions::{opened, perform};
-use mf_desk::Session;
 use mf_gf::{GfFault, GfFile};
 use mf_live::{Ended, Viewer};
+use mf_session::Session;
 use std::alloc::Global;
 use std::process::Abort;
 use std::sync::Wait;

@@ -1,13 +1,13 @@
 //! Sessions, called directly.
 ghost use Rattle.std.specs.Prelude.{◌≡◌};
-ghost use Rattle.mf_desk.specs.Sessions.{StandsFor, name};
-ghost use Rattle.mf_desk.specs.States.{State, start};
+ghost use Rattle.mf_session.specs.Sessions.{StandsFor, name};
+ghost use Rattle.mf_session.specs.States.{State, start};
 ghost use Rattle.mf_live.specs.Desks.{desk_name};
 
 use super::AMPLE;
-use crate::scripts::SCRIPTS;
-use mf_desk::Session;
+use crate::scripts::worked_scripts;
 use mf_live::Desk;
+use mf_session::Session;
 use mf_text::Name;
 use std::alloc::Global;
 use std::process::Abort;
@@ -41,7 +41,7 @@ pub(crate) fn perform<R: Abort + Wait>(
 #[test]
 fn perform_scripts(rt: HostRuntime) -> Result<(), Fail> {
     let alloc = rt.alloc();
-    for (script, transcript) in SCRIPTS {
+    for (script, transcript) in worked_scripts().iter().copied().flatten() {
         let (mut session, _) = opened(&rt, alloc, AMPLE.max_ops);
         let mut printed = Vec::new(alloc);
         for line in script.lines() {

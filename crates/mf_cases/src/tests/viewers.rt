@@ -3,7 +3,7 @@ ghost use Rattle.std.specs.Prelude.{◌≤◌};
 
 use super::fonts::{RECT as SHIPPED, RECT_FILE};
 use super::{AMPLE, BLANK, PUBLISHED, PUBLISHED_TEXT, SIX, performed};
-use crate::scripts::SCRIPTS;
+use crate::scripts::worked_scripts;
 use crate::streams::{Pieces, Sink};
 use mf_desk::{Glance, Outcome};
 use std::alloc::{AllocError, Global};
@@ -150,7 +150,7 @@ fn see_whole_publishes(rt: HostRuntime) -> Result<(), Fail> {
 #[test]
 fn print_what_they_see_last(rt: HostRuntime) -> Result<(), Fail> {
     let alloc = rt.alloc();
-    for (script, transcript) in SCRIPTS {
+    for (script, transcript) in worked_scripts().iter().copied().flatten() {
         let mut writer = Sink::new(alloc);
         let reader = Pieces::whole(script.as_bytes());
         let outcome = performed(&rt, reader, &mut writer, &AMPLE, 3, 5).expect(

@@ -6,7 +6,7 @@ ghost use Rattle.mf_gf.specs.Files.{Character, front, preamble, HasCode};
 ghost use Rattle.mf_gf.specs.Keeping.{IsAppended, IsSameFile, Keeps, character, limit};
 ghost use Rattle.mf_gf.specs.Pixels.{black};
 
-use super::GfFile;
+use super::{GF_ID, GfFile};
 use crate::boxes::CharacterBox;
 use crate::character::spell;
 use crate::fault::GfFault;
@@ -22,10 +22,8 @@ const MAX_BYTES: u32 = 2_147_483_647;
 /// Most bytes of a comment.
 const MAX_COMMENT: usize = 255;
 
-/// Opcode of the preamble, and the number that says that it is a GF file.
+/// Opcode of the preamble.
 const PRE: u8 = 247;
-
-const GF_ID: u8 = 131;
 
 /// Bytes of the preamble beside the comment.
 const PREAMBLE: usize = 3;

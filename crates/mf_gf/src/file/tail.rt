@@ -5,18 +5,16 @@ ghost use Rattle.mf_gf.specs.Keeping.{IsRefusedAs, IsSameFile, Keeps, limit};
 ghost use Rattle.mf_gf.specs.Spellings.{Holds};
 ghost use Rattle.mf_gf.specs.Tails.{tail_of};
 
-use super::{FontWords, GfFile};
+use super::{FontWords, GF_ID, GfFile};
 use crate::boxes::CharacterBox;
 use crate::fault::GfFault;
 use crate::finished::GfBytes;
 use crate::spelling::Spelling;
 
-/// Opcodes of the postamble and of what ends the file, its identification, and the bytes behind it.
+/// Opcodes of the postamble and of what ends the file, and the bytes behind it.
 const POST: u8 = 248;
 
 const POST_POST: u8 = 249;
-
-const GF_ID: u8 = 131;
 
 const PADDING: u8 = 223;
 

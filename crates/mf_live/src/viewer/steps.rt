@@ -4,7 +4,7 @@ ghost use Rattle.left_right.specs.Sides.{view};
 ghost use Rattle.mf_live.specs.Entries.{Entry, ends_last};
 ghost use Rattle.mf_live.specs.Prefixes.{IsWholePrefix, longer};
 ghost use Rattle.mf_live.specs.Rule.{Looked, kept_by};
-ghost use Rattle.mf_live.specs.Viewers.{name, seen, Extends, SeesTheSame, notice_name, told, look_name, shown};
+ghost use Rattle.mf_live.specs.Viewers.{name, looked, seen, Extends, SeesTheSame, notice_name, told, look_name, shown};
 
 use super::Viewer;
 use crate::live::Live;
@@ -71,6 +71,7 @@ impl Viewer {
     pub fn learn(&mut self, notice: Notice)
         requires { notice_name notice ≡ name self.old }
         ensures name { name self.new ≡ name self.old }
+        ensures looked { looked self.new ≡ looked self.old }
         ensures seen { seen self.new ≡ longer (seen self.old) (told notice) }
         ensures keeps { (L : List Entry) → Extends self.new L → Extends self.old L × IsWholePrefix (told notice) L }
     {

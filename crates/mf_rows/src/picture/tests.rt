@@ -2,7 +2,7 @@
 use super::*;
 use crate::builder::RowBuilder;
 use crate::edge::{Edge, give_back_room};
-use crate::tests::corners::{corners_of, make_rectangle};
+use crate::tests::rectangles::{corners_of, make_rectangle};
 use std::process::Abort;
 use std::test::Fail;
 

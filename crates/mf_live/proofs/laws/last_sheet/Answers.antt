@@ -1,10 +1,12 @@
-use Rattle.std.proofs.Common.{◌≡◌, true, List, Result, Ok, Err, IfOk, OnOk, MatchResult, ap, ◌∙◌, subst}
+use Rattle.std.proofs.Common.{◌≡◌, true, List, Result, Ok, Err, IfOk, OnOk, MatchResult, ap, IfErr, ◌∙◌, subst}
 use Rattle.mf_live.specs.declared.sheet.Sheet.{Sheet}
+use Rattle.mf_live.specs.declared.sheet.SheetFault.{SheetFault}
+use Rattle.mf_live.specs.declared.sheet.SheetFault.TheVariants.{NoLook, OutOfMemory as NoMemory}
 use Rattle.mf_live.specs.declared.viewer.Viewer.{Viewer}
 use Rattle.mf_live.specs.Entries.{Entry, is_closed, pic, rev}
-use Rattle.mf_live.specs.Prefixes.{IsWholePrefix}
-use Rattle.mf_live.specs.Sheets.{HasLooked, IsTaken}
-use Rattle.mf_live.specs.Viewers.{Extends, looked}
+use Rattle.mf_live.specs.Prefixes.{IsWholePrefix, longer}
+use Rattle.mf_live.specs.Sheets.{HasLooked, IsLastNotTaken, IsNotTaken, IsTaken}
+use Rattle.mf_live.specs.Viewers.{Extends, learnt, looked, seen}
 use Rattle.mf_live.proofs.Looking.{shown-last}
 use Rattle.mf_live.proofs.laws.last_sheet.Goals as goal
 
@@ -26,6 +28,12 @@ module _ {E : Type 0} (Q : E → Type 0) (before after : Viewer) (told : List En
   sheet_extends first earlier (Ok sheet) taken = earlier told (subst (λ L. Extends before L) (looked_last before after told includes closed taken.look) taken.look.extends)
   sheet_extends first earlier (Err fault) taken = tt
 
+  not_taken : (first : Viewer) → looked before ≡ looked first → seen before ≡ longer (seen first) told → (answer : Result Sheet SheetFault)
+      → MatchResult answer (λ sheet. IsTaken before after sheet) (IsNotTaken before after) → IfErr answer (IsLastNotTaken first told after)
+  not_taken first same learnt (Ok sheet) taken = tt
+  not_taken first same known (Err NoLook) is = record { looked = is.looked ∙ same; seen = ap (λ L. longer L (learnt after)) is.looked ∙ ap (longer (looked before)) is.learnt ∙ known }
+  not_taken first same learnt (Err NoMemory) look = looked_last before after told includes closed look
+
 pub returns-clause-picture : goal.returns-clause-picture
 returns-clause-picture c =
     sheet_picture _ _ c.sheet.new.self _ (λ L extends. (c.learn.ensures.keeps L extends).1) c.requires.closed c.sheet.result c.sheet.ensures.taken
@@ -37,3 +45,7 @@ returns-clause-revision c =
 pub returns-clause-extends : goal.returns-clause-extends
 returns-clause-extends c =
     sheet_extends _ _ c.sheet.new.self _ (λ L extends. (c.learn.ensures.keeps L extends).1) c.requires.closed _ (λ L extends. (c.learn.ensures.keeps L extends).0) c.sheet.result c.sheet.ensures.taken
+
+pub returns-clause-not_taken : goal.returns-clause-not_taken
+returns-clause-not_taken c =
+    not_taken (IsNotTaken c.sheet.new.self c.sheet.new.self) _ c.sheet.new.self _ (λ L extends. (c.learn.ensures.keeps L extends).1) c.requires.closed _ c.learn.ensures.looked c.learn.ensures.seen c.sheet.result c.sheet.ensures.taken

@@ -3,7 +3,7 @@ use Rattle.std.proofs.lemmas.Bool.{both_ways}
 use Rattle.mf_ops.specs.declared.op.Op.TheVariants.{Scale}
 use Rattle.mf_ops.proofs.Faults.{stepped-from_weights, fault_of-from_weights, fault_of-leaves, not_out}
 use Rattle.mf_ops.proofs.Leaving.{stays_in_field-scale, leaves-scale}
-use Rattle.mf_ops.proofs.Scaling.{by_factor, factor_passed, stretches_made, IsStretch-made, HasWeights-scale, StayInside-scale}
+use Rattle.mf_ops.proofs.Scaling.{by_factor, factor_passed, stretches_made, IsStretch-made, HasWeights-scale, PixelsStayInside-scale}
 use Rattle.mf_ops.proofs.transform.scale.Goals as goal
 
 pub returns-then-not-stays_inside-clause-refused : goal.returns-then-not-stays_inside-clause-refused
@@ -21,7 +21,7 @@ stretch-requires-5 c =
     record {
       columns = IsStretch-made _ _ _ _ x;
       rows = IsStretch-made _ _ _ _ y;
-      inside = StayInside-scale _ _ c.args.scale _ _ _ _ _ _ x y reflected.lawful reflected.weights (c.stays_inside.ensures.0 c.if-not-stays_inside.false);
+      inside = PixelsStayInside-scale _ _ c.args.scale _ _ _ _ _ _ x y reflected.lawful reflected.weights (c.stays_inside.ensures.0 c.if-not-stays_inside.false);
     }
 
 pub returns : goal.returns

@@ -1,6 +1,6 @@
 use Rattle.std.proofs.Common.{sym, ◌∙◌}
 use Rattle.std.proofs.lemmas.Bool.{both_ways}
-use Rattle.mf_ops.proofs.Leaving.{StayInside-from_sides, sides_from_StayInside, read_back, IsLeastBox-read_back, sides_read_back}
+use Rattle.mf_ops.proofs.Leaving.{PixelsStayInside-from_sides, sides_from_StayInside, read_back, IsLeastBox-read_back, sides_read_back}
 use Rattle.mf_ops.proofs.transform.stays_inside.Goals as goal
 use Rattle.mf_ops.proofs.transform.stays_inside.Goals.{then-lies_inside, else-lies_inside, then-lies_inside-2, else-lies_inside-2}
 
@@ -35,7 +35,7 @@ returns-then-lies_inside-3 c =
     let ds = c.args.picture.now in
     let b = read_back c.in-Some.bounds in
     let box = IsLeastBox-read_back ds c.in-Some.bounds c.bounds.ensures.lawful c.in-Some.ensures.least in (
-      λ top. StayInside-from_sides columns rows ds b box
+      λ top. PixelsStayInside-from_sides columns rows ds b box
           (elim c.if-lies_inside-2.branch [
             | then-lies_inside-2 w ↦ (elim c.if-lies_inside.branch [
               | then-lies_inside v ↦ record {

@@ -2,7 +2,7 @@ use Rattle.std.proofs.Common.{◌≡◌, ◌+◌, [], drop}
 use Rattle.std.proofs.lemmas.List.{drop_all}
 use Rattle.std.proofs.lemmas.List.Elements.{All-head}
 use Rattle.mf_rows.specs.Bands.{edge_row, edge_rows}
-use Rattle.mf_rows.specs.Moves.{StaysInside}
+use Rattle.mf_rows.specs.Moves.{PlaceStaysInside}
 use Rattle.mf_rows.proofs.RowStretches.{stretch_none, stretch_next, stretch_more, stretch_all}
 use Rattle.mf_rows.proofs.row_move.stretched_rows.Goals as goal
 
@@ -17,7 +17,7 @@ push_stretched-requires c =
       stretch = c.requires.stretch;
       bottom = next.to_come.0.bottom;
       top = next.to_come.0.top;
-      allowed = All-head (λ r. StaysInside c.args.stretch.now r.y) (edge_row c.row-item.result) left next.inside;
+      allowed = All-head (λ r. PlaceStaysInside c.args.stretch.now r.y) (edge_row c.row-item.result) left next.inside;
     }
 
 pub loop-row-preserved : goal.loop-row-preserved

@@ -3,25 +3,19 @@ use Rattle.mf_rows.proofs.EdgeSums.{changes_of_edges}
 use Rattle.mf_rows.proofs.ReachesLemmas.{cast_fits, reach_of_sum, room_of_reaches, size_of_reach, sum_of_reaches}
 use Rattle.mf_rows.proofs.row_sum.sum_of_both.Goals as goal
 
-pub overflow_add-result : goal.overflow_add-result
-overflow_add-result c =
-    let room = room_of_reaches _ _ _ _ c.reach-reach.ensures c.reach-more.ensures c.if-reach-more-le-MAX_WEIGHT.true in
-    let sum = sum_of_reaches _ _ _ _ c.reach-reach.ensures c.reach-more.ensures room in
-    rw (sum.left, sum.right) sum.fits
-
 pub overflow_cast-result : goal.overflow_cast-result
 overflow_cast-result c =
-    let room = room_of_reaches _ _ _ _ c.reach-reach.ensures c.reach-more.ensures c.if-reach-more-le-MAX_WEIGHT.true in
-    let sum = sum_of_reaches _ _ _ _ c.reach-reach.ensures c.reach-more.ensures room in
+    let room = room_of_reaches _ _ _ _ c.reach.ensures c.reach-then-edges-le-FEW_EDGES.ensures c.if-reach-le-MAX_WEIGHT.true in
+    let sum = sum_of_reaches _ _ _ _ c.reach.ensures c.reach-then-edges-le-FEW_EDGES.ensures room in
     rw (sum.left, sum.right, sum.is) (cast_fits _ sum.least sum.greatest)
 
-pub returns-then-reach-more-le-MAX_WEIGHT-clause-reach : goal.returns-then-reach-more-le-MAX_WEIGHT-clause-reach
-returns-then-reach-more-le-MAX_WEIGHT-clause-reach c =
-    let left = c.reach-reach.ensures in
-    let right = c.reach-more.ensures in
-    let room = room_of_reaches _ _ _ _ left right c.if-reach-more-le-MAX_WEIGHT.true in
+pub returns-then-reach-le-MAX_WEIGHT-clause-reach : goal.returns-then-reach-le-MAX_WEIGHT-clause-reach
+returns-then-reach-le-MAX_WEIGHT-clause-reach c =
+    let left = c.reach.ensures in
+    let right = c.reach-then-edges-le-FEW_EDGES.ensures in
+    let room = room_of_reaches _ _ _ _ left right c.if-reach-le-MAX_WEIGHT.true in
     let sum = sum_of_reaches _ _ _ _ left right room in
-    let weights = rw (c.edges-then-reach-more-le-MAX_WEIGHT.ensures, c.edges-then-reach-more-le-MAX_WEIGHT-2.ensures) at c.in_ok-sum.ensures.weights in
+    let weights = rw (c.edges-then-reach-le-MAX_WEIGHT.ensures, c.edges-then-reach-le-MAX_WEIGHT-2.ensures) at c.in_ok-sum.ensures.weights in
     rw (sum.left, sum.right, sum.is, size_of_reach _ sum.least) (reach_of_sum _ _ _ _ _ left right sum.greatest weights)
 
 pub sum_of_edges-requires-clause-right : goal.sum_of_edges-requires-clause-right

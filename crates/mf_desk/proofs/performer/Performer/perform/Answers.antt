@@ -1,7 +1,7 @@
 use Rattle.std.proofs.Common.{take, drop, sym, ap, subst, ◌+◌, ◌∙◌, take-append-drop}
 use Rattle.std.proofs.lemmas.List.{length-take-le}
-use Rattle.mf_desk.specs.Answers.{Answers}
-use Rattle.mf_desk.specs.Sessions.{limits}
+use Rattle.mf_session.specs.Answers.{Answers}
+use Rattle.mf_session.specs.Sessions.{limits}
 use Rattle.mf_desk.proofs.performer.Performer.perform.Goals as goal
 
 pub returns-clause-fault : goal.returns-clause-fault

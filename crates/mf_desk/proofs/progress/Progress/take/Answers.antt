@@ -4,7 +4,7 @@ use Rattle.std.proofs.lemmas.List.{drop_more, get_or_default, take_rest}
 use Rattle.std.proofs.lemmas.Result.{err_from_is_err_and, IfErr-weaker}
 use Rattle.mf_desk.specs.Fault.{CutsShort}
 use Rattle.mf_desk.specs.Progress.{IsAfter}
-use Rattle.mf_desk.specs.Sessions.{limits}
+use Rattle.mf_session.specs.Sessions.{limits}
 use Rattle.mf_desk.proofs.progress.Progress.take.Goals as goal
 
 -- the bytes before a line feed, it, and the rest

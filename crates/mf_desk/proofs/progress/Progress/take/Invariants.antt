@@ -1,6 +1,6 @@
 use Rattle.std.proofs.Common.{◌≡◌, ◌+◌, ◌*◌, ◌≤◌, ◌^◌, ◌++◌, Option, List, ℕ, length}
 use Rattle.mf_desk.specs.Progress.{IsAfter}
-use Rattle.mf_desk.specs.Sessions.{limits, name}
+use Rattle.mf_session.specs.Sessions.{limits, name}
 use Rattle.mf_desk.proofs.progress.Progress.take.Given as goal
 
 abbrev pub invariant-lines : goal.invariant-lines

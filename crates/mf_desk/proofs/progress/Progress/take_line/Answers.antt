@@ -3,7 +3,7 @@ use Rattle.std.proofs.lemmas.Bool.{eqb-true}
 use Rattle.std.proofs.lemmas.List.{nil_from_length}
 use Rattle.std.proofs.lemmas.Result.{err_from_is_err_and, on_ok_weaker, IfErr-weaker}
 use Rattle.mf_desk.specs.Fault.{CutsShort}
-use Rattle.mf_desk.specs.Sessions.{limits}
+use Rattle.mf_session.specs.Sessions.{limits}
 use Rattle.mf_desk.proofs.Stages.{IsAfter-whole, CutsShort-whole}
 use Rattle.mf_desk.proofs.progress.Progress.take_line.Goals as goal
 

@@ -4,8 +4,8 @@ use Rattle.mf_rows.specs.declared.row_change.RowChange.TheVariants as change
 use Rattle.mf_rows.specs.Bands.{edge_rows, rows_of_bands}
 use Rattle.mf_rows.specs.Dots.{IsPicture}
 use Rattle.mf_rows.specs.Edges.{picture_of_rows}
-use Rattle.mf_rows.specs.Moves.{StayInside, stretched_at}
-use Rattle.mf_rows.specs.RowChanges.{AllowChange, AllowStretch, changed_in_rows, stretched_in_rows}
+use Rattle.mf_rows.specs.Moves.{PixelsStayInside, stretched_at}
+use Rattle.mf_rows.specs.RowChanges.{RowsAllowChange, AllowStretch, changed_in_rows, stretched_in_rows}
 use Rattle.mf_rows.specs.Sums.{HasWeights, HaveRowWeights}
 use Rattle.mf_rows.proofs.EdgesLemmas.{lawful_picture_of_rows}
 use Rattle.mf_rows.proofs.StretchBounds.{columns_allowed, rows_allowed, weights_stretched}
@@ -18,8 +18,8 @@ with_columns_stretched-requires-clause-allowed c =
     let rows = c.args.rows.now in
     let old = rows_of_bands c.self.inside.bands.items in
     let all : edge_rows c.in_ok-old.old.items ≡ old = c.in_ok-old.ensures ∙ ap rows_of_bands c.deref.ensures.value in
-    let inside = subst (λ ds. StayInside columns rows ds) (sym c.self.view_is) c.requires.inside in
-    subst (λ rs. AllowChange (change.Columns columns) rs) (sym all) (columns_allowed columns rows old c.self.invariant inside)
+    let inside = subst (λ ds. PixelsStayInside columns rows ds) (sym c.self.view_is) c.requires.inside in
+    subst (λ rs. RowsAllowChange (change.Columns columns) rs) (sym all) (columns_allowed columns rows old c.self.invariant inside)
 
 pub stretched_rows-requires-clause-allowed : goal.stretched_rows-requires-clause-allowed
 stretched_rows-requires-clause-allowed c =
@@ -28,7 +28,7 @@ stretched_rows-requires-clause-allowed c =
     let old = rows_of_bands c.self.inside.bands.items in
     let changed = edge_rows c.in_ok-changed.changed.items in
     let all : edge_rows c.in_ok-old.old.items ≡ old = c.in_ok-old.ensures ∙ ap rows_of_bands c.deref.ensures.value in
-    let inside = subst (λ ds. StayInside columns rows ds) (sym c.self.view_is) c.requires.inside in
+    let inside = subst (λ ds. PixelsStayInside columns rows ds) (sym c.self.view_is) c.requires.inside in
     let has = subst (λ rs. HaveRowWeights (changed_in_rows (change.Columns columns) rs) changed) all c.in_ok-changed.ensures.weights in
     subst (λ rs. AllowStretch rows rs) (sym (ap edge_rows c.deref-2.ensures.value)) (rows_allowed columns rows old c.self.invariant changed inside c.in_ok-changed.ensures.rows has)
 

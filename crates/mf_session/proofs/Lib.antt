@@ -1,0 +1,4 @@
+mod OneTranscript
+pub mod Performing
+mod Shipping
+mod Standing

@@ -1,0 +1,52 @@
+-- What a session stands for once a character is shipped, or refused.
+use Rattle.std.proofs.Common.{◌≡◌, ◌<◌, ℕ, List, [], ◌∷◌, ◌++◌, codes, decimal, inl, inr, length, refl, sym, ◌∙◌}
+use Rattle.mf_gf.specs.declared.file.GfFile.{GfFile}
+use Rattle.mf_gf.specs.Files.{Character, HasCode, front}
+use Rattle.mf_gf.specs.Keeping.{IsSameFile, Keeps}
+use Rattle.mf_session.specs.declared.refusal.Refusal.TheVariants.{CodeShipped, FileTooLong}
+use Rattle.mf_session.specs.declared.session.Session.{Session}
+use Rattle.mf_session.specs.Refusals.{refused_line}
+use Rattle.mf_session.specs.Sessions.{StandsFor, limits}
+use Rattle.mf_session.specs.Shipments.{Ships}
+use Rattle.mf_session.specs.States.{State}
+use Rattle.mf_session.specs.Variables.{pictures}
+
+-- a session has answered a shipping
+pub record HasShipped (before : Session) (s : State) (c : Character) (text : List ℕ) (after : Session) : Type 0 where
+  pub next : State
+  pub answer : Ships (limits before) s.characters c text next.characters × (next.pictures ≡ s.pictures)
+  pub stands : StandsFor after next
+
+-- a file that is as it was keeps what it kept
+pub keeps-same : (before after : GfFile) (comment : List ℕ) (characters : List Character) → IsSameFile before after → Keeps before comment characters → Keeps after comment characters
+keeps-same before after comment characters same keeps =
+    record { bytes = same.bytes ∙ keeps.bytes; locators = same.locators ∙ keeps.locators; bounds = same.bounds ∙ keeps.bounds }
+
+pub shipped-new : (before after : Session) (s : State) (c : Character) (text : List ℕ) → StandsFor before s → pictures after.variables ≡ pictures before.variables
+    → Keeps after.file [] (s.characters ++ c ∷ []) → (HasCode c.code s.characters → ⊥) → ((limits before).max_bytes < length (front [] (s.characters ++ c ∷ [])) → ⊥)
+    → text ≡ codes "[" ++ decimal c.code ++ codes "]\n" → HasShipped before s c text after
+shipped-new before after s c text stands same keeps new fits printed =
+    record {
+      next = record { pictures = s.pictures; characters = s.characters ++ c ∷ [] };
+      answer = (inr (inr (record { new = new; fits = fits; printed = printed; appended = refl })), refl);
+      stands = record { pictures = stands.pictures ∙ sym same; file = keeps };
+    }
+
+pub shipped-before : (before after : Session) (s : State) (c : Character) (text : List ℕ) → StandsFor before s → pictures after.variables ≡ pictures before.variables
+    → IsSameFile before.file after.file → HasCode c.code s.characters → text ≡ refused_line CodeShipped → HasShipped before s c text after
+shipped-before before after s c text stands same same_file has printed =
+    record {
+      next = s;
+      answer = (inl (record { before = has; printed = printed; same = refl }), refl);
+      stands = record { pictures = stands.pictures ∙ sym same; file = keeps-same before.file after.file [] s.characters same_file stands.file };
+    }
+
+pub shipped-overlong : (before after : Session) (s : State) (c : Character) (text : List ℕ) → StandsFor before s → pictures after.variables ≡ pictures before.variables
+    → IsSameFile before.file after.file → (HasCode c.code s.characters → ⊥) → (limits before).max_bytes < length (front [] (s.characters ++ c ∷ []))
+    → text ≡ refused_line FileTooLong → HasShipped before s c text after
+shipped-overlong before after s c text stands same same_file new too_long printed =
+    record {
+      next = s;
+      answer = (inr (inl (record { new = new; too_long = too_long; printed = printed; same = refl })), refl);
+      stands = record { pictures = stands.pictures ∙ sym same; file = keeps-same before.file after.file [] s.characters same_file stands.file };
+    }

@@ -1,0 +1,35 @@
+-- What commands do with pictures: what they print, and the pictures after them.
+use Rattle.std.specs.Prelude.{◌≡◌, ◌==◌, ℕ, List, [], ◌∷◌, ◌++◌, Option, None, Some, option_map, codes, decimal, slice_index_or, slice_set, if◌then◌else◌}
+use Rattle.mf_live.specs.Entries.{entry, pic, rev, next, Operation}
+use Rattle.mf_live.specs.declared.fault.Fault.{Fault}
+use Rattle.mf_live.specs.declared.fault.Fault.TheVariants.{TooManyOperations, Refused}
+use Rattle.mf_ops.specs.Step.{stepped, fault_of}
+use Rattle.mf_ops.specs.declared.op.Op.{Op}
+use Rattle.mf_text.specs.declared.command.Name.{Name}
+use Rattle.mf_text.specs.declared.command.Name.TheVariants.{Current, Register}
+use Rattle.mf_session.specs.Pictures.{Pictures}
+use Rattle.mf_session.specs.Refusals.{refused_line}
+use Rattle.mf_session.specs.declared.refusal.Refusal.TheVariants.{Operation as RefusedOperation}
+
+-- why an operation on a picture is refused, if it is: `currentpicture` accepts so many, and a register any number
+abbrev pub refusal_of : ℕ → Pictures → Name → Op → Option Fault
+refusal_of max_ops s Current op = if rev s.accepted == max_ops then Some TooManyOperations else option_map Refused (fault_of (pic s.accepted) op)
+refusal_of max_ops s (Register letter) op = option_map Refused (fault_of (slice_index_or s.registers letter []) op)
+
+-- the pictures after an operation on one
+abbrev pub operated : Pictures → Name → Op → Pictures
+operated s Current op = record s { accepted = s.accepted ++ entry (next s.published) (Operation op) ∷ [] }
+operated s (Register letter) op = record s { registers = slice_set s.registers letter (stepped (slice_index_or s.registers letter []) op) }
+
+-- where there is no refusal, nothing is printed and the pictures are the new ones
+abbrev pub Becomes : Option Fault → Pictures → Pictures → List ℕ → Pictures → Type 0
+Becomes None s new text t = (text ≡ []) × (t ≡ new)
+Becomes (Some why) s new text t = (text ≡ refused_line (RefusedOperation why)) × (t ≡ s)
+
+-- what an operation on a picture answers
+abbrev pub OperatesOn : ℕ → Pictures → Name → Op → List ℕ → Pictures → Type 0
+OperatesOn max_ops s name op text t = Becomes (refusal_of max_ops s name op) s (operated s name op) text t
+
+-- all that was accepted is published, and its revision is printed
+abbrev pub PublishesAll : Pictures → List ℕ → Pictures → Type 0
+PublishesAll s text t = (text ≡ codes "published " ++ decimal (rev s.accepted) ++ codes "\n") × (t ≡ record s { published = s.accepted })

@@ -1,0 +1,47 @@
+-- The end of a script: its picture is closed, and its font file handed out.
+use Rattle.std.specs.Prelude.{◌≡◌, List, [], ◌∷◌, ◌++◌}
+use Rattle.mf_gf.specs.declared.file.GfFile.{GfFile}
+use Rattle.mf_gf.specs.Keeping.{Keeps, limit}
+use Rattle.mf_live.specs.declared.closing.Closing.{Closing}
+use Rattle.mf_live.specs.declared.closing.Ended.{Ended}
+use Rattle.mf_live.specs.Entries.{Entry, End, entry, next}
+use Rattle.mf_live.specs.Writers.{closing_accepted, closing_name, closing_published, ended_name, ended_published}
+use Rattle.mf_session.specs.declared.session.EndFault.{EndFault}
+use Rattle.mf_session.specs.declared.session.EndFault.TheVariants.{Kept, Halfway}
+use Rattle.mf_session.specs.declared.session.Session.{Session}
+use Rattle.mf_session.specs.Pictures.{Pictures}
+use Rattle.mf_session.specs.Sessions.{StandsFor, limits, name}
+use Rattle.mf_session.specs.States.{State}
+
+-- what `currentpicture` has accepted, and the end mark
+abbrev pub whole_list : Pictures → List Entry
+whole_list p = p.accepted ++ entry (next p.published) End ∷ []
+
+-- the font file keeps the characters, and may be as long as it might
+pub record IsFileOf (session : Session) (s : State) (file : GfFile) : Type 0 where
+  pub keeps : Keeps file [] s.characters
+  pub limit_is : limit file ≡ (limits session).max_bytes
+
+-- all that was accepted is published, and the end mark
+pub record HasEnded (session : Session) (s : State) (ended : Ended) (file : GfFile) : Type 0 where
+  pub name_is : ended_name ended ≡ name session
+  pub published : ended_published ended ≡ whole_list s.pictures
+  pub file_is : IsFileOf session s file
+
+-- the end mark is set, and nothing was published
+pub record IsHalfway (session : Session) (s : State) (closing : Closing) (file : GfFile) : Type 0 where
+  pub name_is : closing_name closing ≡ name session
+  pub accepted : closing_accepted closing ≡ whole_list s.pictures
+  pub published : closing_published closing ≡ s.pictures.published
+  pub file_is : IsFileOf session s file
+
+-- the session is as it was
+pub record IsKept (session : Session) (s : State) (same : Session) : Type 0 where
+  pub name_is : name same ≡ name session
+  pub limits_are : limits same ≡ limits session
+  pub stands : StandsFor same s
+
+-- what comes back where memory was wanting
+abbrev pub IsHandedBack : Session → State → EndFault → Type 0
+IsHandedBack session s (Kept same) = IsKept session s same
+IsHandedBack session s (Halfway closing file) = IsHalfway session s closing file

@@ -1,0 +1,10 @@
+pub mod Answers
+pub mod Changes
+pub mod Endings
+pub mod Pictures
+pub mod Refusals
+pub mod Sessions
+pub mod Shipments
+pub mod States
+pub mod Transcript
+pub mod Variables

@@ -1,0 +1,33 @@
+-- What a session stands for.
+use Rattle.std.specs.Prelude.{◌≡◌, ℕ, List, []}
+use Rattle.logbook.specs.Pages.{Book}
+use Rattle.mf_gf.specs.Keeping.{Keeps, limit}
+use Rattle.mf_text.specs.declared.command.Command.{Command}
+use Rattle.mf_session.specs.declared.session.Session.{Session}
+use Rattle.mf_session.specs.Answers.{Answers, AnswersTo}
+use Rattle.mf_session.specs.States.{State, Limits}
+use Rattle.mf_session.specs.Variables as variables
+
+-- a session has the pictures of a state, and its font file keeps the characters
+pub record StandsFor (session : Session) (s : State) : Type 0 where
+  pub pictures : s.pictures ≡ variables.pictures session.variables
+  pub file : Keeps session.file [] s.characters
+
+-- which live picture its `currentpicture` is
+abbrev pub name : Session → Book
+name session = variables.name session.variables
+
+abbrev pub limits : Session → Limits
+limits session = record { max_ops = variables.max_ops session.variables; max_bytes = limit session.file }
+
+-- a session, which stood for a state, has answered a command, and stands for the state after it
+pub record IsAnsweredTo (before : Session) (s : State) (command : Command) (text : List ℕ) (after : Session) : Type 0 where
+  pub next : State
+  pub answer : AnswersTo (limits before) s command text next
+  pub stands : StandsFor after next
+
+-- a session, which stood for a state, has answered a line, and stands for the state after it
+pub record IsAnswered (before : Session) (s : State) (line : List ℕ) (text : List ℕ) (after : Session) : Type 0 where
+  pub next : State
+  pub answer : Answers (limits before) s line text next
+  pub stands : StandsFor after next

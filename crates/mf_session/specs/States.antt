@@ -1,0 +1,22 @@
+-- The state of a script, and its limits.
+use Rattle.std.specs.Prelude.{ℕ, List, [], min}
+use Rattle.mf_gf.specs.Files.{Character}
+use Rattle.mf_session.specs.Pictures.{Pictures, blank_pictures}
+
+-- the pictures, and the characters that were shipped
+pub record State : Type 0 where
+  pub pictures : Pictures
+  pub characters : List Character
+
+-- all pictures blank, and nothing shipped
+abbrev pub start : State
+start = record { pictures = blank_pictures; characters = [] }
+
+-- how many operations `currentpicture` accepts, and how many bytes the font file may have
+pub record Limits : Type 0 where
+  pub max_ops : ℕ
+  pub max_bytes : ℕ
+
+-- no font file has more bytes than 2,147,483,647
+abbrev pub limits_of : ℕ → ℕ → Limits
+limits_of max_ops max_bytes = record { max_ops = max_ops; max_bytes = min max_bytes 2147483647 }

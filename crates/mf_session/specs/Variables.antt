@@ -1,0 +1,17 @@
+-- What the picture variables of a session are.
+use Rattle.std.specs.Prelude.{ℕ}
+use Rattle.logbook.specs.Pages.{Book}
+use Rattle.mf_live.specs.Writers as writers
+use Rattle.mf_session.specs.declared.variables.Variables.{Variables}
+use Rattle.mf_session.specs.Pictures.{Pictures}
+
+abbrev pub pictures : Variables → Pictures
+pictures v = record { accepted = writers.accepted v.writer; published = writers.published v.writer; registers = v.registers }
+
+-- which live picture `currentpicture` is
+abbrev pub name : Variables → Book
+name v = writers.name v.writer
+
+-- how many operations `currentpicture` accepts
+abbrev pub max_ops : Variables → ℕ
+max_ops v = v.writer.max_ops

@@ -1,0 +1,21 @@
+//! Laws of scripts: each is the contract of a function that does nothing.
+ghost use Rattle.std.specs.Prelude.{◌≡◌, ◌++◌, ℕ, List};
+ghost use Rattle.mf_session.specs.Answers.{Answers};
+ghost use Rattle.mf_session.specs.States.{State, Limits};
+ghost use Rattle.mf_session.specs.Transcript.{Perform, IsTranscript};
+
+/// A script may be cut between lines: what its lines print is what the first lines print and then, from the state
+/// after them, the others.
+pub fn line_by_line()
+    ensures together { (limits : Limits) (s t u : State) (lines more : List (List ℕ)) (text rest : List ℕ) → Perform limits s lines text t → Perform limits t more rest u → Perform limits s (lines ++ more) (text ++ rest) u }
+{}
+
+/// A line has at most one answer in a state: one text and one state after it.
+pub fn one_answer()
+    ensures { (limits : Limits) (s t u : State) (line text other : List ℕ) → Answers limits s line text t → Answers limits s line other u → (text ≡ other) × (t ≡ u) }
+{}
+
+/// A script has at most one transcript.
+pub fn one_transcript()
+    ensures { (limits : Limits) (input text other : List ℕ) → IsTranscript limits input text → IsTranscript limits input other → text ≡ other }
+{}

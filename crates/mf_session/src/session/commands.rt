@@ -1,0 +1,103 @@
+//! How a session performs commands.
+ghost use Rattle.std.specs.Prelude.{◌≡◌, IfOk, OnErr};
+ghost use Rattle.mf_text.specs.Registers.{HasNames, IsSource};
+ghost use Rattle.mf_session.specs.Answers.{ProofAnswers, total_line};
+ghost use Rattle.mf_session.specs.Sessions.{IsAnsweredTo, StandsFor, limits, name};
+ghost use Rattle.mf_session.specs.States.{State};
+ghost use Rattle.mf_text.specs.declared.command.Command.TheVariants as commands;
+
+use super::Session;
+use crate::refusal::{Refusal, refused};
+use mf_geom::OutOfMemory;
+use mf_gf::GfFault;
+use mf_ops::Op;
+use mf_rows::Picture;
+use mf_text::{Command, GridFault, Source, proof_grid, show_runs};
+use std::alloc::Global;
+use std::sync::Wait;
+
+impl Session {
+    /// Performs a command, and answers what it prints.
+    pub(crate) fn perform<R: Wait>(
+        &mut self,
+        rt: &R,
+        alloc: Global,
+        command: Command,
+    ) -> Result<Vec<u8>, OutOfMemory>
+        requires { HasNames command }
+        ensures answer { IfOk result (λ text. (s : State) → StandsFor self.old s → IsAnsweredTo self.old s command text.items self.new) }
+        ensures unchanged { OnErr result ((s : State) → StandsFor self.old s → StandsFor self.new s) }
+        ensures limits { limits self.new ≡ limits self.old }
+        ensures name { name self.new ≡ name self.old }
+    {
+        match command {
+            Command::Nothing => Ok(Vec::new(alloc)),
+            Command::Contour(name, cycle, weight) => {
+                self.variables
+                    .operate(alloc, name, Op::Contour(cycle, weight))
+            }
+            Command::Also(name, source, sign) => self.variables.add(alloc, name, source, sign),
+            Command::Cull(name, cull) => self.variables.operate(alloc, name, Op::Cull(cull)),
+            Command::Clear(name) => self.variables.operate(alloc, name, Op::Clear),
+            Command::Shift(name, right, up) => self
+                .variables
+                .operate(alloc, name, Op::Shift(right, up)),
+            Command::Scale(name, factors) => self
+                .variables
+                .operate(alloc, name, Op::Scale(factors)),
+            Command::Quarter(name, quarter) => self
+                .variables
+                .operate(alloc, name, Op::Quarter(quarter)),
+            Command::Total(source) => total(alloc, self.variables.source(&source)),
+            Command::Show(source) => show_runs(alloc, self.variables.source(&source)),
+            Command::Proof(source) => proof(alloc, self.variables.source(&source)),
+            Command::Ship(source, code, dx, width) => self.ship(alloc, source, code, dx, width),
+            Command::Publish => self.variables.publish(rt, alloc),
+        }
+    }
+
+    /// Ships a character. Its text is made before, since nothing may fail behind the shipping.
+    fn ship(
+        &mut self,
+        alloc: Global,
+        source: Source,
+        code: u8,
+        dx: i32,
+        width: i32,
+    ) -> Result<Vec<u8>, OutOfMemory>
+        requires { IsSource source }
+        ensures answer { IfOk result (λ text. (s : State) → StandsFor self.old s → IsAnsweredTo self.old s (commands.Ship source code dx width) text.items self.new) }
+        ensures unchanged { OnErr result ((s : State) → StandsFor self.old s → StandsFor self.new s) }
+        ensures limits { limits self.new ≡ limits self.old }
+        ensures name { name self.new ≡ name self.old }
+    {
+        let text = format!(in alloc; "[{code}]\n")?.into_bytes();
+        let picture = self.variables.source(&source);
+        match self.file.ship(code, dx, width, picture) {
+            Ok(()) => Ok(text),
+            Err(GfFault::CodeShipped) => refused(alloc, Refusal::CodeShipped),
+            Err(GfFault::FileTooLong) => refused(alloc, Refusal::FileTooLong),
+            Err(GfFault::NoCharacters | GfFault::CommentTooLong | GfFault::OutOfMemory) => Err(
+                OutOfMemory,
+            ),
+        }
+    }
+}
+
+/// What `show totalweight` prints.
+fn total(alloc: Global, picture: &Picture) -> Result<Vec<u8>, OutOfMemory>
+    ensures { IfOk result (λ text. text.items ≡ total_line picture.now) }
+{
+    Ok(format!(in alloc; "totalweight {}\n", picture.total())?.into_bytes())
+}
+
+/// What `proof` prints: the grid text, or that it would be too large.
+fn proof(alloc: Global, picture: &Picture) -> Result<Vec<u8>, OutOfMemory>
+    ensures { IfOk result (λ text. ProofAnswers picture.now text.items) }
+{
+    match proof_grid(alloc, picture) {
+        Ok(text) => Ok(text),
+        Err(GridFault::ProofTooLarge) => refused(alloc, Refusal::ProofTooLarge),
+        Err(GridFault::OutOfMemory) => Err(OutOfMemory),
+    }
+}
