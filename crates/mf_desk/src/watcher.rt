@@ -1,5 +1,5 @@
 //! Viewers that keep a record of their looks.
-ghost use Rattle.std.specs.Prelude.{◌≡◌, ◌⊎◌, ◌+◌, ℕ, true, IfErr, IfOk, OnOk};
+ghost use Rattle.std.specs.Prelude.{◌≡◌, ◌⊎◌, ◌+◌, ◌∷◌, ◌++◌, [], ℕ, true, IfErr, IfOk, OnOk};
 ghost use Rattle.logbook.specs.Pages.{Book};
 ghost use Rattle.mf_live.specs.Entries.{is_closed};
 ghost use Rattle.mf_live.specs.Viewers as viewers;
@@ -46,7 +46,8 @@ impl Watcher {
     /// Looks once.
     fn look<G: Gate>(self, number: u32, look: u32, gate: &G) -> Result<Watcher, NoLook>
         requires { HasRoom 1 self }
-        ensures { IfOk result (λ after. (picture : Book) (looks more : ℕ) → IsWatcher picture looks (more + 1) self → IsWatcher picture (looks + 1) more after) }
+        ensures watcher { IfOk result (λ after. (picture : Book) (looks more : ℕ) → IsWatcher picture looks (more + 1) self → IsWatcher picture (looks + 1) more after) }
+        ensures shown { IfOk result (λ after. after.seen.items ≡ self.seen.items ++ glance_at (viewers.looked after.viewer) ∷ []) }
     {
         let Watcher { viewer, mut seen } = self;
         let held = match viewer.look() {

@@ -234,3 +234,49 @@ fn second_publish_waits_for_a_held_look(rt: HostRuntime) -> Result<(), Fail> {
     );
     Ok(())
 }
+
+/// The script is read when viewer 0 has looked twice, and viewer 1 looks again when it has printed.
+#[derive(Drop)]
+struct TakesTurns {
+    looked: Flag,
+    printed: Flag,
+}
+
+impl Gate for TakesTurns {
+    fn hold(&self, viewer: u32, look: u32) {
+        if viewer == 0 && look == 1 {
+            self.looked.set();
+        }
+        if viewer == 1 && look == 0 {
+            self.printed.is_set_within(TURNS);
+        }
+    }
+}
+
+#[test]
+fn records_stand_in_the_order_of_the_viewers(rt: HostRuntime) -> Result<(), Fail> {
+    let alloc = rt.alloc();
+    let gate = TakesTurns {
+        looked: Flag::new(),
+        printed: Flag::new(),
+    };
+    let gate = Arc::new(alloc, gate)?;
+    let mut reader = ReadsAfter {
+        flag: &gate.looked,
+        pieces: Pieces::whole(PUBLISHED.as_bytes()),
+    };
+    let mut writer = Tells {
+        flag: &gate.printed,
+        text: b"published 1\n",
+        sink: Sink::new(alloc),
+    };
+    let outcome = perform(&rt, alloc, &mut reader, &mut writer, &AMPLE, 2, 2, &gate).expect(
+        &rt,
+        "viewer 0 looks twice while nothing is read",
+    );
+    let first = outcome.seen.first().expect(&rt, "there is viewer 0");
+    assert_eq!(rt; first.as_slice(), [BLANK, BLANK, SIX].as_slice());
+    let second = outcome.seen.last().expect(&rt, "there is viewer 1");
+    assert_eq!(rt; second.as_slice(), [BLANK, SIX, SIX].as_slice());
+    Ok(())
+}
