@@ -28,7 +28,7 @@ pub(crate) fn spell(out: &mut Spelling, code: u8, picture: &Picture, bounds: &Ch
     let stretches = Stretches::over(picture);
     put_begin(out, code, bounds);
     spell_rows(out, stretches, bounds);
-    out.put(&[EOC]);
+    out.put_byte(EOC);
 }
 
 /// Begins a character: in short where its box allows it.
@@ -57,7 +57,7 @@ fn put_long_begin(out: &mut Spelling, code: u8, bounds: &CharacterBox)
     ensures held { (text : List ℕ) → Holds out.old text → Holds out.new (text ++ long_begin code bounds.now) }
     ensures room { out.new.room ≡ out.old.room }
 {
-    out.put(&[BOC]);
+    out.put_byte(BOC);
     out.put_unsigned(u32::from(code));
     out.put_word(-1);
     out.put_word(bounds.min_m);

@@ -26,7 +26,7 @@ impl Spelling {
         ensures room { self.new.room ≡ self.old.room }
     {
         if length <= MOST_PAINTED {
-            self.put(&[length as u8]);
+            self.put_byte(length as u8);
         } else {
             self.put_parameter(PAINT1, length);
         }
@@ -39,7 +39,7 @@ impl Spelling {
         ensures room { self.new.room ≡ self.old.room }
     {
         if rows == 0 {
-            self.put(&[SKIP0]);
+            self.put_byte(SKIP0);
         } else {
             self.put_parameter(SKIP1, rows);
         }
@@ -51,7 +51,7 @@ impl Spelling {
         ensures held { (text : List ℕ) → Holds self.old text → Holds self.new (text ++ new_row offset) }
         ensures room { self.new.room ≡ self.old.room }
     {
-        self.put(&[NEW_ROW_0 + offset as u8]);
+        self.put_byte(NEW_ROW_0 + offset as u8);
     }
 
     /// An opcode with its parameter: this one for a parameter of one byte, the next for one of two.
@@ -64,7 +64,7 @@ impl Spelling {
         if parameter <= 255 {
             self.put(&[opcode, parameter as u8]);
         } else {
-            self.put(&[opcode + 1]);
+            self.put_byte(opcode + 1);
             self.put_half(parameter as u16);
         }
     }

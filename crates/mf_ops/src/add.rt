@@ -1,5 +1,5 @@
 //! Adding a picture to another, or subtracting it.
-ghost use Rattle.std.specs.Prelude.{◌≡◌, ◌≢◌, None, Some, IfOk, IfErr, OnOk};
+ghost use Rattle.std.specs.Prelude.{◌≡◌, ◌≢◌, None, Some, IfOk, IfErr, OnOk, OnErr};
 ghost use Rattle.mf_ops.specs.Step.{stepped, fault_of};
 ghost use Rattle.mf_ops.specs.declared.op.Op.TheVariants.{Also};
 
@@ -19,27 +19,46 @@ pub fn add(
     ensures accepted { OnOk result (fault_of picture.now (Also other.now sign) ≡ None) }
     ensures refused { IfErr result (λ fault. fault ≢ OpFault.OutOfMemory → fault_of picture.now (Also other.now sign) ≡ Some fault) }
 {
+    let mut sum = picture.copy(alloc)?;
+    add_to(alloc, &mut sum, other, sign)?;
+    Ok(sum)
+}
+
+/// Adds another picture to a picture, or subtracts it from it. A refusal leaves it as it was.
+pub(crate) fn add_to(
+    alloc: Global,
+    picture: &mut Picture,
+    other: &Picture,
+    sign: Sign,
+) -> Result<(), OpFault>
+    ensures step { OnOk result (picture.new ≡ stepped picture.old (Also other.now sign)) }
+    ensures unchanged { OnErr result (picture.new ≡ picture.old) }
+    ensures accepted { OnOk result (fault_of picture.old (Also other.now sign) ≡ None) }
+    ensures refused { IfErr result (λ fault. fault ≢ OpFault.OutOfMemory → fault_of picture.old (Also other.now sign) ≡ Some fault) }
+{
     match sign {
-        Sign::Plus => plus(alloc, picture, other),
-        Sign::Minus => minus(alloc, picture, other),
+        Sign::Plus => add_plus(alloc, picture, other),
+        Sign::Minus => add_minus(alloc, picture, other),
     }
 }
 
-/// The sum of two pictures.
-fn plus(alloc: Global, picture: &Picture, other: &Picture) -> Result<Picture, OpFault>
-    ensures step { IfOk result (λ new. new ≡ stepped picture.now (Also other.now Sign.Plus)) }
-    ensures accepted { OnOk result (fault_of picture.now (Also other.now Sign.Plus) ≡ None) }
-    ensures refused { IfErr result (λ fault. fault ≢ OpFault.OutOfMemory → fault_of picture.now (Also other.now Sign.Plus) ≡ Some fault) }
+/// Adds another picture to a picture.
+fn add_plus(alloc: Global, picture: &mut Picture, other: &Picture) -> Result<(), OpFault>
+    ensures step { OnOk result (picture.new ≡ stepped picture.old (Also other.now Sign.Plus)) }
+    ensures unchanged { OnErr result (picture.new ≡ picture.old) }
+    ensures accepted { OnOk result (fault_of picture.old (Also other.now Sign.Plus) ≡ None) }
+    ensures refused { IfErr result (λ fault. fault ≢ OpFault.OutOfMemory → fault_of picture.old (Also other.now Sign.Plus) ≡ Some fault) }
 {
-    Ok(picture.plus(alloc, other)?)
+    Ok(picture.add(alloc, other)?)
 }
 
-/// The difference of two pictures.
-fn minus(alloc: Global, picture: &Picture, other: &Picture) -> Result<Picture, OpFault>
-    ensures step { IfOk result (λ new. new ≡ stepped picture.now (Also other.now Sign.Minus)) }
-    ensures accepted { OnOk result (fault_of picture.now (Also other.now Sign.Minus) ≡ None) }
-    ensures refused { IfErr result (λ fault. fault ≢ OpFault.OutOfMemory → fault_of picture.now (Also other.now Sign.Minus) ≡ Some fault) }
+/// Subtracts another picture from a picture.
+fn add_minus(alloc: Global, picture: &mut Picture, other: &Picture) -> Result<(), OpFault>
+    ensures step { OnOk result (picture.new ≡ stepped picture.old (Also other.now Sign.Minus)) }
+    ensures unchanged { OnErr result (picture.new ≡ picture.old) }
+    ensures accepted { OnOk result (fault_of picture.old (Also other.now Sign.Minus) ≡ None) }
+    ensures refused { IfErr result (λ fault. fault ≢ OpFault.OutOfMemory → fault_of picture.old (Also other.now Sign.Minus) ≡ Some fault) }
 {
     let negated = other.map_weights(alloc, &WeightMap::Negate)?;
-    Ok(picture.plus(alloc, &negated)?)
+    Ok(picture.add(alloc, &negated)?)
 }

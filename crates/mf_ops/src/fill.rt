@@ -1,5 +1,5 @@
 //! Filling a contour: the vertical edges of its cycle become corners, which are added to the picture.
-ghost use Rattle.std.specs.Prelude.{◌≡◌, ◌≢◌, None, Some, IfOk, IfErr, OnOk, pos, negsuc, ◌*ℤ◌, ◌≤ℤ◌, All};
+ghost use Rattle.std.specs.Prelude.{◌≡◌, ◌≢◌, None, Some, IfOk, IfErr, OnOk, OnErr, pos, negsuc, ◌*ℤ◌, ◌≤ℤ◌, All};
 ghost use Rattle.std.specs.Int.{int_signum};
 ghost use Rattle.mf_geom.specs.Path.{IsInReach, IsRectilinear};
 ghost use Rattle.mf_geom.specs.Turning.{turning};
@@ -25,8 +25,25 @@ pub fn fill(
     ensures accepted { OnOk result (fault_of picture.now (Contour cycle.now weight) ≡ None) }
     ensures refused { IfErr result (λ fault. fault ≢ OpFault.OutOfMemory → fault_of picture.now (Contour cycle.now weight) ≡ Some fault) }
 {
+    let mut filled = picture.copy(alloc)?;
+    fill_in(alloc, &mut filled, cycle, weight)?;
+    Ok(filled)
+}
+
+/// Fills a contour with this weight into a picture, which a refusal leaves as it was.
+pub(crate) fn fill_in(
+    alloc: Global,
+    picture: &mut Picture,
+    cycle: &Cycle,
+    weight: Weight,
+) -> Result<(), OpFault>
+    ensures step { OnOk result (picture.new ≡ stepped picture.old (Contour cycle.now weight)) }
+    ensures unchanged { OnErr result (picture.new ≡ picture.old) }
+    ensures accepted { OnOk result (fault_of picture.old (Contour cycle.now weight) ≡ None) }
+    ensures refused { IfErr result (λ fault. fault ≢ OpFault.OutOfMemory → fault_of picture.old (Contour cycle.now weight) ≡ Some fault) }
+{
     let corners = corners_of(alloc, cycle, signed_weight(cycle, weight))?;
-    Ok(picture.with_corners(alloc, corners)?)
+    Ok(picture.add_corners(alloc, corners)?)
 }
 
 /// The weight of a contour, negated where its cycle turns clockwise.

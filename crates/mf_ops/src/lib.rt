@@ -16,7 +16,7 @@ mod transform;
 mod weight;
 
 pub use cull::{BadCull, Cull};
-pub use op::{Op, OpFault, after};
+pub use op::{Op, OpFault, after, apply};
 pub use quarter::{BadTurn, Quarter};
 pub use scale::{BadScale, Scale};
 pub use sign::Sign;

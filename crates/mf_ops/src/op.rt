@@ -1,11 +1,11 @@
 //! Operations on pictures, and what they make of a picture.
-ghost use Rattle.std.specs.Prelude.{◌≡◌, ◌≢◌, None, Some, Err, IsOk, IfOk, IfErr, OnOk};
+ghost use Rattle.std.specs.Prelude.{◌≡◌, ◌≢◌, None, Some, Err, IsOk, IfOk, IfErr, OnOk, OnErr};
 ghost use Rattle.mf_ops.specs.Step.{stepped, fault_of};
 ghost use Rattle.mf_ops.specs.declared.op.Op.TheVariants as ops;
 
-use crate::add::add;
+use crate::add::{add, add_to};
 use crate::cull::Cull;
-use crate::fill::fill;
+use crate::fill::{fill, fill_in};
 use crate::quarter::Quarter;
 use crate::scale::Scale;
 use crate::sign::Sign;
@@ -112,6 +112,27 @@ pub fn after(alloc: Global, picture: &Picture, op: &Op) -> Result<Picture, OpFau
         Op::Scale(factors) => scale(alloc, picture, *factors),
         Op::Quarter(quarter) => turn(alloc, picture, *quarter),
         Op::Clear => Ok(after_clear(alloc, picture)),
+    }
+}
+
+/// Performs an operation on a picture: contours and other pictures are added to it in place. Refusals are those of
+/// `after`, and leave it as it was.
+#[tactic(auto, using(crate::proofs::Faults::contour_not_out, crate::proofs::Faults::also_not_out))]
+pub fn apply(alloc: Global, picture: &mut Picture, op: &Op) -> Result<(), OpFault>
+    ensures step { OnOk result (picture.new ≡ stepped picture.old op.now) }
+    ensures unchanged { OnErr result (picture.new ≡ picture.old) }
+    ensures accepted { OnOk result (fault_of picture.old op.now ≡ None) }
+    ensures refused { IfErr result (λ fault. fault ≢ OpFault.OutOfMemory → fault_of picture.old op.now ≡ Some fault) }
+    ensures out_of_field { fault_of picture.old op.now ≡ Some OpFault.OutOfField → result ≡ Err OpFault.OutOfField }
+    ensures clears { op.now ≡ ops.Clear → IsOk result }
+{
+    match op {
+        Op::Contour(cycle, weight) => fill_in(alloc, picture, cycle, *weight),
+        Op::Also(other, sign) => add_to(alloc, picture, other, *sign),
+        Op::Cull(_) | Op::Shift(_, _) | Op::Scale(_) | Op::Quarter(_) | Op::Clear => {
+            *picture = after(alloc, picture, op)?;
+            Ok(())
+        }
     }
 }
 

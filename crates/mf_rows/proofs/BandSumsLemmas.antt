@@ -14,8 +14,8 @@ use Rattle.mf_rows.specs.Dots.{IsLawfulWeight}
 use Rattle.mf_rows.specs.Edges.{EdgeRow, AreRowsFrom, AreRows, weight_in_rows}
 use Rattle.mf_rows.specs.Sums.{weight_in_all, HaveRowWeights, IsUnlawfulSomewhere}
 use Rattle.mf_rows.proofs.BandsLemmas.{rows_of_bands-split}
-use Rattle.mf_rows.proofs.EdgesLemmas.{weight_in_rows-append, weight_in_rows-above, weight_in_rows-below, rows_from-higher, rows_from-below, rows_from-front, rows_from-back, rows_from-append}
-use Rattle.mf_rows.proofs.RowSums.{IsRowSumSoFar}
+use Rattle.mf_rows.proofs.EdgesLemmas.{weight_in_rows-append, weight_in_rows-above, weight_in_rows-below, rows_from-below, rows_from-front, rows_from-back, rows_from-append}
+use Rattle.mf_rows.proofs.RowSums.{IsRowSumSoFar, rows_behind}
 
 -- ---- rows that only one of two lists has
 
@@ -77,23 +77,11 @@ rows_of_first k bs first first_is rows =
 -- ---- what is left
 
 module _ (whole_left whole_right sum rs ss : List EdgeRow) (so_far : IsRowSumSoFar whole_left whole_right sum rs ss) where
-  pub rows_left : AreRows rs
-  rows_left = record { rows = rows_from-higher (pos 4094) so_far.top rs so_far.in_field so_far.left }
-
-  pub rows_right : AreRows ss
-  rows_right = record { rows = rows_from-higher (pos 4094) so_far.top ss so_far.in_field so_far.right }
-
-  rows_behind : (others : List EdgeRow) → AreRowsFrom so_far.top others → AreRows (sum ++ others)
-  rows_behind others rows = record {
-    rows = rows_from-append (pos 4094) sum others so_far.rows (rows_from-higher (pos 4094) so_far.top others so_far.in_field rows)
-        (All-weaker (λ r. so_far.top <ℤ r.y) (λ r. AreBelow r.y others) (λ r lt. rows_from-below so_far.top r.y others rows lt) sum so_far.above);
-  }
-
   -- where one list has come to its end, the rows of the other follow
   rows_with_rest : (rs ≡ []) ⊎ (ss ≡ []) → AreRows ((sum ++ rs) ++ ss)
   rows_with_rest end =
-      ⊎_elim (λ none. subst AreRows (sym (ap (λ rs. (sum ++ rs) ++ ss) none ∙ ap (λ rs. rs ++ ss) (append-nil sum))) (rows_behind ss so_far.right))
-      (λ none. subst AreRows (sym (ap (λ ss. (sum ++ rs) ++ ss) none ∙ append-nil (sum ++ rs))) (rows_behind rs so_far.left)) end
+      ⊎_elim (λ none. subst AreRows (sym (ap (λ rs. (sum ++ rs) ++ ss) none ∙ ap (λ rs. rs ++ ss) (append-nil sum))) (rows_behind whole_left whole_right sum rs ss so_far ss so_far.right))
+      (λ none. subst AreRows (sym (ap (λ ss. (sum ++ rs) ++ ss) none ∙ append-nil (sum ++ rs))) (rows_behind whole_left whole_right sum rs ss so_far rs so_far.left)) end
 
   pub weights_with_rest : HaveRowWeights (weight_in_all whole_left whole_right) ((sum ++ rs) ++ ss)
   unfolding weight_in_all

@@ -20,7 +20,7 @@ use Rattle.mf_rows.proofs.BandsLemmas.{IsPartitionedBy-falls, All-take_within, A
 
 -- ---- the rows of bands
 
-rows_of_band : (band : Band) → All (λ r. IsOfBand band.number r.y) (rows_in band)
+pub rows_of_band : (band : Band) → All (λ r. IsOfBand band.number r.y) (rows_in band)
 rows_of_band band = All-map (λ r. IsOfBand band.number r.y) edge_row band.rows.items band.of_band
 
 -- what the number of each band says of its rows holds of the rows of all
@@ -33,29 +33,29 @@ All-rows_of_bands N P holds (b ∷ bs) all =
     (All-rows_of_bands N P holds bs (All-tail (λ (c : Arc Band Global). N (arc_value c).number) b bs all))
 
 -- the rows between the ends of a band belong to it
-between_ends : (n : ℤ) (rows : List Row) → AreAbove (lowest_of n -ℤ pos 1) (edge_rows rows) → AreBelow (lowest_of n +ℤ pos 64) (edge_rows rows) → AreOfBand n rows
+between_ends : (n : ℤ) (rows : List Row) → AreAbove (lowest_of n -ℤ pos 1) (edge_rows rows) → AreBelow (lowest_of n +ℤ pos 16) (edge_rows rows) → AreOfBand n rows
 between_ends n [] above below = All-nil (λ row. IsOfBand n row.y)
 between_ends n (row ∷ rows) above below =
     let bottom = All-head (λ r. (lowest_of n -ℤ pos 1) <ℤ r.y) (edge_row row) (edge_rows rows) above in
-    let top = All-head (λ r. r.y <ℤ (lowest_of n +ℤ pos 64)) (edge_row row) (edge_rows rows) below in
+    let top = All-head (λ r. r.y <ℤ (lowest_of n +ℤ pos 16)) (edge_row row) (edge_rows rows) below in
     All-cons (λ row. IsOfBand n row.y) row rows
     (record { top = omega (arith, ints, top); bottom = omega (arith, ints, bottom) })
     (between_ends n rows
     (All-tail (λ r. (lowest_of n -ℤ pos 1) <ℤ r.y) (edge_row row) (edge_rows rows) above)
-    (All-tail (λ r. r.y <ℤ (lowest_of n +ℤ pos 64)) (edge_row row) (edge_rows rows) below))
+    (All-tail (λ r. r.y <ℤ (lowest_of n +ℤ pos 16)) (edge_row row) (edge_rows rows) below))
 
 above_end : (n : ℤ) (band : Band) → band.number ≡ n → AreAbove (lowest_of n -ℤ pos 1) (rows_in band)
 above_end n band is = All-weaker (λ r. IsOfBand band.number r.y) (λ r. (lowest_of n -ℤ pos 1) <ℤ r.y) (λ r own. let own : IsOfBand n r.y = rw (← is) own in omega (arith, ints, own.bottom)) (rows_in band) (rows_of_band band)
 
-below_end : (n : ℤ) (band : Band) → band.number ≡ n → AreBelow (lowest_of n +ℤ pos 64) (rows_in band)
-below_end n band is = All-weaker (λ r. IsOfBand band.number r.y) (λ r. r.y <ℤ (lowest_of n +ℤ pos 64)) (λ r own. let own : IsOfBand n r.y = rw (← is) own in omega (arith, ints, own.top)) (rows_in band) (rows_of_band band)
+below_end : (n : ℤ) (band : Band) → band.number ≡ n → AreBelow (lowest_of n +ℤ pos 16) (rows_in band)
+below_end n band is = All-weaker (λ r. IsOfBand band.number r.y) (λ r. r.y <ℤ (lowest_of n +ℤ pos 16)) (λ r own. let own : IsOfBand n r.y = rw (← is) own in omega (arith, ints, own.top)) (rows_in band) (rows_of_band band)
 
 -- and so do those of the sum of two bands of its number
 pub sum_of_band : (n : ℤ) (left right : Band) (rows : List Row) → left.number ≡ n → right.number ≡ n → StayWithin (rows_in left) (rows_in right) (edge_rows rows) → AreOfBand n rows
 sum_of_band n left right rows of_left of_right within =
     between_ends n rows
     (within.above (lowest_of n -ℤ pos 1) (above_end n left of_left) (above_end n right of_right))
-    (within.below (lowest_of n +ℤ pos 64) (below_end n left of_left) (below_end n right of_right))
+    (within.below (lowest_of n +ℤ pos 16) (below_end n left of_left) (below_end n right of_right))
 
 -- ---- the place at which bands are split
 

@@ -1,5 +1,6 @@
 mod AddedEdges
 mod BandSumsLemmas
+mod BandsAdded
 mod BandsLemmas
 mod BlankRowsLemmas
 mod BuildingLemmas

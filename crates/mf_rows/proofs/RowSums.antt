@@ -1,33 +1,17 @@
 -- The sum of two lists of rows, row by row.
-use Rattle.std.proofs.Common.{◌≡◌, ◌≢◌, ◌<◌, ℤ, pos, negsuc, ◌+ℤ◌, ◌-ℤ◌, ◌≤ℤ◌, ◌<ℤ◌, List, [], ◌∷◌, ◌++◌, length, get_or, refl, ap, sym, subst, ◌∙◌, inl, inr, ⊎_elim, arith}
-use Rattle.std.specs.Int.{int_max}
+use Rattle.std.proofs.Common.{◌≡◌, ◌≢◌, ℕ, ℤ, pos, negsuc, ◌+ℤ◌, ◌-ℤ◌, ◌≤ℤ◌, ◌<ℤ◌, List, [], ◌∷◌, ◌++◌, take, drop, get_or, refl, ap, sym, subst, ◌∙◌, arith}
 use Rattle.std.specs.List.{All}
-use Rattle.std.proofs.lemmas.Int.{ints, clamps, by_lt_z}
-use Rattle.std.proofs.lemmas.List.{append-nil}
+use Rattle.std.proofs.lemmas.Int.{ints, by_lt_z}
+use Rattle.std.proofs.lemmas.List.{append-nil, map-append, take-append-drop}
 use Rattle.std.proofs.lemmas.List.Elements.{All-head, All-cons, All-nil, All-weaker, All-append}
 use Rattle.mf_rows.specs.declared.edge.Edge.{Edge}
 use Rattle.mf_rows.specs.declared.row.Row.{Row}
-use Rattle.mf_rows.specs.Bands.{edge_rows, AreAbove, AreBelow}
+use Rattle.mf_rows.specs.Bands.{edge_row, edge_rows, AreAbove, AreBelow}
 use Rattle.mf_rows.specs.Dots.{IsLawfulWeight}
 use Rattle.mf_rows.specs.Edges.{weight_in, EdgeRow, IsEdgeRow, AreEdges, AreEdgesFrom, AreRowsFrom, AreRows, weight_in_rows}
-use Rattle.mf_rows.specs.Merging.{RowsBeginAt, IsFirstHeight, IsRowAt, IsSplitAtHeight, HasRowSum, IsUnlawfulInRow}
+use Rattle.mf_rows.specs.Merging.{IsRowAt, IsSplitAtHeight, HasRowSum, IsUnlawfulInRow}
 use Rattle.mf_rows.specs.Sums.{weight_in_all, HaveRowWeights, IsUnlawfulSomewhere, IsUnlawfulColumn, StayWithin, weight_in_both, HaveWeights}
-use Rattle.mf_rows.proofs.EdgesLemmas.{weight_in-left, weight_in-before, weight_in-outside, weight_in_rows-append, weight_in_rows-here, weight_in_rows-elsewhere, weight_in_rows-above, weight_in_rows-below, rows_from-higher, rows_from-below, rows_from-append, by_field}
-
--- ---- the first row
-
--- the first row of two lists is the higher one of theirs
-pub first_of_both : (rows others : List Row) (r s : Row) (y : ℤ) → 0 < length rows → r ≡ get_or rows 0 r → 0 < length others → s ≡ get_or others 0 s → y ≡ int_max r.y s.y → IsFirstHeight (edge_rows rows) (edge_rows others) y
-first_of_both [] others r s y some r_is more s_is y_is = absurd (omega arith)
-first_of_both (a ∷ rows) [] r s y some r_is more s_is y_is = absurd (omega arith)
-first_of_both (a ∷ rows) (b ∷ others) r s y some r_is more s_is y_is =
-    let a_is : r.y ≡ a.y = ap (λ (r : Row). r.y) r_is in
-    let b_is : s.y ≡ b.y = ap (λ (r : Row). r.y) s_is in
-    record {
-      left = omega (arith, ints, clamps);
-      right = omega (arith, ints, clamps);
-      reached = by_lt_z r.y s.y (λ lt. inr (omega (arith, ints, clamps))) (λ le. inl (omega (arith, ints, clamps)));
-    }
+use Rattle.mf_rows.proofs.EdgesLemmas.{weight_in-left, weight_in-before, weight_in-outside, weight_in_rows-append, weight_in_rows-here, weight_in_rows-elsewhere, weight_in_rows-above, weight_in_rows-below, rows_from-higher, rows_from-below, rows_from-front, rows_from-back, rows_from-append, by_field}
 
 -- ---- what a sum has in one row
 
@@ -124,11 +108,7 @@ module _ (y : ℤ) (l r : EdgeRow) (left : IsRowAt y (l ∷ [])) (right : IsRowA
         };
       }
 
--- a row that only one of them has
-pub sum_of_left : (before : List EdgeRow) (y : ℤ) (rs : List EdgeRow) → IsRowAt y rs → HasRowSum before y rs [] (before ++ rs)
-unfolding weight_in_all weight_in_rows
-sum_of_left before y rs here = record { more = rs; all = refl; here = here; weights = record { weights = λ x c. omega (arith, ints) } }
-
+-- a row that is added where none stands
 pub sum_of_right : (before : List EdgeRow) (y : ℤ) (ss : List EdgeRow) → IsRowAt y ss → HasRowSum before y [] ss (before ++ ss)
 unfolding weight_in_all weight_in_rows
 sum_of_right before y ss here = record { more = ss; all = refl; here = here; weights = record { weights = λ x c. omega (arith, ints) } }
@@ -157,16 +137,79 @@ sum_none rs ss left right = record {
   weights = λ x y. omega (arith, ints);
 }
 
-begins_in_reach : (top y : ℤ) (rs : List EdgeRow) → AreRowsFrom top rs → RowsBeginAt y rs → y ≤ℤ top
-begins_in_reach top y [] rows at = absurd at
-begins_in_reach top y (r ∷ rs) rows at = let le : r.y ≤ℤ top = rows.1 in omega (arith, ints)
+module _ (whole_left whole_right sum rs ss : List EdgeRow) (so_far : IsRowSumSoFar whole_left whole_right sum rs ss) where
+  pub rows_left : AreRows rs
+  rows_left = record { rows = rows_from-higher (pos 4094) so_far.top rs so_far.in_field so_far.left }
 
-module _ (whole_left whole_right sum rs ss : List EdgeRow) (so_far : IsRowSumSoFar whole_left whole_right sum rs ss) (y : ℤ) (first : IsFirstHeight rs ss y) where
-  in_reach : y ≤ℤ so_far.top
-  in_reach = ⊎_elim (begins_in_reach so_far.top y rs so_far.left) (begins_in_reach so_far.top y ss so_far.right) first.reached
+  pub rows_right : AreRows ss
+  rows_right = record { rows = rows_from-higher (pos 4094) so_far.top ss so_far.in_field so_far.right }
 
+  pub rows_behind : (others : List EdgeRow) → AreRowsFrom so_far.top others → AreRows (sum ++ others)
+  rows_behind others rows = record {
+    rows = rows_from-append (pos 4094) sum others so_far.rows (rows_from-higher (pos 4094) so_far.top others so_far.in_field rows)
+        (All-weaker (λ r. so_far.top <ℤ r.y) (λ r. AreBelow r.y others) (λ r lt. rows_from-below so_far.top r.y others rows lt) sum so_far.above);
+  }
+
+-- ---- the rows above the next one that is added
+
+-- a sum so far that ends above row y or at it
+pub record IsRowSumAbove (whole_left whole_right sum rs ss : List EdgeRow) (y : ℤ) : Type 0 where
+  pub so_far : IsRowSumSoFar whole_left whole_right sum rs ss
+  pub reach : y ≤ℤ so_far.top
+
+rows_from-first : (top y : ℤ) (rows : List Row) → AreRowsFrom top (edge_rows rows) → All (λ row. row.y ≤ℤ y) rows → AreRowsFrom y (edge_rows rows)
+rows_from-first top y [] rows up_to = tt
+rows_from-first top y (r ∷ rs) rows up_to = (rows.0, All-head (λ row. row.y ≤ℤ y) r rs up_to, rows.2)
+
+edge_rows-at : (k : ℕ) (rows : List Row) → edge_rows rows ≡ edge_rows (take k rows) ++ edge_rows (drop k rows)
+edge_rows-at k rows = ap edge_rows (sym (take-append-drop k rows)) ∙ map-append edge_row (take k rows) (drop k rows)
+
+-- the rows above the first one that is added join the sum as they are
+module _ (whole_left whole_right sum : List EdgeRow) (left right : List Row) (so_far : IsRowSumSoFar whole_left whole_right sum (edge_rows left) (edge_rows right)) (added : Row) (others : List Row) (right_is : right ≡ added ∷ others) (k : ℕ) (above : AreAbove added.y (edge_rows (take k left))) (below : All (λ row. row.y ≤ℤ added.y) (drop k left)) where
+  from_top : AreRowsFrom so_far.top (edge_rows (take k left) ++ edge_rows (drop k left))
+  from_top = subst (AreRowsFrom so_far.top) (edge_rows-at k left) so_far.left
+
+  added_rows : AreRowsFrom so_far.top (edge_row added ∷ edge_rows others)
+  added_rows = subst (λ rows. AreRowsFrom so_far.top (edge_rows rows)) right_is so_far.right
+
+  pub rest_from : AreRowsFrom added.y (edge_rows (drop k left))
+  rest_from = rows_from-first so_far.top added.y (drop k left) (rows_from-back so_far.top (edge_rows (take k left)) (edge_rows (drop k left)) from_top) below
+
+  pub added_split : IsSplitAtHeight (edge_rows right) added.y (edge_row added ∷ []) (edge_rows others)
+  added_split = record {
+    all = ap edge_rows right_is;
+    here = row_of_edges added.y (edge_row added) added_rows.0 refl;
+    left = added_rows.2;
+  }
+
+  pub sum_with_above : IsRowSumAbove whole_left whole_right (sum ++ edge_rows (take k left)) (edge_rows (drop k left)) (edge_rows right) added.y
+  unfolding weight_in_all
+  sum_with_above =
+      let first_rows = rows_from-front so_far.top (edge_rows (take k left)) (edge_rows (drop k left)) from_top in
+      let in_reach : added.y ≤ℤ so_far.top = added_rows.1 in
+      record {
+        so_far = record {
+          top = added.y;
+          in_field = omega (arith, ints, so_far.in_field);
+          rows = (rows_behind whole_left whole_right sum (edge_rows left) (edge_rows right) so_far (edge_rows (take k left)) first_rows).rows;
+          above = All-append (λ r. added.y <ℤ r.y) sum (edge_rows (take k left))
+              (All-weaker (λ r. so_far.top <ℤ r.y) (λ r. added.y <ℤ r.y) (λ r lt. omega (arith, ints)) sum so_far.above) above;
+          left = rest_from;
+          right = rw right_is (added_rows.0, omega (arith, ints), added_rows.2);
+          weights = λ x y.
+              let old = so_far.weights x y in
+              let split = ap (λ rs. weight_in_rows rs x y) (edge_rows-at k left) ∙ weight_in_rows-append (edge_rows (take k left)) (edge_rows (drop k left)) x y in
+              let more = weight_in_rows-append sum (edge_rows (take k left)) x y in
+              omega (arith, ints);
+        };
+        reach = omega (arith, ints);
+      }
+
+-- ---- the next row that is added
+
+module _ (whole_left whole_right sum rs ss : List EdgeRow) (y : ℤ) (at : IsRowSumAbove whole_left whole_right sum rs ss y) where
   above_first : AreAbove y sum
-  above_first = All-weaker (λ r. so_far.top <ℤ r.y) (λ r. y <ℤ r.y) (λ r lt. omega (arith, ints, in_reach)) sum so_far.above
+  above_first = All-weaker (λ r. at.so_far.top <ℤ r.y) (λ r. y <ℤ r.y) (λ r lt. omega (arith, ints, at.reach)) sum at.so_far.above
 
   module _ (found_left found_right others_left others_right : List EdgeRow) (split_left : IsSplitAtHeight rs y found_left others_left) (split_right : IsSplitAtHeight ss y found_right others_right) where
     weight_in_all-split : (x c : ℤ) → weight_in_all rs ss x c ≡ weight_in_all found_left found_right x c +ℤ weight_in_all others_left others_right x c
@@ -180,7 +223,7 @@ module _ (whole_left whole_right sum rs ss : List EdgeRow) (so_far : IsRowSumSoF
     weight_in_all-first : (x : ℤ) → weight_in_all whole_left whole_right x y ≡ weight_in_all found_left found_right x y
     unfolding weight_in_all
     weight_in_all-first x =
-        let old = so_far.weights x y in
+        let old = at.so_far.weights x y in
         let split = weight_in_all-split x y in
         let none_before = weight_in_rows-above sum x y above_first in
         let none_left = weight_in_rows-below others_left x y (rows_from-below (y -ℤ pos 1) y others_left split_left.left (omega (arith, ints))) in
@@ -198,25 +241,34 @@ module _ (whole_left whole_right sum rs ss : List EdgeRow) (so_far : IsRowSumSoF
     pub sum_more : (after : List EdgeRow) → HasRowSum sum y found_left found_right after → IsRowSumSoFar whole_left whole_right after others_left others_right
     sum_more after more = rw more.all (record {
       top = y -ℤ pos 1;
-      in_field = omega (arith, ints, so_far.in_field, in_reach);
-      rows = rows_from-append (pos 4094) sum more.more so_far.rows
-          (rows_from-higher (pos 4094) y more.more (omega (arith, ints, so_far.in_field, in_reach)) more.here.rows)
+      in_field = omega (arith, ints, at.so_far.in_field, at.reach);
+      rows = rows_from-append (pos 4094) sum more.more at.so_far.rows
+          (rows_from-higher (pos 4094) y more.more (omega (arith, ints, at.so_far.in_field, at.reach)) more.here.rows)
           (All-weaker (λ r. y <ℤ r.y) (λ r. AreBelow r.y more.more) (λ r lt. rows_from-below y r.y more.more more.here.rows lt) sum above_first);
       above = All-append (λ r. (y -ℤ pos 1) <ℤ r.y) sum more.more
           (All-weaker (λ r. y <ℤ r.y) (λ r. (y -ℤ pos 1) <ℤ r.y) (λ r lt. omega (arith, ints)) sum above_first) more.here.above;
       left = split_left.left;
       right = split_right.left;
       weights = λ x c.
-          let old = so_far.weights x c in
+          let old = at.so_far.weights x c in
           let split = weight_in_all-split x c in
           let sum_is = weight_in_rows-append sum more.more x c in
           let more_is = more.weights.weights x c in
           omega (arith, ints);
     })
 
-pub sum_all_weights : (whole_left whole_right sum : List EdgeRow) → IsRowSumSoFar whole_left whole_right sum [] [] → HaveRowWeights (weight_in_all whole_left whole_right) sum
+-- where nothing is left to be added, the rows that are left follow
+pub sum_all_weights : (whole_left whole_right sum rs : List EdgeRow) → IsRowSumSoFar whole_left whole_right sum rs [] → HaveRowWeights (weight_in_all whole_left whole_right) (sum ++ rs)
 unfolding weight_in_all weight_in_rows
-sum_all_weights whole_left whole_right sum so_far = record { weights = λ x y. let all = so_far.weights x y in omega (arith, ints) }
+sum_all_weights whole_left whole_right sum rs so_far = record {
+  weights = λ x y.
+      let all = so_far.weights x y in
+      let both = weight_in_rows-append sum rs x y in
+      omega (arith, ints);
+}
+
+pub sum_all_rows : (whole_left whole_right sum rs : List EdgeRow) → IsRowSumSoFar whole_left whole_right sum rs [] → AreRows (sum ++ rs)
+sum_all_rows whole_left whole_right sum rs so_far = rows_behind whole_left whole_right sum rs [] so_far rs so_far.left
 
 -- ---- how far a sum reaches
 

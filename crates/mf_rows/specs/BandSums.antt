@@ -12,7 +12,7 @@ use Rattle.mf_rows.specs.Sums.{HaveRowWeights, StayWithin, weight_in_all}
 
 -- the lowest row of band n of the field
 abbrev pub lowest_of : ℤ → ℤ
-lowest_of n = pos 4031 -ℤ (pos 64 *ℤ n)
+lowest_of n = pos 4079 -ℤ (pos 16 *ℤ n)
 
 -- rows that belong to bands up to band n
 abbrev pub AreUpTo : ℤ → List EdgeRow → Type 0

@@ -1,12 +1,12 @@
--- The bands into which the rows of the field fall: 64 rows each, counted from 0 at the top.
+-- The bands into which the rows of the field fall: 16 rows each, counted from 0 at the top.
 use Rattle.std.specs.Prelude.{ℤ, pos, ◌+ℤ◌, ◌*ℤ◌, ◌≤ℤ◌, All, List}
 use Rattle.std.proofs.Props.{props}
 use Rattle.mf_rows.specs.declared.row.Row.{Row}
 
 -- row y belongs to band n
 pub record IsOfBand (n y : ℤ) : Type 0 where
-  pub top : (y +ℤ (pos 64 *ℤ n)) ≤ℤ pos 4094
-  pub bottom : pos 4031 ≤ℤ (y +ℤ (pos 64 *ℤ n))
+  pub top : (y +ℤ (pos 16 *ℤ n)) ≤ℤ pos 4094
+  pub bottom : pos 4079 ≤ℤ (y +ℤ (pos 16 *ℤ n))
 
 -- rows of band n
 abbrev pub AreOfBand : ℤ → List Row → Type 0

@@ -1,5 +1,5 @@
 -- What is left of two rows, or of two lists of rows, while their sum is made.
-use Rattle.std.specs.Prelude.{◌≡◌, ◌⊎◌, ◌<◌, ◌≤◌, ℤ, pos, negsuc, ◌+ℤ◌, ◌-ℤ◌, ◌≤ℤ◌, All, List, [], ◌∷◌, ◌++◌, length, if◌then◌else◌, Option, Some, None}
+use Rattle.std.specs.Prelude.{◌≡◌, ◌<◌, ◌≤◌, ℤ, pos, negsuc, ◌+ℤ◌, ◌-ℤ◌, ◌≤ℤ◌, All, List, [], ◌∷◌, ◌++◌, length, if◌then◌else◌, Option, Some, None}
 use Rattle.std.specs.Borrow.{Bor}
 use Rattle.std.specs.Ordering.{int_eq}
 use Rattle.mf_geom.specs.Field.{IsInField}
@@ -57,22 +57,6 @@ unless_zero e = if int_eq e.weight (pos 0) then [] else (e ∷ [])
 
 -- ---- rows
 
--- the first row, if there is one, is row y or one below it
-abbrev pub RowsBeginFrom : ℤ → List EdgeRow → Type 0
-RowsBeginFrom y [] = Unit {0}
-RowsBeginFrom y (r ∷ rs) = r.y ≤ℤ y
-
--- the first row is row y
-abbrev pub RowsBeginAt : ℤ → List EdgeRow → Type 0
-RowsBeginAt y [] = ⊥
-RowsBeginAt y (r ∷ rs) = r.y ≡ y
-
--- row y is the highest of two lists of rows
-pub record IsFirstHeight (rs ss : List EdgeRow) (y : ℤ) : Type 0 where
-  pub left : RowsBeginFrom y rs
-  pub right : RowsBeginFrom y ss
-  pub reached : RowsBeginAt y rs ⊎ RowsBeginAt y ss
-
 -- a list has row y alone, or no row
 pub record IsRowAt (y : ℤ) (rs : List EdgeRow) : Type 0 where
   pub rows : AreRowsFrom y rs
@@ -88,7 +72,6 @@ pub record IsSplitAtHeight (rs : List EdgeRow) (y : ℤ) (found others : List Ed
   pub all : rs ≡ found ++ others
   pub here : IsRowAt y found
   pub left : AreRowsFrom (y -ℤ pos 1) others
-  pub shorter : RowsBeginAt y rs → 0 < length found
 
 -- behind rows there is now row y with the weights of two rows together, unless it is blank
 pub record HasRowSum (before : List EdgeRow) (y : ℤ) (rs ss after : List EdgeRow) : Type 0 where

@@ -1,5 +1,5 @@
 //! The sum of two lists of bands.
-ghost use Rattle.std.specs.Prelude.{◌≡◌, ◌≢◌, ◌⊎◌, [], IfOk, IfErr, OnOk, IfSome, IsNone};
+ghost use Rattle.std.specs.Prelude.{◌≡◌, ◌≢◌, ◌⊎◌, [], IfOk, IfErr, OnOk, OnErr, IfSome, IsNone};
 ghost use Rattle.mf_rows.specs.Bands.{rows_in, rows_of_bands};
 ghost use Rattle.mf_rows.specs.BandSums.{EndsStep, IsStep, HasSum};
 ghost use Rattle.mf_rows.specs.Edges.{AreRows};
@@ -11,6 +11,32 @@ use crate::fault::AddFault;
 use crate::row_sum::sum_of_rows;
 use std::alloc::Global;
 use std::sync::Arc;
+
+/// Adds bands to a list of bands, which keeps its bands above and below them as they are. Refused with WeightTooLarge
+/// where a weight would pass 32767 in size; a refusal leaves the list as it was.
+pub(crate) fn add_bands(
+    alloc: Global,
+    bands: &mut Vec<Arc<Band>>,
+    added: &[Arc<Band>],
+) -> Result<(), AddFault>
+    requires bands { AreRows (rows_of_bands bands.old.items) }
+    requires added { AreRows (rows_of_bands added.now) }
+    ensures rows { AreRows (rows_of_bands bands.new.items) }
+    ensures weights { OnOk result (HaveRowWeights (weight_in_all (rows_of_bands bands.old.items) (rows_of_bands added.now)) (rows_of_bands bands.new.items)) }
+    ensures unchanged { OnErr result (bands.new.items ≡ bands.old.items) }
+    ensures too_large { IfErr result (λ fault. fault ≢ AddFault.OutOfMemory → IsUnlawfulSomewhere (weight_in_all (rows_of_bands bands.old.items) (rows_of_bands added.now))) }
+{
+    let (Some(first), Some(last)) = (added.first(), added.last()) else {
+        return Ok(());
+    };
+    let start = count_up_to(bands, first.number - 1);
+    let (_, rest) = bands.split_at(start);
+    let (reached, _) = rest.split_at(count_up_to(rest, last.number));
+    let sum = sum_of_bands(alloc, reached, added)?;
+    let end = start + reached.len();
+    bands.splice(start..end, sum)?;
+    Ok(())
+}
 
 /// The bands of two lists together; bands of the field that only one of them has are shared. Refused with
 /// WeightTooLarge where a weight would pass 32767 in size.

@@ -14,9 +14,9 @@ use std::alloc::Global;
 use std::mem::replace;
 use std::sync::Arc;
 
-/// Rows of the field in a band: as many as make copying a band and copying the list of bands cost about the
-/// same in a tall picture.
-const BAND_HEIGHT: i32 = 64;
+/// Rows of the field in a band. A change makes the bands anew that it touches and a copy of a picture copies the list of
+/// them, so few rows make changes cheap and many make copies cheap.
+const BAND_HEIGHT: i32 = 16;
 
 /// The row y, where it is not blank.
 pub(crate) fn find_row(bands: &[Arc<Band>], y: i32) -> Option<&Row>
@@ -48,7 +48,7 @@ fn find_row_in(rows: &[Row], y: i32) -> Option<&Row>
 }
 
 /// How many of these rows, the first ones, stand above row y.
-fn count_rows_above(rows: &[Row], y: i32) -> usize
+pub(crate) fn count_rows_above(rows: &[Row], y: i32) -> usize
     requires { AreRows (edge_rows rows.now) }
     ensures within { result ≤ length rows.now }
     ensures above { AreAbove y (edge_rows (take result rows.now)) }
@@ -90,7 +90,7 @@ pub(crate) fn rows_of(alloc: Global, bands: &[Arc<Band>]) -> Result<Vec<Row>, Ou
 }
 
 /// Adds rows to a list of rows, which share their edges with these.
-fn push_shared_rows(rows: &mut Vec<Row>, others: &[Row]) -> Result<(), OutOfMemory>
+pub(crate) fn push_shared_rows(rows: &mut Vec<Row>, others: &[Row]) -> Result<(), OutOfMemory>
     ensures { OnOk result (edge_rows rows.new.items ≡ edge_rows rows.old.items ++ edge_rows others.now) }
 {
     rows.reserve(others.len())?;
@@ -124,6 +124,7 @@ pub(crate) fn push_rows(
     ensures { OnOk result (rows_of_bands bands.new.items ≡ rows_of_bands bands.old.items ++ edge_rows rows.items) }
 {
     let mut open = Vec::new(alloc);
+    open.reserve(rows.len().min(BAND_HEIGHT as usize))?;
     let mut number = 0;
     for row in rows {
         let own = band_of(row.y);

@@ -1,10 +1,10 @@
 //! Pictures.
-ghost use Rattle.std.specs.Prelude.{◌≡◌, ◌≢◌, [], IsNone, IfSome, IfOk, IfErr, IsTrue, slice_get, ◌↔◌};
+ghost use Rattle.std.specs.Prelude.{◌≡◌, ◌≢◌, [], IsNone, IfSome, IfOk, IfErr, OnOk, OnErr, IsTrue, slice_get, ◌↔◌};
 ghost use Rattle.mf_rows.specs.Bands.{edge_rows};
 ghost use Rattle.mf_rows.specs.Edges.{AreRows};
 
 use crate::band::Band;
-use crate::band_sum::sum_of_bands;
+use crate::band_sum::add_bands;
 use crate::bands::{find_row, push_rows, push_shared, rows_of};
 use crate::bounds::Box4;
 use crate::corner::{Corner, rows_of_corners};
@@ -149,8 +149,21 @@ impl Picture {
         ensures lawful { IfOk result IsPicture }
         ensures too_large { IfErr result (λ fault. fault ≢ AddFault.OutOfMemory → IsUnlawfulSomewhere (sum_at self.now other.now)) }
     {
-        let bands = sum_of_bands(alloc, &self.bands, &other.bands)?;
-        Ok(Picture { bands })
+        let mut sum = self.copy(alloc)?;
+        sum.add(alloc, other)?;
+        Ok(sum)
+    }
+
+    /// Adds another picture to this one: the weight of each pixel is then the sum of both, and the other picture is
+    /// unchanged. Bands that only one of them has stay as they are, or are shared. Refusals WeightTooLarge (12), where a
+    /// weight would pass 32767 in size, and OutOfMemory (14), which leave it as it was.
+    pub fn add(&mut self, alloc: Global, other: &Picture) -> Result<(), AddFault>
+        ensures weights { OnOk result (HasWeights (sum_at self.old other.now) self.new) }
+        ensures unchanged { OnErr result (self.new ≡ self.old) }
+        ensures lawful { OnOk result (IsPicture self.new) }
+        ensures too_large { IfErr result (λ fault. fault ≢ AddFault.OutOfMemory → IsUnlawfulSomewhere (sum_at self.old other.now)) }
+    {
+        add_bands(alloc, &mut self.bands, &other.bands)
     }
 
     /// The picture in which each weight is mapped by itself; this one is unchanged. Weight 0 must stay 0,
@@ -227,8 +240,22 @@ impl Picture {
         ensures lawful { IfOk result IsPicture }
         ensures too_large { IfErr result (λ fault. fault ≢ AddFault.OutOfMemory → IsUnlawfulSomewhere (with_corners_at self.now corners.items)) }
     {
+        let mut new = self.copy(alloc)?;
+        new.add_corners(alloc, corners)?;
+        Ok(new)
+    }
+
+    /// Adds corners to the picture, as `with_corners` does. Bands that no corner reaches stay as they are. Refusals
+    /// WeightTooLarge (12) and OutOfMemory (14), as there, which leave it as it was.
+    pub fn add_corners(&mut self, alloc: Global, corners: Vec<Corner>) -> Result<(), AddFault>
+        requires { AreCorners corners.items }
+        ensures weights { OnOk result (HasWeights (with_corners_at self.old corners.items) self.new) }
+        ensures unchanged { OnErr result (self.new ≡ self.old) }
+        ensures lawful { OnOk result (IsPicture self.new) }
+        ensures too_large { IfErr result (λ fault. fault ≢ AddFault.OutOfMemory → IsUnlawfulSomewhere (with_corners_at self.old corners.items)) }
+    {
         let added = Picture::from_rows(alloc, rows_of_corners(alloc, corners)?)?;
-        self.plus(alloc, &added)
+        self.add(alloc, &added)
     }
 
     /// The picture of these rows.

@@ -1,17 +1,17 @@
 //! The sum of two lists of rows.
-ghost use Rattle.std.specs.Prelude.{◌≡◌, ◌≢◌, ◌∷◌, ◌++◌, [], IfOk, IfErr, OnOk, IfSome, IsNone};
+ghost use Rattle.std.specs.Prelude.{◌≢◌, ◌∷◌, [], IfOk, IfErr, OnOk};
 ghost use Rattle.mf_rows.specs.Bands.{edge_row, edge_rows};
 ghost use Rattle.mf_rows.specs.Edges.{AreEdges, AreRows, AreRowsFrom};
-ghost use Rattle.mf_rows.specs.Merging.{IsFirstHeight, IsRowAt, row_found, IsSplitAtHeight, HasRowSum, IsUnlawfulInRow};
+ghost use Rattle.mf_rows.specs.Merging.{IsRowAt, row_found, IsSplitAtHeight, HasRowSum, IsUnlawfulInRow};
 ghost use Rattle.mf_rows.specs.Reaches.{HasReach};
 ghost use Rattle.mf_rows.specs.Sums.{weight_in_all, weight_in_both, HaveRowWeights, HaveWeights, StayWithin, IsUnlawfulColumn, IsUnlawfulSomewhere};
 
+use crate::bands::{count_rows_above, push_shared_rows};
 use crate::edge::Edge;
 use crate::edge_sum::{sum_of_edges, with_changes};
 use crate::fault::AddFault;
 use crate::field::MAX_WEIGHT;
 use crate::row::Row;
-use mf_geom::OutOfMemory;
 use std::alloc::Global;
 
 /// Most edges of a row whose places in another are found by halving; with more of them the rows are merged.
@@ -30,26 +30,15 @@ pub(crate) fn sum_of_rows(alloc: Global, left: &[Row], right: &[Row]) -> Result<
     let mut sum = Vec::new(alloc);
     sum.reserve(left.len() + right.len())?;
     let (mut left, mut right) = (left, right);
-    while let Some(y) = first_height(left, right) {
-        let (row_left, rest_left) = split_at_height(left, y);
-        let (row_right, rest_right) = split_at_height(right, y);
-        push_sum(alloc, &mut sum, y, row_left, row_right)?;
+    while let Some((added, rest_right)) = right.split_first() {
+        let (above, others) = left.split_at(count_rows_above(left, added.y));
+        push_shared_rows(&mut sum, above)?;
+        let (row, rest_left) = split_at_height(others, added.y);
+        push_sum(alloc, &mut sum, row, added)?;
         (left, right) = (rest_left, rest_right);
     }
+    push_shared_rows(&mut sum, left)?;
     Ok(sum)
-}
-
-/// The height of the first row of two lists.
-fn first_height(left: &[Row], right: &[Row]) -> Option<i32>
-    ensures first { IfSome result (IsFirstHeight (edge_rows left.now) (edge_rows right.now)) }
-    ensures none_left { IsNone result → left.now ≡ [] }
-    ensures none_right { IsNone result → right.now ≡ [] }
-{
-    match (left.first(), right.first()) {
-        (Some(l), Some(r)) => Some(l.y.max(r.y)),
-        (Some(row), None) | (None, Some(row)) => Some(row.y),
-        (None, None) => None,
-    }
 }
 
 /// The first row, where it has this height, and the rows below this height.
@@ -63,54 +52,42 @@ fn split_at_height(rows: &[Row], y: i32) -> (Option<&Row>, &[Row])
     }
 }
 
-/// Adds the sum of what two lists have in row y to a list of rows, unless it is blank.
+/// Adds the sum of a row and of the row of this height that is added to it, where there is one, to a list of rows,
+/// unless it is blank.
 fn push_sum(
     alloc: Global,
     sum: &mut Vec<Row>,
-    y: i32,
     left: Option<&Row>,
-    right: Option<&Row>,
+    right: &Row,
 ) -> Result<(), AddFault>
-    requires left { IsRowAt y (row_found left) }
-    requires right { IsRowAt y (row_found right) }
-    ensures pushed { OnOk result (HasRowSum (edge_rows sum.old.items) y (row_found left.entry) (row_found right.entry) (edge_rows sum.new.items)) }
-    ensures too_large { IfErr result (λ fault. fault ≢ AddFault.OutOfMemory → IsUnlawfulInRow (weight_in_all (row_found left.entry) (row_found right.entry)) y) }
+    requires left { IsRowAt right.now.y (row_found left) }
+    requires right { IsRowAt right.now.y (edge_row right.now ∷ []) }
+    ensures pushed { OnOk result (HasRowSum (edge_rows sum.old.items) right.now.y (row_found left.entry) (edge_row right.now ∷ []) (edge_rows sum.new.items)) }
+    ensures too_large { IfErr result (λ fault. fault ≢ AddFault.OutOfMemory → IsUnlawfulInRow (weight_in_all (row_found left.entry) (edge_row right.now ∷ [])) right.now.y) }
 {
-    match (left, right) {
-        (None, _) => Ok(push_shared(sum, right)?),
-        (_, None) => Ok(push_shared(sum, left)?),
-        (Some(left), Some(right)) => push_sum_of_both(alloc, sum, y, left, right),
+    match left {
+        Some(left) => push_sum_of_both(alloc, sum, left, right),
+        None => Ok(sum.push(right.share()?)?),
     }
 }
 
-/// Adds a row, where there is one, to a list of rows, which shares it.
-fn push_shared(rows: &mut Vec<Row>, row: Option<&Row>) -> Result<(), OutOfMemory>
-    ensures { OnOk result (edge_rows rows.new.items ≡ edge_rows rows.old.items ++ row_found row.entry) }
-{
-    if let Some(row) = row {
-        rows.push(row.share()?)?;
-    }
-    Ok(())
-}
-
-/// Adds the sum of two rows y to a list of rows, unless it is blank.
+/// Adds the sum of two rows of one height to a list of rows, unless it is blank.
 fn push_sum_of_both(
     alloc: Global,
     sum: &mut Vec<Row>,
-    y: i32,
     left: &Row,
     right: &Row,
 ) -> Result<(), AddFault>
-    requires left { IsRowAt y (edge_row left.now ∷ []) }
-    requires right { IsRowAt y (edge_row right.now ∷ []) }
-    ensures pushed { OnOk result (HasRowSum (edge_rows sum.old.items) y (edge_row left.now ∷ []) (edge_row right.now ∷ []) (edge_rows sum.new.items)) }
-    ensures too_large { IfErr result (λ fault. fault ≢ AddFault.OutOfMemory → IsUnlawfulInRow (weight_in_all (edge_row left.now ∷ []) (edge_row right.now ∷ [])) y) }
+    requires left { IsRowAt right.now.y (edge_row left.now ∷ []) }
+    requires right { IsRowAt right.now.y (edge_row right.now ∷ []) }
+    ensures pushed { OnOk result (HasRowSum (edge_rows sum.old.items) right.now.y (edge_row left.now ∷ []) (edge_row right.now ∷ []) (edge_rows sum.new.items)) }
+    ensures too_large { IfErr result (λ fault. fault ≢ AddFault.OutOfMemory → IsUnlawfulInRow (weight_in_all (edge_row left.now ∷ []) (edge_row right.now ∷ [])) right.now.y) }
 {
     let (edges, reach) = sum_of_both(alloc, left, right)?;
     if edges.is_empty() {
         return Ok(());
     }
-    Ok(sum.push(Row::with_reach(alloc, y, edges, reach)?)?)
+    Ok(sum.push(Row::with_reach(alloc, right.y, edges, reach)?)?)
 }
 
 /// The edges of two rows together, and their reach, where it is known. Refused with WeightTooLarge where a weight

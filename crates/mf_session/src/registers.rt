@@ -1,7 +1,9 @@
 //! The registers `a` to `z`, each of which keeps a picture.
-ghost use Rattle.std.specs.Prelude.{◌≡◌, ◌<◌, [], IfOk, replicate, slice_index_or, slice_set};
+ghost use Rattle.std.specs.Prelude.{◌≡◌, ◌≢◌, ◌<◌, [], None, Some, Err, IfOk, IfErr, OnOk, OnErr, replicate, slice_index_or, slice_set};
+ghost use Rattle.mf_ops.specs.Step.{stepped, fault_of};
 
 use mf_geom::OutOfMemory;
+use mf_ops::{Op, OpFault, apply};
 use mf_rows::Picture;
 use std::alloc::Global;
 use std::marker::Model;
@@ -47,11 +49,15 @@ impl Registers {
         &self.pictures[letter as usize]
     }
 
-    /// Gives a register another picture.
-    pub fn put(&mut self, letter: u8, picture: Picture)
+    /// Performs an operation on the picture of a register. Refusals are those of `mf_ops::apply`, and change nothing.
+    pub fn apply(&mut self, alloc: Global, letter: u8, op: &Op) -> Result<(), OpFault>
         requires { letter < COUNT }
-        ensures { self.new ≡ slice_set self.old letter picture }
+        ensures step { OnOk result (self.new ≡ slice_set self.old letter (stepped (slice_index_or self.old letter []) op.now)) }
+        ensures unchanged { OnErr result (self.new ≡ self.old) }
+        ensures accepted { OnOk result (fault_of (slice_index_or self.old letter []) op.now ≡ None) }
+        ensures refused { IfErr result (λ fault. fault ≢ OpFault.OutOfMemory → fault_of (slice_index_or self.old letter []) op.now ≡ Some fault) }
+        ensures out_of_field { fault_of (slice_index_or self.old letter []) op.now ≡ Some OpFault.OutOfField → result ≡ Err OpFault.OutOfField }
     {
-        self.pictures[letter as usize] = picture;
+        apply(alloc, &mut self.pictures[letter as usize], op)
     }
 }

@@ -95,7 +95,7 @@ fn put_post(out: &mut Spelling, words: &FontWords, bounds: &CharacterBox, place:
     ensures held { (text : List ℕ) → Holds out.old text → Holds out.new (text ++ post words.now bounds.now place) }
     ensures room { out.new.room ≡ out.old.room }
 {
-    out.put(&[POST]);
+    out.put_byte(POST);
     out.put_unsigned(place);
     out.put_word(words.ds);
     out.put_unsigned(words.cs);
@@ -114,9 +114,9 @@ impl Spelling {
         ensures room { self.new.room ≡ self.old.room }
     {
         let before = place as usize + self.length() + ENDING;
-        self.put(&[POST_POST]);
+        self.put_byte(POST_POST);
         self.put_unsigned(place);
-        self.put(&[GF_ID]);
+        self.put_byte(GF_ID);
         let padding = [PADDING; 7];
         self.put(&padding[..7 - (before + 3) % 4]);
     }

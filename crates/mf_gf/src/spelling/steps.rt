@@ -1,5 +1,5 @@
 //! How bytes are written.
-ghost use Rattle.std.specs.Prelude.{◌≡◌, ◌↔◌, ◌⊎◌, ◌<◌, ◌≤◌, ◌^◌, ◌++◌, Err, IfErr, IfOk, List, ℕ, [], length, pos};
+ghost use Rattle.std.specs.Prelude.{◌≡◌, ◌↔◌, ◌⊎◌, ◌+◌, ◌<◌, ◌≤◌, ◌^◌, ◌++◌, ◌∷◌, Err, IfErr, IfOk, IsTrue, List, ℕ, [], false, length, pos};
 ghost use Rattle.byteorder.specs.Endian.{big_bytes};
 ghost use Rattle.mf_gf.specs.Numbers.{word};
 ghost use Rattle.mf_gf.specs.Spellings.{Holds};
@@ -31,18 +31,41 @@ impl Spelling {
         self.length
     }
 
+    /// Counts more bytes. True where they are to be kept: they have room, and memory was not wanting before.
+    fn count(&mut self, more: usize) -> bool
+        requires { more ≤ 2 ^ 31 }
+        ensures counted { self.old.length ≤ self.old.room → self.new.length ≡ self.old.length + more }
+        ensures beyond { self.old.room < self.old.length → self.new.room < self.new.length }
+        ensures kept { self.new.bytes ≡ self.old.bytes }
+        ensures room { self.new.room ≡ self.old.room }
+        ensures wanting { self.new.is_wanting ≡ self.old.is_wanting }
+        ensures answer { IsTrue result ↔ ((self.new.length ≤ self.new.room) × (self.new.is_wanting ≡ false)) }
+    {
+        if self.length > self.room {
+            return false;
+        }
+        self.length += more;
+        self.length <= self.room && !self.is_wanting
+    }
+
     /// Appends bytes.
     pub(crate) fn put(&mut self, bytes: &[u8])
         requires { length bytes.now ≤ 2 ^ 31 }
         ensures held { (text : List ℕ) → Holds self.old text → Holds self.new (text ++ bytes.now) }
         ensures room { self.new.room ≡ self.old.room }
     {
-        if self.length > self.room {
-            return;
-        }
-        self.length += bytes.len();
-        if self.length <= self.room && !self.is_wanting {
+        if self.count(bytes.len()) {
             self.is_wanting = self.bytes.extend_from_slice(bytes).is_err();
+        }
+    }
+
+    /// Appends one byte.
+    pub(crate) fn put_byte(&mut self, byte: u8)
+        ensures held { (text : List ℕ) → Holds self.old text → Holds self.new (text ++ byte ∷ []) }
+        ensures room { self.new.room ≡ self.old.room }
+    {
+        if self.count(1) {
+            self.is_wanting = self.bytes.push(byte).is_err();
         }
     }
 

@@ -1,7 +1,7 @@
 //! Opening a picture, and accepting what comes to it.
-ghost use Rattle.std.specs.Prelude.{◌≡◌, ◌<◌, ◌^◌, [], ◌∷◌, ◌++◌, false, None, IfOk};
+ghost use Rattle.std.specs.Prelude.{◌≡◌, ◌≢◌, ◌<◌, ◌^◌, [], ◌∷◌, ◌++◌, false, None, Some, Err, IfOk, IfErr, OnOk, MatchResult};
 ghost use Rattle.left_right.specs.Sides.{view};
-ghost use Rattle.mf_ops.specs.Step.{stepped, fault_of};
+ghost use Rattle.mf_ops.specs.Step.{fault_of};
 ghost use Rattle.mf_live.specs.Books.{most};
 ghost use Rattle.mf_live.specs.Entries.{entry, pic, rev, next, is_closed, Operation, End};
 ghost use Rattle.mf_live.specs.Holders.{name, accepted, published};
@@ -15,7 +15,7 @@ use crate::notice::Notice;
 use crate::rule::{Accepting, Accepts, Ends, Names, Swap};
 use crate::version::Version;
 use mf_geom::OutOfMemory;
-use mf_ops::Op;
+use mf_ops::{Op, OpFault, apply};
 use mf_rows::Picture;
 use std::alloc::Global;
 use std::marker::Brand;
@@ -83,20 +83,22 @@ impl Holder {
         }
     }
 
-    /// Accepts an operation, with the picture after it.
-    pub(crate) fn accept(&mut self, op: &Op, new: Picture)
+    /// Accepts an operation, which changes the picture. A refusal changes nothing.
+    pub(crate) fn accept(&mut self, alloc: Global, op: &Op) -> Result<(), OpFault>
         requires open { is_closed (accepted self.old) ≡ false }
         requires few { rev (accepted self.old) < most }
-        requires allowed { fault_of (pic (accepted self.old)) op.now ≡ None }
-        requires step { new ≡ stepped (pic (accepted self.old)) op.now }
         ensures name { name self.new ≡ name self.old }
-        ensures accepted { accepted self.new ≡ accepted self.old ++ entry (next (published self.old)) (Operation op.now) ∷ [] }
+        ensures accepted { MatchResult result (λ _. accepted self.new ≡ accepted self.old ++ entry (next (published self.old)) (Operation op.now) ∷ []) (λ _. accepted self.new ≡ accepted self.old) }
         ensures published { published self.new ≡ published self.old }
+        ensures allowed { OnOk result (fault_of (pic (accepted self.old)) op.now ≡ None) }
+        ensures refused { IfErr result (λ fault. fault ≢ OpFault.OutOfMemory → fault_of (pic (accepted self.old)) op.now ≡ Some fault) }
+        ensures out_of_field { fault_of (pic (accepted self.old)) op.now ≡ Some OpFault.OutOfField → result ≡ Err OpFault.OutOfField }
     {
+        apply(alloc, &mut self.working, op)?;
         note_operation::<Brand>(&mut self.swap, op);
         self.unwritten += 1;
-        self.working = new;
         self.revision += 1;
+        Ok(())
     }
 
     /// Sets the end mark.

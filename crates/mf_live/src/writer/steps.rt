@@ -12,7 +12,7 @@ use crate::holder::Holder;
 use crate::notice::Notice;
 use core::mem::replace_with;
 use mf_geom::OutOfMemory;
-use mf_ops::{Op, OpFault, after};
+use mf_ops::{Op, OpFault};
 use mf_rows::Picture;
 use std::alloc::Global;
 use std::sync::Wait;
@@ -45,11 +45,8 @@ impl Writer {
         if self.holder.revision == self.max_ops {
             return Err((op, Fault::TooManyOperations));
         }
-        match after(alloc, &self.holder.working, &op) {
-            Ok(new) => {
-                self.holder.accept(&op, new);
-                Ok(())
-            }
+        match self.holder.accept(alloc, &op) {
+            Ok(()) => Ok(()),
             Err(fault) => Err((op, Fault::Refused(fault))),
         }
     }

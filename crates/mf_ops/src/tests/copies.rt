@@ -1,8 +1,8 @@
-//! Copies of operations.
+//! Copies of operations, and operations on a picture itself.
 
 use super::{RECTANGLE, contour, filled, walk};
 use crate::cull::Cull;
-use crate::op::{Op, after};
+use crate::op::{Op, after, apply};
 use crate::quarter::Quarter;
 use crate::scale::Scale;
 use crate::sign::Sign;
@@ -43,6 +43,10 @@ fn copies_have_the_same_effect(rt: HostRuntime) -> Result<(), Fail> {
         let same = after(alloc, &picture, &copy).expect(&rt, "the copy is accepted");
         assert_eq!(rt; new.total(), *total, "{op:?}");
         assert!(rt; new.equal(&same), "the copy of {op:?}");
+
+        let mut changed = picture.copy(alloc)?;
+        apply(alloc, &mut changed, op).expect(&rt, "the operation is performed");
+        assert!(rt; changed.equal(&new), "{op:?} on the picture itself");
     }
     Ok(())
 }

@@ -1,7 +1,7 @@
 //! Pictures added to pictures, and subtracted from them.
 
 use super::{PIXEL, RECTANGLE, assert_runs, filled, run};
-use crate::op::{Op, OpFault, after};
+use crate::op::{Op, OpFault, after, apply};
 use crate::sign::Sign;
 use mf_rows::Picture;
 use std::alloc::{AllocError, Global};
@@ -31,6 +31,17 @@ fn assert_too_large(rt: &impl Abort, alloc: Global, picture: &Picture, total: i6
         "twice {total}"
     );
     assert_eq!(rt; picture.total(), total, "the picture is unchanged");
+
+    let mut same = picture.copy(alloc).expect(rt, "a copy");
+    let twice = Op::Also(picture.copy(alloc).expect(rt, "a copy"), Sign::Plus);
+    assert!(rt;
+        matches!(
+            apply(alloc, &mut same, &twice),
+            Err(OpFault::WeightTooLarge)
+        ),
+        "twice {total} on the picture itself"
+    );
+    assert!(rt; same.equal(picture), "the picture itself is unchanged");
 }
 
 /// A pixel added to itself 13 times.

@@ -37,21 +37,21 @@ fn count_owned(picture: &Picture, owners: usize) -> usize {
 #[test]
 fn copies_share_all_bands(rt: HostRuntime) -> Result<(), Fail> {
     let picture = tall(rt.alloc())?;
-    assert_eq!(rt; picture.bands.len(), 128, "8190 rows in bands of 64");
-    assert_eq!(rt; count_owned(&picture, 1), 128, "bands of one picture");
+    assert_eq!(rt; picture.bands.len(), 512, "8190 rows in bands of 16");
+    assert_eq!(rt; count_owned(&picture, 1), 512, "bands of one picture");
     let copy = picture.copy(rt.alloc())?;
-    assert_eq!(rt; count_owned(&copy, 2), 128, "bands of two pictures");
+    assert_eq!(rt; count_owned(&copy, 2), 512, "bands of two pictures");
     Ok(())
 }
 
 #[test]
 fn changes_share_the_bands_that_they_do_not_reach(rt: HostRuntime) -> Result<(), Fail> {
     let picture = tall(rt.alloc())?;
-    // The second band begins at y = 4030.
+    // The second band begins at y = 4078.
     for (bottom, top, made) in [
         (0, 1, 1),
-        (4030, 4031, 1),
-        (4030, 4032, 2),
+        (4078, 4079, 1),
+        (4078, 4080, 2),
         (-4095, -4094, 1),
     ] {
         let rectangle = make_rectangle(1, bottom, 5, top, 2);
@@ -59,7 +59,7 @@ fn changes_share_the_bands_that_they_do_not_reach(rt: HostRuntime) -> Result<(),
         let new = picture.with_corners(rt.alloc(), corners)?;
         assert_eq!(rt;
             new.bands.len(),
-            128,
+            512,
             "bands with rows {bottom} to {top} changed"
         );
         assert_eq!(rt;
@@ -69,15 +69,29 @@ fn changes_share_the_bands_that_they_do_not_reach(rt: HostRuntime) -> Result<(),
         );
         assert_eq!(rt;
             count_owned(&new, 2),
-            128 - made,
+            512 - made,
             "bands shared beside them"
         );
     }
     assert_eq!(rt;
         count_owned(&picture, 1),
-        128,
+        512,
         "bands when the new pictures are gone"
     );
+    Ok(())
+}
+
+#[test]
+fn what_is_added_to_keeps_the_bands_that_are_not_reached(rt: HostRuntime) -> Result<(), Fail> {
+    let mut picture = tall(rt.alloc())?;
+    let copy = picture.copy(rt.alloc())?;
+    let across = make_rectangle(1, 4078, 5, 4080, 2);
+    picture.add_corners(rt.alloc(), corners_of(&rt, rt.alloc(), &[across])?)?;
+    assert_eq!(rt; picture.bands.len(), 512, "bands after the rectangle");
+    assert_eq!(rt; count_owned(&picture, 1), 2, "bands made anew");
+    assert_eq!(rt; count_owned(&picture, 2), 510, "bands that are kept");
+    assert_eq!(rt; copy.total(), 24570, "the copy is as it was");
+    assert_eq!(rt; picture.total(), 24586, "two rows of four pixels more");
     Ok(())
 }
 
@@ -90,7 +104,7 @@ fn sums_share_the_bands_that_only_one_has(rt: HostRuntime) -> Result<(), Fail> {
         &rt,
         rt.alloc(),
         &[
-            make_rectangle(1, 4000, 5, 4035, 2),
+            make_rectangle(1, 4070, 5, 4083, 2),
             make_rectangle(1, -4095, 5, -4094, 2),
         ],
     )?;
@@ -100,7 +114,7 @@ fn sums_share_the_bands_that_only_one_has(rt: HostRuntime) -> Result<(), Fail> {
     assert_eq!(rt; count_owned(&sum, 1), 3, "bands made for the sum");
     assert_eq!(rt;
         count_owned(&tall, 2),
-        125,
+        509,
         "bands shared with the tall picture"
     );
     let alone = few.plus(rt.alloc(), &blank)?;

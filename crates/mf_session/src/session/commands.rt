@@ -1,5 +1,5 @@
 //! How a session performs commands.
-ghost use Rattle.std.specs.Prelude.{◌≡◌, IfOk, OnErr};
+ghost use Rattle.std.specs.Prelude.{◌≡◌, IfOk, IsOk, OnErr};
 ghost use Rattle.mf_text.specs.Registers.{HasNames, IsSource};
 ghost use Rattle.mf_session.specs.Answers.{ProofAnswers, total_line};
 ghost use Rattle.mf_session.specs.Sessions.{IsAnsweredTo, StandsFor, limits, name};
@@ -26,6 +26,7 @@ impl Session {
     ) -> Result<Vec<u8>, OutOfMemory>
         requires { HasNames command }
         ensures answer { IfOk result (λ text. (s : State) → StandsFor self.old s → IsAnsweredTo self.old s command text.items self.new) }
+        ensures nothing { command ≡ commands.Nothing → IsOk result }
         ensures unchanged { OnErr result ((s : State) → StandsFor self.old s → StandsFor self.new s) }
         ensures limits { limits self.new ≡ limits self.old }
         ensures name { name self.new ≡ name self.old }

@@ -15,7 +15,7 @@ use crate::refusal::{Refusal, refused};
 use crate::registers::Registers;
 use mf_geom::OutOfMemory;
 use mf_live::{Desk, Fault, open_picture};
-use mf_ops::{Op, OpFault, Sign, after};
+use mf_ops::{Op, OpFault, Sign};
 use mf_rows::Picture;
 use mf_text::{Name, Source};
 use std::alloc::Global;
@@ -127,11 +127,8 @@ impl Variables {
         ensures max_ops { max_ops self.new ≡ max_ops self.old }
         ensures name { name self.new ≡ name self.old }
     {
-        match after(alloc, self.registers.picture(letter), &op) {
-            Ok(picture) => {
-                self.registers.put(letter, picture);
-                Ok(Vec::new(alloc))
-            }
+        match self.registers.apply(alloc, letter, &op) {
+            Ok(()) => Ok(Vec::new(alloc)),
             Err(fault) => refused_operation(alloc, Fault::Refused(fault)),
         }
     }

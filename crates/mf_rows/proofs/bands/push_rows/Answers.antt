@@ -10,7 +10,7 @@ use Rattle.mf_rows.proofs.bands.push_rows.Goals.{then-own-number+in_ok-close_ban
 
 pub loop-row-init : goal.loop-row-init
 loop-row-init c =
-    rw (c.new-open.ensures.items, c.into_iter-row-iterator.ensures.into_iter_gives.0)
+    rw (c.in_ok-reserve.ensures.items, c.new-open.ensures.items, c.into_iter-row-iterator.ensures.into_iter_gives.0)
     record { same = refl; open_of_band = All-nil (λ row. IsOfBand (pos 0) row.y); left = All-rows (pos 4094) c.args.rows.items c.requires.rows }
 
 pub band_of-own-requires : goal.band_of-own-requires

@@ -19,7 +19,7 @@ loop-down-init c =
     let top : to_z w32 (of_z w32 c.args.top) ≡ c.args.top = omega (arith, ints) in
     let all : c.args.top -ℤ pos 0 ≡ c.args.top = omega (arith, ints) in
     record {
-      strip = rw (top, all) (no_strip _ c.args.edges.now c.args.top c.args.top c.requires.rows (omega (arith, ints)) (λ lt. absurd (omega (arith, ints, lt))));
+      strip = rw (c.in_ok-reserve.ensures.items, top, all) (no_strip _ c.args.edges.now c.args.top c.args.top c.requires.rows (omega (arith, ints)) (λ lt. absurd (omega (arith, ints, lt))));
       least = omega (arith, ints);
       greatest = omega (arith, ints, c.requires.order);
     }

@@ -1,36 +1,60 @@
-use Rattle.std.proofs.Common.{◌≡◌, to_z, of_z, w32, refl, arith}
+use Rattle.std.proofs.Common.{◌≡◌, to_z, of_z, w32, arith}
 use Rattle.std.proofs.lemmas.Int.{ints}
+use Rattle.std.proofs.lemmas.List.{nil_from_length}
 use Rattle.std.proofs.lemmas.Result.{err_from_is_err_and}
 use Rattle.mf_rows.specs.Bands.{edge_rows}
-use Rattle.mf_rows.proofs.RowSums.{sum_none, sum_more, sum_all_weights, unlawful_somewhere, stay_within}
+use Rattle.mf_rows.proofs.RowSums.{sum_none, rows_left, rest_from, added_split, sum_with_above, sum_more, sum_all_rows, sum_all_weights, unlawful_somewhere, stay_within}
 use Rattle.mf_rows.proofs.row_sum.sum_of_rows.Goals as goal
 
-pub loop-y-init : goal.loop-y-init
-loop-y-init c = rw (c.in_ok-reserve.ensures.items, c.new-sum.ensures.items) (sum_none (edge_rows c.args.left.now) (edge_rows c.args.right.now) c.requires.left c.requires.right)
+pub loop-added-init : goal.loop-added-init
+loop-added-init c = rw (c.in_ok-reserve.ensures.items, c.new-sum.ensures.items) (sum_none (edge_rows c.args.left.now) (edge_rows c.args.right.now) c.requires.left c.requires.right)
+
+pub count_rows_above-requires : goal.count_rows_above-requires
+count_rows_above-requires c = rows_left _ _ _ _ _ c.loop-added.invariant
+
+pub split_at_height-requires : goal.split_at_height-requires
+split_at_height-requires c =
+    let r = c.in-Some.added.now in
+    let y_is : to_z w32 (of_z w32 r.y) ≡ r.y = omega (arith, ints) in
+    let above = rw y_is at c.count_rows_above.ensures.above in
+    let below = rw y_is at c.count_rows_above.ensures.others in
+    rw (y_is, c.split_at.ensures.back) (rest_from _ _ _ c.loop-added.left.now c.loop-added.right.now c.loop-added.invariant r c.in-Some.rest_right.now c.in-Some.ensures.cases.0 _ above below)
 
 pub returns-in_err-push_sum-clause-too_large : goal.returns-in_err-push_sum-clause-too_large
 returns-in_err-push_sum-clause-too_large c =
-    let y_is : to_z w32 (of_z w32 c.in-Some.y) ≡ c.in-Some.y = omega (arith, ints) in
-    let left = rw y_is at c.split_at_height.ensures in
-    let right = rw y_is at c.split_at_height-in-Some.ensures in
-    let unlawful = rw y_is at c.in_err-push_sum.ensures.too_large in
+    let r = c.in-Some.added.now in
+    let y_is : to_z w32 (of_z w32 r.y) ≡ r.y = omega (arith, ints) in
+    let above = rw y_is at c.count_rows_above.ensures.above in
+    let below = rw y_is at c.count_rows_above.ensures.others in
+    let left = rw (y_is, c.split_at.ensures.back) at c.split_at_height.ensures in
+    let right = added_split _ _ _ c.loop-added.left.now c.loop-added.right.now c.loop-added.invariant r c.in-Some.rest_right.now c.in-Some.ensures.cases.0 _ above below in
+    let so_far = sum_with_above _ _ _ c.loop-added.left.now c.loop-added.right.now c.loop-added.invariant r c.in-Some.rest_right.now c.in-Some.ensures.cases.0 _ above below in
     let p = err_from_is_err_and c.from_residual-in_err-push_sum.result c.from_residual-in_err-push_sum.ensures.1 in
-    rw (p.1, p.2) (λ fault. unlawful_somewhere _ _ _ _ _ c.loop-y.invariant c.in-Some.y c.in-Some.ensures.first _ _ _ _ left right (unlawful fault))
+    rw (p.1, p.2) (λ fault. unlawful_somewhere _ _ _ _ _ r.y so_far _ _ _ _ left right (c.in_err-push_sum.ensures.too_large fault))
 
-pub loop-y-preserved : goal.loop-y-preserved
-loop-y-preserved c =
-    let y_is : to_z w32 (of_z w32 c.in-Some.y) ≡ c.in-Some.y = omega (arith, ints) in
-    let left = rw y_is at c.split_at_height.ensures in
-    let right = rw y_is at c.split_at_height-in-Some.ensures in
-    sum_more _ _ _ _ _ c.loop-y.invariant c.in-Some.y c.in-Some.ensures.first _ _ _ _ left right _ (rw y_is at c.in_ok-push_sum.ensures.pushed)
+pub loop-added-preserved : goal.loop-added-preserved
+loop-added-preserved c =
+    let r = c.in-Some.added.now in
+    let y_is : to_z w32 (of_z w32 r.y) ≡ r.y = omega (arith, ints) in
+    let above = rw y_is at c.count_rows_above.ensures.above in
+    let below = rw y_is at c.count_rows_above.ensures.others in
+    let left = rw (y_is, c.split_at.ensures.back) at c.split_at_height.ensures in
+    let right = added_split _ _ _ c.loop-added.left.now c.loop-added.right.now c.loop-added.invariant r c.in-Some.rest_right.now c.in-Some.ensures.cases.0 _ above below in
+    let so_far = sum_with_above _ _ _ c.loop-added.left.now c.loop-added.right.now c.loop-added.invariant r c.in-Some.rest_right.now c.in-Some.ensures.cases.0 _ above below in
+    let pushed = rw (c.in_ok-push_shared_rows.ensures, c.split_at.ensures.front) at c.in_ok-push_sum.ensures.pushed in
+    sum_more _ _ _ _ _ r.y so_far _ _ _ _ left right _ pushed
+
+pub returns-clause-rows : goal.returns-clause-rows
+returns-clause-rows c =
+    let all = rw (nil_from_length c.loop-added.right.now c.in_default.ensures.cases) at c.loop-added.invariant in
+    rw c.in_ok-push_shared_rows-2.ensures (sum_all_rows _ _ _ _ all)
 
 pub returns-clause-weights : goal.returns-clause-weights
 returns-clause-weights c =
-    let all = rw (c.in_default.ensures.none_left refl, c.in_default.ensures.none_right refl) at c.loop-y.invariant in
-    sum_all_weights (edge_rows c.args.left.now) (edge_rows c.args.right.now) (edge_rows c.loop-y.sum.items) all
+    let all = rw (nil_from_length c.loop-added.right.now c.in_default.ensures.cases) at c.loop-added.invariant in
+    rw c.in_ok-push_shared_rows-2.ensures (sum_all_weights _ _ _ _ all)
 
 pub returns-clause-within : goal.returns-clause-within
 returns-clause-within c =
-    let all = rw (c.in_default.ensures.none_left refl, c.in_default.ensures.none_right refl) at c.loop-y.invariant in
-    let weights = sum_all_weights (edge_rows c.args.left.now) (edge_rows c.args.right.now) (edge_rows c.loop-y.sum.items) all in
-    stay_within (edge_rows c.args.left.now) (edge_rows c.args.right.now) (edge_rows c.loop-y.sum.items) (record { rows = all.rows }) weights
+    let all = rw (nil_from_length c.loop-added.right.now c.in_default.ensures.cases) at c.loop-added.invariant in
+    rw c.in_ok-push_shared_rows-2.ensures (stay_within _ _ _ (sum_all_rows _ _ _ _ all) (sum_all_weights _ _ _ _ all))

@@ -23,12 +23,14 @@ accepts h w op more not_closed few allowed = one_more h w (Accept op) (taken h o
 pub overflow_add-self : goal.overflow_add-self
 overflow_add-self c = omega (arith, all_events c.args.self.now, few_events c.args.self.now)
 
-pub invariant_of-self : goal.invariant_of-self
-invariant_of-self c =
+pub invariant_of-self-2 : goal.invariant_of-self-2
+invariant_of-self-2 c =
     let h = c.args.self.now in
     let op = c.args.op.now in
     let req = c.requires in
-    let more = accepts h (view c.note_operation.new.swap.desk.place) op c.note_operation.ensures.view req.open req.few req.allowed in
+    let allowed = rw h.pictured at c.in_ok-apply.ensures.accepted in
+    let step = rw h.pictured at c.in_ok-apply.ensures.step in
+    let more = accepts h (view c.note_operation.new.swap.desk.place) op c.note_operation.ensures.view req.open req.few allowed in
     record {
       head_is = h.head_is;
       same_book = h.same_book;
@@ -38,7 +40,7 @@ invariant_of-self c =
       lawful = more.lawful;
       alive = more.alive;
       counted = more.counted;
-      pictured = c.requires.step ∙ sym (ap pic more.accepted ∙ pic-push (accepted h) (next (published h)) op);
+      pictured = step ∙ sym (ap pic more.accepted ∙ pic-push (accepted h) (next (published h)) op);
       numbered = omega (arith, h.numbered, ap rev more.accepted, rev-push (accepted h) (next (published h)) op);
       since = more.since;
       short = h.short;
@@ -46,5 +48,5 @@ invariant_of-self c =
 
 pub returns-clause-accepted : goal.returns-clause-accepted
 returns-clause-accepted c =
-    let req = c.requires in
-    (accepts c.args.self.now (view c.note_operation.new.swap.desk.place) c.args.op.now c.note_operation.ensures.view req.open req.few req.allowed).accepted
+    let allowed = rw c.args.self.now.pictured at c.in_ok-apply.ensures.accepted in
+    (accepts c.args.self.now (view c.note_operation.new.swap.desk.place) c.args.op.now c.note_operation.ensures.view c.requires.open c.requires.few allowed).accepted

@@ -1,14 +1,22 @@
-use Rattle.std.proofs.Common.{arith}
-use Rattle.mf_live.specs.Entries.{next}
+use Rattle.std.proofs.Common.{◌≡◌, ◌++◌, ◌∷◌, [], ◌<◌, ◌≤◌, ℕ, Ok, Err, Result, false, ap, ◌∙◌, arith}
+use Rattle.std.specs.Result.{MatchResult}
+use Rattle.mf_ops.specs.declared.op.Op.{Op}
+use Rattle.mf_ops.specs.declared.op.OpFault.{OpFault}
+use Rattle.mf_live.specs.declared.holder.Holder.{Holder}
+use Rattle.mf_live.specs.Entries.{entry, rev, next, is_closed, Operation}
+use Rattle.mf_live.specs.Holders.{accepted}
 use Rattle.mf_live.specs.Writers.{published}
 use Rattle.mf_live.proofs.Ending.{open-push, revision-push}
 use Rattle.mf_live.proofs.writer.Writer.apply.Goals as goal
 
+-- a picture that has room for an operation stays open and within its limit, accepted or not
+stays : (old new : Holder) (n : ℕ) (op : Op) (limit : ℕ) (r : Result (Unit {0}) OpFault) → MatchResult r (λ _. accepted new ≡ accepted old ++ entry n (Operation op) ∷ []) (λ _. accepted new ≡ accepted old) → is_closed (accepted old) ≡ false → old.revision < limit → (is_closed (accepted new) ≡ false) × (new.revision ≤ limit)
+stays old new n op limit (Ok done) more is_open room = (open-push old new n op more is_open, omega (arith, revision-push old new n op more))
+stays old new n op limit (Err fault) same is_open room = (ap is_closed same ∙ is_open, omega (arith, new.numbered, old.numbered, ap rev same))
+
 pub invariant_of-self : goal.invariant_of-self
 invariant_of-self c =
     let old = c.args.self.now.holder in
-    let label = next (published c.args.self.now) in
-    record {
-      «open» = open-push old c.accept.new.self label c.args.op c.accept.ensures.accepted c.args.self.now.open;
-      few = omega (arith, revision-push old c.accept.new.self label c.args.op c.accept.ensures.accepted, c.args.self.now.few, c.if-self.false);
-    }
+    let room : old.revision < c.args.self.now.max_ops = omega (arith, c.args.self.now.few, c.if-self.false) in
+    let both = stays old c.accept.new.self (next (published c.args.self.now)) c.args.op c.args.self.now.max_ops c.accept.result c.accept.ensures.accepted c.args.self.now.open room in
+    record { «open» = both.0; few = both.1 }
