@@ -235,19 +235,22 @@ fn second_publish_waits_for_a_held_look(rt: HostRuntime) -> Result<(), Fail> {
     Ok(())
 }
 
-/// The script is read when viewer 0 has looked twice, and viewer 1 looks again when it has printed.
+/// The script is read when viewer 0 has looked twice and viewer 1 holds its first look, which lasts until the script has
+/// printed.
 #[derive(Drop)]
 struct TakesTurns {
+    held: Flag,
     looked: Flag,
     printed: Flag,
 }
 
 impl Gate for TakesTurns {
     fn hold(&self, viewer: u32, look: u32) {
-        if viewer == 0 && look == 1 {
+        if viewer == 0 && look == 1 && self.held.is_set_within(TURNS) {
             self.looked.set();
         }
         if viewer == 1 && look == 0 {
+            self.held.set();
             self.printed.is_set_within(TURNS);
         }
     }
@@ -257,6 +260,7 @@ impl Gate for TakesTurns {
 fn records_stand_in_the_order_of_the_viewers(rt: HostRuntime) -> Result<(), Fail> {
     let alloc = rt.alloc();
     let gate = TakesTurns {
+        held: Flag::new(),
         looked: Flag::new(),
         printed: Flag::new(),
     };
@@ -272,7 +276,7 @@ fn records_stand_in_the_order_of_the_viewers(rt: HostRuntime) -> Result<(), Fail
     };
     let outcome = perform(&rt, alloc, &mut reader, &mut writer, &AMPLE, 2, 2, &gate).expect(
         &rt,
-        "viewer 0 looks twice while nothing is read",
+        "viewer 0 looks twice, and viewer 1 once, while nothing is read",
     );
     let first = outcome.seen.first().expect(&rt, "there is viewer 0");
     assert_eq!(rt; first.as_slice(), [BLANK, BLANK, SIX].as_slice());
