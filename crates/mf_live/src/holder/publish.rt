@@ -127,38 +127,27 @@ impl Holder {
             unwritten,
         } = self;
         let (swap, shown) = swap.publish_as::<Looks, R>(rt);
-        match shown {
+        let (notice, result) = match shown {
             Ok(()) => {
                 write::<Publishes, R>(rt, &head, &mut front, 1);
-                let told = Notice {
+                let notice = Notice {
                     front: front.again(),
                     number: revision,
                 };
-                let holder = Holder {
-                    alloc,
-                    swap,
-                    head,
-                    front,
-                    told,
-                    working,
-                    revision,
-                    unwritten,
-                };
-                (holder, Ok(()))
+                (notice, Ok(()))
             }
-            Err(_) => {
-                let holder = Holder {
-                    alloc,
-                    swap,
-                    head,
-                    front,
-                    told,
-                    working,
-                    revision,
-                    unwritten,
-                };
-                (holder, Err(OutOfMemory))
-            }
-        }
+            Err(_) => (told, Err(OutOfMemory)),
+        };
+        let holder = Holder {
+            alloc,
+            swap,
+            head,
+            front,
+            told: notice,
+            working,
+            revision,
+            unwritten,
+        };
+        (holder, result)
     }
 }
