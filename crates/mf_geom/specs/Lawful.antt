@@ -26,7 +26,7 @@ pub record NeverReverses (ps : List Point) : Type 0 where
   pub rectilinear : IsRectilinearCycle ps
   pub onward : (i : ℕ) → i < length ps → IsReversal (arriving ps i) (edge_at ps i) → ⊥
 
--- and a turning number that is not 0: a cycle that can be filled while the turning check is on
+-- and a turning number that is not 0: a cycle
 pub record IsCycle (ps : List Point) : Type 0 where
   pub onward : NeverReverses ps
   pub turns : turning ps ≢ pos 0
