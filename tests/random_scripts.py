@@ -15,6 +15,25 @@ import sys
 
 FIELD = range(-4095, 4095)
 WEIGHTS = (-3, -2, -1, 1, 2, 3)
+NAMES = ["currentpicture", "a", "b", "z"]
+# Lines without a meaning, with their refusals: those of docs/LANGUAGE.md, and one byte more than a line may have.
+WRONG = {
+    "addto currentpicture contur": "Syntax 22",
+    "show": "Syntax 5",
+    "show  % x": "Syntax 5",
+    "show totalweight a!": "Syntax 19",
+    "a := b shifted (1,0)": "Syntax 6",
+    "addto a contour (0,0)--(1,0)--": "Syntax 31",
+    "addto a contour (0,0)---(1,0)--cycle": "Syntax 24",
+    "show a ; show b": "Syntax 10",
+    "shipout a code 256 dx 0 width 0": "Syntax 16",
+    "shipout a code -5 dx 0 width 0": "Syntax 16",
+    "shipout a code -x": "Syntax 17",
+    "shipout a code -": "Syntax 17",
+    "shipout a code 1 dx 0": "Syntax 22",
+    "% caf\xe9": "NotAscii",
+    "%" + 65536 * "x": "LineTooLong",
+}
 
 
 def edges(points):
@@ -99,11 +118,12 @@ def grid_text(picture):
 
 
 class Model:
-    """The pictures of a script, and how many operations `currentpicture` has accepted."""
+    """The pictures of a script, how many operations `currentpicture` has accepted, and the codes that were shipped."""
 
     def __init__(self):
         self.pictures = {}
         self.accepted = 0
+        self.shipped = set()
 
     def picture(self, name):
         return self.pictures.get(name, {})
@@ -180,6 +200,12 @@ class Model:
     def proof(self, source):
         return grid_text(self.picture(source))
 
+    def ship(self, code):
+        if code in self.shipped:
+            return "refused CodeShipped\n"
+        self.shipped.add(code)
+        return f"[{code}]\n"
+
     def publish(self):
         return f"published {self.accepted}\n"
 
@@ -191,10 +217,10 @@ class Chance:
         self.random = random.Random(seed)
 
     def name(self):
-        return self.random.choice(["currentpicture", "a", "b"])
+        return self.random.choice(NAMES)
 
     def source(self):
-        return self.random.choice(["currentpicture", "a", "b", "nullpicture"])
+        return self.random.choice([*NAMES, "nullpicture"])
 
     def points(self):
         place, choice = self.random.randint, self.random.choice
@@ -213,7 +239,7 @@ class Chance:
     def line(self):
         """A line, and a function of the model."""
         kinds = ["contour"] * 4 + ["also"] * 2 + ["cull"] * 2
-        kinds += ["clear", "shift", "scale", "turn", "total", "show", "proof", "publish", "nothing"]
+        kinds += ["clear", "shift", "scale", "turn", "total", "show", "proof", "ship", "publish", "nothing", "wrong"]
         return getattr(self, self.random.choice(kinds))()
 
     def contour(self):
@@ -268,11 +294,20 @@ class Chance:
         source = self.source()
         return f"proof {source}", lambda m: m.proof(source)
 
+    def ship(self):
+        source, code, number = self.source(), self.random.choice([0, 1, 2, 255]), self.random.randint
+        line = f"shipout {source} code {code} dx {number(-99999, 99999)} width {number(-99999, 99999)}"
+        return line, lambda m: m.ship(code)
+
     def publish(self):
         return "publish", lambda m: m.publish()
 
     def nothing(self):
         return self.random.choice(["", "% note", ";"]), lambda m: ""
+
+    def wrong(self):
+        line, refusal = self.random.choice([*WRONG.items()])
+        return line, lambda m: f"refused {refusal}\n"
 
 
 def script(chance):
@@ -285,7 +320,7 @@ def script(chance):
             continue
         lines.append(line)
         transcript += performs(model)
-    for name in ("currentpicture", "a", "b"):
+    for name in NAMES:
         lines.append(f"show {name}")
         transcript += model.show(name)
     return "\n".join(lines) + "\n", transcript
@@ -299,7 +334,7 @@ def main():
     different = 0
     for _ in range(count):
         text, transcript = script(chance)
-        shown = subprocess.run([program], input=text, capture_output=True, text=True, check=False)
+        shown = subprocess.run([program], input=text, capture_output=True, encoding="utf-8", check=False)
         if shown.stdout != transcript or shown.returncode != 0:
             different += 1
             print(f"{text}\nprinted\n{shown.stdout}\nand not\n{transcript}")
