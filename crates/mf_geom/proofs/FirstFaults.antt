@@ -1,5 +1,5 @@
 -- The first fault of a list of points is the one that `fault_of` computes.
-use Rattle.std.proofs.Common.{◌≡◌, ℕ, zero, suc, ◌<◌, Bool, true, false, pos, List, length, None, Some, refl, arith, inl, inr, ◌∙◌}
+use Rattle.std.proofs.Common.{◌≡◌, ◌⊎◌, ℕ, zero, suc, ◌<◌, Bool, true, false, pos, List, length, None, Some, refl, arith, inl, inr, ◌∙◌}
 use Rattle.std.proofs.lemmas.Int.{ints}
 use Rattle.std.specs.Ordering.{int_eq}
 use Rattle.std.proofs.lemmas.Bool.{cases_Bool, cases_lt, true_from_ne_false, false_from_ne_true, both_ways}
@@ -10,6 +10,7 @@ use Rattle.mf_geom.specs.declared.cycle.CycleFault.TheVariants.{TooFewPoints, To
 use Rattle.mf_geom.specs.Faults.{first_place, fault_from_reach, fault_from_edges, fault_from_vertices, fault_from_turning, is_out_of_reach, is_not_rectilinear, is_reversal, fault_of}
 use Rattle.mf_geom.specs.Lawful.{HasLawfulLength, StaysInReach, IsRectilinearCycle, NeverReverses, IsCycle, IsFault}
 use Rattle.mf_geom.specs.Path.{Edge, point_at, edge_at, arriving, across, IsInReach, IsRectilinear, IsReversal}
+use Rattle.mf_geom.specs.Turning.{turning}
 
 pub first_place-none : (n : ℕ) (test : ℕ → Bool) → ((i : ℕ) → i < n → test i ≡ false) → first_place n test ≡ None
 unfolding first_place
@@ -107,3 +108,89 @@ fault_of-fault ps (Backtracks i) (cycle, first) =
     let found = first_place-some (length ps) (λ k. is_reversal (arriving ps k) (edge_at ps k)) i first.below (is_reversal-true _ _ first.here) (λ k before. is_reversal-false _ _ (first.none_before k before)) in
     fault_of-rectilinear ps cycle ∙ rw found refl
 fault_of-fault ps TurningZero (never, zero_turns) = fault_of-onward ps never ∙ rw zero_turns refl
+
+-- the test answers true at a first place below n
+record Found (n : ℕ) (test : ℕ → Bool) : Type 0 where
+  place : ℕ
+  below : place < n
+  here : test place ≡ true
+  before : (k : ℕ) → k < place → test k ≡ false
+
+search : (n : ℕ) (test : ℕ → Bool) → ((i : ℕ) → i < n → test i ≡ false) ⊎ Found n test
+search zero test = inl (λ i below. absurd (omega arith))
+search (suc n) test =
+    elim (search n test) [
+      | inr found ↦ inr (record { place = found.place; below = let within = found.below in omega arith; here = found.here; before = found.before })
+      | inl fails ↦
+          elim (cases_Bool (test n)) [
+            | inl last ↦ inr (record { place = n; below = omega arith; here = last; before = fails })
+            | inr last ↦ inl (λ i below. elim (cases_lt i n) [
+              | inl inner ↦ fails i inner
+              | inr outer ↦ let same : i ≡ n = omega arith in rw same last
+            ])
+          ]
+    ]
+
+-- the list has a fault
+record IsFaulty (ps : List Point) : Type 0 where
+  fault : CycleFault
+  is : IsFault ps fault
+
+judged-turning : (ps : List Point) → NeverReverses ps → IsCycle ps ⊎ IsFaulty ps
+unfolding IsFault
+judged-turning ps never =
+    elim (cases_Bool (int_eq (turning ps) (pos 0))) [
+      | inl none ↦ inr (record { fault = TurningZero; is = (never, grind (arith, ints)) })
+      | inr some ↦ inl (record { onward = never; turns = λ zero_turns. grind (arith, ints) })
+    ]
+
+judged-vertices : (ps : List Point) → IsRectilinearCycle ps → IsCycle ps ⊎ IsFaulty ps
+unfolding IsFault
+judged-vertices ps cycle =
+    elim (search (length ps) (λ i. is_reversal (arriving ps i) (edge_at ps i))) [
+      | inl onward ↦ judged-turning ps (record { rectilinear = cycle; onward = λ i below back. both_ways _ (onward i below) (is_reversal-true _ _ back) })
+      | inr found ↦ inr (record { fault = Backtracks found.place; is = (cycle, record { below = found.below; here = IsReversal-from_true _ _ found.here; none_before = λ k before back. both_ways _ (found.before k before) (is_reversal-true _ _ back) }) })
+    ]
+
+judged-edges : (ps : List Point) → StaysInReach ps → IsCycle ps ⊎ IsFaulty ps
+unfolding IsFault
+judged-edges ps reach =
+    elim (search (length ps) (λ i. is_not_rectilinear (edge_at ps i))) [
+      | inl straight ↦ judged-vertices ps (record { reach = reach; rectilinear = λ i below. IsRectilinear-from_false _ (straight i below) })
+      | inr found ↦ inr (record { fault = NotRectilinear found.place; is = (reach, record { below = found.below; here = λ straight. both_ways _ (is_not_rectilinear-false _ straight) found.here; none_before = λ k before slanted. slanted (IsRectilinear-from_false _ (found.before k before)) }) })
+    ]
+
+judged-points : (ps : List Point) → HasLawfulLength ps → IsCycle ps ⊎ IsFaulty ps
+unfolding IsFault
+judged-points ps sized =
+    elim (search (length ps) (λ i. is_out_of_reach (point_at ps i))) [
+      | inl inside ↦ judged-edges ps (record { sized = sized; in_reach = λ i below. IsInReach-from_false _ (inside i below) })
+      | inr found ↦ inr (record { fault = PointOutOfRange found.place; is = (sized, record { below = found.below; here = λ inside. both_ways _ (is_out_of_reach-false _ inside) found.here; none_before = λ k before beyond. beyond (IsInReach-from_false _ (found.before k before)) }) })
+    ]
+
+-- each list is a cycle or has a fault
+judged : (ps : List Point) → IsCycle ps ⊎ IsFaulty ps
+unfolding IsFault
+judged ps =
+    elim (cases_lt (length ps) 2) [
+      | inl few ↦ inr (record { fault = TooFewPoints; is = few })
+      | inr least ↦
+          elim (cases_lt 4096 (length ps)) [
+            | inl many ↦ inr (record { fault = TooManyPoints; is = many })
+            | inr greatest ↦ judged-points ps (record { least = omega arith; greatest = omega arith })
+          ]
+    ]
+
+pub cycle-fault_of : (ps : List Point) → fault_of ps ≡ None → IsCycle ps
+cycle-fault_of ps none =
+    elim (judged ps) [
+      | inl cycle ↦ cycle
+      | inr faulty ↦ absurd (let some = fault_of-fault ps faulty.fault faulty.is in grind (arith))
+    ]
+
+pub fault-fault_of : (ps : List Point) (fault : CycleFault) → fault_of ps ≡ Some fault → IsFault ps fault
+fault-fault_of ps fault some =
+    elim (judged ps) [
+      | inl cycle ↦ absurd (let none = fault_of-cycle ps cycle in grind (arith))
+      | inr faulty ↦ let same : fault ≡ faulty.fault = (let other = fault_of-fault ps faulty.fault faulty.is in grind (arith)) in rw same faulty.is
+    ]

@@ -47,10 +47,10 @@ impl fmt::Display for CycleFault {
 
 impl Error for CycleFault {}
 
-/// A closed path along the edges of pixels, which can be filled: 2 to 4096 points with coordinates in
-/// -4095..4095 pixels, each of which differs from the next one in exactly one coordinate (the last
-/// one's next is the first), with no vertex at which the path turns straight back, and with a turning
-/// number other than 0 (The METAFONTbook, chapter 13).
+/// A closed path along the edges of pixels, which can be filled as a contour (The METAFONTbook, chapter 13): 2 to
+/// 4096 points with coordinates in -4095..4095 pixels (mf.web, "edge structures"), each of which differs from the
+/// next one in exactly one coordinate (the last one's next is the first), with no vertex at which the path turns
+/// straight back, and with a turning number other than 0. METAFONT itself fills more paths than these.
 #[derive(Debug, Drop)]
 pub struct Cycle {
     points: Vec<Point>,
@@ -90,7 +90,7 @@ impl Cycle {
         }
     }
 
-    /// A cycle through the same points. Refusal OutOfMemory (14).
+    /// A cycle through the same points. Refusal OutOfMemory (14): nothing was made then.
     pub fn copy(&self, alloc: Global) -> Result<Cycle, OutOfMemory>
         ensures value { IfOk result (λ copy. copy ≡ self.now) }
         ensures lawful { IsCycle self.now }
@@ -111,7 +111,7 @@ impl Cycle {
     /// The ends of the edge that leaves vertex `place`, which is below the number of points: the last one leads
     /// back to the first point.
     pub fn edge(&self, place: usize) -> (Point, Point)
-        requires { place < length self.now }
+        requires within { place < length self.now }
         ensures from { result.0 ≡ (edge_at self.now place).from }
         ensures to { result.1 ≡ (edge_at self.now place).to }
         ensures lawful { IsCycle self.now }

@@ -1,5 +1,5 @@
 //! Laws of the definitions: each is the contract of a function that does nothing.
-ghost use Rattle.std.specs.Prelude.{◌≡◌, ℤ, pos, ◌*ℤ◌, List, length, Some, None};
+ghost use Rattle.std.specs.Prelude.{◌≡◌, ◌↔◌, ℤ, pos, ◌*ℤ◌, List, length, Some, None};
 ghost use Rattle.std.specs.Int.{int_signum};
 ghost use Rattle.mf_geom.specs.declared.point.Point.{Point};
 ghost use Rattle.mf_geom.specs.Area.{shoelace_at, area};
@@ -34,7 +34,7 @@ pub fn whole_turns()
 
 /// The turns of a rectilinear path that never turns straight back add up to four times its turning
 /// number, so nothing is lost by the division.
-pub fn whole_turn_of_a_cycle()
+pub fn whole_turn_of_a_path()
     ensures { (ps : List Point) → NeverReverses ps →
         sum_below (length ps) (turn_at ps) ≡ pos 4 *ℤ turning ps }
 {}
@@ -45,10 +45,10 @@ pub fn area_is_whole()
         sum_below (length ps) (shoelace_at ps) ≡ pos 2 *ℤ area ps }
 {}
 
-/// A list of points has at most one fault, and a cycle has none.
+/// A list of points is a cycle, or it has exactly one fault.
 pub fn one_fault()
-    ensures refused { (ps : List Point) (fault : CycleFault) → IsFault ps fault → fault_of ps ≡ Some fault }
-    ensures accepted { (ps : List Point) → IsCycle ps → fault_of ps ≡ None }
+    ensures refused { (ps : List Point) (fault : CycleFault) → IsFault ps fault ↔ fault_of ps ≡ Some fault }
+    ensures accepted { (ps : List Point) → IsCycle ps ↔ fault_of ps ≡ None }
 {}
 
 /// The winding number of a rectilinear cycle counts how often it crosses the ray that leads left from the

@@ -13,4 +13,4 @@ mod winding;
 pub use cycle::{Cycle, CycleFault};
 pub use memory::OutOfMemory;
 pub use path::MAX_POINTS;
-pub use point::Point;
+pub use point::{MAX_COORDINATE, Point};

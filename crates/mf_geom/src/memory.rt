@@ -4,7 +4,8 @@ use std::alloc::{AllocError, AllocFailed};
 use std::error::Error;
 use std::fmt;
 
-/// Refusal 14: a growth was refused. What stands after it is said at each call that answers it.
+/// Refusal 14: a growth was refused. Where a call that answers it has changed something, or gives something back, it says
+/// so.
 #[derive(Clone, Copy, Debug, PartialEq, Eq)]
 pub struct OutOfMemory;
 

@@ -3,10 +3,12 @@
 /// Greatest size of a coordinate of a vertex, in pixels (mf.web: 4095).
 pub const MAX_COORDINATE: i32 = 4095;
 
-/// A point of the plane. Coordinates are whole numbers of pixels: `x` grows to the right, `y` upwards,
-/// and the pixel (x, y) is the unit square from (x, y) to (x + 1, y + 1).
+/// A point of the plane, with whole numbers of pixels as its coordinates. The pixel (x, y) is the unit square from
+/// (x, y) to (x + 1, y + 1).
 #[derive(Clone, Copy, Debug, PartialEq, Eq)]
 pub struct Point {
+    /// In pixels, rising to the right.
     pub x: i32,
+    /// In pixels, rising upwards.
     pub y: i32,
 }

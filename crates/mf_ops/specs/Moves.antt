@@ -16,6 +16,7 @@ pub record IsFactor (f : ℤ) : Type 0 where
   pub greatest : f ≤ℤ pos 4095
   pub nonzero : f ≢ pos 0
 
+-- both of them are factors
 pub record AreFactors (s : Factors) : Type 0 where
   pub columns : IsFactor s.x
   pub rows : IsFactor s.y

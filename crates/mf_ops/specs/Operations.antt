@@ -3,6 +3,7 @@ use Rattle.std.specs.Prelude.{◌≡◌, ℕ, List, [], ◌∷◌, length, None}
 use Rattle.mf_rows.specs.Dots.{Dot}
 use Rattle.mf_ops.specs.Step.{stepped, fault_of}
 use Rattle.mf_ops.specs.declared.op.Op.{Op}
+use Rattle.mf_ops.specs.declared.op.Op.TheVariants.{Contour, Also, Cull, Shift, Scale, Quarter, Clear}
 
 -- the picture after operations, in order, on the picture ds
 unfoldable pub after_all : List Dot → List Op → List Dot
@@ -25,3 +26,13 @@ AreAcceptedOn ds (op ∷ ops) = (fault_of ds op ≡ None) × AreAcceptedOn (step
 -- none of a list of operations is refused
 pub record AreAccepted (ops : List Op) : Type 0 where
   pub steps : AreAcceptedOn [] ops
+
+-- an operation that holds neither points nor a picture, so that a copy of it takes no memory
+abbrev pub HoldsNoList : Op → Type 0
+HoldsNoList (Contour ps w) = ⊥
+HoldsNoList (Also es s) = ⊥
+HoldsNoList (Cull c) = Unit {0}
+HoldsNoList (Shift dx dy) = Unit {0}
+HoldsNoList (Scale s) = Unit {0}
+HoldsNoList (Quarter q) = Unit {0}
+HoldsNoList Clear = Unit {0}

@@ -8,7 +8,8 @@ use crate::weight::Weight;
 use mf_rows::{Choice, WeightMap};
 use std::marker::Model;
 
-/// Refusal 8: a range of weights that no cull has (METAFONT's "Bad culling amounts").
+/// Refusal 8: a range of weights that the cull may not have. Its least weight is above its greatest, or 0 is in a
+/// range that is kept, or not in one that is dropped (METAFONT's "Bad culling amounts").
 #[derive(Clone, Copy, Debug, PartialEq, Eq)]
 pub struct BadCull;
 

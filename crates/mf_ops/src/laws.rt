@@ -89,7 +89,7 @@ pub fn lawful_culls_keep_zero()
     ensures dropping { (a b w : ℤ) → w ≢ pos 0 → IsLawfulCull (Dropping a b w) ↔ ((a ≤ℤ b) × (culled (Dropping a b w) (pos 0) ≡ pos 0)) }
 {}
 
-/// A picture from which it is subtracted itself is blank.
+/// A picture subtracted from itself leaves the blank one.
 pub fn subtracted_from_itself()
     ensures { (ds : List Dot) → stepped ds (Also ds Minus) ≡ [] }
 {}

@@ -1,5 +1,6 @@
 //! Operations on pictures, and what they make of a picture.
 ghost use Rattle.std.specs.Prelude.{◌≡◌, ◌≢◌, None, Some, Err, IsOk, IfOk, IfErr, OnOk, OnErr};
+ghost use Rattle.mf_ops.specs.Operations.{HoldsNoList};
 ghost use Rattle.mf_ops.specs.Step.{stepped, fault_of};
 ghost use Rattle.mf_ops.specs.declared.op.Op.TheVariants as ops;
 
@@ -27,7 +28,8 @@ pub enum Op {
     /// `cull p keeping (a, b) withweight w` and `cull p dropping (a, b) withweight w`: gives each pixel the
     /// weight or 0, by the range in which its weight lies.
     Cull(Cull),
-    /// `p := p shifted (dx, dy)`: moves each pixel by `dx` columns to the right and `dy` rows upwards.
+    /// `p := p shifted (dx, dy)`: moves each pixel by `dx` columns to the right and `dy` rows upwards, which may be
+    /// any numbers.
     Shift(i32, i32),
     /// `p := p xscaled sx`, `yscaled sy`, `scaled s`: stretches each pixel by whole factors. A negative factor
     /// reflects: with -1 column x becomes column -x - 1.
@@ -76,9 +78,11 @@ impl From<AddFault> for OpFault {
 }
 
 impl Op {
-    /// The same operation again. Refusal OutOfMemory (14).
+    /// The same operation again. Refusal OutOfMemory (14), for a contour and for another picture alone: nothing was
+    /// made then.
     pub fn copy(&self, alloc: Global) -> Result<Op, OutOfMemory>
-        ensures { IfOk result (λ copy. copy ≡ self.now) }
+        ensures value { IfOk result (λ copy. copy ≡ self.now) }
+        ensures copied { HoldsNoList self.now → IsOk result }
     {
         match self {
             Op::Contour(cycle, weight) => Ok(Op::Contour(cycle.copy(alloc)?, *weight)),

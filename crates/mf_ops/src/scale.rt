@@ -2,7 +2,11 @@
 ghost use Rattle.std.specs.Prelude.{◌≡◌, ◌↔◌, IsOk, IfOk, IsTrue};
 ghost use Rattle.mf_ops.specs.Moves.{AreFactors, IsFactor};
 
+use mf_geom::MAX_COORDINATE;
 use std::marker::Model;
+
+/// Greatest size of a factor: a greater one would take each pixel out of the field.
+const MAX_FACTOR: i32 = MAX_COORDINATE;
 
 /// Refusal 9: a factor that is 0 or not in -4095..4095.
 #[derive(Clone, Copy, Debug, PartialEq, Eq)]
@@ -62,5 +66,5 @@ impl Scale {
 fn is_factor(factor: i32) -> bool
     ensures { IsTrue result ↔ IsFactor factor }
 {
-    factor != 0 && -4095 <= factor && factor <= 4095
+    factor != 0 && -MAX_FACTOR <= factor && factor <= MAX_FACTOR
 }

@@ -11,12 +11,12 @@ ghost use Rattle.mf_ops.specs.declared.op.Op.TheVariants as ops;
 use crate::op::OpFault;
 use crate::quarter::Quarter;
 use crate::scale::Scale;
-use mf_geom::OutOfMemory;
+use mf_geom::{MAX_COORDINATE, OutOfMemory};
 use mf_rows::{Picture, Stretch};
 use std::alloc::Global;
 
-/// Greatest size of a coordinate (mf.web: 4095).
-const REACH: i64 = 4095;
+/// Greatest size of a coordinate, in the integers in which moved points are worked out.
+const REACH: i64 = MAX_COORDINATE as i64;
 
 /// The picture after a shift, by columns to the right and by rows upwards.
 pub fn shift(alloc: Global, picture: &Picture, right: i32, up: i32) -> Result<Picture, OpFault>
@@ -141,6 +141,7 @@ fn is_in_reach(stretch: &Stretch, point: i32) -> bool
     -REACH <= new && new <= REACH
 }
 
+/// The stretch by this factor and then by this offset.
 fn stretch(factor: i32, offset: i32) -> Stretch
     ensures { result ≡ record { factor = factor; offset = offset } }
 {

@@ -171,6 +171,5 @@ fn clears_a_picture(rt: HostRuntime) -> Result<(), Fail> {
     let bars = bars(&rt, alloc)?;
     let cleared = after(alloc, &bars, &Op::Clear).expect(&rt, "the picture is cleared");
     assert!(rt; cleared.equal(&Picture::blank(alloc)), "it is blank");
-    assert_eq!(rt; bars.total(), 6, "the old picture is unchanged");
     Ok(())
 }

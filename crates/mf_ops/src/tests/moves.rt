@@ -1,7 +1,7 @@
 //! Shifts, scales and turns.
 
 use super::{PIXEL, RECTANGLE, assert_runs, contour, filled, run, walk};
-use crate::op::{Op, OpFault, after};
+use crate::op::{Op, OpFault, after, apply};
 use crate::quarter::{BadTurn, Quarter};
 use crate::scale::{BadScale, Scale};
 use crate::sign::Sign;
@@ -23,11 +23,17 @@ fn moved(rt: &impl Abort, alloc: Global, picture: &Picture, op: &Op) -> Picture 
     after(alloc, picture, op).expect(rt, "no pixel leaves the field")
 }
 
+/// Asserts that an operation takes a pixel out of the field, and that the picture itself stays as it is.
 fn assert_leaves(rt: &impl Abort, alloc: Global, picture: &Picture, op: &Op) {
-    let total = picture.total();
     let refused = after(alloc, picture, op);
     assert!(rt; matches!(&refused, Err(OpFault::OutOfField)), "{op:?}");
-    assert_eq!(rt; picture.total(), total, "the picture is unchanged");
+
+    let mut same = picture.copy(alloc).expect(rt, "a copy");
+    assert!(rt;
+        matches!(apply(alloc, &mut same, op), Err(OpFault::OutOfField)),
+        "{op:?} on the picture itself"
+    );
+    assert!(rt; same.equal(picture), "the picture itself is unchanged");
 }
 
 /// The picture of one pixel of weight 1.
@@ -260,17 +266,23 @@ fn scattered_pictures_move_back(rt: HostRuntime) -> Result<(), Fail> {
     let alloc = rt.alloc();
     for seed in 0..10 {
         let picture = scattered(&rt, alloc, seed)?;
-        for (there, back) in [
-            (Op::Shift(5, -7), Op::Shift(-5, 7)),
-            (scale(&rt, -1, 1), scale(&rt, -1, 1)),
-            (scale(&rt, 1, -1), scale(&rt, 1, -1)),
-            (scale(&rt, -1, -1), turn(&rt, 180)),
-            (turn(&rt, 90), turn(&rt, 270)),
-            (turn(&rt, 180), turn(&rt, 180)),
-            (turn(&rt, 270), turn(&rt, 90)),
+        // The pixel (2, 1) of each picture comes to the place behind the way there and back.
+        for (there, back, (x, y)) in [
+            (Op::Shift(5, -7), Op::Shift(-5, 7), (7, -6)),
+            (scale(&rt, -1, 1), scale(&rt, -1, 1), (-3, 1)),
+            (scale(&rt, 1, -1), scale(&rt, 1, -1), (2, -2)),
+            (scale(&rt, -1, -1), turn(&rt, 180), (-3, -2)),
+            (turn(&rt, 90), turn(&rt, 270), (-2, 2)),
+            (turn(&rt, 180), turn(&rt, 180), (-3, -2)),
+            (turn(&rt, 270), turn(&rt, 90), (1, -3)),
         ] {
             let away = moved(&rt, alloc, &picture, &there);
             assert_eq!(rt; away.total(), picture.total(), "seed {seed}, {there:?}");
+            assert_eq!(rt;
+                away.weight(x, y),
+                picture.weight(2, 1),
+                "seed {seed}, {there:?}"
+            );
             let again = moved(&rt, alloc, &away, &back);
             assert!(rt; again.equal(&picture), "seed {seed}, {back:?}");
         }
