@@ -1,5 +1,5 @@
 -- How far the weights of rows go from 0, edge by edge.
-use Rattle.std.proofs.Common.{◌≡◌, ◌<◌, ◌≤◌, ◌+◌, cond, nat_abs, Bool, true, false, ℕ, zero, suc, ℤ, get_or, take, drop, length, int_le, int_lt, T, Fits, w16, FitsSigned, to_z, of_z, w32, neg_ℤ, pos, negsuc, ◌+ℤ◌, ◌≤ℤ◌, ◌<ℤ◌, List, [], ◌∷◌, ◌++◌, refl, ap, subst, ◌∙◌, append-nil, append_assoc, arith}
+use Rattle.std.proofs.Common.{◌≡◌, ◌<◌, ◌≤◌, ◌+◌, cond, nat_abs, Bool, true, false, ℕ, zero, suc, ℤ, get_or, take, drop, length, int_le, int_lt, T, Fits, w16, FitsSigned, to_z, of_z, w32, neg_ℤ, pos, negsuc, ◌+ℤ◌, ◌≤ℤ◌, ◌<ℤ◌, List, [], ◌∷◌, ◌++◌, refl, sym, ap, subst, ◌∙◌, append-nil, append_assoc, arith}
 use Rattle.std.specs.List.{All, AllWithin}
 use Rattle.std.specs.List.Sorted.{IsPartitionedBy}
 use Rattle.std.specs.Ordering.{int_cmp, is_lt, ord_max}
@@ -12,7 +12,7 @@ use Rattle.mf_rows.specs.declared.edge.Edge.{Edge}
 use Rattle.mf_rows.specs.Dots.{IsLawfulWeight}
 use Rattle.mf_rows.specs.Edges.{weight_in, AreEdgesFrom, AreEdges}
 use Rattle.mf_rows.specs.Merging.{AreEdgesLeft, BeginFrom, IsDifference, IsSplitAt, unless_zero}
-use Rattle.mf_rows.specs.Reaches.{AddInReach, StaysInReach}
+use Rattle.mf_rows.specs.Reaches.{AddInReach, IsAttained, StaysInReach}
 use Rattle.mf_rows.specs.Sums.{HaveWeights, weight_in_both}
 use Rattle.mf_rows.specs.SumsSoFar.{IsSumSoFar}
 use Rattle.mf_rows.proofs.BandsLemmas.{Falls, IsPartitionedBy-falls, All-take_within, All-drop_within}
@@ -199,6 +199,20 @@ reach_all es w reach so_far =
     let now = so_far.now in
     record { least = omega (arith, ints, now.least); greatest = omega (arith, ints, now.greatest) }) in
     record { most = so_far.most; least = λ x. (all x).least; greatest = λ x. (all x).greatest }
+
+-- ---- the reach is attained
+
+pub attained_none : (es : List Edge) → AreEdges es → IsAttained (pos 0) es
+attained_none es edges = record { x = negsuc 4095; here = ap (λ w. pos (nat_abs w)) (weight_in-before (negsuc 4094) es (negsuc 4095) edges.sorted (omega (arith, ints))) }
+
+one_of : (P : ℤ → Type 0) (t : Bool) (a b : ℤ) → P a → P b → P (cond t a b)
+one_of P true a b first second = first
+one_of P false a b first second = second
+
+pub attained_more : (es : List Edge) (e : Edge) (rest : List Edge) (w reach size next : ℤ) → IsReachBefore es (e ∷ rest) w reach → IsAttained reach es → size ≡ pos (nat_abs (w +ℤ e.weight)) → next ≡ ord_max int_cmp reach size → IsAttained next es
+attained_more es e rest w reach size next so_far attained size_of next_of =
+    let here : IsAttained size es = record { x = e.x; here = ap (λ v. pos (nat_abs v)) (weight_behind es e rest w reach so_far) ∙ sym size_of } in
+    subst (λ r. IsAttained r es) (sym next_of) (one_of (λ r. IsAttained r es) (is_lt (int_cmp size reach)) reach size attained here)
 
 -- ---- changes that are added in reach
 

@@ -1,5 +1,6 @@
 -- How far the weights of a row go from 0.
-use Rattle.std.specs.Prelude.{ℕ, ℤ, pos, ◌+ℤ◌, ◌≤ℤ◌, List, Option, None, Some}
+use Rattle.std.specs.Prelude.{◌≡◌, ℕ, ℤ, pos, ◌+ℤ◌, ◌≤ℤ◌, List, Option, None, Some}
+use Rattle.std.proofs.Math.IntN.{nat_abs}
 use Rattle.std.specs.Coded.{Unit-prop}
 use Rattle.std.proofs.Props.{props}
 use Rattle.mf_rows.specs.declared.edge.Edge.{Edge}
@@ -10,6 +11,11 @@ pub record StaysInReach (reach : ℤ) (es : List Edge) : Type 0 where
   pub most : reach ≤ℤ pos 32767
   pub least : (x : ℤ) → pos 0 ≤ℤ (weight_in es x +ℤ reach)
   pub greatest : (x : ℤ) → weight_in es x ≤ℤ reach
+
+-- some weight of a row has this size: 0 is that of a blank column
+pub record IsAttained (size : ℤ) (es : List Edge) : Type 0 where
+  pub x : ℤ
+  pub here : pos (nat_abs (weight_in es x)) ≡ size
 
 -- the reach of a row, where it is known
 abbrev pub HasReach : Option ℕ → List Edge → Type 0

@@ -23,7 +23,8 @@ pub(crate) struct OpenRow {
     edges: Vec<Edge>,
 }
 
-/// Builds a picture from its runs, rows from the top and columns rising.
+/// Builds a picture from its runs, rows from the top and columns rising: the order in which GF files have them (The
+/// METAFONTbook, Appendix G).
 #[derive(Debug, Drop)]
 pub struct RowBuilder {
     alloc: Global,

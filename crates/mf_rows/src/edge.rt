@@ -5,7 +5,7 @@ ghost use Rattle.std.specs.Vec.{vec_len, vec_capacity};
 ghost use Rattle.mf_rows.specs.Dots.{IsLawfulWeight};
 ghost use Rattle.mf_rows.specs.Edges.{AreEdges, AreEdgesFrom, AreOpenEdges, weight_in};
 ghost use Rattle.mf_rows.specs.Merging.{unless_zero};
-ghost use Rattle.mf_rows.specs.Reaches.{StaysInReach};
+ghost use Rattle.mf_rows.specs.Reaches.{IsAttained, StaysInReach};
 ghost use Rattle.mf_rows.specs.Sums.{HaveWeights, with_edge_in};
 
 use mf_geom::OutOfMemory;
@@ -33,10 +33,11 @@ pub(crate) fn weight_at_column(edges: &[Edge], x: i32) -> i32
     weight
 }
 
-/// The greatest size of a weight between these edges.
+/// The greatest size of a weight between these edges, 0 where there are none.
 pub(crate) fn reach_of(edges: &[Edge]) -> i32
     requires { AreEdges edges.now }
-    ensures { StaysInReach result edges.now }
+    ensures stays { StaysInReach result edges.now }
+    ensures attained { IsAttained result edges.now }
 {
     let mut weight = 0i32;
     let mut reach = 0;
@@ -104,7 +105,7 @@ pub(crate) fn push_unless_zero(edges: &mut Vec<Edge>, edge: Edge) -> Result<(), 
     Ok(())
 }
 
-/// Gives back the room that edges which cancelled have left, where it is more than half of all.
+/// Gives back the room that edges which cancelled have left, where fewer edges stay than half of it, rounded down.
 pub(crate) fn give_back_room(edges: &mut Vec<Edge>)
     ensures { edges.new.items ≡ edges.old.items }
 {

@@ -99,7 +99,7 @@ impl Picture {
         }
     }
 
-    /// The sum of all weights.
+    /// The sum of all weights. METAFONT's `totalweight` is this number, scaled (mf.web: `total_weight`).
     pub fn total(&self) -> i64
         ensures value { result ≡ total_of self.now }
         ensures lawful { IsPicture self.now }
@@ -133,7 +133,7 @@ impl Picture {
         Runs::over(&self.bands)
     }
 
-    /// The k-th of these runs, counted from 0.
+    /// The k-th of the maximal runs that `runs` gives, counted from 0; none behind the last.
     pub fn run(&self, k: usize) -> Option<Run>
         ensures value { result ≡ slice_get (runs_of self.now) k }
         ensures lawful { IsPicture self.now }
@@ -141,8 +141,8 @@ impl Picture {
         self.runs().nth(k)
     }
 
-    /// The picture whose weight at each pixel is the sum of those of this picture and of another; both are
-    /// unchanged. It shares the bands that only one of them has. Refusals WeightTooLarge (12), where a
+    /// The picture whose weight at each pixel is the sum of those of this picture and of another, as `add` makes it;
+    /// both are unchanged. It shares the bands that only one of them has. Refusals WeightTooLarge (12), where a
     /// weight would pass 32767 in size, and OutOfMemory (14).
     pub fn plus(&self, alloc: Global, other: &Picture) -> Result<Picture, AddFault>
         ensures weights { IfOk result (HasWeights (sum_at self.now other.now)) }
@@ -154,9 +154,10 @@ impl Picture {
         Ok(sum)
     }
 
-    /// Adds another picture to this one: the weight of each pixel is then the sum of both, and the other picture is
-    /// unchanged. Bands that only one of them has stay as they are, or are shared. Refusals WeightTooLarge (12), where a
-    /// weight would pass 32767 in size, and OutOfMemory (14), which leave it as it was.
+    /// Adds another picture to this one, as `addto .. also` does (The METAFONTbook, chapter 13; mf.web: `merge_edges`):
+    /// the weight of each pixel is then the sum of both, and the other picture is unchanged. Bands that only one of
+    /// them has stay as they are, or are shared. Refusals WeightTooLarge (12), where a weight would pass 32767 in size,
+    /// and OutOfMemory (14), which leave it as it was.
     pub fn add(&mut self, alloc: Global, other: &Picture) -> Result<(), AddFault>
         ensures weights { OnOk result (HasWeights (sum_at self.old other.now) self.new) }
         ensures unchanged { OnErr result (self.new ≡ self.old) }
@@ -166,8 +167,9 @@ impl Picture {
         add_bands(alloc, &mut self.bands, &other.bands)
     }
 
-    /// The picture in which each weight is mapped by itself; this one is unchanged. Weight 0 must stay 0,
-    /// and lawful weights must become lawful ones. Refusal OutOfMemory (14).
+    /// The picture in which each weight is mapped by itself, as `cull` does (The METAFONTbook, chapter 13; mf.web:
+    /// `cull_edges`); this one is unchanged. Weight 0 must stay 0, and weights in -32767..32767 must become such
+    /// weights. Refusal OutOfMemory (14).
     pub fn map_weights(&self, alloc: Global, map: &WeightMap) -> Result<Picture, OutOfMemory>
         requires { IsWeightMap map.now }
         ensures weights { IfOk result (HasWeights (mapped_at map.now self.now)) }
@@ -178,8 +180,8 @@ impl Picture {
         Picture::from_rows(alloc, changed)
     }
 
-    /// The picture reflected in the line between columns -1 and 0: column x becomes column -x - 1. Refusal
-    /// OutOfMemory (14).
+    /// The picture reflected in the line between columns -1 and 0: column x becomes column -x - 1 (mf.web:
+    /// `x_reflect_edges`). Refusal OutOfMemory (14).
     pub fn mirror_columns(&self, alloc: Global) -> Result<Picture, OutOfMemory>
         ensures weights { IfOk result (HasWeights (columns_mirrored_at self.now)) }
         ensures lawful { IfOk result IsPicture }
@@ -189,8 +191,8 @@ impl Picture {
         Picture::from_rows(alloc, changed)
     }
 
-    /// The picture reflected in the line between rows -1 and 0: row y becomes row -y - 1. The rows are shared.
-    /// Refusal OutOfMemory (14).
+    /// The picture reflected in the line between rows -1 and 0: row y becomes row -y - 1 (mf.web:
+    /// `y_reflect_edges`). The rows are shared. Refusal OutOfMemory (14).
     pub fn mirror_rows(&self, alloc: Global) -> Result<Picture, OutOfMemory>
         ensures weights { IfOk result (HasWeights (rows_mirrored_at self.now)) }
         ensures lawful { IfOk result IsPicture }
@@ -200,8 +202,8 @@ impl Picture {
     }
 
     /// The picture of which the columns and the rows are stretched, so that each pixel becomes a rectangle of
-    /// its weight. All of these must lie in the field. Rows that come from one share their edges. Refusal
-    /// OutOfMemory (14).
+    /// its weight (mf.web: `x_scale_edges`, `y_scale_edges`). All of these must lie in the field. Rows that come from
+    /// one share their edges. Refusal OutOfMemory (14).
     pub fn stretch(
         &self,
         alloc: Global,
@@ -220,14 +222,13 @@ impl Picture {
     }
 
     /// The picture turned by 90 degrees counterclockwise round the point (0, 0): the pixel (x, y) becomes the
-    /// pixel (-y - 1, x). Refused with OutOfMemory (14) alone.
-    pub fn turn(&self, alloc: Global) -> Result<Picture, AddFault>
+    /// pixel (-y - 1, x) (mf.web: `xy_swap_edges` and a reflection). Refusal OutOfMemory (14).
+    pub fn turn(&self, alloc: Global) -> Result<Picture, OutOfMemory>
         ensures weights { IfOk result (HasWeights (turned_at self.now)) }
         ensures lawful { IfOk result IsPicture }
-        ensures memory { IfErr result (λ fault. fault ≡ AddFault.OutOfMemory) }
     {
         let rows = rows_of(alloc, &self.bands)?;
-        Ok(Picture::from_rows(alloc, turned_rows(alloc, &rows)?)?)
+        Picture::from_rows(alloc, turned_rows(alloc, &rows)?)
     }
 
     /// The picture with corners added to it; the given one is unchanged. It shares the bands that no corner

@@ -9,7 +9,8 @@ use crate::bounds::Box4;
 use crate::field::{FIELD_END, FIELD_START, is_lawful_weight};
 
 /// `len` pixels of row `y` from column `x` to the right, all of one weight. As an answer it is maximal:
-/// neither neighbour in its row has its weight.
+/// neither neighbour in its row has its weight. In a picture its pixels lie in the field, so `x` and `y` are
+/// in -4095..4094 and `len` in 1..8190, and `weight` is in -32767..32767 and not 0.
 #[derive(Clone, Copy, Debug, PartialEq, Eq)]
 pub struct Run {
     pub y: i32,

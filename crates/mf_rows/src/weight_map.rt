@@ -3,7 +3,8 @@ ghost use Rattle.std.specs.Prelude.{◌≡◌};
 ghost use Rattle.mf_rows.specs.Dots.{IsLawfulWeight};
 ghost use Rattle.mf_rows.specs.WeightMaps.{chosen, mapped_to, IsWeightMap};
 
-/// What each weight of a picture becomes, by itself.
+/// What each weight of a picture becomes, by itself. A picture may be mapped so where weight 0 stays 0 and weights in
+/// -32767..32767 become such weights.
 #[derive(Clone, Copy, Debug, PartialEq, Eq)]
 pub enum WeightMap {
     /// The negated weight.
@@ -12,7 +13,9 @@ pub enum WeightMap {
     Choose(Choice),
 }
 
-/// Weights in `low..=high` become `inside`, and all others `outside`.
+/// Weights in `low..=high` become `inside`, and all others `outside` (`cull`: The METAFONTbook, chapter 13). `low` and
+/// `high` are any numbers. A picture may be mapped so where `inside` and `outside` are in -32767..32767, and the one
+/// that 0 becomes is 0.
 #[derive(Clone, Copy, Debug, PartialEq, Eq)]
 pub struct Choice {
     pub low: i32,

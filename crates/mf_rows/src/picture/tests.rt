@@ -125,6 +125,7 @@ fn sums_share_the_bands_that_only_one_has(rt: HostRuntime) -> Result<(), Fail> {
 #[test]
 fn neighbours_with_the_same_edges_share_them(rt: HostRuntime) -> Result<(), Fail> {
     let negated = tall(rt.alloc())?.map_weights(rt.alloc(), &WeightMap::Negate)?;
+    assert_eq!(rt; negated.bands.len(), 512, "bands of the field");
     for band in &negated.bands {
         for row in &band.rows {
             assert_eq!(rt;
@@ -143,6 +144,8 @@ fn mirrored_rows_share_their_edges(rt: HostRuntime) -> Result<(), Fail> {
     let corners = corners_of(&rt, rt.alloc(), &[make_rectangle(1, 10, 6, 13, 2)])?;
     let picture = Picture::blank(rt.alloc()).with_corners(rt.alloc(), corners)?;
     let mirrored = picture.mirror_rows(rt.alloc())?;
+    // Rows -13 to -11 belong to one band, that of rows -17 to -2.
+    assert_eq!(rt; mirrored.bands.len(), 1, "bands of the rectangle");
     for band in &mirrored.bands {
         assert_eq!(rt; band.rows.len(), 3, "rows of the rectangle");
         for row in &band.rows {

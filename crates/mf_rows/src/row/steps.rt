@@ -1,8 +1,8 @@
 //! How rows are made and shared.
-ghost use Rattle.std.specs.Prelude.{◌≡◌, IfOk};
+ghost use Rattle.std.specs.Prelude.{◌≡◌, IfOk, IsNone};
 ghost use Rattle.mf_rows.specs.Bands.{edge_row};
 ghost use Rattle.mf_rows.specs.Edges.{AreEdges};
-ghost use Rattle.mf_rows.specs.Reaches.{HasReach, StaysInReach};
+ghost use Rattle.mf_rows.specs.Reaches.{HasReach, IsAttained, StaysInReach};
 
 use super::Row;
 use crate::edge::{Edge, reach_of};
@@ -63,7 +63,8 @@ impl Row {
     /// A size that none of its weights passes: the one that is known, or the least.
     pub(crate) fn reach(&self) -> i32
         requires { AreEdges (edge_row self.now).edges }
-        ensures { StaysInReach result (edge_row self.now).edges }
+        ensures stays { StaysInReach result (edge_row self.now).edges }
+        ensures attained { IsNone self.now.reach → IsAttained result (edge_row self.now).edges }
     {
         match self.reach {
             Some(reach) => i32::from(reach),

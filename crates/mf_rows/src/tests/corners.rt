@@ -173,7 +173,17 @@ fn stop_at_the_greatest_weight(rt: HostRuntime) -> Result<(), Fail> {
             Err(fault) => Err(fault),
         };
         assert_eq!(rt; answer, expected, "{pixel:?}");
-        slow.assert_answers_of(&rt, rt.alloc(), 0, &picture)?;
+        let mut changed = picture.copy(rt.alloc())?;
+        let corners = corners_of(&rt, rt.alloc(), &[pixel])?;
+        let answer = match changed.add_corners(rt.alloc(), corners) {
+            Ok(()) => Ok(changed.weight(1, y)),
+            Err(fault) => Err(fault),
+        };
+        assert_eq!(rt; answer, expected, "{pixel:?} in place");
+        if answer.is_err() {
+            slow.assert_answers_of(&rt, rt.alloc(), 0, &changed)?;
+        }
+        slow.assert_answers_of(&rt, rt.alloc(), 1, &picture)?;
     }
     Ok(())
 }

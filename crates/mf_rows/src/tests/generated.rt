@@ -3,6 +3,7 @@
 use super::chance::Chance;
 use super::slow::{SlowPicture, both_forms};
 use crate::builder::RowBuilder;
+use crate::field::FIELD_START;
 use crate::picture::Picture;
 use crate::run::Run;
 use mf_geom::OutOfMemory;
@@ -18,19 +19,32 @@ pub(crate) const ROWS: [i32; 13] = [
 pub(crate) const STARTS: [i32; 3] = [-4095, -9, 4075];
 
 /// Weights of runs: few, so that touching runs often have equal or opposite weights.
-const WEIGHTS: [i32; 5] = [1, -1, 2, 32767, -32767];
+pub(crate) const WEIGHTS: [i32; 5] = [1, -1, 2, 32767, -32767];
+
+/// Weights of which no two together are too large.
+pub(crate) const SMALL_WEIGHTS: [i32; 5] = [1, -1, 2, -2, 3];
 
 /// Pictures for each of the starts.
 const PICTURES: u32 = 12;
 
 /// Runs by chance in each of the rows, with gaps of up to two columns. Some pass the right edge of the
-/// field.
+/// field. Other starts have other runs.
 pub(crate) fn runs_by_chance(
     alloc: Global,
     seed: u32,
     start: i32,
 ) -> Result<Vec<Run>, OutOfMemory> {
-    let mut chance = Chance::new(seed);
+    runs_of_weights(alloc, seed, start, &WEIGHTS)
+}
+
+/// Such runs, of these weights.
+pub(crate) fn runs_of_weights(
+    alloc: Global,
+    seed: u32,
+    start: i32,
+    weights: &[i32; 5],
+) -> Result<Vec<Run>, OutOfMemory> {
+    let mut chance = Chance::new(seed.wrapping_add(start.abs_diff(FIELD_START)));
     let mut runs = Vec::new(alloc);
     for y in ROWS {
         let mut x = start;
@@ -41,7 +55,7 @@ pub(crate) fn runs_by_chance(
                 y,
                 x,
                 len,
-                weight: chance.one_of(&WEIGHTS),
+                weight: chance.one_of(weights),
             })?;
             x = x.wrapping_add(len as i32);
         }

@@ -10,8 +10,8 @@ use std::alloc::Global;
 use std::process::Abort;
 use std::test::Fail;
 
-/// The side of the areas of rectangles by chance, and their lowest rows: in the middle of a band, across
-/// borders of bands, and at the edges of the field.
+/// The side of the areas of rectangles by chance, which is more than the 16 rows of a band, so that each area
+/// crosses a border of bands; and their lowest rows: inside the field, and at its edges.
 const SIDE: u32 = 20;
 
 const BOTTOMS: [i32; 5] = [0, 4020, 3950, -4095, 4075];

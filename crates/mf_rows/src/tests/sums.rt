@@ -3,7 +3,7 @@
 ghost use Rattle.std.specs.Prelude.{◌≡◌};
 ghost use Rattle.mf_rows.specs.WeightMaps.{IsWeightMap};
 
-use super::generated::{ROWS, STARTS, runs_by_chance};
+use super::generated::{ROWS, SMALL_WEIGHTS, STARTS, WEIGHTS, runs_by_chance, runs_of_weights};
 use super::slow::{SlowPicture, both_forms};
 use crate::fault::AddFault;
 use crate::picture::Picture;
@@ -59,19 +59,30 @@ fn assert_sum(
 #[test]
 fn sums_are_those_of_their_slow_forms(rt: HostRuntime) -> Result<(), Fail> {
     let alloc = rt.alloc();
+    let (mut sums, mut refusals) = (0u32, 0u32);
     for start in STARTS {
         for seed in 0..PAIRS {
-            let (left, slow_left) = both_forms(&rt, alloc, &runs_by_chance(alloc, seed, start)?)?;
-            let (right, slow_right) = both_forms(
-                &rt,
-                alloc,
-                &runs_by_chance(alloc, seed + PAIRS, start)?,
-            )?;
+            // Nearly all sums of large weights are refused, so most pairs have small ones.
+            let weights = if seed % 4 == 0 {
+                WEIGHTS
+            } else {
+                SMALL_WEIGHTS
+            };
+            let one = runs_of_weights(alloc, seed, start, &weights)?;
+            let other = runs_of_weights(alloc, seed + PAIRS, start, &weights)?;
+            let (left, slow_left) = both_forms(&rt, alloc, &one)?;
+            let (right, slow_right) = both_forms(&rt, alloc, &other)?;
             let slow = slow_sum(alloc, start, &slow_left, &slow_right)?;
             assert_sum(&rt, alloc, seed as usize, &left.plus(alloc, &right), &slow)?;
             assert_sum(&rt, alloc, seed as usize, &right.plus(alloc, &left), &slow)?;
+            match slow {
+                Some(_) => sums = sums.wrapping_add(1),
+                None => refusals = refusals.wrapping_add(1),
+            }
         }
     }
+    assert!(rt; sums > PAIRS, "pairs that have a sum");
+    assert!(rt; refusals > 0, "pairs whose sum is refused");
     Ok(())
 }
 

@@ -5,14 +5,14 @@ use Rattle.mf_rows.proofs.row_sum.sum_of_both.Goals as goal
 
 pub overflow_cast-result : goal.overflow_cast-result
 overflow_cast-result c =
-    let room = room_of_reaches _ _ _ _ c.reach.ensures c.reach-then-edges-le-FEW_EDGES.ensures c.if-reach-le-MAX_WEIGHT.true in
-    let sum = sum_of_reaches _ _ _ _ c.reach.ensures c.reach-then-edges-le-FEW_EDGES.ensures room in
+    let room = room_of_reaches _ _ _ _ c.reach.ensures.stays c.reach-then-edges-le-FEW_EDGES.ensures.stays c.if-reach-le-MAX_WEIGHT.true in
+    let sum = sum_of_reaches _ _ _ _ c.reach.ensures.stays c.reach-then-edges-le-FEW_EDGES.ensures.stays room in
     rw (sum.left, sum.right, sum.is) (cast_fits _ sum.least sum.greatest)
 
 pub returns-then-reach-le-MAX_WEIGHT-clause-reach : goal.returns-then-reach-le-MAX_WEIGHT-clause-reach
 returns-then-reach-le-MAX_WEIGHT-clause-reach c =
-    let left = c.reach.ensures in
-    let right = c.reach-then-edges-le-FEW_EDGES.ensures in
+    let left = c.reach.ensures.stays in
+    let right = c.reach-then-edges-le-FEW_EDGES.ensures.stays in
     let room = room_of_reaches _ _ _ _ left right c.if-reach-le-MAX_WEIGHT.true in
     let sum = sum_of_reaches _ _ _ _ left right room in
     let weights = rw (c.edges-then-reach-le-MAX_WEIGHT.ensures, c.edges-then-reach-le-MAX_WEIGHT-2.ensures) at c.in_ok-sum.ensures.weights in

@@ -1,5 +1,7 @@
 use Rattle.std.proofs.Common.{◌≡◌, subst, ap, ◌∙◌}
+use Rattle.std.proofs.lemmas.Result.{IfOk-weaker}
 use Rattle.mf_rows.specs.Bands.{edge_rows, rows_of_bands}
+use Rattle.mf_rows.specs.Dots.{IsPicture}
 use Rattle.mf_rows.specs.Edges.{picture_of_rows}
 use Rattle.mf_rows.specs.Moves.{turned_at}
 use Rattle.mf_rows.specs.RowChanges.{turned_in_rows}
@@ -15,8 +17,11 @@ returns-clause-weights c =
     let all : edge_rows c.deref-2.result.now ≡ rows = ap edge_rows c.deref-2.ensures.value ∙ c.in_ok-rows.ensures ∙ ap rows_of_bands c.deref.ensures.value in
     let weights = subst (λ ss. HaveRowWeights (turned_in_rows ss) turned) all c.in_ok-turned_rows.ensures.weights in
     let has = weights_turned rows turned c.self.invariant c.in_ok-turned_rows.ensures.rows weights in
-    rw c.in_ok-from_rows.ensures (subst (λ ds. HasWeights (turned_at ds) (picture_of_rows turned)) c.self.view_is has)
+    IfOk-weaker c.from_rows.result (λ picture. picture ≡ picture_of_rows turned) (HasWeights (turned_at c.args.self.now))
+    (λ picture is. rw is (subst (λ ds. HasWeights (turned_at ds) (picture_of_rows turned)) c.self.view_is has)) c.from_rows.ensures
 
 pub returns-clause-lawful : goal.returns-clause-lawful
 returns-clause-lawful c =
-    rw c.in_ok-from_rows.ensures (lawful_picture_of_rows (edge_rows c.in_ok-turned_rows.field-0.items) c.in_ok-turned_rows.ensures.rows)
+    let turned = edge_rows c.in_ok-turned_rows.field-0.items in
+    IfOk-weaker c.from_rows.result (λ picture. picture ≡ picture_of_rows turned) IsPicture
+    (λ picture is. rw is (lawful_picture_of_rows turned c.in_ok-turned_rows.ensures.rows)) c.from_rows.ensures
