@@ -3,7 +3,7 @@ use Rattle.std.proofs.Common.{◌≡◌, ℕ, List, [], ◌∷◌, ◌++◌, Opt
 use Rattle.std.specs.Prelude.{IfErr}
 use Rattle.std.specs.Result.{IsErrAnd}
 use Rattle.mf_text.specs.declared.command.Name.{Name}
-use Rattle.mf_text.specs.declared.reader.Syntax.{Syntax}
+use Rattle.mf_text.specs.declared.reader.SyntaxFault.{SyntaxFault}
 use Rattle.mf_text.specs.declared.sentence.Sentence.{Sentence}
 use Rattle.mf_text.specs.declared.token.Token.{Token}
 use Rattle.mf_text.specs.Ahead.{Ahead, skip}
@@ -15,7 +15,7 @@ use Rattle.mf_text.specs.Tokens.{kinds}
 use Rattle.mf_text.proofs.Expected.{first, IsNoneOf, Expects, ExpectsLast, stuck-behind, wrong-behind, wrong-further, says-further, wrong-behind_token, says-behind_token}
 
 -- the exit of a `?` returns the fault that came
-pub behind-exit : {T : Type 0} (r : Result T Syntax) (before : List Token) (ahead : Ahead) (fault : Syntax) → IsErrAnd r (λ y. y ≡ fault)
+pub behind-exit : {T : Type 0} (r : Result T SyntaxFault) (before : List Token) (ahead : Ahead) (fault : SyntaxFault) → IsErrAnd r (λ y. y ≡ fault)
     → IsWrongBehind before ahead fault.column
     → IfErr r (λ y. IsWrongBehind before ahead y.column)
 behind-exit (Ok x) before ahead fault none wrong = tt

@@ -32,7 +32,8 @@ pub enum Command {
     Cull(Name, Cull),
     /// `p := nullpicture`
     Clear(Name),
-    /// `p := p shifted (dx, dy)`, in pixels to the right and upwards
+    /// `p := p shifted (dx, dy)`, in pixels to the right and upwards, each from -999,999,999 to 999,999,999, as numbers
+    /// of a line are
     Shift(Name, i32, i32),
     /// `p := p scaled s`, `xscaled s`, `yscaled s`
     Scale(Name, Scale),
@@ -45,7 +46,7 @@ pub enum Command {
     /// `proof p`
     Proof(Source),
     /// `shipout p code c dx d width w`: the code, from 0 to 255, the escapement in 1/65536 pixel, and the width in
-    /// 1/1048576 of the design size
+    /// 1/1048576 of the design size, both from -999,999,999 to 999,999,999
     Ship(Source, u8, i32, i32),
     /// `publish`
     Publish,

@@ -10,13 +10,13 @@ pub enum TextFault {
     Cycle(CycleFault),
     /// Refusal 7: a weight other than -3, -2, -1, 1, 2 and 3.
     BadWeight,
-    /// Refusal 8: a range of weights that no cull has.
+    /// Refusal 8: a range of weights that the cull may not have.
     BadCull,
     /// Refusal 9: a factor that is 0 or beyond 4095 in size.
     BadScale,
     /// Refusal 10: an angle other than 90, 180 and 270 degrees.
     BadTurn,
-    /// Refusal 14. It may come in the place of 1 to 7, of a contour alone.
+    /// Refusal 14. Of a contour alone it may come, in the place of 1 to 7 or of the command.
     OutOfMemory,
     /// Refusal 16: more than 65,536 bytes.
     LineTooLong,

@@ -11,7 +11,7 @@ mod words;
 
 /// What stands before a reader is no phrase that it looks for: the column at which that shows.
 #[derive(Clone, Copy, Debug, PartialEq, Eq)]
-pub struct Syntax {
+pub struct SyntaxFault {
     pub(crate) column: u32,
 }
 

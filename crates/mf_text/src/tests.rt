@@ -8,6 +8,7 @@ mod values;
 use crate::command::Command;
 use crate::fault::TextFault;
 use crate::value::read_command;
+use mf_ops::{Cull, Weight};
 use std::alloc::Global;
 use std::process::Abort;
 
@@ -25,4 +26,16 @@ pub(crate) fn read(rt: &impl Abort, alloc: Global, line: &str) -> Command {
         Ok(command) => command,
         Err(fault) => panic!(rt; "{line} is refused: {fault:?}"),
     }
+}
+
+/// The cull that keeps the weights from the least to the greatest, and makes them this one.
+pub(crate) fn keeping(rt: &impl Abort, least: i32, greatest: i32, weight: i32) -> Cull {
+    let weight = Weight::new(weight).expect(rt, "the weight is lawful");
+    Cull::keeping(least, greatest, weight).expect(rt, "the range may be kept")
+}
+
+/// The cull that drops the weights from the least to the greatest, and makes all others this one.
+pub(crate) fn dropping(rt: &impl Abort, least: i32, greatest: i32, weight: i32) -> Cull {
+    let weight = Weight::new(weight).expect(rt, "the weight is lawful");
+    Cull::dropping(least, greatest, weight).expect(rt, "the range may be dropped")
 }

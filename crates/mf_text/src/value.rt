@@ -25,7 +25,7 @@ const MAX_LINE: usize = 65536;
 /// The command of a line, which is given without its end. Refusals LineTooLong (16), NotAscii (17), Syntax (18), then
 /// those of the values: of a contour the fault of its cycle (1 to 6) and BadWeight (7), of a cull BadWeight (7) and
 /// BadCull (8), of a scale BadScale (9), of a turn BadTurn (10). OutOfMemory (14) comes of a contour alone, in the
-/// place of 1 to 7.
+/// place of 1 to 7 or of the command.
 pub fn read_command(alloc: Global, line: &[u8]) -> Result<Command, TextFault>
     ensures given { IfOk result (Gives line.now) }
     ensures refused { IfErr result (IsRefused line.now) }
@@ -113,10 +113,10 @@ fn keeping(name: Name, range: Point, weight: i32) -> Result<Command, TextFault>
     ensures given { IfOk result (IsCull name (Keeping range.x range.y weight) weight) }
     ensures refused { IfErr result (IsRefusedCull (Keeping range.x range.y weight) weight) }
 {
-    let Ok(made) = Weight::new(weight) else {
+    let Ok(kept) = Weight::new(weight) else {
         return Err(TextFault::BadWeight);
     };
-    match Cull::keeping(range.x, range.y, made) {
+    match Cull::keeping(range.x, range.y, kept) {
         Ok(cull) => Ok(Command::Cull(name, cull)),
         Err(_) => Err(TextFault::BadCull),
     }
@@ -127,10 +127,10 @@ fn dropping(name: Name, range: Point, weight: i32) -> Result<Command, TextFault>
     ensures given { IfOk result (IsCull name (Dropping range.x range.y weight) weight) }
     ensures refused { IfErr result (IsRefusedCull (Dropping range.x range.y weight) weight) }
 {
-    let Ok(made) = Weight::new(weight) else {
+    let Ok(others) = Weight::new(weight) else {
         return Err(TextFault::BadWeight);
     };
-    match Cull::dropping(range.x, range.y, made) {
+    match Cull::dropping(range.x, range.y, others) {
         Ok(cull) => Ok(Command::Cull(name, cull)),
         Err(_) => Err(TextFault::BadCull),
     }

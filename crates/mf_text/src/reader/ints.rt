@@ -6,13 +6,13 @@ ghost use Rattle.mf_text.specs.Readers.{ahead};
 ghost use Rattle.mf_text.specs.Syntax.{IsNoCode};
 ghost use Rattle.mf_text.specs.Tails.{spell_last_int, spell_last_weight, last_weight_value};
 
-use super::{Reader, Syntax};
+use super::{Reader, SyntaxFault};
 use crate::token::{Mark, Token, Word};
 use mf_geom::Point;
 
 impl Reader<'_> {
     /// Takes a number, with `-` before it or not.
-    pub fn int(&mut self) -> Result<i32, Syntax>
+    pub fn int(&mut self) -> Result<i32, SyntaxFault>
         ensures taken { IfOk result (λ n. IsTaken spell_int (λ tree value. value ≡ int_value tree) (ahead self.old) n (ahead self.new)) }
         ensures stuck { IfErr result (λ fault. IsStuck spell_int (ahead self.old) fault.column) }
     {
@@ -31,7 +31,7 @@ impl Reader<'_> {
     }
 
     /// Takes the int behind `code`, which is a byte. Of another the refusal is that of its first token.
-    pub fn code(&mut self) -> Result<u8, Syntax>
+    pub fn code(&mut self) -> Result<u8, SyntaxFault>
         ensures taken { IfOk result (λ n. IsTaken spell_code (λ tree value. value ≡ code_value tree) (ahead self.old) n (ahead self.new)) }
         ensures stuck { IfErr result (λ fault. IsNoCode (ahead self.old) fault.column) }
     {
@@ -43,7 +43,7 @@ impl Reader<'_> {
     }
 
     /// Takes a pair.
-    pub fn pair(&mut self) -> Result<Point, Syntax>
+    pub fn pair(&mut self) -> Result<Point, SyntaxFault>
         ensures taken { IfOk result (λ p. IsTaken spell_pair (λ tree value. value ≡ pair_value tree) (ahead self.old) p (ahead self.new)) }
         ensures stuck { IfErr result (λ fault. IsStuck spell_pair (ahead self.old) fault.column) }
     {
@@ -56,7 +56,7 @@ impl Reader<'_> {
     }
 
     /// Takes the end of the line: `;` or nothing.
-    pub fn end(&mut self) -> Result<(), Syntax>
+    pub fn end(&mut self) -> Result<(), SyntaxFault>
         ensures whole { IfOk result (λ v. IsWhole spell_end (λ tree value. Unit {0}) (ahead self.old) v) }
         ensures wrong { IfErr result (λ fault. IsWrong spell_end (ahead self.old) fault.column) }
     {
@@ -68,7 +68,7 @@ impl Reader<'_> {
     }
 
     /// Takes a number and the end of the line.
-    pub fn last_int(&mut self) -> Result<i32, Syntax>
+    pub fn last_int(&mut self) -> Result<i32, SyntaxFault>
         ensures whole { IfOk result (λ n. IsWhole spell_last_int (λ tree value. value ≡ int_value tree.int) (ahead self.old) n) }
         ensures wrong { IfErr result (λ fault. IsWrong spell_last_int (ahead self.old) fault.column) }
     {
@@ -78,7 +78,7 @@ impl Reader<'_> {
     }
 
     /// Takes `withweight` with a number, if it is there, and the end of the line. Without it the weight is 1.
-    pub fn last_weight(&mut self) -> Result<i32, Syntax>
+    pub fn last_weight(&mut self) -> Result<i32, SyntaxFault>
         ensures whole { IfOk result (λ n. IsWhole spell_last_weight (λ tree value. value ≡ last_weight_value tree) (ahead self.old) n) }
         ensures wrong { IfErr result (λ fault. IsWrong spell_last_weight (ahead self.old) fault.column) }
     {

@@ -4,7 +4,7 @@ ghost use Rattle.mf_text.specs.Ahead.{column_at, skip};
 ghost use Rattle.mf_text.specs.Readers.{ahead, kinds_ahead, IsNotNext};
 ghost use Rattle.mf_text.specs.Tokens.{tokens};
 
-use super::{Reader, Syntax};
+use super::{Reader, SyntaxFault};
 use crate::token::{Placed, Token};
 use crate::tokens::Tokens;
 
@@ -24,14 +24,14 @@ impl<'a> Reader<'a> {
     }
 
     /// The refusal of the token that is to be read next, or of the end.
-    pub fn syntax(&self) -> Syntax
+    pub fn syntax(&self) -> SyntaxFault
         ensures { result.column ≡ column_at (ahead self.now) 0 }
     {
         let column = match self.next {
             Some(placed) => placed.column,
             None => self.past,
         };
-        Syntax { column }
+        SyntaxFault { column }
     }
 
     /// Goes on behind this token, if it is the next one.

@@ -4,13 +4,13 @@ ghost use Rattle.mf_text.specs.Grammar.{spell_word, spell_mark, spell_name, spel
 ghost use Rattle.mf_text.specs.Phrases.{literal, IsTaken, IsStuck};
 ghost use Rattle.mf_text.specs.Readers.{ahead};
 
-use super::{Reader, Syntax};
+use super::{Reader, SyntaxFault};
 use crate::command::{Name, Source};
 use crate::token::{Mark, Token, Word};
 
 impl Reader<'_> {
     /// Takes this word.
-    pub fn word(&mut self, word: Word) -> Result<(), Syntax>
+    pub fn word(&mut self, word: Word) -> Result<(), SyntaxFault>
         ensures taken { IfOk result (λ v. IsTaken (literal (spell_word word)) (λ one value. Unit {0}) (ahead self.old) v (ahead self.new)) }
         ensures stuck { IfErr result (λ fault. IsStuck (literal (spell_word word)) (ahead self.old) fault.column) }
     {
@@ -21,7 +21,7 @@ impl Reader<'_> {
     }
 
     /// Takes this mark.
-    pub fn mark(&mut self, mark: Mark) -> Result<(), Syntax>
+    pub fn mark(&mut self, mark: Mark) -> Result<(), SyntaxFault>
         ensures taken { IfOk result (λ v. IsTaken (literal (spell_mark mark)) (λ one value. Unit {0}) (ahead self.old) v (ahead self.new)) }
         ensures stuck { IfErr result (λ fault. IsStuck (literal (spell_mark mark)) (ahead self.old) fault.column) }
     {
@@ -32,7 +32,7 @@ impl Reader<'_> {
     }
 
     /// Takes a name.
-    pub fn name(&mut self) -> Result<Name, Syntax>
+    pub fn name(&mut self) -> Result<Name, SyntaxFault>
         ensures taken { IfOk result (λ name. IsTaken spell_name (λ tree value. value ≡ tree) (ahead self.old) name (ahead self.new)) }
         ensures stuck { IfErr result (λ fault. IsStuck spell_name (ahead self.old) fault.column) }
     {
@@ -50,7 +50,7 @@ impl Reader<'_> {
     }
 
     /// Takes this name.
-    pub fn same_name(&mut self, name: Name) -> Result<(), Syntax>
+    pub fn same_name(&mut self, name: Name) -> Result<(), SyntaxFault>
         ensures taken { IfOk result (λ v. IsTaken (literal (spell_name name)) (λ one value. Unit {0}) (ahead self.old) v (ahead self.new)) }
         ensures stuck { IfErr result (λ fault. IsStuck (literal (spell_name name)) (ahead self.old) fault.column) }
     {
@@ -66,7 +66,7 @@ impl Reader<'_> {
     }
 
     /// Takes a source.
-    pub fn source(&mut self) -> Result<Source, Syntax>
+    pub fn source(&mut self) -> Result<Source, SyntaxFault>
         ensures taken { IfOk result (λ source. IsTaken spell_source (λ tree value. value ≡ tree) (ahead self.old) source (ahead self.new)) }
         ensures stuck { IfErr result (λ fault. IsStuck spell_source (ahead self.old) fault.column) }
     {

@@ -6,14 +6,14 @@ ghost use Rattle.mf_text.specs.Syntax.{IsShownBehind, IsSyntaxFault, IsWrongBehi
 
 use super::{Motion, Sentence};
 use crate::command::Name;
-use crate::reader::{Reader, Syntax};
+use crate::reader::{Reader, SyntaxFault};
 use crate::token::{Mark, Token, Word};
 use mf_ops::Sign;
 use std::alloc::Global;
 
 impl Reader<'_> {
     /// Reads a line.
-    pub fn line(&mut self, alloc: Global) -> Result<Sentence, Syntax>
+    pub fn line(&mut self, alloc: Global) -> Result<Sentence, SyntaxFault>
         ensures says { IfOk result (Says [] (ahead self.old)) }
         ensures wrong { IfErr result (λ fault. IsSyntaxFault (ahead self.old) fault.column) }
     {
@@ -48,7 +48,7 @@ impl Reader<'_> {
     }
 
     /// Reads what stands behind `addto`.
-    fn addto(&mut self, alloc: Global) -> Result<Sentence, Syntax>
+    fn addto(&mut self, alloc: Global) -> Result<Sentence, SyntaxFault>
         ensures says { IfOk result (Says (spell_word Word.Addto) (ahead self.old)) }
         ensures wrong { IfErr result (λ fault. IsWrongBehind (spell_word Word.Addto) (ahead self.old) fault.column) }
     {
@@ -61,7 +61,7 @@ impl Reader<'_> {
     }
 
     /// Reads what stands behind `contour`.
-    fn contour(&mut self, alloc: Global, name: Name) -> Result<Sentence, Syntax>
+    fn contour(&mut self, alloc: Global, name: Name) -> Result<Sentence, SyntaxFault>
         ensures says { IfOk result (Says (spell_word Word.Addto ++ spell_name name ++ spell_word Word.Contour) (ahead self.old)) }
         ensures wrong { IfErr result (λ fault. IsWrongBehind (spell_word Word.Addto ++ spell_name name ++ spell_word Word.Contour) (ahead self.old) fault.column) }
     {
@@ -71,7 +71,7 @@ impl Reader<'_> {
     }
 
     /// Reads what stands behind `also`.
-    fn also(&mut self, name: Name) -> Result<Sentence, Syntax>
+    fn also(&mut self, name: Name) -> Result<Sentence, SyntaxFault>
         ensures says { IfOk result (Says (spell_word Word.Addto ++ spell_name name ++ spell_word Word.Also) (ahead self.old)) }
         ensures wrong { IfErr result (λ fault. IsWrongBehind (spell_word Word.Addto ++ spell_name name ++ spell_word Word.Also) (ahead self.old) fault.column) }
     {
@@ -84,7 +84,7 @@ impl Reader<'_> {
     }
 
     /// Reads what stands behind `cull`.
-    fn cull(&mut self) -> Result<Sentence, Syntax>
+    fn cull(&mut self) -> Result<Sentence, SyntaxFault>
         ensures says { IfOk result (Says (spell_word Word.Cull) (ahead self.old)) }
         ensures wrong { IfErr result (λ fault. IsWrongBehind (spell_word Word.Cull) (ahead self.old) fault.column) }
     {
@@ -99,7 +99,7 @@ impl Reader<'_> {
     }
 
     /// Reads what stands behind `show`.
-    fn show(&mut self) -> Result<Sentence, Syntax>
+    fn show(&mut self) -> Result<Sentence, SyntaxFault>
         ensures says { IfOk result (Says (spell_word Word.Show) (ahead self.old)) }
         ensures wrong { IfErr result (λ fault. IsWrongBehind (spell_word Word.Show) (ahead self.old) fault.column) }
     {
@@ -110,7 +110,7 @@ impl Reader<'_> {
     }
 
     /// Reads what stands behind `shipout`.
-    fn shipout(&mut self) -> Result<Sentence, Syntax>
+    fn shipout(&mut self) -> Result<Sentence, SyntaxFault>
         ensures says { IfOk result (Says (spell_word Word.Shipout) (ahead self.old)) }
         ensures wrong { IfErr result (λ fault. IsShownBehind (spell_word Word.Shipout) (ahead self.old) fault.column) }
     {
@@ -125,7 +125,7 @@ impl Reader<'_> {
     }
 
     /// Reads what stands behind the name at the front.
-    fn assignment(&mut self, name: Name) -> Result<Sentence, Syntax>
+    fn assignment(&mut self, name: Name) -> Result<Sentence, SyntaxFault>
         ensures says { IfOk result (Says (spell_name name) (ahead self.old)) }
         ensures wrong { IfErr result (λ fault. IsWrongBehind (spell_name name) (ahead self.old) fault.column) }
     {
@@ -139,7 +139,7 @@ impl Reader<'_> {
     }
 
     /// Reads what stands behind the second name.
-    fn transform(&mut self, name: Name) -> Result<Sentence, Syntax>
+    fn transform(&mut self, name: Name) -> Result<Sentence, SyntaxFault>
         ensures says { IfOk result (Says (spell_name name ++ spell_mark Mark.Becomes ++ spell_name name) (ahead self.old)) }
         ensures wrong { IfErr result (λ fault. IsWrongBehind (spell_name name ++ spell_mark Mark.Becomes ++ spell_name name) (ahead self.old) fault.column) }
     {

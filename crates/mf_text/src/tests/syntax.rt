@@ -1,8 +1,12 @@
 //! Where lines go wrong.
 
-use super::assert_refused;
+use super::{assert_refused, keeping};
+use crate::command::{Command, Name, Source};
 use crate::fault::TextFault;
 use crate::value::read_command;
+use mf_geom::CycleFault;
+use mf_ops::Sign;
+use std::process::Abort;
 use std::test::Fail;
 
 /// Lines that are in no grammar, each with the column at which that shows.
@@ -75,7 +79,7 @@ fn columns(rt: HostRuntime) -> Result<(), Fail> {
     Ok(())
 }
 
-/// Columns count from 1, so this says that the form of a cut line is lawful.
+/// Columns count from 1, so this says that the form of a cut line is lawful: it has the answer of `is_whole`.
 const WHOLE: u32 = 0;
 
 /// Lines of the grammar, each with the column at which it goes wrong where only its first 0, 1, 2, .. bytes are there.
@@ -126,17 +130,61 @@ const CUTS: &[(&str, &[u32])] = &[
     ),
 ];
 
+fn register(number: u8) -> Source {
+    Source::Named(Name::Register(number))
+}
+
+/// Whether a cut line is one whose form is lawful, and this is its answer.
+fn is_whole(rt: &impl Abort, cut: &[u8], answer: &Result<Command, TextFault>) -> bool {
+    let a = Name::Register(0);
+    match (cut, answer) {
+        (b"", Ok(Command::Nothing)) => true,
+        (b"show t", Ok(Command::Show(source))) => *source == register(19),
+        (b"show totalweight b" | b"show totalweight b ", Ok(Command::Total(source))) => {
+            *source == register(1)
+        }
+        (b"cull a keeping (1,3)" | b"cull a keeping (1,3) ", Ok(Command::Cull(name, rule))) => {
+            (*name, *rule) == (a, keeping(rt, 1, 3, 1))
+        }
+        (b"cull a keeping (1,3) withweight -2", Ok(Command::Cull(name, rule))) => {
+            (*name, *rule) == (a, keeping(rt, 1, 3, -2))
+        }
+        (b"addto b also -c", Ok(Command::Also(name, source, sign))) => {
+            (*name, *source, *sign) == (Name::Register(1), register(2), Sign::Minus)
+        }
+        (b"addto a contour (0,-1)--cycle", Err(fault)) => {
+            *fault == TextFault::Cycle(CycleFault::TooFewPoints)
+        }
+        (b"shipout a code 65 dx 327680 width -1", Ok(Command::Ship(source, code, dx, width))) => {
+            (*source, *code, *dx, *width) == (register(0), 65, 327_680, -1)
+        }
+        (b"shipout a code 65 dx 327680 width -12", Ok(Command::Ship(source, code, dx, width))) => {
+            (*source, *code, *dx, *width) == (register(0), 65, 327_680, -12)
+        }
+        (b"z:=z rotated 9", Err(fault)) => *fault == TextFault::BadTurn,
+        _ => false,
+    }
+}
+
 #[test]
 fn cut_lines(rt: HostRuntime) -> Result<(), Fail> {
     for (line, columns) in CUTS {
         assert_eq!(rt; columns.len(), line.len(), "{line}");
         for (end, column) in columns.iter().enumerate() {
-            let found = match read_command(rt.alloc(), &line.as_bytes()[..end]) {
-                Err(TextFault::Syntax(found)) => found,
-                // A value may be refused where the form is lawful.
-                _ => WHOLE,
-            };
-            assert_eq!(rt; found, *column, "{line} cut at {end}");
+            let cut = &line.as_bytes()[..end];
+            let answer = read_command(rt.alloc(), cut);
+            match &answer {
+                Err(TextFault::Syntax(found)) => {
+                    assert_eq!(rt; *found, *column, "{line} cut at {end}")
+                }
+                _ => {
+                    assert_eq!(rt; *column, WHOLE, "{line} cut at {end} is of lawful form");
+                    assert!(rt;
+                        is_whole(&rt, cut, &answer),
+                        "{line} cut at {end}: {answer:?}"
+                    );
+                }
+            }
         }
     }
     Ok(())

@@ -46,16 +46,19 @@ fn run(y: i32, x: i32, len: u32, weight: i32) -> Run {
     Run { y, x, len, weight }
 }
 
+/// Adds a run, which must fit behind the others.
+fn push(rt: &impl Abort, builder: &mut RowBuilder, run: Run) {
+    assert!(rt; builder.fits(&run), "{run:?}");
+    builder
+        .push_run(run)
+        .expect(rt, "there is room for the run");
+}
+
 /// The picture of these runs.
 fn built(rt: &impl Abort, alloc: Global, runs: &[Run]) -> Picture {
     let mut builder = RowBuilder::new(alloc);
     for run in runs {
-        assert!(rt; builder.fits(run), "{run:?}");
-        if builder.fits(run) {
-            builder
-                .push_run(*run)
-                .expect(rt, "there is room for the run");
-        }
+        push(rt, &mut builder, *run);
     }
     builder.finish().expect(rt, "there is room for the picture")
 }
@@ -132,11 +135,9 @@ fn weights_have_characters(rt: HostRuntime) {
     }
     let mut rising = RowBuilder::new(alloc);
     for weight in -11..12 {
-        let pixel = run(-7, weight, 1, weight);
-        if rising.fits(&pixel) {
-            rising
-                .push_run(pixel)
-                .expect(&rt, "there is room for the run");
+        // A run has a weight, so column 0 is left out.
+        if weight != 0 {
+            push(&rt, &mut rising, run(-7, weight, 1, weight));
         }
     }
     let rising = rising.finish().expect(&rt, "there is room for the picture");

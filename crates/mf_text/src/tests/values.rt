@@ -1,9 +1,9 @@
 //! Commands, and refusals of their values.
 
-use super::{assert_refused, read};
+use super::{assert_refused, dropping, keeping, read};
 use crate::command::{Command, Name, Source};
 use crate::fault::TextFault;
-use mf_geom::CycleFault;
+use mf_geom::{CycleFault, Point};
 use mf_ops::{Quarter, Scale, Sign};
 use std::process::Abort;
 use std::test::Fail;
@@ -104,32 +104,77 @@ fn moves(rt: HostRuntime) -> Result<(), Fail> {
     Ok(())
 }
 
+fn point(x: i32, y: i32) -> Point {
+    Point { x, y }
+}
+
 #[test]
 fn contours(rt: HostRuntime) -> Result<(), Fail> {
-    let alloc = rt.alloc();
-    let line = "addto currentpicture contour (0,0)--(3,0)--(3,2)--(0,2)--cycle withweight -2";
-    match read(&rt, alloc, line) {
-        Command::Contour(name, cycle, weight) => {
-            assert_eq!(rt; name, Name::Current, "the name");
-            assert_eq!(rt; weight.get(), -2, "the weight");
-            assert_eq!(rt; cycle.points().len(), 4, "the points");
-            assert_eq!(rt; cycle.area(), 6, "the area");
+    for (line, expected) in [
+        (
+            "addto currentpicture contour (0,0)--(3,0)--(3,2)--(0,2)--cycle withweight -2",
+            (
+                Name::Current,
+                [point(0, 0), point(3, 0), point(3, 2), point(0, 2)],
+                -2,
+            ),
+        ),
+        (
+            "addto b contour (-4095,7)--(-4095,-8)--(4095,-8)--(4095,7)--cycle",
+            (
+                Name::Register(1),
+                [
+                    point(-4095, 7),
+                    point(-4095, -8),
+                    point(4095, -8),
+                    point(4095, 7),
+                ],
+                1,
+            ),
+        ),
+    ] {
+        match read(&rt, rt.alloc(), line) {
+            Command::Contour(name, cycle, weight) => {
+                assert_eq!(rt; name, expected.0, "the name of {line}");
+                assert_eq!(rt;
+                    cycle.points(),
+                    expected.1.as_slice(),
+                    "the points of {line}"
+                );
+                assert_eq!(rt; weight.get(), expected.2, "the weight of {line}");
+            }
+            _ => assert!(rt; false, "{line} is no contour"),
         }
-        _ => assert!(rt; false, "{line} is no contour"),
     }
-    match read(
-        &rt,
-        alloc,
-        "addto b contour (0,0)--(1,0)--(1,1)--(0,1)--cycle",
-    ) {
-        Command::Contour(name, _, weight) => {
-            assert_eq!(rt;
-                (name, weight.get()),
-                (Name::Register(1), 1),
-                "without a weight"
-            )
+    Ok(())
+}
+
+#[test]
+fn culls(rt: HostRuntime) -> Result<(), Fail> {
+    for (line, register, expected) in [
+        ("cull a keeping (1,32767)", 0, keeping(&rt, 1, 32767, 1)),
+        (
+            "cull b keeping (-3,-2) withweight -2",
+            1,
+            keeping(&rt, -3, -2, -2),
+        ),
+        (
+            "cull b dropping (-1,2) withweight 3",
+            1,
+            dropping(&rt, -1, 2, 3),
+        ),
+        ("cull z dropping (0,0);", 25, dropping(&rt, 0, 0, 1)),
+    ] {
+        match read(&rt, rt.alloc(), line) {
+            Command::Cull(name, rule) => {
+                assert_eq!(rt;
+                    (name, rule),
+                    (Name::Register(register), expected),
+                    "{line}"
+                )
+            }
+            _ => assert!(rt; false, "{line} is no cull"),
         }
-        _ => assert!(rt; false, "no contour"),
     }
     Ok(())
 }
@@ -188,14 +233,6 @@ fn other_commands(rt: HostRuntime) -> Result<(), Fail> {
             _ => assert!(rt; false, "{line} adds no picture"),
         }
     }
-    assert!(rt;
-        matches!(read(&rt, alloc, "cull a keeping (1,32767)"), Command::Cull(name, _) if name == a),
-        "keeping"
-    );
-    assert!(rt;
-        matches!(read(&rt, alloc, "cull b dropping (-1,1) withweight 3"), Command::Cull(name, _) if name == b),
-        "dropping"
-    );
     assert!(rt;
         matches!(read(&rt, alloc, "a := nullpicture"), Command::Clear(name) if name == a),
         "cleared"
