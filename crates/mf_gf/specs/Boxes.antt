@@ -1,5 +1,5 @@
 -- The boxes of characters.
-use Rattle.std.specs.Prelude.{pos, ◌+ℤ◌, List, [], ◌∷◌, Option, None, Some}
+use Rattle.std.specs.Prelude.{◌≡◌, pos, ◌+ℤ◌, ◌≤ℤ◌, ◌<ℤ◌, All, Any, List, [], ◌∷◌, Option, None, Some}
 use Rattle.std.specs.Int.{int_max, int_min}
 use Rattle.mf_rows.specs.declared.run.Run.{Run}
 use Rattle.mf_rows.specs.Dots.{Dot}
@@ -35,3 +35,18 @@ unfoldable pub box_of : List Dot → CharacterBox
 box_of [] = no_box
 box_of (d ∷ []) = box_of_pixel d
 box_of (d ∷ e ∷ ds) = joined (box_of_pixel d) (box_of (e ∷ ds))
+
+-- a pixel lies in a box, whose right end is the column behind the last
+pub record IsWithin (b : CharacterBox) (d : Dot) : Type 0 where
+  pub left : b.min_m ≤ℤ d.x
+  pub right : d.x <ℤ b.max_m
+  pub bottom : b.min_n ≤ℤ d.y
+  pub top : d.y ≤ℤ b.max_n
+
+-- the box is the least one round pixels: each lies in it, and each of its four ends is reached
+pub record IsLeastBox (ds : List Dot) (b : CharacterBox) : Type 0 where
+  pub within : All (IsWithin b) ds
+  pub left : Any (λ (d : Dot). d.x ≡ b.min_m) ds
+  pub right : Any (λ (d : Dot). (d.x +ℤ pos 1) ≡ b.max_m) ds
+  pub bottom : Any (λ (d : Dot). d.y ≡ b.min_n) ds
+  pub top : Any (λ (d : Dot). d.y ≡ b.max_n) ds

@@ -1,5 +1,5 @@
 -- GF files (The METAFONTbook, Appendix G).
-use Rattle.std.specs.Prelude.{◌≡◌, ◌+◌, ◌-◌, ◌%◌, ◌==◌, ◌&&◌, ℕ, zero, suc, ℤ, pos, int_le, int_div, int_rem, Any, List, [], ◌∷◌, ◌++◌, length, replicate, flat_map, Option, None, Some, if◌then◌else◌}
+use Rattle.std.specs.Prelude.{◌≡◌, ◌≤◌, ◌+◌, ◌-◌, ◌*◌, ◌%◌, ◌==◌, ◌&&◌, ℕ, zero, suc, ℤ, pos, int_le, int_div, int_rem, Any, List, [], ◌∷◌, ◌++◌, length, replicate, flat_map, Option, None, Some, if◌then◌else◌}
 use Rattle.std.specs.Int.RustNames.{unsigned_abs}
 use Rattle.std.specs.Ordering.{int_eq}
 use Rattle.mf_rows.specs.Dots.{Dot}
@@ -43,6 +43,11 @@ located comment characters = located_from (length (preamble comment)) characters
 -- an escapement of a whole number of pixels in 0..255
 abbrev pub short_dx : ℤ → Option ℕ
 short_dx dx = if int_le (pos 0) dx && (int_eq (int_rem dx (pos 65536)) (pos 0) && int_le (int_div dx (pos 65536)) (pos 255)) then Some (unsigned_abs (int_div dx (pos 65536))) else None
+
+-- which is 65536 times so many pixels
+pub record IsShortDx (dx : ℤ) (pixels : ℕ) : Type 0 where
+  pub whole : dx ≡ pos (65536 * pixels)
+  pub fits : pixels ≤ 255
 
 -- char_loc0 for such an escapement, else char_loc with no vertical one
 abbrev pub locator_head : ℕ → ℤ → Option ℕ → List ℕ
@@ -90,3 +95,12 @@ body words comment characters =
 -- the file of characters
 unfoldable pub file_of : FontWords → List ℕ → List Character → List ℕ
 file_of words comment characters = body words comment characters ++ ending (length (front comment characters)) (length (body words comment characters))
+
+-- the length of a file is a multiple of 4, and behind the number of GF it ends with four to seven bytes 223
+pub record IsPadded (file : List ℕ) : Type 0 where
+  pub multiple : length file % 4 ≡ 0
+  pub before : List ℕ
+  pub count : ℕ
+  pub least : 4 ≤ count
+  pub most : count ≤ 7
+  pub ends : file ≡ before ++ 131 ∷ replicate count 223

@@ -83,7 +83,8 @@ drawn pen (stroke ∷ strokes) = painted pen stroke ++ drawn (moved pen stroke) 
 abbrev pub drawn_from : ℤ → ℤ → List ℕ → Option (List Dot)
 drawn_from left top bytes = option_map (drawn (pen_at left top)) (strokes bytes)
 
--- boc1: the code, the width of the box, its right end, its height and its top, a byte each
+-- boc1: the code, the greatest m less the least m, the greatest m, the greatest n less the least n, and the greatest n,
+-- a byte each
 abbrev pub after_boc1 : List ℕ → Option (List Dot)
 after_boc1 bytes = drawn_from (pos (slice_index bytes 2) -ℤ pos (slice_index bytes 1)) (pos (slice_index bytes 4)) (drop 5 bytes)
 

@@ -12,11 +12,13 @@ use crate::spelling::Spelling;
 use crate::stretches::Stretches;
 use mf_rows::Picture;
 
-/// Opcodes of the beginning of a character, of a short one, and of its end.
+/// boc, which begins a character (gftype.web).
 const BOC: u8 = 67;
 
+/// boc1, which begins one whose numbers have one byte each (gftype.web).
 const BOC1: u8 = 68;
 
+/// eoc, which ends a character (gftype.web).
 const EOC: u8 = 69;
 
 /// Spells the character with this code and box whose black pixels are those of positive weight.

@@ -1,6 +1,6 @@
 //! Finished files.
 ghost use Rattle.std.specs.Io.KnownBytes.{Appends};
-ghost use Rattle.std.specs.Prelude.{◌≡◌, ◌≤◌, IfErr, OnOk, length, take};
+ghost use Rattle.std.specs.Prelude.{◌≡◌, ◌<◌, IfErr, OnOk, length, take};
 
 use crate::fault::WriteFault;
 use crate::output::write_counted;
@@ -37,11 +37,11 @@ impl GfBytes {
     }
 
     /// Writes all its bytes, in as many writes as the writer needs. Refusal WriteFault (25) where the writer answered an
-    /// error or took no byte: exactly so many of the first bytes went out.
+    /// error or took no byte: exactly so many of the first bytes went out, and some did not.
     pub fn write_to<W: Write>(&self, writer: &mut W) -> Result<(), WriteFault>
         ensures all { OnOk result (Appends (W.contents writer.old) (W.contents writer.new) self.now) }
         ensures front { IfErr result (λ fault. Appends (W.contents writer.old) (W.contents writer.new) (take fault.0 self.now)) }
-        ensures within { IfErr result (λ fault. fault.0 ≤ length self.now) }
+        ensures within { IfErr result (λ fault. fault.0 < length self.now) }
     {
         write_counted(writer, &self.bytes).map_err(|count| WriteFault(count as u128))
     }

@@ -1,5 +1,8 @@
 //! Laws of GF files: each is the contract of a function that does nothing.
-ghost use Rattle.std.specs.Prelude.{◌≡◌, ◌<◌, ℕ, List, Some};
+ghost use Rattle.std.specs.Prelude.{◌≡◌, ◌↔◌, ◌<◌, ◌∷◌, ℕ, ℤ, List, Some};
+ghost use Rattle.mf_gf.specs.Boxes.{IsLeastBox, box_of};
+ghost use Rattle.mf_gf.specs.Files.{Character, IsPadded, IsShortDx, file_of, short_dx};
+ghost use Rattle.mf_gf.specs.declared.file.FontWords.{FontWords};
 ghost use Rattle.mf_gf.specs.Painting.{paint};
 ghost use Rattle.mf_gf.specs.Pixels.{IsPixelSet, black};
 ghost use Rattle.mf_gf.specs.Spelling.{spell};
@@ -13,4 +16,19 @@ pub fn painted_back()
 /// The black pixels of a picture are a set of pixels.
 pub fn black_pixels_are_a_set()
     ensures { (ds : List Dot) → IsPicture ds → IsPixelSet (black ds) }
+{}
+
+/// The box of a character is the least one round its black pixels.
+pub fn box_is_least()
+    ensures { (d : Dot) (ds : List Dot) → IsLeastBox (d ∷ ds) (box_of (d ∷ ds)) }
+{}
+
+/// An escapement is written in one byte exactly where it is 65536 times this byte.
+pub fn short_escapements()
+    ensures { (dx : ℤ) (pixels : ℕ) → (short_dx dx ≡ Some pixels) ↔ IsShortDx dx pixels }
+{}
+
+/// The length of a finished file is a multiple of 4, and its last four to seven bytes are 223.
+pub fn files_are_padded()
+    ensures { (words : FontWords) (comment : List ℕ) (characters : List Character) → IsPadded (file_of words comment characters) }
 {}

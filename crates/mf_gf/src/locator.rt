@@ -5,12 +5,13 @@ ghost use Rattle.mf_gf.specs.Spellings.{Holds};
 
 use crate::spelling::Spelling;
 
-/// Opcodes of a locator, and of a short one.
+/// char_loc, the locator of a character (gftype.web).
 const CHAR_LOC: u8 = 245;
 
+/// char_loc0, the locator of one whose escapement is a whole number of pixels of one byte (gftype.web).
 const CHAR_LOC0: u8 = 246;
 
-/// A pixel in the units of `dx`.
+/// A pixel in the units of `dx`, which are 1/65536 pixel (gftype.web).
 const PIXEL: i32 = 65_536;
 
 /// A character of a file: its code, its escapement in 1/65536 pixel, its width in 1/1048576 of the design size, and its

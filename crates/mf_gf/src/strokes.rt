@@ -5,17 +5,20 @@ ghost use Rattle.mf_gf.specs.Spellings.{Holds};
 
 use crate::spelling::Spelling;
 
-/// Opcode of a paint whose length is its parameter of one byte; of one whose length is the opcode, the greatest.
+/// paint1, whose length is its parameter of one byte (gftype.web).
 const PAINT1: u8 = 64;
 
+/// Greatest length that is its own opcode: those of paint_0 to paint_63 (gftype.web).
 const MOST_PAINTED: u32 = 63;
 
-/// Opcodes of a skip of no row, and of one that has its number of rows as a parameter of one byte.
+/// skip0, which passes no row (gftype.web).
 const SKIP0: u8 = 70;
 
+/// skip1, which passes as many rows as its parameter of one byte says (gftype.web).
 const SKIP1: u8 = 71;
 
-/// Opcode of a new row that begins at the left end of the box.
+/// new_row_0, which begins the next row at the left end of the box; the opcodes up to that of new_row_164 follow it
+/// (gftype.web).
 const NEW_ROW_0: u8 = 74;
 
 impl Spelling {

@@ -22,6 +22,9 @@ const NO_WORDS: FontWords = FontWords {
 /// Most bytes of files in these tests.
 const MAX_BYTES: u32 = 16_777_216;
 
+/// A rectangle of 3 by 2 pixels. Its character has 11 bytes, and a file of it alone, with no comment, 72.
+const RECT: &[(i32, i32, u32)] = &[(1, 0, 3), (0, 0, 3)];
+
 /// The picture of these runs: row, first column, length and weight.
 pub(crate) fn weighted(rt: &impl Abort, alloc: Global, runs: &[(i32, i32, u32, i32)]) -> Picture {
     let mut builder = RowBuilder::new(alloc);

@@ -11,14 +11,16 @@ use crate::fault::GfFault;
 use crate::finished::GfBytes;
 use crate::spelling::Spelling;
 
-/// Opcodes of the postamble and of what ends the file, and the bytes behind it.
+/// post, which begins the postamble (gftype.web).
 const POST: u8 = 248;
 
+/// post_post, which ends it (gftype.web).
 const POST_POST: u8 = 249;
 
+/// The byte that fills the end of a file (gftype.web).
 const PADDING: u8 = 223;
 
-/// Bytes of the ending before its padding.
+/// Bytes of the ending before its padding: the opcode, the place of the postamble and the number of GF (gftype.web).
 const ENDING: usize = 6;
 
 impl GfFile {
@@ -117,6 +119,8 @@ impl Spelling {
         self.put_byte(POST_POST);
         self.put_unsigned(place);
         self.put_byte(GF_ID);
+        // At least four bytes, as the format wants, up to a multiple of 4: four, seven, six or five of them where `before`
+        // is 0, 1, 2 or 3 above one.
         let padding = [PADDING; 7];
         self.put(&padding[..7 - (before + 3) % 4]);
     }

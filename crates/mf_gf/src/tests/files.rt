@@ -1,11 +1,12 @@
 //! The bytes of whole files.
 
-use super::{MAX_BYTES, finished, gf_file, part, picture};
+use super::{MAX_BYTES, RECT, finished, gf_file, part, picture};
+use crate::fault::GfFault;
 use crate::file::{FontWords, GfFile};
+use crate::finished::GfBytes;
+use mf_rows::Picture;
+use std::alloc::Global;
 use std::test::Fail;
-
-/// A rectangle of 3 by 2 pixels.
-const RECT: &[(i32, i32, u32)] = &[(1, 0, 3), (0, 0, 3)];
 
 const UNIT: &[(i32, i32, u32)] = &[(0, 0, 1)];
 
@@ -31,6 +32,36 @@ fn one_character(rt: HostRuntime) -> Result<(), Fail> {
     assert_eq!(rt;
         finished(&rt, file).bytes(),
         bytes.concat(alloc)?.as_slice()
+    );
+    Ok(())
+}
+
+/// The example of the page about GF files.
+fn font(alloc: Global, picture: &Picture) -> Result<GfBytes, GfFault> {
+    let mut file = GfFile::new(alloc, b"a comment", 16_777_216)?;
+    file.ship(65, 327_680, 0, picture)?;
+    let words = FontWords {
+        ds: 0,
+        cs: 0,
+        hppp: 0,
+        vppp: 0,
+    };
+    file.finish(words).map_err(|(_, fault)| fault)
+}
+
+#[test]
+fn example(rt: HostRuntime) -> Result<(), Fail> {
+    let alloc = rt.alloc();
+    let font = font(alloc, &picture(&rt, alloc, RECT, 1)).expect(&rt, "the file fits");
+    // The comment has nine bytes, so the padding has seven where that of 72 bytes has four.
+    assert_eq!(rt; font.bytes().len(), 84);
+    assert_eq!(rt;
+        part(&rt, font.bytes(), 0, 13),
+        b"\xf7\x83\x09a comment\x44".as_slice()
+    );
+    assert_eq!(rt;
+        part(&rt, font.bytes(), 76, 8),
+        b"\x83\xdf\xdf\xdf\xdf\xdf\xdf\xdf".as_slice()
     );
     Ok(())
 }

@@ -1,11 +1,12 @@
 //! Files and characters that are refused, and what is left then.
 
-use super::{NO_WORDS, finished, gf_file, part, picture};
+use super::{NO_WORDS, RECT, finished, gf_file, part, picture};
 use crate::fault::GfFault;
 use crate::file::GfFile;
 use std::test::Fail;
 
-const RECT: &[(i32, i32, u32)] = &[(1, 0, 3), (0, 0, 3)];
+/// A stretch far from the rectangle, which would make the box of a file larger.
+const FAR: &[(i32, i32, u32)] = &[(9, -7, 30)];
 
 #[test]
 fn comments(rt: HostRuntime) -> Result<(), Fail> {
@@ -34,12 +35,32 @@ fn comments(rt: HostRuntime) -> Result<(), Fail> {
 fn codes(rt: HostRuntime) -> Result<(), Fail> {
     let alloc = rt.alloc();
     let rect = picture(&rt, alloc, RECT, 1);
+    let far = picture(&rt, alloc, FAR, 1);
     let mut file = gf_file(&rt, alloc);
     assert_eq!(rt; file.ship(7, 0, 0, &rect), Ok(()));
-    assert_eq!(rt; file.ship(7, 1, 2, &rect), Err(GfFault::CodeShipped));
+    assert_eq!(rt; file.ship(7, 1, 2, &far), Err(GfFault::CodeShipped));
     assert_eq!(rt; file.count(), 1);
     assert_eq!(rt; file.ship(8, 0, 0, &rect), Ok(()));
     assert_eq!(rt; file.count(), 2);
+
+    // The refused character left nothing behind.
+    let mut without = gf_file(&rt, alloc);
+    assert_eq!(rt; without.ship(7, 0, 0, &rect), Ok(()));
+    assert_eq!(rt; without.ship(8, 0, 0, &rect), Ok(()));
+    assert_eq!(rt; finished(&rt, file).bytes(), finished(&rt, without).bytes());
+    Ok(())
+}
+
+/// A code that was shipped comes before a file that is too long.
+#[test]
+fn code_before_length(rt: HostRuntime) -> Result<(), Fail> {
+    let alloc = rt.alloc();
+    let rect = picture(&rt, alloc, RECT, 1);
+    let mut file = GfFile::new(alloc, b"", 14).expect(&rt, "the preamble fits");
+    assert_eq!(rt; file.ship(65, 0, 0, &rect), Ok(()));
+    assert_eq!(rt; file.ship(65, 0, 0, &rect), Err(GfFault::CodeShipped));
+    assert_eq!(rt; file.ship(66, 0, 0, &rect), Err(GfFault::FileTooLong));
+    assert_eq!(rt; file.count(), 1);
     Ok(())
 }
 
@@ -53,6 +74,43 @@ fn no_characters(rt: HostRuntime) -> Result<(), Fail> {
     assert_eq!(rt; fault, GfFault::NoCharacters);
     assert_eq!(rt; file.ship(65, 0, 0, &picture(&rt, alloc, RECT, 1)), Ok(()));
     assert_eq!(rt; finished(&rt, file).bytes().len(), 72);
+    Ok(())
+}
+
+/// That no character was shipped comes before a file that is too long.
+#[test]
+fn no_characters_before_length(rt: HostRuntime) -> Result<(), Fail> {
+    let alloc = rt.alloc();
+    let file = GfFile::new(alloc, b"", 3).expect(&rt, "the preamble fits");
+    let Err((mut file, fault)) = file.finish(NO_WORDS) else {
+        panic!(&rt; "there is no character");
+    };
+    assert_eq!(rt; fault, GfFault::NoCharacters);
+    assert_eq!(rt; file.count(), 0);
+    let shipped = file.ship(65, 0, 0, &picture(&rt, alloc, RECT, 1));
+    assert_eq!(rt; shipped, Err(GfFault::FileTooLong));
+    Ok(())
+}
+
+/// A character that is too long for the file leaves nothing behind.
+#[test]
+fn too_long_character(rt: HostRuntime) -> Result<(), Fail> {
+    let alloc = rt.alloc();
+    let rect = picture(&rt, alloc, RECT, 1);
+    // Each of these rows takes three bytes, so that 30 of them do not fit behind 14 of 72.
+    let mut rows = Vec::new(alloc);
+    for y in (0..30).rev() {
+        rows.push((y, -7, 70))?;
+    }
+    let mut file = GfFile::new(alloc, b"", 72).expect(&rt, "the preamble fits");
+    assert_eq!(rt; file.ship(65, 327_680, 0, &rect), Ok(()));
+    let shipped = file.ship(66, 1, 2, &picture(&rt, alloc, &rows, 1));
+    assert_eq!(rt; shipped, Err(GfFault::FileTooLong));
+    assert_eq!(rt; file.count(), 1);
+
+    let mut without = GfFile::new(alloc, b"", 72).expect(&rt, "the preamble fits");
+    assert_eq!(rt; without.ship(65, 327_680, 0, &rect), Ok(()));
+    assert_eq!(rt; finished(&rt, file).bytes(), finished(&rt, without).bytes());
     Ok(())
 }
 

@@ -1,6 +1,6 @@
 //! Files that are written.
 
-use super::{finished, gf_file, picture};
+use super::{RECT, finished, gf_file, picture};
 use crate::fault::WriteFault;
 use std::io::{self, ErrorKind, Write};
 use std::test::Fail;
@@ -34,12 +34,7 @@ impl Write for Narrow {
 fn written(rt: HostRuntime) -> Result<(), Fail> {
     let alloc = rt.alloc();
     let mut file = gf_file(&rt, alloc);
-    let shipped = file.ship(
-        65,
-        327_680,
-        0,
-        &picture(&rt, alloc, &[(1, 0, 3), (0, 0, 3)], 1),
-    );
+    let shipped = file.ship(65, 327_680, 0, &picture(&rt, alloc, RECT, 1));
     assert_eq!(rt; shipped, Ok(()));
     let file = finished(&rt, file);
     let mut memory = Vec::new(alloc);

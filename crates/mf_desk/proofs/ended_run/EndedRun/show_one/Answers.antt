@@ -1,4 +1,4 @@
-use Rattle.std.proofs.Common.{take, drop, sym, ap, subst, ◌+◌, take-append-drop}
+use Rattle.std.proofs.Common.{take, drop, sym, ap, subst, ◌+◌, take-append-drop, arith}
 use Rattle.std.proofs.lemmas.List.{length-take-le}
 use Rattle.mf_desk.specs.Watchers.{HasSeen}
 use Rattle.mf_desk.proofs.ended_run.EndedRun.show_one.Goals as goal
@@ -17,5 +17,5 @@ returns-in-Err-clause-fault g c =
       rest = drop count text;
       line = cc (take-append-drop count text, c.in_ok-line.ensures, c.in_ok-glance.ensures.glance);
       out = c.in-Err.ensures.front;
-      counted = ap (λ more. before.written + more) (sym (length-take-le count text c.in-Err.ensures.within));
+      counted = ap (λ more. before.written + more) (sym (length-take-le count text (omega (arith, c.in-Err.ensures.within))));
     }

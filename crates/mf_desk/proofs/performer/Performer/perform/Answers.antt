@@ -1,4 +1,4 @@
-use Rattle.std.proofs.Common.{take, drop, sym, ap, subst, ◌+◌, ◌∙◌, take-append-drop}
+use Rattle.std.proofs.Common.{take, drop, sym, ap, subst, ◌+◌, ◌∙◌, take-append-drop, arith}
 use Rattle.std.proofs.lemmas.List.{length-take-le}
 use Rattle.mf_session.specs.Answers.{Answers}
 use Rattle.mf_session.specs.Sessions.{limits}
@@ -16,5 +16,5 @@ returns-clause-fault g c = λ s stands.
       next = answered.next;
       answer = subst (λ t. Answers (limits before.session) s c.args.line.now t answered.next) (sym c.as_slice.ensures.value ∙ sym (take-append-drop count text)) answered.answer;
       out = c.in-Err.ensures.front;
-      counted = ap (λ more. before.written + more) (sym (length-take-le count text c.in-Err.ensures.within));
+      counted = ap (λ more. before.written + more) (sym (length-take-le count text (omega (arith, c.in-Err.ensures.within))));
     }
