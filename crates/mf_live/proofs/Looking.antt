@@ -6,6 +6,7 @@ use mathlib.Core.List.{IsPrefix}
 use Rattle.logbook.specs.Pages.{Book}
 use Rattle.left_right.specs.Sides.{view}
 use Rattle.mf_live.specs.declared.event.Event.{Event}
+use Rattle.mf_live.specs.declared.event.Event.TheVariants.{Publish}
 use Rattle.mf_live.specs.declared.history.Front.{Front}
 use Rattle.mf_live.specs.declared.live.Live.{Live}
 use Rattle.mf_live.specs.declared.notice.Notice.{Notice}
@@ -15,12 +16,12 @@ use Rattle.mf_live.specs.Books.{most}
 use Rattle.mf_live.specs.Entries.{Entry, is_closed, ends_last}
 use Rattle.mf_live.specs.Prefixes.{IsWholePrefix, longer}
 use Rattle.mf_live.specs.Rule.{Begins, Looked, kept_by, book_of, shown_by}
-use Rattle.mf_live.specs.Viewers.{Extends, learnt, told}
-use Rattle.mf_live.specs.World.{Happen, start, accepted_of, published_of}
+use Rattle.mf_live.specs.Viewers.{Extends, IsPublished, learnt, told}
+use Rattle.mf_live.specs.World.{World, Happen, start, accepted_of, published_of}
 use Rattle.mf_live.proofs.Beginnings.{prefix-shorter}
 use Rattle.mf_live.proofs.EntryLists.{nothing_follows}
 use Rattle.mf_live.proofs.WholePrefixes.{whole-self, whole-trans, whole-longer, longer-assoc, longer-whole, longer-of_whole}
-use Rattle.mf_live.proofs.Worlds.{lawful-after, published-grows, same_accepted}
+use Rattle.mf_live.proofs.Worlds.{Happen-push, lawful-after, published-grows, same_accepted, world_after-push}
 
 -- the events that are known
 abbrev pub log_of : Front → List Event
@@ -89,3 +90,11 @@ pub shown-last : (S L : List Entry) → IsWholePrefix S L → ends_last L ≡ tr
 shown-last S L whole ends closed =
     let none = nothing_follows S whole.rest (subst (λ (M : List Entry). ends_last M ≡ true) whole.whole ends) closed in
     whole.whole ∙ (ap (λ (rest : List Entry). S ++ rest) none ∙ append-nil S)
+
+-- what a copy shows is what a publish of it publishes
+pub is_published : (f : Front) → IsPublished (accepted_of (log_of f))
+is_published f = record {
+  events = log_of f ++ Publish ∷ [];
+  happen = Happen-push most start (log_of f) Publish f.lawful f.alive;
+  is = ap (λ (w : World). w.published) (world_after-push start (log_of f) Publish);
+}

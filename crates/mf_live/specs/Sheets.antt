@@ -6,13 +6,14 @@ use Rattle.mf_live.specs.declared.sheet.SheetFault.TheVariants.{NoLook, OutOfMem
 use Rattle.mf_live.specs.declared.viewer.Viewer.{Viewer}
 use Rattle.mf_live.specs.Entries.{Entry, ends_last, pic, rev}
 use Rattle.mf_live.specs.Prefixes.{longer}
-use Rattle.mf_live.specs.Viewers.{Extends, SeesTheSame, looked, seen}
+use Rattle.mf_live.specs.Viewers.{Extends, IsPublished, SeesTheSame, looked, seen}
 
--- a viewer has looked, at a list in which nothing follows the end mark
+-- a viewer has looked, at a list that has been published, in which nothing follows the end mark
 pub record HasLooked (before after : Viewer) : Type 0 where
   pub extends : Extends before (looked after)
   pub seen : seen after ≡ looked after
   pub ends : ends_last (looked after) ≡ true
+  pub published : IsPublished (looked after)
 
 -- a sheet has what its look showed
 pub record IsTaken (before after : Viewer) (sheet : Sheet) : Type 0 where

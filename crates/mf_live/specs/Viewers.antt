@@ -2,14 +2,16 @@
 use Rattle.std.specs.Prelude.{◌≡◌, List, []}
 use Rattle.logbook.specs.Pages.{Book}
 use Rattle.left_right.specs.Sides.{view}
+use Rattle.mf_live.specs.declared.event.Event.{Event}
 use Rattle.mf_live.specs.declared.history.Token.{Token}
 use Rattle.mf_live.specs.declared.look.Look.{Look}
 use Rattle.mf_live.specs.declared.notice.Notice.{Notice}
 use Rattle.mf_live.specs.declared.viewer.Viewer.{Viewer}
+use Rattle.mf_live.specs.Books.{most}
 use Rattle.mf_live.specs.Entries.{Entry}
 use Rattle.mf_live.specs.Prefixes.{IsWholePrefix, longer}
 use Rattle.mf_live.specs.Rule.{kept_by}
-use Rattle.mf_live.specs.World.{accepted_of, published_of}
+use Rattle.mf_live.specs.World.{Happen, start, accepted_of, published_of}
 
 -- which picture a notice is of
 abbrev pub notice_name : Notice → Book
@@ -34,6 +36,12 @@ learnt v = told v.known
 -- what was looked at or learnt of
 abbrev pub seen : Viewer → List Entry
 seen v = longer (looked v) (learnt v)
+
+-- L is what a writer has published, once some events have happened
+pub record IsPublished (L : List Entry) : Type 0 where
+  pub events : List Event
+  pub happen : Happen most start events
+  pub is : published_of events ≡ L
 
 -- L begins, whole, with all that the viewer has looked at or learnt of
 pub record Extends (v : Viewer) (L : List Entry) : Type 0 where

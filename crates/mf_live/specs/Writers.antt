@@ -8,7 +8,8 @@ use Rattle.mf_live.specs.declared.closing.Ended.{Ended}
 use Rattle.mf_live.specs.declared.writer.Writer.{Writer}
 use Rattle.mf_live.specs.Entries.{Entry, entry, next, End}
 use Rattle.mf_live.specs.Holders as holders
-use Rattle.mf_live.specs.Viewers.{notice_name, told}
+use Rattle.mf_live.specs.Rule.{shown_by}
+use Rattle.mf_live.specs.Viewers.{notice_name}
 
 -- which picture it is
 abbrev pub name : Writer → Book
@@ -34,8 +35,9 @@ closing_published c = holders.published c.holder
 abbrev pub ended_name : Ended → Book
 ended_name e = notice_name e.told
 
+-- what viewers can look at
 abbrev pub ended_published : Ended → List Entry
-ended_published e = told e.told
+ended_published e = shown_by e.swap.desk.shown.value
 
 -- the list that is accepted once the end mark is set
 abbrev pub with_end : Writer → List Entry

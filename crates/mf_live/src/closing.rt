@@ -2,6 +2,7 @@
 ghost use Rattle.std.specs.Prelude.{◌≡◌, true};
 ghost use Rattle.mf_live.specs.Entries.{is_closed};
 ghost use Rattle.mf_live.specs.Holders.{accepted};
+ghost use Rattle.mf_live.specs.Rule.{book_of, shown_by};
 ghost use Rattle.mf_live.specs.World.{published_of};
 
 use crate::holder::Holder;
@@ -23,6 +24,8 @@ pub struct Ended {
     pub(crate) swap: Swap,
     pub(crate) told: Notice,
     ghost closed: { is_closed (published_of told.front.token.seen.log) ≡ true },
+    ghost shown_book: { book_of swap.desk.shown.value ≡ told.front.token.seen.book },
+    ghost shown_is: { shown_by swap.desk.shown.value ≡ published_of told.front.token.seen.log },
 }
 
 /// What is handed back where memory was wanting to close a picture.

@@ -19,6 +19,7 @@ pub struct NoPlace;
 #[derive(Drop)]
 pub struct Desk {
     pub(crate) viewers: Vec<Viewer>,
+    /// What was published when the picture was opened: nothing. It names the picture.
     pub(crate) known: Notice,
     ghost fresh: { All (IsFresh known.front.token) viewers.items } by { are_fresh-prop known.front.token viewers.items },
 }

@@ -1,6 +1,6 @@
 //! How much of the history of a picture is known.
-ghost use Rattle.std.specs.Prelude.{◌≡◌, length};
-ghost use Rattle.mf_live.specs.World.{Happen, start};
+ghost use Rattle.std.specs.Prelude.{◌≡◌, false, length};
+ghost use Rattle.mf_live.specs.World.{Happen, start, world_after};
 ghost use Rattle.mf_live.specs.Books.{most};
 ghost use Rattle.mf_live.specs.Happening.{Happen-prop};
 
@@ -25,4 +25,5 @@ pub struct Front {
     pub(crate) token: Token,
     ghost counted: { events ≡ length token.seen.log },
     ghost lawful: { Happen most start token.seen.log } by { Happen-prop most start token.seen.log },
+    ghost alive: { (world_after start token.seen.log).dropped ≡ false },
 }

@@ -27,8 +27,9 @@ pub struct Holder {
     pub(crate) front: Front,
     /// The book at the last publish.
     pub(crate) told: Notice,
-    /// The picture of all accepted operations, and their number.
+    /// The picture of all accepted operations.
     pub(crate) working: Picture,
+    /// Their number.
     pub(crate) revision: u32,
     /// So many events are not in the book yet.
     pub(crate) unwritten: u64,

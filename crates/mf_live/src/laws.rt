@@ -1,10 +1,10 @@
 //! Laws of the live picture: each is the contract of a function that does nothing, or only calls another.
-ghost use Rattle.std.specs.Prelude.{◌≡◌, ◌≤◌, true, ℕ, List, [], ◌∷◌, ◌++◌, IfErr, IfOk, OnOk};
+ghost use Rattle.std.specs.Prelude.{◌≡◌, ◌≤◌, true, ℕ, List, [], ◌∷◌, ◌++◌, IfErr, IfOk, MatchResult, OnOk};
 ghost use Rattle.mf_live.specs.declared.event.Event.{Event};
 ghost use Rattle.mf_live.specs.declared.event.Event.TheVariants.{Look};
 ghost use Rattle.mf_live.specs.Entries.{rev, is_closed, pic};
 ghost use Rattle.mf_live.specs.Prefixes.{IsWholePrefix, HasWholePublishes};
-ghost use Rattle.mf_live.specs.Sheets.{IsLastNotTaken};
+ghost use Rattle.mf_live.specs.Sheets.{HasLearnt, IsLastNotTaken};
 ghost use Rattle.mf_live.specs.Viewers as viewers;
 ghost use Rattle.mf_live.specs.World.{start, Happen, EverySchedule, accepted_of, published_of};
 
@@ -33,11 +33,15 @@ pub fn looks_show_whole_publishes(max_ops: u32)
     ensures { (before after : List Event) → Happen max_ops start (before ++ after) → HasWholePublishes (published_of before) (published_of (before ++ after)) }
 {}
 
-/// What a viewer sees that has learnt of the end is the whole list.
+/// What a viewer sees that has learnt of the end is the whole list, which begins, whole, with all that the viewer had
+/// seen. After NoLook (26) it has not looked, and has learnt of the end.
 pub fn last_look(viewer: Viewer, notice: Notice) -> Result<Look, (Viewer, NoLook)>
     requires name { viewers.notice_name notice ≡ viewers.name viewer }
     requires closed { is_closed (viewers.told notice) ≡ true }
-    ensures { IfOk result (λ look. viewers.shown look ≡ viewers.told notice) }
+    ensures name { MatchResult result (λ look. viewers.look_name look ≡ viewers.name viewer) (λ refused. viewers.name refused.0 ≡ viewers.name viewer) }
+    ensures shown { IfOk result (λ look. viewers.shown look ≡ viewers.told notice) }
+    ensures extends { OnOk result (viewers.Extends viewer (viewers.told notice)) }
+    ensures learnt { IfErr result (λ refused. HasLearnt viewer (viewers.told notice) refused.0) }
 {
     let mut viewer = viewer;
     viewer.learn(notice);

@@ -1,5 +1,5 @@
 //! The live picture: one writer changes it, and viewers in any threads look at it, wait for nobody, and never see
-//! half an operation or go back in time.
+//! half a publish or go back in time.
 #![tactic(auto)]
 
 mod book;

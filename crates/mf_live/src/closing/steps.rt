@@ -38,9 +38,10 @@ fn ended_or_closing(published: (Holder, Result<(), OutOfMemory>)) -> Result<Ende
 }
 
 impl Writer {
-    /// Sets the end mark, after which nothing is accepted, and publishes all that was accepted. It may wait for looks
-    /// that are held. Where memory is wanting, either the writer comes back as it was, or the end mark is set and
-    /// can be published later.
+    /// Sets the end mark, after which nothing is accepted, and publishes all that was accepted. The end mark counts in no
+    /// revision, and is set where no more operations may be accepted, too. It may wait for looks that are held. Where
+    /// memory is wanting (OutOfMemory, 14), either the writer comes back as it was (`Kept`), or the end mark is set and
+    /// can be published later (`Halfway`).
     pub fn close<R: Wait>(self, rt: &R) -> Result<Ended, CloseFault>
         ensures name { IfOk result (λ ended. ended_name ended ≡ name self) }
         ensures published { IfOk result (λ ended. ended_published ended ≡ with_end self) }
@@ -64,7 +65,7 @@ impl Writer {
 
 impl Closing {
     /// Publishes the end mark, and what was accepted before it. It may wait for looks that are held. Where memory is
-    /// wanting it comes back as it was, and it may be tried again.
+    /// wanting (OutOfMemory, 14) it comes back as it was, and it may be tried again.
     pub fn publish<R: Wait>(self, rt: &R) -> Result<Ended, Closing>
         ensures name { MatchResult result (λ ended. ended_name ended ≡ closing_name self) (λ closing. closing_name closing ≡ closing_name self) }
         ensures published { MatchResult result (λ ended. ended_published ended ≡ closing_accepted self) (λ closing. closing_published closing ≡ closing_published self) }

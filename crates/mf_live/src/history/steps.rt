@@ -1,5 +1,5 @@
 //! Opening, copying and writing histories.
-ghost use Rattle.std.specs.Prelude.{◌≡◌, ◌+◌, ◌^◌, ◌<◌, ◌++◌, [], length, MatchBool};
+ghost use Rattle.std.specs.Prelude.{◌≡◌, ◌+◌, ◌^◌, ◌<◌, ◌++◌, [], false, length, MatchBool};
 ghost use mathlib.Core.List.{IsPrefix};
 ghost use Rattle.mf_live.specs.Books.{most, head_of};
 ghost use Rattle.mf_live.specs.World.{Happen, start, world_after};
@@ -62,6 +62,7 @@ fn try_write<N: Happening>(head: &Head, front: &mut Front, count: u64) -> bool
     requires count { count ≡ length N.more }
     requires room { front.old.events + count < 2 ^ 64 }
     requires lawful { Happen most (world_after start front.old.token.seen.log) N.more }
+    requires alive { (world_after start (front.old.token.seen.log ++ N.more)).dropped ≡ false }
     ensures book { front.new.token.seen.book ≡ front.old.token.seen.book }
     ensures log { MatchBool result (front.new.token.seen.log ≡ front.old.token.seen.log ++ N.more) (front.new.token.seen.log ≡ front.old.token.seen.log) }
 {
@@ -91,6 +92,7 @@ pub(crate) fn write<N: Happening, R: Wait>(rt: &R, head: &Head, front: &mut Fron
     requires count { count ≡ length N.more }
     requires room { front.old.events + count < 2 ^ 64 }
     requires lawful { Happen most (world_after start front.old.token.seen.log) N.more }
+    requires alive { (world_after start (front.old.token.seen.log ++ N.more)).dropped ≡ false }
     ensures book { front.new.token.seen.book ≡ front.old.token.seen.book }
     ensures log { front.new.token.seen.log ≡ front.old.token.seen.log ++ N.more }
 {

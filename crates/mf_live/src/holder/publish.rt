@@ -1,5 +1,5 @@
 //! Publishing.
-ghost use Rattle.std.specs.Prelude.{◌≡◌, [], ◌+◌, ◌<◌, ◌^◌, ◌++◌, length, MatchBool, MatchResult};
+ghost use Rattle.std.specs.Prelude.{◌≡◌, [], ◌+◌, ◌<◌, ◌^◌, ◌++◌, false, length, IsOk, MatchBool, MatchResult};
 ghost use Rattle.left_right.specs.Sides.{view};
 ghost use Rattle.mf_live.specs.Books.{most, head_of};
 ghost use Rattle.mf_live.specs.Entries.{pic};
@@ -40,6 +40,7 @@ fn write_unwritten<N: Happening, R: Wait>(
     requires count { count ≡ length (view swap.now.desk.place).unwritten }
     requires room { front.old.events + count < 2 ^ 64 }
     requires lawful { Happen most (world_after start front.old.token.seen.log) (view swap.now.desk.place).unwritten }
+    requires alive { (world_after start (front.old.token.seen.log ++ (view swap.now.desk.place).unwritten)).dropped ≡ false }
     ensures book { front.new.token.seen.book ≡ front.old.token.seen.book }
     ensures log { front.new.token.seen.log ≡ front.old.token.seen.log ++ (view swap.now.desk.place).unwritten }
 {
@@ -73,6 +74,7 @@ impl Holder {
         ensures name { name result.0 ≡ name self }
         ensures accepted { accepted result.0 ≡ accepted self }
         ensures published { MatchResult result.1 (λ _. published result.0 ≡ accepted self) (λ _. published result.0 ≡ published self) }
+        ensures nothing { published self ≡ accepted self → IsOk result.1 }
     {
         if self.is_published() {
             return (self, Ok(()));

@@ -1,7 +1,8 @@
 //! Opening a picture, and accepting what comes to it.
-ghost use Rattle.std.specs.Prelude.{◌≡◌, ◌≢◌, ◌<◌, ◌^◌, [], ◌∷◌, ◌++◌, false, None, Some, Err, IfOk, IfErr, OnOk, MatchResult};
+ghost use Rattle.std.specs.Prelude.{◌≡◌, ◌≢◌, ◌<◌, ◌^◌, [], ◌∷◌, ◌++◌, false, None, Some, Err, IfOk, IfErr, IsOk, OnOk, MatchResult};
 ghost use Rattle.left_right.specs.Sides.{view};
 ghost use Rattle.mf_ops.specs.Step.{fault_of};
+ghost use Rattle.mf_ops.specs.declared.op.Op.TheVariants.{Clear};
 ghost use Rattle.mf_live.specs.Books.{most};
 ghost use Rattle.mf_live.specs.Entries.{entry, pic, rev, next, is_closed, Operation, End};
 ghost use Rattle.mf_live.specs.Holders.{name, accepted, published};
@@ -93,6 +94,7 @@ impl Holder {
         ensures allowed { OnOk result (fault_of (pic (accepted self.old)) op.now ≡ None) }
         ensures refused { IfErr result (λ fault. fault ≢ OpFault.OutOfMemory → fault_of (pic (accepted self.old)) op.now ≡ Some fault) }
         ensures out_of_field { fault_of (pic (accepted self.old)) op.now ≡ Some OpFault.OutOfField → result ≡ Err OpFault.OutOfField }
+        ensures clears { op.now ≡ Clear → IsOk result }
     {
         apply(alloc, &mut self.working, op)?;
         note_operation::<Brand>(&mut self.swap, op);

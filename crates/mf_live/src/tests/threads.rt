@@ -1,6 +1,6 @@
 //! Looks beside a writer.
 
-use super::{UNIT, contour};
+use super::{UNIT, assert_shows, contour};
 use crate::desk::open_picture;
 use crate::viewer::Viewer;
 use crate::writer::Writer;
@@ -26,8 +26,9 @@ fn write<R: Abort + Wait>(rt: &R, alloc: Global, writer: &mut Writer) -> bool {
     fine
 }
 
-/// Counts the looks that went back, whose total is not that of their revision, or that were not answered.
-fn look(viewer: Viewer) -> u32 {
+/// The viewer after its looks, and how many of them went back, had a total that is not that of their revision, or were
+/// not answered.
+fn look(viewer: Viewer) -> (Viewer, u32) {
     let (mut viewer, mut last, mut wrong) = (viewer, 0, 0u32);
     for _ in 0..LOOKS {
         match viewer.look() {
@@ -43,17 +44,18 @@ fn look(viewer: Viewer) -> u32 {
             }
         }
     }
-    wrong
+    (viewer, wrong)
 }
 
-/// Whether the writer was refused nothing, and how many looks of two viewers beside it were wrong.
+/// Whether the writer was refused nothing, and the two viewers that looked beside it, with how many of their looks were
+/// wrong.
 fn race<R: Abort + Threads + Wait + Sync>(
     rt: &R,
     alloc: Global,
     writer: &mut Writer,
     one: Viewer,
     other: Viewer,
-) -> (bool, (u32, u32)) {
+) -> (bool, ((Viewer, u32), (Viewer, u32))) {
     join(
         rt,
         move || write(rt, alloc, writer),
@@ -67,7 +69,13 @@ fn looks_beside_a_writer_never_go_back(rt: HostRuntime) -> Result<(), Fail> {
     let (mut writer, mut desk) = open_picture(&rt, alloc, 2, PUBLISHES)?;
     let one = desk.viewer().expect(&rt, "a place is left");
     let other = desk.viewer().expect(&rt, "a place is left");
-    assert_eq!(rt; race(&rt, alloc, &mut writer, one, other), (true, (0, 0)));
+    let (fine, watched) = race(&rt, alloc, &mut writer, one, other);
+    assert!(rt; fine, "the writer is refused nothing");
+    let ((one, wrong), (other, wrong_too)) = watched;
+    assert_eq!(rt; (wrong, wrong_too), (0, 0), "looks that were wrong");
+    for viewer in [one, other] {
+        assert_shows(&rt, viewer, PUBLISHES, 1000);
+    }
     writer.discard(&rt);
     Ok(())
 }

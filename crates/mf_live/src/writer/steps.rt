@@ -1,6 +1,7 @@
 //! What a writer does.
-ghost use Rattle.std.specs.Prelude.{◌≡◌, ◌≢◌, ◌-◌, ◌<◌, [], ◌∷◌, ◌++◌, None, Some, Err, IfErr, OnOk, MatchResult, ◌↔◌};
+ghost use Rattle.std.specs.Prelude.{◌≡◌, ◌≢◌, ◌-◌, ◌<◌, [], ◌∷◌, ◌++◌, None, Some, Err, IfErr, IsOk, OnOk, MatchResult, ◌↔◌};
 ghost use Rattle.mf_ops.specs.Step.{fault_of};
+ghost use Rattle.mf_ops.specs.declared.op.Op.TheVariants.{Clear};
 ghost use Rattle.mf_live.specs.Entries.{entry, pic, rev, next, Operation};
 ghost use Rattle.mf_live.specs.Holders as holders;
 ghost use Rattle.mf_live.specs.Viewers.{notice_name, told};
@@ -22,6 +23,7 @@ fn publish_held<R: Wait>(holder: &mut Holder, rt: &R) -> Result<(), OutOfMemory>
     ensures name { holders.name holder.new ≡ holders.name holder.old }
     ensures accepted { holders.accepted holder.new ≡ holders.accepted holder.old }
     ensures published { MatchResult result (λ _. holders.published holder.new ≡ holders.accepted holder.old) (λ _. holders.published holder.new ≡ holders.published holder.old) }
+    ensures nothing { holders.published holder.old ≡ holders.accepted holder.old → IsOk result }
 {
     replace_with(holder, rt, |holder, rt| holder.publish(rt))
 }
@@ -39,6 +41,7 @@ impl Writer {
         ensures allowed { OnOk result ((rev (accepted self.old) < self.old.max_ops) × (fault_of (pic (accepted self.old)) op ≡ None)) }
         ensures handed_back { IfErr result (λ refused. refused.0 ≡ op) }
         ensures too_many { (rev (accepted self.old) ≡ self.old.max_ops) ↔ (result ≡ Err (op, Fault.TooManyOperations)) }
+        ensures clears { op ≡ Clear → rev (accepted self.old) < self.old.max_ops → IsOk result }
         ensures out_of_field { rev (accepted self.old) < self.old.max_ops → fault_of (pic (accepted self.old)) op ≡ Some OpFault.OutOfField → result ≡ Err (op, Fault.Refused OpFault.OutOfField) }
         ensures refused { IfErr result (λ refused. (fault : OpFault) → refused.1 ≡ Fault.Refused fault → fault ≢ OpFault.OutOfMemory → fault_of (pic (accepted self.old)) op ≡ Some fault) }
     {
@@ -72,12 +75,13 @@ impl Writer {
         self.holder.revision - self.holder.told.number
     }
 
-    /// Publishes at once all operations that were accepted. It may wait for looks that are held. Refusal OutOfMemory
-    /// (14): nothing is published then, and it may be tried again.
+    /// Publishes at once all operations that were accepted; where all of them are published already, it does nothing. It
+    /// may wait for looks that are held. Refusal OutOfMemory (14): nothing is published then, and it may be tried again.
     pub fn publish<R: Wait>(&mut self, rt: &R) -> Result<(), OutOfMemory>
         ensures name { name self.new ≡ name self.old }
         ensures accepted { accepted self.new ≡ accepted self.old }
         ensures published { MatchResult result (λ _. published self.new ≡ accepted self.old) (λ _. published self.new ≡ published self.old) }
+        ensures nothing { published self.old ≡ accepted self.old → IsOk result }
         ensures limit { self.new.max_ops ≡ self.old.max_ops }
     {
         publish_held(&mut self.holder, rt)

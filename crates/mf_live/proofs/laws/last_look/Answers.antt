@@ -1,9 +1,11 @@
-use Rattle.std.proofs.Common.{◌≡◌, true, List, Result, Ok, Err, IfOk, MatchResult}
+use Rattle.std.proofs.Common.{◌≡◌, ◌∙◌, true, List, Result, Ok, Err, IfErr, IfOk, OnOk, MatchResult, subst}
 use Rattle.mf_live.specs.declared.look.Look.{Look}
 use Rattle.mf_live.specs.declared.viewer.Viewer.{Viewer}
 use Rattle.mf_live.specs.Entries.{Entry, is_closed, ends_last}
-use Rattle.mf_live.specs.Prefixes.{IsWholePrefix}
-use Rattle.mf_live.specs.Viewers.{Extends, shown}
+use Rattle.mf_live.specs.declared.look.NoLook.{NoLook}
+use Rattle.mf_live.specs.Prefixes.{IsWholePrefix, longer}
+use Rattle.mf_live.specs.Sheets.{HasLearnt}
+use Rattle.mf_live.specs.Viewers.{Extends, SeesTheSame, looked, seen, shown}
 use Rattle.mf_live.proofs.Looking.{shown-last}
 use Rattle.mf_live.proofs.laws.last_look.Goals as goal
 
@@ -15,7 +17,28 @@ shows_closed : {E : Type 0} (P Q : E → Type 0) (v : Viewer) (told : List Entry
 shows_closed P Q v told (Ok look) includes closed extends ends = shown-last told (shown look) (includes (shown look) extends) ends closed
 shows_closed P Q v told (Err refused) includes closed extends ends = tt
 
-pub returns : goal.returns
-returns c =
+-- and the viewer had seen what it begins with
+extends_closed : {E : Type 0} (Q : E → Type 0) (first second : Viewer) (told : List Entry) (answer : Result Look E) → ((L : List Entry) → Extends second L → Extends first L)
+    → IfOk answer (λ look. shown look ≡ told) → MatchResult answer (λ look. Extends second (shown look)) Q → OnOk answer (Extends first told)
+extends_closed Q first second told (Ok look) earlier same extends = earlier told (subst (Extends second) same extends)
+extends_closed Q first second told (Err refused) earlier same extends = tt
+
+-- a viewer whose look is refused has learnt alone
+learnt_alone : (P Q : Look → Type 0) (first second : Viewer) (told : List Entry) (answer : Result Look (Viewer × NoLook)) → looked second ≡ looked first → seen second ≡ longer (seen first) told
+    → MatchResult answer P (λ refused. SeesTheSame second refused.0) → MatchResult answer Q (λ refused. seen refused.0 ≡ seen second) → IfErr answer (λ refused. HasLearnt first told refused.0)
+learnt_alone P Q first second told (Ok look) same known sees all = tt
+learnt_alone P Q first second told (Err refused) same known sees all = record { looked = sees.looked ∙ same; seen = all ∙ known }
+
+pub returns-clause-shown : goal.returns-clause-shown
+returns-clause-shown c =
     let looks = c.look.ensures in
     shows_closed _ _ c.learn.new.self _ c.look.result (λ L extends. (c.learn.ensures.keeps L extends).1) c.requires.closed looks.extends looks.ends
+
+pub returns-clause-extends : goal.returns-clause-extends
+returns-clause-extends c =
+    extends_closed _ _ c.learn.new.self _ c.look.result (λ L extends. (c.learn.ensures.keeps L extends).0) (returns-clause-shown c) c.look.ensures.extends
+
+pub returns-clause-learnt : goal.returns-clause-learnt
+returns-clause-learnt c =
+    let looks = c.look.ensures in
+    learnt_alone _ _ _ c.learn.new.self _ c.look.result c.learn.ensures.looked c.learn.ensures.seen looks.extends looks.ends

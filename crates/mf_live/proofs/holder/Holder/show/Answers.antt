@@ -95,3 +95,6 @@ invariant_of-holder g c =
             short = rw log h.short;
           }
     ]
+
+pub write-requires-clause-alive : goal.write-requires-clause-alive
+write-requires-clause-alive g c = dropped-publish c.args.self c.requires.written

@@ -55,3 +55,6 @@ returns-clause-accepted g c =
     let written = c.write_unwritten in
     let told = c.tell-none in
     ap accepted_of (events-same c.args.self.now written.new.front.token (view told.new.self.desk.place) written.ensures.log told.ensures.kept.3)
+
+pub write_unwritten-requires-clause-alive : goal.write_unwritten-requires-clause-alive
+write_unwritten-requires-clause-alive g c = c.args.self.now.alive

@@ -3,7 +3,8 @@ use Rattle.mf_live.specs.declared.view.View.{View}
 use Rattle.mf_live.specs.Books.{most}
 use Rattle.mf_live.specs.Entries.{ends_last}
 use Rattle.mf_live.specs.World.{accepted_of}
-use Rattle.mf_live.proofs.Looking.{extends-look}
+use Rattle.mf_live.specs.Viewers.{IsPublished}
+use Rattle.mf_live.proofs.Looking.{extends-look, is_published, shown-last}
 use Rattle.mf_live.proofs.WholePrefixes.{whole-length}
 use Rattle.mf_live.proofs.Worlds.{lawful-after}
 use Rattle.mf_live.proofs.viewer.Viewer.look.Goals as goal
@@ -28,3 +29,10 @@ pub returns-clause-ends : goal.returns-clause-ends
 returns-clause-ends c =
     let lawful = lawful-after most _ c.in-Ok.reading.part.value.version.front.lawful in
     subst (λ (v : View). ends_last (accepted_of v.now.seen.log) ≡ true) (sym c.in-Ok.ensures.now) lawful.ended
+
+pub returns-clause-published : goal.returns-clause-published
+returns-clause-published c =
+    subst (λ (v : View). IsPublished (accepted_of v.now.seen.log)) (sym c.in-Ok.ensures.now) (is_published c.in-Ok.reading.part.value.version.front)
+
+pub returns-clause-last : goal.returns-clause-last
+returns-clause-last c = λ closed. let extends = returns-clause-extends c in shown-last _ _ extends.seen (returns-clause-ends c) closed
