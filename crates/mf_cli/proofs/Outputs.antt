@@ -1,8 +1,7 @@
 -- What the program puts out, where its run ends well and where it does not.
-use Rattle.std.proofs.Common.{◌≡◌, ℕ, List, [], Option, Result, Ok, Err, IfErr, ap, arith, inl, inr, refl, sym}
+use Rattle.std.proofs.Common.{◌≡◌, ℕ, List, [], Option, Result, Ok, Err, IfErr, arith, inl, inr, refl, sym}
 use Rattle.std.proofs.KnownBytes.{Appends-nil, Consumes-nil}
 use Rattle.std.proofs.lemmas.List.{append-nil}
-use Rattle.std.specs.Io.KnownBytes.{IsAtEnd}
 use Rattle.mf_cli.specs.Output.{settings}
 use Rattle.mf_desk.specs.Ended.{ended_lines, ended_of_parts}
 use Rattle.mf_desk.specs.Fault.{EndsEarly}
@@ -29,20 +28,20 @@ performance-nobody outcome held holds input run = record {
 }
 
 -- or its fault
-pub fault-nobody : (fault : RunFault) (unread left held holds : Option (List ℕ)) → (fault ≡ FileTooLong → IsAtEnd left)
+pub fault-nobody : (fault : RunFault) (unread left held holds : Option (List ℕ))
     → EndsEarly settings fault unread left held holds → StopsEarly settings 0 fault unread left held holds
 unfolding viewer_lines
-fault-nobody OutOfMemory unread left held holds end (read, consumed, (written, out, tells)) = (read, consumed, (written, out, inl tells))
-fault-nobody NoPlace unread left held holds end (read, consumed, (written, out, tells)) = absurd tells
-fault-nobody FileTooLong unread left held holds end (read, consumed, (written, out, inl none)) = (read, consumed, (written, out, inl none))
-fault-nobody FileTooLong unread left held holds end (read, consumed, (written, out, inr long)) = (
+fault-nobody OutOfMemory unread left held holds (read, consumed, (written, out, tells)) = (read, consumed, (written, out, inl tells))
+fault-nobody NoPlace unread left held holds (read, consumed, (written, out, tells)) = absurd tells
+fault-nobody FileTooLong unread left held holds (read, consumed, (written, out, inl none)) = (read, consumed, (written, out, inl none))
+fault-nobody FileTooLong unread left held holds (read, consumed, (written, out, inr (all_read, long))) = (
   read,
   consumed,
   (
     written,
     out,
     inr (
-      end refl,
+      all_read,
       record {
         last = long.last;
         performed = record { transcript = written; performed = long.performed; is = sym (append-nil written) };
@@ -51,10 +50,10 @@ fault-nobody FileTooLong unread left held holds end (read, consumed, (written, o
     ),
   ),
 )
-fault-nobody ReadFault unread left held holds end (read, consumed, (written, out, tells)) = (read, consumed, (written, out, tells))
-fault-nobody (WriteFault count) unread left held holds end (read, consumed, (written, out, tells)) =
+fault-nobody ReadFault unread left held holds (read, consumed, (written, out, tells)) = (read, consumed, (written, out, tells))
+fault-nobody (WriteFault count) unread left held holds (read, consumed, (written, out, tells)) =
     (read, consumed, (written, out, record { text = tells.text; uncut = inl tells.first; begins = tells.begins; counted = tells.counted }))
-fault-nobody NoLook unread left held holds end (read, consumed, (written, out, tells)) = absurd tells
+fault-nobody NoLook unread left held holds (read, consumed, (written, out, tells)) = absurd tells
 
 -- nothing was read or written
 pub fault-nothing : (viewers : ℕ) (unread held : Option (List ℕ)) → StopsEarly settings viewers OutOfMemory unread unread held held
@@ -63,7 +62,7 @@ fault-nothing viewers unread held =
     ([], Consumes-nil unread, ([], Appends-nil held, inl (record { done = []; more = []; last = start; first = inl refl; performed = (refl, refl) })))
 
 -- a fault of a run beside nobody
-pub faults-nobody : (r : Result Outcome RunFault) (unread left held holds : Option (List ℕ)) → (r ≡ Err FileTooLong → IsAtEnd left)
+pub faults-nobody : (r : Result Outcome RunFault) (unread left held holds : Option (List ℕ))
     → IfErr r (λ fault. EndsEarly settings fault unread left held holds) → IfErr r (λ fault. StopsEarly settings 0 fault unread left held holds)
-faults-nobody (Ok outcome) unread left held holds end early = tt
-faults-nobody (Err fault) unread left held holds end early = fault-nobody fault unread left held holds (λ is. end (ap Err is)) early
+faults-nobody (Ok outcome) unread left held holds early = tt
+faults-nobody (Err fault) unread left held holds early = fault-nobody fault unread left held holds early

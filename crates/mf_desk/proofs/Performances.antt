@@ -39,8 +39,8 @@ module _ (settings : Settings) (viewers : ℕ) where
   StopsEarly-no_room unread held few =
       ([], Consumes-nil unread, ([], Appends-nil held, inl (record { small = omega (arith, min-le_left settings.max_bytes 2147483647); unread = refl; nothing = refl })))
 
-  pub StopsEarly-no_place : (unread held : Option (List ℕ)) → StopsEarly settings viewers NoPlace unread unread held held
-  StopsEarly-no_place unread held = ([], Consumes-nil unread, ([], Appends-nil held, (refl, refl)))
+  pub StopsEarly-no_place : (unread held : Option (List ℕ)) → 0 < viewers → StopsEarly settings viewers NoPlace unread unread held held
+  StopsEarly-no_place unread held some = ([], Consumes-nil unread, ([], Appends-nil held, (some, refl, refl)))
 
   module _ (held holds later : Option (List ℕ)) (read : List ℕ) (run : EndedRun) (over : IsOver (limits_set settings) held read run holds) where
     -- the transcript, and the lines of the first viewers
@@ -55,8 +55,8 @@ module _ (settings : Settings) (viewers : ℕ) where
       pub StopsEarly-showing : (fault : RunFault) → StopsShowing run viewers fault holds later → StopsEarly settings viewers fault unread left held later
       StopsEarly-showing OutOfMemory some =
           (read, consumed, (over.text ++ viewer_lines some.shown (glance run), out-more _ some.out, inr (all_read, record { last = over.last; shown = some.shown; few = some.few; performed = longer some.shown })))
-      StopsEarly-showing NoLook some =
-          (read, consumed, (over.text ++ viewer_lines some.shown (glance run), out-more _ some.out, (all_read, record { last = over.last; shown = some.shown; few = some.few; performed = longer some.shown })))
+      StopsEarly-showing NoLook (someone, some) =
+          (read, consumed, (over.text ++ viewer_lines some.shown (glance run), out-more _ some.out, (someone, all_read, record { last = over.last; shown = some.shown; few = some.few; performed = longer some.shown })))
       StopsEarly-showing (WriteFault count) part =
           let text = over.text ++ viewer_lines part.shown (glance run) in (
             read,

@@ -73,9 +73,9 @@ module _ (settings : Settings) (held holds : Option (List ℕ)) (read : List ℕ
       record { text = over.text; last = over.last; performed = over.performed; out = over.out; fits = fits; font = font; unseen = unseen }
 
   -- or with a font file that is too long
-  pub EndsEarly-long : (unread left : Option (List ℕ)) → Consumes unread left read → IsLongFile (limits_set settings).max_bytes settings.font over.last.characters
+  pub EndsEarly-long : (unread left : Option (List ℕ)) → Consumes unread left read → IsAtEnd left → IsLongFile (limits_set settings).max_bytes settings.font over.last.characters
       → EndsEarly settings FileTooLong unread left held holds
-  EndsEarly-long unread left consumed long = (read, consumed, (over.text, over.out, inr (record { last = over.last; performed = over.performed; too_long = long })))
+  EndsEarly-long unread left consumed all_read long = (read, consumed, (over.text, over.out, inr (all_read, record { last = over.last; performed = over.performed; too_long = long })))
 
   -- or memory is wanting for it
   pub EndsEarly-wanting : (unread left : Option (List ℕ)) → Consumes unread left read → IsAtEnd left → EndsEarly settings OutOfMemory unread left held holds

@@ -67,7 +67,7 @@ shown_some run before shown viewers held holds later few is nothing =
 pub StopsShowing-line : (fault : RunFault) (run before : EndedRun) (shown viewers : ℕ) (held holds later : Option (List ℕ)) → shown < viewers → IsShown run before shown held holds
     → BreaksLine before shown fault holds later → StopsShowing run viewers fault held later
 StopsShowing-line OutOfMemory run before shown viewers held holds later few is broken = shown_some run before shown viewers held holds later (omega arith) is broken
-StopsShowing-line NoLook run before shown viewers held holds later few is broken = shown_some run before shown viewers held holds later (omega arith) is broken
+StopsShowing-line NoLook run before shown viewers held holds later few is broken = (omega arith, shown_some run before shown viewers held holds later (omega arith) is broken)
 StopsShowing-line NoPlace run before shown viewers held holds later few is broken = absurd broken
 StopsShowing-line FileTooLong run before shown viewers held holds later few is broken = absurd broken
 StopsShowing-line ReadFault run before shown viewers held holds later few is broken = absurd broken

@@ -1,5 +1,5 @@
 -- A run whose script has ended.
-use Rattle.std.specs.Prelude.{◌≡◌, ◌≤◌, ◌+◌, ℕ, List, [], ◌++◌, Option, length}
+use Rattle.std.specs.Prelude.{◌≡◌, ◌≤◌, ◌<◌, ◌+◌, ℕ, List, [], ◌++◌, Option, length}
 use Rattle.std.specs.Io.KnownBytes.{Appends, Consumes}
 use Rattle.std.specs.Str.Lines.{lines}
 use Rattle.mf_gf.specs.Keeping.{Keeps, limit}
@@ -77,9 +77,9 @@ pub record HasShownPart (run : EndedRun) (viewers : ℕ) (held holds : Option (L
   pub out : Appends held holds front
   pub counted : count ≡ run.written + length front
 
--- a fault came where the lines of so many viewers were due
+-- a fault came where the lines of so many viewers were due; a look can be wanting only where there is a viewer
 abbrev pub StopsShowing : EndedRun → ℕ → RunFault → Option (List ℕ) → Option (List ℕ) → Type 0
 StopsShowing run viewers OutOfMemory held holds = HasShownSome run viewers held holds
-StopsShowing run viewers NoLook held holds = HasShownSome run viewers held holds
+StopsShowing run viewers NoLook held holds = (0 < viewers) × HasShownSome run viewers held holds
 StopsShowing run viewers (WriteFault count) held holds = HasShownPart run viewers held holds count
 StopsShowing run viewers _ held holds = ⊥

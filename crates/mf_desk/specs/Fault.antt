@@ -62,7 +62,7 @@ Breaks limits NoLook left read written = ⊥
 
 -- what each fault says: after FileTooLong they are the whole transcript, or nothing
 abbrev pub Tells : Settings → RunFault → Option (List ℕ) → List ℕ → List ℕ → Type 0
-Tells settings FileTooLong left read written = HasNoRoom (limits_set settings) read written ⊎ IsBeforeLongFile settings read written
+Tells settings FileTooLong left read written = HasNoRoom (limits_set settings) read written ⊎ (IsAtEnd left × IsBeforeLongFile settings read written)
 Tells settings fault left read written = Breaks (limits_set settings) fault left read written
 
 -- a fault came when these bytes had been read and those were left: a writer that held some bytes has got the bytes that

@@ -1,5 +1,5 @@
 -- What a run with viewers answers.
-use Rattle.std.specs.Prelude.{◌≡◌, ◌≤◌, ◌⊎◌, ℕ, zero, suc, All, List, [], ◌++◌, Option, codes, decimal, length}
+use Rattle.std.specs.Prelude.{◌≡◌, ◌≤◌, ◌<◌, ◌⊎◌, ℕ, zero, suc, All, List, [], ◌++◌, Option, codes, decimal, length}
 use Rattle.std.specs.Fmt.{signed_decimal}
 use Rattle.std.specs.Io.{StartsWith}
 use Rattle.std.specs.Io.KnownBytes.{Appends, Consumes, IsAtEnd}
@@ -73,14 +73,15 @@ pub record IsBeforeLongerFile (settings : Settings) (viewers : ℕ) (read text :
   pub performed : IsLongerText (limits_set settings) read last viewers text
   pub too_long : IsLongFile (limits_set settings).max_bytes settings.font last.characters
 
--- what each fault says of the bytes that were written, where these were read and those are left
+-- what each fault says of the bytes that were written, where these were read and those are left; a place and a look can
+-- be wanting only where there is a viewer
 abbrev pub TellsLonger : Settings → ℕ → RunFault → Option (List ℕ) → List ℕ → List ℕ → Type 0
 TellsLonger settings viewers OutOfMemory left read written = IsUncutText (limits_set settings) viewers left read written
-TellsLonger settings viewers NoPlace left read written = (read ≡ []) × (written ≡ [])
+TellsLonger settings viewers NoPlace left read written = (0 < viewers) × (read ≡ []) × (written ≡ [])
 TellsLonger settings viewers FileTooLong left read written = HasNoRoom (limits_set settings) read written ⊎ (IsAtEnd left × IsBeforeLongerFile settings viewers read written)
 TellsLonger settings viewers ReadFault left read written = IsEndedText (limits_set settings) read written
 TellsLonger settings viewers (WriteFault count) left read written = IsCutLongerText (limits_set settings) viewers left read written count
-TellsLonger settings viewers NoLook left read written = IsAtEnd left × IsShownText (limits_set settings) viewers read written
+TellsLonger settings viewers NoLook left read written = (0 < viewers) × IsAtEnd left × IsShownText (limits_set settings) viewers read written
 
 -- a fault ended a run beside so many viewers: the reader had given some bytes, and the writer has got the bytes that the
 -- fault tells

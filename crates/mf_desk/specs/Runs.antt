@@ -9,6 +9,7 @@ use Rattle.mf_session.specs.Transcript.{Perform}
 use Rattle.mf_desk.specs.declared.settings.Settings.{Settings}
 use Rattle.mf_desk.specs.declared.outcome.Outcome.{Outcome}
 
+-- the limits of a session, as the settings of a run say
 abbrev pub limits_set : Settings → Limits
 limits_set settings = limits_of settings.max_ops settings.max_bytes
 

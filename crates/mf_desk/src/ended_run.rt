@@ -1,6 +1,6 @@
 //! A run whose script has ended: its viewers are shown the last picture.
 ghost use Rattle.std.specs.Io.KnownBytes.{Appends};
-ghost use Rattle.std.specs.Prelude.{◌≡◌, ◌+◌, ◌≤◌, ◌^◌, ℕ, All, Err, IfErr, IfOk, OnOk, length};
+ghost use Rattle.std.specs.Prelude.{◌≡◌, ◌+◌, ◌<◌, ◌≤◌, ◌^◌, ℕ, All, Err, IfErr, IfOk, OnOk, length};
 ghost use Rattle.mf_live.specs.Writers.{ended_name, ended_published};
 ghost use Rattle.mf_desk.specs.EndedRuns.{BreaksLine, IsSameEnd, StopsShowing};
 ghost use Rattle.mf_desk.specs.Performances.{viewer_line, viewer_lines};
@@ -42,7 +42,7 @@ impl EndedRun {
         ensures shown { IfOk result (λ seen. Appends (W.contents writer.old) (W.contents writer.new) (viewer_lines (length seen.items) (glance_at (ended_published self.old.ended)))) }
         ensures count { IfOk result (λ seen. (viewers : ℕ) → IfOk joined (λ watchers. length watchers.items ≡ viewers) → length seen.items ≡ viewers) }
         ensures seen { IfOk result (λ seen. (looks : ℕ) → IfOk joined (λ watchers. All (IsRecord looks) watchers.items) → All (λ v. HasSeen (ended_published self.old.ended) looks v.items) seen.items) }
-        ensures fault { IfErr result (λ fault. (viewers : ℕ) → IfOk joined (λ watchers. length watchers.items ≡ viewers) → StopsShowing self.old viewers fault (W.contents writer.old) (W.contents writer.new)) }
+        ensures fault { IfErr result (λ fault. (viewers : ℕ) → IfOk joined (λ watchers. length watchers.items ≡ viewers) → IfErr joined (λ _. 0 < viewers) → StopsShowing self.old viewers fault (W.contents writer.old) (W.contents writer.new)) }
     {
         match joined {
             Ok(watchers) => self.show_all(alloc, writer, watchers),

@@ -1,7 +1,8 @@
 //! What happens while a viewer holds a look.
 
 /// Is told of each look of the viewers that [`perform`](crate::perform) runs in threads, while the look is held. It may
-/// wait: that stops nobody else but a publish, which waits for looks that are held.
+/// wait: that stops no other viewer, and no line but a publish, which may wait for looks that are held. The end of the
+/// run waits for all of them.
 pub trait Gate: Send + Sync + Drop {
     /// The viewer of this number holds its look of this number, both from 0.
     fn hold(&self, viewer: u32, look: u32);

@@ -31,6 +31,7 @@ impl Glance {
 pub struct Outcome {
     /// The font file of the characters that were shipped, or none where none was shipped.
     pub gf: Option<GfBytes>,
-    /// The looks of each viewer, in order; the last one was taken after the end of the script.
+    /// The looks of each viewer, in order; the last one was taken after the end of the script. Where nobody looks on it
+    /// is empty.
     pub seen: Vec<Vec<Glance>>,
 }

@@ -24,7 +24,7 @@ use std::thread::Threads;
 /// Refusals: those of `run`; NoPlace (15), where a place or a thread could not be had, and nothing was read or written;
 /// NoLook (26), where a look was refused. A fault of the script or of its end comes first, then a look that was refused
 /// in a thread, then what the last looks, the lines and the font file meet. After each the threads are joined. A publish
-/// waits for looks that are held.
+/// may wait for looks that are held, and the end of the run waits for all of them.
 pub fn perform<S: Wait + Threads, R: Read, W: Write, G: Gate + 'static>(
     rt: &S,
     alloc: Global,

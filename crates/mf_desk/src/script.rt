@@ -1,6 +1,6 @@
 //! A run: reads a script to its end, writes its transcript, and makes the font file of what it ships.
 ghost use Rattle.std.specs.Io.KnownBytes.{IsAtEnd};
-ghost use Rattle.std.specs.Prelude.{◌≡◌, ◌⊎◌, ◌<◌, ◌≤◌, ◌↔◌, [], Err, IfErr, IfOk, IfSome, OnOk, List};
+ghost use Rattle.std.specs.Prelude.{◌≡◌, ◌⊎◌, ◌<◌, ◌↔◌, [], Err, IfErr, IfOk, IfSome, OnOk, List};
 ghost use Rattle.mf_gf.specs.Files.{Character};
 ghost use Rattle.mf_gf.specs.Keeping.{Keeps, limit};
 ghost use Rattle.mf_desk.specs.Fault.{EndsEarly};
@@ -34,7 +34,6 @@ pub fn run<S: Wait, R: Read, W: Write>(
     ensures end { OnOk result (IsAtEnd (R.remaining reader.new)) }
     ensures fault { IfErr result (λ fault. EndsEarly settings.now fault (R.remaining reader.old) (R.remaining reader.new) (W.contents writer.old) (W.contents writer.new)) }
     ensures too_small { settings.now.max_bytes < 3 → (result ≡ Err RunFault.FileTooLong) ⊎ (result ≡ Err RunFault.OutOfMemory) }
-    ensures all_read { result ≡ Err RunFault.FileTooLong → 3 ≤ settings.now.max_bytes → IsAtEnd (R.remaining reader.new) }
 {
     let mut memory = vec![in alloc; 0u8; CHUNK_SIZE]?;
     let (progress, _) = Progress::new(rt, alloc, settings, 0)?;

@@ -39,7 +39,7 @@ pub struct Watching {
 fn watchers(alloc: Global, desk: Desk, viewers: u32, looks: u32) -> Result<Vec<Watcher>, RunFault>
     ensures ready { IfOk result (λ watchers. All (IsWatcher (desk_name desk) 0 (looks + 1)) watchers.items) }
     ensures count { IfOk result (λ watchers. length watchers.items ≡ viewers) }
-    ensures fault { IfErr result (λ fault. (fault ≡ RunFault.NoPlace) ⊎ (fault ≡ RunFault.OutOfMemory)) }
+    ensures fault { IfErr result (λ fault. ((fault ≡ RunFault.NoPlace) × (0 < viewers)) ⊎ (fault ≡ RunFault.OutOfMemory)) }
 {
     let mut desk = desk;
     let mut watchers = Vec::with_capacity(alloc, viewers as usize)?;
@@ -65,7 +65,7 @@ impl Watching {
         requires few { viewers ≤ 64 }
         ensures started { IfOk result (AreStarted (desk_name desk) looks) }
         ensures count { IfOk result (λ watching. length watching.threads.items ≡ viewers) }
-        ensures fault { IfErr result (λ fault. (fault ≡ RunFault.NoPlace) ⊎ (fault ≡ RunFault.OutOfMemory)) }
+        ensures fault { IfErr result (λ fault. ((fault ≡ RunFault.NoPlace) × (0 < viewers)) ⊎ (fault ≡ RunFault.OutOfMemory)) }
     {
         let watchers = watchers(alloc, desk, viewers, looks)?;
         let mut watching = Watching {
@@ -130,6 +130,7 @@ impl Watching {
         requires { vec_len self.room + vec_len self.threads ≤ vec_capacity self.room }
         ensures watchers { IfOk result (λ watchers. (picture : Book) (looks : ℕ) → AreStarted picture looks self → All (IsWatcher picture looks 1) watchers.items) }
         ensures count { IfOk result (λ watchers. self.room.items ≡ [] → length watchers.items ≡ length self.threads.items) }
+        ensures refused { IfErr result (λ _. 0 < length self.threads.items) }
     {
         let Watching { threads, mut room } = self;
         let mut missed = false;

@@ -1,4 +1,3 @@
-use Rattle.std.proofs.Common.{arith}
 use Rattle.std.proofs.lemmas.Option.{IfSome_then}
 use Rattle.std.proofs.lemmas.Result.{IfOk-weaker, err_from_is_err_and}
 use Rattle.mf_cli.proofs.Outputs.{fault-nothing, faults-nobody, performance-nobody}
@@ -11,7 +10,7 @@ returns-then-viewers-eq0-clause-performance g c =
 
 pub returns-then-viewers-eq0-clause-fault : goal.returns-then-viewers-eq0-clause-fault
 returns-then-viewers-eq0-clause-fault g c =
-    rw c.if-viewers-eq0.true (faults-nobody c.run.result _ _ _ _ (λ long. c.run.ensures.all_read long (omega arith)) c.run.ensures.fault)
+    rw c.if-viewers-eq0.true (faults-nobody c.run.result _ _ _ _ c.run.ensures.fault)
 
 pub returns-in_err-gate-clause-fault : goal.returns-in_err-gate-clause-fault
 returns-in_err-gate-clause-fault g c =

@@ -1,8 +1,8 @@
-use Rattle.std.proofs.Common.{◌≡◌, ◌≤◌, [], Err, All, length, ⊎_elim, inl, inr, refl, sym, ap, subst, ◌∙◌, arith}
+use Rattle.std.proofs.Common.{◌≡◌, ◌<◌, ◌≤◌, [], Err, All, length, ⊎_elim, inl, inr, refl, sym, ap, subst, ◌∙◌, arith}
 use Rattle.std.specs.Io.KnownBytes.{Appends}
 use Rattle.std.proofs.KnownBytes.{Consumes-whole}
 use Rattle.std.proofs.lemmas.List.Elements.{All-weaker}
-use Rattle.std.proofs.lemmas.Result.{IfOk-weaker, err_from_is_err_and}
+use Rattle.std.proofs.lemmas.Result.{IfErr-weaker, IfOk-weaker, err_from_is_err_and}
 use Rattle.mf_gf.specs.Keeping.{Keeps, limit}
 use Rattle.mf_live.specs.Desks.{desk_name}
 use Rattle.mf_desk.specs.declared.outcome.Outcome.{Outcome}
@@ -33,7 +33,7 @@ pub returns-in-Err-clause-fault : goal.returns-in-Err-clause-fault
 returns-in-Err-clause-fault g c =
     let settings = c.args.settings.now in
     ⊎_elim
-    (λ none. rw none (StopsEarly-no_place settings c.args.viewers _ _))
+    (λ none. rw none.0 (StopsEarly-no_place settings c.args.viewers _ _ none.1))
     (λ wanting. rw wanting (StopsEarly-nothing settings c.args.viewers _ _))
     c.in-Err.ensures.fault
 
@@ -69,9 +69,10 @@ returns-in_err-seen-clause-fault g c =
     let run = c.in_ok-ended.ended in
     let (read, consumed, over) = subst (λ l. EndsWith l (g.R.Read.remaining c.args.reader.now) left held run holds) c.in_ok-progress.ensures.limits c.in_ok-ended.ensures.over in
     let counted = IfOk-weaker c.join-joined.result _ (λ watchers. length watchers.items ≡ c.args.viewers) (λ watchers count. count c.in-Ok.ensures.started.empty ∙ c.in-Ok.ensures.count) c.join-joined.ensures.count in
+    let refused = IfErr-weaker c.join-joined.result _ (λ _. 0 < c.args.viewers) (λ _ some. omega (arith, some, c.in-Ok.ensures.count)) c.join-joined.ensures.refused in
     let passed_on = err_from_is_err_and c.from_residual-in_err-seen.result c.from_residual-in_err-seen.ensures.1 in
     rw (passed_on.1, passed_on.2)
-    (StopsEarly-showing settings c.args.viewers held holds _ read run over _ left consumed c.in_ok-ended.ensures.end _ (c.in_err-seen.ensures.fault c.args.viewers counted))
+    (StopsEarly-showing settings c.args.viewers held holds _ read run over _ left consumed c.in_ok-ended.ensures.end _ (c.in_err-seen.ensures.fault c.args.viewers counted refused))
 
 pub returns-in_err-gf-clause-fault : goal.returns-in_err-gf-clause-fault
 returns-in_err-gf-clause-fault g c =

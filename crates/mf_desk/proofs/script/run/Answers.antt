@@ -42,7 +42,7 @@ returns-in_err-gf-clause-fault g c =
     (⊎_elim
     (λ long.
     let too_long = subst (λ n. IsLongFile n settings.font over.last.characters) most ((c.in_err-gf.ensures.too_long over.last.characters file).1 (ap Err long)) in
-    rw long (EndsEarly-long settings held holds read run over _ _ consumed too_long))
+    rw long (EndsEarly-long settings held holds read run over _ _ consumed c.in_ok-ended.ensures.end too_long))
     (λ wanting. rw wanting (EndsEarly-wanting settings held holds read run over _ _ consumed c.in_ok-ended.ensures.end))
     c.in_err-gf.ensures.fault)
 

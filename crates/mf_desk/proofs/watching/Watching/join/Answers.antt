@@ -7,7 +7,7 @@ use Rattle.mf_desk.proofs.watching.Watching.join.Goals as goal
 
 pub loop-thread-preserved-in-Ok-push : goal.loop-thread-preserved-in-Ok-push
 loop-thread-preserved-in-Ok-push g c =
-    let (kept, room, counted) = c.loop-thread.invariant in
+    let (kept, room, counted, fewer, missed) = c.loop-thread.invariant in
     let first = c.in-Some.ensures.steps.0 in
     let pushed = c.in-Ok-push.ensures.items in
     let old = c.loop-thread.room.items in
@@ -27,17 +27,21 @@ loop-thread-preserved-in-Ok-push g c =
           ),
       omega (arith, room, longer, shorter, c.push.ensures.capacity),
       λ none_missed. omega (arith, counted none_missed, longer, shorter),
+      omega (arith, fewer, shorter),
+      missed,
     )
 
 pub loop-thread-preserved : goal.loop-thread-preserved
 loop-thread-preserved g c =
-    let (kept, room, counted) = c.loop-thread.invariant in
+    let (kept, room, counted, fewer, missed) = c.loop-thread.invariant in
     let first = c.in-Some.ensures.steps.0 in
     let threads = into_iter_items c.loop-thread.thread-iterator in
     let rest = into_iter_items c.next.new.self in (
       (λ picture looks started. ((kept picture looks started).0, All-rest (Owes picture looks) c.in-Some.thread rest threads first (kept picture looks started).1)),
       omega (arith, room, ap length first),
       λ none_missed. search rules,
+      omega (arith, fewer, ap length first),
+      λ _. omega (arith, fewer, ap length first),
     )
 
 pub returns-clause-watchers : goal.returns-clause-watchers

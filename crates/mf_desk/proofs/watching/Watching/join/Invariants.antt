@@ -1,4 +1,4 @@
-use Rattle.std.proofs.Common.{◌≡◌, ◌+◌, ◌≤◌, ℕ, All, false, length, vec_capacity}
+use Rattle.std.proofs.Common.{◌≡◌, ◌+◌, ◌<◌, ◌≤◌, ℕ, All, false, true, length, vec_capacity}
 use Rattle.std.specs.Vec.Iter.{into_iter_items}
 use Rattle.logbook.specs.Pages.{Book}
 use Rattle.mf_desk.specs.Watchers.{IsWatcher}
@@ -11,3 +11,5 @@ invariant-loop-thread g l =
     ((picture : Book) (looks : ℕ) → AreStarted picture looks l.fn.self → All (IsWatcher picture looks 1) l.room.items × All (Owes picture looks) rest)
     × (length l.room.items + length rest ≤ vec_capacity l.room)
     × (l.missed ≡ false → length l.room.items + length rest ≡ length l.fn.self.room.items + length l.fn.self.threads.items)
+    × (length rest ≤ length l.fn.self.threads.items)
+    × (l.missed ≡ true → 0 < length l.fn.self.threads.items)
