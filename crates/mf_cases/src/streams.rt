@@ -131,9 +131,14 @@ impl Sink {
 
     /// Takes no byte, and answers no error.
     pub fn full(alloc: Global) -> Sink {
+        Sink::full_after(alloc, 0)
+    }
+
+    /// Takes `room` bytes, and then no byte, and answers no error.
+    pub fn full_after(alloc: Global, room: usize) -> Sink {
         Sink {
             taken: Vec::new(alloc),
-            room: 0,
+            room,
             size: usize::MAX,
             fails: false,
         }

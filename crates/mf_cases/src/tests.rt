@@ -1,13 +1,16 @@
 //! Tests of scripts, from the bytes that are read to the bytes that are written, and of sessions.
 ghost use Rattle.std.specs.Prelude.{◌≤◌};
 
+mod cuts;
 mod faults;
 mod flags;
 mod fonts;
 mod gates;
+mod joins;
 mod lengths;
 mod limits;
 mod lines;
+mod second_tries;
 mod session_ends;
 mod sessions;
 mod transcripts;
@@ -18,6 +21,7 @@ use crate::streams::{Pieces, Sink};
 use mf_desk::{Glance, OpenGate, Outcome, RunFault, Settings, perform, run};
 use mf_gf::FontWords;
 use std::alloc::{AllocError, Global};
+use std::io::Write;
 use std::process::Abort;
 use std::sync::{Arc, Wait};
 use std::thread::Threads;
@@ -78,10 +82,10 @@ fn assert_prints<R: Abort + Wait + AllocGlobal>(
 }
 
 /// Performs the reader's script beside so many viewers, who look so many times each.
-fn performed<R: Abort + Wait + Threads + AllocGlobal>(
+fn performed<R: Abort + Wait + Threads + AllocGlobal, W: Write>(
     rt: &R,
     mut reader: Pieces<'_>,
-    writer: &mut Sink,
+    writer: &mut W,
     settings: &Settings,
     viewers: u32,
     looks: u32,

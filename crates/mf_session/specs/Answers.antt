@@ -42,6 +42,7 @@ pub record IsProof (ds : List Dot) (text : List ℕ) : Type 0 where
   pub fits : IsTooLarge ds → ⊥
   pub printed : IsGridText ds text
 
+-- what `proof` prints of a picture
 abbrev pub ProofAnswers : List Dot → List ℕ → Type 0
 ProofAnswers ds text = IsRefusedProof ds text ⊎ IsProof ds text
 

@@ -8,11 +8,13 @@ use Rattle.mf_text.specs.Names.{text_fault_text}
 use Rattle.mf_session.specs.declared.refusal.Refusal.{Refusal}
 use Rattle.mf_session.specs.declared.refusal.Refusal.TheVariants.{Line, Operation, CodeShipped, FileTooLong, ProofTooLarge}
 
+-- the name of what an operation is refused for
 abbrev pub operation_text : OpFault → List ℕ
 operation_text OutOfField = codes "OutOfField"
 operation_text WeightTooLarge = codes "WeightTooLarge"
 operation_text OutOfMemory = codes "OutOfMemory"
 
+-- the name of what the writer of the live picture refuses an operation for
 abbrev pub fault_text : Fault → List ℕ
 fault_text TooManyOperations = codes "TooManyOperations"
 fault_text (Refused fault) = operation_text fault

@@ -17,6 +17,7 @@ pub record StandsFor (session : Session) (s : State) : Type 0 where
 abbrev pub name : Session → Book
 name session = variables.name session.variables
 
+-- what it accepts at most
 abbrev pub limits : Session → Limits
 limits session = record { max_ops = variables.max_ops session.variables; max_bytes = limit session.file }
 

@@ -5,6 +5,7 @@ use Rattle.mf_live.specs.Writers as writers
 use Rattle.mf_session.specs.declared.variables.Variables.{Variables}
 use Rattle.mf_session.specs.Pictures.{Pictures}
 
+-- the pictures: what `currentpicture` has accepted, what of it is published, and the registers
 abbrev pub pictures : Variables → Pictures
 pictures v = record { accepted = writers.accepted v.writer; published = writers.published v.writer; registers = v.registers }
 

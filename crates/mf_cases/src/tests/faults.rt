@@ -60,15 +60,14 @@ fn writer_fails(rt: HostRuntime) -> Result<(), Fail> {
     let script = joined(alloc, &[CONTOUR, b"\n", TOTAL, b"\n", TOTAL, b"\n"])?;
     let texts = joined(alloc, &[SIX, SIX])?;
     for room in [0, 5, 14, 20] {
-        let mut writer = Sink::failing(alloc, room);
-        let result = run(&rt, alloc, &mut Pieces::whole(&script), &mut writer, &AMPLE);
-        assert_eq!(rt; result.err(), Some(RunFault::WriteFault(room as u128)));
-        assert!(rt; texts.starts_with(writer.taken()), "room for {room}");
-        assert_eq!(rt; writer.taken().len(), room);
+        // The first answers an error where it has no room, and the second takes no byte.
+        for mut writer in [Sink::failing(alloc, room), Sink::full_after(alloc, room)] {
+            let result = run(&rt, alloc, &mut Pieces::whole(&script), &mut writer, &AMPLE);
+            assert_eq!(rt; result.err(), Some(RunFault::WriteFault(room as u128)));
+            assert!(rt; texts.starts_with(writer.taken()), "room for {room}");
+            assert_eq!(rt; writer.taken().len(), room);
+        }
     }
-    let mut writer = Sink::full(alloc);
-    let result = run(&rt, alloc, &mut Pieces::whole(&script), &mut writer, &AMPLE);
-    assert_eq!(rt; result.err(), Some(RunFault::WriteFault(0)));
     let mut writer = Sink::bytewise(alloc);
     let result = run(&rt, alloc, &mut Pieces::whole(&script), &mut writer, &AMPLE);
     assert_eq!(rt; result.err(), None);
@@ -110,6 +109,24 @@ fn piece_of_a_line_is_not_performed(rt: HostRuntime) -> Result<(), Fail> {
             Some(RunFault::WriteFault(14)),
             "a piece of {piece}"
         );
+    }
+    Ok(())
+}
+
+/// A fault is told by its name, without a number.
+#[test]
+fn messages_are_names(rt: HostRuntime) -> Result<(), Fail> {
+    let faults = [
+        (RunFault::OutOfMemory, "OutOfMemory"),
+        (RunFault::NoPlace, "NoPlace"),
+        (RunFault::FileTooLong, "FileTooLong"),
+        (RunFault::ReadFault, "ReadFault"),
+        (RunFault::WriteFault(5), "WriteFault"),
+        (RunFault::NoLook, "NoLook"),
+    ];
+    for (fault, name) in faults {
+        let message = format!(in rt.alloc(); "{fault}")?;
+        assert_eq!(rt; message.as_str(), name);
     }
     Ok(())
 }

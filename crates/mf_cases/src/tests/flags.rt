@@ -68,7 +68,7 @@ pub(crate) struct Tells<'a> {
 impl Write for Tells<'_> {
     fn write(&mut self, buf: &[u8]) -> io::Result<usize> {
         let count = self.sink.write(buf)?;
-        if buf.starts_with(self.text) {
+        if buf[..count].starts_with(self.text) {
             self.flag.set();
         }
         Ok(count)

@@ -106,6 +106,34 @@ fn ship_the_whole_field(rt: HostRuntime) {
     assert_eq!(rt; &gf.bytes()[32_789..32_794], postamble);
 }
 
+/// The whole field, whose first row is painted from its left edge, and each other row behind the byte that begins it.
+#[test]
+fn ship_the_whole_field_as_it_is(rt: HostRuntime) {
+    let outcome = outcome_of(
+        &rt,
+        &AMPLE,
+        "addto a contour (-4095,-4095)--(4095,-4095)--(4095,4095)--(-4095,4095)--cycle\n\
+         shipout a code 1 dx 0 width 0\n",
+        "[1]\n",
+    );
+    let gf = outcome.gf.expect(&rt, "a character was shipped");
+    let bytes = gf.bytes();
+    let front = b"\xf7\x83\x00\
+        \x43\x00\x00\x00\x01\xff\xff\xff\xff\
+        \xff\xff\xf0\x01\x00\x00\x0f\xff\xff\xff\xf0\x01\x00\x00\x0f\xfe\
+        \x00\x41\x1f\xfe\
+        \x4a\x41\x1f\xfe\x4a"
+        .as_slice();
+    assert!(rt; bytes.starts_with(front));
+    assert_eq!(rt; bytes.len(), 32_848);
+    assert_eq!(rt; bytes.get(32_788), Some(&0x45));
+    assert_eq!(rt; &bytes[32_789..32_794], b"\xf8\x00\x00\x80\x15".as_slice());
+    let back = b"\xf6\x01\x00\x00\x00\x00\x00\x00\x00\x00\x03\
+        \xf9\x00\x00\x80\x15\x83\xdf\xdf\xdf\xdf\xdf"
+        .as_slice();
+    assert_eq!(rt; &bytes[32_826..], back);
+}
+
 /// Negative weights are not black, and a code is shipped once.
 #[test]
 fn ship_black_pixels(rt: HostRuntime) {

@@ -4,6 +4,8 @@ use super::fonts::RECT as SHIPPED;
 use super::{AMPLE, PUBLISHED, PUBLISHED_TEXT, performed};
 use crate::streams::{Pieces, Sink};
 use mf_desk::{RunFault, Settings};
+use std::io::BufWriter;
+use std::test::Fail;
 
 /// The text of each line that was read to its end is there, and no viewer has a line.
 #[test]
@@ -12,6 +14,10 @@ fn reader_fails(rt: HostRuntime) {
         ("", ""),
         ("show totalweight a", ""),
         ("show totalweight a\nshow a", "totalweight 0\n"),
+        (
+            "addto currentpicture contour (0,0)--(3,0)--(3,2)--(0,2)--cycle\n",
+            "",
+        ),
         (PUBLISHED, "published 1\n"),
     ];
     for (script, text) in scripts {
@@ -42,6 +48,31 @@ fn writer_fails(rt: HostRuntime) {
     let result = performed(&rt, reader, &mut writer, &AMPLE, 2, 3);
     assert_eq!(rt; result.err(), None);
     assert_eq!(rt; writer.taken(), PUBLISHED_TEXT.as_bytes());
+}
+
+/// What a writer keeps back goes out before the second read, which finds the end, and behind the lines of the viewers.
+#[test]
+fn writer_keeps_lines_back(rt: HostRuntime) -> Result<(), Fail> {
+    let alloc = rt.alloc();
+    for (room, fault) in [
+        (5, Some(RunFault::WriteFault(12))),
+        (12, Some(RunFault::WriteFault(80))),
+        (20, Some(RunFault::WriteFault(80))),
+        (79, Some(RunFault::WriteFault(80))),
+        (80, None),
+    ] {
+        let mut writer = BufWriter::new(alloc, Sink::failing(alloc, room))?;
+        let reader = Pieces::whole(PUBLISHED.as_bytes());
+        let result = performed(&rt, reader, &mut writer, &AMPLE, 2, 3);
+        assert_eq!(rt; result.err(), fault, "room for {room}");
+        let taken = writer.get_ref().taken();
+        assert!(rt;
+            PUBLISHED_TEXT.as_bytes().starts_with(taken),
+            "room for {room}"
+        );
+        assert_eq!(rt; taken.len(), room);
+    }
+    Ok(())
 }
 
 /// Where no file is short enough nothing is read, and where the last one is too long all lines are there.

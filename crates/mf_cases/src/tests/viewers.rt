@@ -146,10 +146,31 @@ fn see_whole_publishes(rt: HostRuntime) -> Result<(), Fail> {
     Ok(())
 }
 
+/// What is seen last of the scripts that change `currentpicture`, in their order: the number of their operations, and
+/// the total that they leave.
+const SEEN_LAST: &[(u32, i64)] = &[
+    // Contours: a rectangle either way round, large ones, and a pixel.
+    (1, 6),
+    (1, 6),
+    (1, 4_000_000),
+    (1, -480_000),
+    (1, 1),
+    // Sums: doubled and taken away, 3 that is doubled 13 times, and 2 - 1.
+    (3, 0),
+    (14, 24_576),
+    (2, 1),
+    // What is published, and what is shipped.
+    (1, 6),
+    (1, 1),
+    (3, 0),
+    (1, 6),
+];
+
 /// The line of each viewer tells what it has seen last, which is the same for all.
 #[test]
 fn print_what_they_see_last(rt: HostRuntime) -> Result<(), Fail> {
     let alloc = rt.alloc();
+    let mut seen_last = Vec::new(alloc);
     for (script, transcript) in worked_scripts().iter().copied().flatten() {
         let mut writer = Sink::new(alloc);
         let reader = Pieces::whole(script.as_bytes());
@@ -172,6 +193,12 @@ fn print_what_they_see_last(rt: HostRuntime) -> Result<(), Fail> {
             text.push_str(&line(alloc, number, reached)?)?;
         }
         assert_eq!(rt; writer.taken(), text.as_bytes(), "{script}");
+        if let Some(Glance { revision, total }) = last
+            && *revision > 0
+        {
+            seen_last.push((*revision, *total))?;
+        }
     }
+    assert_eq!(rt; seen_last.as_slice(), SEEN_LAST);
     Ok(())
 }

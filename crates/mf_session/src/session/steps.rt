@@ -23,7 +23,7 @@ impl Session {
     /// at most so many. It accepts at most `max_ops` operations on `currentpicture`, and its font file, which has no
     /// comment, has at most `max_bytes` bytes; more than 2,147,483,647 count as that. Refusals FileTooLong (20),
     /// exactly where a file of three bytes is too long, and OutOfMemory (14). The caller owes that the places are at
-    /// most 64.
+    /// most 64. It waits for nobody, since nobody looks yet.
     pub fn new<R: Wait>(
         rt: &R,
         alloc: Global,
