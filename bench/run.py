@@ -4,10 +4,12 @@
     bench/run.py [--program PROGRAM] [--repeats N] [--seed S] [--only WORD] [--growth]
 
 PROGRAM is the built program, crates/mf_cli/out/mf_cli beside this folder unless another is named. Each workload runs
-N times (5 unless another number is given; short ones up to 100 times, for two seconds), METAFONT (`mf-nowin`, Debian package texlive-binaries) and the program in
-turn; the least time of each counts. The totals that both print are compared, and a difference ends the run with status 1.
-One more run of each tells its peak memory, by GNU time (Debian package time), where that is installed. With --growth the
-program alone runs on sizes n, 2n and 4n.
+N times (5 unless another number is given) or more, while that takes less than two seconds, up to 100 times: METAFONT
+(`mf-nowin`, Debian package texlive-binaries) and the program in turn; the least time of each counts. Where a workload
+ships characters, both write a font file. The totals that both print and the characters that both ship are compared. A
+difference ends this script with status 1, and so does a line that the program refuses or in which METAFONT finds an
+error. One more run of each tells its peak memory, by GNU time (Debian package time), where that is installed. With
+--growth the program alone runs on sizes n, 2n and 4n.
 """
 
 import argparse
@@ -33,92 +35,131 @@ ENVIRONMENT = {**os.environ, "main_memory": "8000000"}
 class Runner:
     """One of the two programs, with a script of its own in a folder."""
 
-    def __init__(self, words, script, stdin, totals_in):
+    # The names of the script and of the font file, and the patterns of a total and of a fault in what is told.
+    SCRIPT, FONT, TOTAL, FAULT = "", "", r"", r""
+
+    def __init__(self, words, text, folder):
         self.words = words
-        self.script = script
-        self.stdin = stdin
-        self.totals_in = totals_in
+        self.folder = folder
+        (folder / self.SCRIPT).write_text(text)
+
+    def stdin(self):
+        """The file that is the standard input."""
+        return self.folder / self.SCRIPT
+
+    def told(self):
+        """What the last run told."""
+        return (self.folder / "printed").read_text()
 
     def run(self, before=()):
         """Wall time of a run, in seconds."""
-        folder = self.script.parent
-        with open(self.stdin, "rb") as lines, open(folder / "printed", "wb") as printed:
+        with open(self.stdin(), "rb") as lines, open(self.folder / "printed", "wb") as printed:
             begin = time.perf_counter()
             done = subprocess.run(
-                [*before, *self.words], cwd=folder, env=ENVIRONMENT, stdin=lines, stdout=printed, stderr=subprocess.DEVNULL
+                [*before, *self.words],
+                cwd=self.folder,
+                env=ENVIRONMENT,
+                stdin=lines,
+                stdout=printed,
+                stderr=subprocess.DEVNULL,
             )
             seconds = time.perf_counter() - begin
+        if fault := re.search(self.FAULT, self.told(), re.MULTILINE):
+            raise SystemExit(f"{' '.join(self.words)} tells of a fault: {fault[0]}")
         if done.returncode != 0:
             raise SystemExit(f"{' '.join(self.words)} ends with status {done.returncode}")
         return seconds
 
     def totals(self):
         """The totals that the last run printed."""
-        return self.totals_in(self.script)
+        return re.findall(self.TOTAL, self.told(), re.MULTILINE)
+
+    def characters(self):
+        """The bytes of the characters that the last run shipped, in its font file between pre and post."""
+        font = (self.folder / self.FONT).read_bytes()
+        # A font file ends with the place of its post, 131, and some bytes 223.
+        post = int.from_bytes(font.rstrip(bytes([223]))[-5:-1], "big")
+        return font[3 + font[2] : post]
 
     def peak(self):
         """Peak memory of one more run, in megabytes, as text."""
         if not os.path.exists(GNU_TIME):
             return "-"
-        told = self.script.parent / "peak"
+        told = self.folder / "peak"
         self.run([GNU_TIME, "-f", "%M", "-o", str(told)])
         return f"{int(told.read_text()) / 1024:.1f}"
 
 
-def totals_of_program(script):
-    printed = (script.parent / "printed").read_text()
-    return [int(n) for n in re.findall(r"^totalweight (-?\d+)$", printed, re.MULTILINE)]
+class Program(Runner):
+    """The program, which tells its transcript. It writes a font file where the script ships characters."""
+
+    SCRIPT, FONT, TOTAL, FAULT = "work.mfp", "shipped.gf", r"^totalweight (-?\d+)$", r"^refused .*"
+
+    def __init__(self, program, lines, folder):
+        words = [program, "--gf", self.FONT] if workloads.ships(lines) else [program]
+        super().__init__(words, "\n".join(lines) + "\n", folder)
+
+    def totals(self):
+        return [int(n) for n in super().totals()]
 
 
-def totals_of_metafont(script):
-    log = script.with_suffix(".log").read_text(errors="replace")
-    # A total weight of n is n / 65536 there, which is printed with as many digits as tell it from others.
-    return [round(float(n) * 65536) for n in re.findall(r"^>> (-?[\d.]+)", log, re.MULTILINE)]
+class Metafont(Runner):
+    """METAFONT, which tells its log. It writes a font file where the script ships characters."""
+
+    SCRIPT, FONT, TOTAL, FAULT = "work.mf", "work.gf", r"^>> (-?[\d.]+)", r"^! .*"
+
+    def __init__(self, lines, folder):
+        super().__init__(["mf-nowin", "-ini", "-interaction=batchmode", self.SCRIPT], workloads.metafont(lines), folder)
+
+    def stdin(self):
+        return os.devnull
+
+    def told(self):
+        return (self.folder / "work.log").read_text(errors="replace")
+
+    def totals(self):
+        # A total weight of n is n / 65536 there, which is printed with as many digits as tell it from others.
+        return [round(float(n) * 65536) for n in super().totals()]
 
 
-def own_runner(arguments, lines, folder):
-    script = folder / "work.mfp"
-    script.write_text("\n".join(lines) + "\n")
-    return Runner([arguments.program], script, script, totals_of_program)
-
-
-def metafont_runner(lines, folder):
-    script = folder / "work.mf"
-    script.write_text(workloads.metafont(lines))
-    words = ["mf-nowin", "-ini", "-interaction=batchmode", script.name]
-    return Runner(words, script, os.devnull, totals_of_metafont)
-
-
-def is_wanted(repeats, times):
-    """Whether one more run is wanted behind these."""
-    return len(times) < repeats or (len(times) < 100 and sum(times) < 2)
+def is_wanted(repeats, times, seconds):
+    """Whether one more run is wanted behind those that took these times, and so many seconds in all."""
+    return len(times) < repeats or (len(times) < 100 and seconds < 2)
 
 
 def repeated(repeats, runner):
     """The times of repeated runs."""
     times = []
-    while is_wanted(repeats, times):
+    while is_wanted(repeats, times, sum(times)):
         times.append(runner.run())
     return times
 
 
+def difference(own, theirs, lines):
+    """What differs between the last runs, if something does."""
+    found, expected = own.totals(), theirs.totals()
+    if found != expected:
+        return f"the totals begin with {found[:9]}, and METAFONT's with {expected[:9]}"
+    if workloads.ships(lines) and own.characters() != theirs.characters():
+        return "the characters are not METAFONT's"
+    return None
+
+
 def beside_metafont(arguments, name, lines, folder):
     """The row of a workload."""
-    own, theirs = own_runner(arguments, lines, folder), metafont_runner(lines, folder)
+    own, theirs = Program(arguments.program, lines, folder), Metafont(lines, folder)
     own_times, their_times = [], []
-    while is_wanted(2 * arguments.repeats, own_times + their_times):
+    while is_wanted(arguments.repeats, own_times, sum(own_times + their_times)):
         their_times.append(theirs.run())
-        expected = theirs.totals()
         own_times.append(own.run())
-        found = own.totals()
-        if found != expected:
-            raise SystemExit(f"{name}: the totals begin with {found[:9]}, and METAFONT's with {expected[:9]}")
+        if wrong := difference(own, theirs, lines):
+            raise SystemExit(f"{name}: {wrong}")
     fast = min(their_times) / min(own_times)
     return f"| {name} | {min(own_times):.3f} | {min(their_times):.3f} | {fast:.1f} | {own.peak()} | {theirs.peak()} |"
 
 
 def alone(arguments, name, lines, folder):
-    own = own_runner(arguments, lines, folder)
+    own = Program(arguments.program, lines, folder)
     times = repeated(arguments.repeats, own)
     return f"| {name} | {min(times):.3f} | - | - | {own.peak()} | - |"
 
@@ -140,7 +181,7 @@ def growth(arguments, folder):
             continue
         times = []
         for factor in (1, 2, 4):
-            own = own_runner(arguments, make(arguments.seed, size * factor), folder)
+            own = Program(arguments.program, make(arguments.seed, size * factor), folder)
             times.append(min(repeated(arguments.repeats, own)))
         shown = " | ".join(f"{seconds:.3f}" for seconds in times)
         print(f"| {name} | {size:,} | {shown} | {times[2] / times[0]:.1f} |", flush=True)

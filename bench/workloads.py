@@ -15,17 +15,21 @@ currentpicture:=nullpicture; a:=nullpicture; b:=nullpicture; c:=nullpicture; d:=
 
 
 def metafont(lines):
-    """The same script for METAFONT. Its pixels of weight 32767 do not come up here, so `infinity` is a limit of its own."""
+    """The same script for METAFONT.
+
+    METAFONT's numbers are below 4096, so the greatest weight that a cull keeps, 32767, becomes 4095. No pixel here has
+    a greater one.
+    """
     out = [HEAD]
     for line in lines:
         words = line.split()
         if not words or words[0] == "publish":
             out.append("\n")
         elif words[0] == "shipout":
-            source, code, dx, width = words[1], words[3], words[5], words[7]
+            source, code, dx = words[1], words[3], words[5]
             out.append(f"charcode:={code};chardx:={int(dx) // 65536};shipout {source};\n")
         else:
-            out.append(line.replace(",32767)", ",4095)").replace("(-32768,", "(-4095,") + ";\n")
+            out.append(line.replace(",32767)", ",4095)") + ";\n")
     out.append("end.\n")
     return "".join(out)
 
@@ -149,7 +153,10 @@ def checkerboard(seed, size):
 
 
 def copies(source, target, count, right, up):
-    """So many copies of a picture, each moved from the one before: the source is doubled, and added for each bit of the count."""
+    """So many copies of a picture, each moved from the one before.
+
+    The source is doubled again and again, and added for each bit of the count.
+    """
     lines, placed = [f"{target} := nullpicture"], 0
     for k in range(count.bit_length()):
         if count >> k & 1:
@@ -167,6 +174,11 @@ def page(seed, size):
     lines = [contour("a", part) for part in letter]
     lines += copies("a", "c", 131, 30, 0) + copies("c", "d", 100, 0, 40) + [total("d")]
     return lines + [f"shipout d code {code} dx 0 width 0" for code in range(size)]
+
+
+def ships(lines):
+    """Whether a script ships characters."""
+    return any(line.startswith("shipout ") for line in lines)
 
 
 def trivial_lines(seed, size):
@@ -195,14 +207,15 @@ WORKLOADS = {
     "2,000 contours of 400 points": (contours, 2_000),
 }
 
-# Workloads whose time may be compared at a size, twice and four times that size.
+# Workloads whose time may be compared at a size, twice and four times that size. A page takes 838,624 bytes of the font
+# file, which may have 16,777,216: no more than 20 pages are in it.
 GROWING = {
     "rectangles": (rectangles, 25_000),
     "rectangles on 200 rows": (flat_rectangles, 5_000),
     "staircases of 4,096 points": (staircases, 100),
     "teeth of a comb": (comb_from_left, 255),
     "rounds of copy, shift, add, cull": (rounds, 75),
-    "pages shipped": (page, 10),
+    "pages shipped": (page, 5),
     "trivial lines": (trivial_lines, 500_000),
     "contours of 400 points": (contours, 1_000),
 }

@@ -5,12 +5,14 @@
 
 The tests of mf_gf compare each character that the library writes with the bytes in a table. This script reads that
 table, wraps each character into a GF file with a postamble of its own, has gftype print it with its images, and
-compares: gftype has no complaint, and its image is the black pixels that the table names. Then PROGRAM, which is
-`mfpic` beside this folder unless another is named, ships the letters of examples/font.mfp: their images are the grids
-that `proof` shows before each, and gftopk packs the file. It is run by hand.
+compares: gftype has no complaint, it finds the character and its locator, and its image is the black pixels that the
+table names. Then PROGRAM, which is `mfpic` beside this folder unless another is named, ships the letters of
+examples/font.mfp: their images are the grids that `proof` shows before each, the dx and width of each locator are those
+of the script, its place is that of the character, and gftopk packs the file. It is run by hand.
 """
 
 import ast
+import dataclasses
 import pathlib
 import re
 import struct
@@ -22,22 +24,57 @@ ROOT = pathlib.Path(__file__).parent.parent
 TABLE = ROOT / "crates/mf_gf/src/tests/characters.rt"
 FONT = ROOT / "examples/font.mfp"
 
+# Seconds that a run may take. The program may take more, since `mfpic` builds it where it is missing.
+LIMIT = 60
+LIMIT_WITH_BUILD = 3600
+
+CASES = re.compile(r"^const CASES: &\[Case\] = &\[\n(.*?)^\];$", re.DOTALL | re.MULTILINE)
+
 CASE = re.compile(
     r'Case \{\s*about: "(?P<about>[^"]*)",\s*code: (?P<code>\d+),\s*'
-    r'black: &\[(?P<black>[^\]]*)\],\s*bytes: (?P<bytes>b"[^"]*"),\s*\}',
+    r'black: &\[(?P<black>[^\]]*)\],\s*bytes: (?P<bytes>b"[^"]*"),\s*\},',
     re.DOTALL,
 )
 
-# What gftype prints of a lawful character, beside its image.
+# The whole lines that gftype prints of a lawful font, beside those below. A complaint may also stand behind the
+# beginning of such a line.
 LAWFUL = re.compile(
-    r"^\s*$|^This is GFtype|^Options selected|^''$|^\d+: (beginning of char|eoc|newrow|skip|paint)"
-    r"|^\(initially n=|^\(The character is entirely blank|^Postamble starts|^design size|^check sum|^hppp|^vppp"
-    r"|^min [mn] = |^Character \d+: dx |^The file had \d+ characters?"
+    r"|This is GFtype, .*|Options selected: [^!]*|''|\(initially n=-?\d+\)( paint [\d()]+)?"
+    r"|\d+: (newrow|skip[0-3]) \d+ \(n=-?\d+\) paint [\d()]+|\d+: eoc|\(The character is entirely blank\.\)"
+    r"|Postamble starts at byte \d+\.|design size = \d+ \([\d.]+pt\)|check sum = \d+|[hv]ppp = \d+ \([\d.]+\)"
+    r"|min [mn] = -?\d+, max [mn] = -?\d+|The file had \d+ characters?( altogether)?\."
 )
 
-BEGINNING = re.compile(r"^\d+: beginning of char (\d+)")
+BEGINNING = re.compile(r"(\d+): beginning of char (\d+): -?\d+<=m<=-?\d+ -?\d+<=n<=-?\d+")
 
-CORNER = re.compile(r"^\.<--This pixel's (lower|upper) left corner is at \((-?\d+),(-?\d+)\)")
+LOCATOR = re.compile(r"Character (\d+): dx (-?\d+) \([-.\d]+\), width (-?\d+) \([-.\d]+\), loc (\d+)")
+
+UPPER_END = re.compile(r"\.<--This pixel's lower left corner is at \((-?\d+),(-?\d+)\) in METAFONT coordinates")
+
+LOWER_END = re.compile(r"\.<--This pixel's upper left corner is at \(-?\d+,-?\d+\) in METAFONT coordinates")
+
+IMAGE_ROW = re.compile(r"[* ]*")
+
+SHIPPING = re.compile(r"^shipout \w+ code (\d+) dx (-?\d+) width (-?\d+)$", re.MULTILINE)
+
+ANSWER = re.compile(r"^(?:\[(\d+)\]|refused .*)$", re.MULTILINE)
+
+
+@dataclasses.dataclass
+class Character:
+    """A character as gftype prints it: its code, its place in the file, and its black pixels."""
+
+    code: int
+    place: int
+    black: set
+
+
+def run(words, limit=LIMIT, **more):
+    """A run of a program, with all that it prints."""
+    try:
+        return subprocess.run(words, capture_output=True, text=True, check=False, timeout=limit, **more)
+    except subprocess.TimeoutExpired:
+        sys.exit(f"{words[0]} has not ended after {limit} seconds")
 
 
 def pixels_of(stretches):
@@ -61,21 +98,26 @@ def gf_file(code, character, black):
     return before + bytes([223]) * (4 + -len(before) % 4)
 
 
-def image_of(lines):
-    """The pixels of gftype's image, if it prints one, and the other lines."""
-    black, others, origin, row = set(), [], None, None
-    for line in lines:
-        corner = CORNER.match(line)
-        if corner and corner.group(1) == "lower":
-            origin, row = int(corner.group(2)), int(corner.group(3)) - 1
-        elif corner:
-            origin = None
-        elif origin is not None:
-            black |= {(origin + i, row) for i, mark in enumerate(line) if mark == "*"}
+def told_by_gftype(path):
+    """What gftype prints of a font: its characters in order, dx, width and place by code, and its complaints."""
+    ran = run(["gftype", "-mnemonics", "-images", str(path)])
+    wrong = [f"gftype ends with status {ran.returncode}"] if ran.returncode != 0 else []
+    characters, locators, left, row = [], {}, None, None
+    for line in ran.stdout.splitlines():
+        if begins := BEGINNING.fullmatch(line):
+            characters.append(Character(int(begins[2]), int(begins[1]), set()))
+        elif end := UPPER_END.fullmatch(line):
+            left, row = int(end[1]), int(end[2])
+        elif LOWER_END.fullmatch(line):
+            left = None
+        elif left is not None and IMAGE_ROW.fullmatch(line):
             row -= 1
-        else:
-            others.append(line)
-    return black, others
+            characters[-1].black |= {(left + i, row) for i, mark in enumerate(line) if mark == "*"}
+        elif locator := LOCATOR.fullmatch(line):
+            locators[int(locator[1])] = tuple(map(int, locator.groups()[1:]))
+        elif not LAWFUL.fullmatch(line):
+            wrong.append(line)
+    return characters, locators, wrong
 
 
 def complaints(case, folder):
@@ -84,76 +126,78 @@ def complaints(case, folder):
     black = pixels_of(ast.literal_eval("[" + case["black"] + "]"))
     path = folder / "character.gf"
     path.write_bytes(gf_file(code, ast.literal_eval(case["bytes"]), black))
-    options = ["gftype", "-mnemonics", "-images", str(path)]
-    shown = subprocess.run(options, capture_output=True, text=True, check=False)
-    found, others = image_of(shown.stdout.splitlines())
-    wrong = [line for line in others if not LAWFUL.match(line)]
-    if shown.returncode != 0:
-        wrong.append(f"gftype ends with status {shown.returncode}")
-    # gftype shows no image that is wider or higher than its limits.
-    if found != black and not any(x > 500 or x < -500 or abs(y) > 500 for x, y in black):
+    characters, locators, wrong = told_by_gftype(path)
+    if [(found.code, found.place) for found in characters] != [(code, 3)]:
+        wrong.append("gftype does not find this character alone")
+    elif characters[0].black != black:
         wrong.append("the image differs")
+    if locators != {code: (0, 0, 3)}:
+        wrong.append(f"the locators are {locators}")
     return wrong
-
-
-def images_of(lines):
-    """The image of each character that gftype prints, by code, and the lines beside them."""
-    images, others, code, part = {}, [], None, []
-    for line in [*lines, None]:
-        begins = BEGINNING.match(line) if line is not None else None
-        if begins or line is None:
-            black, more = image_of(part)
-            others += more
-            if code is not None:
-                images[code] = black
-            part = []
-        if begins:
-            code = int(begins.group(1))
-        part.append(line)
-    return images, others
 
 
 def at_corner(pixels):
     """Pixels, moved so that their least column and row are 0."""
-    left, low = min(x for x, _ in pixels), min(y for _, y in pixels)
+    left, low = min((x for x, _ in pixels), default=0), min((y for _, y in pixels), default=0)
     return {(x - left, y - low) for x, y in pixels}
 
 
 def grids_of(transcript):
-    """The pixels of the grid before each code that a transcript shows, by code."""
-    grids, grid = {}, []
+    """The codes that a transcript shows, in order, each with the pixels of the grid before it."""
+    grids, grid = [], []
     for line in transcript.splitlines():
         if shipped := re.fullmatch(r"\[(\d+)\]", line):
             rows = enumerate(reversed(grid))
-            grids[int(shipped.group(1))] = at_corner({(x, y) for y, row in rows for x, mark in enumerate(row) if mark == "1"})
+            black = {(x, y) for y, row in rows for x, mark in enumerate(row) if mark == "1"}
+            grids.append((int(shipped[1]), at_corner(black)))
             grid = []
         elif re.fullmatch(r"[.1]+", line):
             grid.append(line)
     return grids
 
 
+def shipped_by(script, transcript):
+    """Code, dx and width of each character that a script ships, in order. It has no refused lines but of shippings."""
+    lines, answers = SHIPPING.findall(script), ANSWER.findall(transcript)
+    if len(lines) != len(answers):
+        sys.exit(f"{FONT.name} ships {len(lines)} times, and its transcript has {len(answers)} answers")
+    return [tuple(map(int, line)) for line, answer in zip(lines, answers) if answer == line[0]]
+
+
 def complaints_about_font(program, folder):
     """What is wrong with the font that the program ships."""
-    path = folder / "font.gf"
-    with FONT.open(encoding="ascii") as script:
-        ran = subprocess.run([program, "--gf", str(path)], stdin=script, capture_output=True, text=True, check=False)
+    path, script = folder / "font.gf", FONT.read_text(encoding="ascii")
+    ran = run([program, "--gf", str(path)], LIMIT_WITH_BUILD, input=script)
     if ran.returncode != 0:
         return [f"the program ends with status {ran.returncode}: {ran.stderr}"]
-    shown = subprocess.run(["gftype", "-mnemonics", "-images", str(path)], capture_output=True, text=True, check=False)
-    images, others = images_of(shown.stdout.splitlines())
-    wrong = [line for line in others if line is not None and not LAWFUL.match(line)]
-    grids = grids_of(ran.stdout)
-    if not grids or {code: at_corner(black) for code, black in images.items()} != grids:
+    characters, locators, wrong = told_by_gftype(path)
+    grids, shipped = grids_of(ran.stdout), shipped_by(script, ran.stdout)
+    if not grids or [(found.code, at_corner(found.black)) for found in characters] != grids:
         wrong.append("the images differ from the grids")
-    packed = subprocess.run(["gftopk", str(path), str(folder / "font.pk")], capture_output=True, text=True, check=False)
+    if [code for code, _, _ in shipped] != [found.code for found in characters]:
+        wrong.append("the characters are not those that the script ships")
+    expected = {code: (dx, width, found.place) for (code, dx, width), found in zip(shipped, characters)}
+    if locators != expected:
+        wrong.append(f"the locators are {locators} in place of {expected}")
+    packed = run(["gftopk", str(path), str(folder / "font.pk")])
     if packed.returncode != 0:
         wrong.append(f"gftopk ends with status {packed.returncode}: {packed.stdout}")
     return wrong
 
 
+def cases_of_table():
+    """The cases of the table, each of which must be laid out as the pattern says."""
+    table = CASES.search(TABLE.read_text(encoding="ascii"))
+    if not table:
+        sys.exit(f"{TABLE} has no table")
+    if other := CASE.sub("", table[1]).strip():
+        sys.exit(f"the table has something else than cases, or a case that is laid out otherwise: {other}")
+    return [match.groupdict() for match in CASE.finditer(table[1])]
+
+
 def main():
     program = sys.argv[1] if len(sys.argv) > 1 else str(ROOT / "mfpic")
-    cases = [match.groupdict() for match in CASE.finditer(TABLE.read_text())]
+    cases = cases_of_table()
     if not cases:
         sys.exit("the table has no case")
     failed = 0
