@@ -1,0 +1,226 @@
+"""A small, slow model of pictures, pixel by pixel, and of what the commands of a script print.
+
+A picture is a dictionary of pixels with their weights, and a contour is filled by counting, for each pixel, how often
+the path crosses a ray. The model shares nothing with the program but the rules of docs/LANGUAGE.md and
+docs/PICTURES.md. It knows no bytes of font files, so it never answers FileTooLong.
+"""
+
+FIELD = range(-4095, 4095)
+WEIGHTS = (-3, -2, -1, 1, 2, 3)
+MAX_COORDINATE = 4095
+MAX_FACTOR = 4095
+MAX_LINE = 65536
+MAX_OPERATIONS = 1_000_000
+MAX_POINTS = 4096
+MAX_PROOF = 128
+MAX_WEIGHT = 32767
+PRINTED = bytes([9, *range(32, 127)])
+# More pixels than these would make the model too slow.
+MAX_PIXELS = 20_000
+
+
+class TooSlow(Exception):
+    """A picture would have more pixels than the model can make in time."""
+
+
+def fault_of_bytes(line):
+    """Why the bytes of a line, without its end, are refused before they are read as tokens, if they are."""
+    if len(line) > MAX_LINE:
+        return "LineTooLong"
+    return "NotAscii" if line.translate(None, PRINTED) else None
+
+
+def edges(points):
+    return [(a, points[(i + 1) % len(points)]) for i, a in enumerate(points)]
+
+
+def corner(points, i):
+    """The edges that arrive at and leave a vertex, as vectors."""
+    (x, y), (u, v), (s, t) = points[i - 1], points[i], points[(i + 1) % len(points)]
+    return (u - x, v - y), (s - u, t - v)
+
+
+def turning(points):
+    turns = 0
+    for i in range(len(points)):
+        (a, b), (c, d) = corner(points, i)
+        turns += (a * d > b * c) - (a * d < b * c)
+    return turns // 4
+
+
+def cycle_fault(points):
+    """Why points are no cycle, if they are none."""
+    if len(points) < 2:
+        return "TooFewPoints"
+    if len(points) > MAX_POINTS:
+        return "TooManyPoints"
+    for i, (x, y) in enumerate(points):
+        if abs(x) > MAX_COORDINATE or abs(y) > MAX_COORDINATE:
+            return f"PointOutOfRange {i}"
+    for i, ((x, y), (u, v)) in enumerate(edges(points)):
+        if (x != u) == (y != v):
+            return f"NotRectilinear {i}"
+    for i in range(len(points)):
+        (a, b), (c, d) = corner(points, i)
+        if a * d == b * c and a * c + b * d < 0:
+            return f"Backtracks {i}"
+    return "TurningZero" if turning(points) == 0 else None
+
+
+def windings(points):
+    """For each pixel in the box of a cycle, how often the ray to its right is crossed, upwards less downwards."""
+    columns, rows = zip(*points)
+    sides = [(x, y, v) for (x, y), (u, v) in edges(points) if x == u]
+    counts = {}
+    for row in range(min(rows), max(rows)):
+        crossings = [(x, (y <= row < v) - (v <= row < y)) for x, y, v in sides if min(y, v) <= row < max(y, v)]
+        for column in range(min(columns), max(columns)):
+            counts[column, row] = sum(count for x, count in crossings if x > column)
+    return counts
+
+
+def run_text(picture):
+    by_row = {}
+    for column, row in sorted(picture):
+        by_row.setdefault(row, []).append(column)
+    lines = []
+    for row, columns in sorted(by_row.items(), reverse=True):
+        first = columns[0]
+        for column, after in zip(columns, [*columns[1:], None]):
+            weight = picture[column, row]
+            if after != column + 1 or picture[after, row] != weight:
+                lines.append(f"{row} {first} {column} {weight}\n")
+                first = after
+    return "".join(lines) or "blank\n"
+
+
+def character(weight):
+    if weight == 0:
+        return "."
+    if abs(weight) > 9:
+        return "+" if weight > 0 else "-"
+    return str(weight) if weight > 0 else "abcdefghi"[-weight - 1]
+
+
+def grid_text(picture):
+    if not picture:
+        return "blank\n"
+    columns, rows = zip(*picture)
+    if max(columns) - min(columns) >= MAX_PROOF or max(rows) - min(rows) >= MAX_PROOF:
+        return "refused ProofTooLarge\n"
+    lines = (
+        "".join(character(picture.get((x, y), 0)) for x in range(min(columns), max(columns) + 1))
+        for y in range(max(rows), min(rows) - 1, -1)
+    )
+    return "".join(line + "\n" for line in lines)
+
+
+def leaves_field(picture):
+    return any(x not in FIELD or y not in FIELD for x, y in picture)
+
+
+def stretched(place, factor):
+    """The columns, or rows, that one becomes under a scale."""
+    return range(min(place * factor, (place + 1) * factor), max(place * factor, (place + 1) * factor))
+
+
+def ends(places):
+    return places[0], places[-1]
+
+
+class Model:
+    """The pictures of a script, how many operations `currentpicture` has accepted, and the codes that were shipped."""
+
+    def __init__(self, accepted=0):
+        self.pictures = {}
+        self.accepted = accepted
+        self.shipped = set()
+
+    def picture(self, name):
+        return self.pictures.get(name, {})
+
+    def becomes(self, name, weights):
+        if name == "currentpicture" and self.accepted == MAX_OPERATIONS:
+            return "refused TooManyOperations\n"
+        new = {pixel: weight for pixel, weight in weights.items() if weight != 0}
+        if leaves_field(new):
+            return "refused OutOfField\n"
+        if any(abs(weight) > MAX_WEIGHT for weight in new.values()):
+            return "refused WeightTooLarge\n"
+        self.pictures[name] = new
+        self.accepted += name == "currentpicture"
+        return ""
+
+    def contour(self, name, points, weight):
+        fault = cycle_fault(points) or (None if weight in WEIGHTS else "BadWeight")
+        if fault:
+            return f"refused {fault}\n"
+        sign = 1 if turning(points) > 0 else -1
+        new = dict(self.picture(name))
+        for pixel, count in windings(points).items():
+            new[pixel] = new.get(pixel, 0) + weight * sign * count
+        return self.becomes(name, new)
+
+    def also(self, name, source, sign):
+        new = dict(self.picture(name))
+        for pixel, weight in self.picture(source).items():
+            new[pixel] = new.get(pixel, 0) + sign * weight
+        return self.becomes(name, new)
+
+    def cull(self, name, keeps, least, greatest, weight):
+        if weight not in WEIGHTS:
+            return "refused BadWeight\n"
+        if least > greatest or keeps == (least <= 0 <= greatest):
+            return "refused BadCull\n"
+        old = self.picture(name)
+        return self.becomes(
+            name, {p: weight if (least <= w <= greatest) == keeps else 0 for p, w in old.items()}
+        )
+
+    def shift(self, name, right, up):
+        return self.becomes(name, {(x + right, y + up): w for (x, y), w in self.picture(name).items()})
+
+    def scale(self, name, across, upwards):
+        if not all(0 < abs(factor) <= MAX_FACTOR for factor in (across, upwards)):
+            return "refused BadScale\n"
+
+        def scaled(part):
+            return {
+                (u, v): w
+                for (x, y), w in self.picture(name).items()
+                for u in part(stretched(x, across))
+                for v in part(stretched(y, upwards))
+            }
+
+        corners = scaled(ends)
+        if leaves_field(corners):
+            return self.becomes(name, corners)
+        if len(self.picture(name)) * abs(across * upwards) > MAX_PIXELS:
+            raise TooSlow
+        return self.becomes(name, scaled(list))
+
+    def turn(self, name, degrees):
+        if degrees not in (90, 180, 270):
+            return "refused BadTurn\n"
+        new = self.picture(name)
+        for _ in range(degrees // 90):
+            new = {(-y - 1, x): w for (x, y), w in new.items()}
+        return self.becomes(name, new)
+
+    def total(self, source):
+        return f"totalweight {sum(self.picture(source).values())}\n"
+
+    def show(self, source):
+        return run_text(self.picture(source))
+
+    def proof(self, source):
+        return grid_text(self.picture(source))
+
+    def ship(self, code):
+        if code in self.shipped:
+            return "refused CodeShipped\n"
+        self.shipped.add(code)
+        return f"[{code}]\n"
+
+    def publish(self):
+        return f"published {self.accepted}\n"
