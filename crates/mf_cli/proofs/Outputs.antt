@@ -1,5 +1,5 @@
 -- What the program puts out, where its run ends well and where it does not.
-use Rattle.std.proofs.Common.{◌≡◌, ℕ, List, [], Option, Result, Ok, Err, IfErr, arith, inl, inr, refl, sym}
+use Rattle.std.proofs.Common.{ℕ, List, [], Option, Result, Ok, Err, IfErr, arith, inl, inr, refl, sym}
 use Rattle.std.proofs.KnownBytes.{Appends-nil, Consumes-nil}
 use Rattle.std.proofs.lemmas.List.{append-nil}
 use Rattle.mf_cli.specs.Output.{settings}

@@ -1,7 +1,6 @@
 mod Ended
 mod Flushes
 mod FontFiles
-mod Glances
 mod KnownTexts
 mod LongLines
 mod Performances

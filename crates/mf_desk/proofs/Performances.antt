@@ -14,7 +14,7 @@ use Rattle.mf_desk.specs.Fault.{BreaksScript}
 use Rattle.mf_desk.specs.Performances.{IsLongerText, IsPerformance, StopsEarly, viewer_lines}
 use Rattle.mf_desk.specs.Runs.{IsLongFile, font_file, limits_set}
 use Rattle.mf_session.specs.States.{Limits}
-use Rattle.mf_desk.specs.Watchers.{HasSeen, glance_at}
+use Rattle.mf_watch.specs.Watchers.{HasSeen, glance_at}
 use Rattle.mf_desk.proofs.KnownTexts.{StartsWith-front}
 use Rattle.mf_desk.proofs.Stages.{CutsShort-nothing}
 

@@ -7,7 +7,7 @@ use Rattle.mf_desk.specs.declared.fault.RunFault.{RunFault}
 use Rattle.mf_desk.specs.declared.fault.RunFault.TheVariants.{OutOfMemory, NoPlace, FileTooLong, ReadFault, WriteFault, NoLook}
 use Rattle.mf_desk.specs.EndedRuns.{BreaksLine, HasShownSome, IsSameEnd, StopsShowing, glance}
 use Rattle.mf_desk.specs.Performances.{viewer_line, viewer_lines}
-use Rattle.mf_desk.specs.Watchers.{glance_at}
+use Rattle.mf_watch.specs.Watchers.{glance_at}
 use Rattle.mf_desk.proofs.ViewerLines.{lines-nobody, lines-more}
 
 -- the lines of the first so many viewers have gone out, and are counted

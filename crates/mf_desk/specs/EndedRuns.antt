@@ -7,13 +7,13 @@ use Rattle.mf_live.specs.Writers.{ended_name, ended_published}
 use Rattle.mf_desk.specs.declared.ended_run.EndedRun.{EndedRun}
 use Rattle.mf_desk.specs.declared.fault.RunFault.{RunFault}
 use Rattle.mf_desk.specs.declared.fault.RunFault.TheVariants.{OutOfMemory, WriteFault, NoLook}
-use Rattle.mf_desk.specs.declared.outcome.Glance.{Glance}
+use Rattle.mf_watch.specs.declared.glance.Glance.{Glance}
 use Rattle.mf_desk.specs.declared.performer.Performer.{Performer}
 use Rattle.mf_session.specs.Endings.{HasEnded, whole_list}
 use Rattle.mf_desk.specs.Performances.{viewer_line, viewer_lines}
 use Rattle.mf_session.specs.States.{State, Limits, start}
 use Rattle.mf_session.specs.Transcript.{Perform}
-use Rattle.mf_desk.specs.Watchers.{glance_at}
+use Rattle.mf_watch.specs.Watchers.{glance_at}
 
 -- it is what a script has ended with, whose lines have made this state
 pub record IsEndOf (performer : Performer) (s : State) (run : EndedRun) : Type 0 where

@@ -1,9 +1,8 @@
 pub mod Ended
 pub mod EndedRuns
 pub mod Fault
+pub mod ViewerFaults
 pub mod Performances
 pub mod Performer
 pub mod Progress
 pub mod Runs
-pub mod Watchers
-pub mod Watching

@@ -6,7 +6,7 @@ use Rattle.std.specs.Io.KnownBytes.{Appends, Consumes, IsAtEnd}
 use Rattle.std.specs.Str.Lines.{lines}
 use Rattle.mf_desk.specs.declared.fault.RunFault.{RunFault}
 use Rattle.mf_desk.specs.declared.fault.RunFault.TheVariants.{OutOfMemory, NoPlace, FileTooLong, ReadFault, WriteFault, NoLook}
-use Rattle.mf_desk.specs.declared.outcome.Glance.{Glance}
+use Rattle.mf_watch.specs.declared.glance.Glance.{Glance}
 use Rattle.mf_desk.specs.declared.outcome.Outcome.{Outcome}
 use Rattle.mf_desk.specs.declared.settings.Settings.{Settings}
 use Rattle.mf_session.specs.Endings.{whole_list}
@@ -14,7 +14,7 @@ use Rattle.mf_desk.specs.Fault.{HasNoRoom, IsEndedText, IsFirstText}
 use Rattle.mf_desk.specs.Runs.{IsLongFile, font_file, limits_set}
 use Rattle.mf_session.specs.States.{State, Limits, start}
 use Rattle.mf_session.specs.Transcript.{Perform}
-use Rattle.mf_desk.specs.Watchers.{HasSeen, glance_at}
+use Rattle.mf_watch.specs.Watchers.{HasSeen, glance_at}
 
 -- the line of the viewer of this number, who has seen this last
 abbrev pub viewer_line : ℕ → Glance → List ℕ

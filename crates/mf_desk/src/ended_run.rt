@@ -4,14 +4,13 @@ ghost use Rattle.std.specs.Prelude.{◌≡◌, ◌+◌, ◌<◌, ◌≤◌, ◌^
 ghost use Rattle.mf_live.specs.Writers.{ended_name, ended_published};
 ghost use Rattle.mf_desk.specs.EndedRuns.{BreaksLine, IsSameEnd, StopsShowing};
 ghost use Rattle.mf_desk.specs.Performances.{viewer_line, viewer_lines};
-ghost use Rattle.mf_desk.specs.Watchers.{HasRoom, HasSeen, IsRecord, glance_at, name};
+ghost use Rattle.mf_watch.specs.Watchers.{HasRoom, HasSeen, IsRecord, glance_at, name};
 
 use crate::fault::RunFault;
-use crate::outcome::Glance;
 use crate::output::flush;
-use crate::watcher::Watcher;
 use mf_gf::{GfFile, write_counted};
 use mf_live::{Ended, NoLook};
+use mf_watch::{Glance, Watcher};
 use std::alloc::{AllocError, Global};
 use std::io::Write;
 use std::sync::Wait;

@@ -1,9 +1,10 @@
 //! The faults that end a run.
 ghost use Rattle.std.specs.Prelude.{◌≡◌};
-ghost use Rattle.mf_desk.specs.declared.fault.RunFault.TheVariants.{OutOfMemory as NoMemory, NoPlace as NoPlaceLeft};
+ghost use Rattle.mf_desk.specs.declared.fault.RunFault.TheVariants.{OutOfMemory as NoMemory};
 
 use mf_geom::OutOfMemory;
-use mf_live::NoPlace;
+use mf_live::SheetFault;
+use mf_watch::StartFault;
 use std::alloc::{AllocError, AllocFailed};
 use thiserror::Error;
 
@@ -58,10 +59,28 @@ impl<T: Drop> From<AllocFailed<T>> for RunFault {
     }
 }
 
-impl From<NoPlace> for RunFault {
-    ghost from_gives = { λ _ fault. fault ≡ NoPlaceLeft };
+impl From<StartFault> for RunFault {
+    ghost use Rattle.mf_desk.specs.ViewerFaults.{fault_of_start};
 
-    fn from(_fault: NoPlace) -> RunFault {
-        RunFault::NoPlace
+    ghost from_gives = { λ start fault. fault ≡ fault_of_start start };
+
+    fn from(fault: StartFault) -> RunFault {
+        match fault {
+            StartFault::OutOfMemory => RunFault::OutOfMemory,
+            StartFault::NoPlace => RunFault::NoPlace,
+        }
+    }
+}
+
+impl From<SheetFault> for RunFault {
+    ghost use Rattle.mf_desk.specs.ViewerFaults.{fault_of_sheet};
+
+    ghost from_gives = { λ sheet fault. fault ≡ fault_of_sheet sheet };
+
+    fn from(fault: SheetFault) -> RunFault {
+        match fault {
+            SheetFault::NoLook => RunFault::NoLook,
+            SheetFault::OutOfMemory => RunFault::OutOfMemory,
+        }
     }
 }

@@ -4,7 +4,6 @@
 
 mod ended_run;
 mod fault;
-mod gate;
 mod line_buffer;
 mod outcome;
 mod output;
@@ -13,13 +12,11 @@ mod performer;
 mod progress;
 mod script;
 mod settings;
-mod watcher;
-mod watching;
 
 pub use fault::RunFault;
-pub use gate::{Gate, OpenGate};
 pub use mf_session::{EndFault, Session};
-pub use outcome::{Glance, Outcome};
+pub use mf_watch::{Gate, Glance, OpenGate};
+pub use outcome::Outcome;
 pub use performance::perform;
 pub use script::run;
 pub use settings::Settings;

@@ -4,12 +4,11 @@ ghost use Rattle.std.specs.Prelude.{◌≡◌, ◌⊎◌, ◌<◌, ◌≤◌, Er
 ghost use Rattle.mf_desk.specs.Performances.{IsPerformance, StopsEarly};
 
 use crate::fault::RunFault;
-use crate::gate::Gate;
 use crate::outcome::Outcome;
 use crate::progress::Progress;
 use crate::script::{CHUNK_SIZE, finished};
 use crate::settings::Settings;
-use crate::watching::Watching;
+use mf_watch::{Gate, Watching};
 use std::alloc::Global;
 use std::io::{Read, Write};
 use std::sync::{Arc, Wait};
@@ -47,7 +46,7 @@ pub fn perform<S: Wait + Threads, R: Read, W: Write, G: Gate + 'static>(
         Ok(watching) => watching,
         Err(fault) => {
             progress.discard(rt);
-            return Err(fault);
+            return Err(fault.into());
         }
     };
     let completed = progress.complete(rt, alloc, reader, writer, memory.as_mut_slice());

@@ -1,11 +1,13 @@
 -- Pictures with the weights of sums, differences and culls.
 use Rattle.std.proofs.Common.{◌≡◌, ℤ, pos, List, [], subst, refl, arith}
 use Rattle.std.proofs.lemmas.Int.{ints}
-use Rattle.mf_rows.specs.declared.weight_map.WeightMap.{WeightMap}
-use Rattle.mf_rows.specs.declared.weight_map.WeightMap.TheVariants.{Negate}
-use Rattle.mf_rows.specs.Dots.{Dot, IsLawfulWeight, IsPicture, weight_at}
+use Rattle.mf_edges.specs.declared.weight_map.WeightMap.{WeightMap}
+use Rattle.mf_edges.specs.declared.weight_map.WeightMap.TheVariants.{Negate}
+use Rattle.mf_edges.specs.LawfulWeights.{IsLawfulWeight}
+use Rattle.mf_rows.specs.Dots.{Dot, IsPicture, weight_at}
 use Rattle.mf_rows.specs.Sums.{HasWeights, IsUnlawfulSomewhere, sum_at}
-use Rattle.mf_rows.specs.WeightMaps.{mapped_to, mapped_at}
+use Rattle.mf_edges.specs.WeightMaps.{mapped_to}
+use Rattle.mf_rows.specs.WeightMaps.{mapped_at}
 use Rattle.mf_ops.specs.Cull.{culled}
 use Rattle.mf_ops.specs.Step.{step_at}
 use Rattle.mf_ops.specs.declared.cull.CullRule.{CullRule}

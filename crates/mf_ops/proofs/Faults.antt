@@ -6,9 +6,10 @@ use Rattle.std.proofs.lemmas.List.Elements.{All-contains}
 use Rattle.std.proofs.lemmas.List.Folds.{Any-from_list_any}
 use Rattle.std.specs.List.{list_any}
 use Rattle.mf_geom.specs.Field.{IsInField}
-use Rattle.mf_rows.specs.declared.fault.AddFault.{AddFault}
-use Rattle.mf_rows.specs.declared.fault.AddFault.TheVariants as add
-use Rattle.mf_rows.specs.Dots.{Dot, IsLawfulWeight, AreDotsFrom, IsPicture, weight_at, place}
+use Rattle.mf_edges.specs.declared.fault.AddFault.{AddFault}
+use Rattle.mf_edges.specs.declared.fault.AddFault.TheVariants as add
+use Rattle.mf_edges.specs.LawfulWeights.{IsLawfulWeight}
+use Rattle.mf_rows.specs.Dots.{Dot, AreDotsFrom, IsPicture, weight_at, place}
 use Rattle.mf_rows.specs.Sums.{HasWeights, IsUnlawfulSomewhere}
 use Rattle.mf_rows.specs.Weights.{picture_of}
 use Rattle.mf_rows.proofs.WeightsLemmas.{IsDotOf, weight_at-picture_of, lawful_picture_of, picture_of-from_weights, picture_of-dots}

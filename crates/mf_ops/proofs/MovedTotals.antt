@@ -8,12 +8,12 @@ use Rattle.std.proofs.lemmas.Bool.{and_parts, and_from, both_ways, cond_both, co
 use Rattle.std.proofs.lemmas.Bool.Decides.{Decides-int_eq}
 use Rattle.std.proofs.lemmas.Int.{ints, by_lt_z, unsigned_abs-mul}
 use Rattle.mf_geom.specs.Field.{sum_over_field}
-use Rattle.mf_rows.specs.declared.stretch.Stretch.{Stretch}
+use Rattle.mf_edges.specs.declared.stretch.Stretch.{Stretch}
 use Rattle.mf_rows.specs.Dots.{Dot, AreDotsFrom, IsPicture, place, start_of_field, total_of, weight_at}
-use Rattle.mf_rows.specs.Moves.{IsStretch, opposite, source_of, stretched_to}
+use Rattle.mf_edges.specs.Axes.{IsStretch, opposite, source_of, stretched_to}
 use Rattle.mf_rows.specs.Weights.{picture_of}
 use Rattle.mf_rows.proofs.FieldTotals.{total_of-picture_of, total_of-picture}
-use Rattle.mf_rows.proofs.Sources.{source_of-from, source_of-is, source_of-reached, stretched_to-next}
+use Rattle.mf_edges.proofs.Sources.{source_of-from, source_of-is, source_of-reached, stretched_to-next}
 use Rattle.mf_ops.specs.Moves.{AreFactors, Factors, IsFactor, is_in_reach, scale_source, stays_inside, turned, turned_by}
 use Rattle.mf_ops.specs.Step.{fault_of, step_at, stepped}
 use Rattle.mf_ops.specs.declared.op.Op.TheVariants as ops

@@ -3,9 +3,9 @@ use Rattle.std.proofs.Common.{◌≡◌, ℕ, suc, ℤ, pos, negsuc, neg_ℤ, �
 use Rattle.std.specs.Int.{int_div_euclid, int_max, int_min}
 use Rattle.std.proofs.lemmas.Bool.{cond-true}
 use Rattle.std.proofs.lemmas.Int.{ints, clamps, by_lt_z}
-use Rattle.mf_rows.specs.declared.stretch.Stretch.{Stretch}
-use Rattle.mf_rows.specs.Moves.{IsStretch, stretched_to, source_of, opposite}
-use Rattle.mf_rows.proofs.Sources.{stretched_to-next, source_of-reached, source_of-from, source_of-is}
+use Rattle.mf_edges.specs.declared.stretch.Stretch.{Stretch}
+use Rattle.mf_edges.specs.Axes.{IsStretch, stretched_to, source_of, opposite}
+use Rattle.mf_edges.proofs.Sources.{stretched_to-next, source_of-reached, source_of-from, source_of-is}
 use Rattle.mf_ops.specs.Moves.{IsFactor, HasPlace, scale_source}
 
 -- a scale by a positive factor, as a stretch

@@ -8,12 +8,13 @@ use Rattle.std.specs.Int.{int_div_euclid}
 use Rattle.std.specs.List.{All}
 use Rattle.std.specs.Ordering.{int_eq}
 use Rattle.mf_geom.specs.Field.{IsInField}
-use Rattle.mf_rows.specs.declared.stretch.Stretch.{Stretch}
+use Rattle.mf_edges.specs.declared.stretch.Stretch.{Stretch}
 use Rattle.mf_rows.specs.Dots.{Dot, IsPicture, start_of_field, weight_at}
-use Rattle.mf_rows.specs.Moves.{IsStretch, IsPointInReach, PlaceStaysInside, PixelsStayInside, opposite, stretched_to, source_of, stretched_at}
+use Rattle.mf_edges.specs.Axes.{IsStretch, IsPointInReach, PlaceStaysInside, opposite, stretched_to, source_of}
+use Rattle.mf_rows.specs.Moves.{PixelsStayInside, stretched_at}
 use Rattle.mf_rows.specs.Sums.{HasWeights}
 use Rattle.mf_rows.proofs.DotsLemmas.{dots_from-lawful, weight_at-dot}
-use Rattle.mf_rows.proofs.Sources.{source_of-reached, source_of-from}
+use Rattle.mf_edges.proofs.Sources.{source_of-reached, source_of-from}
 use Rattle.mf_ops.specs.Moves.{Factors, AreFactors, IsFactor, scale_source}
 use Rattle.mf_ops.specs.Reflections.{on_side, reflected_at}
 use Rattle.mf_ops.specs.Step.{step_at}

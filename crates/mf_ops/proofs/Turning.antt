@@ -3,7 +3,8 @@ use Rattle.std.proofs.Common.{◌≡◌, true, false, ℤ, List, ◌∙◌, arit
 use Rattle.std.proofs.lemmas.Int.{ints}
 use Rattle.mf_geom.specs.Field.{IsInField}
 use Rattle.mf_rows.specs.Dots.{Dot}
-use Rattle.mf_rows.specs.Moves.{opposite, columns_mirrored_at, rows_mirrored_at, turned_at}
+use Rattle.mf_edges.specs.Axes.{opposite}
+use Rattle.mf_rows.specs.Moves.{columns_mirrored_at, rows_mirrored_at, turned_at}
 use Rattle.mf_rows.specs.Sums.{HasWeights}
 use Rattle.mf_ops.specs.Reflections.{reflected_at}
 use Rattle.mf_ops.specs.Step.{step_at}

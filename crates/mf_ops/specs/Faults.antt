@@ -1,6 +1,6 @@
 -- The faults of pictures, as operations answer them.
-use Rattle.mf_rows.specs.declared.fault.AddFault.{AddFault}
-use Rattle.mf_rows.specs.declared.fault.AddFault.TheVariants as add
+use Rattle.mf_edges.specs.declared.fault.AddFault.{AddFault}
+use Rattle.mf_edges.specs.declared.fault.AddFault.TheVariants as add
 use Rattle.mf_ops.specs.declared.op.OpFault.{OpFault}
 use Rattle.mf_ops.specs.declared.op.OpFault.TheVariants as op
 

@@ -1,7 +1,7 @@
 -- Pictures that are reflected in the lines through 0.
 use Rattle.std.specs.Prelude.{Bool, ℤ, List, if◌then◌else◌}
 use Rattle.mf_rows.specs.Dots.{Dot, weight_at}
-use Rattle.mf_rows.specs.Moves.{opposite}
+use Rattle.mf_edges.specs.Axes.{opposite}
 
 -- the place on the other side of 0, if it changes sides
 abbrev pub on_side : Bool → ℤ → ℤ

@@ -1,6 +1,6 @@
 //! Culls: what becomes of the weights of a picture by a range of them.
 ghost use Rattle.std.specs.Prelude.{◌≡◌, ◌↔◌, ℤ, IsOk, IfOk};
-ghost use Rattle.mf_rows.specs.WeightMaps.{IsWeightMap, mapped_to};
+ghost use Rattle.mf_edges.specs.WeightMaps.{IsWeightMap, mapped_to};
 ghost use Rattle.mf_ops.specs.Cull.{IsLawfulCull, culled};
 ghost use Rattle.mf_ops.specs.declared.cull.CullRule.TheVariants.{Keeping, Dropping};
 

@@ -1,7 +1,8 @@
 //! Shifts, scales and turns.
 ghost use Rattle.std.specs.Prelude.{◌≡◌, ◌≢◌, ◌↔◌, None, Some, Err, IfOk, IfErr, OnOk, IsTrue, pos, negsuc, ◌≤ℤ◌};
 ghost use Rattle.mf_rows.specs.Dots.{IsPicture};
-ghost use Rattle.mf_rows.specs.Moves.{PixelsStayInside, PlaceStaysInside, IsPointInReach, stretched_to};
+ghost use Rattle.mf_edges.specs.Axes.{PlaceStaysInside, IsPointInReach, stretched_to};
+ghost use Rattle.mf_rows.specs.Moves.{PixelsStayInside};
 ghost use Rattle.mf_rows.specs.Sums.{HasWeights};
 ghost use Rattle.mf_ops.specs.Moves.{IsFactor};
 ghost use Rattle.mf_ops.specs.Reflections.{reflected_at};

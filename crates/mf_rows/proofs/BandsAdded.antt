@@ -13,12 +13,12 @@ use Rattle.std.proofs.lemmas.List.Elements.{All-nil}
 use Rattle.mf_rows.specs.declared.band.Band.{Band}
 use Rattle.mf_rows.specs.Bands.{rows_in, rows_of_bands}
 use Rattle.mf_rows.specs.BandSums.{lowest_of}
-use Rattle.mf_rows.specs.Edges.{AreRowsFrom, AreRows}
+use Rattle.mf_rows.specs.EdgeRows.{AreRowsFrom, AreRows}
 use Rattle.mf_rows.specs.FieldBands.{IsOfBand}
 use Rattle.mf_rows.specs.Sums.{weight_in_all, HaveRowWeights, IsUnlawfulSomewhere}
 use Rattle.mf_rows.proofs.BandSumsLemmas.{IsSplitAtBand, split_at_band, has_sum-left, rows_with_bands, weights_with_rest, unlawful_in_step, sum_more_bands}
 use Rattle.mf_rows.proofs.BandsLemmas.{at_bottom}
-use Rattle.mf_rows.proofs.EdgesLemmas.{rows_from-below, rows_from-front}
+use Rattle.mf_rows.proofs.EdgeRowsLemmas.{rows_from-below, rows_from-front}
 use Rattle.mf_rows.proofs.FieldBandsLemmas.{rows_of_band, is_up_to, IsPartitionedBy-is_up_to, up_to_split, behind_split, numbered_behind_split}
 use Rattle.mf_rows.proofs.RowSums.{IsRowSumSoFar, sum_none, rows_left, stay_within}
 

@@ -1,9 +1,9 @@
 -- Bands of rows: over bands the lowest rows fall, so a row is found by halving.
-use Rattle.std.proofs.Common.{◌≡◌, ◌≢◌, ℕ, zero, suc, ◌+◌, ◌<◌, ◌≤◌, ℤ, pos, ◌+ℤ◌, ◌-ℤ◌, ◌≤ℤ◌, ◌<ℤ◌, List, [], ◌∷◌, ◌++◌, Bool, true, false, length, take, drop, get_or, subst, sym, ap, ◌∙◌, arith}
+use Rattle.std.proofs.Common.{◌≡◌, ◌≢◌, ℕ, zero, suc, ◌+◌, ◌<◌, ◌≤◌, ℤ, pos, ◌-ℤ◌, ◌≤ℤ◌, ◌<ℤ◌, List, [], ◌∷◌, ◌++◌, Bool, true, false, length, take, drop, get_or, subst, sym, ap, ◌∙◌, arith}
 use Rattle.std.specs.List.{All, AllWithin}
 use Rattle.std.specs.List.Sorted.{IsPartitionedBy}
 use Rattle.std.proofs.lemmas.Int.{ints}
-use Rattle.std.proofs.lemmas.List.{get_or-take, get_or-drop, length-take-le, length-drop, take-append-drop, take_all, length-map, map-append, drop_more, append_assoc}
+use Rattle.std.proofs.lemmas.List.{take-append-drop, take_all, length-map, map-append, drop_more, append_assoc}
 use Rattle.std.proofs.lemmas.List.Concat.{flat_map-append}
 use Rattle.std.proofs.lemmas.List.Elements.{All-nil, All-cons, All-head, All-tail, All-append, All-weaker, All-map}
 use Rattle.std.specs.Arc.{arc_value}
@@ -11,38 +11,11 @@ use Rattle.std.specs.declared.alloc.Global.{Global}
 use Rattle.std.specs.declared.sync.Arc.{Arc}
 use lib.Signed.{lt_z}
 use Rattle.mf_rows.specs.declared.band.Band.{Band}
-use Rattle.mf_rows.specs.declared.edge.Edge.{Edge}
 use Rattle.mf_rows.specs.declared.row.Row.{Row}
 use Rattle.mf_rows.specs.Bands.{edge_row, edge_rows, last_height, rows_in, bottom_of, rows_of_bands, HasRow, HasNoRow, HasSameRow, AreAbove, AreBelow}
-use Rattle.mf_rows.specs.Dots.{IsLawfulWeight}
-use Rattle.mf_rows.specs.Edges.{weight_in, AreEdgesFrom, AreEdges, EdgeRow, IsEdgeRow, AreRowsFrom, AreRows, weight_in_rows}
-use Rattle.mf_rows.proofs.EdgesLemmas.{weight_in-left, weight_in-right, weight_in-before, weight_in_rows-append, weight_in_rows-above, weight_in_rows-below, rows_from-below, rows_from-front, rows_from-back, rows_from-apart, weight_in_rows-here}
-
--- ---- lists whose heights fall
-
--- each height is below all before it
-abbrev pub Falls : {X : Type 0} → (X → ℤ) → List X → Type 0
-Falls f [] = Unit {0}
-Falls f (x ∷ xs) = All (λ y. f y <ℤ f x) xs × Falls f xs
-
--- a test that passes with every height above one that passes is passed by the first elements
-pub IsPartitionedBy-falls : {X : Type 0} (f : X → ℤ) (p : X → Bool) → ((a b : X) → f a ≤ℤ f b → p a ≡ true → p b ≡ true) → (xs : List X) → Falls f xs → IsPartitionedBy p xs
-IsPartitionedBy-falls f p up [] falls i j d le lt e = absurd (omega arith)
-IsPartitionedBy-falls f p up (x ∷ xs) falls zero zero d le lt e = e
-IsPartitionedBy-falls f p up (x ∷ xs) falls zero (suc j) d le lt e =
-    let lower = falls.0 j d (omega arith) in
-    up (get_or xs j d) x (omega (arith, ints)) e
-IsPartitionedBy-falls f p up (x ∷ xs) falls (suc i) zero d le lt e = absurd (omega arith)
-IsPartitionedBy-falls f p up (x ∷ xs) falls (suc i) (suc j) d le lt e = IsPartitionedBy-falls f p up xs falls.1 i j d (omega arith) (omega arith) e
-
--- what a partition point says of the elements before it, and of those behind it
-pub All-take_within : {X : Type 0} (P : X → Type 0) (xs : List X) (n : ℕ) → n ≤ length xs → AllWithin P xs 0 n → All P (take n xs)
-All-take_within P xs n le within k d lt =
-    let inside : k < n = omega (arith, length-take-le n xs le) in
-    rw (get_or-take n xs k d inside) (within k d (omega arith) inside)
-
-pub All-drop_within : {X : Type 0} (P : X → Type 0) (xs : List X) (n : ℕ) → AllWithin P xs n (length xs) → All P (drop n xs)
-All-drop_within P xs n within k d lt = rw get_or-drop (within (n + k) d (omega arith) (omega (arith, length-drop n xs)))
+use Rattle.mf_rows.specs.EdgeRows.{EdgeRow, IsEdgeRow, AreRowsFrom, AreRows, weight_in_rows}
+use Rattle.mf_rows.proofs.EdgeRowsLemmas.{weight_in_rows-append, weight_in_rows-above, weight_in_rows-below, rows_from-below, rows_from-front, rows_from-back, rows_from-apart, weight_in_rows-here}
+use Rattle.mf_edges.proofs.Falls.{Falls, IsPartitionedBy-falls, All-take_within, All-drop_within}
 
 -- ---- lists of rows
 
@@ -257,53 +230,3 @@ edge_rows-push rs rows row = ap (λ ss. rs ++ ss) (map-append edge_row rows (row
 pub one_more_row : (bands old : List EdgeRow) (open_rows done : List Row) (row : Row) → bands ++ edge_rows open_rows ≡ old ++ edge_rows done → bands ++ edge_rows (open_rows ++ row ∷ []) ≡ old ++ edge_rows (done ++ row ∷ [])
 one_more_row bands old open_rows done row same =
     edge_rows-push bands open_rows row ∙ (ap (λ rs. rs ++ edge_row row ∷ []) same ∙ sym (edge_rows-push old done row))
-
--- ---- the weight at a column
-
--- what holds where w is the sum of the edges before the rest of those of a row: the sum is that of the row at any
--- column before the rest, and at column x the rest is to be added
-pub record IsSumBefore (es : List Edge) (x : ℤ) (rest : List Edge) (w : ℤ) : Type 0 where
-  pub low : ℤ
-  pub sorted : AreEdgesFrom low rest
-  pub sum : (column : ℤ) → low ≤ℤ (column +ℤ pos 1) → weight_in es column ≡ w +ℤ weight_in rest column
-  pub here : weight_in es x ≡ w +ℤ weight_in rest x
-
-pub sum_before_more : (es : List Edge) (x : ℤ) (e : Edge) (rest : List Edge) (w : ℤ) → IsSumBefore es x (e ∷ rest) w → e.x ≤ℤ x → IsSumBefore es x rest (w +ℤ e.weight)
-sum_before_more es x e rest w before le =
-    let low = before.sorted.1 in
-    record {
-      low = e.x +ℤ pos 1;
-      sorted = before.sorted.2;
-      sum = λ column right.
-          let all = before.sum column (omega (arith, ints)) in
-          let added = weight_in-left e rest column (omega (arith, ints)) in
-          omega (arith, ints);
-      here =
-          let all = before.here in
-          let added = weight_in-left e rest x le in
-          omega (arith, ints);
-    }
-
--- the sum is a weight of the row
-pub lawful_sum_before : (es : List Edge) (x : ℤ) (rest : List Edge) (w : ℤ) → AreEdges es → IsSumBefore es x rest w → IsLawfulWeight w
-lawful_sum_before es x rest w lawful before =
-    let column = before.low -ℤ pos 1 in
-    let all = before.sum column (omega (arith, ints)) in
-    let none = weight_in-before before.low rest column before.sorted (omega (arith, ints)) in
-    let w_is : weight_in es column ≡ w = omega (arith, ints) in
-    subst IsLawfulWeight w_is (lawful.lawful column)
-
--- edges right of the column add nothing
-pub sum_before_right : (es : List Edge) (x : ℤ) (e : Edge) (rest : List Edge) (w : ℤ) → IsSumBefore es x (e ∷ rest) w → x <ℤ e.x → w ≡ weight_in es x
-sum_before_right es x e rest w before right =
-    let all = before.here in
-    let first = weight_in-right e rest x right in
-    let none = weight_in-before (e.x +ℤ pos 1) rest x before.sorted.2 (omega (arith, ints)) in
-    omega (arith, ints)
-
-pub sum_before_none : (es : List Edge) (x : ℤ) (w : ℤ) → IsSumBefore es x [] w → w ≡ weight_in es x
-unfolding weight_in
-sum_before_none es x w before = let all = before.here in omega (arith, ints)
-
-pub sum_before_read : (es : List Edge) (x : ℤ) (i : ℕ) (d : Edge) (w : ℤ) → i < length es → IsSumBefore es x (drop i es) w → IsSumBefore es x (get_or es i d ∷ drop (i + 1) es) w
-sum_before_read es x i d w inside before = subst (λ rest. IsSumBefore es x rest w) (drop_more es i d inside) before

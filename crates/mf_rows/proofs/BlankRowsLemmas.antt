@@ -5,9 +5,10 @@ use Rattle.std.specs.Ordering.{int_eq}
 use Rattle.std.proofs.lemmas.Bool.{cond_both}
 use Rattle.std.proofs.lemmas.Int.{ints}
 use Rattle.std.proofs.lemmas.List.Elements.{All-nil, All-cons}
-use Rattle.mf_rows.specs.declared.edge.Edge.{Edge}
+use Rattle.mf_edges.specs.declared.edge.Edge.{Edge}
 use Rattle.mf_rows.specs.BlankRows.{unless_blank}
-use Rattle.mf_rows.specs.Edges.{weight_in, AreEdges, EdgeRow, AreRowsFrom, weight_in_rows}
+use Rattle.mf_edges.specs.Edges.{weight_in, AreEdges}
+use Rattle.mf_rows.specs.EdgeRows.{EdgeRow, AreRowsFrom, weight_in_rows}
 
 -- a row that is left out where it is blank has its weights
 pub weight_in_rows-unless_blank : (y : ℤ) (es : List Edge) (x v : ℤ) → weight_in_rows (unless_blank (record { y = y; edges = es })) x v ≡ weight_in_rows (record { y = y; edges = es } ∷ []) x v

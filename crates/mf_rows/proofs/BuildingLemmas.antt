@@ -9,12 +9,13 @@ use Rattle.mf_rows.specs.declared.run.Run.{Run}
 use Rattle.mf_rows.specs.Bands.{AreAbove, AreBelow}
 use Rattle.mf_rows.specs.Building.{open_row, open_rows, EndInRow, EndsBefore, HasRun}
 use Rattle.mf_rows.specs.Dots.{Dot, IsPicture, place, start_of_field, weight_at}
-use Rattle.mf_rows.specs.Edges.{weight_in, EdgeRow, IsEdgeRow, AreRows, weight_in_rows, picture_of_rows}
+use Rattle.mf_edges.specs.Edges.{weight_in}
+use Rattle.mf_rows.specs.EdgeRows.{EdgeRow, IsEdgeRow, AreRows, weight_in_rows, picture_of_rows}
 use Rattle.mf_rows.specs.Order.{IsRun, Fits}
 use Rattle.mf_rows.specs.Places.{AreBefore}
 use Rattle.mf_rows.specs.Runs.{dots_of}
 use Rattle.mf_rows.proofs.DotsLemmas.{dots_from-lawful, weight_at-dot, weight_at-after}
-use Rattle.mf_rows.proofs.EdgesLemmas.{weight_in_rows-append, weight_in_rows-here, weight_in_rows-elsewhere, weight_in_rows-above, rows_from-front, rows_from-back, rows_from-append, rows_from-apart, lawful_picture_of_rows, weight_at-picture_of_rows, picture_of_rows-from_weights}
+use Rattle.mf_rows.proofs.EdgeRowsLemmas.{weight_in_rows-append, weight_in_rows-here, weight_in_rows-elsewhere, weight_in_rows-above, rows_from-front, rows_from-back, rows_from-append, rows_from-apart, lawful_picture_of_rows, weight_at-picture_of_rows, picture_of_rows-from_weights}
 use Rattle.mf_rows.proofs.RunEdges.{EndAt-from_constant, weight_in-end, some_weight, some_edge, by_columns}
 use Rattle.mf_rows.proofs.RunDots.{IsOnRun, picture-push, weight_at-on_run, weight_at-off_run}
 

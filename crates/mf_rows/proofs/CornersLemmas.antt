@@ -11,12 +11,14 @@ use Rattle.std.proofs.lemmas.List.Sorted.{sum_by-IsPermutation, length_permutati
 use Rattle.std.proofs.lemmas.List.Sums.{sum_by-cons}
 use Rattle.mf_geom.specs.Field.{IsInField}
 use Rattle.mf_rows.specs.declared.corner.Corner.{Corner}
-use Rattle.mf_rows.specs.declared.edge.Edge.{Edge}
+use Rattle.mf_edges.specs.declared.edge.Edge.{Edge}
 use Rattle.mf_rows.specs.Corners.{added_by, added_by_all, IsCorner, AreCorners}
-use Rattle.mf_rows.specs.Dots.{IsLawfulWeight}
-use Rattle.mf_rows.specs.Edges.{weight_in, AreEdgesFrom, AreOpenEdges, AreEdges, EdgeRow, AreRows, weight_in_rows}
+use Rattle.mf_edges.specs.LawfulWeights.{IsLawfulWeight}
+use Rattle.mf_edges.specs.Edges.{weight_in, AreEdgesFrom, AreOpenEdges, AreEdges}
+use Rattle.mf_rows.specs.EdgeRows.{EdgeRow, AreRows, weight_in_rows}
 use Rattle.mf_rows.specs.Strips.{first_height_of, ReachDownTo, HasStrip}
-use Rattle.mf_rows.specs.Sums.{HaveWeights, HaveFieldWeights, with_edge_in}
+use Rattle.mf_edges.specs.Sums.{HaveWeights, with_edge_in}
+use Rattle.mf_rows.specs.Sums.{HaveFieldWeights}
 
 -- ---- what corners add does not depend on their order: it is the difference of two sums of naturals
 

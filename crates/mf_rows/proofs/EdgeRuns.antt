@@ -7,16 +7,17 @@ use Rattle.std.proofs.lemmas.Bool.{cond_both}
 use Rattle.std.proofs.lemmas.Bool.Decides.{Decides-int_eq, not_from_Decides}
 use Rattle.std.proofs.lemmas.Int.{ints, by_lt_z}
 use Rattle.std.proofs.lemmas.List.Elements.{All-nil, All-cons}
-use Rattle.mf_rows.specs.declared.edge.Edge.{Edge}
+use Rattle.mf_edges.specs.declared.edge.Edge.{Edge}
 use Rattle.mf_rows.specs.declared.run.Run.{Run}
-use Rattle.mf_rows.specs.Dots.{Dot, AreDotsFrom, IsLawfulWeight, place, weight_at}
-use Rattle.mf_rows.specs.Edges.{AreEdges, weight_in}
+use Rattle.mf_edges.specs.LawfulWeights.{IsLawfulWeight}
+use Rattle.mf_rows.specs.Dots.{Dot, AreDotsFrom, place, weight_at}
+use Rattle.mf_edges.specs.Edges.{AreEdges, weight_in}
 use Rattle.mf_rows.specs.Order.{IsRun}
 use Rattle.mf_rows.specs.Rest.{IsRestOfRow}
 use Rattle.mf_rows.specs.Runs.{stretch, dots_of, IsFollowedBy, AreMaximal}
 use Rattle.mf_rows.specs.Walk.{runs_of_edges}
 use Rattle.mf_rows.proofs.DotsLemmas.{weight_at-before, weight_at-elsewhere, dots_from-lower, dots_from-append}
-use Rattle.mf_rows.proofs.EdgesLemmas.{weight_in-left, weight_in-before}
+use Rattle.mf_edges.proofs.EdgesLemmas.{weight_in-left, weight_in-before}
 use Rattle.mf_rows.proofs.RunDots.{stretch-from, weight_at-stretch, weight_at-append_after, weight_at-append_none, before_stretch-end, place-le}
 
 -- ---- what is left of a row

@@ -13,10 +13,11 @@ use Rattle.mf_rows.specs.declared.band.Band.{Band}
 use Rattle.mf_rows.specs.declared.row.Row.{Row}
 use Rattle.mf_rows.specs.Bands.{AreAbove, AreBelow, edge_row, edge_rows, rows_in, bottom_of, rows_of_bands}
 use Rattle.mf_rows.specs.BandSums.{lowest_of, AreUpTo, AreBehind, AreNumberedBehind, BeginUpTo, IsStep, EndsStep, end_of}
-use Rattle.mf_rows.specs.Edges.{AreRows}
+use Rattle.mf_rows.specs.EdgeRows.{AreRows}
 use Rattle.mf_rows.specs.FieldBands.{IsOfBand, AreOfBand}
 use Rattle.mf_rows.specs.Sums.{StayWithin}
-use Rattle.mf_rows.proofs.BandsLemmas.{IsPartitionedBy-falls, All-take_within, All-drop_within, at_bottom, bands_fall}
+use Rattle.mf_edges.proofs.Falls.{IsPartitionedBy-falls, All-take_within, All-drop_within}
+use Rattle.mf_rows.proofs.BandsLemmas.{at_bottom, bands_fall}
 
 -- ---- the rows of bands
 

@@ -1,4 +1,3 @@
-mod AddedEdges
 mod BandSumsLemmas
 mod BandsAdded
 mod BandsLemmas
@@ -6,11 +5,8 @@ mod BlankRowsLemmas
 mod BuildingLemmas
 mod CornersLemmas
 pub mod DotsLemmas
-mod EdgeChanges
-mod EdgeMaps
+pub mod EdgeRowsLemmas
 mod EdgeRuns
-mod EdgeSums
-pub mod EdgesLemmas
 mod EqualRuns
 mod FieldBandsLemmas
 pub mod FieldTotals
@@ -19,7 +15,6 @@ pub mod MaximalRuns
 pub mod PassedRuns
 mod PictureRows
 pub mod PlacesLemmas
-mod ReachesLemmas
 mod RowChangesLemmas
 mod RowMoves
 mod RowRuns
@@ -30,7 +25,6 @@ pub mod RunDots
 mod RunEdges
 mod RunsLeft
 pub mod RunsLemmas
-pub mod Sources
 mod StretchBounds
 mod StripsLemmas
 pub mod Totals

@@ -3,18 +3,22 @@ use Rattle.std.proofs.Common.{◌≡◌, ◌≢◌, ℕ, zero, suc, ◌<◌, ℤ
 use Rattle.std.specs.List.{All, Contains}
 use Rattle.std.proofs.lemmas.Int.{ints}
 use Rattle.mf_rows.specs.declared.corner.Corner.{Corner}
-use Rattle.mf_rows.specs.declared.edge.Edge.{Edge}
-use Rattle.mf_rows.specs.declared.row_change.RowChange.TheVariants as change
-use Rattle.mf_rows.specs.declared.weight_map.WeightMap.{WeightMap}
+use Rattle.mf_edges.specs.declared.edge.Edge.{Edge}
+use Rattle.mf_edges.specs.declared.row_change.RowChange.TheVariants as change
+use Rattle.mf_edges.specs.declared.weight_map.WeightMap.{WeightMap}
 use Rattle.mf_rows.specs.Bands.{HasRow, HasNoRow}
 use Rattle.mf_rows.specs.Corners.{added_by_all, with_corners_at}
-use Rattle.mf_rows.specs.Dots.{Dot, IsLawfulWeight, weight_at}
-use Rattle.mf_rows.specs.Edges.{weight_in, EdgeRow, AreRowsFrom, AreRows, weight_in_rows, picture_of_rows}
-use Rattle.mf_rows.specs.Moves.{opposite, columns_mirrored_at, rows_mirrored_at, turned_at}
+use Rattle.mf_edges.specs.LawfulWeights.{IsLawfulWeight}
+use Rattle.mf_rows.specs.Dots.{Dot, weight_at}
+use Rattle.mf_edges.specs.Edges.{weight_in}
+use Rattle.mf_rows.specs.EdgeRows.{EdgeRow, AreRowsFrom, AreRows, weight_in_rows, picture_of_rows}
+use Rattle.mf_edges.specs.Axes.{opposite}
+use Rattle.mf_rows.specs.Moves.{columns_mirrored_at, rows_mirrored_at, turned_at}
 use Rattle.mf_rows.specs.RowChanges.{changed_in_rows, mirrored_in_rows, turned_in_rows}
 use Rattle.mf_rows.specs.Sums.{HasWeights, IsUnlawfulSomewhere, weight_in_all, sum_at, HaveFieldWeights, HaveRowWeights}
-use Rattle.mf_rows.specs.WeightMaps.{mapped_to, mapped_at}
-use Rattle.mf_rows.proofs.EdgesLemmas.{weight_in_rows-here, weight_in_rows-elsewhere, weight_in_rows-none, weight_in_rows-below, rows_from-below, weight_at-picture_of_rows}
+use Rattle.mf_edges.specs.WeightMaps.{mapped_to}
+use Rattle.mf_rows.specs.WeightMaps.{mapped_at}
+use Rattle.mf_rows.proofs.EdgeRowsLemmas.{weight_in_rows-here, weight_in_rows-elsewhere, weight_in_rows-none, weight_in_rows-below, rows_from-below, weight_at-picture_of_rows}
 
 -- ---- one row among rows
 

@@ -9,22 +9,24 @@ use Rattle.std.proofs.lemmas.Int.{ints}
 use Rattle.std.proofs.lemmas.List.{drop_more}
 use Rattle.std.proofs.lemmas.List.Elements.{All-nil, All-tail, All-append, All-weaker, All-head}
 use Rattle.std.proofs.lemmas.Slice.Eq.{slice_eq-Decides}
-use Rattle.mf_rows.specs.contracts.edge.EdgePartialEq.TheImpl as edge_eq
-use Rattle.mf_rows.specs.declared.edge.Edge.{Edge}
+use Rattle.mf_edges.specs.contracts.edge.EdgePartialEq.TheImpl as edge_eq
+use Rattle.mf_edges.specs.declared.edge.Edge.{Edge}
 use Rattle.mf_rows.specs.declared.row.Row.{Row}
-use Rattle.mf_rows.specs.declared.row_change.RowChange.{RowChange}
-use Rattle.mf_rows.specs.declared.row_change.RowChange.TheVariants as change
-use Rattle.mf_rows.specs.declared.stretch.Stretch.{Stretch}
+use Rattle.mf_edges.specs.declared.row_change.RowChange.{RowChange}
+use Rattle.mf_edges.specs.declared.row_change.RowChange.TheVariants as change
+use Rattle.mf_edges.specs.declared.stretch.Stretch.{Stretch}
 use Rattle.mf_rows.specs.Bands.{edge_row, edge_rows, AreBelow}
 use Rattle.mf_rows.specs.BlankRows.{unless_blank}
-use Rattle.mf_rows.specs.Edges.{weight_in, AreEdges, EdgeRow, AreRowsFrom, AreRows, weight_in_rows}
-use Rattle.mf_rows.specs.Moves.{IsStretch, IsPointInReach, stretched_to, source_of}
-use Rattle.mf_rows.specs.RowChanges.{row_image, IsRowChange, EdgesAllowChange, RowsAllowChange, changed_in, changed_in_rows, AreChanged}
+use Rattle.mf_edges.specs.Edges.{weight_in, AreEdges}
+use Rattle.mf_rows.specs.EdgeRows.{EdgeRow, AreRowsFrom, AreRows, weight_in_rows}
+use Rattle.mf_edges.specs.Axes.{IsStretch, IsPointInReach, stretched_to, source_of}
+use Rattle.mf_edges.specs.RowChanges.{row_image, IsRowChange, EdgesAllowChange, changed_in, AreChanged}
+use Rattle.mf_rows.specs.RowChanges.{RowsAllowChange, changed_in_rows}
 use Rattle.mf_rows.specs.Sums.{HaveRowWeights}
 use Rattle.mf_rows.proofs.BlankRowsLemmas.{weight_in_rows-unless_blank, rows_from-unless_blank, All-unless_blank}
-use Rattle.mf_rows.proofs.EdgesLemmas.{weight_in_rows-append, weight_in_rows-here, weight_in_rows-elsewhere, weight_in_rows-below, rows_from-higher, rows_from-below, rows_from-append}
+use Rattle.mf_rows.proofs.EdgeRowsLemmas.{weight_in_rows-append, weight_in_rows-here, weight_in_rows-elsewhere, weight_in_rows-below, rows_from-higher, rows_from-below, rows_from-append}
 use Rattle.mf_rows.proofs.RowSums.{by_height}
-use Rattle.mf_rows.proofs.Sources.{source_of-is}
+use Rattle.mf_edges.proofs.Sources.{source_of-is}
 
 -- ---- edges that are compared
 

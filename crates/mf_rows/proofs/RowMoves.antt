@@ -6,11 +6,11 @@ use Rattle.std.proofs.lemmas.List.{append-nil, map-append}
 use Rattle.std.proofs.lemmas.List.Elements.{All-head, All-tail, All-cons, All-nil, All-weaker, All-append}
 use Rattle.mf_rows.specs.declared.row.Row.{Row}
 use Rattle.mf_rows.specs.Bands.{edge_row, edge_rows, AreAbove, AreBelow}
-use Rattle.mf_rows.specs.Edges.{EdgeRow, IsEdgeRow, AreRowsFrom, AreRows, weight_in_rows}
-use Rattle.mf_rows.specs.Moves.{opposite}
+use Rattle.mf_rows.specs.EdgeRows.{EdgeRow, IsEdgeRow, AreRowsFrom, AreRows, weight_in_rows}
+use Rattle.mf_edges.specs.Axes.{opposite}
 use Rattle.mf_rows.specs.RowChanges.{mirrored_in_rows}
 use Rattle.mf_rows.specs.Sums.{HaveRowWeights}
-use Rattle.mf_rows.proofs.EdgesLemmas.{weight_in_rows-append, weight_in_rows-here, weight_in_rows-elsewhere, rows_from-below, rows_from-front, rows_from-back, rows_from-append}
+use Rattle.mf_rows.proofs.EdgeRowsLemmas.{weight_in_rows-append, weight_in_rows-here, weight_in_rows-elsewhere, rows_from-below, rows_from-front, rows_from-back, rows_from-append}
 use Rattle.mf_rows.proofs.RowSums.{by_height}
 
 -- ---- rows on the other side

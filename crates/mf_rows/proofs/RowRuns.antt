@@ -4,13 +4,14 @@ use Rattle.std.specs.List.{flat_map}
 use Rattle.std.proofs.lemmas.Int.{ints, by_lt_z}
 use Rattle.std.proofs.lemmas.List.Elements.{All-nil, All-cons}
 use Rattle.mf_rows.specs.Dots.{IsPicture, place, start_of_field, weight_at}
-use Rattle.mf_rows.specs.Edges.{EdgeRow, IsEdgeRow, AreRowsFrom, AreRows, weight_in, weight_in_rows, picture_of_rows}
+use Rattle.mf_edges.specs.Edges.{weight_in}
+use Rattle.mf_rows.specs.EdgeRows.{EdgeRow, IsEdgeRow, AreRowsFrom, AreRows, weight_in_rows, picture_of_rows}
 use Rattle.mf_rows.specs.Rest.{AreEdgeRows}
 use Rattle.mf_rows.specs.Runs.{dots_of, runs_of, AreMaximal}
 use Rattle.mf_rows.specs.Sums.{HasWeights}
 use Rattle.mf_rows.specs.Walk.{runs_of_rows}
 use Rattle.mf_rows.proofs.EdgeRuns.{rest_of_edges, AreRunsFrom, some_of_runs, runs_from-lower, dots_from-runs, runs_from-edges, weight_at-off_row, weight_at-whole_row, maximal-edges}
-use Rattle.mf_rows.proofs.EdgesLemmas.{weight_in_rows-here, weight_in_rows-elsewhere, weight_in_rows-below, rows_from-below, picture_of_rows-from_weights}
+use Rattle.mf_rows.proofs.EdgeRowsLemmas.{weight_in_rows-here, weight_in_rows-elsewhere, weight_in_rows-below, rows_from-below, picture_of_rows-from_weights}
 use Rattle.mf_rows.proofs.MaximalRuns.{runs_of-dots_of}
 
 -- each row is lawful

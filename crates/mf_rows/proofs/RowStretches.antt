@@ -5,18 +5,19 @@ use Rattle.std.specs.List.{All}
 use Rattle.std.proofs.lemmas.Int.{ints, to_z-of_z, fits_signed_mul, by_lt_z}
 use Rattle.std.proofs.lemmas.List.Elements.{All-nil, All-cons, All-head, All-tail, All-append, All-weaker}
 use Rattle.std.proofs.lemmas.List.{drop_more}
-use Rattle.mf_rows.specs.declared.edge.Edge.{Edge}
+use Rattle.mf_edges.specs.declared.edge.Edge.{Edge}
 use Rattle.mf_rows.specs.declared.row.Row.{Row}
-use Rattle.mf_rows.specs.declared.stretch.Stretch.{Stretch}
+use Rattle.mf_edges.specs.declared.stretch.Stretch.{Stretch}
 use Rattle.mf_rows.specs.Bands.{edge_row, edge_rows, AreBelow}
-use Rattle.mf_rows.specs.Edges.{weight_in, AreEdges, EdgeRow, AreRowsFrom, AreRows, weight_in_rows}
-use Rattle.mf_rows.specs.Moves.{IsStretch, PlaceStaysInside, source_of, stretched_to}
+use Rattle.mf_edges.specs.Edges.{weight_in, AreEdges}
+use Rattle.mf_rows.specs.EdgeRows.{EdgeRow, AreRowsFrom, AreRows, weight_in_rows}
+use Rattle.mf_edges.specs.Axes.{IsStretch, PlaceStaysInside, source_of, stretched_to}
 use Rattle.mf_rows.specs.RowChanges.{AllowStretch, stretched_in_rows}
 use Rattle.mf_rows.specs.RowMoves.{strip, HasStretched}
 use Rattle.mf_rows.specs.Sums.{HaveRowWeights}
-use Rattle.mf_rows.proofs.EdgesLemmas.{weight_in_rows-append, weight_in_rows-here, weight_in_rows-elsewhere, weight_in_rows-none, weight_in_rows-below, rows_from-higher, rows_from-below, rows_from-append}
+use Rattle.mf_rows.proofs.EdgeRowsLemmas.{weight_in_rows-append, weight_in_rows-here, weight_in_rows-elsewhere, weight_in_rows-none, weight_in_rows-below, rows_from-higher, rows_from-below, rows_from-append}
 use Rattle.mf_rows.proofs.RowSums.{by_height}
-use Rattle.mf_rows.proofs.Sources.{stretched_to-le, stretched_to-next, source_of-reached, source_of-from, source_of-is}
+use Rattle.mf_edges.proofs.Sources.{stretched_to-le, stretched_to-next, source_of-reached, source_of-from, source_of-is}
 
 -- ---- the strip of a row
 

@@ -4,14 +4,17 @@ use Rattle.std.specs.List.{All}
 use Rattle.std.proofs.lemmas.Int.{ints, by_lt_z}
 use Rattle.std.proofs.lemmas.List.{append-nil, map-append, take-append-drop}
 use Rattle.std.proofs.lemmas.List.Elements.{All-head, All-cons, All-nil, All-weaker, All-append}
-use Rattle.mf_rows.specs.declared.edge.Edge.{Edge}
+use Rattle.mf_edges.specs.declared.edge.Edge.{Edge}
 use Rattle.mf_rows.specs.declared.row.Row.{Row}
 use Rattle.mf_rows.specs.Bands.{edge_row, edge_rows, AreAbove, AreBelow}
-use Rattle.mf_rows.specs.Dots.{IsLawfulWeight}
-use Rattle.mf_rows.specs.Edges.{weight_in, EdgeRow, IsEdgeRow, AreEdges, AreEdgesFrom, AreRowsFrom, AreRows, weight_in_rows}
+use Rattle.mf_edges.specs.LawfulWeights.{IsLawfulWeight}
+use Rattle.mf_edges.specs.Edges.{weight_in, AreEdges, AreEdgesFrom}
+use Rattle.mf_rows.specs.EdgeRows.{EdgeRow, IsEdgeRow, AreRowsFrom, AreRows, weight_in_rows}
 use Rattle.mf_rows.specs.Merging.{IsRowAt, IsSplitAtHeight, HasRowSum, IsUnlawfulInRow}
-use Rattle.mf_rows.specs.Sums.{weight_in_all, HaveRowWeights, IsUnlawfulSomewhere, IsUnlawfulColumn, StayWithin, weight_in_both, HaveWeights}
-use Rattle.mf_rows.proofs.EdgesLemmas.{weight_in-left, weight_in-before, weight_in-outside, weight_in_rows-append, weight_in_rows-here, weight_in_rows-elsewhere, weight_in_rows-above, weight_in_rows-below, rows_from-higher, rows_from-below, rows_from-front, rows_from-back, rows_from-append, by_field}
+use Rattle.mf_edges.specs.Sums.{IsUnlawfulColumn, weight_in_both, HaveWeights}
+use Rattle.mf_rows.specs.Sums.{weight_in_all, HaveRowWeights, IsUnlawfulSomewhere, StayWithin}
+use Rattle.mf_edges.proofs.EdgesLemmas.{weight_in-left, weight_in-before, weight_in-outside}
+use Rattle.mf_rows.proofs.EdgeRowsLemmas.{weight_in_rows-append, weight_in_rows-here, weight_in_rows-elsewhere, weight_in_rows-above, weight_in_rows-below, rows_from-higher, rows_from-below, rows_from-front, rows_from-back, rows_from-append, by_field}
 
 -- ---- what a sum has in one row
 

@@ -3,14 +3,15 @@ use Rattle.std.proofs.Common.{◌≡◌, ◌≢◌, ℕ, zero, suc, ◌-◌, ◌
 use Rattle.std.proofs.lemmas.Bool.{cond-true, cond-false}
 use Rattle.std.proofs.lemmas.Int.{ints, by_lt_z}
 use Rattle.std.proofs.lemmas.List.Elements.{All-nil, All-cons, All-head, All-tail}
-use Rattle.mf_rows.specs.declared.edge.Edge.{Edge}
+use Rattle.mf_edges.specs.declared.edge.Edge.{Edge}
 use Rattle.mf_rows.specs.declared.run.Run.{Run}
 use Rattle.mf_rows.specs.Building.{EndAt, HasRun}
-use Rattle.mf_rows.specs.Dots.{IsLawfulWeight}
-use Rattle.mf_rows.specs.Edges.{weight_in, AreEdgesFrom, AreEdges, AreOpenEdges, EdgeRow}
+use Rattle.mf_edges.specs.LawfulWeights.{IsLawfulWeight}
+use Rattle.mf_edges.specs.Edges.{weight_in, AreEdgesFrom, AreEdges, AreOpenEdges}
+use Rattle.mf_rows.specs.EdgeRows.{EdgeRow}
 use Rattle.mf_rows.specs.Order.{IsRun}
-use Rattle.mf_rows.specs.Sums.{HaveWeights, with_edge_in}
-use Rattle.mf_rows.proofs.EdgesLemmas.{weight_in-left, weight_in-right, weight_in-before, weight_in-behind}
+use Rattle.mf_edges.specs.Sums.{HaveWeights, with_edge_in}
+use Rattle.mf_edges.proofs.EdgesLemmas.{weight_in-left, weight_in-right, weight_in-before, weight_in-behind}
 
 -- ---- the ends of edges
 

@@ -3,12 +3,12 @@ use Rattle.std.proofs.Common.{◌≡◌, ℤ, pos, negsuc, ◌+ℤ◌, FitsSigne
 use Rattle.std.proofs.lemmas.Int.{ints}
 use Rattle.std.proofs.lemmas.List.{append_assoc}
 use Rattle.std.proofs.lemmas.List.Elements.{All-head}
-use Rattle.mf_rows.specs.declared.edge.Edge.{Edge}
-use Rattle.mf_rows.specs.Edges.{EdgeRow, IsEdgeRow}
+use Rattle.mf_edges.specs.declared.edge.Edge.{Edge}
+use Rattle.mf_rows.specs.EdgeRows.{EdgeRow, IsEdgeRow}
 use Rattle.mf_rows.specs.Rest.{IsRestOfRow, AreEdgeRows}
 use Rattle.mf_rows.specs.Walk.{run_up_to, runs_of_edges, runs_of_rows}
 use Rattle.mf_rows.proofs.EdgeRuns.{rest_of_edges, rest_none, rest_next, rest_lawful}
-use Rattle.mf_rows.proofs.EdgesLemmas.{edges_from-lower, weight_in-before}
+use Rattle.mf_edges.proofs.EdgesLemmas.{edges_from-lower, weight_in-before}
 
 -- behind the last edge of a row the weight is 0
 pub weight_none : (w : ℤ) (es : List Edge) → es ≡ [] → IsRestOfRow (negsuc 4094) w es → w ≡ pos 0

@@ -3,16 +3,19 @@ use Rattle.std.proofs.Common.{◌≡◌, ◌≢◌, ℤ, pos, negsuc, ◌+ℤ◌
 use Rattle.std.specs.List.{All}
 use Rattle.std.proofs.lemmas.Int.{ints}
 use Rattle.std.proofs.lemmas.List.Elements.{All-nil, All-cons, All-head, All-tail, All-weaker}
-use Rattle.mf_rows.specs.declared.edge.Edge.{Edge}
-use Rattle.mf_rows.specs.declared.row_change.RowChange.TheVariants as change
-use Rattle.mf_rows.specs.declared.stretch.Stretch.{Stretch}
+use Rattle.mf_edges.specs.declared.edge.Edge.{Edge}
+use Rattle.mf_edges.specs.declared.row_change.RowChange.TheVariants as change
+use Rattle.mf_edges.specs.declared.stretch.Stretch.{Stretch}
 use Rattle.mf_rows.specs.Dots.{Dot, weight_at}
-use Rattle.mf_rows.specs.Edges.{weight_in, AreEdgesFrom, EdgeRow, IsEdgeRow, AreRowsFrom, AreRows, weight_in_rows, picture_of_rows}
-use Rattle.mf_rows.specs.Moves.{IsPointInReach, PlaceStaysInside, PixelsStayInside, source_of, stretched_to, stretched_at}
+use Rattle.mf_edges.specs.Edges.{weight_in, AreEdgesFrom}
+use Rattle.mf_rows.specs.EdgeRows.{EdgeRow, IsEdgeRow, AreRowsFrom, AreRows, weight_in_rows, picture_of_rows}
+use Rattle.mf_edges.specs.Axes.{IsPointInReach, PlaceStaysInside, source_of, stretched_to}
+use Rattle.mf_rows.specs.Moves.{PixelsStayInside, stretched_at}
 use Rattle.mf_rows.specs.RowChanges.{RowsAllowChange, AllowStretch, changed_in_rows, stretched_in_rows}
 use Rattle.mf_rows.specs.Sums.{HasWeights, HaveRowWeights}
 use Rattle.mf_rows.proofs.DotsLemmas.{IsAt, weight_at-elsewhere}
-use Rattle.mf_rows.proofs.EdgesLemmas.{weight_in-left, weight_in-right, weight_in-before, weight_in_rows-here, weight_in_rows-elsewhere, weight_in_rows-below, rows_from-below, weight_at-picture_of_rows}
+use Rattle.mf_edges.proofs.EdgesLemmas.{weight_in-left, weight_in-right, weight_in-before}
+use Rattle.mf_rows.proofs.EdgeRowsLemmas.{weight_in_rows-here, weight_in_rows-elsewhere, weight_in_rows-below, rows_from-below, weight_at-picture_of_rows}
 use Rattle.mf_rows.proofs.RowSums.{by_height}
 
 -- ---- pixels that are not 0

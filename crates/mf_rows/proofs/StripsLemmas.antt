@@ -2,11 +2,12 @@
 use Rattle.std.proofs.Common.{◌≡◌, ◌≢◌, ℤ, pos, negsuc, ◌+ℤ◌, ◌≤ℤ◌, ◌<ℤ◌, List, [], ◌∷◌, ◌++◌, ◌⊎◌, inl, inr, refl, sym, ◌∙◌, arith}
 use Rattle.std.proofs.lemmas.Int.{ints, by_lt_z}
 use Rattle.std.proofs.lemmas.List.Elements.{All-cons, All-nil, All-push, All-weaker}
-use Rattle.mf_rows.specs.declared.edge.Edge.{Edge}
+use Rattle.mf_edges.specs.declared.edge.Edge.{Edge}
 use Rattle.mf_rows.specs.Bands.{AreBelow}
-use Rattle.mf_rows.specs.Edges.{weight_in, AreEdges, EdgeRow, IsEdgeRow, weight_in_rows}
+use Rattle.mf_edges.specs.Edges.{weight_in, AreEdges}
+use Rattle.mf_rows.specs.EdgeRows.{EdgeRow, IsEdgeRow, weight_in_rows}
 use Rattle.mf_rows.specs.Strips.{ReachDownTo, HasStrip}
-use Rattle.mf_rows.proofs.EdgesLemmas.{weight_in_rows-append, weight_in_rows-here, weight_in_rows-elsewhere, weight_in_rows-above, rows_from-append}
+use Rattle.mf_rows.proofs.EdgeRowsLemmas.{weight_in_rows-append, weight_in_rows-here, weight_in_rows-elsewhere, weight_in_rows-above, rows_from-append}
 
 -- rows have no weight below the height to which they reach
 pub below_reach : (bottom : ℤ) (rs : List EdgeRow) (x y : ℤ) → ReachDownTo bottom rs → y <ℤ bottom → weight_in_rows rs x y ≡ pos 0

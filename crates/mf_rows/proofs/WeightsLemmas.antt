@@ -7,7 +7,8 @@ use Rattle.std.proofs.lemmas.Bool.Decides.{Decides-int_eq, not_from_Decides}
 use Rattle.std.proofs.lemmas.Int.{ints, by_lt_z}
 use Rattle.std.proofs.lemmas.List.Elements.{All-nil, All-cons, All-append, All-head, All-tail}
 use Rattle.mf_geom.specs.Field.{IsInField}
-use Rattle.mf_rows.specs.Dots.{Dot, IsDot, IsLawfulWeight, IsPicture, AreDotsFrom, place, start_of_field, weight_at}
+use Rattle.mf_edges.specs.LawfulWeights.{IsLawfulWeight}
+use Rattle.mf_rows.specs.Dots.{Dot, IsDot, IsPicture, AreDotsFrom, place, start_of_field, weight_at}
 use Rattle.mf_rows.specs.Weights.{row_of, rows_of, picture_of, HaveSameWeights}
 use Rattle.mf_rows.proofs.DotsLemmas.{weight_at-here, weight_at-elsewhere, weight_at-before, not_at, dots_from-lower, dots_from-lawful}
 use Rattle.mf_rows.proofs.PlacesLemmas.{AreColumns, first_column, next_columns, place-next, place-below, row_from_place, column_from_place}

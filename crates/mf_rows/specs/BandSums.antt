@@ -7,7 +7,7 @@ use Rattle.std.specs.declared.alloc.Global.{Global}
 use Rattle.std.specs.declared.sync.Arc.{Arc}
 use Rattle.mf_rows.specs.declared.band.Band.{Band}
 use Rattle.mf_rows.specs.Bands.{AreAbove, AreBelow}
-use Rattle.mf_rows.specs.Edges.{EdgeRow, AreRows}
+use Rattle.mf_rows.specs.EdgeRows.{EdgeRow, AreRows}
 use Rattle.mf_rows.specs.Sums.{HaveRowWeights, StayWithin, weight_in_all}
 
 -- the lowest row of band n of the field

@@ -5,8 +5,9 @@ use Rattle.std.specs.declared.alloc.Global.{Global}
 use Rattle.std.specs.declared.sync.Arc.{Arc}
 use Rattle.mf_rows.specs.declared.band.Band.{Band}
 use Rattle.mf_rows.specs.declared.row.Row.{Row}
-use Rattle.mf_rows.specs.declared.edge.Edge.{Edge}
-use Rattle.mf_rows.specs.Edges.{EdgeRow, AreEdges, AreRows, weight_in, weight_in_rows}
+use Rattle.mf_edges.specs.declared.edge.Edge.{Edge}
+use Rattle.mf_edges.specs.Edges.{AreEdges, weight_in}
+use Rattle.mf_rows.specs.EdgeRows.{EdgeRow, AreRows, weight_in_rows}
 
 -- a row as its edges
 abbrev pub edge_row : Row → EdgeRow

@@ -1,7 +1,7 @@
 -- Rows that are left out where they are blank.
 use Rattle.std.specs.Prelude.{List, [], ◌∷◌}
-use Rattle.mf_rows.specs.Edges.{EdgeRow}
-use Rattle.mf_rows.specs.declared.edge.Edge.{Edge}
+use Rattle.mf_rows.specs.EdgeRows.{EdgeRow}
+use Rattle.mf_edges.specs.declared.edge.Edge.{Edge}
 
 -- a row, unless it has no edges
 abbrev pub unless_blank_from : List Edge → EdgeRow → List EdgeRow

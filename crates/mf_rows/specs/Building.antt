@@ -1,10 +1,11 @@
 -- The rows of a picture that is being built.
 use Rattle.std.specs.Prelude.{◌≡◌, ◌<◌, ◌-◌, ℤ, pos, ◌+ℤ◌, ◌≤ℤ◌, ◌<ℤ◌, All, List, map, length}
 use Rattle.std.specs.List.{HoldsAt}
-use Rattle.mf_rows.specs.declared.edge.Edge.{Edge}
+use Rattle.mf_edges.specs.declared.edge.Edge.{Edge}
 use Rattle.mf_rows.specs.declared.builder.OpenRow.{OpenRow}
 use Rattle.mf_rows.specs.declared.run.Run.{Run}
-use Rattle.mf_rows.specs.Edges.{EdgeRow, AreEdges, weight_in}
+use Rattle.mf_edges.specs.Edges.{AreEdges, weight_in}
+use Rattle.mf_rows.specs.EdgeRows.{EdgeRow}
 
 -- a row that gets its runs, as its edges
 abbrev pub open_row : OpenRow → EdgeRow

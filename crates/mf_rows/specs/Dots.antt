@@ -3,17 +3,13 @@
 use Rattle.std.specs.Prelude.{◌≢◌, ◌&&◌, ℤ, pos, negsuc, ◌+ℤ◌, ◌-ℤ◌, ◌*ℤ◌, ◌≤ℤ◌, List, [], ◌∷◌, if◌then◌else◌}
 use Rattle.std.specs.Ordering.{int_eq}
 use Rattle.mf_geom.specs.Field.{IsInField}
+use Rattle.mf_edges.specs.LawfulWeights.{IsLawfulWeight}
 
 -- a pixel (x, y) of nonzero weight
 pub record Dot : Type 0 where
   pub y : ℤ
   pub x : ℤ
   pub weight : ℤ
-
--- a weight is lawful in -32767..32767
-pub record IsLawfulWeight (w : ℤ) : Type 0 where
-  pub least : negsuc 32766 ≤ℤ w
-  pub greatest : w ≤ℤ pos 32767
 
 -- a dot lies in the field, and its weight is lawful and not 0
 pub record IsDot (d : Dot) : Type 0 where

@@ -1,61 +1,12 @@
--- What is left of two rows, or of two lists of rows, while their sum is made.
-use Rattle.std.specs.Prelude.{◌≡◌, ◌<◌, ◌≤◌, ℤ, pos, negsuc, ◌+ℤ◌, ◌-ℤ◌, ◌≤ℤ◌, All, List, [], ◌∷◌, ◌++◌, length, if◌then◌else◌, Option, Some, None}
+-- What is left of two lists of rows, while their sum is made.
+use Rattle.std.specs.Prelude.{◌≡◌, ℤ, pos, ◌-ℤ◌, List, [], ◌∷◌, ◌++◌, Option, Some, None}
 use Rattle.std.specs.Borrow.{Bor}
-use Rattle.std.specs.Ordering.{int_eq}
 use Rattle.mf_geom.specs.Field.{IsInField}
-use Rattle.mf_rows.specs.declared.edge.Edge.{Edge}
 use Rattle.mf_rows.specs.declared.row.Row.{Row}
 use Rattle.mf_rows.specs.Bands.{edge_row, AreAbove}
-use Rattle.mf_rows.specs.Dots.{IsLawfulWeight}
-use Rattle.mf_rows.specs.Edges.{EdgeRow, AreEdgesFrom, AreRowsFrom, weight_in}
-use Rattle.mf_rows.specs.Sums.{HaveWeights, HaveRowWeights, weight_in_all, with_edge_in}
-
--- ---- edges
-
--- the difference of two lawful weights is at most 65534 in size
-pub record IsChange (w : ℤ) : Type 0 where
-  pub least : negsuc 65533 ≤ℤ w
-  pub greatest : w ≤ℤ pos 65534
-
--- and the difference of two such changes is at most 131068
-pub record IsDifference (w : ℤ) : Type 0 where
-  pub least : negsuc 131067 ≤ℤ w
-  pub greatest : w ≤ℤ pos 131068
-
--- edges between changes of weights: sorted, and with changes that sum to 0
-pub record AreChanges (es : List Edge) : Type 0 where
-  pub sorted : AreEdgesFrom (negsuc 4094) es
-  pub changes : (x : ℤ) → IsChange (weight_in es x)
-  pub closed : weight_in es (pos 4095) ≡ pos 0
-
--- edges that are still to be added: sorted, the first of them at or right of column low
-pub record AreEdgesLeft (low : ℤ) (es : List Edge) : Type 0 where
-  pub sorted : AreEdgesFrom low es
-  pub differences : All (λ e. IsDifference e.weight) es
-
--- the first edge, if there is one, stands at or right of column x
-abbrev pub BeginFrom : ℤ → List Edge → Type 0
-BeginFrom x [] = Unit {0}
-BeginFrom x (e ∷ es) = x ≤ℤ e.x
-
--- the first edge stands at column x
-abbrev pub BeginAt : ℤ → List Edge → Type 0
-BeginAt x [] = ⊥
-BeginAt x (e ∷ es) = e.x ≡ x
-
--- the edge at column x has weight w, or none stands there and w is 0, and the others are left
-pub record IsSplitAt (es : List Edge) (x w : ℤ) (others : List Edge) : Type 0 where
-  pub weights : HaveWeights (with_edge_in others x w) es
-  pub difference : IsDifference w
-  pub left : AreEdgesLeft (x +ℤ pos 1) others
-  pub no_longer : length others ≤ length es
-  pub shorter : BeginAt x es → length others < length es
-
--- an edge, unless its weight is 0
-abbrev pub unless_zero : Edge → List Edge
-unless_zero e = if int_eq e.weight (pos 0) then [] else (e ∷ [])
-
--- ---- rows
+use Rattle.mf_edges.specs.LawfulWeights.{IsLawfulWeight}
+use Rattle.mf_rows.specs.EdgeRows.{EdgeRow, AreRowsFrom}
+use Rattle.mf_rows.specs.Sums.{HaveRowWeights, weight_in_all}
 
 -- a list has row y alone, or no row
 pub record IsRowAt (y : ℤ) (rs : List EdgeRow) : Type 0 where

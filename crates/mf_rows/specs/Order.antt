@@ -1,7 +1,8 @@
 -- Which runs may be pushed behind dots that stand already.
 use Rattle.std.specs.Prelude.{◌≢◌, ◌≤◌, pos, negsuc, ◌+ℤ◌, ◌<ℤ◌, ◌≤ℤ◌, All, List}
 use Rattle.mf_rows.specs.declared.run.Run.{Run}
-use Rattle.mf_rows.specs.Dots.{Dot, IsLawfulWeight, place}
+use Rattle.mf_edges.specs.LawfulWeights.{IsLawfulWeight}
+use Rattle.mf_rows.specs.Dots.{Dot, place}
 
 -- a run has at least one pixel, lies in the field, and its weight is lawful and not 0
 pub record IsRun (r : Run) : Type 0 where

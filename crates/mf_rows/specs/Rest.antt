@@ -2,11 +2,12 @@
 use Rattle.std.specs.Prelude.{◌≡◌, ℤ, pos, ◌+ℤ◌, ◌++◌, All, List, [], ◌∷◌}
 use Rattle.std.specs.Coded.{Unit-prop}
 use Rattle.std.proofs.Props.{props}
-use Rattle.mf_rows.specs.declared.edge.Edge.{Edge}
+use Rattle.mf_edges.specs.declared.edge.Edge.{Edge}
 use Rattle.mf_rows.specs.declared.rows.Rows.{Rows}
 use Rattle.mf_rows.specs.Bands.{edge_rows, rows_of_bands}
-use Rattle.mf_rows.specs.Dots.{IsLawfulWeight}
-use Rattle.mf_rows.specs.Edges.{weight_in, AreEdgesFrom, AreEdges, EdgeRow, IsEdgeRow}
+use Rattle.mf_edges.specs.LawfulWeights.{IsLawfulWeight}
+use Rattle.mf_edges.specs.Edges.{weight_in, AreEdgesFrom, AreEdges}
+use Rattle.mf_rows.specs.EdgeRows.{EdgeRow, IsEdgeRow}
 
 -- the edges of a row from column low on, where the weight left of them is w
 pub record IsRestOfRow (low w : ℤ) (es : List Edge) : Type 0 where

@@ -1,10 +1,10 @@
 -- Rows that were pushed for one row that is stretched.
 use Rattle.std.specs.Prelude.{◌≡◌, ℕ, zero, suc, ℤ, pos, ◌+ℤ◌, List, [], ◌∷◌, ◌++◌}
 use Rattle.std.specs.Int.RustNames.{unsigned_abs}
-use Rattle.mf_rows.specs.declared.edge.Edge.{Edge}
-use Rattle.mf_rows.specs.declared.stretch.Stretch.{Stretch}
-use Rattle.mf_rows.specs.Edges.{EdgeRow}
-use Rattle.mf_rows.specs.Moves.{stretched_to}
+use Rattle.mf_edges.specs.declared.edge.Edge.{Edge}
+use Rattle.mf_edges.specs.declared.stretch.Stretch.{Stretch}
+use Rattle.mf_rows.specs.EdgeRows.{EdgeRow}
+use Rattle.mf_edges.specs.Axes.{stretched_to}
 
 -- n rows with these edges, from the top, the lowest of which is row y
 unfoldable pub strip : ℤ → List Edge → ℕ → List EdgeRow

@@ -1,8 +1,9 @@
 -- Strips of rows of the same edges, between the heights of corners.
 use Rattle.std.specs.Prelude.{◌≡◌, ℤ, pos, negsuc, ◌≤ℤ◌, ◌<ℤ◌, All, List, [], ◌∷◌}
 use Rattle.mf_rows.specs.declared.corner.Corner.{Corner}
-use Rattle.mf_rows.specs.declared.edge.Edge.{Edge}
-use Rattle.mf_rows.specs.Edges.{EdgeRow, AreRowsFrom, weight_in, weight_in_rows}
+use Rattle.mf_edges.specs.declared.edge.Edge.{Edge}
+use Rattle.mf_edges.specs.Edges.{weight_in}
+use Rattle.mf_rows.specs.EdgeRows.{EdgeRow, AreRowsFrom, weight_in_rows}
 
 -- the height of the first of these corners, the bottom of the field where there are none
 abbrev pub first_height_of : List Corner → ℤ

@@ -1,10 +1,10 @@
--- Weights that two pictures or rows have together.
-use Rattle.std.specs.Prelude.{◌≡◌, ℤ, pos, ◌+ℤ◌, int_le, List, if◌then◌else◌}
+-- Weights that two pictures, or two lists of rows, have together.
+use Rattle.std.specs.Prelude.{◌≡◌, ℤ, ◌+ℤ◌, List}
 use Rattle.mf_geom.specs.Field.{IsInField}
-use Rattle.mf_rows.specs.declared.edge.Edge.{Edge}
-use Rattle.mf_rows.specs.Dots.{Dot, IsLawfulWeight, weight_at}
+use Rattle.mf_edges.specs.LawfulWeights.{IsLawfulWeight}
+use Rattle.mf_rows.specs.Dots.{Dot, weight_at}
 use Rattle.mf_rows.specs.Bands.{AreAbove, AreBelow}
-use Rattle.mf_rows.specs.Edges.{EdgeRow, weight_in, weight_in_rows}
+use Rattle.mf_rows.specs.EdgeRows.{EdgeRow, weight_in_rows}
 
 -- a picture has the weight f at each pixel of the field
 pub record HasWeights (f : ℤ → ℤ → ℤ) (ds : List Dot) : Type 0 where
@@ -17,10 +17,6 @@ pub record IsUnlawfulSomewhere (f : ℤ → ℤ → ℤ) : Type 0 where
   pub in_field : IsInField x y
   pub unlawful : IsLawfulWeight (f x y) → ⊥
 
--- the weight at column x of two rows together
-unfoldable pub weight_in_both : List Edge → List Edge → ℤ → ℤ
-weight_in_both es fs x = weight_in es x +ℤ weight_in fs x
-
 -- the weight of the pixel (x, y) in two lists of rows together
 unfoldable pub weight_in_all : List EdgeRow → List EdgeRow → ℤ → ℤ → ℤ
 weight_in_all rs ss x y = weight_in_rows rs x y +ℤ weight_in_rows ss x y
@@ -28,15 +24,6 @@ weight_in_all rs ss x y = weight_in_rows rs x y +ℤ weight_in_rows ss x y
 -- the weight of the pixel (x, y) of two pictures together
 unfoldable pub sum_at : List Dot → List Dot → ℤ → ℤ → ℤ
 sum_at ds es x y = weight_at ds x y +ℤ weight_at es x y
-
--- at some column the weight f is not lawful
-pub record IsUnlawfulColumn (f : ℤ → ℤ) : Type 0 where
-  pub x : ℤ
-  pub unlawful : IsLawfulWeight (f x) → ⊥
-
--- edges have the weight f at each column
-pub record HaveWeights (f : ℤ → ℤ) (es : List Edge) : Type 0 where
-  pub weights : (x : ℤ) → weight_in es x ≡ f x
 
 -- rows have the weight f at each pixel
 pub record HaveRowWeights (f : ℤ → ℤ → ℤ) (rs : List EdgeRow) : Type 0 where
@@ -50,7 +37,3 @@ pub record HaveFieldWeights (f : ℤ → ℤ → ℤ) (rs : List EdgeRow) : Type
 pub record StayWithin (rs ss sum : List EdgeRow) : Type 0 where
   pub above : (y : ℤ) → AreAbove y rs → AreAbove y ss → AreAbove y sum
   pub below : (y : ℤ) → AreBelow y rs → AreBelow y ss → AreBelow y sum
-
--- the weight at column c where an edge of weight w at column x is added to edges
-unfoldable pub with_edge_in : List Edge → ℤ → ℤ → ℤ → ℤ
-with_edge_in es x w c = weight_in es c +ℤ (if int_le x c then w else pos 0)

@@ -2,10 +2,11 @@
 use Rattle.std.specs.Prelude.{◌≡◌, ℤ, pos, negsuc, ◌+ℤ◌, ◌-ℤ◌, ◌≤ℤ◌, List, [], ◌∷◌, ◌++◌, flat_map, if◌then◌else◌}
 use Rattle.std.specs.Ordering.{int_eq}
 use Rattle.std.specs.Int.RustNames.{unsigned_abs}
-use Rattle.mf_rows.specs.declared.edge.Edge.{Edge}
+use Rattle.mf_edges.specs.declared.edge.Edge.{Edge}
 use Rattle.mf_rows.specs.declared.run.Run.{Run}
 use Rattle.mf_rows.specs.declared.runs.Runs.{Runs}
-use Rattle.mf_rows.specs.Edges.{EdgeRow, AreEdgesFrom}
+use Rattle.mf_edges.specs.Edges.{AreEdgesFrom}
+use Rattle.mf_rows.specs.EdgeRows.{EdgeRow}
 use Rattle.mf_rows.specs.Rest.{rows_left}
 
 -- the run of row y from column x, where the weight is w, up to the first of these edges; none where w is 0

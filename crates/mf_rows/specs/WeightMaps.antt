@@ -1,23 +1,9 @@
--- What becomes of weights where each of them is mapped by itself.
-use Rattle.std.specs.Prelude.{◌≡◌, ◌&&◌, ℤ, pos, neg_ℤ, int_le, List, if◌then◌else◌}
-use Rattle.mf_rows.specs.declared.weight_map.Choice.{Choice}
-use Rattle.mf_rows.specs.declared.weight_map.WeightMap.{WeightMap}
-use Rattle.mf_rows.specs.declared.weight_map.WeightMap.TheVariants as map
-use Rattle.mf_rows.specs.Dots.{Dot, IsLawfulWeight, weight_at}
-
--- the weight that weight v becomes by a choice
-abbrev pub chosen : Choice → ℤ → ℤ
-chosen c v = if int_le c.low v && int_le v c.high then c.inside else c.outside
-
--- the weight that weight v becomes
-abbrev pub mapped_to : WeightMap → ℤ → ℤ
-mapped_to map.Negate v = neg_ℤ v
-mapped_to (map.Choose c) v = chosen c v
-
--- weight 0 stays 0, and lawful weights become lawful ones
-pub record IsWeightMap (m : WeightMap) : Type 0 where
-  pub zero : mapped_to m (pos 0) ≡ pos 0
-  pub lawful : (v : ℤ) → IsLawfulWeight v → IsLawfulWeight (mapped_to m v)
+-- Pictures of which each weight is mapped by itself.
+use Rattle.std.specs.Prelude.{ℤ, List}
+use Rattle.mf_edges.specs.declared.weight_map.WeightMap.{WeightMap}
+use Rattle.mf_edges.specs.declared.weight_map.WeightMap.TheVariants as map
+use Rattle.mf_rows.specs.Dots.{Dot, weight_at}
+use Rattle.mf_edges.specs.WeightMaps.{mapped_to}
 
 -- the weight of the pixel (x, y) of a picture of which each weight is mapped
 unfoldable pub mapped_at : WeightMap → List Dot → ℤ → ℤ → ℤ

@@ -2,13 +2,13 @@
 ghost use Rattle.std.specs.Prelude.{◌≡◌, ◌≢◌, ◌⊎◌, [], IfOk, IfErr, OnOk, OnErr, IfSome, IsNone};
 ghost use Rattle.mf_rows.specs.Bands.{rows_in, rows_of_bands};
 ghost use Rattle.mf_rows.specs.BandSums.{EndsStep, IsStep, HasSum};
-ghost use Rattle.mf_rows.specs.Edges.{AreRows};
+ghost use Rattle.mf_rows.specs.EdgeRows.{AreRows};
 ghost use Rattle.mf_rows.specs.Sums.{weight_in_all, HaveRowWeights, IsUnlawfulSomewhere};
 
 use crate::band::Band;
 use crate::bands::{close_band, count_up_to, push_rows, push_shared, rows_of};
-use crate::fault::AddFault;
 use crate::row_sum::sum_of_rows;
+use mf_edges::AddFault;
 use std::alloc::Global;
 use std::sync::Arc;
 

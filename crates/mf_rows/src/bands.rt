@@ -3,12 +3,12 @@ ghost use Rattle.std.specs.Prelude.{◌≡◌, ◌++◌, ◌≤◌, pos, negsuc,
 ghost use Rattle.std.specs.Arc.{arc_value};
 ghost use Rattle.mf_rows.specs.Bands.{bottom_of, edge_row, edge_rows, rows_in, rows_of_bands, HasRow, HasNoRow, HasSameRow, AreAbove};
 ghost use Rattle.mf_rows.specs.BandSums.{AreUpTo, AreBehind, AreNumberedBehind};
-ghost use Rattle.mf_rows.specs.Edges.{AreRows};
+ghost use Rattle.mf_rows.specs.EdgeRows.{AreRows};
 ghost use Rattle.mf_rows.specs.FieldBands.{IsOfBand, AreOfBand};
 
 use crate::band::Band;
-use crate::field::FIELD_END;
 use crate::row::Row;
+use mf_edges::FIELD_END;
 use mf_geom::OutOfMemory;
 use std::alloc::Global;
 use std::mem::replace;

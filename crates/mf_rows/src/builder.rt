@@ -3,15 +3,16 @@ ghost use Rattle.std.specs.Prelude.{◌≡◌, [], ◌++◌, ◌↔◌, IsTrue, 
 ghost use Rattle.mf_rows.specs.Bands.{edge_row, edge_rows};
 ghost use Rattle.mf_rows.specs.Building.{open_row, open_rows, EndInRow, EndAt, EndsBefore, HasRun};
 ghost use Rattle.mf_rows.specs.Dots.{place};
-ghost use Rattle.mf_rows.specs.Edges.{AreEdges, AreRows, picture_of_rows};
+ghost use Rattle.mf_edges.specs.Edges.{AreEdges};
+ghost use Rattle.mf_rows.specs.EdgeRows.{AreRows, picture_of_rows};
 ghost use Rattle.mf_rows.specs.Order.{IsRun, Fits};
 ghost use Rattle.mf_rows.specs.Places.{AreBefore};
 ghost use Rattle.mf_rows.specs.Runs.{dots_of};
 
-use crate::edge::{Edge, add_edge};
 use crate::picture::Picture;
 use crate::row::Row;
 use crate::run::Run;
+use mf_edges::{Edge, add_edge};
 use mf_geom::OutOfMemory;
 use std::alloc::Global;
 use std::marker::Model;
@@ -38,7 +39,7 @@ impl Model for RowBuilder {
     ghost Value = { List Dot };
 
     ghost use Rattle.mf_rows.specs.Building.{open_rows};
-    ghost use Rattle.mf_rows.specs.Edges.{AreRows, picture_of_rows};
+    ghost use Rattle.mf_rows.specs.EdgeRows.{AreRows, picture_of_rows};
 
     ghost view = { λ b. picture_of_rows (open_rows b.rows.items) };
 

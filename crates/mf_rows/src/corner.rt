@@ -2,13 +2,13 @@
 ghost use Rattle.std.specs.Prelude.{◌≡◌, ◌+◌, ◌<◌, IfOk, OnOk, pos, negsuc, ◌≤ℤ◌, ◌<ℤ◌, drop, length};
 ghost use Rattle.mf_rows.specs.Bands.{edge_rows};
 ghost use Rattle.mf_rows.specs.Corners.{AreCorners, added_by_all};
-ghost use Rattle.mf_rows.specs.Edges.{AreEdges, AreRows};
+ghost use Rattle.mf_edges.specs.Edges.{AreEdges};
+ghost use Rattle.mf_rows.specs.EdgeRows.{AreRows};
 ghost use Rattle.mf_rows.specs.Strips.{first_height_of, ReachDownTo, HasStrip};
 ghost use Rattle.mf_rows.specs.Sums.{HaveFieldWeights};
 
-use crate::edge::{Edge, add_edge};
-use crate::field::FIELD_START;
 use crate::row::Row;
+use mf_edges::{Edge, FIELD_START, add_edge};
 use mf_geom::OutOfMemory;
 use std::alloc::Global;
 use std::cmp::Reverse;

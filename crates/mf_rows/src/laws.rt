@@ -1,8 +1,10 @@
 //! Laws of the definitions: each is the contract of a function that does nothing.
 ghost use Rattle.std.specs.Prelude.{◌≡◌, ◌≢◌, ℤ, pos, All, Contains, List, flat_map};
 ghost use Rattle.mf_geom.specs.Field.{IsInField, sum_over_field};
-ghost use Rattle.mf_rows.specs.Dots.{Dot, IsLawfulWeight, IsPicture, total_of, weight_at};
-ghost use Rattle.mf_rows.specs.Edges.{EdgeRow, AreRows, weight_in, weight_in_rows, picture_of_rows};
+ghost use Rattle.mf_edges.specs.LawfulWeights.{IsLawfulWeight};
+ghost use Rattle.mf_rows.specs.Dots.{Dot, IsPicture, total_of, weight_at};
+ghost use Rattle.mf_edges.specs.Edges.{weight_in};
+ghost use Rattle.mf_rows.specs.EdgeRows.{EdgeRow, AreRows, weight_in_rows, picture_of_rows};
 ghost use Rattle.mf_rows.specs.Runs.{dots_of, runs_of, AreMaximal, IsMaximalRun};
 ghost use Rattle.mf_rows.specs.Weights.{picture_of, HaveSameWeights};
 

@@ -1,23 +1,20 @@
 //! Pictures.
 ghost use Rattle.std.specs.Prelude.{◌≡◌, ◌≢◌, [], IsNone, IfSome, IfOk, IfErr, OnOk, OnErr, IsTrue, slice_get, ◌↔◌};
 ghost use Rattle.mf_rows.specs.Bands.{edge_rows};
-ghost use Rattle.mf_rows.specs.Edges.{AreRows};
+ghost use Rattle.mf_rows.specs.EdgeRows.{AreRows};
 
 use crate::band::Band;
 use crate::band_sum::add_bands;
 use crate::bands::{find_row, push_rows, push_shared, rows_of};
 use crate::bounds::Box4;
 use crate::corner::{Corner, rows_of_corners};
-use crate::edge::weight_at_column;
-use crate::fault::AddFault;
 use crate::row::Row;
-use crate::row_change::{RowChange, changed_rows, with_columns_stretched};
+use crate::row_change::{changed_rows, with_columns_stretched};
 use crate::row_move::{mirrored_rows, stretched_rows};
 use crate::run::Run;
 use crate::runs::Runs;
-use crate::stretch::Stretch;
 use crate::turn::turned_rows;
-use crate::weight_map::WeightMap;
+use mf_edges::{AddFault, RowChange, Stretch, WeightMap, weight_at_column};
 use mf_geom::OutOfMemory;
 use std::alloc::Global;
 use std::marker::Model;
@@ -40,7 +37,7 @@ impl Model for Picture {
     ghost Value = { List Dot };
 
     ghost use Rattle.mf_rows.specs.Bands.{rows_of_bands};
-    ghost use Rattle.mf_rows.specs.Edges.{AreRows, picture_of_rows};
+    ghost use Rattle.mf_rows.specs.EdgeRows.{AreRows, picture_of_rows};
 
     ghost view = { λ p. picture_of_rows (rows_of_bands p.bands.items) };
 
@@ -52,12 +49,14 @@ impl Picture {
     ghost use Rattle.mf_rows.specs.Bounds.{IsLeastBox};
     ghost use Rattle.mf_rows.specs.Corners.{AreCorners, with_corners_at};
     ghost use Rattle.mf_rows.specs.Dots.{IsPicture, weight_at, total_of};
-    ghost use Rattle.mf_rows.specs.Edges.{picture_of_rows};
-    ghost use Rattle.mf_rows.specs.Moves.{IsStretch, PixelsStayInside, columns_mirrored_at, rows_mirrored_at, stretched_at, turned_at};
+    ghost use Rattle.mf_rows.specs.EdgeRows.{picture_of_rows};
+    ghost use Rattle.mf_edges.specs.Axes.{IsStretch};
+    ghost use Rattle.mf_rows.specs.Moves.{PixelsStayInside, columns_mirrored_at, rows_mirrored_at, stretched_at, turned_at};
     ghost use Rattle.mf_rows.specs.Runs.{runs_of};
     ghost use Rattle.mf_rows.specs.Sums.{HasWeights, IsUnlawfulSomewhere, sum_at};
     ghost use Rattle.mf_rows.specs.Walk.{runs_left};
-    ghost use Rattle.mf_rows.specs.WeightMaps.{IsWeightMap, mapped_at};
+    ghost use Rattle.mf_edges.specs.WeightMaps.{IsWeightMap};
+    ghost use Rattle.mf_rows.specs.WeightMaps.{mapped_at};
     ghost use Rattle.mf_rows.specs.Weights.{HaveSameWeights};
 
     /// The blank picture, METAFONT's `nullpicture`: every weight is 0.

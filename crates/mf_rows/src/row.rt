@@ -1,8 +1,8 @@
 //! Rows of edges, which pictures share.
 ghost use Rattle.std.specs.Arc.{arc_value};
-ghost use Rattle.mf_rows.specs.Reaches.{HasReach, HasReach-prop};
+ghost use Rattle.mf_edges.specs.Reaches.{HasReach, HasReach-prop};
 
-use crate::edge::Edge;
+use mf_edges::Edge;
 use std::sync::Arc;
 
 mod steps;

@@ -2,29 +2,17 @@
 ghost use Rattle.std.specs.Prelude.{◌≡◌, ◌++◌, ◌≢◌, [], IfOk, OnOk};
 ghost use Rattle.mf_rows.specs.Bands.{edge_row, edge_rows};
 ghost use Rattle.mf_rows.specs.BlankRows.{unless_blank};
-ghost use Rattle.mf_rows.specs.Edges.{AreEdges, AreRows};
-ghost use Rattle.mf_rows.specs.Moves.{IsStretch};
-ghost use Rattle.mf_rows.specs.RowChanges.{RowsAllowChange, EdgesAllowChange, AreChanged, IsRowChange, changed_in_rows};
+ghost use Rattle.mf_edges.specs.Edges.{AreEdges};
+ghost use Rattle.mf_rows.specs.EdgeRows.{AreRows};
+ghost use Rattle.mf_edges.specs.Axes.{IsStretch};
+ghost use Rattle.mf_edges.specs.RowChanges.{EdgesAllowChange, AreChanged, IsRowChange};
+ghost use Rattle.mf_rows.specs.RowChanges.{RowsAllowChange, changed_in_rows};
 ghost use Rattle.mf_rows.specs.Sums.{HaveRowWeights};
 
-use crate::edge::Edge;
-use crate::edge_change::{mapped_edges, mirrored_edges, stretched_edges};
 use crate::row::Row;
-use crate::stretch::Stretch;
-use crate::weight_map::WeightMap;
+use mf_edges::{Edge, RowChange, Stretch, changed_edges};
 use mf_geom::OutOfMemory;
 use std::alloc::Global;
-
-/// A change that each row undergoes by itself.
-#[derive(Clone, Copy, Debug)]
-pub(crate) enum RowChange {
-    /// Each weight is mapped.
-    Weights(WeightMap),
-    /// The columns change sides.
-    Mirror,
-    /// The columns are stretched.
-    Columns(Stretch),
-}
 
 /// The rows after a change; rows that become blank go. Neighbours with the same edges share theirs
 /// afterwards.
@@ -81,22 +69,4 @@ pub(crate) fn push_unless_blank(rows: &mut Vec<Row>, row: &Row, y: i32) -> Resul
         rows.push(row.share_at(y)?)?;
     }
     Ok(())
-}
-
-/// The edges of a row after a change.
-fn changed_edges(
-    alloc: Global,
-    edges: &[Edge],
-    change: &RowChange,
-) -> Result<Vec<Edge>, OutOfMemory>
-    requires edges { AreEdges edges.now }
-    requires change { IsRowChange change.now }
-    requires allowed { EdgesAllowChange change.now edges.now }
-    ensures { IfOk result (λ changed. AreChanged change.now edges.now changed.items) }
-{
-    match change {
-        RowChange::Weights(map) => mapped_edges(alloc, edges, map),
-        RowChange::Mirror => mirrored_edges(alloc, edges),
-        RowChange::Columns(stretch) => stretched_edges(alloc, edges, stretch),
-    }
 }

@@ -1,14 +1,14 @@
 //! Rows that change their places.
 ghost use Rattle.std.specs.Prelude.{◌≡◌, IfOk, OnOk, pos, negsuc, ◌≤ℤ◌};
 ghost use Rattle.mf_rows.specs.Bands.{edge_row, edge_rows};
-ghost use Rattle.mf_rows.specs.Edges.{AreRows};
-ghost use Rattle.mf_rows.specs.Moves.{IsStretch, PlaceStaysInside, stretched_to};
+ghost use Rattle.mf_rows.specs.EdgeRows.{AreRows};
+ghost use Rattle.mf_edges.specs.Axes.{IsStretch, PlaceStaysInside, stretched_to};
 ghost use Rattle.mf_rows.specs.RowChanges.{AllowStretch, mirrored_in_rows, stretched_in_rows};
 ghost use Rattle.mf_rows.specs.RowMoves.{HasStretched};
 ghost use Rattle.mf_rows.specs.Sums.{HaveRowWeights};
 
 use crate::row::Row;
-use crate::stretch::Stretch;
+use mf_edges::Stretch;
 use mf_geom::OutOfMemory;
 use std::alloc::Global;
 

@@ -1,17 +1,16 @@
 //! The sum of two lists of rows.
 ghost use Rattle.std.specs.Prelude.{◌≢◌, ◌∷◌, [], IfOk, IfErr, OnOk};
 ghost use Rattle.mf_rows.specs.Bands.{edge_row, edge_rows};
-ghost use Rattle.mf_rows.specs.Edges.{AreEdges, AreRows, AreRowsFrom};
+ghost use Rattle.mf_edges.specs.Edges.{AreEdges};
+ghost use Rattle.mf_rows.specs.EdgeRows.{AreRows, AreRowsFrom};
 ghost use Rattle.mf_rows.specs.Merging.{IsRowAt, row_found, IsSplitAtHeight, HasRowSum, IsUnlawfulInRow};
-ghost use Rattle.mf_rows.specs.Reaches.{HasReach};
-ghost use Rattle.mf_rows.specs.Sums.{weight_in_all, weight_in_both, HaveRowWeights, HaveWeights, StayWithin, IsUnlawfulColumn, IsUnlawfulSomewhere};
+ghost use Rattle.mf_edges.specs.Reaches.{HasReach};
+ghost use Rattle.mf_edges.specs.Sums.{weight_in_both, HaveWeights, IsUnlawfulColumn};
+ghost use Rattle.mf_rows.specs.Sums.{weight_in_all, HaveRowWeights, StayWithin, IsUnlawfulSomewhere};
 
 use crate::bands::{count_rows_above, push_shared_rows};
-use crate::edge::Edge;
-use crate::edge_sum::{sum_of_edges, with_changes};
-use crate::fault::AddFault;
-use crate::field::MAX_WEIGHT;
 use crate::row::Row;
+use mf_edges::{AddFault, Edge, MAX_WEIGHT, sum_of_edges, with_changes};
 use std::alloc::Global;
 
 /// Most edges of a row whose places in another are found by halving; with more of them the rows are merged.

@@ -1,12 +1,13 @@
 //! Runs of pixels.
 ghost use Rattle.std.specs.Prelude.{◌≡◌, ◌≢◌, ◌↔◌, IsTrue, pos, negsuc, ◌+ℤ◌, ◌-ℤ◌, ◌≤ℤ◌};
-ghost use Rattle.mf_rows.specs.Dots.{IsLawfulWeight, total_of};
+ghost use Rattle.mf_edges.specs.LawfulWeights.{IsLawfulWeight};
+ghost use Rattle.mf_rows.specs.Dots.{total_of};
 ghost use Rattle.mf_rows.specs.Order.{IsRun};
 ghost use Rattle.mf_rows.specs.Runs.{dots_of};
 ghost use Rattle.mf_rows.specs.Widening.{box_of_run, widened};
 
 use crate::bounds::Box4;
-use crate::field::{FIELD_END, FIELD_START, is_lawful_weight};
+use mf_edges::{FIELD_END, FIELD_START, is_lawful_weight};
 
 /// `len` pixels of row `y` from column `x` to the right, all of one weight. As an answer it is maximal:
 /// neither neighbour in its row has its weight. In a picture its pixels lie in the field, so `x` and `y` are

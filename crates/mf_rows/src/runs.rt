@@ -1,13 +1,13 @@
 //! The maximal runs of a picture, one after another.
 ghost use Rattle.std.specs.Prelude.{◌≡◌, ◌≢◌, [], IfNone, IfSome, pos, negsuc};
 ghost use Rattle.mf_rows.specs.Bands.{rows_of_bands};
-ghost use Rattle.mf_rows.specs.Edges.{AreRows, picture_of_rows};
+ghost use Rattle.mf_rows.specs.EdgeRows.{AreRows, picture_of_rows};
 ghost use Rattle.mf_rows.specs.Rest.{rows_left, IsRestOfRow, IsRestOfRow-prop, AreEdgeRows, AreEdgeRows-prop};
 
 use crate::band::Band;
-use crate::edge::Edge;
 use crate::rows::Rows;
 use crate::run::Run;
+use mf_edges::Edge;
 use std::sync::Arc;
 
 /// An iterator over the maximal runs of a picture, rows from the top and columns rising. It walks the

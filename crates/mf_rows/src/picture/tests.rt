@@ -1,8 +1,8 @@
 //! What pictures share.
 use super::*;
 use crate::builder::RowBuilder;
-use crate::edge::{Edge, give_back_room};
 use crate::tests::rectangles::{corners_of, make_rectangle};
+use mf_edges::{Edge, give_back_room};
 use std::process::Abort;
 use std::test::Fail;
 

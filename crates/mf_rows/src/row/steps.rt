@@ -1,11 +1,11 @@
 //! How rows are made and shared.
 ghost use Rattle.std.specs.Prelude.{◌≡◌, IfOk, IsNone};
 ghost use Rattle.mf_rows.specs.Bands.{edge_row};
-ghost use Rattle.mf_rows.specs.Edges.{AreEdges};
-ghost use Rattle.mf_rows.specs.Reaches.{HasReach, IsAttained, StaysInReach};
+ghost use Rattle.mf_edges.specs.Edges.{AreEdges};
+ghost use Rattle.mf_edges.specs.Reaches.{HasReach, IsAttained, StaysInReach};
 
 use super::Row;
-use crate::edge::{Edge, reach_of};
+use mf_edges::{Edge, reach_of};
 use mf_geom::OutOfMemory;
 use std::alloc::Global;
 use std::sync::Arc;

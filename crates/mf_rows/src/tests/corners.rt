@@ -6,8 +6,8 @@ use super::rectangles::{
 use super::slow::{SlowPicture, both_forms};
 use super::{block, make_run, picture_of};
 use crate::bounds::Box4;
-use crate::fault::AddFault;
 use crate::picture::Picture;
+use mf_edges::AddFault;
 use std::test::Fail;
 
 #[test]

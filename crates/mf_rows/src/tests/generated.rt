@@ -3,9 +3,9 @@
 use super::chance::Chance;
 use super::slow::{SlowPicture, both_forms};
 use crate::builder::RowBuilder;
-use crate::field::FIELD_START;
 use crate::picture::Picture;
 use crate::run::Run;
+use mf_edges::FIELD_START;
 use mf_geom::OutOfMemory;
 use std::alloc::Global;
 use std::test::Fail;

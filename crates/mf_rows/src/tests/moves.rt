@@ -1,6 +1,7 @@
 //! Reflected, turned and stretched pictures, compared pixel by pixel.
 ghost use Rattle.std.specs.Prelude.{pos, negsuc, ◌≤ℤ◌};
-ghost use Rattle.mf_rows.specs.Moves.{IsStretch, PixelsStayInside};
+ghost use Rattle.mf_edges.specs.Axes.{IsStretch};
+ghost use Rattle.mf_rows.specs.Moves.{PixelsStayInside};
 
 use super::chance::Chance;
 use super::generated::{ROWS, STARTS, runs_by_chance};
@@ -8,7 +9,7 @@ use super::slow::{SlowPicture, both_forms};
 use super::{make_run, picture_of};
 use crate::picture::Picture;
 use crate::run::Run;
-use crate::stretch::Stretch;
+use mf_edges::Stretch;
 use mf_geom::OutOfMemory;
 use std::alloc::Global;
 use std::process::Abort;

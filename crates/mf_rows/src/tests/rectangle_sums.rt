@@ -3,8 +3,8 @@
 use super::chance::Chance;
 use super::rectangles::{Rectangle, make_rectangle, negated, weight_of_all, with_all, with_each};
 use super::slow::SlowPicture;
-use crate::fault::AddFault;
 use crate::picture::Picture;
+use mf_edges::AddFault;
 use mf_geom::OutOfMemory;
 use std::alloc::Global;
 use std::process::Abort;

@@ -3,8 +3,8 @@ ghost use Rattle.std.specs.Prelude.{IfOk, OnOk, ◌≡◌, pos, negsuc, ◌≤�
 ghost use Rattle.mf_rows.specs.Corners.{AreCorners};
 
 use crate::corner::Corner;
-use crate::fault::AddFault;
 use crate::picture::Picture;
+use mf_edges::AddFault;
 use mf_geom::OutOfMemory;
 use std::alloc::Global;
 use std::process::Abort;

@@ -1,13 +1,12 @@
 //! Sums of pictures, and pictures of which each weight is mapped, compared pixel by pixel.
 
 ghost use Rattle.std.specs.Prelude.{◌≡◌};
-ghost use Rattle.mf_rows.specs.WeightMaps.{IsWeightMap};
+ghost use Rattle.mf_edges.specs.WeightMaps.{IsWeightMap};
 
 use super::generated::{ROWS, SMALL_WEIGHTS, STARTS, WEIGHTS, runs_by_chance, runs_of_weights};
 use super::slow::{SlowPicture, both_forms};
-use crate::fault::AddFault;
 use crate::picture::Picture;
-use crate::weight_map::{Choice, WeightMap};
+use mf_edges::{AddFault, Choice, WeightMap};
 use mf_geom::OutOfMemory;
 use std::alloc::Global;
 use std::process::Abort;

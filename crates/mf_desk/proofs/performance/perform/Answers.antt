@@ -5,12 +5,14 @@ use Rattle.std.proofs.lemmas.List.Elements.{All-weaker}
 use Rattle.std.proofs.lemmas.Result.{IfErr-weaker, IfOk-weaker, err_from_is_err_and}
 use Rattle.mf_gf.specs.Keeping.{Keeps, limit}
 use Rattle.mf_live.specs.Desks.{desk_name}
+use Rattle.mf_desk.specs.declared.fault.RunFault.TheVariants as faults
 use Rattle.mf_desk.specs.declared.outcome.Outcome.{Outcome}
-use Rattle.mf_desk.specs.declared.watcher.Watcher.{Watcher}
+use Rattle.mf_watch.specs.declared.watcher.Watcher.{Watcher}
 use Rattle.mf_desk.specs.EndedRuns.{EndsWith, glance}
 use Rattle.mf_desk.specs.Performances.{IsPerformance, viewer_lines}
 use Rattle.mf_desk.specs.Runs.{IsLongFile}
-use Rattle.mf_desk.specs.Watchers.{IsRecord, IsWatcher}
+use Rattle.mf_desk.specs.ViewerFaults.{fault_of_start}
+use Rattle.mf_watch.specs.Watchers.{IsRecord, IsWatcher}
 use Rattle.mf_desk.proofs.Performances.{StopsEarly-script, StopsEarly-nothing, StopsEarly-no_room, StopsEarly-no_place, StopsEarly-showing, StopsEarly-long, StopsEarly-wanting, IsPerformance-over}
 use Rattle.mf_desk.proofs.performance.perform.Goals as goal
 
@@ -33,8 +35,12 @@ pub returns-in-Err-clause-fault : goal.returns-in-Err-clause-fault
 returns-in-Err-clause-fault g c =
     let settings = c.args.settings.now in
     ⊎_elim
-    (λ none. rw none.0 (StopsEarly-no_place settings c.args.viewers _ _ none.1))
-    (λ wanting. rw wanting (StopsEarly-nothing settings c.args.viewers _ _))
+    (λ none.
+    let is : c.into.result ≡ faults.NoPlace = c.into.ensures ∙ ap fault_of_start none.0 in
+    rw is (StopsEarly-no_place settings c.args.viewers _ _ none.1))
+    (λ wanting.
+    let is : c.into.result ≡ faults.OutOfMemory = c.into.ensures ∙ ap fault_of_start wanting in
+    rw is (StopsEarly-nothing settings c.args.viewers _ _))
     c.in-Err.ensures.fault
 
 pub returns-in_err-ended-clause-fault : goal.returns-in_err-ended-clause-fault

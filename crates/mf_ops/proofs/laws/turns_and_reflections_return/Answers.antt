@@ -1,5 +1,5 @@
 use Rattle.std.proofs.Common.{negsuc, ap, ◌∙◌}
-use Rattle.mf_rows.specs.Moves.{opposite}
+use Rattle.mf_edges.specs.Axes.{opposite}
 use Rattle.mf_ops.specs.Moves.{scale_source}
 use Rattle.mf_ops.proofs.Places.{opposite-opposite, scale_source-reflection}
 use Rattle.mf_ops.proofs.laws.turns_and_reflections_return.Goals as goal

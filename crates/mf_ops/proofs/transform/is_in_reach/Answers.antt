@@ -3,8 +3,8 @@ use Rattle.std.proofs.Math.Nat.{mul-le-mul}
 use Rattle.std.proofs.lemmas.Bool.{both_ways}
 use Rattle.std.proofs.lemmas.Int.{ints, to_z-of_z, unsigned_abs-mul, fits_signed_from_abs}
 use Rattle.std.specs.Int.RustNames.{unsigned_abs}
-use Rattle.mf_rows.specs.declared.stretch.Stretch.{Stretch}
-use Rattle.mf_rows.specs.Moves.{IsPointInReach, stretched_to}
+use Rattle.mf_edges.specs.declared.stretch.Stretch.{Stretch}
+use Rattle.mf_edges.specs.Axes.{IsPointInReach, stretched_to}
 use Rattle.mf_ops.proofs.transform.is_in_reach.Goals as goal
 
 size-at_most : (p : ℤ) → negsuc 4094 ≤ℤ p → p ≤ℤ pos 4095 → unsigned_abs p ≤ 4095

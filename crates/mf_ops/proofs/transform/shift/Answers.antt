@@ -1,10 +1,11 @@
 use Rattle.std.proofs.Common.{◌≡◌, ℤ, pos, ◌-ℤ◌, List, FitsSigned, w32, to_z, of_z, ◌∙◌, arith}
 use Rattle.std.proofs.lemmas.Bool.{both_ways}
 use Rattle.std.proofs.lemmas.Int.{ints, to_z-of_z}
-use Rattle.mf_rows.specs.declared.stretch.Stretch.{Stretch}
+use Rattle.mf_edges.specs.declared.stretch.Stretch.{Stretch}
 use Rattle.mf_rows.specs.Dots.{Dot, weight_at}
-use Rattle.mf_rows.specs.Moves.{source_of, stretched_at}
-use Rattle.mf_rows.proofs.Sources.{source_of-is}
+use Rattle.mf_edges.specs.Axes.{source_of}
+use Rattle.mf_rows.specs.Moves.{stretched_at}
+use Rattle.mf_edges.proofs.Sources.{source_of-is}
 use Rattle.mf_ops.specs.Step.{step_at}
 use Rattle.mf_ops.specs.declared.op.Op.TheVariants.{Shift}
 use Rattle.mf_ops.proofs.Faults.{HasWeights-same, stepped-from_weights, fault_of-from_weights, fault_of-leaves, not_out}

@@ -9,7 +9,7 @@ use Rattle.std.proofs.lemmas.List.{append-nil, map-id, nil_from_length}
 use Rattle.std.proofs.lemmas.Result.{err_from_is_err_and}
 use Rattle.mf_rows.specs.declared.band.Band.{Band}
 use Rattle.mf_rows.specs.Bands.{rows_of_bands}
-use Rattle.mf_rows.specs.Edges.{AreRows}
+use Rattle.mf_rows.specs.EdgeRows.{AreRows}
 use Rattle.mf_rows.specs.Sums.{weight_in_all, HaveRowWeights}
 use Rattle.mf_rows.proofs.BandSumsLemmas.{IsSplitAtBand, split_at_band, weights_with_rest}
 use Rattle.mf_rows.proofs.BandsAdded.{number_of_band, rest_rows, reached_rows, unlawful_where_added, rows_where_added, weights_where_added, drop_reached}

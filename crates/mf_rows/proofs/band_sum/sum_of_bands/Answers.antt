@@ -2,7 +2,7 @@ use Rattle.std.proofs.Common.{◌≡◌, to_z, of_z, w32, refl, sym, subst, ap, 
 use Rattle.std.proofs.lemmas.Int.{ints}
 use Rattle.std.proofs.lemmas.Result.{err_from_is_err_and}
 use Rattle.mf_rows.specs.Bands.{rows_of_bands}
-use Rattle.mf_rows.specs.Edges.{AreRows}
+use Rattle.mf_rows.specs.EdgeRows.{AreRows}
 use Rattle.mf_rows.specs.Sums.{weight_in_all, HaveRowWeights}
 use Rattle.mf_rows.proofs.RowSums.{sum_none, rows_left, rows_right}
 use Rattle.mf_rows.proofs.BandSumsLemmas.{IsSplitAtBand, split_at_band, fewer_bands, rows_of_first, rows_with_bands, weights_with_rest, unlawful_in_step, sum_more_bands}

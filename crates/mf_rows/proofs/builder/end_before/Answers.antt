@@ -3,7 +3,7 @@ use Rattle.std.proofs.lemmas.List.{nil_from_length}
 use Rattle.std.proofs.lemmas.List.Elements.{All-nil}
 use Rattle.mf_rows.specs.Dots.{place}
 use Rattle.mf_rows.proofs.BuildingLemmas.{IsLast, last_open_row, before_from_last, last_ends_before}
-use Rattle.mf_rows.proofs.EdgesLemmas.{picture_of_rows-none}
+use Rattle.mf_rows.proofs.EdgeRowsLemmas.{picture_of_rows-none}
 use Rattle.mf_rows.proofs.builder.end_before.Goals as goal
 
 pub ends_before-requires : goal.ends_before-requires

@@ -1,7 +1,7 @@
 use Rattle.std.proofs.Common.{Result, Ok, Err, subst, sym}
 use Rattle.std.specs.Result.{OnOk, OnErr}
 use Rattle.std.proofs.lemmas.Result.{on_ok_weaker, on_err_weaker}
-use Rattle.mf_rows.specs.Edges.{AreRows}
+use Rattle.mf_rows.specs.EdgeRows.{AreRows}
 use Rattle.mf_rows.proofs.BuildingLemmas.{last_is_last, last_open_row, last_ends_before, rows-kept_last, rows-pushed_on_last, picture-pushed_on_last}
 use Rattle.mf_rows.proofs.builder.push_on_last.Goals as goal
 

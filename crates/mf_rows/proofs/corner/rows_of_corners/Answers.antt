@@ -7,7 +7,7 @@ use Rattle.std.proofs.lemmas.List.Sorted.{answers_always}
 use Rattle.mf_rows.specs.declared.corner.Corner.{Corner}
 use Rattle.mf_rows.specs.Corners.{AreCorners, IsCorner}
 use Rattle.mf_rows.specs.Strips.{first_height_of}
-use Rattle.mf_rows.specs.Sums.{HaveWeights, with_edge_in}
+use Rattle.mf_edges.specs.Sums.{HaveWeights, with_edge_in}
 use Rattle.mf_rows.proofs.CornersLemmas.{swept_none, swept_at, swept_edges, swept_more, swept_all, level_in_field, level_order, level_edges, corner_read_back, height_read_back, corners_permuted, added_by_permuted, falling_from_sorted}
 use Rattle.mf_rows.proofs.corner.rows_of_corners.Goals as goal
 

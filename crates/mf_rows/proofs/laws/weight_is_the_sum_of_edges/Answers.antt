@@ -1,4 +1,4 @@
-use Rattle.mf_rows.proofs.EdgesLemmas.{lawful_picture_of_rows, weight_at-picture_of_rows}
+use Rattle.mf_rows.proofs.EdgeRowsLemmas.{lawful_picture_of_rows, weight_at-picture_of_rows}
 use Rattle.mf_rows.proofs.PictureRows.{weight_at-row, weight_at-other_rows}
 use Rattle.mf_rows.proofs.laws.weight_is_the_sum_of_edges.Goals as goal
 

@@ -2,7 +2,7 @@ use Rattle.std.proofs.Common.{◌≡◌, [], drop, to_z, of_z, w32, sym, ap, ◌
 use Rattle.std.proofs.lemmas.Int.{ints}
 use Rattle.std.proofs.lemmas.List.{drop_all}
 use Rattle.mf_rows.specs.Bands.{edge_row, edge_rows}
-use Rattle.mf_rows.specs.RowChanges.{AreChanged}
+use Rattle.mf_edges.specs.RowChanges.{AreChanged}
 use Rattle.mf_rows.proofs.RowChangesLemmas.{same_edges, changed-none, change_none, change_next, allowed_next, change_more, change_all}
 use Rattle.mf_rows.proofs.row_change.changed_rows.Goals.{then-ne+in_ok-changed_edges+in_ok-image-2, else-ne}
 use Rattle.mf_rows.proofs.row_change.changed_rows.Goals as goal

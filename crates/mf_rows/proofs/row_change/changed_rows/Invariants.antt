@@ -1,6 +1,6 @@
 use Rattle.std.proofs.Common.{drop}
 use Rattle.mf_rows.specs.Bands.{edge_row, edge_rows}
-use Rattle.mf_rows.specs.RowChanges.{AreChanged}
+use Rattle.mf_edges.specs.RowChanges.{AreChanged}
 use Rattle.mf_rows.proofs.RowChangesLemmas.{IsChangeSoFar}
 use Rattle.mf_rows.proofs.row_change.changed_rows.Given as goal
 

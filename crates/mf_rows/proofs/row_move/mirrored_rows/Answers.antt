@@ -2,7 +2,7 @@ use Rattle.std.proofs.Common.{◌≡◌, ◌∷◌, [], negsuc, ◌-ℤ◌, refl
 use Rattle.std.proofs.lemmas.Int.{ints}
 use Rattle.std.proofs.lemmas.List.{map-append}
 use Rattle.mf_rows.specs.Bands.{edge_row, edge_rows}
-use Rattle.mf_rows.specs.Moves.{opposite}
+use Rattle.mf_edges.specs.Axes.{opposite}
 use Rattle.mf_rows.proofs.RowMoves.{opposite_row, lawful_mirror, mirror_weights, mirror_next, mirror_last, mirror_more, mirror_all}
 use Rattle.mf_rows.proofs.row_move.mirrored_rows.Goals as goal
 

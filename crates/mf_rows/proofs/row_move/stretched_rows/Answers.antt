@@ -2,7 +2,7 @@ use Rattle.std.proofs.Common.{◌≡◌, ◌+◌, [], drop}
 use Rattle.std.proofs.lemmas.List.{drop_all}
 use Rattle.std.proofs.lemmas.List.Elements.{All-head}
 use Rattle.mf_rows.specs.Bands.{edge_row, edge_rows}
-use Rattle.mf_rows.specs.Moves.{PlaceStaysInside}
+use Rattle.mf_edges.specs.Axes.{PlaceStaysInside}
 use Rattle.mf_rows.proofs.RowStretches.{stretch_none, stretch_next, stretch_more, stretch_all}
 use Rattle.mf_rows.proofs.row_move.stretched_rows.Goals as goal
 

@@ -2,7 +2,7 @@ use Rattle.std.proofs.Common.{◌≡◌, ◌≢◌, List, [], length, to_z, of_z
 use Rattle.std.proofs.lemmas.Int.{ints}
 use Rattle.std.proofs.lemmas.List.{map_push, nil_from_length}
 use Rattle.std.proofs.lemmas.Grind.{common_steps}
-use Rattle.mf_rows.specs.declared.edge.Edge.{Edge}
+use Rattle.mf_edges.specs.declared.edge.Edge.{Edge}
 use Rattle.std.proofs.lemmas.Result.{err_from_is_err_and}
 use Rattle.mf_rows.specs.Bands.{edge_row, edge_rows}
 use Rattle.mf_rows.proofs.RowSums.{unlawful_in_row, sum_of_both-blank, sum_of_both-some}

@@ -4,8 +4,8 @@ use Rattle.std.proofs.lemmas.List.Elements.{All-nil, All-head, All-push, All-res
 use Rattle.std.proofs.lemmas.Result.{err_from_is_err_and}
 use Rattle.mf_live.specs.Entries.{Entry}
 use Rattle.mf_live.specs.Writers.{ended_name, ended_published}
-use Rattle.mf_desk.specs.declared.outcome.Glance.{Glance}
-use Rattle.mf_desk.specs.Watchers.{HasRoom, HasSeen, IsRecord, name}
+use Rattle.mf_watch.specs.declared.glance.Glance.{Glance}
+use Rattle.mf_watch.specs.Watchers.{HasRoom, HasSeen, IsRecord, name}
 use Rattle.mf_desk.proofs.Showing.{IsShown, IsShown-start, IsShown-number, IsShown-next, StopsShowing-behind, StopsShowing-line}
 use Rattle.mf_desk.proofs.ended_run.EndedRun.show_all.Goals as goal
 

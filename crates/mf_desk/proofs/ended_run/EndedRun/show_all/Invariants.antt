@@ -1,7 +1,7 @@
 use Rattle.std.proofs.Common.{◌≡◌, ◌+◌, ℕ, All, length}
 use Rattle.std.specs.Vec.Iter.{into_iter_items}
 use Rattle.mf_live.specs.Writers.{ended_name, ended_published}
-use Rattle.mf_desk.specs.Watchers.{HasRoom, HasSeen, IsRecord, name}
+use Rattle.mf_watch.specs.Watchers.{HasRoom, HasSeen, IsRecord, name}
 use Rattle.mf_desk.proofs.Showing.{IsShown}
 use Rattle.mf_desk.proofs.ended_run.EndedRun.show_all.Given as goal
 

@@ -1,6 +1,6 @@
 use Rattle.std.proofs.Common.{take, drop, sym, ap, subst, ◌+◌, take-append-drop, arith}
 use Rattle.std.proofs.lemmas.List.{length-take-le}
-use Rattle.mf_desk.specs.Watchers.{HasSeen}
+use Rattle.mf_watch.specs.Watchers.{HasSeen}
 use Rattle.mf_desk.proofs.ended_run.EndedRun.show_one.Goals as goal
 
 pub returns-in-Ok-clause-seen : goal.returns-in-Ok-clause-seen

@@ -2,11 +2,11 @@ use Rattle.std.proofs.Common.{◌≡◌, Result, Ok, Err, ◌+ℤ◌, ◌-ℤ◌
 use Rattle.std.specs.Result.{IsOk, OnErr}
 use Rattle.std.proofs.lemmas.Int.{ints}
 use Rattle.std.proofs.lemmas.Result.{on_ok_weaker}
-use Rattle.mf_rows.specs.declared.edge.Edge.{Edge}
+use Rattle.mf_edges.specs.declared.edge.Edge.{Edge}
 use Rattle.mf_rows.specs.declared.run.Run.{Run}
 use Rattle.mf_rows.specs.Building.{open_row}
 use Rattle.mf_rows.specs.Order.{IsRun}
-use Rattle.mf_rows.specs.Sums.{HaveWeights, with_edge_in}
+use Rattle.mf_edges.specs.Sums.{HaveWeights, with_edge_in}
 use Rattle.mf_rows.proofs.RunEdges.{run_begun, run_added}
 use Rattle.mf_rows.proofs.builder.OpenRow.push_run.Goals as goal
 

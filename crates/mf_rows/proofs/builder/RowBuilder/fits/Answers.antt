@@ -1,5 +1,5 @@
 use Rattle.mf_rows.specs.Building.{open_rows}
-use Rattle.mf_rows.proofs.EdgesLemmas.{lawful_picture_of_rows}
+use Rattle.mf_rows.proofs.EdgeRowsLemmas.{lawful_picture_of_rows}
 use Rattle.mf_rows.proofs.builder.RowBuilder.fits.Goals as goal
 
 pub returns-then-is_lawful-clause-lawful : goal.returns-then-is_lawful-clause-lawful

@@ -1,5 +1,5 @@
 use Rattle.std.proofs.lemmas.Result.{MatchResult-weaker, on_ok_weaker}
-use Rattle.mf_rows.proofs.EdgesLemmas.{lawful_picture_of_rows}
+use Rattle.mf_rows.proofs.EdgeRowsLemmas.{lawful_picture_of_rows}
 use Rattle.mf_rows.proofs.PictureRows.{weights_with_sum, unlawful_with_sum}
 use Rattle.mf_rows.proofs.picture.Picture.add.Goals as goal
 

@@ -1,4 +1,4 @@
-use Rattle.mf_rows.proofs.EdgesLemmas.{picture_of_rows-none}
+use Rattle.mf_rows.proofs.EdgeRowsLemmas.{picture_of_rows-none}
 use Rattle.mf_rows.proofs.picture.Picture.blank.Goals as goal
 
 pub returns : goal.returns

@@ -2,10 +2,10 @@ use Rattle.std.proofs.Common.{◌≡◌}
 use Rattle.std.proofs.lemmas.Result.{IfOk-weaker}
 use Rattle.mf_rows.specs.Bands.{edge_rows, rows_of_bands}
 use Rattle.mf_rows.specs.Dots.{IsPicture}
-use Rattle.mf_rows.specs.Edges.{picture_of_rows}
+use Rattle.mf_rows.specs.EdgeRows.{picture_of_rows}
 use Rattle.mf_rows.specs.Sums.{HasWeights}
 use Rattle.mf_rows.specs.WeightMaps.{mapped_at}
-use Rattle.mf_rows.proofs.EdgesLemmas.{lawful_picture_of_rows}
+use Rattle.mf_rows.proofs.EdgeRowsLemmas.{lawful_picture_of_rows}
 use Rattle.mf_rows.proofs.PictureRows.{weights_mapped}
 use Rattle.mf_rows.proofs.picture.Picture.map_weights.Goals as goal
 

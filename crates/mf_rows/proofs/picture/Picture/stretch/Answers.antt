@@ -1,13 +1,13 @@
 use Rattle.std.proofs.Common.{◌≡◌, sym, ap, subst, ◌∙◌}
 use Rattle.std.proofs.lemmas.Result.{IfOk-weaker}
-use Rattle.mf_rows.specs.declared.row_change.RowChange.TheVariants as change
+use Rattle.mf_edges.specs.declared.row_change.RowChange.TheVariants as change
 use Rattle.mf_rows.specs.Bands.{edge_rows, rows_of_bands}
 use Rattle.mf_rows.specs.Dots.{IsPicture}
-use Rattle.mf_rows.specs.Edges.{picture_of_rows}
+use Rattle.mf_rows.specs.EdgeRows.{picture_of_rows}
 use Rattle.mf_rows.specs.Moves.{PixelsStayInside, stretched_at}
 use Rattle.mf_rows.specs.RowChanges.{RowsAllowChange, AllowStretch, changed_in_rows, stretched_in_rows}
 use Rattle.mf_rows.specs.Sums.{HasWeights, HaveRowWeights}
-use Rattle.mf_rows.proofs.EdgesLemmas.{lawful_picture_of_rows}
+use Rattle.mf_rows.proofs.EdgeRowsLemmas.{lawful_picture_of_rows}
 use Rattle.mf_rows.proofs.StretchBounds.{columns_allowed, rows_allowed, weights_stretched}
 use Rattle.mf_rows.proofs.picture.Picture.stretch.Goals as goal
 

@@ -2,11 +2,11 @@ use Rattle.std.proofs.Common.{◌≡◌, subst, ap, ◌∙◌}
 use Rattle.std.proofs.lemmas.Result.{IfOk-weaker}
 use Rattle.mf_rows.specs.Bands.{edge_rows, rows_of_bands}
 use Rattle.mf_rows.specs.Dots.{IsPicture}
-use Rattle.mf_rows.specs.Edges.{picture_of_rows}
+use Rattle.mf_rows.specs.EdgeRows.{picture_of_rows}
 use Rattle.mf_rows.specs.Moves.{turned_at}
 use Rattle.mf_rows.specs.RowChanges.{turned_in_rows}
 use Rattle.mf_rows.specs.Sums.{HasWeights, HaveRowWeights}
-use Rattle.mf_rows.proofs.EdgesLemmas.{lawful_picture_of_rows}
+use Rattle.mf_rows.proofs.EdgeRowsLemmas.{lawful_picture_of_rows}
 use Rattle.mf_rows.proofs.PictureRows.{weights_turned}
 use Rattle.mf_rows.proofs.picture.Picture.turn.Goals as goal
 

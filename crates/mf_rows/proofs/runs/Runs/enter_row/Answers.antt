@@ -3,7 +3,7 @@ use Rattle.std.proofs.lemmas.Bool.{eqb-true}
 use Rattle.std.proofs.lemmas.Int.{ints}
 use Rattle.std.proofs.lemmas.List.{nil_from_length}
 use Rattle.std.proofs.lemmas.List.Elements.{All-rest}
-use Rattle.mf_rows.specs.Edges.{IsEdgeRow}
+use Rattle.mf_rows.specs.EdgeRows.{IsEdgeRow}
 use Rattle.mf_rows.specs.Rest.{AreEdgeRows}
 use Rattle.mf_rows.specs.Walk.{runs_of_edges}
 use Rattle.mf_rows.proofs.RunsLeft.{rest_entered, runs_entered}

@@ -6,9 +6,10 @@ use Rattle.std.specs.Int.RustNames.{unsigned_abs}
 use Rattle.std.specs.List.{All, Any}
 use Rattle.mf_rows.specs.Bounds.{IsLeastBox}
 use Rattle.mf_rows.specs.declared.bounds.Box4.{Box4}
-use Rattle.mf_rows.specs.declared.stretch.Stretch.{Stretch}
+use Rattle.mf_edges.specs.declared.stretch.Stretch.{Stretch}
 use Rattle.mf_rows.specs.Dots.{Dot, IsPicture, start_of_field}
-use Rattle.mf_rows.specs.Moves.{IsPointInReach, PlaceStaysInside, PixelsStayInside, stretched_to}
+use Rattle.mf_edges.specs.Axes.{IsPointInReach, PlaceStaysInside, stretched_to}
+use Rattle.mf_rows.specs.Moves.{PixelsStayInside}
 use Rattle.mf_rows.proofs.DotsLemmas.{dots_from-lawful}
 use Rattle.mf_rows.proofs.tests.moves.assert_stays_inside.Goals as goal
 

@@ -1,6 +1,0 @@
-use Rattle.std.proofs.Common.{◌+◌, ◌-◌}
-use Rattle.mf_desk.specs.Watchers.{IsWatcher, name}
-use Rattle.mf_desk.proofs.watcher.Watcher.watch.Given as goal
-
-abbrev pub invariant-loop-look : goal.invariant-loop-look
-invariant-loop-look g l = IsWatcher (name l.fn.self) l.look (l.looks - l.look + 1) l.watcher

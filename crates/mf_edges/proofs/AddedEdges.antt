@@ -1,0 +1,167 @@
+-- Edges after one of them was changed, removed or added.
+use Rattle.std.proofs.Common.{◌≡◌, ◌≢◌, ℕ, zero, suc, ◌<◌, ◌≤◌, ℤ, pos, negsuc, ◌+ℤ◌, ◌-ℤ◌, ◌≤ℤ◌, ◌<ℤ◌, int_le, List, [], ◌∷◌, length, get_or, add-one, Ok, Err, Bool, true, false, refl, sym, ap, ◌∙◌, arith, if◌then◌else◌}
+use Rattle.std.specs.List.{HoldsAt, insert, remove}
+use Rattle.std.specs.List.Sorted.{IsBinarySearchResult, IsSortedBy}
+use Rattle.std.specs.Ordering.{int_cmp, is_lt}
+use Rattle.std.proofs.Math.ListN.{set}
+use Rattle.std.proofs.lemmas.Cmp.{by_ranked, int_ranked, int_cmp_total}
+use Rattle.std.proofs.lemmas.Int.{ints}
+use Rattle.std.proofs.lemmas.List.{get_or_default}
+use Rattle.std.proofs.lemmas.List.Sorted.{searchable_from_sorted}
+use Rattle.mf_edges.specs.declared.edge.Edge.{Edge}
+use Rattle.mf_edges.specs.Edges.{weight_in, IsEdge, AreEdgesFrom, AreOpenEdges}
+use Rattle.mf_edges.specs.Sums.{HaveWeights, with_edge_in}
+use Rattle.mf_edges.proofs.EdgesLemmas.{weight_in-left, weight_in-right, weight_in-before, edges_from-lower}
+
+-- what an edge adds to the weight at a column
+abbrev part_at : Edge → ℤ → ℤ
+part_at e x = if int_le e.x x then e.weight else pos 0
+
+weight_in-remove : (es : List Edge) (at : ℕ) (d : Edge) (x : ℤ) → at < length es → weight_in (remove es at) x +ℤ part_at (get_or es at d) x ≡ weight_in es x
+unfolding weight_in
+weight_in-remove [] at d x lt = absurd (omega (arith, lt))
+weight_in-remove (e ∷ es) zero d x lt = omega (arith, ints)
+weight_in-remove (e ∷ es) (suc at) d x lt = omega (arith, ints, weight_in-remove es at d x (omega arith))
+
+weight_in-set : (es : List Edge) (at : ℕ) (e d : Edge) (x : ℤ) → at < length es → weight_in (set es at e) x +ℤ part_at (get_or es at d) x ≡ part_at e x +ℤ weight_in es x
+unfolding weight_in
+weight_in-set [] at e d x lt = absurd (omega (arith, lt))
+weight_in-set (f ∷ es) zero e d x lt = omega (arith, ints)
+weight_in-set (f ∷ es) (suc at) e d x lt = omega (arith, ints, weight_in-set es at e d x (omega arith))
+
+weight_in-insert : (es : List Edge) (at : ℕ) (e : Edge) (x : ℤ) → weight_in (insert es at e) x ≡ part_at e x +ℤ weight_in es x
+unfolding weight_in
+weight_in-insert es zero e x = refl
+weight_in-insert [] (suc at) e x = refl
+weight_in-insert (f ∷ es) (suc at) e x = omega (arith, ints, weight_in-insert es at e x)
+
+-- ---- order
+
+pub edges_from-at : (low : ℤ) (es : List Edge) (at : ℕ) (d : Edge) → AreEdgesFrom low es → at < length es → IsEdge (get_or es at d) × (low ≤ℤ (get_or es at d).x)
+edges_from-at low [] at d from lt = absurd (omega (arith, lt))
+edges_from-at low (e ∷ es) zero d from lt = (from.0, from.1)
+edges_from-at low (e ∷ es) (suc at) d from lt =
+    let rest = edges_from-at (e.x +ℤ pos 1) es at d from.2 (omega arith) in
+    (rest.0, omega (arith, ints, from.1, rest.1))
+
+edges_from-remove : (low : ℤ) (es : List Edge) (at : ℕ) → AreEdgesFrom low es → AreEdgesFrom low (remove es at)
+edges_from-remove low [] zero from = from
+edges_from-remove low [] (suc at) from = from
+edges_from-remove low (e ∷ es) zero from = edges_from-lower low (e.x +ℤ pos 1) es (omega (arith, ints, from.1)) from.2
+edges_from-remove low (e ∷ es) (suc at) from = (from.0, from.1, edges_from-remove (e.x +ℤ pos 1) es at from.2)
+
+edges_from-set : (low : ℤ) (es : List Edge) (at : ℕ) (e d : Edge) → AreEdgesFrom low es → at < length es → IsEdge e → e.x ≡ (get_or es at d).x → AreEdgesFrom low (set es at e)
+edges_from-set low [] at e d from lt edge same = absurd (omega (arith, lt))
+edges_from-set low (f ∷ es) zero e d from lt edge same = (edge, rw same from.1, rw same from.2)
+edges_from-set low (f ∷ es) (suc at) e d from lt edge same = (from.0, from.1, edges_from-set (f.x +ℤ pos 1) es at e d from.2 (omega arith) edge same)
+
+edges_from-insert : (low : ℤ) (es : List Edge) (at : ℕ) (e : Edge) → AreEdgesFrom low es → at ≤ length es → IsEdge e → low ≤ℤ e.x → ((k : ℕ) → k < at → (get_or es k e).x <ℤ e.x) → ((k : ℕ) → at ≤ k → k < length es → e.x <ℤ (get_or es k e).x) → AreEdgesFrom low (insert es at e)
+edges_from-insert low [] zero e from le edge right before behind = (edge, right, tt)
+edges_from-insert low [] (suc at) e from le edge right before behind = absurd (omega (arith, le))
+edges_from-insert low (f ∷ es) zero e from le edge right before behind =
+    let after = behind 0 (omega arith) (omega arith) in
+    (edge, right, (from.0, omega (arith, ints, after), from.2))
+edges_from-insert low (f ∷ es) (suc at) e from le edge right before behind =
+    let first = before 0 (omega arith) in
+    (from.0, from.1, edges_from-insert (f.x +ℤ pos 1) es at e from.2 (omega arith) edge (omega (arith, ints, first)) (λ k lt. before (suc k) (omega arith)) (λ k ge lt. behind (suc k) (omega arith) (omega arith)))
+
+-- ---- the weight of an edge is the difference between the weights at its column and before it
+
+step_at_edge : (low : ℤ) (es : List Edge) (at : ℕ) (d : Edge) → AreEdgesFrom low es → at < length es → weight_in es (get_or es at d).x ≡ weight_in es ((get_or es at d).x -ℤ pos 1) +ℤ (get_or es at d).weight
+step_at_edge low [] at d from lt = absurd (omega (arith, lt))
+step_at_edge low (e ∷ es) zero d from lt =
+    let after : e.x <ℤ (e.x +ℤ pos 1) = omega (arith, ints) in
+    omega (arith, ints, weight_in-left e es e.x (omega (arith, ints)), weight_in-right e es (e.x -ℤ pos 1) (omega (arith, ints)), weight_in-before (e.x +ℤ pos 1) es e.x from.2 after, weight_in-before (e.x +ℤ pos 1) es (e.x -ℤ pos 1) from.2 (omega (arith, ints)))
+step_at_edge low (e ∷ es) (suc at) d from lt =
+    let here = get_or es at d in
+    let right = (edges_from-at (e.x +ℤ pos 1) es at d from.2 (omega arith)).1 in
+    omega (arith, ints, step_at_edge (e.x +ℤ pos 1) es at d from.2 (omega arith), weight_in-left e es here.x (omega (arith, ints, right)), weight_in-left e es (here.x -ℤ pos 1) (omega (arith, ints, right)))
+
+-- so it fits, and a lawful weight may be added to it
+pub edge_is_small : (es : List Edge) (at : ℕ) (d : Edge) → AreOpenEdges es → at < length es → d ≡ get_or es at d → record { least : negsuc 65533 ≤ℤ d.weight; greatest : d.weight ≤ℤ pos 65534 }
+edge_is_small es at d edges lt read =
+    let here = get_or es at d in
+    let step = step_at_edge _ es at d edges.sorted lt in
+    let upper = edges.lawful here.x in
+    let lower = edges.lawful (here.x -ℤ pos 1) in
+    let weight_is = ap (λ e. e.weight) read in
+    record { least = omega (arith, ints, step, upper, lower, weight_is); greatest = omega (arith, ints, step, upper, lower, weight_is) }
+
+-- ---- the answers
+
+-- two parts of one column add up, and cancel with their weights
+parts_add : (b : Bool) (v w s : ℤ) → v +ℤ w ≡ s → (if b then s else pos 0) ≡ (if b then v else pos 0) +ℤ (if b then w else pos 0)
+parts_add true v w s is = sym is
+parts_add false v w s is = refl
+
+nothing : (b : Bool) → (if b then pos 0 else pos 0) ≡ pos 0
+nothing true = refl
+nothing false = refl
+
+module _ (es : List Edge) (at : ℕ) (edge : Edge) (w s : ℤ) (lt : at < length es) (read : edge ≡ get_or es at edge) (sum_is : edge.weight +ℤ w ≡ s) where
+  same_edge : (d : Edge) → get_or es at d ≡ edge
+  same_edge d = get_or_default es at d edge lt ∙ sym read
+
+  pub removed_weights : s ≡ pos 0 → HoldsAt (λ e. HaveWeights (with_edge_in es e.x w) (remove es at)) es at
+  unfolding with_edge_in
+  removed_weights zero_is d = rw (same_edge d) record {
+    weights = λ x.
+        let rest = rw (same_edge edge) at (weight_in-remove es at edge x lt) in
+        omega (arith, ints, rest, parts_add (int_le edge.x x) edge.weight w (pos 0) (sum_is ∙ zero_is), nothing (int_le edge.x x));
+  }
+
+  pub changed_weights : HoldsAt (λ e. HaveWeights (with_edge_in es e.x w) (set es at record { x = edge.x; weight = s })) es at
+  unfolding with_edge_in
+  changed_weights d = rw (same_edge d) record {
+    weights = λ x.
+        let rest = rw (same_edge edge) at (weight_in-set es at record { x = edge.x; weight = s } edge x lt) in
+        omega (arith, ints, rest, parts_add (int_le edge.x x) edge.weight w s sum_is);
+  }
+
+  pub changed_sorted : AreOpenEdges es → s ≢ pos 0 → AreEdgesFrom (negsuc 4094) (set es at record { x = edge.x; weight = s })
+  changed_sorted edges nonzero =
+      let here = rw (same_edge edge) at (edges_from-at _ es at edge edges.sorted lt).0 in
+      edges_from-set _ es at _ edge edges.sorted lt record { left = here.left; right = here.right; nonzero = nonzero } (ap (λ e. e.x) read)
+
+pub removed_sorted : (es : List Edge) (at : ℕ) → AreOpenEdges es → AreEdgesFrom (negsuc 4094) (remove es at)
+removed_sorted es at edges = edges_from-remove _ es at edges.sorted
+
+pub inserted_weights : (es : List Edge) (at : ℕ) (x w : ℤ) → HaveWeights (with_edge_in es x w) (insert es at record { x = x; weight = w })
+unfolding with_edge_in
+inserted_weights es at x w = record { weights = λ c. omega (arith, ints, weight_in-insert es at record { x = x; weight = w } c) }
+
+-- ---- what a search by column finds
+
+edges_rise : (low : ℤ) (es : List Edge) (k : ℕ) (d : Edge) → AreEdgesFrom low es → suc k < length es → (get_or es k d).x <ℤ (get_or es (suc k) d).x
+edges_rise low [] k d from lt = absurd (omega (arith, lt))
+edges_rise low (e ∷ es) zero d from lt = omega (arith, ints, (edges_from-at (e.x +ℤ pos 1) es zero d from.2 (omega arith)).1)
+edges_rise low (e ∷ es) (suc k) d from lt = edges_rise (e.x +ℤ pos 1) es k d from.2 (omega arith)
+
+not_lower : (a b : ℤ) → b ≤ℤ a → is_lt (int_cmp a b) ≡ false
+not_lower a b le =
+    by_ranked _ _ _ (int_cmp a b) (int_ranked a b (int_cmp a b) refl)
+    (λ less under. absurd (omega (arith, ints, under)))
+    (λ equal same. ap is_lt equal)
+    (λ greater over. ap is_lt greater)
+
+columns_sorted : (es : List Edge) → AreOpenEdges es → IsSortedBy (λ e f. is_lt (int_cmp e.x f.x)) es
+columns_sorted es edges k d le lt =
+    let rise = edges_rise _ es k d edges.sorted (omega arith) in
+    rw add-one (not_lower (get_or es (suc k) d).x (get_or es k d).x (omega (arith, ints, rise)))
+
+pub found_column : (es : List Edge) (x : ℤ) (at : ℕ) (d : Edge) → IsBinarySearchResult (λ e. int_cmp e.x x) es (Ok at) → (get_or es at d).x ≡ x
+found_column es x at d found = int_ranked _ x _ (sym (found d))
+
+-- where none stands at a column, edges stand on both sides of it
+pub inserted_sorted : (es : List Edge) (x w : ℤ) (at : ℕ) → AreOpenEdges es → at ≤ length es → negsuc 4094 ≤ℤ x → x ≤ℤ pos 4095 → w ≢ pos 0 → IsBinarySearchResult (λ e. int_cmp e.x x) es (Err at) → AreEdgesFrom (negsuc 4094) (insert es at record { x = x; weight = w })
+inserted_sorted es x w at edges le left right nonzero parted =
+    let sides = parted (searchable_from_sorted int_cmp_total (λ (e : Edge). e.x) es x (columns_sorted es edges)) in
+    let e : Edge = record { x = x; weight = w } in
+    edges_from-insert _ es at e edges.sorted le record { left = left; right = right; nonzero = nonzero } left
+    (λ k lt. int_ranked _ x _ (sym (sides.0 k e (omega arith) lt)))
+    (λ k ge lt. int_ranked _ x _ (sym (sides.1 k e ge lt)))
+
+-- a weight of 0 changes nothing
+pub nothing_added : (es : List Edge) (x : ℤ) → HaveWeights (with_edge_in es x (pos 0)) es
+unfolding with_edge_in
+nothing_added es x = record { weights = λ c. omega (arith, ints, nothing (int_le x c)) }

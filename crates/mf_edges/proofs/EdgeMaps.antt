@@ -1,0 +1,112 @@
+-- A row of edges of which each weight is mapped, edge by edge.
+use Rattle.std.proofs.Common.{◌≡◌, ℕ, ◌+◌, ◌<◌, ℤ, pos, negsuc, ◌+ℤ◌, ◌-ℤ◌, ◌≤ℤ◌, ◌<ℤ◌, List, [], ◌∷◌, ◌++◌, length, drop, get_or, refl, subst, sym, ap, ◌∙◌, arith}
+use Rattle.std.specs.List.{All}
+use Rattle.std.proofs.lemmas.Int.{ints, by_lt_z}
+use Rattle.std.proofs.lemmas.List.{drop_more}
+use Rattle.std.proofs.lemmas.List.Elements.{All-nil}
+use Rattle.mf_edges.specs.declared.edge.Edge.{Edge}
+use Rattle.mf_edges.specs.declared.row_change.RowChange.TheVariants.{Weights}
+use Rattle.mf_edges.specs.declared.weight_map.WeightMap.{WeightMap}
+use Rattle.mf_edges.specs.LawfulWeights.{IsLawfulWeight}
+use Rattle.mf_edges.specs.Edges.{weight_in, AreEdgesFrom, AreEdges}
+use Rattle.mf_edges.specs.Merging.{unless_zero}
+use Rattle.mf_edges.specs.RowChanges.{changed_in, AreChanged}
+use Rattle.mf_edges.specs.WeightMaps.{mapped_to, IsWeightMap}
+use Rattle.mf_edges.proofs.EdgesLemmas.{weight_in-left, weight_in-right, weight_in-before}
+use Rattle.mf_edges.proofs.EdgeSums.{with_edge_in-before, with_edge_in-behind, weight_in-push, sorted_push, before_push, zero_lawful, IsColumnFrom}
+
+-- left of a column, edges have the mapped weights of a row, of which the rest of the edges are still to come; at and
+-- behind the column, the row without the rest has the running weight, and the edges have its image
+pub record IsMappedSoFar (m : WeightMap) (es mapped rest : List Edge) (weight image : ℤ) : Type 0 where
+  pub low : ℤ
+  pub left : AreEdgesFrom low rest
+  pub sorted : AreEdgesFrom (negsuc 4094) mapped
+  pub before : All (λ e. e.x <ℤ low) mapped
+  pub weights : (x : ℤ) → x <ℤ low → weight_in mapped x ≡ mapped_to m (weight_in es x)
+  pub sum : (x : ℤ) → low ≤ℤ x → weight_in es x ≡ weight +ℤ weight_in rest x
+  pub running : (x : ℤ) → low ≤ℤ x → weight_in mapped x ≡ image
+  pub lawful : IsLawfulWeight weight
+  pub image_is : image ≡ mapped_to m weight
+
+pub mapped_none : (m : WeightMap) (es : List Edge) → AreEdges es → IsWeightMap m → IsMappedSoFar m es [] es (pos 0) (pos 0)
+unfolding weight_in
+mapped_none m es row map = record {
+  low = negsuc 4094;
+  left = row.sorted;
+  sorted = tt;
+  before = All-nil (λ e. e.x <ℤ negsuc 4094);
+  weights = λ x before. sym (ap (mapped_to m) (weight_in-before (negsuc 4094) es x row.sorted before) ∙ map.zero);
+  sum = λ x behind. omega (arith, ints);
+  running = λ x behind. refl;
+  lawful = zero_lawful;
+  image_is = sym map.zero;
+}
+
+pub mapped_read : (m : WeightMap) (es mapped : List Edge) (i : ℕ) (d : Edge) (weight image : ℤ) → i < length es → IsMappedSoFar m es mapped (drop i es) weight image → IsMappedSoFar m es mapped (get_or es i d ∷ drop (i + 1) es) weight image
+mapped_read m es mapped i d weight image inside so_far = subst (λ rest. IsMappedSoFar m es mapped rest weight image) (drop_more es i d inside) so_far
+
+-- where the rest adds nothing, the edges have the mapped weight of the row
+mapped_where_none : (m : WeightMap) (es mapped rest : List Edge) (weight image : ℤ) → IsMappedSoFar m es mapped rest weight image → (x : ℤ) → weight_in rest x ≡ pos 0 → weight_in mapped x ≡ mapped_to m (weight_in es x)
+mapped_where_none m es mapped rest weight image so_far x none =
+    by_lt_z x so_far.low (so_far.weights x) (λ behind.
+    let sum = so_far.sum x behind in
+    let weight_is : weight ≡ weight_in es x = omega (arith, ints) in
+    so_far.running x behind ∙ (so_far.image_is ∙ ap (mapped_to m) weight_is))
+
+module _ (m : WeightMap) (es mapped : List Edge) (e : Edge) (rest : List Edge) (weight image : ℤ) (so_far : IsMappedSoFar m es mapped (e ∷ rest) weight image) where
+  reach : IsColumnFrom so_far.low e.x
+  reach = record { from = so_far.left.1; left = so_far.left.0.left; right = so_far.left.0.right }
+
+  weight_here : weight_in es e.x ≡ weight +ℤ e.weight
+  weight_here =
+      let sum = so_far.sum e.x reach.from in
+      let first = weight_in-left e rest e.x (omega (arith, ints)) in
+      let none = weight_in-before (e.x +ℤ pos 1) rest e.x so_far.left.2 (omega (arith, ints)) in
+      omega (arith, ints)
+
+  pub lawful_more : AreEdges es → IsLawfulWeight (weight +ℤ e.weight)
+  lawful_more row = subst IsLawfulWeight weight_here (row.lawful e.x)
+
+  module _ (next : ℤ) (next_is : next ≡ mapped_to m (weight +ℤ e.weight)) where
+    running_more : (x : ℤ) → e.x ≤ℤ x → weight_in (mapped ++ unless_zero (record { x = e.x; weight = next -ℤ image })) x ≡ next
+    running_more x behind =
+        let old = so_far.running x (omega (arith, ints, reach.from)) in
+        let more = weight_in-push mapped e.x (next -ℤ image) x ∙ with_edge_in-behind mapped e.x (next -ℤ image) x behind in
+        omega (arith, ints)
+
+    weights_before : (x : ℤ) → x <ℤ e.x → weight_in (mapped ++ unless_zero (record { x = e.x; weight = next -ℤ image })) x ≡ mapped_to m (weight_in es x)
+    weights_before x before =
+        let none : weight_in (e ∷ rest) x ≡ pos 0 = weight_in-right e rest x before ∙ weight_in-before (e.x +ℤ pos 1) rest x so_far.left.2 (omega (arith, ints)) in
+        weight_in-push mapped e.x (next -ℤ image) x ∙ (with_edge_in-before mapped e.x (next -ℤ image) x before ∙ mapped_where_none m es mapped (e ∷ rest) weight image so_far x none)
+
+    weights_here : (x : ℤ) → x ≡ e.x → weight_in (mapped ++ unless_zero (record { x = e.x; weight = next -ℤ image })) x ≡ mapped_to m (weight_in es x)
+    weights_here x here = rw here (running_more e.x (omega (arith, ints)) ∙ (next_is ∙ ap (mapped_to m) (sym weight_here)))
+
+    pub mapped_more : AreEdges es → IsMappedSoFar m es (mapped ++ unless_zero (record { x = e.x; weight = next -ℤ image })) rest (weight +ℤ e.weight) next
+    mapped_more row = record {
+      low = e.x +ℤ pos 1;
+      left = so_far.left.2;
+      sorted = sorted_push mapped so_far.low e.x (next -ℤ image) so_far.sorted so_far.before reach;
+      before = before_push mapped so_far.low e.x (next -ℤ image) so_far.before reach.from;
+      weights = λ x before. by_lt_z x e.x (weights_before x) (λ behind. weights_here x (omega (arith, ints)));
+      sum = λ x behind.
+          let old = so_far.sum x (omega (arith, ints, reach.from)) in
+          let first = weight_in-left e rest x (omega (arith, ints)) in
+          omega (arith, ints);
+      running = λ x behind. running_more x (omega (arith, ints));
+      lawful = lawful_more row;
+      image_is = next_is;
+    }
+
+pub mapped_all : (m : WeightMap) (es mapped : List Edge) (weight image : ℤ) → AreEdges es → IsWeightMap m → IsMappedSoFar m es mapped [] weight image → AreChanged (Weights m) es mapped
+unfolding weight_in changed_in
+mapped_all m es mapped weight image row map so_far =
+    let weights : (x : ℤ) → weight_in mapped x ≡ mapped_to m (weight_in es x) = λ x. mapped_where_none m es mapped [] weight image so_far x refl in
+    record {
+      edges = record {
+        sorted = so_far.sorted;
+        lawful = λ x. rw (weights x) (map.lawful (weight_in es x) (row.lawful x));
+        closed = weights (pos 4095) ∙ (ap (mapped_to m) row.closed ∙ map.zero);
+      };
+      weights = record { weights = weights };
+    }

@@ -1,0 +1,30 @@
+-- Lists whose heights fall, and what a partition point says of a list.
+use Rattle.std.proofs.Common.{◌≡◌, ℕ, zero, suc, ◌+◌, ◌<◌, ◌≤◌, ℤ, ◌≤ℤ◌, ◌<ℤ◌, List, [], ◌∷◌, Bool, true, length, take, drop, get_or, arith}
+use Rattle.std.specs.List.{All, AllWithin}
+use Rattle.std.specs.List.Sorted.{IsPartitionedBy}
+use Rattle.std.proofs.lemmas.Int.{ints}
+use Rattle.std.proofs.lemmas.List.{get_or-take, get_or-drop, length-take-le, length-drop}
+
+-- each height is below all before it
+abbrev pub Falls : {X : Type 0} → (X → ℤ) → List X → Type 0
+Falls f [] = Unit {0}
+Falls f (x ∷ xs) = All (λ y. f y <ℤ f x) xs × Falls f xs
+
+-- a test that passes with every height above one that passes is passed by the first elements
+pub IsPartitionedBy-falls : {X : Type 0} (f : X → ℤ) (p : X → Bool) → ((a b : X) → f a ≤ℤ f b → p a ≡ true → p b ≡ true) → (xs : List X) → Falls f xs → IsPartitionedBy p xs
+IsPartitionedBy-falls f p up [] falls i j d le lt e = absurd (omega arith)
+IsPartitionedBy-falls f p up (x ∷ xs) falls zero zero d le lt e = e
+IsPartitionedBy-falls f p up (x ∷ xs) falls zero (suc j) d le lt e =
+    let lower = falls.0 j d (omega arith) in
+    up (get_or xs j d) x (omega (arith, ints)) e
+IsPartitionedBy-falls f p up (x ∷ xs) falls (suc i) zero d le lt e = absurd (omega arith)
+IsPartitionedBy-falls f p up (x ∷ xs) falls (suc i) (suc j) d le lt e = IsPartitionedBy-falls f p up xs falls.1 i j d (omega arith) (omega arith) e
+
+-- what a partition point says of the elements before it, and of those behind it
+pub All-take_within : {X : Type 0} (P : X → Type 0) (xs : List X) (n : ℕ) → n ≤ length xs → AllWithin P xs 0 n → All P (take n xs)
+All-take_within P xs n le within k d lt =
+    let inside : k < n = omega (arith, length-take-le n xs le) in
+    rw (get_or-take n xs k d inside) (within k d (omega arith) inside)
+
+pub All-drop_within : {X : Type 0} (P : X → Type 0) (xs : List X) (n : ℕ) → AllWithin P xs n (length xs) → All P (drop n xs)
+All-drop_within P xs n within k d lt = rw get_or-drop (within (n + k) d (omega arith) (omega (arith, length-drop n xs)))

@@ -1,0 +1,9 @@
+pub mod AddedEdges
+pub mod EdgeChanges
+pub mod EdgeMaps
+pub mod EdgeSums
+pub mod EdgesLemmas
+pub mod Falls
+pub mod ReachesLemmas
+pub mod Sources
+pub mod SumsBefore

@@ -1,0 +1,67 @@
+-- Where a pixel of a stretched axis comes from.
+use Rattle.std.proofs.Common.{◌≡◌, ◌+◌, ◌*◌, ◌≤◌, mul-le-mul_right, ℤ, pos, negsuc, ◌+ℤ◌, ◌-ℤ◌, ◌*ℤ◌, ◌≤ℤ◌, ◌<ℤ◌, arith}
+use Rattle.std.specs.Int.{int_div_euclid}
+use Rattle.std.proofs.lemmas.Int.{ints, by_lt_z}
+use Rattle.mf_geom.proofs.Products.{mul-add}
+use Rattle.mf_edges.specs.declared.stretch.Stretch.{Stretch}
+use Rattle.mf_edges.specs.Axes.{IsStretch, stretched_to, source_of}
+use borrow.Author.Differences.{up, down}
+
+-- a product with a positive factor keeps the order
+mul-le : (a b f : ℤ) → pos 1 ≤ℤ f → a ≤ℤ b → (a *ℤ f) ≤ℤ (b *ℤ f)
+mul-le a b (pos n) positive le =
+    let parts : up a + down b ≤ up b + down a = omega (arith, ints) in
+    let times : (up a + down b) * n ≤ (up b + down a) * n = mul-le-mul_right n parts in
+    omega (arith, ints)
+mul-le a b (negsuc n) positive le = absurd (omega (arith, ints))
+
+mul-next : (a f : ℤ) → (a +ℤ pos 1) *ℤ f ≡ (a *ℤ f) +ℤ f
+mul-next a f = omega (arith, ints, mul-add f a (pos 1))
+
+-- the quotient times the divisor, and the next multiple
+quotient-within : (d f : ℤ) → pos 1 ≤ℤ f → ((int_div_euclid d f *ℤ f) ≤ℤ d) × (d <ℤ ((int_div_euclid d f *ℤ f) +ℤ f))
+quotient-within (pos a) (pos n) positive = (omega (arith, ints), omega (arith, ints))
+quotient-within (negsuc a) (pos n) positive = (omega (arith, ints), omega (arith, ints))
+quotient-within d (negsuc n) positive = absurd (omega (arith, ints))
+
+-- points keep their order
+pub stretched_to-le : (s : Stretch) (a b : ℤ) → IsStretch s → a ≤ℤ b → stretched_to s a ≤ℤ stretched_to s b
+stretched_to-le s a b stretch le = omega (arith, ints, mul-le a b s.factor stretch.least le)
+
+-- the next point is a factor further
+pub stretched_to-next : (s : Stretch) (p : ℤ) → stretched_to s (p +ℤ pos 1) ≡ stretched_to s p +ℤ s.factor
+stretched_to-next s p = omega (arith, ints, mul-next p s.factor)
+
+pub stretched_to-lt : (s : Stretch) (a b : ℤ) → IsStretch s → a <ℤ b → stretched_to s a <ℤ stretched_to s b
+stretched_to-lt s a b stretch lt =
+    let least = stretch.least in
+    let next = stretched_to-next s a in
+    let after = stretched_to-le s (a +ℤ pos 1) b stretch (omega (arith, ints)) in
+    omega (arith, ints)
+
+-- a pixel stands at or right of a point where that is taken to the pixel's stretch or left of it
+pub source_of-reached : (s : Stretch) (p q : ℤ) → IsStretch s → p ≤ℤ source_of s q → stretched_to s p ≤ℤ q
+unfolding source_of
+source_of-reached s p q stretch le =
+    let within = quotient-within (q -ℤ s.offset) s.factor stretch.least in
+    let product = mul-le p (source_of s q) s.factor stretch.least le in
+    omega (arith, ints)
+
+pub source_of-from : (s : Stretch) (p q : ℤ) → IsStretch s → stretched_to s p ≤ℤ q → p ≤ℤ source_of s q
+unfolding source_of
+source_of-from s p q stretch le =
+    by_lt_z (source_of s q) p
+    (λ lt.
+    let within = quotient-within (q -ℤ s.offset) s.factor stretch.least in
+    let product = mul-le (source_of s q +ℤ pos 1) p s.factor stretch.least (omega (arith, ints)) in
+    let next = mul-next (source_of s q) s.factor in
+    absurd (omega (arith, ints)))
+    (λ ge. ge)
+
+-- so the pixel comes from the one whose stretch has it, and from no other
+pub source_of-is : (s : Stretch) (p q : ℤ) → IsStretch s → stretched_to s p ≤ℤ q → q <ℤ stretched_to s (p +ℤ pos 1) → source_of s q ≡ p
+source_of-is s p q stretch start behind =
+    let from = source_of-from s p q stretch start in
+    by_lt_z p (source_of s q)
+    (λ lt. let next = source_of-reached s (p +ℤ pos 1) q stretch (omega (arith, ints)) in absurd (omega (arith, ints)))
+    (λ ge. omega (arith, ints))

@@ -1,0 +1,9 @@
+pub mod Axes
+pub mod Edges
+pub mod LawfulWeights
+pub mod Merging
+pub mod Reaches
+pub mod RowChanges
+pub mod Sums
+pub mod SumsSoFar
+pub mod WeightMaps

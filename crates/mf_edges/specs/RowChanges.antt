@@ -1,0 +1,36 @@
+-- The edges of a row that is changed by itself.
+use Rattle.std.specs.Prelude.{ℤ, All, List}
+use Rattle.mf_edges.specs.declared.edge.Edge.{Edge}
+use Rattle.mf_edges.specs.declared.row_change.RowChange.{RowChange}
+use Rattle.mf_edges.specs.declared.row_change.RowChange.TheVariants as change
+use Rattle.mf_edges.specs.Edges.{AreEdges, weight_in}
+use Rattle.mf_edges.specs.Axes.{opposite, source_of, stretched_to, IsStretch, IsPointInReach}
+use Rattle.mf_edges.specs.Sums.{HaveWeights}
+use Rattle.mf_edges.specs.WeightMaps.{mapped_to, IsWeightMap}
+
+-- the weight at column x of a changed row, from the weights that it had
+abbrev pub row_image : RowChange → (ℤ → ℤ) → ℤ → ℤ
+row_image (change.Weights m) f x = mapped_to m (f x)
+row_image change.Mirror f x = f (opposite x)
+row_image (change.Columns s) f x = f (source_of s x)
+
+-- what a change needs
+abbrev pub IsRowChange : RowChange → Type 0
+IsRowChange (change.Weights m) = IsWeightMap m
+IsRowChange change.Mirror = Unit {0}
+IsRowChange (change.Columns s) = IsStretch s
+
+-- what it needs of the edges of a row: no stretch leaves the field
+abbrev pub EdgesAllowChange : RowChange → List Edge → Type 0
+EdgesAllowChange (change.Weights m) es = Unit {0}
+EdgesAllowChange change.Mirror es = Unit {0}
+EdgesAllowChange (change.Columns s) es = All (λ e. IsPointInReach (stretched_to s e.x)) es
+
+-- the weight at column x of a row after a change
+unfoldable pub changed_in : RowChange → List Edge → ℤ → ℤ
+changed_in c es x = row_image c (weight_in es) x
+
+-- edges have the weights of a changed row
+pub record AreChanged (c : RowChange) (es new : List Edge) : Type 0 where
+  pub edges : AreEdges new
+  pub weights : HaveWeights (changed_in c es) new

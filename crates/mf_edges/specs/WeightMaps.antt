@@ -1,0 +1,20 @@
+-- What becomes of weights where each of them is mapped by itself.
+use Rattle.std.specs.Prelude.{◌≡◌, ◌&&◌, ℤ, pos, neg_ℤ, int_le, if◌then◌else◌}
+use Rattle.mf_edges.specs.declared.weight_map.Choice.{Choice}
+use Rattle.mf_edges.specs.declared.weight_map.WeightMap.{WeightMap}
+use Rattle.mf_edges.specs.declared.weight_map.WeightMap.TheVariants as map
+use Rattle.mf_edges.specs.LawfulWeights.{IsLawfulWeight}
+
+-- the weight that weight v becomes by a choice
+abbrev pub chosen : Choice → ℤ → ℤ
+chosen c v = if int_le c.low v && int_le v c.high then c.inside else c.outside
+
+-- the weight that weight v becomes
+abbrev pub mapped_to : WeightMap → ℤ → ℤ
+mapped_to map.Negate v = neg_ℤ v
+mapped_to (map.Choose c) v = chosen c v
+
+-- weight 0 stays 0, and lawful weights become lawful ones
+pub record IsWeightMap (m : WeightMap) : Type 0 where
+  pub zero : mapped_to m (pos 0) ≡ pos 0
+  pub lawful : (v : ℤ) → IsLawfulWeight v → IsLawfulWeight (mapped_to m v)

@@ -1,0 +1,136 @@
+//! The sum of two rows of edges.
+ghost use Rattle.std.specs.Prelude.{◌≡◌, ◌≢◌, ◌≤◌, negsuc, ◌<ℤ◌, IfOk, IfErr, All, drop, length, take};
+ghost use Rattle.mf_edges.specs.LawfulWeights.{IsLawfulWeight};
+ghost use Rattle.mf_edges.specs.Edges.{AreEdges, AreEdgesFrom};
+ghost use Rattle.mf_edges.specs.Merging.{AreChanges, AreEdgesLeft, BeginFrom, IsDifference, IsSplitAt};
+ghost use Rattle.mf_edges.specs.Reaches.{AddInReach};
+ghost use Rattle.mf_edges.specs.SumsSoFar.{ArePassed, AreStopped};
+ghost use Rattle.mf_edges.specs.Sums.{weight_in_both, HaveWeights, IsUnlawfulColumn};
+
+use crate::edge::{Edge, give_back_room, push_unless_zero};
+use crate::fault::AddFault;
+use crate::field::is_lawful_weight;
+use mf_geom::OutOfMemory;
+use std::alloc::Global;
+
+/// The edges of a row and of what is added to it together. Refused with WeightTooLarge where a weight
+/// between them would pass 32767 in size.
+pub fn sum_of_edges(alloc: Global, left: &[Edge], right: &[Edge]) -> Result<Vec<Edge>, AddFault>
+    requires left { AreEdges left.now }
+    requires right { AreChanges right.now }
+    ensures edges { IfOk result (λ sum. AreEdges sum.items) }
+    ensures weights { IfOk result (λ sum. HaveWeights (weight_in_both left.now right.now) sum.items) }
+    ensures too_large { IfErr result (λ fault. fault ≢ AddFault.OutOfMemory → IsUnlawfulColumn (weight_in_both left.now right.now)) }
+{
+    let mut sum = Vec::new(alloc);
+    sum.reserve(left.len() + right.len())?;
+    let (mut left, mut right) = (left, right);
+    let mut weight = 0;
+    while let Some((change, changes)) = right.split_first() {
+        let passed = pass_edges(left, change.x, weight)?;
+        let (kept, others) = left.split_at(passed.count);
+        sum.extend_from_slice(kept)?;
+        let (edge, rest) = split_at(others, change.x);
+        let more = edge + change.weight;
+        weight = passed.weight + more;
+        if !is_lawful_weight(weight) {
+            return Err(AddFault::WeightTooLarge);
+        }
+        push_unless_zero(
+            &mut sum,
+            Edge {
+                x: change.x,
+                weight: more,
+            },
+        )?;
+        (left, right) = (rest, changes);
+    }
+    sum.extend_from_slice(left)?;
+    give_back_room(&mut sum);
+    Ok(sum)
+}
+
+/// The edges of a row and of what is added to it together: no weight can pass 32767 in size, so none between them is
+/// looked at, and the place of each change is found by halving.
+pub fn with_changes(alloc: Global, left: &[Edge], right: &[Edge]) -> Result<Vec<Edge>, OutOfMemory>
+    requires left { AreEdges left.now }
+    requires right { AreEdges right.now }
+    requires reach { AddInReach left.now right.now }
+    ensures edges { IfOk result (λ sum. AreEdges sum.items) }
+    ensures weights { IfOk result (λ sum. HaveWeights (weight_in_both left.now right.now) sum.items) }
+{
+    let mut edges = Vec::new(alloc);
+    edges.reserve(left.len() + right.len())?;
+    let (mut left, mut right) = (left, right);
+    while let Some((change, changes)) = right.split_first() {
+        let (kept, others) = left.split_at(count_left_of(left, change.x));
+        edges.extend_from_slice(kept)?;
+        let (edge, rest) = split_at(others, change.x);
+        push_unless_zero(
+            &mut edges,
+            Edge {
+                x: change.x,
+                weight: edge + change.weight,
+            },
+        )?;
+        (left, right) = (rest, changes);
+    }
+    edges.extend_from_slice(left)?;
+    Ok(edges)
+}
+
+/// How many edges, the first ones, stand left of column x.
+fn count_left_of(edges: &[Edge], x: i32) -> usize
+    requires { AreEdgesFrom (negsuc 4094) edges.now }
+    ensures within { result ≤ length edges.now }
+    ensures left { All (λ edge. edge.x <ℤ x) (take result edges.now) }
+    ensures others { BeginFrom x (drop result edges.now) }
+{
+    edges.partition_point(|edge| edge.x < x)
+}
+
+/// Edges that were passed: how many, and the weight behind them.
+#[derive(Clone, Copy)]
+struct Passed {
+    count: usize,
+    weight: i32,
+}
+
+/// Passes the edges left of column x, from this weight on. Refused with WeightTooLarge where a weight between
+/// them passes 32767 in size.
+fn pass_edges(edges: &[Edge], x: i32, weight: i32) -> Result<Passed, AddFault>
+    requires differences { All (λ edge. IsDifference edge.weight) edges.now }
+    requires weight { IsLawfulWeight weight }
+    ensures within { IfOk result (λ passed. passed.count ≤ length edges.now) }
+    ensures stops { IfOk result (λ passed. BeginFrom x (drop passed.count edges.now)) }
+    ensures passed { IfOk result (λ passed. ArePassed edges.now x weight passed.count passed.weight) }
+    ensures too_large { IfErr result (λ _. AreStopped edges.now x weight) }
+{
+    let mut passed = Passed { count: 0, weight };
+    for edge in edges {
+        if x <= edge.x {
+            break;
+        }
+        let next = passed.weight + edge.weight;
+        if !is_lawful_weight(next) {
+            return Err(AddFault::WeightTooLarge);
+        }
+        passed = Passed {
+            count: passed.count + 1,
+            weight: next,
+        };
+    }
+    Ok(passed)
+}
+
+/// The weight of the edge at a column, 0 where the first edge stands behind it, and the edges behind the
+/// column.
+fn split_at(edges: &[Edge], x: i32) -> (i32, &[Edge])
+    requires { AreEdgesLeft x edges.now }
+    ensures { IsSplitAt edges.now x result.0 result.1.now }
+{
+    match edges.split_first() {
+        Some((edge, rest)) if edge.x == x => (edge.weight, rest),
+        _ => (0, edges),
+    }
+}

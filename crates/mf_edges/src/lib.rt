@@ -1,0 +1,20 @@
+//! The edges of a row of a METAFONT picture: the columns at which its weights change.
+#![tactic(auto)]
+
+mod edge;
+mod edge_change;
+mod edge_sum;
+mod fault;
+mod field;
+mod row_change;
+mod stretch;
+mod weight_map;
+
+pub use edge::{Edge, add_edge, give_back_room, push_unless_zero, reach_of, weight_at_column};
+pub use edge_sum::{sum_of_edges, with_changes};
+pub use fault::AddFault;
+pub use field::{FIELD_END, FIELD_START, MAX_WEIGHT, is_lawful_weight};
+pub use mf_geom::OutOfMemory;
+pub use row_change::{RowChange, changed_edges};
+pub use stretch::Stretch;
+pub use weight_map::{Choice, WeightMap};

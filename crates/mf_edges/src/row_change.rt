@@ -1,0 +1,40 @@
+//! What a row undergoes by itself.
+ghost use Rattle.std.specs.Prelude.{IfOk};
+ghost use Rattle.mf_edges.specs.Edges.{AreEdges};
+ghost use Rattle.mf_edges.specs.RowChanges.{AreChanged, EdgesAllowChange, IsRowChange};
+
+use crate::edge::Edge;
+use crate::edge_change::{mapped_edges, mirrored_edges, stretched_edges};
+use crate::stretch::Stretch;
+use crate::weight_map::WeightMap;
+use mf_geom::OutOfMemory;
+use std::alloc::Global;
+
+/// A change that each row undergoes by itself.
+#[derive(Clone, Copy, Debug)]
+pub enum RowChange {
+    /// Each weight is mapped.
+    Weights(WeightMap),
+    /// The columns change sides.
+    Mirror,
+    /// The columns are stretched.
+    Columns(Stretch),
+}
+
+/// The edges of a row after a change.
+pub fn changed_edges(
+    alloc: Global,
+    edges: &[Edge],
+    change: &RowChange,
+) -> Result<Vec<Edge>, OutOfMemory>
+    requires edges { AreEdges edges.now }
+    requires change { IsRowChange change.now }
+    requires allowed { EdgesAllowChange change.now edges.now }
+    ensures { IfOk result (λ changed. AreChanged change.now edges.now changed.items) }
+{
+    match change {
+        RowChange::Weights(map) => mapped_edges(alloc, edges, map),
+        RowChange::Mirror => mirrored_edges(alloc, edges),
+        RowChange::Columns(stretch) => stretched_edges(alloc, edges, stretch),
+    }
+}

@@ -1,0 +1,53 @@
+//! What becomes of weights where each of them is mapped by itself.
+ghost use Rattle.std.specs.Prelude.{◌≡◌};
+ghost use Rattle.mf_edges.specs.LawfulWeights.{IsLawfulWeight};
+ghost use Rattle.mf_edges.specs.WeightMaps.{chosen, mapped_to, IsWeightMap};
+
+/// What each weight of a picture becomes, by itself. A picture may be mapped so where weight 0 stays 0 and weights in
+/// -32767..32767 become such weights.
+#[derive(Clone, Copy, Debug, PartialEq, Eq)]
+pub enum WeightMap {
+    /// The negated weight.
+    Negate,
+    /// One of two weights.
+    Choose(Choice),
+}
+
+/// Weights in `low..=high` become `inside`, and all others `outside` (`cull`: The METAFONTbook, chapter 13). `low` and
+/// `high` are any numbers. A picture may be mapped so where `inside` and `outside` are in -32767..32767, and the one
+/// that 0 becomes is 0.
+#[derive(Clone, Copy, Debug, PartialEq, Eq)]
+pub struct Choice {
+    pub low: i32,
+    pub high: i32,
+    pub inside: i32,
+    pub outside: i32,
+}
+
+impl WeightMap {
+    /// The weight that a weight becomes.
+    pub(crate) fn apply(&self, weight: i32) -> i32
+        requires map { IsWeightMap self.now }
+        requires weight { IsLawfulWeight weight }
+        ensures value { result ≡ mapped_to self.now weight }
+        ensures lawful { IsLawfulWeight result }
+    {
+        match self {
+            WeightMap::Negate => -weight,
+            WeightMap::Choose(choice) => choice.apply(weight),
+        }
+    }
+}
+
+impl Choice {
+    /// The weight that a weight becomes.
+    fn apply(&self, weight: i32) -> i32
+        ensures { result ≡ chosen self.now weight }
+    {
+        if self.low <= weight && weight <= self.high {
+            self.inside
+        } else {
+            self.outside
+        }
+    }
+}

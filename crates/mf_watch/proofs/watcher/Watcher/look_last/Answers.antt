@@ -1,0 +1,13 @@
+use Rattle.std.proofs.Common.{[], ◌∷◌, ◌++◌, ◌∙◌, subst, sym, ap}
+use Rattle.mf_live.specs.Viewers as viewers
+use Rattle.mf_watch.specs.Watchers.{HasSeen}
+use Rattle.mf_watch.proofs.Glances.{HasSeen-push, glance-of}
+use Rattle.mf_watch.proofs.watcher.Watcher.look_last.Goals as goal
+
+pub returns-clause-seen : goal.returns-clause-seen
+returns-clause-seen c = λ looks record_is.
+    let L = viewers.told c.args.notice in
+    let glance = c.of-glance.ensures ∙ glance-of L _ _ (c.revision.ensures ∙ c.in_ok-sheet.ensures.revision) (c.picture.ensures ∙ c.in_ok-sheet.ensures.picture) in
+    let pushed = c.in-Ok.ensures.items ∙ ap (λ g. c.args.self.now.seen.items ++ g ∷ []) glance in
+    let seen = HasSeen-push (viewers.seen c.args.self.now.viewer) L looks c.args.self.now.seen.items c.in_ok-sheet.ensures.extends.seen record_is in
+    subst (λ gs. HasSeen L looks gs) (sym pushed) seen

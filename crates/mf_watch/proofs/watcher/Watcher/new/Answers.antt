@@ -1,0 +1,14 @@
+use Rattle.std.proofs.Common.{refl, subst, sym, arith}
+use Rattle.mf_live.specs.Viewers as viewers
+use Rattle.mf_watch.specs.Watchers.{AreGlances}
+use Rattle.mf_watch.proofs.Glances.{AreGlances-none}
+use Rattle.mf_watch.proofs.watcher.Watcher.new.Goals as goal
+
+pub returns : goal.returns
+returns c =
+    let made = c.in_ok-with_capacity.ensures in
+    record {
+      name_is = refl;
+      record_is = subst (λ gs. AreGlances (viewers.seen c.args.viewer) 0 gs) (sym made.items) (AreGlances-none (viewers.seen c.args.viewer));
+      room = omega (arith, made.len, made.capacity);
+    }

@@ -1,0 +1,2 @@
+pub mod Watchers
+pub mod Watching

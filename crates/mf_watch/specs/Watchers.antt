@@ -1,0 +1,61 @@
+-- What viewers have seen.
+use Rattle.std.specs.Prelude.{◌≡◌, ◌≤◌, ◌+◌, ℕ, All, List, [], ◌∷◌, ◌++◌, length, vec_capacity}
+use Rattle.logbook.specs.Pages.{Book}
+use Rattle.mf_live.specs.Entries.{Entry, pic, rev}
+use Rattle.mf_live.specs.Prefixes.{IsWholePrefix}
+use Rattle.mf_live.specs.Viewers as viewers
+use Rattle.mf_rows.specs.Dots.{total_of}
+use Rattle.mf_live.specs.declared.sheet.SheetFault.{SheetFault}
+use Rattle.mf_live.specs.declared.sheet.SheetFault.TheVariants.{NoLook, OutOfMemory}
+use Rattle.mf_watch.specs.declared.glance.Glance.{Glance}
+use Rattle.mf_watch.specs.declared.watcher.Watcher.{Watcher}
+
+-- what is seen of a list
+abbrev pub glance_at : List Entry → Glance
+glance_at L = record { revision = rev L; total = total_of (pic L) }
+
+-- this was seen of a list with which the other begins, whole
+pub record IsGlance (whole : List Entry) (g : Glance) : Type 0 where
+  pub list : List Entry
+  pub prefix : IsWholePrefix list whole
+  pub is : g ≡ glance_at list
+
+-- the revisions never fall, from this number on
+abbrev pub NeverFall : ℕ → List Glance → Type 0
+NeverFall low [] = Unit {0}
+NeverFall low (g ∷ gs) = (low ≤ g.revision) × NeverFall g.revision gs
+
+-- the record of so many looks, each at a list with which this one begins, whole
+pub record AreGlances (whole : List Entry) (looks : ℕ) (glances : List Glance) : Type 0 where
+  pub counted : length glances ≡ looks
+  pub each : All (IsGlance whole) glances
+  pub never_fall : NeverFall 0 glances
+
+-- so many looks and one more, the last one at the whole list
+pub record HasSeen (whole : List Entry) (looks : ℕ) (glances : List Glance) : Type 0 where
+  pub are : AreGlances whole (looks + 1) glances
+  pub earlier : List Glance
+  pub last : glances ≡ earlier ++ glance_at whole ∷ []
+
+-- which picture it looks at
+abbrev pub name : Watcher → Book
+name w = viewers.name w.viewer
+
+-- it has the record of so many looks, of lists with which what it has seen begins
+abbrev pub IsRecord : ℕ → Watcher → Type 0
+IsRecord looks w = AreGlances (viewers.seen w.viewer) looks w.seen.items
+
+-- there is room for the record of so many looks more
+abbrev pub HasRoom : ℕ → Watcher → Type 0
+HasRoom more w = length w.seen.items + more ≤ vec_capacity w.seen
+
+-- a viewer of this picture, with the record of so many looks, and room for more
+pub record IsWatcher (picture : Book) (looks more : ℕ) (w : Watcher) : Type 0 where
+  pub name_is : name w ≡ picture
+  pub record_is : IsRecord looks w
+  pub room : HasRoom more w
+
+-- a last look, at this list, was not answered; or memory was wanting after it
+pub record IsMissed (whole : List Entry) (before after : Watcher) (fault : SheetFault) : Type 0 where
+  pub unanswered : fault ≡ NoLook → viewers.looked after.viewer ≡ viewers.looked before.viewer
+  pub wanting : fault ≡ OutOfMemory → viewers.looked after.viewer ≡ whole

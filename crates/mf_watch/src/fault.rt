@@ -1,0 +1,51 @@
+//! Why viewers are not started.
+ghost use Rattle.std.specs.Prelude.{◌≡◌};
+ghost use Rattle.mf_watch.specs.declared.fault.StartFault.TheVariants.{OutOfMemory as NoMemory, NoPlace as NoPlaceLeft};
+
+use mf_geom::OutOfMemory;
+use mf_live::NoPlace;
+use std::alloc::{AllocError, AllocFailed};
+use thiserror::Error;
+
+/// Why viewers are not started. Its message is its name.
+#[derive(Clone, Copy, Debug, PartialEq, Eq, Error)]
+pub enum StartFault {
+    /// Refusal 14.
+    #[error("OutOfMemory")]
+    OutOfMemory,
+    /// Refusal 15: a place or a thread could not be had for a viewer.
+    #[error("NoPlace")]
+    NoPlace,
+}
+
+impl From<OutOfMemory> for StartFault {
+    ghost from_gives = { λ _ fault. fault ≡ NoMemory };
+
+    fn from(_fault: OutOfMemory) -> StartFault {
+        StartFault::OutOfMemory
+    }
+}
+
+impl From<AllocError> for StartFault {
+    ghost from_gives = { λ _ fault. fault ≡ NoMemory };
+
+    fn from(_fault: AllocError) -> StartFault {
+        StartFault::OutOfMemory
+    }
+}
+
+impl<T: Drop> From<AllocFailed<T>> for StartFault {
+    ghost from_gives = { λ _ fault. fault ≡ NoMemory };
+
+    fn from(_fault: AllocFailed<T>) -> StartFault {
+        StartFault::OutOfMemory
+    }
+}
+
+impl From<NoPlace> for StartFault {
+    ghost from_gives = { λ _ fault. fault ≡ NoPlaceLeft };
+
+    fn from(_fault: NoPlace) -> StartFault {
+        StartFault::NoPlace
+    }
+}

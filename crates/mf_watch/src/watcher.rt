@@ -1,0 +1,86 @@
+//! Viewers that keep a record of their looks.
+ghost use Rattle.std.specs.Prelude.{◌≡◌, ◌+◌, ◌∷◌, ◌++◌, [], ℕ, true, IfErr, IfOk, OnOk};
+ghost use Rattle.logbook.specs.Pages.{Book};
+ghost use Rattle.mf_live.specs.Entries.{is_closed};
+ghost use Rattle.mf_live.specs.Viewers as viewers;
+ghost use Rattle.mf_watch.specs.Watchers.{HasRoom, HasSeen, IsMissed, IsRecord, IsWatcher, glance_at, name};
+
+use crate::gate::Gate;
+use crate::glance::Glance;
+use mf_geom::OutOfMemory;
+use mf_live::laws::last_sheet;
+use mf_live::{NoLook, Notice, SheetFault, Viewer};
+use std::alloc::Global;
+
+/// A viewer, and what it has seen in each of its looks.
+#[derive(Drop)]
+pub struct Watcher {
+    /// The viewer that looks.
+    pub viewer: Viewer,
+    /// What it saw in each look, in order.
+    pub seen: Vec<Glance>,
+}
+
+impl Watcher {
+    /// A viewer with no record, and room for the record of so many looks.
+    pub(crate) fn new(alloc: Global, viewer: Viewer, looks: usize) -> Result<Watcher, OutOfMemory>
+        ensures { IfOk result (IsWatcher (viewers.name viewer) 0 looks) }
+    {
+        Ok(Watcher {
+            viewer,
+            seen: Vec::with_capacity(alloc, looks)?,
+        })
+    }
+
+    /// Looks so many times, and tells the gate of each look while it is held. Refusal NoLook (26).
+    pub(crate) fn watch<G: Gate>(self, number: u32, looks: u32, gate: &G) -> Result<Watcher, NoLook>
+        requires { IsWatcher (name self) 0 (looks + 1) self }
+        ensures { IfOk result (IsWatcher (name self) looks 1) }
+    {
+        let mut watcher = self;
+        for look in 0..looks {
+            watcher = watcher.look(number, look, gate)?;
+        }
+        Ok(watcher)
+    }
+
+    /// Looks once.
+    fn look<G: Gate>(self, number: u32, look: u32, gate: &G) -> Result<Watcher, NoLook>
+        requires { HasRoom 1 self }
+        ensures watcher { IfOk result (λ after. (picture : Book) (looks more : ℕ) → IsWatcher picture looks (more + 1) self → IsWatcher picture (looks + 1) more after) }
+        ensures shown { IfOk result (λ after. after.seen.items ≡ self.seen.items ++ glance_at (viewers.looked after.viewer) ∷ []) }
+    {
+        let Watcher { viewer, mut seen } = self;
+        let held = match viewer.look() {
+            Ok(held) => held,
+            Err((_, fault)) => return Err(fault),
+        };
+        let glance = Glance::of(held.revision(), held.picture());
+        let Ok(()) = seen.push(glance) else {
+            unreachable!()
+        };
+        gate.hold(number, look);
+        Ok(Watcher {
+            viewer: held.leave(),
+            seen,
+        })
+    }
+
+    /// Learns of the end, and looks once more, by a sheet. Refusals NoLook (26), where the look is not answered, and
+    /// OutOfMemory (14), after it.
+    pub fn look_last(&mut self, alloc: Global, notice: Notice) -> Result<Glance, SheetFault>
+        requires room { HasRoom 1 self.old }
+        requires name { viewers.notice_name notice ≡ name self.old }
+        requires closed { is_closed (viewers.told notice) ≡ true }
+        ensures glance { IfOk result (λ glance. glance ≡ glance_at (viewers.told notice)) }
+        ensures seen { OnOk result ((looks : ℕ) → IsRecord looks self.old → HasSeen (viewers.told notice) looks self.new.seen.items) }
+        ensures missed { IfErr result (IsMissed (viewers.told notice) self.old self.new) }
+    {
+        let sheet = last_sheet(&mut self.viewer, alloc, notice)?;
+        let glance = Glance::of(sheet.revision(), sheet.picture());
+        let Ok(()) = self.seen.push(glance) else {
+            unreachable!()
+        };
+        Ok(glance)
+    }
+}

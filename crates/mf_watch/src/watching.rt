@@ -1,0 +1,156 @@
+//! Viewers in threads of their own.
+ghost use Rattle.std.specs.Prelude.{◌≡◌, ◌⊎◌, ◌+◌, ◌≤◌, ◌<◌, ℕ, [], All, IfErr, IfOk, OnOk, length, vec_capacity, vec_len};
+ghost use Rattle.logbook.specs.Pages.{Book};
+ghost use Rattle.mf_live.specs.Desks.{desk_name};
+ghost use Rattle.mf_watch.specs.Watchers.{IsWatcher, name};
+ghost use Rattle.mf_watch.specs.Watching.{AreStarted};
+
+use crate::fault::StartFault;
+use crate::gate::Gate;
+use crate::watcher::Watcher;
+use mf_live::{Desk, NoLook, NoPlace};
+use std::alloc::Global;
+use std::snapshot::Snapshot;
+use std::sync::Arc;
+use std::thread::{Promise, PromisedHandle, Threads, spawn_with};
+
+/// What the thread of a viewer owes: so many looks.
+#[derive(Drop)]
+pub struct Looks {
+    /// The viewer as it was when the thread began.
+    pub watcher: Snapshot<Watcher>,
+    /// How often it looks.
+    pub looks: u32,
+}
+
+impl Promise<Result<Watcher, NoLook>> for Looks {
+    ghost use Rattle.std.specs.Prelude.{IfOk};
+    ghost use Rattle.mf_watch.specs.Watchers.{IsWatcher, name};
+
+    ghost kept_by = { λ owed answer. IfOk answer (IsWatcher (name owed.watcher.value) owed.looks 1) };
+}
+
+/// The viewers of a run that look on in threads, and room for what the threads give back.
+#[derive(Drop)]
+pub struct Watching {
+    /// The threads, by the number of their viewers.
+    pub threads: Vec<PromisedHandle<Result<Watcher, NoLook>, Looks>>,
+    /// Room for what they give back.
+    pub room: Vec<Watcher>,
+}
+
+/// So many viewers, with room for the record of so many looks and one more. Refusals NoPlace (15) and OutOfMemory (14).
+fn watchers(alloc: Global, desk: Desk, viewers: u32, looks: u32) -> Result<Vec<Watcher>, StartFault>
+    ensures ready { IfOk result (λ watchers. All (IsWatcher (desk_name desk) 0 (looks + 1)) watchers.items) }
+    ensures count { IfOk result (λ watchers. length watchers.items ≡ viewers) }
+    ensures fault { IfErr result (λ fault. ((fault ≡ StartFault.NoPlace) × (0 < viewers)) ⊎ (fault ≡ StartFault.OutOfMemory)) }
+{
+    let mut desk = desk;
+    let mut watchers = Vec::with_capacity(alloc, viewers as usize)?;
+    for _ in 0..viewers {
+        let viewer = desk.viewer()?;
+        watchers.push(Watcher::new(alloc, viewer, looks as usize + 1)?)?;
+    }
+    Ok(watchers)
+}
+
+impl Watching {
+    /// Starts a thread for each of so many viewers of a desk, which looks so many times. The room for what they record
+    /// is got before. Refusals NoPlace (15), where a place or a thread cannot be had, and OutOfMemory (14): the threads
+    /// that were started are joined.
+    pub fn start<S: Threads, G: Gate + 'static>(
+        rt: &S,
+        alloc: Global,
+        desk: Desk,
+        viewers: u32,
+        looks: u32,
+        gate: &Arc<G>,
+    ) -> Result<Watching, StartFault>
+        requires few { viewers ≤ 64 }
+        ensures started { IfOk result (AreStarted (desk_name desk) looks) }
+        ensures count { IfOk result (λ watching. length watching.threads.items ≡ viewers) }
+        ensures fault { IfErr result (λ fault. ((fault ≡ StartFault.NoPlace) × (0 < viewers)) ⊎ (fault ≡ StartFault.OutOfMemory)) }
+    {
+        let watchers = watchers(alloc, desk, viewers, looks)?;
+        let mut watching = Watching {
+            threads: Vec::with_capacity(alloc, viewers as usize)?,
+            room: Vec::with_capacity(alloc, viewers as usize)?,
+        };
+        for watcher in watchers {
+            if let Err(fault) = watching.start_one(rt, watcher, looks, gate) {
+                let _ = watching.join(rt);
+                return Err(fault.into());
+            }
+        }
+        Ok(watching)
+    }
+
+    /// Starts a thread for a viewer. Refusal NoPlace (15).
+    fn start_one<S: Threads, G: Gate + 'static>(
+        &mut self,
+        rt: &S,
+        watcher: Watcher,
+        looks: u32,
+        gate: &Arc<G>,
+    ) -> Result<(), NoPlace>
+        requires ready { IsWatcher (name watcher) 0 (looks + 1) watcher }
+        requires started { AreStarted (name watcher) looks self.old }
+        requires few { length self.old.threads.items < 64 }
+        requires room { length self.old.threads.items < vec_capacity self.old.threads }
+        requires joined { length self.old.threads.items < vec_capacity self.old.room }
+        ensures started { AreStarted (name watcher) looks self.new }
+        ensures count { OnOk result (length self.new.threads.items ≡ length self.old.threads.items + 1) }
+        ensures room { vec_capacity self.old.threads ≤ vec_capacity self.new.threads }
+        ensures joined { vec_capacity self.new.room ≡ vec_capacity self.old.room }
+    {
+        let number = self.threads.len() as u32;
+        let Ok(gate) = Arc::try_clone(gate) else {
+            return Err(NoPlace);
+        };
+        let owed = Looks {
+            watcher: Snapshot::of(&watcher),
+            looks,
+        };
+        let started = spawn_with(
+            rt,
+            owed,
+            move ||
+                requires { IsWatcher (name watcher) 0 (looks + 1) watcher }
+            { watcher.watch(number, looks, &*gate) },
+        );
+        match started {
+            Ok(thread) => {
+                let Ok(()) = self.threads.push(thread) else {
+                    unreachable!()
+                };
+                Ok(())
+            }
+            Err(_) => Err(NoPlace),
+        }
+    }
+
+    /// Joins all threads. Refusal NoLook (26), where a look was refused in one of them.
+    pub fn join<S: Threads>(self, rt: &S) -> Result<Vec<Watcher>, NoLook>
+        requires { vec_len self.room + vec_len self.threads ≤ vec_capacity self.room }
+        ensures watchers { IfOk result (λ watchers. (picture : Book) (looks : ℕ) → AreStarted picture looks self → All (IsWatcher picture looks 1) watchers.items) }
+        ensures count { IfOk result (λ watchers. self.room.items ≡ [] → length watchers.items ≡ length self.threads.items) }
+        ensures refused { IfErr result (λ _. 0 < length self.threads.items) }
+    {
+        let Watching { threads, mut room } = self;
+        let mut missed = false;
+        for thread in threads {
+            match thread.join(rt) {
+                Ok(watcher) => {
+                    let Ok(()) = room.push(watcher) else {
+                        unreachable!()
+                    };
+                }
+                Err(NoLook) => missed = true,
+            }
+        }
+        if missed {
+            return Err(NoLook);
+        }
+        Ok(room)
+    }
+}
