@@ -1,6 +1,6 @@
 //! The program behind `main`: from its words and streams to its exit status.
-ghost use Rattle.std.specs.Io.KnownBytes.{IsAtEnd};
-ghost use Rattle.std.specs.Prelude.{◌≡◌, ◌≤◌, ◌⊎◌, ℕ, IfErr, IfOk, IfSome, OnOk, map, option_map, string_bytes};
+ghost use Rattle.std.specs.Io.KnownBytes.{Appends, IsAtEnd};
+ghost use Rattle.std.specs.Prelude.{◌≡◌, ◌<◌, ◌≤◌, ◌⊎◌, ℕ, IfErr, IfOk, IfSome, OnOk, length, map, option_map, string_bytes, take};
 ghost use Rattle.mf_cli.specs.CommandLine.{IsCommandLine, file_in, viewers_in};
 ghost use Rattle.mf_cli.specs.Faults.{EndsBadly, ReportsFault};
 ghost use Rattle.mf_cli.specs.Messages.{GetsMessage, message_of, usage};
@@ -128,7 +128,15 @@ fn write_file<S: Files>(rt: &S, path: &str, file: &GfBytes) -> Result<(), RunFau
     let Ok(mut out) = fs::create(rt, path) else {
         return Err(RunFault::WriteFault(0));
     };
-    match file.write_to(&mut out) {
+    write_bytes(&mut out, file)
+}
+
+/// Writes the bytes of a font file. Refusal WriteFault (25), which counts those that went out: not all of them.
+fn write_bytes<W: Write>(out: &mut W, file: &GfBytes) -> Result<(), RunFault>
+    ensures all { OnOk result (Appends (W.contents out.old) (W.contents out.new) file.now) }
+    ensures front { IfErr result (λ fault. (count : ℕ) × (fault ≡ RunFault.WriteFault count) × (count < length file.now) × Appends (W.contents out.old) (W.contents out.new) (take count file.now)) }
+{
+    match file.write_to(out) {
         Ok(()) => Ok(()),
         Err(fault) => Err(RunFault::WriteFault(fault.0)),
     }

@@ -7,6 +7,7 @@ use crate::fault::ProgramFault;
 use mf_cases::{Pieces, Sink, worked_scripts};
 use mf_desk::RunFault;
 use std::alloc::{AllocError, Global};
+use std::io::Read;
 use std::process::Abort;
 use std::rt::Files;
 use std::sync::Wait;
@@ -135,15 +136,19 @@ fn refuses_words(rt: HostRuntime) -> Result<(), Fail> {
     for words in cases {
         let mut writer = Sink::new(alloc);
         let mut errors = Sink::new(alloc);
+        let mut reader = Pieces::whole(LINE);
         let status = program(
             &rt,
             alloc,
             words_of(alloc, words)?,
-            &mut Pieces::whole(LINE),
+            &mut reader,
             &mut writer,
             &mut errors,
         );
         assert_eq!(rt; status, BAD_WORDS);
+        let mut unread = Vec::new(alloc);
+        reader.read_to_end(&mut unread)?;
+        assert_eq!(rt; unread.as_slice(), LINE, "all of the script is left");
         assert_eq!(rt;
             errors.taken(),
             b"usage: mfpic [--viewers 0..16] [--gf FILE]\n".as_slice()
@@ -175,7 +180,10 @@ fn reports_a_read_fault(rt: HostRuntime) -> Result<(), Fail> {
 #[test]
 fn reports_a_write_fault(rt: HostRuntime) -> Result<(), Fail> {
     let alloc = rt.alloc();
-    for mut writer in [Sink::full(alloc), Sink::failing(alloc, 5)] {
+    for (mut writer, taken) in [
+        (Sink::full(alloc), b"".as_slice()),
+        (Sink::failing(alloc, 5), b"total".as_slice()),
+    ] {
         let mut errors = Sink::new(alloc);
         let status = program(
             &rt,
@@ -187,7 +195,7 @@ fn reports_a_write_fault(rt: HostRuntime) -> Result<(), Fail> {
         );
         assert_eq!(rt; status, STREAM_FAULT);
         assert_eq!(rt; errors.taken(), b"mfpic: WriteFault\n".as_slice());
-        assert!(rt; TEXT.starts_with(writer.taken()));
+        assert_eq!(rt; writer.taken(), taken);
     }
     Ok(())
 }
