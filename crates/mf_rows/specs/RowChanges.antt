@@ -1,7 +1,6 @@
 -- Rows that are changed each by itself, and rows that change places.
 use Rattle.std.specs.Prelude.{ℤ, All, List}
 use Rattle.mf_edges.specs.declared.row_change.RowChange.{RowChange}
-use Rattle.mf_edges.specs.declared.row_change.RowChange.TheVariants as change
 use Rattle.mf_edges.specs.declared.stretch.Stretch.{Stretch}
 use Rattle.mf_rows.specs.EdgeRows.{EdgeRow, weight_in_rows}
 use Rattle.mf_edges.specs.Axes.{opposite, source_of, PlaceStaysInside}

@@ -1,7 +1,6 @@
 -- Pictures of which each weight is mapped by itself.
 use Rattle.std.specs.Prelude.{ℤ, List}
 use Rattle.mf_edges.specs.declared.weight_map.WeightMap.{WeightMap}
-use Rattle.mf_edges.specs.declared.weight_map.WeightMap.TheVariants as map
 use Rattle.mf_rows.specs.Dots.{Dot, weight_at}
 use Rattle.mf_edges.specs.WeightMaps.{mapped_to}
 
