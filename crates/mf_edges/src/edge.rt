@@ -97,9 +97,10 @@ fn change_edge(edges: &mut Vec<Edge>, at: usize, weight: i32)
     }
 }
 
-/// Adds an edge to a list of edges, unless its weight is 0.
+/// Adds an edge to a list of edges, unless its weight is 0. Refusal OutOfMemory (14): the list is as it was.
 pub fn push_unless_zero(edges: &mut Vec<Edge>, edge: Edge) -> Result<(), OutOfMemory>
-    ensures { OnOk result (edges.new.items ≡ edges.old.items ++ unless_zero edge) }
+    ensures pushed { OnOk result (edges.new.items ≡ edges.old.items ++ unless_zero edge) }
+    ensures unchanged { OnErr result (edges.new.items ≡ edges.old.items) }
 {
     if edge.weight != 0 {
         edges.push(edge)?;

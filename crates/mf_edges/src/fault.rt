@@ -2,6 +2,8 @@
 
 use mf_geom::OutOfMemory;
 use std::alloc::{AllocError, AllocFailed};
+use std::error::Error;
+use std::fmt;
 
 /// Why weights are not added to a picture.
 #[derive(Clone, Copy, Debug, PartialEq, Eq)]
@@ -11,6 +13,22 @@ pub enum AddFault {
     /// Refusal 14. It may come in the place of 12.
     OutOfMemory,
 }
+
+impl fmt::Display for AddFault {
+    ghost use Rattle.std.specs.Prelude.{Some};
+    ghost use Rattle.mf_edges.specs.Names.{add_fault_text};
+
+    ghost output = { λ fault. Some (add_fault_text fault) };
+
+    fn fmt<W: fmt::Write>(&self, f: &mut fmt::Formatter<W>) -> fmt::Result {
+        match self {
+            AddFault::WeightTooLarge => write!(f, "WeightTooLarge"),
+            AddFault::OutOfMemory => write!(f, "{OutOfMemory}"),
+        }
+    }
+}
+
+impl Error for AddFault {}
 
 impl From<OutOfMemory> for AddFault {
     ghost use Rattle.std.specs.Prelude.{◌≡◌};

@@ -2,6 +2,7 @@ pub mod Ahead
 pub mod Boxes
 pub mod Files
 pub mod Keeping
+pub mod Names
 pub mod Numbers
 pub mod Painting
 pub mod Pixels

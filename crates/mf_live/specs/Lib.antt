@@ -4,6 +4,7 @@ pub mod Entries
 pub mod FreshViewers
 pub mod Happening
 pub mod Holders
+pub mod Names
 pub mod Prefixes
 pub mod Rule
 pub mod Sheets

@@ -1,5 +1,8 @@
 //! Sheets.
+use mf_geom::OutOfMemory;
 use mf_rows::Picture;
+use std::error::Error;
+use std::fmt;
 
 mod steps;
 
@@ -18,3 +21,19 @@ pub enum SheetFault {
     /// Refusal 14. The viewer has looked all the same.
     OutOfMemory,
 }
+
+impl fmt::Display for SheetFault {
+    ghost use Rattle.std.specs.Prelude.{Some};
+    ghost use Rattle.mf_live.specs.Names.{sheet_fault_text};
+
+    ghost output = { λ fault. Some (sheet_fault_text fault) };
+
+    fn fmt<W: fmt::Write>(&self, f: &mut fmt::Formatter<W>) -> fmt::Result {
+        match self {
+            SheetFault::NoLook => write!(f, "NoLook"),
+            SheetFault::OutOfMemory => write!(f, "{OutOfMemory}"),
+        }
+    }
+}
+
+impl Error for SheetFault {}

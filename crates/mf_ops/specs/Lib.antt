@@ -2,6 +2,7 @@ pub mod ContourWeight
 pub mod Cull
 pub mod Faults
 pub mod Moves
+pub mod Names
 pub mod Operations
 pub mod Reflections
 pub mod Sides

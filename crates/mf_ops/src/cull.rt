@@ -6,12 +6,27 @@ ghost use Rattle.mf_ops.specs.declared.cull.CullRule.TheVariants.{Keeping, Dropp
 
 use crate::weight::Weight;
 use mf_rows::{Choice, WeightMap};
+use std::error::Error;
+use std::fmt;
 use std::marker::Model;
 
 /// Refusal 8: a range of weights that the cull may not have. Its least weight is above its greatest, or 0 is in a
 /// range that is kept, or not in one that is dropped (METAFONT's "Bad culling amounts").
 #[derive(Clone, Copy, Debug, PartialEq, Eq)]
 pub struct BadCull;
+
+impl fmt::Display for BadCull {
+    ghost use Rattle.std.specs.Prelude.{Some};
+    ghost use Rattle.mf_ops.specs.Names.{bad_cull_text};
+
+    ghost output = { λ _. Some bad_cull_text };
+
+    fn fmt<W: fmt::Write>(&self, f: &mut fmt::Formatter<W>) -> fmt::Result {
+        f.write_str("BadCull")
+    }
+}
+
+impl Error for BadCull {}
 
 /// What a cull makes of weights, by a range from a least to a greatest weight, both of which belong to it.
 #[derive(Clone, Copy, Debug, PartialEq, Eq)]

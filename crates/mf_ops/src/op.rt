@@ -15,6 +15,8 @@ use crate::weight::Weight;
 use mf_geom::{Cycle, OutOfMemory};
 use mf_rows::{AddFault, Picture};
 use std::alloc::Global;
+use std::error::Error;
+use std::fmt;
 
 /// An operation that changes a picture.
 #[derive(Debug, Drop)]
@@ -51,6 +53,23 @@ pub enum OpFault {
     /// Refusal 14. It may come in the place of 12, never of 11.
     OutOfMemory,
 }
+
+impl fmt::Display for OpFault {
+    ghost use Rattle.std.specs.Prelude.{Some};
+    ghost use Rattle.mf_ops.specs.Names.{op_fault_text};
+
+    ghost output = { λ fault. Some (op_fault_text fault) };
+
+    fn fmt<W: fmt::Write>(&self, f: &mut fmt::Formatter<W>) -> fmt::Result {
+        match self {
+            OpFault::OutOfField => write!(f, "OutOfField"),
+            OpFault::WeightTooLarge => write!(f, "WeightTooLarge"),
+            OpFault::OutOfMemory => write!(f, "{OutOfMemory}"),
+        }
+    }
+}
+
+impl Error for OpFault {}
 
 impl From<OutOfMemory> for OpFault {
     ghost use Rattle.std.specs.Prelude.{◌≡◌};

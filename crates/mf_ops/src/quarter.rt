@@ -2,9 +2,25 @@
 ghost use Rattle.std.specs.Prelude.{◌≡◌, ◌↔◌, ◌⊎◌, IsOk, IfOk, pos};
 ghost use Rattle.mf_ops.specs.Moves.{degrees};
 
+use std::error::Error;
+use std::fmt;
+
 /// Refusal 10: an angle other than 90, 180 and 270 degrees.
 #[derive(Clone, Copy, Debug, PartialEq, Eq)]
 pub struct BadTurn;
+
+impl fmt::Display for BadTurn {
+    ghost use Rattle.std.specs.Prelude.{Some};
+    ghost use Rattle.mf_ops.specs.Names.{bad_turn_text};
+
+    ghost output = { λ _. Some bad_turn_text };
+
+    fn fmt<W: fmt::Write>(&self, f: &mut fmt::Formatter<W>) -> fmt::Result {
+        f.write_str("BadTurn")
+    }
+}
+
+impl Error for BadTurn {}
 
 /// Quarter turns counterclockwise round the point (0, 0): METAFONT's `rotated` (The METAFONTbook, chapter 15) for
 /// these angles.

@@ -3,6 +3,8 @@ ghost use Rattle.std.specs.Prelude.{◌≡◌, ◌↔◌, IsOk, IfOk, IsTrue};
 ghost use Rattle.mf_ops.specs.Moves.{AreFactors, IsFactor};
 
 use mf_geom::MAX_COORDINATE;
+use std::error::Error;
+use std::fmt;
 use std::marker::Model;
 
 /// Greatest size of a factor: a greater one would take each pixel out of the field.
@@ -11,6 +13,19 @@ const MAX_FACTOR: i32 = MAX_COORDINATE;
 /// Refusal 9: a factor that is 0 or not in -4095..4095.
 #[derive(Clone, Copy, Debug, PartialEq, Eq)]
 pub struct BadScale;
+
+impl fmt::Display for BadScale {
+    ghost use Rattle.std.specs.Prelude.{Some};
+    ghost use Rattle.mf_ops.specs.Names.{bad_scale_text};
+
+    ghost output = { λ _. Some bad_scale_text };
+
+    fn fmt<W: fmt::Write>(&self, f: &mut fmt::Formatter<W>) -> fmt::Result {
+        f.write_str("BadScale")
+    }
+}
+
+impl Error for BadScale {}
 
 /// The factors of a scale, METAFONT's `xscaled`, `yscaled` and `scaled` (The METAFONTbook, chapter 15) for whole
 /// numbers in -4095..4095 that are not 0. A negative factor reflects, too.

@@ -1,11 +1,26 @@
 //! The weights that a contour may be filled with.
 ghost use Rattle.std.specs.Prelude.{◌≡◌, ◌↔◌, IsOk, IfOk};
 
+use std::error::Error;
+use std::fmt;
 use std::marker::Model;
 
 /// Refusal 7: a weight other than -3, -2, -1, 1, 2 and 3.
 #[derive(Clone, Copy, Debug, PartialEq, Eq)]
 pub struct BadWeight;
+
+impl fmt::Display for BadWeight {
+    ghost use Rattle.std.specs.Prelude.{Some};
+    ghost use Rattle.mf_ops.specs.Names.{bad_weight_text};
+
+    ghost output = { λ _. Some bad_weight_text };
+
+    fn fmt<W: fmt::Write>(&self, f: &mut fmt::Formatter<W>) -> fmt::Result {
+        f.write_str("BadWeight")
+    }
+}
+
+impl Error for BadWeight {}
 
 /// The weight of a contour: -3, -2, -1, 1, 2 or 3 (The METAFONTbook, chapter 13, `withweight`).
 #[derive(Clone, Copy, Debug, PartialEq, Eq)]

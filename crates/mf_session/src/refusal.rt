@@ -4,9 +4,9 @@ ghost use Rattle.mf_session.specs.Refusals.{refused_line};
 
 use mf_geom::OutOfMemory;
 use mf_live::Fault;
-use mf_ops::OpFault;
 use mf_text::TextFault;
 use std::alloc::Global;
+use std::error::Error;
 use std::fmt;
 
 /// Why a command is refused.
@@ -33,18 +33,15 @@ impl fmt::Display for Refusal {
     fn fmt<W: fmt::Write>(&self, f: &mut fmt::Formatter<W>) -> fmt::Result {
         match self {
             Refusal::Line(fault) => write!(f, "{fault}"),
-            Refusal::Operation(Fault::TooManyOperations) => write!(f, "TooManyOperations"),
-            Refusal::Operation(Fault::Refused(OpFault::OutOfField)) => write!(f, "OutOfField"),
-            Refusal::Operation(Fault::Refused(OpFault::WeightTooLarge)) => {
-                write!(f, "WeightTooLarge")
-            }
-            Refusal::Operation(Fault::Refused(OpFault::OutOfMemory)) => write!(f, "OutOfMemory"),
+            Refusal::Operation(fault) => write!(f, "{fault}"),
             Refusal::CodeShipped => write!(f, "CodeShipped"),
             Refusal::FileTooLong => write!(f, "FileTooLong"),
             Refusal::ProofTooLarge => write!(f, "ProofTooLarge"),
         }
     }
 }
+
+impl Error for Refusal {}
 
 /// The line that tells of a refusal.
 pub fn refused(alloc: Global, refusal: Refusal) -> Result<Vec<u8>, OutOfMemory>

@@ -25,4 +25,5 @@ pub mod Shipments
 pub mod Skips
 pub mod Starts
 pub mod StuckFirst
+pub mod Words
 pub mod WrittenRuns

@@ -17,4 +17,3 @@ pub mod Short
 pub mod Syntax
 pub mod Tails
 pub mod Tokens
-pub mod Values

@@ -14,7 +14,10 @@ use Rattle.mf_text.specs.declared.command.Command.TheVariants as command
 use Rattle.mf_text.specs.declared.command.Name.{Name}
 use Rattle.mf_text.specs.declared.fault.TextFault.{TextFault}
 use Rattle.mf_text.specs.declared.fault.TextFault.TheVariants as faults
-use Rattle.mf_text.specs.Grammar.{Form, Nothing, AddContour, AddPicture, CullKeeping, CullDropping, Clear, Move, ShowTotal, ShowPicture, ShowProof, ShipOut, PublishAll, Transform, Shifted, Scaled, XScaled, YScaled, Rotated, int_value, code_value, pair_value, weight_value, path_value}
+use Rattle.mf_text.specs.declared.sentence.Motion.{Motion}
+use Rattle.mf_text.specs.declared.sentence.Motion.TheVariants as motion
+use Rattle.mf_text.specs.Grammar.{Form, Nothing, AddContour, AddPicture, CullKeeping, CullDropping, Clear, Move, ShowTotal, ShowPicture, ShowProof, ShipOut, PublishAll, int_value, code_value, pair_value, weight_value, path_value}
+use Rattle.mf_text.specs.Sentences.{motion_of}
 
 -- a contour through these points
 pub record IsContour (name : Name) (points : List Point) (weight : ℤ) (given : Command) : Type 0 where
@@ -48,12 +51,13 @@ of_columns n = record { x = n; y = pos 1 }
 abbrev pub of_rows : ℤ → Factors
 of_rows n = record { x = pos 1; y = n }
 
-abbrev pub IsMoveOf : Name → Transform → Command → Type 0
-IsMoveOf name (Shifted p) given = given ≡ command.Shift name (pair_value p).x (pair_value p).y
-IsMoveOf name (Scaled n) given = IsScale name (both (int_value n)) given
-IsMoveOf name (XScaled n) given = IsScale name (of_columns (int_value n)) given
-IsMoveOf name (YScaled n) given = IsScale name (of_rows (int_value n)) given
-IsMoveOf name (Rotated n) given = IsTurn name (int_value n) given
+-- the command of a motion
+abbrev pub IsGivenByMotion : Name → Motion → Command → Type 0
+IsGivenByMotion name (motion.Shifted p) given = given ≡ command.Shift name p.x p.y
+IsGivenByMotion name (motion.Scaled n) given = IsScale name (both n) given
+IsGivenByMotion name (motion.XScaled n) given = IsScale name (of_columns n) given
+IsGivenByMotion name (motion.YScaled n) given = IsScale name (of_rows n) given
+IsGivenByMotion name (motion.Rotated n) given = IsTurn name n given
 
 -- the command that a form gives
 abbrev pub IsCommandOf : Form → Command → Type 0
@@ -63,7 +67,7 @@ IsCommandOf (AddPicture name sign source) given = given ≡ command.Also name so
 IsCommandOf (CullKeeping name range weight) given = IsCull name (Keeping (pair_value range).x (pair_value range).y (weight_value weight)) (weight_value weight) given
 IsCommandOf (CullDropping name range weight) given = IsCull name (Dropping (pair_value range).x (pair_value range).y (weight_value weight)) (weight_value weight) given
 IsCommandOf (Clear name) given = given ≡ command.Clear name
-IsCommandOf (Move name transform) given = IsMoveOf name transform given
+IsCommandOf (Move name transform) given = IsGivenByMotion name (motion_of transform) given
 IsCommandOf (ShowTotal source) given = given ≡ command.Total source
 IsCommandOf (ShowPicture source) given = given ≡ command.Show source
 IsCommandOf (ShowProof source) given = given ≡ command.Proof source
@@ -100,17 +104,26 @@ pub record IsBadTurn (angle : ℤ) (refused : TextFault) : Type 0 where
   pub unlawful : (quarter : Quarter) → degrees quarter ≡ angle → ⊥
   pub is : refused ≡ faults.BadTurn
 
-abbrev pub IsBadMove : Transform → TextFault → Type 0
-IsBadMove (Shifted p) refused = ⊥
-IsBadMove (Scaled n) refused = IsBadScale (both (int_value n)) refused
-IsBadMove (XScaled n) refused = IsBadScale (of_columns (int_value n)) refused
-IsBadMove (YScaled n) refused = IsBadScale (of_rows (int_value n)) refused
-IsBadMove (Rotated n) refused = IsBadTurn (int_value n) refused
+-- why a motion is refused
+abbrev pub IsRefusedMotion : Motion → TextFault → Type 0
+IsRefusedMotion (motion.Shifted p) refused = ⊥
+IsRefusedMotion (motion.Scaled n) refused = IsBadScale (both n) refused
+IsRefusedMotion (motion.XScaled n) refused = IsBadScale (of_columns n) refused
+IsRefusedMotion (motion.YScaled n) refused = IsBadScale (of_rows n) refused
+IsRefusedMotion (motion.Rotated n) refused = IsBadTurn n refused
+
+-- why a contour is refused: the cycle is looked at first
+abbrev pub IsRefusedContour : List Point → ℤ → TextFault → Type 0
+IsRefusedContour points weight refused = IsNoCycle points refused ⊎ IsBadContour points weight refused
+
+-- why a cull is refused: the weight is looked at first
+abbrev pub IsRefusedCull : CullRule → ℤ → TextFault → Type 0
+IsRefusedCull rule weight refused = IsBadCullWeight weight refused ⊎ IsBadCull rule weight refused
 
 -- why the values of a form are refused
 abbrev pub IsRefusalOf : Form → TextFault → Type 0
-IsRefusalOf (AddContour name path weight) refused = IsNoCycle (path_value path) refused ⊎ IsBadContour (path_value path) (weight_value weight) refused
-IsRefusalOf (CullKeeping name range weight) refused = IsBadCullWeight (weight_value weight) refused ⊎ IsBadCull (Keeping (pair_value range).x (pair_value range).y (weight_value weight)) (weight_value weight) refused
-IsRefusalOf (CullDropping name range weight) refused = IsBadCullWeight (weight_value weight) refused ⊎ IsBadCull (Dropping (pair_value range).x (pair_value range).y (weight_value weight)) (weight_value weight) refused
-IsRefusalOf (Move name transform) refused = IsBadMove transform refused
+IsRefusalOf (AddContour name path weight) refused = IsRefusedContour (path_value path) (weight_value weight) refused
+IsRefusalOf (CullKeeping name range weight) refused = IsRefusedCull (Keeping (pair_value range).x (pair_value range).y (weight_value weight)) (weight_value weight) refused
+IsRefusalOf (CullDropping name range weight) refused = IsRefusedCull (Dropping (pair_value range).x (pair_value range).y (weight_value weight)) (weight_value weight) refused
+IsRefusalOf (Move name transform) refused = IsRefusedMotion (motion_of transform) refused
 IsRefusalOf form refused = ⊥

@@ -1,6 +1,7 @@
 -- The tokens of a line of a script: words, letters, numbers and marks. Blanks stand between tokens, and `%` begins a
 -- comment that goes to the end of the line.
 use Rattle.std.specs.Prelude.{ℕ, zero, suc, ◌+◌, ◌-◌, ◌==◌, ◌&&◌, Bool, List, [], ◌∷◌, Option, None, Some, length, drop, take_while, codes, map, nat_eq, nat_le, nat_lt, if◌then◌else◌}
+use Rattle.std.specs.Borrow.{Bor}
 use Rattle.std.specs.Char.{is_ascii_alphabetic, is_ascii_digit}
 use Rattle.std.specs.List.{starts_with}
 use Rattle.std.specs.Str.{bytes_eq}
@@ -31,6 +32,10 @@ abbrev pub marks : List (List ℕ × Mark)
 marks =
     (codes "--", mark.Join) ∷ (codes "-", mark.Minus) ∷ (codes ":=", mark.Becomes) ∷ (codes "(", mark.Open)
     ∷ (codes ")", mark.Close) ∷ (codes ",", mark.Comma) ∷ (codes ";", mark.Semicolon) ∷ []
+
+-- an entry of a table of words, as it is written
+abbrev pub written : Bor (List ℕ) × Word → List ℕ × Word
+written entry = (entry.0.now, entry.1)
 
 -- the word that these letters are, if they are one
 unfoldable pub word_among : List (List ℕ × Word) → List ℕ → Option Word

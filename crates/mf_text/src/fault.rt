@@ -1,5 +1,6 @@
 //! Why lines and texts are refused.
 use mf_geom::{CycleFault, OutOfMemory};
+use mf_ops::{BadCull, BadScale, BadTurn, BadWeight};
 use std::error::Error;
 use std::fmt;
 
@@ -37,11 +38,11 @@ impl fmt::Display for TextFault {
     fn fmt<W: fmt::Write>(&self, f: &mut fmt::Formatter<W>) -> fmt::Result {
         match self {
             TextFault::Cycle(fault) => write!(f, "{fault}"),
-            TextFault::BadWeight => write!(f, "BadWeight"),
-            TextFault::BadCull => write!(f, "BadCull"),
-            TextFault::BadScale => write!(f, "BadScale"),
-            TextFault::BadTurn => write!(f, "BadTurn"),
-            TextFault::OutOfMemory => write!(f, "OutOfMemory"),
+            TextFault::BadWeight => write!(f, "{BadWeight}"),
+            TextFault::BadCull => write!(f, "{BadCull}"),
+            TextFault::BadScale => write!(f, "{BadScale}"),
+            TextFault::BadTurn => write!(f, "{BadTurn}"),
+            TextFault::OutOfMemory => write!(f, "{OutOfMemory}"),
             TextFault::LineTooLong => write!(f, "LineTooLong"),
             TextFault::NotAscii => write!(f, "NotAscii"),
             TextFault::Syntax(column) => write!(f, "Syntax {column}"),
@@ -59,6 +60,22 @@ pub enum GridFault {
     /// Refusal 14. It never comes in the place of 23.
     OutOfMemory,
 }
+
+impl fmt::Display for GridFault {
+    ghost use Rattle.std.specs.Prelude.{Some};
+    ghost use Rattle.mf_text.specs.Names.{grid_fault_text};
+
+    ghost output = { λ fault. Some (grid_fault_text fault) };
+
+    fn fmt<W: fmt::Write>(&self, f: &mut fmt::Formatter<W>) -> fmt::Result {
+        match self {
+            GridFault::ProofTooLarge => write!(f, "ProofTooLarge"),
+            GridFault::OutOfMemory => write!(f, "{OutOfMemory}"),
+        }
+    }
+}
+
+impl Error for GridFault {}
 
 impl From<OutOfMemory> for TextFault {
     ghost use Rattle.std.specs.Prelude.{◌≡◌};

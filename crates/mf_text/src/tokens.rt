@@ -1,9 +1,9 @@
 //! The tokens of a line, one after another.
-ghost use Rattle.std.specs.Prelude.{◌≡◌, ◌+◌, ◌<◌, ◌≤◌, ◌^◌, length};
+ghost use Rattle.std.specs.Prelude.{◌≡◌, ◌+◌, ◌<◌, ◌≤◌, ◌^◌, length, map};
 ghost use Rattle.std.specs.Char.{is_ascii_alphabetic, is_ascii_digit};
 ghost use Rattle.std.specs.List.{prefix_len, take_while};
 ghost use Rattle.mf_text.specs.Short.{IsClear};
-ghost use Rattle.mf_text.specs.Tokens.{first_token, marks, mark_among, number_token, words, word_among, word_token};
+ghost use Rattle.mf_text.specs.Tokens.{first_token, marks, mark_among, number_token, words, word_among, word_token, written};
 
 use crate::token::{Mark, Placed, Token, Word};
 
@@ -152,61 +152,50 @@ fn word_token(letters: &[u8]) -> Token
     }
 }
 
+/// The words, as they are written.
+const WORDS: [(&[u8], Word); 23] = [
+    (b"addto", Word::Addto),
+    (b"also", Word::Also),
+    (b"code", Word::Code),
+    (b"contour", Word::Contour),
+    (b"cull", Word::Cull),
+    (b"currentpicture", Word::CurrentPicture),
+    (b"cycle", Word::Cycle),
+    (b"dropping", Word::Dropping),
+    (b"dx", Word::Dx),
+    (b"keeping", Word::Keeping),
+    (b"nullpicture", Word::NullPicture),
+    (b"proof", Word::Proof),
+    (b"publish", Word::Publish),
+    (b"rotated", Word::Rotated),
+    (b"scaled", Word::Scaled),
+    (b"shifted", Word::Shifted),
+    (b"shipout", Word::Shipout),
+    (b"show", Word::Show),
+    (b"totalweight", Word::TotalWeight),
+    (b"width", Word::Width),
+    (b"withweight", Word::WithWeight),
+    (b"xscaled", Word::XScaled),
+    (b"yscaled", Word::YScaled),
+];
+
 /// The word that these letters are.
-#[tactic(auto, unfolding(crate::specs::Tokens::word_among))]
 fn word(letters: &[u8]) -> Option<Word>
     ensures { result ≡ word_among words letters.now }
 {
-    let word = if letters == b"addto".as_slice() {
-        Word::Addto
-    } else if letters == b"also".as_slice() {
-        Word::Also
-    } else if letters == b"code".as_slice() {
-        Word::Code
-    } else if letters == b"contour".as_slice() {
-        Word::Contour
-    } else if letters == b"cull".as_slice() {
-        Word::Cull
-    } else if letters == b"currentpicture".as_slice() {
-        Word::CurrentPicture
-    } else if letters == b"cycle".as_slice() {
-        Word::Cycle
-    } else if letters == b"dropping".as_slice() {
-        Word::Dropping
-    } else if letters == b"dx".as_slice() {
-        Word::Dx
-    } else if letters == b"keeping".as_slice() {
-        Word::Keeping
-    } else if letters == b"nullpicture".as_slice() {
-        Word::NullPicture
-    } else if letters == b"proof".as_slice() {
-        Word::Proof
-    } else if letters == b"publish".as_slice() {
-        Word::Publish
-    } else if letters == b"rotated".as_slice() {
-        Word::Rotated
-    } else if letters == b"scaled".as_slice() {
-        Word::Scaled
-    } else if letters == b"shifted".as_slice() {
-        Word::Shifted
-    } else if letters == b"shipout".as_slice() {
-        Word::Shipout
-    } else if letters == b"show".as_slice() {
-        Word::Show
-    } else if letters == b"totalweight".as_slice() {
-        Word::TotalWeight
-    } else if letters == b"width".as_slice() {
-        Word::Width
-    } else if letters == b"withweight".as_slice() {
-        Word::WithWeight
-    } else if letters == b"xscaled".as_slice() {
-        Word::XScaled
-    } else if letters == b"yscaled".as_slice() {
-        Word::YScaled
-    } else {
-        return None;
-    };
-    Some(word)
+    word_in(&WORDS, letters)
+}
+
+/// The word of the first entry that is written with these letters.
+fn word_in(entries: &[(&[u8], Word)], letters: &[u8]) -> Option<Word>
+    ensures { result ≡ word_among (map written entries.now) letters.now }
+{
+    for (text, word) in entries {
+        if letters == *text {
+            return Some(*word);
+        }
+    }
+    None
 }
 
 /// The token of other bytes, and how many of them it takes: of `--` and `-` the longer.

@@ -4,10 +4,9 @@ ghost use Rattle.std.specs.List.{list_all};
 ghost use Rattle.mf_text.specs.Bytes.{is_text_byte};
 ghost use Rattle.mf_text.specs.Grammar as grammar;
 ghost use Rattle.mf_text.specs.Lines.{Gives, IsRefused, TakesMemory};
-ghost use Rattle.mf_text.specs.Meaning.{IsCommandOf, IsRefusalOf, IsContour, IsCull, IsScale, IsBadScale, IsTurn, IsBadTurn};
+ghost use Rattle.mf_text.specs.Meaning.{IsCommandOf, IsRefusalOf, IsContour, IsCull, IsScale, IsBadScale, IsTurn, IsBadTurn, IsRefusedContour, IsRefusedCull, IsGivenByMotion, IsRefusedMotion};
 ghost use Rattle.mf_text.specs.Readers.{IsPathOf};
 ghost use Rattle.mf_text.specs.Sentences.{IsSaid};
-ghost use Rattle.mf_text.specs.Values.{IsRefusedContour, IsRefusedCull, IsGivenByMotion, IsRefusedMotion};
 ghost use Rattle.mf_ops.specs.declared.cull.CullRule.TheVariants.{Keeping, Dropping};
 
 use crate::command::{Command, Name};

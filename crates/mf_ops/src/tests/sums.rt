@@ -88,14 +88,24 @@ fn weights_are_doubled_up_to_the_limit(rt: HostRuntime) -> Result<(), Fail> {
     Ok(())
 }
 
+/// The rectangle and a pixel of the highest row.
+fn rectangle_and_high(rt: &impl Abort, alloc: Global) -> Result<Picture, AllocError> {
+    let high: &[(i32, i32)] = &[(0, 4094), (1, 4094), (1, 4095), (0, 4095)];
+    filled(rt, alloc, &[(RECTANGLE, 1), (high, 3)])
+}
+
+/// A square that overlaps the rectangle, and a pixel of the lowest row.
+fn square_and_deep(rt: &impl Abort, alloc: Global) -> Result<Picture, AllocError> {
+    let deep: &[(i32, i32)] = &[(0, -4095), (1, -4095), (1, -4094), (0, -4094)];
+    let square: &[(i32, i32)] = &[(2, 1), (4, 1), (4, 3), (2, 3)];
+    filled(rt, alloc, &[(square, 2), (deep, 1)])
+}
+
 #[test]
 fn adds_what_overlaps_and_what_does_not(rt: HostRuntime) -> Result<(), Fail> {
     let alloc = rt.alloc();
-    let high: &[(i32, i32)] = &[(0, 4094), (1, 4094), (1, 4095), (0, 4095)];
-    let deep: &[(i32, i32)] = &[(0, -4095), (1, -4095), (1, -4094), (0, -4094)];
-    let square: &[(i32, i32)] = &[(2, 1), (4, 1), (4, 3), (2, 3)];
-    let left = filled(&rt, alloc, &[(RECTANGLE, 1), (high, 3)])?;
-    let right = filled(&rt, alloc, &[(square, 2), (deep, 1)])?;
+    let left = rectangle_and_high(&rt, alloc)?;
+    let right = square_and_deep(&rt, alloc)?;
     assert_runs(
         &rt,
         &add(&rt, alloc, &left, &right, Sign::Plus),
@@ -122,6 +132,13 @@ fn adds_what_overlaps_and_what_does_not(rt: HostRuntime) -> Result<(), Fail> {
             run(-4095, 0, 1, -1),
         ],
     );
+    Ok(())
+}
+
+#[test]
+fn blank_changes_nothing(rt: HostRuntime) -> Result<(), Fail> {
+    let alloc = rt.alloc();
+    let left = rectangle_and_high(&rt, alloc)?;
     let blank = Picture::blank(alloc);
     assert!(rt;
         add(&rt, alloc, &blank, &left, Sign::Plus).equal(&left),

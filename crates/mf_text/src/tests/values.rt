@@ -212,7 +212,7 @@ fn shipments(rt: HostRuntime) -> Result<(), Fail> {
 }
 
 #[test]
-fn other_commands(rt: HostRuntime) -> Result<(), Fail> {
+fn sums(rt: HostRuntime) -> Result<(), Fail> {
     let alloc = rt.alloc();
     let (a, b) = (Name::Register(0), Name::Register(1));
     for (line, expected) in [
@@ -233,6 +233,13 @@ fn other_commands(rt: HostRuntime) -> Result<(), Fail> {
             _ => assert!(rt; false, "{line} adds no picture"),
         }
     }
+    Ok(())
+}
+
+#[test]
+fn other_commands(rt: HostRuntime) -> Result<(), Fail> {
+    let alloc = rt.alloc();
+    let (a, b) = (Name::Register(0), Name::Register(1));
     assert!(rt;
         matches!(read(&rt, alloc, "a := nullpicture"), Command::Clear(name) if name == a),
         "cleared"

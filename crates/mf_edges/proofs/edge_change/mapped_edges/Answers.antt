@@ -40,7 +40,7 @@ loop-edge-preserved c =
     let next_is : to_z w32 (of_z w32 next) ≡ next = omega (arith, ints) in
     let change_is : to_z w32 (of_z w32 (next -ℤ image)) ≡ next -ℤ image = omega (arith, ints) in
     let value = rw (weight_is, sum_is) at c.apply-next.ensures.value in
-    rw (c.in_ok-push_unless_zero.ensures, x_is, weight_is, sum_is, next_is, change_is)
+    rw (c.in_ok-push_unless_zero.ensures.pushed, x_is, weight_is, sum_is, next_is, change_is)
     (mapped_more _ _ _ _ _ _ _ so_far next value c.requires.edges)
 
 pub returns : goal.returns

@@ -95,7 +95,7 @@ loop-change-preserved c =
     let passed_is = lawful_is weight so_far.lawful in
     let total_is = total_is v f.weight split.difference difference weight so_far.lawful in
     let lawful = rw (v_is, w_is, more_is, passed_is, total_is) at (c.is_lawful_weight.ensures.0 c.if-not-is_lawful_weight.false) in
-    rw (c.in_ok-push_unless_zero.ensures, c.in_ok-extend_from_slice.ensures.items, c.split_at.ensures.front, x_is, v_is, w_is, more_is, passed_is, total_is)
+    rw (c.in_ok-push_unless_zero.ensures.pushed, c.in_ok-extend_from_slice.ensures.items, c.split_at.ensures.front, x_is, v_is, w_is, more_is, passed_is, total_is)
     (change_more _ _ _ _ f _ _ so_far from v _ split lawful)
 
 pub returns-clause-edges : goal.returns-clause-edges

@@ -45,7 +45,7 @@ loop-change-preserved c =
     let v_is = difference_is v split.difference in
     let w_is = difference_is f.weight difference in
     let sum_is = more_is v f.weight split.difference difference in
-    rw (c.in_ok-push_unless_zero.ensures, c.in_ok-extend_from_slice.ensures.items, c.split_at.ensures.front, x_is, v_is, w_is, sum_is)
+    rw (c.in_ok-push_unless_zero.ensures.pushed, c.in_ok-extend_from_slice.ensures.items, c.split_at.ensures.front, x_is, v_is, w_is, sum_is)
     (in_reach_more _ _ lawful _ _ _ f c.in-Some.changes.now _ c.in-Some.ensures.cases.0 c.loop-change.invariant left from v _ split)
 
 pub returns-clause-edges : goal.returns-clause-edges

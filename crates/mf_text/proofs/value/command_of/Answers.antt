@@ -11,10 +11,9 @@ use Rattle.mf_text.specs.declared.sentence.Sentence.{Sentence}
 use Rattle.mf_text.specs.declared.sentence.Sentence.TheVariants as sentence
 use Rattle.mf_text.specs.Grammar.{Form, Nothing, AddContour, AddPicture, CullKeeping, CullDropping, Clear, Move, ShowTotal, ShowPicture, ShowProof, ShipOut, PublishAll, Path, path_value, weight_value}
 use Rattle.mf_text.specs.Lines.{TakesMemory}
-use Rattle.mf_text.specs.Meaning.{IsRefusalOf}
+use Rattle.mf_text.specs.Meaning.{IsRefusalOf, IsRefusedContour}
 use Rattle.mf_text.specs.Readers.{IsPathOf}
 use Rattle.mf_text.specs.Sentences.{IsSaid}
-use Rattle.mf_text.specs.Values.{IsRefusedContour}
 use Rattle.mf_text.proofs.value.command_of.Goals as goal
 
 module _ (name : Name) (path : passed.Path) (weight : ℤ) where

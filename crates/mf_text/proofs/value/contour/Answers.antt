@@ -5,8 +5,7 @@ use Rattle.std.proofs.lemmas.Result.{IfOk-weaker, IfErr-weaker}
 use Rattle.mf_geom.specs.Lawful.{IsFault}
 use Rattle.mf_geom.specs.declared.cycle.CycleFault.TheVariants.{TooManyPoints}
 use Rattle.mf_text.specs.Grammar as grammar
-use Rattle.mf_text.specs.Meaning.{IsContour}
-use Rattle.mf_text.specs.Values.{IsRefusedContour}
+use Rattle.mf_text.specs.Meaning.{IsContour, IsRefusedContour}
 use Rattle.mf_text.proofs.value.contour.Goals as goal
 
 -- src/value.rt:82:9

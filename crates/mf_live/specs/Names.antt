@@ -1,0 +1,18 @@
+-- The names of refusals, as texts show them.
+use Rattle.std.specs.Prelude.{ℕ, List, codes}
+use Rattle.mf_geom.specs.Names.{memory_text}
+use Rattle.mf_ops.specs.Names.{op_fault_text}
+use Rattle.mf_live.specs.declared.fault.Fault.{Fault}
+use Rattle.mf_live.specs.declared.fault.Fault.TheVariants.{TooManyOperations, Refused}
+use Rattle.mf_live.specs.declared.sheet.SheetFault.{SheetFault}
+use Rattle.mf_live.specs.declared.sheet.SheetFault.TheVariants.{NoLook, OutOfMemory}
+
+-- the name of what an operation is not accepted for
+abbrev pub operation_text : Fault → List ℕ
+operation_text TooManyOperations = codes "TooManyOperations"
+operation_text (Refused fault) = op_fault_text fault
+
+-- the name of what no sheet is given for
+abbrev pub sheet_fault_text : SheetFault → List ℕ
+sheet_fault_text NoLook = codes "NoLook"
+sheet_fault_text OutOfMemory = memory_text
