@@ -1,12 +1,12 @@
 -- What a clause reads of what the writer of a picture holds.
-use Rattle.std.specs.Prelude.{List, fold, drop}
+use Rattle.std.specs.Prelude.{List, drop}
 use Rattle.logbook.specs.Pages.{Book}
 use Rattle.left_right.specs.Sides.{view}
 use Rattle.mf_live.specs.declared.event.Event.{Event}
 use Rattle.mf_live.specs.declared.history.Token.{Token}
 use Rattle.mf_live.specs.declared.holder.Holder.{Holder}
 use Rattle.mf_live.specs.Entries.{Entry}
-use Rattle.mf_live.specs.Rule.{history, token_of}
+use Rattle.mf_live.specs.Rule.{history, token_after}
 use Rattle.mf_live.specs.World.{accepted_of, published_of}
 
 -- which picture it is
@@ -25,4 +25,4 @@ published h = published_of (events h)
 
 -- how much of the history the next publish shows
 abbrev pub coming : Holder → Token
-coming h = fold (λ t v. v.front.token) (token_of h.swap.desk.shown.value) (drop h.swap.behind h.swap.log.items)
+coming h = token_after h.swap.desk.shown.value (drop h.swap.behind h.swap.log.items)

@@ -1,11 +1,12 @@
 -- The rule over the picture that is shown and over what each seat knows, and what a look and a publish tell.
-use Rattle.std.specs.Prelude.{◌≡◌, Bool, true, false, ℕ, List, [], ◌∷◌, ◌++◌, if◌then◌else◌}
+use Rattle.std.specs.Prelude.{◌≡◌, Bool, true, false, ℕ, List, [], ◌∷◌, ◌++◌, fold, if◌then◌else◌}
 use mathlib.Core.Option.{some}
 use lib.ListN.{get_elem?}
 use Rattle.logbook.specs.Pages.{Book}
 use Rattle.mf_live.specs.declared.event.Event.{Event}
 use Rattle.mf_live.specs.declared.history.Token.{Token}
 use Rattle.mf_live.specs.declared.live.Live.{Live}
+use Rattle.mf_live.specs.declared.version.Version.{Version}
 use Rattle.mf_live.specs.declared.view.View.{View}
 use Rattle.mf_live.specs.Entries.{Entry}
 use Rattle.mf_live.specs.Prefixes.{IsWholePrefix}
@@ -14,6 +15,10 @@ use Rattle.mf_live.specs.World.{accepted_of}
 -- how much of its history a copy shows
 abbrev pub token_of : Live → Token
 token_of x = x.version.front.token
+
+-- how much of its history a copy shows once it has taken over these versions
+abbrev pub token_after : Live → List Version → Token
+token_after x versions = fold (λ t v. v.front.token) (token_of x) versions
 
 -- which picture it is
 abbrev pub book_of : Live → Book
@@ -47,7 +52,7 @@ newcomer = record { named = false; last = no_token; now = no_token; unwritten = 
 abbrev pub knowing : Token → View
 knowing t = record { named = true; last = t; now = t; unwritten = [] }
 
--- what a seat keeps of what it has seen, by whether its last look was not answered
+-- what a seat keeps of what it has seen, by whether the copy that it entered last was not shown
 abbrev pub kept_by : Bool → View → Token
 kept_by missed v = if missed then v.last else v.now
 

@@ -6,11 +6,12 @@ use Rattle.mf_live.specs.declared.sheet.SheetFault.TheVariants.{NoLook, OutOfMem
 use Rattle.mf_live.specs.declared.viewer.Viewer.{Viewer}
 use Rattle.mf_live.specs.Entries.{Entry, ends_last, pic, rev}
 use Rattle.mf_live.specs.Prefixes.{longer}
-use Rattle.mf_live.specs.Viewers.{Extends, IsPublished, SeesTheSame, looked, seen}
+use Rattle.mf_live.specs.Viewers.{Extends, IsPublished, SeesTheSame, learnt, looked, seen}
 
 -- a viewer has looked, at a list that has been published, in which nothing follows the end mark
 pub record HasLooked (before after : Viewer) : Type 0 where
   pub extends : Extends before (looked after)
+  pub learnt : learnt after ≡ learnt before
   pub seen : seen after ≡ looked after
   pub ends : ends_last (looked after) ≡ true
   pub published : IsPublished (looked after)
@@ -31,8 +32,13 @@ pub record HasLearnt (before : Viewer) (whole : List Entry) (after : Viewer) : T
   pub looked : looked after ≡ looked before
   pub seen : seen after ≡ longer (seen before) whole
 
+-- a viewer has looked at a list, and has seen no longer one
+pub record HasLookedAt (whole : List Entry) (after : Viewer) : Type 0 where
+  pub looked : looked after ≡ whole
+  pub seen : seen after ≡ whole
+
 -- where no sheet of the whole list was given, the viewer has learnt of it alone, or memory was wanting after it had
 -- looked at it
 abbrev pub IsLastNotTaken : Viewer → List Entry → Viewer → SheetFault → Type 0
 IsLastNotTaken before whole after NoLook = HasLearnt before whole after
-IsLastNotTaken before whole after OutOfMemory = looked after ≡ whole
+IsLastNotTaken before whole after OutOfMemory = HasLookedAt whole after

@@ -57,6 +57,10 @@ pub record SeesTheSame (before after : Viewer) : Type 0 where
 abbrev pub look_name : Look → Book
 look_name l = notice_name l.known
 
+-- the longest list that its viewer has learnt
+abbrev pub look_learnt : Look → List Entry
+look_learnt l = told l.known
+
 -- the list that a look shows
 abbrev pub shown : Look → List Entry
 shown l = accepted_of (view l.reading.place).now.seen.log

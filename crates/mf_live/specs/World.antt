@@ -65,6 +65,9 @@ pub record IsPending (published accepted : List Entry) : Type 0 where
   pub are : accepted ≡ published ++ pending
   pub labelled : All (λ (e : Entry). e.label ≡ next published) pending
 
+-- no accepted operation is refused, and there are at most so many; what is published is a whole prefix of what is accepted,
+-- and the rest has the next label; what each viewer has seen and each notice tells is a whole prefix of what is published;
+-- and nothing follows the end mark
 pub record IsLawful (max_ops : ℕ) (w : World) : Type 0 where
   pub unrefused : IsUnrefused w.accepted
   pub few : rev w.accepted ≤ max_ops

@@ -16,7 +16,7 @@ pub struct Viewer {
     pub(crate) reader: Reader<Live, View, Lists>,
     /// The longest notice that was learnt.
     pub(crate) known: Notice,
-    /// Whether the last look was not answered.
+    /// Whether the copy that was entered last was not shown, since it is older than a notice.
     pub(crate) missed: bool,
     ghost named: { (view reader.place).named ≡ true },
     ghost book: { (view reader.place).now.seen.book ≡ known.front.token.seen.book },

@@ -8,6 +8,7 @@ ghost use Rattle.mf_session.specs.Transcript.{Perform, IsTranscript};
 /// after them, the others.
 pub fn line_by_line()
     ensures together { (limits : Limits) (s t u : State) (lines more : List (List ℕ)) (text rest : List ℕ) → Perform limits s lines text t → Perform limits t more rest u → Perform limits s (lines ++ more) (text ++ rest) u }
+    ensures apart { (limits : Limits) (s u : State) (lines more : List (List ℕ)) (whole : List ℕ) → Perform limits s (lines ++ more) whole u → (t : State) × (text : List ℕ) × (rest : List ℕ) × Perform limits s lines text t × Perform limits t more rest u × (whole ≡ text ++ rest) }
 {}
 
 /// A line has at most one answer in a state: one text and one state after it.

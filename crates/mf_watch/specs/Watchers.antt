@@ -1,12 +1,10 @@
 -- What viewers have seen.
-use Rattle.std.specs.Prelude.{◌≡◌, ◌≤◌, ◌+◌, ℕ, All, List, [], ◌∷◌, ◌++◌, length, vec_capacity}
+use Rattle.std.specs.Prelude.{◌≡◌, ◌⊎◌, ◌≤◌, ◌+◌, ℕ, All, List, [], ◌∷◌, ◌++◌, length, vec_capacity}
 use Rattle.logbook.specs.Pages.{Book}
 use Rattle.mf_live.specs.Entries.{Entry, pic, rev}
 use Rattle.mf_live.specs.Prefixes.{IsWholePrefix}
 use Rattle.mf_live.specs.Viewers as viewers
 use Rattle.mf_rows.specs.Dots.{total_of}
-use Rattle.mf_live.specs.declared.sheet.SheetFault.{SheetFault}
-use Rattle.mf_live.specs.declared.sheet.SheetFault.TheVariants.{NoLook, OutOfMemory}
 use Rattle.mf_watch.specs.declared.glance.Glance.{Glance}
 use Rattle.mf_watch.specs.declared.watcher.Watcher.{Watcher}
 
@@ -49,13 +47,13 @@ IsRecord looks w = AreGlances (viewers.seen w.viewer) looks w.seen.items
 abbrev pub HasRoom : ℕ → Watcher → Type 0
 HasRoom more w = length w.seen.items + more ≤ vec_capacity w.seen
 
--- a viewer of this picture, with the record of so many looks, and room for more
+-- the last of these, if there is one, was seen of this list
+abbrev pub EndWith : List Entry → List Glance → Type 0
+EndWith list glances = (glances ≡ []) ⊎ ((earlier : List Glance) × (glances ≡ earlier ++ glance_at list ∷ []))
+
+-- a viewer of this picture, with the record of so many looks, which ends with its last look, and room for more
 pub record IsWatcher (picture : Book) (looks more : ℕ) (w : Watcher) : Type 0 where
   pub name_is : name w ≡ picture
   pub record_is : IsRecord looks w
+  pub last_is : EndWith (viewers.looked w.viewer) w.seen.items
   pub room : HasRoom more w
-
--- a last look, at this list, was not answered; or memory was wanting after it
-pub record IsMissed (whole : List Entry) (before after : Watcher) (fault : SheetFault) : Type 0 where
-  pub unanswered : fault ≡ NoLook → viewers.looked after.viewer ≡ viewers.looked before.viewer
-  pub wanting : fault ≡ OutOfMemory → viewers.looked after.viewer ≡ whole

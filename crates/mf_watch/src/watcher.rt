@@ -1,9 +1,10 @@
 //! Viewers that keep a record of their looks.
-ghost use Rattle.std.specs.Prelude.{◌≡◌, ◌+◌, ◌∷◌, ◌++◌, [], ℕ, true, IfErr, IfOk, OnOk};
+ghost use Rattle.std.specs.Prelude.{◌≡◌, ◌+◌, ◌∷◌, ◌++◌, [], ℕ, true, IfErr, IfOk, OnErr, OnOk};
 ghost use Rattle.logbook.specs.Pages.{Book};
 ghost use Rattle.mf_live.specs.Entries.{is_closed};
+ghost use Rattle.mf_live.specs.Sheets.{IsLastNotTaken};
 ghost use Rattle.mf_live.specs.Viewers as viewers;
-ghost use Rattle.mf_watch.specs.Watchers.{HasRoom, HasSeen, IsMissed, IsRecord, IsWatcher, glance_at, name};
+ghost use Rattle.mf_watch.specs.Watchers.{HasRoom, HasSeen, IsRecord, IsWatcher, glance_at, name};
 
 use crate::gate::Gate;
 use crate::glance::Glance;
@@ -67,14 +68,18 @@ impl Watcher {
     }
 
     /// Learns of the end, and looks once more, by a sheet. Refusals NoLook (26), where the look is not answered, and
-    /// OutOfMemory (14), after it.
+    /// OutOfMemory (14), after it; the record is as it was then. The caller owes room for one glance more, and a notice
+    /// of this picture with the end mark.
     pub fn look_last(&mut self, alloc: Global, notice: Notice) -> Result<Glance, SheetFault>
         requires room { HasRoom 1 self.old }
         requires name { viewers.notice_name notice ≡ name self.old }
         requires closed { is_closed (viewers.told notice) ≡ true }
+        ensures name { name self.new ≡ name self.old }
         ensures glance { IfOk result (λ glance. glance ≡ glance_at (viewers.told notice)) }
         ensures seen { OnOk result ((looks : ℕ) → IsRecord looks self.old → HasSeen (viewers.told notice) looks self.new.seen.items) }
-        ensures missed { IfErr result (IsMissed (viewers.told notice) self.old self.new) }
+        ensures recorded { OnOk result (self.new.seen.items ≡ self.old.seen.items ++ glance_at (viewers.told notice) ∷ []) }
+        ensures unchanged { OnErr result (self.new.seen ≡ self.old.seen) }
+        ensures missed { IfErr result (IsLastNotTaken self.old.viewer (viewers.told notice) self.new.viewer) }
     {
         let sheet = last_sheet(&mut self.viewer, alloc, notice)?;
         let glance = Glance::of(sheet.revision(), sheet.picture());

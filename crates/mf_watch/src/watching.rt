@@ -57,7 +57,7 @@ fn watchers(alloc: Global, desk: Desk, viewers: u32, looks: u32) -> Result<Vec<W
 impl Watching {
     /// Starts a thread for each of so many viewers of a desk, which looks so many times. The room for what they record
     /// is got before. Refusals NoPlace (15), where a place or a thread cannot be had, and OutOfMemory (14): the threads
-    /// that were started are joined.
+    /// that were started are joined. The caller owes that there are at most 64 viewers.
     pub fn start<S: Threads, G: Gate + 'static>(
         rt: &S,
         alloc: Global,
@@ -129,7 +129,8 @@ impl Watching {
         }
     }
 
-    /// Joins all threads. Refusal NoLook (26), where a look was refused in one of them.
+    /// Joins all threads, and waits for their gates. Refusal NoLook (26), where a look was refused in one of them. The
+    /// caller owes room for what they give back.
     pub fn join<S: Threads>(self, rt: &S) -> Result<Vec<Watcher>, NoLook>
         requires { vec_len self.room + vec_len self.threads ≤ vec_capacity self.room }
         ensures watchers { IfOk result (λ watchers. (picture : Book) (looks : ℕ) → AreStarted picture looks self → All (IsWatcher picture looks 1) watchers.items) }

@@ -30,6 +30,7 @@ fn ended_or_closing(published: (Holder, Result<(), OutOfMemory>)) -> Result<Ende
                 working: _,
                 revision: _,
                 unwritten: _,
+                waits: _,
             } = holder;
             Ok(Ended { swap, told })
         }
@@ -94,7 +95,7 @@ impl Ended {
         self.told.again()
     }
 
-    /// Ends it. It may wait for looks that are held, and looks are refused from then on.
+    /// Ends it. It may wait for looks that are held, and looks may be refused from then on.
     pub fn discard<R: Wait>(self, rt: &R) {
         let Ended { swap, told: _ } = self;
         swap.take(rt);

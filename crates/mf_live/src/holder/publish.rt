@@ -63,13 +63,15 @@ impl Holder {
         ensures published { published self.new ≡ published self.old }
         ensures working { self.new.working ≡ self.old.working }
         ensures written { (view self.new.swap.desk.place).unwritten ≡ [] }
+        ensures waits { self.new.waits ≡ false }
     {
         write_unwritten::<Brand, R>(rt, &self.swap, &self.head, &mut self.front, self.unwritten);
         let _none = self.swap.tell::<Wrote>();
         self.unwritten = 0;
+        self.waits = false;
     }
 
-    /// Publishes all that was accepted, if anything waits. At `Err` it may be tried again.
+    /// Publishes all that was accepted, if anything waits. At `Err` it may be tried again, with the version that waits.
     pub(crate) fn publish<R: Wait>(self, rt: &R) -> (Holder, Result<(), OutOfMemory>)
         ensures name { name result.0 ≡ name self }
         ensures accepted { accepted result.0 ≡ accepted self }
@@ -78,6 +80,9 @@ impl Holder {
     {
         if self.is_published() {
             return (self, Ok(()));
+        }
+        if self.waits {
+            return self.show(rt);
         }
         match self.working.copy(self.alloc) {
             Ok(picture) => self.publish_picture(rt, picture),
@@ -127,18 +132,19 @@ impl Holder {
             working,
             revision,
             unwritten,
+            waits: _,
         } = self;
         let (swap, shown) = swap.publish_as::<Looks, R>(rt);
-        let (notice, result) = match shown {
+        let (notice, waits, result) = match shown {
             Ok(()) => {
                 write::<Publishes, R>(rt, &head, &mut front, 1);
                 let notice = Notice {
                     front: front.again(),
                     number: revision,
                 };
-                (notice, Ok(()))
+                (notice, false, Ok(()))
             }
-            Err(_) => (told, Err(OutOfMemory)),
+            Err(_) => (told, true, Err(OutOfMemory)),
         };
         let holder = Holder {
             alloc,
@@ -149,6 +155,7 @@ impl Holder {
             working,
             revision,
             unwritten,
+            waits,
         };
         (holder, result)
     }

@@ -76,6 +76,7 @@ impl Holder {
                 working: Picture::blank(alloc),
                 revision: 0,
                 unwritten: 0,
+                waits: false,
             }),
             Err(_) => {
                 swap.take(rt);
@@ -100,6 +101,7 @@ impl Holder {
         note_operation::<Brand>(&mut self.swap, op);
         self.unwritten += 1;
         self.revision += 1;
+        self.waits = false;
         Ok(())
     }
 
@@ -113,6 +115,7 @@ impl Holder {
     {
         let _none = self.swap.tell::<Ends>();
         self.unwritten += 1;
+        self.waits = false;
     }
 
     /// Ends it. It waits until no viewer looks.
@@ -126,6 +129,7 @@ impl Holder {
             working: _,
             revision: _,
             unwritten: _,
+            waits: _,
         } = self;
         swap.take(rt);
     }

@@ -1,7 +1,7 @@
 //! What a look answers.
 ghost use Rattle.std.specs.Prelude.{◌≡◌};
 ghost use Rattle.mf_live.specs.Entries.{pic, rev};
-ghost use Rattle.mf_live.specs.Viewers.{name, looked, learnt, seen, look_name, shown, told};
+ghost use Rattle.mf_live.specs.Viewers.{name, looked, learnt, seen, look_learnt, look_name, shown};
 
 use super::Look;
 use crate::viewer::Viewer;
@@ -26,7 +26,7 @@ impl Look {
     pub fn leave(self) -> Viewer
         ensures name { name result ≡ look_name self }
         ensures looked { looked result ≡ shown self }
-        ensures learnt { learnt result ≡ told self.known }
+        ensures learnt { learnt result ≡ look_learnt self }
         ensures seen { seen result ≡ shown self }
     {
         let Look { reading, known } = self;

@@ -5,6 +5,31 @@ use crate::desk::open_picture;
 use mf_ops::Op;
 use std::test::Fail;
 
+/// The example of docs/LIVE.md.
+#[test]
+fn both_operations_are_shown_at_once(rt: HostRuntime) -> Result<(), Fail> {
+    let alloc = rt.alloc();
+    let op = contour(&rt, alloc, RECT, 1);
+    let (mut writer, mut desk) = open_picture(&rt, alloc, 2, 1_000_000)?;
+    let viewer = desk.viewer().expect(&rt, "a place is left");
+
+    writer.apply(alloc, op).expect(&rt, "the field has room");
+    writer
+        .apply(alloc, Op::Shift(3, 0))
+        .expect(&rt, "no pixel leaves the field");
+    writer.publish(&rt).expect(&rt, "there is memory");
+
+    let Ok(look) = viewer.look() else {
+        panic!(rt; "the writer is there");
+    };
+    let total = look.picture().total();
+    let _viewer = look.leave();
+
+    assert_eq!(rt; total, 6, "the shifted rectangle");
+    writer.discard(&rt);
+    Ok(())
+}
+
 #[test]
 fn shows_what_is_published(rt: HostRuntime) -> Result<(), Fail> {
     let alloc = rt.alloc();

@@ -4,7 +4,7 @@ ghost use Rattle.left_right.specs.Sides.{view};
 ghost use Rattle.mf_live.specs.Entries.{Entry, ends_last, is_closed};
 ghost use Rattle.mf_live.specs.Prefixes.{IsWholePrefix, longer};
 ghost use Rattle.mf_live.specs.Rule.{Looked, kept_by};
-ghost use Rattle.mf_live.specs.Viewers.{name, looked, seen, Extends, IsPublished, SeesTheSame, notice_name, told, look_name, shown};
+ghost use Rattle.mf_live.specs.Viewers.{name, learnt, looked, seen, Extends, IsPublished, SeesTheSame, notice_name, told, look_learnt, look_name, shown};
 
 use super::Viewer;
 use crate::live::Live;
@@ -35,6 +35,7 @@ impl Viewer {
         ensures name { MatchResult result (λ look. look_name look ≡ name self) (λ refused. name refused.0 ≡ name self) }
         ensures extends { MatchResult result (λ look. Extends self (shown look)) (λ refused. SeesTheSame self refused.0) }
         ensures ends { MatchResult result (λ look. ends_last (shown look) ≡ true) (λ refused. seen refused.0 ≡ seen self) }
+        ensures learnt { IfOk result (λ look. look_learnt look ≡ learnt self) }
         ensures published { IfOk result (λ look. IsPublished (shown look)) }
         ensures last { is_closed (seen self) ≡ true → IfOk result (λ look. shown look ≡ seen self) }
     {

@@ -5,7 +5,7 @@ use Rattle.mf_live.specs.declared.sheet.SheetFault.TheVariants.{NoLook, OutOfMem
 use Rattle.mf_live.specs.declared.viewer.Viewer.{Viewer}
 use Rattle.mf_live.specs.Entries.{Entry, is_closed, pic, rev}
 use Rattle.mf_live.specs.Prefixes.{IsWholePrefix, longer}
-use Rattle.mf_live.specs.Sheets.{HasLooked, IsLastNotTaken, IsNotTaken, IsTaken}
+use Rattle.mf_live.specs.Sheets.{HasLooked, HasLookedAt, IsLastNotTaken, IsNotTaken, IsTaken}
 use Rattle.mf_live.specs.Viewers.{Extends, learnt, looked, seen}
 use Rattle.mf_live.proofs.Looking.{shown-last}
 use Rattle.mf_live.proofs.laws.last_sheet.Goals as goal
@@ -15,6 +15,9 @@ looked_last : (before after : Viewer) (told : List Entry) → ((L : List Entry) 
 looked_last before after told includes closed look = shown-last told (looked after) (includes (looked after) look.extends) look.ends closed
 
 module _ {E : Type 0} (Q : E → Type 0) (before after : Viewer) (told : List Entry) (includes : (L : List Entry) → Extends before L → IsWholePrefix told L) (closed : is_closed told ≡ true) where
+  looked_at : HasLooked before after → HasLookedAt told after
+  looked_at look = let is = looked_last before after told includes closed look in record { looked = is; seen = look.seen ∙ is }
+
   sheet_picture : (answer : Result Sheet E) → MatchResult answer (λ sheet. IsTaken before after sheet) Q → IfOk answer (λ sheet. sheet.picture ≡ pic told)
   sheet_picture (Ok sheet) taken = taken.picture ∙ ap pic (looked_last before after told includes closed taken.look)
   sheet_picture (Err fault) taken = tt
@@ -32,7 +35,11 @@ module _ {E : Type 0} (Q : E → Type 0) (before after : Viewer) (told : List En
       → MatchResult answer (λ sheet. IsTaken before after sheet) (IsNotTaken before after) → IfErr answer (IsLastNotTaken first told after)
   not_taken first same learnt (Ok sheet) taken = tt
   not_taken first same known (Err NoLook) is = record { looked = is.looked ∙ same; seen = ap (λ L. longer L (learnt after)) is.looked ∙ ap (longer (looked before)) is.learnt ∙ known }
-  not_taken first same learnt (Err NoMemory) look = looked_last before after told includes closed look
+  not_taken first same learnt (Err NoMemory) look = looked_at look
+
+  sheet_looked : (answer : Result Sheet E) → MatchResult answer (λ sheet. IsTaken before after sheet) Q → OnOk answer (HasLookedAt told after)
+  sheet_looked (Ok sheet) taken = looked_at taken.look
+  sheet_looked (Err fault) taken = tt
 
 pub returns-clause-picture : goal.returns-clause-picture
 returns-clause-picture c =
@@ -49,3 +56,7 @@ returns-clause-extends c =
 pub returns-clause-not_taken : goal.returns-clause-not_taken
 returns-clause-not_taken c =
     not_taken (IsNotTaken c.sheet.new.self c.sheet.new.self) _ c.sheet.new.self _ (λ L extends. (c.learn.ensures.keeps L extends).1) c.requires.closed _ c.learn.ensures.looked c.learn.ensures.seen c.sheet.result c.sheet.ensures.taken
+
+pub returns-clause-looked : goal.returns-clause-looked
+returns-clause-looked c =
+    sheet_looked _ _ c.sheet.new.self _ (λ L extends. (c.learn.ensures.keeps L extends).1) c.requires.closed c.sheet.result c.sheet.ensures.taken

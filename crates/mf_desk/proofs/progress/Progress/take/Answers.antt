@@ -1,6 +1,6 @@
-use Rattle.std.proofs.Common.{◌≡◌, ◌+◌, ◌<◌, ◌==◌, ◌++◌, ◌∷◌, [], List, ℕ, true, length, get_or, take, drop, sym, ap, ◌∙◌, subst, arith, append_assoc, length-append, take-append-drop}
+use Rattle.std.proofs.Common.{◌≡◌, ◌+◌, ◌<◌, ◌==◌, ◌++◌, ◌∷◌, [], List, ℕ, true, length, get_or, take, drop, sym, ap, ◌∙◌, subst, arith, append-nil, append_assoc, refl, length-append, take-append-drop}
 use Rattle.std.proofs.lemmas.Bool.{eqb-true, eq-eqb}
-use Rattle.std.proofs.lemmas.List.{drop_more, get_or_default, take_rest}
+use Rattle.std.proofs.lemmas.List.{drop_more, get_or-take, get_or_default, length-take-le, take_rest}
 use Rattle.std.proofs.lemmas.Result.{err_from_is_err_and, IfErr-weaker}
 use Rattle.mf_desk.specs.Fault.{CutsShort}
 use Rattle.mf_desk.specs.Progress.{IsAfter}
@@ -58,3 +58,22 @@ returns-clause-fault g c =
     rw (← same) (IfErr-weaker c.keep.result _ _ (λ fault cut_short held left read after.
     subst (λ all. CutsShort (limits c.lines.self.performer.session) fault left all held (g.W.Write.contents c.lines.writer)) (whole read)
     (cut_short held left (read ++ done) rest _ (goes_on held read after))) c.keep.ensures.fault)
+
+pub lines-init : goal.lines-init
+lines-init g c = (
+  [],
+  refl,
+  omega arith,
+  λ held read after. rw (append-nil read) after,
+  refl,
+  refl,
+)
+
+pub take_line-requires-clause-unbroken : goal.take_line-requires-clause-unbroken
+take_line-requires-clause-unbroken g c = λ k d within is.
+    let first = c.in-Some.ensures.0 in
+    let rest = c.lines.rest.now in
+    let at = c.in-Some.place in
+    let below : k < at = omega (arith, within, first.high, length-take-le at rest (omega (arith, first.high))) in
+    let inside : k < length rest = omega (arith, below, first.high) in
+    first.before k (omega arith) below (eq-eqb _ 10 (get_or_default rest k 0 d inside ∙ sym (get_or-take at rest k d below) ∙ is))

@@ -1,4 +1,5 @@
 use Rattle.std.proofs.Common.{rules, ◌≡◌, ◌<◌, false, None, refl, ap, sym, ◌∙◌, arith}
+use Rattle.std.proofs.lemmas.Bool.{false≢true}
 use Rattle.left_right.specs.Sides.{view}
 use Rattle.mf_ops.specs.Step.{fault_of}
 use Rattle.mf_ops.specs.declared.op.Op.{Op}
@@ -39,6 +40,8 @@ invariant_of-self-2 c =
       told_is = more.published ∙ h.told_is;
       lawful = more.lawful;
       alive = more.alive;
+      written = λ waits. absurd (false≢true waits);
+      coming = λ waits. absurd (false≢true waits);
       counted = more.counted;
       pictured = step ∙ sym (ap pic more.accepted ∙ pic-push (accepted h) (next (published h)) op);
       numbered = omega (arith, h.numbered, ap rev more.accepted, rev-push (accepted h) (next (published h)) op);

@@ -1,4 +1,5 @@
 use Rattle.std.proofs.Common.{rules, ◌≡◌, false, inr, refl, ap, sym, ◌∙◌, arith}
+use Rattle.std.proofs.lemmas.Bool.{false≢true}
 use Rattle.left_right.specs.Sides.{view}
 use Rattle.mf_live.specs.declared.event.Event.TheVariants.{Close}
 use Rattle.mf_live.specs.declared.holder.Holder.{Holder}
@@ -37,6 +38,8 @@ invariant_of-self c =
       told_is = more.published ∙ h.told_is;
       lawful = more.lawful;
       alive = more.alive;
+      written = λ waits. absurd (false≢true waits);
+      coming = λ waits. absurd (false≢true waits);
       counted = more.counted;
       pictured = h.pictured ∙ sym (ap pic more.accepted ∙ pic-end (accepted h) (next (published h)));
       numbered = omega (arith, h.numbered, ap rev more.accepted, rev-end (accepted h) (next (published h)));

@@ -1,5 +1,6 @@
 use Rattle.std.proofs.Common.{◌≡◌, ◌≤◌, ◌+◌, ◌*◌, List, [], length, fold, ap, sym, subst, ◌∙◌, le_refl}
 use Rattle.std.proofs.lemmas.Result.{MatchResult-at_ok}
+use Rattle.std.proofs.lemmas.Bool.{false≢true}
 use Rattle.left_right.specs.Sides.{view}
 use Rattle.mf_live.specs.declared.event.Event.{Event}
 use Rattle.mf_live.specs.declared.history.Token.{Token}
@@ -45,6 +46,8 @@ invariant_of-result-in-Ok g c = let token = c.open_history-head.result.1.token i
       told_is = ap published_of (blank ∙ sym none_told);
       lawful = subst (Happen most start) (sym blank) tt;
       alive = ap (λ (events : List Event). (world_after start events).dropped) blank;
+      written = λ waits. absurd (false≢true waits);
+      coming = λ waits. absurd (false≢true waits);
       counted = sym (ap (λ (v : View). length v.unwritten) named);
       pictured = c.blank.ensures ∙ sym (pic-blank _ (ap accepted_of blank));
       numbered = sym (rev-blank _ (ap accepted_of blank));

@@ -1,5 +1,6 @@
 use Rattle.std.proofs.Common.{◌≡◌, ◌∙◌, [], ◌∷◌, ◌++◌, List, length, sym, ap, subst, arith}
 use Rattle.std.proofs.lemmas.List.{append-nil}
+use Rattle.std.proofs.lemmas.Bool.{false≢true}
 use Rattle.left_right.specs.Sides.{view}
 use Rattle.mf_live.specs.declared.event.Event.{Event}
 use Rattle.mf_live.specs.declared.event.Event.TheVariants.{Publish}
@@ -9,7 +10,7 @@ use Rattle.mf_live.specs.declared.view.View.{View}
 use Rattle.mf_live.specs.Books.{most, head_of}
 use Rattle.mf_live.specs.Entries.{pic, rev}
 use Rattle.mf_live.specs.Holders.{events, accepted}
-use Rattle.mf_live.specs.Rule.{history, token_of, book_of, shown_by}
+use Rattle.mf_live.specs.Rule.{history, token_of, token_after, book_of, shown_by}
 use Rattle.mf_live.specs.World.{Happen, start, world_after, accepted_of, published_of}
 use Rattle.mf_live.proofs.Histories.{few_events}
 use Rattle.mf_live.proofs.Publishing.{events-written, publishes_all, accepted_of-publish, published_of-publish, shown_by-publish, dropped-publish, Happen-publish, length-publish}
@@ -65,6 +66,8 @@ invariant_of-holder g c =
             told_is = ap published_of (history_is ∙ sym log);
             lawful = subst (Happen most start) (sym history_is) (Happen-publish h written);
             alive = ap (λ (es : List Event). (world_after start es).dropped) history_is ∙ dropped-publish h written;
+            written = λ waits. absurd (false≢true (sym (ap (λ p. p.1) w.notice-is) ∙ waits));
+            coming = λ waits. absurd (false≢true (sym (ap (λ p. p.1) w.notice-is) ∙ waits));
             counted = h.counted ∙ ap length (written ∙ sym none);
             pictured = h.pictured ∙ ap pic (sym accepts);
             numbered = h.numbered ∙ ap rev (sym accepts);
@@ -88,6 +91,8 @@ invariant_of-holder g c =
             told_is = ap published_of history_is ∙ h.told_is ∙ ap published_of (sym log);
             lawful = subst (Happen most start) (sym history_is) h.lawful;
             alive = ap (λ (es : List Event). (world_after start es).dropped) history_is ∙ h.alive;
+            written = λ _. h.counted ∙ ap length written;
+            coming = λ _. (λ i. token_after (kept.0 i) (kept.1 i)) ∙ c.requires.coming ∙ sym front_is;
             counted = h.counted ∙ ap (λ (v : View). length v.unwritten) (sym view_is);
             pictured = h.pictured ∙ ap (λ (es : List Event). pic (accepted_of es)) (sym history_is);
             numbered = h.numbered ∙ ap (λ (es : List Event). rev (accepted_of es)) (sym history_is);

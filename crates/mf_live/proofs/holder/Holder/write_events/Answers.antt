@@ -1,4 +1,5 @@
 use Rattle.std.proofs.Common.{rules, ◌≡◌, inr, refl, ap, ◌∙◌, arith}
+use Rattle.std.proofs.lemmas.Bool.{false≢true}
 use Rattle.left_right.specs.Sides.{view}
 use Rattle.mf_live.specs.declared.history.Token.{Token}
 use Rattle.mf_live.specs.declared.holder.Holder.{Holder}
@@ -43,6 +44,8 @@ invariant_of-self g c =
       told_is = rw same h.told_is;
       lawful = rw same h.lawful;
       alive = rw same h.alive;
+      written = λ waits. absurd (false≢true waits);
+      coming = λ waits. absurd (false≢true waits);
       counted = search rules;
       pictured = rw same h.pictured;
       numbered = rw same h.numbered;

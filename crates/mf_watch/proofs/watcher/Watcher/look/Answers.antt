@@ -1,4 +1,4 @@
-use Rattle.std.proofs.Common.{[], ◌∷◌, ◌++◌, ◌+◌, ◌∙◌, subst, sym, ap, arith}
+use Rattle.std.proofs.Common.{[], ◌∷◌, ◌++◌, ◌+◌, ◌∙◌, inr, subst, sym, ap, arith}
 use Rattle.mf_live.specs.Viewers as viewers
 use Rattle.mf_watch.specs.Watchers.{AreGlances, glance_at}
 use Rattle.mf_watch.proofs.Glances.{AreGlances-push, glance-of}
@@ -13,6 +13,7 @@ returns-clause-watcher g c = λ picture looks more before.
     record {
       name_is = c.leave.ensures.name ∙ c.in-Ok.ensures.name ∙ before.name_is;
       record_is = subst (λ list. AreGlances list (looks + 1) c.push.new.self.items) (sym c.leave.ensures.seen) (subst (λ gs. AreGlances L (looks + 1) gs) (sym pushed) seen);
+      last_is = inr (c.args.self.seen.items, c.in-Ok-push.ensures.items ∙ ap (λ g. c.args.self.seen.items ++ g ∷ []) (glance ∙ ap glance_at (sym c.leave.ensures.looked)));
       room = omega (arith, before.room, c.push.ensures.capacity, c.in-Ok-push.ensures.len);
     }
 

@@ -1,4 +1,4 @@
-use Rattle.std.proofs.Common.{refl, subst, sym, arith}
+use Rattle.std.proofs.Common.{inl, refl, subst, sym, arith}
 use Rattle.mf_live.specs.Viewers as viewers
 use Rattle.mf_watch.specs.Watchers.{AreGlances}
 use Rattle.mf_watch.proofs.Glances.{AreGlances-none}
@@ -10,5 +10,6 @@ returns c =
     record {
       name_is = refl;
       record_is = subst (λ gs. AreGlances (viewers.seen c.args.viewer) 0 gs) (sym made.items) (AreGlances-none (viewers.seen c.args.viewer));
+      last_is = inl made.items;
       room = omega (arith, made.len, made.capacity);
     }
