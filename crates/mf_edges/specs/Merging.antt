@@ -21,7 +21,7 @@ pub record AreChanges (es : List Edge) : Type 0 where
   pub changes : (x : ℤ) → IsChange (weight_in es x)
   pub closed : weight_in es (pos 4095) ≡ pos 0
 
--- edges that are still to be added: sorted, the first of them at or right of column low
+-- edges that are still to be added: sorted, the first of them at or right of column low, each a difference of two weights
 pub record AreEdgesLeft (low : ℤ) (es : List Edge) : Type 0 where
   pub sorted : AreEdgesFrom low es
   pub differences : All (λ e. IsDifference e.weight) es
@@ -36,7 +36,7 @@ abbrev pub BeginAt : ℤ → List Edge → Type 0
 BeginAt x [] = ⊥
 BeginAt x (e ∷ es) = e.x ≡ x
 
--- the edge at column x has weight w, or none stands there and w is 0, and the others are left
+-- the edge at column x has weight w, or none stands there and w is 0, and the others, fewer where one stands there, are left
 pub record IsSplitAt (es : List Edge) (x w : ℤ) (others : List Edge) : Type 0 where
   pub weights : HaveWeights (with_edge_in others x w) es
   pub difference : IsDifference w

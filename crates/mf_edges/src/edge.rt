@@ -20,7 +20,8 @@ pub struct Edge {
     pub weight: i32,
 }
 
-/// The weight at column x of a row with these edges.
+/// The weight at column x, in pixels, of a row with these edges. The caller owes the edges of a row: sorted by column, in
+/// -4095..=4095, none of weight 0, with lawful weights between them, and closed at the right end.
 pub fn weight_at_column(edges: &[Edge], x: i32) -> i32
     requires { AreEdges edges.now }
     ensures { result ≡ weight_in edges.now x }
@@ -35,7 +36,7 @@ pub fn weight_at_column(edges: &[Edge], x: i32) -> i32
     weight
 }
 
-/// The greatest size of a weight between these edges, 0 where there are none.
+/// The greatest size of a weight between these edges, 0 where there are none. The caller owes the edges of a row.
 pub fn reach_of(edges: &[Edge]) -> i32
     requires { AreEdges edges.now }
     ensures stays { StaysInReach result edges.now }
@@ -51,7 +52,8 @@ pub fn reach_of(edges: &[Edge]) -> i32
 }
 
 /// Adds a weight from a column on: to the edge that stands there, which goes where the two cancel, or as
-/// an edge of its own.
+/// an edge of its own. Refusal OutOfMemory (14): the edges are as they were. The caller owes sorted edges, a column in
+/// -4095..=4095 and a lawful weight.
 pub fn add_edge(edges: &mut Vec<Edge>, x: i32, weight: i32) -> Result<(), OutOfMemory>
     requires edges { AreOpenEdges edges.old.items }
     requires left { negsuc 4094 ≤ℤ x }

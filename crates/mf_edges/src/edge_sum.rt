@@ -13,8 +13,9 @@ use crate::field::is_lawful_weight;
 use mf_geom::OutOfMemory;
 use std::alloc::Global;
 
-/// The edges of a row and of what is added to it together. Refused with WeightTooLarge where a weight
-/// between them would pass 32767 in size.
+/// The edges of a row and of what is added to it together. Refusals WeightTooLarge (12), where a weight
+/// between them would pass 32767 in size, and OutOfMemory (14), which may come in its place. The caller owes the edges of
+/// a row, and changes of one: sorted, closed, with differences of lawful weights.
 pub fn sum_of_edges(alloc: Global, left: &[Edge], right: &[Edge]) -> Result<Vec<Edge>, AddFault>
     requires left { AreEdges left.now }
     requires right { AreChanges right.now }
@@ -51,7 +52,8 @@ pub fn sum_of_edges(alloc: Global, left: &[Edge], right: &[Edge]) -> Result<Vec<
 }
 
 /// The edges of a row and of what is added to it together: no weight can pass 32767 in size, so none between them is
-/// looked at, and the place of each change is found by halving.
+/// looked at, and the place of each change is found by halving. Refusal OutOfMemory (14): nothing was made. The caller owes the
+/// edges of two rows, whose greatest sizes of a weight add up to at most 32767.
 pub fn with_changes(alloc: Global, left: &[Edge], right: &[Edge]) -> Result<Vec<Edge>, OutOfMemory>
     requires left { AreEdges left.now }
     requires right { AreEdges right.now }

@@ -21,7 +21,8 @@ pub enum RowChange {
     Columns(Stretch),
 }
 
-/// The edges of a row after a change.
+/// The edges of a row after a change. Refusal OutOfMemory (14): nothing was made. The caller owes the edges of a row, and a
+/// change that it allows: a map that leaves weight 0 at 0 and gives lawful weights, or a stretch that keeps it in the field.
 pub fn changed_edges(
     alloc: Global,
     edges: &[Edge],

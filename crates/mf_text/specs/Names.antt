@@ -7,7 +7,7 @@ use Rattle.mf_text.specs.declared.fault.GridFault.TheVariants.{ProofTooLarge, Ou
 use Rattle.mf_text.specs.declared.fault.TextFault.{TextFault}
 use Rattle.mf_text.specs.declared.fault.TextFault.TheVariants.{Cycle, BadWeight, BadCull, BadScale, BadTurn, OutOfMemory, LineTooLong, NotAscii, Syntax}
 
--- the name of a refusal, and behind a space its number where it has one
+-- the name of a refusal, and behind a space the place or the column where it has one
 abbrev pub text_fault_text : TextFault → List ℕ
 text_fault_text (Cycle fault) = fault_text fault
 text_fault_text BadWeight = bad_weight_text

@@ -18,7 +18,8 @@ pub fn one_line()
     ensures { (l m : Line) → spell_line l ≡ spell_line m → l ≡ m }
 {}
 
-/// A line gives one command, or has one refusal, not both; where memory is wanting it may have either.
+/// A line gives at most one command, and has at most one refusal beside want of memory, and never both. That it has one of
+/// them is what `read_command` answers.
 pub fn one_answer()
     ensures command { (bytes : List ℕ) (one other : Command) → Gives bytes one → Gives bytes other → one ≡ other }
     ensures refusal { (bytes : List ℕ) (one other : TextFault) → one ≢ TextFault.OutOfMemory → other ≢ TextFault.OutOfMemory → IsRefused bytes one → IsRefused bytes other → one ≡ other }
