@@ -1,5 +1,6 @@
 -- What a clause reads of the taking of a sheet.
-use Rattle.std.specs.Prelude.{◌≡◌, true, List}
+use Rattle.std.specs.Prelude.{◌≡◌, true, ℕ, List}
+use Rattle.mf_rows.specs.Dots.{Dot}
 use Rattle.mf_live.specs.declared.sheet.Sheet.{Sheet}
 use Rattle.mf_live.specs.declared.sheet.SheetFault.{SheetFault}
 use Rattle.mf_live.specs.declared.sheet.SheetFault.TheVariants.{NoLook, OutOfMemory}
@@ -7,6 +8,13 @@ use Rattle.mf_live.specs.declared.viewer.Viewer.{Viewer}
 use Rattle.mf_live.specs.Entries.{Entry, ends_last, pic, rev}
 use Rattle.mf_live.specs.Prefixes.{longer}
 use Rattle.mf_live.specs.Viewers.{Extends, IsPublished, SeesTheSame, learnt, looked, seen}
+
+-- what a sheet has
+abbrev pub sheet_picture : Sheet → List Dot
+sheet_picture s = s.picture
+
+abbrev pub sheet_revision : Sheet → ℕ
+sheet_revision s = s.revision
 
 -- a viewer has looked, at a list that has been published, in which nothing follows the end mark
 pub record HasLooked (before after : Viewer) : Type 0 where
@@ -19,8 +27,8 @@ pub record HasLooked (before after : Viewer) : Type 0 where
 -- a sheet has what its look showed
 pub record IsTaken (before after : Viewer) (sheet : Sheet) : Type 0 where
   pub look : HasLooked before after
-  pub picture : sheet.picture ≡ pic (looked after)
-  pub revision : sheet.revision ≡ rev (looked after)
+  pub picture : sheet_picture sheet ≡ pic (looked after)
+  pub revision : sheet_revision sheet ≡ rev (looked after)
 
 -- where no sheet was given, the viewer has not looked, or memory was wanting after it had
 abbrev pub IsNotTaken : Viewer → Viewer → SheetFault → Type 0

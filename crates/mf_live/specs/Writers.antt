@@ -1,5 +1,5 @@
 -- What a clause reads of writers and of what they become at the end.
-use Rattle.std.specs.Prelude.{◌≡◌, List, ◌∷◌, ◌++◌, []}
+use Rattle.std.specs.Prelude.{◌≡◌, ℕ, List, ◌∷◌, ◌++◌, []}
 use Rattle.logbook.specs.Pages.{Book}
 use Rattle.mf_live.specs.declared.closing.Closing.{Closing}
 use Rattle.mf_live.specs.declared.closing.CloseFault.{CloseFault}
@@ -22,6 +22,10 @@ accepted w = holders.accepted w.holder
 -- what was published of it
 abbrev pub published : Writer → List Entry
 published w = holders.published w.holder
+
+-- how many operations are accepted at most
+abbrev pub limit : Writer → ℕ
+limit w = w.max_ops
 
 abbrev pub closing_name : Closing → Book
 closing_name c = holders.name c.holder
@@ -48,7 +52,7 @@ pub record IsSameWriter (before after : Writer) : Type 0 where
   pub name : name after ≡ name before
   pub accepted : accepted after ≡ accepted before
   pub published : published after ≡ published before
-  pub max_ops : after.max_ops ≡ before.max_ops
+  pub max_ops : limit after ≡ limit before
 
 -- the end mark is set, and not published
 pub record IsHalfway (before : Writer) (after : Closing) : Type 0 where

@@ -4,7 +4,7 @@ ghost use Rattle.mf_live.specs.declared.event.Event.{Event};
 ghost use Rattle.mf_live.specs.declared.event.Event.TheVariants.{Look};
 ghost use Rattle.mf_live.specs.Entries.{rev, is_closed, pic};
 ghost use Rattle.mf_live.specs.Prefixes.{IsWholePrefix, HasWholePublishes};
-ghost use Rattle.mf_live.specs.Sheets.{HasLearnt, HasLookedAt, IsLastNotTaken};
+ghost use Rattle.mf_live.specs.Sheets.{HasLearnt, HasLookedAt, IsLastNotTaken, sheet_picture, sheet_revision};
 ghost use Rattle.mf_live.specs.Viewers as viewers;
 ghost use Rattle.mf_live.specs.World.{start, Happen, EverySchedule, accepted_of, published_of};
 
@@ -55,8 +55,8 @@ pub fn last_sheet(viewer: &mut Viewer, alloc: Global, notice: Notice) -> Result<
     requires name { viewers.notice_name notice ≡ viewers.name viewer.old }
     requires closed { is_closed (viewers.told notice) ≡ true }
     ensures name { viewers.name viewer.new ≡ viewers.name viewer.old }
-    ensures picture { IfOk result (λ sheet. sheet.picture ≡ pic (viewers.told notice)) }
-    ensures revision { IfOk result (λ sheet. sheet.revision ≡ rev (viewers.told notice)) }
+    ensures picture { IfOk result (λ sheet. sheet_picture sheet ≡ pic (viewers.told notice)) }
+    ensures revision { IfOk result (λ sheet. sheet_revision sheet ≡ rev (viewers.told notice)) }
     ensures extends { OnOk result (viewers.Extends viewer.old (viewers.told notice)) }
     ensures looked { OnOk result (HasLookedAt (viewers.told notice) viewer.new) }
     ensures not_taken { IfErr result (IsLastNotTaken viewer.old (viewers.told notice) viewer.new) }

@@ -15,4 +15,4 @@ name v = writers.name v.writer
 
 -- how many operations `currentpicture` accepts
 abbrev pub max_ops : Variables → ℕ
-max_ops v = v.writer.max_ops
+max_ops v = writers.limit v.writer

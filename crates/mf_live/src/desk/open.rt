@@ -28,7 +28,7 @@ pub fn open_picture<R: Wait>(
     requires { places ≤ 64 }
     ensures accepted { IfOk result (λ opened. writers.accepted opened.0 ≡ []) }
     ensures published { IfOk result (λ opened. writers.published opened.0 ≡ []) }
-    ensures limit { IfOk result (λ opened. opened.0.max_ops ≡ max_ops) }
+    ensures limit { IfOk result (λ opened. writers.limit opened.0 ≡ max_ops) }
     ensures name { IfOk result (λ opened. desk_name opened.1 ≡ writers.name opened.0) }
     ensures places { IfOk result (λ opened. left opened.1 ≤ places) }
 {

@@ -1,6 +1,6 @@
 //! Taking sheets.
 ghost use Rattle.std.specs.Prelude.{◌≡◌, MatchResult};
-ghost use Rattle.mf_live.specs.Sheets.{IsTaken, IsNotTaken};
+ghost use Rattle.mf_live.specs.Sheets.{IsTaken, IsNotTaken, sheet_picture, sheet_revision};
 ghost use Rattle.mf_live.specs.Viewers.{name};
 
 use super::{Sheet, SheetFault};
@@ -12,14 +12,14 @@ use std::alloc::Global;
 impl Sheet {
     /// The picture.
     pub fn picture(&self) -> &Picture
-        ensures { result.now ≡ self.now.picture }
+        ensures { result.now ≡ sheet_picture self.now }
     {
         &self.picture
     }
 
     /// The number of its operations.
     pub fn revision(&self) -> u32
-        ensures { result ≡ self.now.revision }
+        ensures { result ≡ sheet_revision self.now }
     {
         self.revision
     }

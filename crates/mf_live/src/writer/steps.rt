@@ -5,7 +5,7 @@ ghost use Rattle.mf_ops.specs.declared.op.Op.TheVariants.{Clear};
 ghost use Rattle.mf_live.specs.Entries.{entry, pic, rev, next, Operation};
 ghost use Rattle.mf_live.specs.Holders as holders;
 ghost use Rattle.mf_live.specs.Viewers.{notice_name, told};
-ghost use Rattle.mf_live.specs.Writers.{name, accepted, published, IsSameWriter};
+ghost use Rattle.mf_live.specs.Writers.{name, accepted, published, limit, IsSameWriter};
 
 use super::Writer;
 use crate::fault::Fault;
@@ -36,13 +36,13 @@ impl Writer {
     pub fn apply(&mut self, alloc: Global, op: Op) -> Result<(), (Op, Fault)>
         ensures name { name self.new ≡ name self.old }
         ensures published { published self.new ≡ published self.old }
-        ensures limit { self.new.max_ops ≡ self.old.max_ops }
+        ensures limit { limit self.new ≡ limit self.old }
         ensures accepted { MatchResult result (λ _. accepted self.new ≡ accepted self.old ++ entry (next (published self.old)) (Operation op) ∷ []) (λ _. accepted self.new ≡ accepted self.old) }
-        ensures allowed { OnOk result ((rev (accepted self.old) < self.old.max_ops) × (fault_of (pic (accepted self.old)) op ≡ None)) }
+        ensures allowed { OnOk result ((rev (accepted self.old) < limit self.old) × (fault_of (pic (accepted self.old)) op ≡ None)) }
         ensures handed_back { IfErr result (λ refused. refused.0 ≡ op) }
-        ensures too_many { (rev (accepted self.old) ≡ self.old.max_ops) ↔ (result ≡ Err (op, Fault.TooManyOperations)) }
-        ensures clears { op ≡ Clear → rev (accepted self.old) < self.old.max_ops → IsOk result }
-        ensures out_of_field { rev (accepted self.old) < self.old.max_ops → fault_of (pic (accepted self.old)) op ≡ Some OpFault.OutOfField → result ≡ Err (op, Fault.Refused OpFault.OutOfField) }
+        ensures too_many { (rev (accepted self.old) ≡ limit self.old) ↔ (result ≡ Err (op, Fault.TooManyOperations)) }
+        ensures clears { op ≡ Clear → rev (accepted self.old) < limit self.old → IsOk result }
+        ensures out_of_field { rev (accepted self.old) < limit self.old → fault_of (pic (accepted self.old)) op ≡ Some OpFault.OutOfField → result ≡ Err (op, Fault.Refused OpFault.OutOfField) }
         ensures refused { IfErr result (λ refused. (fault : OpFault) → refused.1 ≡ Fault.Refused fault → fault ≢ OpFault.OutOfMemory → fault_of (pic (accepted self.old)) op ≡ Some fault) }
     {
         if self.holder.revision == self.max_ops {
@@ -82,7 +82,7 @@ impl Writer {
         ensures accepted { accepted self.new ≡ accepted self.old }
         ensures published { MatchResult result (λ _. published self.new ≡ accepted self.old) (λ _. published self.new ≡ published self.old) }
         ensures nothing { published self.old ≡ accepted self.old → IsOk result }
-        ensures limit { self.new.max_ops ≡ self.old.max_ops }
+        ensures limit { limit self.new ≡ limit self.old }
     {
         publish_held(&mut self.holder, rt)
     }
