@@ -90,7 +90,7 @@ impl Holder {
         }
     }
 
-    /// Publishes all that was accepted, of which this is the picture.
+    /// Publishes all that was accepted, of which this is the picture. No version of it waits in the queue.
     pub(crate) fn publish_picture<R: Wait>(
         mut self,
         rt: &R,
@@ -98,6 +98,7 @@ impl Holder {
     ) -> (Holder, Result<(), OutOfMemory>)
         requires picture { picture ≡ pic (accepted self) }
         requires waits { length (published self) < length (accepted self) }
+        requires none_queued { self.waits ≡ false }
         ensures name { name result.0 ≡ name self }
         ensures accepted { accepted result.0 ≡ accepted self }
         ensures published { MatchResult result.1 (λ _. published result.0 ≡ accepted self) (λ _. published result.0 ≡ published self) }

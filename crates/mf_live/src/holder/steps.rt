@@ -112,6 +112,7 @@ impl Holder {
         ensures accepted { accepted self.new ≡ accepted self.old ++ entry (next (published self.old)) End ∷ [] }
         ensures published { published self.new ≡ published self.old }
         ensures working { self.new.working ≡ self.old.working }
+        ensures none_queued { self.new.waits ≡ false }
     {
         let _none = self.swap.tell::<Ends>();
         self.unwritten += 1;
