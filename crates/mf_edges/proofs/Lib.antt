@@ -1,9 +1,11 @@
 pub mod AddedEdges
 pub mod EdgeChanges
 pub mod EdgeMaps
-pub mod EdgeSums
+pub mod EdgesJoined
 pub mod EdgesLemmas
+pub mod EdgeSums
 pub mod Falls
 pub mod ReachesLemmas
+pub mod ReachesOfSums
 pub mod Sources
 pub mod SumsBefore

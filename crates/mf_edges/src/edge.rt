@@ -52,8 +52,9 @@ pub fn reach_of(edges: &[Edge]) -> i32
 }
 
 /// Adds a weight from a column on: to the edge that stands there, which goes where the two cancel, or as
-/// an edge of its own. Refusal OutOfMemory (14): the edges are as they were. The caller owes sorted edges, a column in
-/// -4095..=4095 and a lawful weight.
+/// an edge of its own. Refusal OutOfMemory (14): the edges are as they were. The caller owes sorted edges in -4095..=4095,
+/// none of weight 0, with lawful weights between them, a column in -4095..=4095 and a lawful weight; that the weights are
+/// lawful afterwards is owed anew before the next call.
 pub fn add_edge(edges: &mut Vec<Edge>, x: i32, weight: i32) -> Result<(), OutOfMemory>
     requires edges { AreOpenEdges edges.old.items }
     requires left { negsuc 4094 ≤ℤ x }

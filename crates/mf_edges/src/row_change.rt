@@ -22,7 +22,8 @@ pub enum RowChange {
 }
 
 /// The edges of a row after a change. Refusal OutOfMemory (14): nothing was made. The caller owes the edges of a row, and a
-/// change that it allows: a map that leaves weight 0 at 0 and gives lawful weights, or a stretch that keeps it in the field.
+/// change that it allows: a map that leaves weight 0 at 0 and gives lawful weights, or a stretch by a factor in
+/// 1..=4095 that keeps it in the field.
 pub fn changed_edges(
     alloc: Global,
     edges: &[Edge],

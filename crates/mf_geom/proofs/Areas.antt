@@ -92,7 +92,7 @@ area-strips ps cycle =
 pub shoelace-area : (ps : List Point) → IsRectilinearCycle ps → sum_below (length ps) (shoelace_at ps) ≡ pos 2 *ℤ area ps
 shoelace-area ps cycle = shoelace-strips ps cycle ∙ ap (λ n. pos 2 *ℤ n) (sym (area-strips ps cycle))
 
-sum_over_field-winding : (ps : List Point) → IsRectilinearCycle ps → sum_over_field (winding ps) ≡ area ps
+pub sum_over_field-winding : (ps : List Point) → IsRectilinearCycle ps → sum_over_field (winding ps) ≡ area ps
 unfolding crossing_at edge_at
 sum_over_field-winding ps cycle =
     let in_reach = cycle.reach.in_reach in

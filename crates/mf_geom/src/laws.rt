@@ -12,10 +12,11 @@ ghost use Rattle.mf_geom.specs.Sum.{sum_below};
 ghost use Rattle.mf_geom.specs.Turning.{turn_at, turning};
 ghost use Rattle.mf_geom.specs.Winding.{quarter_at, winding, contour};
 
-/// What filling a rectilinear cycle adds, over all pixels of the field, is its weight times the sign of
-/// its turning number times its signed area.
+/// The winding numbers of a rectilinear cycle round all pixels of the field add up to its signed area; what
+/// filling the cycle adds there is its weight times the sign of its turning number times its signed area.
 pub fn total_is_area()
-    ensures { (ps : List Point) (w : ℤ) → IsRectilinearCycle ps →
+    ensures windings { (ps : List Point) → IsRectilinearCycle ps → sum_over_field (winding ps) ≡ area ps }
+    ensures filled { (ps : List Point) (w : ℤ) → IsRectilinearCycle ps →
         sum_over_field (contour ps w) ≡ (w *ℤ int_signum (turning ps)) *ℤ area ps }
 {}
 

@@ -1,4 +1,4 @@
-//! Closed rectilinear paths, which METAFONT calls cycles: their turning number, their winding number
+//! Cycles, METAFONT's closed paths, here rectilinear ones: their turning number, their winding number
 //! round a pixel, and their area.
 #![tactic(auto)]
 

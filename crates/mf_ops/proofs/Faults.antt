@@ -1,7 +1,7 @@
 -- The picture after an operation, and when the operation is refused.
 use Rattle.std.proofs.Common.{◌≡◌, ◌≢◌, Bool, true, false, cond, None, Some, ℤ, pos, ◌+ℤ◌, List, [], ◌∷◌, refl, sym, ◌∙◌, subst, arith}
 use Rattle.std.proofs.lemmas.Int.{ints}
-use Rattle.std.proofs.lemmas.Bool.{cond_both, or_from, true_from_ne_false, or_parts, both_ways}
+use Rattle.std.proofs.lemmas.Bool.{cond_both, false_from_ne_true, or_from, true_from_ne_false, or_parts, both_ways}
 use Rattle.std.proofs.lemmas.List.Elements.{All-contains}
 use Rattle.std.proofs.lemmas.List.Folds.{Any-from_list_any}
 use Rattle.std.specs.List.{list_any}
@@ -178,6 +178,19 @@ unfolding fault_of stepped
 too_large-refused ds op refused =
     let tests = some_where_too_large _ _ refused in
     (record { none_leaves = tests.0 }, found_too_large (step_at ds op) tests.1)
+
+-- a step that makes lawful weights is not refused for them
+step_not_too_large : (ds : List Dot) (op : Op) → ((x y : ℤ) → IsLawfulWeight (step_at ds op x y)) → list_any (λ d. is_too_large d.weight) (stepped ds op) ≡ false
+unfolding stepped
+step_not_too_large ds op lawful =
+    false_from_ne_true _ (λ some. let at = found_too_large (step_at ds op) some in both_ways _ (is_too_large-lawful _ (lawful at.x at.y)) at.too_large)
+
+pub not_too_large-lawful : (ds : List Dot) (op : Op) → ((x y : ℤ) → IsLawfulWeight (step_at ds op x y)) → fault_of ds op ≢ Some WeightTooLarge
+not_too_large-lawful ds op lawful refused =
+    let at = (too_large-refused ds op refused).1 in both_ways _ (is_too_large-lawful _ (lawful at.x at.y)) at.too_large
+
+pub accepted-lawful : (ds : List Dot) (op : Op) → StaysInField ds op → ((x y : ℤ) → IsLawfulWeight (step_at ds op x y)) → fault_of ds op ≡ None
+accepted-lawful ds op stays lawful = fault_of-inside ds op stays ∙ (λ t. cond (step_not_too_large ds op lawful t) (Some WeightTooLarge) None)
 
 pub leaves-refused : (ds : List Dot) (op : Op) → fault_of ds op ≡ Some OutOfField → list_any (leaves op) ds ≡ true
 unfolding fault_of

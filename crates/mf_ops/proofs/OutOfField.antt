@@ -201,9 +201,6 @@ scale-outside ds s factors at =
 
 -- ---- turns
 
-pub turn-accepted : (ds : List Dot) (q : Quarter) → fault_of ds (ops.Quarter q) ≢ Some OutOfField
-turn-accepted ds q refused = both_ways _ (quarter_stays ds q).none_leaves (leaves-refused ds (ops.Quarter q) refused)
-
 opposite_inside : (p : ℤ) → IsInside (opposite p) → IsInside p
 opposite_inside p inside =
     let least = inside.least in

@@ -21,6 +21,7 @@ use Rattle.mf_ops.specs.Step.{step_at}
 use Rattle.mf_ops.specs.declared.op.Op.TheVariants.{Scale}
 use mir.Syntax.{w32}
 use mir.Val.{to_z, of_z}
+use Rattle.mf_rows.proofs.StretchBounds.{holds_at_weight}
 
 -- stretches by a factor, and by its size, with no offset
 abbrev pub by_factor : ℤ → Stretch
@@ -124,20 +125,6 @@ pub HasWeights-scale : (ds middle new : List Dot) (s : Factors) (a b : ℤ) (col
 HasWeights-scale ds middle new s a b columns rows sized_columns sized_rows x y reflected stretched =
     HasWeights-reflected ds middle new s (record { columns = x.factor; rows = y.factor }) (rw (x.passed, y.passed) at reflected) (rw (x.sized_is, y.sized_is) at stretched)
 
--- what holds of each dot holds of each pixel that has a weight
-at_weight : (P : ℤ → ℤ → Type 0) (ds : List Dot) (x y : ℤ) → All (λ d. P d.x d.y) ds → weight_at ds x y ≢ pos 0 → P x y
-unfolding weight_at
-at_weight P [] x y holds nonzero = absurd (nonzero refl)
-at_weight P (d ∷ ds) x y holds nonzero =
-    ⊎_elim
-    (λ here.
-    let parts = and_parts (int_eq d.x x) (int_eq d.y y) here in
-    let head = All-head (λ e. P e.x e.y) d ds holds in
-    rw ((Decides-int_eq d.x x).0 parts.0, (Decides-int_eq d.y y).0 parts.1) at head)
-    (λ elsewhere.
-    at_weight P ds x y (All-tail (λ e. P e.x e.y) d ds holds) (λ blank. nonzero (cond-false _ d.weight (weight_at ds x y) elsewhere ∙ blank)))
-    (cases_Bool (int_eq d.x x && int_eq d.y y))
-
 product-opposite : (a : ℤ) (n : ℕ) → neg_ℤ a *ℤ negsuc n ≡ a *ℤ pos (suc n)
 product-opposite (pos zero) n = omega (arith, ints)
 product-opposite (pos (suc k)) n = refl
@@ -168,8 +155,8 @@ PixelsStayInside-reflected : (ds middle : List Dot) (s : Factors) → IsPicture 
 PixelsStayInside-reflected ds middle s picture reflected inside =
     let nonzero = reflected_dots _ _ ds middle picture reflected in
     record {
-      across = λ k d lt. PlaceStaysInside-size s.x _ (at_weight (λ x y. PlaceStaysInside (by_factor s.x) x) ds _ _ inside.across (nonzero k d lt));
-      up = λ k d lt. PlaceStaysInside-size s.y _ (at_weight (λ x y. PlaceStaysInside (by_factor s.y) y) ds _ _ inside.up (nonzero k d lt));
+      across = λ k d lt. PlaceStaysInside-size s.x _ (holds_at_weight (λ x y. PlaceStaysInside (by_factor s.x) x) ds _ _ inside.across (nonzero k d lt));
+      up = λ k d lt. PlaceStaysInside-size s.y _ (holds_at_weight (λ x y. PlaceStaysInside (by_factor s.y) y) ds _ _ inside.up (nonzero k d lt));
     }
 
 pub PixelsStayInside-scale : (ds middle : List Dot) (s : Factors) (a b : ℤ) (columns rows sized_columns sized_rows : Stretch) → AreMade s.x a columns sized_columns → AreMade s.y b rows sized_rows → IsPicture middle → HasWeights (reflected_at (int_lt a (pos 0)) (int_lt b (pos 0)) ds) middle → PixelsStayInside columns rows ds → PixelsStayInside sized_columns sized_rows middle

@@ -7,6 +7,7 @@ ghost use Rattle.mf_geom.specs.Area.{area};
 ghost use Rattle.mf_geom.specs.Field.{IsInField};
 ghost use Rattle.mf_geom.specs.Lawful.{IsRectilinearCycle};
 ghost use Rattle.mf_geom.specs.Turning.{turning};
+ghost use Rattle.mf_edges.specs.LawfulWeights.{IsLawfulWeight};
 ghost use Rattle.mf_rows.specs.Dots.{Dot, IsPicture, total_of, weight_at};
 ghost use Rattle.mf_ops.specs.Cull.{IsLawfulCull, culled};
 ghost use Rattle.mf_ops.specs.Moves.{Factors, AreFactors, IsFactor, HasPlace, scale_source, turned};
@@ -16,7 +17,8 @@ ghost use Rattle.mf_ops.specs.Weights.{is_too_large, IsTooLargeSomewhere};
 ghost use Rattle.mf_ops.specs.declared.op.Op.{Op};
 ghost use Rattle.mf_ops.specs.declared.cull.CullRule.TheVariants.{Keeping, Dropping};
 ghost use Rattle.mf_ops.specs.declared.op.Op.TheVariants as ops;
-ghost use Rattle.mf_ops.specs.declared.op.Op.TheVariants.{Contour, Also, Shift, Scale};
+ghost use Rattle.mf_ops.specs.declared.op.Op.TheVariants.{Contour, Also, Cull, Shift, Scale, Clear};
+ghost use Rattle.mf_ops.specs.declared.sign.Sign.{Sign};
 ghost use Rattle.mf_ops.specs.declared.sign.Sign.TheVariants.{Minus};
 ghost use Rattle.mf_ops.specs.declared.op.OpFault.TheVariants.{OutOfField, WeightTooLarge};
 ghost use Rattle.mf_ops.specs.declared.quarter.Quarter.{Quarter};
@@ -33,14 +35,27 @@ pub fn refused_where_too_large()
 {}
 
 /// A shift or a scale is refused with OutOfField exactly where some pixel outside the field would have a weight
-/// other than 0. A turn never is, and it gives no pixel outside the field a weight.
+/// other than 0. A turn gives no pixel outside the field a weight.
 pub fn refused_where_a_pixel_leaves()
     ensures shift { (ds : List Dot) (dx dy : ℤ) → IsPicture ds →
         (fault_of ds (Shift dx dy) ≡ Some OutOfField) ↔ LiesOutside (step_at ds (Shift dx dy)) }
     ensures scale { (ds : List Dot) (s : Factors) → IsPicture ds → AreFactors s →
         (fault_of ds (Scale s) ≡ Some OutOfField) ↔ LiesOutside (step_at ds (Scale s)) }
     ensures turn { (ds : List Dot) (q : Quarter) → IsPicture ds →
-        (fault_of ds (ops.Quarter q) ≢ Some OutOfField) × (LiesOutside (step_at ds (ops.Quarter q)) → ⊥) }
+        LiesOutside (step_at ds (ops.Quarter q)) → ⊥ }
+{}
+
+/// A clear, a turn of a picture and a cull with a lawful weight are never refused; a shift or a scale of a picture
+/// never is for its weights, and a contour or another picture never because a pixel leaves.
+pub fn never_refused()
+    ensures clear { (ds : List Dot) → fault_of ds Clear ≡ None }
+    ensures turn { (ds : List Dot) (q : Quarter) → IsPicture ds → fault_of ds (ops.Quarter q) ≡ None }
+    ensures keeping { (ds : List Dot) (a b w : ℤ) → IsLawfulWeight w → fault_of ds (Cull (Keeping a b w)) ≡ None }
+    ensures dropping { (ds : List Dot) (a b w : ℤ) → IsLawfulWeight w → fault_of ds (Cull (Dropping a b w)) ≡ None }
+    ensures shift { (ds : List Dot) (dx dy : ℤ) → IsPicture ds → fault_of ds (Shift dx dy) ≢ Some WeightTooLarge }
+    ensures scale { (ds : List Dot) (s : Factors) → IsPicture ds → fault_of ds (Scale s) ≢ Some WeightTooLarge }
+    ensures contour { (ds : List Dot) (ps : List Point) (w : ℤ) → fault_of ds (Contour ps w) ≢ Some OutOfField }
+    ensures also { (ds es : List Dot) (s : Sign) → fault_of ds (Also es s) ≢ Some OutOfField }
 {}
 
 /// Under a scale each column, or row, comes from exactly one: the part of the axis to which the scale takes that

@@ -20,7 +20,8 @@ use Rattle.mf_rows.proofs.BandSumsLemmas.{IsSplitAtBand, split_at_band, has_sum-
 use Rattle.mf_rows.proofs.BandsLemmas.{at_bottom}
 use Rattle.mf_rows.proofs.EdgeRowsLemmas.{rows_from-below, rows_from-front}
 use Rattle.mf_rows.proofs.FieldBandsLemmas.{rows_of_band, is_up_to, IsPartitionedBy-is_up_to, up_to_split, behind_split, numbered_behind_split}
-use Rattle.mf_rows.proofs.RowSums.{IsRowSumSoFar, sum_none, rows_left, stay_within}
+use Rattle.mf_rows.proofs.RowSums.{IsRowSumSoFar, sum_none, rows_left}
+use Rattle.mf_rows.proofs.RowSumSteps.{stay_within}
 
 -- ---- the bands that are added, by the number before the first and by the last one
 

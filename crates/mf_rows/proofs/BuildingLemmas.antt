@@ -18,6 +18,7 @@ use Rattle.mf_rows.proofs.DotsLemmas.{dots_from-lawful, weight_at-dot, weight_at
 use Rattle.mf_rows.proofs.EdgeRowsLemmas.{weight_in_rows-append, weight_in_rows-here, weight_in_rows-elsewhere, weight_in_rows-above, rows_from-front, rows_from-back, rows_from-append, rows_from-apart, lawful_picture_of_rows, weight_at-picture_of_rows, picture_of_rows-from_weights}
 use Rattle.mf_rows.proofs.RunEdges.{EndAt-from_constant, weight_in-end, some_weight, some_edge, by_columns}
 use Rattle.mf_rows.proofs.RunDots.{IsOnRun, picture-push, weight_at-on_run, weight_at-off_run}
+use Rattle.mf_rows.proofs.RowSums.{by_same}
 
 -- ---- the last row
 
@@ -160,10 +161,6 @@ pushed_rows : (rs : List EdgeRow) (old new : EdgeRow) (r : Run) → AreRows rs �
 pushed_rows rs old new r rows above run has =
     rows-push rs new rows (subst (λ y. AreAbove y rs) (sym has.row) above)
     (record { bottom = rw has.row run.bottom; top = rw has.row run.top; some = some_edge old new r run has; edges = has.edges })
-
--- equal or apart
-by_same : {P : Type 0} (a b : ℤ) → (a ≡ b → P) → (a ≢ b → P) → P
-by_same a b same apart = by_lt_z a b (λ lower. apart (λ same. omega (arith, ints))) (λ no_lower. by_lt_z b a (λ higher. apart (λ same. omega (arith, ints))) (λ no_higher. same (omega (arith, ints))))
 
 by_on_run : {P : Type 0} (r : Run) (x y : ℤ) → (IsOnRun r x y → P) → ((IsOnRun r x y → ⊥) → P) → P
 by_on_run r x y on off =

@@ -1,7 +1,8 @@
-mod BandSumsLemmas
 mod BandsAdded
 mod BandsLemmas
+mod BandSumsLemmas
 mod BlankRowsLemmas
+pub mod BoundsInField
 mod BuildingLemmas
 mod CornersLemmas
 pub mod DotsLemmas
@@ -20,12 +21,13 @@ mod RowMoves
 mod RowRuns
 mod RowStretches
 mod RowSums
+mod RowSumSteps
 pub mod RunBoxes
 pub mod RunDots
 mod RunEdges
 mod RunsLeft
 pub mod RunsLemmas
-mod StretchBounds
+pub mod StretchBounds
 mod StripsLemmas
 pub mod Totals
 mod TurnChanges

@@ -46,7 +46,7 @@ lawful_with_dot d (r ∷ rs) dot runs =
     (λ no. All-cons IsRun (run_from d 0) (r ∷ rs) (run_of_dot d dot) runs)
 
 -- the runs of lawful dots lie in the field, with lawful weights
-lawful_runs_of : (ds : List Dot) → All IsDot ds → All IsRun (runs_of ds)
+pub lawful_runs_of : (ds : List Dot) → All IsDot ds → All IsRun (runs_of ds)
 unfolding runs_of
 lawful_runs_of [] dots = All-nil IsRun
 lawful_runs_of (d ∷ ds) dots = lawful_with_dot d (runs_of ds) (All-head IsDot d ds dots) (lawful_runs_of ds (All-tail IsDot d ds dots))

@@ -25,7 +25,7 @@ use Rattle.mf_rows.specs.RowChanges.{RowsAllowChange, changed_in_rows}
 use Rattle.mf_rows.specs.Sums.{HaveRowWeights}
 use Rattle.mf_rows.proofs.BlankRowsLemmas.{weight_in_rows-unless_blank, rows_from-unless_blank, All-unless_blank}
 use Rattle.mf_rows.proofs.EdgeRowsLemmas.{weight_in_rows-append, weight_in_rows-here, weight_in_rows-elsewhere, weight_in_rows-below, rows_from-higher, rows_from-below, rows_from-append}
-use Rattle.mf_rows.proofs.RowSums.{by_height}
+use Rattle.mf_rows.proofs.RowSums.{by_same}
 use Rattle.mf_edges.proofs.Sources.{source_of-is}
 
 -- ---- edges that are compared
@@ -71,7 +71,7 @@ unfolding changed_in_rows changed_in weight_in_rows
 changed_in_rows-cons c r rest image x v lawful below changed =
     let row : EdgeRow = record { y = r.y; edges = image } in
     let kept = weight_in_rows-unless_blank r.y image x v in
-    by_height r.y v
+    by_same r.y v
     (λ here.
     let none : (z : ℤ) → weight_in_rows rest z v ≡ pos 0 = λ z. weight_in_rows-below rest z v (subst (λ y. AreBelow y rest) here below) in
     let none_changed = same_image c _ _ x none ∙ image_of_blank c x lawful in

@@ -11,7 +11,7 @@ use Rattle.mf_edges.specs.Axes.{opposite}
 use Rattle.mf_rows.specs.RowChanges.{mirrored_in_rows}
 use Rattle.mf_rows.specs.Sums.{HaveRowWeights}
 use Rattle.mf_rows.proofs.EdgeRowsLemmas.{weight_in_rows-append, weight_in_rows-here, weight_in_rows-elsewhere, rows_from-below, rows_from-front, rows_from-back, rows_from-append}
-use Rattle.mf_rows.proofs.RowSums.{by_height}
+use Rattle.mf_rows.proofs.RowSums.{by_same}
 
 -- ---- rows on the other side
 
@@ -55,7 +55,7 @@ weight_in_rows-mirror [] x y = refl
 weight_in_rows-mirror (r ∷ rs) x y =
     let others = weight_in_rows-mirror rs x y in
     let parts = weight_in_rows-append (mirror rs) (opposite_row r ∷ []) x y in
-    by_height r.y (opposite y)
+    by_same r.y (opposite y)
     (λ here.
     let own = weight_in_rows-here (opposite_row r) [] x y (omega (arith, ints)) in
     let old = weight_in_rows-here r rs x (opposite y) here in

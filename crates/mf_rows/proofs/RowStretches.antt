@@ -16,7 +16,7 @@ use Rattle.mf_rows.specs.RowChanges.{AllowStretch, stretched_in_rows}
 use Rattle.mf_rows.specs.RowMoves.{strip, HasStretched}
 use Rattle.mf_rows.specs.Sums.{HaveRowWeights}
 use Rattle.mf_rows.proofs.EdgeRowsLemmas.{weight_in_rows-append, weight_in_rows-here, weight_in_rows-elsewhere, weight_in_rows-none, weight_in_rows-below, rows_from-higher, rows_from-below, rows_from-append}
-use Rattle.mf_rows.proofs.RowSums.{by_height}
+use Rattle.mf_rows.proofs.RowSums.{by_same}
 use Rattle.mf_edges.proofs.Sources.{stretched_to-le, stretched_to-next, source_of-reached, source_of-from, source_of-is}
 
 -- ---- the strip of a row
@@ -102,7 +102,7 @@ unfolding strip
 strip_weight-inside bottom es zero x v above below = absurd (omega (arith, ints))
 strip_weight-inside bottom es (suc n) x v above below =
     let row : EdgeRow = record { y = bottom +ℤ pos n; edges = es } in
-    by_height (bottom +ℤ pos n) v
+    by_same (bottom +ℤ pos n) v
     (λ here. let others = strip_weight-outside bottom es n x v (λ least lower. omega (arith, ints)) in omega (arith, ints, others, weight_in_rows-here row (strip bottom es n) x v here))
     (λ apart. weight_in_rows-elsewhere row (strip bottom es n) x v apart ∙ strip_weight-inside bottom es n x v above (omega (arith, ints)))
 
@@ -146,7 +146,7 @@ unfolding stretched_in_rows
 stretched_in_rows-cons s r rest n x v stretch size below =
     let bottom = stretched_to s r.y in
     let next = stretched_to-next s r.y in
-    by_height r.y (source_of s v)
+    by_same r.y (source_of s v)
     (λ here.
     let above : bottom ≤ℤ v = source_of-reached s r.y v stretch (omega (arith, ints)) in
     let under : v <ℤ (bottom +ℤ pos n) = by_lt_z v (bottom +ℤ pos n) (λ lt. lt) (λ ge.

@@ -18,8 +18,9 @@ use Rattle.mf_rows.proofs.EdgeRowsLemmas.{weight_in_rows-append, weight_in_rows-
 
 -- ---- what a sum has in one row
 
-pub by_height : {P : Type 0} (c y : ℤ) → (c ≡ y → P) → (c ≢ y → P) → P
-by_height c y here elsewhere =
+-- equal or apart
+pub by_same : {P : Type 0} (c y : ℤ) → (c ≡ y → P) → (c ≢ y → P) → P
+by_same c y here elsewhere =
     by_lt_z c y (λ lower. elsewhere (λ is. omega (arith, ints)))
     (λ not_lower. by_lt_z y c (λ higher. elsewhere (λ is. omega (arith, ints))) (λ not_higher. here (omega (arith, ints))))
 
@@ -85,7 +86,7 @@ module _ (y : ℤ) (l r : EdgeRow) (left : IsRowAt y (l ∷ [])) (right : IsRowA
     all = sym (append-nil before);
     here = record { rows = tt; above = All-nil (λ r. (y -ℤ pos 1) <ℤ r.y) };
     weights = record {
-      weights = λ x c. by_height c y
+      weights = λ x c. by_same c y
           (λ here. rw here (ap (λ es. weight_in es x) (sym none) ∙ weights.weights x ∙ sym (weight_in_all-here x)))
           (λ apart. sym (weight_in_all-other x c apart));
     };
@@ -105,7 +106,7 @@ module _ (y : ℤ) (l r : EdgeRow) (left : IsRowAt y (l ∷ [])) (right : IsRowA
         all = refl;
         here = here;
         weights = record {
-          weights = λ x c. by_height c y
+          weights = λ x c. by_same c y
               (λ at. rw at (weight_in_row y (record { y = y; edges = es }) x refl ∙ weights.weights x ∙ sym (weight_in_all-here x)))
               (λ apart. weight_in_rows-other y c x (record { y = y; edges = es } ∷ []) here apart ∙ sym (weight_in_all-other x c apart));
         };
@@ -207,107 +208,3 @@ module _ (whole_left whole_right sum : List EdgeRow) (left right : List Row) (so
         };
         reach = omega (arith, ints);
       }
-
--- ---- the next row that is added
-
-module _ (whole_left whole_right sum rs ss : List EdgeRow) (y : ℤ) (at : IsRowSumAbove whole_left whole_right sum rs ss y) where
-  above_first : AreAbove y sum
-  above_first = All-weaker (λ r. at.so_far.top <ℤ r.y) (λ r. y <ℤ r.y) (λ r lt. omega (arith, ints, at.reach)) sum at.so_far.above
-
-  module _ (found_left found_right others_left others_right : List EdgeRow) (split_left : IsSplitAtHeight rs y found_left others_left) (split_right : IsSplitAtHeight ss y found_right others_right) where
-    weight_in_all-split : (x c : ℤ) → weight_in_all rs ss x c ≡ weight_in_all found_left found_right x c +ℤ weight_in_all others_left others_right x c
-    unfolding weight_in_all
-    weight_in_all-split x c =
-        let left = weight_in_rows-append found_left others_left x c in
-        let right = weight_in_rows-append found_right others_right x c in
-        rw (split_left.all, split_right.all) (omega (arith, ints))
-
-    -- no other row stands at the height
-    weight_in_all-first : (x : ℤ) → weight_in_all whole_left whole_right x y ≡ weight_in_all found_left found_right x y
-    unfolding weight_in_all
-    weight_in_all-first x =
-        let old = at.so_far.weights x y in
-        let split = weight_in_all-split x y in
-        let none_before = weight_in_rows-above sum x y above_first in
-        let none_left = weight_in_rows-below others_left x y (rows_from-below (y -ℤ pos 1) y others_left split_left.left (omega (arith, ints))) in
-        let none_right = weight_in_rows-below others_right x y (rows_from-below (y -ℤ pos 1) y others_right split_right.left (omega (arith, ints))) in
-        omega (arith, ints)
-
-    pub unlawful_somewhere : IsUnlawfulInRow (weight_in_all found_left found_right) y → IsUnlawfulSomewhere (weight_in_all whole_left whole_right)
-    unlawful_somewhere column = record {
-      x = column.x;
-      y = y;
-      in_field = column.in_field;
-      unlawful = λ lawful. column.unlawful (subst IsLawfulWeight (weight_in_all-first column.x) lawful);
-    }
-
-    pub sum_more : (after : List EdgeRow) → HasRowSum sum y found_left found_right after → IsRowSumSoFar whole_left whole_right after others_left others_right
-    sum_more after more = rw more.all (record {
-      top = y -ℤ pos 1;
-      in_field = omega (arith, ints, at.so_far.in_field, at.reach);
-      rows = rows_from-append (pos 4094) sum more.more at.so_far.rows
-          (rows_from-higher (pos 4094) y more.more (omega (arith, ints, at.so_far.in_field, at.reach)) more.here.rows)
-          (All-weaker (λ r. y <ℤ r.y) (λ r. AreBelow r.y more.more) (λ r lt. rows_from-below y r.y more.more more.here.rows lt) sum above_first);
-      above = All-append (λ r. (y -ℤ pos 1) <ℤ r.y) sum more.more
-          (All-weaker (λ r. y <ℤ r.y) (λ r. (y -ℤ pos 1) <ℤ r.y) (λ r lt. omega (arith, ints)) sum above_first) more.here.above;
-      left = split_left.left;
-      right = split_right.left;
-      weights = λ x c.
-          let old = at.so_far.weights x c in
-          let split = weight_in_all-split x c in
-          let sum_is = weight_in_rows-append sum more.more x c in
-          let more_is = more.weights.weights x c in
-          omega (arith, ints);
-    })
-
--- where nothing is left to be added, the rows that are left follow
-pub sum_all_weights : (whole_left whole_right sum rs : List EdgeRow) → IsRowSumSoFar whole_left whole_right sum rs [] → HaveRowWeights (weight_in_all whole_left whole_right) (sum ++ rs)
-unfolding weight_in_all weight_in_rows
-sum_all_weights whole_left whole_right sum rs so_far = record {
-  weights = λ x y.
-      let all = so_far.weights x y in
-      let both = weight_in_rows-append sum rs x y in
-      omega (arith, ints);
-}
-
-pub sum_all_rows : (whole_left whole_right sum rs : List EdgeRow) → IsRowSumSoFar whole_left whole_right sum rs [] → AreRows (sum ++ rs)
-sum_all_rows whole_left whole_right sum rs so_far = rows_behind whole_left whole_right sum rs [] so_far rs so_far.left
-
--- ---- how far a sum reaches
-
-no_edges : (low : ℤ) (es : List Edge) → AreEdgesFrom low es → ((x : ℤ) → weight_in es x ≡ pos 0) → es ≡ []
-no_edges low [] sorted blank = refl
-no_edges low (e ∷ es) sorted blank =
-    let here = weight_in-left e es e.x (omega (arith, ints)) in
-    let none = weight_in-before (e.x +ℤ pos 1) es e.x sorted.2 (omega (arith, ints)) in
-    absurd (sorted.0.nonzero (omega (arith, ints, blank e.x)))
-
--- where all weights of a row are 0, the row is not there
-no_row : (top y : ℤ) (rs : List EdgeRow) → AreRowsFrom top rs → ((x : ℤ) → weight_in_rows rs x y ≡ pos 0) → All (λ r. r.y ≢ y) rs
-no_row top y [] rows blank = All-nil (λ r. r.y ≢ y)
-no_row top y (r ∷ rs) rows blank =
-    let apart : r.y ≢ y = λ here. rows.0.some (no_edges (negsuc 4094) r.edges rows.0.edges.sorted (λ x.
-    let own = weight_in_rows-here r rs x y here in
-    let others = weight_in_rows-below rs x y (rows_from-below (r.y -ℤ pos 1) y rs rows.2 (omega (arith, ints))) in
-    omega (arith, ints, blank x))) in
-    All-cons (λ r. r.y ≢ y) r rs apart (no_row (r.y -ℤ pos 1) y rs rows.2 (λ x. sym (weight_in_rows-elsewhere r rs x y apart) ∙ blank x))
-
-no_row_of_sum : (rs ss sum : List EdgeRow) (y : ℤ) → AreRows sum → HaveRowWeights (weight_in_all rs ss) sum → ((x : ℤ) → weight_in_rows rs x y ≡ pos 0) → ((x : ℤ) → weight_in_rows ss x y ≡ pos 0) → All (λ r. r.y ≢ y) sum
-unfolding weight_in_all
-no_row_of_sum rs ss sum y rows weights blank_left blank_right =
-    no_row (pos 4094) y sum rows.rows (λ x. let both = weights.weights x y in omega (arith, ints, blank_left x, blank_right x))
-
-pub stay_within : (rs ss sum : List EdgeRow) → AreRows sum → HaveRowWeights (weight_in_all rs ss) sum → StayWithin rs ss sum
-stay_within rs ss sum rows weights =
-    let higher = λ (y c : ℤ) (rs : List EdgeRow) (above : AreAbove y rs) (le : c ≤ℤ y). All-weaker (λ r. y <ℤ r.y) (λ r. c <ℤ r.y) (λ r lt. omega (arith, ints)) rs above in
-    let lower = λ (y c : ℤ) (rs : List EdgeRow) (below : AreBelow y rs) (le : y ≤ℤ c). All-weaker (λ r. r.y <ℤ y) (λ r. r.y <ℤ c) (λ r lt. omega (arith, ints)) rs below in
-    record {
-      above = λ y left right k d lt.
-          let c = (get_or sum k d).y in
-          by_lt_z y c (λ above. above) (λ le. absurd (no_row_of_sum rs ss sum c rows weights
-          (λ x. weight_in_rows-above rs x c (higher y c rs left le)) (λ x. weight_in_rows-above ss x c (higher y c ss right le)) k d lt refl));
-      below = λ y left right k d lt.
-          let c = (get_or sum k d).y in
-          by_lt_z c y (λ below. below) (λ le. absurd (no_row_of_sum rs ss sum c rows weights
-          (λ x. weight_in_rows-below rs x c (lower y c rs left le)) (λ x. weight_in_rows-below ss x c (lower y c ss right le)) k d lt refl));
-    }

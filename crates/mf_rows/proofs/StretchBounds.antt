@@ -16,18 +16,18 @@ use Rattle.mf_rows.specs.Sums.{HasWeights, HaveRowWeights}
 use Rattle.mf_rows.proofs.DotsLemmas.{IsAt, weight_at-elsewhere}
 use Rattle.mf_edges.proofs.EdgesLemmas.{weight_in-left, weight_in-right, weight_in-before}
 use Rattle.mf_rows.proofs.EdgeRowsLemmas.{weight_in_rows-here, weight_in_rows-elsewhere, weight_in_rows-below, rows_from-below, weight_at-picture_of_rows}
-use Rattle.mf_rows.proofs.RowSums.{by_height}
+use Rattle.mf_rows.proofs.RowSums.{by_same}
 
 -- ---- pixels that are not 0
 
 -- what holds of all dots holds of each pixel of nonzero weight
-holds_at_weight : (P : ℤ → ℤ → Type 0) (ds : List Dot) (x y : ℤ) → All (λ d. P d.x d.y) ds → weight_at ds x y ≢ pos 0 → P x y
+pub holds_at_weight : (P : ℤ → ℤ → Type 0) (ds : List Dot) (x y : ℤ) → All (λ d. P d.x d.y) ds → weight_at ds x y ≢ pos 0 → P x y
 unfolding weight_at
 holds_at_weight P [] x y all nonzero = absurd (nonzero refl)
 holds_at_weight P (d ∷ ds) x y all nonzero =
     let others = λ (elsewhere : IsAt d x y → ⊥). holds_at_weight P ds x y (All-tail (λ d. P d.x d.y) d ds all) (λ zero. nonzero (weight_at-elsewhere d ds x y elsewhere ∙ zero)) in
-    by_height d.x x
-    (λ column. by_height d.y y
+    by_same d.x x
+    (λ column. by_same d.y y
     (λ row. subst (λ a. P a y) column (subst (λ b. P d.x b) row (All-head (λ d. P d.x d.y) d ds all)))
     (λ apart. others (λ here. apart here.row)))
     (λ apart. others (λ here. apart here.column))
@@ -110,7 +110,7 @@ jumps low (e ∷ es) edges =
 edges_stay : (s : Stretch) (low : ℤ) (es : List Edge) → AreEdgesFrom low es → ((x : ℤ) → weight_in es x ≢ pos 0 → PlaceStaysInside s x) → All (λ e. IsPointInReach (stretched_to s e.x)) es
 edges_stay s low es edges inside =
     All-weaker (IsJump low es) (λ e. IsPointInReach (stretched_to s e.x))
-    (λ e is. by_height (weight_in es e.x) (pos 0)
+    (λ e is. by_same (weight_in es e.x) (pos 0)
     (λ zero.
     let left = inside (e.x -ℤ pos 1) (λ none. is.nonzero (omega (arith, ints))) in
     let same : (e.x -ℤ pos 1) +ℤ pos 1 ≡ e.x = omega (arith, ints) in

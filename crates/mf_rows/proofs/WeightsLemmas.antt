@@ -145,7 +145,8 @@ weight_at-picture_of f x y inside = weight_at-rows f (pos 4094) 8190 x y inside.
 
 -- ---- a lawful picture with given weights is the picture of these weights
 
-lawful_weight_at : (ds : List Dot) (x y : ℤ) → All IsDot ds → IsLawfulWeight (weight_at ds x y)
+-- its weights are lawful
+pub lawful_weight_at : (ds : List Dot) (x y : ℤ) → All IsDot ds → IsLawfulWeight (weight_at ds x y)
 unfolding weight_at
 lawful_weight_at [] x y dots = record { least = omega (arith, ints); greatest = omega (arith, ints) }
 lawful_weight_at (d ∷ ds) x y dots =

@@ -21,7 +21,7 @@ pub record IsCorner (k : Corner) : Type 0 where
   pub least : negsuc 2 ≤ℤ k.weight
   pub greatest : k.weight ≤ℤ pos 3
 
--- at most 8192 corners, which add nothing right of the field
+-- at most 8192 corners, which add nothing right of the field (what they add below it is left out: no pixel stands there)
 pub record AreCorners (ks : List Corner) : Type 0 where
   pub few : length ks ≤ 8192
   pub corners : All IsCorner ks

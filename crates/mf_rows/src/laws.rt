@@ -1,10 +1,15 @@
 //! Laws of the definitions: each is the contract of a function that does nothing.
-ghost use Rattle.std.specs.Prelude.{◌≡◌, ◌≢◌, ℤ, pos, All, Contains, List, flat_map};
+ghost use Rattle.std.specs.Prelude.{◌≡◌, ◌≢◌, ◌↔◌, ℤ, pos, ◌+ℤ◌, ◌≤ℤ◌, All, Contains, List, flat_map};
 ghost use Rattle.mf_geom.specs.Field.{IsInField, sum_over_field};
+ghost use Rattle.mf_edges.specs.Axes.{IsStretch, source_of, stretched_to};
+ghost use Rattle.mf_edges.specs.declared.stretch.Stretch.{Stretch};
 ghost use Rattle.mf_edges.specs.LawfulWeights.{IsLawfulWeight};
+ghost use Rattle.mf_rows.specs.Bounds.{IsLeastBox};
+ghost use Rattle.mf_rows.specs.declared.bounds.Box4.{Box4};
 ghost use Rattle.mf_rows.specs.Dots.{Dot, IsPicture, total_of, weight_at};
 ghost use Rattle.mf_edges.specs.Edges.{weight_in};
 ghost use Rattle.mf_rows.specs.EdgeRows.{EdgeRow, AreRows, weight_in_rows, picture_of_rows};
+ghost use Rattle.mf_rows.specs.Order.{IsRun};
 ghost use Rattle.mf_rows.specs.Runs.{dots_of, runs_of, AreMaximal, IsMaximalRun};
 ghost use Rattle.mf_rows.specs.Weights.{picture_of, HaveSameWeights};
 
@@ -23,6 +28,22 @@ pub fn runs_are_as_long_as_can_be()
 pub fn picture_has_its_weights()
     ensures weights { (f : ℤ → ℤ → ℤ) (x y : ℤ) → IsInField x y → weight_at (picture_of f) x y ≡ f x y }
     ensures lawful { (f : ℤ → ℤ → ℤ) → ((x y : ℤ) → IsInField x y → IsLawfulWeight (f x y)) → IsPicture (picture_of f) }
+{}
+
+/// The weights of a picture are lawful, and 0 outside the field; its runs and its least box lie in the field.
+pub fn pictures_lie_in_the_field()
+    ensures outside { (ds : List Dot) (x y : ℤ) → IsPicture ds → (IsInField x y → ⊥) → weight_at ds x y ≡ pos 0 }
+    ensures lawful { (ds : List Dot) (x y : ℤ) → IsPicture ds → IsLawfulWeight (weight_at ds x y) }
+    ensures runs { (ds : List Dot) → IsPicture ds → All IsRun (runs_of ds) }
+    ensures bounds { (ds : List Dot) (b : Box4) → IsPicture ds → IsLeastBox ds b →
+        IsInField b.min_x b.min_y × IsInField b.max_x b.max_y }
+{}
+
+/// Under a stretch each column, or row, q comes from exactly one: the stretch takes that one to a part of the axis that
+/// has q.
+pub fn one_source_under_a_stretch()
+    ensures { (s : Stretch) (p q : ℤ) → IsStretch s →
+        (source_of s q ≡ p) ↔ ((stretched_to s p ≤ℤ q) × ((q +ℤ pos 1) ≤ℤ stretched_to s (p +ℤ pos 1))) }
 {}
 
 /// Two pictures with the same weight at each pixel of the field are equal.

@@ -201,8 +201,8 @@ impl Picture {
     }
 
     /// The picture of which the columns and the rows are stretched, so that each pixel becomes a rectangle of
-    /// its weight (mf.web: `x_scale_edges`, `y_scale_edges`). All of these must lie in the field. Rows that come from
-    /// one share their edges. Refusal OutOfMemory (14).
+    /// its weight (mf.web: `x_scale_edges`, `y_scale_edges`). The factors are in 1..=4095, and all of these rectangles must
+    /// lie in the field. Rows that come from one share their edges. Refusal OutOfMemory (14).
     pub fn stretch(
         &self,
         alloc: Global,
@@ -232,8 +232,8 @@ impl Picture {
 
     /// The picture with corners added to it; the given one is unchanged. It shares the bands that no corner
     /// reaches. There are at most 8192 corners, with coordinates in -4095..4095 and weights in -3..3, and
-    /// together they add nothing right of the field. Refusals WeightTooLarge (12), where a weight would pass
-    /// 32767 in size, and OutOfMemory (14).
+    /// together they add nothing right of the field; what they add below it is left out. Refusals
+    /// WeightTooLarge (12), where a weight would pass 32767 in size, and OutOfMemory (14).
     pub fn with_corners(&self, alloc: Global, corners: Vec<Corner>) -> Result<Picture, AddFault>
         requires { AreCorners corners.items }
         ensures weights { IfOk result (HasWeights (with_corners_at self.now corners.items)) }

@@ -2,7 +2,7 @@ use Rattle.std.proofs.Common.{◌≡◌, true, false, to_z, of_z, w32, subst, ar
 use Rattle.std.specs.List.Sorted.{IsPartitionPoint}
 use Rattle.std.proofs.lemmas.Int.{ints}
 use Rattle.std.proofs.lemmas.Fn.{always_returns_same}
-use Rattle.mf_edges.proofs.ReachesLemmas.{is_left_of, IsPartitionedBy-is_left_of, left_split, right_split}
+use Rattle.mf_edges.proofs.ReachesOfSums.{is_left_of, IsPartitionedBy-is_left_of, left_split, right_split}
 use Rattle.mf_edges.proofs.edge_sum.count_left_of.Goals as goal
 
 split : (c : goal.After-partition_point) → IsPartitionPoint (λ edge. is_left_of c.args.x edge ≡ true) (λ edge. is_left_of c.args.x edge ≡ false) c.args.edges.now c.partition_point.result

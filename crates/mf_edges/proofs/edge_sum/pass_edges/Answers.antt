@@ -4,7 +4,7 @@ use Rattle.std.proofs.lemmas.Int.{ints}
 use Rattle.std.proofs.lemmas.List.Elements.{All-get_or}
 use Rattle.mf_edges.specs.declared.edge.Edge.{Edge}
 use Rattle.mf_edges.specs.Merging.{IsDifference}
-use Rattle.mf_edges.proofs.EdgeSums.{passed_more, passed_stops}
+use Rattle.mf_edges.proofs.EdgesJoined.{passed_more, passed_stops}
 use Rattle.mf_edges.proofs.edge_sum.pass_edges.Goals as goal
 
 pub returns-then-not-is_lawful_weight-clause-too_large : goal.returns-then-not-is_lawful_weight-clause-too_large

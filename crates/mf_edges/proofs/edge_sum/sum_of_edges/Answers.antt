@@ -6,7 +6,8 @@ use Rattle.std.proofs.lemmas.List.Elements.{All-head}
 use Rattle.std.proofs.lemmas.Result.{err_from_is_err_and}
 use Rattle.mf_edges.specs.LawfulWeights.{IsLawfulWeight}
 use Rattle.mf_edges.specs.Merging.{IsDifference}
-use Rattle.mf_edges.proofs.EdgeSums.{sum_none, passed_before_change, stopped_before_change, left_of_change, change_at_column, change_more, difference_is, lawful_is, more_fits, more_is, total_fits, total_is, sum_all, sum_all_weights}
+use Rattle.mf_edges.proofs.EdgeSums.{sum_none}
+use Rattle.mf_edges.proofs.EdgesJoined.{passed_before_change, stopped_before_change, left_of_change, change_at_column, change_more, difference_is, lawful_is, more_fits, more_is, total_fits, total_is, sum_all, sum_all_weights}
 use Rattle.mf_edges.proofs.edge_sum.sum_of_edges.Goals as goal
 
 pub loop-change-init : goal.loop-change-init

@@ -1,8 +1,10 @@
 use Rattle.std.proofs.Common.{◌≡◌, to_z, of_z, w32, arith}
 use Rattle.std.proofs.lemmas.Int.{ints}
 use Rattle.std.proofs.lemmas.List.{nil_from_length}
-use Rattle.mf_edges.proofs.EdgeSums.{changes_of_edges, difference_is, more_fits, more_is, sum_all, sum_all_weights}
-use Rattle.mf_edges.proofs.ReachesLemmas.{lawful_in_reach, in_reach_none, in_reach_sorted, in_reach_left, in_reach_difference, in_reach_more}
+use Rattle.mf_edges.proofs.EdgeSums.{changes_of_edges}
+use Rattle.mf_edges.proofs.EdgesJoined.{difference_is, more_fits, more_is, sum_all, sum_all_weights}
+use Rattle.mf_edges.proofs.ReachesOfSums.{in_reach_left, in_reach_difference, in_reach_more}
+use Rattle.mf_edges.proofs.ReachesOfSums.{lawful_in_reach, in_reach_none, in_reach_sorted}
 use Rattle.mf_edges.proofs.edge_sum.with_changes.Goals as goal
 
 pub loop-change-init : goal.loop-change-init

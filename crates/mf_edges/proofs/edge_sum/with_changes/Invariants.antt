@@ -1,5 +1,5 @@
 use Rattle.std.proofs.Common.{length}
-use Rattle.mf_edges.proofs.ReachesLemmas.{IsSumInReach}
+use Rattle.mf_edges.proofs.ReachesOfSums.{IsSumInReach}
 use Rattle.mf_edges.proofs.edge_sum.with_changes.Given as goal
 
 abbrev pub invariant-loop-change : goal.invariant-loop-change

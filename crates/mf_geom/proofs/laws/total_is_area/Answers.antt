@@ -1,5 +1,8 @@
-use Rattle.mf_geom.proofs.Areas.{sum_over_field-contour}
+use Rattle.mf_geom.proofs.Areas.{sum_over_field-winding, sum_over_field-contour}
 use Rattle.mf_geom.proofs.laws.total_is_area.Goals as goal
 
-pub returns : goal.returns
-returns c = sum_over_field-contour
+pub returns-clause-windings : goal.returns-clause-windings
+returns-clause-windings c = sum_over_field-winding
+
+pub returns-clause-filled : goal.returns-clause-filled
+returns-clause-filled c = sum_over_field-contour

@@ -1,4 +1,4 @@
-use Rattle.mf_ops.proofs.OutOfField.{shift-refused, shift-outside, scale-refused, scale-outside, turn-accepted, turn-inside}
+use Rattle.mf_ops.proofs.OutOfField.{shift-refused, shift-outside, scale-refused, scale-outside, turn-inside}
 use Rattle.mf_ops.proofs.laws.refused_where_a_pixel_leaves.Goals as goal
 
 pub returns-clause-shift : goal.returns-clause-shift
@@ -8,4 +8,4 @@ pub returns-clause-scale : goal.returns-clause-scale
 returns-clause-scale c ds s picture factors = (scale-refused ds s picture factors, scale-outside ds s factors)
 
 pub returns-clause-turn : goal.returns-clause-turn
-returns-clause-turn c ds q picture = (turn-accepted ds q, turn-inside ds q picture)
+returns-clause-turn c = turn-inside

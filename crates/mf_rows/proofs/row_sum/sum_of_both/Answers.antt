@@ -1,6 +1,6 @@
 use Rattle.std.proofs.lemmas.Result.{err_from_is_err_and}
 use Rattle.mf_edges.proofs.EdgeSums.{changes_of_edges}
-use Rattle.mf_edges.proofs.ReachesLemmas.{cast_fits, reach_of_sum, room_of_reaches, size_of_reach, sum_of_reaches}
+use Rattle.mf_edges.proofs.ReachesOfSums.{cast_fits, reach_of_sum, room_of_reaches, size_of_reach, sum_of_reaches}
 use Rattle.mf_rows.proofs.row_sum.sum_of_both.Goals as goal
 
 pub overflow_cast-result : goal.overflow_cast-result

@@ -3,7 +3,8 @@ use Rattle.std.proofs.lemmas.Int.{ints}
 use Rattle.std.proofs.lemmas.List.{nil_from_length}
 use Rattle.std.proofs.lemmas.Result.{err_from_is_err_and}
 use Rattle.mf_rows.specs.Bands.{edge_rows}
-use Rattle.mf_rows.proofs.RowSums.{sum_none, rows_left, rest_from, added_split, sum_with_above, sum_more, sum_all_rows, sum_all_weights, unlawful_somewhere, stay_within}
+use Rattle.mf_rows.proofs.RowSums.{sum_none, rows_left, rest_from, added_split, sum_with_above}
+use Rattle.mf_rows.proofs.RowSumSteps.{sum_more, sum_all_rows, sum_all_weights, unlawful_somewhere, stay_within}
 use Rattle.mf_rows.proofs.row_sum.sum_of_rows.Goals as goal
 
 pub loop-added-init : goal.loop-added-init

@@ -10,7 +10,7 @@ use Rattle.mf_edges.specs.declared.stretch.Stretch.{Stretch}
 use Rattle.mf_rows.specs.Dots.{Dot, IsPicture, start_of_field}
 use Rattle.mf_edges.specs.Axes.{IsPointInReach, PlaceStaysInside, stretched_to}
 use Rattle.mf_rows.specs.Moves.{PixelsStayInside}
-use Rattle.mf_rows.proofs.DotsLemmas.{dots_from-lawful}
+use Rattle.mf_rows.proofs.BoundsInField.{bounds_in_field}
 use Rattle.mf_rows.proofs.tests.moves.assert_stays_inside.Goals as goal
 
 size-point : (p : ℤ) → negsuc 999 ≤ℤ p → p ≤ℤ pos 1000 → unsigned_abs p ≤ 1000
@@ -48,44 +48,18 @@ place_stays s p small least greatest = record {
 place_between : (s : Stretch) (a p b : ℤ) → IsSmall s → negsuc 999 ≤ℤ a → a ≤ℤ p → p ≤ℤ b → b ≤ℤ pos 999 → PlaceStaysInside s p
 place_between s a p b small least from to greatest = place_stays s p small (omega (arith, ints)) (omega (arith, ints))
 
--- a column or row of the field
-record IsInField (p : ℤ) : Type 0 where
-  least : negsuc 4094 ≤ℤ p
-  greatest : p ≤ℤ pos 4094
-
--- what is true of each dot's column, or row, is true of a side of the least box
-at_side : (P : ℤ → Type 0) (f : Dot → ℤ) (ds : List Dot) (side : ℤ) → All (λ d. P (f d)) ds → Any (λ d. f d ≡ side) ds → P side
-at_side P f ds side all at = subst P at.4 (All-contains (λ d. P (f d)) ds at.1 all (at.0, at.2, at.3))
-
 -- the sides of the least box are read back from 32 bits
 module _ (ds : List Dot) (b : Box4) (picture : IsPicture ds) (box : IsLeastBox ds b) where
-  columns_in_field : All (λ d. IsInField d.x) ds
-  columns_in_field = λ k d lt. let dot = dots_from-lawful start_of_field ds picture.dots k d lt in record { least = dot.in_field.left; greatest = dot.in_field.right }
-
-  rows_in_field : All (λ d. IsInField d.y) ds
-  rows_in_field = λ k d lt. let dot = dots_from-lawful start_of_field ds picture.dots k d lt in record { least = dot.in_field.bottom; greatest = dot.in_field.top }
-
-  left : IsInField b.min_x
-  left = at_side IsInField (λ d. d.x) ds b.min_x columns_in_field box.left
-
-  right : IsInField b.max_x
-  right = at_side IsInField (λ d. d.x) ds b.max_x columns_in_field box.right
-
-  bottom : IsInField b.min_y
-  bottom = at_side IsInField (λ d. d.y) ds b.min_y rows_in_field box.bottom
-
-  top : IsInField b.max_y
-  top = at_side IsInField (λ d. d.y) ds b.max_y rows_in_field box.top
-
   module _ (columns rows : Stretch) (small_columns : IsSmall columns) (small_rows : IsSmall rows)
       (from_left : negsuc 999 ≤ℤ to_z w32 (of_z w32 b.min_x)) (to_right : to_z w32 (of_z w32 b.max_x) <ℤ pos 1000)
       (from_bottom : negsuc 999 ≤ℤ to_z w32 (of_z w32 b.min_y)) (to_top : to_z w32 (of_z w32 b.max_y) <ℤ pos 1000) where
     stays_inside : PixelsStayInside columns rows ds
     stays_inside =
-        let first_column : negsuc 999 ≤ℤ b.min_x = omega (arith, ints, from_left, left.least, left.greatest) in
-        let last_column : b.max_x ≤ℤ pos 999 = omega (arith, ints, to_right, right.least, right.greatest) in
-        let first_row : negsuc 999 ≤ℤ b.min_y = omega (arith, ints, from_bottom, bottom.least, bottom.greatest) in
-        let last_row : b.max_y ≤ℤ pos 999 = omega (arith, ints, to_top, top.least, top.greatest) in
+        let (least, greatest) = bounds_in_field ds b picture box in
+        let first_column : negsuc 999 ≤ℤ b.min_x = omega (arith, ints, from_left, least.left, least.right) in
+        let last_column : b.max_x ≤ℤ pos 999 = omega (arith, ints, to_right, greatest.left, greatest.right) in
+        let first_row : negsuc 999 ≤ℤ b.min_y = omega (arith, ints, from_bottom, least.bottom, least.top) in
+        let last_row : b.max_y ≤ℤ pos 999 = omega (arith, ints, to_top, greatest.bottom, greatest.top) in
         record {
           across = λ k d lt. let within = box.within k d lt in place_between columns b.min_x _ b.max_x small_columns first_column within.left within.right last_column;
           up = λ k d lt. let within = box.within k d lt in place_between rows b.min_y _ b.max_y small_rows first_row within.bottom within.top last_row;

@@ -1,0 +1,55 @@
+use Rattle.std.proofs.Common.{ℤ, pos, List, arith}
+use Rattle.std.proofs.lemmas.Bool.{cond_both}
+use Rattle.std.proofs.lemmas.Int.{ints}
+use Rattle.mf_edges.specs.LawfulWeights.{IsLawfulWeight}
+use Rattle.mf_rows.specs.Dots.{Dot, IsPicture, start_of_field, weight_at}
+use Rattle.mf_rows.proofs.DotsLemmas.{dots_from-lawful}
+use Rattle.mf_rows.proofs.WeightsLemmas.{lawful_weight_at}
+use Rattle.mf_ops.specs.Cull.{is_within}
+use Rattle.mf_ops.specs.Moves.{scale_source, turned_by}
+use Rattle.mf_ops.specs.declared.cull.CullRule.TheVariants.{Keeping, Dropping}
+use Rattle.mf_ops.specs.declared.op.Op.TheVariants as ops
+use Rattle.mf_ops.specs.declared.quarter.Quarter.{Quarter}
+use Rattle.mf_ops.specs.declared.quarter.Quarter.TheVariants.{Once, Twice, Thrice}
+use Rattle.mf_ops.proofs.Faults.{accepted-lawful, also_not_out, clear_stays, contour_not_out, cull_stays, not_too_large-lawful, quarter_stays}
+use Rattle.mf_ops.proofs.laws.never_refused.Goals as goal
+
+zero_is_lawful : IsLawfulWeight (pos 0)
+zero_is_lawful = record { least = omega (arith, ints); greatest = omega (arith, ints) }
+
+-- a move brings a pixel the weight that another had
+lawful_at : (ds : List Dot) → IsPicture ds → (x y : ℤ) → IsLawfulWeight (weight_at ds x y)
+lawful_at ds picture x y = lawful_weight_at ds x y (dots_from-lawful start_of_field ds picture.dots)
+
+lawful_turned : (q : Quarter) (ds : List Dot) → IsPicture ds → (x y : ℤ) → IsLawfulWeight (turned_by q (weight_at ds) x y)
+lawful_turned Once ds picture x y = lawful_at ds picture _ _
+lawful_turned Twice ds picture x y = lawful_at ds picture _ _
+lawful_turned Thrice ds picture x y = lawful_at ds picture _ _
+
+pub returns-clause-clear : goal.returns-clause-clear
+returns-clause-clear c ds = accepted-lawful ds ops.Clear (clear_stays ds) (λ x y. zero_is_lawful)
+
+pub returns-clause-turn : goal.returns-clause-turn
+returns-clause-turn c ds q picture = accepted-lawful ds (ops.Quarter q) (quarter_stays ds q) (lawful_turned q ds picture)
+
+pub returns-clause-keeping : goal.returns-clause-keeping
+returns-clause-keeping c ds a b w lawful =
+    accepted-lawful ds (ops.Cull (Keeping a b w)) (cull_stays ds (Keeping a b w))
+    (λ x y. cond_both (is_within a b (weight_at ds x y)) w (pos 0) IsLawfulWeight (λ _. lawful) (λ _. zero_is_lawful))
+
+pub returns-clause-dropping : goal.returns-clause-dropping
+returns-clause-dropping c ds a b w lawful =
+    accepted-lawful ds (ops.Cull (Dropping a b w)) (cull_stays ds (Dropping a b w))
+    (λ x y. cond_both (is_within a b (weight_at ds x y)) (pos 0) w IsLawfulWeight (λ _. zero_is_lawful) (λ _. lawful))
+
+pub returns-clause-shift : goal.returns-clause-shift
+returns-clause-shift c ds dx dy picture = not_too_large-lawful ds (ops.Shift dx dy) (λ x y. lawful_at ds picture _ _)
+
+pub returns-clause-scale : goal.returns-clause-scale
+returns-clause-scale c ds s picture = not_too_large-lawful ds (ops.Scale s) (λ x y. lawful_at ds picture (scale_source s.x x) (scale_source s.y y))
+
+pub returns-clause-contour : goal.returns-clause-contour
+returns-clause-contour c = contour_not_out
+
+pub returns-clause-also : goal.returns-clause-also
+returns-clause-also c = also_not_out
