@@ -21,7 +21,7 @@ min_assoc a b c = omega (arith, ints, clamps)
 max_assoc : (a b c : ℤ) → int_max a (int_max b c) ≡ int_max (int_max a b) c
 max_assoc a b c = omega (arith, ints, clamps)
 
-joined-assoc : (a b c : CharacterBox) → joined a (joined b c) ≡ joined (joined a b) c
+pub joined-assoc : (a b c : CharacterBox) → joined a (joined b c) ≡ joined (joined a b) c
 joined-assoc a b c = λ i. record {
   min_m = min_assoc a.min_m b.min_m c.min_m i;
   max_m = max_assoc a.max_m b.max_m c.max_m i;

@@ -1,5 +1,5 @@
 -- The box of pixels of the field, and the bytes that begin its character, read back.
-use Rattle.std.proofs.Common.{◌≡◌, ℕ, suc, ◌-◌, ◌^◌, nat_lt, true, ◌&&◌, ℤ, pos, negsuc, ◌+ℤ◌, ◌-ℤ◌, ◌≤ℤ◌, unsigned_abs, List, [], ◌∷◌, ◌++◌, refl, ap, ap₂, ◌∙◌, arith, lt-ltb, le-ltb}
+use Rattle.std.proofs.Common.{◌≡◌, ℕ, suc, ◌-◌, ◌^◌, nat_lt, true, ◌&&◌, ℤ, pos, negsuc, ◌+ℤ◌, ◌-ℤ◌, ◌≤ℤ◌, unsigned_abs, List, [], ◌∷◌, ◌++◌, ◌<◌, Some, refl, ap, ap₂, ◌∙◌, arith, lt-ltb, le-ltb}
 use Rattle.std.specs.List.{All}
 use Rattle.std.proofs.lemmas.Bool.{cond_both, cond-true, cond-false, and_parts, false≢true}
 use Rattle.std.proofs.lemmas.Int.{ints, clamps}
@@ -11,7 +11,9 @@ use Rattle.mf_gf.specs.declared.boxes.CharacterBox.{CharacterBox}
 use Rattle.mf_gf.specs.Boxes.{box_of, box_of_pixel, joined}
 use Rattle.mf_gf.specs.Numbers.{word}
 use Rattle.mf_gf.specs.Painting as painting
-use Rattle.mf_gf.specs.Painting.{drawn_from}
+use Rattle.mf_gf.specs.Painting.{drawn_from, drawn_in, head_of}
+use Rattle.mf_gf.specs.Places.{IsInReach}
+use Rattle.mf_gf.proofs.BoxesInReach.{IsBoxInReach}
 use Rattle.mf_gf.specs.Spelling.{is_byte, is_short, short_begin, long_begin, begin}
 
 -- the left end and the top of a box are numbers of the field
@@ -61,11 +63,13 @@ dots_from_box low b [] dots round = tt
 dots_from_box low b (d ∷ ds) dots round = let first = All-head (StandsIn b) d ds round.dots in (dots.0, omega (arith, ints, first), dots.2)
 
 -- a signed number of four bytes
-pub word-reads_back : (z : ℤ) (rest : List ℕ) → negsuc 4094 ≤ℤ z → z ≤ℤ pos 4094 → twos_complement 4 (big_number 4 (word z ++ rest)) ≡ z
-word-reads_back (pos n) rest least greatest =
+pub word-reads_back : (z : ℤ) (rest : List ℕ) → IsInReach z → twos_complement 4 (big_number 4 (word z ++ rest)) ≡ z
+word-reads_back (pos n) rest reach =
+    let greatest = reach.greatest in
     ap (twos_complement 4) (big_number-reads_back 4 n rest (omega (arith, ints)))
     ∙ cond-true (nat_lt n (2 ^ 31)) _ _ (lt-ltb n (2 ^ 31) (omega (arith, ints)))
-word-reads_back (negsuc n) rest least greatest =
+word-reads_back (negsuc n) rest reach =
+    let least = reach.least in
     let x = 2 ^ 32 - suc n in
     ap (twos_complement 4) (big_number-reads_back 4 x rest (omega (arith, ints)))
     ∙ cond-false (nat_lt x (2 ^ 31)) (pos x) (pos x -ℤ pos (2 ^ 32)) (le-ltb x (2 ^ 31) (omega (arith, ints)))
@@ -75,20 +79,50 @@ byte-reads_back : (z : ℤ) → is_byte z ≡ true → pos (unsigned_abs z) ≡ 
 byte-reads_back (pos n) fits = refl
 byte-reads_back (negsuc n) fits = absurd (false≢true fits)
 
--- the bytes that begin a character give its left end and its top
-pub paint-begin : (code : ℕ) (b : CharacterBox) (rest : List ℕ) → IsSmall b → painting.paint (begin code b ++ rest) ≡ drawn_from b.min_m b.max_n rest
-unfolding painting.paint
-paint-begin code b rest small =
-    cond_both (is_short b) (short_begin code b) (long_begin code b) (λ bytes. painting.paint (bytes ++ rest) ≡ drawn_from b.min_m b.max_n rest)
-    (λ short.
+-- the numbers of a box that fits into fields of one byte
+record AreReadBack (b : CharacterBox) : Type 0 where
+  left : pos (unsigned_abs b.max_m) -ℤ pos (unsigned_abs (b.max_m -ℤ b.min_m)) ≡ b.min_m
+  right : pos (unsigned_abs b.max_m) ≡ b.max_m
+  bottom : pos (unsigned_abs b.max_n) -ℤ pos (unsigned_abs (b.max_n -ℤ b.min_n)) ≡ b.min_n
+  top : pos (unsigned_abs b.max_n) ≡ b.max_n
+
+short-reads_back : (b : CharacterBox) → is_short b ≡ true → AreReadBack b
+short-reads_back b short =
     let width = and_parts (is_byte (b.max_m -ℤ b.min_m)) (is_byte b.max_m && (is_byte (b.max_n -ℤ b.min_n) && is_byte b.max_n)) short in
     let right = and_parts (is_byte b.max_m) (is_byte (b.max_n -ℤ b.min_n) && is_byte b.max_n) width.1 in
     let height = and_parts (is_byte (b.max_n -ℤ b.min_n)) (is_byte b.max_n) right.1 in
     let columns = byte-reads_back (b.max_m -ℤ b.min_m) width.0 in
     let last = byte-reads_back b.max_m right.0 in
-    let left : pos (unsigned_abs b.max_m) -ℤ pos (unsigned_abs (b.max_m -ℤ b.min_m)) ≡ b.min_m = omega (arith, ints, columns, last) in
-    ap₂ (λ l t. drawn_from l t rest) left (byte-reads_back b.max_n height.1))
+    let rows = byte-reads_back (b.max_n -ℤ b.min_n) height.0 in
+    let first = byte-reads_back b.max_n height.1 in
+    record { left = omega (arith, ints, columns, last); right = last; bottom = omega (arith, ints, rows, first); top = first }
+
+-- the bytes that begin a character, read back
+pub head-begin : (code : ℕ) (b : CharacterBox) (rest : List ℕ) → code < 256 → IsBoxInReach b → head_of (begin code b ++ rest) ≡ Some (record { code = pos code; earlier = negsuc 0; box = b })
+unfolding head_of
+head-begin code b rest fits reach =
+    let all = λ (bytes : List ℕ). head_of (bytes ++ rest) ≡ Some (record { code = pos code; earlier = negsuc 0; box = b }) in
+    cond_both (is_short b) (short_begin code b) (long_begin code b) all
+    (λ short.
+    let back = short-reads_back b short in
+    λ t. Some (record { code = pos code; earlier = negsuc 0; box = record { min_m = back.left t; max_m = back.right t; min_n = back.bottom t; max_n = back.top t } }))
+    (λ long.
+    let numbers = word b.min_m ++ word b.max_m ++ word b.min_n ++ word b.max_n ++ rest in
+    let code_is = word-reads_back (pos code) (word (negsuc 0) ++ numbers) (record { least = omega (arith, ints); greatest = omega (arith, ints) }) in
+    let earlier_is = word-reads_back (negsuc 0) numbers (record { least = omega (arith, ints); greatest = omega (arith, ints) }) in
+    let left = word-reads_back b.min_m (word b.max_m ++ word b.min_n ++ word b.max_n ++ rest) reach.columns.0 in
+    let right = word-reads_back b.max_m (word b.min_n ++ word b.max_n ++ rest) reach.columns.1 in
+    let bottom = word-reads_back b.min_n (word b.max_n ++ rest) reach.rows.0 in
+    let top = word-reads_back b.max_n rest reach.rows.1 in
+    λ t. Some (record { code = code_is t; earlier = earlier_is t; box = record { min_m = left t; max_m = right t; min_n = bottom t; max_n = top t } }))
+
+-- so the commands behind them paint from the left end and the top of the box on
+pub paint-begin : (code : ℕ) (b : CharacterBox) (rest : List ℕ) → IsBoxInReach b → painting.paint (begin code b ++ rest) ≡ drawn_in b rest
+unfolding painting.paint
+paint-begin code b rest reach =
+    cond_both (is_short b) (short_begin code b) (long_begin code b) (λ bytes. painting.paint (bytes ++ rest) ≡ drawn_in b rest)
+    (λ short. let back = short-reads_back b short in ap₂ (λ l t. drawn_from l t rest) back.left back.top)
     (λ long.
     ap₂ (λ l t. drawn_from l t rest)
-    (word-reads_back b.min_m (word b.max_m ++ word b.min_n ++ word b.max_n ++ rest) small.left small.right)
-    (word-reads_back b.max_n rest small.bottom small.top))
+    (word-reads_back b.min_m (word b.max_m ++ word b.min_n ++ word b.max_n ++ rest) reach.columns.0)
+    (word-reads_back b.max_n rest reach.rows.1))

@@ -39,7 +39,7 @@ pixel_in_reach d dot =
       );
     }
 
-box_from : (low : ℤ) (ds : List Dot) → AreDotsFrom low ds → IsBoxInReach (box_of ds)
+pub box_from : (low : ℤ) (ds : List Dot) → AreDotsFrom low ds → IsBoxInReach (box_of ds)
 unfolding box_of
 box_from low [] dots =
     let zero : IsInReach (pos 0) = record { least = omega (arith, ints); greatest = omega (arith, ints) } in

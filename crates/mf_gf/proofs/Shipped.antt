@@ -14,13 +14,14 @@ use Rattle.mf_gf.specs.Boxes.{box_of, joined, widened}
 use Rattle.mf_gf.specs.Files.{Character, HasCode, spell_character, preamble, front, located_from, located, box_of_all}
 use Rattle.mf_gf.specs.Keeping.{IsAppended, Keeps, bounds_of}
 use Rattle.mf_gf.specs.Spelling.{spell}
+use Rattle.mf_gf.proofs.BlackBoxes.{joined-assoc}
 
 -- a character has bytes
 pub spell_some : (code : ℕ) (ds : List Dot) → 1 ≤ length (spell code ds)
 unfolding spell
 spell_some code ds = simp length-append (omega arith)
 
-front-more : (comment : List ℕ) (cs : List Character) (c : Character) → front comment (cs ++ c ∷ []) ≡ front comment cs ++ spell_character c
+pub front-more : (comment : List ℕ) (cs : List Character) (c : Character) → front comment (cs ++ c ∷ []) ≡ front comment cs ++ spell_character c
 front-more comment cs c =
     ap (λ all. preamble comment ++ all) (flat_map-append spell_character cs (c ∷ []) ∙ ap (λ last. flat_map spell_character cs ++ last) (append-nil (spell_character c)))
     ∙ sym (append_assoc (preamble comment) (flat_map spell_character cs) (spell_character c))
@@ -37,7 +38,7 @@ located_from-more place (b ∷ cs) c =
     let further : place + length (spell_character b) + length (flat_map spell_character cs) ≡ place + length (spell_character b ++ flat_map spell_character cs) = simp length-append (omega arith) in
     ap (λ ls. locator_at b place ∷ ls) (located_from-more (place + length (spell_character b)) cs c ∙ ap (λ there. located_from (place + length (spell_character b)) cs ++ locator_at c there ∷ []) further)
 
-located-more : (comment : List ℕ) (cs : List Character) (c : Character) → located comment (cs ++ c ∷ []) ≡ located comment cs ++ locator_at c (length (front comment cs)) ∷ []
+pub located-more : (comment : List ℕ) (cs : List Character) (c : Character) → located comment (cs ++ c ∷ []) ≡ located comment cs ++ locator_at c (length (front comment cs)) ∷ []
 located-more comment cs c =
     located_from-more (length (preamble comment)) cs c
     ∙ ap (λ there. located comment cs ++ locator_at c there ∷ []) (sym (length-append (preamble comment) (flat_map spell_character cs)))
@@ -64,24 +65,10 @@ has_code-located is_there code comment cs is =
       λ there. same ∙ list_any-from_Any (λ (c : Character). c.code == code) cs (there.0, there.1, there.2, there.3, eq-eqb _ _ there.4),
     )
 
-int_min_assoc : (a b c : ℤ) → int_min a (int_min b c) ≡ int_min (int_min a b) c
-int_min_assoc a b c = omega (arith, ints, clamps)
-
-int_max_assoc : (a b c : ℤ) → int_max a (int_max b c) ≡ int_max (int_max a b) c
-int_max_assoc a b c = omega (arith, ints, clamps)
-
-joined_assoc : (a b c : CharacterBox) → joined a (joined b c) ≡ joined (joined a b) c
-joined_assoc a b c = λ i. record {
-  min_m = int_min_assoc a.min_m b.min_m c.min_m i;
-  max_m = int_max_assoc a.max_m b.max_m c.max_m i;
-  min_n = int_min_assoc a.min_n b.min_n c.min_n i;
-  max_n = int_max_assoc a.max_n b.max_n c.max_n i;
-}
-
-box_of_all-more : (b : Character) (cs : List Character) (c : Character) → box_of_all (b ∷ cs ++ c ∷ []) ≡ joined (box_of_all (b ∷ cs)) (box_of c.black)
+pub box_of_all-more : (b : Character) (cs : List Character) (c : Character) → box_of_all (b ∷ cs ++ c ∷ []) ≡ joined (box_of_all (b ∷ cs)) (box_of c.black)
 unfolding box_of_all
 box_of_all-more b [] c = refl
-box_of_all-more b (d ∷ cs) c = ap (joined (box_of b.black)) (box_of_all-more d cs c) ∙ joined_assoc (box_of b.black) (box_of_all (d ∷ cs)) (box_of c.black)
+box_of_all-more b (d ∷ cs) c = ap (joined (box_of b.black)) (box_of_all-more d cs c) ∙ joined-assoc (box_of b.black) (box_of_all (d ∷ cs)) (box_of c.black)
 
 bounds_of-more : (cs : List Character) (c : Character) → bounds_of (cs ++ c ∷ []) ≡ Some (widened (bounds_of cs) (box_of c.black))
 unfolding box_of_all

@@ -1,8 +1,10 @@
--- The painting machine: what the bytes of a character make black (gftype.web; The METAFONTbook, Appendix G).
-use Rattle.std.specs.Prelude.{◌==◌, ◌&&◌, ◌+◌, ◌-◌, Bool, true, false, not, ℕ, zero, suc, nat_le, ℤ, pos, ◌+ℤ◌, ◌-ℤ◌, List, [], ◌∷◌, ◌++◌, length, drop, slice_index, Option, None, Some, option_map, if◌then◌else◌}
+-- The painting machine: what the bytes of a character make black (gftype.web; The METAFONTbook, Appendix G). It has the
+-- commands that paint or move; a character with specials or commands that do nothing is not read.
+use Rattle.std.specs.Prelude.{◌==◌, ◌&&◌, ◌+◌, ◌-◌, Bool, true, false, not, ℕ, zero, suc, nat_le, ℤ, pos, negsuc, ◌+ℤ◌, ◌-ℤ◌, List, [], ◌∷◌, ◌++◌, length, drop, slice_index, Option, None, Some, option_map, if◌then◌else◌}
 use Rattle.byteorder.specs.Endian.{big_number}
 use Rattle.mf_rows.specs.Dots.{Dot}
 use Rattle.mf_rows.specs.Runs.{stretch}
+use Rattle.mf_gf.specs.declared.boxes.CharacterBox.{CharacterBox}
 use Rattle.mf_gf.specs.Numbers.{word_at}
 
 -- a painting command: paint so many pixels, skip so many rows and one, or go to the next row at an offset
@@ -79,20 +81,50 @@ unfoldable pub drawn : Pen → List Stroke → List Dot
 drawn pen [] = []
 drawn pen (stroke ∷ strokes) = painted pen stroke ++ drawn (moved pen stroke) strokes
 
+-- what a character says before its commands: its code, the place of an earlier character of this code (-1: there is none),
+-- and its box
+pub record Head : Type 0 where
+  pub code : ℤ
+  pub earlier : ℤ
+  pub box : CharacterBox
+
+-- boc1: the code, the greatest m less the least m, the greatest m, the greatest n less the least n, and the greatest n,
+-- a byte each, and no earlier character
+abbrev pub head_of_boc1 : List ℕ → Head
+head_of_boc1 bytes = record {
+  code = pos (slice_index bytes 0);
+  earlier = negsuc 0;
+  box = record {
+    min_m = pos (slice_index bytes 2) -ℤ pos (slice_index bytes 1);
+    max_m = pos (slice_index bytes 2);
+    min_n = pos (slice_index bytes 4) -ℤ pos (slice_index bytes 3);
+    max_n = pos (slice_index bytes 4);
+  };
+}
+
+-- boc: the code, the place of an earlier character, and the least and greatest m and n, four bytes each
+abbrev pub head_of_boc : List ℕ → Head
+head_of_boc bytes = record {
+  code = word_at 0 bytes;
+  earlier = word_at 4 bytes;
+  box = record { min_m = word_at 8 bytes; max_m = word_at 12 bytes; min_n = word_at 16 bytes; max_n = word_at 20 bytes };
+}
+
+-- the head of a character
+unfoldable pub head_of : List ℕ → Option Head
+head_of [] = None
+head_of (b ∷ bytes) = if b == 68 then Some (head_of_boc1 bytes) else (if b == 67 then Some (head_of_boc bytes) else None)
+
 -- the pixels that the commands make black, from the left end and the top of a box on
 abbrev pub drawn_from : ℤ → ℤ → List ℕ → Option (List Dot)
 drawn_from left top bytes = option_map (drawn (pen_at left top)) (strokes bytes)
 
--- boc1: the code, the greatest m less the least m, the greatest m, the greatest n less the least n, and the greatest n,
--- a byte each
-abbrev pub after_boc1 : List ℕ → Option (List Dot)
-after_boc1 bytes = drawn_from (pos (slice_index bytes 2) -ℤ pos (slice_index bytes 1)) (pos (slice_index bytes 4)) (drop 5 bytes)
+abbrev pub drawn_in : CharacterBox → List ℕ → Option (List Dot)
+drawn_in b bytes = drawn_from b.min_m b.max_n bytes
 
--- boc: the code, a place, and the least and greatest m and n, four bytes each
-abbrev pub after_boc : List ℕ → Option (List Dot)
-after_boc bytes = drawn_from (word_at 8 bytes) (word_at 20 bytes) (drop 24 bytes)
-
--- the pixels that a character makes black
+-- the pixels that a character makes black, by the commands behind its head
 unfoldable pub paint : List ℕ → Option (List Dot)
 paint [] = None
-paint (b ∷ bytes) = if b == 68 then after_boc1 bytes else (if b == 67 then after_boc bytes else None)
+paint (b ∷ bytes) =
+    if b == 68 then drawn_in (head_of_boc1 bytes).box (drop 5 bytes)
+    else (if b == 67 then drawn_in (head_of_boc bytes).box (drop 24 bytes) else None)

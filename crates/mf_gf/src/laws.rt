@@ -1,21 +1,28 @@
 //! Laws of GF files: each is the contract of a function that does nothing.
-ghost use Rattle.std.specs.Prelude.{◌≡◌, ◌↔◌, ◌<◌, ◌∷◌, ℕ, ℤ, List, Some};
-ghost use Rattle.mf_gf.specs.Boxes.{IsLeastBox, box_of};
-ghost use Rattle.mf_gf.specs.Files.{Character, IsPadded, IsShortDx, file_of, short_dx};
+ghost use Rattle.std.specs.Prelude.{◌≡◌, ◌↔◌, ◌<◌, ◌<ℤ◌, ◌∷◌, [], ◌++◌, length, ℕ, ℤ, pos, negsuc, List, Some};
+ghost use Rattle.mf_gf.specs.Boxes.{IsLeastBox, box_of, joined};
+ghost use Rattle.mf_gf.specs.Files.{Character, IsPadded, IsShortDx, box_of_all, file_of, front, located, short_dx, spell_character};
 ghost use Rattle.mf_gf.specs.declared.file.FontWords.{FontWords};
-ghost use Rattle.mf_gf.specs.Painting.{paint};
+ghost use Rattle.mf_gf.specs.Painting.{head_of, paint};
 ghost use Rattle.mf_gf.specs.Pixels.{IsPixelSet, black};
 ghost use Rattle.mf_gf.specs.Spelling.{spell};
-ghost use Rattle.mf_rows.specs.Dots.{Dot, IsPicture};
+ghost use Rattle.mf_rows.specs.Dots.{Dot, IsPicture, weight_at};
 
 /// The painting law: painting the bytes of a finite set of pixels of the field gives that set, for every code.
 pub fn painted_back()
     ensures { (code : ℕ) (ds : List Dot) → code < 256 → IsPixelSet ds → paint (spell code ds) ≡ Some ds }
 {}
 
-/// The black pixels of a picture are a set of pixels.
+/// The bytes of a set of pixels begin with its code and its box, and name no earlier character of this code.
+pub fn head_read_back()
+    ensures { (code : ℕ) (ds : List Dot) → code < 256 → IsPixelSet ds →
+        head_of (spell code ds) ≡ Some (record { code = pos code; earlier = negsuc 0; box = box_of ds }) }
+{}
+
+/// The black pixels of a picture are a set of pixels: those of positive weight.
 pub fn black_pixels_are_a_set()
-    ensures { (ds : List Dot) → IsPicture ds → IsPixelSet (black ds) }
+    ensures set { (ds : List Dot) → IsPicture ds → IsPixelSet (black ds) }
+    ensures which { (ds : List Dot) (x y : ℤ) → IsPicture ds → (weight_at (black ds) x y ≡ pos 1) ↔ (pos 0 <ℤ weight_at ds x y) }
 {}
 
 /// The box of a character is the least one round its black pixels.
@@ -26,6 +33,16 @@ pub fn box_is_least()
 /// An escapement is written in one byte exactly where it is 65536 times this byte.
 pub fn short_escapements()
     ensures { (dx : ℤ) (pixels : ℕ) → (short_dx dx ≡ Some pixels) ↔ IsShortDx dx pixels }
+{}
+
+/// A file begins with its preamble and its characters. One character more stands behind them, and has a locator behind theirs
+/// with its code, its escapement, its width, and the place where its bytes begin; the box of all is joined with its own.
+pub fn one_character_more()
+    ensures begins { (words : FontWords) (comment : List ℕ) (cs : List Character) → (rest : List ℕ) × (file_of words comment cs ≡ front comment cs ++ rest) }
+    ensures bytes { (comment : List ℕ) (cs : List Character) (c : Character) → front comment (cs ++ c ∷ []) ≡ front comment cs ++ spell_character c }
+    ensures locator { (comment : List ℕ) (cs : List Character) (c : Character) →
+        located comment (cs ++ c ∷ []) ≡ located comment cs ++ (record { code = c.code; dx = c.dx; width = c.width; place = length (front comment cs) }) ∷ [] }
+    ensures bounds { (b : Character) (cs : List Character) (c : Character) → box_of_all (b ∷ cs ++ c ∷ []) ≡ joined (box_of_all (b ∷ cs)) (box_of c.black) }
 {}
 
 /// The length of a finished file is a multiple of 4, and its last four to seven bytes are 223.

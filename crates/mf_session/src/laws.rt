@@ -11,12 +11,14 @@ pub fn line_by_line()
     ensures apart { (limits : Limits) (s u : State) (lines more : List (List ℕ)) (whole : List ℕ) → Perform limits s (lines ++ more) whole u → (t : State) × (text : List ℕ) × (rest : List ℕ) × Perform limits s lines text t × Perform limits t more rest u × (whole ≡ text ++ rest) }
 {}
 
-/// A line has at most one answer in a state: one text and one state after it.
+/// A line has an answer in a state, and one only: one text and one state after it.
 pub fn one_answer()
-    ensures { (limits : Limits) (s t u : State) (line text other : List ℕ) → Answers limits s line text t → Answers limits s line other u → (text ≡ other) × (t ≡ u) }
+    ensures some { (limits : Limits) (s : State) (line : List ℕ) → (text : List ℕ) × (t : State) × Answers limits s line text t }
+    ensures one { (limits : Limits) (s t u : State) (line text other : List ℕ) → Answers limits s line text t → Answers limits s line other u → (text ≡ other) × (t ≡ u) }
 {}
 
-/// A script has at most one transcript.
+/// A script has a transcript, and one only.
 pub fn one_transcript()
-    ensures { (limits : Limits) (input text other : List ℕ) → IsTranscript limits input text → IsTranscript limits input other → text ≡ other }
+    ensures some { (limits : Limits) (input : List ℕ) → (text : List ℕ) × IsTranscript limits input text }
+    ensures one { (limits : Limits) (input text other : List ℕ) → IsTranscript limits input text → IsTranscript limits input other → text ≡ other }
 {}

@@ -11,7 +11,9 @@ use Rattle.mf_text.specs.declared.token.Word.TheVariants as word
 use Rattle.mf_text.specs.Grammar.{Int, Code, Pair, Path, Transform, Shifted, Scaled, XScaled, YScaled, Rotated, Form, Nothing, AddContour, AddPicture, CullKeeping, CullDropping, Clear, Move, ShowTotal, ShowPicture, ShowProof, ShipOut, PublishAll, Line, spell_word, spell_mark, spell_int, spell_code, spell_pair, spell_name, spell_source, spell_weight, spell_path, spell_transform, spell_end, spell_line}
 use Rattle.mf_text.specs.Syntax.{BeginsLine}
 use Rattle.mf_text.specs.Tails.{LastWeight}
-use Rattle.mf_text.proofs.Deciding.{Tells, Decides, decides-cat, decides-closed, decides-behind, decides-end, decides-weight, tells-word, tells-mark, tells-name, tells-same_name, tells-source, tells-int, tells-code, tells-pair, tells-path}
+use Rattle.mf_text.proofs.Deciding.{Tells, Decides, decides-cat}
+use Rattle.mf_text.proofs.DecidingTokens.{tells-word, tells-mark, tells-name, tells-source, tells-int, tells-code, tells-pair, tells-path}
+use Rattle.mf_text.proofs.DecidingEnds.{decides-closed, decides-behind, decides-end, decides-weight, tells-same_name}
 
 regrouped : (a b c d e : List Token) → a ++ b ++ c ++ d ++ e ≡ a ++ (b ++ (c ++ (d ++ e)))
 regrouped a b c d e = simp append_assoc

@@ -150,6 +150,11 @@ pub one_grid_text : (ds : List Dot) (one other : List ℕ) → IsGridText ds one
 one_grid_text [] one other p q = p.blank refl ∙ sym (q.blank refl)
 one_grid_text (d ∷ ds) one other p q = let (b, least) = some_least_box d ds in p.drawn b least ∙ sym (q.drawn b least)
 
+pub some_grid_text : (ds : List Dot) → (text : List ℕ) × IsGridText ds text
+some_grid_text [] = (codes "blank\n", record { blank = λ _. refl; drawn = λ b least. absurd (least_box_of_some b least) })
+some_grid_text (d ∷ ds) =
+    let (b, least) = some_least_box d ds in (box_text (d ∷ ds) b, grid_of_box (d ∷ ds) b (box_text (d ∷ ds) b) least refl)
+
 pub too_large : (ds : List Dot) (b : Box4) (columns rows : ℕ) → IsLeastBox ds b → columns ≡ extent b.min_x b.max_x → rows ≡ extent b.min_y b.max_y
     → (128 < columns) ⊎ ((columns ≤ 128) × (128 < rows)) → IsTooLarge ds
 too_large ds b columns rows box wide high (inl more) = record { bounds = b; least = box; large = inl (rw (← wide) more) }

@@ -5,9 +5,9 @@ use Rattle.std.proofs.lemmas.Int.{ints}
 use Rattle.std.proofs.lemmas.List.Elements.{All-contains, All-nil, All-cons}
 use Rattle.mf_rows.specs.declared.bounds.Box4.{Box4}
 use Rattle.mf_rows.specs.Bounds.{IsWithin, IsLeastBox}
-use Rattle.mf_rows.specs.Dots.{Dot, IsDot, IsPicture, start_of_field}
+use Rattle.mf_rows.specs.Dots.{Dot, IsPicture}
 use Rattle.mf_rows.specs.Widening.{widened}
-use Rattle.mf_rows.proofs.DotsLemmas.{dots_from-lawful}
+use Rattle.mf_rows.proofs.BoundsInField.{bounds_in_field}
 use Rattle.mf_rows.proofs.RunBoxes.{least_box_of_both}
 
 -- what all dots are is also that dot which some property finds
@@ -25,18 +25,14 @@ pub record IsBoxOfField (b : Box4) : Type 0 where
 
 pub least_box_of_field : (ds : List Dot) (b : Box4) → IsPicture ds → IsLeastBox ds b → IsBoxOfField b
 least_box_of_field ds b picture box =
-    let dots = dots_from-lawful start_of_field ds picture.dots in
-    let at_left = (found (λ d. d.x ≡ b.min_x) IsDot ds box.left dots).in_field in
-    let at_right = (found (λ d. d.x ≡ b.max_x) IsDot ds box.right dots).in_field in
-    let at_bottom = (found (λ d. d.y ≡ b.min_y) IsDot ds box.bottom dots).in_field in
-    let at_top = (found (λ d. d.y ≡ b.max_y) IsDot ds box.top dots).in_field in
+    let (least, greatest) = bounds_in_field ds b picture box in
     let left_within = found (λ d. d.x ≡ b.min_x) (IsWithin b) ds box.left box.within in
     let bottom_within = found (λ d. d.y ≡ b.min_y) (IsWithin b) ds box.bottom box.within in
     record {
-      left = omega (arith, ints, at_left.left, box.left.4);
-      right = omega (arith, ints, at_right.right, box.right.4);
-      bottom = omega (arith, ints, at_bottom.bottom, box.bottom.4);
-      top = omega (arith, ints, at_top.top, box.top.4);
+      left = least.left;
+      right = greatest.right;
+      bottom = least.bottom;
+      top = greatest.top;
       columns = omega (arith, ints, left_within.right, box.left.4);
       rows = omega (arith, ints, bottom_within.top, box.bottom.4);
     }

@@ -24,7 +24,7 @@ use Rattle.mf_text.specs.Sentences.{motion_of}
 use Rattle.mf_text.specs.Phrases.{IsPhrase, BeginsPhrase, IsWrongAt}
 use Rattle.mf_text.specs.Syntax.{IsLine, shown_at, IsSyntaxFault}
 use Rattle.mf_text.specs.Tokens.{kinds}
-use Rattle.mf_text.proofs.ReadBack.{same_line}
+use Rattle.mf_text.proofs.LinesReadBack.{same_line}
 
 -- ---- forms
 

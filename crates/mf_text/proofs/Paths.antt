@@ -18,7 +18,7 @@ use Rattle.mf_text.specs.Left.{tokens_left}
 use Rattle.mf_text.specs.Paths.{HasPoints}
 use Rattle.mf_text.specs.Readers.{with_next, kinds_ahead, IsNotNext, IsPathOf}
 use Rattle.mf_text.specs.Tokens.{kinds, first_token, tokens_within, tokens_from}
-use Rattle.mf_text.proofs.Sequences.{corner-free, spell_corners, corners-cons}
+use Rattle.mf_text.proofs.Sequences.{corner-free, spell_corners, corners-cons, corners_split}
 use Rattle.mf_text.proofs.Skips.{skip-add, column_at-skip}
 
 -- corners, with nothing behind them
@@ -39,9 +39,6 @@ corners-behind (p ∷ ps) qs rest =
 pub same_behind : (p q : Pair) (x y : List Token) → spell_corner p ++ x ≡ spell_corner q ++ y → x ≡ y
 same_behind p q x y e =
     append_cancel_left (spell_corner q) x y (subst (λ c. spell_corner c ++ x ≡ spell_corner q ++ y) (corner-free.same p q x y e) e)
-
-pub corners_split : (p : Pair) (ps : List Pair) (rest : List Token) → spell_corners (p ∷ ps) ++ rest ≡ spell_corner p ++ (spell_corners ps ++ rest)
-corners_split p ps rest = ap (λ ts. ts ++ rest) (corners-cons p ps) ∙ append_assoc (spell_corner p) (spell_corners ps) rest
 
 -- corners, `cycle` and what is behind it: what is left of them behind other corners
 record IsLeft (ts rest : List Token) : Type 0 where

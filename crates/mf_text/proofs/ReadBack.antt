@@ -16,7 +16,7 @@ use Rattle.mf_text.proofs.Codes.{code_of, code_of-back}
 
 -- ---- reading tokens as a phrase, whatever they are
 
-abbrev next : List Token → Token
+abbrev pub next : List Token → Token
 next [] = token.Unknown
 next (t ∷ ts) = t
 
@@ -32,18 +32,18 @@ abbrev magnitude_of : Token → ℕ
 magnitude_of (token.Number n) = n
 magnitude_of t = 0
 
-unfoldable int_in : List Token → Int
+unfoldable pub int_in : List Token → Int
 int_in ts =
     cond (is_minus (next ts)) (record { negative = true; magnitude = magnitude_of (next (drop 1 ts)) })
     (record { negative = false; magnitude = magnitude_of (next ts) })
 
-unfoldable after_int : List Token → List Token
+unfoldable pub after_int : List Token → List Token
 after_int ts = cond (is_minus (next ts)) (drop 2 ts) (drop 1 ts)
 
-unfoldable pair_in : List Token → Pair
+unfoldable pub pair_in : List Token → Pair
 pair_in ts = record { across = int_in (drop 1 ts); up = int_in (drop 1 (after_int (drop 1 ts))) }
 
-unfoldable after_pair : List Token → List Token
+unfoldable pub after_pair : List Token → List Token
 after_pair ts = drop 1 (after_int (drop 1 (after_int (drop 1 ts))))
 
 abbrev after_corner : List Token → List Token
@@ -55,25 +55,25 @@ joins_to (token.Mark mark.Join) later = suc later
 joins_to (token.Word word.Cycle) later = 0
 joins_to t later = later
 
-unfoldable joins : List Token → ℕ
+unfoldable pub joins : List Token → ℕ
 joins [] = 0
 joins (t ∷ ts) = joins_to t (joins ts)
 
-unfoldable corners_in : ℕ → List Token → List Pair
+unfoldable pub corners_in : ℕ → List Token → List Pair
 corners_in zero ts = []
 corners_in (suc n) ts = pair_in ts ∷ corners_in n (after_corner ts)
 
-unfoldable after_corners : ℕ → List Token → List Token
+unfoldable pub after_corners : ℕ → List Token → List Token
 after_corners zero ts = ts
 after_corners (suc n) ts = after_corners n (after_corner ts)
 
 abbrev path_of : Pair → List Pair → Path
 path_of p ps = record { first = p; others = ps }
 
-unfoldable path_in : List Token → Path
+unfoldable pub path_in : List Token → Path
 path_in ts = path_of (pair_in ts) (corners_in (joins (after_corner ts)) (after_corner ts))
 
-unfoldable after_path : List Token → List Token
+unfoldable pub after_path : List Token → List Token
 after_path ts = drop 1 (after_corners (joins (after_corner ts)) (after_corner ts))
 
 abbrev name_of : Token → Name
@@ -84,39 +84,39 @@ abbrev source_of : Token → Source
 source_of (token.Word word.NullPicture) = Null
 source_of t = Named (name_of t)
 
-unfoldable weight_in : List Token → Option Int
+unfoldable pub weight_in : List Token → Option Int
 weight_in ts = cond (is_with_weight (next ts)) (Some (int_in (drop 1 ts))) None
 
-unfoldable after_weight : List Token → List Token
+unfoldable pub after_weight : List Token → List Token
 after_weight ts = cond (is_with_weight (next ts)) (after_int (drop 1 ts)) ts
 
-unfoldable is_some : List Token → Bool
+unfoldable pub is_some : List Token → Bool
 is_some [] = false
 is_some (t ∷ ts) = true
 
 abbrev line_of : Form → List Token → Line
 line_of form ts = record { form = form; ended = is_some ts }
 
-abbrev also_in : Name → List Token → Line
+abbrev pub also_in : Name → List Token → Line
 also_in name ts =
     cond (is_minus (next ts)) (line_of (AddPicture name Minus (source_of (next (drop 1 ts)))) (drop 2 ts))
     (line_of (AddPicture name Plus (source_of (next ts))) (drop 1 ts))
 
-abbrev contour_in : Name → List Token → Line
+abbrev pub contour_in : Name → List Token → Line
 contour_in name ts = line_of (AddContour name (path_in ts) (weight_in (after_path ts))) (after_weight (after_path ts))
 
 abbrev added : Name → Token → List Token → Line
 added name (token.Word word.Contour) ts = contour_in name ts
 added name t ts = also_in name ts
 
-abbrev range_in : (Pair → Option Int → Form) → List Token → Line
+abbrev pub range_in : (Pair → Option Int → Form) → List Token → Line
 range_in form ts = line_of (form (pair_in ts) (weight_in (after_pair ts))) (after_weight (after_pair ts))
 
 abbrev culled : Name → Token → List Token → Line
 culled name (token.Word word.Keeping) ts = range_in (CullKeeping name) ts
 culled name t ts = range_in (CullDropping name) ts
 
-abbrev moved : Name → Token → List Token → Line
+abbrev pub moved : Name → Token → List Token → Line
 moved name (token.Word word.Shifted) ts = line_of (Move name (Shifted (pair_in ts))) (after_pair ts)
 moved name (token.Word word.Scaled) ts = line_of (Move name (Scaled (int_in ts))) (after_int ts)
 moved name (token.Word word.XScaled) ts = line_of (Move name (XScaled (int_in ts))) (after_int ts)
@@ -131,14 +131,14 @@ abbrev shown : Token → List Token → Line
 shown (token.Word word.TotalWeight) ts = line_of (ShowTotal (source_of (next ts))) (drop 1 ts)
 shown t ts = line_of (ShowPicture (source_of t)) ts
 
-unfoldable code_in : List Token → Code
+unfoldable pub code_in : List Token → Code
 code_in ts = code_of (int_in ts)
 
 -- behind an int and a word
-unfoldable after_int_word : List Token → List Token
+unfoldable pub after_int_word : List Token → List Token
 after_int_word ts = drop 1 (after_int ts)
 
-abbrev shipped : Source → List Token → Line
+abbrev pub shipped : Source → List Token → Line
 shipped source ts =
     line_of (ShipOut source (code_in ts) (int_in (after_int_word ts)) (int_in (after_int_word (after_int_word ts)))) (after_int (after_int_word (after_int_word ts)))
 
@@ -153,7 +153,7 @@ line_from (token.Word word.CurrentPicture) ts = assigned Current (next (drop 1 t
 line_from (token.Letter letter) ts = assigned (Register letter) (next (drop 1 ts)) (drop 2 ts)
 line_from t ts = line_of Nothing (t ∷ ts)
 
-abbrev line_in : List Token → Line
+abbrev pub line_in : List Token → Line
 line_in [] = line_of Nothing []
 line_in (t ∷ ts) = line_from t ts
 
@@ -165,7 +165,7 @@ unfolding int_in
 int-signed true m rest = refl
 int-signed false m rest = refl
 
-int-back : (n : Int) (rest : List Token) → int_in (spell_int n ++ rest) ≡ n
+pub int-back : (n : Int) (rest : List Token) → int_in (spell_int n ++ rest) ≡ n
 int-back n rest = int-signed n.negative n.magnitude rest
 
 int-passed_signed : (negative : Bool) (m : ℕ) (rest : List Token)
@@ -174,14 +174,14 @@ unfolding after_int
 int-passed_signed true m rest = refl
 int-passed_signed false m rest = refl
 
-int-passed : (n : Int) (rest : List Token) → after_int (spell_int n ++ rest) ≡ rest
+pub int-passed : (n : Int) (rest : List Token) → after_int (spell_int n ++ rest) ≡ rest
 int-passed n rest = int-passed_signed n.negative n.magnitude rest
 
-pair-back : (p : Pair) (rest : List Token) → pair_in (spell_pair p ++ rest) ≡ p
+pub pair-back : (p : Pair) (rest : List Token) → pair_in (spell_pair p ++ rest) ≡ p
 unfolding pair_in
 pair-back p rest = simp (append_assoc, int-back, int-passed)
 
-pair-passed : (p : Pair) (rest : List Token) → after_pair (spell_pair p ++ rest) ≡ rest
+pub pair-passed : (p : Pair) (rest : List Token) → after_pair (spell_pair p ++ rest) ≡ rest
 unfolding after_pair
 pair-passed p rest = simp (append_assoc, int-passed)
 
@@ -251,7 +251,7 @@ path-behind_first : (path : Path) (rest : List Token)
 path-behind_first path rest =
     ap after_corner (path-spelled path rest) ∙ corner-passed path.first (flat_map spell_corner path.others ++ (token.Word word.Cycle ∷ rest))
 
-path-back : (path : Path) (rest : List Token) → path_in (spell_path path ++ rest) ≡ path
+pub path-back : (path : Path) (rest : List Token) → path_in (spell_path path ++ rest) ≡ path
 unfolding path_in
 path-back path rest =
     let behind = path-behind_first path rest in
@@ -264,7 +264,7 @@ path-back path rest =
     ap (λ p. path_of p (corners_in (joins (after_corner (spell_path path ++ rest))) (after_corner (spell_path path ++ rest)))) first
     ∙ ap (path_of path.first) others
 
-path-passed : (path : Path) (rest : List Token) → after_path (spell_path path ++ rest) ≡ rest
+pub path-passed : (path : Path) (rest : List Token) → after_path (spell_path path ++ rest) ≡ rest
 unfolding after_path
 path-passed path rest =
     let behind = path-behind_first path rest in
@@ -272,117 +272,19 @@ path-passed path rest =
     ap (λ n. drop 1 (after_corners n (after_corner (spell_path path ++ rest)))) counted
     ∙ ap (λ ts. drop 1 (after_corners (length path.others) ts)) behind ∙ ap (drop 1) (corners-passed path.others (token.Word word.Cycle ∷ rest))
 
-weight-back : (weight : Option Int) (ended : Bool) → weight_in (spell_weight weight ++ spell_end ended) ≡ weight
+pub weight-back : (weight : Option Int) (ended : Bool) → weight_in (spell_weight weight ++ spell_end ended) ≡ weight
 unfolding weight_in
 weight-back None true = refl
 weight-back None false = refl
 weight-back (Some n) ended = ap Some (int-back n (spell_end ended))
 
-weight-passed : (weight : Option Int) (ended : Bool) → after_weight (spell_weight weight ++ spell_end ended) ≡ spell_end ended
+pub weight-passed : (weight : Option Int) (ended : Bool) → after_weight (spell_weight weight ++ spell_end ended) ≡ spell_end ended
 unfolding after_weight
 weight-passed None true = refl
 weight-passed None false = refl
 weight-passed (Some n) ended = int-passed n (spell_end ended)
 
-end-back : (ended : Bool) → is_some (spell_end ended) ≡ ended
+pub end-back : (ended : Bool) → is_some (spell_end ended) ≡ ended
 unfolding is_some
 end-back true = refl
 end-back false = refl
-
--- ---- lines come back
-
-also-back : (name : Name) (sign : Sign) (source : Source) (ended : Bool)
-    → also_in name (spell_signed sign source ++ spell_end ended) ≡ record { form = AddPicture name sign source; ended = ended }
-also-back name Plus Null ended = rw end-back refl
-also-back name Plus (Named Current) ended = rw end-back refl
-also-back name Plus (Named (Register letter)) ended = rw end-back refl
-also-back name Minus Null ended = rw end-back refl
-also-back name Minus (Named Current) ended = rw end-back refl
-also-back name Minus (Named (Register letter)) ended = rw end-back refl
-
-contour-back : (name : Name) (path : Path) (weight : Option Int) (ended : Bool)
-    → contour_in name ((spell_path path ++ spell_weight weight) ++ spell_end ended) ≡ record { form = AddContour name path weight; ended = ended }
-contour-back name path weight ended =
-    rw (append_assoc (spell_path path) (spell_weight weight) (spell_end ended))
-    (rw (path-back, path-passed, weight-back, weight-passed, end-back) refl)
-
-range-back : (form : Pair → Option Int → Form) (range : Pair) (weight : Option Int) (ended : Bool)
-    → range_in form ((spell_pair range ++ spell_weight weight) ++ spell_end ended) ≡ record { form = form range weight; ended = ended }
-range-back form range weight ended =
-    rw (append_assoc (spell_pair range) (spell_weight weight) (spell_end ended))
-    (rw (pair-back, pair-passed, weight-back, weight-passed, end-back) refl)
-
-code-back : (code : Code) (rest : List Token) → code_in (spell_code code ++ rest) ≡ code
-unfolding code_in
-code-back code rest = ap code_of (int-back code.int rest) ∙ code_of-back code
-
-int_word-passed : (n : Int) (t : Token) (rest : List Token) → after_int_word (spell_int n ++ t ∷ rest) ≡ rest
-unfolding after_int_word
-int_word-passed n t rest = ap (drop 1) (int-passed n (t ∷ rest))
-
-ship-spelled : (dx width : Token) (n m k end : List Token)
-    → n ++ dx ∷ [] ++ m ++ width ∷ [] ++ k ++ end ≡ n ++ dx ∷ (m ++ width ∷ (k ++ end))
-ship-spelled dx width n m k end = simp append_assoc
-
-ship-back : (source : Source) (code : Code) (dx width : Int) (ended : Bool)
-    → shipped source (spell_code code ++ spell_word word.Dx ++ spell_int dx ++ spell_word word.Width ++ spell_int width ++ spell_end ended)
-    ≡ record { form = ShipOut source code dx width; ended = ended }
-ship-back source code dx width ended =
-    let behind_dx = spell_int width ++ spell_end ended in
-    let behind = spell_int dx ++ token.Word word.Width ∷ behind_dx in
-    rw (ship-spelled (token.Word word.Dx) (token.Word word.Width) (spell_code code) (spell_int dx) (spell_int width) (spell_end ended))
-    (rw (
-      code-back code (token.Word word.Dx ∷ behind),
-      int_word-passed code.int (token.Word word.Dx) behind,
-      int-back dx (token.Word word.Width ∷ behind_dx),
-      int_word-passed dx (token.Word word.Width) behind_dx,
-      int-back width (spell_end ended),
-      int-passed width (spell_end ended),
-      end-back,
-    ) refl)
-
-transform-back : (name : Name) (transform : Transform) (ended : Bool)
-    → moved name (next (spell_transform transform ++ spell_end ended))
-    (drop 1 (spell_transform transform ++ spell_end ended)) ≡ record { form = Move name transform; ended = ended }
-transform-back name (Shifted p) ended = rw (pair-back p (spell_end ended), pair-passed p (spell_end ended), end-back) refl
-transform-back name (Scaled n) ended = rw (int-back n (spell_end ended), int-passed n (spell_end ended), end-back) refl
-transform-back name (XScaled n) ended = rw (int-back n (spell_end ended), int-passed n (spell_end ended), end-back) refl
-transform-back name (YScaled n) ended = rw (int-back n (spell_end ended), int-passed n (spell_end ended), end-back) refl
-transform-back name (Rotated n) ended = rw (int-back n (spell_end ended), int-passed n (spell_end ended), end-back) refl
-
-form-back : (form : Form) (ended : Bool) → line_in (spell_form form ++ spell_end ended) ≡ record { form = form; ended = ended }
-unfolding is_some
-form-back Nothing true = refl
-form-back Nothing false = refl
-form-back (AddContour Current path weight) ended = contour-back Current path weight ended
-form-back (AddContour (Register letter) path weight) ended = contour-back (Register letter) path weight ended
-form-back (AddPicture Current sign source) ended = also-back Current sign source ended
-form-back (AddPicture (Register letter) sign source) ended = also-back (Register letter) sign source ended
-form-back (CullKeeping Current range weight) ended = range-back (CullKeeping Current) range weight ended
-form-back (CullKeeping (Register letter) range weight) ended = range-back (CullKeeping (Register letter)) range weight ended
-form-back (CullDropping Current range weight) ended = range-back (CullDropping Current) range weight ended
-form-back (CullDropping (Register letter) range weight) ended = range-back (CullDropping (Register letter)) range weight ended
-form-back (Clear Current) ended = ap (λ e. record { form = Clear Current; ended = e }) (end-back ended)
-form-back (Clear (Register letter)) ended = ap (λ e. record { form = Clear (Register letter); ended = e }) (end-back ended)
-form-back (Move Current transform) ended = transform-back Current transform ended
-form-back (Move (Register letter) transform) ended = transform-back (Register letter) transform ended
-form-back (ShowTotal Null) ended = rw end-back refl
-form-back (ShowTotal (Named Current)) ended = rw end-back refl
-form-back (ShowTotal (Named (Register letter))) ended = rw end-back refl
-form-back (ShowPicture Null) ended = rw end-back refl
-form-back (ShowPicture (Named Current)) ended = rw end-back refl
-form-back (ShowPicture (Named (Register letter))) ended = rw end-back refl
-form-back (ShowProof Null) ended = rw end-back refl
-form-back (ShowProof (Named Current)) ended = rw end-back refl
-form-back (ShowProof (Named (Register letter))) ended = rw end-back refl
-form-back (ShipOut Null code dx width) ended = ship-back Null code dx width ended
-form-back (ShipOut (Named Current) code dx width) ended = ship-back (Named Current) code dx width ended
-form-back (ShipOut (Named (Register letter)) code dx width) ended = ship-back (Named (Register letter)) code dx width ended
-form-back PublishAll ended = rw end-back refl
-
-line-back : (l : Line) → line_in (spell_line l) ≡ l
-line-back l = form-back l.form l.ended
-
--- tokens are at most one line
-pub same_line : (l m : Line) → spell_line l ≡ spell_line m → l ≡ m
-same_line l m same = sym (line-back l) ∙ ap line_in same ∙ line-back m

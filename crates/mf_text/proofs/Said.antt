@@ -20,7 +20,9 @@ use Rattle.mf_text.specs.Sentences.{IsSaid}
 use Rattle.mf_text.specs.Syntax.{Says}
 use Rattle.mf_text.specs.Tails.{LastRange, spell_last_int, spell_last_weight, last_weight_value, spell_last_source, spell_last_pair, spell_last_range}
 use Rattle.mf_text.proofs.Expected.{ExpectsLast, line_of}
-use Rattle.mf_text.proofs.Followers.{front-end, publish-end, proof-source, total-source, show-source, adds_contour, contour-weight, adds_picture, minus-source, also-source, culls_keeping, keeping-range, culls_dropping, dropping-range, null-end, assigns_same, shifted-pair, scaled-int, xscaled-int, yscaled-int, rotated-int}
+use Rattle.mf_text.proofs.Followers.{front-end, publish-end, proof-source, total-source, show-source, adds_contour, contour-weight, adds_picture, minus-source, also-source}
+use Rattle.mf_text.proofs.CullFollowers.{culls_keeping, keeping-range, culls_dropping, dropping-range}
+use Rattle.mf_text.proofs.MoveFollowers.{null-end, assigns_same, shifted-pair, scaled-int, xscaled-int, yscaled-int, rotated-int}
 
 -- what is said with what ends the line
 pub says-whole : {A V : Type 0} {spell : A → List Token} {Value : A → V → Type 0} {Next : Option Token → Type 0} {form : A → Form} (before : List Token)

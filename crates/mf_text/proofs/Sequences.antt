@@ -268,7 +268,7 @@ spell_corners ps = flat_map spell_corner ps ++ spell_word word.Cycle
 pub corners-cons : (p : Pair) (ps : List Pair) → spell_corners (p ∷ ps) ≡ spell_corner p ++ spell_corners ps
 corners-cons p ps = append_assoc (spell_corner p) (flat_map spell_corner ps) (spell_word word.Cycle)
 
-corners_split : (p : Pair) (ps : List Pair) (rest : List Token) → spell_corners (p ∷ ps) ++ rest ≡ spell_corner p ++ (spell_corners ps ++ rest)
+pub corners_split : (p : Pair) (ps : List Pair) (rest : List Token) → spell_corners (p ∷ ps) ++ rest ≡ spell_corner p ++ (spell_corners ps ++ rest)
 corners_split p ps rest = ap (λ ts. ts ++ rest) (corners-cons p ps) ∙ append_assoc (spell_corner p) (spell_corners ps) rest
 
 corners_same : (ps qs : List Pair) (x y : List Token) → spell_corners ps ++ x ≡ spell_corners qs ++ y → ps ≡ qs

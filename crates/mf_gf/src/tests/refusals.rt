@@ -139,7 +139,7 @@ fn lengths(rt: HostRuntime) -> Result<(), Fail> {
     Ok(())
 }
 
-/// A limit beyond the numbers of the format counts as the greatest of them.
+/// A limit beyond the numbers of the format is one, too.
 #[test]
 fn greatest_limit(rt: HostRuntime) -> Result<(), Fail> {
     let alloc = rt.alloc();

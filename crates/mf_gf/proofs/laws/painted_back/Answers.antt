@@ -9,6 +9,7 @@ use Rattle.mf_gf.specs.Painting.{paint}
 use Rattle.mf_gf.specs.Pixels.{IsPixelSet}
 use Rattle.mf_gf.specs.Spelling.{begin, rows, spell}
 use Rattle.mf_gf.proofs.BlackRuns.{next_runs}
+use Rattle.mf_gf.proofs.BoxesInReach.{box_from}
 use Rattle.mf_gf.proofs.BoxOfDots.{StandsIn, box_round_dots, dots_from_box, paint-begin}
 use Rattle.mf_gf.proofs.DrawnRows.{drawn_from-rows}
 use Rattle.mf_gf.proofs.laws.painted_back.Goals as goal
@@ -23,7 +24,7 @@ paint-spell code ds set =
     let columns = All-weaker (StandsIn b) (λ d. b.min_m ≤ℤ d.x) (λ d stands. stands.column) ds round.dots in
     let next = next_runs b.min_m b.max_n b.min_m ds small.left (≤ℤ_refl b.min_m) small.top (dots_from_box start_of_field b ds set.picture.dots round) set.ones columns in
     ap paint (append_assoc (begin code b) all (69 ∷ []))
-    ∙ paint-begin code b (all ++ 69 ∷ []) small
+    ∙ paint-begin code b (all ++ 69 ∷ []) (box_from start_of_field ds set.picture.dots)
     ∙ drawn_from-rows b.min_m b.max_n (runs_of ds) next
     ∙ ap (λ dots. Some dots) (dots_of-runs_of ds)
 

@@ -6,7 +6,7 @@ use Rattle.mf_text.specs.declared.token.Word.TheVariants as word
 use Rattle.mf_text.specs.Grammar.{spell_name, spell_mark}
 use Rattle.mf_text.proofs.Behind.{behind-exit, passes_one, stuck-unless, wrong-same}
 use Rattle.mf_text.proofs.Expected.{stuck-behind, wrong-behind, wrong-further, says-further, wrong-behind_token, says-behind_token}
-use Rattle.mf_text.proofs.Followers.{name-becomes, null-end, becomes-same}
+use Rattle.mf_text.proofs.MoveFollowers.{name-becomes, null-end, becomes-same}
 use Rattle.mf_text.proofs.Said.{says-clear}
 use Rattle.mf_text.proofs.reader.Reader.assignment.Goals as goal
 

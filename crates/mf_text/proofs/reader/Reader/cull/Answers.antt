@@ -5,7 +5,7 @@ use Rattle.mf_text.specs.declared.token.Word.TheVariants as word
 use Rattle.mf_text.specs.Grammar.{spell_word}
 use Rattle.mf_text.proofs.Behind.{behind-exit, passes_one, stuck-unless, wrong-same, says-same, wrong-behind_name, says-behind_name, wrong-behind_name_token, says-behind_name_token}
 use Rattle.mf_text.proofs.Expected.{stuck-behind, wrong-behind, wrong-behind_token, says-behind_token}
-use Rattle.mf_text.proofs.Followers.{cull-name, cull-dropping, keeping-range, dropping-range}
+use Rattle.mf_text.proofs.CullFollowers.{cull-name, cull-dropping, keeping-range, dropping-range}
 use Rattle.mf_text.proofs.Said.{says-keeping, says-dropping}
 use Rattle.mf_text.proofs.reader.Reader.cull.Goals as goal
 

@@ -5,7 +5,7 @@ use Rattle.mf_text.specs.declared.token.Word.TheVariants as word
 use Rattle.mf_text.specs.Readers.{ahead}
 use Rattle.mf_text.proofs.Behind.{behind-exit, passes_one, passes_more, stuck-unless, wrong-same, says-same}
 use Rattle.mf_text.proofs.Expected.{wrong-behind, wrong-behind_token, says-behind_token}
-use Rattle.mf_text.proofs.Followers.{assigns_same, shifted-pair, scaled-int, xscaled-int, yscaled-int, rotated-int, same-rotated}
+use Rattle.mf_text.proofs.MoveFollowers.{assigns_same, shifted-pair, scaled-int, xscaled-int, yscaled-int, rotated-int, same-rotated}
 use Rattle.mf_text.proofs.Said.{says-shifted, says-scaled, says-xscaled, says-yscaled, says-rotated}
 use Rattle.mf_text.proofs.reader.Reader.transform.Goals as goal
 

@@ -1,0 +1,124 @@
+-- Each line has an answer, and so each script has a transcript.
+use Rattle.std.proofs.Common.{◌≡◌, ◌⊎◌, inl, inr, ℕ, ◌==◌, ◌<◌, List, [], ◌∷◌, ◌++◌, Option, None, Some, codes, length, refl, eqb-true, eq-eqb, arith}
+use Rattle.std.specs.List.{list_any}
+use Rattle.std.specs.Prelude.{decimal}
+use Rattle.std.specs.Str.Lines.{lines}
+use Rattle.std.proofs.lemmas.Bool.{both_ways, cases_Bool, cases_lt}
+use Rattle.std.proofs.lemmas.List.Folds.{Any-from_list_any, list_any-from_Any}
+use Rattle.mf_gf.specs.Files.{Character, HasCode, front}
+use Rattle.mf_gf.specs.Keeping.{character}
+use Rattle.mf_live.specs.Entries.{rev}
+use Rattle.mf_live.specs.declared.fault.Fault.{Fault}
+use Rattle.mf_ops.specs.declared.op.Op.{Op}
+use Rattle.mf_ops.specs.declared.op.Op.TheVariants as ops
+use Rattle.mf_rows.specs.Dots.{Dot}
+use Rattle.mf_text.specs.declared.command.Command.{Command}
+use Rattle.mf_text.specs.declared.command.Command.TheVariants.{Nothing, Contour, Also, Cull, Clear, Shift, Scale, Quarter, Total, Show, Proof, Ship, Publish}
+use Rattle.mf_text.specs.declared.command.Name.{Name}
+use Rattle.mf_text.specs.Grid.{IsTooLarge, box_text, extent}
+use Rattle.mf_text.specs.RunText.{run_text}
+use Rattle.mf_text.proofs.GridTexts.{grid_of_box, not_too_large, some_grid_text}
+use Rattle.mf_text.proofs.LeastBoxes.{least_box_of_some, some_least_box}
+use Rattle.mf_text.proofs.SomeAnswer as text
+use Rattle.mf_session.specs.declared.refusal.Refusal.TheVariants.{CodeShipped, FileTooLong, Line, ProofTooLarge, Operation as RefusedOperation}
+use Rattle.mf_session.specs.Answers.{Answers, AnswersTo, Operates, ProofAnswers, total_line}
+use Rattle.mf_session.specs.Changes.{Becomes, operated, refusal_of}
+use Rattle.mf_session.specs.Pictures.{Pictures, source_picture}
+use Rattle.mf_session.specs.Refusals.{refused_line}
+use Rattle.mf_session.specs.Shipments.{Ships}
+use Rattle.mf_session.specs.States.{State, Limits, start}
+use Rattle.mf_session.specs.Transcript.{IsTranscript, Perform}
+
+-- ---- commands
+
+becomes_some : (refused : Option Fault) (s new : Pictures) → (text : List ℕ) × (t : Pictures) × Becomes refused s new text t
+becomes_some None s new = ([], new, (refl, refl))
+becomes_some (Some why) s new = (refused_line (RefusedOperation why), s, (refl, refl))
+
+operates_some : (limits : Limits) (s : State) (name : Name) (op : Op) → (text : List ℕ) × (t : State) × Operates limits s name op text t
+operates_some limits s name op =
+    let (text, pictures, becomes) = becomes_some (refusal_of limits.max_ops s.pictures name op) s.pictures (operated s.pictures name op) in
+    (text, record { pictures = pictures; characters = s.characters }, (becomes, refl))
+
+refused_proof : (ds : List Dot) → IsTooLarge ds → (text : List ℕ) × ProofAnswers ds text
+refused_proof ds large = (refused_line ProofTooLarge, inl (record { too_large = large; printed = refl }))
+
+-- a grid text is too large, or there is one
+proof_some : (ds : List Dot) → (text : List ℕ) × ProofAnswers ds text
+proof_some [] =
+    let (text, grid) = some_grid_text [] in (text, inr (record { fits = λ large. least_box_of_some large.bounds large.least; printed = grid }))
+proof_some (d ∷ ds) =
+    let (b, least) = some_least_box d ds in
+    elim (cases_lt 128 (extent b.min_x b.max_x)) [
+      | inl wide ↦ refused_proof (d ∷ ds) (record { bounds = b; least = least; large = inl wide })
+      | inr narrow ↦ elim (cases_lt 128 (extent b.min_y b.max_y)) [
+        | inl high ↦ refused_proof (d ∷ ds) (record { bounds = b; least = least; large = inr high })
+        | inr low ↦ (
+          box_text (d ∷ ds) b,
+          inr (record { fits = not_too_large (d ∷ ds) b least narrow low; printed = grid_of_box (d ∷ ds) b (box_text (d ∷ ds) b) least refl }),
+        )
+      ]
+    ]
+
+code_or_not : (code : ℕ) (shipped : List Character) → HasCode code shipped ⊎ (HasCode code shipped → ⊥)
+code_or_not code shipped =
+    elim (cases_Bool (list_any (λ (c : Character). c.code == code) shipped)) [
+      | inl found ↦ (let there = Any-from_list_any (λ (c : Character). c.code == code) shipped found in inl (there.0, there.1, there.2, there.3, eqb-true _ _ there.4))
+      | inr none ↦ inr (λ there. both_ways _ none (list_any-from_Any (λ (c : Character). c.code == code) shipped (there.0, there.1, there.2, there.3, eq-eqb _ _ there.4)))
+    ]
+
+ships_some : (limits : Limits) (shipped : List Character) (c : Character) → (text : List ℕ) × (after : List Character) × Ships limits shipped c text after
+ships_some limits shipped c =
+    elim (code_or_not c.code shipped) [
+      | inl before ↦ (refused_line CodeShipped, shipped, inl (record { before = before; printed = refl; same = refl }))
+      | inr new ↦ elim (cases_lt limits.max_bytes (length (front [] (shipped ++ c ∷ [])))) [
+        | inl long ↦ (refused_line FileTooLong, shipped, inr (inl (record { new = new; too_long = long; printed = refl; same = refl })))
+        | inr fits ↦ (
+          codes "[" ++ decimal c.code ++ codes "]\n",
+          shipped ++ c ∷ [],
+          inr (inr (record { new = new; fits = λ long. omega (arith, long, fits); printed = refl; appended = refl })),
+        )
+      ]
+    ]
+
+command_some : (limits : Limits) (s : State) (given : Command) → (text : List ℕ) × (t : State) × AnswersTo limits s given text t
+command_some limits s Nothing = ([], s, (refl, refl))
+command_some limits s (Contour name cycle weight) = operates_some limits s name (ops.Contour cycle weight)
+command_some limits s (Also name source sign) = operates_some limits s name (ops.Also (source_picture s.pictures source) sign)
+command_some limits s (Cull name rule) = operates_some limits s name (ops.Cull rule)
+command_some limits s (Clear name) = operates_some limits s name ops.Clear
+command_some limits s (Shift name dx dy) = operates_some limits s name (ops.Shift dx dy)
+command_some limits s (Scale name factors) = operates_some limits s name (ops.Scale factors)
+command_some limits s (Quarter name quarter) = operates_some limits s name (ops.Quarter quarter)
+command_some limits s (Total source) = (total_line (source_picture s.pictures source), s, (refl, refl))
+command_some limits s (Show source) = (run_text (source_picture s.pictures source), s, (refl, refl))
+command_some limits s (Proof source) = let (text, answers) = proof_some (source_picture s.pictures source) in (text, s, (answers, refl))
+command_some limits s (Ship source code dx width) =
+    let (text, characters, ships) = ships_some limits s.characters (character code dx width (source_picture s.pictures source)) in
+    (text, record { pictures = s.pictures; characters = characters }, (ships, refl))
+command_some limits s Publish = (
+  codes "published " ++ decimal (rev s.pictures.accepted) ++ codes "\n",
+  record { pictures = record s.pictures { published = s.pictures.accepted }; characters = s.characters },
+  ((refl, refl), refl),
+)
+
+-- ---- lines and scripts
+
+pub some_answer : (limits : Limits) (s : State) (line : List ℕ) → (text : List ℕ) × (t : State) × Answers limits s line text t
+some_answer limits s line =
+    elim (text.some_answer line) [
+      | inl (given, gives) ↦ (let (printed, t, answer) = command_some limits s given in (printed, t, inl (record { command = given; given = gives; answer = answer })))
+      | inr (fault, told, refused) ↦ (refused_line (Line fault), s, inr (record { fault = fault; told = told; refused = refused; answer = (refl, refl) }))
+    ]
+
+perform_some : (limits : Limits) (s : State) (more : List (List ℕ)) → (text : List ℕ) × (t : State) × Perform limits s more text t
+perform_some limits s [] = ([], s, (refl, refl))
+perform_some limits s (line ∷ more) =
+    let (first, next, answers) = some_answer limits s line in
+    let (rest, t, performed) = perform_some limits next more in
+    (first ++ rest, t, (first, rest, next, answers, performed, refl))
+
+pub some_transcript : (limits : Limits) (input : List ℕ) → (text : List ℕ) × IsTranscript limits input text
+some_transcript limits input =
+    let (text, last, performed) = perform_some limits start (lines input) in
+    (text, record { last = last; performed = performed })
