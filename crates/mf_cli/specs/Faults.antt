@@ -1,5 +1,5 @@
 -- What has gone out where the program ends with a fault.
-use Rattle.std.specs.Prelude.{◌≡◌, ◌⊎◌, ℕ, List, Option, None, Some, IfSome, IsSome}
+use Rattle.std.specs.Prelude.{◌≡◌, ◌⊎◌, ◌<◌, ℕ, List, Option, None, Some, IfSome, IsSome, length}
 use Rattle.std.specs.Io.KnownBytes.{IsAtEnd}
 use Rattle.mf_desk.specs.Performances.{StopsEarly}
 use Rattle.mf_desk.specs.declared.fault.RunFault.{RunFault}
@@ -10,13 +10,15 @@ use Rattle.mf_cli.specs.Messages.{GetsMessage, message_of}
 use Rattle.mf_cli.specs.Output.{GetsOutput, settings}
 use Rattle.mf_cli.specs.Statuses.{status_of}
 
--- a font file that was asked for could not be written: the script was read to its end, and all that it prints is written
+-- a font file that was asked for could not be written, or not to its end, as the number of its bytes that went out says:
+-- the script was read to its end, and all that it prints is written
 pub record LosesFile (viewers : ℕ) (file : Option (List ℕ)) (fault : RunFault) (unread left held holds : Option (List ℕ)) : Type 0 where
   pub asked : IsSome file
   pub count : ℕ
   pub fault_is : fault ≡ WriteFault count
   pub all_read : IsAtEnd left
   pub gf : List ℕ
+  pub few : (count ≡ 0) ⊎ (count < length gf)
   pub written : IfSome unread (GetsOutput viewers (Some gf) held holds)
 
 -- what a fault of the program says of what was read and written, where the words ask for so many viewers and this FILE: a

@@ -44,7 +44,7 @@ pub const BAD_WORDS: u8 = 2;
 pub const STREAM_FAULT: u8 = 3;
 
 /// Status where memory, a viewer's place or a look was wanting.
-pub const NO_MEMORY: u8 = 4;
+pub const WANTING: u8 = 4;
 
 /// Performs the script that `reader` gives beside as many viewers as the words ask for, writes its transcript and then
 /// the line of each viewer to `writer`, the font file where the words ask for it, and a message of what went wrong to
@@ -58,15 +58,16 @@ pub fn program<S: Wait + Threads + Files, R: Read, W: Write, E: Write>(
     writer: &mut W,
     errors: &mut E,
 ) -> u8
-    ensures statuses { (result ≡ DONE) ⊎ (result ≡ BAD_WORDS) ⊎ (result ≡ STREAM_FAULT) ⊎ (result ≡ NO_MEMORY) }
+    ensures statuses { (result ≡ DONE) ⊎ (result ≡ BAD_WORDS) ⊎ (result ≡ STREAM_FAULT) ⊎ (result ≡ WANTING) }
     ensures bad_words { result ≡ BAD_WORDS → IsCommandLine (map string_bytes words.items) → ⊥ }
-    ensures refused { (IsCommandLine (map string_bytes words.items) → ⊥) → (result ≡ BAD_WORDS) ⊎ (result ≡ NO_MEMORY) }
+    ensures refused { (IsCommandLine (map string_bytes words.items) → ⊥) → (result ≡ BAD_WORDS) ⊎ (result ≡ WANTING) }
     ensures unread { (IsCommandLine (map string_bytes words.items) → ⊥) → reader.new ≡ reader.old }
     ensures unwritten { (IsCommandLine (map string_bytes words.items) → ⊥) → writer.new ≡ writer.old }
+    ensures wanting { (IsCommandLine (map string_bytes words.items) → ⊥) → result ≡ WANTING → GetsMessage (E.contents errors.old) (E.contents errors.new) (message_of (ProgramFault.Run RunFault.OutOfMemory)) }
     ensures quiet { result ≡ DONE → errors.new ≡ errors.old }
     ensures usage { result ≡ BAD_WORDS → GetsMessage (E.contents errors.old) (E.contents errors.new) usage }
     ensures done { result ≡ DONE → EndsWell (viewers_in (map string_bytes words.items)) (file_in (map string_bytes words.items)) (R.remaining reader.old) (R.remaining reader.new) (W.contents writer.old) (W.contents writer.new) }
-    ensures fault { (result ≡ STREAM_FAULT) ⊎ (result ≡ NO_MEMORY) → ReportsFault (viewers_in (map string_bytes words.items)) (file_in (map string_bytes words.items)) result (R.remaining reader.old) (R.remaining reader.new) (W.contents writer.old) (W.contents writer.new) (E.contents errors.old) (E.contents errors.new) }
+    ensures fault { (result ≡ STREAM_FAULT) ⊎ (result ≡ WANTING) → ReportsFault (viewers_in (map string_bytes words.items)) (file_in (map string_bytes words.items)) result (R.remaining reader.old) (R.remaining reader.new) (W.contents writer.old) (W.contents writer.new) (E.contents errors.old) (E.contents errors.new) }
 {
     let words = match read_words(alloc, words) {
         Ok(words) => words,
@@ -121,9 +122,10 @@ fn run_script<S: Wait + Threads, R: Read, W: Write>(
     mf_desk::perform(rt, alloc, reader, writer, &SETTINGS, viewers, LOOKS, &gate)
 }
 
-/// Writes a font file, which is made, or replaces what was there. Refusal WriteFault (25), also where it cannot be made.
+/// Writes a font file, which is made, or replaces what was there. Refusal WriteFault (25), which counts the bytes that
+/// went out, not all of them; also where it cannot be made.
 fn write_file<S: Files>(rt: &S, path: &str, file: &GfBytes) -> Result<(), RunFault>
-    ensures { IfErr result (λ fault. (count : ℕ) × (fault ≡ RunFault.WriteFault count)) }
+    ensures { IfErr result (λ fault. (count : ℕ) × (fault ≡ RunFault.WriteFault count) × ((count ≡ 0) ⊎ (count < length file.now))) }
 {
     let Ok(mut out) = fs::create(rt, path) else {
         return Err(RunFault::WriteFault(0));
@@ -159,8 +161,7 @@ pub fn report<E: Write>(errors: &mut E, fault: ProgramFault) -> u8
 {
     write_message(errors, message_of(fault));
     match fault {
-        ProgramFault::Run(RunFault::OutOfMemory | RunFault::NoPlace | RunFault::NoLook) =>
-            NO_MEMORY,
+        ProgramFault::Run(RunFault::OutOfMemory | RunFault::NoPlace | RunFault::NoLook) => WANTING,
         ProgramFault::Run(RunFault::FileTooLong | RunFault::ReadFault | RunFault::WriteFault(_)) =>
             STREAM_FAULT,
         ProgramFault::NoCharacters => STREAM_FAULT,

@@ -1,5 +1,5 @@
 -- What a run beside viewers answers where its script has ended, and where it has not.
-use Rattle.std.proofs.Common.{◌≡◌, ◌<◌, ◌+◌, ℕ, List, [], ◌++◌, All, Option, length, inl, inr, refl, sym, ap, subst, ◌∙◌, append_assoc, length-append, arith}
+use Rattle.std.proofs.Common.{◌≡◌, ◌<◌, ◌+◌, ℕ, List, [], ◌++◌, All, Err, IfErr, Option, Result, length, inl, inr, refl, sym, ap, subst, ◌∙◌, append_assoc, length-append, arith}
 use Rattle.std.specs.Io.KnownBytes.{Appends, Consumes, IsAtEnd}
 use Rattle.std.proofs.KnownBytes.{Appends-nil, Appends-trans, Consumes-nil}
 use Rattle.std.proofs.Math.Nat.{min-le_left}
@@ -55,8 +55,8 @@ module _ (settings : Settings) (viewers : ℕ) where
       pub StopsEarly-showing : (fault : RunFault) → StopsShowing run viewers fault holds later → StopsEarly settings viewers fault unread left held later
       StopsEarly-showing OutOfMemory some =
           (read, consumed, (over.text ++ viewer_lines some.shown (glance run), out-more _ some.out, inr (all_read, record { last = over.last; shown = some.shown; few = some.few; performed = longer some.shown })))
-      StopsEarly-showing NoLook (someone, some) =
-          (read, consumed, (over.text ++ viewer_lines some.shown (glance run), out-more _ some.out, (someone, all_read, record { last = over.last; shown = some.shown; few = some.few; performed = longer some.shown })))
+      StopsEarly-showing NoLook (some, fewer) =
+          (read, consumed, (over.text ++ viewer_lines some.shown (glance run), out-more _ some.out, (all_read, (record { last = over.last; shown = some.shown; few = some.few; performed = longer some.shown }, fewer))))
       StopsEarly-showing (WriteFault count) part =
           let text = over.text ++ viewer_lines part.shown (glance run) in (
             read,
@@ -100,3 +100,13 @@ module _ (settings : Settings) (viewers : ℕ) where
       count = count;
       seen = subst (λ L. All (λ v. HasSeen L looks v.items) outcome.seen.items) over.published seen;
     }
+
+-- neither of the two parts of a run is refused for want of a place
+pub elsewhere-script : (r : Result Outcome RunFault) (l : Limits) (unread left held holds : Option (List ℕ))
+    → IfErr r (λ fault. BreaksScript l fault unread left held holds) → r ≡ Err NoPlace → ⊥
+elsewhere-script r l unread left held holds breaks is =
+    let (read, consumed, (written, out, none)) = subst (λ s. IfErr s (λ fault. BreaksScript l fault unread left held holds)) is breaks in none
+
+pub elsewhere-showing : (r : Result Outcome RunFault) (run : EndedRun) (viewers : ℕ) (held holds : Option (List ℕ))
+    → IfErr r (λ fault. StopsShowing run viewers fault held holds) → r ≡ Err NoPlace → ⊥
+elsewhere-showing r run viewers held holds stops is = subst (λ s. IfErr s (λ fault. StopsShowing run viewers fault held holds)) is stops

@@ -58,7 +58,7 @@ pub StopsShowing-behind : (run now : EndedRun) (shown viewers : ℕ) (held holds
 StopsShowing-behind run now shown viewers held holds few is = record { shown = shown; few = few; out = is.out }
 
 -- nothing goes out behind these lines
-shown_some : (run before : EndedRun) (shown viewers : ℕ) (held holds later : Option (List ℕ)) → shown ≤ viewers → IsShown run before shown held holds → Appends holds later [] → HasShownSome run viewers held later
+abbrev shown_some : (run before : EndedRun) (shown viewers : ℕ) (held holds later : Option (List ℕ)) → shown ≤ viewers → IsShown run before shown held holds → Appends holds later [] → HasShownSome run viewers held later
 shown_some run before shown viewers held holds later few is nothing =
     let lines = viewer_lines shown (glance run) in
     record { shown = shown; few = few; out = subst (Appends held later) (append-nil lines) (Appends-trans held holds later lines [] is.out nothing) }
@@ -67,7 +67,7 @@ shown_some run before shown viewers held holds later few is nothing =
 pub StopsShowing-line : (fault : RunFault) (run before : EndedRun) (shown viewers : ℕ) (held holds later : Option (List ℕ)) → shown < viewers → IsShown run before shown held holds
     → BreaksLine before shown fault holds later → StopsShowing run viewers fault held later
 StopsShowing-line OutOfMemory run before shown viewers held holds later few is broken = shown_some run before shown viewers held holds later (omega arith) is broken
-StopsShowing-line NoLook run before shown viewers held holds later few is broken = (omega arith, shown_some run before shown viewers held holds later (omega arith) is broken)
+StopsShowing-line NoLook run before shown viewers held holds later few is broken = (shown_some run before shown viewers held holds later (omega arith) is broken, few)
 StopsShowing-line NoPlace run before shown viewers held holds later few is broken = absurd broken
 StopsShowing-line FileTooLong run before shown viewers held holds later few is broken = absurd broken
 StopsShowing-line ReadFault run before shown viewers held holds later few is broken = absurd broken

@@ -77,9 +77,9 @@ pub record HasShownPart (run : EndedRun) (viewers : ℕ) (held holds : Option (L
   pub out : Appends held holds front
   pub counted : count ≡ run.written + length front
 
--- a fault came where the lines of so many viewers were due; a look can be wanting only where there is a viewer
+-- a fault came where the lines of so many viewers were due; a look can be wanting only where a line is
 abbrev pub StopsShowing : EndedRun → ℕ → RunFault → Option (List ℕ) → Option (List ℕ) → Type 0
 StopsShowing run viewers OutOfMemory held holds = HasShownSome run viewers held holds
-StopsShowing run viewers NoLook held holds = (0 < viewers) × HasShownSome run viewers held holds
+StopsShowing run viewers NoLook held holds = (some : HasShownSome run viewers held holds) × (some.shown < viewers)
 StopsShowing run viewers (WriteFault count) held holds = HasShownPart run viewers held holds count
 StopsShowing run viewers _ held holds = ⊥

@@ -73,15 +73,15 @@ pub record IsBeforeLongerFile (settings : Settings) (viewers : ℕ) (read text :
   pub performed : IsLongerText (limits_set settings) read last viewers text
   pub too_long : IsLongFile (limits_set settings).max_bytes settings.font last.characters
 
--- what each fault says of the bytes that were written, where these were read and those are left; a place and a look can
--- be wanting only where there is a viewer
+-- what each fault says of the bytes that were written, where these were read and those are left; a place can be wanting
+-- only where there is a viewer, and a look only where the line of one is
 abbrev pub TellsLonger : Settings → ℕ → RunFault → Option (List ℕ) → List ℕ → List ℕ → Type 0
 TellsLonger settings viewers OutOfMemory left read written = IsUncutText (limits_set settings) viewers left read written
 TellsLonger settings viewers NoPlace left read written = (0 < viewers) × (read ≡ []) × (written ≡ [])
 TellsLonger settings viewers FileTooLong left read written = HasNoRoom (limits_set settings) read written ⊎ (IsAtEnd left × IsBeforeLongerFile settings viewers read written)
 TellsLonger settings viewers ReadFault left read written = IsEndedText (limits_set settings) read written
 TellsLonger settings viewers (WriteFault count) left read written = IsCutLongerText (limits_set settings) viewers left read written count
-TellsLonger settings viewers NoLook left read written = (0 < viewers) × IsAtEnd left × IsShownText (limits_set settings) viewers read written
+TellsLonger settings viewers NoLook left read written = IsAtEnd left × ((some : IsShownText (limits_set settings) viewers read written) × (some.shown < viewers))
 
 -- a fault ended a run beside so many viewers: the reader had given some bytes, and the writer has got the bytes that the
 -- fault tells

@@ -36,6 +36,8 @@ pub fn perform<S: Wait + Threads, R: Read, W: Write, G: Gate + 'static>(
 ) -> Result<Outcome, RunFault>
     requires { viewers ≤ 64 }
     ensures too_small { settings.now.max_bytes < 3 → (result ≡ Err RunFault.FileTooLong) ⊎ (result ≡ Err RunFault.OutOfMemory) }
+    ensures untouched { settings.now.max_bytes < 3 → (reader.new ≡ reader.old) × (writer.new ≡ writer.old) }
+    ensures no_place { result ≡ Err RunFault.NoPlace → (reader.new ≡ reader.old) × (writer.new ≡ writer.old) }
     ensures performance { IfOk result (λ outcome. IfSome (R.remaining reader.old) (IsPerformance settings.now viewers looks outcome (W.contents writer.old) (W.contents writer.new))) }
     ensures end { OnOk result (IsAtEnd (R.remaining reader.new)) }
     ensures fault { IfErr result (λ fault. StopsEarly settings.now viewers fault (R.remaining reader.old) (R.remaining reader.new) (W.contents writer.old) (W.contents writer.new)) }

@@ -34,6 +34,7 @@ pub fn run<S: Wait, R: Read, W: Write>(
     ensures end { OnOk result (IsAtEnd (R.remaining reader.new)) }
     ensures fault { IfErr result (λ fault. EndsEarly settings.now fault (R.remaining reader.old) (R.remaining reader.new) (W.contents writer.old) (W.contents writer.new)) }
     ensures too_small { settings.now.max_bytes < 3 → (result ≡ Err RunFault.FileTooLong) ⊎ (result ≡ Err RunFault.OutOfMemory) }
+    ensures untouched { settings.now.max_bytes < 3 → (reader.new ≡ reader.old) × (writer.new ≡ writer.old) }
 {
     let mut memory = vec![in alloc; 0u8; CHUNK_SIZE]?;
     let (progress, _) = Progress::new(rt, alloc, settings, 0)?;

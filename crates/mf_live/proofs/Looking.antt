@@ -1,5 +1,6 @@
 -- What is learnt and what is looked at, by the beginnings of one history.
-use Rattle.std.proofs.Common.{◌≡◌, ◌≤◌, ◌+◌, Bool, true, false, List, [], ◌∷◌, ◌++◌, length, inl, inr, ap, sym, subst, ◌∙◌, arith}
+use Rattle.std.proofs.Common.{◌≡◌, ◌≤◌, ◌+◌, Bool, true, false, List, [], ◌∷◌, ◌++◌, ◌⊎◌, length, inl, inr, ap, sym, subst, ◌∙◌, arith}
+use Rattle.std.proofs.lemmas.Bool.{cases_lt}
 use Rattle.std.proofs.lemmas.List.{append-nil, length-append}
 use Rattle.std.proofs.Math.Nat.{eq-or-lt_of_le}
 use mathlib.Core.List.{IsPrefix}
@@ -21,7 +22,7 @@ use Rattle.mf_live.specs.World.{World, Happen, start, accepted_of, published_of}
 use Rattle.mf_live.proofs.Beginnings.{prefix-shorter}
 use Rattle.mf_live.proofs.EntryLists.{nothing_follows}
 use Rattle.mf_live.proofs.WholePrefixes.{whole-self, whole-trans, whole-longer, longer-assoc, longer-whole, longer-of_whole}
-use Rattle.mf_live.proofs.Worlds.{Happen-push, lawful-after, published-grows, same_accepted, world_after-push}
+use Rattle.mf_live.proofs.Worlds.{Happen-push, accepted-grows, lawful-after, published-grows, same_accepted, world_after-push}
 
 -- the events that are known
 abbrev pub log_of : Front → List Event
@@ -84,6 +85,24 @@ longer-last a b c whole = sym (ap (longer a) (longer-whole b c whole)) ∙ longe
 
 pub longer-second : (a b c : List Entry) → IsWholePrefix c b → longer a b ≡ longer (longer a b) c
 longer-second a b c whole = sym (ap (longer a) (longer-of_whole b c whole)) ∙ longer-assoc a b c
+
+-- what a copy shows and what a notice tells begin one list
+one_list : (f : Front) (n : Notice) (both : List Event)
+    → IsPrefix (log_of f) both → IsPrefix (log_of n.front) both → IsWholePrefix (told n) (accepted_of (log_of f)) ⊎ IsPrefix (accepted_of (log_of f)) (told n)
+one_list f n both one other =
+    elim (cases_lt (f.events + 1) n.front.events) [
+      | inr near ↦ inl (told-shown f n both one other near)
+      | inl far ↦
+          let begins = prefix-shorter (log_of f) (log_of n.front) both one other (omega (arith, f.counted, n.front.counted)) in
+          let grows = subst (λ (events : List Event). IsPrefix (accepted_of (log_of f)) (accepted_of events)) begins.1 (accepted-grows (log_of f) begins.0) in
+          inr (subst (IsPrefix (accepted_of (log_of f))) n.whole grows)
+    ]
+
+-- so does what a look at that copy shows
+pub one_list_shown : (copy x : Live) (n : Notice) (both : List Event) → copy ≡ x
+    → IsPrefix (log_of copy.version.front) both → IsPrefix (log_of n.front) both → IsWholePrefix (told n) (shown_by x) ⊎ IsPrefix (shown_by x) (told n)
+one_list_shown copy x n both same one other =
+    subst (λ (y : Live). IsWholePrefix (told n) (shown_by y) ⊎ IsPrefix (shown_by y) (told n)) same (one_list copy.version.front n both one other)
 
 -- nothing is shown behind a closed list
 pub shown-last : (S L : List Entry) → IsWholePrefix S L → ends_last L ≡ true → is_closed S ≡ true → L ≡ S

@@ -1,5 +1,6 @@
 //! Laws of the live picture: each is the contract of a function that does nothing, or only calls another.
-ghost use Rattle.std.specs.Prelude.{◌≡◌, ◌≤◌, true, ℕ, List, [], ◌∷◌, ◌++◌, IfErr, IfOk, MatchResult, OnOk};
+ghost use mathlib.Core.List.{IsPrefix};
+ghost use Rattle.std.specs.Prelude.{◌≡◌, ◌⊎◌, ◌≤◌, true, ℕ, List, [], ◌∷◌, ◌++◌, IfErr, IfOk, MatchResult, OnOk};
 ghost use Rattle.mf_live.specs.declared.event.Event.{Event};
 ghost use Rattle.mf_live.specs.declared.event.Event.TheVariants.{Look};
 ghost use Rattle.mf_live.specs.Entries.{rev, is_closed, pic};
@@ -22,7 +23,7 @@ pub fn every_schedule(max_ops: u32)
     ensures { EverySchedule max_ops }
 {}
 
-/// A later look begins, whole, with what an earlier one has shown, whoever looks: none goes back.
+/// What is published later begins, whole, with what was published earlier, and so do the looks at it: none goes back.
 pub fn looks_never_go_back(max_ops: u32)
     ensures prefix { (before between : List Event) → Happen max_ops start (before ++ between) → IsWholePrefix (published_of before) (published_of (before ++ between)) }
     ensures revision { (before between : List Event) → Happen max_ops start (before ++ between) → rev (published_of before) ≤ rev (published_of (before ++ between)) }
@@ -32,6 +33,16 @@ pub fn looks_never_go_back(max_ops: u32)
 pub fn looks_show_whole_publishes(max_ops: u32)
     ensures { (before after : List Event) → Happen max_ops start (before ++ after) → HasWholePublishes (published_of before) (published_of (before ++ after)) }
 {}
+
+/// What a look shows and what a notice of the same picture tells begin one list: the look begins, whole, with what the notice
+/// tells, or the notice tells all that the look shows. So a look shows nothing but what the writer of its picture has
+/// accepted: the notice of the end tells that.
+pub fn one_history(look: &Look, notice: &Notice)
+    requires { viewers.notice_name notice.now ≡ viewers.look_name look.now }
+    ensures { IsWholePrefix (viewers.told notice.now) (viewers.shown look.now) ⊎ IsPrefix (viewers.shown look.now) (viewers.told notice.now) }
+{
+    let _both = look.reading.get().version.front.joins(&notice.front);
+}
 
 /// What a viewer sees that has learnt of the end is the whole list, which begins, whole, with all that the viewer had
 /// seen. After NoLook (26) it has not looked, and has learnt of the end.

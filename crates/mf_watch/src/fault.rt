@@ -13,7 +13,7 @@ pub enum StartFault {
     /// Refusal 14.
     #[error("OutOfMemory")]
     OutOfMemory,
-    /// Refusal 15: a place or a thread could not be had for a viewer.
+    /// Refusal 15: a place or a thread could not be had for a viewer, or the gate not be shared with it.
     #[error("NoPlace")]
     NoPlace,
 }

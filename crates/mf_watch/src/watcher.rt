@@ -1,5 +1,5 @@
 //! Viewers that keep a record of their looks.
-ghost use Rattle.std.specs.Prelude.{◌≡◌, ◌+◌, ◌∷◌, ◌++◌, [], ℕ, true, IfErr, IfOk, OnErr, OnOk};
+ghost use Rattle.std.specs.Prelude.{◌≡◌, ◌+◌, ◌<◌, ◌∷◌, ◌++◌, [], ℕ, true, IfErr, IfOk, OnErr, OnOk};
 ghost use Rattle.logbook.specs.Pages.{Book};
 ghost use Rattle.mf_live.specs.Entries.{is_closed};
 ghost use Rattle.mf_live.specs.Sheets.{IsLastNotTaken};
@@ -36,7 +36,8 @@ impl Watcher {
     /// Looks so many times, and tells the gate of each look while it is held. Refusal NoLook (26).
     pub(crate) fn watch<G: Gate>(self, number: u32, looks: u32, gate: &G) -> Result<Watcher, NoLook>
         requires { IsWatcher (name self) 0 (looks + 1) self }
-        ensures { IfOk result (IsWatcher (name self) looks 1) }
+        ensures watcher { IfOk result (IsWatcher (name self) looks 1) }
+        ensures refused { IfErr result (λ _. 0 < looks) }
     {
         let mut watcher = self;
         for look in 0..looks {

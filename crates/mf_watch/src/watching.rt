@@ -1,7 +1,7 @@
 //! Viewers in threads of their own.
 ghost use Rattle.std.specs.Prelude.{◌≡◌, ◌⊎◌, ◌+◌, ◌≤◌, ◌<◌, ℕ, [], All, IfErr, IfOk, OnOk, length, vec_capacity, vec_len};
 ghost use Rattle.logbook.specs.Pages.{Book};
-ghost use Rattle.mf_live.specs.Desks.{desk_name};
+ghost use Rattle.mf_live.specs.Desks.{desk_name, left};
 ghost use Rattle.mf_watch.specs.Watchers.{IsWatcher, name};
 ghost use Rattle.mf_watch.specs.Watching.{AreStarted};
 
@@ -24,10 +24,10 @@ pub struct Looks {
 }
 
 impl Promise<Result<Watcher, NoLook>> for Looks {
-    ghost use Rattle.std.specs.Prelude.{IfOk};
+    ghost use Rattle.std.specs.Prelude.{◌<◌, MatchResult};
     ghost use Rattle.mf_watch.specs.Watchers.{IsWatcher, name};
 
-    ghost kept_by = { λ owed answer. IfOk answer (IsWatcher (name owed.watcher.value) owed.looks 1) };
+    ghost kept_by = { λ owed answer. MatchResult answer (IsWatcher (name owed.watcher.value) owed.looks 1) (λ _. 0 < owed.looks) };
 }
 
 /// The viewers of a run that look on in threads, and room for what the threads give back.
@@ -39,11 +39,12 @@ pub struct Watching {
     pub room: Vec<Watcher>,
 }
 
-/// So many viewers, with room for the record of so many looks and one more. Refusals NoPlace (15) and OutOfMemory (14).
+/// So many viewers, with room for the record of so many looks and one more. Refusals NoPlace (15), where the desk has not
+/// so many places left, and OutOfMemory (14).
 fn watchers(alloc: Global, desk: Desk, viewers: u32, looks: u32) -> Result<Vec<Watcher>, StartFault>
     ensures ready { IfOk result (λ watchers. All (IsWatcher (desk_name desk) 0 (looks + 1)) watchers.items) }
     ensures count { IfOk result (λ watchers. length watchers.items ≡ viewers) }
-    ensures fault { IfErr result (λ fault. ((fault ≡ StartFault.NoPlace) × (0 < viewers)) ⊎ (fault ≡ StartFault.OutOfMemory)) }
+    ensures fault { IfErr result (λ fault. ((fault ≡ StartFault.NoPlace) × (left desk < viewers)) ⊎ (fault ≡ StartFault.OutOfMemory)) }
 {
     let mut desk = desk;
     let mut watchers = Vec::with_capacity(alloc, viewers as usize)?;
@@ -56,8 +57,8 @@ fn watchers(alloc: Global, desk: Desk, viewers: u32, looks: u32) -> Result<Vec<W
 
 impl Watching {
     /// Starts a thread for each of so many viewers of a desk, which looks so many times. The room for what they record
-    /// is got before. Refusals NoPlace (15), where a place or a thread cannot be had, and OutOfMemory (14): the threads
-    /// that were started are joined. The caller owes that there are at most 64 viewers.
+    /// is got before. Refusals NoPlace (15), where a place or a thread cannot be had or the gate not shared, and
+    /// OutOfMemory (14): the threads that were started are joined. The caller owes that there are at most 64 viewers.
     pub fn start<S: Threads, G: Gate + 'static>(
         rt: &S,
         alloc: Global,
@@ -85,7 +86,7 @@ impl Watching {
         Ok(watching)
     }
 
-    /// Starts a thread for a viewer. Refusal NoPlace (15).
+    /// Starts a thread for a viewer. Refusal NoPlace (15), where it cannot be had or the gate not shared.
     fn start_one<S: Threads, G: Gate + 'static>(
         &mut self,
         rt: &S,
@@ -130,12 +131,14 @@ impl Watching {
     }
 
     /// Joins all threads, and waits for their gates. Refusal NoLook (26), where a look was refused in one of them. The
-    /// caller owes room for what they give back.
+    /// caller owes empty room for what they give back.
     pub fn join<S: Threads>(self, rt: &S) -> Result<Vec<Watcher>, NoLook>
-        requires { vec_len self.room + vec_len self.threads ≤ vec_capacity self.room }
+        requires empty { self.room.items ≡ [] }
+        requires room { vec_len self.threads ≤ vec_capacity self.room }
         ensures watchers { IfOk result (λ watchers. (picture : Book) (looks : ℕ) → AreStarted picture looks self → All (IsWatcher picture looks 1) watchers.items) }
-        ensures count { IfOk result (λ watchers. self.room.items ≡ [] → length watchers.items ≡ length self.threads.items) }
+        ensures count { IfOk result (λ watchers. length watchers.items ≡ length self.threads.items) }
         ensures refused { IfErr result (λ _. 0 < length self.threads.items) }
+        ensures looked { IfErr result (λ _. (picture : Book) (looks : ℕ) → AreStarted picture looks self → 0 < looks) }
     {
         let Watching { threads, mut room } = self;
         let mut missed = false;

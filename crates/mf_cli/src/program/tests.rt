@@ -2,7 +2,7 @@
 
 mod font_files;
 
-use super::{BAD_WORDS, DONE, NO_MEMORY, STREAM_FAULT, program, report};
+use super::{BAD_WORDS, DONE, STREAM_FAULT, WANTING, program, report};
 use crate::fault::ProgramFault;
 use mf_cases::{Pieces, Sink, worked_scripts};
 use mf_desk::RunFault;
@@ -203,9 +203,9 @@ fn reports_a_write_fault(rt: HostRuntime) -> Result<(), Fail> {
 #[test]
 fn reports_other_faults(rt: HostRuntime) {
     let cases: [(RunFault, u8, &[u8]); 4] = [
-        (RunFault::OutOfMemory, NO_MEMORY, b"mfpic: OutOfMemory\n"),
-        (RunFault::NoPlace, NO_MEMORY, b"mfpic: NoPlace\n"),
-        (RunFault::NoLook, NO_MEMORY, b"mfpic: NoLook\n"),
+        (RunFault::OutOfMemory, WANTING, b"mfpic: OutOfMemory\n"),
+        (RunFault::NoPlace, WANTING, b"mfpic: NoPlace\n"),
+        (RunFault::NoLook, WANTING, b"mfpic: NoLook\n"),
         (RunFault::FileTooLong, STREAM_FAULT, b"mfpic: FileTooLong\n"),
     ];
     for (fault, status, message) in cases {
@@ -244,7 +244,7 @@ fn keeps_the_status(rt: HostRuntime) -> Result<(), Fail> {
             &mut Sink::failing(alloc, 0),
             ProgramFault::Run(RunFault::OutOfMemory)
         ),
-        NO_MEMORY
+        WANTING
     );
     Ok(())
 }

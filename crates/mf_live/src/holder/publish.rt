@@ -1,5 +1,5 @@
 //! Publishing.
-ghost use Rattle.std.specs.Prelude.{◌≡◌, [], ◌+◌, ◌<◌, ◌^◌, ◌++◌, false, length, IsOk, MatchBool, MatchResult};
+ghost use Rattle.std.specs.Prelude.{◌≡◌, [], ◌+◌, ◌<◌, ◌^◌, ◌++◌, false, true, length, IfErr, IsOk, MatchBool, MatchResult};
 ghost use Rattle.left_right.specs.Sides.{view};
 ghost use Rattle.mf_live.specs.Books.{most, head_of};
 ghost use Rattle.mf_live.specs.Entries.{pic};
@@ -77,6 +77,7 @@ impl Holder {
         ensures accepted { accepted result.0 ≡ accepted self }
         ensures published { MatchResult result.1 (λ _. published result.0 ≡ accepted self) (λ _. published result.0 ≡ published self) }
         ensures nothing { published self ≡ accepted self → IsOk result.1 }
+        ensures waits { self.waits ≡ true → IfErr result.1 (λ _. result.0.waits ≡ true) }
     {
         if self.is_published() {
             return (self, Ok(()));
@@ -123,6 +124,7 @@ impl Holder {
         ensures name { name result.0 ≡ name self }
         ensures accepted { accepted result.0 ≡ accepted self }
         ensures published { MatchResult result.1 (λ _. published result.0 ≡ accepted self) (λ _. published result.0 ≡ published self) }
+        ensures waits { MatchResult result.1 (λ _. result.0.waits ≡ false) (λ _. result.0.waits ≡ true) }
     {
         let Holder {
             alloc,

@@ -1,5 +1,5 @@
 //! Opening a picture, and accepting what comes to it.
-ghost use Rattle.std.specs.Prelude.{◌≡◌, ◌≢◌, ◌<◌, ◌^◌, [], ◌∷◌, ◌++◌, false, None, Some, Err, IfOk, IfErr, IsOk, OnOk, MatchResult};
+ghost use Rattle.std.specs.Prelude.{◌≡◌, ◌≢◌, ◌<◌, ◌^◌, [], ◌∷◌, ◌++◌, false, None, Some, Err, IfOk, IfErr, IsOk, OnErr, OnOk, MatchResult};
 ghost use Rattle.left_right.specs.Sides.{view};
 ghost use Rattle.mf_ops.specs.Step.{fault_of};
 ghost use Rattle.mf_ops.specs.declared.op.Op.TheVariants.{Clear};
@@ -96,6 +96,7 @@ impl Holder {
         ensures refused { IfErr result (λ fault. fault ≢ OpFault.OutOfMemory → fault_of (pic (accepted self.old)) op.now ≡ Some fault) }
         ensures out_of_field { fault_of (pic (accepted self.old)) op.now ≡ Some OpFault.OutOfField → result ≡ Err OpFault.OutOfField }
         ensures clears { op.now ≡ Clear → IsOk result }
+        ensures waits { OnErr result (self.new.waits ≡ self.old.waits) }
     {
         apply(alloc, &mut self.working, op)?;
         note_operation::<Brand>(&mut self.swap, op);

@@ -1,6 +1,6 @@
 //! What looks show, and what notices tell.
 
-use super::{RECT, apply, assert_shows, close, contour, publish, publish_rectangle};
+use super::{RECT, apply, assert_shows, assert_tells, close, contour, publish, publish_rectangle};
 use crate::desk::open_picture;
 use mf_ops::Op;
 use std::test::Fail;
@@ -88,6 +88,8 @@ fn publishes_after_a_viewer_is_gone(rt: HostRuntime) -> Result<(), Fail> {
     publish_rectangle(&rt, alloc, &mut writer);
     drop(viewer);
     publish_rectangle(&rt, alloc, &mut writer);
+    assert_tells(&rt, &writer.tell(), 2);
+    assert_eq!(rt; writer.pending(), 0);
     writer.discard(&rt);
     Ok(())
 }

@@ -13,7 +13,7 @@ use Rattle.mf_desk.specs.Performances.{IsPerformance, viewer_lines}
 use Rattle.mf_desk.specs.Runs.{IsLongFile}
 use Rattle.mf_desk.specs.ViewerFaults.{fault_of_start}
 use Rattle.mf_watch.specs.Watchers.{IsRecord, IsWatcher}
-use Rattle.mf_desk.proofs.Performances.{StopsEarly-script, StopsEarly-nothing, StopsEarly-no_room, StopsEarly-no_place, StopsEarly-showing, StopsEarly-long, StopsEarly-wanting, IsPerformance-over}
+use Rattle.mf_desk.proofs.Performances.{StopsEarly-script, StopsEarly-nothing, StopsEarly-no_room, StopsEarly-no_place, StopsEarly-showing, StopsEarly-long, StopsEarly-wanting, IsPerformance-over, elsewhere-script, elsewhere-showing}
 use Rattle.mf_desk.proofs.performance.perform.Goals as goal
 
 pub returns-in_err-memory-clause-fault : goal.returns-in_err-memory-clause-fault
@@ -64,7 +64,7 @@ show-shown-requires-clause-rooms g c =
 pub show-shown-requires-clause-few : goal.show-shown-requires-clause-few
 show-shown-requires-clause-few g c =
     let few : c.args.viewers ≤ 64 = c.requires in
-    IfOk-weaker c.join-joined.result _ _ (λ watchers counted. omega (arith, few, counted c.in-Ok.ensures.started.empty, c.in-Ok.ensures.count)) c.join-joined.ensures.count
+    IfOk-weaker c.join-joined.result _ _ (λ watchers counted. omega (arith, few, counted, c.in-Ok.ensures.count)) c.join-joined.ensures.count
 
 pub returns-in_err-seen-clause-fault : goal.returns-in_err-seen-clause-fault
 returns-in_err-seen-clause-fault g c =
@@ -74,7 +74,7 @@ returns-in_err-seen-clause-fault g c =
     let left = g.R.Read.remaining c.complete-completed.new.reader in
     let run = c.in_ok-ended.ended in
     let (read, consumed, over) = subst (λ l. EndsWith l (g.R.Read.remaining c.args.reader.now) left held run holds) c.in_ok-progress.ensures.limits c.in_ok-ended.ensures.over in
-    let counted = IfOk-weaker c.join-joined.result _ (λ watchers. length watchers.items ≡ c.args.viewers) (λ watchers count. count c.in-Ok.ensures.started.empty ∙ c.in-Ok.ensures.count) c.join-joined.ensures.count in
+    let counted = IfOk-weaker c.join-joined.result _ (λ watchers. length watchers.items ≡ c.args.viewers) (λ watchers count. count ∙ c.in-Ok.ensures.count) c.join-joined.ensures.count in
     let refused = IfErr-weaker c.join-joined.result _ (λ _. 0 < c.args.viewers) (λ _ some. omega (arith, some, c.in-Ok.ensures.count)) c.join-joined.ensures.refused in
     let passed_on = err_from_is_err_and c.from_residual-in_err-seen.result c.from_residual-in_err-seen.ensures.1 in
     rw (passed_on.1, passed_on.2)
@@ -89,7 +89,7 @@ returns-in_err-gf-clause-fault g c =
     let left = g.R.Read.remaining c.complete-completed.new.reader in
     let run = c.in_ok-ended.ended in
     let (read, consumed, over) = subst (λ l. EndsWith l (g.R.Read.remaining c.args.reader.now) left held run holds) c.in_ok-progress.ensures.limits c.in_ok-ended.ensures.over in
-    let counted = IfOk-weaker c.join-joined.result _ (λ watchers. length watchers.items ≡ c.args.viewers) (λ watchers count. count c.in-Ok.ensures.started.empty ∙ c.in-Ok.ensures.count) c.join-joined.ensures.count in
+    let counted = IfOk-weaker c.join-joined.result _ (λ watchers. length watchers.items ≡ c.args.viewers) (λ watchers count. count ∙ c.in-Ok.ensures.count) c.join-joined.ensures.count in
     let out = subst (λ n. Appends holds later (viewer_lines n (glance run))) (c.in_ok-seen.ensures.count c.args.viewers counted) c.in_ok-seen.ensures.shown in
     let same_file = c.file-file.ensures ∙ c.show-shown.ensures.same.file in
     let file = subst (λ f. Keeps f [] over.last.characters) (sym same_file) over.file in
@@ -113,7 +113,7 @@ returns-clause-performance g c =
     let run = c.in_ok-ended.ended in
     let picture = desk_name c.in_ok-progress.desk in
     let (read, consumed, over) = subst (λ l. EndsWith l (g.R.Read.remaining c.args.reader.now) left held run holds) c.in_ok-progress.ensures.limits c.in_ok-ended.ensures.over in
-    let counted = IfOk-weaker c.join-joined.result _ (λ watchers. length watchers.items ≡ c.args.viewers) (λ watchers count. count c.in-Ok.ensures.started.empty ∙ c.in-Ok.ensures.count) c.join-joined.ensures.count in
+    let counted = IfOk-weaker c.join-joined.result _ (λ watchers. length watchers.items ≡ c.args.viewers) (λ watchers count. count ∙ c.in-Ok.ensures.count) c.join-joined.ensures.count in
     let records = IfOk-weaker c.join-joined.result _ (λ watchers. All (IsRecord c.args.looks) watchers.items)
     (λ watchers watched. All-weaker _ _ (λ (w : Watcher) (is : IsWatcher picture c.args.looks 1 w). is.record_is) watchers.items (watched _ _ c.in-Ok.ensures.started)) c.join-joined.ensures.watchers in
     let count = c.in_ok-seen.ensures.count c.args.viewers counted in
@@ -151,3 +151,53 @@ returns-in_err-gf-clause-too_small g c = λ small. let refused = c.in_ok-progres
 
 pub returns-clause-too_small : goal.returns-clause-too_small
 returns-clause-too_small g c = λ small. let refused = c.in_ok-progress.ensures.too_long.0 small in absurd (cc)
+
+pub returns-in_err-memory-clause-untouched : goal.returns-in_err-memory-clause-untouched
+returns-in_err-memory-clause-untouched g c = λ small. (refl, refl)
+
+pub returns-in_err-progress-clause-untouched : goal.returns-in_err-progress-clause-untouched
+returns-in_err-progress-clause-untouched g c = λ small. (refl, refl)
+
+pub returns-in-Err-clause-untouched : goal.returns-in-Err-clause-untouched
+returns-in-Err-clause-untouched g c = λ small. (refl, refl)
+
+pub returns-in_err-ended-clause-untouched : goal.returns-in_err-ended-clause-untouched
+returns-in_err-ended-clause-untouched g c = λ small. let refused = c.in_ok-progress.ensures.too_long.0 small in absurd (cc)
+
+pub returns-in_err-seen-clause-untouched : goal.returns-in_err-seen-clause-untouched
+returns-in_err-seen-clause-untouched g c = λ small. let refused = c.in_ok-progress.ensures.too_long.0 small in absurd (cc)
+
+pub returns-in_err-gf-clause-untouched : goal.returns-in_err-gf-clause-untouched
+returns-in_err-gf-clause-untouched g c = λ small. let refused = c.in_ok-progress.ensures.too_long.0 small in absurd (cc)
+
+pub returns-clause-untouched : goal.returns-clause-untouched
+returns-clause-untouched g c = λ small. let refused = c.in_ok-progress.ensures.too_long.0 small in absurd (cc)
+
+pub returns-in_err-memory-clause-no_place : goal.returns-in_err-memory-clause-no_place
+returns-in_err-memory-clause-no_place g c = λ place. (refl, refl)
+
+pub returns-in_err-progress-clause-no_place : goal.returns-in_err-progress-clause-no_place
+returns-in_err-progress-clause-no_place g c = λ place. (refl, refl)
+
+pub returns-in-Err-clause-no_place : goal.returns-in-Err-clause-no_place
+returns-in-Err-clause-no_place g c = λ place. (refl, refl)
+
+pub returns-in_err-ended-clause-no_place : goal.returns-in_err-ended-clause-no_place
+returns-in_err-ended-clause-no_place g c =
+    let passed_on = err_from_is_err_and c.from_residual-in_err-ended.result c.from_residual-in_err-ended.ensures.1 in
+    rw (passed_on.1, passed_on.2) (λ place. absurd (elsewhere-script (Err _) _ _ _ _ _ c.in_err-ended.ensures.fault place))
+
+pub returns-in_err-seen-clause-no_place : goal.returns-in_err-seen-clause-no_place
+returns-in_err-seen-clause-no_place g c =
+    let counted = IfOk-weaker c.join-joined.result _ (λ watchers. length watchers.items ≡ c.args.viewers) (λ watchers count. count ∙ c.in-Ok.ensures.count) c.join-joined.ensures.count in
+    let refused = IfErr-weaker c.join-joined.result _ (λ _. 0 < c.args.viewers) (λ _ some. omega (arith, some, c.in-Ok.ensures.count)) c.join-joined.ensures.refused in
+    let passed_on = err_from_is_err_and c.from_residual-in_err-seen.result c.from_residual-in_err-seen.ensures.1 in
+    rw (passed_on.1, passed_on.2) (λ place. absurd (elsewhere-showing (Err _) _ _ _ _ (c.in_err-seen.ensures.fault c.args.viewers counted refused) place))
+
+pub returns-in_err-gf-clause-no_place : goal.returns-in_err-gf-clause-no_place
+returns-in_err-gf-clause-no_place g c =
+    let passed_on = err_from_is_err_and c.from_residual-in_err-gf.result c.from_residual-in_err-gf.ensures.1 in
+    rw (passed_on.1, passed_on.2) (λ place. ⊎_elim (λ long. absurd (cc)) (λ wanting. absurd (cc)) c.in_err-gf.ensures.fault)
+
+pub returns-clause-no_place : goal.returns-clause-no_place
+returns-clause-no_place g c = λ place. absurd (cc)

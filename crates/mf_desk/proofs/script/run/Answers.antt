@@ -79,3 +79,18 @@ returns-in_err-gf-clause-too_small g c = λ small. let refused = c.in_ok-progres
 
 pub returns-clause-too_small : goal.returns-clause-too_small
 returns-clause-too_small g c = λ small. let refused = c.in_ok-progress.ensures.too_long.0 small in absurd (cc)
+
+pub returns-in_err-memory-clause-untouched : goal.returns-in_err-memory-clause-untouched
+returns-in_err-memory-clause-untouched g c = λ small. (refl, refl)
+
+pub returns-in_err-progress-clause-untouched : goal.returns-in_err-progress-clause-untouched
+returns-in_err-progress-clause-untouched g c = λ small. (refl, refl)
+
+pub returns-in_err-ended-clause-untouched : goal.returns-in_err-ended-clause-untouched
+returns-in_err-ended-clause-untouched g c = λ small. let refused = c.in_ok-progress.ensures.too_long.0 small in absurd (cc)
+
+pub returns-in_err-gf-clause-untouched : goal.returns-in_err-gf-clause-untouched
+returns-in_err-gf-clause-untouched g c = λ small. let refused = c.in_ok-progress.ensures.too_long.0 small in absurd (cc)
+
+pub returns-clause-untouched : goal.returns-clause-untouched
+returns-clause-untouched g c = λ small. let refused = c.in_ok-progress.ensures.too_long.0 small in absurd (cc)

@@ -6,7 +6,7 @@ use Rattle.mf_watch.proofs.watching.watchers.Goals as goal
 
 pub loop-preserved : goal.loop-preserved
 loop-preserved c =
-    let (same_desk, counted, ready) = c.loop.invariant in
+    let (same_desk, places, counted, ready) = c.loop.invariant in
     let old = c.loop.watchers.items in
     let watcher = c.in_ok-new.field-0 in
     let room = c.args.looks + 1 in
@@ -14,6 +14,7 @@ loop-preserved c =
     let this_ready : Ready watcher = subst (λ picture. IsWatcher picture 0 room watcher) (c.in_ok-viewer.ensures.viewer_name ∙ same_desk) c.in_ok-new.ensures in
     let pushed = c.in_ok-push.ensures.items in (
       c.viewer.ensures.name ∙ same_desk,
+      omega (arith, places, c.in_ok-viewer.ensures.left),
       ap length pushed ∙ omega (arith, counted, length-append old (watcher ∷ [])),
       All-same Ready c.push.new.self.items (old ++ watcher ∷ []) pushed (All-push Ready old watcher ready this_ready),
     )

@@ -1,9 +1,9 @@
 use Rattle.std.proofs.Common.{◌<◌, IfErr, arith, subst}
-use Rattle.mf_desk.proofs.Showing.{IsShown-start, StopsShowing-behind}
+use Rattle.mf_desk.proofs.Showing.{IsShown-start}
 use Rattle.mf_desk.proofs.ended_run.EndedRun.show.Goals as goal
 
 pub returns-in-Err-clause-fault : goal.returns-in-Err-clause-fault
 returns-in-Err-clause-fault g c = λ viewers counted refused.
     let run = c.args.self.now in
     let held = g.W.Write.contents c.args.writer.now in
-    (subst (λ r. IfErr r (λ _. 0 < viewers)) c.in-Err.is refused, StopsShowing-behind run run 0 viewers held held (omega arith) (IsShown-start run held))
+    (record { shown = 0; few = omega arith; out = (IsShown-start run held).out }, subst (λ r. IfErr r (λ _. 0 < viewers)) c.in-Err.is refused)

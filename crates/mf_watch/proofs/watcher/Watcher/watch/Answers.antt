@@ -1,6 +1,12 @@
 use Rattle.std.proofs.Common.{◌+◌, ◌-◌, arith}
+use Rattle.std.proofs.lemmas.Result.{err_from_is_err_and}
 use Rattle.mf_watch.specs.Watchers.{name}
 use Rattle.mf_watch.proofs.watcher.Watcher.watch.Goals as goal
+
+pub returns-in_err-watcher-clause-refused : goal.returns-in_err-watcher-clause-refused
+returns-in_err-watcher-clause-refused g c =
+    let passed_on = err_from_is_err_and c.from_residual.result c.from_residual.ensures.1 in
+    rw passed_on.1 (omega (arith, c.loop-look-test.true))
 
 pub loop-look-preserved : goal.loop-look-preserved
 loop-look-preserved g c =

@@ -7,7 +7,7 @@ use Rattle.mf_watch.proofs.watching.Watching.join.Goals as goal
 
 pub loop-thread-preserved-in-Ok-push : goal.loop-thread-preserved-in-Ok-push
 loop-thread-preserved-in-Ok-push g c =
-    let (kept, room, counted, fewer, missed) = c.loop-thread.invariant in
+    let (kept, room, counted, fewer, missed, looked) = c.loop-thread.invariant in
     let first = c.in-Some.ensures.steps.0 in
     let pushed = c.in-Ok-push.ensures.items in
     let old = c.loop-thread.room.items in
@@ -29,11 +29,12 @@ loop-thread-preserved-in-Ok-push g c =
       λ none_missed. omega (arith, counted none_missed, longer, shorter),
       omega (arith, fewer, shorter),
       missed,
+      looked,
     )
 
 pub loop-thread-preserved : goal.loop-thread-preserved
 loop-thread-preserved g c =
-    let (kept, room, counted, fewer, missed) = c.loop-thread.invariant in
+    let (kept, room, counted, fewer, missed, looked) = c.loop-thread.invariant in
     let first = c.in-Some.ensures.steps.0 in
     let threads = into_iter_items c.loop-thread.thread-iterator in
     let rest = into_iter_items c.next.new.self in (
@@ -42,7 +43,14 @@ loop-thread-preserved g c =
       λ none_missed. search rules,
       omega (arith, fewer, ap length first),
       λ _. omega (arith, fewer, ap length first),
+      λ _ picture looks started.
+          let Owed = Owes picture looks in
+          let owed = All-head Owed c.in-Some.thread rest (All-same Owed (c.in-Some.thread ∷ rest) (into_iter_items c.loop-thread.thread-iterator) (sym first) (kept picture looks started).1) in
+          omega (arith, owed.1, c.in-Err.ensures),
     )
+
+pub returns-then-missed-clause-looked : goal.returns-then-missed-clause-looked
+returns-then-missed-clause-looked g c = c.loop-thread.invariant.5 c.if-missed.true
 
 pub returns-clause-watchers : goal.returns-clause-watchers
 returns-clause-watchers g c = λ picture looks started. (c.loop-thread.invariant.0 picture looks started).0

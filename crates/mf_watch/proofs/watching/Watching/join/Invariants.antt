@@ -13,3 +13,4 @@ invariant-loop-thread g l =
     × (l.missed ≡ false → length l.room.items + length rest ≡ length l.fn.self.room.items + length l.fn.self.threads.items)
     × (length rest ≤ length l.fn.self.threads.items)
     × (l.missed ≡ true → 0 < length l.fn.self.threads.items)
+    × (l.missed ≡ true → (picture : Book) (looks : ℕ) → AreStarted picture looks l.fn.self → 0 < looks)
