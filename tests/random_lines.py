@@ -1,9 +1,9 @@
 """Random lines of docs/LANGUAGE.md, lawful and not, each with what `pixel_model.py` makes of it."""
 
-import random
 import typing
 
-from pixel_model import MAX_COORDINATE, MAX_LINE, MAX_POINTS, MAX_PROOF, MAX_WEIGHT
+from pixel_model import MAX_COORDINATE, MAX_POINTS, MAX_PROOF, MAX_WEIGHT
+from random_spelling import Spelling
 
 NAMES = ["currentpicture", "a", "b", "z"]
 # Coordinates beside the limits of points, and some between which are 127 to 129 pixels.
@@ -16,8 +16,6 @@ LARGE = [257, 346, 65537, 65626, -65535, 32767, 32768, -32768, 99999999, 9999999
 # Tokens that no command has.
 FOREIGN = [*"!\"#$&'*+./:<=>?@[\\]^_`{|}~", "contur", "Show", "A", "aa", "cyclewithweight", "withweigh", "x" * 300]
 FOREIGN += ["0000000001", "1234567890", "9" * 30]
-# What stands between tokens.
-GAPS = ["", "", "", "", " ", " ", "\t", "  ", " \t "]
 
 
 class Line(typing.NamedTuple):
@@ -27,76 +25,6 @@ class Line(typing.NamedTuple):
     tokens: list
     perform: typing.Callable
     refused: int | None = None
-
-
-def may_touch(left, right):
-    """Whether two tokens are still two with nothing between them."""
-    letters = left[-1].isalpha() and right[0].isalpha()
-    digits = left[-1].isdigit() and right[0].isdigit()
-    return not (letters or digits or left + right[0] in ("--", ":="))
-
-
-class Spelling:
-    """Random ways to write numbers, lines and their ends."""
-
-    def __init__(self, seed):
-        self.random = random.Random(seed)
-        self.choice = self.random.choice
-        self.place = self.random.randint
-
-    def happens(self, part):
-        return self.random.random() < part
-
-    def integer(self, value):
-        digits = str(abs(value))
-        if self.happens(0.15):
-            digits = digits.zfill(self.place(len(digits), 9))
-        return ["-", digits] if value < 0 or value == 0 and self.happens(0.2) else [digits]
-
-    def pair(self, x, y):
-        return ["(", *self.integer(x), ",", *self.integer(y), ")"]
-
-    def withweight(self, weight):
-        return [] if weight == 1 and self.happens(0.7) else ["withweight", *self.integer(weight)]
-
-    def path(self, points):
-        return [token for x, y in points for token in [*self.pair(x, y), "--"]] + ["cycle"]
-
-    def spelled(self, tokens):
-        """The tokens as a line in bytes, and the columns of all of them and of the place behind the last."""
-        # A path of 4096 points has no room for blanks: a line has at most 65,536 bytes.
-        gaps = GAPS if len(tokens) <= 1000 else [""]
-        text, columns = self.choice(gaps), []
-        for i, token in enumerate(tokens):
-            if i > 0:
-                text += self.choice(gaps) or ("" if may_touch(tokens[i - 1], token) else " ")
-            columns.append(len(text) + 1)
-            text += token
-        columns.append(len(text) + 1)
-        text += self.choice(gaps)
-        if self.happens(0.15):
-            text += "%" + "".join(chr(self.choice([9, *range(32, 127)])) for _ in range(self.place(0, 20)))
-        if self.happens(0.01):
-            text, columns = self.lengthened(text, columns)
-        line = text.encode()
-        return self.spoiled(line) if self.happens(0.015) else line, columns
-
-    def lengthened(self, text, columns):
-        """A line that is as long as a line may be, or nearly so, or too long."""
-        added = max(self.place(MAX_LINE - 1, MAX_LINE + 1) - len(text), 0)
-        if self.happens(0.5):
-            return text + "\t" * added, columns
-        return " " * added + text, [column + added for column in columns]
-
-    def spoiled(self, line):
-        """A line with a byte that no line may have, and a blank behind it, so that no carriage return is at the end."""
-        place = self.place(0, len(line))
-        return line[:place] + bytes([self.choice([0, 8, 11, 12, 13, 27, 31, 127, 128, 233, 255])]) + b" " + line[place:]
-
-    def line_end(self, is_last):
-        """What stands behind a line, and which bytes of that are a part of it."""
-        ends = [(b"\n", b"")] * 140 + [(b"\r\n", b"")] * 60 + [(b"\r\r\n", b"\r")]
-        return self.choice([(b"", b""), (b"", b""), (b"\r", b"\r"), *ends[::20]] if is_last else ends)
 
 
 class Chance(Spelling):

@@ -5,8 +5,9 @@
 
 PROGRAM is `mfpic` beside this folder unless another is named. A difference is printed with its script. At the end
 stands how often each command was performed and each refusal was answered, and with 5,000 scripts or more it is a fault
-if one of them never came. FileTooLong is not among them. The lines are made by `random_lines.py`, and the model is
-`pixel_model.py`, which shares nothing with the program but its rules. It is run by hand.
+if one of them never came. FileTooLong is not among them. The lines are made by `random_lines.py` and
+`random_spelling.py`, and the model is `pixel_model.py`, which shares nothing with the program but its rules. It is run
+by hand.
 """
 
 import collections
