@@ -13,6 +13,9 @@ before that of the refused growth print, and with the old font file untouched. O
 memory, where nothing hung on that growth alone: the points of a line that is refused for its form or for too many
 points, room that is given back, the guess what refused words mean, and a list of bands, for which less is asked then.
 The first run that does anything else is printed, and the status is 1. It is run by hand.
+
+Tests that make calls again which were refused are run so, too, one growth refused after another, and must pass: those of
+AGAIN, by the programs of tests that `rt ci` has left (crates/NAME/out/NAME_tests).
 """
 
 import dataclasses
@@ -70,6 +73,9 @@ ssize_t read(int file, void *bytes, size_t size) {
 """
 # Ways to ask for memory that the library does not know.
 OTHERS = {"aligned_alloc", "brk", "calloc", "memalign", "mmap", "posix_memalign", "reallocarray", "sbrk", "valloc"}
+# Tests that make a call again which was refused.
+AGAIN = [("mf_live", "tests::again::calls_are_made_again")]
+AGAIN += [("mf_cases", f"tests::again::{name}") for name in ("perform_lines", "end_a_script")]
 FOREVER = 1 << 40
 OLD = b"what was there"
 
@@ -100,7 +106,7 @@ LONG = b"%" + 70_000 * b"x" + b"\nshow a\naddto a contour " + 4097 * b"(1,1)--" 
 @dataclasses.dataclass(frozen=True)
 class Case:
     """Words and a script, and what comes of them with ample memory. A read gives a line of the script, or a piece of so
-    many bytes of a longer one; and where it is run twice, also all that there is."""
+    many bytes of a longer one; and where it is run twice, also all that there is. Another program may be named."""
 
     about: str
     words: tuple
@@ -110,6 +116,7 @@ class Case:
     message: bytes = b""
     piece: int = 1 << 16
     twice: bool = True
+    program: str | None = None
 
 
 @dataclasses.dataclass
@@ -138,7 +145,7 @@ class Runner:
         font, place = self.folder / "font.gf", self.folder / "script"
         font.write_bytes(OLD)
         place.write_bytes(case.script)
-        words = [self.program, *(word.replace("FOLDER", str(self.folder)) for word in case.words)]
+        words = [case.program or self.program, *(word.replace("FOLDER", str(self.folder)) for word in case.words)]
         with open(place, "rb") as reader, open(self.folder / "report", "wb") as report:
             numbers = {"FIRST": first, "LAST": last, "PIECE": case.piece if piece is None else piece}
             numbers["REPORT"] = report.fileno()
@@ -209,6 +216,20 @@ def try_case(runner, case):
     return None
 
 
+def try_test(runner, crate, name):
+    """Refuses each growth of a test, alone. Answers what is wrong, if anything is."""
+    program = str(ROOT / "crates" / crate / "out" / f"{crate}_tests")
+    case = Case(name, (name,), b"", program=program)
+    for growth in itertools.count(1):
+        answer = runner.run(case, growth, growth)
+        if answer.status != 0:
+            return f"{case}\n{answer}\nthe test does not pass: growth {growth}"
+        if answer.refused == 0:
+            break
+    print(f"{crate} {name}: {growth - 1} growths", flush=True)
+    return None
+
+
 def cases():
     """The examples, and scripts and words that reach what they do not."""
     font = ("--gf", "FOLDER/font.gf")
@@ -237,8 +258,9 @@ def main():
         sys.exit(f"the program asks for memory in ways that are not refused: {unknown}")
     with tempfile.TemporaryDirectory() as folder:
         runner = Runner(program, pathlib.Path(folder))
-        for case in cases():
-            fault = try_case(runner, case)
+        of_tests = (try_test(runner, crate, name) for crate, name in AGAIN)
+        of_cases = (try_case(runner, case) for case in cases())
+        for fault in itertools.chain(of_tests, of_cases):
             if fault:
                 sys.exit(fault)
         print(f"{runner.count} runs, each as the documents say")

@@ -1,6 +1,7 @@
 //! Tests of scripts, from the bytes that are read to the bytes that are written, and of sessions.
 ghost use Rattle.std.specs.Prelude.{◌≤◌};
 
+mod again;
 mod cuts;
 mod faults;
 mod flags;

@@ -3,6 +3,7 @@ ghost use Rattle.std.specs.Prelude.{◌≡◌, IfOk};
 ghost use Rattle.mf_live.specs.Viewers as viewers;
 ghost use Rattle.mf_live.specs.Writers as writers;
 
+mod again;
 mod ending;
 mod looking;
 mod sheets;
@@ -37,6 +38,11 @@ fn points(alloc: Global, corners: &[(i32, i32)]) -> Result<Vec<Point>, AllocErro
 /// The contour through these corners, of this weight.
 pub(crate) fn contour(rt: &impl Abort, alloc: Global, corners: &[(i32, i32)], weight: i32) -> Op {
     let points = points(alloc, corners).expect(rt, "there is room for the path");
+    contour_through(rt, points, weight)
+}
+
+/// The contour through these points, of this weight.
+fn contour_through(rt: &impl Abort, points: Vec<Point>, weight: i32) -> Op {
     match (Cycle::new(points), Weight::new(weight)) {
         (Ok(cycle), Ok(weight)) => Op::Contour(cycle, weight),
         _ => panic!(rt; "no contour of weight {weight}"),

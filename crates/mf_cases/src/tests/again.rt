@@ -1,0 +1,108 @@
+//! Calls of sessions that were refused for want of memory, and are made again. Here memory is ample;
+//! `tests/wanting_memory.py` refuses each growth of these tests in turn.
+
+use super::AMPLE;
+use super::fonts::{RECT, RECT_FILE};
+use crate::scripts::worked_scripts;
+use mf_gf::{GfBytes, GfFault, GfFile};
+use mf_live::{Closing, Ended};
+use mf_session::{EndFault, Session};
+use std::alloc::Global;
+use std::process::Abort;
+use std::sync::Wait;
+
+/// How often a call is made: a growth is refused to one of all calls at most.
+const TRIES: u32 = 2;
+
+/// A session.
+fn opened<R: Abort + Wait>(rt: &R, alloc: Global) -> Session {
+    for _ in 0..TRIES {
+        if let Ok((session, _)) = Session::new(rt, alloc, 1, AMPLE.max_ops, AMPLE.max_bytes) {
+            return session;
+        }
+    }
+    panic!(rt; "no session is opened")
+}
+
+/// Performs a line, and says what it prints.
+fn performed<R: Abort + Wait>(rt: &R, alloc: Global, session: &mut Session, line: &str) -> Vec<u8> {
+    for _ in 0..TRIES {
+        if let Ok(text) = session.command(rt, alloc, line.as_bytes()) {
+            return text;
+        }
+    }
+    panic!(rt; "the line is not performed: {line}")
+}
+
+/// Ends the script of a session.
+fn finished<R: Abort + Wait>(rt: &R, session: Session) -> (Ended, GfFile) {
+    let mut session = session;
+    for _ in 0..TRIES {
+        match session.finish(rt) {
+            Ok(ended) => return ended,
+            Err(EndFault::Kept(back)) => session = back,
+            Err(EndFault::Halfway(closing, file)) => return (ended(rt, closing), file),
+        }
+    }
+    session.discard(rt);
+    panic!(rt; "the script is not ended")
+}
+
+/// Publishes the end of a picture.
+fn ended<R: Abort + Wait>(rt: &R, closing: Closing) -> Ended {
+    let mut closing = closing;
+    for _ in 0..TRIES {
+        match closing.publish(rt) {
+            Ok(ended) => return ended,
+            Err(back) => closing = back,
+        }
+    }
+    closing.discard(rt);
+    panic!(rt; "the end is not published")
+}
+
+/// Finishes a font file.
+fn file_bytes(rt: &impl Abort, file: GfFile) -> GfBytes {
+    let mut file = file;
+    for _ in 0..TRIES {
+        match file.finish(AMPLE.font) {
+            Ok(bytes) => return bytes,
+            Err((back, GfFault::OutOfMemory)) => file = back,
+            Err((_, fault)) => panic!(rt; "{fault}"),
+        }
+    }
+    panic!(rt; "the font file is not finished")
+}
+
+/// The lines of a script print its transcript, one after another.
+#[test]
+fn perform_lines(rt: HostRuntime) {
+    let alloc = rt.alloc();
+    for (script, transcript) in worked_scripts().iter().copied().flatten() {
+        let mut session = opened(&rt, alloc);
+        let mut rest = transcript.as_bytes();
+        for line in script.lines() {
+            let text = performed(&rt, alloc, &mut session, line);
+            match rest.strip_prefix(text.as_slice()) {
+                Some(more) => rest = more,
+                None => panic!(rt; "{script}: {line}"),
+            }
+        }
+        session.discard(&rt);
+        assert!(rt; rest.is_empty(), "{script}");
+    }
+}
+
+/// What is shipped goes into the file that the end hands out, and all that was accepted is told.
+#[test]
+fn end_a_script(rt: HostRuntime) {
+    let alloc = rt.alloc();
+    let mut session = opened(&rt, alloc);
+    for line in RECT.lines() {
+        performed(&rt, alloc, &mut session, line);
+    }
+    let (mut ended, file) = finished(&rt, session);
+    assert_eq!(rt; ended.notice().revision(), 1);
+    ended.discard(&rt);
+    assert_eq!(rt; file_bytes(&rt, file).bytes(), RECT_FILE);
+}
