@@ -1,5 +1,5 @@
 -- Edges after one of them was changed, removed or added.
-use Rattle.std.proofs.Common.{◌≡◌, ◌≢◌, ℕ, zero, suc, ◌<◌, ◌≤◌, ℤ, pos, negsuc, ◌+ℤ◌, ◌-ℤ◌, ◌≤ℤ◌, ◌<ℤ◌, int_le, List, [], ◌∷◌, length, get_or, add-one, Ok, Err, Bool, true, false, refl, sym, ap, ◌∙◌, arith, if◌then◌else◌}
+use Rattle.std.proofs.Common.{◌≡◌, ◌≢◌, ℕ, zero, suc, ◌<◌, ◌≤◌, ℤ, pos, negsuc, ◌+ℤ◌, ◌-ℤ◌, ◌≤ℤ◌, ◌<ℤ◌, int_le, List, [], ◌∷◌, length, get_or, add-one, All, Ok, Err, Bool, true, false, refl, sym, ap, ◌∙◌, arith, if◌then◌else◌}
 use Rattle.std.specs.List.{HoldsAt, insert, remove}
 use Rattle.std.specs.List.Sorted.{IsBinarySearchResult, IsSortedBy}
 use Rattle.std.specs.Ordering.{int_cmp, is_lt}
@@ -160,6 +160,14 @@ inserted_sorted es x w at edges le left right nonzero parted =
     edges_from-insert _ es at e edges.sorted le record { left = left; right = right; nonzero = nonzero } left
     (λ k lt. int_ranked _ x _ (sym (sides.0 k e (omega arith) lt)))
     (λ k ge lt. int_ranked _ x _ (sym (sides.1 k e ge lt)))
+
+-- and none stands there
+pub none_there : (es : List Edge) (x : ℤ) (at : ℕ) → AreOpenEdges es → IsBinarySearchResult (λ e. int_cmp e.x x) es (Err at) → All (λ e. e.x ≢ x) es
+none_there es x at edges parted k d lt same =
+    let sides = parted (searchable_from_sorted int_cmp_total (λ (e : Edge). e.x) es x (columns_sorted es edges)) in
+    let before : k < at → (get_or es k d).x <ℤ x = λ below. int_ranked _ x _ (sym (sides.0 k d (omega arith) below)) in
+    let behind : at ≤ k → x <ℤ (get_or es k d).x = λ over. int_ranked _ x _ (sym (sides.1 k d over lt)) in
+    grind (arith, ints, before, behind, same)
 
 -- a weight of 0 changes nothing
 pub nothing_added : (es : List Edge) (x : ℤ) → HaveWeights (with_edge_in es x (pos 0)) es

@@ -1,5 +1,5 @@
 //! Edges of rows, and the weights between them.
-ghost use Rattle.std.specs.Prelude.{◌≡◌, ◌<◌, ◌≤◌, ◌+◌, ◌++◌, IsOk, OnOk, OnErr, pos, negsuc, ◌≤ℤ◌};
+ghost use Rattle.std.specs.Prelude.{◌≡◌, ◌≢◌, ◌<◌, ◌≤◌, ◌+◌, ◌/◌, ◌++◌, All, IsOk, OnOk, OnErr, pos, negsuc, ◌≤ℤ◌};
 ghost use Rattle.std.specs.List.{HoldsAt};
 ghost use Rattle.std.specs.Vec.{vec_len, vec_capacity};
 ghost use Rattle.mf_edges.specs.LawfulWeights.{IsLawfulWeight};
@@ -52,7 +52,8 @@ pub fn reach_of(edges: &[Edge]) -> i32
 }
 
 /// Adds a weight from a column on: to the edge that stands there, which goes where the two cancel, or as
-/// an edge of its own. Refusal OutOfMemory (14): the edges are as they were. The caller owes sorted edges in -4095..=4095,
+/// an edge of its own. Refusal OutOfMemory (14), only where an edge of its own is wanted and there is no room left: the edges
+/// are as they were. The caller owes sorted edges in -4095..=4095,
 /// none of weight 0, with lawful weights between them, a column in -4095..=4095 and a lawful weight; that the weights are
 /// lawful afterwards is owed anew before the next call.
 pub fn add_edge(edges: &mut Vec<Edge>, x: i32, weight: i32) -> Result<(), OutOfMemory>
@@ -64,6 +65,8 @@ pub fn add_edge(edges: &mut Vec<Edge>, x: i32, weight: i32) -> Result<(), OutOfM
     ensures weights { OnOk result (HaveWeights (with_edge_in edges.old.items x weight) edges.new.items) }
     ensures unchanged { OnErr result (edges.new.items ≡ edges.old.items) }
     ensures succeeds { vec_len edges.old < vec_capacity edges.old → IsOk result }
+    ensures nonzero { OnErr result (weight ≢ pos 0) }
+    ensures absent { OnErr result (All (λ edge. edge.x ≢ x) edges.old.items) }
     ensures capacity { vec_capacity edges.old ≤ vec_capacity edges.new }
     ensures len { vec_len edges.new ≤ vec_len edges.old + 1 }
 {
@@ -100,10 +103,14 @@ fn change_edge(edges: &mut Vec<Edge>, at: usize, weight: i32)
     }
 }
 
-/// Adds an edge to a list of edges, unless its weight is 0. Refusal OutOfMemory (14): the list is as it was.
+/// Adds an edge to a list of edges, unless its weight is 0. Refusal OutOfMemory (14), only where the weight is not 0
+/// and there is no room left: the list is as it was.
 pub fn push_unless_zero(edges: &mut Vec<Edge>, edge: Edge) -> Result<(), OutOfMemory>
     ensures pushed { OnOk result (edges.new.items ≡ edges.old.items ++ unless_zero edge) }
     ensures unchanged { OnErr result (edges.new.items ≡ edges.old.items) }
+    ensures succeeds { vec_len edges.old < vec_capacity edges.old → IsOk result }
+    ensures nonzero { OnErr result (edge.weight ≢ pos 0) }
+    ensures capacity { vec_capacity edges.old ≤ vec_capacity edges.new }
 {
     if edge.weight != 0 {
         edges.push(edge)?;
@@ -111,9 +118,13 @@ pub fn push_unless_zero(edges: &mut Vec<Edge>, edge: Edge) -> Result<(), OutOfMe
     Ok(())
 }
 
-/// Gives back the room that edges which cancelled have left, where fewer edges stay than half of it, rounded down.
+/// Gives back the room that edges which cancelled have left, where fewer edges stay than half of it, rounded down; of a list
+/// with no edge that is all of it.
 pub fn give_back_room(edges: &mut Vec<Edge>)
-    ensures { edges.new.items ≡ edges.old.items }
+    ensures items { edges.new.items ≡ edges.old.items }
+    ensures capacity { vec_capacity edges.new ≤ vec_capacity edges.old }
+    ensures stays { vec_capacity edges.old / 2 ≤ vec_len edges.old → vec_capacity edges.new ≡ vec_capacity edges.old }
+    ensures frees { 2 ≤ vec_capacity edges.old → vec_len edges.old ≡ 0 → vec_capacity edges.new ≡ 0 }
 {
     if edges.len() < edges.capacity() / 2 {
         edges.shrink_to_fit();

@@ -107,6 +107,7 @@ fn pass_edges(edges: &[Edge], x: i32, weight: i32) -> Result<Passed, AddFault>
     ensures stops { IfOk result (λ passed. BeginFrom x (drop passed.count edges.now)) }
     ensures passed { IfOk result (λ passed. ArePassed edges.now x weight passed.count passed.weight) }
     ensures too_large { IfErr result (λ _. AreStopped edges.now x weight) }
+    ensures fault { IfErr result (λ fault. fault ≡ AddFault.WeightTooLarge) }
 {
     let mut passed = Passed { count: 0, weight };
     for edge in edges {

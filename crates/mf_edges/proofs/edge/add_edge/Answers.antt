@@ -3,9 +3,10 @@ use Rattle.std.specs.List.Sorted.{IsBinarySearchResult}
 use Rattle.std.specs.Ordering.{int_cmp}
 use Rattle.std.proofs.lemmas.Int.{ints}
 use Rattle.std.proofs.lemmas.List.Sorted.{answers_always}
+use Rattle.std.proofs.lemmas.Result.{err_from_is_err_and}
 use Rattle.mf_edges.specs.declared.edge.Edge.{Edge}
 use Rattle.mf_edges.specs.Sums.{HaveWeights, with_edge_in}
-use Rattle.mf_edges.proofs.AddedEdges.{found_column, inserted_sorted, inserted_weights, nothing_added}
+use Rattle.mf_edges.proofs.AddedEdges.{found_column, inserted_sorted, inserted_weights, none_there, nothing_added}
 use Rattle.mf_edges.proofs.edge.add_edge.Goals as goal
 
 -- the closure gives an edge's column, and the slice is the edges
@@ -39,3 +40,11 @@ pub returns-else-weight-ne0-clause-weights : goal.returns-else-weight-ne0-clause
 returns-else-weight-ne0-clause-weights c =
     let w : c.args.weight ≡ pos 0 = omega (arith, ints, c.if-weight-ne0.false) in
     rw w (nothing_added c.args.edges.now.items c.args.x)
+
+pub returns-in_err-insert-in-Err-clause-absent : goal.returns-in_err-insert-in-Err-clause-absent
+returns-in_err-insert-in-Err-clause-absent c =
+    let x : to_z w32 (of_z w32 c.args.x) ≡ c.args.x = omega (arith, ints) in
+    let by_column = c.in-Err.ensures.position (λ edge. edge.x) (answers_always _ _ _ (λ f a r g called. search rules)) in
+    let parted = subst (λ p. IsBinarySearchResult (λ (edge : Edge). int_cmp edge.x p) c.deref.result.now (Err c.in-Err.at)) x by_column in
+    let fault = err_from_is_err_and c.from_residual.result c.from_residual.ensures.1 in
+    rw fault.1 (none_there c.args.edges.now.items c.args.x c.in-Err.at c.requires.edges (rw c.deref.ensures.value at parted))
