@@ -8,7 +8,7 @@ use std::alloc::Global;
 mod steps;
 mod tail;
 
-/// The number that says that a file is a GF file.
+/// The number that says that a file is a GF file (gftype.web).
 const GF_ID: u8 = 131;
 
 /// Numbers of a font, which the postamble has: its design size in 1/1048576 point, its checksum, and the pixels per

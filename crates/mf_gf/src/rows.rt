@@ -11,7 +11,7 @@ use crate::spelling::Spelling;
 use crate::stretches::Stretches;
 use mf_rows::Run;
 
-/// Greatest offset of a new row.
+/// Greatest offset of a new row (gftype.web).
 const MOST_NEW_ROW: u32 = 164;
 
 /// Where the painting machine stands.

@@ -41,7 +41,8 @@ pub fn read_command(alloc: Global, line: &[u8]) -> Result<Command, TextFault>
     }
 }
 
-/// Whether each byte of the line is text.
+/// Whether each byte of the line is text. It looks at all of them, since a loop that ends early is no quicker on lines that are
+/// text, and cannot look at several at once.
 fn is_text(line: &[u8]) -> bool
     ensures { result ≡ list_all is_text_byte line.now }
 {

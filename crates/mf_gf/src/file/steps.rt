@@ -22,7 +22,7 @@ const MAX_BYTES: u32 = 2_147_483_647;
 /// Most bytes of a comment.
 const MAX_COMMENT: usize = 255;
 
-/// Opcode of the preamble.
+/// Opcode of the preamble (gftype.web).
 const PRE: u8 = 247;
 
 /// Bytes of the preamble beside the comment.

@@ -196,10 +196,10 @@ fn scales_multiply_the_total(rt: HostRuntime) -> Result<(), Fail> {
         );
         for row in -2..5 {
             for column in -2..5 {
-                // The middle of the pixel's stretch.
-                let (mid_x, mid_y) = (stretched(column, x), stretched(row, y));
+                // The first pixel of those that the pixel becomes.
+                let (first_x, first_y) = (stretched(column, x), stretched(row, y));
                 assert_eq!(rt;
-                    scaled.weight(mid_x, mid_y),
+                    scaled.weight(first_x, first_y),
                     picture.weight(column, row),
                     "({column}, {row}) scaled by {x} and {y}"
                 );

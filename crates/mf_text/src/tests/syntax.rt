@@ -79,7 +79,7 @@ fn columns(rt: HostRuntime) -> Result<(), Fail> {
     Ok(())
 }
 
-/// Columns count from 1, so this says that the form of a cut line is lawful: it has the answer of `is_whole`.
+/// Columns count from 1, so this says that the form of a cut line is lawful: it has the answer of `is_answer_of`.
 const WHOLE: u32 = 0;
 
 /// Lines of the grammar, each with the column at which it goes wrong where only its first 0, 1, 2, .. bytes are there.
