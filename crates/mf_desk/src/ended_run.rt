@@ -95,11 +95,11 @@ impl EndedRun {
     {
         let mut watcher = watcher;
         let glance = watcher.look_last(alloc, self.ended.notice())?;
+        let seen = watcher.into_record();
         let line = viewer_line(alloc, number, glance)?;
         match write_counted(writer, line.as_slice()) {
             Ok(()) => {
                 self.written += line.len() as u128;
-                let Watcher { viewer: _, seen } = watcher;
                 Ok(seen)
             }
             Err(count) => Err(RunFault::WriteFault(self.written + count as u128)),

@@ -15,7 +15,8 @@ pub enum RunFault {
     /// and behind the whole transcript the lines of the first viewers, whole.
     #[error("OutOfMemory")]
     OutOfMemory,
-    /// Refusal 15: a place or a thread could not be had for a viewer. Nothing was read or written.
+    /// Refusal 15: a place or a thread could not be had for a viewer, or the gate could not be shared with it. Nothing was
+    /// read or written.
     #[error("NoPlace")]
     NoPlace,
     /// Refusal 20: a font file of the characters that were shipped would have more bytes than it may, and the writer got

@@ -20,7 +20,7 @@ use std::thread::Threads;
 /// `viewer k revision r totalweight t` is written for each, in order. The font file is finished after that. The caller
 /// owes that the viewers are at most 64.
 ///
-/// Refusals: those of `run`; NoPlace (15), where a place or a thread could not be had, and nothing was read or written;
+/// Refusals: those of `run`; NoPlace (15), where a place or a thread could not be had or the gate not be shared, and nothing was read or written;
 /// NoLook (26), where a look was refused. A fault of the script or of its end comes first, then a look that was refused
 /// in a thread, then what the last looks, the lines and the font file meet. After each the threads are joined. A publish
 /// may wait for looks that are held, and the end of the run waits for all of them.

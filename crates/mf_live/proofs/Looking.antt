@@ -16,7 +16,7 @@ use Rattle.mf_live.specs.declared.viewer.Viewer.{Viewer}
 use Rattle.mf_live.specs.Books.{most}
 use Rattle.mf_live.specs.Entries.{Entry, is_closed, ends_last}
 use Rattle.mf_live.specs.Prefixes.{IsWholePrefix, longer}
-use Rattle.mf_live.specs.Rule.{Begins, Looked, kept_by, book_of, shown_by}
+use Rattle.mf_live.specs.Rule.{Begins, Looked, kept_by, book_of, shown_by, token_of}
 use Rattle.mf_live.specs.Viewers.{Extends, IsPublished, learnt, told}
 use Rattle.mf_live.specs.World.{World, Happen, start, accepted_of, published_of}
 use Rattle.mf_live.proofs.Beginnings.{prefix-shorter}
@@ -98,6 +98,20 @@ one_list f n both one other =
           inr (subst (IsPrefix (accepted_of (log_of f))) n.whole grows)
     ]
 
+-- what they know of the events begins one history
+one_history : (f : Front) (n : Notice) (both : List Event)
+    → IsPrefix (log_of f) both → IsPrefix (log_of n.front) both → IsPrefix (log_of n.front) (log_of f) ⊎ IsPrefix (log_of f) (log_of n.front)
+one_history f n both one other =
+    elim (cases_lt f.events n.front.events) [
+      | inr near ↦ inl (prefix-shorter (log_of n.front) (log_of f) both other one (omega (arith, f.counted, n.front.counted, near)))
+      | inl far ↦ inr (prefix-shorter (log_of f) (log_of n.front) both one other (omega (arith, f.counted, n.front.counted, far)))
+    ]
+
+pub one_history_shown : (copy x : Live) (n : Notice) (both : List Event) → copy ≡ x
+    → IsPrefix (log_of copy.version.front) both → IsPrefix (log_of n.front) both → IsPrefix (log_of n.front) (token_of x).seen.log ⊎ IsPrefix (token_of x).seen.log (log_of n.front)
+one_history_shown copy x n both same one other =
+    subst (λ (y : Live). IsPrefix (log_of n.front) (token_of y).seen.log ⊎ IsPrefix (token_of y).seen.log (log_of n.front)) same (one_history copy.version.front n both one other)
+
 -- so does what a look at that copy shows
 pub one_list_shown : (copy x : Live) (n : Notice) (both : List Event) → copy ≡ x
     → IsPrefix (log_of copy.version.front) both → IsPrefix (log_of n.front) both → IsWholePrefix (told n) (shown_by x) ⊎ IsPrefix (shown_by x) (told n)
@@ -111,9 +125,8 @@ shown-last S L whole ends closed =
     whole.whole ∙ (ap (λ (rest : List Entry). S ++ rest) none ∙ append-nil S)
 
 -- what a copy shows is what a publish of it publishes
-pub is_published : (f : Front) → IsPublished (accepted_of (log_of f))
+pub is_published : (f : Front) → IsPublished (log_of f) (accepted_of (log_of f))
 is_published f = record {
-  events = log_of f ++ Publish ∷ [];
   happen = Happen-push most start (log_of f) Publish f.lawful f.alive;
   is = ap (λ (w : World). w.published) (world_after-push start (log_of f) Publish);
 }

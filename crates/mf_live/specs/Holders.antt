@@ -6,7 +6,7 @@ use Rattle.mf_live.specs.declared.event.Event.{Event}
 use Rattle.mf_live.specs.declared.history.Token.{Token}
 use Rattle.mf_live.specs.declared.holder.Holder.{Holder}
 use Rattle.mf_live.specs.Entries.{Entry}
-use Rattle.mf_live.specs.Rule.{history, token_after}
+use Rattle.mf_live.specs.Rule.{history, shown_by, token_after}
 use Rattle.mf_live.specs.World.{accepted_of, published_of}
 
 -- which picture it is
@@ -22,6 +22,10 @@ accepted h = accepted_of (events h)
 
 abbrev pub published : Holder → List Entry
 published h = published_of (events h)
+
+-- what viewers can look at
+abbrev pub visible : Holder → List Entry
+visible h = shown_by h.swap.desk.shown.value
 
 -- how much of the history the next publish shows
 abbrev pub coming : Holder → Token

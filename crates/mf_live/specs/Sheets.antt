@@ -7,7 +7,7 @@ use Rattle.mf_live.specs.declared.sheet.SheetFault.TheVariants.{NoLook, OutOfMem
 use Rattle.mf_live.specs.declared.viewer.Viewer.{Viewer}
 use Rattle.mf_live.specs.Entries.{Entry, ends_last, pic, rev}
 use Rattle.mf_live.specs.Prefixes.{longer}
-use Rattle.mf_live.specs.Viewers.{Extends, IsPublished, SeesTheSame, learnt, looked, seen}
+use Rattle.mf_live.specs.Viewers.{Extends, IsPublished, SeesTheSame, learnt, looked, looked_events, seen}
 
 -- what a sheet has
 abbrev pub sheet_picture : Sheet → List Dot
@@ -16,13 +16,13 @@ sheet_picture s = s.picture
 abbrev pub sheet_revision : Sheet → ℕ
 sheet_revision s = s.revision
 
--- a viewer has looked, at a list that has been published, in which nothing follows the end mark
+-- a viewer has looked, at what a publish behind the events that it knows publishes, in which nothing follows the end mark
 pub record HasLooked (before after : Viewer) : Type 0 where
   pub extends : Extends before (looked after)
   pub learnt : learnt after ≡ learnt before
   pub seen : seen after ≡ looked after
   pub ends : ends_last (looked after) ≡ true
-  pub published : IsPublished (looked after)
+  pub published : IsPublished (looked_events after) (looked after)
 
 -- a sheet has what its look showed
 pub record IsTaken (before after : Viewer) (sheet : Sheet) : Type 0 where
@@ -46,7 +46,7 @@ pub record HasLookedAt (whole : List Entry) (after : Viewer) : Type 0 where
   pub seen : seen after ≡ whole
 
 -- where no sheet of the whole list was given, the viewer has learnt of it alone, or memory was wanting after it had
--- looked at it
+-- looked at it; then the list begins, whole, with all that it had seen
 abbrev pub IsLastNotTaken : Viewer → List Entry → Viewer → SheetFault → Type 0
 IsLastNotTaken before whole after NoLook = HasLearnt before whole after
-IsLastNotTaken before whole after OutOfMemory = HasLookedAt whole after
+IsLastNotTaken before whole after OutOfMemory = Extends before whole × HasLookedAt whole after

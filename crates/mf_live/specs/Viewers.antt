@@ -1,8 +1,9 @@
 -- What a clause reads of viewers, looks and notices.
-use Rattle.std.specs.Prelude.{◌≡◌, List, []}
+use Rattle.std.specs.Prelude.{◌≡◌, ◌++◌, List, [], ◌∷◌}
 use Rattle.logbook.specs.Pages.{Book}
 use Rattle.left_right.specs.Sides.{view}
 use Rattle.mf_live.specs.declared.event.Event.{Event}
+use Rattle.mf_live.specs.declared.event.Event.TheVariants.{Publish}
 use Rattle.mf_live.specs.declared.history.Token.{Token}
 use Rattle.mf_live.specs.declared.look.Look.{Look}
 use Rattle.mf_live.specs.declared.notice.Notice.{Notice}
@@ -17,17 +18,25 @@ use Rattle.mf_live.specs.World.{Happen, start, accepted_of, published_of}
 abbrev pub notice_name : Notice → Book
 notice_name n = n.front.token.seen.book
 
+-- the events of its picture that it knows
+abbrev pub notice_events : Notice → List Event
+notice_events n = n.front.token.seen.log
+
 -- the list that it tells
 abbrev pub told : Notice → List Entry
-told n = published_of n.front.token.seen.log
+told n = published_of (notice_events n)
 
 -- which picture a viewer looks at
 abbrev pub name : Viewer → Book
 name v = notice_name v.known
 
+-- the events of its picture that it knew in the last look that was answered
+abbrev pub looked_events : Viewer → List Event
+looked_events v = (kept_by v.missed (view v.reader.place)).seen.log
+
 -- the list of the last look that was answered
 abbrev pub looked : Viewer → List Entry
-looked v = accepted_of (kept_by v.missed (view v.reader.place)).seen.log
+looked v = accepted_of (looked_events v)
 
 -- the longest list that was learnt
 abbrev pub learnt : Viewer → List Entry
@@ -37,11 +46,10 @@ learnt v = told v.known
 abbrev pub seen : Viewer → List Entry
 seen v = longer (looked v) (learnt v)
 
--- L is what a writer has published, once some events have happened
-pub record IsPublished (L : List Entry) : Type 0 where
-  pub events : List Event
-  pub happen : Happen most start events
-  pub is : published_of events ≡ L
+-- L is what a publish behind these events publishes, which may all happen, in this order
+pub record IsPublished (events : List Event) (L : List Entry) : Type 0 where
+  pub happen : Happen most start (events ++ Publish ∷ [])
+  pub is : published_of (events ++ Publish ∷ []) ≡ L
 
 -- L begins, whole, with all that the viewer has looked at or learnt of
 pub record Extends (v : Viewer) (L : List Entry) : Type 0 where
@@ -61,9 +69,13 @@ look_name l = notice_name l.known
 abbrev pub look_learnt : Look → List Entry
 look_learnt l = told l.known
 
+-- the events of its picture that a look knows: those before the publish that it shows
+abbrev pub look_events : Look → List Event
+look_events l = (view l.reading.place).now.seen.log
+
 -- the list that a look shows
 abbrev pub shown : Look → List Entry
-shown l = accepted_of (view l.reading.place).now.seen.log
+shown l = accepted_of (look_events l)
 
 -- a viewer that has seen nothing, of the picture with this token
 pub record IsFresh (t : Token) (v : Viewer) : Type 0 where

@@ -23,6 +23,10 @@ accepted w = holders.accepted w.holder
 abbrev pub published : Writer → List Entry
 published w = holders.published w.holder
 
+-- what viewers can look at
+abbrev pub visible : Writer → List Entry
+visible w = holders.visible w.holder
+
 -- how many operations are accepted at most
 abbrev pub limit : Writer → ℕ
 limit w = w.max_ops
@@ -35,6 +39,9 @@ closing_accepted c = holders.accepted c.holder
 
 abbrev pub closing_published : Closing → List Entry
 closing_published c = holders.published c.holder
+
+abbrev pub closing_visible : Closing → List Entry
+closing_visible c = holders.visible c.holder
 
 abbrev pub ended_name : Ended → Book
 ended_name e = notice_name e.told

@@ -47,6 +47,8 @@ pub struct Holder {
     ghost counted: { unwritten ≡ length (view swap.desk.place).unwritten },
     ghost pictured: { working ≡ pic (accepted_of (history front.token (view swap.desk.place))) },
     ghost numbered: { revision ≡ rev (accepted_of (history front.token (view swap.desk.place))) },
+    // So the number of events stays far below 2^64: since the last publish there is one for each entry, and at that publish
+    // there were at most two for each.
     ghost since: { length (history front.token (view swap.desk.place)) + length (published_of told.front.token.seen.log) ≡ length told.front.token.seen.log + length (accepted_of (history front.token (view swap.desk.place))) },
     ghost short: { length told.front.token.seen.log ≤ 2 * length (published_of told.front.token.seen.log) },
 }

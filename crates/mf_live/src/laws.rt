@@ -1,18 +1,20 @@
 //! Laws of the live picture: each is the contract of a function that does nothing, or only calls another.
 ghost use mathlib.Core.List.{IsPrefix};
-ghost use Rattle.std.specs.Prelude.{◌≡◌, ◌⊎◌, ◌≤◌, true, ℕ, List, [], ◌∷◌, ◌++◌, IfErr, IfOk, MatchResult, OnOk};
+ghost use Rattle.std.specs.Prelude.{◌≡◌, ◌⊎◌, ◌≤◌, true, List, ◌++◌, IfErr, IfOk, MatchResult, OnOk};
 ghost use Rattle.mf_live.specs.declared.event.Event.{Event};
-ghost use Rattle.mf_live.specs.declared.event.Event.TheVariants.{Look};
-ghost use Rattle.mf_live.specs.Entries.{rev, is_closed, pic};
+ghost use Rattle.mf_live.specs.Entries.{Entry, rev, is_closed, pic};
 ghost use Rattle.mf_live.specs.Prefixes.{IsWholePrefix, HasWholePublishes};
 ghost use Rattle.mf_live.specs.Sheets.{HasLearnt, HasLookedAt, IsLastNotTaken, sheet_picture, sheet_revision};
 ghost use Rattle.mf_live.specs.Viewers as viewers;
-ghost use Rattle.mf_live.specs.World.{start, Happen, EverySchedule, accepted_of, published_of};
+ghost use Rattle.mf_live.specs.Writers as writers;
+ghost use Rattle.mf_live.specs.World.{start, Happen, EverySchedule, published_of};
 
+use crate::closing::Closing;
 use crate::look::{Look, NoLook};
 use crate::notice::Notice;
 use crate::sheet::{Sheet, SheetFault};
 use crate::viewer::Viewer;
+use crate::writer::Writer;
 use std::alloc::Global;
 
 /// For every list of events, of one writer and any number of viewers, in every order: no operation of what was
@@ -29,17 +31,30 @@ pub fn looks_never_go_back(max_ops: u32)
     ensures revision { (before between : List Event) → Happen max_ops start (before ++ between) → rev (published_of before) ≤ rev (published_of (before ++ between)) }
 {}
 
-/// Of each publish, a look shows nothing, or all that it has published.
+/// Of each publish, a list that begins what is published, whole, has nothing, or all that it has published. So has what was
+/// published earlier, and a look shows such a list.
 pub fn looks_show_whole_publishes(max_ops: u32)
-    ensures { (before after : List Event) → Happen max_ops start (before ++ after) → HasWholePublishes (published_of before) (published_of (before ++ after)) }
+    ensures whole { (shown : List Entry) (events : List Event) → IsWholePrefix shown (published_of events) → HasWholePublishes shown (published_of events) }
+    ensures earlier { (before after : List Event) → Happen max_ops start (before ++ after) → HasWholePublishes (published_of before) (published_of (before ++ after)) }
 {}
 
-/// What a look shows and what a notice of the same picture tells begin one list: the look begins, whole, with what the notice
-/// tells, or the notice tells all that the look shows. So a look shows nothing but what the writer of its picture has
-/// accepted: the notice of the end tells that.
+/// What viewers can look at is what is published, whatever the writer has done: so a refused call shows them nothing.
+pub fn published_is_visible(writer: &Writer)
+    ensures { writers.visible writer.now ≡ writers.published writer.now }
+{}
+
+/// So it is while the end mark is not published.
+pub fn published_is_visible_halfway(closing: &Closing)
+    ensures { writers.closing_visible closing.now ≡ writers.closing_published closing.now }
+{}
+
+/// What a look and a notice of the same picture know of its events begin one history, and so do the lists: the look begins,
+/// whole, with what the notice tells, or the notice tells all that the look shows. So where the picture was closed, a look
+/// shows nothing but what the writer of its picture has accepted: the notice of the end tells that.
 pub fn one_history(look: &Look, notice: &Notice)
     requires { viewers.notice_name notice.now ≡ viewers.look_name look.now }
-    ensures { IsWholePrefix (viewers.told notice.now) (viewers.shown look.now) ⊎ IsPrefix (viewers.shown look.now) (viewers.told notice.now) }
+    ensures events { IsPrefix (viewers.notice_events notice.now) (viewers.look_events look.now) ⊎ IsPrefix (viewers.look_events look.now) (viewers.notice_events notice.now) }
+    ensures lists { IsWholePrefix (viewers.told notice.now) (viewers.shown look.now) ⊎ IsPrefix (viewers.shown look.now) (viewers.told notice.now) }
 {
     let _both = look.reading.get().version.front.joins(&notice.front);
 }
@@ -61,7 +76,7 @@ pub fn last_look(viewer: Viewer, notice: Notice) -> Result<Look, (Viewer, NoLook
 
 /// The sheet of a viewer that has learnt of the end is the last picture, and the whole list begins, whole, with all
 /// that the viewer had seen. After NoLook (26) it has not looked, and has learnt of the end; after OutOfMemory (14) it
-/// has looked at the whole list.
+/// has looked at the whole list, which begins so then, too.
 pub fn last_sheet(viewer: &mut Viewer, alloc: Global, notice: Notice) -> Result<Sheet, SheetFault>
     requires name { viewers.notice_name notice ≡ viewers.name viewer.old }
     requires closed { is_closed (viewers.told notice) ≡ true }

@@ -12,8 +12,6 @@ pub struct Live {
 }
 
 impl Absorb<Version> for Live {
-    ghost use Rattle.std.specs.Prelude.{◌≡◌};
-
     type State = Token;
 
     ghost state = { λ x. x.version.front.token };

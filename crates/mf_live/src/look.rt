@@ -13,7 +13,7 @@ use left_right::reader::Reading;
 mod steps;
 
 /// Refusal 26: a look is not answered, since all was discarded at the writer's side, or since the copy that was entered is
-/// older than a notice that the viewer has learnt; a later look is answered then.
+/// older than a notice that the viewer has learnt; a later look enters a copy anew.
 #[derive(Clone, Copy, Debug, PartialEq, Eq)]
 pub struct NoLook;
 

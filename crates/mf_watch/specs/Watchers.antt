@@ -1,9 +1,11 @@
 -- What viewers have seen.
-use Rattle.std.specs.Prelude.{◌≡◌, ◌⊎◌, ◌≤◌, ◌+◌, ℕ, All, List, [], ◌∷◌, ◌++◌, length, vec_capacity}
+use Rattle.std.specs.Prelude.{◌≡◌, ◌⊎◌, ◌≤◌, ◌+◌, ℕ, All, List, Vec, [], ◌∷◌, ◌++◌, length, vec_capacity}
+use Rattle.std.specs.declared.alloc.Global.{Global}
 use Rattle.logbook.specs.Pages.{Book}
 use Rattle.mf_live.specs.Entries.{Entry, pic, rev}
 use Rattle.mf_live.specs.Prefixes.{IsWholePrefix}
 use Rattle.mf_live.specs.Viewers as viewers
+use Rattle.mf_live.specs.declared.viewer.Viewer.{Viewer}
 use Rattle.mf_rows.specs.Dots.{total_of}
 use Rattle.mf_watch.specs.declared.glance.Glance.{Glance}
 use Rattle.mf_watch.specs.declared.watcher.Watcher.{Watcher}
@@ -35,17 +37,25 @@ pub record HasSeen (whole : List Entry) (looks : ℕ) (glances : List Glance) : 
   pub earlier : List Glance
   pub last : glances ≡ earlier ++ glance_at whole ∷ []
 
+-- what it looks with
+abbrev pub viewer_of : Watcher → Viewer
+viewer_of w = w.viewer
+
+-- what it saw in each look, in order
+abbrev pub record_of : Watcher → Vec Glance Global
+record_of w = w.seen
+
 -- which picture it looks at
 abbrev pub name : Watcher → Book
-name w = viewers.name w.viewer
+name w = viewers.name (viewer_of w)
 
 -- it has the record of so many looks, of lists with which what it has seen begins
 abbrev pub IsRecord : ℕ → Watcher → Type 0
-IsRecord looks w = AreGlances (viewers.seen w.viewer) looks w.seen.items
+IsRecord looks w = AreGlances (viewers.seen (viewer_of w)) looks (record_of w).items
 
 -- there is room for the record of so many looks more
 abbrev pub HasRoom : ℕ → Watcher → Type 0
-HasRoom more w = length w.seen.items + more ≤ vec_capacity w.seen
+HasRoom more w = length (record_of w).items + more ≤ vec_capacity (record_of w)
 
 -- the last of these, if there is one, was seen of this list
 abbrev pub EndWith : List Entry → List Glance → Type 0
@@ -55,5 +65,5 @@ EndWith list glances = (glances ≡ []) ⊎ ((earlier : List Glance) × (glances
 pub record IsWatcher (picture : Book) (looks more : ℕ) (w : Watcher) : Type 0 where
   pub name_is : name w ≡ picture
   pub record_is : IsRecord looks w
-  pub last_is : EndWith (viewers.looked w.viewer) w.seen.items
+  pub last_is : EndWith (viewers.looked (viewer_of w)) (record_of w).items
   pub room : HasRoom more w

@@ -1,20 +1,22 @@
 -- What threads of viewers owe.
-use Rattle.std.specs.Prelude.{◌≡◌, ◌≤◌, ℕ, All, [], length, vec_capacity}
+use Rattle.std.specs.Prelude.{◌≡◌, ℕ, All, length}
 use Rattle.core.specs.declared.result.Result.{Result}
 use Rattle.core.specs.declared.thread.PromisedHandle.{PromisedHandle}
 use Rattle.logbook.specs.Pages.{Book}
 use Rattle.mf_live.specs.declared.look.NoLook.{NoLook}
 use Rattle.mf_watch.specs.declared.watcher.Watcher.{Watcher}
-use Rattle.mf_watch.specs.declared.watching.Looks.{Looks}
+use Rattle.mf_watch.specs.declared.watching.OwedLooks.{OwedLooks}
 use Rattle.mf_watch.specs.declared.watching.Watching.{Watching}
 use Rattle.mf_watch.specs.Watchers.{name}
 
+-- so many viewers look on
+abbrev pub viewer_count : Watching → ℕ
+viewer_count watching = length watching.threads.items
+
 -- the thread owes so many looks at this picture
-abbrev pub Owes : Book → ℕ → PromisedHandle (Result Watcher NoLook) Looks → Type 0
+abbrev pub Owes : Book → ℕ → PromisedHandle (Result Watcher NoLook) OwedLooks → Type 0
 Owes picture looks thread = (name thread.promise.watcher.value ≡ picture) × (thread.promise.looks ≡ looks)
 
--- threads that owe so many looks at this picture, and room for what they give back
-pub record AreStarted (picture : Book) (looks : ℕ) (watching : Watching) : Type 0 where
-  pub owe : All (Owes picture looks) watching.threads.items
-  pub room : length watching.threads.items ≤ vec_capacity watching.room
-  pub empty : watching.room.items ≡ []
+-- each thread owes so many looks at this picture
+abbrev pub AreStarted : Book → ℕ → Watching → Type 0
+AreStarted picture looks watching = All (Owes picture looks) watching.threads.items

@@ -5,16 +5,13 @@ ghost use Rattle.mf_watch.specs.declared.fault.StartFault.TheVariants.{OutOfMemo
 use mf_geom::OutOfMemory;
 use mf_live::NoPlace;
 use std::alloc::{AllocError, AllocFailed};
-use thiserror::Error;
 
-/// Why viewers are not started. Its message is its name.
-#[derive(Clone, Copy, Debug, PartialEq, Eq, Error)]
+/// Why viewers are not started.
+#[derive(Clone, Copy, Debug, PartialEq, Eq)]
 pub enum StartFault {
     /// Refusal 14.
-    #[error("OutOfMemory")]
     OutOfMemory,
     /// Refusal 15: a place or a thread could not be had for a viewer, or the gate not be shared with it.
-    #[error("NoPlace")]
     NoPlace,
 }
 

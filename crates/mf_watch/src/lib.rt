@@ -11,4 +11,4 @@ pub use fault::StartFault;
 pub use gate::{Gate, OpenGate};
 pub use glance::Glance;
 pub use watcher::Watcher;
-pub use watching::{Looks, Watching};
+pub use watching::Watching;

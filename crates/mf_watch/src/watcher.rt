@@ -2,9 +2,9 @@
 ghost use Rattle.std.specs.Prelude.{◌≡◌, ◌+◌, ◌<◌, ◌∷◌, ◌++◌, [], ℕ, true, IfErr, IfOk, OnErr, OnOk};
 ghost use Rattle.logbook.specs.Pages.{Book};
 ghost use Rattle.mf_live.specs.Entries.{is_closed};
-ghost use Rattle.mf_live.specs.Sheets.{IsLastNotTaken};
+ghost use Rattle.mf_live.specs.Sheets.{HasLookedAt, IsLastNotTaken};
 ghost use Rattle.mf_live.specs.Viewers as viewers;
-ghost use Rattle.mf_watch.specs.Watchers.{HasRoom, HasSeen, IsRecord, IsWatcher, glance_at, name};
+ghost use Rattle.mf_watch.specs.Watchers.{HasRoom, HasSeen, IsRecord, IsWatcher, glance_at, name, record_of, viewer_of};
 
 use crate::gate::Gate;
 use crate::glance::Glance;
@@ -17,9 +17,9 @@ use std::alloc::Global;
 #[derive(Drop)]
 pub struct Watcher {
     /// The viewer that looks.
-    pub viewer: Viewer,
+    pub(crate) viewer: Viewer,
     /// What it saw in each look, in order.
-    pub seen: Vec<Glance>,
+    pub(crate) seen: Vec<Glance>,
 }
 
 impl Watcher {
@@ -50,7 +50,7 @@ impl Watcher {
     fn look<G: Gate>(self, number: u32, look: u32, gate: &G) -> Result<Watcher, NoLook>
         requires { HasRoom 1 self }
         ensures watcher { IfOk result (λ after. (picture : Book) (looks more : ℕ) → IsWatcher picture looks (more + 1) self → IsWatcher picture (looks + 1) more after) }
-        ensures shown { IfOk result (λ after. after.seen.items ≡ self.seen.items ++ glance_at (viewers.looked after.viewer) ∷ []) }
+        ensures shown { IfOk result (λ after. (record_of after).items ≡ (record_of self).items ++ glance_at (viewers.looked (viewer_of after)) ∷ []) }
     {
         let Watcher { viewer, mut seen } = self;
         let held = match viewer.look() {
@@ -77,10 +77,11 @@ impl Watcher {
         requires closed { is_closed (viewers.told notice) ≡ true }
         ensures name { name self.new ≡ name self.old }
         ensures glance { IfOk result (λ glance. glance ≡ glance_at (viewers.told notice)) }
-        ensures seen { OnOk result ((looks : ℕ) → IsRecord looks self.old → HasSeen (viewers.told notice) looks self.new.seen.items) }
-        ensures recorded { OnOk result (self.new.seen.items ≡ self.old.seen.items ++ glance_at (viewers.told notice) ∷ []) }
-        ensures unchanged { OnErr result (self.new.seen ≡ self.old.seen) }
-        ensures missed { IfErr result (IsLastNotTaken self.old.viewer (viewers.told notice) self.new.viewer) }
+        ensures seen { OnOk result ((looks : ℕ) → IsRecord looks self.old → HasSeen (viewers.told notice) looks (record_of self.new).items) }
+        ensures recorded { OnOk result ((record_of self.new).items ≡ (record_of self.old).items ++ glance_at (viewers.told notice) ∷ []) }
+        ensures unchanged { OnErr result (record_of self.new ≡ record_of self.old) }
+        ensures looked { OnOk result (HasLookedAt (viewers.told notice) (viewer_of self.new)) }
+        ensures missed { IfErr result (IsLastNotTaken (viewer_of self.old) (viewers.told notice) (viewer_of self.new)) }
     {
         let sheet = last_sheet(&mut self.viewer, alloc, notice)?;
         let glance = Glance::of(sheet.revision(), sheet.picture());
@@ -88,5 +89,13 @@ impl Watcher {
             unreachable!()
         };
         Ok(glance)
+    }
+
+    /// Ends it, and hands out its record.
+    pub fn into_record(self) -> Vec<Glance>
+        ensures { result ≡ record_of self }
+    {
+        let Watcher { viewer: _, seen } = self;
+        seen
     }
 }

@@ -1,9 +1,8 @@
 //! Viewers in threads of their own.
-ghost use Rattle.std.specs.Prelude.{◌≡◌, ◌⊎◌, ◌+◌, ◌≤◌, ◌<◌, ℕ, [], All, IfErr, IfOk, OnOk, length, vec_capacity, vec_len};
+ghost use Rattle.std.specs.Prelude.{◌≡◌, ◌⊎◌, ◌+◌, ◌≤◌, ◌<◌, ℕ, All, IfErr, IfOk, OnOk, length, vec_capacity};
 ghost use Rattle.logbook.specs.Pages.{Book};
 ghost use Rattle.mf_live.specs.Desks.{desk_name, left};
 ghost use Rattle.mf_watch.specs.Watchers.{IsWatcher, name};
-ghost use Rattle.mf_watch.specs.Watching.{AreStarted};
 
 use crate::fault::StartFault;
 use crate::gate::Gate;
@@ -16,14 +15,14 @@ use std::thread::{Promise, PromisedHandle, Threads, spawn_with};
 
 /// What the thread of a viewer owes: so many looks.
 #[derive(Drop)]
-pub struct Looks {
+pub(crate) struct OwedLooks {
     /// The viewer as it was when the thread began.
-    pub watcher: Snapshot<Watcher>,
+    pub(crate) watcher: Snapshot<Watcher>,
     /// How often it looks.
-    pub looks: u32,
+    pub(crate) looks: u32,
 }
 
-impl Promise<Result<Watcher, NoLook>> for Looks {
+impl Promise<Result<Watcher, NoLook>> for OwedLooks {
     ghost use Rattle.std.specs.Prelude.{◌<◌, MatchResult};
     ghost use Rattle.mf_watch.specs.Watchers.{IsWatcher, name};
 
@@ -34,9 +33,11 @@ impl Promise<Result<Watcher, NoLook>> for Looks {
 #[derive(Drop)]
 pub struct Watching {
     /// The threads, by the number of their viewers.
-    pub threads: Vec<PromisedHandle<Result<Watcher, NoLook>, Looks>>,
+    pub(crate) threads: Vec<PromisedHandle<Result<Watcher, NoLook>, OwedLooks>>,
     /// Room for what they give back.
-    pub room: Vec<Watcher>,
+    pub(crate) room: Vec<Watcher>,
+    ghost empty: { length room.items ≡ 0 },
+    ghost enough: { length threads.items ≤ vec_capacity room },
 }
 
 /// So many viewers, with room for the record of so many looks and one more. Refusals NoPlace (15), where the desk has not
@@ -56,6 +57,8 @@ fn watchers(alloc: Global, desk: Desk, viewers: u32, looks: u32) -> Result<Vec<W
 }
 
 impl Watching {
+    ghost use Rattle.mf_watch.specs.Watching.{AreStarted, viewer_count};
+
     /// Starts a thread for each of so many viewers of a desk, which looks so many times. The room for what they record
     /// is got before. Refusals NoPlace (15), where a place or a thread cannot be had or the gate not shared, and
     /// OutOfMemory (14): the threads that were started are joined. The caller owes that there are at most 64 viewers.
@@ -69,7 +72,7 @@ impl Watching {
     ) -> Result<Watching, StartFault>
         requires few { viewers ≤ 64 }
         ensures started { IfOk result (AreStarted (desk_name desk) looks) }
-        ensures count { IfOk result (λ watching. length watching.threads.items ≡ viewers) }
+        ensures count { IfOk result (λ watching. viewer_count watching ≡ viewers) }
         ensures fault { IfErr result (λ fault. ((fault ≡ StartFault.NoPlace) × (0 < viewers)) ⊎ (fault ≡ StartFault.OutOfMemory)) }
     {
         let watchers = watchers(alloc, desk, viewers, looks)?;
@@ -96,11 +99,11 @@ impl Watching {
     ) -> Result<(), NoPlace>
         requires ready { IsWatcher (name watcher) 0 (looks + 1) watcher }
         requires started { AreStarted (name watcher) looks self.old }
-        requires few { length self.old.threads.items < 64 }
+        requires few { viewer_count self.old < 64 }
         requires room { length self.old.threads.items < vec_capacity self.old.threads }
         requires joined { length self.old.threads.items < vec_capacity self.old.room }
         ensures started { AreStarted (name watcher) looks self.new }
-        ensures count { OnOk result (length self.new.threads.items ≡ length self.old.threads.items + 1) }
+        ensures count { OnOk result (viewer_count self.new ≡ viewer_count self.old + 1) }
         ensures room { vec_capacity self.old.threads ≤ vec_capacity self.new.threads }
         ensures joined { vec_capacity self.new.room ≡ vec_capacity self.old.room }
     {
@@ -108,7 +111,7 @@ impl Watching {
         let Ok(gate) = Arc::try_clone(gate) else {
             return Err(NoPlace);
         };
-        let owed = Looks {
+        let owed = OwedLooks {
             watcher: Snapshot::of(&watcher),
             looks,
         };
@@ -130,14 +133,11 @@ impl Watching {
         }
     }
 
-    /// Joins all threads, and waits for their gates. Refusal NoLook (26), where a look was refused in one of them. The
-    /// caller owes empty room for what they give back.
+    /// Joins all threads, and waits for their gates. Refusal NoLook (26), where a look was refused in one of them.
     pub fn join<S: Threads>(self, rt: &S) -> Result<Vec<Watcher>, NoLook>
-        requires empty { self.room.items ≡ [] }
-        requires room { vec_len self.threads ≤ vec_capacity self.room }
         ensures watchers { IfOk result (λ watchers. (picture : Book) (looks : ℕ) → AreStarted picture looks self → All (IsWatcher picture looks 1) watchers.items) }
-        ensures count { IfOk result (λ watchers. length watchers.items ≡ length self.threads.items) }
-        ensures refused { IfErr result (λ _. 0 < length self.threads.items) }
+        ensures count { IfOk result (λ watchers. length watchers.items ≡ viewer_count self) }
+        ensures refused { IfErr result (λ _. 0 < viewer_count self) }
         ensures looked { IfErr result (λ _. (picture : Book) (looks : ℕ) → AreStarted picture looks self → 0 < looks) }
     {
         let Watching { threads, mut room } = self;

@@ -44,12 +44,13 @@ fn write_unwritten<N: Happening, R: Wait>(
     ensures book { front.new.token.seen.book ≡ front.old.token.seen.book }
     ensures log { front.new.token.seen.log ≡ front.old.token.seen.log ++ (view swap.now.desk.place).unwritten }
 {
+    // The events are picked by what is handed over: the writer's own view has them.
     let _ = swap;
     write::<N, R>(rt, head, front, count);
 }
 
 impl Holder {
-    /// Whether all that was accepted is published.
+    /// Whether all that was accepted is published: each entry since the last publish is one event more.
     fn is_published(&self) -> bool
         ensures { MatchBool result (published self.now ≡ accepted self.now) (length (published self.now) < length (accepted self.now)) }
     {

@@ -43,6 +43,7 @@ fn note_operation<N: Accepting>(swap: &mut Swap, op: &Op)
     ensures kept { (swap.new.desk.shown ≡ swap.old.desk.shown) × (swap.new.log ≡ swap.old.log) × (swap.new.behind ≡ swap.old.behind) }
     ensures view { view swap.new.desk.place ≡ with_event (view swap.old.desk.place) (Accept op.now) }
 {
+    // The operation is picked by what is handed over.
     let _ = op;
     let _none = swap.tell::<Accepts<N>>();
 }

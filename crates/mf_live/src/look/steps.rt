@@ -1,7 +1,7 @@
 //! What a look answers.
 ghost use Rattle.std.specs.Prelude.{◌≡◌};
 ghost use Rattle.mf_live.specs.Entries.{pic, rev};
-ghost use Rattle.mf_live.specs.Viewers.{name, looked, learnt, seen, look_learnt, look_name, shown};
+ghost use Rattle.mf_live.specs.Viewers.{name, looked, looked_events, learnt, seen, look_events, look_learnt, look_name, shown};
 
 use super::Look;
 use crate::viewer::Viewer;
@@ -25,6 +25,7 @@ impl Look {
     /// Ends the look. The viewer has then seen what it showed.
     pub fn leave(self) -> Viewer
         ensures name { name result ≡ look_name self }
+        ensures events { looked_events result ≡ look_events self }
         ensures looked { looked result ≡ shown self }
         ensures learnt { learnt result ≡ look_learnt self }
         ensures seen { seen result ≡ shown self }

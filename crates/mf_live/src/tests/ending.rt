@@ -7,7 +7,10 @@ use super::{RECT, apply, assert_shows, assert_tells, close, contour};
 use crate::closing::Closing;
 use crate::desk::open_picture;
 use crate::sheet::SheetFault;
+use crate::viewer::Viewer;
 use crate::writer::Writer;
+use std::alloc::Global;
+use std::process::Abort;
 use std::test::Fail;
 
 #[test]
@@ -25,17 +28,28 @@ fn shows_the_end(rt: HostRuntime) -> Result<(), Fail> {
     Ok(())
 }
 
+/// A look is refused, and so is a sheet.
+fn assert_refused(rt: &impl Abort, alloc: Global, viewer: Viewer) {
+    match viewer.look() {
+        Ok(_) => panic!(rt; "a look is answered"),
+        Err((mut viewer, _)) => {
+            let sheet = viewer.sheet(alloc);
+            assert!(rt;
+                matches!(&sheet, Err(SheetFault::NoLook)),
+                "a sheet is given"
+            );
+        }
+    }
+}
+
 #[test]
-fn looks_after_a_discard(rt: HostRuntime) -> Result<(), Fail> {
+fn looks_are_refused_after_a_discard(rt: HostRuntime) -> Result<(), Fail> {
     let alloc = rt.alloc();
     let (mut writer, mut desk) = open_picture(&rt, alloc, 1, 10)?;
     let viewer = desk.viewer().expect(&rt, "a place is left");
     apply(&rt, alloc, &mut writer, contour(&rt, alloc, RECT, 1));
     writer.discard(&rt);
-    if let Ok(look) = viewer.look() {
-        let shown = (look.revision(), look.picture().total());
-        assert!(rt; shown == (0, 0) || shown == (1, 6), "{shown:?} is shown");
-    }
+    assert_refused(&rt, alloc, viewer);
     Ok(())
 }
 
@@ -81,15 +95,6 @@ fn looks_are_refused_once_all_is_discarded(rt: HostRuntime) -> Result<(), Fail> 
     let (writer, mut desk) = open_picture(&rt, alloc, 1, 10)?;
     let viewer = desk.viewer().expect(&rt, "a place is left");
     close(&rt, writer).discard(&rt);
-    match viewer.look() {
-        Ok(_) => panic!(rt; "a look is answered"),
-        Err((mut viewer, _)) => {
-            let sheet = viewer.sheet(alloc);
-            assert!(rt;
-                matches!(&sheet, Err(SheetFault::NoLook)),
-                "a sheet is given"
-            );
-        }
-    }
+    assert_refused(&rt, alloc, viewer);
     Ok(())
 }

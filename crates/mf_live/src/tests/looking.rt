@@ -1,7 +1,10 @@
 //! What looks show, and what notices tell.
+ghost use Rattle.std.specs.Prelude.{◌≡◌};
+ghost use Rattle.mf_live.specs.Viewers as viewers;
 
 use super::{RECT, apply, assert_shows, assert_tells, close, contour, publish, publish_rectangle};
 use crate::desk::open_picture;
+use crate::viewer::Viewer;
 use mf_ops::Op;
 use std::test::Fail;
 
@@ -42,6 +45,35 @@ fn shows_what_is_published(rt: HostRuntime) -> Result<(), Fail> {
     let mut viewer = assert_shows(&rt, viewer, 1, 6);
     viewer.learn(writer.tell());
     let viewer = assert_shows(&rt, viewer, 1, 6);
+    assert_shows(&rt, viewer, 1, 6);
+    writer.discard(&rt);
+    Ok(())
+}
+
+/// A viewer whose last look was not answered, since the copy that it had entered was older than a notice.
+fn missed(viewer: Viewer) -> Viewer
+    ensures { viewers.name result ≡ viewers.name viewer }
+{
+    let Viewer {
+        reader,
+        known,
+        missed: _,
+    } = viewer;
+    Viewer {
+        reader,
+        known,
+        missed: true,
+    }
+}
+
+#[test]
+fn looks_again_after_a_look_that_was_missed(rt: HostRuntime) -> Result<(), Fail> {
+    let alloc = rt.alloc();
+    let (mut writer, mut desk) = open_picture(&rt, alloc, 1, 10)?;
+    let viewer = desk.viewer().expect(&rt, "a place is left");
+    let viewer = assert_shows(&rt, viewer, 0, 0);
+    publish_rectangle(&rt, alloc, &mut writer);
+    let viewer = assert_shows(&rt, missed(viewer), 1, 6);
     assert_shows(&rt, viewer, 1, 6);
     writer.discard(&rt);
     Ok(())

@@ -1,10 +1,10 @@
 //! What a viewer does.
-ghost use Rattle.std.specs.Prelude.{◌≡◌, List, true, length, ◌≤◌, IfOk, MatchResult};
+ghost use Rattle.std.specs.Prelude.{◌≡◌, List, true, IfOk, MatchResult};
 ghost use Rattle.left_right.specs.Sides.{view};
 ghost use Rattle.mf_live.specs.Entries.{Entry, ends_last, is_closed};
 ghost use Rattle.mf_live.specs.Prefixes.{IsWholePrefix, longer};
 ghost use Rattle.mf_live.specs.Rule.{Looked, kept_by};
-ghost use Rattle.mf_live.specs.Viewers.{name, learnt, looked, seen, Extends, IsPublished, SeesTheSame, notice_name, told, look_learnt, look_name, shown};
+ghost use Rattle.mf_live.specs.Viewers.{name, learnt, looked, seen, Extends, IsPublished, SeesTheSame, notice_name, told, look_events, look_learnt, look_name, shown};
 
 use super::Viewer;
 use crate::live::Live;
@@ -29,14 +29,14 @@ fn enter(
 
 impl Viewer {
     /// Looks at what is published. It waits for nobody and takes no memory. Refusal NoLook (26) hands the viewer
-    /// back, which has seen what it had seen. What the look shows begins, whole, with all that the viewer had
-    /// looked at or learnt of.
+    /// back, which has seen what it had seen. What the look shows is what a publish of the picture has published, and
+    /// begins, whole, with all that the viewer had looked at or learnt of.
     pub fn look(self) -> Result<Look, (Viewer, NoLook)>
         ensures name { MatchResult result (λ look. look_name look ≡ name self) (λ refused. name refused.0 ≡ name self) }
         ensures extends { MatchResult result (λ look. Extends self (shown look)) (λ refused. SeesTheSame self refused.0) }
         ensures ends { MatchResult result (λ look. ends_last (shown look) ≡ true) (λ refused. seen refused.0 ≡ seen self) }
         ensures learnt { IfOk result (λ look. look_learnt look ≡ learnt self) }
-        ensures published { IfOk result (λ look. IsPublished (shown look)) }
+        ensures published { IfOk result (λ look. IsPublished (look_events look) (shown look)) }
         ensures last { is_closed (seen self) ≡ true → IfOk result (λ look. shown look ≡ seen self) }
     {
         let Viewer {

@@ -18,6 +18,9 @@ module _ {E : Type 0} (Q : E → Type 0) (before after : Viewer) (told : List En
   looked_at : HasLooked before after → HasLookedAt told after
   looked_at look = let is = looked_last before after told includes closed look in record { looked = is; seen = look.seen ∙ is }
 
+  extends_last : (first : Viewer) → ((L : List Entry) → Extends before L → Extends first L) → HasLooked before after → Extends first told
+  extends_last first earlier look = earlier told (subst (λ L. Extends before L) (looked_last before after told includes closed look) look.extends)
+
   sheet_picture : (answer : Result Sheet E) → MatchResult answer (λ sheet. IsTaken before after sheet) Q → IfOk answer (λ sheet. sheet.picture ≡ pic told)
   sheet_picture (Ok sheet) taken = taken.picture ∙ ap pic (looked_last before after told includes closed taken.look)
   sheet_picture (Err fault) taken = tt
@@ -28,14 +31,14 @@ module _ {E : Type 0} (Q : E → Type 0) (before after : Viewer) (told : List En
 
   sheet_extends : (first : Viewer) → ((L : List Entry) → Extends before L → Extends first L) → (answer : Result Sheet E)
       → MatchResult answer (λ sheet. IsTaken before after sheet) Q → OnOk answer (Extends first told)
-  sheet_extends first earlier (Ok sheet) taken = earlier told (subst (λ L. Extends before L) (looked_last before after told includes closed taken.look) taken.look.extends)
+  sheet_extends first earlier (Ok sheet) taken = extends_last first earlier taken.look
   sheet_extends first earlier (Err fault) taken = tt
 
-  not_taken : (first : Viewer) → looked before ≡ looked first → seen before ≡ longer (seen first) told → (answer : Result Sheet SheetFault)
+  not_taken : (first : Viewer) → ((L : List Entry) → Extends before L → Extends first L) → looked before ≡ looked first → seen before ≡ longer (seen first) told → (answer : Result Sheet SheetFault)
       → MatchResult answer (λ sheet. IsTaken before after sheet) (IsNotTaken before after) → IfErr answer (IsLastNotTaken first told after)
-  not_taken first same learnt (Ok sheet) taken = tt
-  not_taken first same known (Err NoLook) is = record { looked = is.looked ∙ same; seen = ap (λ L. longer L (learnt after)) is.looked ∙ ap (longer (looked before)) is.learnt ∙ known }
-  not_taken first same learnt (Err NoMemory) look = looked_at look
+  not_taken first earlier same learnt (Ok sheet) taken = tt
+  not_taken first earlier same known (Err NoLook) is = record { looked = is.looked ∙ same; seen = ap (λ L. longer L (learnt after)) is.looked ∙ ap (longer (looked before)) is.learnt ∙ known }
+  not_taken first earlier same learnt (Err NoMemory) look = (extends_last first earlier look, looked_at look)
 
   sheet_looked : (answer : Result Sheet E) → MatchResult answer (λ sheet. IsTaken before after sheet) Q → OnOk answer (HasLookedAt told after)
   sheet_looked (Ok sheet) taken = looked_at taken.look
@@ -55,7 +58,7 @@ returns-clause-extends c =
 
 pub returns-clause-not_taken : goal.returns-clause-not_taken
 returns-clause-not_taken c =
-    not_taken (IsNotTaken c.sheet.new.self c.sheet.new.self) _ c.sheet.new.self _ (λ L extends. (c.learn.ensures.keeps L extends).1) c.requires.closed _ c.learn.ensures.looked c.learn.ensures.seen c.sheet.result c.sheet.ensures.taken
+    not_taken (IsNotTaken c.sheet.new.self c.sheet.new.self) _ c.sheet.new.self _ (λ L extends. (c.learn.ensures.keeps L extends).1) c.requires.closed _ (λ L extends. (c.learn.ensures.keeps L extends).0) c.learn.ensures.looked c.learn.ensures.seen c.sheet.result c.sheet.ensures.taken
 
 pub returns-clause-looked : goal.returns-clause-looked
 returns-clause-looked c =

@@ -4,5 +4,9 @@ use Rattle.mf_live.proofs.WholePublishes.{whole_publishes}
 use Rattle.mf_live.proofs.Worlds.{published-grows}
 use Rattle.mf_live.proofs.laws.looks_show_whole_publishes.Goals as goal
 
-pub returns : goal.returns
-returns c = λ before after happen. whole_publishes (published_of before) (before ++ after) (published-grows c.args.max_ops before after happen)
+pub returns-clause-whole : goal.returns-clause-whole
+returns-clause-whole c = whole_publishes
+
+pub returns-clause-earlier : goal.returns-clause-earlier
+returns-clause-earlier c before after happen =
+    whole_publishes (published_of before) (before ++ after) (published-grows c.args.max_ops before after happen)

@@ -32,7 +32,7 @@ returns-clause-ends c =
 
 pub returns-clause-published : goal.returns-clause-published
 returns-clause-published c =
-    subst (λ (v : View). IsPublished (accepted_of v.now.seen.log)) (sym c.in-Ok.ensures.now) (is_published c.in-Ok.reading.part.value.version.front)
+    subst (λ (v : View). IsPublished v.now.seen.log (accepted_of v.now.seen.log)) (sym c.in-Ok.ensures.now) (is_published c.in-Ok.reading.part.value.version.front)
 
 pub returns-clause-last : goal.returns-clause-last
 returns-clause-last c = λ closed. let extends = returns-clause-extends c in shown-last _ _ extends.seen (returns-clause-ends c) closed

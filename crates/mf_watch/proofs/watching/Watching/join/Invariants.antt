@@ -2,7 +2,7 @@ use Rattle.std.proofs.Common.{◌≡◌, ◌+◌, ◌<◌, ◌≤◌, ℕ, All, 
 use Rattle.std.specs.Vec.Iter.{into_iter_items}
 use Rattle.logbook.specs.Pages.{Book}
 use Rattle.mf_watch.specs.Watchers.{IsWatcher}
-use Rattle.mf_watch.specs.Watching.{AreStarted, Owes}
+use Rattle.mf_watch.specs.Watching.{AreStarted, Owes, viewer_count}
 use Rattle.mf_watch.proofs.watching.Watching.join.Given as goal
 
 abbrev pub invariant-loop-thread : goal.invariant-loop-thread
@@ -10,7 +10,7 @@ invariant-loop-thread g l =
     let rest = into_iter_items l.thread-iterator in
     ((picture : Book) (looks : ℕ) → AreStarted picture looks l.fn.self → All (IsWatcher picture looks 1) l.room.items × All (Owes picture looks) rest)
     × (length l.room.items + length rest ≤ vec_capacity l.room)
-    × (l.missed ≡ false → length l.room.items + length rest ≡ length l.fn.self.room.items + length l.fn.self.threads.items)
-    × (length rest ≤ length l.fn.self.threads.items)
-    × (l.missed ≡ true → 0 < length l.fn.self.threads.items)
+    × (l.missed ≡ false → length l.room.items + length rest ≡ viewer_count l.fn.self)
+    × (length rest ≤ viewer_count l.fn.self)
+    × (l.missed ≡ true → 0 < viewer_count l.fn.self)
     × (l.missed ≡ true → (picture : Book) (looks : ℕ) → AreStarted picture looks l.fn.self → 0 < looks)
