@@ -3,3 +3,4 @@ pub mod Performing
 mod Shipping
 mod SomeAnswer
 mod Standing
+mod WithoutContour

@@ -1,5 +1,5 @@
 -- Each line has an answer, and so each script has a transcript.
-use Rattle.std.proofs.Common.{◌≡◌, ◌⊎◌, inl, inr, ℕ, ◌==◌, ◌<◌, List, [], ◌∷◌, ◌++◌, Option, None, Some, codes, length, refl, eqb-true, eq-eqb, arith}
+use Rattle.std.proofs.Common.{◌⊎◌, inl, inr, ℕ, ◌==◌, List, [], ◌∷◌, ◌++◌, Option, None, Some, codes, length, refl, eqb-true, eq-eqb, arith}
 use Rattle.std.specs.List.{list_any}
 use Rattle.std.specs.Prelude.{decimal}
 use Rattle.std.specs.Str.Lines.{lines}

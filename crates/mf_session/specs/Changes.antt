@@ -1,5 +1,5 @@
 -- What commands do with pictures: what they print, and the pictures after them.
-use Rattle.std.specs.Prelude.{◌≡◌, ◌==◌, ℕ, List, [], ◌∷◌, ◌++◌, Option, None, Some, option_map, codes, decimal, slice_index_or, slice_set, if◌then◌else◌}
+use Rattle.std.specs.Prelude.{◌≡◌, ◌<◌, ◌==◌, ℕ, List, [], ◌∷◌, ◌++◌, Option, None, Some, option_map, codes, decimal, slice_index_or, slice_set, if◌then◌else◌}
 use Rattle.mf_live.specs.Entries.{entry, pic, rev, next, Operation}
 use Rattle.mf_live.specs.declared.fault.Fault.{Fault}
 use Rattle.mf_live.specs.declared.fault.Fault.TheVariants.{TooManyOperations, Refused}
@@ -15,6 +15,11 @@ use Rattle.mf_session.specs.declared.refusal.Refusal.TheVariants.{Operation as R
 abbrev pub refusal_of : ℕ → Pictures → Name → Op → Option Fault
 refusal_of max_ops s Current op = if rev s.accepted == max_ops then Some TooManyOperations else option_map Refused (fault_of (pic s.accepted) op)
 refusal_of max_ops s (Register letter) op = option_map Refused (fault_of (slice_index_or s.registers letter []) op)
+
+-- a clear of a picture is accepted: of a register always, and of `currentpicture` while it accepts operations
+abbrev pub IsClearable : ℕ → Pictures → Name → Type 0
+IsClearable max_ops s Current = rev s.accepted < max_ops
+IsClearable max_ops s (Register letter) = Unit {0}
 
 -- the pictures after an operation on one
 abbrev pub operated : Pictures → Name → Op → Pictures

@@ -1,6 +1,7 @@
 //! The registers `a` to `z`, each of which keeps a picture.
-ghost use Rattle.std.specs.Prelude.{◌≡◌, ◌≢◌, ◌<◌, [], None, Some, Err, IfOk, IfErr, OnOk, OnErr, replicate, slice_index_or, slice_set};
+ghost use Rattle.std.specs.Prelude.{◌≡◌, ◌≢◌, ◌<◌, [], None, Some, Err, IfOk, IfErr, IsOk, OnOk, OnErr, replicate, slice_index_or, slice_set};
 ghost use Rattle.mf_ops.specs.Step.{stepped, fault_of};
+ghost use Rattle.mf_ops.specs.declared.op.Op.TheVariants as ops;
 
 use mf_geom::OutOfMemory;
 use mf_ops::{Op, OpFault, apply};
@@ -57,6 +58,7 @@ impl Registers {
         ensures accepted { OnOk result (fault_of (slice_index_or self.old letter []) op.now ≡ None) }
         ensures refused { IfErr result (λ fault. fault ≢ OpFault.OutOfMemory → fault_of (slice_index_or self.old letter []) op.now ≡ Some fault) }
         ensures out_of_field { fault_of (slice_index_or self.old letter []) op.now ≡ Some OpFault.OutOfField → result ≡ Err OpFault.OutOfField }
+        ensures clears { op.now ≡ ops.Clear → IsOk result }
     {
         apply(alloc, &mut self.pictures[letter as usize], op)
     }

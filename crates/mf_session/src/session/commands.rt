@@ -2,9 +2,11 @@
 ghost use Rattle.std.specs.Prelude.{◌≡◌, IfOk, IsOk, OnErr};
 ghost use Rattle.mf_text.specs.Registers.{HasNames, IsSource};
 ghost use Rattle.mf_session.specs.Answers.{ProofAnswers, total_line};
+ghost use Rattle.mf_session.specs.Changes.{IsClearable};
 ghost use Rattle.mf_session.specs.Sessions.{IsAnsweredTo, StandsFor, limits, name};
 ghost use Rattle.mf_session.specs.States.{State};
 ghost use Rattle.mf_text.specs.declared.command.Command.TheVariants as commands;
+ghost use Rattle.mf_text.specs.declared.command.Name.{Name};
 
 use super::Session;
 use crate::refusal::{Refusal, refused};
@@ -27,6 +29,7 @@ impl Session {
         requires { HasNames command }
         ensures answer { IfOk result (λ text. (s : State) → StandsFor self.old s → IsAnsweredTo self.old s command text.items self.new) }
         ensures nothing { command ≡ commands.Nothing → IsOk result }
+        ensures clears { (s : State) (name : Name) → StandsFor self.old s → command ≡ commands.Clear name → IsClearable (limits self.old).max_ops s.pictures name → IsOk result }
         ensures unchanged { OnErr result ((s : State) → StandsFor self.old s → StandsFor self.new s) }
         ensures limits { limits self.new ≡ limits self.old }
         ensures name { name self.new ≡ name self.old }

@@ -1,7 +1,10 @@
 //! What a session does.
-ghost use Rattle.std.specs.Prelude.{◌≡◌, ◌⊎◌, ◌<◌, ◌≤◌, ◌↔◌, [], Err, IfErr, IfOk, OnErr};
+ghost use Rattle.std.specs.Prelude.{◌≡◌, ◌⊎◌, ◌<◌, ◌≤◌, ◌↔◌, [], Err, IfErr, IfOk, IsOk, OnErr};
 ghost use Rattle.mf_live.specs.Desks.{desk_name, left};
+ghost use Rattle.mf_text.specs.Lines.{Gives};
 ghost use Rattle.mf_text.specs.Registers.{IsName};
+ghost use Rattle.mf_text.specs.declared.command.Command.TheVariants as commands;
+ghost use Rattle.mf_session.specs.Changes.{IsClearable};
 ghost use Rattle.mf_session.specs.Endings.{HasEnded, IsHandedBack};
 ghost use Rattle.mf_session.specs.Pictures.{picture};
 ghost use Rattle.mf_session.specs.Sessions.{IsAnswered, StandsFor, limits, name};
@@ -55,7 +58,8 @@ impl Session {
 
     /// Performs a line of a script, which is given without its end, and answers what it prints. A line that is refused
     /// prints its refusal and changes nothing. `publish` may wait for looks that are held. Refusal OutOfMemory (14):
-    /// nothing has changed, and the line may be tried again.
+    /// nothing has changed, and the line may be tried again. It never comes of a line with no command, nor of a clear
+    /// that is accepted: these take no memory.
     pub fn command<R: Wait>(
         &mut self,
         rt: &R,
@@ -63,6 +67,8 @@ impl Session {
         line: &[u8],
     ) -> Result<Vec<u8>, OutOfMemory>
         ensures answer { IfOk result (λ text. (s : State) → StandsFor self.old s → IsAnswered self.old s line.now text.items self.new) }
+        ensures nothing { Gives line.now commands.Nothing → IsOk result }
+        ensures clears { (s : State) (name : Name) → StandsFor self.old s → Gives line.now (commands.Clear name) → IsClearable (limits self.old).max_ops s.pictures name → IsOk result }
         ensures unchanged { OnErr result ((s : State) → StandsFor self.old s → StandsFor self.new s) }
         ensures limits { limits self.new ≡ limits self.old }
         ensures name { name self.new ≡ name self.old }

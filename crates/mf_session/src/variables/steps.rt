@@ -1,11 +1,11 @@
 //! What is done with the picture variables of a script.
-ghost use Rattle.std.specs.Prelude.{◌≡◌, ◌≢◌, ◌<◌, ◌≤◌, IfOk, OnErr};
+ghost use Rattle.std.specs.Prelude.{◌≡◌, ◌≢◌, ◌<◌, ◌≤◌, IfOk, IsOk, OnErr};
 ghost use Rattle.mf_live.specs.Desks.{desk_name, left};
 ghost use Rattle.mf_live.specs.declared.fault.Fault.TheVariants as faults;
 ghost use Rattle.mf_ops.specs.declared.op.Op.TheVariants as ops;
 ghost use Rattle.mf_text.specs.Registers.{IsName, IsSource};
 ghost use Rattle.mf_text.specs.declared.command.Name.TheVariants as names;
-ghost use Rattle.mf_session.specs.Changes.{OperatesOn, PublishesAll};
+ghost use Rattle.mf_session.specs.Changes.{IsClearable, OperatesOn, PublishesAll};
 ghost use Rattle.mf_session.specs.Pictures.{blank_pictures, picture, source_picture};
 ghost use Rattle.mf_session.specs.Refusals.{refused_line};
 ghost use Rattle.mf_session.specs.Variables.{max_ops, name, pictures};
@@ -92,6 +92,7 @@ impl Variables {
         requires { IsName name }
         ensures answer { IfOk result (λ text. OperatesOn (max_ops self.old) (pictures self.old) name op text.items (pictures self.new)) }
         ensures unchanged { OnErr result (pictures self.new ≡ pictures self.old) }
+        ensures clears { op ≡ ops.Clear → IsClearable (max_ops self.old) (pictures self.old) name → IsOk result }
         ensures max_ops { max_ops self.new ≡ max_ops self.old }
         ensures same_name { Rattle.mf_session.specs.Variables.name self.new ≡ Rattle.mf_session.specs.Variables.name self.old }
     {
@@ -105,6 +106,7 @@ impl Variables {
     fn operate_on_current(&mut self, alloc: Global, op: Op) -> Result<Vec<u8>, OutOfMemory>
         ensures answer { IfOk result (λ text. OperatesOn (max_ops self.old) (pictures self.old) names.Current op text.items (pictures self.new)) }
         ensures unchanged { OnErr result (pictures self.new ≡ pictures self.old) }
+        ensures clears { op ≡ ops.Clear → IsClearable (max_ops self.old) (pictures self.old) names.Current → IsOk result }
         ensures max_ops { max_ops self.new ≡ max_ops self.old }
         ensures name { name self.new ≡ name self.old }
     {
@@ -124,6 +126,7 @@ impl Variables {
         requires { letter < 26 }
         ensures answer { IfOk result (λ text. OperatesOn (max_ops self.old) (pictures self.old) (names.Register letter) op text.items (pictures self.new)) }
         ensures unchanged { OnErr result (pictures self.new ≡ pictures self.old) }
+        ensures clears { op ≡ ops.Clear → IsOk result }
         ensures max_ops { max_ops self.new ≡ max_ops self.old }
         ensures name { name self.new ≡ name self.old }
     {

@@ -1,0 +1,47 @@
+-- Lines that give a command with no contour: they have no refusal, and memory is not wanting for them.
+use Rattle.std.proofs.Common.{ℕ, List, sym, ◌∙◌, subst}
+use Rattle.mf_text.specs.declared.command.Command.{Command}
+use Rattle.mf_text.specs.declared.command.Command.TheVariants as command
+use Rattle.mf_text.specs.declared.fault.TextFault.{TextFault}
+use Rattle.mf_text.specs.declared.fault.TextFault.TheVariants as faults
+use Rattle.mf_text.specs.Grammar.{Form, Nothing, AddContour, AddPicture, CullKeeping, CullDropping, Clear, Move, ShowTotal, ShowPicture, ShowProof, ShipOut, PublishAll, Line}
+use Rattle.mf_text.specs.Lines.{Gives, IsRefused, MayWantMemory, TakesMemory}
+use Rattle.mf_text.specs.Meaning.{IsCommandOf}
+use Rattle.mf_text.proofs.LinesReadBack.{same_line}
+use Rattle.mf_text.proofs.OneAnswer.{given_or_refused}
+
+-- a command has no contour
+abbrev pub HasNoContour : Command → Type 0
+HasNoContour (command.Contour name cycle weight) = ⊥
+HasNoContour given = Unit {0}
+
+form_takes_none : (form : Form) (given : Command) → HasNoContour given → IsCommandOf form given → TakesMemory form → ⊥
+form_takes_none (AddContour name path weight) given none is memory = subst HasNoContour is.is none
+form_takes_none Nothing given none is memory = memory
+form_takes_none (AddPicture name sign source) given none is memory = memory
+form_takes_none (CullKeeping name range weight) given none is memory = memory
+form_takes_none (CullDropping name range weight) given none is memory = memory
+form_takes_none (Clear name) given none is memory = memory
+form_takes_none (Move name transform) given none is memory = memory
+form_takes_none (ShowTotal source) given none is memory = memory
+form_takes_none (ShowPicture source) given none is memory = memory
+form_takes_none (ShowProof source) given none is memory = memory
+form_takes_none (ShipOut source code dx width) given none is memory = memory
+form_takes_none PublishAll given none is memory = memory
+
+wants_no_memory : (line : List ℕ) (given : Command) → HasNoContour given → Gives line given → MayWantMemory line → ⊥
+wants_no_memory line given none p q =
+    form_takes_none q.line.form given none
+    (subst (λ (l : Line). IsCommandOf l.form given) (same_line p.line q.line (sym p.line_is.spelled ∙ q.line_is.spelled)) p.command_is) q.memory
+
+-- a line that gives such a command is refused for nothing, nor for want of memory
+pub is_not_refused : (line : List ℕ) (given : Command) (fault : TextFault) → HasNoContour given → Gives line given → IsRefused line fault → ⊥
+is_not_refused line given faults.OutOfMemory none p q = wants_no_memory line given none p q
+is_not_refused line given (faults.Cycle why) none p q = given_or_refused line given (faults.Cycle why) (λ is. cc) p q
+is_not_refused line given faults.BadWeight none p q = given_or_refused line given faults.BadWeight (λ is. cc) p q
+is_not_refused line given faults.BadCull none p q = given_or_refused line given faults.BadCull (λ is. cc) p q
+is_not_refused line given faults.BadScale none p q = given_or_refused line given faults.BadScale (λ is. cc) p q
+is_not_refused line given faults.BadTurn none p q = given_or_refused line given faults.BadTurn (λ is. cc) p q
+is_not_refused line given faults.LineTooLong none p q = given_or_refused line given faults.LineTooLong (λ is. cc) p q
+is_not_refused line given faults.NotAscii none p q = given_or_refused line given faults.NotAscii (λ is. cc) p q
+is_not_refused line given (faults.Syntax column) none p q = given_or_refused line given (faults.Syntax column) (λ is. cc) p q
