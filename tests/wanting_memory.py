@@ -76,6 +76,8 @@ OTHERS = {"aligned_alloc", "brk", "calloc", "memalign", "mmap", "posix_memalign"
 # Tests that make a call again which was refused.
 AGAIN = [("mf_live", "tests::again::calls_are_made_again")]
 AGAIN += [("mf_cases", f"tests::again::{name}") for name in ("perform_lines", "end_a_script")]
+PICTURES = ("fill_a_rectangle", "add_to_a_picture", "change_a_picture", "turn_a_picture")
+AGAIN += [("mf_cases", f"tests::again::pictures::{name}") for name in PICTURES]
 FOREVER = 1 << 40
 OLD = b"what was there"
 

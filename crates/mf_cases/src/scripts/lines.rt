@@ -45,6 +45,10 @@ const SCRIPTS: &[Script] = &[
     ("a := b shifted (1,0)\n", "refused Syntax 6\n"),
     ("a := b\n", "refused Syntax 6\n"),
     ("nullpicture := a\n", "refused Syntax 1\n"),
+    (
+        "A := nullpicture\nshow A\n",
+        "refused Syntax 1\nrefused Syntax 6\n",
+    ),
     // Marks.
     ("a : = nullpicture\n", "refused Syntax 3\n"),
     ("a ::= nullpicture\n", "refused Syntax 3\n"),

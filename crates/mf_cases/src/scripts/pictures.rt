@@ -83,6 +83,30 @@ const SCRIPTS: &[Script] = &[
          0 0 0 2\n\
          0 0 0 1\n",
     ),
+    // The blank picture is added, subtracted and shipped. Its sums are operations, too.
+    (
+        "addto a contour (0,0)--(3,0)--(3,2)--(0,2)--cycle\n\
+         show totalweight nullpicture\n\
+         addto a also nullpicture\n\
+         show a\n\
+         addto a also -nullpicture\n\
+         show a\n\
+         addto currentpicture also nullpicture\n\
+         addto currentpicture also -nullpicture\n\
+         show currentpicture\n\
+         publish\n\
+         shipout nullpicture code 3 dx 0 width 0\n\
+         show nullpicture\n",
+        "totalweight 0\n\
+         1 0 2 1\n\
+         0 0 2 1\n\
+         1 0 2 1\n\
+         0 0 2 1\n\
+         blank\n\
+         published 2\n\
+         [3]\n\
+         blank\n",
+    ),
     // Culls, and weights as characters.
     (
         "addto a contour (0,0)--(3,0)--(3,1)--(0,1)--cycle\n\

@@ -1,6 +1,8 @@
 //! Calls of sessions that were refused for want of memory, and are made again. Here memory is ample;
 //! `tests/wanting_memory.py` refuses each growth of these tests in turn.
 
+mod pictures;
+
 use super::AMPLE;
 use super::fonts::{RECT, RECT_FILE};
 use crate::scripts::worked_scripts;

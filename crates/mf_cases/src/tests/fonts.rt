@@ -134,20 +134,46 @@ fn ship_the_whole_field_as_it_is(rt: HostRuntime) {
     assert_eq!(rt; &bytes[32_826..], back);
 }
 
-/// Negative weights are not black, and a code is shipped once.
+/// Negative weights are not black, and a code is shipped once. A character with no black pixel has a box of zeros.
 #[test]
 fn ship_black_pixels(rt: HostRuntime) {
-    let outcome = outcome_of(
+    assert_ships(
         &rt,
         &AMPLE,
         "addto a contour (0,0)--(1,0)--(1,1)--(0,1)--cycle withweight -1\n\
          shipout a code 7 dx 0 width 0\n\
          shipout a code 7 dx 0 width 0\n",
         "[7]\nrefused CodeShipped\n",
+        b"\xf7\x83\x00\
+          \x44\x07\x00\x00\x00\x00\x45\
+          \xf8\x00\x00\x00\x0a\
+          \x00\x00\x00\x00\x00\x00\x00\x00\x00\x00\x00\x00\x00\x00\x00\x00\
+          \x00\x00\x00\x00\x00\x00\x00\x00\x00\x00\x00\x00\x00\x00\x00\x00\
+          \xf6\x07\x00\x00\x00\x00\x00\x00\x00\x00\x03\
+          \xf9\x00\x00\x00\x0a\x83\xdf\xdf\xdf\xdf",
     );
-    let gf = outcome.gf.expect(&rt, "a character was shipped");
-    let front = b"\xf7\x83\x00\x44\x07\x00\x00\x00\x00\x45\xf8".as_slice();
-    assert!(rt; gf.bytes().starts_with(front));
+}
+
+/// The box of the font goes round the pixel, and round the zeros of the character with no black pixel.
+#[test]
+fn ship_nothing_beside_a_pixel(rt: HostRuntime) {
+    assert_ships(
+        &rt,
+        &AMPLE,
+        "addto a contour (10,10)--(11,10)--(11,11)--(10,11)--cycle\n\
+         shipout a code 1 dx 0 width 0\n\
+         shipout nullpicture code 2 dx 0 width 0\n",
+        "[1]\n[2]\n",
+        b"\xf7\x83\x00\
+          \x44\x01\x01\x0b\x00\x0a\x00\x01\x45\
+          \x44\x02\x00\x00\x00\x00\x45\
+          \xf8\x00\x00\x00\x13\
+          \x00\x00\x00\x00\x00\x00\x00\x00\x00\x00\x00\x00\x00\x00\x00\x00\
+          \x00\x00\x00\x00\x00\x00\x00\x0b\x00\x00\x00\x00\x00\x00\x00\x0a\
+          \xf6\x01\x00\x00\x00\x00\x00\x00\x00\x00\x03\
+          \xf6\x02\x00\x00\x00\x00\x00\x00\x00\x00\x0c\
+          \xf9\x00\x00\x00\x13\x83\xdf\xdf\xdf\xdf",
+    );
 }
 
 #[test]

@@ -59,6 +59,30 @@ fn refused_operations(rt: HostRuntime) {
     );
 }
 
+/// A contour is looked at when its line is read, so it is refused for what is wrong with it.
+#[test]
+fn refused_contours(rt: HostRuntime) {
+    assert_prints_within(
+        &rt,
+        1,
+        "addto currentpicture contour (0,0)--(1,0)--(1,1)--(0,1)--cycle\n\
+         addto currentpicture contour (0,0)--(1,0)--cycle\n\
+         addto currentpicture contour (0,0)--(1,0)--(1,2)--(2,2)--(2,1)--(0,1)--cycle\n\
+         addto currentpicture contour (0,0)--(4096,0)--(4096,1)--(0,1)--cycle\n\
+         addto currentpicture contour (0,0)--(1,0)--(1,1)--(0,1)--cycle withweight 4\n\
+         addto currentpicture contour (0,0)--(1,0)--(1,1)--(0,1)--cycle\n\
+         show currentpicture\n\
+         publish\n",
+        "refused Backtracks 0\n\
+         refused TurningZero\n\
+         refused PointOutOfRange 1\n\
+         refused BadWeight\n\
+         refused TooManyOperations\n\
+         0 0 0 1\n\
+         published 1\n",
+    );
+}
+
 /// A register accepts any number of operations.
 #[test]
 fn registers_have_no_limit(rt: HostRuntime) {

@@ -1,32 +1,15 @@
 //! Sessions that end: their notices, font files and last pictures.
 ghost use Rattle.std.specs.Prelude.{◌≡◌};
-ghost use Rattle.mf_session.specs.Sessions.{StandsFor, name};
-ghost use Rattle.mf_session.specs.States.{State};
 ghost use Rattle.mf_live.specs.Viewers as viewers;
-ghost use Rattle.mf_live.specs.Writers.{ended_name};
 
 use super::AMPLE;
 use super::fonts::{RECT, RECT_FILE};
-use super::sessions::{opened, perform};
+use super::sessions::{finish, opened, perform};
 use mf_gf::{GfFault, GfFile};
 use mf_live::{Ended, Viewer};
-use mf_session::Session;
 use std::alloc::Global;
 use std::process::Abort;
 use std::sync::Wait;
-
-/// Ends the script of a session.
-fn finish<R: Abort + Wait>(rt: &R, session: Session) -> (Ended, GfFile)
-    ensures { (s : State) → StandsFor session s → ended_name result.0 ≡ name session }
-{
-    match session.finish(rt) {
-        Ok(ended) => ended,
-        Err(fault) => {
-            fault.discard(rt);
-            panic!(rt; "no room to end the script")
-        }
-    }
-}
 
 /// A session ends that has performed these lines.
 fn finished<R: Abort + Wait>(rt: &R, alloc: Global, script: &str) -> (Ended, GfFile) {

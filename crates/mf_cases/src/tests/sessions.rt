@@ -3,10 +3,12 @@ ghost use Rattle.std.specs.Prelude.{◌≡◌};
 ghost use Rattle.mf_session.specs.Sessions.{StandsFor, name};
 ghost use Rattle.mf_session.specs.States.{State, start};
 ghost use Rattle.mf_live.specs.Desks.{desk_name};
+ghost use Rattle.mf_live.specs.Writers.{ended_name};
 
 use super::AMPLE;
 use crate::scripts::worked_scripts;
-use mf_live::Desk;
+use mf_gf::GfFile;
+use mf_live::{Desk, Ended};
 use mf_session::Session;
 use mf_text::Name;
 use std::alloc::Global;
@@ -37,21 +39,50 @@ pub(crate) fn perform<R: Abort + Wait>(
         .expect(rt, "there is room for the line")
 }
 
-/// The lines of a script print its transcript, one after another.
+/// Ends the script of a session.
+pub(crate) fn finish<R: Abort + Wait>(rt: &R, session: Session) -> (Ended, GfFile)
+    ensures { (s : State) → StandsFor session s → ended_name result.0 ≡ name session }
+{
+    match session.finish(rt) {
+        Ok(ended) => ended,
+        Err(fault) => {
+            fault.discard(rt);
+            panic!(rt; "no room to end the script")
+        }
+    }
+}
+
+/// Whether a line that prints this is an operation on `currentpicture` which is accepted: it changes that picture, and prints
+/// no refusal.
+fn is_operation(line: &str, text: &[u8]) -> bool {
+    let changes = line.starts_with("addto currentpicture ")
+        || line.starts_with("cull currentpicture ")
+        || line.starts_with("currentpicture := ");
+    changes && text.is_empty()
+}
+
+/// The lines of a script print its transcript, one after another. Its end tells of the operations that were accepted.
 #[test]
 fn perform_scripts(rt: HostRuntime) -> Result<(), Fail> {
     let alloc = rt.alloc();
     for (script, transcript) in worked_scripts().iter().copied().flatten() {
         let (mut session, _) = opened(&rt, alloc, AMPLE.max_ops);
         let mut printed = Vec::new(alloc);
+        let mut operations: u32 = 0;
         for line in script.lines() {
             let text = perform(&rt, alloc, &mut session, line);
+            if is_operation(line, &text) {
+                operations = operations.saturating_add(1);
+            }
             printed
                 .extend_from_slice(&text)
                 .expect(&rt, "there is room for the text");
         }
-        session.discard(&rt);
+        let (mut ended, _) = finish(&rt, session);
+        let revision = ended.notice().revision();
+        ended.discard(&rt);
         assert_eq!(rt; printed.as_slice(), transcript.as_bytes(), "{script}");
+        assert_eq!(rt; revision, operations, "{script}");
     }
     Ok(())
 }

@@ -1,6 +1,7 @@
 //! Tests of the program: the scripts, each status, and the message that goes with it.
 
 mod font_files;
+mod long_files;
 
 use super::{BAD_WORDS, DONE, STREAM_FAULT, WANTING, program, report};
 use crate::fault::ProgramFault;

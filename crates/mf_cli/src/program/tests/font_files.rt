@@ -25,29 +25,32 @@ const PIXEL_FILE: &[u8] = b"\xf7\x83\x00\
     \xf6\x41\x00\x00\x00\x00\x00\x00\x00\x00\x03\
     \xf9\x00\x00\x00\x0c\x83\xdf\xdf\xdf\xdf\xdf\xdf";
 
+/// What stands in a file before a script that does not touch it.
+pub(crate) const KEPT: &[u8] = b"what was there";
+
 /// The path of a file of this test's own.
-fn path_of(rt: &HostRuntime, name: &str) -> Result<PathBuf, Fail> {
+pub(crate) fn path_of(rt: &HostRuntime, name: &str) -> Result<PathBuf, Fail> {
     let alloc = rt.alloc();
     let own = format!(in alloc; "mfpic_{}_{name}.gf", process::id(rt.process()))?;
     Ok(env::temp_dir(rt)?.join(alloc, own.as_str())?)
 }
 
-/// The words ask for this file, and the program ends with this status, this transcript and this message.
-fn assert_ends<R: Abort + Wait + Threads + Files + AllocGlobal>(
+/// With these words the program ends with this status, and writes this and this message.
+pub(crate) fn assert_ends<R: Abort + Wait + Threads + Files + AllocGlobal>(
     rt: &R,
-    path: &str,
+    words: &[&str],
     reader: &mut Pieces<'_>,
     expected: (u8, &[u8], &[u8]),
 ) -> Result<(), Fail> {
     let alloc = rt.alloc();
-    let (status, transcript, message) = expected;
+    let (status, written, message) = expected;
     let mut writer = Sink::new(alloc);
     let mut errors = Sink::new(alloc);
-    let words = words_of(alloc, &["mfpic", "--gf", path])?;
-    let ended = program(rt, alloc, words, reader, &mut writer, &mut errors);
-    assert_eq!(rt; ended, status, "{path}");
-    assert_eq!(rt; writer.taken(), transcript, "{path}");
-    assert_eq!(rt; errors.taken(), message, "{path}");
+    let given = words_of(alloc, words)?;
+    let ended = program(rt, alloc, given, reader, &mut writer, &mut errors);
+    assert_eq!(rt; ended, status, "{words:?}");
+    assert_eq!(rt; writer.taken(), written, "{words:?}");
+    assert_eq!(rt; errors.taken(), message, "{words:?}");
     Ok(())
 }
 
@@ -57,7 +60,8 @@ fn writes_the_font_file(rt: HostRuntime) -> Result<(), Fail> {
     let path = path_of(&rt, "pixel")?;
     for _ in 0..2 {
         let end: (u8, &[u8], &[u8]) = (DONE, PIXEL_TEXT, b"");
-        assert_ends(&rt, path.as_str(), &mut Pieces::whole(PIXEL), end)?;
+        let words = ["mfpic", "--gf", path.as_str()];
+        assert_ends(&rt, &words, &mut Pieces::whole(PIXEL), end)?;
         assert_eq!(rt; fs::read(&rt, path.as_path())?.as_slice(), PIXEL_FILE);
         fs::write(&rt, path.as_path(), [b'x'; 200].as_slice())?;
     }
@@ -68,24 +72,11 @@ fn writes_the_font_file(rt: HostRuntime) -> Result<(), Fail> {
 /// The file holds what was shipped, whoever looks on.
 #[test]
 fn writes_the_font_file_beside_viewers(rt: HostRuntime) -> Result<(), Fail> {
-    let alloc = rt.alloc();
     let path = path_of(&rt, "viewed")?;
-    let mut writer = Sink::new(alloc);
-    let mut errors = Sink::new(alloc);
-    let status = program(
-        &rt,
-        alloc,
-        words_of(alloc, &["mfpic", "--viewers", "1", "--gf", path.as_str()])?,
-        &mut Pieces::whole(PIXEL),
-        &mut writer,
-        &mut errors,
-    );
-    assert_eq!(rt; status, DONE);
-    assert_eq!(rt;
-        writer.taken(),
-        b"[65]\nviewer 0 revision 0 totalweight 0\n".as_slice()
-    );
-    assert!(rt; errors.taken().is_empty());
+    let words = ["mfpic", "--viewers", "1", "--gf", path.as_str()];
+    let written = b"[65]\nviewer 0 revision 0 totalweight 0\n";
+    let end: (u8, &[u8], &[u8]) = (DONE, written, b"");
+    assert_ends(&rt, &words, &mut Pieces::whole(PIXEL), end)?;
     assert_eq!(rt; fs::read(&rt, path.as_path())?.as_slice(), PIXEL_FILE);
     fs::remove_file(&rt, path.as_path())?;
     Ok(())
@@ -95,19 +86,33 @@ fn writes_the_font_file_beside_viewers(rt: HostRuntime) -> Result<(), Fail> {
 #[test]
 fn leaves_the_font_file(rt: HostRuntime) -> Result<(), Fail> {
     let path = path_of(&rt, "kept")?;
-    let none: (u8, &[u8], &[u8]) = (STREAM_FAULT, TEXT, b"mfpic: NoCharacters\n");
-    let broken: (u8, &[u8], &[u8]) = (STREAM_FAULT, PIXEL_TEXT, b"mfpic: ReadFault\n");
-    assert_ends(&rt, path.as_str(), &mut Pieces::whole(LINE), none)?;
-    assert_ends(&rt, path.as_str(), &mut Pieces::failing(PIXEL), broken)?;
+    assert_leaves(&rt, path.as_str())?;
     assert!(rt; fs::read(&rt, path.as_path()).is_err());
-    fs::write(&rt, path.as_path(), b"what was there".as_slice())?;
-    assert_ends(&rt, path.as_str(), &mut Pieces::whole(LINE), none)?;
-    assert_ends(&rt, path.as_str(), &mut Pieces::failing(PIXEL), broken)?;
-    assert_eq!(rt;
-        fs::read(&rt, path.as_path())?.as_slice(),
-        b"what was there".as_slice()
-    );
+    fs::write(&rt, path.as_path(), KEPT)?;
+    assert_leaves(&rt, path.as_str())?;
+    assert_eq!(rt; fs::read(&rt, path.as_path())?.as_slice(), KEPT);
     fs::remove_file(&rt, path.as_path())?;
+    Ok(())
+}
+
+/// Scripts that end with no font file: the message comes behind the transcript, and behind the line of a viewer.
+fn assert_leaves<R: Abort + Wait + Threads + Files + AllocGlobal>(
+    rt: &R,
+    path: &str,
+) -> Result<(), Fail> {
+    let nothing: &[u8] = b"mfpic: NoCharacters\n";
+    let broken: &[u8] = b"mfpic: ReadFault\n";
+    let viewed: &[u8] = b"viewer 0 revision 0 totalweight 0\n";
+    let alone = ["mfpic", "--gf", path];
+    let beside = ["mfpic", "--gf", path, "--viewers", "1"];
+    let end: (u8, &[u8], &[u8]) = (STREAM_FAULT, b"", nothing);
+    assert_ends(rt, &alone, &mut Pieces::whole(b""), end)?;
+    let end = (STREAM_FAULT, TEXT, nothing);
+    assert_ends(rt, &alone, &mut Pieces::whole(LINE), end)?;
+    let end = (STREAM_FAULT, PIXEL_TEXT, broken);
+    assert_ends(rt, &alone, &mut Pieces::failing(PIXEL), end)?;
+    let end = (STREAM_FAULT, viewed, nothing);
+    assert_ends(rt, &beside, &mut Pieces::whole(b""), end)?;
     Ok(())
 }
 
@@ -118,7 +123,8 @@ fn reports_a_fault_of_the_font_file(rt: HostRuntime) -> Result<(), Fail> {
     let below = folder.join(rt.alloc(), "pixel.gf")?;
     for path in [below.as_str(), "", "/dev/full"] {
         let end: (u8, &[u8], &[u8]) = (STREAM_FAULT, PIXEL_TEXT, b"mfpic: WriteFault\n");
-        assert_ends(&rt, path, &mut Pieces::whole(PIXEL), end)?;
+        let words = ["mfpic", "--gf", path];
+        assert_ends(&rt, &words, &mut Pieces::whole(PIXEL), end)?;
     }
     Ok(())
 }

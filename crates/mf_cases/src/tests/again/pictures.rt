@@ -1,0 +1,238 @@
+//! Pictures that are built and changed, in calls that were refused for want of memory and are made again.
+
+use super::TRIES;
+use mf_geom::{Cycle, OutOfMemory, Point};
+use mf_ops::{Cull, Op, OpFault, Quarter, Scale, Sign, Weight, after};
+use mf_rows::{Picture, RowBuilder, Run};
+use std::alloc::Global;
+use std::process::Abort;
+
+/// The corners of a rectangle of 3 by 2 pixels, counterclockwise.
+const CORNERS: [Point; 4] = [
+    Point { x: 0, y: 0 },
+    Point { x: 3, y: 0 },
+    Point { x: 3, y: 2 },
+    Point { x: 0, y: 2 },
+];
+
+/// A run of pixels.
+fn run(y: i32, x: i32, len: u32, weight: i32) -> Run {
+    Run { y, x, len, weight }
+}
+
+/// The runs of the rectangle.
+fn block() -> [Run; 2] {
+    [run(1, 0, 3, 1), run(0, 0, 3, 1)]
+}
+
+/// Two rows far apart, one of which has two weights side by side.
+fn apart() -> [Run; 3] {
+    [run(1, 0, 2, 1), run(1, 2, 1, 3), run(-70, 0, 1, -2)]
+}
+
+/// The path through the corners.
+fn rectangle(rt: &impl Abort, alloc: Global) -> Cycle {
+    for _ in 0..TRIES {
+        if let Ok(points) = CORNERS.to_vec(alloc) {
+            match Cycle::new(points) {
+                Ok(cycle) => return cycle,
+                Err((fault, _)) => panic!(rt; "{fault}"),
+            }
+        }
+    }
+    panic!(rt; "there is no room for the path")
+}
+
+/// The cycle goes through the corners.
+fn assert_cycle(rt: &impl Abort, cycle: &Cycle) {
+    assert_eq!(rt; cycle.points(), CORNERS.as_slice());
+}
+
+/// The picture has exactly these runs.
+fn assert_runs(rt: &impl Abort, picture: &Picture, runs: &[Run]) {
+    for (k, run) in runs.iter().enumerate() {
+        assert_eq!(rt; picture.run(k), Some(*run), "run {k} of {runs:?}");
+    }
+    assert_eq!(rt; picture.run(runs.len()), None, "a run behind {runs:?}");
+}
+
+/// The operation goes through the corners, or adds the pixels of the rectangle, where it does one of these.
+fn assert_op(rt: &impl Abort, op: &Op) {
+    match op {
+        Op::Contour(cycle, _) => assert_cycle(rt, cycle),
+        Op::Also(other, _) => assert_runs(rt, other, &block()),
+        Op::Cull(_) | Op::Shift(_, _) | Op::Scale(_) | Op::Quarter(_) | Op::Clear => (),
+    }
+}
+
+/// A copy of the cycle; where that is refused, the cycle is as it was.
+fn copied_cycle(rt: &impl Abort, alloc: Global, cycle: &Cycle) -> Cycle {
+    for _ in 0..TRIES {
+        let copy = cycle.copy(alloc);
+        assert_cycle(rt, cycle);
+        if let Ok(copy) = copy {
+            return copy;
+        }
+    }
+    panic!(rt; "no cycle is copied")
+}
+
+/// A copy of an operation; where that is refused, the operation is as it was.
+fn copied_op(rt: &impl Abort, alloc: Global, op: &Op) -> Op {
+    for _ in 0..TRIES {
+        let copy = op.copy(alloc);
+        assert_op(rt, op);
+        if let Ok(copy) = copy {
+            return copy;
+        }
+    }
+    panic!(rt; "no operation is copied")
+}
+
+/// Pushes a run; where that is refused, the run fits as before.
+fn push(rt: &impl Abort, builder: &mut RowBuilder, run: Run) {
+    for _ in 0..TRIES {
+        assert!(rt; builder.fits(&run), "{run:?}");
+        if builder.push_run(run).is_ok() {
+            return;
+        }
+    }
+    panic!(rt; "the run is not pushed: {run:?}")
+}
+
+/// The picture of these runs. A builder whose picture is refused is gone, so another one gets the runs then.
+fn built(rt: &impl Abort, alloc: Global, runs: &[Run]) -> Picture {
+    for _ in 0..TRIES {
+        let mut builder = RowBuilder::new(alloc);
+        for run in runs {
+            push(rt, &mut builder, *run);
+        }
+        if let Ok(picture) = builder.finish() {
+            return picture;
+        }
+    }
+    panic!(rt; "no picture is built")
+}
+
+/// The picture after an operation; where that is refused, the picture with its runs and the operation are as they were.
+fn changed(rt: &impl Abort, alloc: Global, picture: &Picture, op: &Op, runs: &[Run]) -> Picture {
+    for _ in 0..TRIES {
+        let answer = after(alloc, picture, op);
+        assert_runs(rt, picture, runs);
+        assert_op(rt, op);
+        match answer {
+            Ok(new) => return new,
+            Err(OpFault::OutOfMemory) => (),
+            Err(fault) => panic!(rt; "{fault}"),
+        }
+    }
+    panic!(rt; "the picture is not changed")
+}
+
+/// An operation and its copy make these runs of the two rows.
+fn assert_makes(rt: &impl Abort, alloc: Global, op: &Op, runs: &[Run]) {
+    let picture = built(rt, alloc, &apart());
+    let copy = copied_op(rt, alloc, op);
+    let new = changed(rt, alloc, &picture, op, &apart());
+    let same = changed(rt, alloc, &picture, &copy, &apart());
+    assert_runs(rt, &new, runs);
+    assert!(rt; new.equal(&same) && same.equal(&new), "the copy of {op:?}");
+}
+
+/// A filled rectangle is the picture of its runs.
+#[test]
+fn fill_a_rectangle(rt: HostRuntime) {
+    let alloc = rt.alloc();
+    let cycle = copied_cycle(&rt, alloc, &rectangle(&rt, alloc));
+    let one = Weight::new(1).expect(&rt, "1 is a weight");
+    let blank = Picture::blank(alloc);
+    let filled = changed(&rt, alloc, &blank, &Op::Contour(cycle, one), &[]);
+    let built = built(&rt, alloc, &block());
+    assert!(rt; filled.equal(&built) && built.equal(&filled));
+    assert_runs(&rt, &built, &block());
+}
+
+/// What is filled, added and subtracted.
+#[test]
+fn add_to_a_picture(rt: HostRuntime) {
+    let alloc = rt.alloc();
+    let two = Weight::new(2).expect(&rt, "2 is a weight");
+    let contour = Op::Contour(rectangle(&rt, alloc), two);
+    let sum = [
+        run(1, 0, 2, 3),
+        run(1, 2, 1, 5),
+        run(0, 0, 3, 2),
+        run(-70, 0, 1, -2),
+    ];
+    assert_makes(&rt, alloc, &contour, &sum);
+
+    let plus = Op::Also(built(&rt, alloc, &block()), Sign::Plus);
+    let sum = [
+        run(1, 0, 2, 2),
+        run(1, 2, 1, 4),
+        run(0, 0, 3, 1),
+        run(-70, 0, 1, -2),
+    ];
+    assert_makes(&rt, alloc, &plus, &sum);
+
+    let minus = Op::Also(built(&rt, alloc, &block()), Sign::Minus);
+    let rest = [run(1, 2, 1, 2), run(0, 0, 3, -1), run(-70, 0, 1, -2)];
+    assert_makes(&rt, alloc, &minus, &rest);
+}
+
+/// What is culled, shifted and scaled.
+#[test]
+fn change_a_picture(rt: HostRuntime) {
+    let alloc = rt.alloc();
+    let minus = Weight::new(-1).expect(&rt, "-1 is a weight");
+    let keeping = Cull::keeping(1, 2, minus).expect(&rt, "0 is not kept");
+    let dropping = Cull::dropping(-2, 2, minus).expect(&rt, "0 is dropped");
+    let widened = Scale::new(2, 1).expect(&rt, "both are factors");
+    let reflected = Scale::new(-2, -1).expect(&rt, "both are factors");
+    let cases: [(Op, &[Run]); 5] = [
+        (Op::Cull(keeping), &[run(1, 0, 2, -1)]),
+        (Op::Cull(dropping), &[run(1, 2, 1, -1)]),
+        (
+            Op::Shift(2, -1),
+            &[run(0, 2, 2, 1), run(0, 4, 1, 3), run(-71, 2, 1, -2)],
+        ),
+        (
+            Op::Scale(widened),
+            &[run(1, 0, 4, 1), run(1, 4, 2, 3), run(-70, 0, 2, -2)],
+        ),
+        (
+            Op::Scale(reflected),
+            &[run(69, -2, 2, -2), run(-2, -6, 2, 3), run(-2, -4, 4, 1)],
+        ),
+    ];
+    for (op, runs) in &cases {
+        assert_makes(&rt, alloc, op, runs);
+    }
+}
+
+/// What is turned: the pixels of a row stand in a column then, but after two quarters.
+#[test]
+fn turn_a_picture(rt: HostRuntime) {
+    let alloc = rt.alloc();
+    let once = [
+        run(2, -2, 1, 3),
+        run(1, -2, 1, 1),
+        run(0, -2, 1, 1),
+        run(0, 69, 1, -2),
+    ];
+    let twice = [run(69, -1, 1, -2), run(-2, -3, 1, 3), run(-2, -2, 2, 1)];
+    let thrice = [
+        run(-1, -70, 1, -2),
+        run(-1, 1, 1, 1),
+        run(-2, 1, 1, 1),
+        run(-3, 1, 1, 3),
+    ];
+    let cases: [(Quarter, &[Run]); 3] = [
+        (Quarter::Once, &once),
+        (Quarter::Twice, &twice),
+        (Quarter::Thrice, &thrice),
+    ];
+    for (quarter, runs) in cases {
+        assert_makes(&rt, alloc, &Op::Quarter(quarter), runs);
+    }
+}
