@@ -155,10 +155,11 @@ const SEEN_LAST: &[(u32, i64)] = &[
     (1, 4_000_000),
     (1, -480_000),
     (1, 1),
-    // Sums: doubled and taken away, 3 that is doubled 13 times, and 2 - 1.
+    // Sums: doubled and taken away, 3 that is doubled 13 times, 2 - 1, and the blank picture.
     (3, 0),
     (14, 24_576),
     (2, 1),
+    (2, 0),
     // What is published, and what is shipped.
     (1, 6),
     (1, 1),
