@@ -1,0 +1,111 @@
+"""A copy of the repository in which a crate is proved with edits, and what the prover says. (`wrong_bodies.py` uses it.)"""
+
+import re
+import shutil
+import subprocess
+from pathlib import Path
+
+from edited_source import PARTS, Function, texts_of
+
+ROOT = Path(__file__).resolve().parent.parent
+# What the prover says of a function, and its last line.
+SAID = re.compile(r"^fn (\S+): (.*)$", re.M)
+VERDICT = re.compile(r"^(?:only|logic)=", re.M)
+# What an error says of a name that the body no longer gives to a file of proofs/.
+GONE = re.compile(r"has no `|has no field|is not in scope|was not admitted")
+
+
+def crates() -> dict[str, list[str]]:
+    """The crates of the repository, each with those that it stands on."""
+    found = {}
+    for line in (ROOT / "crates.txt").read_text(encoding="utf-8").split("\n"):
+        names, colon, below = line.partition("#")[0].partition(":")
+        if colon:
+            found[names.split()[0]] = below.split()
+    return {name: [it for it in below if it in found] for name, below in found.items()}
+
+
+def owner_of(symbol: str) -> tuple[str, ...]:
+    """The function that a symbol of the prover stands for, or stands in, as the closure `a::fn::b::map` stands in `a::b`:
+    a method by its type, and the trait, and its name, any other by its whole path."""
+    path = symbol.split("::")[1:]
+    if "fn" in path:
+        at = path.index("fn")
+        inner = path[at + 1 :]
+        path = [*path[:at], *inner[: 2 if inner[0][0].isupper() else 1]]
+    return tuple(path[-2:] if len(path) > 1 and path[-2][0].isupper() else path)
+
+
+class Room:
+    """A copy of the repository, in which one crate is proved again and again over what its first proof kept."""
+
+    def __init__(self, crate: str, folder: Path) -> None:
+        self.texts = texts_of(ROOT / "crates" / crate)
+        self.folder = folder / "crates" / crate
+        self.work, self.kept = self.folder / "out" / "incremental", folder / "kept"
+        self.symbols: dict[tuple[str, ...], list[str]] = {}
+        self.checks = 0
+        for name in ("crates.txt", "HANDLES"):
+            shutil.copyfile(ROOT / name, folder / name)
+        for name in crates():
+            for part in (*PARTS, "out/incremental" if name == crate else "out/rlib"):
+                if (ROOT / "crates" / name / part).is_dir():
+                    shutil.copytree(ROOT / "crates" / name / part, folder / "crates" / name / part)
+
+    def prove(self) -> str:
+        """Proves the crate as it stands, keeps that work, and notes the symbols of its functions."""
+        said = self.check(self.texts, [])
+        for symbol, _ in SAID.findall(said):
+            self.symbols.setdefault(owner_of(symbol), []).append(symbol)
+        if self.work.is_dir():
+            self.work.rename(self.kept)
+        return said
+
+    def check(self, texts: dict[str, str], only: list[str]) -> str:
+        """What a check says of the crate with these texts, or of some functions in it."""
+        self.checks += 1
+        for file, text in texts.items():
+            (self.folder / file).write_text(text, encoding="utf-8")
+        if self.kept.is_dir():
+            shutil.rmtree(self.work, ignore_errors=True)
+            shutil.copytree(self.kept, self.work)
+        words = ["rt", "check", "--jobs", "1", *(word for symbol in only for word in ("--only", symbol))]
+        how = {"stdin": subprocess.DEVNULL, "stdout": subprocess.PIPE, "stderr": subprocess.STDOUT}
+        return subprocess.run(words, cwd=self.folder, check=False, encoding="utf-8", errors="replace", **how).stdout
+
+    def symbols_of(self, functions: set[Function]) -> list[str]:
+        """The symbols of these functions and of the closures in them."""
+        return [symbol for function in sorted(functions) for symbol in self.symbols_in(function)]
+
+    def symbols_in(self, function: Function) -> list[str]:
+        if not function.holder:
+            path = [it for it in function.module.split("::") if it not in ("lib", "main")]
+            return self.symbols.get((*path, function.name), [])
+        named = {key[0]: them for key, them in self.symbols.items() if len(key) == 2 and key[1] == function.name}
+        near = [key for key in named if key[0].isupper() and function.holder.startswith(key)]
+        return named.get(function.holder) or (named[max(near, key=len)] if near else [])
+
+
+def problem_of(said: str, control: list[str]) -> str:
+    """Why a check says nothing of its batch, or nothing."""
+    errors = re.findall(r"^\S*error.*|^\S+:\d+:\d+: error.*", said, re.M)
+    if not VERDICT.search(said):
+        return f"it does not compile: {(errors or said.strip().splitlines()[-1:] or ['no word'])[0]}"
+    unread = [error for error in errors if re.match(r"(\./)?(src|specs)/", error)]
+    if unread:
+        return f"the prover cannot read it: {unread[0]}"
+    proved = {symbol for symbol, words in SAID.findall(said) if words.startswith("proved")}
+    return "" if control and {*control} <= proved else "the control is not proved"
+
+
+def own_reasons(symbol: str, said: str) -> tuple[list[str], list[str]]:
+    """Why a function is not proved on its own account: its open goals and the answers that do not fit. And the errors of its
+    files that name what is gone."""
+    folder = re.escape("/".join(symbol.split("::")[1:]))
+    errors = re.findall(rf"^\./(proofs/{folder}/\w+\.antt:\S+ error: .*)$", said, re.M)
+    gone = [error for error in errors if GONE.search(error)]
+    before, _, _ = said.partition(f"fn {symbol}: ")
+    # The notes on a function stand between the line of the function before it and its own.
+    notes = before[before.rfind("\nfn ") + 1 :]
+    goals = re.findall(r"^note: src/\S+: .*? \(`(\S+)`\)", notes, re.M)
+    return goals + [error for error in errors if error not in gone], gone

@@ -1,0 +1,266 @@
+#!/usr/bin/env python3
+"""Tries the wrong bodies of crates, many in one check: the prover must refuse each of them.
+
+    tests/wrong_bodies.py [--jobs N] [CRATE..]
+
+A wrong body is an edit, crates/NAME/must-fail/*.edit (which `rt ci` tries, too, one at a time) or crates/NAME/wrong/*.edit.
+Those of the crates named are tried, or of all, N crates side by side: if it is not given, one for each processor, but no
+more than one for each 4 GB of free memory. It needs the toolchain's command `rt` on the path. It is run by hand.
+
+A crate is copied to a temporary folder and proved there as it stands. Then it is proved with a batch of edits in place,
+over what that first proof kept, batch after batch. The edits of a batch change different functions, and only those
+functions are asked for. The repository is not written, except out/ of the crates below, which are built first.
+
+A body is refused where the prover finds a goal of the function that it cannot prove, on the function's own account: that
+it calls another function that is not proved says nothing. Where the only reason is that a file of proofs/ names what the
+edit took away, the body is not judged, because a right body might be refused for the same reason. Each batch has a
+control, from crates/NAME/wrong/*.right: an edit that writes a right body in another form. If the control is not proved,
+the batch says nothing, and it is tried again in halves.
+
+Every body that is proved or not judged is printed, with the line `why:` of its edit if it has one. The last line counts
+all of them. The status is 1 if a body is proved or not judged without such a line.
+"""
+
+import argparse
+import collections
+import concurrent.futures
+import dataclasses
+import os
+import re
+import shutil
+import subprocess
+import sys
+import tempfile
+import time
+from collections.abc import Iterable
+from pathlib import Path
+
+from edited_source import Edit, Function, UnfitEdit, changed_by, read_edit, texts_of
+from proof_room import ROOT, SAID, Room, crates, own_reasons, problem_of
+
+# The memory that one check takes at most, in bytes.
+MEMORY = 4_000_000_000
+REFUSED, PROVED, NOT_JUDGED = "refused", "proved", "not judged"
+# What the prover says where only a function that is called is not proved.
+OF_ANOTHER = re.compile(r"it calls|it passes|a call of")
+
+
+@dataclasses.dataclass
+class Body:
+    """A body: its edit, the functions that it changes, those that it concerns, and what came of it."""
+
+    edit: Edit
+    changed: set[Function] = dataclasses.field(default_factory=set)
+    concerned: set[Function] = dataclasses.field(default_factory=set)
+    verdict: str = ""
+    told: str = ""
+    gone: str = ""
+
+    def judge(self, verdict: str, told: str) -> None:
+        self.verdict, self.told = verdict, shortened(told)
+
+
+def shortened(text: str) -> str:
+    """A line of the prover, which may be very long, or its beginning."""
+    return text if len(text) <= 240 else f"{text[:240]}.."
+
+
+def bodies_of(crate: str, pattern: str) -> list[Body]:
+    """The bodies that a crate's edits make. One whose edit cannot be applied is judged already."""
+    folder = ROOT / "crates" / crate
+    texts, bodies = texts_of(folder), []
+    for path in sorted(folder.glob(pattern)):
+        body = Body(read_edit(path))
+        try:
+            body.changed, body.concerned = changed_by(body.edit, texts)
+            if not body.changed:
+                body.judge(NOT_JUDGED, "it changes no function")
+        except UnfitEdit as unfit:
+            body.judge(NOT_JUDGED, f"it cannot be applied: {unfit}")
+        bodies.append(body)
+    return bodies
+
+
+def texts_with(bodies: Iterable[Body], texts: dict[str, str]) -> dict[str, str]:
+    """The texts of a crate with the edits of these bodies."""
+    for body in bodies:
+        texts = {**texts, **body.edit.applied(texts)}
+    return texts
+
+
+def fits(body: Body, batch: list[Body], texts: dict[str, str]) -> bool:
+    """Whether a body and those of a batch concern different functions, and their edits apply together."""
+    if any(body.concerned & other.concerned for other in batch):
+        return False
+    try:
+        return bool(texts_with([*batch, body], texts))
+    except UnfitEdit:
+        return False
+
+
+def in_batches(bodies: list[Body], texts: dict[str, str]) -> list[list[Body]]:
+    """The bodies in batches, few and about even."""
+    often = collections.Counter(function for body in bodies for function in body.changed)
+    batches: list[list[Body]] = [[] for _ in range(max(often.values(), default=0))]
+    for body in sorted(bodies, key=lambda body: -max(often[it] for it in body.changed)):
+        fitting = [batch for batch in batches if fits(body, batch, texts)]
+        if not fitting:
+            batches.append([])
+        min(fitting or batches[-1:], key=len).append(body)
+    return [batch for batch in batches if batch]
+
+
+def judge(body: Body, room: Room, said: str) -> None:
+    """Judges a body by what a check says, unless that is only that a function is not proved which the body calls."""
+    symbols = room.symbols_of(body.changed)
+    lines = {symbol: words for symbol, words in SAID.findall(said) if symbol in symbols}
+    fallen = {symbol: words for symbol, words in lines.items() if not words.startswith("proved")}
+    reasons = [own_reasons(symbol, said) for symbol in fallen]
+    goals, gone = ([it for pair in reasons for it in pair[i]] for i in (0, 1))
+    if not lines:
+        body.judge(NOT_JUDGED, f"the check has no line for {', '.join(map(str, sorted(body.changed)))}")
+    elif goals:
+        body.judge(REFUSED, goals[0])
+        body.gone = shortened(gone[0]) if gone else ""
+    elif not fallen:
+        body.judge(PROVED, ", ".join(sorted(lines)))
+    elif any(OF_ANOTHER.search(words) for words in fallen.values()):
+        return
+    elif gone:
+        body.judge(NOT_JUDGED, f"only a proof file that names what is gone refuses it: {gone[0]}")
+    else:
+        body.judge(NOT_JUDGED, "; ".join(f"{symbol}: {words}" for symbol, words in fallen.items()))
+
+
+def try_batch(batch: list[Body], controls: list[Body], room: Room) -> None:
+    """Tries a batch, in halves if the check says nothing of the whole, and judges what it can."""
+    control = [it for it in controls if fits(it, batch, room.texts)][:1]
+    changed = set().union(*(body.changed for body in [*batch, *control]))
+    said = room.check(texts_with([*batch, *control], room.texts), room.symbols_of(changed))
+    problem = problem_of(said, room.symbols_of(control[0].changed) if control else [])
+    if problem and len(batch) > 1:
+        try_batch(batch[: len(batch) // 2], controls, room)
+        try_batch(batch[len(batch) // 2 :], controls, room)
+        return
+    for body in batch:
+        if problem:
+            body.judge(NOT_JUDGED, problem)
+        else:
+            judge(body, room, said)
+
+
+def is_proved(control: Body, room: Room) -> bool:
+    """Whether a control is proved with no other edit beside it."""
+    symbols = room.symbols_of(control.changed)
+    return not problem_of(room.check(texts_with([control], room.texts), symbols), symbols)
+
+
+@dataclasses.dataclass
+class Trial:
+    """What came of the wrong bodies of a crate: how many batches they took, and how many seconds."""
+
+    bodies: list[Body]
+    batches: int = 0
+    seconds: float = 0
+
+    def counts(self) -> str:
+        """The counts in words."""
+        count = collections.Counter(body.verdict for body in self.bodies)
+        why = collections.Counter(body.verdict for body in self.bodies if body.edit.why)
+        alone = sum(body.verdict == REFUSED and body.told.startswith("proofs/") for body in self.bodies)
+        gone = sum(bool(body.gone) for body in self.bodies)
+        misfit = f"{alone} by an answer that does not fit, {gone} with answers to goals that are gone"
+        said = [f"{count[REFUSED]} refused ({misfit})"]
+        said += [f"{count[verdict]} {verdict} ({why[verdict]} with a reason)" for verdict in (PROVED, NOT_JUDGED)]
+        return f"{len(self.bodies)} wrong bodies: {', '.join(said)}, {self.batches} batches, {self.seconds / 60:.1f} minutes"
+
+    def lacks_reasons(self) -> bool:
+        """Whether a body is proved or not judged without a reason."""
+        return any(body.verdict != REFUSED and not body.edit.why for body in self.bodies)
+
+
+def trial_of(crate: str) -> Trial:
+    """Tries the wrong bodies of a crate. One that calls another of its batch is tried again if only that was said of it."""
+    started = time.monotonic()
+    trial = Trial(bodies_of(crate, "must-fail/*.edit") + bodies_of(crate, "wrong/*.edit"))
+    controls = bodies_of(crate, "wrong/*.right")
+    left = [body for body in trial.bodies if not body.verdict]
+    why = "a function that it calls is not proved"
+    with tempfile.TemporaryDirectory(prefix="wrong-bodies-") as folder:
+        room = Room(crate, Path(folder))
+        if not re.search(r"^logic=proved", room.prove(), re.M):
+            left, why = [], "the crate itself is not proved"
+        elif not all(is_proved(control, room) for control in controls):
+            left, why = [], "a control is not proved, even alone"
+        count = len(left) + 1
+        while len(left) < count:
+            count = len(left)
+            for batch in in_batches(left, room.texts):
+                try_batch(batch, controls, room)
+                judged = sum(bool(body.verdict) for body in trial.bodies)
+                print(f"{crate}: {judged} of {len(trial.bodies)} judged", file=sys.stderr, flush=True)
+            left = [body for body in left if not body.verdict]
+    for body in trial.bodies:
+        if not body.verdict:
+            body.judge(NOT_JUDGED, why)
+    trial.batches, trial.seconds = room.checks - 1 - len(controls), time.monotonic() - started
+    return trial
+
+
+def print_trial(crate: str, trial: Trial) -> None:
+    """Prints what is not refused, or is refused although its edit has a reason, and the counts of a crate."""
+    for body in trial.bodies:
+        label = f"{crate}/{body.edit.label}"
+        if body.verdict != REFUSED:
+            print(f"{label}: {body.verdict}: {body.told}")
+            print(f"  why: {body.edit.why}" if body.edit.why else "  it gives no reason")
+        elif body.edit.why:
+            print(f"{label}: refused, although it says why it is not: {body.edit.why}")
+        elif body.gone:
+            print(f"{label}: refused, for {body.told}, but also because of {body.gone}")
+    print(f"{crate}: {trial.counts()}", flush=True)
+
+
+def build_below(names: list[str]) -> None:
+    """Builds the libraries that these crates stand on, where they have changed."""
+    below = {it for name in names for it in crates()[name]}
+    for name in (it for it in crates() if it in below):
+        words, folder = ["rt", "lib", "--jobs", "1"], ROOT / "crates" / name
+        built = subprocess.run(words, cwd=folder, capture_output=True, text=True, check=False)
+        if built.returncode:
+            sys.exit(f"{name}, on which others stand, is not built:\n{built.stdout}{built.stderr}")
+
+
+def checks_at_once() -> int:
+    """How many checks may run side by side."""
+    free = re.search(r"MemAvailable:\s+(\d+)", Path("/proc/meminfo").read_text(encoding="ascii"))
+    return max(1, min(len(os.sched_getaffinity(0)), int(free[1]) * 1024 // MEMORY if free else 1))
+
+
+def main() -> None:
+    parser = argparse.ArgumentParser(description=__doc__, formatter_class=argparse.RawDescriptionHelpFormatter)
+    parser.add_argument("--jobs", type=int, default=checks_at_once(), help="how many crates are tried side by side")
+    parser.add_argument("crates", nargs="*", metavar="CRATE")
+    given = parser.parse_args()
+    having = [name for name in crates() if any((ROOT / "crates" / name / it).is_dir() for it in ("must-fail", "wrong"))]
+    unknown = [name for name in given.crates if name not in having]
+    if unknown or not shutil.which("rt"):
+        parser.error(f"no wrong bodies in {', '.join(unknown)}" if unknown else "there is no command rt on the path")
+    started, names = time.monotonic(), given.crates or having
+    build_below(names)
+    # The crates with the most bodies come first, so that the last ones end at about the same time.
+    names.sort(key=lambda name: -len([*(ROOT / "crates" / name).glob("*/*.edit")]))
+    whole = Trial([])
+    with concurrent.futures.ThreadPoolExecutor(given.jobs) as pool:
+        trials = {pool.submit(trial_of, name): name for name in names}
+        for done in concurrent.futures.as_completed(trials):
+            print_trial(trials[done], done.result())
+            whole.bodies += done.result().bodies
+            whole.batches += done.result().batches
+    whole.seconds = time.monotonic() - started
+    print(whole.counts())
+    sys.exit(whole.lacks_reasons())
+
+
+if __name__ == "__main__":
+    main()
