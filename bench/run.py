@@ -3,7 +3,7 @@
 
     bench/run.py [--program PROGRAM] [--repeats N] [--seed S] [--only WORD] [--growth]
 
-PROGRAM is the built program, crates/mf_cli/out/mf_cli beside this folder unless another is named. Each workload runs
+PROGRAM is the built program, crates/mfpic/out/mfpic beside this folder unless another is named. Each workload runs
 N times (5 unless another number is given) or more, while that takes less than two seconds, up to 100 times: METAFONT
 (`mf-nowin`, Debian package texlive-binaries) and the program in turn; the least time of each counts. Where a workload
 ships characters, both write a font file. The totals that both print and the characters that both ship are compared. A
@@ -189,7 +189,7 @@ def growth(arguments, folder):
 
 def main():
     parser = argparse.ArgumentParser()
-    parser.add_argument("--program", default=str(ROOT / "crates/mf_cli/out/mf_cli"))
+    parser.add_argument("--program", default=str(ROOT / "crates/mfpic/out/mfpic"))
     parser.add_argument("--repeats", type=int, default=5)
     parser.add_argument("--seed", type=int, default=1)
     parser.add_argument("--only", default="")

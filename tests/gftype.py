@@ -21,7 +21,7 @@ import sys
 import tempfile
 
 ROOT = pathlib.Path(__file__).parent.parent
-TABLE = ROOT / "crates/mf_gf/src/tests/characters.rt"
+TABLE = ROOT / "crates/mf_gf_tests/src/tests/characters.rt"
 FONT = ROOT / "examples/font.mfp"
 
 # Seconds that a run may take. The program may take more, since `mfpic` builds it where it is missing.

@@ -3,7 +3,7 @@
 
     tests/wanting_memory.py [PROGRAM]
 
-PROGRAM is the built program (crates/mf_cli/out/mf_cli) unless another is named. Each script is run with ample memory,
+PROGRAM is the built program (crates/mfpic/out/mfpic) unless another is named. Each script is run with ample memory,
 with its first growth refused, with its second, and so on, until a run has fewer growths; then so again with all later
 growths refused, too. A growth is a call of malloc or realloc, or the start of a thread. A library refuses it, which
 `cc` compiles and LD_PRELOAD puts before the C library.
@@ -74,7 +74,7 @@ ssize_t read(int file, void *bytes, size_t size) {
 # Ways to ask for memory that the library does not know.
 OTHERS = {"aligned_alloc", "brk", "calloc", "memalign", "mmap", "posix_memalign", "reallocarray", "sbrk", "valloc"}
 # Tests that make a call again which was refused.
-AGAIN = [("mf_live", "tests::again::calls_are_made_again")]
+AGAIN = [("mf_live_tests", "tests::again::calls_are_made_again")]
 AGAIN += [("mf_cases", f"tests::again::{name}") for name in ("perform_lines", "end_a_script")]
 PICTURES = ("fill_a_rectangle", "add_to_a_picture", "change_a_picture", "turn_a_picture")
 AGAIN += [("mf_cases", f"tests::again::pictures::{name}") for name in PICTURES]
@@ -233,13 +233,15 @@ def try_test(runner, crate, name):
 
 
 def cases():
-    """The examples, and scripts and words that reach what they do not."""
+    """The examples, the scripts beside them, and scripts and words that reach what they do not."""
     font = ("--gf", "FOLDER/font.gf")
-    for path in sorted((ROOT / "examples").glob("*.mfp")):
+    viewers = {"examples": [(), ("--viewers", "1"), ("--viewers", "4")], "tests/scripts": [()]}
+    for path in sorted(path for folder in viewers for path in (ROOT / folder).glob("*.mfp")):
         text, transcript = path.read_bytes() + b"% The end.\n", path.with_suffix(".transcript").read_bytes()
-        few = path.stem != "field"
-        for words in [(), ("--viewers", "1"), ("--viewers", "4")] if few else [()]:
-            yield Case(path.stem, words + (font if path.stem == "font" else ()), text, transcript, twice=few)
+        few = path.stem not in ("field", "large_contours")
+        for words in viewers[str(path.parent.relative_to(ROOT))] if few else [()]:
+            ships = font if path.with_suffix(".gf").exists() else ()
+            yield Case(path.stem, words + ships, text, transcript, twice=few)
     for about, script in [("commands", COMMANDS), ("refused lines", REFUSED)]:
         for words in [font, ("--viewers=1", *font), ("--gf=FOLDER/font.gf", "--viewers", "4")]:
             yield Case(about, words, script)
@@ -253,7 +255,7 @@ def cases():
 
 
 def main():
-    program = sys.argv[1] if len(sys.argv) > 1 else str(ROOT / "crates/mf_cli/out/mf_cli")
+    program = sys.argv[1] if len(sys.argv) > 1 else str(ROOT / "crates/mfpic/out/mfpic")
     names = subprocess.run(["nm", "-D", program], capture_output=True, encoding="utf-8", check=True).stdout.split()
     unknown = OTHERS & {name.split("@")[0] for name in names}
     if unknown:

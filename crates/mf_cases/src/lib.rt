@@ -1,11 +1,5 @@
-//! What the tests of several crates share: scripts with their transcripts, and readers and writers that give and take
-//! pieces, and fail.
+//! Tests of scripts, from the bytes that are read to the bytes that are written, and of sessions.
 #![tactic(auto)]
 
-mod scripts;
-mod streams;
 #[cfg(test)]
 mod tests;
-
-pub use scripts::{Script, worked_scripts};
-pub use streams::{LineFeeds, Pieces, Sink};

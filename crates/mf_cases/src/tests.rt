@@ -2,6 +2,7 @@
 ghost use Rattle.std.specs.Prelude.{◌≤◌};
 
 mod again;
+mod assertions;
 mod cuts;
 mod faults;
 mod flags;
@@ -18,11 +19,13 @@ mod transcripts;
 mod viewer_faults;
 mod viewers;
 
-use crate::streams::{Pieces, Sink};
+use assertions::assert_same;
 use mf_desk::{Glance, OpenGate, Outcome, RunFault, Settings, perform, run};
 use mf_gf::FontWords;
+use mf_testing::{Pieces, Sink};
 use std::alloc::{AllocError, Global};
-use std::io::Write;
+use std::fmt::Debug;
+use std::io::{Read, Write};
 use std::process::Abort;
 use std::sync::{Arc, Wait};
 use std::thread::Threads;
@@ -68,18 +71,31 @@ fn joined(alloc: Global, parts: &[&[u8]]) -> Result<Vec<u8>, AllocError> {
     Ok(all)
 }
 
+/// The fault of a run, or none, and what it prints.
+type End<'a> = (Option<RunFault>, &'a [u8]);
+
+/// The reader's script, run within these settings, ends so.
+fn assert_ends<R: Abort + Wait + AllocGlobal, I: Read, C: Debug + Drop>(
+    rt: &R,
+    reader: &mut I,
+    settings: &Settings,
+    end: End<'_>,
+    case: C,
+) {
+    let alloc = rt.alloc();
+    let mut writer = Sink::new(alloc);
+    let result = run(rt, alloc, reader, &mut writer, settings);
+    assert_same(rt, (result.err(), writer.taken()), end, case);
+}
+
 /// The reader's script is run to its end and prints this.
 fn assert_prints<R: Abort + Wait + AllocGlobal>(
     rt: &R,
     mut reader: Pieces<'_>,
     transcript: &[u8],
-    about: &str,
+    case: &str,
 ) {
-    let alloc = rt.alloc();
-    let mut writer = Sink::new(alloc);
-    let result = run(rt, alloc, &mut reader, &mut writer, &AMPLE);
-    assert_eq!(rt; result.err(), None, "{about}");
-    assert_eq!(rt; writer.taken(), transcript, "{about}");
+    assert_ends(rt, &mut reader, &AMPLE, (None, transcript), case);
 }
 
 /// Performs the reader's script beside so many viewers, who look so many times each.

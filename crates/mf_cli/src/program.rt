@@ -191,6 +191,3 @@ fn write_message<E: Write>(errors: &mut E, message: &str)
         Ok(()) | Err(_) => (),
     }
 }
-
-#[cfg(test)]
-mod tests;

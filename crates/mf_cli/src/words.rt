@@ -83,6 +83,3 @@ fn command<'a>(alloc: Global) -> Result<Command<'a>, AllocError>
         .arg(viewers)?
         .arg(gf)
 }
-
-#[cfg(test)]
-mod tests;

@@ -148,6 +148,3 @@ impl Cycle {
         path::area(&self.points)
     }
 }
-
-#[cfg(test)]
-mod tests;

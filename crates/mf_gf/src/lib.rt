@@ -13,8 +13,6 @@ mod rows;
 mod spelling;
 mod stretches;
 mod strokes;
-#[cfg(test)]
-mod tests;
 
 pub use fault::{GfFault, WriteFault};
 pub use file::{FontWords, GfFile};

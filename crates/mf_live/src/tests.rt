@@ -1,116 +1,134 @@
-//! Tests of live pictures, over two small contours.
+//! Tests of states into which no caller can bring a picture while memory is ample. The others are in `mf_live_tests`.
 ghost use Rattle.std.specs.Prelude.{◌≡◌};
 ghost use Rattle.mf_live.specs.Viewers as viewers;
 ghost use Rattle.mf_live.specs.Writers as writers;
 
-mod again;
-mod ending;
-mod looking;
-mod sheets;
-mod threads;
-mod writing;
-
-use crate::closing::{CloseFault, Ended};
-use crate::notice::Notice;
+use crate::closing::{Closing, Ended};
+use crate::desk::open_picture;
 use crate::viewer::Viewer;
 use crate::writer::Writer;
 use mf_geom::{Cycle, Point};
 use mf_ops::{Op, Weight};
-use std::alloc::{AllocError, Global};
+use std::alloc::Global;
 use std::process::Abort;
 use std::sync::Wait;
 
 /// A rectangle of 3 by 2 pixels, counterclockwise.
-pub(crate) const RECT: &[(i32, i32)] = &[(0, 0), (3, 0), (3, 2), (0, 2)];
+const RECT: &[Point] = &[
+    Point { x: 0, y: 0 },
+    Point { x: 3, y: 0 },
+    Point { x: 3, y: 2 },
+    Point { x: 0, y: 2 },
+];
 
-/// The pixel (0, 0), counterclockwise.
-pub(crate) const UNIT: &[(i32, i32)] = &[(0, 0), (1, 0), (1, 1), (0, 1)];
-
-/// The points of a path.
-fn points(alloc: Global, corners: &[(i32, i32)]) -> Result<Vec<Point>, AllocError> {
-    let mut points = Vec::new(alloc);
-    for (x, y) in corners {
-        points.push(Point { x: *x, y: *y })?;
-    }
-    Ok(points)
+/// A picture and its one viewer.
+fn opened<R: Abort + Wait>(rt: &R, alloc: Global) -> (Writer, Viewer)
+    ensures { viewers.name result.1 ≡ writers.name result.0 }
+{
+    let (writer, mut desk) = open_picture(rt, alloc, 1, 10).expect(rt, "there is room");
+    let viewer = desk.viewer().expect(rt, "a place is left");
+    (writer, viewer)
 }
 
-/// The contour through these corners, of this weight.
-pub(crate) fn contour(rt: &impl Abort, alloc: Global, corners: &[(i32, i32)], weight: i32) -> Op {
-    let points = points(alloc, corners).expect(rt, "there is room for the path");
-    contour_through(rt, points, weight)
-}
-
-/// The contour through these points, of this weight.
-fn contour_through(rt: &impl Abort, points: Vec<Point>, weight: i32) -> Op {
-    match (Cycle::new(points), Weight::new(weight)) {
-        (Ok(cycle), Ok(weight)) => Op::Contour(cycle, weight),
-        _ => panic!(rt; "no contour of weight {weight}"),
-    }
-}
-
-/// Applies an operation, which is accepted.
-pub(crate) fn apply(rt: &impl Abort, alloc: Global, writer: &mut Writer, op: Op)
+/// Fills the rectangle.
+fn fill(rt: &impl Abort, alloc: Global, writer: &mut Writer)
     ensures { writers.name writer.new ≡ writers.name writer.old }
 {
+    let points = Vec::from_slice(alloc, RECT).expect(rt, "there is room for the path");
+    let cycle = Cycle::new(points).expect(rt, "the path is a cycle");
+    let weight = Weight::new(1).expect(rt, "the weight is lawful");
     writer
-        .apply(alloc, op)
+        .apply(alloc, Op::Contour(cycle, weight))
         .expect(rt, "the operation is accepted");
 }
 
-/// Publishes.
-pub(crate) fn publish<R: Abort + Wait>(rt: &R, writer: &mut Writer)
-    ensures { writers.name writer.new ≡ writers.name writer.old }
-{
-    writer.publish(rt).expect(rt, "there is room to publish");
-}
-
-/// Fills the rectangle, and publishes that.
-pub(crate) fn publish_rectangle<R: Abort + Wait>(rt: &R, alloc: Global, writer: &mut Writer)
-    ensures { writers.name writer.new ≡ writers.name writer.old }
-{
-    apply(rt, alloc, writer, contour(rt, alloc, RECT, 1));
-    publish(rt, writer);
-}
-
-/// Closes the picture.
-pub(crate) fn close<R: Abort + Wait>(rt: &R, writer: Writer) -> Ended
-    ensures { writers.ended_name result ≡ writers.name writer }
-{
-    match writer.close(rt) {
-        Ok(ended) => ended,
-        Err(CloseFault::Kept(writer)) => {
-            writer.discard(rt);
-            panic!(rt; "no room to close the picture")
-        }
-        Err(CloseFault::Halfway(closing)) => {
-            closing.discard(rt);
-            panic!(rt; "no room to publish the end")
-        }
-    }
-}
-
-/// The working picture has this total, and so many of its operations are not published.
-pub(crate) fn assert_working(rt: &impl Abort, writer: &Writer, pending: u32, total: i64) {
-    assert_eq!(rt; writer.pending(), pending, "operations that wait");
-    assert_eq!(rt; writer.working().total(), total, "the working picture");
-}
-
 /// A look shows so many operations, and a picture of this total.
-pub(crate) fn assert_shows(rt: &impl Abort, viewer: Viewer, revision: u32, total: i64) -> Viewer
+fn assert_shows(rt: &impl Abort, viewer: Viewer, revision: u32, total: i64) -> Viewer
     ensures { viewers.name result ≡ viewers.name viewer }
 {
     match viewer.look() {
         Ok(look) => {
-            assert_eq!(rt; look.revision(), revision, "what is shown");
-            assert_eq!(rt; look.picture().total(), total, "the picture that is shown");
+            let shown = (look.revision(), look.picture().total());
+            assert_eq!(rt; shown, (revision, total), "what is shown");
             look.leave()
         }
         Err(_) => panic!(rt; "the look is not answered"),
     }
 }
 
-/// A notice tells of so many operations.
-pub(crate) fn assert_tells(rt: &impl Abort, notice: &Notice, revision: u32) {
+/// A picture whose end mark is set and not published yet, as `close` hands it back where memory is wanting.
+fn half_closed(writer: Writer) -> Closing
+    ensures { writers.closing_name result ≡ writers.name writer }
+{
+    let Writer {
+        mut holder,
+        max_ops: _,
+    } = writer;
+    holder.end();
+    Closing { holder }
+}
+
+/// Publishes the end.
+fn ended<R: Abort + Wait>(rt: &R, closing: Closing) -> Ended
+    ensures { writers.ended_name result ≡ writers.closing_name closing }
+{
+    match closing.publish(rt) {
+        Ok(ended) => ended,
+        Err(closing) => {
+            closing.discard(rt);
+            panic!(rt; "no room to publish the end")
+        }
+    }
+}
+
+/// A notice of the end tells of so many operations, and the viewer learns it.
+fn learn_end(rt: &impl Abort, ended: &mut Ended, viewer: Viewer, revision: u32) -> Viewer
+    requires { viewers.name viewer ≡ writers.ended_name ended.old }
+{
+    let mut viewer = viewer;
+    let notice = ended.notice();
     assert_eq!(rt; notice.revision(), revision, "what is told");
+    viewer.learn(notice);
+    viewer
+}
+
+#[test]
+fn publishes_the_end_later(rt: HostRuntime) {
+    let alloc = rt.alloc();
+    let (mut writer, viewer) = opened(&rt, alloc);
+    fill(&rt, alloc, &mut writer);
+    let closing = half_closed(writer);
+    let viewer = assert_shows(&rt, viewer, 0, 0);
+    let mut ended = ended(&rt, closing);
+    let viewer = learn_end(&rt, &mut ended, viewer, 1);
+    assert_shows(&rt, viewer, 1, 6);
+    ended.discard(&rt);
+}
+
+/// A viewer whose last look was not answered, since the copy that it had entered was older than a notice.
+fn missed(viewer: Viewer) -> Viewer
+    ensures { viewers.name result ≡ viewers.name viewer }
+{
+    let Viewer {
+        reader,
+        known,
+        missed: _,
+    } = viewer;
+    Viewer {
+        reader,
+        known,
+        missed: true,
+    }
+}
+
+#[test]
+fn looks_again_after_a_look_that_was_missed(rt: HostRuntime) {
+    let alloc = rt.alloc();
+    let (mut writer, viewer) = opened(&rt, alloc);
+    let viewer = assert_shows(&rt, viewer, 0, 0);
+    fill(&rt, alloc, &mut writer);
+    writer.publish(&rt).expect(&rt, "there is room to publish");
+    let viewer = assert_shows(&rt, missed(viewer), 1, 6);
+    assert_shows(&rt, viewer, 1, 6);
+    writer.discard(&rt);
 }

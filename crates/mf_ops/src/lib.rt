@@ -10,8 +10,6 @@ mod op;
 mod quarter;
 mod scale;
 mod sign;
-#[cfg(test)]
-mod tests;
 mod transform;
 mod weight;
 

@@ -16,8 +16,6 @@ mod row_sum;
 mod rows;
 mod run;
 mod runs;
-#[cfg(test)]
-mod tests;
 mod turn;
 
 pub use bounds::Box4;

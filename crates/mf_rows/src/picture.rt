@@ -268,6 +268,3 @@ impl Picture {
         Ok(Picture { bands })
     }
 }
-
-#[cfg(test)]
-mod tests;

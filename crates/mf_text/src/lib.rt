@@ -9,8 +9,6 @@ mod path;
 mod reader;
 mod run_text;
 mod sentence;
-#[cfg(test)]
-mod tests;
 mod token;
 mod tokens;
 mod value;

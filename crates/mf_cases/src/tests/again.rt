@@ -5,10 +5,11 @@ mod pictures;
 
 use super::AMPLE;
 use super::fonts::{RECT, RECT_FILE};
-use crate::scripts::worked_scripts;
+use crate::tests::assertions::{assert_holds, assert_same};
 use mf_gf::{GfBytes, GfFault, GfFile};
 use mf_live::{Closing, Ended};
 use mf_session::{EndFault, Session};
+use mf_testing::{Script, worked_scripts};
 use std::alloc::Global;
 use std::process::Abort;
 use std::sync::Wait;
@@ -33,7 +34,7 @@ fn performed<R: Abort + Wait>(rt: &R, alloc: Global, session: &mut Session, line
             return text;
         }
     }
-    panic!(rt; "the line is not performed: {line}")
+    panic!(rt; "the line is not performed")
 }
 
 /// Ends the script of a session.
@@ -70,41 +71,48 @@ fn file_bytes(rt: &impl Abort, file: GfFile) -> GfBytes {
         match file.finish(AMPLE.font) {
             Ok(bytes) => return bytes,
             Err((back, GfFault::OutOfMemory)) => file = back,
-            Err((_, fault)) => panic!(rt; "{fault}"),
+            Err(_) => panic!(rt; "the font file is refused"),
         }
     }
     panic!(rt; "the font file is not finished")
 }
 
 /// The lines of a script print its transcript, one after another.
+fn assert_performs<R: Abort + Wait>(rt: &R, alloc: Global, script: &Script) {
+    let (script, transcript) = *script;
+    let mut session = opened(rt, alloc);
+    let mut rest = transcript.as_bytes();
+    for line in script.lines() {
+        let text = performed(rt, alloc, &mut session, line);
+        let more = rest.strip_prefix(text.as_slice());
+        assert_holds(rt, more.is_some(), (script, line));
+        rest = more.unwrap_or(b"");
+    }
+    session.discard(rt);
+    assert_holds(rt, rest.is_empty(), script);
+}
+
+/// A script ends with this file, and tells of this many operations.
+fn assert_ships<R: Abort + Wait>(rt: &R, alloc: Global, script: &str, revision: u32, bytes: &[u8]) {
+    let mut session = opened(rt, alloc);
+    for line in script.lines() {
+        performed(rt, alloc, &mut session, line);
+    }
+    let (mut ended, file) = finished(rt, session);
+    assert_same(rt, ended.notice().revision(), revision, script);
+    ended.discard(rt);
+    assert_same(rt, file_bytes(rt, file).bytes(), bytes, script);
+}
+
 #[test]
 fn perform_lines(rt: HostRuntime) {
-    let alloc = rt.alloc();
-    for (script, transcript) in worked_scripts().iter().copied().flatten() {
-        let mut session = opened(&rt, alloc);
-        let mut rest = transcript.as_bytes();
-        for line in script.lines() {
-            let text = performed(&rt, alloc, &mut session, line);
-            match rest.strip_prefix(text.as_slice()) {
-                Some(more) => rest = more,
-                None => panic!(rt; "{script}: {line}"),
-            }
-        }
-        session.discard(&rt);
-        assert!(rt; rest.is_empty(), "{script}");
+    for script in worked_scripts().iter().copied().flatten() {
+        assert_performs(&rt, rt.alloc(), script);
     }
 }
 
 /// What is shipped goes into the file that the end hands out, and all that was accepted is told.
 #[test]
 fn end_a_script(rt: HostRuntime) {
-    let alloc = rt.alloc();
-    let mut session = opened(&rt, alloc);
-    for line in RECT.lines() {
-        performed(&rt, alloc, &mut session, line);
-    }
-    let (mut ended, file) = finished(&rt, session);
-    assert_eq!(rt; ended.notice().revision(), 1);
-    ended.discard(&rt);
-    assert_eq!(rt; file_bytes(&rt, file).bytes(), RECT_FILE);
+    assert_ships(&rt, rt.alloc(), RECT, 1, RECT_FILE);
 }

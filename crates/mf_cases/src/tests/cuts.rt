@@ -4,12 +4,14 @@ mod texts;
 
 use super::AMPLE;
 use super::sessions::{finish, opened, perform};
-use crate::scripts::worked_scripts;
+use crate::tests::assertions::{assert_holds, assert_same};
 use mf_session::Session;
+use mf_testing::worked_scripts;
 use std::alloc::Global;
+use std::fmt::Debug;
 use std::process::Abort;
 use std::sync::Wait;
-use texts::cut_lines;
+use texts::{CutLine, cut_lines};
 
 /// What is looked at to see whether a cut has changed something: the pictures that the scripts change, and how many
 /// operations are accepted.
@@ -31,15 +33,33 @@ const SHORT_LOOKS: &str = "show totalweight currentpicture\n\
 /// A text is long where it has more bytes.
 const LONG: usize = 1000;
 
+/// Puts a text behind the others.
+fn append(rt: &impl Abort, texts: &mut Vec<u8>, text: &[u8]) {
+    texts
+        .extend_from_slice(text)
+        .expect(rt, "there is room for the text");
+}
+
 /// Performs the lines of a script, and says what they print.
 fn printed<R: Abort + Wait>(rt: &R, alloc: Global, session: &mut Session, script: &str) -> Vec<u8> {
     let mut all = Vec::new(alloc);
     for line in script.lines() {
         let text = perform(rt, alloc, session, line);
-        all.extend_from_slice(&text)
-            .expect(rt, "there is room for the text");
+        append(rt, &mut all, &text);
     }
     all
+}
+
+/// Performs a line that is cut, and says what it prints.
+fn perform_cut<R: Abort + Wait>(
+    rt: &R,
+    alloc: Global,
+    session: &mut Session,
+    cut: &[u8],
+) -> Vec<u8> {
+    session
+        .command(rt, alloc, cut)
+        .expect(rt, "there is room for the line")
 }
 
 /// Performs what is left of a line where it is cut at each byte. Says how many characters that ships.
@@ -50,12 +70,10 @@ fn perform_cuts<R: Abort + Wait>(rt: &R, alloc: Global, session: &mut Session, l
     let looks = if is_long { SHORT_LOOKS } else { LOOKS };
     let mut before = printed(rt, alloc, session, looks);
     for end in 0..bytes.len() {
-        let text = session
-            .command(rt, alloc, &bytes[..end])
-            .expect(rt, "there is room for the line");
+        let text = perform_cut(rt, alloc, session, &bytes[..end]);
         let behind = printed(rt, alloc, session, looks);
         if text.starts_with(b"refused") {
-            assert_eq!(rt; behind.as_slice(), before.as_slice(), "{line} cut at {end}");
+            assert_same(rt, behind.as_slice(), before.as_slice(), (line, end));
         }
         if text.starts_with(b"[") {
             shipped = shipped.saturating_add(1);
@@ -65,24 +83,35 @@ fn perform_cuts<R: Abort + Wait>(rt: &R, alloc: Global, session: &mut Session, l
     shipped
 }
 
-/// A cut that is refused changes no picture, is no operation, and ships nothing.
+/// A cut of a line of this script that is refused changes no picture, is no operation, and ships nothing.
+fn assert_cuts_change_nothing<R: Abort + Wait>(rt: &R, alloc: Global, script: &str) {
+    let (mut session, _) = opened(rt, alloc, AMPLE.max_ops);
+    let mut shipped: u32 = 0;
+    for line in script.lines() {
+        shipped = shipped.saturating_add(perform_cuts(rt, alloc, &mut session, line));
+        let text = perform(rt, alloc, &mut session, line);
+        if text.starts_with(b"[") {
+            shipped = shipped.saturating_add(1);
+        }
+    }
+    let (ended, file) = finish(rt, session);
+    ended.discard(rt);
+    assert_same(rt, file.count(), shipped, script);
+}
+
 #[test]
 fn refused_cuts_change_nothing(rt: HostRuntime) {
-    let alloc = rt.alloc();
     for (script, _) in worked_scripts().iter().copied().flatten() {
-        let (mut session, _) = opened(&rt, alloc, AMPLE.max_ops);
-        let mut shipped: u32 = 0;
-        for line in script.lines() {
-            shipped = shipped.saturating_add(perform_cuts(&rt, alloc, &mut session, line));
-            let text = perform(&rt, alloc, &mut session, line);
-            if text.starts_with(b"[") {
-                shipped = shipped.saturating_add(1);
-            }
-        }
-        let (ended, file) = finish(&rt, session);
-        ended.discard(&rt);
-        assert_eq!(rt; file.count(), shipped, "{script}");
+        assert_cuts_change_nothing(&rt, rt.alloc(), script);
     }
+}
+
+/// A text is a refusal as `Syntax` with this column.
+fn assert_refused<C: Debug + Drop>(rt: &impl Abort, text: &[u8], column: &str, case: C) {
+    let found = text
+        .strip_prefix(b"refused Syntax ")
+        .and_then(|rest| rest.strip_suffix(b"\n"));
+    assert_same(rt, found, Some(column.as_bytes()), case);
 }
 
 /// Performs the cuts of a line, of which one is refused as `Syntax` with its column, or is of lawful form, as the columns
@@ -98,44 +127,36 @@ fn lawful_texts<R: Abort + Wait>(
     let mut texts = Vec::new(alloc);
     let mut columns = columns.split(' ');
     for end in 0..bytes.len() {
-        let text = session
-            .command(rt, alloc, &bytes[..end])
-            .expect(rt, "there is room for the line");
+        let text = perform_cut(rt, alloc, session, &bytes[..end]);
         let column = columns.next().unwrap_or("");
         if column == "-" {
-            texts
-                .extend_from_slice(&text)
-                .expect(rt, "there is room for the text");
+            append(rt, &mut texts, &text);
         } else {
-            let refused = format!(in alloc; "refused Syntax {column}\n").expect(
-                rt,
-                "there is room for the text",
-            );
-            assert_eq!(rt; text.as_slice(), refused.as_bytes(), "{line} cut at {end}");
+            assert_refused(rt, &text, column, (line, end));
         }
     }
-    assert!(rt; columns.next().is_none(), "{line}");
+    assert_holds(rt, columns.next().is_none(), line);
     texts
+}
+
+/// The cuts of a line, and what is printed behind them, are these.
+fn assert_cuts_print<R: Abort + Wait>(rt: &R, alloc: Global, cut_line: &CutLine) {
+    let (line, columns, texts) = *cut_line;
+    let (mut session, _) = opened(rt, alloc, AMPLE.max_ops);
+    let first = "addto a contour (0,0)--(3,0)--(3,1)--(0,1)--cycle";
+    perform(rt, alloc, &mut session, first);
+    let mut all = lawful_texts(rt, alloc, &mut session, line, columns);
+    for last in [line, "show a", "show currentpicture", "publish"] {
+        let text = perform(rt, alloc, &mut session, last);
+        append(rt, &mut all, &text);
+    }
+    session.discard(rt);
+    assert_same(rt, all.as_slice(), texts.as_bytes(), line);
 }
 
 #[test]
 fn cuts_print_what_is_left(rt: HostRuntime) {
-    let alloc = rt.alloc();
-    for (line, columns, texts) in cut_lines() {
-        let (mut session, _) = opened(&rt, alloc, AMPLE.max_ops);
-        perform(
-            &rt,
-            alloc,
-            &mut session,
-            "addto a contour (0,0)--(3,0)--(3,1)--(0,1)--cycle",
-        );
-        let mut all = lawful_texts(&rt, alloc, &mut session, line, columns);
-        for last in [*line, "show a", "show currentpicture", "publish"] {
-            let text = perform(&rt, alloc, &mut session, last);
-            all.extend_from_slice(&text)
-                .expect(&rt, "there is room for the text");
-        }
-        session.discard(&rt);
-        assert_eq!(rt; all.as_slice(), texts.as_bytes(), "{line}");
+    for cut_line in cut_lines() {
+        assert_cuts_print(&rt, rt.alloc(), cut_line);
     }
 }

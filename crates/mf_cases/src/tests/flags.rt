@@ -1,6 +1,6 @@
 //! Flags that threads wait for, and streams that wait for them and set them.
 
-use crate::streams::{Pieces, Sink};
+use mf_testing::{Pieces, Sink};
 use std::io::{self, ErrorKind, Read, Write};
 use std::sync::atomic::{AtomicBool, Ordering};
 use std::thread::yield_now;

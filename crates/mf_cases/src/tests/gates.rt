@@ -1,11 +1,25 @@
 //! Viewers that wait while they hold a look.
 
-use super::flags::{Flag, ReadsAfter, TURNS, Tells};
-use super::{AMPLE, BLANK, PUBLISHED, PUBLISHED_TEXT, SIX};
-use crate::streams::{Pieces, Sink};
-use mf_desk::{Gate, perform};
-use std::sync::Arc;
-use std::test::Fail;
+mod outcomes;
+
+use super::flags::{Flag, ReadsAfter, TURNS};
+use super::{BLANK, PUBLISHED, PUBLISHED_TEXT, SIX};
+use crate::tests::assertions::{assert_holds, assert_same};
+use mf_desk::{Gate, Glance};
+use mf_testing::Pieces;
+use outcomes::{assert_saw, outcome_of, outcome_telling, shared};
+use std::process::Abort;
+
+/// A rectangle of 3 by 2 pixels, whose total is printed before it is published.
+const SHOWN: &[u8] = b"addto currentpicture contour (0,0)--(3,0)--(3,2)--(0,2)--cycle\n\
+                       show totalweight currentpicture\n\
+                       publish\n";
+
+/// A rectangle of 3 by 2 pixels, which is published, given weight 2, and published again.
+const PUBLISHED_TWICE: &[u8] = b"addto currentpicture contour (0,0)--(3,0)--(3,2)--(0,2)--cycle\n\
+                                 publish\n\
+                                 cull currentpicture keeping (1,1) withweight 2\n\
+                                 publish\n";
 
 /// Each of two viewers waits for the look of the other.
 #[derive(Drop)]
@@ -30,21 +44,21 @@ impl Gate for Meeting {
 }
 
 #[test]
-fn looks_are_held_at_once(rt: HostRuntime) -> Result<(), Fail> {
-    let alloc = rt.alloc();
-    let gate = Meeting {
+fn looks_are_held_at_once(rt: HostRuntime) {
+    let meeting = Meeting {
         first: Flag::new(),
         second: Flag::new(),
         missed: Flag::new(),
     };
-    let gate = Arc::new(alloc, gate)?;
-    let mut reader = Pieces::whole(b"");
-    let mut writer = Sink::new(alloc);
-    let result = perform(&rt, alloc, &mut reader, &mut writer, &AMPLE, 2, 1, &gate);
-    assert_eq!(rt; result.err(), None);
-    assert!(rt; gate.first.is_set() && gate.second.is_set());
-    assert!(rt; !gate.missed.is_set());
-    Ok(())
+    let gate = shared(&rt, meeting);
+    let text = b"viewer 0 revision 0 totalweight 0\nviewer 1 revision 0 totalweight 0\n";
+    outcome_of(&rt, &gate, &mut Pieces::whole(b""), 2, 1, text);
+    assert_holds(
+        &rt,
+        gate.first.is_set() && gate.second.is_set(),
+        "both look",
+    );
+    assert_holds(&rt, !gate.missed.is_set(), "they meet");
 }
 
 /// Tells that viewer 0 holds a look.
@@ -62,22 +76,15 @@ impl Gate for TellsOfLook {
 }
 
 #[test]
-fn looks_before_the_first_read(rt: HostRuntime) -> Result<(), Fail> {
-    let alloc = rt.alloc();
-    let gate = Arc::new(alloc, TellsOfLook { held: Flag::new() })?;
+fn looks_before_the_first_read(rt: HostRuntime) {
+    let gate = shared(&rt, TellsOfLook { held: Flag::new() });
     let mut reader = ReadsAfter {
         flag: &gate.held,
         pieces: Pieces::whole(PUBLISHED.as_bytes()),
     };
-    let mut writer = Sink::new(alloc);
-    let outcome = perform(&rt, alloc, &mut reader, &mut writer, &AMPLE, 2, 1, &gate).expect(
-        &rt,
-        "viewer 0 looks while nothing is read",
-    );
-    assert_eq!(rt; writer.taken(), PUBLISHED_TEXT.as_bytes());
-    let seen = outcome.seen.first().expect(&rt, "there is viewer 0");
-    assert_eq!(rt; seen.as_slice(), [BLANK, SIX].as_slice());
-    Ok(())
+    let text = PUBLISHED_TEXT.as_bytes();
+    let outcome = outcome_of(&rt, &gate, &mut reader, 2, 1, text);
+    assert_saw(&rt, &outcome, 0, &[BLANK, SIX]);
 }
 
 /// Each look waits for a while for what the script prints.
@@ -92,42 +99,35 @@ impl Gate for WaitsAWhile {
     }
 }
 
+/// A viewer has looked 100,000 times beside the script and once behind it, and the last look of either shows the
+/// rectangle.
+fn assert_saw_six(rt: &impl Abort, seen: &[Glance]) {
+    let last = (seen.get(99_999).copied(), seen.last().copied());
+    assert_same(rt, last, (Some(SIX), Some(SIX)), "last looks");
+    assert_same(rt, seen.len(), 100_001, "looks");
+}
+
 /// The last look beside the script shows what was published before it, and a publish comes through among looks that
 /// follow each other.
 #[test]
-fn looks_show_what_was_published(rt: HostRuntime) -> Result<(), Fail> {
-    let alloc = rt.alloc();
-    let gate = Arc::new(
-        alloc,
-        WaitsAWhile {
-            printed: Flag::new(),
-        },
-    )?;
-    let mut reader = Pieces::whole(PUBLISHED.as_bytes());
-    let mut writer = Tells {
-        flag: &gate.printed,
-        text: b"published 1\n",
-        sink: Sink::new(alloc),
+fn looks_show_what_was_published(rt: HostRuntime) {
+    let waits = WaitsAWhile {
+        printed: Flag::new(),
     };
-    let outcome = perform(
+    let gate = shared(&rt, waits);
+    let outcome = outcome_telling(
         &rt,
-        alloc,
-        &mut reader,
-        &mut writer,
-        &AMPLE,
+        &gate,
+        &mut Pieces::whole(PUBLISHED.as_bytes()),
         2,
         100_000,
-        &gate,
-    )
-    .expect(&rt, "the script is performed to its end");
-    assert_eq!(rt; writer.sink.taken(), PUBLISHED_TEXT.as_bytes());
-    assert_eq!(rt; outcome.seen.len(), 2);
+        (&gate.printed, b"published 1\n"),
+        PUBLISHED_TEXT.as_bytes(),
+    );
+    assert_same(&rt, outcome.seen.len(), 2, "viewers");
     for seen in &outcome.seen {
-        assert_eq!(rt; seen.len(), 100_001);
-        assert_eq!(rt; seen.get(99_999), Some(&SIX));
-        assert_eq!(rt; seen.last(), Some(&SIX));
+        assert_saw_six(&rt, seen);
     }
-    Ok(())
 }
 
 /// A look is held until the script has printed something.
@@ -150,38 +150,28 @@ impl Gate for WaitsForText {
 
 /// Only a publish waits for a look: lines before it are performed while one is held.
 #[test]
-fn lines_are_performed_while_a_look_is_held(rt: HostRuntime) -> Result<(), Fail> {
-    let alloc = rt.alloc();
-    let gate = WaitsForText {
+fn lines_are_performed_while_a_look_is_held(rt: HostRuntime) {
+    let waits = WaitsForText {
         held: Flag::new(),
         printed: Flag::new(),
         seen: Flag::new(),
     };
-    let gate = Arc::new(alloc, gate)?;
-    let script = b"addto currentpicture contour (0,0)--(3,0)--(3,2)--(0,2)--cycle\n\
-                   show totalweight currentpicture\n\
-                   publish\n";
+    let gate = shared(&rt, waits);
     let mut reader = ReadsAfter {
         flag: &gate.held,
-        pieces: Pieces::whole(script),
+        pieces: Pieces::whole(SHOWN),
     };
-    let mut writer = Tells {
-        flag: &gate.printed,
-        text: b"totalweight 6\n",
-        sink: Sink::new(alloc),
-    };
-    let outcome = perform(&rt, alloc, &mut reader, &mut writer, &AMPLE, 1, 1, &gate).expect(
+    let outcome = outcome_telling(
         &rt,
-        "viewer 0 looks while nothing is read",
+        &gate,
+        &mut reader,
+        1,
+        1,
+        (&gate.printed, b"totalweight 6\n"),
+        b"totalweight 6\npublished 1\nviewer 0 revision 1 totalweight 6\n",
     );
-    assert!(rt; gate.seen.is_set());
-    assert_eq!(rt;
-        writer.sink.taken(),
-        b"totalweight 6\npublished 1\nviewer 0 revision 1 totalweight 6\n".as_slice()
-    );
-    let seen = outcome.seen.first().expect(&rt, "there is viewer 0");
-    assert_eq!(rt; seen.as_slice(), [BLANK, SIX].as_slice());
-    Ok(())
+    assert_holds(&rt, gate.seen.is_set(), "the text came");
+    assert_saw(&rt, &outcome, 0, &[BLANK, SIX]);
 }
 
 /// A look is held for a while, and no longer than until the script has published twice.
@@ -204,35 +194,28 @@ impl Gate for HoldsOn {
 
 /// Of two publishes beside a look that is held, the second waits until it is left.
 #[test]
-fn second_publish_waits_for_a_held_look(rt: HostRuntime) -> Result<(), Fail> {
-    let alloc = rt.alloc();
-    let gate = HoldsOn {
+fn second_publish_waits_for_a_held_look(rt: HostRuntime) {
+    let holds = HoldsOn {
         held: Flag::new(),
         published: Flag::new(),
         seen: Flag::new(),
     };
-    let gate = Arc::new(alloc, gate)?;
-    let script = b"addto currentpicture contour (0,0)--(3,0)--(3,2)--(0,2)--cycle\n\
-                   publish\n\
-                   cull currentpicture keeping (1,1) withweight 2\n\
-                   publish\n";
+    let gate = shared(&rt, holds);
     let mut reader = ReadsAfter {
         flag: &gate.held,
-        pieces: Pieces::whole(script),
+        pieces: Pieces::whole(PUBLISHED_TWICE),
     };
-    let mut writer = Tells {
-        flag: &gate.published,
-        text: b"published 2\n",
-        sink: Sink::new(alloc),
-    };
-    let result = perform(&rt, alloc, &mut reader, &mut writer, &AMPLE, 1, 1, &gate);
-    assert_eq!(rt; result.err(), None);
-    assert!(rt; gate.published.is_set() && !gate.seen.is_set());
-    assert_eq!(rt;
-        writer.sink.taken(),
-        b"published 1\npublished 2\nviewer 0 revision 2 totalweight 12\n".as_slice()
+    outcome_telling(
+        &rt,
+        &gate,
+        &mut reader,
+        1,
+        1,
+        (&gate.published, b"published 2\n"),
+        b"published 1\npublished 2\nviewer 0 revision 2 totalweight 12\n",
     );
-    Ok(())
+    let waited = gate.published.is_set() && !gate.seen.is_set();
+    assert_holds(&rt, waited, "the second publish waited");
 }
 
 /// The script is read when viewer 0 has looked twice and viewer 1 holds its first look, which lasts until the script has
@@ -257,30 +240,26 @@ impl Gate for TakesTurns {
 }
 
 #[test]
-fn records_stand_in_the_order_of_the_viewers(rt: HostRuntime) -> Result<(), Fail> {
-    let alloc = rt.alloc();
-    let gate = TakesTurns {
+fn records_stand_in_the_order_of_the_viewers(rt: HostRuntime) {
+    let turns = TakesTurns {
         held: Flag::new(),
         looked: Flag::new(),
         printed: Flag::new(),
     };
-    let gate = Arc::new(alloc, gate)?;
+    let gate = shared(&rt, turns);
     let mut reader = ReadsAfter {
         flag: &gate.looked,
         pieces: Pieces::whole(PUBLISHED.as_bytes()),
     };
-    let mut writer = Tells {
-        flag: &gate.printed,
-        text: b"published 1\n",
-        sink: Sink::new(alloc),
-    };
-    let outcome = perform(&rt, alloc, &mut reader, &mut writer, &AMPLE, 2, 2, &gate).expect(
+    let outcome = outcome_telling(
         &rt,
-        "viewer 0 looks twice, and viewer 1 once, while nothing is read",
+        &gate,
+        &mut reader,
+        2,
+        2,
+        (&gate.printed, b"published 1\n"),
+        PUBLISHED_TEXT.as_bytes(),
     );
-    let first = outcome.seen.first().expect(&rt, "there is viewer 0");
-    assert_eq!(rt; first.as_slice(), [BLANK, BLANK, SIX].as_slice());
-    let second = outcome.seen.last().expect(&rt, "there is viewer 1");
-    assert_eq!(rt; second.as_slice(), [BLANK, SIX, SIX].as_slice());
-    Ok(())
+    assert_saw(&rt, &outcome, 0, &[BLANK, BLANK, SIX]);
+    assert_saw(&rt, &outcome, 1, &[BLANK, SIX, SIX]);
 }

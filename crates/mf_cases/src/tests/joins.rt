@@ -2,11 +2,11 @@
 
 use super::AMPLE;
 use super::flags::{Flag, ReadsAfter};
-use crate::streams::{Pieces, Sink};
+use crate::tests::assertions::{assert_holds, assert_same};
 use mf_desk::{Gate, OpenGate, RunFault, perform};
+use mf_testing::{Pieces, Sink};
 use std::process::Abort;
 use std::sync::{Arc, Wait};
-use std::test::Fail;
 use std::thread::{Threads, yield_now};
 
 /// Tells that a look is held, and that it ends after a while.
@@ -26,12 +26,14 @@ impl Gate for LeavesLate {
     }
 }
 
-/// A fault that comes while a look is held is answered after the look, and after its thread, which has the gate too.
+/// A fault that comes while a look is held is answered after the look, and after its thread, which has the gate too. The
+/// writer has taken this text.
 fn assert_ends_late<R: Abort + Wait + Threads + AllocGlobal>(
     rt: &R,
     pieces: Pieces<'_>,
-    writer: &mut Sink,
+    mut writer: Sink,
     fault: RunFault,
+    text: &[u8],
 ) {
     let alloc = rt.alloc();
     let gate = LeavesLate {
@@ -43,45 +45,56 @@ fn assert_ends_late<R: Abort + Wait + Threads + AllocGlobal>(
         flag: &gate.held,
         pieces,
     };
-    let result = perform(rt, alloc, &mut reader, writer, &AMPLE, 1, 1, &gate);
-    assert_eq!(rt; result.err(), Some(fault));
-    assert!(rt; gate.left.is_set());
-    assert_eq!(rt; Arc::strong_count(&gate), 1);
+    let result = perform(rt, alloc, &mut reader, &mut writer, &AMPLE, 1, 1, &gate);
+    assert_same(
+        rt,
+        (result.err(), writer.taken()),
+        (Some(fault), text),
+        fault,
+    );
+    assert_holds(rt, gate.left.is_set(), "the look was left");
+    assert_same(rt, Arc::strong_count(&gate), 1, "the threads have ended");
 }
 
 #[test]
 fn faults_wait_for_looks(rt: HostRuntime) {
     let alloc = rt.alloc();
     let script = b"show totalweight a\n";
-    let mut writer = Sink::new(alloc);
     assert_ends_late(
         &rt,
         Pieces::failing(script),
-        &mut writer,
+        Sink::new(alloc),
         RunFault::ReadFault,
+        b"totalweight 0\n",
     );
-    assert_eq!(rt; writer.taken(), b"totalweight 0\n".as_slice());
-    let mut writer = Sink::failing(alloc, 5);
     assert_ends_late(
         &rt,
         Pieces::whole(script),
-        &mut writer,
+        Sink::failing(alloc, 5),
         RunFault::WriteFault(5),
+        b"total",
     );
-    assert_eq!(rt; writer.taken(), b"total".as_slice());
 }
 
 /// Threads that have hardly begun when the fault comes are joined too: none has the gate any more.
-#[test]
-fn faults_wait_for_all_threads(rt: HostRuntime) -> Result<(), Fail> {
+fn assert_joins_all<R: Abort + Wait + Threads + AllocGlobal>(rt: &R) {
     let alloc = rt.alloc();
+    let gate = Arc::new(alloc, OpenGate).expect(rt, "there is room for a gate");
+    let mut reader = Pieces::failing(b"");
+    let mut writer = Sink::new(alloc);
+    let result = perform(rt, alloc, &mut reader, &mut writer, &AMPLE, 64, 1, &gate);
+    assert_same(
+        rt,
+        result.err(),
+        Some(RunFault::ReadFault),
+        "nothing is read",
+    );
+    assert_same(rt, Arc::strong_count(&gate), 1, "the threads have ended");
+}
+
+#[test]
+fn faults_wait_for_all_threads(rt: HostRuntime) {
     for _ in 0..10 {
-        let gate = Arc::new(alloc, OpenGate)?;
-        let mut reader = Pieces::failing(b"");
-        let mut writer = Sink::new(alloc);
-        let result = perform(&rt, alloc, &mut reader, &mut writer, &AMPLE, 64, 1, &gate);
-        assert_eq!(rt; result.err(), Some(RunFault::ReadFault));
-        assert_eq!(rt; Arc::strong_count(&gate), 1);
+        assert_joins_all(&rt);
     }
-    Ok(())
 }

@@ -1,7 +1,7 @@
 //! Long lines and long contours.
 
 use super::{assert_prints, joined};
-use crate::streams::Pieces;
+use mf_testing::Pieces;
 use std::alloc::{AllocError, Global};
 use std::test::Fail;
 

@@ -1,8 +1,8 @@
 //! How many operations `currentpicture` accepts.
 
-use super::AMPLE;
-use crate::streams::{Pieces, Sink};
-use mf_desk::{Settings, run};
+use super::{AMPLE, assert_ends};
+use mf_desk::Settings;
+use mf_testing::Pieces;
 use std::process::Abort;
 use std::sync::Wait;
 
@@ -13,13 +13,10 @@ fn assert_prints_within<R: Abort + Wait + AllocGlobal>(
     script: &str,
     transcript: &str,
 ) {
-    let alloc = rt.alloc();
-    let mut writer = Sink::new(alloc);
     let mut reader = Pieces::whole(script.as_bytes());
     let settings = Settings { max_ops, ..AMPLE };
-    let result = run(rt, alloc, &mut reader, &mut writer, &settings);
-    assert_eq!(rt; result.err(), None, "{script}");
-    assert_eq!(rt; writer.taken(), transcript.as_bytes(), "{script}");
+    let end = (None, transcript.as_bytes());
+    assert_ends(rt, &mut reader, &settings, end, script);
 }
 
 #[test]

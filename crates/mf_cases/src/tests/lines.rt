@@ -1,7 +1,7 @@
 //! How lines end, at each place at which a read may end, and the bytes that lines may have.
 
 use super::{assert_prints, joined};
-use crate::streams::Pieces;
+use mf_testing::Pieces;
 use std::process::Abort;
 use std::sync::Wait;
 use std::test::Fail;

@@ -1,9 +1,12 @@
 //! A read or a write that was answered is not tried again, whatever a second one would answer.
 
-use super::AMPLE;
-use crate::streams::{Pieces, Sink};
+use super::{AMPLE, assert_ends};
+use crate::tests::assertions::{assert_holds, assert_same};
 use mf_desk::{RunFault, run};
+use mf_testing::{Pieces, Sink};
 use std::io::{self, ErrorKind, Read, Write};
+use std::process::Abort;
+use std::sync::Wait;
 
 /// A line, and what it prints.
 const LINE: &str = "show totalweight currentpicture\n";
@@ -36,46 +39,39 @@ impl Read for Breaks<'_> {
     }
 }
 
+/// A reader that breaks between these two texts.
+fn broken<'a>(before: &'a str, behind: &'a str, is_interrupted: bool) -> Breaks<'a> {
+    Breaks {
+        before: Pieces::whole(before.as_bytes()),
+        behind: Pieces::whole(behind.as_bytes()),
+        is_interrupted,
+        is_over: false,
+    }
+}
+
 #[test]
 fn interrupted_read_is_a_fault(rt: HostRuntime) {
-    let alloc = rt.alloc();
     for (before, behind, text) in [
         ("", LINE, ""),
         ("show totalweight", " currentpicture\n", ""),
         (LINE, LINE, TEXT),
     ] {
-        let mut reader = Breaks {
-            before: Pieces::whole(before.as_bytes()),
-            behind: Pieces::whole(behind.as_bytes()),
-            is_interrupted: true,
-            is_over: false,
-        };
-        let mut writer = Sink::new(alloc);
-        let result = run(&rt, alloc, &mut reader, &mut writer, &AMPLE);
-        assert_eq!(rt; result.err(), Some(RunFault::ReadFault), "behind {before}");
-        assert_eq!(rt; writer.taken(), text.as_bytes(), "behind {before}");
+        let mut reader = broken(before, behind, true);
+        let end = (Some(RunFault::ReadFault), text.as_bytes());
+        assert_ends(&rt, &mut reader, &AMPLE, end, before);
     }
 }
 
 /// A terminal may give more behind the end.
 #[test]
 fn nothing_is_read_behind_the_end(rt: HostRuntime) {
-    let alloc = rt.alloc();
     for (before, behind, text) in [
         ("", LINE, ""),
         ("show totalweight currentpicture", LINE, TEXT),
         (LINE, LINE, TEXT),
     ] {
-        let mut reader = Breaks {
-            before: Pieces::whole(before.as_bytes()),
-            behind: Pieces::whole(behind.as_bytes()),
-            is_interrupted: false,
-            is_over: false,
-        };
-        let mut writer = Sink::new(alloc);
-        let result = run(&rt, alloc, &mut reader, &mut writer, &AMPLE);
-        assert_eq!(rt; result.err(), None, "behind {before}");
-        assert_eq!(rt; writer.taken(), text.as_bytes(), "behind {before}");
+        let mut reader = broken(before, behind, false);
+        assert_ends(&rt, &mut reader, &AMPLE, (None, text.as_bytes()), before);
     }
 }
 
@@ -105,18 +101,23 @@ impl Write for InterruptedOnce {
     }
 }
 
+/// A run whose writer is interrupted so is a fault, and the writer takes nothing.
+fn assert_write_fault<R: Abort + Wait + AllocGlobal>(rt: &R, in_write: bool, in_flush: bool) {
+    let alloc = rt.alloc();
+    let mut writer = InterruptedOnce {
+        in_write,
+        in_flush,
+        sink: Sink::new(alloc),
+    };
+    let mut reader = Pieces::whole(LINE.as_bytes());
+    let result = run(rt, alloc, &mut reader, &mut writer, &AMPLE);
+    let case = (in_write, in_flush);
+    assert_same(rt, result.err(), Some(RunFault::WriteFault(0)), case);
+    assert_holds(rt, writer.sink.taken().is_empty(), case);
+}
+
 #[test]
 fn interrupted_write_is_a_fault(rt: HostRuntime) {
-    let alloc = rt.alloc();
-    for (in_write, in_flush) in [(true, false), (false, true)] {
-        let mut writer = InterruptedOnce {
-            in_write,
-            in_flush,
-            sink: Sink::new(alloc),
-        };
-        let mut reader = Pieces::whole(LINE.as_bytes());
-        let result = run(&rt, alloc, &mut reader, &mut writer, &AMPLE);
-        assert_eq!(rt; result.err(), Some(RunFault::WriteFault(0)));
-        assert!(rt; writer.sink.taken().is_empty());
-    }
+    assert_write_fault(&rt, true, false);
+    assert_write_fault(&rt, false, true);
 }

@@ -5,6 +5,7 @@ ghost use Rattle.mf_live.specs.Viewers as viewers;
 use super::AMPLE;
 use super::fonts::{RECT, RECT_FILE};
 use super::sessions::{finish, opened, perform};
+use crate::tests::assertions::assert_same;
 use mf_gf::{GfFault, GfFile};
 use mf_live::{Ended, Viewer};
 use std::alloc::Global;
@@ -26,12 +27,19 @@ fn assert_shows<R: Abort>(rt: &R, viewer: Viewer, revision: u32, total: i64) -> 
 {
     match viewer.look() {
         Ok(look) => {
-            assert_eq!(rt; look.revision(), revision);
-            assert_eq!(rt; look.picture().total(), total);
+            let shown = (look.revision(), look.picture().total());
+            assert_same(rt, shown, (revision, total), "a look");
             look.leave()
         }
         Err(_) => panic!(rt; "the look is not answered"),
     }
+}
+
+/// The notice of the end tells of so many operations.
+fn assert_tells<R: Abort + Wait>(rt: &R, alloc: Global, script: &str, revision: u32) {
+    let (mut ended, _) = finished(rt, alloc, script);
+    assert_same(rt, ended.notice().revision(), revision, script);
+    ended.discard(rt);
 }
 
 /// The notice of the end tells of each operation that was accepted, published or not.
@@ -61,29 +69,34 @@ fn tell_of_all_operations(rt: HostRuntime) {
             3,
         ),
     ] {
-        let (mut ended, _) = finished(&rt, rt.alloc(), script);
-        assert_eq!(rt; ended.notice().revision(), revision, "{script}");
-        ended.discard(&rt);
+        assert_tells(&rt, rt.alloc(), script, revision);
+    }
+}
+
+/// The end hands out a file with so many characters, which is finished as these bytes, or refused.
+fn assert_hands_out<R: Abort + Wait>(
+    rt: &R,
+    alloc: Global,
+    script: &str,
+    count: u32,
+    end: Result<&[u8], GfFault>,
+) {
+    let (ended, file) = finished(rt, alloc, script);
+    ended.discard(rt);
+    assert_same(rt, file.count(), count, script);
+    match file.finish(AMPLE.font) {
+        Ok(gf) => assert_same(rt, Ok(gf.bytes()), end, script),
+        Err((_, fault)) => assert_same(rt, Err(fault), end, script),
     }
 }
 
 /// What is shipped goes into the file that the end hands out.
 #[test]
 fn hand_out_the_font_file(rt: HostRuntime) {
-    let (ended, file) = finished(&rt, rt.alloc(), RECT);
-    ended.discard(&rt);
-    assert_eq!(rt; file.count(), 1);
-    match file.finish(AMPLE.font) {
-        Ok(gf) => assert_eq!(rt; gf.bytes(), RECT_FILE),
-        Err((_, fault)) => panic!(rt; "{fault:?}"),
-    }
+    let alloc = rt.alloc();
+    assert_hands_out(&rt, alloc, RECT, 1, Ok(RECT_FILE));
     for script in ["", "show a\n", "shipout a code 256 dx 0 width 0\n"] {
-        let (ended, file) = finished(&rt, rt.alloc(), script);
-        ended.discard(&rt);
-        match file.finish(AMPLE.font) {
-            Ok(_) => panic!(rt; "nothing was shipped: {script}"),
-            Err((_, fault)) => assert_eq!(rt; fault, GfFault::NoCharacters, "{script}"),
-        }
+        assert_hands_out(&rt, alloc, script, 0, Err(GfFault::NoCharacters));
     }
 }
 

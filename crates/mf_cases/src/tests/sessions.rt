@@ -4,17 +4,18 @@ ghost use Rattle.mf_session.specs.Sessions.{StandsFor, name};
 ghost use Rattle.mf_session.specs.States.{State, start};
 ghost use Rattle.mf_live.specs.Desks.{desk_name};
 ghost use Rattle.mf_live.specs.Writers.{ended_name};
+ghost use Rattle.mf_text.specs.Registers.{IsName};
 
 use super::AMPLE;
-use crate::scripts::worked_scripts;
+use crate::tests::assertions::assert_same;
 use mf_gf::GfFile;
-use mf_live::{Desk, Ended};
+use mf_live::{Desk, Ended, Viewer};
 use mf_session::Session;
+use mf_testing::{Script, worked_scripts};
 use mf_text::Name;
 use std::alloc::Global;
 use std::process::Abort;
 use std::sync::Wait;
-use std::test::Fail;
 
 /// A session of which so many operations on `currentpicture` are accepted, and its desk with one place.
 pub(crate) fn opened<R: Abort + Wait>(rt: &R, alloc: Global, max_ops: u32) -> (Session, Desk)
@@ -62,35 +63,55 @@ fn is_operation(line: &str, text: &[u8]) -> bool {
 }
 
 /// The lines of a script print its transcript, one after another. Its end tells of the operations that were accepted.
-#[test]
-fn perform_scripts(rt: HostRuntime) -> Result<(), Fail> {
-    let alloc = rt.alloc();
-    for (script, transcript) in worked_scripts().iter().copied().flatten() {
-        let (mut session, _) = opened(&rt, alloc, AMPLE.max_ops);
-        let mut printed = Vec::new(alloc);
-        let mut operations: u32 = 0;
-        for line in script.lines() {
-            let text = perform(&rt, alloc, &mut session, line);
-            if is_operation(line, &text) {
-                operations = operations.saturating_add(1);
-            }
-            printed
-                .extend_from_slice(&text)
-                .expect(&rt, "there is room for the text");
+fn assert_performs<R: Abort + Wait>(rt: &R, alloc: Global, script: &Script) {
+    let (script, transcript) = *script;
+    let (mut session, _) = opened(rt, alloc, AMPLE.max_ops);
+    let mut printed = Vec::new(alloc);
+    let mut operations: u32 = 0;
+    for line in script.lines() {
+        let text = perform(rt, alloc, &mut session, line);
+        if is_operation(line, &text) {
+            operations = operations.saturating_add(1);
         }
-        let (mut ended, _) = finish(&rt, session);
-        let revision = ended.notice().revision();
-        ended.discard(&rt);
-        assert_eq!(rt; printed.as_slice(), transcript.as_bytes(), "{script}");
-        assert_eq!(rt; revision, operations, "{script}");
+        printed
+            .extend_from_slice(&text)
+            .expect(rt, "there is room for the text");
     }
-    Ok(())
+    let (mut ended, _) = finish(rt, session);
+    let revision = ended.notice().revision();
+    ended.discard(rt);
+    let found = (printed.as_slice(), revision);
+    assert_same(rt, found, (transcript.as_bytes(), operations), script);
 }
 
 #[test]
-fn lend_pictures(rt: HostRuntime) -> Result<(), Fail> {
-    let alloc = rt.alloc();
-    let (mut session, _) = opened(&rt, alloc, 2);
+fn perform_scripts(rt: HostRuntime) {
+    for script in worked_scripts().iter().copied().flatten() {
+        assert_performs(&rt, rt.alloc(), script);
+    }
+}
+
+/// The line prints this.
+fn assert_prints<R: Abort + Wait + AllocGlobal>(
+    rt: &R,
+    session: &mut Session,
+    line: &str,
+    text: &str,
+) {
+    let printed = perform(rt, rt.alloc(), session, line);
+    assert_same(rt, printed.as_slice(), text.as_bytes(), line);
+}
+
+/// The picture of this name has this total.
+fn assert_total(rt: &impl Abort, session: &Session, name: Name, total: i64)
+    requires { IsName name }
+{
+    assert_same(rt, session.picture(&name).total(), total, name);
+}
+
+#[test]
+fn lend_pictures(rt: HostRuntime) {
+    let (mut session, _) = opened(&rt, rt.alloc(), 2);
     for (line, text) in [
         (
             "addto currentpicture contour (0,0)--(3,0)--(3,2)--(0,2)--cycle",
@@ -106,43 +127,42 @@ fn lend_pictures(rt: HostRuntime) -> Result<(), Fail> {
         ),
         ("publish", "published 2\n"),
     ] {
-        let printed = perform(&rt, alloc, &mut session, line);
-        assert_eq!(rt; printed.as_slice(), text.as_bytes(), "{line}");
+        assert_prints(&rt, &mut session, line, text);
     }
-    let totals = [
-        (Name::Current, 18),
-        (Name::Register(0), 0),
-        (Name::Register(24), 0),
-        (Name::Register(25), 12),
-    ];
-    for (name, total) in totals {
-        let picture = session.picture(&name);
-        assert_eq!(rt; picture.total(), total, "{name:?}");
-    }
+    assert_total(&rt, &session, Name::Current, 18);
+    assert_total(&rt, &session, Name::Register(0), 0);
+    assert_total(&rt, &session, Name::Register(24), 0);
+    assert_total(&rt, &session, Name::Register(25), 12);
     session.discard(&rt);
-    Ok(())
 }
 
-/// The desk of a session gives out viewers of its `currentpicture`.
-#[test]
-fn have_viewers(rt: HostRuntime) -> Result<(), Fail> {
-    let alloc = rt.alloc();
-    let (mut session, mut desk) = opened(&rt, alloc, AMPLE.max_ops);
-    let viewer = desk.viewer().expect(&rt, "a place is left");
-    let fill = "addto currentpicture contour (0,0)--(3,0)--(3,2)--(0,2)--cycle";
-    for (line, text) in [(fill, ""), ("publish", "published 1\n"), (fill, "")] {
-        let printed = perform(&rt, alloc, &mut session, line);
-        assert_eq!(rt; printed.as_slice(), text.as_bytes(), "{line}");
-    }
+/// The viewer is shown so many operations, and a picture of this total.
+fn assert_sees(rt: &impl Abort, viewer: Viewer, revision: u32, total: i64) {
     match viewer.look() {
         Ok(look) => {
-            assert_eq!(rt; look.revision(), 1);
-            assert_eq!(rt; look.picture().total(), 6);
+            let seen = (look.revision(), look.picture().total());
+            assert_same(rt, seen, (revision, total), "a look");
             drop(look);
         }
         Err(_) => panic!(rt; "the writer is there"),
     }
-    assert_eq!(rt; session.picture(&Name::Current).total(), 12);
+}
+
+/// A viewer of the desk's picture.
+fn seated(rt: &impl Abort, desk: &mut Desk) -> Viewer {
+    desk.viewer().expect(rt, "a place is left")
+}
+
+/// The desk of a session gives out viewers of its `currentpicture`.
+#[test]
+fn have_viewers(rt: HostRuntime) {
+    let (mut session, mut desk) = opened(&rt, rt.alloc(), AMPLE.max_ops);
+    let viewer = seated(&rt, &mut desk);
+    let fill = "addto currentpicture contour (0,0)--(3,0)--(3,2)--(0,2)--cycle";
+    for (line, text) in [(fill, ""), ("publish", "published 1\n"), (fill, "")] {
+        assert_prints(&rt, &mut session, line, text);
+    }
+    assert_sees(&rt, viewer, 1, 6);
+    assert_total(&rt, &session, Name::Current, 12);
     session.discard(&rt);
-    Ok(())
 }

@@ -1,16 +1,13 @@
 //! The scripts and their transcripts, however the script is cut into reads and however its lines end.
 
 use super::assert_prints;
-use crate::scripts::worked_scripts;
-use crate::streams::Pieces;
+use mf_testing::{Pieces, worked_scripts};
+use std::process::Abort;
 use std::test::Fail;
 
-#[test]
-fn in_one_read(rt: HostRuntime) {
-    for (script, transcript) in worked_scripts().iter().copied().flatten() {
-        let reader = Pieces::whole(script.as_bytes());
-        assert_prints(&rt, reader, transcript.as_bytes(), script);
-    }
+/// The script without its last line feed.
+fn unended<'a>(rt: &impl Abort, script: &'a str) -> &'a str {
+    script.strip_suffix('\n').expect(rt, "the last line ends")
 }
 
 #[test]
@@ -21,6 +18,7 @@ fn byte_by_byte(rt: HostRuntime) {
     }
 }
 
+/// The last split is none: all is in one read.
 #[test]
 fn in_two_pieces(rt: HostRuntime) {
     for (script, transcript) in worked_scripts().iter().copied().flatten() {
@@ -36,8 +34,7 @@ fn in_two_pieces(rt: HostRuntime) {
 #[test]
 fn without_the_last_line_feed(rt: HostRuntime) {
     for (script, transcript) in worked_scripts().iter().copied().flatten() {
-        let unended = script.strip_suffix('\n').expect(&rt, "the last line ends");
-        let reader = Pieces::whole(unended.as_bytes());
+        let reader = Pieces::whole(unended(&rt, script).as_bytes());
         assert_prints(&rt, reader, transcript.as_bytes(), script);
     }
 }

@@ -1,6 +1,7 @@
 //! Pictures that are built and changed, in calls that were refused for want of memory and are made again.
 
 use super::TRIES;
+use crate::tests::assertions::{assert_holds, assert_same};
 use mf_geom::{Cycle, OutOfMemory, Point};
 use mf_ops::{Cull, Op, OpFault, Quarter, Scale, Sign, Weight, after};
 use mf_rows::{Picture, RowBuilder, Run};
@@ -36,7 +37,7 @@ fn rectangle(rt: &impl Abort, alloc: Global) -> Cycle {
         if let Ok(points) = CORNERS.to_vec(alloc) {
             match Cycle::new(points) {
                 Ok(cycle) => return cycle,
-                Err((fault, _)) => panic!(rt; "{fault}"),
+                Err(_) => panic!(rt; "the corners are no cycle"),
             }
         }
     }
@@ -45,15 +46,15 @@ fn rectangle(rt: &impl Abort, alloc: Global) -> Cycle {
 
 /// The cycle goes through the corners.
 fn assert_cycle(rt: &impl Abort, cycle: &Cycle) {
-    assert_eq!(rt; cycle.points(), CORNERS.as_slice());
+    assert_same(rt, cycle.points(), CORNERS.as_slice(), "a cycle");
 }
 
 /// The picture has exactly these runs.
 fn assert_runs(rt: &impl Abort, picture: &Picture, runs: &[Run]) {
     for (k, run) in runs.iter().enumerate() {
-        assert_eq!(rt; picture.run(k), Some(*run), "run {k} of {runs:?}");
+        assert_same(rt, picture.run(k), Some(*run), ("run", k, runs));
     }
-    assert_eq!(rt; picture.run(runs.len()), None, "a run behind {runs:?}");
+    assert_same(rt, picture.run(runs.len()), None, ("behind", runs));
 }
 
 /// The operation goes through the corners, or adds the pixels of the rectangle, where it does one of these.
@@ -92,12 +93,12 @@ fn copied_op(rt: &impl Abort, alloc: Global, op: &Op) -> Op {
 /// Pushes a run; where that is refused, the run fits as before.
 fn push(rt: &impl Abort, builder: &mut RowBuilder, run: Run) {
     for _ in 0..TRIES {
-        assert!(rt; builder.fits(&run), "{run:?}");
+        assert!(rt; builder.fits(&run), "the run does not fit");
         if builder.push_run(run).is_ok() {
             return;
         }
     }
-    panic!(rt; "the run is not pushed: {run:?}")
+    panic!(rt; "the run is not pushed")
 }
 
 /// The picture of these runs. A builder whose picture is refused is gone, so another one gets the runs then.
@@ -122,11 +123,15 @@ fn changed(rt: &impl Abort, alloc: Global, picture: &Picture, op: &Op, runs: &[R
         assert_op(rt, op);
         match answer {
             Ok(new) => return new,
-            Err(OpFault::OutOfMemory) => (),
-            Err(fault) => panic!(rt; "{fault}"),
+            Err(fault) => assert_same(rt, fault, OpFault::OutOfMemory, "a refusal"),
         }
     }
     panic!(rt; "the picture is not changed")
+}
+
+/// Each of two pictures is the other.
+fn assert_equal(rt: &impl Abort, one: &Picture, other: &Picture) {
+    assert_holds(rt, one.equal(other) && other.equal(one), "equal pictures");
 }
 
 /// An operation and its copy make these runs of the two rows.
@@ -136,28 +141,52 @@ fn assert_makes(rt: &impl Abort, alloc: Global, op: &Op, runs: &[Run]) {
     let new = changed(rt, alloc, &picture, op, &apart());
     let same = changed(rt, alloc, &picture, &copy, &apart());
     assert_runs(rt, &new, runs);
-    assert!(rt; new.equal(&same) && same.equal(&new), "the copy of {op:?}");
+    assert_equal(rt, &new, &same);
 }
 
-/// A filled rectangle is the picture of its runs.
+/// Fills the rectangle.
+fn filling(rt: &impl Abort, cycle: Cycle, weight: i32) -> Op {
+    let weight = Weight::new(weight).expect(rt, "it is a weight");
+    Op::Contour(cycle, weight)
+}
+
+/// Gives weight -1 to pixels whose weight is in the range.
+fn keeping(rt: &impl Abort, low: i32, high: i32) -> Op {
+    let minus = Weight::new(-1).expect(rt, "-1 is a weight");
+    Op::Cull(Cull::keeping(low, high, minus).expect(rt, "0 is not kept"))
+}
+
+/// Gives weight -1 to pixels whose weight is not in the range.
+fn dropping(rt: &impl Abort, low: i32, high: i32) -> Op {
+    let minus = Weight::new(-1).expect(rt, "-1 is a weight");
+    Op::Cull(Cull::dropping(low, high, minus).expect(rt, "0 is dropped"))
+}
+
+/// Stretches by these factors.
+fn stretching(rt: &impl Abort, x: i32, y: i32) -> Op {
+    Op::Scale(Scale::new(x, y).expect(rt, "both are factors"))
+}
+
+/// A filled rectangle, and a copy of its cycle, make the picture of its runs.
+fn assert_fills(rt: &impl Abort, alloc: Global) {
+    let cycle = copied_cycle(rt, alloc, &rectangle(rt, alloc));
+    let blank = Picture::blank(alloc);
+    let filled = changed(rt, alloc, &blank, &filling(rt, cycle, 1), &[]);
+    let built = built(rt, alloc, &block());
+    assert_equal(rt, &filled, &built);
+    assert_runs(rt, &built, &block());
+}
+
 #[test]
 fn fill_a_rectangle(rt: HostRuntime) {
-    let alloc = rt.alloc();
-    let cycle = copied_cycle(&rt, alloc, &rectangle(&rt, alloc));
-    let one = Weight::new(1).expect(&rt, "1 is a weight");
-    let blank = Picture::blank(alloc);
-    let filled = changed(&rt, alloc, &blank, &Op::Contour(cycle, one), &[]);
-    let built = built(&rt, alloc, &block());
-    assert!(rt; filled.equal(&built) && built.equal(&filled));
-    assert_runs(&rt, &built, &block());
+    assert_fills(&rt, rt.alloc());
 }
 
 /// What is filled, added and subtracted.
 #[test]
 fn add_to_a_picture(rt: HostRuntime) {
     let alloc = rt.alloc();
-    let two = Weight::new(2).expect(&rt, "2 is a weight");
-    let contour = Op::Contour(rectangle(&rt, alloc), two);
+    let contour = filling(&rt, rectangle(&rt, alloc), 2);
     let sum = [
         run(1, 0, 2, 3),
         run(1, 2, 1, 5),
@@ -184,24 +213,19 @@ fn add_to_a_picture(rt: HostRuntime) {
 #[test]
 fn change_a_picture(rt: HostRuntime) {
     let alloc = rt.alloc();
-    let minus = Weight::new(-1).expect(&rt, "-1 is a weight");
-    let keeping = Cull::keeping(1, 2, minus).expect(&rt, "0 is not kept");
-    let dropping = Cull::dropping(-2, 2, minus).expect(&rt, "0 is dropped");
-    let widened = Scale::new(2, 1).expect(&rt, "both are factors");
-    let reflected = Scale::new(-2, -1).expect(&rt, "both are factors");
     let cases: [(Op, &[Run]); 5] = [
-        (Op::Cull(keeping), &[run(1, 0, 2, -1)]),
-        (Op::Cull(dropping), &[run(1, 2, 1, -1)]),
+        (keeping(&rt, 1, 2), &[run(1, 0, 2, -1)]),
+        (dropping(&rt, -2, 2), &[run(1, 2, 1, -1)]),
         (
             Op::Shift(2, -1),
             &[run(0, 2, 2, 1), run(0, 4, 1, 3), run(-71, 2, 1, -2)],
         ),
         (
-            Op::Scale(widened),
+            stretching(&rt, 2, 1),
             &[run(1, 0, 4, 1), run(1, 4, 2, 3), run(-70, 0, 2, -2)],
         ),
         (
-            Op::Scale(reflected),
+            stretching(&rt, -2, -1),
             &[run(69, -2, 2, -2), run(-2, -6, 2, 3), run(-2, -4, 4, 1)],
         ),
     ];

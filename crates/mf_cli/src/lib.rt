@@ -1,0 +1,9 @@
+//! The program `mfpic` but for its `main`: the words of its command line, its run, its statuses and its messages.
+#![tactic(auto)]
+
+mod fault;
+pub mod program;
+mod words;
+
+pub use fault::ProgramFault;
+pub use words::{Words, WordsFault, read_words};

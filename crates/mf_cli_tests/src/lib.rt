@@ -1,0 +1,5 @@
+//! Tests of `mf_cli`.
+#![tactic(auto)]
+
+#[cfg(test)]
+mod tests;

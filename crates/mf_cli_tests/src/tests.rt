@@ -1,0 +1,287 @@
+//! Tests of the program: the scripts, each status, and the message that goes with it.
+
+mod assertions;
+mod font_files;
+mod long_files;
+mod words;
+
+use assertions::{assert_holds, assert_same};
+use mf_cli::ProgramFault;
+use mf_cli::program::{BAD_WORDS, DONE, STREAM_FAULT, WANTING, program, report};
+use mf_desk::RunFault;
+use mf_testing::{Pieces, Script, Sink, worked_scripts};
+use std::alloc::{AllocError, Global};
+use std::io::Read;
+use std::process::Abort;
+use std::rt::Files;
+use std::sync::Wait;
+use std::test::Fail;
+use std::thread::Threads;
+
+/// A line, and its text.
+const LINE: &[u8] = b"show totalweight currentpicture\n";
+
+const TEXT: &[u8] = b"totalweight 0\n";
+
+/// How the program is used.
+const USAGE: &[u8] = b"usage: mfpic [--viewers 0..16] [--gf FILE]\n";
+
+/// A status, what is written, and the message.
+type End<'a> = (u8, &'a [u8], &'a [u8]);
+
+/// The words of a command line.
+fn words_of(alloc: Global, texts: &[&str]) -> Result<Vec<String>, AllocError> {
+    let mut words = Vec::new(alloc);
+    for text in texts {
+        words.push(String::from_str(alloc, text)?)?;
+    }
+    Ok(words)
+}
+
+/// With these words the program ends with this status.
+fn status_of<R: Abort + Wait + Threads + Files + AllocGlobal>(
+    rt: &R,
+    words: &[&str],
+    reader: &mut Pieces<'_>,
+    writer: &mut Sink,
+    errors: &mut Sink,
+) -> u8 {
+    let alloc = rt.alloc();
+    let words = words_of(alloc, words).expect(rt, "there is room for the words");
+    program(rt, alloc, words, reader, writer, errors)
+}
+
+/// With these words, and this writer, the program ends so.
+fn assert_ends_in<R: Abort + Wait + Threads + Files + AllocGlobal>(
+    rt: &R,
+    words: &[&str],
+    reader: &mut Pieces<'_>,
+    mut writer: Sink,
+    end: End<'_>,
+) {
+    let mut errors = Sink::new(rt.alloc());
+    let status = status_of(rt, words, reader, &mut writer, &mut errors);
+    let found = (status, writer.taken(), errors.taken());
+    assert_same(rt, found, end, words);
+}
+
+/// With these words the program ends so.
+fn assert_ends<R: Abort + Wait + Threads + Files + AllocGlobal>(
+    rt: &R,
+    words: &[&str],
+    mut reader: Pieces<'_>,
+    end: End<'_>,
+) {
+    assert_ends_in(rt, words, &mut reader, Sink::new(rt.alloc()), end);
+}
+
+/// The script is performed beside so many viewers, with no fault: this is written.
+fn written<R: Abort + Wait + Threads + Files + AllocGlobal>(
+    rt: &R,
+    viewers: &str,
+    script: &str,
+) -> Sink {
+    let alloc = rt.alloc();
+    let mut writer = Sink::new(alloc);
+    let mut errors = Sink::new(alloc);
+    let words = ["mfpic", "--viewers", viewers];
+    let mut reader = Pieces::whole(script.as_bytes());
+    let status = status_of(rt, &words, &mut reader, &mut writer, &mut errors);
+    let end = (status, errors.taken());
+    assert_same(rt, end, (DONE, b"".as_slice()), (viewers, script));
+    writer
+}
+
+/// The script prints its transcript, where nobody looks on.
+fn assert_performs<R: Abort + Wait + Threads + Files + AllocGlobal>(rt: &R, script: &Script) {
+    let alloc = rt.alloc();
+    let mut writer = Sink::new(alloc);
+    let mut errors = Sink::new(alloc);
+    let mut reader = Pieces::whole(script.0.as_bytes());
+    let status = status_of(rt, &["mfpic"], &mut reader, &mut writer, &mut errors);
+    let found = (status, writer.taken(), errors.taken());
+    let end: End<'_> = (DONE, script.1.as_bytes(), b"");
+    assert_same(rt, found, end, *script);
+}
+
+#[test]
+fn performs_scripts(rt: HostRuntime) {
+    for script in worked_scripts().iter().copied().flatten() {
+        assert_performs(&rt, script);
+    }
+}
+
+/// The script is performed beside so many viewers, and this is written.
+fn assert_writes<R: Abort + Wait + Threads + Files + AllocGlobal>(
+    rt: &R,
+    viewers: &str,
+    script: &str,
+    text: &str,
+) {
+    let written = written(rt, viewers, script);
+    assert_same(rt, written.taken(), text.as_bytes(), (viewers, script));
+}
+
+/// Viewers see the last picture, published or not.
+#[test]
+fn writes_the_lines_of_viewers(rt: HostRuntime) {
+    let unpublished = "addto currentpicture contour (0,0)--(3,0)--(3,2)--(0,2)--cycle\n";
+    let published = "addto currentpicture contour (0,0)--(3,0)--(3,2)--(0,2)--cycle\npublish\n";
+    for (viewers, script, text) in [
+        (
+            "2",
+            published,
+            "published 1\n\
+             viewer 0 revision 1 totalweight 6\n\
+             viewer 1 revision 1 totalweight 6\n",
+        ),
+        (
+            "2",
+            unpublished,
+            "viewer 0 revision 1 totalweight 6\n\
+             viewer 1 revision 1 totalweight 6\n",
+        ),
+        (
+            "2",
+            "",
+            "viewer 0 revision 0 totalweight 0\n\
+             viewer 1 revision 0 totalweight 0\n",
+        ),
+        ("0", published, "published 1\n"),
+        ("0", unpublished, ""),
+    ] {
+        assert_writes(&rt, viewers, script, text);
+    }
+}
+
+/// 16 viewers see the same at the end, however their looks fell.
+fn assert_viewers_agree<R: Abort + Wait + Threads + Files + AllocGlobal>(
+    rt: &R,
+    script: &Script,
+) -> Result<(), Fail> {
+    let (script, transcript) = *script;
+    let first = written(rt, "16", script);
+    let second = written(rt, "16", script);
+    assert_same(rt, first.taken(), second.taken(), script);
+    let lines = str::from_utf8(first.taken())?
+        .strip_prefix(transcript)
+        .unwrap_or("");
+    let line = lines.lines().next().unwrap_or("");
+    let seen = line.strip_prefix("viewer 0 revision ").unwrap_or("");
+    assert_holds(rt, seen.contains(" totalweight "), script);
+    let mut expected = String::new(rt.alloc());
+    for viewer in 0..16 {
+        let line = format!(in rt.alloc(); "viewer {viewer} revision {seen}\n")?;
+        expected.push_str(line.as_str())?;
+    }
+    assert_same(rt, lines, expected.as_str(), script);
+    Ok(())
+}
+
+#[test]
+fn performs_scripts_beside_viewers(rt: HostRuntime) -> Result<(), Fail> {
+    for script in worked_scripts().iter().copied().flatten() {
+        assert_viewers_agree(&rt, script)?;
+    }
+    Ok(())
+}
+
+/// Words are looked at before the script, of which nothing is read.
+fn assert_refused<R: Abort + Wait + Threads + Files + AllocGlobal>(rt: &R, words: &[&str]) {
+    let alloc = rt.alloc();
+    let mut reader = Pieces::whole(LINE);
+    let end: End<'_> = (BAD_WORDS, b"", USAGE);
+    assert_ends_in(rt, words, &mut reader, Sink::new(alloc), end);
+    let mut unread = Vec::new(alloc);
+    reader
+        .read_to_end(&mut unread)
+        .expect(rt, "all of the script is left");
+    assert_same(rt, unread.as_slice(), LINE, words);
+}
+
+#[test]
+fn refuses_words(rt: HostRuntime) {
+    assert_refused(&rt, &["mfpic", "script"]);
+    assert_refused(&rt, &["mfpic", "--gf"]);
+    assert_refused(&rt, &["mfpic", "--help"]);
+    assert_refused(&rt, &["mfpic", "--gf", "a", "--gf", "b"]);
+    assert_refused(&rt, &["mfpic", "--viewers", "17"]);
+}
+
+#[test]
+fn reports_a_read_fault(rt: HostRuntime) {
+    let end: End<'_> = (STREAM_FAULT, TEXT, b"mfpic: ReadFault\n");
+    assert_ends(&rt, &["mfpic"], Pieces::failing(LINE), end);
+}
+
+#[test]
+fn reports_a_write_fault(rt: HostRuntime) {
+    let alloc = rt.alloc();
+    let message: &[u8] = b"mfpic: WriteFault\n";
+    for (writer, taken) in [
+        (Sink::full(alloc), b"".as_slice()),
+        (Sink::failing(alloc, 5), b"total".as_slice()),
+    ] {
+        let end = (STREAM_FAULT, taken, message);
+        assert_ends_in(&rt, &["mfpic"], &mut Pieces::whole(LINE), writer, end);
+    }
+}
+
+/// A fault of a run has this status and this message.
+fn assert_reports<R: Abort + AllocGlobal>(rt: &R, fault: RunFault, status: u8, message: &[u8]) {
+    let mut errors = Sink::new(rt.alloc());
+    let reported = report(&mut errors, ProgramFault::Run(fault));
+    assert_same(rt, (reported, errors.taken()), (status, message), fault);
+}
+
+#[test]
+fn reports_other_faults(rt: HostRuntime) {
+    assert_reports(&rt, RunFault::OutOfMemory, WANTING, b"mfpic: OutOfMemory\n");
+    assert_reports(&rt, RunFault::NoPlace, WANTING, b"mfpic: NoPlace\n");
+    assert_reports(&rt, RunFault::NoLook, WANTING, b"mfpic: NoLook\n");
+    assert_reports(
+        &rt,
+        RunFault::FileTooLong,
+        STREAM_FAULT,
+        b"mfpic: FileTooLong\n",
+    );
+}
+
+/// With these words the program ends with this status, where messages go to this sink, which takes this.
+fn assert_keeps<R: Abort + Wait + Threads + Files + AllocGlobal>(
+    rt: &R,
+    words: &[&str],
+    mut reader: Pieces<'_>,
+    mut errors: Sink,
+    status: u8,
+    told: &[u8],
+) {
+    let mut writer = Sink::new(rt.alloc());
+    let found = status_of(rt, words, &mut reader, &mut writer, &mut errors);
+    assert_same(rt, (found, errors.taken()), (status, told), words);
+}
+
+/// A fault of the messages changes no status.
+#[test]
+fn keeps_the_status(rt: HostRuntime) {
+    let alloc = rt.alloc();
+    assert_keeps(
+        &rt,
+        &["mfpic", "script"],
+        Pieces::whole(LINE),
+        Sink::failing(alloc, 3),
+        BAD_WORDS,
+        b"usa",
+    );
+    assert_keeps(
+        &rt,
+        &["mfpic"],
+        Pieces::failing(b""),
+        Sink::full(alloc),
+        STREAM_FAULT,
+        b"",
+    );
+    let fault = ProgramFault::Run(RunFault::OutOfMemory);
+    let status = report(&mut Sink::failing(alloc, 0), fault);
+    assert_same(&rt, status, WANTING, "messages are not taken");
+}

@@ -1,0 +1,247 @@
+//! Tests of the words: each form of the command line, and each way to refuse it.
+use super::words_of;
+use crate::tests::assertions::{assert_holds, assert_same};
+use mf_cli::{Words, WordsFault, read_words};
+use std::alloc::{AllocError, Global};
+use std::process::Abort;
+use std::test::Fail;
+
+/// The program's name, and the words behind it.
+fn command_line(alloc: Global, texts: &[&str]) -> Result<Vec<String>, AllocError> {
+    let mut words = words_of(alloc, &["mfpic"])?;
+    for text in texts {
+        words.push(String::from_str(alloc, text)?)?;
+    }
+    Ok(words)
+}
+
+/// What the words behind the program's name ask for.
+fn read(alloc: Global, texts: &[&str]) -> Result<Words, WordsFault> {
+    read_words(alloc, command_line(alloc, texts)?)
+}
+
+/// The words ask for so many viewers and this FILE.
+fn assert_words(rt: &impl Abort, words: &Words, viewers: u32, file: Option<&str>, case: &[&str]) {
+    let found = (words.viewers, words.gf.as_ref().map(|file| file.as_str()));
+    assert_same(rt, found, (viewers, file), case);
+}
+
+/// The words behind the program's name ask for so many viewers and this FILE.
+fn assert_reads<R: Abort + AllocGlobal>(rt: &R, texts: &[&str], viewers: u32, file: Option<&str>) {
+    let words = read(rt.alloc(), texts).expect(rt, "the words are a command line");
+    assert_words(rt, &words, viewers, file, texts);
+}
+
+/// The words behind the program's name are no command line.
+fn assert_refused<R: Abort + AllocGlobal>(rt: &R, texts: &[&str]) {
+    let fault = read(rt.alloc(), texts).err();
+    assert_same(rt, fault, Some(WordsFault::BadWords), texts);
+}
+
+/// All words, of which the first is no argument, ask for nothing.
+fn assert_asks_for_nothing<R: Abort + AllocGlobal>(rt: &R, texts: &[&str]) {
+    let alloc = rt.alloc();
+    let words = words_of(alloc, texts).expect(rt, "there is room for the words");
+    let asked = read_words(alloc, words).expect(rt, "the words are a command line");
+    assert_words(rt, &asked, 0, None, texts);
+}
+
+#[test]
+fn needs_no_words(rt: HostRuntime) {
+    assert_reads(&rt, &[], 0, None);
+    assert_reads(&rt, &["--"], 0, None);
+    assert_asks_for_nothing(&rt, &[]);
+}
+
+/// N is what a 64-bit number may be written as, from 0 to 16.
+#[test]
+fn reads_the_number(rt: HostRuntime) {
+    for (number, viewers) in [
+        ("0", 0),
+        ("1", 1),
+        ("16", 16),
+        ("+3", 3),
+        ("03", 3),
+        ("+016", 16),
+        ("000000000000000000000000000007", 7),
+    ] {
+        assert_reads(&rt, &["--viewers", number], viewers, None);
+    }
+    for (word, viewers) in [
+        ("--viewers=16", 16),
+        ("--viewers=+3", 3),
+        ("--viewers=-0", 0),
+    ] {
+        assert_reads(&rt, &[word], viewers, None);
+    }
+}
+
+#[test]
+fn refuses_what_is_no_number_of_viewers(rt: HostRuntime) -> Result<(), Fail> {
+    for number in [
+        "17",
+        "-1",
+        "=3",
+        "x",
+        "",
+        " 3",
+        "3 ",
+        "3.0",
+        "0x3",
+        "+",
+        "++3",
+        "+-3",
+        "٣",
+        "4294967295",
+        "4294967296",
+        "18446744073709551616",
+        "--",
+        "--gf",
+        "--viewers",
+    ] {
+        assert_refused(&rt, &["--viewers", number]);
+        let word = ["--viewers=", number].concat(rt.alloc())?;
+        assert_refused(&rt, &[word.as_str()]);
+    }
+    Ok(())
+}
+
+#[test]
+fn reads_both_in_either_order(rt: HostRuntime) {
+    for words in [
+        ["--viewers", "2", "--gf", "a"],
+        ["--gf", "a", "--viewers", "2"],
+        ["--gf", "a", "--viewers=2", "--"],
+        ["--viewers", "+2", "--gf=a", "--"],
+    ] {
+        assert_reads(&rt, &words, 2, Some("a"));
+    }
+}
+
+/// FILE is any text, and no word that begins with `-` unless it stands alone or behind `=`.
+#[test]
+fn takes_the_file_as_it_stands(rt: HostRuntime) {
+    for file in [
+        "out.gf",
+        "",
+        "-",
+        " a file ",
+        "größe π.gf",
+        "a=b",
+        "../x/y.gf",
+        "help",
+    ] {
+        assert_reads(&rt, &["--gf", file], 0, Some(file));
+    }
+    for (word, file) in [
+        ("--gf=out.gf", "out.gf"),
+        ("--gf=", ""),
+        ("--gf=-", "-"),
+        ("--gf=--gf", "--gf"),
+        ("--gf=-g", "-g"),
+        ("--gf==x", "=x"),
+        ("--gf=a=b", "a=b"),
+        ("--gf=größe π.gf", "größe π.gf"),
+    ] {
+        assert_reads(&rt, &[word], 0, Some(file));
+        assert_reads(&rt, &[word, "--"], 0, Some(file));
+    }
+}
+
+#[test]
+fn refuses_one_word(rt: HostRuntime) {
+    for word in [
+        "--gf",
+        "x",
+        "",
+        " ",
+        "-",
+        "-g",
+        "-gx",
+        "--g",
+        "--gfx",
+        "--GF",
+        "gf",
+        "help",
+        "version",
+        "--help",
+        "-h",
+        "-?",
+        "--version",
+        "-V",
+        "--viewers",
+        "--=x",
+        "---",
+        "--gf ",
+        "größe",
+    ] {
+        assert_refused(&rt, &[word]);
+    }
+}
+
+#[test]
+fn refuses_two_words(rt: HostRuntime) {
+    for (first, second) in [
+        ("--gf", "--gf"),
+        ("--gf", "--viewers"),
+        ("--gf", "--help"),
+        ("--gf", "-h"),
+        ("--gf", "--"),
+        ("--gf", "-x"),
+        ("--gf", "-1"),
+        ("--gf", "--x"),
+        ("--gf=a", "b"),
+        ("--gf=a", "--gf=b"),
+        ("--gf=a", "--gf"),
+        ("--", "x"),
+        ("--", "--gf=a"),
+        ("--", "--"),
+        ("-g", "x"),
+        ("x", "--gf=a"),
+        ("--view", "3"),
+        ("--viewer", "3"),
+        ("-v", "3"),
+        ("--viewers", "-0"),
+        ("--viewers=2", "--viewers=2"),
+        ("--viewers=2", "--viewers"),
+        ("--viewers=2", "3"),
+    ] {
+        assert_refused(&rt, &[first, second]);
+    }
+}
+
+#[test]
+fn refuses_more_words(rt: HostRuntime) {
+    for words in [
+        ["--gf", "a", "b"],
+        ["--gf", "a", "--gf"],
+        ["--gf", "--", "a"],
+        ["--", "--gf", "a"],
+        ["x", "--gf", "a"],
+        ["--gf", "--viewers", "3"],
+        ["--gf", "--viewers=3", "a"],
+        ["--viewers", "--gf", "a"],
+        ["--viewers", "3", "4"],
+        ["--viewers", "3", "--viewers"],
+        ["--viewers", "3", "--viewers=3"],
+    ] {
+        assert_refused(&rt, &words);
+    }
+    for words in [
+        ["--gf", "a", "--gf", "a"],
+        ["--viewers", "2", "--viewers", "2"],
+        ["--viewers", "17", "--gf", "a"],
+        ["--gf", "a", "--viewers", "17"],
+        ["--gf", "a", "b", "--viewers=2"],
+    ] {
+        assert_refused(&rt, &words);
+    }
+}
+
+/// The first word is no argument, whatever it is.
+#[test]
+fn passes_over_the_first_word(rt: HostRuntime) {
+    for name in ["", "--gf", "--gf=a", "--help", "-", "a/b/mfpic"] {
+        assert_asks_for_nothing(&rt, &[name]);
+    }
+}

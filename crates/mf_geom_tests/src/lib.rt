@@ -1,0 +1,5 @@
+//! Tests of `mf_geom`.
+#![tactic(auto)]
+
+#[cfg(test)]
+mod tests;

@@ -1,0 +1,35 @@
+//! Lists of points whose answer is known.
+
+mod assertions;
+mod cycles;
+mod refusals;
+
+use mf_geom::Point;
+use std::process::Abort;
+
+/// The points of a path, as pairs of coordinates.
+type Corners = &'static [(i32, i32)];
+
+/// A square of one pixel.
+const PIXEL: Corners = &[(0, 0), (1, 0), (1, 1), (0, 1)];
+
+/// A rectangle of 3 by 2 pixels, and the same rectangle clockwise.
+const RECTANGLE: Corners = &[(0, 0), (3, 0), (3, 2), (0, 2)];
+
+const CLOCKWISE: Corners = &[(0, 0), (0, 2), (3, 2), (3, 0)];
+
+/// The greatest square.
+const REACH: Corners = &[(-4095, -4095), (4095, -4095), (4095, 4095), (-4095, 4095)];
+
+/// The points of the path, walked so many times.
+fn walk<R: Abort + AllocGlobal>(rt: &R, corners: Corners, times: usize) -> Vec<Point> {
+    let mut points = Vec::new(rt.alloc());
+    for _ in 0..times {
+        for (x, y) in corners {
+            points
+                .push(Point { x: *x, y: *y })
+                .expect(rt, "there is room for the point");
+        }
+    }
+    points
+}

@@ -1,0 +1,150 @@
+//! Cycles with their turning number and area.
+
+use super::{CLOCKWISE, Corners, PIXEL, REACH, RECTANGLE, walk};
+use crate::tests::assertions::assert_same;
+use mf_geom::{Cycle, Point};
+use std::process::Abort;
+
+/// The cycle through the points of the path, walked so many times.
+fn cycle_of<R: Abort + AllocGlobal>(rt: &R, corners: Corners, times: usize) -> Cycle {
+    match Cycle::new(walk(rt, corners, times)) {
+        Ok(cycle) => cycle,
+        Err((fault, back)) => panic!(rt; "{back:?} is refused: {fault:?}"),
+    }
+}
+
+/// What is known of a cycle: its points, its turning number and its area.
+fn known(cycle: &Cycle) -> (&[Point], i32, i64) {
+    (cycle.points(), cycle.turning(), cycle.area())
+}
+
+/// The path, walked so many times, makes a cycle, which keeps its points and has this turning number and area.
+fn assert_cycle<R: Abort + AllocGlobal>(
+    rt: &R,
+    corners: Corners,
+    times: usize,
+    turning: i32,
+    area: i64,
+) {
+    let cycle = cycle_of(rt, corners, times);
+    let points = walk(rt, corners, times);
+    assert_same(rt, known(&cycle), (&points, turning, area), corners);
+}
+
+/// The path, walked so many times, winds so often round these pixels: their coordinates, and the winding number.
+fn assert_windings<R: Abort + AllocGlobal>(
+    rt: &R,
+    corners: Corners,
+    times: usize,
+    pixels: &[(i32, i32, i32)],
+) {
+    let cycle = cycle_of(rt, corners, times);
+    for (x, y, winding) in pixels {
+        assert_same(
+            rt,
+            cycle.winding(*x, *y),
+            *winding,
+            ("round", *x, *y, corners),
+        );
+    }
+}
+
+/// The cycle through these points has exactly these edges.
+fn assert_edges<R: Abort + AllocGlobal>(
+    rt: &R,
+    corners: Corners,
+    edges: &[((i32, i32), (i32, i32))],
+) {
+    let cycle = cycle_of(rt, corners, 1);
+    assert_same(rt, cycle.points().len(), edges.len(), "number of edges");
+    for (place, ends) in edges.iter().enumerate() {
+        if place < cycle.points().len() {
+            let (from, to) = cycle.edge(place);
+            assert_same(rt, ((from.x, from.y), (to.x, to.y)), *ends, ("edge", place));
+        }
+    }
+}
+
+/// The cycle through the points of the path, walked so many times, has copies with all that it has.
+fn assert_copied<R: Abort + AllocGlobal>(rt: &R, corners: Corners, times: usize) {
+    let cycle = cycle_of(rt, corners, times);
+    let copy = cycle
+        .copy(rt.alloc())
+        .expect(rt, "there is room for the copy");
+    assert_same(rt, known(&copy), known(&cycle), corners);
+}
+
+#[test]
+fn accepts_cycles(rt: HostRuntime) {
+    assert_cycle(&rt, RECTANGLE, 1, 1, 6);
+    assert_cycle(&rt, CLOCKWISE, 1, -1, -6);
+    assert_cycle(&rt, &[(-5, -3), (-2, -3), (-2, -1), (-5, -1)], 1, 1, 6);
+    let l: Corners = &[(0, 0), (2, 0), (2, 1), (1, 1), (1, 2), (0, 2)];
+    assert_cycle(&rt, l, 1, 1, 3);
+    // A straight vertex: within the list, at its start and at its end.
+    assert_cycle(&rt, &[(0, 0), (1, 0), (3, 0), (3, 2), (0, 2)], 1, 1, 6);
+    assert_cycle(&rt, &[(1, 0), (3, 0), (3, 2), (0, 2), (0, 0)], 1, 1, 6);
+    assert_cycle(&rt, &[(3, 0), (3, 2), (0, 2), (0, 0), (1, 0)], 1, 1, 6);
+    assert_cycle(&rt, REACH, 1, 1, 67_076_100);
+}
+
+#[test]
+fn accepts_cycles_walked_more_than_once(rt: HostRuntime) {
+    assert_cycle(&rt, &[(0, 0), (2, 0), (2, 2), (0, 2)], 2, 2, 8);
+    assert_cycle(&rt, &[(0, 0), (0, 2), (2, 2), (2, 0)], 3, -3, -12);
+    assert_cycle(&rt, PIXEL, 1024, 1024, 1024);
+    assert_cycle(&rt, REACH, 1024, 1024, 68_685_926_400);
+}
+
+#[test]
+fn winds_round_pixels(rt: HostRuntime) {
+    assert_windings(
+        &rt,
+        RECTANGLE,
+        1,
+        &[
+            (0, 0, 1),
+            (2, 1, 1),
+            (3, 1, 0),
+            (2, 2, 0),
+            (-1, 0, 0),
+            (0, -1, 0),
+        ],
+    );
+    assert_windings(&rt, CLOCKWISE, 1, &[(1, 1, -1), (1, 2, 0)]);
+    assert_windings(&rt, PIXEL, 1024, &[(0, 0, 1024), (1, 0, 0)]);
+    assert_windings(
+        &rt,
+        REACH,
+        1,
+        &[
+            (-4095, -4095, 1),
+            (4094, 4094, 1),
+            (4095, 0, 0),
+            (i32::MAX, i32::MIN, 0),
+        ],
+    );
+}
+
+#[test]
+fn gives_its_edges(rt: HostRuntime) {
+    // The last edge leads back.
+    assert_edges(
+        &rt,
+        RECTANGLE,
+        &[
+            ((0, 0), (3, 0)),
+            ((3, 0), (3, 2)),
+            ((3, 2), (0, 2)),
+            ((0, 2), (0, 0)),
+        ],
+    );
+}
+
+#[test]
+fn copies_cycles(rt: HostRuntime) {
+    assert_copied(&rt, RECTANGLE, 1);
+    assert_copied(&rt, &[(0, 0), (0, 2), (2, 2), (2, 0)], 3);
+    assert_copied(&rt, PIXEL, 1024);
+    assert_copied(&rt, REACH, 1);
+}

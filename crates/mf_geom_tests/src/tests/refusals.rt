@@ -1,0 +1,104 @@
+//! Lists of points that are refused with their first fault.
+
+use super::{Corners, walk};
+use crate::tests::assertions::assert_same;
+use mf_geom::{Cycle, CycleFault};
+use std::process::Abort;
+
+/// The points of the path, walked so many times, are refused for this fault, and come back unchanged.
+fn assert_refused<R: Abort + AllocGlobal>(
+    rt: &R,
+    corners: Corners,
+    times: usize,
+    fault: CycleFault,
+) {
+    let points = walk(rt, corners, times);
+    match Cycle::new(walk(rt, corners, times)) {
+        Ok(cycle) => panic!(rt; "{cycle:?} is accepted"),
+        Err((found, back)) => {
+            assert_same(rt, (found, back.as_slice()), (fault, &points), corners);
+        }
+    }
+}
+
+/// Each of these paths has a point out of range: the first one stands at this place.
+fn assert_out_of_range<R: Abort + AllocGlobal>(rt: &R, lists: &[(Corners, u32)]) {
+    for (corners, place) in lists {
+        assert_refused(rt, corners, 1, CycleFault::PointOutOfRange(*place));
+    }
+}
+
+/// Each of these paths has an edge that is not rectilinear: the first one stands at this place.
+fn assert_not_rectilinear<R: Abort + AllocGlobal>(rt: &R, lists: &[(Corners, u32)]) {
+    for (corners, place) in lists {
+        assert_refused(rt, corners, 1, CycleFault::NotRectilinear(*place));
+    }
+}
+
+/// Each of these paths turns straight back: the first time at this place.
+fn assert_backtracks<R: Abort + AllocGlobal>(rt: &R, lists: &[(Corners, u32)]) {
+    for (corners, place) in lists {
+        assert_refused(rt, corners, 1, CycleFault::Backtracks(*place));
+    }
+}
+
+#[test]
+fn refuses_too_few_or_too_many_points(rt: HostRuntime) {
+    assert_refused(&rt, &[], 1, CycleFault::TooFewPoints);
+    assert_refused(&rt, &[(0, 0)], 1, CycleFault::TooFewPoints);
+    assert_refused(&rt, &[(0, 0)], 4097, CycleFault::TooManyPoints);
+    // A point out of range comes after.
+    assert_refused(&rt, &[(4096, 0)], 1, CycleFault::TooFewPoints);
+    assert_refused(&rt, &[(4096, 0)], 4097, CycleFault::TooManyPoints);
+}
+
+#[test]
+fn refuses_points_out_of_range(rt: HostRuntime) {
+    let lists: [(Corners, u32); 7] = [
+        (&[(0, 0), (4096, 0), (4096, 1), (0, 1)], 1),
+        (&[(0, 0), (0, 1), (-4096, 1), (-4096, 0)], 2),
+        (&[(0, 0), (1, 0), (1, 1), (0, 4096)], 3),
+        (&[(0, -4096), (1, -4096), (1, 0), (0, 0)], 0),
+        (&[(0, 0), (i32::MIN, 0), (0, 1)], 1),
+        (&[(0, 0), (1, 0), (1, i32::MAX)], 2),
+        // An edge that is not rectilinear comes after.
+        (&[(0, 0), (1, 1), (4096, 1), (0, 1)], 2),
+    ];
+    assert_out_of_range(&rt, &lists);
+}
+
+#[test]
+fn refuses_edges_that_are_not_rectilinear(rt: HostRuntime) {
+    let lists: [(Corners, u32); 6] = [
+        (&[(0, 0), (1, 1), (0, 1)], 0),
+        (&[(0, 0), (2, 0), (2, 1)], 2),
+        (&[(0, 0), (1, 0), (2, 1), (3, 2), (0, 2)], 1),
+        // A repeated point, and the first point again at the end.
+        (&[(0, 0), (3, 0), (3, 0), (3, 2), (0, 2)], 1),
+        (&[(0, 0), (3, 0), (3, 2), (0, 2), (0, 0)], 4),
+        // A reversal comes after.
+        (&[(0, 0), (3, 0), (1, 0), (1, 1), (0, 2)], 3),
+    ];
+    assert_not_rectilinear(&rt, &lists);
+}
+
+#[test]
+fn refuses_reversals(rt: HostRuntime) {
+    let lists: [(Corners, u32); 6] = [
+        // There and back, with no turn either.
+        (&[(0, 0), (1, 0)], 0),
+        (&[(0, 0), (3, 0), (1, 0), (1, 1), (0, 1)], 1),
+        (&[(0, 0), (1, 0), (1, 3), (1, 1), (0, 1)], 2),
+        (&[(0, 0), (3, 0), (1, 0), (2, 0), (2, 1), (0, 1)], 1),
+        // At the first vertex alone, and at the last one alone.
+        (&[(3, 0), (1, 0), (1, 1), (0, 1), (0, 0)], 0),
+        (&[(1, 0), (1, 1), (0, 1), (0, 0), (3, 0)], 4),
+    ];
+    assert_backtracks(&rt, &lists);
+}
+
+#[test]
+fn refuses_a_figure_of_eight(rt: HostRuntime) {
+    let eight: Corners = &[(0, 0), (1, 0), (1, 2), (2, 2), (2, 1), (0, 1)];
+    assert_refused(&rt, eight, 1, CycleFault::TurningZero);
+}

@@ -1,0 +1,5 @@
+//! Tests of `mf_gf`.
+#![tactic(auto)]
+
+#[cfg(test)]
+mod tests;

@@ -1,0 +1,263 @@
+//! The bytes of whole files.
+
+use super::{
+    MAX_BYTES, RECT, assert_count, assert_length, assert_part, finished, finished_with, gf_file,
+    picture, ship, with_rectangle,
+};
+use crate::tests::assertions::assert_same;
+use mf_gf::{FontWords, GfBytes, GfFault, GfFile};
+use mf_rows::Picture;
+use std::alloc::Global;
+use std::process::Abort;
+
+const UNIT: &[(i32, i32, u32)] = &[(0, 0, 1)];
+
+// The tables of bytes stand behind functions, so that the tests are checked without them.
+
+/// The bytes of a file are these parts, one behind another.
+fn assert_bytes(rt: &impl Abort, alloc: Global, file: &GfBytes, parts: &[&[u8]]) {
+    let expected = parts
+        .concat(alloc)
+        .expect(rt, "there is room for the bytes");
+    assert_same(rt, file.bytes(), expected.as_slice(), "the file");
+}
+
+/// The bytes of a file with one character, a rectangle.
+const ONE: &[&[u8]] = &[
+    b"\xf7\x83\x00",
+    b"\x44\x41\x03\x03\x01\x01",
+    b"\x00\x03\x4a\x03\x45",
+    b"\xf8\x00\x00\x00\x0e",
+    b"\x00\x00\x00\x00\x00\x00\x00\x00\x00\x00\x00\x00\x00\x00\x00\x00",
+    b"\x00\x00\x00\x00\x00\x00\x00\x03\x00\x00\x00\x00\x00\x00\x00\x01",
+    b"\xf6\x41\x05\x00\x00\x00\x00\x00\x00\x00\x03",
+    b"\xf9\x00\x00\x00\x0e\x83\xdf\xdf\xdf\xdf",
+];
+
+fn one() -> &'static [&'static [u8]] {
+    ONE
+}
+
+#[test]
+fn one_character(rt: HostRuntime) {
+    let alloc = rt.alloc();
+    let file = with_rectangle(&rt, alloc, MAX_BYTES);
+    assert_count(&rt, &file, 1);
+    assert_bytes(&rt, alloc, &finished(&rt, file), one());
+}
+
+/// The example of the page about GF files.
+fn font(alloc: Global, picture: &Picture) -> Result<GfBytes, GfFault> {
+    let mut file = GfFile::new(alloc, b"a comment", 16_777_216)?;
+    file.ship(65, 327_680, 0, picture)?;
+    let words = FontWords {
+        ds: 0,
+        cs: 0,
+        hppp: 0,
+        vppp: 0,
+    };
+    file.finish(words).map_err(|(_, fault)| fault)
+}
+
+#[test]
+fn example(rt: HostRuntime) {
+    let alloc = rt.alloc();
+    let font = font(alloc, &picture(&rt, alloc, RECT, 1)).expect(&rt, "the file fits");
+    // The comment has nine bytes, so the padding has seven where that of 72 bytes has four.
+    assert_length(&rt, &font, 84);
+    assert_part(&rt, &font, 0, b"\xf7\x83\x09a comment\x44", "the comment");
+    let end = b"\x83\xdf\xdf\xdf\xdf\xdf\xdf\xdf";
+    assert_part(&rt, &font, 76, end, "the padding");
+}
+
+/// Rows with gaps, and columns that are negative.
+const GAPS: &[(i32, i32, u32)] = &[(5, -300, 70), (4, -100, 1), (1, -300, 1)];
+
+/// The bytes of a file of those rows, with an escapement that is no whole number of pixels.
+const LONG: &[&[u8]] = &[
+    b"\xf7\x83\x00",
+    b"\x43\x00\x00\x00\x42\xff\xff\xff\xff",
+    b"\xff\xff\xfe\xd4\xff\xff\xff\x9d\x00\x00\x00\x01\x00\x00\x00\x05",
+    b"\x00\x40\x46",
+    b"\x46\x40\xc8\x01",
+    b"\x47\x02\x00\x01",
+    b"\x45",
+    b"\xf8\x00\x00\x00\x28",
+    b"\x00\x00\x00\x00\x00\x00\x00\x00\x00\x00\x00\x00\x00\x00\x00\x00",
+    b"\xff\xff\xfe\xd4\xff\xff\xff\x9d\x00\x00\x00\x01\x00\x00\x00\x05",
+    b"\xf5\x42\x00\x01\x86\xa0\x00\x00\x00\x00\x00\x10\x00\x00\x00\x00\x00\x03",
+    b"\xf9\x00\x00\x00\x28\x83\xdf\xdf\xdf\xdf\xdf\xdf\xdf",
+];
+
+fn long() -> &'static [&'static [u8]] {
+    LONG
+}
+
+#[test]
+fn long_fields(rt: HostRuntime) {
+    let alloc = rt.alloc();
+    let mut file = gf_file(&rt, alloc);
+    let gaps = picture(&rt, alloc, GAPS, 1);
+    ship(&rt, &mut file, 66, (100_000, 1_048_576), &gaps);
+    assert_bytes(&rt, alloc, &finished(&rt, file), long());
+}
+
+/// Bytes of a file: the place of the first one, the bytes, and what they are.
+type Part = (usize, &'static [u8], &'static str);
+
+/// These bytes stand in a file.
+fn assert_parts(rt: &impl Abort, file: &GfBytes, parts: &[Part]) {
+    for (first, bytes, case) in parts {
+        assert_part(rt, file, *first, bytes, *case);
+    }
+}
+
+/// Bytes of a file of two characters.
+const TWO: &[Part] = &[
+    (3, b"\x44\x42", "66"),
+    (12, b"\x44\x41", "65"),
+    (21, b"\xf8", "the postamble"),
+    (
+        58,
+        b"\xf6\x41\x00\x00\x00\x00\x00\x00\x00\x00\x0c",
+        "the locator of 65",
+    ),
+    (
+        69,
+        b"\xf6\x42\x00\x00\x00\x00\x00\x00\x00\x00\x03",
+        "the locator of 66",
+    ),
+    (
+        80,
+        b"\xf9\x00\x00\x00\x15\x83\xdf\xdf\xdf\xdf\xdf\xdf",
+        "the end",
+    ),
+];
+
+fn two() -> &'static [Part] {
+    TWO
+}
+
+/// Locators stand in the order of codes, whatever the order shipped.
+#[test]
+fn two_characters(rt: HostRuntime) {
+    let alloc = rt.alloc();
+    let mut file = gf_file(&rt, alloc);
+    let unit = picture(&rt, alloc, UNIT, 1);
+    ship(&rt, &mut file, 66, (0, 0), &unit);
+    ship(&rt, &mut file, 65, (0, 0), &unit);
+    assert_count(&rt, &file, 2);
+    let file = finished(&rt, file);
+    assert_length(&rt, &file, 92);
+    assert_parts(&rt, &file, two());
+}
+
+const WORDS: FontWords = FontWords {
+    ds: -1,
+    cs: u32::MAX,
+    hppp: i32::MIN,
+    vppp: i32::MAX,
+};
+
+/// The bytes of a file with a comment, those numbers of the font, characters at corners of the field and one with no
+/// black pixel, whose box the postamble covers, too.
+const CORNERS: &[&[u8]] = &[
+    b"\xf7\x83\x09a comment",
+    b"\x43\x00\x00\x00\x01\xff\xff\xff\xff",
+    b"\xff\xff\xf0\x01\xff\xff\xf0\x02\x00\x00\x0f\xfe\x00\x00\x0f\xfe\x00\x01\x45",
+    b"\x44\x02\x00\x00\x00\x00\x45",
+    b"\x43\x00\x00\x00\x00\xff\xff\xff\xff",
+    b"\x00\x00\x0f\xfe\x00\x00\x0f\xff\xff\xff\xf0\x01\xff\xff\xf0\x01\x00\x01\x45",
+    b"\xf8\x00\x00\x00\x4b",
+    b"\xff\xff\xff\xff\xff\xff\xff\xff\x80\x00\x00\x00\x7f\xff\xff\xff",
+    b"\xff\xff\xf0\x01\x00\x00\x0f\xff\xff\xff\xf0\x01\x00\x00\x0f\xfe",
+    b"\xf6\x00\x00\x00\x00\x00\x00\x00\x00\x00\x2f",
+    b"\xf6\x01\x00\x00\x00\x00\x00\x00\x00\x00\x0c",
+    b"\xf6\x02\x00\x00\x00\x00\x00\x00\x00\x00\x28",
+    b"\xf9\x00\x00\x00\x4b\x83\xdf\xdf\xdf\xdf\xdf",
+];
+
+fn corners() -> &'static [&'static [u8]] {
+    CORNERS
+}
+
+/// Ships a character of one pixel, in this row and column.
+fn ship_pixel(rt: &impl Abort, alloc: Global, file: &mut GfFile, code: u8, y: i32, x: i32) {
+    ship(rt, file, code, (0, 0), &picture(rt, alloc, &[(y, x, 1)], 1));
+}
+
+#[test]
+fn comment_and_words(rt: HostRuntime) {
+    let alloc = rt.alloc();
+    let mut file = GfFile::new(alloc, b"a comment", MAX_BYTES).expect(&rt, "the comment fits");
+    ship_pixel(&rt, alloc, &mut file, 1, 4094, -4095);
+    ship(&rt, &mut file, 2, (0, 0), &picture(&rt, alloc, &[], 1));
+    ship_pixel(&rt, alloc, &mut file, 0, -4095, 4094);
+    assert_bytes(&rt, alloc, &finished_with(&rt, file, WORDS), corners());
+}
+
+/// The locator of a character with this escapement, which is the first and only one, begins with these bytes.
+fn assert_locator(rt: &impl Abort, alloc: Global, dx: i32, locator: &[u8]) {
+    let mut file = gf_file(rt, alloc);
+    ship(rt, &mut file, 1, (dx, -5), &picture(rt, alloc, UNIT, 1));
+    let parts: &[&[u8]] = &[locator, b"\xff\xff\xff\xfb\x00\x00\x00\x03\xf9"];
+    let bytes = parts
+        .concat(alloc)
+        .expect(rt, "there is room for the bytes");
+    assert_part(rt, &finished(rt, file), 49, &bytes, ("dx", dx));
+}
+
+/// Escapements of whole pixels up to 255 have a short locator.
+#[test]
+fn escapements(rt: HostRuntime) {
+    let alloc = rt.alloc();
+    assert_locator(&rt, alloc, 0, b"\xf6\x01\x00");
+    assert_locator(&rt, alloc, 255 * 65_536, b"\xf6\x01\xff");
+    assert_locator(
+        &rt,
+        alloc,
+        256 * 65_536,
+        b"\xf5\x01\x01\x00\x00\x00\x00\x00\x00\x00",
+    );
+    assert_locator(
+        &rt,
+        alloc,
+        65_535,
+        b"\xf5\x01\x00\x00\xff\xff\x00\x00\x00\x00",
+    );
+    assert_locator(
+        &rt,
+        alloc,
+        -65_536,
+        b"\xf5\x01\xff\xff\x00\x00\x00\x00\x00\x00",
+    );
+    assert_locator(
+        &rt,
+        alloc,
+        i32::MIN,
+        b"\xf5\x01\x80\x00\x00\x00\x00\x00\x00\x00",
+    );
+}
+
+/// The whole field, black.
+fn field(rt: &impl Abort, alloc: Global) -> Picture {
+    let mut rows = Vec::new(alloc);
+    for y in (-4095..4095).rev() {
+        rows.push((y, -4095, 8190))
+            .expect(rt, "there is room for the rows");
+    }
+    picture(rt, alloc, &rows, 1)
+}
+
+#[test]
+fn whole_field(rt: HostRuntime) {
+    let alloc = rt.alloc();
+    let mut file = gf_file(&rt, alloc);
+    ship(&rt, &mut file, 97, (0, 0), &field(&rt, alloc));
+    let file = finished(&rt, file);
+    // Each of 8,190 rows takes a byte to begin it and three to paint it; boc and eoc take 25 and 1.
+    assert_length(&rt, &file, 32_848);
+    assert_part(&rt, &file, 32_789, b"\xf8", "the postamble");
+    let rows = b"\x00\x41\x1f\xfe\x4a\x41\x1f\xfe";
+    assert_part(&rt, &file, 28, rows, "two rows");
+}

@@ -1,0 +1,183 @@
+//! Files and characters that are refused, and what is left then.
+
+use super::{
+    NO_WORDS, RECT, assert_count, assert_length, finished, gf_file, part, picture, ship,
+    short_file, with_rectangle,
+};
+use crate::tests::assertions::assert_same;
+use mf_gf::{GfFault, GfFile};
+use mf_rows::Picture;
+use std::alloc::Global;
+use std::process::Abort;
+
+/// A stretch far from the rectangle, which would make the box of a file larger.
+const FAR: &[(i32, i32, u32)] = &[(9, -7, 30)];
+
+/// Comments of so many bytes in files of at most so many, and their refusals.
+const COMMENTS: &[(usize, u32, Option<GfFault>)] = &[
+    (0, 2, Some(GfFault::FileTooLong)),
+    (0, 3, None),
+    (4, 6, Some(GfFault::FileTooLong)),
+    (4, 7, None),
+    (255, 10_000, None),
+    (255, 257, Some(GfFault::FileTooLong)),
+    (256, 10_000, Some(GfFault::CommentTooLong)),
+    // The length of the file comes first.
+    (256, 258, Some(GfFault::FileTooLong)),
+];
+
+fn assert_comments(rt: &impl Abort, alloc: Global, cases: &[(usize, u32, Option<GfFault>)]) {
+    let long = vec![in alloc; b'x'; 256].expect(rt, "there is room for a comment");
+    for (length, max_bytes, refusal) in cases {
+        let comment = part(rt, &long, 0, *length);
+        let found = GfFile::new(alloc, comment, *max_bytes).err();
+        let case = ("a comment of", *length, "bytes in", *max_bytes);
+        assert_same(rt, found, *refusal, case);
+    }
+}
+
+#[test]
+fn comments(rt: HostRuntime) {
+    assert_comments(&rt, rt.alloc(), COMMENTS);
+}
+
+/// Ships a character, which is refused with this fault.
+fn assert_refused(
+    rt: &impl Abort,
+    file: &mut GfFile,
+    code: u8,
+    escapement: (i32, i32),
+    picture: &Picture,
+    fault: GfFault,
+) {
+    let (dx, width) = escapement;
+    let shipped = file.ship(code, dx, width, picture);
+    assert_same(rt, shipped, Err(fault), ("code", code));
+}
+
+/// Two files that can be finished have the same bytes.
+fn assert_same_files(rt: &impl Abort, file: GfFile, other: GfFile) {
+    let (file, other) = (finished(rt, file), finished(rt, other));
+    assert_same(rt, file.bytes(), other.bytes(), "the file");
+}
+
+/// A file to which a picture was shipped with these codes.
+fn with_codes(rt: &impl Abort, alloc: Global, codes: &[u8], picture: &Picture) -> GfFile {
+    let mut file = gf_file(rt, alloc);
+    for code in codes {
+        ship(rt, &mut file, *code, (0, 0), picture);
+    }
+    file
+}
+
+#[test]
+fn codes(rt: HostRuntime) {
+    let alloc = rt.alloc();
+    let rect = picture(&rt, alloc, RECT, 1);
+    let far = picture(&rt, alloc, FAR, 1);
+    let mut file = with_codes(&rt, alloc, &[7], &rect);
+    assert_refused(&rt, &mut file, 7, (1, 2), &far, GfFault::CodeShipped);
+    assert_count(&rt, &file, 1);
+    ship(&rt, &mut file, 8, (0, 0), &rect);
+    assert_count(&rt, &file, 2);
+    // The refused character left nothing behind.
+    assert_same_files(&rt, file, with_codes(&rt, alloc, &[7, 8], &rect));
+}
+
+/// A code that was shipped comes before a file that is too long.
+#[test]
+fn code_before_length(rt: HostRuntime) {
+    let alloc = rt.alloc();
+    let rect = picture(&rt, alloc, RECT, 1);
+    let mut file = short_file(&rt, alloc, 14);
+    ship(&rt, &mut file, 65, (0, 0), &rect);
+    assert_refused(&rt, &mut file, 65, (0, 0), &rect, GfFault::CodeShipped);
+    assert_refused(&rt, &mut file, 66, (0, 0), &rect, GfFault::FileTooLong);
+    assert_count(&rt, &file, 1);
+}
+
+/// The file, whose end is refused with this fault.
+fn unfinished(rt: &impl Abort, file: GfFile, fault: GfFault) -> GfFile {
+    match file.finish(NO_WORDS) {
+        Ok(_) => panic!(rt; "the file is finished"),
+        Err((file, found)) => {
+            assert_same(rt, found, fault, "the end");
+            file
+        }
+    }
+}
+
+#[test]
+fn no_characters(rt: HostRuntime) {
+    let alloc = rt.alloc();
+    let file = short_file(&rt, alloc, 72);
+    let mut file = unfinished(&rt, file, GfFault::NoCharacters);
+    ship(&rt, &mut file, 65, (0, 0), &picture(&rt, alloc, RECT, 1));
+    assert_length(&rt, &finished(&rt, file), 72);
+}
+
+/// That no character was shipped comes before a file that is too long.
+#[test]
+fn no_characters_before_length(rt: HostRuntime) {
+    let alloc = rt.alloc();
+    let rect = picture(&rt, alloc, RECT, 1);
+    let file = short_file(&rt, alloc, 3);
+    let mut file = unfinished(&rt, file, GfFault::NoCharacters);
+    assert_count(&rt, &file, 0);
+    assert_refused(&rt, &mut file, 65, (0, 0), &rect, GfFault::FileTooLong);
+}
+
+/// Rows of a character of which each takes three bytes, so that all 30 do not fit behind 14 of 72.
+fn long_rows(rt: &impl Abort, alloc: Global) -> Picture {
+    let mut rows = Vec::new(alloc);
+    for y in (0..30).rev() {
+        rows.push((y, -7, 70))
+            .expect(rt, "there is room for the rows");
+    }
+    picture(rt, alloc, &rows, 1)
+}
+
+/// A character that is too long for the file leaves nothing behind.
+#[test]
+fn too_long_character(rt: HostRuntime) {
+    let alloc = rt.alloc();
+    let long = long_rows(&rt, alloc);
+    let mut file = with_rectangle(&rt, alloc, 72);
+    assert_refused(&rt, &mut file, 66, (1, 2), &long, GfFault::FileTooLong);
+    assert_count(&rt, &file, 1);
+    assert_same_files(&rt, file, with_rectangle(&rt, alloc, 72));
+}
+
+#[test]
+fn lengths(rt: HostRuntime) {
+    let alloc = rt.alloc();
+    let rect = picture(&rt, alloc, RECT, 1);
+    let mut file = short_file(&rt, alloc, 13);
+    assert_refused(
+        &rt,
+        &mut file,
+        65,
+        (327_680, 0),
+        &rect,
+        GfFault::FileTooLong,
+    );
+    assert_count(&rt, &file, 0);
+
+    with_rectangle(&rt, alloc, 14);
+
+    let file = with_rectangle(&rt, alloc, 71);
+    let file = unfinished(&rt, file, GfFault::FileTooLong);
+    assert_count(&rt, &file, 1);
+
+    let file = with_rectangle(&rt, alloc, 72);
+    assert_length(&rt, &finished(&rt, file), 72);
+}
+
+/// A limit beyond the numbers of the format is one, too.
+#[test]
+fn greatest_limit(rt: HostRuntime) {
+    let alloc = rt.alloc();
+    let mut file = short_file(&rt, alloc, u32::MAX);
+    ship(&rt, &mut file, 65, (0, 0), &picture(&rt, alloc, RECT, 1));
+    assert_length(&rt, &finished(&rt, file), 72);
+}

@@ -1,0 +1,5 @@
+//! Tests of `mf_live`.
+#![tactic(auto)]
+
+#[cfg(test)]
+mod tests;

@@ -1,0 +1,163 @@
+//! Tests of live pictures, over two small contours.
+ghost use Rattle.std.specs.Prelude.{◌≡◌, ◌≤◌};
+ghost use Rattle.mf_live.specs.Desks.{desk_name};
+ghost use Rattle.mf_live.specs.Viewers as viewers;
+ghost use Rattle.mf_live.specs.Writers as writers;
+
+mod again;
+mod assertions;
+mod ending;
+mod looking;
+mod sheets;
+mod threads;
+mod writing;
+
+use assertions::{assert_holds, assert_same};
+use mf_geom::{Cycle, Point};
+use mf_live::{CloseFault, Desk, Ended, Notice, Viewer, Writer, open_picture};
+use mf_ops::{Op, Weight};
+use mf_rows::Picture;
+use std::alloc::{AllocError, Global};
+use std::process::Abort;
+use std::sync::Wait;
+
+/// A rectangle of 3 by 2 pixels, counterclockwise.
+pub(crate) const RECT: &[(i32, i32)] = &[(0, 0), (3, 0), (3, 2), (0, 2)];
+
+/// The pixel (0, 0), counterclockwise.
+pub(crate) const UNIT: &[(i32, i32)] = &[(0, 0), (1, 0), (1, 1), (0, 1)];
+
+/// The points of a path.
+fn points(alloc: Global, corners: &[(i32, i32)]) -> Result<Vec<Point>, AllocError> {
+    let mut points = Vec::new(alloc);
+    for (x, y) in corners {
+        points.push(Point { x: *x, y: *y })?;
+    }
+    Ok(points)
+}
+
+/// The contour through these corners, of this weight.
+pub(crate) fn contour(rt: &impl Abort, alloc: Global, corners: &[(i32, i32)], weight: i32) -> Op {
+    let points = points(alloc, corners).expect(rt, "there is room for the path");
+    contour_through(rt, points, weight)
+}
+
+/// The contour through these points, of this weight.
+fn contour_through(rt: &impl Abort, points: Vec<Point>, weight: i32) -> Op {
+    match (Cycle::new(points), Weight::new(weight)) {
+        (Ok(cycle), Ok(weight)) => Op::Contour(cycle, weight),
+        _ => panic!(rt; "no contour of weight {weight}"),
+    }
+}
+
+/// A picture of at most so many operations, and a desk of so many viewers.
+pub(crate) fn opened<R: Abort + Wait>(
+    rt: &R,
+    alloc: Global,
+    places: u32,
+    max_ops: u32,
+) -> (Writer, Desk)
+    requires { places ≤ 64 }
+    ensures { desk_name result.1 ≡ writers.name result.0 }
+{
+    open_picture(rt, alloc, places, max_ops).expect(rt, "there is room for a picture")
+}
+
+/// A viewer, of which one is left.
+pub(crate) fn seated(rt: &impl Abort, desk: &mut Desk) -> Viewer
+    ensures viewer { viewers.name result ≡ desk_name desk.old }
+    ensures desk { desk_name desk.new ≡ desk_name desk.old }
+{
+    desk.viewer().expect(rt, "a place is left")
+}
+
+/// No viewer is left.
+pub(crate) fn assert_no_place(rt: &impl Abort, desk: &mut Desk) {
+    assert_holds(rt, desk.viewer().is_err(), "no place is left");
+}
+
+/// A copy of the working picture.
+pub(crate) fn copied(rt: &impl Abort, alloc: Global, writer: &Writer) -> Picture {
+    writer
+        .working()
+        .copy(alloc)
+        .expect(rt, "there is room for a copy")
+}
+
+/// Applies an operation, which is accepted.
+pub(crate) fn apply(rt: &impl Abort, alloc: Global, writer: &mut Writer, op: Op)
+    ensures { writers.name writer.new ≡ writers.name writer.old }
+{
+    writer
+        .apply(alloc, op)
+        .expect(rt, "the operation is accepted");
+}
+
+/// Publishes.
+pub(crate) fn publish<R: Abort + Wait>(rt: &R, writer: &mut Writer)
+    ensures { writers.name writer.new ≡ writers.name writer.old }
+{
+    writer.publish(rt).expect(rt, "there is room to publish");
+}
+
+/// Fills the rectangle.
+pub(crate) fn fill(rt: &impl Abort, alloc: Global, writer: &mut Writer)
+    ensures { writers.name writer.new ≡ writers.name writer.old }
+{
+    apply(rt, alloc, writer, contour(rt, alloc, RECT, 1));
+}
+
+/// Fills the rectangle, and publishes that.
+pub(crate) fn publish_rectangle<R: Abort + Wait>(rt: &R, alloc: Global, writer: &mut Writer)
+    ensures { writers.name writer.new ≡ writers.name writer.old }
+{
+    fill(rt, alloc, writer);
+    publish(rt, writer);
+}
+
+/// Closes the picture.
+pub(crate) fn close<R: Abort + Wait>(rt: &R, writer: Writer) -> Ended
+    ensures { writers.ended_name result ≡ writers.name writer }
+{
+    match writer.close(rt) {
+        Ok(ended) => ended,
+        Err(CloseFault::Kept(writer)) => {
+            writer.discard(rt);
+            panic!(rt; "no room to close the picture")
+        }
+        Err(CloseFault::Halfway(closing)) => {
+            closing.discard(rt);
+            panic!(rt; "no room to publish the end")
+        }
+    }
+}
+
+/// The working picture has this total, and so many of its operations are not published.
+pub(crate) fn assert_working(rt: &impl Abort, writer: &Writer, pending: u32, total: i64) {
+    let found = (writer.pending(), writer.working().total());
+    assert_same(
+        rt,
+        found,
+        (pending, total),
+        "operations that wait, and the total",
+    );
+}
+
+/// A look shows so many operations, and a picture of this total.
+pub(crate) fn assert_shows(rt: &impl Abort, viewer: Viewer, revision: u32, total: i64) -> Viewer
+    ensures { viewers.name result ≡ viewers.name viewer }
+{
+    match viewer.look() {
+        Ok(look) => {
+            let shown = (look.revision(), look.picture().total());
+            assert_same(rt, shown, (revision, total), "what a look shows");
+            look.leave()
+        }
+        Err(_) => panic!(rt; "the look is not answered"),
+    }
+}
+
+/// A notice tells of so many operations.
+pub(crate) fn assert_tells(rt: &impl Abort, notice: &Notice, revision: u32) {
+    assert_same(rt, notice.revision(), revision, "what is told");
+}

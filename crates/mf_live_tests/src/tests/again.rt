@@ -1,0 +1,140 @@
+//! Calls that were refused for want of memory, and are made again. Here memory is ample; `tests/wanting_memory.py` refuses
+//! each growth of this test in turn.
+
+use super::{RECT, assert_shows, assert_tells, assert_working, contour_through, points, seated};
+use crate::tests::assertions::assert_same;
+use mf_live::{CloseFault, Closing, Desk, Ended, Fault, SheetFault, Viewer, Writer, open_picture};
+use mf_ops::{Op, OpFault, Sign};
+use mf_rows::Picture;
+use std::alloc::Global;
+use std::process::Abort;
+use std::sync::Wait;
+
+/// How often a call is made: a growth is refused to one of all calls at most.
+const TRIES: u32 = 2;
+
+/// A picture of at most 10 operations, and the desk of at most 2 viewers.
+fn opened<R: Abort + Wait>(rt: &R, alloc: Global) -> (Writer, Desk) {
+    for _ in 0..TRIES {
+        if let Ok(opened) = open_picture(rt, alloc, 2, 10) {
+            return opened;
+        }
+    }
+    panic!(rt; "no picture is opened")
+}
+
+/// The contour of the rectangle, of weight 1.
+fn rectangle(rt: &impl Abort, alloc: Global) -> Op {
+    for _ in 0..TRIES {
+        if let Ok(points) = points(alloc, RECT) {
+            return contour_through(rt, points, 1);
+        }
+    }
+    panic!(rt; "there is no room for the path")
+}
+
+/// A copy of a picture.
+fn copied(rt: &impl Abort, alloc: Global, picture: &Picture) -> Picture {
+    for _ in 0..TRIES {
+        if let Ok(copy) = picture.copy(alloc) {
+            return copy;
+        }
+    }
+    panic!(rt; "no picture is copied")
+}
+
+/// Applies an operation; where that is refused, the picture is as it was.
+fn applied(rt: &impl Abort, alloc: Global, writer: &mut Writer, op: Op) {
+    let mut op = op;
+    for _ in 0..TRIES {
+        let (pending, total) = (writer.pending(), writer.working().total());
+        match writer.apply(alloc, op) {
+            Ok(()) => return,
+            Err((back, fault)) => {
+                let wanting = Fault::Refused(OpFault::OutOfMemory);
+                assert_same(rt, fault, wanting, "the operation");
+                op = back;
+            }
+        }
+        assert_working(rt, writer, pending, total);
+    }
+    panic!(rt; "the operation is not accepted")
+}
+
+/// Publishes; where that is refused, the same is published as before.
+fn published<R: Abort + Wait>(rt: &R, writer: &mut Writer) {
+    for _ in 0..TRIES {
+        let revision = writer.tell().revision();
+        if writer.publish(rt).is_ok() {
+            return;
+        }
+        assert_tells(rt, &writer.tell(), revision);
+    }
+    panic!(rt; "nothing is published")
+}
+
+/// A sheet has so many operations, and a picture of this total.
+fn assert_sheet(rt: &impl Abort, alloc: Global, viewer: &mut Viewer, revision: u32, total: i64) {
+    for _ in 0..TRIES {
+        match viewer.sheet(alloc) {
+            Ok(sheet) => {
+                let found = (sheet.revision(), sheet.picture().total());
+                assert_same(rt, found, (revision, total), "the sheet");
+                return;
+            }
+            Err(fault) => assert_same(rt, fault, SheetFault::OutOfMemory, "the sheet"),
+        }
+    }
+    panic!(rt; "no sheet is taken")
+}
+
+/// Closes the picture.
+fn closed<R: Abort + Wait>(rt: &R, writer: Writer) -> Ended {
+    let mut writer = writer;
+    for _ in 0..TRIES {
+        match writer.close(rt) {
+            Ok(ended) => return ended,
+            Err(CloseFault::Kept(back)) => writer = back,
+            Err(CloseFault::Halfway(closing)) => return ended(rt, closing),
+        }
+    }
+    writer.discard(rt);
+    panic!(rt; "the picture is not closed")
+}
+
+/// Publishes the end.
+fn ended<R: Abort + Wait>(rt: &R, closing: Closing) -> Ended {
+    let mut closing = closing;
+    for _ in 0..TRIES {
+        match closing.publish(rt) {
+            Ok(ended) => return ended,
+            Err(back) => closing = back,
+        }
+    }
+    closing.discard(rt);
+    panic!(rt; "the end is not published")
+}
+
+#[test]
+fn calls_are_made_again(rt: HostRuntime) {
+    let alloc = rt.alloc();
+    let (mut writer, mut desk) = opened(&rt, alloc);
+    let viewer = seated(&rt, &mut desk);
+    let rectangle = rectangle(&rt, alloc);
+    applied(&rt, alloc, &mut writer, rectangle);
+    published(&rt, &mut writer);
+    let mut viewer = assert_shows(&rt, viewer, 1, 6);
+    assert_sheet(&rt, alloc, &mut viewer, 1, 6);
+
+    let copy = copied(&rt, alloc, writer.working());
+    applied(&rt, alloc, &mut writer, Op::Also(copy, Sign::Plus));
+    applied(&rt, alloc, &mut writer, Op::Shift(1, -1));
+    published(&rt, &mut writer);
+    let viewer = assert_shows(&rt, viewer, 3, 12);
+
+    applied(&rt, alloc, &mut writer, Op::Clear);
+    let mut ended = closed(&rt, writer);
+    assert_tells(&rt, &ended.notice(), 4);
+    assert_shows(&rt, viewer, 4, 0);
+    ended.discard(&rt);
+}

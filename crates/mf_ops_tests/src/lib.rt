@@ -1,0 +1,5 @@
+//! Tests of `mf_ops`.
+#![tactic(auto)]
+
+#[cfg(test)]
+mod tests;

@@ -1,0 +1,276 @@
+//! Contours.
+
+use super::{
+    CLOCKWISE, Corners, FIELD, PIXEL, RECTANGLE, accepted, assert_bounds, assert_refused,
+    assert_runs, assert_some_runs, assert_total, assert_weights, contour, filled, run, weight,
+    wound,
+};
+use crate::tests::assertions::{assert_holds, assert_same};
+use mf_ops::{OpFault, Weight};
+use mf_rows::{Picture, RowBuilder, Run};
+use std::process::Abort;
+
+/// These contours, each with its weight, fill exactly these runs.
+fn assert_filled<R: Abort + AllocGlobal>(rt: &R, contours: &[(Corners, i32)], runs: &[Run]) {
+    assert_runs(rt, &filled(rt, contours), runs);
+}
+
+/// These numbers are weights of contours, and keep what they are.
+fn assert_are_weights(rt: &impl Abort, numbers: &[i32]) {
+    for number in numbers {
+        assert_same(rt, weight(rt, *number).get(), *number, "weight");
+    }
+}
+
+/// These numbers are no weights of contours.
+fn assert_are_no_weights(rt: &impl Abort, numbers: &[i32]) {
+    for number in numbers {
+        assert_holds(rt, Weight::new(*number).is_err(), ("refused", *number));
+    }
+}
+
+#[test]
+fn weights_of_contours(rt: HostRuntime) {
+    assert_are_weights(&rt, &[-3, -2, -1, 1, 2, 3]);
+    assert_are_no_weights(&rt, &[0, 4, -4, 5, i32::MIN, i32::MAX]);
+}
+
+/// The picture of these runs, each of which has to fit.
+fn built<R: Abort + AllocGlobal>(rt: &R, runs: &[Run]) -> Picture {
+    let mut builder = RowBuilder::new(rt.alloc());
+    for run in runs {
+        assert_holds(rt, builder.fits(run), ("fits", *run));
+        if builder.fits(run) {
+            builder
+                .push_run(*run)
+                .expect(rt, "there is room for the run");
+        }
+    }
+    builder.finish().expect(rt, "there is room for the picture")
+}
+
+/// Both pictures have the same weights in and round the rectangle.
+fn assert_same_weights(rt: &impl Abort, filled: &Picture, built: &Picture) {
+    for y in -1..3 {
+        for x in -1..4 {
+            assert_weights(rt, filled, &[(x, y, built.weight(x, y))]);
+        }
+    }
+}
+
+/// These corners are filled with these runs, and with 6 pixels of weight 1.
+fn assert_fills<R: Abort + AllocGlobal>(rt: &R, corners: Corners, runs: &[Run]) {
+    let filled = filled(rt, &[(corners, 1)]);
+    assert_runs(rt, &filled, runs);
+    assert_total(rt, &filled, 6);
+    assert_same_weights(rt, &filled, &built(rt, runs));
+}
+
+#[test]
+fn fills_a_rectangle(rt: HostRuntime) {
+    let runs = [run(1, 0, 3, 1), run(0, 0, 3, 1)];
+    assert_fills(&rt, RECTANGLE, &runs);
+    assert_fills(&rt, CLOCKWISE, &runs);
+}
+
+/// These contours, each walked so many times and with its weight, fill a picture of this total, of which these pixels
+/// have these weights.
+fn assert_wound<R: Abort + AllocGlobal>(
+    rt: &R,
+    contours: &[(Corners, usize, i32)],
+    total: i64,
+    pixels: &[(i32, i32, i32)],
+) {
+    let picture = wound(rt, contours);
+    assert_total(rt, &picture, total);
+    assert_weights(rt, &picture, pixels);
+}
+
+#[test]
+fn winding_numbers_weigh(rt: HostRuntime) {
+    assert_wound(&rt, &[(PIXEL, 1024, 1)], 1024, &[(0, 0, 1024)]);
+    let contours = [(PIXEL, 1024, 1), (CLOCKWISE, 1, -2)];
+    let pixels = [(0, 0, 1022), (2, 1, -2), (3, 1, 0)];
+    assert_wound(&rt, &contours, 1012, &pixels);
+}
+
+/// A picture to which turns round the pixel of this weight are added, with which the pixel weighs so much.
+fn with_turns<R: Abort + AllocGlobal>(
+    rt: &R,
+    picture: &Picture,
+    times: usize,
+    number: i32,
+    weight: i32,
+) -> Picture {
+    let sum = accepted(rt, picture, &contour(rt, PIXEL, times, number));
+    assert_weights(rt, &sum, &[(0, 0, weight)]);
+    sum
+}
+
+/// Turns round the pixel of this weight make a weight that is too large.
+fn assert_too_many<R: Abort + AllocGlobal>(rt: &R, picture: &Picture, times: usize, number: i32) {
+    let op = contour(rt, PIXEL, times, number);
+    assert_refused(rt, picture, &op, OpFault::WeightTooLarge);
+}
+
+/// Turns round the pixel of the weight `three`, and a last one of the weight `one`, make these weights, the last of which
+/// is the greatest.
+fn assert_limit<R: Abort + AllocGlobal>(
+    rt: &R,
+    three: i32,
+    one: i32,
+    [tenfold, nearly, greatest]: [i32; 3],
+) {
+    let picture = wound(rt, &[(PIXEL, 1024, three); 9]);
+    let full = with_turns(rt, &picture, 1024, three, tenfold);
+    // 33792 in size
+    assert_too_many(rt, &full, 1024, three);
+    let more = with_turns(rt, &full, 682, three, nearly);
+    let last = with_turns(rt, &more, 1, one, greatest);
+    // 32768 in size
+    assert_too_many(rt, &last, 1, one);
+}
+
+#[test]
+fn weights_have_a_limit(rt: HostRuntime) {
+    assert_limit(&rt, 3, 1, [30720, 32766, 32767]);
+    assert_limit(&rt, -3, -1, [-30720, -32766, -32767]);
+}
+
+/// Pixels where the whole field is filled.
+const FIELD_PIXELS: [(i32, i32, i32); 8] = [
+    // The corners of the field.
+    (-4095, -4095, 1),
+    (4094, -4095, 1),
+    (-4095, 4094, 1),
+    (4094, 4094, 1),
+    // Outside.
+    (-4096, 0, 0),
+    (4095, 0, 0),
+    (0, -4096, 0),
+    (0, 4095, 0),
+];
+
+#[test]
+fn fills_the_whole_field(rt: HostRuntime) {
+    let full = filled(&rt, &[(FIELD, 1)]);
+    // 8190 rows of 8190 pixels
+    assert_total(&rt, &full, 67_076_100);
+    let runs = [
+        (0, Some(run(4094, -4095, 8190, 1))),
+        (8189, Some(run(-4095, -4095, 8190, 1))),
+        (8190, None),
+    ];
+    assert_some_runs(&rt, &full, &runs);
+    assert_weights(&rt, &full, &FIELD_PIXELS);
+}
+
+#[test]
+fn fills_the_corners_of_the_field(rt: HostRuntime) {
+    let lower_left: Corners = &[
+        (-4095, -4095),
+        (-4094, -4095),
+        (-4094, -4094),
+        (-4095, -4094),
+    ];
+    let lower_right: Corners = &[(4094, -4095), (4095, -4095), (4095, -4094), (4094, -4094)];
+    let upper_left: Corners = &[(-4095, 4094), (-4094, 4094), (-4094, 4095), (-4095, 4095)];
+    let upper_right: Corners = &[(4094, 4094), (4095, 4094), (4095, 4095), (4094, 4095)];
+    let contours = [
+        (lower_left, 1),
+        (lower_right, -1),
+        (upper_left, 2),
+        (upper_right, 3),
+    ];
+    let runs = [
+        run(4094, -4095, 1, 2),
+        run(4094, 4094, 1, 3),
+        run(-4095, -4095, 1, 1),
+        run(-4095, 4094, 1, -1),
+    ];
+    assert_filled(&rt, &contours, &runs);
+}
+
+#[test]
+fn contours_touch(rt: HostRuntime) {
+    // The second begins in the column in which the first ends: with the same weight one run goes on, and
+    // with another there are two.
+    let row: Corners = &[(0, 0), (3, 0), (3, 1), (0, 1)];
+    let beside: Corners = &[(3, 0), (5, 0), (5, 1), (3, 1)];
+    assert_filled(&rt, &[(row, 1), (beside, 1)], &[run(0, 0, 5, 1)]);
+    let two = [run(0, 0, 3, 1), run(0, 3, 2, 2)];
+    assert_filled(&rt, &[(row, 1), (beside, 2)], &two);
+}
+
+#[test]
+fn contours_overlap(rt: HostRuntime) {
+    // Two squares of 2 by 2 pixels with one pixel in common.
+    let low: Corners = &[(0, 0), (2, 0), (2, 2), (0, 2)];
+    let high: Corners = &[(1, 1), (3, 1), (3, 3), (1, 3)];
+    let runs = [
+        run(2, 1, 2, 2),
+        run(1, 0, 1, 1),
+        run(1, 1, 1, 3),
+        run(1, 2, 1, 2),
+        run(0, 0, 2, 1),
+    ];
+    assert_filled(&rt, &[(low, 1), (high, 2)], &runs);
+}
+
+/// These contours cancel.
+fn assert_cancel<R: Abort + AllocGlobal>(rt: &R, contours: &[(Corners, i32)]) {
+    let nothing = filled(rt, contours);
+    assert_runs(rt, &nothing, &[]);
+    assert_total(rt, &nothing, 0);
+    assert_bounds(rt, &nothing, None);
+}
+
+#[test]
+fn contours_cancel(rt: HostRuntime) {
+    assert_cancel(&rt, &[(FIELD, 1), (FIELD, -1)]);
+    assert_cancel(&rt, &[(RECTANGLE, 3), (CLOCKWISE, -1), (RECTANGLE, -2)]);
+}
+
+#[test]
+fn contours_leave_the_rest(rt: HostRuntime) {
+    // The lower row, and of the upper one its ends.
+    let middle: Corners = &[(1, 1), (2, 1), (2, 2), (1, 2)];
+    let rest = [run(1, 0, 1, 1), run(1, 2, 1, 1), run(0, 0, 3, 1)];
+    assert_filled(&rt, &[(RECTANGLE, 1), (middle, -1)], &rest);
+}
+
+#[test]
+fn fills_across_a_border_of_bands(rt: HostRuntime) {
+    let across: Corners = &[(-1, 4029), (1, 4029), (1, 4033), (-1, 4033)];
+    let runs = [
+        run(4032, -1, 2, 1),
+        run(4031, -1, 2, 1),
+        run(4030, -1, 2, 1),
+        run(4029, -1, 2, 1),
+    ];
+    assert_filled(&rt, &[(across, 1)], &runs);
+}
+
+#[test]
+fn a_cycle_winds_both_ways(rt: HostRuntime) {
+    // An eight that goes round its lower square twice counterclockwise and round its upper one once clockwise.
+    let eight: Corners = &[
+        (0, 0),
+        (2, 0),
+        (2, 2),
+        (0, 2),
+        (0, 0),
+        (2, 0),
+        (2, 4),
+        (4, 4),
+        (4, 2),
+        (0, 2),
+    ];
+    let runs = [
+        run(3, 2, 2, -1),
+        run(2, 2, 2, -1),
+        run(1, 0, 2, 2),
+        run(0, 0, 2, 2),
+    ];
+    assert_filled(&rt, &[(eight, 1)], &runs);
+}

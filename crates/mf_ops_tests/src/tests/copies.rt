@@ -1,0 +1,58 @@
+//! Copies of operations, and operations on a picture itself.
+
+use super::{
+    RECTANGLE, accepted, assert_equal, assert_total, contour, copy_of, dropping, filled, keeping,
+    scale, turn,
+};
+use mf_ops::{Op, Sign, apply};
+use mf_rows::Picture;
+use std::process::Abort;
+
+/// The rectangle, of weight 2.
+fn rectangle<R: Abort + AllocGlobal>(rt: &R) -> Picture {
+    filled(rt, &[(RECTANGLE, 2)])
+}
+
+/// The picture to which an operation was applied itself.
+fn changed<R: Abort + AllocGlobal>(rt: &R, picture: &Picture, op: &Op) -> Picture {
+    let mut changed = copy_of(rt, picture);
+    apply(rt.alloc(), &mut changed, op).expect(rt, "the operation is performed");
+    changed
+}
+
+/// The copy of an operation makes the same of a picture, and so does the operation on the picture itself.
+fn assert_again<R: Abort + AllocGlobal>(rt: &R, picture: &Picture, op: &Op, new: &Picture) {
+    let copy = op.copy(rt.alloc()).expect(rt, "there is room for the copy");
+    assert_equal(rt, &accepted(rt, picture, &copy), new, "the copy");
+    assert_equal(rt, &changed(rt, picture, op), new, "the picture itself");
+}
+
+/// An operation makes of the rectangle a picture of this total. So does its copy, and so does the operation on the
+/// rectangle itself.
+fn assert_effect<R: Abort + AllocGlobal>(rt: &R, op: Op, total: i64) {
+    let rectangle = rectangle(rt);
+    let new = accepted(rt, &rectangle, &op);
+    assert_total(rt, &new, total);
+    assert_again(rt, &rectangle, &op, &new);
+}
+
+#[test]
+fn additions_have_their_effect(rt: HostRuntime) {
+    assert_effect(&rt, contour(&rt, RECTANGLE, 1, -1), 6);
+    assert_effect(&rt, Op::Also(rectangle(&rt), Sign::Plus), 24);
+    assert_effect(&rt, Op::Also(rectangle(&rt), Sign::Minus), 0);
+}
+
+#[test]
+fn culls_have_their_effect(rt: HostRuntime) {
+    assert_effect(&rt, keeping(&rt, 2, 2, 3), 18);
+    assert_effect(&rt, dropping(&rt, 0, 2, 3), 0);
+    assert_effect(&rt, Op::Clear, 0);
+}
+
+#[test]
+fn moves_have_their_effect(rt: HostRuntime) {
+    assert_effect(&rt, Op::Shift(1, -2), 12);
+    assert_effect(&rt, scale(&rt, -2, 3), 72);
+    assert_effect(&rt, turn(&rt, 90), 12);
+}

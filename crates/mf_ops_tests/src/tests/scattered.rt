@@ -1,0 +1,78 @@
+//! Scattered pixels that move there and back.
+
+use super::{PIXEL, accepted, assert_total, assert_weights, filled, scale, turn};
+use crate::tests::assertions::assert_holds;
+use mf_ops::{Op, Sign};
+use mf_rows::Picture;
+use std::process::Abort;
+
+/// Pictures of scattered pixels.
+const PICTURES: i32 = 10;
+
+/// The pixel (x, y), added or subtracted.
+fn signed_pixel<R: Abort + AllocGlobal>(rt: &R, x: i32, y: i32, sign: Sign) -> Op {
+    let unit = filled(rt, &[(PIXEL, 1)]);
+    Op::Also(accepted(rt, &unit, &Op::Shift(x, y)), sign)
+}
+
+/// Pixels in the square of side 7 round (0, 0), scattered by a seed, with weights of either sign.
+fn scattered<R: Abort + AllocGlobal>(rt: &R, seed: i32) -> Picture {
+    let mut picture = Picture::blank(rt.alloc());
+    let mut state = seed;
+    for _ in 0..12 {
+        state = state.wrapping_mul(1_664_525).wrapping_add(1_013_904_223);
+        let drawn = (state >> 16) & 0xfff;
+        let x = (drawn % 7).wrapping_sub(3);
+        let y = (drawn / 7 % 7).wrapping_sub(3);
+        let sign = if drawn % 5 < 3 {
+            Sign::Plus
+        } else {
+            Sign::Minus
+        };
+        picture = accepted(rt, &picture, &signed_pixel(rt, x, y, sign));
+    }
+    picture
+}
+
+/// The scattered picture of this seed keeps its total on the way there, and is as before on the way back. Its pixel
+/// (2, 1) comes to the place (x, y).
+fn assert_one_moves_back<R: Abort + AllocGlobal>(
+    rt: &R,
+    seed: i32,
+    there: &Op,
+    back: &Op,
+    (x, y): (i32, i32),
+) {
+    let picture = scattered(rt, seed);
+    let away = accepted(rt, &picture, there);
+    assert_total(rt, &away, picture.total());
+    assert_weights(rt, &away, &[(x, y, picture.weight(2, 1))]);
+    let again = accepted(rt, &away, back);
+    assert_holds(rt, again.equal(&picture), ("back", seed));
+}
+
+/// So do all scattered pictures.
+fn assert_moves_back<R: Abort + AllocGlobal>(rt: &R, there: Op, back: Op, place: (i32, i32)) {
+    for seed in 0..PICTURES {
+        assert_one_moves_back(rt, seed, &there, &back, place);
+    }
+}
+
+#[test]
+fn shifted_pictures_move_back(rt: HostRuntime) {
+    assert_moves_back(&rt, Op::Shift(5, -7), Op::Shift(-5, 7), (7, -6));
+}
+
+#[test]
+fn reflected_pictures_move_back(rt: HostRuntime) {
+    assert_moves_back(&rt, scale(&rt, -1, 1), scale(&rt, -1, 1), (-3, 1));
+    assert_moves_back(&rt, scale(&rt, 1, -1), scale(&rt, 1, -1), (2, -2));
+    assert_moves_back(&rt, scale(&rt, -1, -1), turn(&rt, 180), (-3, -2));
+}
+
+#[test]
+fn turned_pictures_move_back(rt: HostRuntime) {
+    assert_moves_back(&rt, turn(&rt, 90), turn(&rt, 270), (-2, 2));
+    assert_moves_back(&rt, turn(&rt, 180), turn(&rt, 180), (-3, -2));
+    assert_moves_back(&rt, turn(&rt, 270), turn(&rt, 90), (1, -3));
+}

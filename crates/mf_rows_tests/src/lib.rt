@@ -1,0 +1,5 @@
+//! Tests of `mf_rows`.
+#![tactic(auto)]
+
+#[cfg(test)]
+mod tests;

@@ -1,0 +1,116 @@
+//! Tests with values worked out by hand, and tests against a slow form of pictures.
+
+mod assertions;
+mod chance;
+mod corners;
+mod equal;
+mod generated;
+mod moves;
+mod rectangle_sums;
+mod rectangles;
+mod room;
+mod runs;
+mod slow;
+mod sums;
+
+use assertions::{assert_holds, assert_same};
+use mf_rows::{Box4, OutOfMemory, Picture, RowBuilder, Run};
+use std::fmt::Debug;
+use std::process::Abort;
+
+fn make_run(y: i32, x: i32, len: u32, weight: i32) -> Run {
+    Run { y, x, len, weight }
+}
+
+/// A builder with these runs, each of which has to fit.
+fn builder_of<R: Abort + AllocGlobal>(rt: &R, runs: &[Run]) -> RowBuilder {
+    let mut builder = RowBuilder::new(rt.alloc());
+    for run in runs {
+        assert_holds(rt, builder.fits(run), ("fits", *run));
+        if builder.fits(run) {
+            builder
+                .push_run(*run)
+                .expect(rt, "there is room for the run");
+        }
+    }
+    builder
+}
+
+/// The picture that was made, where there was room for it.
+fn made(rt: &impl Abort, picture: Result<Picture, OutOfMemory>) -> Picture {
+    picture.expect(rt, "there is room for the picture")
+}
+
+/// The picture of these runs, each of which has to fit.
+fn picture_of<R: Abort + AllocGlobal>(rt: &R, runs: &[Run]) -> Picture {
+    made(rt, builder_of(rt, runs).finish())
+}
+
+/// A copy of a picture.
+fn copy_of<R: Abort + AllocGlobal>(rt: &R, picture: &Picture) -> Picture {
+    made(rt, picture.copy(rt.alloc()))
+}
+
+/// Two rows of three pixels, one below the other.
+fn block() -> [Run; 2] {
+    [make_run(1, 0, 3, 1), make_run(0, 0, 3, 1)]
+}
+
+/// These pixels of a picture have these weights.
+fn assert_weights(rt: &impl Abort, picture: &Picture, pixels: &[(i32, i32, i32)]) {
+    for (x, y, weight) in pixels {
+        assert_same(rt, picture.weight(*x, *y), *weight, ("weight at", *x, *y));
+    }
+}
+
+/// The weights of a picture have this sum.
+fn assert_total(rt: &impl Abort, picture: &Picture, total: i64) {
+    assert_same(rt, picture.total(), total, "total");
+}
+
+/// A picture has this least box.
+fn assert_bounds(rt: &impl Abort, picture: &Picture, bounds: Option<Box4>) {
+    assert_same(rt, picture.bounds(), bounds, "bounds");
+}
+
+/// At these places, counted from 0, a picture has these runs.
+fn assert_some_runs(rt: &impl Abort, picture: &Picture, runs: &[(usize, Option<Run>)]) {
+    for (k, run) in runs {
+        assert_same(rt, picture.run(*k), *run, ("run", *k));
+    }
+}
+
+/// A picture has exactly these runs.
+fn assert_runs<R: Abort + AllocGlobal>(rt: &R, picture: &Picture, runs: &[Run]) {
+    assert_runs_in(rt, 0, picture, runs);
+}
+
+/// In this case a picture has exactly these runs.
+fn assert_runs_in<R: Abort + AllocGlobal>(rt: &R, case: usize, picture: &Picture, runs: &[Run]) {
+    for (k, run) in runs.iter().enumerate() {
+        assert_same(rt, picture.run(k), Some(*run), ("run", k, "in case", case));
+    }
+    assert_same(
+        rt,
+        picture.run(runs.len()),
+        None,
+        ("last run in case", case),
+    );
+    let all: Vec<Run> = picture
+        .runs()
+        .collect(rt.alloc())
+        .expect(rt, "there is room for the runs");
+    assert_same(rt, all.as_slice(), runs, ("runs in case", case));
+}
+
+/// Two pictures are equal, or not, whichever of them is asked.
+fn assert_equality<C: Copy + Debug + Drop>(
+    rt: &impl Abort,
+    one: &Picture,
+    other: &Picture,
+    equal: bool,
+    case: C,
+) {
+    assert_same(rt, one.equal(other), equal, case);
+    assert_same(rt, other.equal(one), equal, case);
+}

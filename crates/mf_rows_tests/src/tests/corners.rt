@@ -1,0 +1,231 @@
+//! Rectangles added to pictures by their corners.
+
+use super::rectangles::{
+    Rectangle, at_once, by_turns, corners_of, field, make_corner, make_rectangle, negated, try_all,
+    weight_of_all, with_all,
+};
+use super::slow::{SlowPicture, both_forms};
+use super::{
+    assert_bounds, assert_equality, assert_runs, assert_some_runs, assert_total, assert_weights,
+    block, copy_of, make_run, picture_of,
+};
+use crate::tests::assertions::assert_same;
+use mf_rows::{AddFault, Box4, Picture};
+use std::process::Abort;
+
+#[test]
+fn are_those_of_their_rectangle(rt: HostRuntime) {
+    let rectangle = make_rectangle(0, 0, 3, 2, 1);
+    let corners = corners_of(&rt, rt.alloc(), &[rectangle]).expect(&rt, "there is room");
+    let expected = [
+        make_corner(0, 2, 1),
+        make_corner(0, 0, -1),
+        make_corner(3, 2, -1),
+        make_corner(3, 0, 1),
+    ];
+    assert_same(&rt, corners.as_slice(), expected.as_slice(), "corners");
+    assert_runs(&rt, &at_once(&rt, &[rectangle]), &block());
+}
+
+#[test]
+fn fill_the_field(rt: HostRuntime) {
+    let picture = at_once(&rt, &[field(1)]);
+    let bounds = Box4 {
+        min_x: -4095,
+        max_x: 4094,
+        min_y: -4095,
+        max_y: 4094,
+    };
+    assert_total(&rt, &picture, 67_076_100);
+    assert_bounds(&rt, &picture, Some(bounds));
+    let runs = [
+        (0, Some(make_run(4094, -4095, 8190, 1))),
+        (8189, Some(make_run(-4095, -4095, 8190, 1))),
+        (8190, None),
+    ];
+    assert_some_runs(&rt, &picture, &runs);
+    let pixels = [
+        (-4095, 4094, 1),
+        (4094, -4095, 1),
+        (4095, 0, 0),
+        (-4096, 0, 0),
+        (0, 4095, 0),
+        (0, -4096, 0),
+    ];
+    assert_weights(&rt, &picture, &pixels);
+}
+
+/// Rectangles make the blank picture, added at once and one after another.
+fn assert_cancel<R: Abort + AllocGlobal>(rt: &R, case: usize, rectangles: &[Rectangle]) {
+    let blank = SlowPicture::blank(rt.alloc());
+    blank.assert_answers_of(rt, case, &at_once(rt, rectangles));
+    let picture = by_turns(rt, rectangles);
+    blank.assert_answers_of(rt, case, &picture);
+    assert_bounds(rt, &picture, None);
+    assert_some_runs(rt, &picture, &[(0, None)]);
+}
+
+#[test]
+fn cancel_to_the_blank_picture(rt: HostRuntime) {
+    let low = make_rectangle(0, 0, 4, 4, 1);
+    let high = make_rectangle(2, 2, 6, 6, 2);
+    let whole = [field(3), field(-3), low, negated(low)];
+    let overlapping = [low, high, negated(low), negated(high)];
+    let in_pieces = [
+        low,
+        make_rectangle(4, 0, 8, 4, 1),
+        make_rectangle(0, 0, 8, 2, -1),
+        make_rectangle(0, 2, 8, 4, -1),
+    ];
+    let in_bands = [
+        make_rectangle(0, 3950, 5, 4095, 1),
+        make_rectangle(0, 3950, 5, 3967, -1),
+        make_rectangle(0, 3967, 5, 4031, -1),
+        make_rectangle(0, 4031, 5, 4095, -1),
+    ];
+    assert_cancel(&rt, 0, &whole);
+    assert_cancel(&rt, 1, &overlapping);
+    assert_cancel(&rt, 2, &in_pieces);
+    assert_cancel(&rt, 3, &in_bands);
+}
+
+/// A picture to which a rectangle is added, and from which it is taken away again, is equal to the picture, and with
+/// the rectangle it is not.
+fn added_and_taken_away<R: Abort + AllocGlobal>(
+    rt: &R,
+    picture: &Picture,
+    rectangle: Rectangle,
+) -> Picture {
+    let both = with_all(rt, picture, &[rectangle]);
+    assert_equality(rt, &both, picture, false, "with the rectangle");
+    let again = with_all(rt, &both, &[negated(rectangle)]);
+    assert_equality(rt, &again, picture, true, "without it again");
+    again
+}
+
+/// A picture without a rectangle is blank, and with it is not.
+fn assert_blank_without<R: Abort + AllocGlobal>(rt: &R, picture: &Picture, rectangle: Rectangle) {
+    let blank = Picture::blank(rt.alloc());
+    assert_equality(rt, picture, &blank, false, "the first and none");
+    let none = with_all(rt, picture, &[negated(rectangle)]);
+    assert_equality(rt, &none, &blank, true, "none and none again");
+}
+
+#[test]
+fn give_equal_pictures_back_where_they_are_taken_away(rt: HostRuntime) {
+    let low = make_rectangle(0, 0, 3, 2, 1);
+    let high = make_rectangle(-2, 3960, 7, 4040, 2);
+    let first = at_once(&rt, &[low]);
+    let runs = picture_of(&rt, &block());
+    assert_equality(&rt, &first, &runs, true, "corners and runs");
+    let again = added_and_taken_away(&rt, &first, high);
+    assert_blank_without(&rt, &again, low);
+}
+
+/// Columns at the sides of the rectangles below.
+const COLUMNS: [i32; 8] = [-6, -5, -1, 0, 4, 5, 7, 8];
+
+/// In each row, and above and below the field, a picture has the weights of these rectangles in these columns, and it
+/// has this total.
+fn assert_filled(rt: &impl Abort, picture: &Picture, rectangles: &[Rectangle], total: i64) {
+    for y in -4096..4096 {
+        for x in COLUMNS {
+            assert_weights(rt, picture, &[(x, y, weight_of_all(rectangles, x, y))]);
+        }
+    }
+    assert_total(rt, picture, total);
+}
+
+#[test]
+fn change_the_rows_that_they_reach(rt: HostRuntime) {
+    let pole = make_rectangle(-5, -4095, 5, 4095, 1);
+    let flag = make_rectangle(0, 100, 8, 103, 2);
+    let tall = at_once(&rt, &[pole]);
+    let picture = with_all(&rt, &tall, &[flag]);
+    assert_filled(&rt, &tall, &[pole], 81_900);
+    assert_filled(&rt, &picture, &[pole, flag], 81_948);
+    let runs = [
+        (3991, Some(make_run(103, -5, 10, 1))),
+        (3992, Some(make_run(102, -5, 5, 1))),
+        (3993, Some(make_run(102, 0, 5, 3))),
+        (3994, Some(make_run(102, 5, 3, 2))),
+        (4001, Some(make_run(99, -5, 10, 1))),
+        (8195, Some(make_run(-4095, -5, 10, 1))),
+        (8196, None),
+    ];
+    assert_some_runs(&rt, &picture, &runs);
+}
+
+/// The weight of the pixel (x, y) of what was made, if it was not refused.
+fn weight_of(made: &Result<Picture, AddFault>, x: i32, y: i32) -> Result<i32, AddFault> {
+    match made {
+        Ok(picture) => Ok(picture.weight(x, y)),
+        Err(fault) => Err(*fault),
+    }
+}
+
+/// Adds a pixel to a picture in place.
+fn add_in_place<R: Abort + AllocGlobal>(
+    rt: &R,
+    picture: &mut Picture,
+    pixel: Rectangle,
+) -> Result<(), AddFault> {
+    let corners = corners_of(rt, rt.alloc(), &[pixel])?;
+    picture.add_corners(rt.alloc(), corners)
+}
+
+/// A picture to which this weight is added at the pixel (1, y) has this weight there, or that is refused; and so
+/// where it is added in place. What is refused leaves the picture as it was, as its slow form tells.
+fn assert_added<R: Abort + AllocGlobal>(
+    rt: &R,
+    (picture, slow): &(Picture, SlowPicture),
+    y: i32,
+    weight: i32,
+    expected: Result<i32, AddFault>,
+) {
+    let pixel = make_rectangle(1, y, 2, y.wrapping_add(1), weight);
+    let new = try_all(rt, picture, &[pixel]);
+    assert_same(rt, weight_of(&new, 1, y), expected, pixel);
+    let mut changed = copy_of(rt, picture);
+    let answer = add_in_place(rt, &mut changed, pixel);
+    assert_same(
+        rt,
+        answer.and(Ok(changed.weight(1, y))),
+        expected,
+        ("in place", pixel),
+    );
+    if expected.is_err() {
+        slow.assert_answers_of(rt, 0, &changed);
+    }
+    slow.assert_answers_of(rt, 1, picture);
+}
+
+/// Weights that are added to pixels, by their rows, and what comes of it.
+const ADDED: [(i32, i32, Result<i32, AddFault>); 6] = [
+    (4031, 1, Ok(32767)),
+    (4030, -1, Ok(-32767)),
+    (4031, -3, Ok(32763)),
+    (4031, 2, Err(AddFault::WeightTooLarge)),
+    (4030, -2, Err(AddFault::WeightTooLarge)),
+    (4031, 3, Err(AddFault::WeightTooLarge)),
+];
+
+/// Each of these is what comes of adding to a picture.
+fn assert_all_added<R: Abort + AllocGlobal>(rt: &R, forms: &(Picture, SlowPicture)) {
+    for (y, weight, expected) in ADDED {
+        assert_added(rt, forms, y, weight, expected);
+    }
+}
+
+#[test]
+fn stop_at_the_greatest_weight(rt: HostRuntime) {
+    let runs = [make_run(4031, 0, 4, 32766), make_run(4030, 0, 4, -32766)];
+    assert_all_added(&rt, &both_forms(&rt, &runs));
+}
+
+#[test]
+fn add_nothing_where_there_are_none(rt: HostRuntime) {
+    let runs = [make_run(5, 0, 4, 7), make_run(-70, 2, 1, -7)];
+    let (picture, slow) = both_forms(&rt, &runs);
+    slow.assert_answers_of(&rt, 0, &with_all(&rt, &picture, &[]));
+}

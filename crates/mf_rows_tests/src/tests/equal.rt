@@ -1,0 +1,217 @@
+//! Which pictures are equal.
+
+use super::chance::Chance;
+use super::slow::{SlowPicture, both_forms};
+use super::{assert_equality, block, copy_of, make_run, picture_of};
+use crate::tests::assertions::{assert_holds, assert_same};
+use mf_rows::{OutOfMemory, Picture, Run};
+use std::alloc::Global;
+use std::process::Abort;
+
+/// Pictures by chance, each of which is compared with each.
+const PICTURES: u32 = 40;
+
+/// The pictures of these runs are equal, or not, whichever of them is asked.
+fn assert_runs_equal<R: Abort + AllocGlobal>(
+    rt: &R,
+    case: usize,
+    left: &[Run],
+    right: &[Run],
+    equal: bool,
+) {
+    let one = picture_of(rt, left);
+    let other = picture_of(rt, right);
+    assert_equality(rt, &one, &other, equal, ("pictures of runs", case));
+}
+
+/// The pictures of these runs are equal to none of these others.
+fn assert_all_differ<R: Abort + AllocGlobal>(rt: &R, runs: &[Run], others: &[[Run; 2]]) {
+    for (case, other) in others.iter().enumerate() {
+        assert_runs_equal(rt, case, runs, other, false);
+    }
+}
+
+/// The picture of no run differs from that of each of these runs.
+fn assert_none_is_blank<R: Abort + AllocGlobal>(rt: &R, runs: &[Run]) {
+    for (case, run) in runs.iter().enumerate() {
+        assert_runs_equal(rt, case, &[], &[*run], false);
+    }
+}
+
+/// The picture of runs differs from each of those of their first ones.
+fn assert_beginnings_differ<R: Abort + AllocGlobal>(rt: &R, runs: &[Run]) {
+    for len in 0..runs.len() {
+        assert_runs_equal(rt, len, runs, &runs[..len], false);
+    }
+    assert_runs_equal(rt, runs.len(), runs, runs, true);
+}
+
+/// The copy of a picture, which is gone then.
+fn copy_alone<R: Abort + AllocGlobal>(rt: &R, picture: Picture) -> Picture {
+    let copy = copy_of(rt, &picture);
+    assert_equality(rt, &picture, &picture, true, "the picture and itself");
+    assert_equality(rt, &picture, &copy, true, "the picture and its copy");
+    copy
+}
+
+#[test]
+fn a_picture_and_its_copy_are_equal(rt: HostRuntime) {
+    let copy = copy_alone(&rt, picture_of(&rt, &block()));
+    let again = picture_of(&rt, &block());
+    assert_equality(&rt, &copy, &again, true, "the copy alone");
+    assert_runs_equal(&rt, 0, &block(), &block(), true);
+}
+
+#[test]
+fn runs_in_pieces_make_equal_pictures(rt: HostRuntime) {
+    let whole = [make_run(3, 0, 5, 7), make_run(-70, 0, 2, -7)];
+    let pieces = [
+        make_run(3, 0, 2, 7),
+        make_run(3, 2, 3, 7),
+        make_run(-70, 0, 1, -7),
+        make_run(-70, 1, 1, -7),
+    ];
+    let apart = [
+        make_run(3, 0, 2, 7),
+        make_run(3, 3, 3, 7),
+        make_run(-70, 0, 2, -7),
+    ];
+    assert_runs_equal(&rt, 0, &whole, &pieces, true);
+    assert_runs_equal(&rt, 1, &whole, &apart, false);
+}
+
+#[test]
+fn pictures_with_any_difference_are_not_equal(rt: HostRuntime) {
+    let others = [
+        // a pixel more or less
+        [make_run(1, 0, 4, 1), make_run(0, 0, 3, 1)],
+        [make_run(1, 0, 3, 1), make_run(0, 0, 2, 1)],
+        [make_run(1, 1, 2, 1), make_run(0, 0, 3, 1)],
+        // other weights
+        [make_run(1, 0, 3, 2), make_run(0, 0, 3, 1)],
+        [make_run(1, 0, 3, 1), make_run(0, 0, 3, -1)],
+        // other columns
+        [make_run(1, 1, 3, 1), make_run(0, 0, 3, 1)],
+        [make_run(1, 0, 3, 1), make_run(0, -1, 3, 1)],
+        // other rows
+        [make_run(2, 0, 3, 1), make_run(0, 0, 3, 1)],
+        [make_run(1, 0, 3, 1), make_run(-1, 0, 3, 1)],
+        [make_run(2, 0, 3, 1), make_run(1, 0, 3, 1)],
+        // the same total, also in the same box
+        [make_run(1, 0, 1, 3), make_run(0, 0, 3, 1)],
+        [make_run(1, 0, 2, 1), make_run(0, 0, 2, 2)],
+    ];
+    assert_all_differ(&rt, &block(), &others);
+}
+
+#[test]
+fn a_picture_and_its_beginning_are_not_equal(rt: HostRuntime) {
+    let runs = [
+        make_run(4094, -4095, 1, 1),
+        make_run(4094, 4094, 1, 1),
+        make_run(0, 0, 1, 1),
+        make_run(-4095, 4094, 1, 1),
+    ];
+    assert_beginnings_differ(&rt, &runs);
+}
+
+/// A picture is equal to the blank one.
+fn assert_blank<R: Abort + AllocGlobal>(rt: &R, picture: &Picture, case: &str) {
+    assert_equality(rt, &Picture::blank(rt.alloc()), picture, true, case);
+}
+
+#[test]
+fn blank_pictures_are_equal(rt: HostRuntime) {
+    let blank = Picture::blank(rt.alloc());
+    assert_equality(&rt, &blank, &blank, true, "the blank picture and itself");
+    assert_blank(&rt, &blank, "two blank pictures");
+    assert_blank(&rt, &copy_of(&rt, &blank), "the blank picture and its copy");
+    assert_blank(
+        &rt,
+        &picture_of(&rt, &[]),
+        "the blank picture and that of no run",
+    );
+}
+
+#[test]
+fn blank_pictures_are_equal_to_each_other_alone(rt: HostRuntime) {
+    let runs = [
+        make_run(0, 0, 1, 1),
+        make_run(4094, -4095, 1, -1),
+        make_run(-4095, 4094, 1, 32767),
+    ];
+    assert_none_is_blank(&rt, &runs);
+    // a total of 0
+    let opposite = [make_run(0, 0, 1, 1), make_run(0, 1, 1, -1)];
+    assert_runs_equal(&rt, 3, &[], &opposite, false);
+}
+
+/// Adds up to two short runs by chance in a row.
+fn push_runs(chance: &mut Chance, runs: &mut Vec<Run>, y: i32) -> Result<(), OutOfMemory> {
+    let mut x = 0i32;
+    for _ in 0..chance.below(3) {
+        x = x.wrapping_add(chance.below(2) as i32);
+        let len = 1 + chance.below(2);
+        runs.push(make_run(y, x, len, chance.one_of(&[1, -1])))?;
+        x = x.wrapping_add(len as i32);
+    }
+    Ok(())
+}
+
+/// Up to two short runs in each of two rows: so few that their pictures are often equal, also where the runs
+/// are others.
+fn few_runs_by_chance(alloc: Global, seed: u32) -> Result<Vec<Run>, OutOfMemory> {
+    let mut chance = Chance::new(seed);
+    let mut runs = Vec::new(alloc);
+    push_runs(&mut chance, &mut runs, 1)?;
+    push_runs(&mut chance, &mut runs, 0)?;
+    Ok(runs)
+}
+
+/// Pictures by chance, with their slow forms.
+fn pictures_by_chance<R: Abort + AllocGlobal>(rt: &R) -> Vec<(Picture, SlowPicture)> {
+    let mut pictures = Vec::new(rt.alloc());
+    for seed in 0..PICTURES {
+        let runs = few_runs_by_chance(rt.alloc(), seed).expect(rt, "there is room for runs");
+        pictures
+            .push(both_forms(rt, &runs))
+            .expect(rt, "there is room for the picture");
+    }
+    pictures
+}
+
+/// A picture is equal to those of others whose slow forms have its pixels. Answers how many they are.
+fn count_equal(
+    rt: &impl Abort,
+    case: usize,
+    one: &(Picture, SlowPicture),
+    others: &[(Picture, SlowPicture)],
+) -> u32 {
+    let mut count = 0u32;
+    for (other_case, other) in others.iter().enumerate() {
+        let equal = one.1.has_pixels_of(&other.1);
+        assert_same(
+            rt,
+            one.0.equal(&other.0),
+            equal,
+            ("cases", case, other_case),
+        );
+        count = count.wrapping_add(u32::from(equal));
+    }
+    count
+}
+
+/// Each picture is equal to those whose slow forms have its pixels. Answers how many pairs are equal.
+fn count_equal_pairs(rt: &impl Abort, pictures: &[(Picture, SlowPicture)]) -> u32 {
+    let mut equal_pairs = 0u32;
+    for (case, one) in pictures.iter().enumerate() {
+        equal_pairs = equal_pairs.wrapping_add(count_equal(rt, case, one, pictures));
+    }
+    equal_pairs
+}
+
+#[test]
+fn pictures_by_chance_are_equal_where_their_pixels_are(rt: HostRuntime) {
+    let equal_pairs = count_equal_pairs(&rt, &pictures_by_chance(&rt));
+    assert_holds(&rt, equal_pairs > PICTURES, "equal pairs by chance");
+}

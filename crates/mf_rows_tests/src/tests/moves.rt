@@ -1,0 +1,292 @@
+//! Reflected, turned and stretched pictures, compared pixel by pixel.
+ghost use Rattle.std.specs.Prelude.{pos, negsuc, ◌≤ℤ◌};
+ghost use Rattle.mf_edges.specs.Axes.{IsStretch};
+ghost use Rattle.mf_rows.specs.Moves.{PixelsStayInside};
+
+use super::chance::Chance;
+use super::generated::{ROWS, STARTS, picture_by_chance};
+use super::slow::{SlowPicture, both_forms};
+use super::{assert_equality, assert_total, assert_weights, copy_of, made, make_run, picture_of};
+use mf_rows::{OutOfMemory, Picture, Run, Stretch};
+use std::alloc::Global;
+use std::process::Abort;
+
+/// Pictures for each of the starts.
+const PICTURES: u32 = 6;
+
+/// The rows of generated runs are shorter than this.
+const REACH: i32 = 40;
+
+/// Columns and rows on each side of 0 in which pixels are stretched.
+const SIDE: i32 = 8;
+
+/// How pixels are moved.
+#[derive(Clone, Copy, Debug)]
+enum Move {
+    ColumnsMirrored,
+    RowsMirrored,
+    TurnedOnce,
+    TurnedTwice,
+}
+
+impl Move {
+    /// Where the pixel (x, y) goes.
+    fn place(self, x: i32, y: i32) -> (i32, i32) {
+        match self {
+            Move::ColumnsMirrored => (opposite(x), y),
+            Move::RowsMirrored => (x, opposite(y)),
+            Move::TurnedOnce => (opposite(y), x),
+            Move::TurnedTwice => (opposite(x), opposite(y)),
+        }
+    }
+}
+
+/// The place on the other side of 0.
+fn opposite(place: i32) -> i32 {
+    (-1i32).wrapping_sub(place)
+}
+
+/// A picture has the weights of another at the places where that has the pixels from (start, y) on, moved.
+fn assert_row_moved(
+    rt: &impl Abort,
+    (start, y): (i32, i32),
+    picture: &Picture,
+    moved: &Picture,
+    how: Move,
+) {
+    for column in 0..REACH {
+        let x = start.wrapping_add(column);
+        let (new_x, new_y) = how.place(x, y);
+        assert_weights(rt, moved, &[(new_x, new_y, picture.weight(x, y))]);
+    }
+}
+
+/// A picture has the total of another, and its weights at the places where that has its pixels, moved.
+fn assert_moved(rt: &impl Abort, start: i32, picture: &Picture, moved: &Picture, how: Move) {
+    assert_total(rt, moved, picture.total());
+    for y in ROWS {
+        assert_row_moved(rt, (start, y), picture, moved, how);
+    }
+}
+
+/// A picture of which the columns are mirrored.
+fn columns_mirrored<R: Abort + AllocGlobal>(rt: &R, picture: &Picture) -> Picture {
+    made(rt, picture.mirror_columns(rt.alloc()))
+}
+
+/// A picture of which the rows are mirrored.
+fn rows_mirrored<R: Abort + AllocGlobal>(rt: &R, picture: &Picture) -> Picture {
+    made(rt, picture.mirror_rows(rt.alloc()))
+}
+
+/// A picture turned so many times.
+fn turned<R: Abort + AllocGlobal>(rt: &R, picture: &Picture, times: u32) -> Picture {
+    let mut turned = copy_of(rt, picture);
+    for _ in 0..times {
+        turned = made(rt, turned.turn(rt.alloc()));
+    }
+    turned
+}
+
+/// A picture is reflected, and is as before where it is reflected again.
+fn assert_reflected<R: Abort + AllocGlobal>(rt: &R, start: i32, picture: &Picture) {
+    let across = columns_mirrored(rt, picture);
+    assert_moved(rt, start, picture, &across, Move::ColumnsMirrored);
+    let up = rows_mirrored(rt, picture);
+    assert_moved(rt, start, picture, &up, Move::RowsMirrored);
+    let back = columns_mirrored(rt, &across);
+    assert_equality(rt, &back, picture, true, "columns");
+    let back = rows_mirrored(rt, &up);
+    assert_equality(rt, &back, picture, true, "rows");
+}
+
+/// A picture is turned, and is as before after four turns.
+fn assert_turned<R: Abort + AllocGlobal>(rt: &R, start: i32, picture: &Picture) {
+    let once = turned(rt, picture, 1);
+    assert_moved(rt, start, picture, &once, Move::TurnedOnce);
+    let twice = turned(rt, &once, 1);
+    assert_moved(rt, start, picture, &twice, Move::TurnedTwice);
+    let again = turned(rt, &twice, 2);
+    assert_equality(rt, &again, picture, true, "four turns");
+}
+
+/// Pictures by chance, from this column on, are reflected.
+fn assert_all_reflected<R: Abort + AllocGlobal>(rt: &R, start: i32) {
+    for seed in 0..PICTURES {
+        assert_reflected(rt, start, &picture_by_chance(rt, seed, start));
+    }
+}
+
+/// Pictures by chance, from this column on, are turned.
+fn assert_all_turned<R: Abort + AllocGlobal>(rt: &R, start: i32) {
+    for seed in 0..PICTURES {
+        assert_turned(rt, start, &picture_by_chance(rt, seed, start));
+    }
+}
+
+#[test]
+fn reflected_twice_is_as_before(rt: HostRuntime) {
+    for start in STARTS {
+        assert_all_reflected(&rt, start);
+    }
+}
+
+#[test]
+fn turned_four_times_is_as_before(rt: HostRuntime) {
+    for start in STARTS {
+        assert_all_turned(&rt, start);
+    }
+}
+
+/// The picture of some runs is turned to that of others.
+fn assert_turns_to<R: Abort + AllocGlobal>(rt: &R, runs: &[Run], others: &[Run], case: &str) {
+    let turned = turned(rt, &picture_of(rt, runs), 1);
+    assert_equality(rt, &turned, &picture_of(rt, others), true, case);
+}
+
+#[test]
+fn an_l_is_turned(rt: HostRuntime) {
+    // An L: a column of three pixels, and one pixel more at the right of its foot.
+    let standing = [
+        make_run(2, 0, 1, 1),
+        make_run(1, 0, 1, 1),
+        make_run(0, 0, 2, 1),
+    ];
+    let lying = [make_run(1, -1, 1, 1), make_run(0, -3, 3, 1)];
+    assert_turns_to(&rt, &standing, &lying, "the L lies on its back");
+    let corner = [make_run(-4095, 4094, 1, -7)];
+    let next = [make_run(4094, 4094, 1, -7)];
+    assert_turns_to(
+        &rt,
+        &corner,
+        &next,
+        "a corner of the field goes to the next",
+    );
+}
+
+/// Adds up to two runs by chance in a row.
+fn push_runs(chance: &mut Chance, runs: &mut Vec<Run>, y: i32) -> Result<(), OutOfMemory> {
+    let mut x = -SIDE;
+    for _ in 0..chance.below(3) {
+        x = x.wrapping_add(chance.below(5) as i32);
+        let len = 1 + chance.below(4);
+        runs.push(make_run(y, x, len, chance.one_of(&[1, -1, 2, 32767])))?;
+        x = x.wrapping_add(len as i32);
+    }
+    Ok(())
+}
+
+/// Runs by chance on all sides of the point (0, 0), and at a border of bands: up to two in each row.
+fn runs_near_the_middle(alloc: Global, seed: u32) -> Result<Vec<Run>, OutOfMemory> {
+    let mut chance = Chance::new(seed);
+    let mut runs = Vec::new(alloc);
+    for y in (-SIDE..SIDE).rev() {
+        push_runs(&mut chance, &mut runs, y)?;
+    }
+    Ok(runs)
+}
+
+/// The first column, or row, of those that one becomes.
+fn first_of(stretch: &Stretch, place: i32) -> i32 {
+    place
+        .wrapping_mul(stretch.factor)
+        .wrapping_add(stretch.offset)
+}
+
+/// Adds the pixels of a row, stretched to the row `new_y`.
+fn push_stretched(
+    stretched: &mut SlowPicture,
+    slow: &SlowPicture,
+    y: i32,
+    new_y: i32,
+    columns: &Stretch,
+) -> Result<(), OutOfMemory> {
+    for x in -SIDE..SIDE {
+        let weight = slow.weight(x, y);
+        for right in 0..columns.factor {
+            let new_x = first_of(columns, x).wrapping_add(right);
+            stretched.push_pixel(new_x, new_y, weight)?;
+        }
+    }
+    Ok(())
+}
+
+/// The slow form of a stretched picture: each pixel becomes a rectangle.
+fn slow_stretched(
+    alloc: Global,
+    slow: &SlowPicture,
+    columns: &Stretch,
+    rows: &Stretch,
+) -> Result<SlowPicture, OutOfMemory> {
+    let mut stretched = SlowPicture::blank(alloc);
+    for y in (-SIDE..SIDE).rev() {
+        for up in (0..rows.factor).rev() {
+            let new_y = first_of(rows, y).wrapping_add(up);
+            push_stretched(&mut stretched, slow, y, new_y, columns)?;
+        }
+    }
+    Ok(stretched)
+}
+
+/// Asserts that a stretch takes no place near 0 out of the field.
+fn assert_small(rt: &impl Abort, stretch: &Stretch)
+    ensures factor_least { pos 1 ≤ℤ stretch.now.factor }
+    ensures factor_greatest { stretch.now.factor ≤ℤ pos 3 }
+    ensures offset_least { negsuc 999 ≤ℤ stretch.now.offset }
+    ensures offset_greatest { stretch.now.offset ≤ℤ pos 1000 }
+{
+    assert!(rt; 1 <= stretch.factor);
+    assert!(rt; stretch.factor <= 3);
+    assert!(rt; -1000 <= stretch.offset);
+    assert!(rt; stretch.offset <= 1000);
+}
+
+/// Asserts that stretches take no pixel of a picture out of the field.
+fn assert_stays_inside(rt: &impl Abort, picture: &Picture, columns: &Stretch, rows: &Stretch)
+    ensures columns { IsStretch columns.now }
+    ensures rows { IsStretch rows.now }
+    ensures inside { PixelsStayInside columns.now rows.now picture.now }
+{
+    assert_small(rt, columns);
+    assert_small(rt, rows);
+    let bounds = picture.bounds().expect(rt, "some pixel has a weight");
+    assert!(rt; -1000 <= bounds.min_x);
+    assert!(rt; bounds.max_x < 1000);
+    assert!(rt; -1000 <= bounds.min_y);
+    assert!(rt; bounds.max_y < 1000);
+}
+
+fn stretch(factor: i32, offset: i32) -> Stretch {
+    Stretch { factor, offset }
+}
+
+/// A stretched picture answers as its slow form.
+fn assert_stretched<R: Abort + AllocGlobal>(
+    rt: &R,
+    seed: u32,
+    (picture, slow): &(Picture, SlowPicture),
+    columns: &Stretch,
+    rows: &Stretch,
+) {
+    assert_stays_inside(rt, picture, columns, rows);
+    let stretched = made(rt, picture.stretch(rt.alloc(), columns, rows));
+    let slow = slow_stretched(rt.alloc(), slow, columns, rows);
+    slow.expect(rt, "there is room for the pixels")
+        .assert_answers_of(rt, seed as usize, &stretched);
+}
+
+/// Pictures by chance are stretched.
+fn assert_all_stretched<R: Abort + AllocGlobal>(rt: &R, columns: Stretch, rows: Stretch) {
+    for seed in 0..PICTURES {
+        let runs = runs_near_the_middle(rt.alloc(), seed).expect(rt, "there is room for the runs");
+        assert_stretched(rt, seed, &both_forms(rt, &runs), &columns, &rows);
+    }
+}
+
+#[test]
+fn stretched_pixels_are_rectangles(rt: HostRuntime) {
+    assert_all_stretched(&rt, stretch(2, 5), stretch(3, -7));
+    assert_all_stretched(&rt, stretch(3, -1), stretch(1, 0));
+    assert_all_stretched(&rt, stretch(1, 40), stretch(2, 1));
+    assert_all_stretched(&rt, stretch(3, -999), stretch(2, 1000));
+}

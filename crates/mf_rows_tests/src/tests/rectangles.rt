@@ -1,0 +1,159 @@
+//! Rectangles, and their corners.
+ghost use Rattle.std.specs.Prelude.{IfOk, OnOk, ◌≡◌, pos, negsuc, ◌≤ℤ◌};
+ghost use Rattle.mf_rows.specs.Corners.{AreCorners};
+
+use mf_rows::{AddFault, Corner, OutOfMemory, Picture};
+use std::alloc::Global;
+use std::process::Abort;
+
+/// A rectangle of pixels of one weight: columns `left` to before `right`, rows `bottom` to before `top`.
+#[derive(Clone, Copy, Debug)]
+pub(crate) struct Rectangle {
+    pub(super) left: i32,
+    pub(super) bottom: i32,
+    pub(super) right: i32,
+    pub(super) top: i32,
+    pub(super) weight: i32,
+}
+
+pub(crate) fn make_rectangle(
+    left: i32,
+    bottom: i32,
+    right: i32,
+    top: i32,
+    weight: i32,
+) -> Rectangle {
+    Rectangle {
+        left,
+        bottom,
+        right,
+        top,
+        weight,
+    }
+}
+
+pub(super) fn negated(rectangle: Rectangle) -> Rectangle {
+    Rectangle {
+        weight: rectangle.weight.wrapping_neg(),
+        ..rectangle
+    }
+}
+
+/// All pixels of the field.
+pub(super) fn field(weight: i32) -> Rectangle {
+    make_rectangle(-4095, -4095, 4095, 4095, weight)
+}
+
+impl Rectangle {
+    /// What it adds to the pixel (x, y).
+    pub(super) fn weight_at(&self, x: i32, y: i32) -> i32 {
+        if self.left <= x && x < self.right && self.bottom <= y && y < self.top {
+            self.weight
+        } else {
+            0
+        }
+    }
+}
+
+/// The corners of rectangles.
+pub(crate) fn corners_of(
+    rt: &impl Abort,
+    alloc: Global,
+    rectangles: &[Rectangle],
+) -> Result<Vec<Corner>, OutOfMemory>
+    ensures { IfOk result (λ corners. AreCorners corners.items) }
+{
+    let mut corners = Vec::new(alloc);
+    for rectangle in rectangles {
+        push_corners(rt, &mut corners, rectangle)?;
+    }
+    Ok(corners)
+}
+
+/// Adds the corners of a rectangle to others.
+fn push_corners(
+    rt: &impl Abort,
+    corners: &mut Vec<Corner>,
+    rectangle: &Rectangle,
+) -> Result<(), OutOfMemory>
+    requires { AreCorners corners.old.items }
+    ensures { OnOk result (AreCorners corners.new.items) }
+{
+    let Rectangle {
+        left,
+        bottom,
+        right,
+        top,
+        weight,
+    } = *rectangle;
+    assert!(rt; corners.len() <= 8188);
+    assert_in_reach(rt, left);
+    assert_in_reach(rt, bottom);
+    assert_in_reach(rt, right);
+    assert_in_reach(rt, top);
+    assert!(rt; -3 <= weight);
+    assert!(rt; weight <= 3);
+    corners.extend_from_slice(&[
+        make_corner(left, top, weight),
+        make_corner(left, bottom, -weight),
+        make_corner(right, top, -weight),
+        make_corner(right, bottom, weight),
+    ])?;
+    Ok(())
+}
+
+pub(super) fn make_corner(x: i32, y: i32, weight: i32) -> Corner
+    ensures { result ≡ record { x = x; y = y; weight = weight } }
+{
+    Corner { x, y, weight }
+}
+
+/// Asserts that a corner may have this coordinate.
+fn assert_in_reach(rt: &impl Abort, coordinate: i32)
+    ensures least { negsuc 4094 ≤ℤ coordinate }
+    ensures greatest { coordinate ≤ℤ pos 4095 }
+{
+    assert!(rt; -4095 <= coordinate);
+    assert!(rt; coordinate <= 4095);
+}
+
+/// What rectangles add to the pixel (x, y).
+pub(super) fn weight_of_all(rectangles: &[Rectangle], x: i32, y: i32) -> i32 {
+    let mut sum = 0i32;
+    for rectangle in rectangles {
+        sum = sum.wrapping_add(rectangle.weight_at(x, y));
+    }
+    sum
+}
+
+/// A picture with rectangles added to it at once, which may be refused.
+pub(super) fn try_all<R: Abort + AllocGlobal>(
+    rt: &R,
+    picture: &Picture,
+    rectangles: &[Rectangle],
+) -> Result<Picture, AddFault> {
+    picture.with_corners(rt.alloc(), corners_of(rt, rt.alloc(), rectangles)?)
+}
+
+/// A picture with rectangles added to it at once.
+pub(super) fn with_all<R: Abort + AllocGlobal>(
+    rt: &R,
+    picture: &Picture,
+    rectangles: &[Rectangle],
+) -> Picture {
+    try_all(rt, picture, rectangles).expect(rt, "the rectangles are added")
+}
+
+/// Rectangles at once.
+pub(super) fn at_once<R: Abort + AllocGlobal>(rt: &R, rectangles: &[Rectangle]) -> Picture {
+    with_all(rt, &Picture::blank(rt.alloc()), rectangles)
+}
+
+/// Rectangles one after another.
+pub(super) fn by_turns<R: Abort + AllocGlobal>(rt: &R, rectangles: &[Rectangle]) -> Picture {
+    let mut picture = Picture::blank(rt.alloc());
+    for rectangle in rectangles {
+        picture = with_all(rt, &picture, &[*rectangle]);
+    }
+    picture
+}

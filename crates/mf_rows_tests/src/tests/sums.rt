@@ -1,0 +1,182 @@
+//! Sums of pictures, and pictures of which each weight is mapped, compared pixel by pixel.
+
+ghost use Rattle.std.specs.Prelude.{◌≡◌};
+ghost use Rattle.mf_edges.specs.WeightMaps.{IsWeightMap};
+
+use super::generated::{ROWS, SMALL_WEIGHTS, STARTS, WEIGHTS, forms_by_chance, forms_of_weights};
+use super::slow::SlowPicture;
+use super::{assert_equality, assert_total, made};
+use crate::tests::assertions::assert_holds;
+use mf_rows::{AddFault, Choice, OutOfMemory, Picture, WeightMap};
+use std::alloc::Global;
+use std::process::Abort;
+
+/// Pairs of pictures for each of the starts.
+const PAIRS: u32 = 12;
+
+/// The rows of generated runs are shorter than this.
+const REACH: i32 = 40;
+
+/// The sum of two slow forms, none where a weight is too large.
+fn slow_sum(
+    alloc: Global,
+    start: i32,
+    left: &SlowPicture,
+    right: &SlowPicture,
+) -> Result<Option<SlowPicture>, OutOfMemory> {
+    let mut sum = SlowPicture::blank(alloc);
+    for y in ROWS {
+        for column in 0..REACH {
+            let x = start.wrapping_add(column);
+            let weight = left.weight(x, y).wrapping_add(right.weight(x, y));
+            if weight < -32767 || 32767 < weight {
+                return Ok(None);
+            }
+            sum.push_pixel(x, y, weight)?;
+        }
+    }
+    Ok(Some(sum))
+}
+
+/// Two pictures have the sum of their slow forms, or it is refused where these have none.
+fn assert_sum<R: Abort + AllocGlobal>(
+    rt: &R,
+    case: usize,
+    left: &Picture,
+    right: &Picture,
+    slow: &Option<SlowPicture>,
+) {
+    match (left.plus(rt.alloc(), right), slow) {
+        (Ok(sum), Some(slow)) => slow.assert_answers_of(rt, case, &sum),
+        (Err(AddFault::WeightTooLarge), None) => {}
+        _ => panic!(rt; "the refusal in case {case}"),
+    }
+}
+
+/// Two pictures by chance, whose rows begin at this column, have the sum of their slow forms, whichever of them is
+/// added to the other. Answers whether it is not refused.
+fn assert_pair<R: Abort + AllocGlobal>(rt: &R, start: i32, seed: u32) -> bool {
+    // Nearly all sums of large weights are refused, so most pairs have small ones.
+    let weights = if seed % 4 == 0 {
+        WEIGHTS
+    } else {
+        SMALL_WEIGHTS
+    };
+    let (left, slow_left) = forms_of_weights(rt, seed, start, &weights);
+    let (right, slow_right) = forms_of_weights(rt, seed.wrapping_add(PAIRS), start, &weights);
+    let slow = slow_sum(rt.alloc(), start, &slow_left, &slow_right).expect(
+        rt,
+        "there is room for the pixels",
+    );
+    assert_sum(rt, seed as usize, &left, &right, &slow);
+    assert_sum(rt, seed as usize, &right, &left, &slow);
+    slow.is_some()
+}
+
+/// The same of pairs by chance. Answers how many have a sum, and how many are refused one.
+fn count_sums<R: Abort + AllocGlobal>(rt: &R) -> (u32, u32) {
+    let (mut sums, mut refusals) = (0u32, 0u32);
+    for start in STARTS {
+        for seed in 0..PAIRS {
+            if assert_pair(rt, start, seed) {
+                sums = sums.wrapping_add(1);
+            } else {
+                refusals = refusals.wrapping_add(1);
+            }
+        }
+    }
+    (sums, refusals)
+}
+
+#[test]
+fn sums_are_those_of_their_slow_forms(rt: HostRuntime) {
+    let (sums, refusals) = count_sums(&rt);
+    assert_holds(&rt, sums > PAIRS, ("pairs that have a sum", sums));
+    assert_holds(&rt, refusals > 0, "pairs whose sum is refused");
+}
+
+/// A picture and its negated one cancel.
+fn assert_negated<R: Abort + AllocGlobal>(rt: &R, picture: &Picture, slow: &SlowPicture) {
+    let negated = made(rt, picture.map_weights(rt.alloc(), &WeightMap::Negate));
+    assert_total(rt, &negated, slow.total().wrapping_neg());
+    let none = picture
+        .plus(rt.alloc(), &negated)
+        .expect(rt, "opposite weights cancel");
+    assert_equality(
+        rt,
+        &none,
+        &Picture::blank(rt.alloc()),
+        true,
+        "nothing is left",
+    );
+}
+
+/// So do pictures by chance.
+fn assert_all_negated<R: Abort + AllocGlobal>(rt: &R) {
+    for seed in 0..PAIRS {
+        let (picture, slow) = forms_by_chance(rt, seed, -9);
+        assert_negated(rt, &picture, &slow);
+    }
+}
+
+#[test]
+fn negated_pictures_cancel(rt: HostRuntime) {
+    assert_all_negated(&rt);
+}
+
+/// The slow form of which each weight is chosen.
+fn slow_chosen(
+    alloc: Global,
+    slow: &SlowPicture,
+    choice: &Choice,
+) -> Result<SlowPicture, OutOfMemory> {
+    let mut chosen = SlowPicture::blank(alloc);
+    for y in ROWS {
+        for x in -9..REACH {
+            let weight = slow.weight(x, y);
+            let new = if choice.low <= weight && weight <= choice.high {
+                choice.inside
+            } else {
+                choice.outside
+            };
+            chosen.push_pixel(x, y, new)?;
+        }
+    }
+    Ok(chosen)
+}
+
+/// Pictures by chance get the weights of a choice.
+fn assert_chosen<R: Abort + AllocGlobal>(rt: &R, choice: Choice)
+    requires { IsWeightMap (WeightMap.Choose choice) }
+{
+    for seed in 0..PAIRS {
+        let (picture, slow) = forms_by_chance(rt, seed, -9);
+        let chosen = slow_chosen(rt.alloc(), &slow, &choice).expect(
+            rt,
+            "there is room for the pixels",
+        );
+        let new = made(
+            rt,
+            picture.map_weights(rt.alloc(), &WeightMap::Choose(choice)),
+        );
+        chosen.assert_answers_of(rt, seed as usize, &new);
+    }
+}
+
+fn choice(low: i32, high: i32, inside: i32, outside: i32) -> Choice
+    ensures { result ≡ record { low = low; high = high; inside = inside; outside = outside } }
+{
+    Choice {
+        low,
+        high,
+        inside,
+        outside,
+    }
+}
+
+#[test]
+fn weights_are_chosen_pixel_by_pixel(rt: HostRuntime) {
+    assert_chosen(&rt, choice(1, 2, 3, 0));
+    assert_chosen(&rt, choice(-1, 1, 0, -7));
+    assert_chosen(&rt, choice(2, 32767, 32767, 0));
+}

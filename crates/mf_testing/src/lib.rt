@@ -1,0 +1,9 @@
+//! What the tests of several crates share: scripts with their transcripts, and readers and writers that give and take
+//! pieces, and fail.
+#![tactic(auto)]
+
+mod scripts;
+mod streams;
+
+pub use scripts::{Script, worked_scripts};
+pub use streams::{LineFeeds, Pieces, Sink};

@@ -1,0 +1,48 @@
+//! How lines are read, and lines that are no commands.
+
+use super::Script;
+
+pub(super) fn scripts() -> &'static [Script] {
+    SCRIPTS
+}
+
+const SCRIPTS: &[Script] = &[
+    // Lines without a command.
+    ("\n;\n  % note\n \t\n;% ;\nshow a\n", "blank\n"),
+    (
+        "show totalweight currentpicture ; % note\n",
+        "totalweight 0\n",
+    ),
+    // Tokens may touch, and a minus may stand apart from its number.
+    (
+        "\taddto\ta contour ( - 0 , 00000 ) --(1,0)--(1,1)--(0,1)-- cycle withweight-2;% note\n\
+         a:=a shifted(- 1 ,0)%x\n\
+         show a;\n",
+        "0 -1 -1 -2\n",
+    ),
+    ("a:=a shifted(1,0)%x\nshow a\n", "blank\n"),
+    (
+        "addto a contour (0,0)--(1,0)--(1,1)--(0,1)--cycle\n\
+         a := a xscaled-1\n\
+         a := a rotated90\n\
+         show a\n",
+        "-1 -1 -1 1\n",
+    ),
+    // Lines that are no commands.
+    ("addto currentpicture contur\n", "refused Syntax 22\n"),
+    ("show totalweight a!\n", "refused Syntax 19\n"),
+    (
+        "addto a contour (0,0)--(1,0)--cyclewithweight 2\n",
+        "refused Syntax 31\n",
+    ),
+    ("show a ; show b\n", "refused Syntax 10\n"),
+    // Other bytes, also in a comment.
+    (
+        "show a % caf\u{e9}\nshow\u{a0}a\n",
+        "refused NotAscii\nrefused NotAscii\n",
+    ),
+    (
+        "show a\r\r\nshow \ra\n",
+        "refused NotAscii\nrefused NotAscii\n",
+    ),
+];

@@ -1,0 +1,5 @@
+//! Tests of `mf_text`.
+#![tactic(auto)]
+
+#[cfg(test)]
+mod tests;

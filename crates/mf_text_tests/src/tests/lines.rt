@@ -1,0 +1,117 @@
+//! The bytes of lines.
+
+use super::{assert_bytes_refused, assert_refused, read};
+use crate::tests::assertions::assert_holds;
+use mf_geom::CycleFault;
+use mf_text::{Command, TextFault, read_command};
+use std::alloc::{AllocError, Global};
+use std::process::Abort;
+
+/// These lines have no command.
+fn assert_blank(rt: &impl Abort, alloc: Global, lines: &[&str]) {
+    for line in lines {
+        let command = read(rt, alloc, line);
+        assert_holds(rt, matches!(&command, Command::Nothing), *line);
+    }
+}
+
+#[test]
+fn lines_without_a_command(rt: HostRuntime) {
+    assert_blank(&rt, rt.alloc(), &["", ";", "  % note", "\t ; % ;", "%"]);
+}
+
+/// These bytes, so many times the piece, and the end.
+fn repeated(
+    alloc: Global,
+    begin: &[u8],
+    piece: &[u8],
+    count: usize,
+    end: &[u8],
+) -> Result<Vec<u8>, AllocError> {
+    let mut line = Vec::from_slice(alloc, begin)?;
+    for _ in 0..count {
+        line.extend_from_slice(piece)?;
+    }
+    line.extend_from_slice(end)?;
+    Ok(line)
+}
+
+/// As many spaces as a line has bytes at most, and then the end.
+fn spaces(rt: &impl Abort, alloc: Global, end: &[u8]) -> Vec<u8> {
+    repeated(alloc, b"", b" ", 65_536, end).expect(rt, "there is room for the line")
+}
+
+/// As many spaces as a line has bytes at most have no command.
+fn assert_longest(rt: &impl Abort, alloc: Global) {
+    let longest = read_command(alloc, &spaces(rt, alloc, b""));
+    assert_holds(
+        rt,
+        matches!(&longest, Ok(Command::Nothing)),
+        "65,536 spaces",
+    );
+}
+
+/// With this end behind the spaces, the line is too long.
+fn assert_too_long(rt: &impl Abort, alloc: Global, end: &[u8]) {
+    assert_bytes_refused(
+        rt,
+        alloc,
+        &spaces(rt, alloc, end),
+        TextFault::LineTooLong,
+        ("65,537 bytes, of which the last is", end),
+    );
+}
+
+#[test]
+fn lengths(rt: HostRuntime) {
+    let alloc = rt.alloc();
+    assert_longest(&rt, alloc);
+    assert_too_long(&rt, alloc, b" ");
+    assert_too_long(&rt, alloc, b"\xe9");
+}
+
+/// Lines with a byte that is neither a tab nor a printed character.
+const OTHERS: &[&[u8]] = &[
+    b"% \xe9",
+    b"show a\r",
+    b"show a\r\r",
+    b"\x00",
+    b"\x7f",
+    b"show \x1f",
+    b"\r",
+];
+
+fn assert_not_ascii(rt: &impl Abort, alloc: Global, lines: &[&[u8]]) {
+    for line in lines {
+        assert_bytes_refused(rt, alloc, line, TextFault::NotAscii, *line);
+    }
+}
+
+#[test]
+fn other_bytes(rt: HostRuntime) {
+    let alloc = rt.alloc();
+    assert_not_ascii(&rt, alloc, OTHERS);
+    assert_refused(&rt, alloc, "show ~", TextFault::Syntax(6));
+}
+
+/// A contour of 9,359 points with this end is refused with this fault.
+fn assert_points_refused(rt: &impl Abort, alloc: Global, end: &str, fault: TextFault) {
+    let line = repeated(
+        alloc,
+        b"addto a contour ",
+        b"(0,0)--",
+        9_359,
+        end.as_bytes(),
+    )
+    .expect(rt, "there is room for the line");
+    assert_bytes_refused(rt, alloc, &line, fault, ("9,359 points and", end));
+}
+
+#[test]
+fn many_points(rt: HostRuntime) {
+    let alloc = rt.alloc();
+    let too_many = TextFault::Cycle(CycleFault::TooManyPoints);
+    assert_points_refused(&rt, alloc, "cycle", too_many);
+    // A fault of the grammar at the end comes before those of the points.
+    assert_points_refused(&rt, alloc, "cycle!", TextFault::Syntax(65_535));
+}

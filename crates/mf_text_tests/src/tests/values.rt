@@ -1,0 +1,256 @@
+//! Commands.
+
+use super::{dropping, keeping, read};
+use crate::tests::assertions::{assert_holds, assert_same};
+use mf_geom::Point;
+use mf_ops::{Cull, Quarter, Scale, Sign};
+use mf_text::{Command, Name, Source};
+use std::alloc::Global;
+use std::process::Abort;
+
+const A: Name = Name::Register(0);
+
+const B: Name = Name::Register(1);
+
+const Z: Name = Name::Register(25);
+
+fn assert_shifts(rt: &impl Abort, alloc: Global, line: &str, expected: (Name, i32, i32)) {
+    match read(rt, alloc, line) {
+        Command::Shift(name, dx, dy) => assert_same(rt, (name, dx, dy), expected, line),
+        _ => panic!(rt; "{line} is no shift"),
+    }
+}
+
+fn assert_scales(rt: &impl Abort, alloc: Global, line: &str, name: Name, factors: (i32, i32)) {
+    let (x, y) = factors;
+    let expected = Scale::new(x, y).expect(rt, "the factors are lawful");
+    match read(rt, alloc, line) {
+        Command::Scale(found, factors) => assert_same(rt, (found, factors), (name, expected), line),
+        _ => panic!(rt; "{line} is no scale"),
+    }
+}
+
+fn assert_turns(rt: &impl Abort, alloc: Global, line: &str, expected: (Name, Quarter)) {
+    match read(rt, alloc, line) {
+        Command::Quarter(name, quarter) => assert_same(rt, (name, quarter), expected, line),
+        _ => panic!(rt; "{line} is no turn"),
+    }
+}
+
+#[test]
+fn moves(rt: HostRuntime) {
+    let alloc = rt.alloc();
+    assert_shifts(&rt, alloc, "a:=a shifted(1,0)%x", (A, 1, 0));
+    assert_shifts(
+        &rt,
+        alloc,
+        "currentpicture := currentpicture shifted (-000000007, 999999999)",
+        (Name::Current, -7, 999_999_999),
+    );
+    assert_scales(&rt, alloc, "z := z scaled 2", Z, (2, 2));
+    assert_scales(&rt, alloc, "z:=z xscaled-1", Z, (-1, 1));
+    assert_scales(&rt, alloc, "z := z yscaled - 3 ;", Z, (1, -3));
+    assert_turns(&rt, alloc, "a := a rotated90", (A, Quarter::Once));
+}
+
+const RECTANGLE: &[Point] = &[
+    Point { x: 0, y: 0 },
+    Point { x: 3, y: 0 },
+    Point { x: 3, y: 2 },
+    Point { x: 0, y: 2 },
+];
+
+/// A rectangle that reaches from the left end of the field to the right one.
+const WIDE: &[Point] = &[
+    Point { x: -4095, y: 7 },
+    Point { x: -4095, y: -8 },
+    Point { x: 4095, y: -8 },
+    Point { x: 4095, y: 7 },
+];
+
+/// The line is a contour of this name and weight through these points.
+fn assert_contour(
+    rt: &impl Abort,
+    alloc: Global,
+    line: &str,
+    expected: (Name, i32),
+    points: &[Point],
+) {
+    match read(rt, alloc, line) {
+        Command::Contour(name, cycle, weight) => {
+            assert_same(rt, (name, weight.get()), expected, line);
+            assert_same(rt, cycle.points(), points, line);
+        }
+        _ => panic!(rt; "{line} is no contour"),
+    }
+}
+
+#[test]
+fn contours(rt: HostRuntime) {
+    let alloc = rt.alloc();
+    assert_contour(
+        &rt,
+        alloc,
+        "addto currentpicture contour (0,0)--(3,0)--(3,2)--(0,2)--cycle withweight -2",
+        (Name::Current, -2),
+        RECTANGLE,
+    );
+    assert_contour(
+        &rt,
+        alloc,
+        "addto b contour (-4095,7)--(-4095,-8)--(4095,-8)--(4095,7)--cycle",
+        (B, 1),
+        WIDE,
+    );
+}
+
+fn assert_culls(rt: &impl Abort, alloc: Global, line: &str, expected: (Name, Cull)) {
+    match read(rt, alloc, line) {
+        Command::Cull(name, rule) => assert_same(rt, (name, rule), expected, line),
+        _ => panic!(rt; "{line} is no cull"),
+    }
+}
+
+#[test]
+fn culls(rt: HostRuntime) {
+    let alloc = rt.alloc();
+    assert_culls(
+        &rt,
+        alloc,
+        "cull a keeping (1,32767)",
+        (A, keeping(&rt, 1, 32767, 1)),
+    );
+    assert_culls(
+        &rt,
+        alloc,
+        "cull b keeping (-3,-2) withweight -2",
+        (B, keeping(&rt, -3, -2, -2)),
+    );
+    assert_culls(
+        &rt,
+        alloc,
+        "cull b dropping (-1,2) withweight 3",
+        (B, dropping(&rt, -1, 2, 3)),
+    );
+    assert_culls(
+        &rt,
+        alloc,
+        "cull z dropping (0,0);",
+        (Z, dropping(&rt, 0, 0, 1)),
+    );
+}
+
+/// Lines that ship a picture, with its source, code, dx and width.
+const SHIPMENTS: &[(&str, (Source, u8, i32, i32))] = &[
+    (
+        "shipout currentpicture code 65 dx 327680 width 0",
+        (Source::Named(Name::Current), 65, 327_680, 0),
+    ),
+    (
+        "shipout a code 0 dx -5 width -7",
+        (Source::Named(A), 0, -5, -7),
+    ),
+    (
+        "shipout a code 1 dx -5 width -7;",
+        (Source::Named(A), 1, -5, -7),
+    ),
+    (
+        "shipout nullpicture code 255 dx 0 width 0",
+        (Source::Null, 255, 0, 0),
+    ),
+    (
+        "shipout a code -0 dx 1 width 2",
+        (Source::Named(A), 0, 1, 2),
+    ),
+    (
+        "shipout a code - 0 dx - 1 width 2",
+        (Source::Named(A), 0, -1, 2),
+    ),
+    ("shipout a code065dx0width0", (Source::Named(A), 65, 0, 0)),
+    (
+        "shipout a code 000000255 dx 999999999 width -999999999 ; % far",
+        (Source::Named(A), 255, 999_999_999, -999_999_999),
+    ),
+];
+
+fn assert_ships(rt: &impl Abort, alloc: Global, line: &str, expected: (Source, u8, i32, i32)) {
+    match read(rt, alloc, line) {
+        Command::Ship(source, code, dx, width) => {
+            assert_same(rt, (source, code, dx, width), expected, line)
+        }
+        _ => panic!(rt; "{line} ships nothing"),
+    }
+}
+
+fn assert_all_ship(rt: &impl Abort, alloc: Global, lines: &[(&str, (Source, u8, i32, i32))]) {
+    for (line, expected) in lines {
+        assert_ships(rt, alloc, line, *expected);
+    }
+}
+
+#[test]
+fn shipments(rt: HostRuntime) {
+    assert_all_ship(&rt, rt.alloc(), SHIPMENTS);
+}
+
+fn assert_adds(rt: &impl Abort, alloc: Global, line: &str, expected: (Name, Source, Sign)) {
+    match read(rt, alloc, line) {
+        Command::Also(name, source, sign) => assert_same(rt, (name, source, sign), expected, line),
+        _ => panic!(rt; "{line} adds no picture"),
+    }
+}
+
+#[test]
+fn sums(rt: HostRuntime) {
+    let alloc = rt.alloc();
+    assert_adds(
+        &rt,
+        alloc,
+        "addto a also b",
+        (A, Source::Named(B), Sign::Plus),
+    );
+    assert_adds(
+        &rt,
+        alloc,
+        "addto a also -currentpicture",
+        (A, Source::Named(Name::Current), Sign::Minus),
+    );
+    assert_adds(
+        &rt,
+        alloc,
+        "addto b also - nullpicture;",
+        (B, Source::Null, Sign::Minus),
+    );
+}
+
+/// What a command of one picture does, and the picture.
+fn deed(command: &Command) -> Option<(&'static str, Source)> {
+    match command {
+        Command::Clear(name) => Some(("clear", Source::Named(*name))),
+        Command::Total(source) => Some(("total", *source)),
+        Command::Show(source) => Some(("show", *source)),
+        Command::Proof(source) => Some(("proof", *source)),
+        _ => None,
+    }
+}
+
+fn assert_does(rt: &impl Abort, alloc: Global, line: &str, expected: (&'static str, Source)) {
+    let command = read(rt, alloc, line);
+    assert_same(rt, deed(&command), Some(expected), line);
+}
+
+fn assert_publishes(rt: &impl Abort, alloc: Global, line: &str) {
+    let command = read(rt, alloc, line);
+    assert_holds(rt, matches!(&command, Command::Publish), line);
+}
+
+#[test]
+fn other_commands(rt: HostRuntime) {
+    let alloc = rt.alloc();
+    let (a, b) = (Source::Named(A), Source::Named(B));
+    assert_does(&rt, alloc, "a := nullpicture", ("clear", a));
+    assert_does(&rt, alloc, "show totalweight a", ("total", a));
+    assert_does(&rt, alloc, "show nullpicture", ("show", Source::Null));
+    assert_does(&rt, alloc, "proof b", ("proof", b));
+    assert_publishes(&rt, alloc, " publish ; % all");
+}

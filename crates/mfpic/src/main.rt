@@ -1,0 +1,49 @@
+//! The program `mfpic`: reads a script of picture commands, writes its transcript, and the font file of what it ships.
+#![tactic(auto)]
+
+use mf_cli::ProgramFault;
+use mf_cli::program::{program, refuse_words, report};
+use mf_desk::RunFault;
+use std::env;
+use std::io::{self, BufWriter, ErrorKind};
+use std::process::ExitCode;
+use std::rt::Stdout;
+
+/// Number of bytes that a write to standard output is given, where there are so many.
+const OUTPUT_SIZE: usize = 65_536;
+
+fn main(rt: HostRuntime) -> ExitCode {
+    let mut errors = rt.stderr();
+    let status = match words_and_output(&rt) {
+        Ok((words, mut output)) => program(
+            &rt,
+            rt.alloc(),
+            words,
+            &mut rt.stdin(),
+            &mut output,
+            &mut errors,
+        ),
+        Err(fault) if fault.kind() == ErrorKind::OutOfMemory => report(
+            &mut errors,
+            ProgramFault::Run(RunFault::OutOfMemory),
+        ),
+        Err(_) => refuse_words(&mut errors),
+    };
+    ExitCode::from(status)
+}
+
+/// The words of the command line, and standard output, which is given the texts of many lines at once.
+fn words_and_output(rt: &HostRuntime) -> io::Result<(Vec<String>, BufWriter<Stdout>)> {
+    let words = words_of(rt)?;
+    let output = BufWriter::with_capacity(rt.alloc(), OUTPUT_SIZE, rt.stdout())?;
+    Ok((words, output))
+}
+
+/// The words of the command line. A word that is no UTF-8 is a fault.
+fn words_of(rt: &HostRuntime) -> io::Result<Vec<String>> {
+    let mut words = Vec::new(rt.alloc());
+    for word in env::args(rt)? {
+        words.push(word)?;
+    }
+    Ok(words)
+}

@@ -1,0 +1,185 @@
+#!/usr/bin/env python3
+"""Counts the bytes that commands ask for, to see that pictures share what a command does not change.
+
+    tests/sharing.py [PROGRAM]
+
+PROGRAM is the built program (crates/mfpic/out/mfpic) unless another is named. It runs each script without its command
+and with it, and the difference is what the command asks for: the sizes given to malloc and realloc. A library counts
+them, which `cc` compiles and LD_PRELOAD puts before the C library.
+
+A command must ask for no more than what it has to make anew, and one that has to make all rows anew for no less than
+these, by the sizes below. The first one that does not is printed, and the status is 1.
+"""
+
+import dataclasses
+import pathlib
+import shutil
+import subprocess
+import sys
+import tempfile
+
+from wanting_memory import OTHERS, ROOT
+
+LIBRARY = r"""
+#define _GNU_SOURCE
+#include <stdlib.h>
+#include <sys/mman.h>
+
+void *__libc_malloc(size_t), *__libc_realloc(void *, size_t);
+static unsigned long *asked;
+
+/* Runs when the C library is ready, before the program: bytes are counted from here, in the file REPORT. */
+__attribute__((constructor)) static void begin(void) {
+    void *place = mmap(NULL, sizeof *asked, PROT_READ | PROT_WRITE, MAP_SHARED, atoi(getenv("REPORT")), 0);
+    if (place == MAP_FAILED) abort();
+    asked = place;
+}
+
+static void count(size_t size) {
+    if (asked) __atomic_add_fetch(asked, size, __ATOMIC_SEQ_CST);
+}
+
+void *malloc(size_t size) { return count(size), __libc_malloc(size); }
+void *realloc(void *old, size_t size) { return count(size), __libc_realloc(old, size); }
+"""
+
+# The field has 8190 rows, in 512 bands of 16. A list of bands has 8 bytes for each. A row has 16 bytes beside its list
+# of edges, which has 8 bytes for each.
+FIELD, EDGE = 8190, 8
+LIST, ROWS = 8 * 512, 16 * FIELD
+# A band that is made anew: 48 bytes, and a list of up to 16 rows and one more, of which few get edges of their own: 304
+# bytes at least, and 512 at most. The points of a rectangle, its corners and its picture take 512 bytes at most.
+BAND, LINE = 512, 512
+# A copy has a list of bands in the command, in the sum and in the picture that it becomes. The first two are got at
+# once, and what grows by doubling asks for four times its length at most: less than 8 lists, a quarter of the rows.
+LISTS = 8 * LIST
+# What goes through all rows has them in a list, in a list of changed ones, and in bands, each of which may have grown.
+PASS = 3 * 4 * ROWS
+# The edges of a row of a comb. With 128 teeth, those of all rows are ten times a pass.
+TEETH = 128
+COMB = 2 * TEETH * EDGE
+
+
+@dataclasses.dataclass(frozen=True)
+class Case:
+    """Lines, a command behind them, what is shown then, and the least and the most bytes that the command asks for."""
+
+    about: str
+    before: str
+    command: str
+    shown: dict
+    most: int
+    least: int = 0
+
+
+def box(name, left, bottom, right, top):
+    """A line that fills columns `left` to before `right` of rows `bottom` to before `top`."""
+    return f"addto {name} contour ({left},{bottom})--({right},{bottom})--({right},{top})--({left},{top})--cycle\n"
+
+
+def tall(name):
+    """A picture with a run of 3 pixels in each row of the field. The rows share one list of edges."""
+    return box(name, 0, -4095, 3, 4095)
+
+
+def striped(name):
+    """A comb in all rows but the lowest, and a pole in all, which was added: so each row has edges of its own."""
+    points = ["(0,-4095)", f"({2 * TEETH},-4095)"]
+    for right in range(2 * TEETH, 0, -2):
+        points += [f"({right},4095)", f"({right - 1},4095)", f"({right - 1},-4094)", f"({right - 2},-4094)"]
+    return f"addto {name} contour {'--'.join(points)}--cycle\n{box(name, -2, -4095, -1, 4095)}"
+
+
+def cases():
+    """What is shared, beside what is made anew."""
+    of_tall, of_comb = 3 * FIELD, (TEETH + 1) * FIELD + TEETH
+    a_and_b = tall("a") + "addto b also a\n"
+    # Rows of the first, of the second and of the last band; the second begins with row 4078.
+    few = box("b", 1, 4070, 5, 4083) + box("b", 1, -4095, 5, -4094)
+    # Row 15 is the last of a band.
+    halves = box("b", 0, 15, 3, 4095) + box("c", 0, -4095, 3, 15)
+    live = tall("currentpicture")
+    yield Case("a picture made anew", "", tall("a"), {"a": of_tall}, PASS, ROWS)
+    yield Case("a copy", tall("a"), "addto b also a\n", {"a": of_tall, "b": of_tall}, LISTS)
+    yield Case("a sum of few bands and all", tall("a") + few, "addto b also a\n", {"b": of_tall + 56}, LISTS)
+    yield Case("a sum of two halves", halves, "addto b also c\n", {"b": of_tall, "c": 3 * 4110}, LISTS)
+    yield Case("nothing is added", tall("a"), "addto a also nullpicture\n", {"a": of_tall}, LINE)
+    for bottom, top in [(0, 1), (4078, 4079), (-4095, -4094)]:
+        line, shown = box("b", 1, bottom, 5, top), {"a": of_tall, "b": of_tall + 4}
+        yield Case("a row of one band", a_and_b, line, shown, LINE + BAND)
+    line, shown = box("b", 1, 4078, 5, 4080), {"a": of_tall, "b": of_tall + 8}
+    yield Case("a row of each of two bands", a_and_b, line, shown, LINE + 2 * BAND)
+    yield Case("a publish", live, "publish\n", {"currentpicture": of_tall}, LISTS)
+    line, shown = box("currentpicture", 1, 0, 5, 1), {"currentpicture": of_tall + 4}
+    yield Case("a row of one band behind a publish", live + "publish\n", line, shown, LINE + BAND)
+    # Every row that is reached gets edges of its own; a half more is for the rest of the row, and for the line.
+    for about, bottom, top in [("a band", 4063, 4079), ("two bands", 4047, 4079), ("all rows", -4094, 4095)]:
+        least = (top - bottom) * COMB
+        line, shown = box("a", -9, bottom, -8, top), {"a": of_comb + top - bottom}
+        yield Case(f"edges of {about}", striped("a"), line, shown, least * 3 // 2, least)
+    line, shown = "cull a keeping (1,3) withweight 2\n", {"a": 2 * of_comb}
+    yield Case("a cull of equal rows", striped("a"), line, shown, PASS)
+    yield Case("a negation of equal rows", striped("a"), "addto b also -a\n", {"b": -of_comb}, LISTS + PASS)
+    # A scale by a negative factor reflects, and then stretches.
+    yield Case("mirrored rows", striped("a"), "a := a yscaled -1\n", {"a": of_comb}, 2 * PASS)
+
+
+class Counter:
+    """Runs the program with a library that counts bytes."""
+
+    def __init__(self, program, folder):
+        self.program, self.folder = program, folder
+        self.library, source = folder / "count.so", folder / "count.c"
+        source.write_text(LIBRARY)
+        subprocess.run(["cc", "-O1", "-Wall", "-shared", "-fPIC", "-o", self.library, source], check=True)
+
+    def run(self, script):
+        """What a script prints, and how many bytes it asks for."""
+        place = self.folder / "script"
+        place.write_text(script)
+        # A file, of which each read gives all that is asked for: a line that a read cuts takes memory.
+        with open(place, "rb") as reader, open(self.folder / "report", "w+b") as report:
+            report.truncate(8)
+            environment = {"LD_PRELOAD": str(self.library), "REPORT": str(report.fileno())}
+            given = {"stdin": reader, "env": environment, "pass_fds": [report.fileno()]}
+            ended = subprocess.run([self.program], capture_output=True, check=True, timeout=60, **given)
+            return ended.stdout.decode(), int.from_bytes(report.read(8), sys.byteorder)
+
+
+def try_case(counter, case):
+    """Answers what is wrong with a case, if anything is."""
+    shows = "".join(f"show totalweight {name}\n" for name in case.shown)
+    _, before = counter.run(case.before + shows)
+    printed, behind = counter.run(case.before + case.command + shows)
+    asked = behind - before
+    print(f"{case.about}: {asked} bytes, {case.least} to {case.most} are right", flush=True)
+    if not printed.endswith("".join(f"totalweight {total}\n" for total in case.shown.values())):
+        return f"{case.about}: the totals are wrong:\n{printed}"
+    if asked < case.least or case.most < asked:
+        return f"{case.about}: {'more' if asked > case.most else 'less'} than is right"
+    return None
+
+
+def main():
+    program = sys.argv[1] if len(sys.argv) > 1 else str(ROOT / "crates/mfpic/out/mfpic")
+    if shutil.which("cc") is None:
+        sys.exit("there is no C compiler: cc")
+    if not pathlib.Path(program).is_file():
+        sys.exit(f"there is no program: {program}")
+    names = subprocess.run(["nm", "-D", program], capture_output=True, encoding="utf-8", check=True).stdout.split()
+    unknown = OTHERS & {name.split("@")[0] for name in names}
+    if unknown:
+        sys.exit(f"the program asks for memory in ways that are not counted: {unknown}")
+    count = 0
+    with tempfile.TemporaryDirectory() as folder:
+        counter = Counter(program, pathlib.Path(folder))
+        for case in cases():
+            fault = try_case(counter, case)
+            if fault:
+                sys.exit(fault)
+            count += 1
+    print(f"{count} passed, 0 failed")
+
+
+if __name__ == "__main__":
+    main()
