@@ -14,7 +14,6 @@ from pathlib import Path
 FUNCTION = re.compile(r"( *)(?:pub(?:\([\w:]+\))? )?(?:(?:const|unsafe|final) )*fn (\w+)")
 BLOCK = re.compile(r"(?:pub(?:\([\w:]+\))? )?(?:unsafe )?(impl|trait)\b(.*)")
 ITEM = re.compile(r"(?:pub(?:\([\w:]+\))? )?(?:const|static|struct|enum|type) (\w+)")
-PARTS = ("src", "specs", "proofs")
 
 
 class UnfitEdit(Exception):

@@ -1,28 +1,21 @@
-"""A copy of the repository in which a crate is proved with edits, and what the prover says. (`wrong_bodies.py` uses it.)"""
+"""A copy of a crate that is proved with edits, and what the prover says. (`wrong_bodies.py` uses it.)"""
 
 import re
 import shutil
 import subprocess
+import sys
 from pathlib import Path
 
-from edited_source import PARTS, Function, texts_of
+from edited_source import Function, texts_of
 
-ROOT = Path(__file__).resolve().parent.parent
+sys.path.append(str(Path(__file__).resolve().parent.parent / "tools"))
+from prover import ROOT, SOURCES, Prover  # noqa: E402
+
 # What the prover says of a function, and its last line.
 SAID = re.compile(r"^fn (\S+): (.*)$", re.M)
 VERDICT = re.compile(r"^(?:only|logic)=", re.M)
 # What an error says of a name that the body no longer gives to a file of proofs/.
 GONE = re.compile(r"has no `|has no field|is not in scope|was not admitted")
-
-
-def crates() -> dict[str, list[str]]:
-    """The crates of the repository, each with those that it stands on."""
-    found = {}
-    for line in (ROOT / "crates.txt").read_text(encoding="utf-8").split("\n"):
-        names, colon, below = line.partition("#")[0].partition(":")
-        if colon:
-            found[names.split()[0]] = below.split()
-    return {name: [it for it in below if it in found] for name, below in found.items()}
 
 
 def owner_of(symbol: str) -> tuple[str, ...]:
@@ -37,20 +30,18 @@ def owner_of(symbol: str) -> tuple[str, ...]:
 
 
 class Room:
-    """A copy of the repository, in which one crate is proved again and again over what its first proof kept."""
+    """A copy of a crate, which is proved again and again over what its first proof kept."""
 
     def __init__(self, crate: str, folder: Path) -> None:
         self.texts = texts_of(ROOT / "crates" / crate)
-        self.folder = folder / "crates" / crate
-        self.work, self.kept = self.folder / "out" / "incremental", folder / "kept"
+        self.folder = folder / crate
+        self.words = [*Prover().words("check", crate), "--jobs", "1", "--incremental", "out"]
+        self.work, self.kept = self.folder / "out", folder / "kept"
         self.symbols: dict[tuple[str, ...], list[str]] = {}
         self.checks = 0
-        for name in ("crates.txt", "HANDLES"):
-            shutil.copyfile(ROOT / name, folder / name)
-        for name in crates():
-            for part in (*PARTS, "out/incremental" if name == crate else "out/rlib"):
-                if (ROOT / "crates" / name / part).is_dir():
-                    shutil.copytree(ROOT / "crates" / name / part, folder / "crates" / name / part)
+        for part in SOURCES:
+            if (ROOT / "crates" / crate / part).is_dir():
+                shutil.copytree(ROOT / "crates" / crate / part, self.folder / part)
 
     def prove(self) -> str:
         """Proves the crate as it stands, keeps that work, and notes the symbols of its functions."""
@@ -69,7 +60,7 @@ class Room:
         if self.kept.is_dir():
             shutil.rmtree(self.work, ignore_errors=True)
             shutil.copytree(self.kept, self.work)
-        words = ["rt", "check", "--jobs", "1", *(word for symbol in only for word in ("--only", symbol))]
+        words = [*self.words, *(word for symbol in only for word in ("--only", symbol))]
         how = {"stdin": subprocess.DEVNULL, "stdout": subprocess.PIPE, "stderr": subprocess.STDOUT}
         return subprocess.run(words, cwd=self.folder, check=False, encoding="utf-8", errors="replace", **how).stdout
 

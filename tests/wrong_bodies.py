@@ -28,7 +28,6 @@ import dataclasses
 import os
 import re
 import shutil
-import subprocess
 import sys
 import tempfile
 import time
@@ -36,7 +35,11 @@ from collections.abc import Iterable
 from pathlib import Path
 
 from edited_source import Edit, Function, UnfitEdit, changed_by, read_edit, texts_of
-from proof_room import ROOT, SAID, Room, crates, own_reasons, problem_of
+from proof_room import ROOT, SAID, Room, own_reasons, problem_of
+
+# These stand in tools/, where proof_room looks for them.
+from build import prove_in_order  # isort: skip
+from prover import Failure, Prover, libraries_of_crates  # isort: skip
 
 # The memory that one check takes at most, in bytes.
 MEMORY = 4_000_000_000
@@ -223,12 +226,13 @@ def print_trial(crate: str, trial: Trial) -> None:
 
 def build_below(names: list[str]) -> None:
     """Builds the libraries that these crates stand on, where they have changed."""
-    below = {it for name in names for it in crates()[name]}
-    for name in (it for it in crates() if it in below):
-        words, folder = ["rt", "lib", "--jobs", "1"], ROOT / "crates" / name
-        built = subprocess.run(words, cwd=folder, capture_output=True, text=True, check=False)
-        if built.returncode:
-            sys.exit(f"{name}, on which others stand, is not built:\n{built.stdout}{built.stderr}")
+    prover = Prover()
+    below = {it for name in names for it in prover.below(name)}
+    try:
+        for name in prove_in_order(prover, [it for it in prover.libraries if it in below]):
+            print(f"{name}: built", file=sys.stderr, flush=True)
+    except Failure as failure:
+        sys.exit(f"a crate on which others stand is not proved: {failure}")
 
 
 def checks_at_once() -> int:
@@ -242,7 +246,7 @@ def main() -> None:
     parser.add_argument("--jobs", type=int, default=checks_at_once(), help="how many crates are tried side by side")
     parser.add_argument("crates", nargs="*", metavar="CRATE")
     given = parser.parse_args()
-    having = [name for name in crates() if any((ROOT / "crates" / name / it).is_dir() for it in ("must-fail", "wrong"))]
+    having = [name for name in libraries_of_crates() if any((ROOT / "crates" / name / it).is_dir() for it in ("must-fail", "wrong"))]
     unknown = [name for name in given.crates if name not in having]
     if unknown or not shutil.which("rt"):
         parser.error(f"no wrong bodies in {', '.join(unknown)}" if unknown else "there is no command rt on the path")
