@@ -1,4 +1,2 @@
-mod CommandLines
 mod Messages
 mod Outputs
-mod ViewersRead

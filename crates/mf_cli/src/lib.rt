@@ -3,7 +3,6 @@
 
 mod fault;
 pub mod program;
-mod words;
 
 pub use fault::ProgramFault;
-pub use words::{Words, WordsFault, read_words};
+pub use mf_words::{Words, WordsFault, read_words};

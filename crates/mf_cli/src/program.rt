@@ -1,7 +1,7 @@
 //! The program behind `main`: from its words and streams to its exit status.
 ghost use Rattle.std.specs.Io.KnownBytes.{Appends, IsAtEnd};
 ghost use Rattle.std.specs.Prelude.{◌≡◌, ◌<◌, ◌≤◌, ◌⊎◌, ℕ, IfErr, IfOk, IfSome, OnOk, length, map, option_map, string_bytes, take};
-ghost use Rattle.mf_cli.specs.CommandLine.{IsCommandLine, file_in, viewers_in};
+ghost use Rattle.mf_words.specs.CommandLine.{IsCommandLine, file_in, viewers_in};
 ghost use Rattle.mf_cli.specs.Faults.{EndsBadly, ReportsFault};
 ghost use Rattle.mf_cli.specs.Messages.{GetsMessage, message_of, usage};
 ghost use Rattle.mf_cli.specs.Output.{EndsWell, settings};
@@ -9,9 +9,9 @@ ghost use Rattle.mf_cli.specs.Statuses.{status_of};
 ghost use Rattle.mf_desk.specs.Performances.{IsPerformance, StopsEarly};
 
 use crate::fault::ProgramFault;
-use crate::words::{USAGE, Words, WordsFault, read_words};
 use mf_desk::{OpenGate, Outcome, RunFault, Settings};
 use mf_gf::{FontWords, GfBytes, write_counted};
+use mf_words::{USAGE, Words, WordsFault, read_words};
 use std::alloc::Global;
 use std::fs;
 use std::io::{Read, Write};

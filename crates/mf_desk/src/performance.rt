@@ -1,7 +1,11 @@
 //! A run beside viewers in threads.
 ghost use Rattle.std.specs.Io.KnownBytes.{IsAtEnd};
-ghost use Rattle.std.specs.Prelude.{◌≡◌, ◌⊎◌, ◌<◌, ◌≤◌, Err, IfErr, IfOk, IfSome, OnOk};
+ghost use Rattle.std.specs.Prelude.{◌≡◌, ◌≢◌, ◌⊎◌, ◌<◌, ◌≤◌, ◌^◌, ℕ, [], Err, IfErr, IfOk, IfSome, List, OnOk, Option, length};
 ghost use Rattle.mf_desk.specs.Performances.{IsPerformance, StopsEarly};
+ghost use Rattle.mf_desk.specs.Progress.{IsAfter};
+ghost use Rattle.mf_desk.specs.Runs.{limits_set};
+ghost use Rattle.mf_session.specs.Sessions.{limits, name};
+ghost use Rattle.mf_watch.specs.Watching.{AreStarted, viewer_count};
 
 use crate::fault::RunFault;
 use crate::outcome::Outcome;
@@ -51,7 +55,44 @@ pub fn perform<S: Wait + Threads, R: Read, W: Write, G: Gate + 'static>(
             return Err(fault.into());
         }
     };
-    let completed = progress.complete(rt, alloc, reader, writer, memory.as_mut_slice());
+    perform_watched(
+        rt,
+        alloc,
+        reader,
+        writer,
+        settings,
+        progress,
+        watching,
+        memory.as_mut_slice(),
+    )
+}
+
+/// Performs a script while these viewers look on, joins their threads, lets each look once more and writes its line, and
+/// finishes the font file. The chunk is what a read is given.
+fn perform_watched<S: Wait + Threads, R: Read, W: Write>(
+    rt: &S,
+    alloc: Global,
+    reader: &mut R,
+    writer: &mut W,
+    settings: &Settings,
+    progress: Progress,
+    watching: Watching,
+    chunk: &mut [u8],
+) -> Result<Outcome, RunFault>
+    requires start { (held : Option (List ℕ)) → IsAfter held [] progress held }
+    requires unwritten { progress.performer.written ≡ 0 }
+    requires limits { limits progress.performer.session ≡ limits_set settings.now }
+    requires some { 0 < length chunk.old }
+    requires short { length chunk.old ≤ 2 ^ 16 }
+    requires few { viewer_count watching ≤ 64 }
+    requires started { (looks : ℕ) × AreStarted (name progress.performer.session) looks watching }
+    ensures performance { IfOk result (λ outcome. (looks : ℕ) → AreStarted (name progress.performer.session) looks watching
+        → IfSome (R.remaining reader.old) (IsPerformance settings.now (viewer_count watching) looks outcome (W.contents writer.old) (W.contents writer.new))) }
+    ensures end { OnOk result (IsAtEnd (R.remaining reader.new)) }
+    ensures fault { IfErr result (λ fault. StopsEarly settings.now (viewer_count watching) fault (R.remaining reader.old) (R.remaining reader.new) (W.contents writer.old) (W.contents writer.new)) }
+    ensures places { result ≢ Err RunFault.NoPlace }
+{
+    let completed = progress.complete(rt, alloc, reader, writer, chunk);
     let joined = watching.join(rt);
     let mut ended = completed?;
     let shown = ended.show(alloc, writer, joined);

@@ -8,8 +8,8 @@ use Rattle.clap.specs.Simple.{on_top}
 use Rattle.clap.specs.declared.builder.value_parser.ValueParser.TheVariants as parser
 use Rattle.clap.specs.declared.error.kind.ErrorKind.{ErrorKind}
 use Rattle.clap.specs.declared.error.kind.ErrorKind.TheVariants as kind
-use Rattle.mf_cli.specs.declared.words.WordsFault.{WordsFault}
-use Rattle.mf_cli.specs.declared.words.WordsFault.TheVariants.{BadWords, OutOfMemory}
+use Rattle.mf_words.specs.declared.words.WordsFault.{WordsFault}
+use Rattle.mf_words.specs.declared.words.WordsFault.TheVariants.{BadWords, OutOfMemory}
 
 -- `--viewers 0..16`
 abbrev pub viewers_rule : Rule

@@ -2,9 +2,9 @@ use Rattle.std.proofs.Common.{rules, ◌≡◌, ◌∙◌, Some, ap, ap₂, code
 use Rattle.std.proofs.lemmas.Result.{IfOk-weaker}
 use Rattle.clap.specs.Words.{Rule, app_of, new_app, new_rule, rule_of, with_rule}
 use Rattle.clap.specs.declared.builder.value_parser.ValueParser.TheVariants as parser
-use Rattle.mf_cli.proofs.CommandLines.{flags_taken, parser_given}
-use Rattle.mf_cli.specs.CommandLine.{gf_rule, mfpic, viewers_rule, without_flags}
-use Rattle.mf_cli.proofs.words.command.Goals as goal
+use Rattle.mf_words.proofs.CommandLines.{flags_taken, parser_given}
+use Rattle.mf_words.specs.CommandLine.{gf_rule, mfpic, viewers_rule, without_flags}
+use Rattle.mf_words.proofs.words.command.Goals as goal
 
 abbrev of_viewers : Rule
 of_viewers = record (new_rule (codes "viewers")) { long = Some (codes "viewers") }

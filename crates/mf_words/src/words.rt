@@ -1,8 +1,8 @@
 //! The words of the command line: what they ask for, as clap reads them.
 ghost use Rattle.std.specs.Prelude.{◌≡◌, ◌≤◌, IfOk, IsErrOf, OnOk, map, option_map, string_bytes};
 ghost use Rattle.clap.specs.Words.{app_of, kind_of};
-ghost use Rattle.mf_cli.specs.CommandLine.{IsCommandLine, file_in, mfpic, viewers_in, words_fault};
-ghost use Rattle.mf_cli.specs.declared.words.WordsFault.TheVariants.{OutOfMemory as NoMemory};
+ghost use Rattle.mf_words.specs.CommandLine.{IsCommandLine, file_in, mfpic, viewers_in, words_fault};
+ghost use Rattle.mf_words.specs.declared.words.WordsFault.TheVariants.{OutOfMemory as NoMemory};
 
 use clap::error::ErrorKind;
 use clap::{Arg, Command, value_parser};

@@ -6,12 +6,12 @@ use Rattle.clap.proofs.WalkLemmas.{first_value-rows, one_text-rows}
 use Rattle.clap.specs.Faults.{is_simple_and_free}
 use Rattle.clap.specs.Kinds.{HasKind}
 use Rattle.clap.specs.Words.{Text, fault_of, first_of, found_of, is_simple, kind_of, matches_of, one_of}
-use Rattle.mf_cli.proofs.CommandLines.{is_no_command_line, mfpic-free, mfpic-simple}
-use Rattle.mf_cli.proofs.ViewersRead.{viewers_read}
-use Rattle.mf_cli.specs.CommandLine.{number_of, words_fault}
-use Rattle.mf_cli.specs.declared.words.WordsFault.TheVariants.{BadWords}
-use Rattle.mf_cli.proofs.words.read_words.Goals.{in-Some+in_ok-from_str-in-Some, in-None}
-use Rattle.mf_cli.proofs.words.read_words.Goals as goal
+use Rattle.mf_words.proofs.CommandLines.{is_no_command_line, mfpic-free, mfpic-simple}
+use Rattle.mf_words.proofs.ViewersRead.{viewers_read}
+use Rattle.mf_words.specs.CommandLine.{number_of, words_fault}
+use Rattle.mf_words.specs.declared.words.WordsFault.TheVariants.{BadWords}
+use Rattle.mf_words.proofs.words.read_words.Goals.{in-Some+in_ok-from_str-in-Some, in-None}
+use Rattle.mf_words.proofs.words.read_words.Goals as goal
 
 -- how the text of a `u32` is read
 abbrev Reads : Text → Result ℕ ParseIntError → Type 0

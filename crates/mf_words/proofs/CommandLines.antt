@@ -10,8 +10,8 @@ use Rattle.clap.specs.declared.builder.command.Command.TheOpen.{Command-F}
 use Rattle.clap.specs.declared.builder.command.Command.TheViews.{out-Command}
 use Rattle.clap.specs.declared.builder.value_parser.ValueParser.{ValueParser}
 use Rattle.clap.specs.declared.error.Error.{Error}
-use Rattle.mf_cli.specs.CommandLine.{IsCommandLine, mfpic, without_flags, words_fault}
-use Rattle.mf_cli.specs.declared.words.WordsFault.TheVariants.{BadWords, OutOfMemory}
+use Rattle.mf_words.specs.CommandLine.{IsCommandLine, mfpic, without_flags, words_fault}
+use Rattle.mf_words.specs.declared.words.WordsFault.TheVariants.{BadWords, OutOfMemory}
 
 pub mfpic-simple : is_simple mfpic ≡ true
 unfolding mfpic

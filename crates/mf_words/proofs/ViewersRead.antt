@@ -20,7 +20,7 @@ use Rattle.clap.specs.declared.builder.value_parser.ValueParser.{ValueParser}
 use Rattle.clap.specs.declared.builder.value_parser.ValueParser.TheVariants as parser
 use Rattle.clap.specs.declared.parser.matches.ArgMatches.{ArgMatches}
 use Rattle.clap.specs.declared.parser.matches.MatchedArg.{MatchedArg}
-use Rattle.mf_cli.specs.CommandLine.{gf_rule, mfpic, number_of, viewers_rule}
+use Rattle.mf_words.specs.CommandLine.{gf_rule, mfpic, number_of, viewers_rule}
 
 abbrev viewers : Text
 viewers = codes "viewers"

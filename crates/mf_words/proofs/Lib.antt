@@ -1,0 +1,2 @@
+mod CommandLines
+mod ViewersRead

@@ -1,0 +1,6 @@
+//! The words of the program's command line.
+#![tactic(auto)]
+
+mod words;
+
+pub use words::{USAGE, Words, WordsFault, read_words};
