@@ -87,6 +87,12 @@ def without_parameters(name: str) -> str:
     return re.sub(r"<.*", "", name).strip().lstrip("&").rpartition("::")[2]
 
 
+def with_crate(name: str) -> str:
+    """The last word of a type's path, behind the word before it, if there is one, as the prover writes `ClapError`."""
+    before = re.sub(r"<.*", "", name).strip().lstrip("&").split("::")[:-1]
+    return "".join(word.capitalize() for word in before[-1:]) + without_parameters(name)
+
+
 def holder_of(head: str) -> str:
     """What the prover calls the block of an `impl`, by the text behind that word: a type, or a type and a trait."""
     depth = 0
@@ -97,8 +103,8 @@ def holder_of(head: str) -> str:
             break
     trait, is_trait, kind = head.partition("{")[0].partition(" where ")[0].rpartition(" for ")
     arguments = re.search(r"<(.*)>", trait)
-    names = [trait, *(arguments[1].split(",") if arguments else [])] if is_trait else []
-    return without_parameters(kind) + "".join(without_parameters(name) for name in names)
+    names = [without_parameters(trait), *map(with_crate, arguments[1].split(",") if arguments else [])] if is_trait else []
+    return without_parameters(kind) + "".join(names)
 
 
 def end_of(lines: list[str], start: int, indent: str) -> int:
@@ -116,7 +122,7 @@ def split(file: str, text: str) -> tuple[dict[Function, str], list[str]]:
     while at < len(lines):
         line = lines[at]
         block, function = BLOCK.match(line), FUNCTION.match(line)
-        if block:
+        if block and not line.endswith("{}"):
             kind, holder = block[1], holder_of(block[2].strip())
         elif line == "}":
             kind, holder = "", ""

@@ -28,7 +28,7 @@ def prove_in_order(prover: Prover, names: list[str]) -> Iterator[str]:
     jobs, left = count_jobs(), names
     proved: list[str] = []
     running: dict[concurrent.futures.Future[None], str] = {}
-    with concurrent.futures.ThreadPoolExecutor(len(names)) as pool:
+    with concurrent.futures.ThreadPoolExecutor(max(1, len(names))) as pool:
         while left or running:
             ready = [name for name in left if all(it in proved for it in prover.below(name))]
             left = [name for name in left if name not in ready]
