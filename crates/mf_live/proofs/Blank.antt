@@ -1,10 +1,7 @@
 -- Where nothing has happened, nothing is accepted, and the picture is blank.
-use Rattle.std.proofs.Common.{◌≡◌, List, [], ◌++◌, refl, ap, ◌∙◌}
+use Rattle.std.proofs.Common.{◌≡◌, List, [], refl, ap, ◌∙◌}
 use Rattle.mf_ops.specs.Operations.{after_all, picture_after, revision_after}
-use Rattle.mf_live.specs.declared.history.Token.{Token}
-use Rattle.mf_live.specs.declared.view.View.{View}
 use Rattle.mf_live.specs.Entries.{Entry, pic, rev}
-use Rattle.mf_live.specs.Rule.{history}
 
 pub pic-none : pic [] ≡ []
 unfolding picture_after after_all
@@ -20,7 +17,3 @@ pic-blank L none = ap pic none ∙ pic-none
 
 pub rev-blank : (L : List Entry) → L ≡ [] → rev L ≡ 0
 rev-blank L none = ap rev none ∙ rev-none
-
--- nothing has happened where nothing is in the book, and the writer has nothing to write into it
-pub history-blank : (t : Token) (v : View) → t.seen.log ≡ [] → v.unwritten ≡ [] → history t v ≡ []
-history-blank t v none written = λ i. none i ++ written i

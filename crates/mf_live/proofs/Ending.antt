@@ -1,19 +1,17 @@
 -- What a writer has accepted, when an operation or the end mark is added to it.
-use Rattle.std.proofs.Common.{◌≡◌, ◌∙◌, ◌+◌, ◌≤◌, ◌<◌, ◌||◌, Bool, true, false, ℕ, [], ◌∷◌, ◌++◌, length, Result, Ok, Err, IsErr, MatchResult, refl, sym, ap, arith}
-use Rattle.std.proofs.lemmas.List.{length-append}
+use Rattle.std.proofs.Common.{◌≡◌, ◌∙◌, ◌+◌, ◌≤◌, ◌||◌, Bool, true, false, ℕ, [], ◌∷◌, ◌++◌, refl, sym, ap}
 use Rattle.mf_ops.specs.declared.op.Op.{Op}
 use Rattle.mf_live.specs.declared.holder.Holder.{Holder}
 use Rattle.mf_live.specs.Entries.{entry, Operation, End, rev, is_closed}
-use Rattle.mf_live.specs.Holders.{accepted, published}
+use Rattle.mf_live.specs.Holders.{accepted, published, version}
 use Rattle.mf_live.proofs.EntryLists.{rev-push, rev-whole, is_closed-append}
 use Rattle.mf_live.proofs.Histories.{lawful}
-use Rattle.mf_live.proofs.WholePrefixes.{whole-length}
 
 -- no more is published than was accepted
-pub told-few : (h : Holder) → h.told.number ≤ h.revision
+pub told-few : (h : Holder) → (version h).notice.number ≤ h.revision
 told-few h =
     let whole : rev (published h) ≤ rev (accepted h) = rev-whole (published h) (accepted h) (lawful h).whole in
-    rw (h.told.numbered, ← h.told_is, h.numbered) whole
+    rw ((version h).notice.numbered, h.shown_is, h.numbered) whole
 
 or-false : (b : Bool) → b ≡ false → (b || false) ≡ false
 or-false true same = same
@@ -32,17 +30,7 @@ module _ (old new : Holder) (n : ℕ) where
     pub open-push : is_closed (accepted old) ≡ false → is_closed (accepted new) ≡ false
     open-push is_open = ap is_closed more ∙ is_closed-append (accepted old) (entry n (Operation op) ∷ []) ∙ or-false (is_closed (accepted old)) is_open
 
-  -- the end mark does, and waits to be published
+  -- the end mark does
   module _ (more : accepted new ≡ accepted old ++ entry n End ∷ []) where
     pub closed-end : is_closed (accepted new) ≡ true
     closed-end = ap is_closed more ∙ is_closed-append (accepted old) (entry n End ∷ []) ∙ or-true (is_closed (accepted old))
-
-    pub end-waits : published new ≡ published old → length (published new) < length (accepted new)
-    end-waits same =
-        let shorter : length (published old) ≤ length (accepted old) = whole-length (published old) (accepted old) (lawful old).whole in
-        omega (arith, shorter, ap length more, ap length same, length-append (accepted old) (entry n End ∷ []))
-
--- what a refusal leaves
-pub left_by_err : {T E : Type 0} (P Q : Type 0) (r : Result T E) → MatchResult r (λ _. P) (λ _. Q) → IsErr r → Q
-left_by_err P Q (Ok x) either refused = cc
-left_by_err P Q (Err e) either refused = either

@@ -1,64 +1,73 @@
 -- The history of what the writer of a picture holds: how long it is, and what one event more makes of it.
 use Rattle.std.proofs.Common.{◌≡◌, ◌≤◌, ◌+◌, false, List, [], ◌∷◌, ◌++◌, length, ap, sym, ◌∙◌, append_assoc, arith, length-append}
-use Rattle.std.proofs.lemmas.List.{append-nil}
+use Rattle.std.proofs.lemmas.List.{append-nil, nil_from_length}
 use Rattle.left_right.specs.Sides.{view}
 use Rattle.mf_live.specs.declared.event.Event.{Event}
-use Rattle.mf_live.specs.declared.history.Token.{Token}
 use Rattle.mf_live.specs.declared.holder.Holder.{Holder}
+use Rattle.mf_live.specs.declared.version.Version.{Version}
 use Rattle.mf_live.specs.declared.view.View.{View}
 use Rattle.mf_live.specs.Books.{most}
 use Rattle.mf_live.specs.Entries.{Entry}
-use Rattle.mf_live.specs.Holders.{events, accepted, published}
-use Rattle.mf_live.specs.Rule.{history, with_event}
+use Rattle.mf_live.specs.Holders.{events, accepted, published, version}
+use Rattle.mf_live.specs.Rule.{events_of, history, shown_by, with_event}
 use Rattle.mf_live.specs.World.{World, IsLawful, Happen, May, start, after_event, world_after, accepted_of, published_of}
 use Rattle.mf_live.proofs.EntryLists.{length-rev}
-use Rattle.mf_live.proofs.WholePrefixes.{whole-length}
 use Rattle.mf_live.proofs.Worlds.{world_after-push, Happen-push, lawful-after}
 
 pub lawful : (h : Holder) → IsLawful most (world_after start (events h))
 lawful h = lawful-after most (events h) h.lawful
 
--- what is in the book, and what is not there yet
-pub all_events : (h : Holder) → h.front.events + h.unwritten ≡ length (events h)
-all_events h = omega (arith, h.front.counted, h.counted, length-append h.front.token.seen.log (view h.swap.desk.place).unwritten)
+-- at most all operations and the end mark were accepted
+pub few_entries : (h : Holder) → length (accepted h) ≤ 4294967296
+few_entries h = omega (arith, length-rev (accepted h) (lawful h).ended, (lawful h).few)
 
--- each event since the last publish is one entry more, and the last publish had at most two events for each entry
-pub few_events : (h : Holder) → length (events h) ≤ 8589934592
-few_events h =
-    let shorter : length (published h) ≤ length (accepted h) = whole-length (published h) (accepted h) (lawful h).whole in
-    omega (arith, h.since, h.short, ap length h.told_is, shorter, length-rev (accepted h) (lawful h).ended, (lawful h).few)
+-- the shown version knows of at most two events for each entry
+pub few_events : (h : Holder) → length (events_of (version h)) ≤ 8589934592
+few_events h = omega (arith, h.short, h.since, few_entries h)
 
--- all events are in the book
-pub history-written : (h : Holder) (t : Token) (w : View) → t.seen.log ≡ events h → w.unwritten ≡ [] → history t w ≡ events h
-history-written h t w log written = ap (λ (more : List Event). t.seen.log ++ more) written ∙ append-nil t.seen.log ∙ log
+pub few_unwritten : (h : Holder) → h.unwritten ≤ 4294967296
+few_unwritten h = omega (arith, h.since, few_entries h)
 
--- the writer has an event more to write, by which the entry x is accepted
-pub record HasOneMore (h : Holder) (w : View) (x : Entry) : Type 0 where
-  pub accepted : accepted_of (history h.front.token w) ≡ accepted h ++ x ∷ []
-  pub published : published_of (history h.front.token w) ≡ published h
-  pub lawful : Happen most start (history h.front.token w)
-  pub alive : (world_after start (history h.front.token w)).dropped ≡ false
+-- where nothing waits, all that was accepted is published
+pub none_waits : (h : Holder) → h.unwritten ≡ 0 → published h ≡ accepted h
+none_waits h none =
+    let written : (view h.swap.desk.place).unwritten ≡ [] = nil_from_length (view h.swap.desk.place).unwritten (omega (arith, h.counted, none)) in
+    let log : events h ≡ events_of (version h) = ap (λ (more : List Event). events_of (version h) ++ more) written ∙ append-nil (events_of (version h)) in
+    ap published_of log ∙ sym (version h).notice.whole ∙ sym (ap accepted_of log)
+
+-- where something waits, it does not
+pub some_wait : (h : Holder) → published h ≡ accepted h → h.unwritten ≡ 0
+some_wait h all = omega (arith, h.since, ap length h.shown_is, ap length all)
+
+-- the writer has an event more to write, by which the entry e is accepted
+pub record HasOneMore (h : Holder) (x : Version) (w : View) (e : Entry) : Type 0 where
+  pub accepted : accepted_of (history x w) ≡ accepted h ++ e ∷ []
+  pub published : published_of (history x w) ≡ published h
+  pub shown_is : shown_by x ≡ published_of (history x w)
+  pub lawful : Happen most start (history x w)
+  pub alive : (world_after start (history x w)).dropped ≡ false
   pub counted : h.unwritten + 1 ≡ length w.unwritten
-  pub since : length (history h.front.token w) + length (published_of h.told.front.token.seen.log)
-      ≡ length h.told.front.token.seen.log + length (accepted_of (history h.front.token w))
+  pub since : h.unwritten + 1 + length (shown_by x) ≡ length (accepted_of (history x w))
 
 abbrev with_entry : World → Entry → World
-with_entry w x = record w { accepted = w.accepted ++ x ∷ [] }
+with_entry w e = record w { accepted = w.accepted ++ e ∷ [] }
 
-pub one_more : (h : Holder) (w : View) (e : Event) (x : Entry) → w ≡ with_event (view h.swap.desk.place) e
-    → May most (world_after start (events h)) e → after_event (world_after start (events h)) e ≡ with_entry (world_after start (events h)) x → HasOneMore h w x
-one_more h w e x more may accepts =
+pub one_more : (h : Holder) (x : Version) (w : View) (happens : Event) (e : Entry) → x ≡ version h → w ≡ with_event (view h.swap.desk.place) happens
+    → May most (world_after start (events h)) happens → after_event (world_after start (events h)) happens ≡ with_entry (world_after start (events h)) e → HasOneMore h x w e
+one_more h x w happens e same more may accepts =
     let unwritten = (view h.swap.desk.place).unwritten in
-    let log : history h.front.token w ≡ events h ++ e ∷ [] =
-    ap (history h.front.token) more ∙ sym (append_assoc h.front.token.seen.log unwritten (e ∷ [])) in
-    let world : world_after start (history h.front.token w) ≡ with_entry (world_after start (events h)) x =
-    ap (world_after start) log ∙ world_after-push start (events h) e ∙ accepts in
-    let accepted_is : accepted_of (history h.front.token w) ≡ accepted h ++ x ∷ [] = ap (λ (u : World). u.accepted) world in
+    let log : history x w ≡ events h ++ happens ∷ [] =
+    (λ i. history (same i) (more i)) ∙ sym (append_assoc (events_of (version h)) unwritten (happens ∷ [])) in
+    let world : world_after start (history x w) ≡ with_entry (world_after start (events h)) e =
+    ap (world_after start) log ∙ world_after-push start (events h) happens ∙ accepts in
+    let accepted_is : accepted_of (history x w) ≡ accepted h ++ e ∷ [] = ap (λ (u : World). u.accepted) world in
+    let published_is : published_of (history x w) ≡ published h = ap (λ (u : World). u.published) world in
     record {
       accepted = accepted_is;
-      published = ap (λ (u : World). u.published) world;
-      lawful = rw log (Happen-push most start (events h) e h.lawful may);
+      published = published_is;
+      shown_is = ap shown_by same ∙ h.shown_is ∙ sym published_is;
+      lawful = rw log (Happen-push most start (events h) happens h.lawful may);
       alive = ap (λ (u : World). u.dropped) world ∙ h.alive;
-      counted = omega (arith, h.counted, ap (λ (v : View). length v.unwritten) more, length-append unwritten (e ∷ []));
-      since = omega (arith, h.since, ap length log, length-append (events h) (e ∷ []), ap length accepted_is, length-append (accepted h) (x ∷ []));
+      counted = omega (arith, h.counted, ap (λ (v : View). length v.unwritten) more, length-append unwritten (happens ∷ []));
+      since = omega (arith, h.since, ap (λ (y : Version). length (shown_by y)) same, ap length accepted_is, length-append (accepted h) (e ∷ []));
     }

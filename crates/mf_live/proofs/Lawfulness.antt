@@ -13,7 +13,7 @@ use Rattle.mf_live.specs.Entries.{Change, Operation, End, Entry, entry, rev, nex
 use Rattle.mf_live.specs.Prefixes.{IsWholePrefix, IsCutAmong, labels, longer}
 use Rattle.mf_live.specs.World.{World, start, May, after_event, notice_at, put, IsPending, IsLawful, ShowsMore}
 use Rattle.mf_live.proofs.EntryLists.{rev-push, rev-end, unrefused-push, unrefused-end, ends_last-push}
-use Rattle.mf_live.proofs.WholePrefixes.{labels-append, length-labels, whole-self, whole-nil, whole-trans, whole-length, whole-longer}
+use Rattle.mf_live.proofs.WholePrefixes.{labels-append, length-labels, whole-self, whole-nil, whole-trans, whole-longer}
 
 -- the next label is the last one and 1
 last-label : (n : ℕ) (e : Entry) (es : List Entry) → get_or (labels (e ∷ es)) (length es) 0 + 1 ≡ next_after n (e ∷ es)
@@ -154,13 +154,3 @@ published-event max_ops w e lawful = whole-self w.published
 pub shows_more : (max_ops : ℕ) (w : World) (e : Event) → IsLawful max_ops w → ShowsMore w e
 shows_more max_ops w (Look i) lawful = (lawful.each_seen i, cond-true (i == i) w.published (w.seen i) (eq-eqb i i refl))
 shows_more max_ops w e lawful = tt
-
-one_more : (L : List Entry) (e : Entry) (P : List Entry) → IsWholePrefix P L → L ++ e ∷ [] ≡ P → ⊥
-one_more L e P whole same = absurd (omega (arith, whole-length P L whole, length-append L (e ∷ []), ap length same))
-
--- an event after which all is published has accepted nothing, since that would not be published yet
-pub accepted-event : (max_ops : ℕ) (w : World) (e : Event) → IsLawful max_ops w → (after_event w e).accepted ≡ (after_event w e).published → w.accepted ≡ (after_event w e).accepted
-accepted-event max_ops w (Accept op) lawful all_published =
-    absurd (one_more w.accepted (entry (next w.published) (Operation op)) w.published lawful.whole all_published)
-accepted-event max_ops w Close lawful all_published = absurd (one_more w.accepted (entry (next w.published) End) w.published lawful.whole all_published)
-accepted-event max_ops w e lawful all_published = refl

@@ -1,36 +1,35 @@
--- Each step keeps the rule over what is shown and what each seat knows.
-use Rattle.std.proofs.Common.{◌≡◌, ◌≢◌, ◌⊎◌, ℕ, true, false, List, [], ◌∷◌, ◌++◌, set, refl, ap, sym, subst, ◌∙◌, ⊎_elim}
+-- Each step keeps the rule over the version that is shown and what each seat knows.
+use Rattle.std.proofs.Common.{◌≡◌, ◌≢◌, ◌⊎◌, ℕ, true, false, List, [], ◌∷◌, ◌++◌, set, refl, sym, subst, ◌∙◌, ⊎_elim}
 use Rattle.std.proofs.lemmas.Bool.{false≢true}
+use mathlib.Core.List.{IsPrefix}
 use mathlib.Core.Option.{some}
 use lib.ListN.{get_elem?}
 use Rattle.atomic_table.proofs.Lists.{at_set, at_snoc}
 use Rattle.crossbeam_utils.specs.Register.{Admits, Turns, TurnsAt, Forks, Merges}
 use Rattle.mf_live.specs.declared.history.Token.{Token}
-use Rattle.mf_live.specs.declared.live.Live.{Live}
+use Rattle.mf_live.specs.declared.version.Version.{Version}
 use Rattle.mf_live.specs.declared.view.View.{View}
-use Rattle.mf_live.specs.Prefixes.{IsWholePrefix}
-use Rattle.mf_live.specs.Rule.{Begins, Kept, Knows, Looked, Named, newcomer, knowing, token_of, book_of, shown_by, now_of}
-use Rattle.mf_live.specs.World.{accepted_of}
-use Rattle.mf_live.proofs.WholePrefixes.{whole-self, whole-trans}
+use Rattle.mf_live.specs.Rule.{Begins, Kept, Knows, Looked, Shown, newcomer, knowing, token_of, book_of, events_of}
+use Rattle.mf_live.proofs.Beginnings.{prefix-self, prefix-trans}
 
--- what the token has begins, whole, what is shown
-abbrev Shows : Live → Token → Type 0
-Shows x t = Begins (book_of x) (shown_by x) t
+-- what the token has begins what the version knows
+abbrev Shows : Version → Token → Type 0
+Shows x t = Begins (book_of x) (events_of x) t
 
-shows_itself : (x : Live) → Shows x (token_of x)
-shows_itself x = record { book = refl; whole = whole-self (shown_by x) }
+shows_itself : (x : Version) → Shows x (token_of x)
+shows_itself x = record { book = refl; begins = prefix-self (events_of x) }
 
 -- a seat that does not know which picture it is knows nothing wrong
-knows_nothing : (x : Live) (v : View) → v.named ≡ false → Knows x v
+knows_nothing : (x : Version) (v : View) → v.named ≡ false → Knows x v
 knows_nothing x v unnamed named = absurd (false≢true (sym unnamed ∙ named))
 
 -- a seat with another view that has seen the same knows as much
-knows_same : (x : Live) (v w : View) → w.named ≡ v.named → w.last ≡ v.last → w.now ≡ v.now → Knows x v → Knows x w
+knows_same : (x : Version) (v w : View) → w.named ≡ v.named → w.last ≡ v.last → w.now ≡ v.now → Knows x v → Knows x w
 knows_same x v w named last now knows w_named = let begin = knows (sym named ∙ w_named) in
     (subst (Shows x) (sym last) begin.0, subst (Shows x) (sym now) begin.1)
 
 -- one seat has another view, and of y the others know what they knew of x
-kept_set : (x y : Live) (views : List View) (seat : ℕ) (w : View) → ((v : View) → Knows x v → Knows y v) → Kept x views → Knows y w
+kept_set : (x y : Version) (views : List View) (seat : ℕ) (w : View) → ((v : View) → Knows x v → Knows y v) → Kept x views → Knows y w
     → Kept y (set views seat w)
 kept_set x y views seat w still kept here = record {
   each_seat = λ other v at. ⊎_elim (λ (this : (other ≡ seat) × (w ≡ v)). subst (Knows y) this.1 here)
@@ -38,11 +37,11 @@ kept_set x y views seat w still kept here = record {
 }
 
 -- one seat has another view of the same picture
-kept_view : (x : Live) (views : List View) (seat : ℕ) (w : View) → Kept x views → Knows x w → Kept x (set views seat w)
+kept_view : (x : Version) (views : List View) (seat : ℕ) (w : View) → Kept x views → Knows x w → Kept x (set views seat w)
 kept_view x views seat w = kept_set x x views seat w (λ v knows. knows)
 
 -- a seat is added
-kept_more : (x : Live) (views : List View) (w : View) → Kept x views → Knows x w → Kept x (views ++ w ∷ [])
+kept_more : (x : Version) (views : List View) (w : View) → Kept x views → Knows x w → Kept x (views ++ w ∷ [])
 kept_more x views w kept here = record {
   each_seat = λ seat v at. ⊎_elim (kept.each_seat seat v) (λ (same : w ≡ v). subst (Knows x) same here) (at_snoc views w v seat at);
 }
@@ -73,30 +72,17 @@ looks keep seat v is_kept x views kept at = let knows : Knows x v = kept.each_se
     let w : View = record { named = v.named; last = keep v; now = token_of x; unwritten = v.unwritten } in
     (w, kept_view x views seat w kept (λ named. (keeps named, shows_itself x)), record { knows = knows; now = refl })
 
--- what begins what was shown begins, whole, what is shown in its place
-shows_more : (x y : Live) → book_of y ≡ book_of x → IsWholePrefix (shown_by x) (shown_by y) → (t : Token) → Shows x t → Shows y t
-shows_more x y book whole t begins = record {
+-- what is known of x is known of y, which knows more of one history
+shows_more : (x y : Version) → book_of y ≡ book_of x → IsPrefix (events_of x) (events_of y) → (t : Token) → Shows x t → Shows y t
+shows_more x y book more t begins = record {
   book = begins.book ∙ sym book;
-  whole = whole-trans (accepted_of t.seen.log) (shown_by x) (shown_by y) begins.whole whole;
+  begins = prefix-trans t.seen.log (events_of x) (events_of y) begins.begins more;
 }
 
--- what a seat knows of x it knows of y, which shows more
-knows_more : (x y : Live) → book_of y ≡ book_of x → IsWholePrefix (shown_by x) (shown_by y) → (v : View) → Knows x v → Knows y v
-knows_more x y book whole v knows named = let more = shows_more x y book whole in (more v.last (knows named).0, more v.now (knows named).1)
+knows_more : (x y : Version) → book_of y ≡ book_of x → IsPrefix (events_of x) (events_of y) → (v : View) → Knows x v → Knows y v
+knows_more x y book more v knows named = let still = shows_more x y book more in (still v.last (knows named).0, still v.now (knows named).1)
 
--- a publish of more keeps it
-pub publishes : (seat : ℕ) (v : View) (x y : Live) → book_of y ≡ book_of x → IsWholePrefix (shown_by x) (shown_by y)
-    → TurnsAt Kept seat v x y (Looked now_of)
-publishes seat v x y book whole views kept at = let more : (u : View) → Knows x u → Knows y u = knows_more x y book whole in
-    let knows : Knows y v = more v (kept.each_seat seat v at) in
-    let w : View = record { named = v.named; last = v.now; now = token_of y; unwritten = v.unwritten } in
-    (w, kept_set x y views seat w more kept (λ named. ((knows named).1, shows_itself y)), record { knows = knows; now = refl })
-
--- a publish of the same tells the writer which picture it is
-pub names : (seat : ℕ) (v : View) (x y : Live) → token_of y ≡ token_of x → TurnsAt Kept seat v x y Named
-names seat v x y same views kept at = let
-    whole : IsWholePrefix (shown_by x) (shown_by y)
-    = subst (λ (t : Token). IsWholePrefix (shown_by x) (accepted_of t.seen.log)) (sym same) (whole-self (shown_by x)) in
-    let more = knows_more x y (ap (λ (t : Token). t.seen.book) same) whole in
-    let w : View = knowing (token_of y) in
-    (w, kept_set x y views seat w more kept (λ named. (shows_itself y, shows_itself y)), refl)
+-- a publish keeps the rule where the version knows more of the history
+pub publishes : (seat : ℕ) (v : View) (x y : Version) → book_of y ≡ book_of x → IsPrefix (events_of x) (events_of y) → TurnsAt Kept seat v x y Shown
+publishes seat v x y book more views kept at =
+    (knowing (token_of y), kept_set x y views seat (knowing (token_of y)) (knows_more x y book more) kept (λ named. (shows_itself y, shows_itself y)), refl)

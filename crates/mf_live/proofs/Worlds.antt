@@ -1,12 +1,9 @@
 -- Lists of events and the worlds after them.
-use Rattle.std.proofs.Common.{◌≡◌, ℕ, List, [], ◌∷◌, ◌++◌, refl, sym, ◌∙◌, ap, subst, append_assoc, append-nil}
-use mathlib.Core.List.{IsPrefix}
-use Rattle.mf_live.specs.Entries.{End, Operation, entry, next}
+use Rattle.std.proofs.Common.{◌≡◌, ℕ, List, [], ◌∷◌, ◌++◌, refl}
 use Rattle.mf_live.specs.declared.event.Event.{Event}
-use Rattle.mf_live.specs.declared.event.Event.TheVariants.{Accept, Refuse, Close, Publish, Discard, Look, Tell, Learn}
 use Rattle.mf_live.specs.Prefixes.{IsWholePrefix}
-use Rattle.mf_live.specs.World.{World, start, Happen, May, after_event, world_after, IsLawful, EverySchedule, StaysLawful, accepted_of, published_of}
-use Rattle.mf_live.proofs.Lawfulness.{lawful_start, lawful_event, published-event, shows_more, accepted-event}
+use Rattle.mf_live.specs.World.{World, start, Happen, May, after_event, world_after, IsLawful, EverySchedule, StaysLawful, published_of}
+use Rattle.mf_live.proofs.Lawfulness.{lawful_start, lawful_event, published-event, shows_more}
 use Rattle.mf_live.proofs.WholePrefixes.{whole-self, whole-trans}
 
 pub world_after-append : (w : World) (xs ys : List Event) → world_after w (xs ++ ys) ≡ world_after (world_after w xs) ys
@@ -59,33 +56,3 @@ pub published-grows : (max_ops : ℕ) (xs ys : List Event) → Happen max_ops st
 published-grows max_ops xs ys happen =
     let lawful = lawful-after max_ops xs (Happen-front max_ops start xs ys happen) in
     rw (world_after-append start xs ys, published_of) (published-on max_ops (world_after start xs) ys lawful (Happen-rest max_ops start xs ys happen))
-
--- the event after which all is published was the publish, or changed nothing
-pub same_accepted : (max_ops : ℕ) (xs : List Event) (e : Event) → Happen max_ops start (xs ++ e ∷ []) → accepted_of (xs ++ e ∷ []) ≡ published_of (xs ++ e ∷ []) → accepted_of xs ≡ accepted_of (xs ++ e ∷ [])
-same_accepted max_ops xs e happen all_published =
-    let lawful = lawful-after max_ops xs (Happen-front max_ops start xs (e ∷ []) happen) in
-    let after = world_after-push start xs e in
-    let accepted = ap (λ (w : World). w.accepted) after in
-    let published = ap (λ (w : World). w.published) after in
-    accepted-event max_ops (world_after start xs) e lawful (sym accepted ∙ all_published ∙ published) ∙ sym accepted
-
--- what is accepted stays
-accepted-kept : (w : World) (e : Event) → IsPrefix w.accepted (after_event w e).accepted
-accepted-kept w (Accept op) = (entry (next w.published) (Operation op) ∷ [], refl)
-accepted-kept w Refuse = ([], append-nil w.accepted)
-accepted-kept w Close = (entry (next w.published) End ∷ [], refl)
-accepted-kept w Publish = ([], append-nil w.accepted)
-accepted-kept w (Discard publishes) = ([], append-nil w.accepted)
-accepted-kept w (Look i) = ([], append-nil w.accepted)
-accepted-kept w Tell = ([], append-nil w.accepted)
-accepted-kept w (Learn i k) = ([], append-nil w.accepted)
-
-accepted-on : (w : World) (xs : List Event) → IsPrefix w.accepted (world_after w xs).accepted
-accepted-on w [] = ([], append-nil w.accepted)
-accepted-on w (e ∷ es) =
-    let now = accepted-kept w e in
-    let later = accepted-on (after_event w e) es in
-    (now.0 ++ later.0, sym (append_assoc w.accepted now.0 later.0) ∙ ap (λ L. L ++ later.0) now.1 ∙ later.1)
-
-pub accepted-grows : (xs ys : List Event) → IsPrefix (accepted_of xs) (accepted_of (xs ++ ys))
-accepted-grows xs ys = subst (λ (w : World). IsPrefix (accepted_of xs) w.accepted) (sym (world_after-append start xs ys)) (accepted-on (world_after start xs) ys)

@@ -1,44 +1,44 @@
--- The rule over the picture that is shown and over what each seat knows, and what a look and a publish tell.
-use Rattle.std.specs.Prelude.{◌≡◌, Bool, true, false, ℕ, List, [], ◌∷◌, ◌++◌, fold, if◌then◌else◌}
+-- The rule over the version that is shown and over what each seat knows, and what a look and a publish tell.
+use Rattle.std.specs.Prelude.{◌≡◌, Bool, true, false, ℕ, List, [], ◌∷◌, ◌++◌, if◌then◌else◌}
+use mathlib.Core.List.{IsPrefix}
 use mathlib.Core.Option.{some}
 use lib.ListN.{get_elem?}
 use Rattle.logbook.specs.Pages.{Book}
 use Rattle.mf_live.specs.declared.event.Event.{Event}
+use Rattle.mf_live.specs.declared.event.Event.TheVariants.{Publish}
 use Rattle.mf_live.specs.declared.history.Token.{Token}
-use Rattle.mf_live.specs.declared.live.Live.{Live}
 use Rattle.mf_live.specs.declared.version.Version.{Version}
 use Rattle.mf_live.specs.declared.view.View.{View}
 use Rattle.mf_live.specs.Entries.{Entry}
-use Rattle.mf_live.specs.Prefixes.{IsWholePrefix}
-use Rattle.mf_live.specs.World.{accepted_of}
+use Rattle.mf_live.specs.World.{published_of}
 
--- how much of its history a copy shows
-abbrev pub token_of : Live → Token
-token_of x = x.version.front.token
-
--- how much of its history a copy shows once it has taken over these versions
-abbrev pub token_after : Live → List Version → Token
-token_after x versions = fold (λ t v. v.front.token) (token_of x) versions
+-- what a version knows of the history of its picture
+abbrev pub token_of : Version → Token
+token_of x = x.notice.front.token
 
 -- which picture it is
-abbrev pub book_of : Live → Book
+abbrev pub book_of : Version → Book
 book_of x = (token_of x).seen.book
 
--- the list of which it is the picture
-abbrev pub shown_by : Live → List Entry
-shown_by x = accepted_of (token_of x).seen.log
+-- the events that it knows
+abbrev pub events_of : Version → List Event
+events_of x = (token_of x).seen.log
 
--- the token is of the book b, and its list begins L, whole
-pub record Begins (b : Book) (L : List Entry) (t : Token) : Type 0 where
+-- the list that these have published, which it shows
+abbrev pub shown_by : Version → List Entry
+shown_by x = published_of (events_of x)
+
+-- the token is of the book b, and its events begin these
+pub record Begins (b : Book) (events : List Event) (t : Token) : Type 0 where
   pub book : t.seen.book ≡ b
-  pub whole : IsWholePrefix (accepted_of t.seen.log) L
+  pub begins : IsPrefix t.seen.log events
 
--- what a seat has seen begins, whole, what is shown, once it knows which picture it is
-abbrev pub Knows : Live → View → Type 0
-Knows x v = v.named ≡ true → Begins (book_of x) (shown_by x) v.last × Begins (book_of x) (shown_by x) v.now
+-- what a seat knows of the history begins what the shown version knows, once it knows which picture it is
+abbrev pub Knows : Version → View → Type 0
+Knows x v = v.named ≡ true → Begins (book_of x) (events_of x) v.last × Begins (book_of x) (events_of x) v.now
 
 -- the rule
-pub record Kept (x : Live) (views : List View) : Type 0 where
+pub record Kept (x : Version) (views : List View) : Type 0 where
   pub each_seat : (seat : ℕ) (v : View) → get_elem? views seat ≡ some v → Knows x v
 
 abbrev pub no_token : Token
@@ -48,11 +48,11 @@ no_token = record { seen = record { marker = record {}; book = record { number =
 abbrev pub newcomer : View
 newcomer = record { named = false; last = no_token; now = no_token; unwritten = [] }
 
--- the view of a seat that has seen this much of a picture
+-- the view of a seat that knows this much of the history of a picture
 abbrev pub knowing : Token → View
 knowing t = record { named = true; last = t; now = t; unwritten = [] }
 
--- what a seat keeps of what it has seen, by whether the copy that it entered last was not shown
+-- what a seat keeps of what it knows, by whether the copy that it entered last was not shown
 abbrev pub kept_by : Bool → View → Token
 kept_by missed v = if missed then v.last else v.now
 
@@ -62,23 +62,23 @@ last_of v = v.last
 abbrev pub now_of : View → Token
 now_of v = v.now
 
--- what is shown then begins, whole, with all that the seat had seen, of which it keeps what `keep` says
-pub record Looked (keep : View → Token) (v : View) (x y : Live) (w : View) : Type 0 where
+-- the shown version knows all that the seat knew of the history, of which the seat keeps what `keep` says
+pub record Looked (keep : View → Token) (v : View) (x y : Version) (w : View) : Type 0 where
   pub knows : Knows y v
   pub now : w ≡ record { named = v.named; last = keep v; now = token_of y; unwritten = v.unwritten }
 
--- the seat knows from then on which picture it is
-abbrev pub Named : View → Live → Live → View → Type 0
-Named v x y w = w ≡ knowing (token_of y)
+-- the writer knows what the version knows that it has shown, and has nothing to write into the book
+abbrev pub Shown : View → Version → Version → View → Type 0
+Shown v x y w = w ≡ knowing (token_of y)
 
 -- the writer's view with one event more to write into the book
 abbrev pub with_event : View → Event → View
 with_event v e = record { named = v.named; last = v.last; now = v.now; unwritten = v.unwritten ++ e ∷ [] }
 
--- the writer's view once its events are in the book
-abbrev pub with_all_written : View → View
-with_all_written v = record { named = v.named; last = v.last; now = v.now; unwritten = [] }
+-- what the writer writes into the book at a publish
+abbrev pub publishing : View → List Event
+publishing v = v.unwritten ++ Publish ∷ []
 
--- the history of a picture: what is in the book, and what the writer has to write into it
-abbrev pub history : Token → View → List Event
-history t v = t.seen.log ++ v.unwritten
+-- the history of a picture: what its shown version knows, and what the writer has to write into the book
+abbrev pub history : Version → View → List Event
+history x v = events_of x ++ v.unwritten

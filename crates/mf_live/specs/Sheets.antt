@@ -16,7 +16,7 @@ sheet_picture s = s.picture
 abbrev pub sheet_revision : Sheet → ℕ
 sheet_revision s = s.revision
 
--- a viewer has looked, at what a publish behind the events that it knows publishes, in which nothing follows the end mark
+-- a viewer has looked, at what the events that it knows have published, in which nothing follows the end mark
 pub record HasLooked (before after : Viewer) : Type 0 where
   pub extends : Extends before (looked after)
   pub learnt : learnt after ≡ learnt before
@@ -40,10 +40,11 @@ pub record HasLearnt (before : Viewer) (whole : List Entry) (after : Viewer) : T
   pub looked : looked after ≡ looked before
   pub seen : seen after ≡ longer (seen before) whole
 
--- a viewer has looked at a list, and has seen no longer one
+-- a viewer has looked at a list, which the events that it knows have published, and has seen no longer one
 pub record HasLookedAt (whole : List Entry) (after : Viewer) : Type 0 where
   pub looked : looked after ≡ whole
   pub seen : seen after ≡ whole
+  pub published : IsPublished (looked_events after) whole
 
 -- where no sheet of the whole list was given, the viewer has learnt of it alone, or memory was wanting after it had
 -- looked at it; then the list begins, whole, with all that it had seen

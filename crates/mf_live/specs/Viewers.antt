@@ -1,9 +1,8 @@
 -- What a clause reads of viewers, looks and notices.
-use Rattle.std.specs.Prelude.{◌≡◌, ◌++◌, List, [], ◌∷◌}
+use Rattle.std.specs.Prelude.{◌≡◌, false, List, []}
 use Rattle.logbook.specs.Pages.{Book}
 use Rattle.left_right.specs.Sides.{view}
 use Rattle.mf_live.specs.declared.event.Event.{Event}
-use Rattle.mf_live.specs.declared.event.Event.TheVariants.{Publish}
 use Rattle.mf_live.specs.declared.history.Token.{Token}
 use Rattle.mf_live.specs.declared.look.Look.{Look}
 use Rattle.mf_live.specs.declared.notice.Notice.{Notice}
@@ -12,7 +11,7 @@ use Rattle.mf_live.specs.Books.{most}
 use Rattle.mf_live.specs.Entries.{Entry}
 use Rattle.mf_live.specs.Prefixes.{IsWholePrefix, longer}
 use Rattle.mf_live.specs.Rule.{kept_by}
-use Rattle.mf_live.specs.World.{Happen, start, accepted_of, published_of}
+use Rattle.mf_live.specs.World.{Happen, start, world_after, accepted_of, published_of}
 
 -- which picture a notice is of
 abbrev pub notice_name : Notice → Book
@@ -36,7 +35,7 @@ looked_events v = (kept_by v.missed (view v.reader.place)).seen.log
 
 -- the list of the last look that was answered
 abbrev pub looked : Viewer → List Entry
-looked v = accepted_of (looked_events v)
+looked v = published_of (looked_events v)
 
 -- the longest list that was learnt
 abbrev pub learnt : Viewer → List Entry
@@ -46,10 +45,13 @@ learnt v = told v.known
 abbrev pub seen : Viewer → List Entry
 seen v = longer (looked v) (learnt v)
 
--- L is what a publish behind these events publishes, which may all happen, in this order
+-- L is what these events have published, and all that they have accepted; they may all happen, in this order, and the
+-- writer is there behind them
 pub record IsPublished (events : List Event) (L : List Entry) : Type 0 where
-  pub happen : Happen most start (events ++ Publish ∷ [])
-  pub is : published_of (events ++ Publish ∷ []) ≡ L
+  pub happen : Happen most start events
+  pub is : published_of events ≡ L
+  pub all : accepted_of events ≡ L
+  pub alive : (world_after start events).dropped ≡ false
 
 -- L begins, whole, with all that the viewer has looked at or learnt of
 pub record Extends (v : Viewer) (L : List Entry) : Type 0 where
@@ -69,13 +71,13 @@ look_name l = notice_name l.known
 abbrev pub look_learnt : Look → List Entry
 look_learnt l = told l.known
 
--- the events of its picture that a look knows: those before the publish that it shows
+-- the events of its picture that a look knows: all up to the publish that it shows
 abbrev pub look_events : Look → List Event
 look_events l = (view l.reading.place).now.seen.log
 
 -- the list that a look shows
 abbrev pub shown : Look → List Entry
-shown l = accepted_of (look_events l)
+shown l = published_of (look_events l)
 
 -- a viewer that has seen nothing, of the picture with this token
 pub record IsFresh (t : Token) (v : Viewer) : Type 0 where

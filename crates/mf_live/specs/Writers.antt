@@ -8,8 +8,7 @@ use Rattle.mf_live.specs.declared.closing.Ended.{Ended}
 use Rattle.mf_live.specs.declared.writer.Writer.{Writer}
 use Rattle.mf_live.specs.Entries.{Entry, entry, next, End}
 use Rattle.mf_live.specs.Holders as holders
-use Rattle.mf_live.specs.Rule.{shown_by}
-use Rattle.mf_live.specs.Viewers.{notice_name}
+use Rattle.mf_live.specs.Rule.{book_of, shown_by}
 
 -- which picture it is
 abbrev pub name : Writer → Book
@@ -44,7 +43,7 @@ abbrev pub closing_visible : Closing → List Entry
 closing_visible c = holders.visible c.holder
 
 abbrev pub ended_name : Ended → Book
-ended_name e = notice_name e.told
+ended_name e = book_of e.swap.desk.shown.value
 
 -- what viewers can look at
 abbrev pub ended_published : Ended → List Entry
@@ -71,3 +70,8 @@ pub record IsHalfway (before : Writer) (after : Closing) : Type 0 where
 abbrev pub IsHandedBack : Writer → CloseFault → Type 0
 IsHandedBack w (Kept v) = IsSameWriter w v
 IsHandedBack w (Halfway c) = IsHalfway w c
+
+-- the writer comes back, and the end mark is not set
+abbrev pub IsKept : CloseFault → Type 0
+IsKept (Kept v) = Unit {0}
+IsKept (Halfway c) = ⊥

@@ -2,11 +2,9 @@
 ghost use Rattle.std.specs.Prelude.{◌≡◌, true};
 ghost use Rattle.mf_live.specs.Entries.{is_closed};
 ghost use Rattle.mf_live.specs.Holders.{accepted};
-ghost use Rattle.mf_live.specs.Rule.{book_of, shown_by};
-ghost use Rattle.mf_live.specs.World.{published_of};
+ghost use Rattle.mf_live.specs.Rule.{shown_by};
 
 use crate::holder::Holder;
-use crate::notice::Notice;
 use crate::rule::Swap;
 use crate::writer::Writer;
 
@@ -22,10 +20,7 @@ pub struct Closing {
 /// `discard`.
 pub struct Ended {
     pub(crate) swap: Swap,
-    pub(crate) told: Notice,
-    ghost closed: { is_closed (published_of told.front.token.seen.log) ≡ true },
-    ghost shown_book: { book_of swap.desk.shown.value ≡ told.front.token.seen.book },
-    ghost shown_is: { shown_by swap.desk.shown.value ≡ published_of told.front.token.seen.log },
+    ghost closed: { is_closed (shown_by swap.desk.shown.value) ≡ true },
 }
 
 /// What is handed back where memory was wanting to close a picture.

@@ -2,6 +2,7 @@
 ghost use mathlib.Core.List.{IsPrefix};
 ghost use Rattle.std.specs.Prelude.{◌≡◌, ◌⊎◌, ◌≤◌, true, List, ◌++◌, IfErr, IfOk, MatchResult, OnOk};
 ghost use Rattle.mf_live.specs.declared.event.Event.{Event};
+ghost use Rattle.mf_live.specs.Books.{most};
 ghost use Rattle.mf_live.specs.Entries.{Entry, rev, is_closed, pic};
 ghost use Rattle.mf_live.specs.Prefixes.{IsWholePrefix, HasWholePublishes};
 ghost use Rattle.mf_live.specs.Sheets.{HasLearnt, HasLookedAt, IsLastNotTaken, sheet_picture, sheet_revision};
@@ -48,24 +49,31 @@ pub fn published_is_visible_halfway(closing: &Closing)
     ensures { writers.closing_visible closing.now ≡ writers.closing_published closing.now }
 {}
 
-/// What a look and a notice of the same picture know of its events begin one history, and so do the lists: the look begins,
-/// whole, with what the notice tells, or the notice tells all that the look shows. So where the picture was closed, a look
-/// shows nothing but what the writer of its picture has accepted: the notice of the end tells that.
+/// Of each publish a look has nothing, or all, whatever has happened since to its picture: it shows what the events that it
+/// knows have published.
+pub fn look_has_whole_publishes(look: &Look)
+    ensures { (since : List Event) → Happen most start (viewers.look_events look.now ++ since) → HasWholePublishes (viewers.shown look.now) (published_of (viewers.look_events look.now ++ since)) }
+{}
+
+/// What a look and a notice of the same picture know of its events begin one history, and so do the lists, whole: the look
+/// begins with what the notice tells, or the notice tells all that the look shows. So where the picture was closed, a look
+/// shows nothing but what the writer of its picture has published: the notice of the end tells that.
 pub fn one_history(look: &Look, notice: &Notice)
     requires { viewers.notice_name notice.now ≡ viewers.look_name look.now }
     ensures events { IsPrefix (viewers.notice_events notice.now) (viewers.look_events look.now) ⊎ IsPrefix (viewers.look_events look.now) (viewers.notice_events notice.now) }
-    ensures lists { IsWholePrefix (viewers.told notice.now) (viewers.shown look.now) ⊎ IsPrefix (viewers.shown look.now) (viewers.told notice.now) }
+    ensures lists { IsWholePrefix (viewers.told notice.now) (viewers.shown look.now) ⊎ IsWholePrefix (viewers.shown look.now) (viewers.told notice.now) }
 {
-    let _both = look.reading.get().version.front.joins(&notice.front);
+    look.reading.get().notice.front.meets(&notice.front);
 }
 
-/// What a viewer sees that has learnt of the end is the whole list, which begins, whole, with all that the viewer had
-/// seen. After NoLook (26) it has not looked, and has learnt of the end.
+/// What a viewer sees that has learnt of the end is the whole list, which the events that its look knows have published, and
+/// which begins, whole, with all that the viewer had seen. After NoLook (26) it has not looked, and has learnt of the end.
 pub fn last_look(viewer: Viewer, notice: Notice) -> Result<Look, (Viewer, NoLook)>
     requires name { viewers.notice_name notice ≡ viewers.name viewer }
     requires closed { is_closed (viewers.told notice) ≡ true }
     ensures name { MatchResult result (λ look. viewers.look_name look ≡ viewers.name viewer) (λ refused. viewers.name refused.0 ≡ viewers.name viewer) }
     ensures shown { IfOk result (λ look. viewers.shown look ≡ viewers.told notice) }
+    ensures published { IfOk result (λ look. viewers.IsPublished (viewers.look_events look) (viewers.told notice)) }
     ensures extends { OnOk result (viewers.Extends viewer (viewers.told notice)) }
     ensures learnt { IfErr result (λ refused. HasLearnt viewer (viewers.told notice) refused.0) }
 {

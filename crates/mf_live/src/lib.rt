@@ -10,7 +10,6 @@ mod fault;
 mod history;
 mod holder;
 pub mod laws;
-mod live;
 mod look;
 mod notice;
 mod rule;

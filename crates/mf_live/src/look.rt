@@ -2,11 +2,11 @@
 ghost use Rattle.std.specs.Prelude.{◌≡◌, ◌≤◌, true, length};
 ghost use Rattle.left_right.specs.Sides.{view};
 ghost use Rattle.mf_live.specs.Rule.{token_of};
-ghost use Rattle.mf_live.specs.World.{accepted_of, published_of};
+ghost use Rattle.mf_live.specs.World.{published_of};
 
-use crate::live::Live;
 use crate::notice::Notice;
 use crate::rule::Lists;
+use crate::version::Version;
 use crate::view::View;
 use left_right::reader::Reading;
 
@@ -20,12 +20,12 @@ pub struct NoLook;
 /// What a viewer looks at, which stays as it is until the look ends. The writer waits for a look that is held
 /// before it changes that copy.
 pub struct Look {
-    pub(crate) reading: Reading<Live, View, Lists>,
+    pub(crate) reading: Reading<Version, View, Lists>,
     pub(crate) known: Notice,
     ghost named: { (view reading.place).named ≡ true },
     ghost book: { (view reading.place).now.seen.book ≡ known.front.token.seen.book },
     ghost token: { (view reading.place).now ≡ token_of reading.part.value },
-    ghost enough: { length (published_of known.front.token.seen.log) ≤ length (accepted_of (view reading.place).now.seen.log) },
+    ghost enough: { length (published_of known.front.token.seen.log) ≤ length (published_of (view reading.place).now.seen.log) },
 }
 
 impl Drop for Look {

@@ -1,5 +1,4 @@
-//! The rule over the picture that is shown, and what its steps tell.
-use crate::live::Live;
+//! The rule over the version that is shown, and what its steps tell.
 use crate::version::Version;
 use crate::view::View;
 use atomic_table::{Join, Split};
@@ -7,10 +6,10 @@ use crossbeam_utils::rule::{Outcome, Protocol};
 use left_right::writer::Writer;
 use std::marker::{Brand, PhantomData};
 
-/// The rule: what any seat has seen begins what is shown.
+/// The rule: what any seat knows of the history begins what the shown version knows.
 pub struct Lists;
 
-impl Protocol<Live, View> for Lists {
+impl Protocol<Version, View> for Lists {
     ghost use Rattle.mf_live.specs.Rule.{Kept, newcomer};
 
     ghost holds = { Kept };
@@ -18,10 +17,10 @@ impl Protocol<Live, View> for Lists {
     ghost first = { newcomer };
 }
 
-/// A look after one that was answered, and a publish.
+/// A look after one that was answered.
 pub struct Looks;
 
-impl Outcome<Live, View> for Looks {
+impl Outcome<Version, View> for Looks {
     ghost use Rattle.mf_live.specs.Rule.{Looked, now_of};
 
     ghost then = { Looked now_of };
@@ -30,19 +29,19 @@ impl Outcome<Live, View> for Looks {
 /// A look after one that was not answered.
 pub struct LooksAgain;
 
-impl Outcome<Live, View> for LooksAgain {
+impl Outcome<Version, View> for LooksAgain {
     ghost use Rattle.mf_live.specs.Rule.{Looked, last_of};
 
     ghost then = { Looked last_of };
 }
 
-/// The publish that opens a picture: the writer knows from then on which picture it is.
-pub struct Names;
+/// The writer shows a version. So does the publish that opens a picture, by which the writer knows which picture it is.
+pub struct Shows;
 
-impl Outcome<Live, View> for Names {
-    ghost use Rattle.mf_live.specs.Rule.{Named};
+impl Outcome<Version, View> for Shows {
+    ghost use Rattle.mf_live.specs.Rule.{Shown};
 
-    ghost then = { Named };
+    ghost then = { Shown };
 }
 
 /// The writer gives away what it knows, and keeps it.
@@ -104,16 +103,5 @@ impl Split<View> for Ends {
     ghost right = { λ v. newcomer };
 }
 
-/// The writer has written all its events into the book.
-pub struct Wrote;
-
-impl Split<View> for Wrote {
-    ghost use Rattle.mf_live.specs.Rule.{with_all_written, newcomer};
-
-    ghost left = { with_all_written };
-
-    ghost right = { λ v. newcomer };
-}
-
 /// The two copies.
-pub type Swap = Writer<Live, Version, View, Lists>;
+pub type Swap = Writer<Version, (), View, Lists>;

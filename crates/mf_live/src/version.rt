@@ -1,19 +1,32 @@
 //! Versions of a picture.
 ghost use Rattle.std.specs.Prelude.{◌≡◌};
-ghost use Rattle.mf_live.specs.Entries.{pic, rev};
-ghost use Rattle.mf_live.specs.World.{accepted_of};
+ghost use Rattle.mf_live.specs.Entries.{pic};
+ghost use Rattle.mf_live.specs.World.{published_of};
 
-use crate::history::Front;
+use crate::notice::Notice;
+use left_right::Absorb;
 use mf_rows::Picture;
+use std::alloc::AllocError;
 
-mod steps;
-
-/// The picture of the operations of a history, with its revision number.
+/// What is published at a moment, with its picture. Viewers look at one version, and the writer has the one before it.
 #[derive(Drop)]
 pub struct Version {
     pub(crate) picture: Picture,
-    pub(crate) revision: u32,
-    pub(crate) front: Front,
-    ghost pictured: { picture ≡ pic (accepted_of front.token.seen.log) },
-    ghost numbered: { revision ≡ rev (accepted_of front.token.seen.log) },
+    pub(crate) notice: Notice,
+    ghost pictured: { picture ≡ pic (published_of notice.front.token.seen.log) },
+}
+
+/// A publish puts a whole version into a copy, so that no copy takes over anything else.
+impl Absorb<()> for Version {
+    type State = ();
+
+    ghost state = { λ version. tt };
+
+    ghost applied = { λ nothing operation. nothing };
+
+    ghost never_fails = { Unit {0} };
+
+    fn absorb_first(&mut self, _operation: &(), _other: &Version) -> Result<(), AllocError> {
+        Ok(())
+    }
 }

@@ -2,9 +2,9 @@
 ghost use Rattle.std.specs.Prelude.{◌≡◌, true};
 ghost use Rattle.left_right.specs.Sides.{view};
 
-use crate::live::Live;
 use crate::notice::Notice;
 use crate::rule::Lists;
+use crate::version::Version;
 use crate::view::View;
 use left_right::reader::Reader;
 
@@ -13,7 +13,7 @@ mod steps;
 /// A place from which the picture can be looked at. It may go to any thread, and has one look at a time.
 #[derive(Drop)]
 pub struct Viewer {
-    pub(crate) reader: Reader<Live, View, Lists>,
+    pub(crate) reader: Reader<Version, View, Lists>,
     /// The longest notice that was learnt.
     pub(crate) known: Notice,
     /// Whether the copy that was entered last was not shown, since it is older than a notice.

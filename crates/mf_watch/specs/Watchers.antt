@@ -2,6 +2,7 @@
 use Rattle.std.specs.Prelude.{◌≡◌, ◌⊎◌, ◌≤◌, ◌+◌, ℕ, All, List, Vec, [], ◌∷◌, ◌++◌, length, vec_capacity}
 use Rattle.std.specs.declared.alloc.Global.{Global}
 use Rattle.logbook.specs.Pages.{Book}
+use Rattle.mf_live.specs.declared.event.Event.{Event}
 use Rattle.mf_live.specs.Entries.{Entry, pic, rev}
 use Rattle.mf_live.specs.Prefixes.{IsWholePrefix}
 use Rattle.mf_live.specs.Viewers as viewers
@@ -14,9 +15,11 @@ use Rattle.mf_watch.specs.declared.watcher.Watcher.{Watcher}
 abbrev pub glance_at : List Entry → Glance
 glance_at L = record { revision = rev L; total = total_of (pic L) }
 
--- this was seen of a list with which the other begins, whole
+-- this was seen of a list that some events had published, and with which the other begins, whole
 pub record IsGlance (whole : List Entry) (g : Glance) : Type 0 where
   pub list : List Entry
+  pub events : List Event
+  pub published : viewers.IsPublished events list
   pub prefix : IsWholePrefix list whole
   pub is : g ≡ glance_at list
 

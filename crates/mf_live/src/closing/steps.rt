@@ -1,52 +1,26 @@
 //! Closing.
-ghost use Rattle.std.specs.Prelude.{◌≡◌, true, IsErr, IfOk, IfErr, MatchResult};
+ghost use Rattle.std.specs.Prelude.{◌≡◌, true, IfOk, IfErr, MatchResult};
 ghost use Rattle.mf_live.specs.Entries.{is_closed};
-ghost use Rattle.mf_live.specs.Holders as holders;
 ghost use Rattle.mf_live.specs.Viewers.{notice_name, told};
-ghost use Rattle.mf_live.specs.Writers.{name, with_end, closing_name, closing_accepted, closing_published, ended_name, ended_published, IsHandedBack};
+ghost use Rattle.mf_live.specs.Writers.{name, with_end, closing_name, closing_accepted, closing_published, ended_name, ended_published, IsHandedBack, IsKept};
 
 use super::{CloseFault, Closing, Ended};
-use crate::holder::Holder;
 use crate::notice::Notice;
+use crate::rule::Swap;
 use crate::writer::Writer;
 use mf_geom::OutOfMemory;
 use std::sync::Wait;
 
-/// What has ended, once all is published.
-fn ended_or_closing(published: (Holder, Result<(), OutOfMemory>)) -> Result<Ended, Closing>
-    requires closed { is_closed (holders.accepted published.0) ≡ true }
-    requires all { MatchResult published.1 (λ _. holders.published published.0 ≡ holders.accepted published.0) (λ _. Unit {0}) }
-    ensures { MatchResult result (λ ended. (ended_name ended ≡ holders.name published.0) × (ended_published ended ≡ holders.accepted published.0)) (λ closing. (closing.holder ≡ published.0) × IsErr published.1) }
-{
-    let (holder, all) = published;
-    match all {
-        Ok(()) => {
-            let Holder {
-                alloc: _,
-                swap,
-                head: _,
-                front: _,
-                told,
-                working: _,
-                revision: _,
-                unwritten: _,
-                waits: _,
-            } = holder;
-            Ok(Ended { swap, told })
-        }
-        Err(_) => Err(Closing { holder }),
-    }
-}
-
 impl Writer {
     /// Sets the end mark, after which nothing is accepted, and publishes all that was accepted. The end mark counts in no
     /// revision, and is set where no more operations may be accepted, too. It may wait for looks that are held. Where
-    /// memory is wanting (OutOfMemory, 14), either the writer comes back as it was (`Kept`), or the end mark is set and
-    /// can be published later (`Halfway`).
+    /// memory is wanting (OutOfMemory, 14), the writer comes back as it was (`Kept`): all memory is got before the end
+    /// mark is set.
     pub fn close<R: Wait>(self, rt: &R) -> Result<Ended, CloseFault>
         ensures name { IfOk result (λ ended. ended_name ended ≡ name self) }
         ensures published { IfOk result (λ ended. ended_published ended ≡ with_end self) }
         ensures handed_back { IfErr result (IsHandedBack self) }
+        ensures kept { IfErr result IsKept }
     {
         let Writer {
             mut holder,
@@ -57,10 +31,10 @@ impl Writer {
             Err(_) => return Err(CloseFault::Kept(Writer { holder, max_ops })),
         };
         holder.end();
-        match ended_or_closing(holder.publish_picture(rt, picture)) {
-            Ok(ended) => Ok(ended),
-            Err(closing) => Err(CloseFault::Halfway(closing)),
-        }
+        holder.publish_picture(rt, picture);
+        Ok(Ended {
+            swap: holder.into_swap(),
+        })
     }
 }
 
@@ -72,14 +46,26 @@ impl Closing {
         ensures published { MatchResult result (λ ended. ended_published ended ≡ closing_accepted self) (λ closing. closing_published closing ≡ closing_published self) }
         ensures accepted { IfErr result (λ closing. closing_accepted closing ≡ closing_accepted self) }
     {
-        let Closing { holder } = self;
-        ended_or_closing(holder.publish(rt))
+        let Closing { mut holder } = self;
+        match holder.publish(rt) {
+            Ok(()) => Ok(Ended {
+                swap: holder.into_swap(),
+            }),
+            Err(_) => Err(Closing { holder }),
+        }
     }
 
     /// Ends it. It may wait for looks that are held, and looks may be refused from then on.
     pub fn discard<R: Wait>(self, rt: &R) {
+        self.into_swap().take(rt);
+    }
+
+    /// What viewers can look at, as it is.
+    fn into_swap(self) -> Swap
+        ensures { result ≡ self.holder.swap }
+    {
         let Closing { holder } = self;
-        holder.discard(rt);
+        holder.into_swap()
     }
 }
 
@@ -92,12 +78,19 @@ impl Ended {
         ensures told { told result ≡ ended_published self.old }
         ensures closed { is_closed (told result) ≡ true }
     {
-        self.told.again()
+        self.swap.published().notice.again()
     }
 
     /// Ends it. It may wait for looks that are held, and looks may be refused from then on.
     pub fn discard<R: Wait>(self, rt: &R) {
-        let Ended { swap, told: _ } = self;
-        swap.take(rt);
+        self.into_swap().take(rt);
+    }
+
+    /// What viewers can look at, as it is.
+    fn into_swap(self) -> Swap
+        ensures { result ≡ self.swap }
+    {
+        let Ended { swap } = self;
+        swap
     }
 }

@@ -35,19 +35,19 @@ pub fn open_picture<R: Wait>(
     let mut viewers = Vec::with_capacity(alloc, places as usize)?;
     let mut holder = Holder::open(rt, alloc, places.max(1) as usize)?;
     seat_all(&mut holder, &mut viewers, places);
-    let known = holder.told.again();
+    let known = holder.swap.published().notice.again();
     Ok((Writer { holder, max_ops }, Desk { viewers, known }))
 }
 
 /// Makes the viewers of a picture in which nothing has happened: as many as can be had.
 fn seat_all(holder: &mut Holder, viewers: &mut Vec<Viewer>, places: u32)
-    requires named { view holder.old.swap.desk.place ≡ knowing holder.old.told.front.token }
-    requires empty { holder.old.told.front.token.seen.log ≡ [] }
+    requires named { view holder.old.swap.desk.place ≡ knowing (holders.known holder.old) }
+    requires empty { (holders.known holder.old).seen.log ≡ [] }
     requires none { viewers.old.items ≡ [] }
-    ensures told { holder.new.told.front.token ≡ holder.old.told.front.token }
+    ensures known { holders.known holder.new ≡ holders.known holder.old }
     ensures accepted { holders.accepted holder.new ≡ holders.accepted holder.old }
     ensures published { holders.published holder.new ≡ holders.published holder.old }
-    ensures fresh { All (IsFresh holder.old.told.front.token) viewers.new.items }
+    ensures fresh { All (IsFresh (holders.known holder.old)) viewers.new.items }
     ensures few { length viewers.new.items ≤ places }
 {
     for _ in 0..places {
@@ -62,20 +62,20 @@ fn seat_all(holder: &mut Holder, viewers: &mut Vec<Viewer>, places: u32)
 
 /// A viewer of a picture in which nothing has happened, if it can be had.
 fn seat_one(holder: &mut Holder) -> Option<Viewer>
-    requires named { view holder.old.swap.desk.place ≡ knowing holder.old.told.front.token }
-    requires empty { holder.old.told.front.token.seen.log ≡ [] }
-    ensures named { view holder.new.swap.desk.place ≡ knowing holder.old.told.front.token }
-    ensures told { holder.new.told.front.token ≡ holder.old.told.front.token }
+    requires named { view holder.old.swap.desk.place ≡ knowing (holders.known holder.old) }
+    requires empty { (holders.known holder.old).seen.log ≡ [] }
+    ensures named { view holder.new.swap.desk.place ≡ knowing (holders.known holder.old) }
+    ensures known { holders.known holder.new ≡ holders.known holder.old }
     ensures accepted { holders.accepted holder.new ≡ holders.accepted holder.old }
     ensures published { holders.published holder.new ≡ holders.published holder.old }
-    ensures fresh { IfSome result (IsFresh holder.old.told.front.token) }
+    ensures fresh { IfSome result (IsFresh (holders.known holder.old)) }
 {
     let mut reader = holder.swap.factory().reader().ok()?;
     let note = holder.swap.tell::<Twice>();
     reader.learn::<Takes>(note);
     Some(Viewer {
         reader,
-        known: holder.told.again(),
+        known: holder.swap.published().notice.again(),
         missed: false,
     })
 }

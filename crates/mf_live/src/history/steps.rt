@@ -1,5 +1,5 @@
 //! Opening, copying and writing histories.
-ghost use Rattle.std.specs.Prelude.{◌≡◌, ◌+◌, ◌^◌, ◌<◌, ◌++◌, [], false, length, MatchBool};
+ghost use Rattle.std.specs.Prelude.{◌≡◌, ◌+◌, ◌^◌, ◌<◌, ◌≤◌, ◌++◌, [], false, length, MatchBool};
 ghost use mathlib.Core.List.{IsPrefix};
 ghost use Rattle.mf_live.specs.Books.{most, head_of};
 ghost use Rattle.mf_live.specs.World.{Happen, start, world_after};
@@ -44,15 +44,14 @@ impl Front {
         }
     }
 
-    /// It and another of the same history both begin one list of events.
-    pub(crate) fn joins(&self, other: &Front) -> Token
+    /// Of it and another of the same history, the one with fewer events begins the other.
+    pub(crate) fn meets(&self, other: &Front)
         requires { other.now.token.seen.book ≡ self.now.token.seen.book }
-        ensures this { IsPrefix self.now.token.seen.log result.seen.log }
-        ensures that { IsPrefix other.now.token.seen.log result.seen.log }
+        ensures this { self.now.events ≤ other.now.events → IsPrefix self.now.token.seen.log other.now.token.seen.log }
+        ensures that { other.now.events ≤ self.now.events → IsPrefix other.now.token.seen.log self.now.token.seen.log }
     {
         let mut both = self.token.again();
         both.seen.learn(&other.token.seen);
-        both
     }
 }
 

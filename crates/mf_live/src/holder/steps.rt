@@ -1,19 +1,19 @@
 //! Opening a picture, and accepting what comes to it.
-ghost use Rattle.std.specs.Prelude.{◌≡◌, ◌≢◌, ◌<◌, ◌^◌, [], ◌∷◌, ◌++◌, false, None, Some, Err, IfOk, IfErr, IsOk, OnErr, OnOk, MatchResult};
+ghost use Rattle.std.specs.Prelude.{◌≡◌, ◌≢◌, ◌<◌, ◌^◌, [], ◌∷◌, ◌++◌, false, None, Some, Err, IfOk, IfErr, IsOk, OnOk, MatchResult};
 ghost use Rattle.left_right.specs.Sides.{view};
 ghost use Rattle.mf_ops.specs.Step.{fault_of};
 ghost use Rattle.mf_ops.specs.declared.op.Op.TheVariants.{Clear};
 ghost use Rattle.mf_live.specs.Books.{most};
 ghost use Rattle.mf_live.specs.Entries.{entry, pic, rev, next, is_closed, Operation, End};
-ghost use Rattle.mf_live.specs.Holders.{name, accepted, published};
-ghost use Rattle.mf_live.specs.Rule.{knowing, with_event};
+ghost use Rattle.mf_live.specs.Holders.{name, accepted, known, published};
+ghost use Rattle.mf_live.specs.Rule.{knowing, token_of, with_event};
 ghost use Rattle.mf_live.specs.declared.event.Event.TheVariants.{Accept};
 
 use super::Holder;
+use super::publish::show;
 use crate::history::{Front, open_history};
-use crate::live::Live;
 use crate::notice::Notice;
-use crate::rule::{Accepting, Accepts, Ends, Names, Swap};
+use crate::rule::{Accepting, Accepts, Ends, Swap};
 use crate::version::Version;
 use mf_geom::OutOfMemory;
 use mf_ops::{Op, OpFault, apply};
@@ -23,16 +23,15 @@ use std::marker::Brand;
 use std::sync::Wait;
 
 /// The blank picture of a history in which nothing has happened.
-fn blank(alloc: Global, front: &Front) -> Live
+fn blank(alloc: Global, front: &Front) -> Version
     requires { front.now.token.seen.log ≡ [] }
-    ensures { result.version.front.token ≡ front.now.token }
+    ensures { token_of result ≡ front.now.token }
 {
-    Live {
-        alloc,
-        version: Version {
-            picture: Picture::blank(alloc),
-            revision: 0,
+    Version {
+        picture: Picture::blank(alloc),
+        notice: Notice {
             front: front.again(),
+            number: 0,
         },
     }
 }
@@ -40,7 +39,7 @@ fn blank(alloc: Global, front: &Front) -> Live
 /// The writer has accepted an operation.
 fn note_operation<N: Accepting>(swap: &mut Swap, op: &Op)
     requires { N.op ≡ op.now }
-    ensures kept { (swap.new.desk.shown ≡ swap.old.desk.shown) × (swap.new.log ≡ swap.old.log) × (swap.new.behind ≡ swap.old.behind) }
+    ensures shown { swap.new.desk.shown ≡ swap.old.desk.shown }
     ensures view { view swap.new.desk.place ≡ with_event (view swap.old.desk.place) (Accept op.now) }
 {
     // The operation is picked by what is handed over.
@@ -57,33 +56,22 @@ impl Holder {
     ) -> Result<Holder, OutOfMemory>
         requires { (0 < readers) × (readers < 2 ^ 32) }
         ensures start { IfOk result (λ h. (accepted h ≡ []) × (published h ≡ [])) }
-        ensures named { IfOk result (λ h. view h.swap.desk.place ≡ knowing h.told.front.token) }
-        ensures empty { IfOk result (λ h. h.told.front.token.seen.log ≡ []) }
+        ensures named { IfOk result (λ h. view h.swap.desk.place ≡ knowing (known h)) }
+        ensures empty { IfOk result (λ h. (known h).seen.log ≡ []) }
     {
         let (head, front) = open_history();
         let (first, second) = (blank(alloc, &front), blank(alloc, &front));
-        let swap = Swap::new(alloc, first, second, readers)?;
-        let (swap, named) = swap.publish_as::<Names, R>(rt);
-        match named {
-            Ok(()) => Ok(Holder {
-                alloc,
-                swap,
-                head,
-                told: Notice {
-                    front: front.again(),
-                    number: 0,
-                },
-                front,
-                working: Picture::blank(alloc),
-                revision: 0,
-                unwritten: 0,
-                waits: false,
-            }),
-            Err(_) => {
-                swap.take(rt);
-                Err(OutOfMemory)
-            }
-        }
+        let mut swap = Swap::new(alloc, first, second, readers)?;
+        // Shown once more, it tells the writer which picture it is.
+        show(rt, &mut swap, blank(alloc, &front));
+        Ok(Holder {
+            alloc,
+            swap,
+            head,
+            working: Picture::blank(alloc),
+            revision: 0,
+            unwritten: 0,
+        })
     }
 
     /// Accepts an operation, which changes the picture. A refusal changes nothing.
@@ -97,13 +85,11 @@ impl Holder {
         ensures refused { IfErr result (λ fault. fault ≢ OpFault.OutOfMemory → fault_of (pic (accepted self.old)) op.now ≡ Some fault) }
         ensures out_of_field { fault_of (pic (accepted self.old)) op.now ≡ Some OpFault.OutOfField → result ≡ Err OpFault.OutOfField }
         ensures clears { op.now ≡ Clear → IsOk result }
-        ensures waits { OnErr result (self.new.waits ≡ self.old.waits) }
     {
         apply(alloc, &mut self.working, op)?;
         note_operation::<Brand>(&mut self.swap, op);
         self.unwritten += 1;
         self.revision += 1;
-        self.waits = false;
         Ok(())
     }
 
@@ -114,26 +100,24 @@ impl Holder {
         ensures accepted { accepted self.new ≡ accepted self.old ++ entry (next (published self.old)) End ∷ [] }
         ensures published { published self.new ≡ published self.old }
         ensures working { self.new.working ≡ self.old.working }
-        ensures none_queued { self.new.waits ≡ false }
+        ensures waits { 0 < self.new.unwritten }
     {
         let _none = self.swap.tell::<Ends>();
         self.unwritten += 1;
-        self.waits = false;
     }
 
-    /// Ends it. It waits until no viewer looks.
-    pub(crate) fn discard<R: Wait>(self, rt: &R) {
+    /// What viewers go on looking at where nothing is accepted or published any more.
+    pub(crate) fn into_swap(self) -> Swap
+        ensures { result ≡ self.swap }
+    {
         let Holder {
             alloc: _,
             swap,
             head: _,
-            front: _,
-            told: _,
             working: _,
             revision: _,
             unwritten: _,
-            waits: _,
         } = self;
-        swap.take(rt);
+        swap
     }
 }

@@ -12,14 +12,14 @@ impl Look {
     pub fn picture(&self) -> &Picture
         ensures { result.now ≡ pic (shown self.now) }
     {
-        &self.reading.get().version.picture
+        &self.reading.get().picture
     }
 
     /// How many operations these are.
     pub fn revision(&self) -> u32
         ensures { result ≡ rev (shown self.now) }
     {
-        self.reading.get().version.revision
+        self.reading.get().notice.number
     }
 
     /// Ends the look. The viewer has then seen what it showed.

@@ -7,18 +7,18 @@ ghost use Rattle.mf_live.specs.Rule.{Looked, kept_by};
 ghost use Rattle.mf_live.specs.Viewers.{name, learnt, looked, seen, Extends, IsPublished, SeesTheSame, notice_name, told, look_events, look_learnt, look_name, shown};
 
 use super::Viewer;
-use crate::live::Live;
 use crate::look::{Look, NoLook};
 use crate::notice::Notice;
 use crate::rule::{Lists, Looks, LooksAgain};
+use crate::version::Version;
 use crate::view::View;
 use left_right::reader::{Reader, Reading};
 
 /// Takes the copy that is shown.
 fn enter(
-    reader: Reader<Live, View, Lists>,
+    reader: Reader<Version, View, Lists>,
     missed: bool,
-) -> Result<Reading<Live, View, Lists>, Reader<Live, View, Lists>>
+) -> Result<Reading<Version, View, Lists>, Reader<Version, View, Lists>>
     ensures { MatchResult result (λ r. Looked (kept_by missed) (view reader.place) r.part.value r.part.value (view r.place)) (λ r. view r.place ≡ view reader.place) }
 {
     if missed {
@@ -29,8 +29,8 @@ fn enter(
 
 impl Viewer {
     /// Looks at what is published. It waits for nobody and takes no memory. Refusal NoLook (26) hands the viewer
-    /// back, which has seen what it had seen. What the look shows is what a publish of the picture has published, and
-    /// begins, whole, with all that the viewer had looked at or learnt of.
+    /// back, which has seen what it had seen. What the look shows was published, all of it and no more, by the events
+    /// that it knows of its picture, and begins, whole, with all that the viewer had looked at or learnt of.
     pub fn look(self) -> Result<Look, (Viewer, NoLook)>
         ensures name { MatchResult result (λ look. look_name look ≡ name self) (λ refused. name refused.0 ≡ name self) }
         ensures extends { MatchResult result (λ look. Extends self (shown look)) (λ refused. SeesTheSame self refused.0) }
@@ -55,10 +55,9 @@ impl Viewer {
                 return Err((viewer, NoLook));
             }
         };
-        let front = &reading.get().version.front;
-        let _both = front.joins(&known.front);
-        // A notice has one event more than the copy that its publish has shown.
-        if known.front.events.saturating_sub(front.events) > 1 {
+        let shown = &reading.get().notice.front;
+        shown.meets(&known.front);
+        if shown.events < known.front.events {
             let viewer = Viewer {
                 reader: reading.leave(),
                 known,
@@ -78,7 +77,7 @@ impl Viewer {
         ensures seen { seen self.new ≡ longer (seen self.old) (told notice) }
         ensures keeps { (L : List Entry) → Extends self.new L → Extends self.old L × IsWholePrefix (told notice) L }
     {
-        let _both = self.known.front.joins(&notice.front);
+        self.known.front.meets(&notice.front);
         if self.known.front.events < notice.front.events {
             self.known = notice;
         }

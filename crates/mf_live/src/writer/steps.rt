@@ -3,30 +3,18 @@ ghost use Rattle.std.specs.Prelude.{◌≡◌, ◌≢◌, ◌-◌, ◌<◌, [], 
 ghost use Rattle.mf_ops.specs.Step.{fault_of};
 ghost use Rattle.mf_ops.specs.declared.op.Op.TheVariants.{Clear};
 ghost use Rattle.mf_live.specs.Entries.{entry, pic, rev, next, Operation};
-ghost use Rattle.mf_live.specs.Holders as holders;
 ghost use Rattle.mf_live.specs.Viewers.{notice_name, told};
 ghost use Rattle.mf_live.specs.Writers.{name, accepted, published, limit, IsSameWriter};
 
 use super::Writer;
 use crate::fault::Fault;
-use crate::holder::Holder;
 use crate::notice::Notice;
-use core::mem::replace_with;
+use crate::rule::Swap;
 use mf_geom::OutOfMemory;
 use mf_ops::{Op, OpFault};
 use mf_rows::Picture;
 use std::alloc::Global;
 use std::sync::Wait;
-
-/// Publishes what a holder has.
-fn publish_held<R: Wait>(holder: &mut Holder, rt: &R) -> Result<(), OutOfMemory>
-    ensures name { holders.name holder.new ≡ holders.name holder.old }
-    ensures accepted { holders.accepted holder.new ≡ holders.accepted holder.old }
-    ensures published { MatchResult result (λ _. holders.published holder.new ≡ holders.accepted holder.old) (λ _. holders.published holder.new ≡ holders.published holder.old) }
-    ensures nothing { holders.published holder.old ≡ holders.accepted holder.old → IsOk result }
-{
-    replace_with(holder, rt, |holder, rt| holder.publish(rt))
-}
 
 impl Writer {
     /// Accepts an operation: the working picture is then the one after it, and what is published stays. Refusals
@@ -72,7 +60,7 @@ impl Writer {
     pub fn pending(&self) -> u32
         ensures { result ≡ rev (accepted self.now) - rev (published self.now) }
     {
-        self.holder.revision - self.holder.told.number
+        self.holder.revision - self.holder.swap.published().notice.number
     }
 
     /// Publishes at once all operations that were accepted; where all of them are published already, it does nothing. It
@@ -84,7 +72,7 @@ impl Writer {
         ensures nothing { published self.old ≡ accepted self.old → IsOk result }
         ensures limit { limit self.new ≡ limit self.old }
     {
-        publish_held(&mut self.holder, rt)
+        self.holder.publish(rt)
     }
 
     /// A notice of what is published.
@@ -93,12 +81,19 @@ impl Writer {
         ensures name { notice_name result ≡ name self.old }
         ensures told { told result ≡ published self.old }
     {
-        self.holder.told.again()
+        self.holder.swap.published().notice.again()
     }
 
     /// Ends it with no end mark. It may wait for looks that are held, and looks may be refused from then on.
     pub fn discard<R: Wait>(self, rt: &R) {
+        self.into_swap().take(rt);
+    }
+
+    /// What viewers can look at, as it is.
+    fn into_swap(self) -> Swap
+        ensures { result ≡ self.holder.swap }
+    {
         let Writer { holder, max_ops: _ } = self;
-        holder.discard(rt);
+        holder.into_swap()
     }
 }

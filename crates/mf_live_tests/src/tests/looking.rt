@@ -50,6 +50,21 @@ fn shows_what_is_published(rt: HostRuntime) {
     writer.discard(&rt);
 }
 
+/// Of two pictures each shows its own viewers what its own writer publishes.
+#[test]
+fn each_desk_has_its_own_picture(rt: HostRuntime) {
+    let alloc = rt.alloc();
+    let (mut first, mut first_desk) = opened(&rt, alloc, 1, 10);
+    let (second, mut second_desk) = opened(&rt, alloc, 1, 10);
+    let here = seated(&rt, &mut first_desk);
+    let there = seated(&rt, &mut second_desk);
+    publish_rectangle(&rt, alloc, &mut first);
+    assert_shows(&rt, here, 1, 6);
+    assert_shows(&rt, there, 0, 0);
+    first.discard(&rt);
+    second.discard(&rt);
+}
+
 #[test]
 fn has_so_many_places(rt: HostRuntime) {
     let alloc = rt.alloc();

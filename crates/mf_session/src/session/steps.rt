@@ -15,7 +15,7 @@ use crate::refusal::{Refusal, refused};
 use crate::variables::Variables;
 use mf_geom::OutOfMemory;
 use mf_gf::{GfFault, GfFile};
-use mf_live::{CloseFault, Desk, Ended};
+use mf_live::{CloseFault, Desk, Ended, Writer};
 use mf_rows::Picture;
 use mf_text::{Name, TextFault, read_command};
 use std::alloc::Global;
@@ -109,8 +109,15 @@ impl Session {
 
     /// Ends it. It may wait for looks that are held, and looks may be refused from then on.
     pub fn discard<R: Wait>(self, rt: &R) {
+        self.into_writer().discard(rt);
+    }
+
+    /// The writer of its `currentpicture`, as it is.
+    fn into_writer(self) -> Writer
+        ensures { result ≡ self.variables.writer }
+    {
         let Session { variables, file: _ } = self;
-        variables.discard(rt);
+        variables.into_writer()
     }
 }
 

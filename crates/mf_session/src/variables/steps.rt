@@ -14,7 +14,7 @@ use super::Variables;
 use crate::refusal::{Refusal, refused};
 use crate::registers::Registers;
 use mf_geom::OutOfMemory;
-use mf_live::{Desk, Fault, open_picture};
+use mf_live::{Desk, Fault, Writer, open_picture};
 use mf_ops::{Op, OpFault, Sign};
 use mf_rows::Picture;
 use mf_text::{Name, Source};
@@ -149,14 +149,16 @@ impl Variables {
         Ok(text)
     }
 
-    /// Ends them. It may wait for looks that are held, and looks may be refused from then on.
-    pub fn discard<R: Wait>(self, rt: &R) {
+    /// The writer of `currentpicture`, as it is.
+    pub fn into_writer(self) -> Writer
+        ensures { result ≡ self.writer }
+    {
         let Variables {
             writer,
             registers: _,
             null: _,
         } = self;
-        writer.discard(rt);
+        writer
     }
 }
 

@@ -5,7 +5,7 @@ use Rattle.mf_live.specs.Entries.{Entry, is_closed, ends_last}
 use Rattle.mf_live.specs.declared.look.NoLook.{NoLook}
 use Rattle.mf_live.specs.Prefixes.{IsWholePrefix, longer}
 use Rattle.mf_live.specs.Sheets.{HasLearnt}
-use Rattle.mf_live.specs.Viewers.{Extends, SeesTheSame, looked, seen, shown}
+use Rattle.mf_live.specs.Viewers.{Extends, IsPublished, SeesTheSame, look_events, looked, seen, shown}
 use Rattle.mf_live.proofs.Looking.{shown-last}
 use Rattle.mf_live.proofs.laws.last_look.Goals as goal
 
@@ -16,6 +16,12 @@ shows_closed : {E : Type 0} (P Q : E → Type 0) (v : Viewer) (told : List Entry
     → IfOk answer (λ look. shown look ≡ told)
 shows_closed P Q v told (Ok look) includes closed extends ends = shown-last told (shown look) (includes (shown look) extends) ends closed
 shows_closed P Q v told (Err refused) includes closed extends ends = tt
+
+-- and its events have published that
+publishes_closed : {E : Type 0} (told : List Entry) (answer : Result Look E)
+    → IfOk answer (λ look. shown look ≡ told) → IfOk answer (λ look. IsPublished (look_events look) (shown look)) → IfOk answer (λ look. IsPublished (look_events look) told)
+publishes_closed told (Ok look) same published = subst (IsPublished (look_events look)) same published
+publishes_closed told (Err refused) same published = tt
 
 -- and the viewer had seen what it begins with
 extends_closed : {E : Type 0} (Q : E → Type 0) (first second : Viewer) (told : List Entry) (answer : Result Look E) → ((L : List Entry) → Extends second L → Extends first L)
@@ -33,6 +39,9 @@ pub returns-clause-shown : goal.returns-clause-shown
 returns-clause-shown c =
     let looks = c.look.ensures in
     shows_closed _ _ c.learn.new.self _ c.look.result (λ L extends. (c.learn.ensures.keeps L extends).1) c.requires.closed looks.extends looks.ends
+
+pub returns-clause-published : goal.returns-clause-published
+returns-clause-published c = publishes_closed _ c.look.result (returns-clause-shown c) c.look.ensures.published
 
 pub returns-clause-extends : goal.returns-clause-extends
 returns-clause-extends c =

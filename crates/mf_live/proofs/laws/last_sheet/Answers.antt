@@ -6,7 +6,7 @@ use Rattle.mf_live.specs.declared.viewer.Viewer.{Viewer}
 use Rattle.mf_live.specs.Entries.{Entry, is_closed, pic, rev}
 use Rattle.mf_live.specs.Prefixes.{IsWholePrefix, longer}
 use Rattle.mf_live.specs.Sheets.{HasLooked, HasLookedAt, IsLastNotTaken, IsNotTaken, IsTaken}
-use Rattle.mf_live.specs.Viewers.{Extends, learnt, looked, seen}
+use Rattle.mf_live.specs.Viewers.{Extends, IsPublished, learnt, looked, looked_events, seen}
 use Rattle.mf_live.proofs.Looking.{shown-last}
 use Rattle.mf_live.proofs.laws.last_sheet.Goals as goal
 
@@ -16,7 +16,9 @@ looked_last before after told includes closed look = shown-last told (looked aft
 
 module _ {E : Type 0} (Q : E → Type 0) (before after : Viewer) (told : List Entry) (includes : (L : List Entry) → Extends before L → IsWholePrefix told L) (closed : is_closed told ≡ true) where
   looked_at : HasLooked before after → HasLookedAt told after
-  looked_at look = let is = looked_last before after told includes closed look in record { looked = is; seen = look.seen ∙ is }
+  looked_at look =
+      let is = looked_last before after told includes closed look in
+      record { looked = is; seen = look.seen ∙ is; published = subst (IsPublished (looked_events after)) is look.published }
 
   extends_last : (first : Viewer) → ((L : List Entry) → Extends before L → Extends first L) → HasLooked before after → Extends first told
   extends_last first earlier look = earlier told (subst (λ L. Extends before L) (looked_last before after told includes closed look) look.extends)

@@ -1,55 +1,50 @@
 use Rattle.std.proofs.Common.{rules, ◌≡◌, ◌<◌, false, None, refl, ap, sym, ◌∙◌, arith}
-use Rattle.std.proofs.lemmas.Bool.{false≢true}
 use Rattle.left_right.specs.Sides.{view}
 use Rattle.mf_ops.specs.Step.{fault_of}
 use Rattle.mf_ops.specs.declared.op.Op.{Op}
 use Rattle.mf_live.specs.declared.event.Event.TheVariants.{Accept}
 use Rattle.mf_live.specs.declared.holder.Holder.{Holder}
+use Rattle.mf_live.specs.declared.version.Version.{Version}
 use Rattle.mf_live.specs.declared.view.View.{View}
 use Rattle.mf_live.specs.Books.{most}
 use Rattle.mf_live.specs.Entries.{Entry, entry, pic, rev, next, is_closed, Operation}
-use Rattle.mf_live.specs.Holders.{accepted, published}
+use Rattle.mf_live.specs.Holders.{accepted, published, version}
 use Rattle.mf_live.specs.Rule.{with_event}
 use Rattle.mf_live.proofs.EntryLists.{pic-push, rev-push}
-use Rattle.mf_live.proofs.Histories.{all_events, few_events, HasOneMore, one_more}
+use Rattle.mf_live.proofs.Histories.{few_unwritten, HasOneMore, one_more}
 use Rattle.mf_live.proofs.holder.Holder.accept.Goals as goal
 
 abbrev taken : Holder → Op → Entry
 taken h op = entry (next (published h)) (Operation op)
 
-accepts : (h : Holder) (w : View) (op : Op) → w ≡ with_event (view h.swap.desk.place) (Accept op)
-    → is_closed (accepted h) ≡ false → rev (accepted h) < most → fault_of (pic (accepted h)) op ≡ None → HasOneMore h w (taken h op)
-accepts h w op more not_closed few allowed = one_more h w (Accept op) (taken h op) more (h.alive, not_closed, few, allowed) refl
+accepts : (h : Holder) (x : Version) (w : View) (op : Op) → x ≡ version h → w ≡ with_event (view h.swap.desk.place) (Accept op)
+    → is_closed (accepted h) ≡ false → rev (accepted h) < most → fault_of (pic (accepted h)) op ≡ None → HasOneMore h x w (taken h op)
+accepts h x w op same more not_closed few allowed = one_more h x w (Accept op) (taken h op) same more (h.alive, not_closed, few, allowed) refl
 
 pub overflow_add-self : goal.overflow_add-self
-overflow_add-self c = omega (arith, all_events c.args.self.now, few_events c.args.self.now)
+overflow_add-self c = omega (arith, few_unwritten c.args.self.now)
 
 pub invariant_of-self-2 : goal.invariant_of-self-2
 invariant_of-self-2 c =
     let h = c.args.self.now in
     let op = c.args.op.now in
-    let req = c.requires in
     let allowed = rw h.pictured at c.in_ok-apply.ensures.accepted in
     let step = rw h.pictured at c.in_ok-apply.ensures.step in
-    let more = accepts h (view c.note_operation.new.swap.desk.place) op c.note_operation.ensures.view req.open req.few allowed in
+    let same = ap (λ part. part.value) c.note_operation.ensures.shown in
+    let more = accepts h _ _ op same c.note_operation.ensures.view c.requires.open c.requires.few allowed in
     record {
-      head_is = h.head_is;
-      same_book = h.same_book;
-      shown_book = search rules;
-      shown_is = search rules;
-      told_is = more.published ∙ h.told_is;
+      head_is = search rules;
+      shown_is = more.shown_is;
       lawful = more.lawful;
       alive = more.alive;
-      written = λ waits. absurd (false≢true waits);
-      coming = λ waits. absurd (false≢true waits);
       counted = more.counted;
       pictured = step ∙ sym (ap pic more.accepted ∙ pic-push (accepted h) (next (published h)) op);
       numbered = omega (arith, h.numbered, ap rev more.accepted, rev-push (accepted h) (next (published h)) op);
       since = more.since;
-      short = h.short;
+      short = search rules;
     }
 
 pub returns-clause-accepted : goal.returns-clause-accepted
 returns-clause-accepted c =
     let allowed = rw c.args.self.now.pictured at c.in_ok-apply.ensures.accepted in
-    (accepts c.args.self.now (view c.note_operation.new.swap.desk.place) c.args.op.now c.note_operation.ensures.view c.requires.open c.requires.few allowed).accepted
+    (accepts c.args.self.now _ _ c.args.op.now (ap (λ part. part.value) c.note_operation.ensures.shown) c.note_operation.ensures.view c.requires.open c.requires.few allowed).accepted

@@ -1,33 +1,92 @@
-use Rattle.std.proofs.Common.{◌∙◌, ap, subst, sym}
-use Rattle.std.proofs.lemmas.Bool.{false≢true}
+use Rattle.std.proofs.Common.{◌≡◌, ◌∙◌, ◌++◌, List, [], length, ap, subst, sym, arith}
+use Rattle.std.proofs.lemmas.List.{append-nil}
 use Rattle.left_right.specs.Sides.{view}
-use Rattle.mf_live.specs.Books.{most}
-use Rattle.mf_live.specs.Rule.{history}
-use Rattle.mf_live.specs.World.{Happen, start}
+use Rattle.mf_live.specs.declared.event.Event.{Event}
+use Rattle.mf_live.specs.declared.history.Token.{Token}
+use Rattle.mf_live.specs.declared.view.View.{View}
+use Rattle.mf_live.specs.Books.{most, head_of}
+use Rattle.mf_live.specs.Entries.{pic, rev}
+use Rattle.mf_live.specs.Holders.{accepted, version}
+use Rattle.mf_live.specs.Rule.{book_of, events_of, history, shown_by, token_of}
+use Rattle.mf_live.specs.World.{Happen, start, world_after, accepted_of, published_of}
+use Rattle.mf_live.proofs.Histories.{few_events, few_unwritten}
+use Rattle.mf_live.proofs.Publishing.{written, all_written, accepted-publish, published-publish, alive-publish, Happen-publish, Happen-written, length-publish}
 use Rattle.mf_live.proofs.holder.Holder.publish_picture.Goals as goal
 
-pub invariant_of-self-clause-written : goal.invariant_of-self-clause-written
-invariant_of-self-clause-written g c waits = absurd (false≢true (sym c.write_events.ensures.waits ∙ waits))
+pub overflow_add-self : goal.overflow_add-self
+overflow_add-self g c = omega (arith, few_unwritten c.args.self.now)
 
-pub invariant_of-self-clause-coming : goal.invariant_of-self-clause-coming
-invariant_of-self-clause-coming g c waits = absurd (false≢true (sym c.write_events.ensures.waits ∙ waits))
+pub write_publish-requires-clause-room : goal.write_publish-requires-clause-room
+write_publish-requires-clause-room g c =
+    let known = c.again-front.ensures ∙ ap token_of c.published.ensures in
+    omega (arith, c.again-front.result.counted, ap (λ (t : Token). length t.seen.log) known, few_events c.args.self.now, few_unwritten c.args.self.now)
 
-pub invariant_of-self-clause-told_is : goal.invariant_of-self-clause-told_is
-invariant_of-self-clause-told_is g c = rw c.append.ensures.desk c.write_events.new.self.told_is
+pub write_publish-requires-clause-lawful : goal.write_publish-requires-clause-lawful
+write_publish-requires-clause-lawful g c =
+    let h = c.args.self.now in
+    let known = c.again-front.ensures ∙ ap token_of c.published.ensures in
+    subst (λ (t : Token). Happen most (world_after start t.seen.log) (written h)) (sym known) (Happen-written h)
 
-pub invariant_of-self-clause-lawful : goal.invariant_of-self-clause-lawful
-invariant_of-self-clause-lawful g c =
-    let h = c.write_events.new.self in
-    subst (Happen most start) (ap (λ desk. history h.front.token (view desk.place)) (sym c.append.ensures.desk)) h.lawful
+pub write_publish-requires-clause-alive : goal.write_publish-requires-clause-alive
+write_publish-requires-clause-alive g c =
+    let h = c.args.self.now in
+    let known = c.again-front.ensures ∙ ap token_of c.published.ensures in
+    ap (λ (t : Token). (world_after start (t.seen.log ++ written h)).dropped) known ∙ alive-publish h
 
-pub invariant_of-self-clause-alive : goal.invariant_of-self-clause-alive
-invariant_of-self-clause-alive g c = rw c.append.ensures.desk c.write_events.new.self.alive
+pub invariant_of-notice : goal.invariant_of-notice
+invariant_of-notice g c =
+    let h = c.args.self.now in
+    let known = c.again-front.ensures ∙ ap token_of c.published.ensures in
+    let log : c.write_publish.new.front.token.seen.log ≡ all_written h = c.write_publish.ensures.log ∙ ap (λ (t : Token). t.seen.log ++ written h) known in
+    let all : published_of c.write_publish.new.front.token.seen.log ≡ accepted h = ap published_of log ∙ published-publish h in
+    record { whole = ap accepted_of log ∙ accepted-publish h ∙ sym all; numbered = h.numbered ∙ ap rev (sym all) }
 
-pub invariant_of-self-clause-pictured : goal.invariant_of-self-clause-pictured
-invariant_of-self-clause-pictured g c = rw c.append.ensures.desk c.write_events.new.self.pictured
+pub invariant_of-show : goal.invariant_of-show
+invariant_of-show g c =
+    let h = c.args.self.now in
+    let known = c.again-front.ensures ∙ ap token_of c.published.ensures in
+    let log : c.write_publish.new.front.token.seen.log ≡ all_written h = c.write_publish.ensures.log ∙ ap (λ (t : Token). t.seen.log ++ written h) known in
+    record { pictured = c.requires.picture ∙ ap pic (sym (ap published_of log ∙ published-publish h)) }
 
-pub invariant_of-self-clause-numbered : goal.invariant_of-self-clause-numbered
-invariant_of-self-clause-numbered g c = rw c.append.ensures.desk c.write_events.new.self.numbered
+pub invariant_of-self : goal.invariant_of-self
+invariant_of-self g c =
+    let h = c.args.self.now in
+    let swap = c.show.new.swap in
+    let known = c.again-front.ensures ∙ ap token_of c.published.ensures in
+    let log : c.write_publish.new.front.token.seen.log ≡ all_written h = c.write_publish.ensures.log ∙ ap (λ (t : Token). t.seen.log ++ written h) known in
+    let book : book_of swap.desk.shown.value ≡ book_of (version h) =
+    ap book_of c.show.ensures.shown ∙ c.write_publish.ensures.book ∙ ap (λ (t : Token). t.seen.book) known in
+    let shows : events_of swap.desk.shown.value ≡ all_written h = ap events_of c.show.ensures.shown ∙ log in
+    let none : (view swap.desk.place).unwritten ≡ [] = ap (λ (v : View). v.unwritten) c.show.ensures.view in
+    let happened : history swap.desk.shown.value (view swap.desk.place) ≡ all_written h = (λ i. shows i ++ none i) ∙ append-nil (all_written h) in
+    let accepts : accepted_of (history swap.desk.shown.value (view swap.desk.place)) ≡ accepted h = ap accepted_of happened ∙ accepted-publish h in
+    let tells : shown_by swap.desk.shown.value ≡ accepted h = ap published_of shows ∙ published-publish h in
+    record {
+      head_is = h.head_is ∙ ap head_of (sym book);
+      shown_is = ap published_of (shows ∙ sym happened);
+      lawful = subst (Happen most start) (sym happened) (Happen-publish h);
+      alive = ap (λ (es : List Event). (world_after start es).dropped) happened ∙ alive-publish h;
+      counted = sym (ap length none);
+      pictured = h.pictured ∙ ap pic (sym accepts);
+      numbered = h.numbered ∙ ap rev (sym accepts);
+      since = omega (arith, ap length accepts, ap length tells);
+      short = omega (arith, ap length shows, ap length tells, length-publish h c.requires.waits);
+    }
 
-pub invariant_of-self-clause-since : goal.invariant_of-self-clause-since
-invariant_of-self-clause-since g c = rw c.append.ensures.desk c.write_events.new.self.since
+pub returns-clause-accepted : goal.returns-clause-accepted
+returns-clause-accepted g c =
+    let h = c.args.self.now in
+    let known = c.again-front.ensures ∙ ap token_of c.published.ensures in
+    let log : c.write_publish.new.front.token.seen.log ≡ all_written h = c.write_publish.ensures.log ∙ ap (λ (t : Token). t.seen.log ++ written h) known in
+    let shows = ap events_of c.show.ensures.shown ∙ log in
+    let none = ap (λ (v : View). v.unwritten) c.show.ensures.view in
+    ap accepted_of ((λ i. shows i ++ none i) ∙ append-nil (all_written h)) ∙ accepted-publish h
+
+pub returns-clause-published : goal.returns-clause-published
+returns-clause-published g c =
+    let h = c.args.self.now in
+    let known = c.again-front.ensures ∙ ap token_of c.published.ensures in
+    let log : c.write_publish.new.front.token.seen.log ≡ all_written h = c.write_publish.ensures.log ∙ ap (λ (t : Token). t.seen.log ++ written h) known in
+    let shows = ap events_of c.show.ensures.shown ∙ log in
+    let none = ap (λ (v : View). v.unwritten) c.show.ensures.view in
+    ap published_of ((λ i. shows i ++ none i) ∙ append-nil (all_written h)) ∙ published-publish h

@@ -1,12 +1,15 @@
 use Rattle.std.proofs.Common.{◌≡◌, [], sym, ap, ◌∙◌}
 use Rattle.mf_live.specs.declared.history.Token.{Token}
-use Rattle.mf_live.specs.World.{accepted_of}
+use Rattle.mf_live.specs.World.{accepted_of, published_of}
 use Rattle.mf_live.proofs.Blank.{pic-blank, rev-blank}
 use Rattle.mf_live.proofs.holder.steps.blank.Goals as goal
 
 pub invariant_of-result : goal.invariant_of-result
-invariant_of-result c = let same : c.again.result.token.seen.log ≡ c.args.front.now.token.seen.log = ap (λ (t : Token). t.seen.log) c.again.ensures in
-    let none : accepted_of c.again.result.token.seen.log ≡ [] = ap accepted_of (same ∙ c.requires) in record {
-      pictured = c.blank.ensures ∙ sym (pic-blank _ none);
-      numbered = sym (rev-blank _ none);
-    }
+invariant_of-result c =
+    let none : c.again.result.token.seen.log ≡ [] = ap (λ (t : Token). t.seen.log) c.again.ensures ∙ c.requires in
+    record { whole = ap accepted_of none ∙ sym (ap published_of none); numbered = sym (rev-blank _ (ap published_of none)) }
+
+pub invariant_of-result-2 : goal.invariant_of-result-2
+invariant_of-result-2 c =
+    let none : c.again.result.token.seen.log ≡ [] = ap (λ (t : Token). t.seen.log) c.again.ensures ∙ c.requires in
+    record { pictured = c.blank.ensures ∙ sym (pic-blank _ (ap published_of none)) }

@@ -1,27 +1,21 @@
 use Rattle.std.proofs.Common.{arith}
-use Rattle.mf_live.proofs.Looking.{told-shorter, longer-last, longer-second}
+use Rattle.mf_live.proofs.Looking.{told-begins, longer-last, longer-second}
 use Rattle.mf_live.proofs.WholePrefixes.{whole-trans, whole-longer}
 use Rattle.mf_live.proofs.viewer.Viewer.learn.Goals as goal
 
 pub returns-then-self-notice-clause-seen : goal.returns-then-self-notice-clause-seen
-returns-then-self-notice-clause-seen c =
-    let joins = c.joins-both.ensures in
-    longer-last _ _ _ (told-shorter c.args.self.now.known c.args.notice _ joins.this joins.that (omega arith))
+returns-then-self-notice-clause-seen c = longer-last _ _ _ (told-begins c.args.notice _ (c.meets.ensures.this (omega arith)))
 
 pub returns-then-self-notice-clause-keeps : goal.returns-then-self-notice-clause-keeps
 returns-then-self-notice-clause-keeps c = λ L extends.
-    let joins = c.joins-both.ensures in
-    let grows = told-shorter c.args.self.now.known c.args.notice _ joins.this joins.that (omega arith) in
+    let grows = told-begins c.args.notice _ (c.meets.ensures.this (omega arith)) in
     let learns = whole-trans _ _ L grows extends.learnt in
     (record { looked = extends.looked; learnt = learns; seen = whole-longer _ _ L extends.looked learns }, extends.learnt)
 
 pub returns-else-self-notice-clause-seen : goal.returns-else-self-notice-clause-seen
-returns-else-self-notice-clause-seen c =
-    let joins = c.joins-both.ensures in
-    longer-second _ _ _ (told-shorter c.args.notice c.args.self.now.known _ joins.that joins.this (omega arith))
+returns-else-self-notice-clause-seen c = longer-second _ _ _ (told-begins c.args.self.now.known _ (c.meets.ensures.that (omega arith)))
 
 pub returns-else-self-notice-clause-keeps : goal.returns-else-self-notice-clause-keeps
 returns-else-self-notice-clause-keeps c = λ L extends.
-    let joins = c.joins-both.ensures in
-    let begins = told-shorter c.args.notice c.args.self.now.known _ joins.that joins.this (omega arith) in
+    let begins = told-begins c.args.self.now.known _ (c.meets.ensures.that (omega arith)) in
     (extends, whole-trans _ _ L begins extends.learnt)

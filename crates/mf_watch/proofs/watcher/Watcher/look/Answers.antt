@@ -9,7 +9,7 @@ returns-clause-watcher g c = λ picture looks more before.
     let L = viewers.shown c.in-Ok.held in
     let glance = c.of-glance.ensures ∙ glance-of L _ _ c.revision.ensures c.picture.ensures in
     let pushed = c.in-Ok-push.ensures.items ∙ ap (λ g. c.args.self.seen.items ++ g ∷ []) glance in
-    let seen = AreGlances-push (viewers.seen c.args.self.viewer) L looks c.args.self.seen.items c.in-Ok.ensures.extends.seen before.record_is in
+    let seen = AreGlances-push (viewers.seen c.args.self.viewer) L _ looks c.args.self.seen.items c.in-Ok.ensures.published c.in-Ok.ensures.extends.seen before.record_is in
     record {
       name_is = c.leave.ensures.name ∙ c.in-Ok.ensures.name ∙ before.name_is;
       record_is = subst (λ list. AreGlances list (looks + 1) c.push.new.self.items) (sym c.leave.ensures.seen) (subst (λ gs. AreGlances L (looks + 1) gs) (sym pushed) seen);

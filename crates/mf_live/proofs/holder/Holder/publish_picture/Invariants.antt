@@ -1,0 +1,7 @@
+use Rattle.left_right.specs.Sides.{view}
+use Rattle.mf_live.specs.Rule.{publishing}
+use Rattle.mf_live.proofs.holder.Holder.publish_picture.Given as goal
+
+-- what waits for the book, and that it is published
+abbrev pub ghosts-write_publish : goal.ghosts-write_publish
+ghosts-write_publish g a = record { more = publishing (view a.swap.now.desk.place) }
