@@ -27,6 +27,6 @@ pub struct Ended {
 pub enum CloseFault {
     /// The writer, as it was.
     Kept(Writer),
-    /// The end mark is set, and nothing was published. No call answers this: `close` gets all memory before it sets the mark.
+    /// The end mark is set, and nothing was published.
     Halfway(Closing),
 }

@@ -17,7 +17,6 @@ pub struct Session {
 pub enum EndFault {
     /// The session, as it was.
     Kept(Session),
-    /// The end mark of `currentpicture` is set, and nothing was published; and the font file of what was shipped. No call
-    /// answers this, since none sets the mark before it has all memory.
+    /// The end mark of `currentpicture` is set, and nothing was published; and the font file of what was shipped.
     Halfway(Closing, GfFile),
 }

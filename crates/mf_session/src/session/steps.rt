@@ -81,8 +81,8 @@ impl Session {
     }
 
     /// Ends the script: sets the end mark of `currentpicture`, publishes all that it has accepted, and hands out the font
-    /// file of the characters that were shipped. It may wait for looks that are held. Where memory is wanting, the session
-    /// comes back as it was.
+    /// file of the characters that were shipped. It may wait for looks that are held. Where memory is wanting, either the
+    /// session comes back as it was, or the end mark is set and can be published later.
     pub fn finish<R: Wait>(self, rt: &R) -> Result<(Ended, GfFile), EndFault>
         ensures ended { IfOk result (λ made. (s : State) → StandsFor self s → HasEnded self s made.0 made.1) }
         ensures handed_back { IfErr result (λ fault. (s : State) → StandsFor self s → IsHandedBack self s fault) }
