@@ -5,9 +5,9 @@ use Rattle.mf_text.specs.declared.command.Command.TheVariants as command
 use Rattle.mf_text.specs.declared.fault.TextFault.{TextFault}
 use Rattle.mf_text.specs.declared.fault.TextFault.TheVariants as faults
 use Rattle.mf_text.specs.Grammar.{Form, Nothing, AddContour, AddPicture, CullKeeping, CullDropping, Clear, Move, ShowTotal, ShowPicture, ShowProof, ShipOut, PublishAll, Line}
-use Rattle.mf_text.specs.Lines.{Gives, IsRefused, MayWantMemory, TakesMemory}
-use Rattle.mf_text.specs.Meaning.{IsCommandOf}
-use Rattle.mf_text.proofs.LinesReadBack.{same_line}
+use Rattle.mf_text.specs.Lines.{Gives, IsRefused, MayWantMemory}
+use Rattle.mf_text.specs.Meaning.{IsCommandOf, TakesMemory}
+use Rattle.mf_text.proofs.LineReading.{same_line}
 use Rattle.mf_text.proofs.OneAnswer.{given_or_refused}
 
 -- a command has no contour

@@ -1,5 +1,5 @@
 -- The grid text of a box, byte by byte.
-use Rattle.std.proofs.Common.{◌≡◌, ℕ, zero, suc, ◌+◌, ◌*◌, ◌<◌, ℤ, pos, ◌+ℤ◌, ◌-ℤ◌, List, [], ◌∷◌, ◌++◌, codes, get_or, length, ap, refl, sym, ◌∙◌, arith, length-append}
+use Rattle.std.proofs.Common.{◌≡◌, ℕ, zero, suc, ◌+◌, ◌*◌, ◌<◌, ℤ, pos, ◌+ℤ◌, ◌-ℤ◌, List, ◌++◌, codes, get_or, length, ap, refl, ◌∙◌, arith, length-append}
 use native.Mathlib.Nat.{suc-mul}
 use lib.Seq.{get_or-append-add}
 use Rattle.std.proofs.lemmas.Int.{ints}

@@ -1,23 +1,14 @@
 -- The tokens of a line, one at a time.
-use Rattle.std.proofs.Common.{◌≡◌, ◌≢◌, ℕ, zero, suc, ◌+◌, ◌-◌, ◌<◌, ◌≤◌, Bool, true, false, cond, eqb, ltb, List, [], ◌∷◌, Option, None, Some, length, get_or, take, drop, refl, sym, subst, arith, length-drop}
+use Rattle.std.proofs.Common.{◌≡◌, ◌≢◌, ℕ, zero, suc, ◌+◌, ◌-◌, ◌<◌, ◌≤◌, Bool, true, false, cond, eqb, ltb, List, [], ◌∷◌, length, get_or, take, drop, refl, sym, arith, length-drop}
 use Rattle.std.specs.Char.{is_ascii_alphabetic, is_ascii_digit}
-use Rattle.std.specs.Iterator.{YieldsFirst}
-use Rattle.std.specs.List.{prefix_len, AllByRecursion}
-use Rattle.std.specs.Str.Parse.{AllDigits}
-use Rattle.std.proofs.lemmas.Bool.{leb-true, ltb-true, ne_eqb}
+use Rattle.std.specs.List.{prefix_len}
+use Rattle.std.proofs.lemmas.Bool.{ltb-true, ne_eqb}
 use Rattle.std.proofs.lemmas.List.{take_rest}
 use Rattle.std.proofs.lemmas.List.Folds.{length-prefix_len}
 use Rattle.std.proofs.lemmas.List.Sums.{prefix_len-le-length}
-use Rattle.mf_text.specs.declared.token.Mark.{Mark}
-use Rattle.mf_text.specs.declared.token.Placed.{Placed}
 use Rattle.mf_text.specs.declared.token.Token.{Token}
-use Rattle.mf_text.specs.declared.token.Word.{Word}
-use Rattle.mf_text.specs.declared.tokens.Tokens.{Tokens}
-use Rattle.mf_text.specs.Bytes.{is_blank}
-use Rattle.mf_text.specs.Left.{tokens_left}
-use Rattle.mf_text.specs.Short.{IsShort, IsNextShort, IsClear}
-use Rattle.mf_text.specs.Tokens.{Taken, placed, known_word, word_token, number_token, marks, mark_among, first_token, tokens_within, tokens_from}
-use Rattle.mf_text.proofs.Digits.{digits_of_row, short_value}
+use Rattle.mf_text.specs.Bytes.{is_blank, IsClear}
+use Rattle.mf_text.specs.Tokens.{Taken, placed, marks, mark_among, first_token, tokens_within, tokens_from}
 
 -- ---- how many bytes a token takes
 
@@ -106,60 +97,3 @@ pub tokens_at_token : (column : ℕ) (text : List ℕ) (t : Token) (n : ℕ) →
     → tokens_from column text ≡ record { token = t; column = column; after = column + n } ∷ tokens_from (column + n) (take (length text - n) (drop n text))
 tokens_at_token column [] t n clear long token is_t is_n = absurd (omega arith)
 tokens_at_token column (b ∷ bs) t n clear long token is_t is_n = rw (take_rest (b ∷ bs) n, is_t, is_n) (tokens-step column b bs clear (ne_eqb b 37 token))
-
--- ---- every token of a line is short
-
-if_short : (c : Bool) (x y : Token) → (c ≡ true → IsShort x) → IsShort y → IsShort (cond c x y)
-if_short true x y p q = p refl
-if_short false x y p q = q
-
-if_begins_short : (c : Bool) (x y : Taken) → (c ≡ true → IsShort x.token) → IsShort y.token → IsShort (cond c x y).token
-if_begins_short true x y p q = p refl
-if_begins_short false x y p q = q
-
-known_short : (word : Option Word) → IsShort (known_word word)
-known_short None = tt
-known_short (Some w) = tt
-
-word_short : (letters : List ℕ) → IsShort (word_token letters)
-unfolding word_token
-word_short letters = search (if_short, known_short)
-
-mark_short : (entries : List (List ℕ × Mark)) (bs : List ℕ) → IsShort (mark_among entries bs).token
-unfolding mark_among
-mark_short [] bs = tt
-mark_short (entry ∷ entries) bs = search (if_begins_short, mark_short entries bs)
-
-number_short : (ds : List ℕ) → AllDigits 10 ds → IsShort (number_token ds)
-unfolding number_token
-number_short ds all = if_short _ _ _ (λ few. short_value ds all (leb-true _ _ few)) tt
-
-row_short : (bs : List ℕ) → IsShort (number_token (take (prefix_len is_ascii_digit bs) bs))
-row_short bs = number_short (take (prefix_len is_ascii_digit bs) bs) (digits_of_row bs)
-
-first_short : (bs : List ℕ) → IsShort (first_token bs).token
-unfolding first_token
-first_short bs = search (if_begins_short, word_short, row_short, mark_short)
-
-AreShort : List Placed → Type 0
-AreShort ps = AllByRecursion (λ p. IsShort p.token) ps
-
-if_all_short : (c : Bool) (xs ys : List Placed) → AreShort xs → AreShort ys → AreShort (cond c xs ys)
-if_all_short true xs ys p q = p
-if_all_short false xs ys p q = q
-
-within_short : (n column : ℕ) (bs : List ℕ) → AreShort (tokens_within n column bs)
-unfolding tokens_within AreShort
-within_short zero column bs = tt
-within_short (suc n) column [] = tt
-within_short (suc n) column (b ∷ bs) =
-    let first = first_token (b ∷ bs) in
-    let begun : List Placed = placed column first ∷ tokens_within n (column + first.bytes) (drop first.bytes (b ∷ bs)) in
-    if_all_short (is_blank b) (tokens_within n (column + 1) bs) (cond (eqb b 37) [] begun) (within_short n (column + 1) bs)
-    (if_all_short (eqb b 37) [] begun tt (first_short (b ∷ bs), within_short n (column + first.bytes) (drop first.bytes (b ∷ bs))))
-
--- what `next` of an iterator gives is short
-pub next_short : (before : Tokens) (next : Option Placed) (after : Tokens) → YieldsFirst tokens_left before next after → IsNextShort next
-unfolding tokens_from AreShort
-next_short before None after e = tt
-next_short before (Some p) after e = (subst AreShort e (within_short (length before.rest.now) before.column before.rest.now)).0

@@ -19,12 +19,11 @@ use Rattle.mf_text.specs.declared.token.Token.{Token}
 use Rattle.mf_text.specs.Ahead.{Ahead, column_at}
 use Rattle.mf_text.specs.Grammar.{Form, Nothing, AddContour, AddPicture, CullKeeping, CullDropping, Clear, Move, ShowTotal, ShowPicture, ShowProof, ShipOut, PublishAll, Transform, Shifted, Scaled, XScaled, YScaled, Rotated, Line, spell_line}
 use Rattle.mf_text.specs.Lines.{IsText, front, IsLineOf, Gives, HasBadValues, HasOtherBytes, HasSyntaxFault, IsRefused}
-use Rattle.mf_text.specs.Meaning.{IsContour, IsCull, IsGivenByMotion, IsCommandOf, IsNoCycle, IsRefusedMotion, IsRefusalOf, IsRefusedContour, IsRefusedCull}
-use Rattle.mf_text.specs.Sentences.{motion_of}
+use Rattle.mf_text.specs.Meaning.{IsContour, IsCull, IsTransform, IsCommandOf, IsNoCycle, IsRefusedTransform, IsRefusalOf, IsRefusedContour, IsRefusedCull}
 use Rattle.mf_text.specs.Phrases.{IsPhrase, BeginsPhrase, IsWrongAt}
 use Rattle.mf_text.specs.Syntax.{IsLine, shown_at, IsSyntaxFault}
 use Rattle.mf_text.specs.Tokens.{kinds}
-use Rattle.mf_text.proofs.LinesReadBack.{same_line}
+use Rattle.mf_text.proofs.LineReading.{same_line}
 
 -- ---- forms
 
@@ -74,7 +73,7 @@ cull_refusal rule weight one other (inl p) (inr q) = absurd (p.unlawful q.weight
 cull_refusal rule weight one other (inr p) (inl q) = absurd (q.unlawful p.weight_lawful)
 cull_refusal rule weight one other (inr p) (inr q) = cc
 
-move_refusal : (transform : Transform) (one other : TextFault) → IsRefusedMotion (motion_of transform) one → IsRefusedMotion (motion_of transform) other → one ≡ other
+move_refusal : (transform : Transform) (one other : TextFault) → IsRefusedTransform transform one → IsRefusedTransform transform other → one ≡ other
 move_refusal (Shifted by) one other p q = absurd p
 move_refusal (Scaled n) one other p q = cc
 move_refusal (XScaled n) one other p q = cc
@@ -105,8 +104,8 @@ cull_not_both : (name : Name) (rule : CullRule) (weight : ℤ) (given : Command)
 cull_not_both name rule weight given fault p (inl q) = q.unlawful p.weight_lawful
 cull_not_both name rule weight given fault p (inr q) = q.unlawful p.lawful
 
-move_not_both : (name : Name) (transform : Transform) (given : Command) (fault : TextFault) → IsGivenByMotion name (motion_of transform) given
-    → IsRefusedMotion (motion_of transform) fault → ⊥
+move_not_both : (name : Name) (transform : Transform) (given : Command) (fault : TextFault) → IsTransform name transform given
+    → IsRefusedTransform transform fault → ⊥
 move_not_both name (Shifted by) given fault p q = q
 move_not_both name (Scaled n) given fault p q = q.unlawful p.lawful
 move_not_both name (XScaled n) given fault p q = q.unlawful p.lawful

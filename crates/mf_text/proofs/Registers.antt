@@ -17,8 +17,7 @@ use Rattle.mf_text.specs.declared.token.Word.{Word}
 use Rattle.mf_text.specs.Bytes.{is_blank}
 use Rattle.mf_text.specs.Grammar.{Form, Nothing, AddContour, AddPicture, CullKeeping, CullDropping, Clear, Move, ShowTotal, ShowPicture, ShowProof, ShipOut, PublishAll, Transform, Shifted, Scaled, XScaled, YScaled, Rotated, spell_name, spell_source, spell_signed, spell_form, spell_end}
 use Rattle.mf_text.specs.Lines.{Gives}
-use Rattle.mf_text.specs.Meaning.{IsGivenByMotion, IsCommandOf}
-use Rattle.mf_text.specs.Sentences.{motion_of}
+use Rattle.mf_text.specs.Meaning.{IsTransform, IsCommandOf}
 use Rattle.mf_text.specs.Registers.{IsName, IsSource, HasNames}
 use Rattle.mf_text.specs.Tokens.{Taken, is_letter, letter_number, known_word, words, word_among, word_token, number_token, mark_among, first_token, tokens_within, tokens_from, tokens, kinds}
 
@@ -111,7 +110,7 @@ signed_is : (sign : Sign) (source : Source) → AreLetters (spell_signed sign so
 signed_is Plus source all = source_is source all
 signed_is Minus source all = source_is source (rest _ _ all)
 
-move-names : (name : Name) (transform : Transform) (given : Command) → IsName name → IsGivenByMotion name (motion_of transform) given → HasNames given
+move-names : (name : Name) (transform : Transform) (given : Command) → IsName name → IsTransform name transform given → HasNames given
 move-names name (Shifted by) given letter p = rw p letter
 move-names name (Scaled n) given letter p = rw p.is letter
 move-names name (XScaled n) given letter p = rw p.is letter

@@ -1,5 +1,5 @@
 -- Each line of bytes has an answer: a command, or a refusal.
-use Rattle.std.proofs.Common.{◌≡◌, ◌≢◌, ◌⊎◌, inl, inr, ℕ, ◌<◌, ◌≤◌, Bool, true, false, ℤ, pos, negsuc, ◌<ℤ◌, ◌≤ℤ◌, List, Option, Some, None, length, refl, sym, arith}
+use Rattle.std.proofs.Common.{◌≡◌, ◌≢◌, ◌⊎◌, inl, inr, ℕ, ℤ, pos, negsuc, List, Option, Some, None, length, refl, arith}
 use lib.IntN.{ℤ_discrete}
 use Rattle.std.specs.List.{list_all}
 use Rattle.std.proofs.lemmas.Bool.{cases_Bool, cases_lt}
@@ -23,13 +23,14 @@ use Rattle.mf_text.specs.declared.fault.TextFault.{TextFault}
 use Rattle.mf_text.specs.declared.fault.TextFault.TheVariants as faults
 use Rattle.mf_text.specs.Ahead.{column_at}
 use Rattle.mf_text.specs.Bytes.{is_text_byte}
-use Rattle.mf_text.specs.Grammar.{Form, Nothing, AddContour, AddPicture, CullKeeping, CullDropping, Clear, Move, ShowTotal, ShowPicture, ShowProof, ShipOut, PublishAll, Transform, Shifted, Scaled, XScaled, YScaled, Rotated, Line, int_value, code_value, pair_value, weight_value, path_value}
+use Rattle.mf_text.specs.Grammar.{Form, Nothing, AddContour, AddPicture, CullKeeping, CullDropping, Clear, Move, ShowTotal, ShowPicture, ShowProof, ShipOut, PublishAll, Transform, Shifted, Scaled, XScaled, YScaled, Rotated, weight_value, path_value}
+use Rattle.mf_text.specs.Codes.{code_value}
+use Rattle.mf_text.specs.Ints.{int_value, pair_value}
 use Rattle.mf_text.specs.Lines.{IsText, front, Gives, HasBadValues, IsRefused}
 use Rattle.mf_text.specs.Meaning.{IsCommandOf, IsNoCycle, IsRefusalOf, IsRefusedContour, IsRefusedCull, both, of_columns, of_rows}
-use Rattle.mf_text.specs.Sentences.{motion_of}
 use Rattle.mf_text.specs.Syntax.{IsLine, shown_at}
 use Rattle.mf_text.specs.Tokens.{kinds, tokens}
-use Rattle.mf_text.proofs.LineOrNot.{line_or_not, some_wrong_place}
+use Rattle.mf_text.proofs.LineReading.{line_or_not, some_wrong_place}
 
 -- ---- values are lawful or not
 

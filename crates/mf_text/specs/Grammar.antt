@@ -1,5 +1,5 @@
 -- The lines that a script may have, and how each is spelled in tokens.
-use Rattle.std.specs.Prelude.{◌≡◌, ◌&&◌, int_le, true, Bool, ℕ, List, [], ◌∷◌, ◌++◌, Option, Some, None, ℤ, pos, neg_ℤ, map, flat_map, if◌then◌else◌}
+use Rattle.std.specs.Prelude.{Bool, List, [], ◌∷◌, ◌++◌, Option, Some, None, ℤ, pos, map, flat_map, if◌then◌else◌}
 use Rattle.mf_geom.specs.declared.point.Point.{Point}
 use Rattle.mf_ops.specs.declared.sign.Sign.{Sign}
 use Rattle.mf_ops.specs.declared.sign.Sign.TheVariants.{Plus, Minus}
@@ -7,12 +7,16 @@ use Rattle.mf_text.specs.declared.command.Name.{Name}
 use Rattle.mf_text.specs.declared.command.Name.TheVariants.{Current, Register}
 use Rattle.mf_text.specs.declared.command.Source.{Source}
 use Rattle.mf_text.specs.declared.command.Source.TheVariants.{Null, Named}
+use Rattle.mf_text.specs.declared.code.Code.{Code}
+use Rattle.mf_text.specs.declared.int.Int.{Int}
+use Rattle.mf_text.specs.declared.pair.Pair.{Pair}
 use Rattle.mf_text.specs.declared.token.Mark.{Mark}
 use Rattle.mf_text.specs.declared.token.Mark.TheVariants as mark
 use Rattle.mf_text.specs.declared.token.Token.{Token}
 use Rattle.mf_text.specs.declared.token.Token.TheVariants as token
 use Rattle.mf_text.specs.declared.token.Word.{Word}
 use Rattle.mf_text.specs.declared.token.Word.TheVariants as word
+use Rattle.mf_text.specs.Ints.{int_value, pair_value}
 
 abbrev pub spell_word : Word → List Token
 spell_word w = token.Word w ∷ []
@@ -21,37 +25,16 @@ abbrev pub spell_mark : Mark → List Token
 spell_mark m = token.Mark m ∷ []
 
 -- int: [`-`] number
-pub record Int : Type 0 where
-  pub negative : Bool
-  pub magnitude : ℕ
-
 abbrev pub spell_int : Int → List Token
 spell_int n = if n.negative then (token.Mark mark.Minus ∷ token.Number n.magnitude ∷ []) else (token.Number n.magnitude ∷ [])
 
-abbrev pub int_value : Int → ℤ
-int_value n = if n.negative then neg_ℤ (pos n.magnitude) else pos n.magnitude
-
 -- the int after `code`, which lies in 0..255: of 0 there are two, since `-` may stand before it
-pub record Code : Type 0 where
-  pub int : Int
-  pub is_byte : int_le (pos 0) (int_value int) && int_le (int_value int) (pos 255) ≡ true
-
 abbrev pub spell_code : Code → List Token
 spell_code code = spell_int code.int
 
-abbrev pub code_value : Code → ℕ
-code_value code = code.int.magnitude
-
 -- pair: `(` int `,` int `)`
-pub record Pair : Type 0 where
-  pub across : Int
-  pub up : Int
-
 abbrev pub spell_pair : Pair → List Token
 spell_pair p = spell_mark mark.Open ++ spell_int p.across ++ spell_mark mark.Comma ++ spell_int p.up ++ spell_mark mark.Close
-
-abbrev pub pair_value : Pair → Point
-pair_value p = record { x = int_value p.across; y = int_value p.up }
 
 -- name: `currentpicture`, or one letter
 abbrev pub spell_name : Name → List Token

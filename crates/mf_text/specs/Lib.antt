@@ -1,7 +1,9 @@
 pub mod Ahead
 pub mod Bytes
+pub mod Codes
 pub mod Grammar
 pub mod Grid
+pub mod Ints
 pub mod Left
 pub mod Lines
 pub mod Meaning
@@ -9,11 +11,10 @@ pub mod Names
 pub mod Paths
 pub mod Phrases
 pub mod Readers
+pub mod Readings
 pub mod Registers
-pub mod RunText
 pub mod RunsAhead
-pub mod Sentences
-pub mod Short
+pub mod RunText
+pub mod Steps
 pub mod Syntax
-pub mod Tails
 pub mod Tokens

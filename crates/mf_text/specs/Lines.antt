@@ -6,8 +6,8 @@ use Rattle.mf_text.specs.declared.fault.TextFault.{TextFault}
 use Rattle.mf_text.specs.declared.fault.TextFault.TheVariants.{LineTooLong, NotAscii, Syntax, OutOfMemory}
 use Rattle.mf_text.specs.Ahead.{Ahead}
 use Rattle.mf_text.specs.Bytes.{is_text_byte}
-use Rattle.mf_text.specs.Grammar.{Form, AddContour, Line, spell_line}
-use Rattle.mf_text.specs.Meaning.{IsCommandOf, IsRefusalOf}
+use Rattle.mf_text.specs.Grammar.{Line, spell_line}
+use Rattle.mf_text.specs.Meaning.{IsCommandOf, IsRefusalOf, TakesMemory}
 use Rattle.mf_text.specs.Syntax.{IsSyntaxFault}
 use Rattle.mf_text.specs.Tokens.{tokens, kinds}
 
@@ -46,11 +46,6 @@ pub record HasOtherBytes (bytes : List ℕ) : Type 0 where
 pub record HasSyntaxFault (bytes : List ℕ) (column : ℕ) : Type 0 where
   pub text : IsText bytes
   pub wrong : IsSyntaxFault (front bytes) column
-
--- a form takes memory: that of a contour
-abbrev pub TakesMemory : Form → Type 0
-TakesMemory (AddContour name path weight) = Unit {0}
-TakesMemory form = ⊥
 
 -- memory may be wanting for a line: it is that of a contour
 pub record MayWantMemory (bytes : List ℕ) : Type 0 where

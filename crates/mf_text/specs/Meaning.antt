@@ -1,5 +1,5 @@
 -- What a form gives: a command, or a refusal of its values.
-use Rattle.std.specs.Prelude.{◌≡◌, ◌⊎◌, ℤ, pos, List}
+use Rattle.std.specs.Prelude.{◌≡◌, ◌⊎◌, ℤ, pos, List, Result, Ok, Err}
 use Rattle.mf_geom.specs.Lawful.{IsCycle, IsFault}
 use Rattle.mf_geom.specs.declared.point.Point.{Point}
 use Rattle.mf_ops.specs.ContourWeight.{IsContourWeight}
@@ -14,10 +14,9 @@ use Rattle.mf_text.specs.declared.command.Command.TheVariants as command
 use Rattle.mf_text.specs.declared.command.Name.{Name}
 use Rattle.mf_text.specs.declared.fault.TextFault.{TextFault}
 use Rattle.mf_text.specs.declared.fault.TextFault.TheVariants as faults
-use Rattle.mf_text.specs.declared.sentence.Motion.{Motion}
-use Rattle.mf_text.specs.declared.sentence.Motion.TheVariants as motion
-use Rattle.mf_text.specs.Grammar.{Form, Nothing, AddContour, AddPicture, CullKeeping, CullDropping, Clear, Move, ShowTotal, ShowPicture, ShowProof, ShipOut, PublishAll, int_value, code_value, pair_value, weight_value, path_value}
-use Rattle.mf_text.specs.Sentences.{motion_of}
+use Rattle.mf_text.specs.Codes.{code_value}
+use Rattle.mf_text.specs.Grammar.{Form, Nothing, AddContour, AddPicture, CullKeeping, CullDropping, Clear, Move, ShowTotal, ShowPicture, ShowProof, ShipOut, PublishAll, Transform, Shifted, Scaled, XScaled, YScaled, Rotated, weight_value, path_value}
+use Rattle.mf_text.specs.Ints.{int_value, pair_value}
 
 -- a contour through these points
 pub record IsContour (name : Name) (points : List Point) (weight : ℤ) (given : Command) : Type 0 where
@@ -51,13 +50,13 @@ of_columns n = record { x = n; y = pos 1 }
 abbrev pub of_rows : ℤ → Factors
 of_rows n = record { x = pos 1; y = n }
 
--- the command of a motion
-abbrev pub IsGivenByMotion : Name → Motion → Command → Type 0
-IsGivenByMotion name (motion.Shifted p) given = given ≡ command.Shift name p.x p.y
-IsGivenByMotion name (motion.Scaled n) given = IsScale name (both n) given
-IsGivenByMotion name (motion.XScaled n) given = IsScale name (of_columns n) given
-IsGivenByMotion name (motion.YScaled n) given = IsScale name (of_rows n) given
-IsGivenByMotion name (motion.Rotated n) given = IsTurn name n given
+-- the command of a transform
+abbrev pub IsTransform : Name → Transform → Command → Type 0
+IsTransform name (Shifted p) given = given ≡ command.Shift name (pair_value p).x (pair_value p).y
+IsTransform name (Scaled n) given = IsScale name (both (int_value n)) given
+IsTransform name (XScaled n) given = IsScale name (of_columns (int_value n)) given
+IsTransform name (YScaled n) given = IsScale name (of_rows (int_value n)) given
+IsTransform name (Rotated n) given = IsTurn name (int_value n) given
 
 -- the command that a form gives
 abbrev pub IsCommandOf : Form → Command → Type 0
@@ -67,7 +66,7 @@ IsCommandOf (AddPicture name sign source) given = given ≡ command.Also name so
 IsCommandOf (CullKeeping name range weight) given = IsCull name (Keeping (pair_value range).x (pair_value range).y (weight_value weight)) (weight_value weight) given
 IsCommandOf (CullDropping name range weight) given = IsCull name (Dropping (pair_value range).x (pair_value range).y (weight_value weight)) (weight_value weight) given
 IsCommandOf (Clear name) given = given ≡ command.Clear name
-IsCommandOf (Move name transform) given = IsGivenByMotion name (motion_of transform) given
+IsCommandOf (Move name transform) given = IsTransform name transform given
 IsCommandOf (ShowTotal source) given = given ≡ command.Total source
 IsCommandOf (ShowPicture source) given = given ≡ command.Show source
 IsCommandOf (ShowProof source) given = given ≡ command.Proof source
@@ -104,13 +103,13 @@ pub record IsBadTurn (angle : ℤ) (refused : TextFault) : Type 0 where
   pub unlawful : (quarter : Quarter) → degrees quarter ≡ angle → ⊥
   pub is : refused ≡ faults.BadTurn
 
--- why a motion is refused
-abbrev pub IsRefusedMotion : Motion → TextFault → Type 0
-IsRefusedMotion (motion.Shifted p) refused = ⊥
-IsRefusedMotion (motion.Scaled n) refused = IsBadScale (both n) refused
-IsRefusedMotion (motion.XScaled n) refused = IsBadScale (of_columns n) refused
-IsRefusedMotion (motion.YScaled n) refused = IsBadScale (of_rows n) refused
-IsRefusedMotion (motion.Rotated n) refused = IsBadTurn n refused
+-- why a transform is refused
+abbrev pub IsRefusedTransform : Transform → TextFault → Type 0
+IsRefusedTransform (Shifted p) refused = ⊥
+IsRefusedTransform (Scaled n) refused = IsBadScale (both (int_value n)) refused
+IsRefusedTransform (XScaled n) refused = IsBadScale (of_columns (int_value n)) refused
+IsRefusedTransform (YScaled n) refused = IsBadScale (of_rows (int_value n)) refused
+IsRefusedTransform (Rotated n) refused = IsBadTurn (int_value n) refused
 
 -- why a contour is refused: the cycle is looked at first
 abbrev pub IsRefusedContour : List Point → ℤ → TextFault → Type 0
@@ -125,5 +124,16 @@ abbrev pub IsRefusalOf : Form → TextFault → Type 0
 IsRefusalOf (AddContour name path weight) refused = IsRefusedContour (path_value path) (weight_value weight) refused
 IsRefusalOf (CullKeeping name range weight) refused = IsRefusedCull (Keeping (pair_value range).x (pair_value range).y (weight_value weight)) (weight_value weight) refused
 IsRefusalOf (CullDropping name range weight) refused = IsRefusedCull (Dropping (pair_value range).x (pair_value range).y (weight_value weight)) (weight_value weight) refused
-IsRefusalOf (Move name transform) refused = IsRefusedMotion (motion_of transform) refused
+IsRefusalOf (Move name transform) refused = IsRefusedTransform transform refused
 IsRefusalOf form refused = ⊥
+
+-- a form takes memory: that of a contour
+abbrev pub TakesMemory : Form → Type 0
+TakesMemory (AddContour name path weight) = Unit {0}
+TakesMemory form = ⊥
+
+-- what is answered to a form: its command, or why its values are refused, or that memory was wanting for it
+abbrev pub IsAnswerOf : Form → Result Command TextFault → Type 0
+IsAnswerOf form (Ok given) = IsCommandOf form given
+IsAnswerOf form (Err faults.OutOfMemory) = TakesMemory form
+IsAnswerOf form (Err refused) = IsRefusalOf form refused

@@ -1,9 +1,10 @@
 -- Paths that were passed.
-use Rattle.std.specs.Prelude.{◌≡◌, false, List, length}
+use Rattle.std.specs.Prelude.{◌≡◌, ◌≤◌, ◌<◌, false, List, length}
 use Rattle.mf_geom.specs.declared.point.Point.{Point}
 use Rattle.mf_text.specs.declared.path.Path.{Path}
 
--- a path has these points; all of them are kept where memory was not wanting
+-- a path has these points: they are counted, and kept where memory was not wanting, up to as many as a cycle may have
 pub record HasPoints (path : Path) (points : List Point) : Type 0 where
-  pub counted : path.corners ≡ length points
-  pub kept : path.is_wanting ≡ false → path.points.items ≡ points
+  pub few : path.corners ≤ 4096 → path.corners ≡ length points
+  pub many : 4096 < path.corners → 4096 < length points
+  pub kept : path.corners ≤ 4096 → path.is_wanting ≡ false → path.points.items ≡ points

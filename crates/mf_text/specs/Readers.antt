@@ -1,31 +1,46 @@
--- What a reader of tokens has before it.
-use Rattle.std.specs.Prelude.{◌≡◌, List, [], ◌∷◌, Option, None, Some}
-use Rattle.mf_text.specs.declared.path.Path.{Path}
+-- What a reader has read of a line.
+use Rattle.std.specs.Prelude.{◌≡◌, ◌++◌, true, false, List, [], ◌∷◌, Option, None, Some, map, length, ℕ}
+use Rattle.mf_text.specs.declared.pair.Pair.{Pair}
+use Rattle.mf_text.specs.declared.place.Place.{Place}
 use Rattle.mf_text.specs.declared.reader.Reader.{Reader}
-use Rattle.mf_text.specs.declared.token.Placed.{Placed}
-use Rattle.mf_text.specs.declared.token.Token.{Token}
-use Rattle.mf_text.specs.Ahead.{Ahead}
-use Rattle.mf_text.specs.Grammar as grammar
-use Rattle.mf_text.specs.Left.{tokens_left}
+use Rattle.mf_text.specs.Ahead.{column_at}
+use Rattle.mf_text.specs.Grammar.{Form}
+use Rattle.mf_text.specs.Ints.{pair_value}
+use Rattle.mf_text.specs.Lines.{front}
 use Rattle.mf_text.specs.Paths.{HasPoints}
-use Rattle.mf_text.specs.Tokens.{kinds}
+use Rattle.mf_text.specs.Readings.{Reading, Open, Ended, corners_at, form_at, read, start}
+use Rattle.mf_text.specs.Tokens.{tokens, kinds}
 
--- the next token and those behind it; where there is no next one, there is none
-abbrev pub with_next : Option Placed → List Placed → List Placed
-with_next None ps = []
-with_next (Some p) ps = p ∷ ps
+-- corners, and one more where there is one
+abbrev pub with_corner : List Pair → Option Pair → List Pair
+with_corner ps None = ps
+with_corner ps (Some p) = ps ++ p ∷ []
 
-abbrev pub ahead : Reader → Ahead
-ahead r = record { tokens = with_next r.next (tokens_left r.tokens); past = r.past }
+-- a form is whole where a reader stands
+pub record HasForm (reader : Reader) (form : Form) : Type 0 where
+  pub others : List Pair
+  pub form_is : form_at others reader.place ≡ Some form
+  pub path : HasPoints reader.path (map pair_value (corners_at others reader.place))
 
--- the tokens that a reader has before it
-abbrev pub kinds_ahead : Reader → List Token
-kinds_ahead r = kinds (ahead r).tokens
+-- a reader stands at a place
+pub record IsAt (reader : Reader) (others : List Pair) (p : Place) : Type 0 where
+  pub unended : reader.ended ≡ false
+  pub place : reader.place ≡ p
+  pub path : HasPoints reader.path (map pair_value (corners_at others p))
 
--- the token is not the next one
-abbrev pub IsNotNext : Token → Ahead → Type 0
-IsNotNext t a = (rest : List Token) → kinds a.tokens ≡ t ∷ rest → ⊥
+-- a reader stands behind the `;` of a form
+pub record IsBehindForm (reader : Reader) (form : Form) : Type 0 where
+  pub ended : reader.ended ≡ true
+  pub line : HasForm reader form
 
--- a path that was passed is that of this tree
-abbrev pub IsPathOf : grammar.Path → Path → Type 0
-IsPathOf tree path = HasPoints path (grammar.path_value tree)
+-- what a reader has read
+abbrev pub HasRead : Reader → Reading → Type 0
+HasRead reader (Open others p) = IsAt reader others p
+HasRead reader (Ended form) = IsBehindForm reader form
+
+-- a reader has read all tokens of a line
+pub record HasReadLine (line : List ℕ) (reader : Reader) : Type 0 where
+  pub reading : Reading
+  pub read_is : read start (kinds (tokens line)) ≡ Some reading
+  pub has : HasRead reader reading
+  pub past_is : reader.past ≡ column_at (front line) (length (tokens line))

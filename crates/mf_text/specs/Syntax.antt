@@ -1,14 +1,12 @@
 -- Which lists of tokens are lines, and where others go wrong.
-use Rattle.std.specs.Prelude.{◌≡◌, ◌+◌, ◌-◌, ◌&&◌, ℕ, Bool, true, false, eqb, List, ◌∷◌, ◌++◌, length, if◌then◌else◌}
-use Rattle.mf_text.specs.declared.sentence.Sentence.{Sentence}
+use Rattle.std.specs.Prelude.{◌≡◌, ◌&&◌, ℕ, Bool, true, false, eqb, List, ◌∷◌, if◌then◌else◌}
 use Rattle.mf_text.specs.declared.token.Mark.TheVariants as mark
 use Rattle.mf_text.specs.declared.token.Token.{Token}
 use Rattle.mf_text.specs.declared.token.Token.TheVariants as token
 use Rattle.mf_text.specs.declared.token.Word.TheVariants as word
 use Rattle.mf_text.specs.Ahead.{Ahead, column_at}
-use Rattle.mf_text.specs.Grammar.{Line, spell_code, spell_line}
-use Rattle.mf_text.specs.Phrases.{IsPhrase, BeginsPhrase, IsStuckAt, IsWrongAt}
-use Rattle.mf_text.specs.Sentences.{IsSaid}
+use Rattle.mf_text.specs.Grammar.{spell_line}
+use Rattle.mf_text.specs.Phrases.{IsPhrase, BeginsPhrase, IsWrongAt}
 use Rattle.mf_text.specs.Tokens.{kinds}
 
 -- tokens are a line of the grammar
@@ -33,32 +31,8 @@ is_negative_code ts = false
 abbrev pub shown_at : List Token → ℕ → ℕ
 shown_at ts k = if is_negative_code ts && eqb k 4 then 3 else k
 
--- no int of a code could be taken, which shows at this column: an int that is no byte shows at its first token
-pub record IsNoCode (ahead : Ahead) (column : ℕ) : Type 0 where
-  pub place : ℕ
-  pub at : IsStuckAt spell_code (kinds ahead.tokens) place
-  pub column_is : column ≡ column_at ahead (if is_negative_int (kinds ahead.tokens) && eqb place 1 then 0 else place)
-
 -- what is ahead is no line, which shows at this column
 pub record IsSyntaxFault (ahead : Ahead) (column : ℕ) : Type 0 where
   pub place : ℕ
   pub at : IsWrongAt spell_line (kinds ahead.tokens) place
   pub column_is : column ≡ column_at ahead (shown_at (kinds ahead.tokens) place)
-
--- behind these tokens, what is ahead goes wrong, which shows at this column
-pub record IsShownBehind (before : List Token) (ahead : Ahead) (column : ℕ) : Type 0 where
-  pub place : ℕ
-  pub at : IsWrongAt spell_line (before ++ kinds ahead.tokens) (length before + place)
-  pub column_is : column ≡ column_at ahead (shown_at (before ++ kinds ahead.tokens) (length before + place) - length before)
-
--- behind these tokens, what is ahead goes wrong at this column
-pub record IsWrongBehind (before : List Token) (ahead : Ahead) (column : ℕ) : Type 0 where
-  pub place : ℕ
-  pub at : IsWrongAt spell_line (before ++ kinds ahead.tokens) (length before + place)
-  pub column_is : column ≡ column_at ahead place
-
--- these tokens and what is ahead are a line that says this
-pub record Says (before : List Token) (ahead : Ahead) (said : Sentence) : Type 0 where
-  pub line : Line
-  pub spelled : before ++ kinds ahead.tokens ≡ spell_line line
-  pub said_is : IsSaid said line.form

@@ -1,14 +1,17 @@
 //! The command language of pictures: the commands that lines of a script give, and the texts of pictures.
 #![tactic(auto)]
 
+mod code;
 mod command;
 mod fault;
 mod grid;
+mod int;
 pub mod laws;
+mod pair;
 mod path;
+mod place;
 mod reader;
 mod run_text;
-mod sentence;
 mod token;
 mod tokens;
 mod value;

@@ -1,16 +1,17 @@
 //! Paths of contours.
-ghost use Rattle.std.specs.Prelude.{◌≡◌, ◌<◌, ◌^◌, ◌++◌, ◌∷◌, [], IfOk, IsErr, IsTrue, List};
+ghost use Rattle.std.specs.Prelude.{◌≡◌, ◌≤◌, ◌++◌, ◌∷◌, [], IfOk, IsErr, IsTrue, List};
 ghost use Rattle.mf_geom.specs.declared.point.Point as points;
 ghost use Rattle.mf_text.specs.Paths.{HasPoints};
 
-use mf_geom::{OutOfMemory, Point};
+use mf_geom::{MAX_POINTS, OutOfMemory, Point};
 use std::alloc::Global;
 
-/// The points of a path, as far as there is memory for them: whether the line is in the grammar shows without it.
+/// The points of a path, as far as a cycle may have so many and there is memory for them: whether the line is in the
+/// grammar shows without them.
 #[derive(Debug, Drop)]
 pub struct Path {
     points: Vec<Point>,
-    /// How many points it has.
+    /// How many points it has, or one more than a cycle may have.
     pub(crate) corners: usize,
     /// Whether memory was wanting for some of them.
     is_wanting: bool,
@@ -30,18 +31,20 @@ impl Path {
 
     /// Adds a point behind the others.
     pub fn push(&mut self, point: Point)
-        requires { self.old.corners < 2 ^ 63 }
         ensures { (before : List points.Point) → HasPoints self.old before → HasPoints self.new (before ++ point ∷ []) }
     {
+        if self.corners > MAX_POINTS {
+            return;
+        }
         self.corners += 1;
         if !self.is_wanting {
             self.is_wanting = self.points.push(point).is_err();
         }
     }
 
-    /// Its points. Refusal OutOfMemory (14), where memory was wanting for them.
+    /// Its points, where they are not too many. Refusal OutOfMemory (14), where memory was wanting for them.
     pub fn points(self) -> Result<Vec<Point>, OutOfMemory>
-        ensures points { (all : List points.Point) → HasPoints self all → IfOk result (λ points. points.items ≡ all) }
+        ensures points { (all : List points.Point) → HasPoints self all → self.corners ≤ 4096 → IfOk result (λ points. points.items ≡ all) }
         ensures refused { IsErr result → IsTrue self.is_wanting }
     {
         if self.is_wanting {

@@ -1,27 +1,24 @@
-//! A reader of tokens.
-ghost use Rattle.mf_text.specs.Short.{IsNextShort, IsNextShort-prop};
+//! A reader of the tokens of a line.
+use crate::path::Path;
+use crate::place::Place;
 
-use crate::token::Placed;
-use crate::tokens::Tokens;
-
-mod ints;
-mod paths;
 mod steps;
-mod words;
 
-/// What stands before a reader is no phrase that it looks for: the column at which that shows.
+/// A token that no line has where it stands: the column at which that shows.
 #[derive(Clone, Copy, Debug, PartialEq, Eq)]
 pub struct SyntaxFault {
     pub(crate) column: u32,
 }
 
-/// A reader of the tokens of a line, from the left. It takes no memory.
-#[derive(Clone, Copy, Debug)]
-pub struct Reader<'a> {
-    pub(crate) tokens: Tokens<'a>,
-    /// The token that is to be read next.
-    pub(crate) next: Option<Placed>,
-    /// The column behind the token that was read last, or 1.
+/// What was read of a line, one token after another. It wants no memory but for the points of a contour.
+#[derive(Debug, Drop)]
+pub struct Reader {
+    pub(crate) place: Place,
+    /// The corners of a contour.
+    pub(crate) path: Path,
+    /// Whether `;` was read behind a command.
+    ended: bool,
+    /// The column of the last token, and the one behind it; 1 before the first token.
+    column: u32,
     pub(crate) past: u32,
-    ghost short: { IsNextShort next } by { IsNextShort-prop next },
 }

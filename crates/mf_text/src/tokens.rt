@@ -2,7 +2,7 @@
 ghost use Rattle.std.specs.Prelude.{◌≡◌, ◌+◌, ◌<◌, ◌≤◌, ◌^◌, length, map};
 ghost use Rattle.std.specs.Char.{is_ascii_alphabetic, is_ascii_digit};
 ghost use Rattle.std.specs.List.{prefix_len, take_while};
-ghost use Rattle.mf_text.specs.Short.{IsClear};
+ghost use Rattle.mf_text.specs.Bytes.{IsClear};
 ghost use Rattle.mf_text.specs.Tokens.{first_token, marks, mark_among, number_token, words, word_among, word_token, written};
 
 use crate::token::{Mark, Placed, Token, Word};

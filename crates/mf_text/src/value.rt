@@ -1,19 +1,26 @@
 //! Commands of lines.
-ghost use Rattle.std.specs.Prelude.{◌≡◌, ◌≢◌, IfOk, IfErr};
+ghost use Rattle.std.specs.Prelude.{◌≡◌, ◌≢◌, false, List, Option, Err, map, IfOk, IfErr};
 ghost use Rattle.std.specs.List.{list_all};
+ghost use Rattle.mf_geom.specs.declared.point.Point.{Point};
+ghost use Rattle.mf_ops.specs.declared.cull.CullRule.TheVariants.{Keeping, Dropping};
 ghost use Rattle.mf_text.specs.Bytes.{is_text_byte};
 ghost use Rattle.mf_text.specs.Grammar as grammar;
-ghost use Rattle.mf_text.specs.Lines.{Gives, IsRefused, TakesMemory};
-ghost use Rattle.mf_text.specs.Meaning.{IsCommandOf, IsRefusalOf, IsContour, IsCull, IsScale, IsBadScale, IsTurn, IsBadTurn, IsRefusedContour, IsRefusedCull, IsGivenByMotion, IsRefusedMotion};
-ghost use Rattle.mf_text.specs.Readers.{IsPathOf};
-ghost use Rattle.mf_text.specs.Sentences.{IsSaid};
-ghost use Rattle.mf_ops.specs.declared.cull.CullRule.TheVariants.{Keeping, Dropping};
+ghost use Rattle.mf_text.specs.Grammar.{weight_value};
+ghost use Rattle.mf_text.specs.Ints.{int_value, pair_value};
+ghost use Rattle.mf_text.specs.Lines.{Gives, IsRefused};
+ghost use Rattle.mf_text.specs.Meaning.{IsAnswerOf, IsContour, IsCull, IsScale, IsBadScale, IsTurn, IsBadTurn, IsRefusedContour, IsRefusedCull};
+ghost use Rattle.mf_text.specs.Paths.{HasPoints};
+ghost use Rattle.mf_text.specs.Readers.{HasForm};
+ghost use Rattle.mf_text.specs.Readings.{corners_at_weight, is_whole, transform_of, weighed_form};
+ghost use Rattle.mf_text.specs.declared.int.Int as ints;
+ghost use Rattle.mf_text.specs.declared.pair.Pair as pairs;
 
 use crate::command::{Command, Name};
 use crate::fault::TextFault;
+use crate::pair::Pair;
 use crate::path::Path;
+use crate::place::{Motion, Place, WeightUse};
 use crate::reader::Reader;
-use crate::sentence::{Motion, Sentence};
 use mf_geom::{Cycle, CycleFault, MAX_POINTS, Point};
 use mf_ops::{Cull, Quarter, Scale, Weight};
 use std::alloc::Global;
@@ -35,9 +42,9 @@ pub fn read_command(alloc: Global, line: &[u8]) -> Result<Command, TextFault>
     if !is_text(line) {
         return Err(TextFault::NotAscii);
     }
-    match Reader::new(line).line(alloc) {
-        Ok(said) => command_of(said),
-        Err(syntax) => Err(TextFault::Syntax(syntax.column)),
+    match Reader::read(alloc, line) {
+        Ok(reader) => reader.command(),
+        Err(fault) => Err(TextFault::Syntax(fault.column)),
     }
 }
 
@@ -60,32 +67,50 @@ fn is_text_byte(byte: u8) -> bool
     matches!(byte, b'\t' | b' '..=b'~')
 }
 
-/// The command of a sentence.
-fn command_of(said: Sentence) -> Result<Command, TextFault>
-    ensures given { IfOk result (λ command. (form : grammar.Form) → IsSaid said form → IsCommandOf form command) }
-    ensures refused { IfErr result (λ fault. fault ≢ TextFault.OutOfMemory → (form : grammar.Form) → IsSaid said form → IsRefusalOf form fault) }
-    ensures memory { IfErr result (λ fault. fault ≡ TextFault.OutOfMemory → (form : grammar.Form) → IsSaid said form → TakesMemory form) }
+impl Reader {
+    /// The command of the line that was read: a fault of its values, or Syntax (18) where no line is whole.
+    fn command(self) -> Result<Command, TextFault>
+        ensures whole { (form : grammar.Form) → HasForm self form → IsAnswerOf form result }
+        ensures unended { is_whole self.place ≡ false → result ≡ Err (TextFault.Syntax self.past) }
+    {
+        match self.place {
+            Place::Front => Ok(Command::Nothing),
+            Place::Weighable(weight_use) => weighed(weight_use, self.path, 1),
+            Place::Weighted(weight_use, weight) => weighed(weight_use, self.path, weight.value()),
+            Place::AddPicture(name, source, sign) => Ok(Command::Also(name, source, sign)),
+            Place::Clear(name) => Ok(Command::Clear(name)),
+            Place::Shift(name, by) => Ok(shifted(name, by)),
+            Place::Move(name, motion, number) => moved(name, motion, number.value()),
+            Place::ShowTotal(source) => Ok(Command::Total(source)),
+            Place::ShowPicture(source) => Ok(Command::Show(source)),
+            Place::ShowProof(source) => Ok(Command::Proof(source)),
+            Place::ShipOut(source, code, dx, width) => Ok(Command::Ship(
+                source,
+                code.value(),
+                dx.value(),
+                width.value(),
+            )),
+            Place::Publish => Ok(Command::Publish),
+            _ => Err(TextFault::Syntax(self.past)),
+        }
+    }
+}
+
+/// The command of a contour or a cull.
+fn weighed(weight_use: WeightUse, path: Path, weight: i32) -> Result<Command, TextFault>
+    ensures { (others : List pairs.Pair) (some : Option ints.Int) → weight ≡ weight_value some → HasPoints path (map pair_value (corners_at_weight others weight_use)) → IsAnswerOf (weighed_form others weight_use some) result }
 {
-    match said {
-        Sentence::Nothing => Ok(Command::Nothing),
-        Sentence::AddContour(name, path, weight) => contour(name, path, weight),
-        Sentence::AddPicture(name, sign, source) => Ok(Command::Also(name, source, sign)),
-        Sentence::CullKeeping(name, range, weight) => keeping(name, range, weight),
-        Sentence::CullDropping(name, range, weight) => dropping(name, range, weight),
-        Sentence::Clear(name) => Ok(Command::Clear(name)),
-        Sentence::Move(name, motion) => moved(name, motion),
-        Sentence::ShowTotal(source) => Ok(Command::Total(source)),
-        Sentence::ShowPicture(source) => Ok(Command::Show(source)),
-        Sentence::ShowProof(source) => Ok(Command::Proof(source)),
-        Sentence::ShipOut(source, code, dx, width) => Ok(Command::Ship(source, code, dx, width)),
-        Sentence::PublishAll => Ok(Command::Publish),
+    match weight_use {
+        WeightUse::Contour(name, _) => contour(name, path, weight),
+        WeightUse::Keep(name, range) => keeping(name, range.value(), weight),
+        WeightUse::Drop(name, range) => dropping(name, range.value(), weight),
     }
 }
 
 /// The command of a contour.
 fn contour(name: Name, path: Path, weight: i32) -> Result<Command, TextFault>
-    ensures given { IfOk result (λ command. (tree : grammar.Path) → IsPathOf tree path → IsContour name (grammar.path_value tree) weight command) }
-    ensures refused { IfErr result (λ fault. fault ≢ TextFault.OutOfMemory → (tree : grammar.Path) → IsPathOf tree path → IsRefusedContour (grammar.path_value tree) weight fault) }
+    ensures given { IfOk result (λ command. (points : List Point) → HasPoints path points → IsContour name points weight command) }
+    ensures refused { IfErr result (λ fault. fault ≢ TextFault.OutOfMemory → (points : List Point) → HasPoints path points → IsRefusedContour points weight fault) }
 {
     if path.corners > MAX_POINTS {
         return Err(TextFault::Cycle(CycleFault::TooManyPoints));
@@ -136,17 +161,23 @@ fn dropping(name: Name, range: Point, weight: i32) -> Result<Command, TextFault>
     }
 }
 
-/// The command of a motion.
-fn moved(name: Name, motion: Motion) -> Result<Command, TextFault>
-    ensures given { IfOk result (IsGivenByMotion name motion) }
-    ensures refused { IfErr result (IsRefusedMotion motion) }
+/// The command of a shift.
+fn shifted(name: Name, by: Pair) -> Command
+    ensures { result ≡ Command.Shift name (pair_value by).x (pair_value by).y }
+{
+    let by = by.value();
+    Command::Shift(name, by.x, by.y)
+}
+
+/// The command of a motion by one number.
+fn moved(name: Name, motion: Motion, number: i32) -> Result<Command, TextFault>
+    ensures { (int : ints.Int) → number ≡ int_value int → IsAnswerOf (grammar.Move name (transform_of motion int)) result }
 {
     match motion {
-        Motion::Shifted(by) => Ok(Command::Shift(name, by.x, by.y)),
-        Motion::Scaled(factor) => scaled(name, factor, factor),
-        Motion::XScaled(factor) => scaled(name, factor, 1),
-        Motion::YScaled(factor) => scaled(name, 1, factor),
-        Motion::Rotated(angle) => rotated(name, angle),
+        Motion::Scaled => scaled(name, number, number),
+        Motion::XScaled => scaled(name, number, 1),
+        Motion::YScaled => scaled(name, 1, number),
+        Motion::Rotated => rotated(name, number),
     }
 }
 

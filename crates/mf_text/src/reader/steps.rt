@@ -1,66 +1,108 @@
-//! Going on from token to token.
-ghost use Rattle.std.specs.Prelude.{◌≡◌, ◌<◌, ◌^◌, ◌∷◌, length, IfSome, MatchBool, Some};
-ghost use Rattle.mf_text.specs.Ahead.{column_at, skip};
-ghost use Rattle.mf_text.specs.Readers.{ahead, kinds_ahead, IsNotNext};
-ghost use Rattle.mf_text.specs.Tokens.{tokens};
+//! Reading lines.
+ghost use Rattle.std.specs.Prelude.{◌≡◌, ◌<◌, ◌^◌, List, [], length, map, true, false, IfOk, IfErr, IsOk, IsErr, if◌then◌else◌};
+ghost use Rattle.std.specs.Option.{MatchOption};
+ghost use Rattle.mf_text.specs.Lines.{front};
+ghost use Rattle.mf_text.specs.Ints.{pair_value};
+ghost use Rattle.mf_text.specs.Paths.{HasPoints};
+ghost use Rattle.mf_text.specs.Readers.{HasRead, HasReadLine, with_corner};
+ghost use Rattle.mf_text.specs.Readings.{Reading, Open, corner_of, is_bad_code, start, step};
+ghost use Rattle.mf_text.specs.declared.pair.Pair as pairs;
+ghost use Rattle.mf_text.specs.Syntax.{IsSyntaxFault};
+ghost use Rattle.mf_text.specs.Tokens.{tokens, kinds};
 
 use super::{Reader, SyntaxFault};
-use crate::token::{Placed, Token};
+use crate::path::Path;
+use crate::place::{Place, is_bad_code};
+use crate::token::{Mark, Placed, Token};
 use crate::tokens::Tokens;
+use std::alloc::Global;
 
-impl<'a> Reader<'a> {
-    /// A reader of this line.
-    pub fn new(line: &'a [u8]) -> Reader<'a>
+impl Reader {
+    /// Reads all tokens of a line.
+    pub fn read(alloc: Global, line: &[u8]) -> Result<Reader, SyntaxFault>
         requires { length line.now < 2 ^ 31 }
-        ensures { ahead result ≡ record { tokens = tokens line.now; past = 1 } }
+        ensures read { IfOk result (HasReadLine line.now) }
+        ensures wrong { IfErr result (λ fault. IsSyntaxFault (front line.now) fault.column) }
     {
-        let mut tokens = Tokens::new(line);
-        let next = tokens.next();
+        let mut reader = Reader::new(alloc);
+        for placed in Tokens::new(line) {
+            reader.take(placed)?;
+        }
+        Ok(reader)
+    }
+
+    /// A reader before the first token.
+    fn new(alloc: Global) -> Reader
+        ensures read { HasRead result (Open [] Place.Front) }
+        ensures column { (result.column ≡ 1) × (result.past ≡ 1) }
+    {
         Reader {
-            tokens,
-            next,
+            place: Place::Front,
+            path: Path::new(alloc),
+            ended: false,
+            column: 1,
             past: 1,
         }
     }
 
-    /// The refusal of the token that is to be read next, or of the end.
-    pub fn syntax(&self) -> SyntaxFault
-        ensures { result.column ≡ column_at (ahead self.now) 0 }
+    /// Takes the next token. Refused where no line has it here.
+    fn take(&mut self, placed: Placed) -> Result<(), SyntaxFault>
+        ensures taken { (r : Reading) → HasRead self.old r → MatchOption (step r placed.token) (IsErr result) (λ s. IsOk result × HasRead self.new s) }
+        ensures passed { IfOk result (λ _. (self.new.column ≡ placed.column) × (self.new.past ≡ placed.after)) }
+        ensures shown { IfErr result (λ fault. fault.column ≡ (if is_bad_code self.old.place placed.token then self.old.column else placed.column)) }
     {
-        let column = match self.next {
-            Some(placed) => placed.column,
-            None => self.past,
-        };
-        SyntaxFault { column }
+        if !self.goes_on(placed.token) {
+            return Err(SyntaxFault {
+                column: self.shown(placed),
+            });
+        }
+        self.column = placed.column;
+        self.past = placed.after;
+        Ok(())
     }
 
-    /// Goes on behind this token, if it is the next one.
-    pub fn takes(&mut self, token: Token) -> bool
-        ensures taken { MatchBool result (kinds_ahead self.old ≡ token ∷ kinds_ahead self.new) (ahead self.new ≡ ahead self.old) }
-        ensures goes_on { MatchBool result (ahead self.new ≡ skip 1 (ahead self.old)) (IsNotNext token (ahead self.old)) }
+    /// The column at which a token shows that is not taken: its own, but of an int behind `code` that of its first token.
+    fn shown(&self, placed: Placed) -> u32
+        ensures { result ≡ (if is_bad_code self.now.place placed.token then self.now.column else placed.column) }
     {
-        let Some(placed) = self.next else {
-            return false;
-        };
-        if placed.token != token {
+        if is_bad_code(self.place, placed.token) {
+            return self.column;
+        }
+        placed.column
+    }
+
+    /// Goes on behind a token, if some line has it here.
+    fn goes_on(&mut self, token: Token) -> bool
+        ensures taken { (r : Reading) → HasRead self.old r → MatchOption (step r token) (result ≡ false) (λ s. (result ≡ true) × HasRead self.new s) }
+        ensures column { self.new.column ≡ self.old.column }
+        ensures place { result ≡ false → self.new.place ≡ self.old.place }
+    {
+        if self.ended {
             return false;
         }
-        self.pass(placed);
-        true
+        if token == Token::Mark(Mark::Semicolon) {
+            self.ended = self.place.is_whole();
+            return self.ended;
+        }
+        match self.place.next(token) {
+            None => false,
+            Some(next) => {
+                self.enter(next);
+                true
+            }
+        }
     }
 
-    /// Goes on behind the next token.
-    pub fn pass(&mut self, placed: Placed)
-        requires { self.old.next ≡ Some placed }
-        ensures taken { kinds_ahead self.old ≡ placed.token ∷ kinds_ahead self.new }
-        ensures goes_on { ahead self.new ≡ skip 1 (ahead self.old) }
+    /// Goes on to a place.
+    fn enter(&mut self, next: Place)
+        ensures place { self.new.place ≡ next }
+        ensures ended { self.new.ended ≡ self.old.ended }
+        ensures column { self.new.column ≡ self.old.column }
+        ensures corners { (ps : List pairs.Pair) → HasPoints self.old.path (map pair_value ps) → HasPoints self.new.path (map pair_value (with_corner ps (corner_of next))) }
     {
-        let mut tokens = self.tokens;
-        let next = tokens.next();
-        *self = Reader {
-            tokens,
-            next,
-            past: placed.after,
-        };
+        if let Some(corner) = next.corner() {
+            self.path.push(corner.value());
+        }
+        self.place = next;
     }
 }

@@ -1,4 +1,4 @@
-use Rattle.mf_text.proofs.Beginnings.{begins_or_not}
+use Rattle.mf_text.proofs.LineReading.{begins_or_not}
 use Rattle.mf_text.proofs.laws.begins_or_not.Goals as goal
 
 pub returns : goal.returns

@@ -1,4 +1,4 @@
-use Rattle.mf_text.proofs.LinesReadBack.{same_line}
+use Rattle.mf_text.proofs.LineReading.{same_line}
 use Rattle.mf_text.proofs.laws.one_line.Goals as goal
 
 pub returns : goal.returns

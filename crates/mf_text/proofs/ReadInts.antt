@@ -1,0 +1,51 @@
+-- Ints of numbers, and codes of ints.
+use Rattle.std.proofs.Common.{◌≡◌, ℕ, Bool, true, false, nat_lt, Some, None, refl, ap, sym, ◌∙◌}
+use Rattle.std.proofs.Math.Bool.{Bool-set}
+use Rattle.std.proofs.lemmas.Bool.{false≢true}
+use Rattle.mf_text.specs.declared.code.Code.{Code}
+use Rattle.mf_text.specs.declared.int.Int.{Int}
+use Rattle.mf_text.specs.Codes.{code_of, byte_code}
+use Rattle.mf_text.specs.Ints.{int_of, short_int, is_byte}
+
+short_int-some : (negative : Bool) (n : ℕ) (short : Bool) (is : nat_lt n 1000000000 ≡ short) (fits : nat_lt n 1000000000 ≡ true)
+    → short_int negative n short is ≡ Some (record { negative = negative; magnitude = n; short = fits })
+short_int-some negative n true is fits = ap (λ (s : nat_lt n 1000000000 ≡ true). Some (record { negative = negative; magnitude = n; short = s })) (Bool-set (nat_lt n 1000000000) true is fits)
+short_int-some negative n false is fits = absurd (false≢true (sym is ∙ fits))
+
+short_int-none : (negative : Bool) (n : ℕ) (short : Bool) (is : nat_lt n 1000000000 ≡ short) → nat_lt n 1000000000 ≡ false
+    → short_int negative n short is ≡ None
+short_int-none negative n true is long = absurd (false≢true (sym long ∙ is))
+short_int-none negative n false is long = refl
+
+pub int_of-some : (negative : Bool) (n : ℕ) (fits : nat_lt n 1000000000 ≡ true)
+    → int_of negative n ≡ Some (record { negative = negative; magnitude = n; short = fits })
+unfolding int_of
+int_of-some negative n fits = short_int-some negative n (nat_lt n 1000000000) refl fits
+
+pub int_of-none : (negative : Bool) (n : ℕ) → nat_lt n 1000000000 ≡ false → int_of negative n ≡ None
+unfolding int_of
+int_of-none negative n long = short_int-none negative n (nat_lt n 1000000000) refl long
+
+-- an int comes back from its number
+pub int_of-back : (n : Int) → int_of n.negative n.magnitude ≡ Some n
+int_of-back n = int_of-some n.negative n.magnitude n.short
+
+byte_code-some : (n : Int) (byte : Bool) (is : is_byte n ≡ byte) (fits : is_byte n ≡ true) → byte_code n byte is ≡ Some (record { int = n; is_byte = fits })
+byte_code-some n true is fits = ap (λ (s : is_byte n ≡ true). Some (record { int = n; is_byte = s })) (Bool-set (is_byte n) true is fits)
+byte_code-some n false is fits = absurd (false≢true (sym is ∙ fits))
+
+byte_code-none : (n : Int) (byte : Bool) (is : is_byte n ≡ byte) → is_byte n ≡ false → byte_code n byte is ≡ None
+byte_code-none n true is other = absurd (false≢true (sym other ∙ is))
+byte_code-none n false is other = refl
+
+pub code_of-some : (n : Int) (fits : is_byte n ≡ true) → code_of n ≡ Some (record { int = n; is_byte = fits })
+unfolding code_of
+code_of-some n fits = byte_code-some n (is_byte n) refl fits
+
+pub code_of-none : (n : Int) → is_byte n ≡ false → code_of n ≡ None
+unfolding code_of
+code_of-none n other = byte_code-none n (is_byte n) refl other
+
+-- a code comes back from its int
+pub code_of-back : (code : Code) → code_of code.int ≡ Some code
+code_of-back code = code_of-some code.int code.is_byte

@@ -1,0 +1,23 @@
+-- The values of ints and pairs, as a line writes them.
+use Rattle.std.specs.Prelude.{◌≡◌, ◌&&◌, int_le, nat_lt, true, false, refl, Bool, ℕ, Option, Some, None, ℤ, pos, neg_ℤ, if◌then◌else◌}
+use Rattle.mf_geom.specs.declared.point.Point.{Point}
+use Rattle.mf_text.specs.declared.int.Int.{Int}
+use Rattle.mf_text.specs.declared.pair.Pair.{Pair}
+
+abbrev pub int_value : Int → ℤ
+int_value n = if n.negative then neg_ℤ (pos n.magnitude) else pos n.magnitude
+
+abbrev pub pair_value : Pair → Point
+pair_value p = record { x = int_value p.across; y = int_value p.up }
+
+-- an int lies in 0..255
+abbrev pub is_byte : Int → Bool
+is_byte n = int_le (pos 0) (int_value n) && int_le (int_value n) (pos 255)
+
+abbrev pub short_int : Bool → (n : ℕ) (short : Bool) → nat_lt n 1000000000 ≡ short → Option Int
+short_int negative n true is = Some (record { negative = negative; magnitude = n; short = is })
+short_int negative n false is = None
+
+-- the int of a number, which has at most nine digits
+unfoldable pub int_of : Bool → ℕ → Option Int
+int_of negative n = short_int negative n (nat_lt n 1000000000) refl
