@@ -15,5 +15,6 @@ pub mod ReadLines
 pub mod ReadTokens
 pub mod Registers
 pub mod SomeAnswer
+pub mod TokenTexts
 pub mod Words
 pub mod WrittenRuns

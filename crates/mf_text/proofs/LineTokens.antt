@@ -13,7 +13,7 @@ use Rattle.mf_text.specs.Tokens.{Taken, placed, marks, mark_among, first_token, 
 -- ---- how many bytes a token takes
 
 -- at least one of the bytes, and at most n
-record TakesSome (n : ℕ) (t : Taken) : Type 0 where
+pub record TakesSome (n : ℕ) (t : Taken) : Type 0 where
   pub some : 0 < t.bytes
   pub within : t.bytes ≤ n
 
@@ -29,7 +29,7 @@ unfolding mark_among
 mark_taken b [] = search (if_taken, taken, arith) depth 20
 mark_taken b (other ∷ bs) = search (if_taken, taken, arith) depth 20
 
-first_taken : (b : ℕ) (bs : List ℕ) → TakesSome (suc (length bs)) (first_token (b ∷ bs))
+pub first_taken : (b : ℕ) (bs : List ℕ) → TakesSome (suc (length bs)) (first_token (b ∷ bs))
 unfolding first_token
 first_taken b bs =
     let row : (p : ℕ → Bool) (t : Token) → ltb 0 (length (take (prefix_len p (b ∷ bs)) (b ∷ bs))) ≡ true
@@ -40,7 +40,7 @@ first_taken b bs =
 -- ---- a line from its front
 
 -- the bytes behind the first token are fewer
-rest_shorter : (b : ℕ) (bs : List ℕ) → length (drop (first_token (b ∷ bs)).bytes (b ∷ bs)) ≤ length bs
+pub rest_shorter : (b : ℕ) (bs : List ℕ) → length (drop (first_token (b ∷ bs)).bytes (b ∷ bs)) ≤ length bs
 rest_shorter b bs =
     let some = first_taken b bs in
     omega (arith, some.some, some.within, length-drop (first_token (b ∷ bs)).bytes (b ∷ bs))

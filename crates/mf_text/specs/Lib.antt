@@ -18,3 +18,4 @@ pub mod RunText
 pub mod Steps
 pub mod Syntax
 pub mod Tokens
+pub mod TokenTexts

@@ -11,31 +11,31 @@ use Rattle.mf_text.specs.declared.token.Mark.TheVariants as mark
 use Rattle.mf_text.specs.declared.token.Placed.{Placed}
 use Rattle.mf_text.specs.declared.token.Token.{Token}
 use Rattle.mf_text.specs.declared.token.Token.TheVariants as token
+use Rattle.mf_text.specs.declared.token.TheConstants.{WORDS}
 use Rattle.mf_text.specs.declared.token.Word.{Word}
-use Rattle.mf_text.specs.declared.token.Word.TheVariants as word
 use Rattle.mf_text.specs.Bytes.{is_blank}
 
--- the words, as they are written
-abbrev pub words : List (List ℕ × Word)
-words =
-    (codes "addto", word.Addto) ∷ (codes "also", word.Also) ∷ (codes "code", word.Code) ∷ (codes "contour", word.Contour)
-    ∷ (codes "cull", word.Cull) ∷ (codes "currentpicture", word.CurrentPicture) ∷ (codes "cycle", word.Cycle)
-    ∷ (codes "dropping", word.Dropping) ∷ (codes "dx", word.Dx) ∷ (codes "keeping", word.Keeping)
-    ∷ (codes "nullpicture", word.NullPicture) ∷ (codes "proof", word.Proof) ∷ (codes "publish", word.Publish)
-    ∷ (codes "rotated", word.Rotated) ∷ (codes "scaled", word.Scaled) ∷ (codes "shifted", word.Shifted)
-    ∷ (codes "shipout", word.Shipout) ∷ (codes "show", word.Show) ∷ (codes "totalweight", word.TotalWeight)
-    ∷ (codes "width", word.Width) ∷ (codes "withweight", word.WithWeight) ∷ (codes "xscaled", word.XScaled)
-    ∷ (codes "yscaled", word.YScaled) ∷ []
+-- the marks, as they are written
+abbrev pub mark_text : Mark → List ℕ
+mark_text mark.Becomes = codes ":="
+mark_text mark.Close = codes ")"
+mark_text mark.Comma = codes ","
+mark_text mark.Join = codes "--"
+mark_text mark.Minus = codes "-"
+mark_text mark.Open = codes "("
+mark_text mark.Semicolon = codes ";"
 
--- the marks, as they are written: of `--` and `-` the longer comes first
+-- their table: of `--` and `-` the longer comes first
 abbrev pub marks : List (List ℕ × Mark)
-marks =
-    (codes "--", mark.Join) ∷ (codes "-", mark.Minus) ∷ (codes ":=", mark.Becomes) ∷ (codes "(", mark.Open)
-    ∷ (codes ")", mark.Close) ∷ (codes ",", mark.Comma) ∷ (codes ";", mark.Semicolon) ∷ []
+marks = map (λ m. (mark_text m, m)) (mark.Join ∷ mark.Minus ∷ mark.Becomes ∷ mark.Open ∷ mark.Close ∷ mark.Comma ∷ mark.Semicolon ∷ [])
 
 -- an entry of a table of words, as it is written
 abbrev pub written : Bor (List ℕ) × Word → List ℕ × Word
 written entry = (entry.0.now, entry.1)
+
+-- the words, as they are written
+abbrev pub words : List (List ℕ × Word)
+words = map (λ entry. (entry.0.now, entry.1)) WORDS
 
 -- the word that these letters are, if they are one
 unfoldable pub word_among : List (List ℕ × Word) → List ℕ → Option Word

@@ -10,9 +10,16 @@ ghost use Rattle.mf_text.specs.Grid.{IsGridText, box_text, character, extent};
 ghost use Rattle.mf_text.specs.Lines.{Gives, IsRefused};
 ghost use Rattle.mf_text.specs.Registers.{HasNames};
 ghost use Rattle.mf_text.specs.Syntax.{IsLine, BeginsLine, IsSyntaxFault};
-ghost use Rattle.mf_text.specs.Tokens.{kinds};
+ghost use Rattle.mf_text.specs.Tokens.{kinds, tokens};
+ghost use Rattle.mf_text.specs.TokenTexts.{AreTokens};
 
 use crate::fault::TextFault;
+
+/// The tokens of a line are its bytes, cut from the left: each is as long as can be, blanks alone stand between them, and behind the
+/// last one blanks and perhaps a comment.
+pub fn tokens_are_as_long_as_can_be()
+    ensures { (line : List ℕ) → AreTokens 1 line (tokens line) }
+{}
 
 /// Tokens are at most one line of the grammar.
 pub fn one_line()

@@ -28,6 +28,33 @@ pub enum Word {
     YScaled,
 }
 
+/// The words, as they are written: the definition of the language takes them from here.
+pub(crate) const WORDS: [(&[u8], Word); 23] = [
+    (b"addto", Word::Addto),
+    (b"also", Word::Also),
+    (b"code", Word::Code),
+    (b"contour", Word::Contour),
+    (b"cull", Word::Cull),
+    (b"currentpicture", Word::CurrentPicture),
+    (b"cycle", Word::Cycle),
+    (b"dropping", Word::Dropping),
+    (b"dx", Word::Dx),
+    (b"keeping", Word::Keeping),
+    (b"nullpicture", Word::NullPicture),
+    (b"proof", Word::Proof),
+    (b"publish", Word::Publish),
+    (b"rotated", Word::Rotated),
+    (b"scaled", Word::Scaled),
+    (b"shifted", Word::Shifted),
+    (b"shipout", Word::Shipout),
+    (b"show", Word::Show),
+    (b"totalweight", Word::TotalWeight),
+    (b"width", Word::Width),
+    (b"withweight", Word::WithWeight),
+    (b"xscaled", Word::XScaled),
+    (b"yscaled", Word::YScaled),
+];
+
 /// The marks of the commands.
 #[derive(Clone, Copy, Debug, PartialEq, Eq)]
 pub enum Mark {

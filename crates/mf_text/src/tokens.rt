@@ -5,7 +5,7 @@ ghost use Rattle.std.specs.List.{prefix_len, take_while};
 ghost use Rattle.mf_text.specs.Bytes.{IsClear};
 ghost use Rattle.mf_text.specs.Tokens.{first_token, marks, mark_among, number_token, words, word_among, word_token, written};
 
-use crate::token::{Mark, Placed, Token, Word};
+use crate::token::{Mark, Placed, Token, WORDS, Word};
 
 /// Most digits that a number has.
 const MAX_DIGITS: usize = 9;
@@ -151,33 +151,6 @@ fn word_token(letters: &[u8]) -> Token
         None => Token::Unknown,
     }
 }
-
-/// The words, as they are written.
-const WORDS: [(&[u8], Word); 23] = [
-    (b"addto", Word::Addto),
-    (b"also", Word::Also),
-    (b"code", Word::Code),
-    (b"contour", Word::Contour),
-    (b"cull", Word::Cull),
-    (b"currentpicture", Word::CurrentPicture),
-    (b"cycle", Word::Cycle),
-    (b"dropping", Word::Dropping),
-    (b"dx", Word::Dx),
-    (b"keeping", Word::Keeping),
-    (b"nullpicture", Word::NullPicture),
-    (b"proof", Word::Proof),
-    (b"publish", Word::Publish),
-    (b"rotated", Word::Rotated),
-    (b"scaled", Word::Scaled),
-    (b"shifted", Word::Shifted),
-    (b"shipout", Word::Shipout),
-    (b"show", Word::Show),
-    (b"totalweight", Word::TotalWeight),
-    (b"width", Word::Width),
-    (b"withweight", Word::WithWeight),
-    (b"xscaled", Word::XScaled),
-    (b"yscaled", Word::YScaled),
-];
 
 /// The word that these letters are.
 fn word(letters: &[u8]) -> Option<Word>
