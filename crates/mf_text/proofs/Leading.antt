@@ -57,7 +57,7 @@ source-leads place_of before others leads (token.Letter letter) = leads (Named (
 source-leads place_of before others leads t = tt
 
 -- the tokens of an int
-abbrev signed : Bool → ℕ → List Token
+abbrev pub signed : Bool → ℕ → List Token
 signed true n = token.Mark mark.Minus ∷ token.Number n ∷ []
 signed false n = token.Number n ∷ []
 
@@ -67,7 +67,7 @@ short_int-spelled true n true is = refl
 short_int-spelled false n true is = refl
 short_int-spelled negative n false is = tt
 
-int_of-spelled : (negative : Bool) (n : ℕ) → IfSome (int_of negative n) (λ (i : Int). spell_int i ≡ signed negative n)
+pub int_of-spelled : (negative : Bool) (n : ℕ) → IfSome (int_of negative n) (λ (i : Int). spell_int i ≡ signed negative n)
 unfolding int_of
 int_of-spelled negative n = short_int-spelled negative n (nat_lt n 1000000000) refl
 
@@ -269,9 +269,11 @@ next_corner-leads : (others : List Pair) (name : Name) (first p : Pair)
     → Leads (to_place others (place.NextCorner name first p) ++ spell_mark mark.Join) (others ++ p ∷ []) (first ∷ (others ++ p ∷ [])) (place.Joined name first)
 unfolding to_place
 next_corner-leads others name first p =
-    let front = spell_word word.Addto ++ spell_name name ++ spell_word word.Contour in
-    (ap (λ ts. front ++ (spell_corner first ++ ts)) (flat_map-append spell_corner others (p ∷ []))
-    ∙ one_corner_more front (spell_corner first) (flat_map spell_corner others) (spell_pair p) (spell_mark mark.Join), refl)
+    let front = spell_word word.Addto ++ spell_name name ++ spell_word word.Contour in (
+      ap (λ ts. front ++ (spell_corner first ++ ts)) (flat_map-append spell_corner others (p ∷ []))
+          ∙ one_corner_more front (spell_corner first) (flat_map spell_corner others) (spell_pair p) (spell_mark mark.Join),
+      refl,
+    )
 
 -- a step leads to the place behind
 pub leads : (others : List Pair) (p : Place) (t : Token) → Lead (to_place others p ++ t ∷ []) (corners_behind p others) (corners_at others p) (steps.next p t)

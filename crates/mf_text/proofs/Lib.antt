@@ -10,6 +10,7 @@ pub mod LineTokens
 pub mod OneAnswer
 pub mod PassedPixels
 pub mod Places
+pub mod ReadCorners
 pub mod ReadInts
 pub mod ReadLines
 pub mod ReadTokens

@@ -121,7 +121,7 @@ pair-read others purpose p ts =
 
 -- ---- corners
 
-next_corner-read : (others : List Pair) (name : Name) (first p : Pair) (ts : List Token)
+pub next_corner-read : (others : List Pair) (name : Name) (first p : Pair) (ts : List Token)
     → from others (place.Joined name first) (spell_corner p ++ ts) ≡ from (others ++ p ∷ []) (place.Joined name first) ts
 unfolding read
 next_corner-read others name first p ts =

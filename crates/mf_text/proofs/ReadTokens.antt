@@ -25,7 +25,7 @@ use Rattle.mf_text.specs.Ahead.{Ahead, column_of, behind, column_at}
 use Rattle.mf_text.specs.Grammar.{spell_line}
 use Rattle.mf_text.specs.Lines.{front}
 use Rattle.mf_text.specs.Phrases.{IsWrongAt}
-use Rattle.mf_text.specs.Readers.{HasRead, HasReadLine}
+use Rattle.mf_text.specs.Readers.{HasRead, HasReadLine, IsReadTo, last_column, past_of}
 use Rattle.mf_text.specs.Readings.{Reading, Open, Ended, to_place, form_at, is_bad_code, step, read, start, tokens_read}
 use Rattle.mf_text.specs.Syntax.{is_negative_int, is_negative_code, shown_at, IsSyntaxFault}
 use Rattle.mf_text.specs.Tokens.{tokens, kinds}
@@ -33,20 +33,11 @@ use Rattle.mf_text.proofs.LineReading.{read-append, all-read, wrong_behind}
 
 -- ---- columns
 
--- the column behind the last token, and that of the last token
-abbrev pub past_of : ℕ → List Placed → ℕ
-past_of past [] = past
-past_of past (p ∷ ps) = past_of p.after ps
-
-abbrev pub last_column : ℕ → List Placed → ℕ
-last_column column [] = column
-last_column column (p ∷ ps) = last_column p.column ps
-
-past_of-more : (past : ℕ) (ps : List Placed) (p : Placed) → past_of past (ps ++ p ∷ []) ≡ p.after
+pub past_of-more : (past : ℕ) (ps : List Placed) (p : Placed) → past_of past (ps ++ p ∷ []) ≡ p.after
 past_of-more past [] p = refl
 past_of-more past (q ∷ ps) p = past_of-more q.after ps p
 
-last_column-more : (column : ℕ) (ps : List Placed) (p : Placed) → last_column column (ps ++ p ∷ []) ≡ p.column
+pub last_column-more : (column : ℕ) (ps : List Placed) (p : Placed) → last_column column (ps ++ p ∷ []) ≡ p.column
 last_column-more column [] p = refl
 last_column-more column (q ∷ ps) p = last_column-more q.column ps p
 
@@ -160,16 +151,6 @@ bad_code-tokens reader (Open others p) us t has is bad =
     (b, (sym read_is ∙ ap (to_place others) (sym has.place ∙ code.place_is) ∙ tokens_are, (code.n, code.number)))
 
 -- ---- the tokens so far
-
--- a reader has taken some tokens of a line
-pub record IsReadTo (all left : List Placed) (reader : Reader) : Type 0 where
-  pub passed : List Placed
-  pub all_is : all ≡ passed ++ left
-  pub reading : Reading
-  pub read_is : read start (kinds passed) ≡ Some reading
-  pub has : HasRead reader reading
-  pub column_is : reader.column ≡ last_column 1 passed
-  pub past_is : reader.past ≡ past_of 1 passed
 
 pub none-read : (all left : List Placed) (reader : Reader) → left ≡ all → HasRead reader (Open [] place.Front) → reader.column ≡ 1 → reader.past ≡ 1 → IsReadTo all left reader
 unfolding read

@@ -177,14 +177,25 @@ more-blank column b bs [] blank end = record {
   blank = All-cons blank_byte b end.blanks blank end.blank;
   end = end.end;
 }
-more-blank column b bs (p ∷ ps) blank (blanks, (text, (rest, (cut, later)))) =
-    (b ∷ blanks, (text, (rest, (record {
-      parts = ap (λ cs. b ∷ cs) cut.parts;
-      blank = All-cons blank_byte b blanks blank cut.blank;
-      column_is = omega (arith, cut.column_is);
-      after_is = cut.after_is;
-      token = cut.token;
-    }, later))))
+more-blank column b bs (p ∷ ps) blank (blanks, (text, (rest, (cut, later)))) = (
+  b ∷ blanks,
+  (
+    text,
+    (
+      rest,
+      (
+        record {
+          parts = ap (λ cs. b ∷ cs) cut.parts;
+          blank = All-cons blank_byte b blanks blank cut.blank;
+          column_is = omega (arith, cut.column_is);
+          after_is = cut.after_is;
+          token = cut.token;
+        },
+        later,
+      ),
+    ),
+  ),
+)
 
 no_more : (column : ℕ) (rest : List ℕ) → IsEnd rest → AreTokens column rest []
 no_more column rest end = record { blanks = []; rest = rest; parts = refl; blank = All-nil blank_byte; end = end }
@@ -194,14 +205,25 @@ one-token : (column b : ℕ) (bs : List ℕ) (ps : List Placed)
 one-token column b bs ps later =
     let first = first_token (b ∷ bs) in
     let xs : List ℕ = b ∷ bs in
-    let takes = first_taken b bs in
-    ([], (take first.bytes xs, (drop first.bytes xs, (record {
-      parts = sym (take-append-drop first.bytes xs);
-      blank = All-nil blank_byte;
-      column_is = omega arith;
-      after_is = ap (λ n. column + n) (sym (length-take-le first.bytes xs takes.within));
-      token = first-text b bs;
-    }, later))))
+    let takes = first_taken b bs in (
+      [],
+      (
+        take first.bytes xs,
+        (
+          drop first.bytes xs,
+          (
+            record {
+              parts = sym (take-append-drop first.bytes xs);
+              blank = All-nil blank_byte;
+              column_is = omega arith;
+              after_is = ap (λ n. column + n) (sym (length-take-le first.bytes xs takes.within));
+              token = first-text b bs;
+            },
+            later,
+          ),
+        ),
+      ),
+    )
 
 cut-within : (n column : ℕ) (bs : List ℕ) → length bs ≤ n → AreTokens column bs (tokens_within n column bs)
 unfolding tokens_within

@@ -1,6 +1,7 @@
 pub mod Ahead
 pub mod Bytes
 pub mod Codes
+pub mod Corners
 pub mod Grammar
 pub mod Grid
 pub mod Ints

@@ -3,6 +3,7 @@ use Rattle.std.specs.Prelude.{◌≡◌, ◌++◌, true, false, List, [], ◌∷
 use Rattle.mf_text.specs.declared.pair.Pair.{Pair}
 use Rattle.mf_text.specs.declared.place.Place.{Place}
 use Rattle.mf_text.specs.declared.reader.Reader.{Reader}
+use Rattle.mf_text.specs.declared.token.Placed.{Placed}
 use Rattle.mf_text.specs.Ahead.{column_at}
 use Rattle.mf_text.specs.Grammar.{Form}
 use Rattle.mf_text.specs.Ints.{pair_value}
@@ -44,3 +45,22 @@ pub record HasReadLine (line : List ℕ) (reader : Reader) : Type 0 where
   pub read_is : read start (kinds (tokens line)) ≡ Some reading
   pub has : HasRead reader reading
   pub past_is : reader.past ≡ column_at (front line) (length (tokens line))
+
+-- the column behind the last token, and that of the last token
+abbrev pub past_of : ℕ → List Placed → ℕ
+past_of past [] = past
+past_of past (p ∷ ps) = past_of p.after ps
+
+abbrev pub last_column : ℕ → List Placed → ℕ
+last_column column [] = column
+last_column column (p ∷ ps) = last_column p.column ps
+
+-- a reader has taken some tokens of a line
+pub record IsReadTo (all left : List Placed) (reader : Reader) : Type 0 where
+  pub passed : List Placed
+  pub all_is : all ≡ passed ++ left
+  pub reading : Reading
+  pub read_is : read start (kinds passed) ≡ Some reading
+  pub has : HasRead reader reading
+  pub column_is : reader.column ≡ last_column 1 passed
+  pub past_is : reader.past ≡ past_of 1 passed

@@ -153,6 +153,11 @@ abbrev pub is_bad_code : Place → Token → Bool
 is_bad_code (place.Number (int_use.Code source)) (token.Number n) = true
 is_bad_code p t = false
 
+-- a reader stands behind the `--` of a corner
+abbrev pub is_joined : Place → Bool
+is_joined (place.Joined name first) = true
+is_joined p = false
+
 -- ---- the corners of a contour
 
 abbrev pub corners_at_pair : List Pair → PairUse → List Pair

@@ -2,6 +2,7 @@
 use crate::path::Path;
 use crate::place::Place;
 
+mod corners;
 mod steps;
 
 /// A token that no line has where it stands: the column at which that shows.

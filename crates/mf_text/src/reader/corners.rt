@@ -1,13 +1,15 @@
 //! Corners of a contour, which are read ahead: most tokens of a script are theirs.
-ghost use Rattle.std.specs.Prelude.{◌≡◌, ◌++◌, ◌∷◌, List, IfSome};
-ghost use Rattle.mf_text.specs.Corners.{IsCornerAhead, IsIntAhead, IsJoined};
+ghost use Rattle.std.specs.Prelude.{◌≡◌, ◌≤◌, ◌∷◌, List, length, IfSome};
+ghost use Rattle.mf_text.specs.Corners.{IsCornerAhead, IsIntAhead, IsNumberAhead};
 ghost use Rattle.mf_text.specs.Left.{tokens_left};
 ghost use Rattle.mf_text.specs.Readers.{IsReadTo};
+ghost use Rattle.mf_text.specs.Readings.{is_joined};
 ghost use Rattle.mf_text.specs.declared.token.Placed as placed_tokens;
 
 use super::Reader;
 use crate::int::Int;
 use crate::pair::Pair;
+use crate::place::Place;
 use crate::token::{Mark, Placed, Token};
 use crate::tokens::Tokens;
 
@@ -20,13 +22,16 @@ pub struct CornerAhead<'a> {
 }
 
 impl Reader {
-    /// Takes the corners that stand whole before a reader which is behind the `--` of one. What is no whole corner is left, so that
-    /// the reader finds the token with which it goes wrong.
+    /// Takes the corners that stand whole before a reader behind the `--` of one. What is no whole corner is left, so that the
+    /// reader finds the token with which it goes wrong. Elsewhere it takes nothing.
     pub(crate) fn take_corners(&mut self, tokens: &mut Tokens<'_>)
-        requires { IsJoined self.old.place }
-        ensures { (all : List placed_tokens.Placed) → IsReadTo all (tokens_left tokens.old) self.old → IsReadTo all (tokens_left tokens.new) self.new }
+        ensures read { (all : List placed_tokens.Placed) → IsReadTo all (tokens_left tokens.old) self.old → IsReadTo all (tokens_left tokens.new) self.new }
+        ensures fewer { length (tokens_left tokens.new) ≤ length (tokens_left tokens.old) }
     {
-        while let Some(ahead) = corner_ahead(*tokens) {
+        if !is_joined(self.place) {
+            return;
+        }
+        'corners: while let Some(ahead) = corner_ahead(*tokens) {
             self.path.push(ahead.corner.value());
             self.column = ahead.join.column;
             self.past = ahead.join.after;
@@ -35,9 +40,16 @@ impl Reader {
     }
 }
 
+/// Whether a reader stands behind the `--` of a corner.
+fn is_joined(place: Place) -> bool
+    ensures { result ≡ is_joined place }
+{
+    matches!(place, Place::Joined(..))
+}
+
 /// The corner that stands whole before a reader.
 fn corner_ahead<'a>(tokens: Tokens<'a>) -> Option<CornerAhead<'a>>
-    ensures { IfSome result (IsCornerAhead tokens) }
+    ensures { IfSome result (IsCornerAhead tokens.entry) }
 {
     let mut behind = tokens;
     mark_ahead(&mut behind, Mark::Open)?;
@@ -72,6 +84,17 @@ fn int_ahead(tokens: &mut Tokens<'_>) -> Option<Int>
     match placed.token {
         Token::Number(number) => Int::new(false, number),
         Token::Mark(Mark::Minus) => number_ahead(tokens),
+        _ => None,
+    }
+}
+
+/// Passes the number of an int that has `-` before it.
+fn number_ahead(tokens: &mut Tokens<'_>) -> Option<Int>
+    ensures { IfSome result (IsNumberAhead tokens.old tokens.new) }
+{
+    let placed = tokens.next()?;
+    match placed.token {
+        Token::Number(number) => Int::new(true, number),
         _ => None,
     }
 }

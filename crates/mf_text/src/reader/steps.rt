@@ -25,8 +25,10 @@ impl Reader {
         ensures wrong { IfErr result (λ fault. IsSyntaxFault (front line.now) fault.column) }
     {
         let mut reader = Reader::new(alloc);
-        for placed in Tokens::new(line) {
+        let mut tokens = Tokens::new(line);
+        'reading: while let Some(placed) = tokens.next() {
             reader.take(placed)?;
+            reader.take_corners(&mut tokens);
         }
         Ok(reader)
     }
