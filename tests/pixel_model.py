@@ -1,8 +1,8 @@
 """A small, slow model of pictures, pixel by pixel, and of what the commands of a script print.
 
-A picture is a dictionary of pixels with their weights, and a contour is filled by counting, for each pixel, how often
-the path crosses a ray. The model shares nothing with the program but the rules of docs/LANGUAGE.md and
-docs/PICTURES.md. It knows no bytes of font files, so it never answers FileTooLong.
+A picture is a dictionary of pixels with their weights, and a contour is filled by adding up, for each pixel, the
+quarter turns of the path round its centre. The model shares nothing with the program but the rules of
+docs/LANGUAGE.md and docs/PICTURES.md. It knows no bytes of font files, so it never answers FileTooLong.
 """
 
 FIELD = range(-4095, 4095)
@@ -48,8 +48,8 @@ def turning(points):
     return turns // 4
 
 
-def cycle_fault(points):
-    """Why points are no cycle, if they are none."""
+def path_fault(points):
+    """Why points are no rectilinear cycle, if they are none."""
     if len(points) < 2:
         return "TooFewPoints"
     if len(points) > MAX_POINTS:
@@ -60,6 +60,11 @@ def cycle_fault(points):
     for i, ((x, y), (u, v)) in enumerate(edges(points)):
         if (x != u) == (y != v):
             return f"NotRectilinear {i}"
+    return None
+
+
+def turning_fault(points):
+    """Why the turning check refuses a rectilinear cycle, if it does."""
     for i in range(len(points)):
         (a, b), (c, d) = corner(points, i)
         if a * d == b * c and a * c + b * d < 0:
@@ -67,15 +72,22 @@ def cycle_fault(points):
     return "TurningZero" if turning(points) == 0 else None
 
 
+def winding(points, column, row):
+    """The quarter turns of a rectilinear cycle round the centre of a pixel, divided by 4."""
+    quadrants = [(3 if x > column else 2) if y <= row else (0 if x > column else 1) for x, y in points]
+    turns = ((after - before + 1) % 4 - 1 for before, after in zip(quadrants, [*quadrants[1:], quadrants[0]]))
+    return sum(turns) // 4
+
+
 def windings(points):
-    """For each pixel in the box of a cycle, how often the ray to its right is crossed, upwards less downwards."""
-    columns, rows = zip(*points)
-    sides = [(x, y, v) for (x, y), (u, v) in edges(points) if x == u]
+    """The pixels round which a cycle winds, with how often it does."""
+    columns, rows = (sorted(set(places)) for places in zip(*points))
     counts = {}
-    for row in range(min(rows), max(rows)):
-        crossings = [(x, (y <= row < v) - (v <= row < y)) for x, y, v in sides if min(y, v) <= row < max(y, v)]
-        for column in range(min(columns), max(columns)):
-            counts[column, row] = sum(count for x, count in crossings if x > column)
+    # All pixels between two neighbouring columns and rows of points have the points in the same quadrants.
+    for left, right in zip(columns, columns[1:]):
+        for low, high in zip(rows, rows[1:]):
+            if count := winding(points, left, low):
+                counts |= {(x, y): count for x in range(left, right) for y in range(low, high)}
     return counts
 
 
@@ -129,18 +141,28 @@ def ends(places):
 
 
 class Model:
-    """The pictures of a script, how many operations `currentpicture` has accepted, and the codes that were shipped."""
+    """The pictures of a script, how many operations `currentpicture` has accepted, the codes that were shipped, and
+    whether contours are refused for how they turn."""
 
     def __init__(self, accepted=0):
         self.pictures = {}
         self.accepted = accepted
         self.shipped = set()
+        self.checks = True
+
+    def copy(self):
+        other = Model(self.accepted)
+        other.pictures, other.shipped, other.checks = dict(self.pictures), set(self.shipped), self.checks
+        return other
 
     def picture(self, name):
         return self.pictures.get(name, {})
 
+    def is_full(self, name):
+        return name == "currentpicture" and self.accepted == MAX_OPERATIONS
+
     def becomes(self, name, weights):
-        if name == "currentpicture" and self.accepted == MAX_OPERATIONS:
+        if self.is_full(name):
             return "refused TooManyOperations\n"
         new = {pixel: weight for pixel, weight in weights.items() if weight != 0}
         if leaves_field(new):
@@ -151,11 +173,19 @@ class Model:
         self.accepted += name == "currentpicture"
         return ""
 
+    def turningcheck(self, value):
+        self.checks = value > 0
+        return ""
+
     def contour(self, name, points, weight):
-        fault = cycle_fault(points) or (None if weight in WEIGHTS else "BadWeight")
+        fault = path_fault(points) or (None if weight in WEIGHTS else "BadWeight")
+        if fault is None and self.is_full(name):
+            fault = "TooManyOperations"
+        if fault is None and self.checks:
+            fault = turning_fault(points)
         if fault:
             return f"refused {fault}\n"
-        sign = 1 if turning(points) > 0 else -1
+        sign = -1 if self.checks and turning(points) < 0 else 1
         new = dict(self.picture(name))
         for pixel, count in windings(points).items():
             new[pixel] = new.get(pixel, 0) + weight * sign * count

@@ -2,33 +2,49 @@
 
 import typing
 
-from pixel_model import MAX_COORDINATE, MAX_POINTS, MAX_PROOF, MAX_WEIGHT
-from random_spelling import Spelling
+from pixel_model import MAX_WEIGHT
+from random_cycles import NEAR, Cycles
+from reading_model import refused_place
 
 NAMES = ["currentpicture", "a", "b", "z"]
-# Coordinates beside the limits of points, and some between which are 127 to 129 pixels.
-FAR = [-MAX_COORDINATE - 1, -MAX_COORDINATE, MAX_COORDINATE, MAX_COORDINATE + 1]
-NEAR = [-MAX_PROOF // 2, 1 - MAX_PROOF // 2, MAX_PROOF // 2, MAX_PROOF // 2 + 1]
 # Sizes of weights that bound the range of a cull.
 SIZES = [1, 1, 2, 3, 4, 9, MAX_WEIGHT - 1, MAX_WEIGHT, MAX_WEIGHT + 1, 999999999]
-# Numbers that are 1 or 90 in their last bits, limits of weights, and the largest numbers of the language.
-LARGE = [257, 346, 65537, 65626, -65535, 32767, 32768, -32768, 99999999, 999999999, -999999999]
 # Tokens that no command has.
 FOREIGN = [*"!\"#$&'*+./:<=>?@[\\]^_`{|}~", "contur", "Show", "A", "aa", "cyclewithweight", "withweigh", "x" * 300]
 FOREIGN += ["0000000001", "1234567890", "9" * 30]
+# Words that begin a line, and stand nowhere else.
+BEGINNINGS = ["turningcheck"] * 6 + ["addto", "cull", "show", "proof", "shipout", "publish"]
+# Ways to write 0.
+ZEROS = [["0"], ["0"], ["-", "0"], ["000"], ["0" * 9], ["-", "00"]]
 
 
 class Line(typing.NamedTuple):
-    """A command and its tokens, what the model makes of it, and the place of the token that is refused, if one is."""
+    """A command and its tokens, what the model makes of it, the place of the token that is refused, if one is, and the
+    points of a contour."""
 
     command: str
     tokens: list
     perform: typing.Callable
     refused: int | None = None
+    points: list | None = None
 
 
-class Chance(Spelling):
+class Chance(Cycles):
     """Random lines."""
+
+    def script(self, is_late, wrong):
+        """The lines of a script, of which so large a part is wrong. In a late one `currentpicture` is soon full."""
+        turns, lines = self.choice([0, 0, 0.03, 0.2]), []
+        if turns < 0.2 and self.happens(0.6):
+            lines.append(self.turningcheck())
+        if is_late:
+            lines += self.full()
+        for _ in range(self.place(3, 25)):
+            for line in self.lines():
+                lines += [self.turningcheck(), line] if self.happens(turns) else [line]
+        lines = [self.ended(line) for line in [*lines, *map(self.show_of, NAMES), self.publish()]]
+        inserted = wrong / (1 - wrong)
+        return [other for line in lines for other in ([self.wrong(line), line] if self.happens(inserted) else [line])]
 
     def name(self):
         return self.choice(NAMES)
@@ -36,76 +52,46 @@ class Chance(Spelling):
     def source(self):
         return self.choice([*NAMES, "nullpicture"])
 
-    def number(self, usual):
-        """A number of a list, or seldom a large one."""
-        return self.choice(LARGE if self.happens(0.03) else usual)
-
     def weight(self):
         return self.number([1, 1, 1, 1, 2, 3, -1, -2, -3, self.choice([1, 1, 0, 4, -4])])
 
-    def rectangle(self, columns, rows):
-        (x, u), (y, v) = columns, rows
-        points = [(x, y), (u, y), (u, v), (x, v)]
-        return points if self.happens(0.5) else points[::-1]
-
-    def thin(self, ends):
-        """A rectangle of one or two rows, or columns, that reaches from one of these ends to another."""
-        along = self.random.sample(ends, 2)
-        start = self.choice([*[self.place(-5, 5)] * 4, *FAR])
-        across = (start, start + self.choice([-1, 1, 1, 2]))
-        return self.rectangle(along, across) if self.happens(0.5) else self.rectangle(across, along)
-
-    def square(self):
-        x, y = (self.place(-4, 4) if self.happens(0.9) else self.choice([-4095, 4094]) for _ in range(2))
-        return self.rectangle((x, x + 1), (y, y + 1))
-
-    def walked(self):
-        """A square walked many times, up to as often as points allow, sometimes with a point too many."""
-        times = self.choice([*range(2, 12), 250, MAX_POINTS // 4, MAX_POINTS // 4])
-        points = self.square()
-        return points * times + points[: self.choice([0, 0, 0, 1])]
-
-    def polygon(self):
-        x, y = first = self.place(-4, 4), self.place(-4, 4)
-        points = []
-        for _ in range(self.place(1, 4)):
-            points.append((x, y))
-            x = self.choice([column for column in range(-5, 6) if column != x])
-            points.append((x, y))
-            y = self.choice([row for row in range(-5, 6) if row != y])
-        points.append((x, y))
-        return points + ([(first[0], y)] if x != first[0] and y != first[1] else [])
-
-    def points(self):
-        way = self.random.random()
-        if way < 0.08:
-            return self.thin(self.choice([FAR, NEAR])) if way < 0.06 else self.walked()
-        if way < 0.2:
-            return [(self.place(-3, 3), self.place(-3, 3)) for _ in range(self.place(1, 5))]
-        points = self.polygon()
-        if way < 0.24:
-            moved = self.place(0, len(points) - 1)
-            x, y = points[moved]
-            points[moved] = self.choice([(self.number(FAR), y), (x, self.number(FAR))])
-        return points
+    def kinds(self):
+        """What makes a line."""
+        kinds = [self.contour] * 4 + [self.also] * 2 + [self.cull] * 2 + [self.shift] * 2
+        kinds += [self.clear, self.scale, self.turn, self.total, self.show, self.proof, self.ship, self.publish]
+        return [*kinds, self.nothing]
 
     def lines(self):
-        """One random line, or several that belong together. Of those that are lawful some have a `;` at their ends."""
-        kinds = [self.contour] * 4 + [self.also] * 2 + [self.cull] * 2 + [self.shift] * 2 + [self.wrong] * 2
-        kinds += [self.clear, self.scale, self.turn, self.total, self.show, self.proof, self.ship, self.publish]
-        kind = self.choice([*kinds, self.nothing, self.doubled, self.framed])
-        lines = kind() if kind in (self.doubled, self.framed) else [kind()]
-        return [self.ended(line) if line.refused is None else line for line in lines]
+        """One random line, or several that belong together."""
+        kind = self.choice([*self.kinds(), self.doubled, self.framed])
+        return kind() if kind in (self.doubled, self.framed) else [kind()]
 
     def ended(self, line):
         return line._replace(tokens=[*line.tokens, ";"]) if self.happens(0.15) else line
+
+    def turningcheck(self):
+        """A line that turns the check of contours on, or off."""
+        value = self.choice([0, 0, 0, 0, -1, -2, 1, 1, 1, 2, 3, self.number([self.choice([-1, 1]) * 999999999])])
+        operand = self.integer(value) if value else self.choice(ZEROS)
+        kind = "turningcheck on" if value > 0 else "turningcheck off"
+        return Line(kind, ["turningcheck", ":=", *operand], lambda m: m.turningcheck(value))
 
     def contour(self):
         return self.contour_of(self.name(), self.points(), self.weight())
 
     def contour_of(self, name, points, weight):
         tokens = ["addto", name, "contour", *self.path(points), *self.withweight(weight)]
-        return Line("contour", tokens, lambda m: m.contour(name, points, weight))
+        return Line("contour", tokens, lambda m: m.contour(name, points, weight), points=points)
+
+    def full(self):
+        """Contours of `currentpicture`, with the check on or off, which are as many as it may have, and more."""
+        lines = [self.turningcheck()]
+        for _ in range(self.place(6, 15)):
+            points = self.choice([self.points, self.square, self.flat, lambda: self.eight(self.square())])()
+            lines.append(self.contour_of("currentpicture", points, self.weight()))
+            if self.happens(0.3):
+                lines.append(self.turningcheck())
+        return lines
 
     def also(self):
         return self.also_of(self.name(), self.source(), self.choice([1, -1]))
@@ -118,12 +104,14 @@ class Chance(Spelling):
         """A picture doubled again and again, with a contour each time, so that weights come to the limit or past it."""
         name, square, weight = self.name(), self.square(), self.choice([1, 1, -1, -1, 2, -3])
         lines = [self.clear_of(name)] if self.happens(0.5) else []
-        adds = self.happens(0.7)
+        adds, turns = self.happens(0.7), self.happens(0.3)
         for _ in range(self.choice([2, 3, 4, 8, 13, 14, 15, 15, 16])):
             lines.append(self.also_of(name, name, 1))
             if adds:
-                lines.append(self.contour_of(name, square, weight))
-        return [*lines, self.proof_of(name)]
+                points = self.round_pixel(square) if turns else square
+                lines.append(self.contour_of(name, points, weight))
+        others = [self.contour_of(name, self.round_pixel(square), self.weight()) for _ in range(self.place(0, 3))]
+        return [*lines, *others, self.proof_of(name)]
 
     def framed(self):
         """A contour whose box or weights may be too much for a grid, and that grid."""
@@ -202,13 +190,13 @@ class Chance(Spelling):
     def nothing(self):
         return Line("no command", [], lambda m: "")
 
-    def wrong(self):
-        """A line that the grammar has not, made of one that it has, and the place of the token that is refused."""
-        kinds = [self.contour, self.also, self.cull, self.clear, self.shift, self.scale, self.turn]
-        kinds += [self.total, self.show, self.proof, self.ship, self.publish, self.nothing]
-        line = self.ended(self.choice(kinds)())
-        ways = [self.foreign, self.overlong, self.repeated, self.cut, self.parted, self.followed]
-        tokens, refused = self.choice([*ways, self.renamed, self.recoded])(line)
+    def wrong(self, line):
+        """A line that the grammar has not, made of this or of another, and the place of the token that is refused."""
+        if len(line.tokens) > 1000 or self.happens(0.5):
+            line = self.ended(self.choice([*self.kinds(), self.turningcheck, self.turningcheck])())
+        ways = [self.foreign, self.overlong, self.repeated, self.cut, self.parted, self.followed, self.begun]
+        others = [self.mixed, self.mixed, self.renamed, self.recoded, self.assigned, self.named]
+        tokens, refused = self.choice([*ways, *ways, *others])(line)
         return line._replace(tokens=tokens, refused=refused)
 
     def foreign(self, line):
@@ -249,6 +237,41 @@ class Chance(Spelling):
         """A line with something behind its `;`."""
         tokens = line.tokens if line.tokens[-1:] == [";"] else [*line.tokens, ";"]
         return [*tokens, self.choice(["a", "show", "1", "(", "-", ";", "cycle", *FOREIGN])], len(tokens)
+
+    def begun(self, line):
+        """A line in which another begins."""
+        place = self.place(1, max(len(line.tokens), 1))
+        after = place if self.happens(0.5) else place + 1
+        return [*(line.tokens[:place] or [";"]), self.choice(BEGINNINGS), *line.tokens[after:]], place
+
+    def mixed(self, line):
+        """The first tokens of a line and the last ones of another, or a line without a token, or with another one."""
+        other = self.choice([*self.kinds(), self.turningcheck])().tokens or [";"]
+        first, after = line.tokens[: self.place(0, len(line.tokens))], other[self.place(0, len(other)) :]
+        rest = line.tokens[len(first) + 1 :]
+        tokens = self.choice([first + after, first + rest, [*first, self.choice(other), *rest]])
+        refused = refused_place(tokens)
+        return self.foreign(line) if refused is None else (tokens, refused)
+
+    def assigned(self, _):
+        """An assignment of something else."""
+        name, number = self.name(), self.integer(self.number(range(-2, 3)))
+        check, others = ["turningcheck", ":="], ["nullpicture", name, "(", ")", ",", ";", "--", ":=", "cycle"]
+        if self.happens(0.4):
+            return [*check, self.choice(others), *self.choice([[], number, ["shifted", *self.pair(1, 0)]])], 2
+        lines = [([name, ":=", *number], 2), (["turningcheck", *number], 1), ([*check, "-", "-", *number], 3)]
+        lines += [([*check, *number, word], 2 + len(number)) for word in ("withweight", "-", ",", "--", name, ":=")]
+        return self.choice(lines)
+
+    def named(self, _):
+        """A line about a picture that has no name, or one that cannot be changed."""
+        word = self.choice(["nullpicture", "turningcheck", "cycle", "1", ","])
+        lines = [["addto", word, "also", "a"], ["cull", word, "keeping", *self.pair(1, 2)]]
+        sources = [["show", word], ["proof", word], ["show", "totalweight", word], ["addto", "b", "also", word]]
+        if word == "nullpicture" or self.happens(0.5):
+            return self.choice(lines), 1
+        line = self.choice(sources)
+        return line, len(line) - 1
 
     def renamed(self, _):
         """A transform whose second name is another one."""

@@ -1,13 +1,17 @@
 """Random ways to spell the tokens of a line of docs/LANGUAGE.md."""
 
+import functools
 import random
 
 from pixel_model import MAX_LINE
 
 # What stands between tokens.
 GAPS = ["", "", "", "", " ", " ", "\t", "  ", " \t "]
+# Numbers that are 1 or 90 in their last bits, limits of weights, and the largest numbers of the language.
+LARGE = [257, 346, 65537, 65626, -65535, 32767, 32768, -32768, 99999999, 999999999, -999999999]
 
 
+@functools.lru_cache(maxsize=65536)
 def may_touch(left, right):
     """Whether two tokens are still two with nothing between them."""
     letters = left[-1].isalpha() and right[0].isalpha()
@@ -16,7 +20,7 @@ def may_touch(left, right):
 
 
 class Spelling:
-    """Random ways to write numbers, lines and their ends."""
+    """Random numbers, and random ways to write them, lines and the ends of lines."""
 
     def __init__(self, seed):
         self.random = random.Random(seed)
@@ -25,6 +29,10 @@ class Spelling:
 
     def happens(self, part):
         return self.random.random() < part
+
+    def number(self, usual):
+        """A number of a list, or seldom a large one."""
+        return self.choice(LARGE if self.happens(0.03) else usual)
 
     def integer(self, value):
         digits = str(abs(value))
@@ -44,15 +52,16 @@ class Spelling:
     def spelled(self, tokens):
         """The tokens as a line in bytes, and the columns of all of them and of the place behind the last."""
         # A path of 4096 points has no room for blanks: a line has at most 65,536 bytes.
-        gaps = GAPS if len(tokens) <= 1000 else [""]
-        text, columns = self.choice(gaps), []
-        for i, token in enumerate(tokens):
-            if i > 0:
-                text += self.choice(gaps) or ("" if may_touch(tokens[i - 1], token) else " ")
-            columns.append(len(text) + 1)
-            text += token
-        columns.append(len(text) + 1)
-        text += self.choice(gaps)
+        gaps = self.random.choices(GAPS if len(tokens) <= 1000 else [""], k=len(tokens) + 1)
+        parts, columns, column, last = [], [], 1, ""
+        for gap, token in zip(gaps, tokens):
+            gap = gap or (" " if last and not may_touch(last, token) else "")
+            columns.append(column + len(gap))
+            column += len(gap) + len(token)
+            parts += gap, token
+            last = token
+        columns.append(column)
+        text = "".join(parts) + gaps[-1]
         if self.happens(0.15):
             text += "%" + "".join(chr(self.choice([9, *range(32, 127)])) for _ in range(self.place(0, 20)))
         if self.happens(0.01):

@@ -90,6 +90,9 @@ a := a scaled 2|a := a xscaled -1|a := a yscaled -3|a := a rotated 90|a := a rot
 shipout a code 65 dx 655360 width 655360|a := nullpicture||shipout nullpicture code 0 dx 0 width -1
 addto c contour (0,0)--(9,0)--(9,9)--(8,9)--(8,1)--(6,1)--(6,9)--(4,9)--(4,1)--(2,1)--(2,9)--(1,9)--(1,1)--(0,1)--cycle
 addto d also c|addto c contour (1,1)--(8,1)--(8,9)--(1,9)--cycle|show c|addto c also -d|show c
+turningcheck := 0|addto e contour (0,0)--(0,2)--(3,2)--(3,0)--cycle withweight -2|addto e contour (0,0)--(1,0)--cycle
+addto currentpicture contour (0,0)--(1,0)--(1,2)--(2,2)--(2,1)--(0,1)--cycle|turningcheck := -1|publish|show e
+addto currentpicture contour (0,0)--(3,0)--(1,0)--(1,1)--(0,1)--cycle withweight 2|turningcheck := 1
 currentpicture := currentpicture shifted (1,1)|publish|currentpicture := currentpicture rotated 90
 currentpicture := currentpicture scaled -1|cull currentpicture keeping (1,3)|show totalweight currentpicture|publish
 currentpicture := nullpicture|show totalweight c""".replace("|", "\n").encode()

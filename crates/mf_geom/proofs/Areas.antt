@@ -1,8 +1,8 @@
 -- The area of a rectilinear cycle is the sum of its winding numbers over the field.
 use Rattle.std.proofs.Common.{◌≡◌, ℕ, zero, suc, ◌-◌, ◌<◌, ◌≤◌, ℤ, pos, negsuc, ◌+ℤ◌, ◌-ℤ◌, ◌*ℤ◌, ◌≤ℤ◌, nat_abs, int_div, List, length, sym, ◌∙◌, ap, inl, inr, arith}
-use Rattle.std.specs.Int.{int_signum}
 use Rattle.std.proofs.lemmas.Int.{ints}
 use Rattle.std.proofs.lemmas.Bool.{cases_lt}
+use Rattle.mf_geom.specs.declared.check.Check.{Check}
 use Rattle.mf_geom.specs.declared.point.Point.{Point}
 use Rattle.mf_geom.specs.Area.{shoelace_at, area}
 use Rattle.mf_geom.specs.Crossing.{passed, crossing, crossing_at}
@@ -10,8 +10,7 @@ use Rattle.mf_geom.specs.Field.{sum_over_field}
 use Rattle.mf_geom.specs.Lawful.{IsRectilinearCycle}
 use Rattle.mf_geom.specs.Path.{Edge, point_at, next_place, edge_at, across, up, IsInReach, IsRectilinear}
 use Rattle.mf_geom.specs.Sum.{sum_below}
-use Rattle.mf_geom.specs.Turning.{turning}
-use Rattle.mf_geom.specs.Winding.{winding, contour}
+use Rattle.mf_geom.specs.Winding.{winding, filling_weight, contour}
 use Rattle.mf_geom.proofs.Crossings.{passed-reached, passed-beyond, winding-crossings}
 use Rattle.mf_geom.proofs.Products.{mul-sub, mul-self, sub-mul, int_div-mul}
 use Rattle.mf_geom.proofs.Sums.{next_place-below, sum_below-same, sum_below-sub, sum_below-mul_and_differences, sum_over_field-mul, sum_over_field-product, sum_over_field-sum}
@@ -103,8 +102,8 @@ sum_over_field-winding ps cycle =
     ∙ sym (area-strips ps cycle)
 
 -- the weight comes out of the sum of the winding numbers, which is the area
-pub sum_over_field-contour : (ps : List Point) (w : ℤ) → IsRectilinearCycle ps → sum_over_field (contour ps w) ≡ (w *ℤ int_signum (turning ps)) *ℤ area ps
+pub sum_over_field-contour : (ps : List Point) (w : ℤ) (check : Check) → IsRectilinearCycle ps → sum_over_field (contour ps w check) ≡ filling_weight check ps w *ℤ area ps
 unfolding contour
-sum_over_field-contour ps w cycle =
-    let weight = w *ℤ int_signum (turning ps) in
+sum_over_field-contour ps w check cycle =
+    let weight = filling_weight check ps w in
     sum_over_field-mul weight (winding ps) ∙ ap (λ s. weight *ℤ s) (sum_over_field-winding ps cycle)

@@ -7,8 +7,8 @@ use Rattle.std.proofs.lemmas.Bool.Decides.{nat_tests}
 use Rattle.mf_geom.specs.declared.point.Point.{Point}
 use Rattle.mf_geom.specs.declared.cycle.CycleFault.{CycleFault}
 use Rattle.mf_geom.specs.declared.cycle.CycleFault.TheVariants.{TooFewPoints, TooManyPoints, PointOutOfRange, NotRectilinear, Backtracks, TurningZero}
-use Rattle.mf_geom.specs.Faults.{first_place, fault_from_reach, fault_from_edges, fault_from_vertices, fault_from_turning, is_out_of_reach, is_not_rectilinear, is_reversal, fault_of}
-use Rattle.mf_geom.specs.Lawful.{HasLawfulLength, StaysInReach, IsRectilinearCycle, NeverReverses, IsCycle, IsFault}
+use Rattle.mf_geom.specs.Faults.{first_place, fault_from_reach, fault_from_edges, fault_from_turning, turning_fault, is_out_of_reach, is_not_rectilinear, is_reversal, form_fault, fault_of}
+use Rattle.mf_geom.specs.Lawful.{HasLawfulLength, StaysInReach, IsRectilinearCycle, NeverReverses, PassesCheck, IsFault, IsFirst}
 use Rattle.mf_geom.specs.Path.{Edge, point_at, edge_at, arriving, across, IsInReach, IsRectilinear, IsReversal}
 use Rattle.mf_geom.specs.Turning.{turning}
 
@@ -72,38 +72,55 @@ pub is_reversal-false : (a b : Edge) → ¬ IsReversal a b → is_reversal a b �
 is_reversal-false a b onward = false_from_ne_true _ (λ passes. onward (IsReversal-from_true a b passes))
 
 -- what is left to look for, once the length is lawful
-fault_of-sized : (ps : List Point) → HasLawfulLength ps → fault_of ps ≡ fault_from_reach ps
-unfolding fault_of
-fault_of-sized ps sized = grind (arith, nat_tests)
+form_fault-sized : (ps : List Point) → HasLawfulLength ps → form_fault ps ≡ fault_from_reach ps
+unfolding form_fault
+form_fault-sized ps sized = grind (arith, nat_tests)
 
-fault_of-reach : (ps : List Point) → StaysInReach ps → fault_of ps ≡ fault_from_edges ps
-fault_of-reach ps reach =
+form_fault-reach : (ps : List Point) → StaysInReach ps → form_fault ps ≡ fault_from_edges ps
+form_fault-reach ps reach =
     let none = first_place-none (length ps) (λ i. is_out_of_reach (point_at ps i)) (λ i below. is_out_of_reach-false (point_at ps i) (reach.in_reach i below)) in
-    fault_of-sized ps reach.sized ∙ rw none refl
+    form_fault-sized ps reach.sized ∙ rw none refl
 
-fault_of-rectilinear : (ps : List Point) → IsRectilinearCycle ps → fault_of ps ≡ fault_from_vertices ps
-fault_of-rectilinear ps cycle =
+pub form_fault-none : (ps : List Point) → IsRectilinearCycle ps → form_fault ps ≡ None
+form_fault-none ps cycle =
     let none = first_place-none (length ps) (λ i. is_not_rectilinear (edge_at ps i)) (λ i below. is_not_rectilinear-false (edge_at ps i) (cycle.rectilinear i below)) in
-    fault_of-reach ps cycle.reach ∙ rw none refl
+    form_fault-reach ps cycle.reach ∙ rw none refl
+
+pub fault_of-rectilinear : (ps : List Point) → IsRectilinearCycle ps → fault_of ps ≡ turning_fault ps
+fault_of-rectilinear ps cycle = let none = form_fault-none ps cycle in rw none refl
 
 fault_of-onward : (ps : List Point) → NeverReverses ps → fault_of ps ≡ fault_from_turning ps
 fault_of-onward ps never =
     let none = first_place-none (length ps) (λ i. is_reversal (arriving ps i) (edge_at ps i)) (λ i below. is_reversal-false (arriving ps i) (edge_at ps i) (never.onward i below)) in
     fault_of-rectilinear ps never.rectilinear ∙ rw none refl
 
-pub fault_of-cycle : (ps : List Point) → IsCycle ps → fault_of ps ≡ None
+pub fault_of-cycle : (ps : List Point) → PassesCheck ps → fault_of ps ≡ None
 fault_of-cycle ps cycle = let turns = cycle.turns in fault_of-onward ps cycle.onward ∙ grind (arith, ints)
 
-pub fault_of-fault : (ps : List Point) (fault : CycleFault) → IsFault ps fault → fault_of ps ≡ Some fault
-unfolding IsFault fault_of
-fault_of-fault ps TooFewPoints few = grind (arith, nat_tests)
-fault_of-fault ps TooManyPoints many = grind (arith, nat_tests)
-fault_of-fault ps (PointOutOfRange i) (sized, first) =
+form_fault-few : (ps : List Point) → length ps < 2 → form_fault ps ≡ Some TooFewPoints
+unfolding form_fault
+form_fault-few ps few = grind (arith, nat_tests)
+
+form_fault-many : (ps : List Point) → 4096 < length ps → form_fault ps ≡ Some TooManyPoints
+unfolding form_fault
+form_fault-many ps many = grind (arith, nat_tests)
+
+form_fault-point : (ps : List Point) (i : ℕ) → HasLawfulLength ps → IsFirst (length ps) (λ k. ¬ IsInReach (point_at ps k)) i → form_fault ps ≡ Some (PointOutOfRange i)
+form_fault-point ps i sized first =
     let found = first_place-some (length ps) (λ k. is_out_of_reach (point_at ps k)) i first.below (is_out_of_reach-true _ first.here) (λ k before. false_from_ne_true _ (λ beyond. first.none_before k before (λ reach. both_ways _ (is_out_of_reach-false _ reach) beyond))) in
-    fault_of-sized ps sized ∙ rw found refl
-fault_of-fault ps (NotRectilinear i) (reach, first) =
+    form_fault-sized ps sized ∙ rw found refl
+
+form_fault-edge : (ps : List Point) (i : ℕ) → StaysInReach ps → IsFirst (length ps) (λ k. ¬ IsRectilinear (edge_at ps k)) i → form_fault ps ≡ Some (NotRectilinear i)
+form_fault-edge ps i reach first =
     let found = first_place-some (length ps) (λ k. is_not_rectilinear (edge_at ps k)) i first.below (is_not_rectilinear-true _ first.here) (λ k before. false_from_ne_true _ (λ slanted. first.none_before k before (λ straight. both_ways _ (is_not_rectilinear-false _ straight) slanted))) in
-    fault_of-reach ps reach ∙ rw found refl
+    form_fault-reach ps reach ∙ rw found refl
+
+pub fault_of-fault : (ps : List Point) (fault : CycleFault) → IsFault ps fault → fault_of ps ≡ Some fault
+unfolding IsFault
+fault_of-fault ps TooFewPoints few = let first = form_fault-few ps few in rw first refl
+fault_of-fault ps TooManyPoints many = let first = form_fault-many ps many in rw first refl
+fault_of-fault ps (PointOutOfRange i) (sized, at) = let first = form_fault-point ps i sized at in rw first refl
+fault_of-fault ps (NotRectilinear i) (reach, at) = let first = form_fault-edge ps i reach at in rw first refl
 fault_of-fault ps (Backtracks i) (cycle, first) =
     let found = first_place-some (length ps) (λ k. is_reversal (arriving ps k) (edge_at ps k)) i first.below (is_reversal-true _ _ first.here) (λ k before. is_reversal-false _ _ (first.none_before k before)) in
     fault_of-rectilinear ps cycle ∙ rw found refl
@@ -136,7 +153,12 @@ record IsFaulty (ps : List Point) : Type 0 where
   fault : CycleFault
   is : IsFault ps fault
 
-judged-turning : (ps : List Point) → NeverReverses ps → IsCycle ps ⊎ IsFaulty ps
+-- and one for which it is no cycle
+record IsMisformed (ps : List Point) : Type 0 where
+  faulty : IsFaulty ps
+  found : form_fault ps ≡ Some faulty.fault
+
+judged-turning : (ps : List Point) → NeverReverses ps → PassesCheck ps ⊎ IsFaulty ps
 unfolding IsFault
 judged-turning ps never =
     elim (cases_Bool (int_eq (turning ps) (pos 0))) [
@@ -144,7 +166,7 @@ judged-turning ps never =
       | inr some ↦ inl (record { onward = never; turns = λ zero_turns. grind (arith, ints) })
     ]
 
-judged-vertices : (ps : List Point) → IsRectilinearCycle ps → IsCycle ps ⊎ IsFaulty ps
+judged-vertices : (ps : List Point) → IsRectilinearCycle ps → PassesCheck ps ⊎ IsFaulty ps
 unfolding IsFault
 judged-vertices ps cycle =
     elim (search (length ps) (λ i. is_reversal (arriving ps i) (edge_at ps i))) [
@@ -152,36 +174,57 @@ judged-vertices ps cycle =
       | inr found ↦ inr (record { fault = Backtracks found.place; is = (cycle, record { below = found.below; here = IsReversal-from_true _ _ found.here; none_before = λ k before back. both_ways _ (found.before k before) (is_reversal-true _ _ back) }) })
     ]
 
-judged-edges : (ps : List Point) → StaysInReach ps → IsCycle ps ⊎ IsFaulty ps
+judged-edges : (ps : List Point) → StaysInReach ps → IsRectilinearCycle ps ⊎ IsMisformed ps
 unfolding IsFault
 judged-edges ps reach =
     elim (search (length ps) (λ i. is_not_rectilinear (edge_at ps i))) [
-      | inl straight ↦ judged-vertices ps (record { reach = reach; rectilinear = λ i below. IsRectilinear-from_false _ (straight i below) })
-      | inr found ↦ inr (record { fault = NotRectilinear found.place; is = (reach, record { below = found.below; here = λ straight. both_ways _ (is_not_rectilinear-false _ straight) found.here; none_before = λ k before slanted. slanted (IsRectilinear-from_false _ (found.before k before)) }) })
+      | inl straight ↦ inl (record { reach = reach; rectilinear = λ i below. IsRectilinear-from_false _ (straight i below) })
+      | inr found ↦
+          let at : IsFirst (length ps) (λ k. ¬ IsRectilinear (edge_at ps k)) found.place =
+          record { below = found.below; here = λ straight. both_ways _ (is_not_rectilinear-false _ straight) found.here; none_before = λ k before slanted. slanted (IsRectilinear-from_false _ (found.before k before)) } in
+          inr (record { faulty = record { fault = NotRectilinear found.place; is = (reach, at) }; found = form_fault-edge ps found.place reach at })
     ]
 
-judged-points : (ps : List Point) → HasLawfulLength ps → IsCycle ps ⊎ IsFaulty ps
+judged-points : (ps : List Point) → HasLawfulLength ps → IsRectilinearCycle ps ⊎ IsMisformed ps
 unfolding IsFault
 judged-points ps sized =
     elim (search (length ps) (λ i. is_out_of_reach (point_at ps i))) [
       | inl inside ↦ judged-edges ps (record { sized = sized; in_reach = λ i below. IsInReach-from_false _ (inside i below) })
-      | inr found ↦ inr (record { fault = PointOutOfRange found.place; is = (sized, record { below = found.below; here = λ inside. both_ways _ (is_out_of_reach-false _ inside) found.here; none_before = λ k before beyond. beyond (IsInReach-from_false _ (found.before k before)) }) })
+      | inr found ↦
+          let at : IsFirst (length ps) (λ k. ¬ IsInReach (point_at ps k)) found.place =
+          record { below = found.below; here = λ inside. both_ways _ (is_out_of_reach-false _ inside) found.here; none_before = λ k before beyond. beyond (IsInReach-from_false _ (found.before k before)) } in
+          inr (record { faulty = record { fault = PointOutOfRange found.place; is = (sized, at) }; found = form_fault-point ps found.place sized at })
     ]
 
--- each list is a cycle or has a fault
-judged : (ps : List Point) → IsCycle ps ⊎ IsFaulty ps
+-- each list is a cycle or misformed
+judged-form : (ps : List Point) → IsRectilinearCycle ps ⊎ IsMisformed ps
 unfolding IsFault
-judged ps =
+judged-form ps =
     elim (cases_lt (length ps) 2) [
-      | inl few ↦ inr (record { fault = TooFewPoints; is = few })
+      | inl few ↦ inr (record { faulty = record { fault = TooFewPoints; is = few }; found = form_fault-few ps few })
       | inr least ↦
           elim (cases_lt 4096 (length ps)) [
-            | inl many ↦ inr (record { fault = TooManyPoints; is = many })
+            | inl many ↦ inr (record { faulty = record { fault = TooManyPoints; is = many }; found = form_fault-many ps many })
             | inr greatest ↦ judged-points ps (record { least = omega arith; greatest = omega arith })
           ]
     ]
 
-pub cycle-fault_of : (ps : List Point) → fault_of ps ≡ None → IsCycle ps
+-- each list is a cycle that passes the check, or has a fault
+judged : (ps : List Point) → PassesCheck ps ⊎ IsFaulty ps
+judged ps =
+    elim (judged-form ps) [
+      | inl cycle ↦ judged-vertices ps cycle
+      | inr misformed ↦ inr misformed.faulty
+    ]
+
+pub cycle-form_fault : (ps : List Point) → form_fault ps ≡ None → IsRectilinearCycle ps
+cycle-form_fault ps none =
+    elim (judged-form ps) [
+      | inl cycle ↦ cycle
+      | inr misformed ↦ absurd (let some = misformed.found in grind (arith))
+    ]
+
+pub cycle-fault_of : (ps : List Point) → fault_of ps ≡ None → PassesCheck ps
 cycle-fault_of ps none =
     elim (judged ps) [
       | inl cycle ↦ cycle

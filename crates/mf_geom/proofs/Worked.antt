@@ -1,5 +1,6 @@
 -- The definitions, computed at cycles whose numbers are known.
 use Rattle.std.proofs.Common.{◌≡◌, ℤ, pos, negsuc, List, [], ◌∷◌, refl}
+use Rattle.mf_geom.specs.declared.check.Check.TheVariants.{Off, On}
 use Rattle.mf_geom.specs.declared.point.Point.{Point}
 use Rattle.mf_geom.specs.Area.{area, shoelace_at}
 use Rattle.mf_geom.specs.Path.{point_at, next_place, previous_place, edge_at, arriving, across, up}
@@ -44,9 +45,13 @@ area-clockwise : area clockwise ≡ negsuc 5
 unfolding area sum_below shoelace_at point_at next_place clockwise
 area-clockwise = refl
 
-contour-clockwise : contour clockwise (negsuc 1) (pos 0) (pos 0) ≡ negsuc 1
+contour-clockwise : contour clockwise (pos 1) On (pos 0) (pos 0) ≡ pos 1
 unfolding contour turning turn_at turn arriving previous_place across up winding sum_below quarter_at quarter_along quadrant edge_at point_at next_place clockwise
 contour-clockwise = refl
+
+contour-clockwise_unchecked : contour clockwise (negsuc 1) Off (pos 0) (pos 0) ≡ pos 2
+unfolding contour winding sum_below quarter_at quarter_along quadrant edge_at point_at next_place clockwise
+contour-clockwise_unchecked = refl
 
 -- a square of 2 by 2 pixels, walked twice
 twice : List Point
@@ -86,6 +91,10 @@ turning-eight = refl
 winding-eight_low : winding eight (pos 0) (pos 0) ≡ pos 1
 unfolding winding sum_below quarter_at quarter_along quadrant edge_at point_at next_place eight
 winding-eight_low = refl
+
+contour-eight_unchecked : contour eight (pos 1) Off (pos 1) (pos 1) ≡ negsuc 0
+unfolding contour winding sum_below quarter_at quarter_along quadrant edge_at point_at next_place eight
+contour-eight_unchecked = refl
 
 winding-eight_high : winding eight (pos 1) (pos 1) ≡ negsuc 0
 unfolding winding sum_below quarter_at quarter_along quadrant edge_at point_at next_place eight

@@ -30,25 +30,29 @@ is_not_rectilinear e = if int_eq (across e) (pos 0) then int_eq (up e) (pos 0) e
 unfoldable pub is_reversal : Edge → Edge → Bool
 is_reversal a b = int_lt ((across a *ℤ across b) +ℤ (up a *ℤ up b)) (pos 0)
 
--- the fault of a list of points whose turning number alone is left to look at, if it has one
+-- the fault of a cycle whose turning number alone is left to look at, if it has one
 abbrev pub fault_from_turning : List Point → Option CycleFault
 fault_from_turning ps = if int_eq (turning ps) (pos 0) then Some TurningZero else None
 
--- the same where the vertices are left to look at first
-abbrev pub fault_from_vertices : List Point → Option CycleFault
-fault_from_vertices ps = option_or (option_map Backtracks (first_place (length ps) (λ i. is_reversal (arriving ps i) (edge_at ps i)))) (fault_from_turning ps)
+-- why a cycle fails the turning check, if it does: its vertices are looked at first
+abbrev pub turning_fault : List Point → Option CycleFault
+turning_fault ps = option_or (option_map Backtracks (first_place (length ps) (λ i. is_reversal (arriving ps i) (edge_at ps i)))) (fault_from_turning ps)
 
--- and the edges
+-- the fault of the edges of a list of points, if they have one
 abbrev pub fault_from_edges : List Point → Option CycleFault
-fault_from_edges ps = option_or (option_map NotRectilinear (first_place (length ps) (λ i. is_not_rectilinear (edge_at ps i)))) (fault_from_vertices ps)
+fault_from_edges ps = option_map NotRectilinear (first_place (length ps) (λ i. is_not_rectilinear (edge_at ps i)))
 
--- and the points
+-- the same where the points are left to look at first
 abbrev pub fault_from_reach : List Point → Option CycleFault
 fault_from_reach ps = option_or (option_map PointOutOfRange (first_place (length ps) (λ i. is_out_of_reach (point_at ps i)))) (fault_from_edges ps)
 
--- the fault of a list of points, if it is no cycle
-unfoldable pub fault_of : List Point → Option CycleFault
-fault_of ps =
+-- why a list of points is no cycle, if it is none
+unfoldable pub form_fault : List Point → Option CycleFault
+form_fault ps =
     if nat_lt (length ps) 2 then Some TooFewPoints
     else (if nat_lt 4096 (length ps) then Some TooManyPoints
     else fault_from_reach ps)
+
+-- why a list of points is no cycle that passes the turning check, if it is none
+abbrev pub fault_of : List Point → Option CycleFault
+fault_of ps = option_or (form_fault ps) (turning_fault ps)

@@ -1,4 +1,4 @@
--- Which lists of points are cycles, and why another one is refused.
+-- Which lists of points are cycles, which cycles pass the turning check, and why another one is refused.
 use Rattle.std.specs.Prelude.{◌≡◌, ◌≢◌, ℕ, ◌<◌, ◌≤◌, pos, List, length}
 use Rattle.mf_geom.specs.declared.point.Point.{Point}
 use Rattle.mf_geom.specs.declared.cycle.CycleFault.{CycleFault}
@@ -16,7 +16,7 @@ pub record StaysInReach (ps : List Point) : Type 0 where
   pub sized : HasLawfulLength ps
   pub in_reach : (i : ℕ) → i < length ps → IsInReach (point_at ps i)
 
--- and each edge rectilinear: a rectilinear cycle
+-- and each edge rectilinear: a cycle
 pub record IsRectilinearCycle (ps : List Point) : Type 0 where
   pub reach : StaysInReach ps
   pub rectilinear : (i : ℕ) → i < length ps → IsRectilinear (edge_at ps i)
@@ -26,8 +26,8 @@ pub record NeverReverses (ps : List Point) : Type 0 where
   pub rectilinear : IsRectilinearCycle ps
   pub onward : (i : ℕ) → i < length ps → IsReversal (arriving ps i) (edge_at ps i) → ⊥
 
--- and a turning number that is not 0: a cycle
-pub record IsCycle (ps : List Point) : Type 0 where
+-- and a turning number that is not 0: a cycle that passes the turning check
+pub record PassesCheck (ps : List Point) : Type 0 where
   pub onward : NeverReverses ps
   pub turns : turning ps ≢ pos 0
 
@@ -37,7 +37,8 @@ pub record IsFirst (n : ℕ) (P : ℕ → Type 0) (i : ℕ) : Type 0 where
   pub here : P i
   pub none_before : (k : ℕ) → k < i → P k → ⊥
 
--- the list is refused with this fault: the first one in the order of the cases, at its first place
+-- the list is refused with this fault: the first one in the order of the cases, at its first place. The last two are those of
+-- the turning check, which a cycle may have
 unfoldable pub IsFault : List Point → CycleFault → Type 0
 IsFault ps TooFewPoints = length ps < 2
 IsFault ps TooManyPoints = 4096 < length ps

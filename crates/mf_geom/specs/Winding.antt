@@ -2,6 +2,8 @@
 -- and 24). The winding number is counted by the quadrants that the path visits round the pixel's centre.
 use Rattle.std.specs.Prelude.{ℕ, ℤ, pos, negsuc, ◌*ℤ◌, int_div, int_lt, List, length, if◌then◌else◌}
 use Rattle.std.specs.Int.{int_signum}
+use Rattle.mf_geom.specs.declared.check.Check.{Check}
+use Rattle.mf_geom.specs.declared.check.Check.TheVariants.{Off, On}
 use Rattle.mf_geom.specs.declared.point.Point.{Point}
 use Rattle.mf_geom.specs.Path.{Edge, edge_at}
 use Rattle.mf_geom.specs.Sum.{sum_below}
@@ -43,6 +45,11 @@ quarter_at ps x y i = quarter_along x y (edge_at ps i)
 unfoldable pub winding : List Point → ℤ → ℤ → ℤ
 winding ps x y = int_div (sum_below (length ps) (quarter_at ps x y)) (pos 4)
 
--- what filling the cycle with weight w adds to the pixel (x, y): a cycle that turns clockwise is negated
-unfoldable pub contour : List Point → ℤ → ℤ → ℤ → ℤ
-contour ps w x y = (w *ℤ int_signum (turning ps)) *ℤ winding ps x y
+-- the weight with which a cycle is filled: under the turning check it is negated where the cycle turns clockwise
+abbrev pub filling_weight : Check → List Point → ℤ → ℤ
+filling_weight On ps w = w *ℤ int_signum (turning ps)
+filling_weight Off ps w = w
+
+-- what filling the cycle with weight w adds to the pixel (x, y)
+unfoldable pub contour : List Point → ℤ → Check → ℤ → ℤ → ℤ
+contour ps w check x y = filling_weight check ps w *ℤ winding ps x y

@@ -1,4 +1,4 @@
-//! Cycles: closed rectilinear paths that can be filled.
+//! Cycles: closed rectilinear paths.
 ghost use Rattle.std.specs.Prelude.{◌≡◌, ◌↔◌, ◌<◌, pos, negsuc, ◌≤ℤ◌, length, IsOk, IfOk, IfErr};
 
 use crate::memory::OutOfMemory;
@@ -9,8 +9,8 @@ use std::error::Error;
 use std::fmt;
 use std::marker::Model;
 
-/// Why a list of points is no cycle. A number is the place, counted from 0, of the first point, edge or
-/// vertex that is at fault; edge i leads from point i to the next one.
+/// Why a list of points is no cycle, or a cycle fails the turning check. A number is the place, counted from 0, of the first
+/// point, edge or vertex that is at fault; edge i leads from point i to the next one.
 #[derive(Clone, Copy, Debug, PartialEq, Eq)]
 pub enum CycleFault {
     /// Refusal 1: fewer than 2 points.
@@ -21,9 +21,9 @@ pub enum CycleFault {
     PointOutOfRange(u32),
     /// Refusal 4: this point and the next one do not differ in exactly one coordinate.
     NotRectilinear(u32),
-    /// Refusal 5: the path turns straight back at this vertex.
+    /// Refusal 5, of the turning check: the path turns straight back at this vertex.
     Backtracks(u32),
-    /// Refusal 6: there are as many right turns as left turns.
+    /// Refusal 6, of the turning check: there are as many right turns as left turns.
     TurningZero,
 }
 
@@ -49,8 +49,7 @@ impl Error for CycleFault {}
 
 /// A closed path along the edges of pixels, which can be filled as a contour (The METAFONTbook, chapter 13): 2 to
 /// 4096 points with coordinates in -4095..4095 pixels (mf.web, "edge structures"), each of which differs from the
-/// next one in exactly one coordinate (the last one's next is the first), with no vertex at which the path turns
-/// straight back, and with a turning number other than 0. METAFONT itself fills more paths than these.
+/// next one in exactly one coordinate (the last one's next is the first). METAFONT itself fills more paths than these.
 #[derive(Debug, Drop)]
 pub struct Cycle {
     points: Vec<Point>,
@@ -62,29 +61,29 @@ impl Model for Cycle {
 
     ghost Value = { List Point };
 
-    ghost use Rattle.mf_geom.specs.Lawful.{IsCycle};
+    ghost use Rattle.mf_geom.specs.Lawful.{IsRectilinearCycle};
 
     ghost view = { λ c. c.points.items };
 
-    ghost invariant = { λ c. IsCycle c.points.items };
+    ghost invariant = { λ c. IsRectilinearCycle c.points.items };
 }
 
 impl Cycle {
-    ghost use Rattle.mf_geom.specs.Lawful.{IsCycle, IsFault};
+    ghost use Rattle.mf_geom.specs.Lawful.{IsFault, IsRectilinearCycle, NeverReverses};
     ghost use Rattle.mf_geom.specs.Path.{edge_at};
     ghost use Rattle.mf_geom.specs.Turning.{turning};
     ghost use Rattle.mf_geom.specs.Area.{area};
     ghost use Rattle.mf_geom.specs.Winding.{winding};
 
-    /// The cycle through these points, in this order. It takes no memory. Refusals 1 to 6 come in rising
+    /// The cycle through these points, in this order. It takes no memory. Refusals 1 to 4 come in rising
     /// order: all points are checked for one before any is checked for the next. The list comes back.
     pub fn new(points: Vec<Point>) -> Result<Cycle, (CycleFault, Vec<Point>)>
-        ensures accepted { IsOk result ↔ IsCycle points.items }
+        ensures accepted { IsOk result ↔ IsRectilinearCycle points.items }
         ensures kept { IfOk result (λ cycle. cycle ≡ points.items) }
         ensures refused { IfErr result (λ back. IsFault points.items back.0) }
         ensures unchanged { IfErr result (λ back. back.1 ≡ points) }
     {
-        match path::fault(&points) {
+        match path::form_fault(&points) {
             None => Ok(Cycle { points }),
             Some(fault) => Err((fault, points)),
         }
@@ -93,7 +92,7 @@ impl Cycle {
     /// A cycle through the same points. Refusal OutOfMemory (14): nothing was made then.
     pub fn copy(&self, alloc: Global) -> Result<Cycle, OutOfMemory>
         ensures value { IfOk result (λ copy. copy ≡ self.now) }
-        ensures lawful { IsCycle self.now }
+        ensures lawful { IsRectilinearCycle self.now }
     {
         let mut points = Vec::new(alloc);
         points.extend_from_slice(&self.points)?;
@@ -103,7 +102,7 @@ impl Cycle {
     /// The points, in the order in which they were given.
     pub fn points(&self) -> &[Point]
         ensures points { result.now ≡ self.now }
-        ensures lawful { IsCycle self.now }
+        ensures lawful { IsRectilinearCycle self.now }
     {
         &self.points
     }
@@ -114,25 +113,32 @@ impl Cycle {
         requires within { place < length self.now }
         ensures from { result.0 ≡ (edge_at self.now place).from }
         ensures to { result.1 ≡ (edge_at self.now place).to }
-        ensures lawful { IsCycle self.now }
+        ensures lawful { IsRectilinearCycle self.now }
     {
         edge::ends(&self.points, place)
     }
 
-    /// The turning number: left turns less right turns, divided by 4 (mf.web, "turning number"). It is
-    /// positive for a cycle that turns counterclockwise, and never 0.
-    pub fn turning(&self) -> i32
-        ensures value { result ≡ turning self.now }
-        ensures lawful { IsCycle self.now }
+    /// The turning number: left turns less right turns, divided by 4 (mf.web, "turning number"). It is positive for a
+    /// cycle that turns counterclockwise. Refusal Backtracks (5), with the first vertex at which the path turns straight
+    /// back: such a cycle has no turning number. It takes no memory.
+    #[tactic(auto, unfolding(crate::specs::Lawful::IsFault))]
+    pub fn turning(&self) -> Result<i32, CycleFault>
+        ensures value { IfOk result (λ number. number ≡ turning self.now) }
+        ensures onward { IsOk result ↔ NeverReverses self.now }
+        ensures refused { IfErr result (IsFault self.now) }
+        ensures lawful { IsRectilinearCycle self.now }
     {
-        path::turning(&self.points)
+        match path::first_reversal(&self.points) {
+            None => Ok(path::turning(&self.points)),
+            Some(vertex) => Err(CycleFault::Backtracks(vertex)),
+        }
     }
 
     /// The winding number round the pixel (x, y): how often the cycle goes round it, counterclockwise
     /// positive. It is 0 for a pixel outside the field.
     pub fn winding(&self, x: i32, y: i32) -> i32
         ensures value { result ≡ winding self.now x y }
-        ensures lawful { IsCycle self.now }
+        ensures lawful { IsRectilinearCycle self.now }
         ensures least { negsuc 4095 ≤ℤ result }
         ensures greatest { result ≤ℤ pos 4096 }
     {
@@ -143,7 +149,7 @@ impl Cycle {
     /// it counterclockwise.
     pub fn area(&self) -> i64
         ensures value { result ≡ area self.now }
-        ensures lawful { IsCycle self.now }
+        ensures lawful { IsRectilinearCycle self.now }
     {
         path::area(&self.points)
     }

@@ -3,21 +3,24 @@ ghost use Rattle.std.specs.Prelude.{◌≡◌, ◌↔◌, ℤ, pos, ◌*ℤ◌, 
 ghost use Rattle.std.specs.Int.{int_signum};
 ghost use Rattle.mf_geom.specs.declared.point.Point.{Point};
 ghost use Rattle.mf_geom.specs.Area.{shoelace_at, area};
+ghost use Rattle.mf_geom.specs.declared.check.Check.TheVariants.{Off, On};
 ghost use Rattle.mf_geom.specs.declared.cycle.CycleFault.{CycleFault};
 ghost use Rattle.mf_geom.specs.Crossing.{crossing_at};
-ghost use Rattle.mf_geom.specs.Faults.{fault_of};
+ghost use Rattle.mf_geom.specs.Faults.{fault_of, form_fault, turning_fault};
 ghost use Rattle.mf_geom.specs.Field.{IsInField, sum_over_field};
-ghost use Rattle.mf_geom.specs.Lawful.{IsCycle, IsFault, IsRectilinearCycle, NeverReverses};
+ghost use Rattle.mf_geom.specs.Lawful.{IsFault, IsRectilinearCycle, NeverReverses, PassesCheck};
 ghost use Rattle.mf_geom.specs.Sum.{sum_below};
 ghost use Rattle.mf_geom.specs.Turning.{turn_at, turning};
 ghost use Rattle.mf_geom.specs.Winding.{quarter_at, winding, contour};
 
-/// The winding numbers of a rectilinear cycle round all pixels of the field add up to its signed area; what
-/// filling the cycle adds there is its weight times the sign of its turning number times its signed area.
+/// The winding numbers of a cycle round all pixels of the field add up to its signed area; what filling the cycle
+/// adds there is its weight times its signed area, under the turning check also times the sign of its turning number.
 pub fn total_is_area()
     ensures windings { (ps : List Point) → IsRectilinearCycle ps → sum_over_field (winding ps) ≡ area ps }
     ensures filled { (ps : List Point) (w : ℤ) → IsRectilinearCycle ps →
-        sum_over_field (contour ps w) ≡ (w *ℤ int_signum (turning ps)) *ℤ area ps }
+        sum_over_field (contour ps w On) ≡ (w *ℤ int_signum (turning ps)) *ℤ area ps }
+    ensures unchecked { (ps : List Point) (w : ℤ) → IsRectilinearCycle ps →
+        sum_over_field (contour ps w Off) ≡ w *ℤ area ps }
 {}
 
 /// A rectilinear cycle winds round no pixel outside the field, so filling it never reaches beyond.
@@ -46,10 +49,13 @@ pub fn area_is_whole()
         sum_below (length ps) (shoelace_at ps) ≡ pos 2 *ℤ area ps }
 {}
 
-/// A list of points is a cycle, or it has exactly one fault.
+/// A list of points is a cycle that passes the turning check, or it has exactly one fault. It is a cycle exactly where it has
+/// none of the faults 1 to 4, and a cycle has no other fault than those of the turning check.
 pub fn one_fault()
     ensures refused { (ps : List Point) (fault : CycleFault) → IsFault ps fault ↔ fault_of ps ≡ Some fault }
-    ensures accepted { (ps : List Point) → IsCycle ps ↔ fault_of ps ≡ None }
+    ensures accepted { (ps : List Point) → PassesCheck ps ↔ fault_of ps ≡ None }
+    ensures formed { (ps : List Point) → IsRectilinearCycle ps ↔ form_fault ps ≡ None }
+    ensures checked { (ps : List Point) → IsRectilinearCycle ps → fault_of ps ≡ turning_fault ps }
 {}
 
 /// The winding number of a rectilinear cycle counts how often it crosses the ray that leads left from the

@@ -2,6 +2,7 @@
 //! round a pixel, and their area.
 #![tactic(auto)]
 
+mod check;
 mod cycle;
 mod edge;
 pub mod laws;
@@ -10,6 +11,7 @@ mod path;
 mod point;
 mod winding;
 
+pub use check::Check;
 pub use cycle::{Cycle, CycleFault};
 pub use memory::OutOfMemory;
 pub use path::MAX_POINTS;

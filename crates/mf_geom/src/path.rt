@@ -1,7 +1,7 @@
-//! Closed paths as slices of their points: why one is no cycle, its turning number and its area.
+//! Closed paths as slices of their points: why one is no cycle, where it turns straight back, its turning number and its area.
 ghost use Rattle.std.specs.Prelude.{◌≡◌, ◌↔◌, ℕ, ◌<◌, ◌≤◌, pos, length, true, false, IfNone, IfSome, IsTrue};
 ghost use Rattle.mf_geom.specs.Area.{area};
-ghost use Rattle.mf_geom.specs.Lawful.{IsCycle, IsFault, IsFirst, HasLawfulLength, StaysInReach};
+ghost use Rattle.mf_geom.specs.Lawful.{IsFault, IsFirst, IsRectilinearCycle, HasLawfulLength, StaysInReach};
 ghost use Rattle.mf_geom.specs.Path.{point_at, edge_at, arriving, IsInReach, IsRectilinear, IsReversal};
 ghost use Rattle.mf_geom.specs.Turning.{turning};
 
@@ -15,11 +15,12 @@ const MIN_POINTS: usize = 2;
 /// Greatest number of points of a cycle (`CycleFault::TooManyPoints`).
 pub const MAX_POINTS: usize = 4096;
 
-/// The first fault of a closed path, if it is no cycle.
+/// Why a closed path is no cycle, if it is none.
 #[tactic(auto, unfolding(crate::specs::Lawful::IsFault))]
-pub fn fault(points: &[Point]) -> Option<CycleFault>
-    ensures none { IfNone result (IsCycle points.now) }
+pub fn form_fault(points: &[Point]) -> Option<CycleFault>
+    ensures none { IfNone result (IsRectilinearCycle points.now) }
     ensures some { IfSome result (IsFault points.now) }
+    ensures no_cycle { IfSome result (λ _. ¬ IsRectilinearCycle points.now) }
 {
     if points.len() < MIN_POINTS {
         return Some(CycleFault::TooFewPoints);
@@ -30,16 +31,10 @@ pub fn fault(points: &[Point]) -> Option<CycleFault>
     if let Some(place) = first_out_of_reach(points) {
         return Some(CycleFault::PointOutOfRange(place));
     }
-    if let Some(place) = first_not_rectilinear(points) {
-        return Some(CycleFault::NotRectilinear(place));
+    match first_not_rectilinear(points) {
+        Some(place) => Some(CycleFault::NotRectilinear(place)),
+        None => None,
     }
-    if let Some(place) = first_reversal(points) {
-        return Some(CycleFault::Backtracks(place));
-    }
-    if turning(points) == 0 {
-        return Some(CycleFault::TurningZero);
-    }
-    None
 }
 
 /// The turning number of a closed path.
@@ -85,7 +80,7 @@ fn first_not_rectilinear(points: &[Point]) -> Option<u32>
 }
 
 /// The first vertex at which the path turns straight back.
-fn first_reversal(points: &[Point]) -> Option<u32>
+pub fn first_reversal(points: &[Point]) -> Option<u32>
     requires { StaysInReach points.now }
     ensures none { IfNone result ((k : ℕ) → k < length points.now → IsReversal (arriving points.now k) (edge_at points.now k) → ⊥) }
     ensures some { IfSome result (IsFirst (length points.now) (λ k. IsReversal (arriving points.now k) (edge_at points.now k))) }

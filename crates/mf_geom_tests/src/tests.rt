@@ -18,6 +18,9 @@ const RECTANGLE: Corners = &[(0, 0), (3, 0), (3, 2), (0, 2)];
 
 const CLOCKWISE: Corners = &[(0, 0), (0, 2), (3, 2), (3, 0)];
 
+/// A figure of eight: two squares that meet, one walked counterclockwise and the other clockwise.
+const EIGHT: Corners = &[(0, 0), (1, 0), (1, 2), (2, 2), (2, 1), (0, 1)];
+
 /// The greatest square.
 const REACH: Corners = &[(-4095, -4095), (4095, -4095), (4095, 4095), (-4095, 4095)];
 

@@ -8,7 +8,7 @@ use std::fmt;
 pub enum Fault {
     /// Refusal 13: as many operations as may be were accepted.
     TooManyOperations,
-    /// The operation is refused on the picture: refusals 11, 12 and 14.
+    /// The operation is refused on the picture: refusals 5, 6, 11, 12 and 14.
     Refused(OpFault),
 }
 

@@ -7,7 +7,7 @@ use crate::closing::{Closing, Ended};
 use crate::desk::open_picture;
 use crate::viewer::Viewer;
 use crate::writer::Writer;
-use mf_geom::{Cycle, Point};
+use mf_geom::{Check, Cycle, Point};
 use mf_ops::{Op, Weight};
 use std::alloc::Global;
 use std::process::Abort;
@@ -38,7 +38,7 @@ fn fill(rt: &impl Abort, alloc: Global, writer: &mut Writer)
     let cycle = Cycle::new(points).expect(rt, "the path is a cycle");
     let weight = Weight::new(1).expect(rt, "the weight is lawful");
     writer
-        .apply(alloc, Op::Contour(cycle, weight))
+        .apply(alloc, Op::Contour(cycle, weight, Check::On))
         .expect(rt, "the operation is accepted");
 }
 

@@ -13,7 +13,7 @@ mod threads;
 mod writing;
 
 use assertions::{assert_holds, assert_same};
-use mf_geom::{Cycle, Point};
+use mf_geom::{Check, Cycle, Point};
 use mf_live::{CloseFault, Desk, Ended, Notice, Viewer, Writer, open_picture};
 use mf_ops::{Op, Weight};
 use mf_rows::Picture;
@@ -36,16 +36,22 @@ fn points(alloc: Global, corners: &[(i32, i32)]) -> Result<Vec<Point>, AllocErro
     Ok(points)
 }
 
-/// The contour through these corners, of this weight.
+/// The contour through these corners, of this weight, under the turning check.
 pub(crate) fn contour(rt: &impl Abort, alloc: Global, corners: &[(i32, i32)], weight: i32) -> Op {
     let points = points(alloc, corners).expect(rt, "there is room for the path");
-    contour_through(rt, points, weight)
+    contour_through(rt, points, weight, Check::On)
 }
 
-/// The contour through these points, of this weight.
-fn contour_through(rt: &impl Abort, points: Vec<Point>, weight: i32) -> Op {
+/// The same, where the turning check is off.
+pub(crate) fn unchecked(rt: &impl Abort, alloc: Global, corners: &[(i32, i32)], weight: i32) -> Op {
+    let points = points(alloc, corners).expect(rt, "there is room for the path");
+    contour_through(rt, points, weight, Check::Off)
+}
+
+/// The contour through these points, of this weight and under this turning check.
+fn contour_through(rt: &impl Abort, points: Vec<Point>, weight: i32, check: Check) -> Op {
     match (Cycle::new(points), Weight::new(weight)) {
-        (Ok(cycle), Ok(weight)) => Op::Contour(cycle, weight),
+        (Ok(cycle), Ok(weight)) => Op::Contour(cycle, weight, check),
         _ => panic!(rt; "no contour of weight {weight}"),
     }
 }

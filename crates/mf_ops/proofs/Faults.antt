@@ -1,10 +1,18 @@
 -- The picture after an operation, and when the operation is refused.
-use Rattle.std.proofs.Common.{◌≡◌, ◌≢◌, Bool, true, false, cond, None, Some, ℤ, pos, ◌+ℤ◌, List, [], ◌∷◌, refl, sym, ◌∙◌, subst, arith}
+use Rattle.std.proofs.Common.{◌≡◌, ◌≢◌, ◌⊎◌, inl, inr, Bool, true, false, cond, Option, None, Some, ℤ, pos, ◌+ℤ◌, List, [], ◌∷◌, refl, sym, ap, ◌∙◌, subst, arith}
 use Rattle.std.proofs.lemmas.Int.{ints}
 use Rattle.std.proofs.lemmas.Bool.{cond_both, false_from_ne_true, or_from, true_from_ne_false, or_parts, both_ways}
 use Rattle.std.proofs.lemmas.List.Elements.{All-contains}
 use Rattle.std.proofs.lemmas.List.Folds.{Any-from_list_any}
 use Rattle.std.specs.List.{list_any}
+use Rattle.std.specs.Option.{option_map, option_or}
+use Rattle.mf_geom.specs.declared.check.Check.{Check}
+use Rattle.mf_geom.specs.declared.check.Check.TheVariants.{Off, On}
+use Rattle.mf_geom.specs.declared.cycle.CycleFault.{CycleFault}
+use Rattle.mf_geom.specs.Faults.{turning_fault}
+use Rattle.mf_geom.specs.Lawful.{IsFault, IsRectilinearCycle, PassesCheck}
+use Rattle.mf_geom.specs.Winding.{filling_weight, contour}
+use Rattle.mf_geom.proofs.FirstFaults.{fault_of-cycle, fault_of-fault, fault_of-rectilinear}
 use Rattle.mf_geom.specs.Field.{IsInField}
 use Rattle.mf_edges.specs.declared.fault.AddFault.{AddFault}
 use Rattle.mf_edges.specs.declared.fault.AddFault.TheVariants as add
@@ -15,12 +23,14 @@ use Rattle.mf_rows.specs.Weights.{picture_of}
 use Rattle.mf_rows.proofs.WeightsLemmas.{IsDotOf, weight_at-picture_of, lawful_picture_of, picture_of-from_weights, picture_of-dots}
 use Rattle.mf_ops.specs.Faults.{op_fault}
 use Rattle.mf_ops.specs.Weights.{is_too_large, IsTooLargeSomewhere}
-use Rattle.mf_ops.specs.Step.{step_at, stepped, leaves, StaysInField, weight_fault, fault_of}
+use Rattle.mf_ops.specs.Step.{step_at, stepped, leaves, StaysInField, TurnsLawfully, weight_fault, pixel_fault, turn_fault, fault_of}
+use Rattle.mf_ops.specs.Moves.{Factors}
 use Rattle.mf_ops.specs.declared.cull.CullRule.{CullRule}
 use Rattle.mf_ops.specs.declared.op.Op.{Op}
 use Rattle.mf_ops.specs.declared.op.Op.TheVariants as ops
 use Rattle.mf_ops.specs.declared.op.Op.TheVariants.{Contour, Also, Cull, Clear}
-use Rattle.mf_ops.specs.declared.op.OpFault.TheVariants.{OutOfField, WeightTooLarge, OutOfMemory}
+use Rattle.mf_ops.specs.declared.op.OpFault.{OpFault}
+use Rattle.mf_ops.specs.declared.op.OpFault.TheVariants.{Cycle, OutOfField, WeightTooLarge, OutOfMemory}
 use Rattle.mf_ops.specs.declared.quarter.Quarter.{Quarter}
 use Rattle.mf_ops.specs.declared.sign.Sign.{Sign}
 use Rattle.mf_geom.specs.declared.point.Point.{Point}
@@ -65,33 +75,137 @@ pub stepped-from_weights : (ds : List Dot) (op : Op) (new : List Dot) → IsPict
 unfolding stepped
 stepped-from_weights ds op new picture has = picture_of-from_weights new (step_at ds op) picture has.weights
 
--- where no pixel leaves the field, the weights alone decide
-fault_of-inside : (ds : List Dot) (op : Op) → StaysInField ds op → fault_of ds op ≡ weight_fault (stepped ds op)
-unfolding fault_of
-fault_of-inside ds op stays = λ t. cond (stays.none_leaves t) (Some OutOfField) (weight_fault (stepped ds op))
+-- ---- how the cycle turns
 
-pub fault_of-leaves : (ds : List Dot) (op : Op) → list_any (leaves op) ds ≡ true → fault_of ds op ≡ Some OutOfField
+-- what is found in how a cycle turns comes first
+pub fault_of-turn : (ds : List Dot) (op : Op) (fault : OpFault) → turn_fault op ≡ Some fault → fault_of ds op ≡ Some fault
 unfolding fault_of
-fault_of-leaves ds op leaves_it = λ t. cond (leaves_it t) (Some OutOfField) (weight_fault (stepped ds op))
+fault_of-turn ds op fault found = ap (λ (turn : Option OpFault). option_or turn (pixel_fault ds op)) found
+
+-- a cycle's fault, by its definition, is the one that the turning check finds
+pub turning_fault-is : (ps : List Point) (fault : CycleFault) → IsRectilinearCycle ps → IsFault ps fault → turning_fault ps ≡ Some fault
+turning_fault-is ps fault cycle is = sym (fault_of-rectilinear ps cycle) ∙ fault_of-fault ps fault is
+
+pub turning_fault-none : (ps : List Point) → PassesCheck ps → turning_fault ps ≡ None
+turning_fault-none ps passes = sym (fault_of-rectilinear ps passes.onward.rectilinear) ∙ fault_of-cycle ps passes
+
+-- where nothing is, the pixels decide
+fault_of-pixels : (ds : List Dot) (op : Op) → TurnsLawfully op → fault_of ds op ≡ pixel_fault ds op
+unfolding fault_of
+fault_of-pixels ds op turns = ap (λ (turn : Option OpFault). option_or turn (pixel_fault ds op)) turns.none
+
+-- a cycle turns lawfully or has a fault
+TurnsOrFails : Op → Type 0
+TurnsOrFails op = TurnsLawfully op ⊎ ((f : CycleFault) × (turn_fault op ≡ Some (Cycle f)))
+
+cycle_turns_or_fails : (ps : List Point) (w : ℤ) (found : Option CycleFault) → turning_fault ps ≡ found → TurnsOrFails (Contour ps w On)
+unfolding TurnsOrFails
+cycle_turns_or_fails ps w None is = inl (record { none = ap (option_map Cycle) is })
+cycle_turns_or_fails ps w (Some f) is = inr (f, ap (option_map Cycle) is)
+
+turns_or_fails : (op : Op) → TurnsOrFails op
+unfolding TurnsOrFails
+turns_or_fails (Contour ps w On) = cycle_turns_or_fails ps w (turning_fault ps) refl
+turns_or_fails (Contour ps w Off) = inl (record { none = refl })
+turns_or_fails (Also es s) = inl (record { none = refl })
+turns_or_fails (Cull c) = inl (record { none = refl })
+turns_or_fails (ops.Shift dx dy) = inl (record { none = refl })
+turns_or_fails (ops.Scale s) = inl (record { none = refl })
+turns_or_fails (ops.Quarter q) = inl (record { none = refl })
+turns_or_fails Clear = inl (record { none = refl })
+
+-- what is no fault of a cycle is one of the pixels
+from_pixels : (ds : List Dot) (op : Op) (found : Option OpFault) → ((f : CycleFault) → Some (Cycle f) ≢ found) → fault_of ds op ≡ found → TurnsLawfully op × (pixel_fault ds op ≡ found)
+unfolding TurnsOrFails
+from_pixels ds op found other is =
+    elim (turns_or_fails op) [
+      | inl turns ↦ (turns, sym (fault_of-pixels ds op turns) ∙ is)
+      | inr fails ↦ absurd (other fails.0 (sym (fault_of-turn ds op (Cycle fails.0) fails.1) ∙ is))
+    ]
+
+pixels_not_turning : (out large : Bool) (f : CycleFault) → cond out (Some OutOfField) (cond large (Some WeightTooLarge) None) ≢ Some (Cycle f)
+pixels_not_turning true large f same = cc
+pixels_not_turning false true f same = cc
+pixels_not_turning false false f same = cc
+
+-- an operation whose cycle turns lawfully is not refused for it
+pub not_turning : (ds : List Dot) (op : Op) (f : CycleFault) → TurnsLawfully op → fault_of ds op ≢ Some (Cycle f)
+not_turning ds op f turns same = pixels_not_turning _ _ f (sym (fault_of-pixels ds op turns) ∙ same)
+
+refused_from : (ds : List Dot) (ps : List Point) (w : ℤ) (fault : CycleFault) (found : Option CycleFault) → turning_fault ps ≡ found → fault_of ds (Contour ps w On) ≡ Some (Cycle fault) → turning_fault ps ≡ Some fault
+refused_from ds ps w fault None is refused = absurd (not_turning ds (Contour ps w On) fault (record { none = ap (option_map Cycle) is }) refused)
+refused_from ds ps w fault (Some f) is refused =
+    let first = fault_of-turn ds (Contour ps w On) (Cycle f) (ap (option_map Cycle) is) in
+    let same : f ≡ fault = cc in
+    is ∙ ap Some same
+
+-- a contour that is refused for its cycle has a cycle with that fault
+pub turning_fault-refused : (ds : List Dot) (ps : List Point) (w : ℤ) (fault : CycleFault) → fault_of ds (Contour ps w On) ≡ Some (Cycle fault) → turning_fault ps ≡ Some fault
+turning_fault-refused ds ps w fault refused = refused_from ds ps w fault (turning_fault ps) refl refused
+
+pub unchecked_turns : (ds : List Dot) (ps : List Point) (w : ℤ) (f : CycleFault) → fault_of ds (Contour ps w Off) ≢ Some (Cycle f)
+unchecked_turns ds ps w f = not_turning ds (Contour ps w Off) f (record { none = refl })
+
+pub also_turns : (ds es : List Dot) (s : Sign) (f : CycleFault) → fault_of ds (Also es s) ≢ Some (Cycle f)
+also_turns ds es s f = not_turning ds (Also es s) f (record { none = refl })
+
+pub cull_turns : (ds : List Dot) (c : CullRule) (f : CycleFault) → fault_of ds (Cull c) ≢ Some (Cycle f)
+cull_turns ds c f = not_turning ds (Cull c) f (record { none = refl })
+
+pub shift_turns : (ds : List Dot) (dx dy : ℤ) (f : CycleFault) → fault_of ds (ops.Shift dx dy) ≢ Some (Cycle f)
+shift_turns ds dx dy f = not_turning ds (ops.Shift dx dy) f (record { none = refl })
+
+pub scale_turns : (ds : List Dot) (s : Factors) (f : CycleFault) → fault_of ds (ops.Scale s) ≢ Some (Cycle f)
+scale_turns ds s f = not_turning ds (ops.Scale s) f (record { none = refl })
+
+pub quarter_turns : (ds : List Dot) (q : Quarter) (f : CycleFault) → fault_of ds (ops.Quarter q) ≢ Some (Cycle f)
+quarter_turns ds q f = not_turning ds (ops.Quarter q) f (record { none = refl })
+
+pub clear_turns : (ds : List Dot) (f : CycleFault) → fault_of ds Clear ≢ Some (Cycle f)
+clear_turns ds f = not_turning ds Clear f (record { none = refl })
+
+-- a contour that its check lets pass is an unchecked one with the weight that the check gives it
+pub stepped-unchecked : (ds : List Dot) (ps : List Point) (w : ℤ) (check : Check) → stepped ds (Contour ps w check) ≡ stepped ds (Contour ps (filling_weight check ps w) Off)
+unfolding stepped contour
+stepped-unchecked ds ps w check = refl
+
+pub fault_of-unchecked : (ds : List Dot) (ps : List Point) (w : ℤ) (check : Check) → turn_fault (Contour ps w check) ≡ None → fault_of ds (Contour ps w check) ≡ fault_of ds (Contour ps (filling_weight check ps w) Off)
+unfolding stepped contour
+fault_of-unchecked ds ps w check turns =
+    fault_of-pixels ds (Contour ps w check) (record { none = turns }) ∙ sym (fault_of-pixels ds (Contour ps (filling_weight check ps w) Off) (record { none = refl }))
+
+-- ---- what its pixels say
+
+-- an operation is refused for its weights or not at all
+pub record IsForWeights (ds : List Dot) (op : Op) : Type 0 where
+  pub turns : TurnsLawfully op
+  pub stays : StaysInField ds op
+
+-- then the weights alone decide
+fault_of-inside : (ds : List Dot) (op : Op) → IsForWeights ds op → fault_of ds op ≡ weight_fault (stepped ds op)
+fault_of-inside ds op inside = fault_of-pixels ds op inside.turns ∙ (λ t. cond (inside.stays.none_leaves t) (Some OutOfField) (weight_fault (stepped ds op)))
+
+pub fault_of-leaves : (ds : List Dot) (op : Op) → TurnsLawfully op → list_any (leaves op) ds ≡ true → fault_of ds op ≡ Some OutOfField
+fault_of-leaves ds op turns leaves_it = fault_of-pixels ds op turns ∙ (λ t. cond (leaves_it t) (Some OutOfField) (weight_fault (stepped ds op)))
 
 -- so a step with the weights of a picture is not refused
-pub fault_of-from_weights : (ds : List Dot) (op : Op) (new : List Dot) → StaysInField ds op → IsPicture new → HasWeights (step_at ds op) new → fault_of ds op ≡ None
+pub fault_of-from_weights : (ds : List Dot) (op : Op) (new : List Dot) → IsForWeights ds op → IsPicture new → HasWeights (step_at ds op) new → fault_of ds op ≡ None
 fault_of-from_weights ds op new stays picture has =
     let is = stepped-from_weights ds op new picture has in
     let none = none_too_large _ new picture.dots in
     fault_of-inside ds op stays ∙ (λ t. weight_fault (sym is t)) ∙ (λ t. cond (none t) (Some WeightTooLarge) None)
 
-pub fault_of-too_large : (ds : List Dot) (op : Op) → StaysInField ds op → IsTooLargeSomewhere (step_at ds op) → fault_of ds op ≡ Some WeightTooLarge
+pub fault_of-too_large : (ds : List Dot) (op : Op) → IsForWeights ds op → IsTooLargeSomewhere (step_at ds op) → fault_of ds op ≡ Some WeightTooLarge
 unfolding stepped
 fault_of-too_large ds op stays too_large = fault_of-inside ds op stays ∙ (λ t. cond (some_too_large (step_at ds op) too_large t) (Some WeightTooLarge) None)
 
 -- a step with an unlawful weight is refused
-pub fault_of-unlawful : (ds : List Dot) (op : Op) → StaysInField ds op → IsUnlawfulSomewhere (step_at ds op) → fault_of ds op ≡ Some WeightTooLarge
+pub fault_of-unlawful : (ds : List Dot) (op : Op) → IsForWeights ds op → IsUnlawfulSomewhere (step_at ds op) → fault_of ds op ≡ Some WeightTooLarge
 fault_of-unlawful ds op stays at =
     fault_of-too_large ds op stays record { x = at.x; y = at.y; in_field = at.in_field; too_large = is_too_large-unlawful (step_at ds op at.x at.y) at.unlawful }
 
 -- where adding to a picture is refused, be it not for want of memory, the step is refused for the same cause
-pub fault_of-op_fault : (ds : List Dot) (op : Op) (fault : AddFault) → StaysInField ds op → (fault ≢ add.OutOfMemory → IsUnlawfulSomewhere (step_at ds op)) → op_fault fault ≢ OutOfMemory → fault_of ds op ≡ Some (op_fault fault)
+pub fault_of-op_fault : (ds : List Dot) (op : Op) (fault : AddFault) → IsForWeights ds op → (fault ≢ add.OutOfMemory → IsUnlawfulSomewhere (step_at ds op)) → op_fault fault ≢ OutOfMemory → fault_of ds op ≡ Some (op_fault fault)
 fault_of-op_fault ds op add.WeightTooLarge stays unlawful other = fault_of-unlawful ds op stays (unlawful (λ same. cc))
 fault_of-op_fault ds op add.OutOfMemory stays unlawful other = absurd (other refl)
 
@@ -100,31 +214,39 @@ never : (ds : List Dot) → list_any (λ d. false) ds ≡ false
 never [] = refl
 never (d ∷ ds) = never ds
 
-pub contour_stays : (ds : List Dot) (ps : List Point) (w : ℤ) → StaysInField ds (Contour ps w)
-contour_stays ds ps w = record { none_leaves = never ds }
+stays_everywhere : (ds : List Dot) (op : Op) → TurnsLawfully op → list_any (leaves op) ds ≡ false → IsForWeights ds op
+stays_everywhere ds op turns none = record { turns = turns; stays = record { none_leaves = none } }
 
-pub also_stays : (ds es : List Dot) (s : Sign) → StaysInField ds (Also es s)
-also_stays ds es s = record { none_leaves = never ds }
+pub contour_stays : (ds : List Dot) (ps : List Point) (w : ℤ) (check : Check) → TurnsLawfully (Contour ps w check) → IsForWeights ds (Contour ps w check)
+contour_stays ds ps w check turns = stays_everywhere ds (Contour ps w check) turns (never ds)
 
-pub cull_stays : (ds : List Dot) (c : CullRule) → StaysInField ds (Cull c)
-cull_stays ds c = record { none_leaves = never ds }
+pub unchecked_stays : (ds : List Dot) (ps : List Point) (w : ℤ) → IsForWeights ds (Contour ps w Off)
+unchecked_stays ds ps w = contour_stays ds ps w Off (record { none = refl })
 
-pub quarter_stays : (ds : List Dot) (q : Quarter) → StaysInField ds (ops.Quarter q)
-quarter_stays ds q = record { none_leaves = never ds }
+pub also_stays : (ds es : List Dot) (s : Sign) → IsForWeights ds (Also es s)
+also_stays ds es s = stays_everywhere ds (Also es s) (record { none = refl }) (never ds)
 
-pub clear_stays : (ds : List Dot) → StaysInField ds Clear
-clear_stays ds = record { none_leaves = never ds }
+pub cull_stays : (ds : List Dot) (c : CullRule) → IsForWeights ds (Cull c)
+cull_stays ds c = stays_everywhere ds (Cull c) (record { none = refl }) (never ds)
+
+pub quarter_stays : (ds : List Dot) (q : Quarter) → IsForWeights ds (ops.Quarter q)
+quarter_stays ds q = stays_everywhere ds (ops.Quarter q) (record { none = refl }) (never ds)
+
+pub clear_stays : (ds : List Dot) → IsForWeights ds Clear
+clear_stays ds = stays_everywhere ds Clear (record { none = refl }) (never ds)
 
 -- so their steps are not refused with OutOfField
 weight_fault-not_out : (large : Bool) → cond large (Some WeightTooLarge) None ≢ Some OutOfField
 weight_fault-not_out true same = cc
 weight_fault-not_out false same = cc
 
-pub not_out : (ds : List Dot) (op : Op) → StaysInField ds op → fault_of ds op ≢ Some OutOfField
+pub not_out : (ds : List Dot) (op : Op) → IsForWeights ds op → fault_of ds op ≢ Some OutOfField
 not_out ds op stays out = weight_fault-not_out _ (sym (fault_of-inside ds op stays) ∙ out)
 
-pub contour_not_out : (ds : List Dot) (ps : List Point) (w : ℤ) → fault_of ds (Contour ps w) ≢ Some OutOfField
-contour_not_out ds ps w = not_out ds (Contour ps w) (contour_stays ds ps w)
+pub contour_not_out : (ds : List Dot) (ps : List Point) (w : ℤ) (check : Check) → fault_of ds (Contour ps w check) ≢ Some OutOfField
+contour_not_out ds ps w check out =
+    let found = from_pixels ds (Contour ps w check) (Some OutOfField) (λ f same. cc) out in
+    not_out ds (Contour ps w check) (contour_stays ds ps w check found.0) out
 
 pub also_not_out : (ds es : List Dot) (s : Sign) → fault_of ds (Also es s) ≢ Some OutOfField
 also_not_out ds es s = not_out ds (Also es s) (also_stays ds es s)
@@ -154,14 +276,17 @@ some_where_out true large some = refl
 some_where_out false true some = cc
 some_where_out false false some = cc
 
+-- an operation that is accepted turns lawfully, and its pixels have no fault
+pixels-accepted : (ds : List Dot) (op : Op) → fault_of ds op ≡ None → TurnsLawfully op × (pixel_fault ds op ≡ None)
+pixels-accepted ds op none = from_pixels ds op None (λ f same. cc) none
+
 pub stays-accepted : (ds : List Dot) (op : Op) → fault_of ds op ≡ None → StaysInField ds op
-unfolding fault_of
-stays-accepted ds op none = record { none_leaves = (none_where_lawful _ _ none).0 }
+stays-accepted ds op none = record { none_leaves = (none_where_lawful _ _ (pixels-accepted ds op none).1).0 }
 
 pub not_too_large-accepted : (ds : List Dot) (op : Op) → fault_of ds op ≡ None → (x y : ℤ) → IsInField x y → is_too_large (step_at ds op x y) ≡ false
-unfolding fault_of stepped
+unfolding stepped
 not_too_large-accepted ds op none x y in_field =
-    let lawful = (none_where_lawful _ _ none).1 in
+    let lawful = (none_where_lawful _ _ (pixels-accepted ds op none).1).1 in
     let weight = weight_at-picture_of (step_at ds op) x y in_field in
     rw weight at (weight_at-not_too_large (picture_of (step_at ds op)) x y lawful)
 
@@ -173,11 +298,17 @@ found_too_large f some =
     let dot = All-contains (IsDotOf f) (picture_of f) d (picture_of-dots f) (found.0, found.2, found.3) in
     record { x = d.x; y = d.y; in_field = dot.in_field; too_large = rw dot.weight at found.4 }
 
-pub too_large-refused : (ds : List Dot) (op : Op) → fault_of ds op ≡ Some WeightTooLarge → StaysInField ds op × IsTooLargeSomewhere (step_at ds op)
-unfolding fault_of stepped
+-- so is one that is refused for a weight, but that some weight is too large
+pub record IsRefusedForWeights (ds : List Dot) (op : Op) : Type 0 where
+  pub inside : IsForWeights ds op
+  pub too_large : IsTooLargeSomewhere (step_at ds op)
+
+pub too_large-refused : (ds : List Dot) (op : Op) → fault_of ds op ≡ Some WeightTooLarge → IsRefusedForWeights ds op
+unfolding stepped
 too_large-refused ds op refused =
-    let tests = some_where_too_large _ _ refused in
-    (record { none_leaves = tests.0 }, found_too_large (step_at ds op) tests.1)
+    let found = from_pixels ds op (Some WeightTooLarge) (λ f same. cc) refused in
+    let tests = some_where_too_large _ _ found.1 in
+    record { inside = stays_everywhere ds op found.0 tests.0; too_large = found_too_large (step_at ds op) tests.1 }
 
 -- a step that makes lawful weights is not refused for them
 step_not_too_large : (ds : List Dot) (op : Op) → ((x y : ℤ) → IsLawfulWeight (step_at ds op x y)) → list_any (λ d. is_too_large d.weight) (stepped ds op) ≡ false
@@ -187,14 +318,13 @@ step_not_too_large ds op lawful =
 
 pub not_too_large-lawful : (ds : List Dot) (op : Op) → ((x y : ℤ) → IsLawfulWeight (step_at ds op x y)) → fault_of ds op ≢ Some WeightTooLarge
 not_too_large-lawful ds op lawful refused =
-    let at = (too_large-refused ds op refused).1 in both_ways _ (is_too_large-lawful _ (lawful at.x at.y)) at.too_large
+    let at = (too_large-refused ds op refused).too_large in both_ways _ (is_too_large-lawful _ (lawful at.x at.y)) at.too_large
 
-pub accepted-lawful : (ds : List Dot) (op : Op) → StaysInField ds op → ((x y : ℤ) → IsLawfulWeight (step_at ds op x y)) → fault_of ds op ≡ None
+pub accepted-lawful : (ds : List Dot) (op : Op) → IsForWeights ds op → ((x y : ℤ) → IsLawfulWeight (step_at ds op x y)) → fault_of ds op ≡ None
 accepted-lawful ds op stays lawful = fault_of-inside ds op stays ∙ (λ t. cond (step_not_too_large ds op lawful t) (Some WeightTooLarge) None)
 
 pub leaves-refused : (ds : List Dot) (op : Op) → fault_of ds op ≡ Some OutOfField → list_any (leaves op) ds ≡ true
-unfolding fault_of
-leaves-refused ds op refused = some_where_out _ _ refused
+leaves-refused ds op refused = some_where_out _ _ (from_pixels ds op (Some OutOfField) (λ f same. cc) refused).1
 
 -- a step that is not refused makes a picture
 pub IsPicture-stepped : (ds : List Dot) (op : Op) → fault_of ds op ≡ None → IsPicture (stepped ds op)

@@ -1,5 +1,5 @@
 -- When a picture leaves the field as its columns and rows are stretched, as a shift and a scale do: its least box tells.
-use Rattle.std.proofs.Common.{◌≡◌, ◌&&◌, Bool, true, false, not, ℕ, ◌+◌, ◌*◌, ◌≤◌, mul-le-mul_right, ℤ, pos, negsuc, ◌+ℤ◌, ◌*ℤ◌, ◌≤ℤ◌, List, [], ◌∷◌, subst, sym, w32, to_z, of_z, arith}
+use Rattle.std.proofs.Common.{◌≡◌, ◌&&◌, Bool, true, false, not, ℕ, ◌+◌, ◌*◌, ◌≤◌, mul-le-mul_right, ℤ, pos, negsuc, ◌+ℤ◌, ◌*ℤ◌, ◌≤ℤ◌, List, [], ◌∷◌, refl, subst, sym, w32, to_z, of_z, arith}
 use Rattle.std.proofs.lemmas.Bool.{and_from, and_parts, or_parts, not-false, not_from_true, true_from_ne_false}
 use Rattle.std.proofs.lemmas.Int.{ints}
 use Rattle.std.proofs.lemmas.List.Elements.{All-nil, All-cons, All-contains}
@@ -14,7 +14,8 @@ use Rattle.mf_rows.specs.Dots.{Dot, IsPicture, start_of_field}
 use Rattle.mf_edges.specs.Axes.{IsPointInReach, PlaceStaysInside}
 use Rattle.mf_rows.specs.Moves.{PixelsStayInside}
 use Rattle.mf_ops.specs.Moves.{Factors, is_in_reach, stays_inside}
-use Rattle.mf_ops.specs.Step.{leaves, StaysInField}
+use Rattle.mf_ops.specs.Step.{leaves}
+use Rattle.mf_ops.proofs.Faults.{IsForWeights}
 use Rattle.mf_ops.specs.declared.op.Op.TheVariants.{Shift, Scale}
 
 is_in_reach-point : (x : ℤ) → IsPointInReach x → is_in_reach x ≡ true
@@ -55,14 +56,20 @@ some_leaves : (columns rows : Stretch) (ds : List Dot) → ¬ PixelsStayInside c
 some_leaves columns rows ds outside = true_from_ne_false _ (λ none. outside (PixelsStayInside-none_leaves columns rows ds none))
 
 -- a shift stretches by 1, a scale without an offset
-pub stays_in_field-shift : (ds : List Dot) (dx dy : ℤ) → PixelsStayInside (record { factor = pos 1; offset = dx }) (record { factor = pos 1; offset = dy }) ds → StaysInField ds (Shift dx dy)
-stays_in_field-shift ds dx dy inside = record { none_leaves = none_leaves (record { factor = pos 1; offset = dx }) (record { factor = pos 1; offset = dy }) ds inside }
+pub stays_in_field-shift : (ds : List Dot) (dx dy : ℤ) → PixelsStayInside (record { factor = pos 1; offset = dx }) (record { factor = pos 1; offset = dy }) ds → IsForWeights ds (Shift dx dy)
+stays_in_field-shift ds dx dy inside = record {
+  turns = record { none = refl };
+  stays = record { none_leaves = none_leaves (record { factor = pos 1; offset = dx }) (record { factor = pos 1; offset = dy }) ds inside };
+}
 
 pub leaves-shift : (ds : List Dot) (dx dy : ℤ) → (PixelsStayInside (record { factor = pos 1; offset = dx }) (record { factor = pos 1; offset = dy }) ds → ⊥) → list_any (leaves (Shift dx dy)) ds ≡ true
 leaves-shift ds dx dy outside = some_leaves (record { factor = pos 1; offset = dx }) (record { factor = pos 1; offset = dy }) ds outside
 
-pub stays_in_field-scale : (ds : List Dot) (s : Factors) → PixelsStayInside (record { factor = s.x; offset = pos 0 }) (record { factor = s.y; offset = pos 0 }) ds → StaysInField ds (Scale s)
-stays_in_field-scale ds s inside = record { none_leaves = none_leaves (record { factor = s.x; offset = pos 0 }) (record { factor = s.y; offset = pos 0 }) ds inside }
+pub stays_in_field-scale : (ds : List Dot) (s : Factors) → PixelsStayInside (record { factor = s.x; offset = pos 0 }) (record { factor = s.y; offset = pos 0 }) ds → IsForWeights ds (Scale s)
+stays_in_field-scale ds s inside = record {
+  turns = record { none = refl };
+  stays = record { none_leaves = none_leaves (record { factor = s.x; offset = pos 0 }) (record { factor = s.y; offset = pos 0 }) ds inside };
+}
 
 pub leaves-scale : (ds : List Dot) (s : Factors) → (PixelsStayInside (record { factor = s.x; offset = pos 0 }) (record { factor = s.y; offset = pos 0 }) ds → ⊥) → list_any (leaves (Scale s)) ds ≡ true
 leaves-scale ds s outside = some_leaves (record { factor = s.x; offset = pos 0 }) (record { factor = s.y; offset = pos 0 }) ds outside

@@ -13,14 +13,14 @@ use Rattle.mf_rows.specs.Dots.{Dot, IsDot, IsPicture, start_of_field, weight_at}
 use Rattle.mf_edges.specs.Axes.{opposite, IsPointInReach, PlaceStaysInside}
 use Rattle.mf_rows.proofs.DotsLemmas.{IsAt, weight_at-dot, dots_from-lawful, weight_at-outside}
 use Rattle.mf_ops.specs.Moves.{Factors, AreFactors, IsFactor, HasPlace, scale_source, is_in_reach, stays_inside, turned, turned_by}
-use Rattle.mf_ops.specs.Step.{step_at, leaves, fault_of, LiesOutside}
+use Rattle.mf_ops.specs.Step.{step_at, leaves, fault_of, LiesOutside, TurnsLawfully}
 use Rattle.mf_ops.specs.declared.op.Op.{Op}
 use Rattle.mf_ops.specs.declared.op.Op.TheVariants as ops
 use Rattle.mf_ops.specs.declared.op.Op.TheVariants.{Shift, Scale}
 use Rattle.mf_ops.specs.declared.op.OpFault.TheVariants.{OutOfField}
 use Rattle.mf_ops.specs.declared.quarter.Quarter.{Quarter}
 use Rattle.mf_ops.specs.declared.quarter.Quarter.TheVariants.{Once, Twice, Thrice}
-use Rattle.mf_ops.proofs.Faults.{leaves-refused, fault_of-leaves, quarter_stays}
+use Rattle.mf_ops.proofs.Faults.{leaves-refused, fault_of-leaves}
 use Rattle.mf_ops.proofs.Places.{scale_source-covered, scale_source-only, HasPlace-first, HasPlace-last}
 
 -- where the weight is not 0 a dot stands
@@ -36,8 +36,8 @@ list_any-at test (d ∷ ds) x y nonzero passes =
     nonzero
 
 -- an operation is refused where the dot of some pixel leaves
-refused_at : (ds : List Dot) (op : Op) (x y : ℤ) → weight_at ds x y ≢ pos 0 → ((d : Dot) → IsAt d x y → leaves op d ≡ true) → fault_of ds op ≡ Some OutOfField
-refused_at ds op x y nonzero leave = fault_of-leaves ds op (list_any-at (leaves op) ds x y nonzero leave)
+refused_at : (ds : List Dot) (op : Op) (x y : ℤ) → TurnsLawfully op → weight_at ds x y ≢ pos 0 → ((d : Dot) → IsAt d x y → leaves op d ≡ true) → fault_of ds op ≡ Some OutOfField
+refused_at ds op x y turns nonzero leave = fault_of-leaves ds op turns (list_any-at (leaves op) ds x y nonzero leave)
 
 -- a dot of a picture that leaves
 record IsLeaving (ds : List Dot) (op : Op) (d : Dot) : Type 0 where
@@ -151,7 +151,7 @@ shift-refused ds dx dy picture refused =
 
 pub shift-outside : (ds : List Dot) (dx dy : ℤ) → LiesOutside (step_at ds (Shift dx dy)) → fault_of ds (Shift dx dy) ≡ Some OutOfField
 shift-outside ds dx dy at =
-    refused_at ds (Shift dx dy) (at.x -ℤ dx) (at.y -ℤ dy) at.nonzero (λ d here.
+    refused_at ds (Shift dx dy) (at.x -ℤ dx) (at.y -ℤ dy) (record { none = refl }) at.nonzero (λ d here.
     not_from_false (stays_inside (pos 1) dx d.x && stays_inside (pos 1) dy d.y) (false_from_ne_true _ (λ stays.
     let tests = and_parts (stays_inside (pos 1) dx d.x) (stays_inside (pos 1) dy d.y) stays in
     let place_x : d.x +ℤ dx ≡ at.x = let column = here.column in omega (arith, ints) in
@@ -192,7 +192,7 @@ scale-refused ds s picture factors refused =
 
 pub scale-outside : (ds : List Dot) (s : Factors) → AreFactors s → LiesOutside (step_at ds (Scale s)) → fault_of ds (Scale s) ≡ Some OutOfField
 scale-outside ds s factors at =
-    refused_at ds (Scale s) (scale_source s.x at.x) (scale_source s.y at.y) at.nonzero (λ d here.
+    refused_at ds (Scale s) (scale_source s.x at.x) (scale_source s.y at.y) (record { none = refl }) at.nonzero (λ d here.
     not_from_false (stays_inside s.x (pos 0) d.x && stays_inside s.y (pos 0) d.y) (false_from_ne_true _ (λ stays.
     let tests = and_parts (stays_inside s.x (pos 0) d.x) (stays_inside s.y (pos 0) d.y) stays in
     let column : HasPlace s.x d.x at.x = rw here.column (scale_source-covered s.x at.x factors.columns) in

@@ -1,15 +1,14 @@
 -- The sides of a contour add its weight times the winding number.
 use Rattle.std.proofs.Common.{◌≡◌, ◌≢◌, ◌&&◌, Bool, not, cond, int_le, int_lt, ℕ, ◌+◌, ◌*◌, ◌<◌, ◌≤◌, ℤ, pos, negsuc, neg_ℤ, ◌+ℤ◌, ◌-ℤ◌, ◌*ℤ◌, ◌≤ℤ◌, List, [], ◌∷◌, ◌++◌, length, All, refl, sym, ap, ◌∙◌, inl, inr, arith, length-append, add-one}
 use Rattle.std.proofs.lemmas.Int.{ints}
-use Rattle.std.specs.Int.{int_signum}
 use Rattle.std.proofs.lemmas.List.Elements.{All-nil, All-cons, All-append}
+use Rattle.mf_geom.specs.declared.check.Check.TheVariants.{Off}
 use Rattle.mf_geom.specs.declared.point.Point.{Point}
 use Rattle.mf_geom.specs.Crossing.{passed, crossing, crossing_at}
 use Rattle.mf_geom.specs.Lawful.{IsRectilinearCycle}
 use Rattle.mf_geom.specs.Path.{Edge, point_at, next_place, edge_at, across, up, IsInReach, IsRectilinear}
 use Rattle.mf_geom.specs.Sum.{sum_below}
-use Rattle.mf_geom.specs.Turning.{turning}
-use Rattle.mf_geom.specs.Winding.{winding, contour}
+use Rattle.mf_geom.specs.Winding.{contour}
 use Rattle.mf_geom.proofs.Crossings.{winding-crossings, passed-reached, crossings-beside}
 use Rattle.mf_geom.proofs.Products.{mul-add, mul-self}
 use Rattle.mf_geom.proofs.Sums.{next_place-below}
@@ -112,8 +111,7 @@ AreCorners-sides ps w ks cycle sides =
 pub AddWinding-sides : (ps : List Point) (w : ℤ) (ks : List Corner) → IsRectilinearCycle ps → AreSides ps w (length ps) ks → AddWinding ps w ks
 AddWinding-sides ps w ks cycle sides = record { added = λ x y. sides.added x y ∙ ap (λ n. w *ℤ n) (sym (winding-crossings ps x y cycle)) }
 
--- so a picture with the sides of a contour added has the weights of the step
-pub with_corners_at-contour : (ds : List Dot) (ps : List Point) (w signed : ℤ) (ks : List Corner) → signed ≡ w *ℤ int_signum (turning ps) → AddWinding ps signed ks → (x y : ℤ) → with_corners_at ds ks x y ≡ step_at ds (Contour ps w) x y
+-- so a picture with the sides of a contour added has the weights of the step, where nothing is checked
+pub with_corners_at-contour : (ds : List Dot) (ps : List Point) (w : ℤ) (ks : List Corner) → AddWinding ps w ks → (x y : ℤ) → with_corners_at ds ks x y ≡ step_at ds (Contour ps w Off) x y
 unfolding with_corners_at contour
-with_corners_at-contour ds ps w signed ks signed_is adds x y =
-    λ t. weight_at ds x y +ℤ (adds.added x y ∙ ap (λ s. s *ℤ winding ps x y) signed_is) t
+with_corners_at-contour ds ps w ks adds x y = λ t. weight_at ds x y +ℤ adds.added x y t

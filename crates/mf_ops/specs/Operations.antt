@@ -29,7 +29,7 @@ pub record AreAccepted (ops : List Op) : Type 0 where
 
 -- an operation that holds neither points nor a picture, so that a copy of it takes no memory
 abbrev pub HoldsNoList : Op → Type 0
-HoldsNoList (Contour ps w) = ⊥
+HoldsNoList (Contour ps w check) = ⊥
 HoldsNoList (Also es s) = ⊥
 HoldsNoList (Cull c) = Unit {0}
 HoldsNoList (Shift dx dy) = Unit {0}

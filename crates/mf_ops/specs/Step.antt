@@ -1,6 +1,9 @@
 -- What an operation makes of a picture, pixel by pixel.
 use Rattle.std.specs.Prelude.{◌≡◌, ◌≢◌, ◌&&◌, Bool, false, not, ℤ, pos, ◌+ℤ◌, ◌-ℤ◌, List, Option, None, Some, if◌then◌else◌}
 use Rattle.std.specs.List.{list_any}
+use Rattle.std.specs.Option.{option_map, option_or}
+use Rattle.mf_geom.specs.declared.check.Check.TheVariants.{Off, On}
+use Rattle.mf_geom.specs.Faults.{turning_fault}
 use Rattle.mf_geom.specs.Field.{IsInField}
 use Rattle.mf_geom.specs.Winding.{contour}
 use Rattle.mf_rows.specs.Dots.{Dot, weight_at}
@@ -16,7 +19,7 @@ use Rattle.mf_ops.specs.declared.sign.Sign.TheVariants.{Plus, Minus}
 
 -- the weight of the pixel (x, y) after an operation on the picture ds
 abbrev pub step_at : List Dot → Op → ℤ → ℤ → ℤ
-step_at ds (Contour ps w) x y = weight_at ds x y +ℤ contour ps w x y
+step_at ds (Contour ps w check) x y = weight_at ds x y +ℤ contour ps w check x y
 step_at ds (Also es Plus) x y = weight_at ds x y +ℤ weight_at es x y
 step_at ds (Also es Minus) x y = weight_at ds x y -ℤ weight_at es x y
 step_at ds (Cull c) x y = culled c (weight_at ds x y)
@@ -31,7 +34,7 @@ stepped ds op = picture_of (step_at ds op)
 
 -- whether an operation takes a pixel out of the field; a turn takes the field to itself
 abbrev pub leaves : Op → Dot → Bool
-leaves (Contour ps w) d = false
+leaves (Contour ps w check) d = false
 leaves (Also es s) d = false
 leaves (Cull c) d = false
 leaves (Shift dx dy) d = not (stays_inside (pos 1) dx d.x && stays_inside (pos 1) dy d.y)
@@ -47,9 +50,28 @@ pub record StaysInField (ds : List Dot) (op : Op) : Type 0 where
 abbrev pub weight_fault : List Dot → Option OpFault
 weight_fault ds = if list_any (λ d. is_too_large d.weight) ds then Some WeightTooLarge else None
 
--- why an operation on the picture ds is refused, if it is
+-- why an operation on the picture ds is refused for its pixels, if it is
+abbrev pub pixel_fault : List Dot → Op → Option OpFault
+pixel_fault ds op = if list_any (leaves op) ds then Some OutOfField else weight_fault (stepped ds op)
+
+-- why an operation is refused for how its cycle turns, if it is: a contour under the turning check alone
+abbrev pub turn_fault : Op → Option OpFault
+turn_fault (Contour ps w On) = option_map OpFault.Cycle (turning_fault ps)
+turn_fault (Contour ps w Off) = None
+turn_fault (Also es s) = None
+turn_fault (Cull c) = None
+turn_fault (Shift dx dy) = None
+turn_fault (Scale s) = None
+turn_fault (Quarter q) = None
+turn_fault Clear = None
+
+-- an operation is no contour, or one that its turning check lets pass
+pub record TurnsLawfully (op : Op) : Type 0 where
+  pub none : turn_fault op ≡ None
+
+-- why an operation on the picture ds is refused, if it is: how its cycle turns is looked at before any pixel
 unfoldable pub fault_of : List Dot → Op → Option OpFault
-fault_of ds op = if list_any (leaves op) ds then Some OutOfField else weight_fault (stepped ds op)
+fault_of ds op = option_or (turn_fault op) (pixel_fault ds op)
 
 -- at some pixel outside the field the weight f is not 0
 pub record LiesOutside (f : ℤ → ℤ → ℤ) : Type 0 where

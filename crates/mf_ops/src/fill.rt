@@ -1,16 +1,20 @@
 //! Filling a contour: the vertical edges of its cycle become corners, which are added to the picture.
-ghost use Rattle.std.specs.Prelude.{◌≡◌, ◌≢◌, None, Some, IfOk, IfErr, OnOk, OnErr, pos, negsuc, ◌*ℤ◌, ◌≤ℤ◌, All};
+ghost use Rattle.std.specs.Prelude.{◌≡◌, ◌≢◌, None, Some, Err, IfOk, IfErr, OnOk, OnErr, pos, negsuc, ◌*ℤ◌, ◌≤ℤ◌, All};
 ghost use Rattle.std.specs.Int.{int_signum};
 ghost use Rattle.mf_geom.specs.Path.{IsInReach, IsRectilinear};
 ghost use Rattle.mf_geom.specs.Turning.{turning};
+ghost use Rattle.mf_geom.specs.Faults.{turning_fault};
+ghost use Rattle.mf_geom.specs.Winding.{filling_weight};
+ghost use Rattle.mf_geom.specs.declared.check.Check.TheVariants.{Off};
+ghost use Rattle.mf_geom.specs.declared.cycle.CycleFault.{CycleFault};
 ghost use Rattle.mf_rows.specs.Corners.{IsCorner, AreCorners};
 ghost use Rattle.mf_ops.specs.Sides.{HasSide, AddWinding};
-ghost use Rattle.mf_ops.specs.Step.{stepped, fault_of};
+ghost use Rattle.mf_ops.specs.Step.{stepped, fault_of, turn_fault};
 ghost use Rattle.mf_ops.specs.declared.op.Op.TheVariants.{Contour};
 
 use crate::op::OpFault;
 use crate::weight::Weight;
-use mf_geom::{Cycle, OutOfMemory, Point};
+use mf_geom::{Check, Cycle, CycleFault, OutOfMemory, Point};
 use mf_rows::{Corner, Picture};
 use std::alloc::Global;
 
@@ -20,14 +24,17 @@ pub fn fill(
     picture: &Picture,
     cycle: &Cycle,
     weight: Weight,
+    check: Check,
 ) -> Result<Picture, OpFault>
-    ensures step { IfOk result (λ new. new ≡ stepped picture.now (Contour cycle.now weight)) }
-    ensures accepted { OnOk result (fault_of picture.now (Contour cycle.now weight) ≡ None) }
-    ensures refused { IfErr result (λ fault. fault ≢ OpFault.OutOfMemory → fault_of picture.now (Contour cycle.now weight) ≡ Some fault) }
+    ensures step { IfOk result (λ new. new ≡ stepped picture.now (Contour cycle.now weight check)) }
+    ensures accepted { OnOk result (fault_of picture.now (Contour cycle.now weight check) ≡ None) }
+    ensures refused { IfErr result (λ fault. fault ≢ OpFault.OutOfMemory → fault_of picture.now (Contour cycle.now weight check) ≡ Some fault) }
+    ensures turning { (fault : CycleFault) → fault_of picture.now (Contour cycle.now weight check) ≡ Some (OpFault.Cycle fault) → result ≡ Err (OpFault.Cycle fault) }
 {
-    let mut filled = picture.copy(alloc)?;
-    fill_in(alloc, &mut filled, cycle, weight)?;
-    Ok(filled)
+    match filling_weight(cycle, weight, check) {
+        Ok(weight) => with_sides(alloc, picture, cycle, weight),
+        Err(fault) => Err(OpFault::Cycle(fault)),
+    }
 }
 
 /// Fills a contour with this weight into a picture, which a refusal leaves as it was.
@@ -36,23 +43,93 @@ pub(crate) fn fill_in(
     picture: &mut Picture,
     cycle: &Cycle,
     weight: Weight,
+    check: Check,
 ) -> Result<(), OpFault>
-    ensures step { OnOk result (picture.new ≡ stepped picture.old (Contour cycle.now weight)) }
+    ensures step { OnOk result (picture.new ≡ stepped picture.old (Contour cycle.now weight check)) }
     ensures unchanged { OnErr result (picture.new ≡ picture.old) }
-    ensures accepted { OnOk result (fault_of picture.old (Contour cycle.now weight) ≡ None) }
-    ensures refused { IfErr result (λ fault. fault ≢ OpFault.OutOfMemory → fault_of picture.old (Contour cycle.now weight) ≡ Some fault) }
+    ensures accepted { OnOk result (fault_of picture.old (Contour cycle.now weight check) ≡ None) }
+    ensures refused { IfErr result (λ fault. fault ≢ OpFault.OutOfMemory → fault_of picture.old (Contour cycle.now weight check) ≡ Some fault) }
+    ensures turning { (fault : CycleFault) → fault_of picture.old (Contour cycle.now weight check) ≡ Some (OpFault.Cycle fault) → result ≡ Err (OpFault.Cycle fault) }
 {
-    let corners = corners_of(alloc, cycle, signed_weight(cycle, weight))?;
-    Ok(picture.add_corners(alloc, corners)?)
+    match filling_weight(cycle, weight, check) {
+        Ok(weight) => add_sides(alloc, picture, cycle, weight),
+        Err(fault) => Err(OpFault::Cycle(fault)),
+    }
 }
 
-/// The weight of a contour, negated where its cycle turns clockwise.
-fn signed_weight(cycle: &Cycle, weight: Weight) -> i32
-    ensures value { result ≡ weight *ℤ int_signum (turning cycle.now) }
+/// The weight with which a cycle is filled, once the turning check, if it is on, has let it pass.
+fn filling_weight(cycle: &Cycle, weight: Weight, check: Check) -> Result<i32, CycleFault>
+    ensures value { IfOk result (λ filling. filling ≡ filling_weight check cycle.now weight) }
+    ensures least { IfOk result (λ filling. negsuc 2 ≤ℤ filling) }
+    ensures greatest { IfOk result (λ filling. filling ≤ℤ pos 3) }
+    ensures passes { OnOk result (turn_fault (Contour cycle.now weight check) ≡ None) }
+    ensures refused { IfErr result (λ fault. turn_fault (Contour cycle.now weight check) ≡ Some (OpFault.Cycle fault)) }
+{
+    match check {
+        Check::Off => Ok(weight.get()),
+        Check::On => turned_weight(cycle, weight),
+    }
+}
+
+/// The weight, negated where the cycle turns clockwise.
+fn turned_weight(cycle: &Cycle, weight: Weight) -> Result<i32, CycleFault>
+    ensures value { IfOk result (λ turned. turned ≡ weight *ℤ int_signum (turning cycle.now)) }
+    ensures least { IfOk result (λ turned. negsuc 2 ≤ℤ turned) }
+    ensures greatest { IfOk result (λ turned. turned ≤ℤ pos 3) }
+    ensures passes { OnOk result (turning_fault cycle.now ≡ None) }
+    ensures refused { IfErr result (λ fault. turning_fault cycle.now ≡ Some fault) }
+{
+    match cycle.turning() {
+        Err(fault) => Err(fault),
+        Ok(turning) if turning == 0 => Err(CycleFault::TurningZero),
+        Ok(turning) => Ok(with_sign_of(turning, weight)),
+    }
+}
+
+/// The weight, negated where the turning number is below 0, and 0 where that is 0.
+fn with_sign_of(turning: i32, weight: Weight) -> i32
+    ensures value { result ≡ weight *ℤ int_signum turning }
     ensures least { negsuc 2 ≤ℤ result }
     ensures greatest { result ≤ℤ pos 3 }
 {
-    weight.get() * cycle.turning().signum()
+    weight.get() * turning.signum()
+}
+
+/// The picture with the weight times the winding number of the cycle added to each pixel, as by a contour that is not checked.
+fn with_sides(
+    alloc: Global,
+    picture: &Picture,
+    cycle: &Cycle,
+    weight: i32,
+) -> Result<Picture, OpFault>
+    requires least { negsuc 2 ≤ℤ weight }
+    requires greatest { weight ≤ℤ pos 3 }
+    ensures step { IfOk result (λ new. new ≡ stepped picture.now (Contour cycle.now weight Off)) }
+    ensures accepted { OnOk result (fault_of picture.now (Contour cycle.now weight Off) ≡ None) }
+    ensures refused { IfErr result (λ fault. fault ≢ OpFault.OutOfMemory → fault_of picture.now (Contour cycle.now weight Off) ≡ Some fault) }
+{
+    let mut filled = picture.copy(alloc)?;
+    add_sides(alloc, &mut filled, cycle, weight)?;
+    Ok(filled)
+}
+
+/// Adds to each pixel of a picture the weight times the winding number of the cycle, as a contour does that is not checked.
+/// A refusal leaves the picture as it was.
+fn add_sides(
+    alloc: Global,
+    picture: &mut Picture,
+    cycle: &Cycle,
+    weight: i32,
+) -> Result<(), OpFault>
+    requires least { negsuc 2 ≤ℤ weight }
+    requires greatest { weight ≤ℤ pos 3 }
+    ensures step { OnOk result (picture.new ≡ stepped picture.old (Contour cycle.now weight Off)) }
+    ensures unchanged { OnErr result (picture.new ≡ picture.old) }
+    ensures accepted { OnOk result (fault_of picture.old (Contour cycle.now weight Off) ≡ None) }
+    ensures refused { IfErr result (λ fault. fault ≢ OpFault.OutOfMemory → fault_of picture.old (Contour cycle.now weight Off) ≡ Some fault) }
+{
+    let corners = corners_of(alloc, cycle, weight)?;
+    Ok(picture.add_corners(alloc, corners)?)
 }
 
 /// Corners that add to each pixel the weight times the winding number of the cycle.

@@ -2,17 +2,20 @@
 ghost use Rattle.std.specs.Prelude.{◌≡◌, ◌≢◌, ◌↔◌, false, ℤ, pos, negsuc, neg_ℤ, ◌*ℤ◌, ◌-ℤ◌, ◌≤ℤ◌, ◌+◌, List, [], ◌∷◌, ◌++◌, Some, None};
 ghost use Rattle.std.specs.Int.{int_signum};
 ghost use Rattle.std.specs.Int.RustNames.{unsigned_abs};
+ghost use Rattle.mf_geom.specs.declared.check.Check.{Check};
+ghost use Rattle.mf_geom.specs.declared.check.Check.TheVariants.{Off, On};
+ghost use Rattle.mf_geom.specs.declared.cycle.CycleFault.{CycleFault};
 ghost use Rattle.mf_geom.specs.declared.point.Point.{Point};
 ghost use Rattle.mf_geom.specs.Area.{area};
 ghost use Rattle.mf_geom.specs.Field.{IsInField};
-ghost use Rattle.mf_geom.specs.Lawful.{IsRectilinearCycle};
+ghost use Rattle.mf_geom.specs.Lawful.{IsFault, IsRectilinearCycle};
 ghost use Rattle.mf_geom.specs.Turning.{turning};
 ghost use Rattle.mf_edges.specs.LawfulWeights.{IsLawfulWeight};
 ghost use Rattle.mf_rows.specs.Dots.{Dot, IsPicture, total_of, weight_at};
 ghost use Rattle.mf_ops.specs.Cull.{IsLawfulCull, culled};
 ghost use Rattle.mf_ops.specs.Moves.{Factors, AreFactors, IsFactor, HasPlace, scale_source, turned};
 ghost use Rattle.mf_ops.specs.Operations.{AreAccepted, picture_after, revision_after};
-ghost use Rattle.mf_ops.specs.Step.{step_at, stepped, fault_of, StaysInField, LiesOutside};
+ghost use Rattle.mf_ops.specs.Step.{step_at, stepped, fault_of, StaysInField, TurnsLawfully, LiesOutside};
 ghost use Rattle.mf_ops.specs.Weights.{is_too_large, IsTooLargeSomewhere};
 ghost use Rattle.mf_ops.specs.declared.op.Op.{Op};
 ghost use Rattle.mf_ops.specs.declared.cull.CullRule.TheVariants.{Keeping, Dropping};
@@ -20,18 +23,28 @@ ghost use Rattle.mf_ops.specs.declared.op.Op.TheVariants as ops;
 ghost use Rattle.mf_ops.specs.declared.op.Op.TheVariants.{Contour, Also, Cull, Shift, Scale, Clear};
 ghost use Rattle.mf_ops.specs.declared.sign.Sign.{Sign};
 ghost use Rattle.mf_ops.specs.declared.sign.Sign.TheVariants.{Minus};
+ghost use Rattle.mf_ops.specs.declared.op.OpFault.TheVariants as OpFault;
 ghost use Rattle.mf_ops.specs.declared.op.OpFault.TheVariants.{OutOfField, WeightTooLarge};
 ghost use Rattle.mf_ops.specs.declared.quarter.Quarter.{Quarter};
 
-/// An operation that takes no pixel of a picture out of the field is refused exactly where the weight of some
-/// pixel of the field would pass 32767 in size.
+/// An operation whose cycle turns lawfully, if it has one, and that takes no pixel of a picture out of the field is refused
+/// exactly where the weight of some pixel of the field would pass 32767 in size.
 pub fn refused_where_too_large()
-    ensures refused { (ds : List Dot) (op : Op) → StaysInField ds op → IsTooLargeSomewhere (step_at ds op) →
+    ensures refused { (ds : List Dot) (op : Op) → TurnsLawfully op → StaysInField ds op → IsTooLargeSomewhere (step_at ds op) →
         fault_of ds op ≡ Some WeightTooLarge }
     ensures accepted { (ds : List Dot) (op : Op) → fault_of ds op ≡ None →
         (x y : ℤ) → IsInField x y → is_too_large (step_at ds op x y) ≡ false }
     ensures only { (ds : List Dot) (op : Op) → fault_of ds op ≡ Some WeightTooLarge →
-        StaysInField ds op × IsTooLargeSomewhere (step_at ds op) }
+        TurnsLawfully op × StaysInField ds op × IsTooLargeSomewhere (step_at ds op) }
+{}
+
+/// A contour under the turning check is refused for its cycle exactly where that turns straight back, with the first such
+/// vertex, or else has turning number 0, be its pixels as they may. No other operation is refused for a cycle.
+pub fn refused_where_it_turns_back()
+    ensures checked { (ds : List Dot) (ps : List Point) (w : ℤ) (fault : CycleFault) → IsRectilinearCycle ps →
+        (fault_of ds (Contour ps w On) ≡ Some (OpFault.Cycle fault)) ↔ IsFault ps fault }
+    ensures unchecked { (ds : List Dot) (ps : List Point) (w : ℤ) → TurnsLawfully (Contour ps w Off) }
+    ensures lawful { (ds : List Dot) (op : Op) (fault : CycleFault) → TurnsLawfully op → fault_of ds op ≢ Some (OpFault.Cycle fault) }
 {}
 
 /// A shift or a scale is refused with OutOfField exactly where some pixel outside the field would have a weight
@@ -54,7 +67,7 @@ pub fn never_refused()
     ensures dropping { (ds : List Dot) (a b w : ℤ) → IsLawfulWeight w → fault_of ds (Cull (Dropping a b w)) ≡ None }
     ensures shift { (ds : List Dot) (dx dy : ℤ) → IsPicture ds → fault_of ds (Shift dx dy) ≢ Some WeightTooLarge }
     ensures scale { (ds : List Dot) (s : Factors) → IsPicture ds → fault_of ds (Scale s) ≢ Some WeightTooLarge }
-    ensures contour { (ds : List Dot) (ps : List Point) (w : ℤ) → fault_of ds (Contour ps w) ≢ Some OutOfField }
+    ensures contour { (ds : List Dot) (ps : List Point) (w : ℤ) (check : Check) → fault_of ds (Contour ps w check) ≢ Some OutOfField }
     ensures also { (ds es : List Dot) (s : Sign) → fault_of ds (Also es s) ≢ Some OutOfField }
 {}
 
@@ -83,11 +96,13 @@ pub fn totals_after_moves()
         total_of (stepped ds (Scale s)) ≡ pos (unsigned_abs (s.x *ℤ s.y)) *ℤ total_of ds }
 {}
 
-/// The total weight of a blank picture after a contour is the contour's weight times the sign of its turning
-/// number times its signed area.
+/// The total weight of a blank picture after a contour is the contour's weight times its signed area, under the turning check
+/// also times the sign of its turning number.
 pub fn total_of_a_contour()
-    ensures { (ps : List Point) (w : ℤ) → IsRectilinearCycle ps →
-        total_of (stepped [] (Contour ps w)) ≡ (w *ℤ int_signum (turning ps)) *ℤ area ps }
+    ensures checked { (ps : List Point) (w : ℤ) → IsRectilinearCycle ps →
+        total_of (stepped [] (Contour ps w On)) ≡ (w *ℤ int_signum (turning ps)) *ℤ area ps }
+    ensures unchecked { (ps : List Point) (w : ℤ) → IsRectilinearCycle ps →
+        total_of (stepped [] (Contour ps w Off)) ≡ w *ℤ area ps }
 {}
 
 /// The picture after an operation has exactly the weights of its step at each pixel of the field, and is a

@@ -1,5 +1,6 @@
 //! Operations on pictures, and what they make of a picture.
 ghost use Rattle.std.specs.Prelude.{◌≡◌, ◌≢◌, None, Some, Err, IsOk, IfOk, IfErr, OnOk, OnErr};
+ghost use Rattle.mf_geom.specs.declared.cycle.CycleFault.{CycleFault};
 ghost use Rattle.mf_ops.specs.Operations.{HoldsNoList};
 ghost use Rattle.mf_ops.specs.Step.{stepped, fault_of};
 ghost use Rattle.mf_ops.specs.declared.op.Op.TheVariants as ops;
@@ -12,7 +13,7 @@ use crate::scale::Scale;
 use crate::sign::Sign;
 use crate::transform::{scale, shift, turn};
 use crate::weight::Weight;
-use mf_geom::{Cycle, OutOfMemory};
+use mf_geom::{Check, Cycle, CycleFault, OutOfMemory};
 use mf_rows::{AddFault, Picture};
 use std::alloc::Global;
 use std::error::Error;
@@ -21,9 +22,9 @@ use std::fmt;
 /// An operation that changes a picture.
 #[derive(Debug, Drop)]
 pub enum Op {
-    /// `addto p contour c withweight w`: adds to each pixel the weight times the winding number of the
-    /// cycle round it, negated where the cycle turns clockwise (The METAFONTbook, chapter 13).
-    Contour(Cycle, Weight),
+    /// `addto p contour c withweight w` under a turning check: adds to each pixel the weight times the winding number of
+    /// the cycle round it, under `On` negated where the cycle turns clockwise (The METAFONTbook, chapter 13).
+    Contour(Cycle, Weight, Check),
     /// `addto p also q` and `addto p also -q`: adds to each pixel its weight in another picture, or that
     /// weight negated. The other picture may be a copy of the changed one.
     Also(Picture, Sign),
@@ -46,11 +47,13 @@ pub enum Op {
 /// Why an operation is refused.
 #[derive(Clone, Copy, Debug, PartialEq, Eq)]
 pub enum OpFault {
+    /// Refusals 5 and 6: under the turning check, the cycle of a contour turns straight back, or has turning number 0.
+    Cycle(CycleFault),
     /// Refusal 11: a pixel of nonzero weight would leave the field.
     OutOfField,
     /// Refusal 12: a weight would pass 32767 in size.
     WeightTooLarge,
-    /// Refusal 14. It may come in the place of 12, never of 11.
+    /// Refusal 14. It may come in the place of 12, never of 5, 6 or 11.
     OutOfMemory,
 }
 
@@ -62,6 +65,7 @@ impl fmt::Display for OpFault {
 
     fn fmt<W: fmt::Write>(&self, f: &mut fmt::Formatter<W>) -> fmt::Result {
         match self {
+            OpFault::Cycle(fault) => write!(f, "{fault}"),
             OpFault::OutOfField => write!(f, "OutOfField"),
             OpFault::WeightTooLarge => write!(f, "WeightTooLarge"),
             OpFault::OutOfMemory => write!(f, "{OutOfMemory}"),
@@ -104,7 +108,9 @@ impl Op {
         ensures copied { HoldsNoList self.now → IsOk result }
     {
         match self {
-            Op::Contour(cycle, weight) => Ok(Op::Contour(cycle.copy(alloc)?, *weight)),
+            Op::Contour(cycle, weight, check) => {
+                Ok(Op::Contour(cycle.copy(alloc)?, *weight, *check))
+            }
             Op::Also(picture, sign) => Ok(Op::Also(picture.copy(alloc)?, *sign)),
             Op::Cull(cull) => Ok(Op::Cull(*cull)),
             Op::Shift(right, up) => Ok(Op::Shift(*right, *up)),
@@ -115,20 +121,21 @@ impl Op {
     }
 }
 
-/// The picture after an operation; the given one is unchanged. Refusals OutOfField (11), exactly where a pixel
-/// of nonzero weight would leave the field, else WeightTooLarge (12), exactly where the weight of a pixel would
-/// pass 32767 in size, and OutOfMemory (14), which may come in the place of WeightTooLarge alone. A clear is
-/// never refused.
-#[tactic(auto, using(crate::proofs::Faults::contour_not_out, crate::proofs::Faults::also_not_out, crate::proofs::Faults::cull_not_out, crate::proofs::Faults::quarter_not_out, crate::proofs::Faults::clear_not_out))]
+/// The picture after an operation; the given one is unchanged. Refusals of a contour under the turning check, Backtracks
+/// (5), with the first vertex at which its cycle turns straight back, else TurningZero (6); then OutOfField (11), exactly
+/// where a pixel of nonzero weight would leave the field, else WeightTooLarge (12), exactly where the weight of a pixel would
+/// pass 32767 in size, and OutOfMemory (14), which may come in the place of WeightTooLarge alone. A clear is never refused.
+#[tactic(auto, using(crate::proofs::Faults::contour_not_out, crate::proofs::Faults::also_not_out, crate::proofs::Faults::cull_not_out, crate::proofs::Faults::quarter_not_out, crate::proofs::Faults::clear_not_out, crate::proofs::Faults::also_turns, crate::proofs::Faults::cull_turns, crate::proofs::Faults::shift_turns, crate::proofs::Faults::scale_turns, crate::proofs::Faults::quarter_turns, crate::proofs::Faults::clear_turns))]
 pub fn after(alloc: Global, picture: &Picture, op: &Op) -> Result<Picture, OpFault>
     ensures step { IfOk result (λ new. new ≡ stepped picture.now op.now) }
     ensures accepted { OnOk result (fault_of picture.now op.now ≡ None) }
     ensures refused { IfErr result (λ fault. fault ≢ OpFault.OutOfMemory → fault_of picture.now op.now ≡ Some fault) }
+    ensures turning { (fault : CycleFault) → fault_of picture.now op.now ≡ Some (OpFault.Cycle fault) → result ≡ Err (OpFault.Cycle fault) }
     ensures out_of_field { fault_of picture.now op.now ≡ Some OpFault.OutOfField → result ≡ Err OpFault.OutOfField }
     ensures clears { op.now ≡ ops.Clear → IsOk result }
 {
     match op {
-        Op::Contour(cycle, weight) => fill(alloc, picture, cycle, *weight),
+        Op::Contour(cycle, weight, check) => fill(alloc, picture, cycle, *weight, *check),
         Op::Also(other, sign) => add(alloc, picture, other, *sign),
         Op::Cull(cull) => after_cull(alloc, picture, *cull),
         Op::Shift(right, up) => shift(alloc, picture, *right, *up),
@@ -140,17 +147,18 @@ pub fn after(alloc: Global, picture: &Picture, op: &Op) -> Result<Picture, OpFau
 
 /// Performs an operation on a picture: contours and other pictures are added to it in place. Refusals are those of
 /// `after`, and leave it as it was.
-#[tactic(auto, using(crate::proofs::Faults::contour_not_out, crate::proofs::Faults::also_not_out))]
+#[tactic(auto, using(crate::proofs::Faults::contour_not_out, crate::proofs::Faults::also_not_out, crate::proofs::Faults::also_turns))]
 pub fn apply(alloc: Global, picture: &mut Picture, op: &Op) -> Result<(), OpFault>
     ensures step { OnOk result (picture.new ≡ stepped picture.old op.now) }
     ensures unchanged { OnErr result (picture.new ≡ picture.old) }
     ensures accepted { OnOk result (fault_of picture.old op.now ≡ None) }
     ensures refused { IfErr result (λ fault. fault ≢ OpFault.OutOfMemory → fault_of picture.old op.now ≡ Some fault) }
+    ensures turning { (fault : CycleFault) → fault_of picture.old op.now ≡ Some (OpFault.Cycle fault) → result ≡ Err (OpFault.Cycle fault) }
     ensures out_of_field { fault_of picture.old op.now ≡ Some OpFault.OutOfField → result ≡ Err OpFault.OutOfField }
     ensures clears { op.now ≡ ops.Clear → IsOk result }
 {
     match op {
-        Op::Contour(cycle, weight) => fill_in(alloc, picture, cycle, *weight),
+        Op::Contour(cycle, weight, check) => fill_in(alloc, picture, cycle, *weight, *check),
         Op::Also(other, sign) => add_to(alloc, picture, other, *sign),
         Op::Cull(_) | Op::Shift(_, _) | Op::Scale(_) | Op::Quarter(_) | Op::Clear => {
             *picture = after(alloc, picture, op)?;

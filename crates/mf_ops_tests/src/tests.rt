@@ -7,9 +7,10 @@ mod culls;
 mod moves;
 mod scattered;
 mod sums;
+mod turning;
 
 use assertions::{assert_holds, assert_same};
-use mf_geom::{Cycle, Point};
+use mf_geom::{Check, Cycle, Point};
 use mf_ops::{Cull, Op, OpFault, Quarter, Scale, Weight, after, apply};
 use mf_rows::{Box4, Picture, Run};
 use std::process::Abort;
@@ -42,12 +43,22 @@ fn walk<R: Abort + AllocGlobal>(rt: &R, corners: Corners, times: usize) -> Vec<P
     points
 }
 
-/// The contour of the path through these corners, walked so many times, with this weight.
-fn contour<R: Abort + AllocGlobal>(rt: &R, corners: Corners, times: usize, number: i32) -> Op {
+/// The cycle of the path through these corners, walked so many times.
+fn cycle<R: Abort + AllocGlobal>(rt: &R, corners: Corners, times: usize) -> Cycle {
     match Cycle::new(walk(rt, corners, times)) {
-        Ok(cycle) => Op::Contour(cycle, weight(rt, number)),
-        Err((fault, _)) => panic!(rt; "no contour: {fault}"),
+        Ok(cycle) => cycle,
+        Err((fault, _)) => panic!(rt; "no cycle: {fault}"),
     }
+}
+
+/// The contour of the path through these corners, walked so many times, with this weight, under the turning check.
+fn contour<R: Abort + AllocGlobal>(rt: &R, corners: Corners, times: usize, number: i32) -> Op {
+    Op::Contour(cycle(rt, corners, times), weight(rt, number), Check::On)
+}
+
+/// The same, where the turning check is off.
+fn unchecked<R: Abort + AllocGlobal>(rt: &R, corners: Corners, times: usize, number: i32) -> Op {
+    Op::Contour(cycle(rt, corners, times), weight(rt, number), Check::Off)
 }
 
 /// The weight of this number.

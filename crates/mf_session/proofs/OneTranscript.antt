@@ -8,12 +8,12 @@ use Rattle.mf_ops.specs.declared.op.Op.{Op}
 use Rattle.mf_ops.specs.declared.op.Op.TheVariants as ops
 use Rattle.mf_rows.specs.Dots.{Dot}
 use Rattle.mf_text.specs.declared.command.Command.{Command}
-use Rattle.mf_text.specs.declared.command.Command.TheVariants.{Nothing, Contour, Also, Cull, Clear, Shift, Scale, Quarter, Total, Show, Proof, Ship, Publish}
+use Rattle.mf_text.specs.declared.command.Command.TheVariants.{Nothing, Turning, Contour, Also, Cull, Clear, Shift, Scale, Quarter, Total, Show, Proof, Ship, Publish}
 use Rattle.mf_text.specs.declared.command.Name.{Name}
 use Rattle.mf_text.proofs.GridTexts.{one_grid_text}
 use Rattle.mf_text.proofs.OneAnswer.{gives_one, refused_once, given_or_refused}
 use Rattle.mf_session.specs.declared.refusal.Refusal.TheVariants.{Line}
-use Rattle.mf_session.specs.Answers.{Prints, Operates, ProofAnswers, AnswersTo, Answers}
+use Rattle.mf_session.specs.Answers.{Prints, Operates, KeepsRest, ProofAnswers, AnswersTo, Answers}
 use Rattle.mf_session.specs.Changes.{refusal_of, operated, Becomes}
 use Rattle.mf_session.specs.Pictures.{Pictures, source_picture}
 use Rattle.mf_session.specs.Shipments.{Ships}
@@ -24,8 +24,15 @@ use Rattle.mf_session.specs.Transcript.{Perform, IsTranscript}
 prints_once : (s t u : State) (line text other : List ℕ) → Prints s line text t → Prints s line other u → (text ≡ other) × (t ≡ u)
 prints_once s t u line text other (printed, after) (printed_too, after_too) = (printed ∙ sym printed_too, after ∙ sym after_too)
 
-same_state : (t u : State) → t.pictures ≡ u.pictures → t.characters ≡ u.characters → t ≡ u
-same_state t u pictures characters = ap (λ p. record { pictures = p; characters = t.characters }) pictures ∙ ap (λ cs. record { pictures = u.pictures; characters = cs }) characters
+same_state : (t u : State) → t.pictures ≡ u.pictures → t.check ≡ u.check → t.characters ≡ u.characters → t ≡ u
+same_state t u pictures check characters =
+    ap (λ p. record { pictures = p; check = t.check; characters = t.characters }) pictures
+    ∙ ap (λ k. record { pictures = u.pictures; check = k; characters = t.characters }) check
+    ∙ ap (λ cs. record { pictures = u.pictures; check = u.check; characters = cs }) characters
+
+-- states that draw alike, after the same state
+same_drawn : (s t u : State) → t.pictures ≡ u.pictures → KeepsRest s t → KeepsRest s u → t ≡ u
+same_drawn s t u pictures p q = same_state t u pictures (p.check ∙ sym q.check) (p.characters ∙ sym q.characters)
 
 becomes_once : (refused : Option Fault) (s new t u : Pictures) (text other : List ℕ) → Becomes refused s new text t → Becomes refused s new other u → (text ≡ other) × (t ≡ u)
 becomes_once None s new t u text other p q = (p.0 ∙ sym q.0, p.1 ∙ sym q.1)
@@ -34,7 +41,7 @@ becomes_once (Some why) s new t u text other p q = (p.0 ∙ sym q.0, p.1 ∙ sym
 operates_once : (limits : Limits) (s t u : State) (name : Name) (op : Op) (text other : List ℕ) → Operates limits s name op text t → Operates limits s name op other u → (text ≡ other) × (t ≡ u)
 operates_once limits s t u name op text other p q =
     let (same_text, same_pictures) = becomes_once (refusal_of limits.max_ops s.pictures name op) s.pictures (operated s.pictures name op) t.pictures u.pictures text other p.0 q.0 in
-    (same_text, same_state t u same_pictures (p.1 ∙ sym q.1))
+    (same_text, same_drawn s t u same_pictures p.1 q.1)
 
 proof_once : (ds : List Dot) (text other : List ℕ) → ProofAnswers ds text → ProofAnswers ds other → text ≡ other
 proof_once ds text other (inl p) (inl q) = p.printed ∙ sym q.printed
@@ -58,7 +65,8 @@ ships_once limits shipped c text other after later (inr (inr p)) (inr (inr q)) =
 -- a command has one answer
 answers_once : (limits : Limits) (s t u : State) (given : Command) (text other : List ℕ) → AnswersTo limits s given text t → AnswersTo limits s given other u → (text ≡ other) × (t ≡ u)
 answers_once limits s t u Nothing text other p q = prints_once s t u _ text other p q
-answers_once limits s t u (Contour name cycle weight) text other p q = operates_once limits s t u name (ops.Contour cycle weight) text other p q
+answers_once limits s t u (Turning check) text other p q = (p.0 ∙ sym q.0, p.1 ∙ sym q.1)
+answers_once limits s t u (Contour name cycle weight) text other p q = operates_once limits s t u name (ops.Contour cycle weight s.check) text other p q
 answers_once limits s t u (Also name source sign) text other p q = operates_once limits s t u name (ops.Also (source_picture s.pictures source) sign) text other p q
 answers_once limits s t u (Cull name cull) text other p q = operates_once limits s t u name (ops.Cull cull) text other p q
 answers_once limits s t u (Clear name) text other p q = operates_once limits s t u name ops.Clear text other p q
@@ -72,8 +80,8 @@ answers_once limits s t u (Proof source) text other (printed, after) (printed_to
 answers_once limits s t u (Ship source code dx width) text other p q =
     let shipped = character code dx width (source_picture s.pictures source) in
     let (same_text, same_characters) = ships_once limits s.characters shipped text other t.characters u.characters p.0 q.0 in
-    (same_text, same_state t u (p.1 ∙ sym q.1) same_characters)
-answers_once limits s t u Publish text other p q = (p.0.0 ∙ sym q.0.0, same_state t u (p.0.1 ∙ sym q.0.1) (p.1 ∙ sym q.1))
+    (same_text, same_state t u (p.1.pictures ∙ sym q.1.pictures) (p.1.check ∙ sym q.1.check) same_characters)
+answers_once limits s t u Publish text other p q = (p.0.0 ∙ sym q.0.0, same_drawn s t u (p.0.1 ∙ sym q.0.1) p.1 q.1)
 
 -- and so has a line, whose command or refusal is one
 pub one_answer : (limits : Limits) (s t u : State) (line text other : List ℕ) → Answers limits s line text t → Answers limits s line other u → (text ≡ other) × (t ≡ u)

@@ -5,48 +5,57 @@ use Rattle.mf_gf.specs.Files.{Character, HasCode, front}
 use Rattle.mf_gf.specs.Keeping.{IsSameFile, Keeps}
 use Rattle.mf_session.specs.declared.refusal.Refusal.TheVariants.{CodeShipped, FileTooLong}
 use Rattle.mf_session.specs.declared.session.Session.{Session}
+use Rattle.mf_session.specs.Answers.{KeepsDrawn}
 use Rattle.mf_session.specs.Refusals.{refused_line}
 use Rattle.mf_session.specs.Sessions.{StandsFor, limits}
 use Rattle.mf_session.specs.Shipments.{Ships}
 use Rattle.mf_session.specs.States.{State}
 use Rattle.mf_session.specs.Variables.{pictures}
 
+-- a session has the pictures and the turning check of another
+pub record IsDrawnAlike (before after : Session) : Type 0 where
+  pub pictures_are : pictures after.variables ≡ pictures before.variables
+  pub check_is : after.check ≡ before.check
+
 -- a session has answered a shipping
 pub record HasShipped (before : Session) (s : State) (c : Character) (text : List ℕ) (after : Session) : Type 0 where
   pub next : State
-  pub answer : Ships (limits before) s.characters c text next.characters × (next.pictures ≡ s.pictures)
+  pub answer : Ships (limits before) s.characters c text next.characters × KeepsDrawn s next
   pub stands : StandsFor after next
+
+kept : (s : State) → KeepsDrawn s s
+kept s = record { pictures = refl; check = refl }
 
 -- a file that is as it was keeps what it kept
 pub keeps-same : (before after : GfFile) (comment : List ℕ) (characters : List Character) → IsSameFile before after → Keeps before comment characters → Keeps after comment characters
 keeps-same before after comment characters same keeps =
     record { bytes = same.bytes ∙ keeps.bytes; locators = same.locators ∙ keeps.locators; bounds = same.bounds ∙ keeps.bounds }
 
-pub shipped-new : (before after : Session) (s : State) (c : Character) (text : List ℕ) → StandsFor before s → pictures after.variables ≡ pictures before.variables
+pub shipped-new : (before after : Session) (s : State) (c : Character) (text : List ℕ) → StandsFor before s → IsDrawnAlike before after
     → Keeps after.file [] (s.characters ++ c ∷ []) → (HasCode c.code s.characters → ⊥) → ((limits before).max_bytes < length (front [] (s.characters ++ c ∷ [])) → ⊥)
     → text ≡ codes "[" ++ decimal c.code ++ codes "]\n" → HasShipped before s c text after
 shipped-new before after s c text stands same keeps new fits printed =
     record {
-      next = record { pictures = s.pictures; characters = s.characters ++ c ∷ [] };
-      answer = (inr (inr (record { new = new; fits = fits; printed = printed; appended = refl })), refl);
-      stands = record { pictures = stands.pictures ∙ sym same; file = keeps };
+      next = record { pictures = s.pictures; check = s.check; characters = s.characters ++ c ∷ [] };
+      answer = (inr (inr (record { new = new; fits = fits; printed = printed; appended = refl })), record { pictures = refl; check = refl });
+      stands = record { pictures = stands.pictures ∙ sym same.pictures_are; check = stands.check ∙ sym same.check_is; file = keeps };
     }
 
-pub shipped-before : (before after : Session) (s : State) (c : Character) (text : List ℕ) → StandsFor before s → pictures after.variables ≡ pictures before.variables
+pub shipped-before : (before after : Session) (s : State) (c : Character) (text : List ℕ) → StandsFor before s → IsDrawnAlike before after
     → IsSameFile before.file after.file → HasCode c.code s.characters → text ≡ refused_line CodeShipped → HasShipped before s c text after
 shipped-before before after s c text stands same same_file has printed =
     record {
       next = s;
-      answer = (inl (record { before = has; printed = printed; same = refl }), refl);
-      stands = record { pictures = stands.pictures ∙ sym same; file = keeps-same before.file after.file [] s.characters same_file stands.file };
+      answer = (inl (record { before = has; printed = printed; same = refl }), kept s);
+      stands = record { pictures = stands.pictures ∙ sym same.pictures_are; check = stands.check ∙ sym same.check_is; file = keeps-same before.file after.file [] s.characters same_file stands.file };
     }
 
-pub shipped-overlong : (before after : Session) (s : State) (c : Character) (text : List ℕ) → StandsFor before s → pictures after.variables ≡ pictures before.variables
+pub shipped-overlong : (before after : Session) (s : State) (c : Character) (text : List ℕ) → StandsFor before s → IsDrawnAlike before after
     → IsSameFile before.file after.file → (HasCode c.code s.characters → ⊥) → (limits before).max_bytes < length (front [] (s.characters ++ c ∷ []))
     → text ≡ refused_line FileTooLong → HasShipped before s c text after
 shipped-overlong before after s c text stands same same_file new too_long printed =
     record {
       next = s;
-      answer = (inr (inl (record { new = new; too_long = too_long; printed = printed; same = refl })), refl);
-      stands = record { pictures = stands.pictures ∙ sym same; file = keeps-same before.file after.file [] s.characters same_file stands.file };
+      answer = (inr (inl (record { new = new; too_long = too_long; printed = printed; same = refl })), kept s);
+      stands = record { pictures = stands.pictures ∙ sym same.pictures_are; check = stands.check ∙ sym same.check_is; file = keeps-same before.file after.file [] s.characters same_file stands.file };
     }

@@ -13,7 +13,7 @@ use Rattle.mf_ops.specs.declared.op.Op.{Op}
 use Rattle.mf_ops.specs.declared.op.Op.TheVariants as ops
 use Rattle.mf_rows.specs.Dots.{Dot}
 use Rattle.mf_text.specs.declared.command.Command.{Command}
-use Rattle.mf_text.specs.declared.command.Command.TheVariants.{Nothing, Contour, Also, Cull, Clear, Shift, Scale, Quarter, Total, Show, Proof, Ship, Publish}
+use Rattle.mf_text.specs.declared.command.Command.TheVariants.{Nothing, Turning, Contour, Also, Cull, Clear, Shift, Scale, Quarter, Total, Show, Proof, Ship, Publish}
 use Rattle.mf_text.specs.declared.command.Name.{Name}
 use Rattle.mf_text.specs.Grid.{IsTooLarge, box_text, extent}
 use Rattle.mf_text.specs.RunText.{run_text}
@@ -38,7 +38,7 @@ becomes_some (Some why) s new = (refused_line (RefusedOperation why), s, (refl, 
 operates_some : (limits : Limits) (s : State) (name : Name) (op : Op) → (text : List ℕ) × (t : State) × Operates limits s name op text t
 operates_some limits s name op =
     let (text, pictures, becomes) = becomes_some (refusal_of limits.max_ops s.pictures name op) s.pictures (operated s.pictures name op) in
-    (text, record { pictures = pictures; characters = s.characters }, (becomes, refl))
+    (text, record { pictures = pictures; check = s.check; characters = s.characters }, (becomes, record { check = refl; characters = refl }))
 
 refused_proof : (ds : List Dot) → IsTooLarge ds → (text : List ℕ) × ProofAnswers ds text
 refused_proof ds large = (refused_line ProofTooLarge, inl (record { too_large = large; printed = refl }))
@@ -83,7 +83,8 @@ ships_some limits shipped c =
 
 command_some : (limits : Limits) (s : State) (given : Command) → (text : List ℕ) × (t : State) × AnswersTo limits s given text t
 command_some limits s Nothing = ([], s, (refl, refl))
-command_some limits s (Contour name cycle weight) = operates_some limits s name (ops.Contour cycle weight)
+command_some limits s (Turning check) = ([], record s { check = check }, (refl, refl))
+command_some limits s (Contour name cycle weight) = operates_some limits s name (ops.Contour cycle weight s.check)
 command_some limits s (Also name source sign) = operates_some limits s name (ops.Also (source_picture s.pictures source) sign)
 command_some limits s (Cull name rule) = operates_some limits s name (ops.Cull rule)
 command_some limits s (Clear name) = operates_some limits s name ops.Clear
@@ -95,11 +96,11 @@ command_some limits s (Show source) = (run_text (source_picture s.pictures sourc
 command_some limits s (Proof source) = let (text, answers) = proof_some (source_picture s.pictures source) in (text, s, (answers, refl))
 command_some limits s (Ship source code dx width) =
     let (text, characters, ships) = ships_some limits s.characters (character code dx width (source_picture s.pictures source)) in
-    (text, record { pictures = s.pictures; characters = characters }, (ships, refl))
+    (text, record { pictures = s.pictures; check = s.check; characters = characters }, (ships, record { pictures = refl; check = refl }))
 command_some limits s Publish = (
   codes "published " ++ decimal (rev s.pictures.accepted) ++ codes "\n",
-  record { pictures = record s.pictures { published = s.pictures.accepted }; characters = s.characters },
-  ((refl, refl), refl),
+  record s { pictures = record s.pictures { published = s.pictures.accepted } },
+  ((refl, refl), record { check = refl; characters = refl }),
 )
 
 -- ---- lines and scripts

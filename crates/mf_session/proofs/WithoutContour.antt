@@ -4,7 +4,7 @@ use Rattle.mf_text.specs.declared.command.Command.{Command}
 use Rattle.mf_text.specs.declared.command.Command.TheVariants as command
 use Rattle.mf_text.specs.declared.fault.TextFault.{TextFault}
 use Rattle.mf_text.specs.declared.fault.TextFault.TheVariants as faults
-use Rattle.mf_text.specs.Grammar.{Form, Nothing, AddContour, AddPicture, CullKeeping, CullDropping, Clear, Move, ShowTotal, ShowPicture, ShowProof, ShipOut, PublishAll, Line}
+use Rattle.mf_text.specs.Grammar.{Form, Nothing, AddContour, AddPicture, CullKeeping, CullDropping, Clear, Move, ShowTotal, ShowPicture, ShowProof, ShipOut, SetCheck, PublishAll, Line}
 use Rattle.mf_text.specs.Lines.{Gives, IsRefused, MayWantMemory}
 use Rattle.mf_text.specs.Meaning.{IsCommandOf, TakesMemory}
 use Rattle.mf_text.proofs.LineReading.{same_line}
@@ -27,6 +27,7 @@ form_takes_none (ShowTotal source) given none is memory = memory
 form_takes_none (ShowPicture source) given none is memory = memory
 form_takes_none (ShowProof source) given none is memory = memory
 form_takes_none (ShipOut source code dx width) given none is memory = memory
+form_takes_none (SetCheck n) given none is memory = memory
 form_takes_none PublishAll given none is memory = memory
 
 wants_no_memory : (line : List ℕ) (given : Command) → HasNoContour given → Gives line given → MayWantMemory line → ⊥

@@ -9,7 +9,7 @@ use Rattle.mf_text.specs.Grid.{IsGridText, IsTooLarge}
 use Rattle.mf_text.specs.Lines.{Gives, IsRefused}
 use Rattle.mf_text.specs.RunText.{run_text}
 use Rattle.mf_text.specs.declared.command.Command.{Command}
-use Rattle.mf_text.specs.declared.command.Command.TheVariants.{Nothing, Contour, Also, Cull, Clear, Shift, Scale, Quarter, Total, Show, Proof, Ship, Publish}
+use Rattle.mf_text.specs.declared.command.Command.TheVariants.{Nothing, Turning, Contour, Also, Cull, Clear, Shift, Scale, Quarter, Total, Show, Proof, Ship, Publish}
 use Rattle.mf_text.specs.declared.command.Name.{Name}
 use Rattle.mf_text.specs.declared.fault.TextFault.{TextFault}
 use Rattle.mf_text.specs.declared.fault.TextFault.TheVariants.{OutOfMemory}
@@ -24,9 +24,19 @@ use Rattle.mf_session.specs.declared.refusal.Refusal.TheVariants.{Line, ProofToo
 abbrev pub Prints : State → List ℕ → List ℕ → State → Type 0
 Prints s line text t = (text ≡ line) × (t ≡ s)
 
--- an operation on a picture ships nothing
+-- what is drawn changes neither the turning check nor what was shipped
+pub record KeepsRest (s t : State) : Type 0 where
+  pub check : t.check ≡ s.check
+  pub characters : t.characters ≡ s.characters
+
+-- what an operation on a picture answers
 abbrev pub Operates : Limits → State → Name → Op → List ℕ → State → Type 0
-Operates limits s name op text t = OperatesOn limits.max_ops s.pictures name op text t.pictures × (t.characters ≡ s.characters)
+Operates limits s name op text t = OperatesOn limits.max_ops s.pictures name op text t.pictures × KeepsRest s t
+
+-- what is shipped changes neither the pictures nor the turning check
+pub record KeepsDrawn (s t : State) : Type 0 where
+  pub pictures : t.pictures ≡ s.pictures
+  pub check : t.check ≡ s.check
 
 -- the line that shows a total weight
 abbrev pub total_line : List Dot → List ℕ
@@ -49,7 +59,8 @@ ProofAnswers ds text = IsRefusedProof ds text ⊎ IsProof ds text
 -- what a command answers in a state
 abbrev pub AnswersTo : Limits → State → Command → List ℕ → State → Type 0
 AnswersTo limits s Nothing text t = Prints s [] text t
-AnswersTo limits s (Contour name cycle weight) text t = Operates limits s name (ops.Contour cycle weight) text t
+AnswersTo limits s (Turning check) text t = (text ≡ []) × (t ≡ record s { check = check })
+AnswersTo limits s (Contour name cycle weight) text t = Operates limits s name (ops.Contour cycle weight s.check) text t
 AnswersTo limits s (Also name source sign) text t = Operates limits s name (ops.Also (source_picture s.pictures source) sign) text t
 AnswersTo limits s (Cull name cull) text t = Operates limits s name (ops.Cull cull) text t
 AnswersTo limits s (Clear name) text t = Operates limits s name ops.Clear text t
@@ -59,8 +70,8 @@ AnswersTo limits s (Quarter name quarter) text t = Operates limits s name (ops.Q
 AnswersTo limits s (Total source) text t = Prints s (total_line (source_picture s.pictures source)) text t
 AnswersTo limits s (Show source) text t = Prints s (run_text (source_picture s.pictures source)) text t
 AnswersTo limits s (Proof source) text t = ProofAnswers (source_picture s.pictures source) text × (t ≡ s)
-AnswersTo limits s (Ship source code dx width) text t = Ships limits s.characters (character code dx width (source_picture s.pictures source)) text t.characters × (t.pictures ≡ s.pictures)
-AnswersTo limits s Publish text t = PublishesAll s.pictures text t.pictures × (t.characters ≡ s.characters)
+AnswersTo limits s (Ship source code dx width) text t = Ships limits s.characters (character code dx width (source_picture s.pictures source)) text t.characters × KeepsDrawn s t
+AnswersTo limits s Publish text t = PublishesAll s.pictures text t.pictures × KeepsRest s t
 
 -- a line gives a command, which answers this
 pub record IsPerformed (limits : Limits) (s : State) (line : List ℕ) (text : List ℕ) (t : State) : Type 0 where

@@ -8,9 +8,10 @@ use Rattle.mf_session.specs.Answers.{Answers, AnswersTo}
 use Rattle.mf_session.specs.States.{State, Limits}
 use Rattle.mf_session.specs.Variables as variables
 
--- a session has the pictures of a state, and its font file keeps the characters
+-- a session has the pictures and the turning check of a state, and its font file keeps the characters
 pub record StandsFor (session : Session) (s : State) : Type 0 where
   pub pictures : s.pictures ≡ variables.pictures session.variables
+  pub check : s.check ≡ session.check
   pub file : Keeps session.file [] s.characters
 
 -- which live picture its `currentpicture` is

@@ -1,16 +1,19 @@
 -- The state of a script, and its limits.
 use Rattle.std.specs.Prelude.{ℕ, List, [], min}
+use Rattle.mf_geom.specs.declared.check.Check.{Check}
+use Rattle.mf_geom.specs.declared.check.Check.TheVariants.{On}
 use Rattle.mf_gf.specs.Files.{Character}
 use Rattle.mf_session.specs.Pictures.{Pictures, blank_pictures}
 
--- the pictures, and the characters that were shipped
+-- the pictures, the turning check, and the characters that were shipped
 pub record State : Type 0 where
   pub pictures : Pictures
+  pub check : Check
   pub characters : List Character
 
--- all pictures blank, and nothing shipped
+-- all pictures blank, the turning check on, and nothing shipped
 abbrev pub start : State
-start = record { pictures = blank_pictures; characters = [] }
+start = record { pictures = blank_pictures; check = On; characters = [] }
 
 -- how many operations `currentpicture` accepts, and how many bytes the font file may have
 pub record Limits : Type 0 where

@@ -12,9 +12,9 @@ use std::fmt;
 /// Why a command is refused.
 #[derive(Clone, Copy, Debug, PartialEq, Eq)]
 pub enum Refusal {
-    /// Refusals 1 to 10 and 16 to 18: the line gives no command.
+    /// Refusals 1 to 4, 7 to 10 and 16 to 18: the line gives no command.
     Line(TextFault),
-    /// Refusals 11 to 13: the operation is refused.
+    /// Refusals 5, 6 and 11 to 13: the operation is refused.
     Operation(Fault),
     /// Refusal 19: a character with this code was shipped before.
     CodeShipped,

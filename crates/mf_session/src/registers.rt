@@ -1,5 +1,6 @@
 //! The registers `a` to `z`, each of which keeps a picture.
 ghost use Rattle.std.specs.Prelude.{◌≡◌, ◌≢◌, ◌<◌, [], None, Some, Err, IfOk, IfErr, IsOk, OnOk, OnErr, replicate, slice_index_or, slice_set};
+ghost use Rattle.mf_geom.specs.declared.cycle.CycleFault.{CycleFault};
 ghost use Rattle.mf_ops.specs.Step.{stepped, fault_of};
 ghost use Rattle.mf_ops.specs.declared.op.Op.TheVariants as ops;
 
@@ -57,6 +58,7 @@ impl Registers {
         ensures unchanged { OnErr result (self.new ≡ self.old) }
         ensures accepted { OnOk result (fault_of (slice_index_or self.old letter []) op.now ≡ None) }
         ensures refused { IfErr result (λ fault. fault ≢ OpFault.OutOfMemory → fault_of (slice_index_or self.old letter []) op.now ≡ Some fault) }
+        ensures turning { (fault : CycleFault) → fault_of (slice_index_or self.old letter []) op.now ≡ Some (OpFault.Cycle fault) → result ≡ Err (OpFault.Cycle fault) }
         ensures out_of_field { fault_of (slice_index_or self.old letter []) op.now ≡ Some OpFault.OutOfField → result ≡ Err OpFault.OutOfField }
         ensures clears { op.now ≡ ops.Clear → IsOk result }
     {

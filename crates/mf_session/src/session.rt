@@ -1,15 +1,18 @@
 //! A session: what a script has made so far.
 use crate::variables::Variables;
+use mf_geom::Check;
 use mf_gf::GfFile;
 use mf_live::Closing;
 
 mod commands;
 mod steps;
 
-/// The state of a script that is being performed: the picture variables, and the font file with the characters that
-/// were shipped. It is not `Drop`: end it by `finish` or by `discard`.
+/// The state of a script that is being performed: the picture variables, the turning check, and the font file with the
+/// characters that were shipped. It is not `Drop`: end it by `finish` or by `discard`.
 pub struct Session {
     pub(crate) variables: Variables,
+    /// Under which contours are filled.
+    pub(crate) check: Check,
     pub(crate) file: GfFile,
 }
 

@@ -1,5 +1,5 @@
 -- A step spells one token more, and keeps the corners.
-use Rattle.std.proofs.Common.{◌≡◌, ◌⊎◌, inl, inr, ℕ, Bool, true, false, eqb, nat_lt, List, [], ◌∷◌, ◌++◌, Option, Some, None, refl, sym, ap, subst, ◌∙◌, append_assoc, append-nil, flat_map}
+use Rattle.std.proofs.Common.{◌≡◌, ℕ, Bool, true, false, eqb, nat_lt, List, [], ◌∷◌, ◌++◌, Option, Some, None, refl, sym, ap, subst, ◌∙◌, append_assoc, append-nil, flat_map, rules}
 use Rattle.std.specs.Option.{IfSome, option_map, option_and_then}
 use Rattle.std.proofs.lemmas.Grind.{flat_map-append}
 use Rattle.std.proofs.lemmas.Bool.{cond_both, eqb-true}
@@ -94,6 +94,7 @@ int-leads others (int_use.Move name how) n = (refl, refl)
 int-leads others (int_use.Code source) n = code-leads others source n (code_of n) (code_of-int n)
 int-leads others (int_use.Escapement source code) n = (refl, refl)
 int-leads others (int_use.Width source code dx) n = (refl, refl)
+int-leads others int_use.Check n = (refl, refl)
 
 read_int-leads : (others : List Pair) (purpose : IntUse) (ts : List Token) (n : Option Int) → IfSome n (λ i. spell_int i ≡ ts)
     → Lead (to_int others purpose ++ ts) others (corners_at_int others purpose) (option_and_then (steps.behind_int purpose) n)
@@ -109,50 +110,13 @@ number-leads others purpose negative before is t = tt
 
 -- ---- one token alone
 
--- this token alone leads to this place
-abbrev Alone : Token → Place → Token → Option Place → Type 0
-Alone u q t o = ((o ≡ Some q) × (t ≡ u)) ⊎ (o ≡ None)
+same_token : (t u : Token) → steps.is_token t u ≡ true → t ≡ u
+same_token t u same = search rules
 
-on_becomes : (q : Place) (t : Token) → Alone (token.Mark mark.Becomes) q t (steps.on_becomes q t)
-on_becomes q (token.Mark mark.Becomes) = inl (refl, refl)
-on_becomes q t = inr refl
-
-on_close : (q : Place) (t : Token) → Alone (token.Mark mark.Close) q t (steps.on_close q t)
-on_close q (token.Mark mark.Close) = inl (refl, refl)
-on_close q t = inr refl
-
-on_comma : (q : Place) (t : Token) → Alone (token.Mark mark.Comma) q t (steps.on_comma q t)
-on_comma q (token.Mark mark.Comma) = inl (refl, refl)
-on_comma q t = inr refl
-
-on_join : (q : Place) (t : Token) → Alone (token.Mark mark.Join) q t (steps.on_join q t)
-on_join q (token.Mark mark.Join) = inl (refl, refl)
-on_join q t = inr refl
-
-on_open : (q : Place) (t : Token) → Alone (token.Mark mark.Open) q t (steps.on_open q t)
-on_open q (token.Mark mark.Open) = inl (refl, refl)
-on_open q t = inr refl
-
-on_code : (q : Place) (t : Token) → Alone (token.Word word.Code) q t (steps.on_code q t)
-on_code q (token.Word word.Code) = inl (refl, refl)
-on_code q t = inr refl
-
-on_dx : (q : Place) (t : Token) → Alone (token.Word word.Dx) q t (steps.on_dx q t)
-on_dx q (token.Word word.Dx) = inl (refl, refl)
-on_dx q t = inr refl
-
-on_width : (q : Place) (t : Token) → Alone (token.Word word.Width) q t (steps.on_width q t)
-on_width q (token.Word word.Width) = inl (refl, refl)
-on_width q t = inr refl
-
-on_withweight : (q : Place) (t : Token) → Alone (token.Word word.WithWeight) q t (steps.on_withweight q t)
-on_withweight q (token.Word word.WithWeight) = inl (refl, refl)
-on_withweight q t = inr refl
-
-alone-leads : (others cs : List Pair) (u : Token) (q : Place) (before : List Token) → Leads (before ++ u ∷ []) others cs q → (t : Token) (o : Option Place)
-    → Alone u q t o → Lead (before ++ t ∷ []) others cs o
-alone-leads others cs u q before leads t o (inl (is, same)) = rw (is, same) leads
-alone-leads others cs u q before leads t o (inr is) = rw is tt
+alone-leads : (others cs : List Pair) (u : Token) (q : Place) (before : List Token) → Leads (before ++ u ∷ []) others cs q → (t : Token)
+    → Lead (before ++ t ∷ []) others cs (steps.on u q t)
+alone-leads others cs u q before leads t =
+    cond_both (steps.is_token t u) (Some q) None (Lead (before ++ t ∷ []) others cs) (λ same. rw (same_token t u same) leads) (λ other. tt)
 
 -- ---- what follows a place
 
@@ -163,6 +127,7 @@ front-leads others (token.Word word.Cull) = (refl, refl)
 front-leads others (token.Word word.Show) = (refl, refl)
 front-leads others (token.Word word.Proof) = (refl, refl)
 front-leads others (token.Word word.Shipout) = (refl, refl)
+front-leads others (token.Word word.TurningCheck) = (refl, refl)
 front-leads others (token.Word word.Publish) = (refl, refl)
 front-leads others t = name-leads place.Named [] others (λ name. (refl, refl)) t
 
@@ -285,32 +250,32 @@ leads others (place.Also name) t = also-leads others name t
 leads others place.Cull t = name-leads place.Culled (to_place others place.Cull) others (λ name. (refl, refl)) t
 leads others (place.Culled name) t = culled-leads others name t
 leads others place.Show t = show-leads others t
-leads others (place.Named name) t = alone-leads others [] _ _ (to_place others (place.Named name)) (refl, refl) t _ (on_becomes (place.Becomes name) t)
+leads others place.Check t = alone-leads others [] (token.Mark mark.Becomes) (place.Int int_use.Check) (to_place others place.Check) (refl, refl) t
+leads others (place.Named name) t = alone-leads others [] (token.Mark mark.Becomes) (place.Becomes name) (to_place others (place.Named name)) (refl, refl) t
 leads others (place.Becomes name) t = becomes-leads others name t
 leads others (place.Moved name) t = moved-leads others name t
 leads others (place.Source purpose) t = source-leads (steps.behind_source purpose) (to_source purpose) others (source_use-leads others purpose) t
 leads others (place.Pair purpose) t =
-    alone-leads others (corners_at_pair others purpose) _ _ (to_place others (place.Pair purpose)) (refl, refl) t _ (on_open (place.Int (int_use.Across purpose)) t)
+    alone-leads others (corners_at_pair others purpose) (token.Mark mark.Open) (place.Int (int_use.Across purpose)) (to_place others (place.Pair purpose)) (refl, refl) t
 leads others (place.Comma purpose across) t =
-    alone-leads others (corners_at_pair others purpose) _ _ (to_place others (place.Comma purpose across)) (refl, refl) t _ (on_comma (place.Int (int_use.Up purpose across)) t)
+    alone-leads others (corners_at_pair others purpose) (token.Mark mark.Comma) (place.Int (int_use.Up purpose across)) (to_place others (place.Comma purpose across)) (refl, refl) t
 leads others (place.Close purpose across up) t =
-    alone-leads others (corners_at_pair others purpose) _ _ (to_place others (place.Close purpose across up)) (close-leads others purpose across up) t _
-    (on_close (steps.behind_pair purpose (record { across = across; up = up })) t)
+    alone-leads others (corners_at_pair others purpose) (token.Mark mark.Close) (steps.behind_pair purpose (record { across = across; up = up })) (to_place others (place.Close purpose across up)) (close-leads others purpose across up) t
 leads others (place.Int purpose) t = read-leads others purpose t
 leads others (place.Number purpose) t =
     number-leads others purpose true (to_place others (place.Number purpose)) (λ n. append_assoc (to_int others purpose) (spell_mark mark.Minus) (token.Number n ∷ [])) t
 leads others (place.FirstCorner name p) t =
-    alone-leads [] (p ∷ []) _ _ (to_place others (place.FirstCorner name p)) (first_corner-leads others name p) t _ (on_join (place.Joined name p) t)
+    alone-leads [] (p ∷ []) (token.Mark mark.Join) (place.Joined name p) (to_place others (place.FirstCorner name p)) (first_corner-leads others name p) t
 leads others (place.NextCorner name first p) t =
-    alone-leads (others ++ p ∷ []) (first ∷ (others ++ p ∷ [])) _ _ (to_place others (place.NextCorner name first p)) (next_corner-leads others name first p) t _ (on_join (place.Joined name first) t)
+    alone-leads (others ++ p ∷ []) (first ∷ (others ++ p ∷ [])) (token.Mark mark.Join) (place.Joined name first) (to_place others (place.NextCorner name first p)) (next_corner-leads others name first p) t
 leads others (place.Joined name first) t = joined-leads others name first t
-leads others (place.Code source) t = alone-leads others [] _ _ (to_place others (place.Code source)) (refl, refl) t _ (on_code (place.Int (int_use.Code source)) t)
+leads others (place.Code source) t = alone-leads others [] (token.Word word.Code) (place.Int (int_use.Code source)) (to_place others (place.Code source)) (refl, refl) t
 leads others (place.Escapement source code) t =
-    alone-leads others [] _ _ (to_place others (place.Escapement source code)) (refl, refl) t _ (on_dx (place.Int (int_use.Escapement source code)) t)
+    alone-leads others [] (token.Word word.Dx) (place.Int (int_use.Escapement source code)) (to_place others (place.Escapement source code)) (refl, refl) t
 leads others (place.Width source code dx) t =
-    alone-leads others [] _ _ (to_place others (place.Width source code dx)) (refl, refl) t _ (on_width (place.Int (int_use.Width source code dx)) t)
+    alone-leads others [] (token.Word word.Width) (place.Int (int_use.Width source code dx)) (to_place others (place.Width source code dx)) (refl, refl) t
 leads others (place.Weighable purpose) t =
-    alone-leads others (corners_at_weight others purpose) _ _ (to_place others (place.Weighable purpose)) (refl, refl) t _ (on_withweight (place.Int (int_use.Weight purpose)) t)
+    alone-leads others (corners_at_weight others purpose) (token.Word word.WithWeight) (place.Int (int_use.Weight purpose)) (to_place others (place.Weighable purpose)) (refl, refl) t
 leads others whole t = tt
 
 -- ---- readings
@@ -352,6 +317,7 @@ form-spelled others (place.ShowTotal source) = refl
 form-spelled others (place.ShowPicture source) = refl
 form-spelled others (place.ShowProof source) = refl
 form-spelled others (place.ShipOut source code dx width) = refl
+form-spelled others (place.SetCheck n) = refl
 form-spelled others place.Publish = refl
 form-spelled others p = tt
 

@@ -105,6 +105,7 @@ zero-ends others (int_use.Code source) true = escapement-ends others source _
 zero-ends others (int_use.Code source) false = escapement-ends others source _
 zero-ends others (int_use.Escapement source code) negative = width-ends others source code _
 zero-ends others (int_use.Width source code dx) negative = whole-ends others (place.ShipOut source code dx _) _ refl
+zero-ends others int_use.Check negative = whole-ends others (place.SetCheck _) _ refl
 
 int-ends : (others : List Pair) (purpose : IntUse) → At others (place.Int purpose)
 int-ends others purpose = ends_on others (place.Int purpose) zero (zero-ends others purpose false)
@@ -134,6 +135,7 @@ place-ends others (place.Also name) = also-ends others name
 place-ends others place.Cull = ends_on others place.Cull (token.Word word.CurrentPicture) (culled-ends others Current)
 place-ends others (place.Culled name) = culled-ends others name
 place-ends others place.Show = ends_on others place.Show (token.Word word.NullPicture) (source-ends others source_use.Show Null)
+place-ends others place.Check = ends_on others place.Check (token.Mark mark.Becomes) (int-ends others int_use.Check)
 place-ends others (place.Named name) = ends_on others (place.Named name) (token.Mark mark.Becomes) (becomes-ends others name)
 place-ends others (place.Becomes name) = becomes-ends others name
 place-ends others (place.Moved name) = ends_on others (place.Moved name) (token.Word word.Scaled) (int-ends others (int_use.Move name motion.Scaled))
@@ -159,6 +161,7 @@ place-ends others (place.ShowTotal source) = whole-ends others (place.ShowTotal 
 place-ends others (place.ShowPicture source) = whole-ends others (place.ShowPicture source) _ refl
 place-ends others (place.ShowProof source) = whole-ends others (place.ShowProof source) _ refl
 place-ends others (place.ShipOut source code dx width) = whole-ends others (place.ShipOut source code dx width) _ refl
+place-ends others (place.SetCheck n) = whole-ends others (place.SetCheck n) _ refl
 place-ends others place.Publish = whole-ends others place.Publish _ refl
 
 -- a line can end behind whatever is read

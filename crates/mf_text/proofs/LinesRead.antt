@@ -26,7 +26,7 @@ use Rattle.mf_text.specs.declared.place.WeightUse.TheVariants as weight_use
 use Rattle.mf_text.specs.declared.token.Mark.TheVariants as mark
 use Rattle.mf_text.specs.declared.token.Token.{Token}
 use Rattle.mf_text.specs.declared.token.Word.TheVariants as word
-use Rattle.mf_text.specs.Grammar.{Path, Shifted, Scaled, XScaled, YScaled, Rotated, Form, Nothing, AddContour, AddPicture, CullKeeping, CullDropping, Clear, Move, ShowTotal, ShowPicture, ShowProof, ShipOut, PublishAll, Line, spell_word, spell_mark, spell_int, spell_code, spell_pair, spell_name, spell_source, spell_signed, spell_weight, spell_corner, spell_path, spell_form, spell_end, spell_line}
+use Rattle.mf_text.specs.Grammar.{Path, Shifted, Scaled, XScaled, YScaled, Rotated, Form, Nothing, AddContour, AddPicture, CullKeeping, CullDropping, Clear, Move, ShowTotal, ShowPicture, ShowProof, ShipOut, SetCheck, PublishAll, Line, spell_word, spell_mark, spell_int, spell_code, spell_pair, spell_name, spell_source, spell_signed, spell_weight, spell_corner, spell_path, spell_form, spell_end, spell_line}
 use Rattle.mf_text.specs.Ints.{int_of}
 use Rattle.mf_text.specs.Readings.{Reading, Open, motion_word, transform_of, weighed_form, form_at, read, start, line_read}
 use Rattle.mf_text.specs.Steps as steps
@@ -321,6 +321,14 @@ ship-line source code dx width ended =
     ∙ int-read [] (int_use.Width source code dx) width (spell_end ended))
     (end-read [] (place.ShipOut source code dx width) (ShipOut source code dx width) ended refl)
 
+check-line : (n : Int) (ended : Bool) → IsRead (read start (spell_form (SetCheck n) ++ spell_end ended)) (SetCheck n) ended
+unfolding read
+check-line n ended =
+    as_read _ _ _ (SetCheck n) ended
+    (four (spell_word word.TurningCheck) (spell_mark mark.Becomes) (spell_int n) (spell_end ended))
+    (int-read [] int_use.Check n (spell_end ended))
+    (end-read [] (place.SetCheck n) (SetCheck n) ended refl)
+
 form-read : (form : Form) (ended : Bool) → IsRead (read start (spell_form form ++ spell_end ended)) form ended
 unfolding read
 form-read Nothing ended = end-read [] place.Front Nothing ended refl
@@ -338,6 +346,7 @@ form-read (ShowTotal source) ended = total-line source ended
 form-read (ShowPicture source) ended = show-line source ended
 form-read (ShowProof source) ended = proof-line source ended
 form-read (ShipOut source code dx width) ended = ship-line source code dx width ended
+form-read (SetCheck n) ended = check-line n ended
 form-read PublishAll ended = end-read [] place.Publish PublishAll ended refl
 
 -- what a line spells is read as that line

@@ -3,8 +3,7 @@ use Rattle.std.proofs.Common.{◌≡◌, ◌≢◌, inl, inr, ℕ, suc, ◌<◌,
 use Rattle.std.proofs.lemmas.Bool.{cases_lt}
 use Rattle.std.proofs.lemmas.Int.{ints}
 use Rattle.std.proofs.lemmas.List.{take-append-drop, take-take}
-use Rattle.mf_geom.proofs.FirstFaults.{fault_of-cycle, fault_of-fault}
-use Rattle.mf_geom.specs.Lawful.{IsCycle}
+use Rattle.mf_geom.proofs.FirstFaults.{fault_of-fault}
 use Rattle.mf_geom.specs.declared.point.Point.{Point}
 use Rattle.mf_ops.specs.Moves.{degrees}
 use Rattle.mf_ops.specs.declared.cull.CullRule.{CullRule}
@@ -17,9 +16,9 @@ use Rattle.mf_text.specs.declared.fault.TextFault.{TextFault}
 use Rattle.mf_text.specs.declared.fault.TextFault.TheVariants as faults
 use Rattle.mf_text.specs.declared.token.Token.{Token}
 use Rattle.mf_text.specs.Ahead.{Ahead, column_at}
-use Rattle.mf_text.specs.Grammar.{Form, Nothing, AddContour, AddPicture, CullKeeping, CullDropping, Clear, Move, ShowTotal, ShowPicture, ShowProof, ShipOut, PublishAll, Transform, Shifted, Scaled, XScaled, YScaled, Rotated, Line, spell_line}
+use Rattle.mf_text.specs.Grammar.{Form, Nothing, AddContour, AddPicture, CullKeeping, CullDropping, Clear, Move, ShowTotal, ShowPicture, ShowProof, ShipOut, SetCheck, PublishAll, Transform, Shifted, Scaled, XScaled, YScaled, Rotated, Line, spell_line}
 use Rattle.mf_text.specs.Lines.{IsText, front, IsLineOf, Gives, HasBadValues, HasOtherBytes, HasSyntaxFault, IsRefused}
-use Rattle.mf_text.specs.Meaning.{IsContour, IsCull, IsTransform, IsCommandOf, IsNoCycle, IsRefusedTransform, IsRefusalOf, IsRefusedContour, IsRefusedCull}
+use Rattle.mf_text.specs.Meaning.{IsContour, IsCull, IsTransform, IsCommandOf, IsRefusedTransform, IsRefusalOf, IsRefusedContour, IsRefusedCull}
 use Rattle.mf_text.specs.Phrases.{IsPhrase, BeginsPhrase, IsWrongAt}
 use Rattle.mf_text.specs.Syntax.{IsLine, shown_at, IsSyntaxFault}
 use Rattle.mf_text.specs.Tokens.{kinds}
@@ -55,16 +54,14 @@ one_command (ShowTotal source) one other p q = cc
 one_command (ShowPicture source) one other p q = cc
 one_command (ShowProof source) one other p q = cc
 one_command (ShipOut source code dx width) one other p q = cc
+one_command (SetCheck n) one other p q = cc
 one_command PublishAll one other p q = cc
-
-no_cycle-cycle : (points : List Point) (fault : TextFault) → IsNoCycle points fault → IsCycle points → ⊥
-no_cycle-cycle points fault refused cycle = let none = fault_of-cycle points cycle in let some = fault_of-fault points refused.cause refused.fault in cc
 
 contour_refusal : (points : List Point) (weight : ℤ) (one other : TextFault) → IsRefusedContour points weight one
     → IsRefusedContour points weight other → one ≡ other
 contour_refusal points weight one other (inl p) (inl q) = let first = fault_of-fault points p.cause p.fault in let second = fault_of-fault points q.cause q.fault in cc
-contour_refusal points weight one other (inl p) (inr q) = absurd (no_cycle-cycle points one p q.cycle)
-contour_refusal points weight one other (inr p) (inl q) = absurd (no_cycle-cycle points other q p.cycle)
+contour_refusal points weight one other (inl p) (inr q) = absurd (p.none q.cycle)
+contour_refusal points weight one other (inr p) (inl q) = absurd (q.none p.cycle)
 contour_refusal points weight one other (inr p) (inr q) = cc
 
 cull_refusal : (rule : CullRule) (weight : ℤ) (one other : TextFault) → IsRefusedCull rule weight one → IsRefusedCull rule weight other → one ≡ other
@@ -92,11 +89,12 @@ one_refusal (ShowTotal source) one other p q = absurd p
 one_refusal (ShowPicture source) one other p q = absurd p
 one_refusal (ShowProof source) one other p q = absurd p
 one_refusal (ShipOut source code dx width) one other p q = absurd p
+one_refusal (SetCheck n) one other p q = absurd p
 one_refusal PublishAll one other p q = absurd p
 
 contour_not_both : (name : Name) (points : List Point) (weight : ℤ) (given : Command) (fault : TextFault) → IsContour name points weight given
     → IsRefusedContour points weight fault → ⊥
-contour_not_both name points weight given fault p (inl q) = no_cycle-cycle points fault q p.cycle
+contour_not_both name points weight given fault p (inl q) = q.none p.cycle
 contour_not_both name points weight given fault p (inr q) = q.unlawful p.lawful
 
 cull_not_both : (name : Name) (rule : CullRule) (weight : ℤ) (given : Command) (fault : TextFault) → IsCull name rule weight given
@@ -124,6 +122,7 @@ form_not_both (ShowTotal source) given fault p q = q
 form_not_both (ShowPicture source) given fault p q = q
 form_not_both (ShowProof source) given fault p q = q
 form_not_both (ShipOut source code dx width) given fault p q = q
+form_not_both (SetCheck n) given fault p q = q
 form_not_both PublishAll given fault p q = q
 
 -- ---- where tokens go wrong

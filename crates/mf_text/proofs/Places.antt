@@ -1,30 +1,19 @@
 -- Where a form is whole, and what a step does to a reader.
-use Rattle.std.proofs.Common.{◌≡◌, ◌≢◌, ◌⊎◌, inl, inr, true, false, List, [], ◌∷◌, ◌++◌, Option, Some, None, Result, map, refl, sym, ap, subst, ◌∙◌}
-use Rattle.std.specs.Option.{IfSome, MatchOption, option_map, option_and_then}
-use Rattle.std.proofs.lemmas.Bool.{cond_both, false≢true}
+use Rattle.std.proofs.Common.{◌≡◌, ◌≢◌, true, false, List, [], ◌∷◌, ◌++◌, Option, Some, None, Result, map, refl, sym, ap, subst, ◌∙◌}
+use Rattle.std.specs.Option.{MatchOption, option_map}
+use Rattle.std.proofs.lemmas.Bool.{false≢true}
 use Rattle.std.proofs.lemmas.Option.{none-some, same_Some}
-use Rattle.mf_ops.specs.declared.sign.Sign.TheVariants.{Plus}
-use Rattle.mf_text.specs.declared.command.Name.{Name}
-use Rattle.mf_text.specs.declared.command.Source.{Source}
 use Rattle.mf_text.specs.declared.int.Int.{Int}
 use Rattle.mf_text.specs.declared.pair.Pair.{Pair}
-use Rattle.mf_text.specs.declared.place.IntUse.{IntUse}
-use Rattle.mf_text.specs.declared.place.IntUse.TheVariants as int_use
-use Rattle.mf_text.specs.declared.place.PairUse.{PairUse}
-use Rattle.mf_text.specs.declared.place.PairUse.TheVariants as pair_use
 use Rattle.mf_text.specs.declared.place.Place.{Place}
 use Rattle.mf_text.specs.declared.place.Place.TheVariants as place
-use Rattle.mf_text.specs.declared.place.SourceUse.{SourceUse}
-use Rattle.mf_text.specs.declared.place.SourceUse.TheVariants as source_use
 use Rattle.mf_text.specs.declared.place.WeightUse.{WeightUse}
 use Rattle.mf_text.specs.declared.token.Mark.TheVariants as mark
 use Rattle.mf_text.specs.declared.token.Token.{Token}
 use Rattle.mf_text.specs.declared.token.Token.TheVariants as token
-use Rattle.mf_text.specs.declared.token.Word.TheVariants as word
 use Rattle.mf_text.specs.declared.command.Command.{Command}
 use Rattle.mf_text.specs.declared.fault.TextFault.{TextFault}
 use Rattle.mf_text.specs.declared.reader.Reader.{Reader}
-use Rattle.mf_text.specs.Codes.{code_of}
 use Rattle.mf_text.specs.Grammar.{Form, weight_value}
 use Rattle.mf_text.specs.Ints.{int_value, pair_value}
 use Rattle.mf_text.specs.Meaning.{IsAnswerOf}
@@ -48,6 +37,7 @@ form-none others (place.ShowTotal source) none = absurd (none-some _ (sym none))
 form-none others (place.ShowPicture source) none = absurd (none-some _ (sym none))
 form-none others (place.ShowProof source) none = absurd (none-some _ (sym none))
 form-none others (place.ShipOut source code dx width) none = absurd (none-some _ (sym none))
+form-none others (place.SetCheck n) none = absurd (none-some _ (sym none))
 form-none others place.Publish none = absurd (none-some _ (sym none))
 form-none others p none = refl
 

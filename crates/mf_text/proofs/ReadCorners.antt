@@ -1,5 +1,5 @@
 -- A corner that is read ahead is read as its tokens would be.
-use Rattle.std.proofs.Common.{◌≡◌, ℕ, nat_lt, Bool, true, false, List, [], ◌∷◌, ◌++◌, Option, Some, None, map, refl, sym, ap, subst, ◌∙◌, append_assoc, append-nil}
+use Rattle.std.proofs.Common.{◌≡◌, ℕ, nat_lt, Bool, true, false, List, [], ◌∷◌, ◌++◌, Option, Some, map, refl, sym, ap, subst, ◌∙◌, append_assoc, append-nil}
 use Rattle.std.proofs.lemmas.Bool.{false≢true}
 use Rattle.std.proofs.lemmas.List.{map-append}
 use Rattle.std.specs.Option.{IfSome}
@@ -19,7 +19,7 @@ use Rattle.mf_text.specs.declared.token.Token.{Token}
 use Rattle.mf_text.specs.declared.token.Token.TheVariants as token
 use Rattle.mf_text.specs.declared.tokens.Tokens.{Tokens}
 use Rattle.mf_text.specs.Corners.{IsCornerAhead, IsIntAhead, IsNumberAhead}
-use Rattle.mf_text.specs.Grammar.{Form, spell_int, spell_corner}
+use Rattle.mf_text.specs.Grammar.{spell_int, spell_corner}
 use Rattle.mf_text.specs.Ints.{int_of, pair_value, short_int}
 use Rattle.mf_text.specs.Left.{tokens_left}
 use Rattle.mf_text.specs.Paths.{HasPoints}

@@ -16,7 +16,7 @@ use Rattle.mf_text.specs.declared.token.Token.{Token}
 use Rattle.mf_text.specs.declared.token.Token.TheVariants as token
 use Rattle.mf_text.specs.declared.token.Word.TheVariants as word
 use Rattle.mf_text.specs.Ahead.{column_at}
-use Rattle.mf_text.specs.Grammar.{Form, Nothing, AddContour, AddPicture, CullKeeping, CullDropping, Clear, Move, ShowTotal, ShowPicture, ShowProof, ShipOut, PublishAll, Transform, Shifted, Scaled, XScaled, YScaled, Rotated, Line}
+use Rattle.mf_text.specs.Grammar.{Form, Nothing, AddContour, AddPicture, CullKeeping, CullDropping, Clear, Move, ShowTotal, ShowPicture, ShowProof, ShipOut, SetCheck, PublishAll, Transform, Shifted, Scaled, XScaled, YScaled, Rotated, Line}
 use Rattle.mf_text.specs.Lines.{IsText, IsLineOf, Gives, IsRefused, front}
 use Rattle.mf_text.specs.Meaning.{IsAnswerOf, IsRefusalOf, IsRefusedTransform}
 use Rattle.mf_text.specs.Ints.{pair_value}
@@ -62,6 +62,7 @@ form-values (ShowTotal source) fault is = absurd is
 form-values (ShowPicture source) fault is = absurd is
 form-values (ShowProof source) fault is = absurd is
 form-values (ShipOut source code dx width) fault is = absurd is
+form-values (SetCheck n) fault is = absurd is
 form-values PublishAll fault is = absurd is
 
 -- ---- the answer

@@ -15,7 +15,7 @@ use Rattle.mf_text.specs.declared.token.Token.{Token}
 use Rattle.mf_text.specs.declared.token.Token.TheVariants as token
 use Rattle.mf_text.specs.declared.token.Word.{Word}
 use Rattle.mf_text.specs.Bytes.{is_blank}
-use Rattle.mf_text.specs.Grammar.{Form, Nothing, AddContour, AddPicture, CullKeeping, CullDropping, Clear, Move, ShowTotal, ShowPicture, ShowProof, ShipOut, PublishAll, Transform, Shifted, Scaled, XScaled, YScaled, Rotated, spell_name, spell_source, spell_signed, spell_form, spell_end}
+use Rattle.mf_text.specs.Grammar.{Form, Nothing, AddContour, AddPicture, CullKeeping, CullDropping, Clear, Move, ShowTotal, ShowPicture, ShowProof, ShipOut, SetCheck, PublishAll, Transform, Shifted, Scaled, XScaled, YScaled, Rotated, spell_name, spell_source, spell_signed, spell_form, spell_end}
 use Rattle.mf_text.specs.Lines.{Gives}
 use Rattle.mf_text.specs.Meaning.{IsTransform, IsCommandOf}
 use Rattle.mf_text.specs.Registers.{IsName, IsSource, HasNames}
@@ -131,6 +131,7 @@ form-names (ShowTotal source) given all p = rw p (source_is source (rest _ _ (re
 form-names (ShowPicture source) given all p = rw p (source_is source (rest _ _ all))
 form-names (ShowProof source) given all p = rw p (source_is source (rest _ _ all))
 form-names (ShipOut source code dx width) given all p = rw p (source_is source (front _ _ (front _ _ (front _ _ (front _ _ (front _ _ (front _ _ (rest _ _ all))))))))
+form-names (SetCheck n) given all p = rw p tt
 form-names PublishAll given all p = rw p tt
 
 -- ---- the command of a line of bytes

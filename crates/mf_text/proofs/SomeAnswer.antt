@@ -1,12 +1,13 @@
 -- Each line of bytes has an answer: a command, or a refusal.
-use Rattle.std.proofs.Common.{◌≡◌, ◌≢◌, ◌⊎◌, inl, inr, ℕ, ℤ, pos, negsuc, List, Option, Some, None, length, refl, arith}
+use Rattle.std.proofs.Common.{◌≡◌, ◌≢◌, ◌⊎◌, inl, inr, ℕ, ℤ, pos, negsuc, List, Option, Some, None, length, refl, sym, ◌∙◌, arith}
 use lib.IntN.{ℤ_discrete}
 use Rattle.std.specs.List.{list_all}
 use Rattle.std.proofs.lemmas.Bool.{cases_Bool, cases_lt}
 use Rattle.std.proofs.lemmas.Int.{ints, by_lt_z}
-use Rattle.mf_geom.proofs.FirstFaults.{cycle-fault_of, fault-fault_of}
-use Rattle.mf_geom.specs.Faults.{fault_of}
-use Rattle.mf_geom.specs.Lawful.{IsCycle}
+use Rattle.std.proofs.lemmas.Option.{none-some}
+use Rattle.mf_geom.proofs.FirstFaults.{cycle-form_fault, fault-fault_of, form_fault-none}
+use Rattle.mf_geom.specs.Faults.{form_fault}
+use Rattle.mf_geom.specs.Lawful.{IsRectilinearCycle}
 use Rattle.mf_geom.specs.declared.cycle.CycleFault.{CycleFault}
 use Rattle.mf_geom.specs.declared.point.Point.{Point}
 use Rattle.mf_ops.specs.ContourWeight.{IsContourWeight}
@@ -23,11 +24,11 @@ use Rattle.mf_text.specs.declared.fault.TextFault.{TextFault}
 use Rattle.mf_text.specs.declared.fault.TextFault.TheVariants as faults
 use Rattle.mf_text.specs.Ahead.{column_at}
 use Rattle.mf_text.specs.Bytes.{is_text_byte}
-use Rattle.mf_text.specs.Grammar.{Form, Nothing, AddContour, AddPicture, CullKeeping, CullDropping, Clear, Move, ShowTotal, ShowPicture, ShowProof, ShipOut, PublishAll, Transform, Shifted, Scaled, XScaled, YScaled, Rotated, weight_value, path_value}
+use Rattle.mf_text.specs.Grammar.{Form, Nothing, AddContour, AddPicture, CullKeeping, CullDropping, Clear, Move, ShowTotal, ShowPicture, ShowProof, ShipOut, SetCheck, PublishAll, Transform, Shifted, Scaled, XScaled, YScaled, Rotated, weight_value, path_value}
 use Rattle.mf_text.specs.Codes.{code_value}
 use Rattle.mf_text.specs.Ints.{int_value, pair_value}
 use Rattle.mf_text.specs.Lines.{IsText, front, Gives, HasBadValues, IsRefused}
-use Rattle.mf_text.specs.Meaning.{IsCommandOf, IsNoCycle, IsRefusalOf, IsRefusedContour, IsRefusedCull, both, of_columns, of_rows}
+use Rattle.mf_text.specs.Meaning.{IsCommandOf, IsNoCycle, IsRefusalOf, IsRefusedContour, IsRefusedCull, check_of, both, of_columns, of_rows}
 use Rattle.mf_text.specs.Syntax.{IsLine, shown_at}
 use Rattle.mf_text.specs.Tokens.{kinds, tokens}
 use Rattle.mf_text.proofs.LineReading.{line_or_not, some_wrong_place}
@@ -90,9 +91,11 @@ turn_or_not angle =
       ]
     ]
 
-cycle_or_not : (points : List Point) (found : Option CycleFault) → fault_of points ≡ found → IsCycle points ⊎ ((cause : CycleFault) × IsNoCycle points (faults.Cycle cause))
-cycle_or_not points None is = inl (cycle-fault_of points is)
-cycle_or_not points (Some cause) is = inr (cause, record { cause = cause; fault = fault-fault_of points cause is; is = refl })
+cycle_or_not : (points : List Point) (found : Option CycleFault) → form_fault points ≡ found
+    → IsRectilinearCycle points ⊎ ((cause : CycleFault) × IsNoCycle points (faults.Cycle cause))
+cycle_or_not points None is = inl (cycle-form_fault points is)
+cycle_or_not points (Some cause) is =
+    inr (cause, record { cause = cause; none = λ cycle. none-some cause (sym (form_fault-none points cycle) ∙ is); fault = fault-fault_of points cause (rw is refl); is = refl })
 
 -- ---- forms have a command or a refusal
 
@@ -120,10 +123,10 @@ abbrev Answered : Form → Type 0
 Answered form =
     ((given : Command) × IsCommandOf form given) ⊎ ((fault : TextFault) × IsOfValues fault × IsRefusalOf form fault)
 
-contour_answered : (name : Name) (points : List Point) (weight : ℤ) (form : Form) → (IsCycle points → IsContourWeight weight → IsCommandOf form (command.Contour name points weight))
+contour_answered : (name : Name) (points : List Point) (weight : ℤ) (form : Form) → (IsRectilinearCycle points → IsContourWeight weight → IsCommandOf form (command.Contour name points weight))
     → ((fault : TextFault) → IsRefusedContour points weight fault → IsRefusalOf form fault) → Answered form
 contour_answered name points weight form given refused =
-    elim (cycle_or_not points (fault_of points) refl) [
+    elim (cycle_or_not points (form_fault points) refl) [
       | inr (cause, fault) ↦ inr (faults.Cycle cause, of_cycle cause, refused (faults.Cycle cause) (inl fault))
       | inl cycle ↦ elim (weight_or_not weight) [
         | inr never ↦ inr (faults.BadWeight, of_weight, refused faults.BadWeight (inr (record { cycle = cycle; unlawful = never; is = refl })))
@@ -182,6 +185,7 @@ answered (ShowTotal source) = inl (command.Total source, refl)
 answered (ShowPicture source) = inl (command.Show source, refl)
 answered (ShowProof source) = inl (command.Proof source, refl)
 answered (ShipOut source code dx width) = inl (command.Ship source (code_value code) (int_value dx) (int_value width), refl)
+answered (SetCheck n) = inl (command.Turning (check_of (int_value n)), refl)
 answered PublishAll = inl (command.Publish, refl)
 
 -- ---- lines have one

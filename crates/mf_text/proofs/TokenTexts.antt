@@ -1,7 +1,7 @@
 -- The tokens of a line are its bytes, cut as long as can be.
-use Rattle.std.proofs.Common.{◌≡◌, ◌≢◌, ◌⊎◌, inl, inr, ℕ, zero, suc, ◌+◌, ◌-◌, ◌<◌, ◌≤◌, ◌&&◌, Bool, true, false, cond, eqb, leb, ltb, List, [], ◌∷◌, ◌++◌, Option, None, Some, length, take, drop, codes, refl, sym, ap, subst, ◌∙◌, arith}
+use Rattle.std.proofs.Common.{◌≡◌, inl, inr, ℕ, zero, suc, ◌+◌, ◌-◌, ◌≤◌, Bool, true, false, cond, eqb, leb, ltb, List, [], ◌∷◌, ◌++◌, Option, None, Some, length, take, drop, codes, refl, sym, ap, ◌∙◌, arith}
 use Rattle.std.specs.Char.{is_ascii_alphabetic, is_ascii_digit}
-use Rattle.std.specs.List.{All, prefix_len, starts_with}
+use Rattle.std.specs.List.{prefix_len, starts_with}
 use Rattle.std.specs.Str.Parse.{digits_value}
 use Rattle.std.proofs.Math.Seq.{take-append_seam}
 use Rattle.std.proofs.lemmas.Bool.{and_parts, cases_Bool, cond_both, eqb-true, false≢true, leb-true, leb-false, ltb-false}
@@ -9,7 +9,6 @@ use Rattle.std.proofs.lemmas.Bool.Decides.{Decides-eqb, eqb_tells}
 use Rattle.std.proofs.lemmas.List.{take-append-drop, length-take-le}
 use Rattle.std.proofs.lemmas.List.Elements.{All-cons, All-nil}
 use Rattle.std.proofs.lemmas.List.Folds.{length-prefix_len}
-use Rattle.std.proofs.lemmas.List.Sums.{prefix_len-le-length}
 use Rattle.std.proofs.lemmas.Slice.Eq.{starts_is}
 use Rattle.mf_text.specs.declared.token.Mark.{Mark}
 use Rattle.mf_text.specs.declared.token.Mark.TheVariants as mark
@@ -19,7 +18,7 @@ use Rattle.mf_text.specs.declared.token.Token.TheVariants as token
 use Rattle.mf_text.specs.declared.token.Word.{Word}
 use Rattle.mf_text.specs.Bytes.{is_blank}
 use Rattle.mf_text.specs.Tokens.{Taken, placed, is_letter, letter_number, known_word, mark_text, marks, mark_among, number_token, first_token, tokens_from, tokens_within, words, word_among, word_token}
-use Rattle.mf_text.specs.TokenTexts.{Stops, IsRow, IsTokenText, IsCut, IsEnd, EndsLine, AreTokens}
+use Rattle.mf_text.specs.TokenTexts.{Stops, IsRow, IsTokenText, IsEnd, AreTokens}
 use Rattle.mf_text.proofs.LineTokens.{first_taken, rest_shorter}
 
 -- ---- rows

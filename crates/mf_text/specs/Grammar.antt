@@ -102,6 +102,7 @@ pub data Form : Type 0 where
   ShowPicture : Source → Form
   ShowProof : Source → Form
   ShipOut : Source → Code → Int → Int → Form
+  SetCheck : Int → Form
   PublishAll : Form
 
 abbrev pub spell_form : Form → List Token
@@ -116,6 +117,7 @@ spell_form (ShowTotal source) = spell_word word.Show ++ spell_word word.TotalWei
 spell_form (ShowPicture source) = spell_word word.Show ++ spell_source source
 spell_form (ShowProof source) = spell_word word.Proof ++ spell_source source
 spell_form (ShipOut source code dx width) = spell_word word.Shipout ++ spell_source source ++ spell_word word.Code ++ spell_code code ++ spell_word word.Dx ++ spell_int dx ++ spell_word word.Width ++ spell_int width
+spell_form (SetCheck n) = spell_word word.TurningCheck ++ spell_mark mark.Becomes ++ spell_int n
 spell_form PublishAll = spell_word word.Publish
 
 -- line: [command] [`;`]

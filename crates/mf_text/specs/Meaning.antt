@@ -1,6 +1,8 @@
 -- What a form gives: a command, or a refusal of its values.
-use Rattle.std.specs.Prelude.{◌≡◌, ◌⊎◌, ℤ, pos, List, Result, Ok, Err}
-use Rattle.mf_geom.specs.Lawful.{IsCycle, IsFault}
+use Rattle.std.specs.Prelude.{◌≡◌, ◌⊎◌, ℤ, pos, int_lt, List, Result, Ok, Err, if◌then◌else◌}
+use Rattle.mf_geom.specs.Lawful.{IsRectilinearCycle, IsFault}
+use Rattle.mf_geom.specs.declared.check.Check.{Check}
+use Rattle.mf_geom.specs.declared.check.Check.TheVariants.{Off, On}
 use Rattle.mf_geom.specs.declared.point.Point.{Point}
 use Rattle.mf_ops.specs.ContourWeight.{IsContourWeight}
 use Rattle.mf_ops.specs.Cull.{IsLawfulCull}
@@ -15,12 +17,12 @@ use Rattle.mf_text.specs.declared.command.Name.{Name}
 use Rattle.mf_text.specs.declared.fault.TextFault.{TextFault}
 use Rattle.mf_text.specs.declared.fault.TextFault.TheVariants as faults
 use Rattle.mf_text.specs.Codes.{code_value}
-use Rattle.mf_text.specs.Grammar.{Form, Nothing, AddContour, AddPicture, CullKeeping, CullDropping, Clear, Move, ShowTotal, ShowPicture, ShowProof, ShipOut, PublishAll, Transform, Shifted, Scaled, XScaled, YScaled, Rotated, weight_value, path_value}
+use Rattle.mf_text.specs.Grammar.{Form, Nothing, AddContour, AddPicture, CullKeeping, CullDropping, Clear, Move, ShowTotal, ShowPicture, ShowProof, ShipOut, SetCheck, PublishAll, Transform, Shifted, Scaled, XScaled, YScaled, Rotated, weight_value, path_value}
 use Rattle.mf_text.specs.Ints.{int_value, pair_value}
 
--- a contour through these points
+-- a contour through these points, which are any cycle: the turning check comes when it is filled
 pub record IsContour (name : Name) (points : List Point) (weight : ℤ) (given : Command) : Type 0 where
-  pub cycle : IsCycle points
+  pub cycle : IsRectilinearCycle points
   pub lawful : IsContourWeight weight
   pub is : given ≡ command.Contour name points weight
 
@@ -58,6 +60,10 @@ IsTransform name (XScaled n) given = IsScale name (of_columns (int_value n)) giv
 IsTransform name (YScaled n) given = IsScale name (of_rows (int_value n)) given
 IsTransform name (Rotated n) given = IsTurn name (int_value n) given
 
+-- the turning check is on exactly where its number is positive
+abbrev pub check_of : ℤ → Check
+check_of n = if int_lt (pos 0) n then On else Off
+
 -- the command that a form gives
 abbrev pub IsCommandOf : Form → Command → Type 0
 IsCommandOf Nothing given = given ≡ command.Nothing
@@ -71,17 +77,19 @@ IsCommandOf (ShowTotal source) given = given ≡ command.Total source
 IsCommandOf (ShowPicture source) given = given ≡ command.Show source
 IsCommandOf (ShowProof source) given = given ≡ command.Proof source
 IsCommandOf (ShipOut source code dx width) given = given ≡ command.Ship source (code_value code) (int_value dx) (int_value width)
+IsCommandOf (SetCheck n) given = given ≡ command.Turning (check_of (int_value n))
 IsCommandOf PublishAll given = given ≡ command.Publish
 
--- points that are no cycle
+-- points that are no cycle, and their fault, which so is none of the turning check's
 pub record IsNoCycle (points : List Point) (refused : TextFault) : Type 0 where
   pub cause : CycleFault
+  pub none : IsRectilinearCycle points → ⊥
   pub fault : IsFault points cause
   pub is : refused ≡ faults.Cycle cause
 
 -- a cycle with a weight that no contour has
 pub record IsBadContour (points : List Point) (weight : ℤ) (refused : TextFault) : Type 0 where
-  pub cycle : IsCycle points
+  pub cycle : IsRectilinearCycle points
   pub unlawful : IsContourWeight weight → ⊥
   pub is : refused ≡ faults.BadWeight
 

@@ -66,6 +66,7 @@ to_int others (int_use.Code source) = spell_word word.Shipout ++ spell_source so
 to_int others (int_use.Escapement source code) = spell_word word.Shipout ++ spell_source source ++ spell_word word.Code ++ spell_code code ++ spell_word word.Dx
 to_int others (int_use.Width source code dx) =
     spell_word word.Shipout ++ spell_source source ++ spell_word word.Code ++ spell_code code ++ spell_word word.Dx ++ spell_int dx ++ spell_word word.Width
+to_int others int_use.Check = spell_word word.TurningCheck ++ spell_mark mark.Becomes
 
 unfoldable pub to_place : List Pair → Place → List Token
 to_place others place.Front = []
@@ -75,6 +76,7 @@ to_place others (place.Also name) = spell_word word.Addto ++ spell_name name ++ 
 to_place others place.Cull = spell_word word.Cull
 to_place others (place.Culled name) = spell_word word.Cull ++ spell_name name
 to_place others place.Show = spell_word word.Show
+to_place others place.Check = spell_word word.TurningCheck
 to_place others (place.Named name) = spell_name name
 to_place others (place.Becomes name) = spell_name name ++ spell_mark mark.Becomes
 to_place others (place.Moved name) = spell_name name ++ spell_mark mark.Becomes ++ spell_name name
@@ -102,6 +104,7 @@ to_place others (place.ShowPicture source) = spell_word word.Show ++ spell_sourc
 to_place others (place.ShowProof source) = spell_word word.Proof ++ spell_source source
 to_place others (place.ShipOut source code dx width) =
     spell_word word.Shipout ++ spell_source source ++ spell_word word.Code ++ spell_code code ++ spell_word word.Dx ++ spell_int dx ++ spell_word word.Width ++ spell_int width
+to_place others (place.SetCheck n) = spell_word word.TurningCheck ++ spell_mark mark.Becomes ++ spell_int n
 to_place others place.Publish = spell_word word.Publish
 
 -- ---- the form that is whole at a place
@@ -129,6 +132,7 @@ form_at others (place.ShowTotal source) = Some (g.ShowTotal source)
 form_at others (place.ShowPicture source) = Some (g.ShowPicture source)
 form_at others (place.ShowProof source) = Some (g.ShowProof source)
 form_at others (place.ShipOut source code dx width) = Some (g.ShipOut source code dx width)
+form_at others (place.SetCheck n) = Some (g.SetCheck n)
 form_at others place.Publish = Some g.PublishAll
 form_at others p = None
 
@@ -145,6 +149,7 @@ is_whole (place.ShowTotal source) = true
 is_whole (place.ShowPicture source) = true
 is_whole (place.ShowProof source) = true
 is_whole (place.ShipOut source code dx width) = true
+is_whole (place.SetCheck n) = true
 is_whole place.Publish = true
 is_whole p = false
 

@@ -1,7 +1,7 @@
 -- The registers that commands name.
 use Rattle.std.specs.Prelude.{◌<◌}
 use Rattle.mf_text.specs.declared.command.Command.{Command}
-use Rattle.mf_text.specs.declared.command.Command.TheVariants.{Nothing, Contour, Also, Cull, Clear, Shift, Scale, Quarter, Total, Show, Proof, Ship, Publish}
+use Rattle.mf_text.specs.declared.command.Command.TheVariants.{Nothing, Contour, Also, Cull, Clear, Shift, Scale, Quarter, Total, Show, Proof, Ship, Turning, Publish}
 use Rattle.mf_text.specs.declared.command.Name.{Name}
 use Rattle.mf_text.specs.declared.command.Name.TheVariants.{Current, Register}
 use Rattle.mf_text.specs.declared.command.Source.{Source}
@@ -30,4 +30,5 @@ HasNames (Total source) = IsSource source
 HasNames (Show source) = IsSource source
 HasNames (Proof source) = IsSource source
 HasNames (Ship source code dx width) = IsSource source
+HasNames (Turning check) = Unit {0}
 HasNames Publish = Unit {0}

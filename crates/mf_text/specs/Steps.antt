@@ -22,10 +22,15 @@ use Rattle.mf_text.specs.declared.token.Mark.TheVariants as mark
 use Rattle.mf_text.specs.declared.token.Token.{Token}
 use Rattle.mf_text.specs.declared.token.Token.TheVariants as token
 use Rattle.mf_text.specs.declared.token.Word.TheVariants as word
+use Rattle.mf_text.specs.contracts.token.TokenPartialEq.TheImpl as tokens
 use Rattle.mf_text.specs.Codes.{code_of}
 use Rattle.mf_text.specs.Ints.{int_of}
 
 -- ---- what tokens are
+
+-- the same token
+abbrev pub is_token : Token → Token → Bool
+is_token t u = tokens.ghosts.eq t u
 
 abbrev pub name_in : Token → Option Name
 name_in (token.Word word.CurrentPicture) = Some Current
@@ -67,6 +72,7 @@ behind_int (int_use.Move name how) n = Some (place.Move name how n)
 behind_int (int_use.Code source) n = option_map (place.Escapement source) (code_of n)
 behind_int (int_use.Escapement source code) n = Some (place.Width source code n)
 behind_int (int_use.Width source code dx) n = Some (place.ShipOut source code dx n)
+behind_int int_use.Check n = Some (place.SetCheck n)
 
 -- ---- what follows a place
 
@@ -76,6 +82,7 @@ front (token.Word word.Cull) = Some place.Cull
 front (token.Word word.Show) = Some place.Show
 front (token.Word word.Proof) = Some (place.Source source_use.Proof)
 front (token.Word word.Shipout) = Some (place.Source source_use.Ship)
+front (token.Word word.TurningCheck) = Some place.Check
 front (token.Word word.Publish) = Some place.Publish
 front t = option_map place.Named (name_in t)
 
@@ -127,42 +134,24 @@ joined name first (token.Mark mark.Open) = Some (place.Int (int_use.Across (pair
 joined name first (token.Word word.Cycle) = Some (place.Weighable (weight_use.Contour name first))
 joined name first t = None
 
--- one token alone may follow
-abbrev pub on_becomes : Place → Token → Option Place
-on_becomes next (token.Mark mark.Becomes) = Some next
-on_becomes next t = None
+-- this place, where the token is the one that may stand here
+abbrev pub on : Token → Place → Token → Option Place
+on one next t = if is_token t one then Some next else None
 
-abbrev pub on_close : Place → Token → Option Place
-on_close next (token.Mark mark.Close) = Some next
-on_close next t = None
-
-abbrev pub on_comma : Place → Token → Option Place
-on_comma next (token.Mark mark.Comma) = Some next
-on_comma next t = None
-
-abbrev pub on_join : Place → Token → Option Place
-on_join next (token.Mark mark.Join) = Some next
-on_join next t = None
-
-abbrev pub on_open : Place → Token → Option Place
-on_open next (token.Mark mark.Open) = Some next
-on_open next t = None
-
-abbrev pub on_code : Place → Token → Option Place
-on_code next (token.Word word.Code) = Some next
-on_code next t = None
-
-abbrev pub on_dx : Place → Token → Option Place
-on_dx next (token.Word word.Dx) = Some next
-on_dx next t = None
-
-abbrev pub on_width : Place → Token → Option Place
-on_width next (token.Word word.Width) = Some next
-on_width next t = None
-
-abbrev pub on_withweight : Place → Token → Option Place
-on_withweight next (token.Word word.WithWeight) = Some next
-on_withweight next t = None
+-- the place behind a token, at a place where one token alone may follow, or none
+abbrev pub next_alone : Place → Token → Option Place
+next_alone place.Check t = on (token.Mark mark.Becomes) (place.Int int_use.Check) t
+next_alone (place.Named name) t = on (token.Mark mark.Becomes) (place.Becomes name) t
+next_alone (place.Pair purpose) t = on (token.Mark mark.Open) (place.Int (int_use.Across purpose)) t
+next_alone (place.Comma purpose across) t = on (token.Mark mark.Comma) (place.Int (int_use.Up purpose across)) t
+next_alone (place.Close purpose across up) t = on (token.Mark mark.Close) (behind_pair purpose (record { across = across; up = up })) t
+next_alone (place.FirstCorner name first) t = on (token.Mark mark.Join) (place.Joined name first) t
+next_alone (place.NextCorner name first p) t = on (token.Mark mark.Join) (place.Joined name first) t
+next_alone (place.Code source) t = on (token.Word word.Code) (place.Int (int_use.Code source)) t
+next_alone (place.Escapement source code) t = on (token.Word word.Dx) (place.Int (int_use.Escapement source code)) t
+next_alone (place.Width source code dx) t = on (token.Word word.Width) (place.Int (int_use.Width source code dx)) t
+next_alone (place.Weighable purpose) t = on (token.Word word.WithWeight) (place.Int (int_use.Weight purpose)) t
+next_alone whole t = None
 
 -- the place behind a token, where some line has it
 abbrev pub next : Place → Token → Option Place
@@ -173,20 +162,10 @@ next (place.Also name) t = also name t
 next place.Cull t = option_map place.Culled (name_in t)
 next (place.Culled name) t = culled name t
 next place.Show t = show t
-next (place.Named name) t = on_becomes (place.Becomes name) t
 next (place.Becomes name) t = becomes name t
 next (place.Moved name) t = moved name t
 next (place.Source purpose) t = option_map (behind_source purpose) (source_in t)
-next (place.Pair purpose) t = on_open (place.Int (int_use.Across purpose)) t
-next (place.Comma purpose across) t = on_comma (place.Int (int_use.Up purpose across)) t
-next (place.Close purpose across up) t = on_close (behind_pair purpose (record { across = across; up = up })) t
 next (place.Int purpose) t = int purpose t
 next (place.Number purpose) t = option_and_then (behind_int purpose) (number_in true t)
-next (place.FirstCorner name first) t = on_join (place.Joined name first) t
-next (place.NextCorner name first p) t = on_join (place.Joined name first) t
 next (place.Joined name first) t = joined name first t
-next (place.Code source) t = on_code (place.Int (int_use.Code source)) t
-next (place.Escapement source code) t = on_dx (place.Int (int_use.Escapement source code)) t
-next (place.Width source code dx) t = on_width (place.Int (int_use.Width source code dx)) t
-next (place.Weighable purpose) t = on_withweight (place.Int (int_use.Weight purpose)) t
-next whole t = None
+next p t = next_alone p t

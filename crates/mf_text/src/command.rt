@@ -1,5 +1,5 @@
 //! Commands.
-use mf_geom::Cycle;
+use mf_geom::{Check, Cycle};
 use mf_ops::{Cull, Quarter, Scale, Sign, Weight};
 
 /// The picture that a command names.
@@ -24,7 +24,7 @@ pub enum Source {
 pub enum Command {
     /// No command.
     Nothing,
-    /// `addto p contour ..`
+    /// `addto p contour ..`, whose cycle need not pass the turning check
     Contour(Name, Cycle, Weight),
     /// `addto p also q`, or `-q`
     Also(Name, Source, Sign),
@@ -48,6 +48,8 @@ pub enum Command {
     /// `shipout p code c dx d width w`: the code, from 0 to 255, the escapement in 1/65536 pixel, and the width in
     /// 1/1048576 of the design size, both from -999,999,999 to 999,999,999
     Ship(Source, u8, i32, i32),
+    /// `turningcheck := n`: on exactly where n is positive
+    Turning(Check),
     /// `publish`
     Publish,
 }

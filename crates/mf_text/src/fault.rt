@@ -7,7 +7,7 @@ use std::fmt;
 /// Why a line is no command. Refusals 16, 17 and 18 come first, in that order, then the others in rising number.
 #[derive(Clone, Copy, Debug, PartialEq, Eq)]
 pub enum TextFault {
-    /// Refusals 1 to 6: the points of the contour are no cycle.
+    /// Refusals 1 to 4: the points of the contour are no cycle.
     Cycle(CycleFault),
     /// Refusal 7: a weight other than -3, -2, -1, 1, 2 and 3.
     BadWeight,
@@ -17,7 +17,7 @@ pub enum TextFault {
     BadScale,
     /// Refusal 10: an angle other than 90, 180 and 270 degrees.
     BadTurn,
-    /// Refusal 14. Of a contour alone it may come, in the place of 1 to 7 or of the command.
+    /// Refusal 14. Of a contour alone it may come, in the place of 1 to 4, of 7 or of the command.
     OutOfMemory,
     /// Refusal 16: more than 65,536 bytes.
     LineTooLong,

@@ -5,6 +5,7 @@ use crate::int::Int;
 use crate::pair::Pair;
 use mf_ops::Sign;
 
+mod choices;
 mod steps;
 
 pub(crate) use steps::is_bad_code;
@@ -65,6 +66,8 @@ pub enum IntUse {
     Code(Source),
     Escapement(Source, Code),
     Width(Source, Code, Int),
+    /// The turning check.
+    Check,
 }
 
 /// A place in a line: what was read, and so what may follow.
@@ -85,6 +88,8 @@ pub enum Place {
     Named(Name),
     Becomes(Name),
     Moved(Name),
+    /// After `turningcheck`.
+    Check,
     /// Before a picture that is read.
     Source(SourceUse),
     /// Before a pair, before its `,` and before its `)`.
@@ -115,5 +120,6 @@ pub enum Place {
     ShowPicture(Source),
     ShowProof(Source),
     ShipOut(Source, Code, Int, Int),
+    SetCheck(Int),
     Publish,
 }

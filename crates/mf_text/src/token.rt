@@ -22,6 +22,7 @@ pub enum Word {
     Shipout,
     Show,
     TotalWeight,
+    TurningCheck,
     Width,
     WithWeight,
     XScaled,
@@ -29,7 +30,7 @@ pub enum Word {
 }
 
 /// The words, as they are written: the definition of the language takes them from here.
-pub(crate) const WORDS: [(&[u8], Word); 23] = [
+pub(crate) const WORDS: [(&[u8], Word); 24] = [
     (b"addto", Word::Addto),
     (b"also", Word::Also),
     (b"code", Word::Code),
@@ -49,6 +50,7 @@ pub(crate) const WORDS: [(&[u8], Word); 23] = [
     (b"shipout", Word::Shipout),
     (b"show", Word::Show),
     (b"totalweight", Word::TotalWeight),
+    (b"turningcheck", Word::TurningCheck),
     (b"width", Word::Width),
     (b"withweight", Word::WithWeight),
     (b"xscaled", Word::XScaled),

@@ -8,7 +8,7 @@ ghost use Rattle.mf_text.specs.Grammar as grammar;
 ghost use Rattle.mf_text.specs.Grammar.{weight_value};
 ghost use Rattle.mf_text.specs.Ints.{int_value, pair_value};
 ghost use Rattle.mf_text.specs.Lines.{Gives, IsRefused};
-ghost use Rattle.mf_text.specs.Meaning.{IsAnswerOf, IsContour, IsCull, IsScale, IsBadScale, IsTurn, IsBadTurn, IsRefusedContour, IsRefusedCull};
+ghost use Rattle.mf_text.specs.Meaning.{IsAnswerOf, check_of, IsContour, IsCull, IsScale, IsBadScale, IsTurn, IsBadTurn, IsRefusedContour, IsRefusedCull};
 ghost use Rattle.mf_text.specs.Paths.{HasPoints};
 ghost use Rattle.mf_text.specs.Readers.{HasForm};
 ghost use Rattle.mf_text.specs.Readings.{corners_at_weight, is_whole, transform_of, weighed_form};
@@ -21,7 +21,7 @@ use crate::pair::Pair;
 use crate::path::Path;
 use crate::place::{Motion, Place, WeightUse};
 use crate::reader::Reader;
-use mf_geom::{Cycle, CycleFault, MAX_POINTS, Point};
+use mf_geom::{Check, Cycle, CycleFault, MAX_POINTS, Point};
 use mf_ops::{Cull, Quarter, Scale, Weight};
 use std::alloc::Global;
 
@@ -29,9 +29,9 @@ use std::alloc::Global;
 const MAX_LINE: usize = 65536;
 
 /// The command of a line, which is given without its end. Refusals LineTooLong (16), NotAscii (17), Syntax (18), then
-/// those of the values: of a contour the fault of its cycle (1 to 6) and BadWeight (7), of a cull BadWeight (7) and
+/// those of the values: of a contour the fault of its points (1 to 4) and BadWeight (7), of a cull BadWeight (7) and
 /// BadCull (8), of a scale BadScale (9), of a turn BadTurn (10). OutOfMemory (14) comes of a contour alone, in the
-/// place of 1 to 7 or of the command.
+/// place of 1 to 4, of 7 or of the command. A cycle that fails the turning check (5 and 6) is refused only when it is filled.
 pub fn read_command(alloc: Global, line: &[u8]) -> Result<Command, TextFault>
     ensures given { IfOk result (Gives line.now) }
     ensures refused { IfErr result (IsRefused line.now) }
@@ -90,6 +90,7 @@ impl Reader {
                 dx.value(),
                 width.value(),
             )),
+            Place::SetCheck(number) => Ok(Command::Turning(check(number.value()))),
             Place::Publish => Ok(Command::Publish),
             _ => Err(TextFault::Syntax(self.past)),
         }
@@ -201,4 +202,11 @@ fn rotated(name: Name, angle: i32) -> Result<Command, TextFault>
         Ok(quarter) => Ok(Command::Quarter(name, quarter)),
         Err(_) => Err(TextFault::BadTurn),
     }
+}
+
+/// The turning check at a number.
+fn check(number: i32) -> Check
+    ensures { result ≡ check_of number }
+{
+    if number > 0 { Check::On } else { Check::Off }
 }

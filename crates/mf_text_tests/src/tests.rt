@@ -1,6 +1,7 @@
 //! Tests of the command language.
 
 mod assertions;
+mod contours;
 mod lines;
 mod refusals;
 mod syntax;

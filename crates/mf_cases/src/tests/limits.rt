@@ -56,7 +56,8 @@ fn refused_operations(rt: HostRuntime) {
     );
 }
 
-/// A contour is looked at when its line is read, so it is refused for what is wrong with it.
+/// The points and the weight of a contour are looked at when its line is read, so before the limit; how its cycle turns is
+/// looked at after the limit.
 #[test]
 fn refused_contours(rt: HostRuntime) {
     assert_prints_within(
@@ -70,12 +71,32 @@ fn refused_contours(rt: HostRuntime) {
          addto currentpicture contour (0,0)--(1,0)--(1,1)--(0,1)--cycle\n\
          show currentpicture\n\
          publish\n",
-        "refused Backtracks 0\n\
-         refused TurningZero\n\
+        "refused TooManyOperations\n\
+         refused TooManyOperations\n\
          refused PointOutOfRange 1\n\
          refused BadWeight\n\
          refused TooManyOperations\n\
          0 0 0 1\n\
+         published 1\n",
+    );
+}
+
+/// A contour that changes no pixel is an operation.
+#[test]
+fn contours_without_pixels(rt: HostRuntime) {
+    assert_prints_within(
+        &rt,
+        1,
+        "turningcheck := 0\n\
+         addto currentpicture contour (0,0)--(1,0)--cycle\n\
+         addto currentpicture contour (0,0)--(1,0)--cycle\n\
+         turningcheck := 1\n\
+         addto currentpicture contour (0,0)--(1,0)--cycle\n\
+         show currentpicture\n\
+         publish\n",
+        "refused TooManyOperations\n\
+         refused TooManyOperations\n\
+         blank\n\
          published 1\n",
     );
 }

@@ -1,8 +1,8 @@
 //! Cycles with their turning number and area.
 
-use super::{CLOCKWISE, Corners, PIXEL, REACH, RECTANGLE, walk};
+use super::{CLOCKWISE, Corners, EIGHT, PIXEL, REACH, RECTANGLE, walk};
 use crate::tests::assertions::assert_same;
-use mf_geom::{Cycle, Point};
+use mf_geom::{Cycle, CycleFault, Point};
 use std::process::Abort;
 
 /// The cycle through the points of the path, walked so many times.
@@ -13,8 +13,8 @@ fn cycle_of<R: Abort + AllocGlobal>(rt: &R, corners: Corners, times: usize) -> C
     }
 }
 
-/// What is known of a cycle: its points, its turning number and its area.
-fn known(cycle: &Cycle) -> (&[Point], i32, i64) {
+/// What is known of a cycle: its points, its turning number or the fault in its place, and its area.
+fn known(cycle: &Cycle) -> (&[Point], Result<i32, CycleFault>, i64) {
     (cycle.points(), cycle.turning(), cycle.area())
 }
 
@@ -28,7 +28,18 @@ fn assert_cycle<R: Abort + AllocGlobal>(
 ) {
     let cycle = cycle_of(rt, corners, times);
     let points = walk(rt, corners, times);
-    assert_same(rt, known(&cycle), (&points, turning, area), corners);
+    assert_same(rt, known(&cycle), (&points, Ok(turning), area), corners);
+}
+
+/// Each of these paths makes a cycle, which keeps its points, has this area, and turns straight back: the first time at this
+/// place.
+fn assert_backtracks<R: Abort + AllocGlobal>(rt: &R, lists: &[(Corners, u32, i64)]) {
+    for (corners, place, area) in lists {
+        let cycle = cycle_of(rt, corners, 1);
+        let points = walk(rt, corners, 1);
+        let turning = Err(CycleFault::Backtracks(*place));
+        assert_same(rt, known(&cycle), (&points, turning, *area), *corners);
+    }
 }
 
 /// The path, walked so many times, winds so often round these pixels: their coordinates, and the winding number.
@@ -97,6 +108,36 @@ fn accepts_cycles_walked_more_than_once(rt: HostRuntime) {
 }
 
 #[test]
+fn accepts_a_figure_of_eight(rt: HostRuntime) {
+    assert_cycle(&rt, EIGHT, 1, 0, 0);
+    assert_windings(
+        &rt,
+        EIGHT,
+        1,
+        &[(0, 0, 1), (1, 1, -1), (1, 0, 0), (0, 1, 0)],
+    );
+}
+
+#[test]
+fn accepts_reversals(rt: HostRuntime) {
+    let lists: [(Corners, u32, i64); 6] = [
+        // There and back, with no turn either.
+        (&[(0, 0), (1, 0)], 0, 0),
+        (&[(0, 0), (3, 0), (1, 0), (1, 1), (0, 1)], 1, 1),
+        (&[(0, 0), (1, 0), (1, 3), (1, 1), (0, 1)], 2, 1),
+        (&[(0, 0), (3, 0), (1, 0), (2, 0), (2, 1), (0, 1)], 1, 2),
+        // At the first vertex alone, and at the last one alone.
+        (&[(3, 0), (1, 0), (1, 1), (0, 1), (0, 0)], 0, 1),
+        (&[(1, 0), (1, 1), (0, 1), (0, 0), (3, 0)], 4, 1),
+    ];
+    assert_backtracks(&rt, &lists);
+    // What is walked there and back winds round nothing.
+    assert_windings(&rt, &[(0, 0), (1, 0)], 1, &[(0, 0, 0), (0, -1, 0)]);
+    let spike: Corners = &[(0, 0), (3, 0), (1, 0), (1, 1), (0, 1)];
+    assert_windings(&rt, spike, 1, &[(0, 0, 1), (1, 0, 0), (2, 0, 0)]);
+}
+
+#[test]
 fn winds_round_pixels(rt: HostRuntime) {
     assert_windings(
         &rt,
@@ -147,4 +188,6 @@ fn copies_cycles(rt: HostRuntime) {
     assert_copied(&rt, &[(0, 0), (0, 2), (2, 2), (2, 0)], 3);
     assert_copied(&rt, PIXEL, 1024);
     assert_copied(&rt, REACH, 1);
+    assert_copied(&rt, EIGHT, 1);
+    assert_copied(&rt, &[(0, 0), (1, 0)], 1);
 }

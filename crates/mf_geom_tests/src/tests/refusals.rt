@@ -35,13 +35,6 @@ fn assert_not_rectilinear<R: Abort + AllocGlobal>(rt: &R, lists: &[(Corners, u32
     }
 }
 
-/// Each of these paths turns straight back: the first time at this place.
-fn assert_backtracks<R: Abort + AllocGlobal>(rt: &R, lists: &[(Corners, u32)]) {
-    for (corners, place) in lists {
-        assert_refused(rt, corners, 1, CycleFault::Backtracks(*place));
-    }
-}
-
 #[test]
 fn refuses_too_few_or_too_many_points(rt: HostRuntime) {
     assert_refused(&rt, &[], 1, CycleFault::TooFewPoints);
@@ -76,29 +69,8 @@ fn refuses_edges_that_are_not_rectilinear(rt: HostRuntime) {
         // A repeated point, and the first point again at the end.
         (&[(0, 0), (3, 0), (3, 0), (3, 2), (0, 2)], 1),
         (&[(0, 0), (3, 0), (3, 2), (0, 2), (0, 0)], 4),
-        // A reversal comes after.
+        // A reversal before it is no fault of the list.
         (&[(0, 0), (3, 0), (1, 0), (1, 1), (0, 2)], 3),
     ];
     assert_not_rectilinear(&rt, &lists);
-}
-
-#[test]
-fn refuses_reversals(rt: HostRuntime) {
-    let lists: [(Corners, u32); 6] = [
-        // There and back, with no turn either.
-        (&[(0, 0), (1, 0)], 0),
-        (&[(0, 0), (3, 0), (1, 0), (1, 1), (0, 1)], 1),
-        (&[(0, 0), (1, 0), (1, 3), (1, 1), (0, 1)], 2),
-        (&[(0, 0), (3, 0), (1, 0), (2, 0), (2, 1), (0, 1)], 1),
-        // At the first vertex alone, and at the last one alone.
-        (&[(3, 0), (1, 0), (1, 1), (0, 1), (0, 0)], 0),
-        (&[(1, 0), (1, 1), (0, 1), (0, 0), (3, 0)], 4),
-    ];
-    assert_backtracks(&rt, &lists);
-}
-
-#[test]
-fn refuses_a_figure_of_eight(rt: HostRuntime) {
-    let eight: Corners = &[(0, 0), (1, 0), (1, 2), (2, 2), (2, 1), (0, 1)];
-    assert_refused(&rt, eight, 1, CycleFault::TurningZero);
 }

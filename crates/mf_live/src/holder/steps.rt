@@ -1,6 +1,7 @@
 //! Opening a picture, and accepting what comes to it.
 ghost use Rattle.std.specs.Prelude.{◌≡◌, ◌≢◌, ◌<◌, ◌^◌, [], ◌∷◌, ◌++◌, false, None, Some, Err, IfOk, IfErr, IsOk, OnOk, MatchResult};
 ghost use Rattle.left_right.specs.Sides.{view};
+ghost use Rattle.mf_geom.specs.declared.cycle.CycleFault.{CycleFault};
 ghost use Rattle.mf_ops.specs.Step.{fault_of};
 ghost use Rattle.mf_ops.specs.declared.op.Op.TheVariants.{Clear};
 ghost use Rattle.mf_live.specs.Books.{most};
@@ -83,6 +84,7 @@ impl Holder {
         ensures published { published self.new ≡ published self.old }
         ensures allowed { OnOk result (fault_of (pic (accepted self.old)) op.now ≡ None) }
         ensures refused { IfErr result (λ fault. fault ≢ OpFault.OutOfMemory → fault_of (pic (accepted self.old)) op.now ≡ Some fault) }
+        ensures turning { (fault : CycleFault) → fault_of (pic (accepted self.old)) op.now ≡ Some (OpFault.Cycle fault) → result ≡ Err (OpFault.Cycle fault) }
         ensures out_of_field { fault_of (pic (accepted self.old)) op.now ≡ Some OpFault.OutOfField → result ≡ Err OpFault.OutOfField }
         ensures clears { op.now ≡ Clear → IsOk result }
     {

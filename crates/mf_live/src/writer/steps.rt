@@ -1,5 +1,6 @@
 //! What a writer does.
 ghost use Rattle.std.specs.Prelude.{◌≡◌, ◌≢◌, ◌-◌, ◌<◌, [], ◌∷◌, ◌++◌, None, Some, Err, IfErr, IsOk, OnOk, MatchResult, ◌↔◌};
+ghost use Rattle.mf_geom.specs.declared.cycle.CycleFault.{CycleFault};
 ghost use Rattle.mf_ops.specs.Step.{fault_of};
 ghost use Rattle.mf_ops.specs.declared.op.Op.TheVariants.{Clear};
 ghost use Rattle.mf_live.specs.Entries.{entry, pic, rev, next, Operation};
@@ -18,9 +19,10 @@ use std::sync::Wait;
 
 impl Writer {
     /// Accepts an operation: the working picture is then the one after it, and what is published stays. Refusals
-    /// TooManyOperations (13), exactly where as many operations as may be were accepted, else OutOfField (11) and
-    /// WeightTooLarge (12), where the operation is refused on the working picture, and OutOfMemory (14), which may
-    /// come in the place of WeightTooLarge alone. A refusal changes nothing and hands the operation back.
+    /// TooManyOperations (13), exactly where as many operations as may be were accepted, else those of `mf_ops::after` on the
+    /// working picture: Backtracks (5) and TurningZero (6), of a contour under the turning check, OutOfField (11) and
+    /// WeightTooLarge (12), and OutOfMemory (14), which may come in the place of WeightTooLarge alone. A refusal changes
+    /// nothing and hands the operation back.
     pub fn apply(&mut self, alloc: Global, op: Op) -> Result<(), (Op, Fault)>
         ensures name { name self.new ≡ name self.old }
         ensures published { published self.new ≡ published self.old }
@@ -30,6 +32,7 @@ impl Writer {
         ensures handed_back { IfErr result (λ refused. refused.0 ≡ op) }
         ensures too_many { (rev (accepted self.old) ≡ limit self.old) ↔ (result ≡ Err (op, Fault.TooManyOperations)) }
         ensures clears { op ≡ Clear → rev (accepted self.old) < limit self.old → IsOk result }
+        ensures turning { (fault : CycleFault) → rev (accepted self.old) < limit self.old → fault_of (pic (accepted self.old)) op ≡ Some (OpFault.Cycle fault) → result ≡ Err (op, Fault.Refused (OpFault.Cycle fault)) }
         ensures out_of_field { rev (accepted self.old) < limit self.old → fault_of (pic (accepted self.old)) op ≡ Some OpFault.OutOfField → result ≡ Err (op, Fault.Refused OpFault.OutOfField) }
         ensures refused { IfErr result (λ refused. (fault : OpFault) → refused.1 ≡ Fault.Refused fault → fault ≢ OpFault.OutOfMemory → fault_of (pic (accepted self.old)) op ≡ Some fault) }
     {

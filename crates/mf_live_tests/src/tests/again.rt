@@ -3,6 +3,7 @@
 
 use super::{RECT, assert_shows, assert_tells, assert_working, contour_through, points, seated};
 use crate::tests::assertions::assert_same;
+use mf_geom::Check;
 use mf_live::{CloseFault, Closing, Desk, Ended, Fault, SheetFault, Viewer, Writer, open_picture};
 use mf_ops::{Op, OpFault, Sign};
 use mf_rows::Picture;
@@ -27,7 +28,7 @@ fn opened<R: Abort + Wait>(rt: &R, alloc: Global) -> (Writer, Desk) {
 fn rectangle(rt: &impl Abort, alloc: Global) -> Op {
     for _ in 0..TRIES {
         if let Ok(points) = points(alloc, RECT) {
-            return contour_through(rt, points, 1);
+            return contour_through(rt, points, 1, Check::On);
         }
     }
     panic!(rt; "there is no room for the path")

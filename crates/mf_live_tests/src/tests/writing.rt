@@ -2,9 +2,10 @@
 
 use super::{
     UNIT, apply, assert_no_place, assert_tells, assert_working, close, contour, copied, fill,
-    opened, publish, seated,
+    opened, publish, seated, unchecked,
 };
 use crate::tests::assertions::{assert_holds, assert_same};
+use mf_geom::CycleFault;
 use mf_live::{Fault, Writer};
 use mf_ops::{Op, OpFault, Sign};
 use std::alloc::Global;
@@ -113,5 +114,41 @@ fn hands_back_what_weighs_too_much(rt: HostRuntime) {
     assert_working(&rt, &writer, 15, 16384);
     assert_weighs_too_much(&rt, alloc, &mut writer, 16384);
     assert_working(&rt, &writer, 15, 16384);
+    writer.discard(&rt);
+}
+
+/// An edge there and back, which winds round nothing.
+const THERE_AND_BACK: &[(i32, i32)] = &[(0, 0), (1, 0)];
+
+/// A contour of two points is refused for this, and handed back.
+fn assert_refuses_a_contour(rt: &impl Abort, alloc: Global, writer: &mut Writer, fault: Fault) {
+    let refused = writer.apply(alloc, contour(rt, alloc, THERE_AND_BACK, 1));
+    let found = match &refused {
+        Err((Op::Contour(cycle, _, _), found)) if cycle.points().len() == 2 => Some(*found),
+        _ => None,
+    };
+    assert_same(rt, found, Some(fault), "why the contour is handed back");
+}
+
+#[test]
+fn counts_contours_that_change_no_pixel(rt: HostRuntime) {
+    let alloc = rt.alloc();
+    let (mut writer, _desk) = opened(&rt, alloc, 1, 2);
+    let turns_back = Fault::Refused(OpFault::Cycle(CycleFault::Backtracks(0)));
+    assert_refuses_a_contour(&rt, alloc, &mut writer, turns_back);
+    assert_working(&rt, &writer, 0, 0);
+    for pending in 1..3 {
+        apply(
+            &rt,
+            alloc,
+            &mut writer,
+            unchecked(&rt, alloc, THERE_AND_BACK, 1),
+        );
+        assert_working(&rt, &writer, pending, 0);
+    }
+    // What is accepted at most comes before how a cycle turns.
+    assert_refuses_a_contour(&rt, alloc, &mut writer, Fault::TooManyOperations);
+    publish(&rt, &mut writer);
+    assert_tells(&rt, &writer.tell(), 2);
     writer.discard(&rt);
 }

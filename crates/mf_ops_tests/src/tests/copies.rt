@@ -1,8 +1,8 @@
 //! Copies of operations, and operations on a picture itself.
 
 use super::{
-    RECTANGLE, accepted, assert_equal, assert_total, contour, copy_of, dropping, filled, keeping,
-    scale, turn,
+    CLOCKWISE, RECTANGLE, accepted, assert_equal, assert_total, contour, copy_of, dropping, filled,
+    keeping, scale, turn, unchecked,
 };
 use mf_ops::{Op, Sign, apply};
 use mf_rows::Picture;
@@ -39,6 +39,9 @@ fn assert_effect<R: Abort + AllocGlobal>(rt: &R, op: Op, total: i64) {
 #[test]
 fn additions_have_their_effect(rt: HostRuntime) {
     assert_effect(&rt, contour(&rt, RECTANGLE, 1, -1), 6);
+    // Clockwise, once negated and once not.
+    assert_effect(&rt, contour(&rt, CLOCKWISE, 1, 1), 18);
+    assert_effect(&rt, unchecked(&rt, CLOCKWISE, 1, 1), 6);
     assert_effect(&rt, Op::Also(rectangle(&rt), Sign::Plus), 24);
     assert_effect(&rt, Op::Also(rectangle(&rt), Sign::Minus), 0);
 }

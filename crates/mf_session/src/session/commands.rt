@@ -1,5 +1,6 @@
 //! How a session performs commands.
-ghost use Rattle.std.specs.Prelude.{◌≡◌, IfOk, IsOk, OnErr};
+ghost use Rattle.std.specs.Prelude.{◌≡◌, [], IfOk, IsOk, OnErr};
+ghost use Rattle.mf_geom.specs.declared.check.Check.{Check};
 ghost use Rattle.mf_text.specs.Registers.{HasNames, IsSource};
 ghost use Rattle.mf_session.specs.Answers.{ProofAnswers, total_line};
 ghost use Rattle.mf_session.specs.Changes.{IsClearable};
@@ -10,7 +11,7 @@ ghost use Rattle.mf_text.specs.declared.command.Name.{Name};
 
 use super::Session;
 use crate::refusal::{Refusal, refused};
-use mf_geom::OutOfMemory;
+use mf_geom::{Check, OutOfMemory};
 use mf_gf::GfFault;
 use mf_ops::Op;
 use mf_rows::Picture;
@@ -29,6 +30,7 @@ impl Session {
         requires { HasNames command }
         ensures answer { IfOk result (λ text. (s : State) → StandsFor self.old s → IsAnsweredTo self.old s command text.items self.new) }
         ensures nothing { command ≡ commands.Nothing → IsOk result }
+        ensures turning { (check : Check) → command ≡ commands.Turning check → IsOk result }
         ensures clears { (s : State) (name : Name) → StandsFor self.old s → command ≡ commands.Clear name → IsClearable (limits self.old).max_ops s.pictures name → IsOk result }
         ensures unchanged { OnErr result ((s : State) → StandsFor self.old s → StandsFor self.new s) }
         ensures limits { limits self.new ≡ limits self.old }
@@ -36,9 +38,10 @@ impl Session {
     {
         match command {
             Command::Nothing => Ok(Vec::new(alloc)),
+            Command::Turning(check) => Ok(self.set_check(alloc, check)),
             Command::Contour(name, cycle, weight) => {
                 self.variables
-                    .operate(alloc, name, Op::Contour(cycle, weight))
+                    .operate(alloc, name, Op::Contour(cycle, weight, self.check))
             }
             Command::Also(name, source, sign) => self.variables.add(alloc, name, source, sign),
             Command::Cull(name, cull) => self.variables.operate(alloc, name, Op::Cull(cull)),
@@ -58,6 +61,17 @@ impl Session {
             Command::Ship(source, code, dx, width) => self.ship(alloc, source, code, dx, width),
             Command::Publish => self.variables.publish(rt, alloc),
         }
+    }
+
+    /// Sets the turning check. It prints nothing.
+    fn set_check(&mut self, alloc: Global, check: Check) -> Vec<u8>
+        ensures text { result.items ≡ [] }
+        ensures check { self.new.check ≡ check }
+        ensures variables { self.new.variables ≡ self.old.variables }
+        ensures file { self.new.file ≡ self.old.file }
+    {
+        self.check = check;
+        Vec::new(alloc)
     }
 
     /// Ships a character. Its text is made before, since nothing may fail behind the shipping.

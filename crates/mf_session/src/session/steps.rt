@@ -1,5 +1,6 @@
 //! What a session does.
 ghost use Rattle.std.specs.Prelude.{◌≡◌, ◌⊎◌, ◌<◌, ◌≤◌, ◌↔◌, [], Err, IfErr, IfOk, IsOk, OnErr};
+ghost use Rattle.mf_geom.specs.declared.check.Check.{Check};
 ghost use Rattle.mf_live.specs.Desks.{desk_name, left};
 ghost use Rattle.mf_text.specs.Lines.{Gives};
 ghost use Rattle.mf_text.specs.Registers.{IsName};
@@ -13,7 +14,7 @@ ghost use Rattle.mf_session.specs.States.{State, limits_of, start};
 use super::{EndFault, Session};
 use crate::refusal::{Refusal, refused};
 use crate::variables::Variables;
-use mf_geom::OutOfMemory;
+use mf_geom::{Check, OutOfMemory};
 use mf_gf::{GfFault, GfFile};
 use mf_live::{CloseFault, Desk, Ended, Writer};
 use mf_rows::Picture;
@@ -44,7 +45,12 @@ impl Session {
     {
         let file = GfFile::new(alloc, &[], max_bytes)?;
         let (variables, desk) = Variables::blank(rt, alloc, places, max_ops)?;
-        Ok((Session { variables, file }, desk))
+        let session = Session {
+            variables,
+            check: Check::On,
+            file,
+        };
+        Ok((session, desk))
     }
 
     /// The picture of this name: that of all operations that `currentpicture` has accepted, or that of a register.
@@ -58,8 +64,8 @@ impl Session {
 
     /// Performs a line of a script, which is given without its end, and answers what it prints. A line that is refused
     /// prints its refusal and changes nothing. `publish` may wait for looks that are held. Refusal OutOfMemory (14):
-    /// nothing has changed, and the line may be tried again. It never comes of a line with no command, nor of a clear
-    /// that is accepted: these take no memory.
+    /// nothing has changed, and the line may be tried again. It never comes of a line with no command, of one that sets the
+    /// turning check, nor of a clear that is accepted: these take no memory.
     pub fn command<R: Wait>(
         &mut self,
         rt: &R,
@@ -68,6 +74,7 @@ impl Session {
     ) -> Result<Vec<u8>, OutOfMemory>
         ensures answer { IfOk result (λ text. (s : State) → StandsFor self.old s → IsAnswered self.old s line.now text.items self.new) }
         ensures nothing { Gives line.now commands.Nothing → IsOk result }
+        ensures turning { (check : Check) → Gives line.now (commands.Turning check) → IsOk result }
         ensures clears { (s : State) (name : Name) → StandsFor self.old s → Gives line.now (commands.Clear name) → IsClearable (limits self.old).max_ops s.pictures name → IsOk result }
         ensures unchanged { OnErr result ((s : State) → StandsFor self.old s → StandsFor self.new s) }
         ensures limits { limits self.new ≡ limits self.old }
@@ -87,7 +94,11 @@ impl Session {
         ensures ended { IfOk result (λ made. (s : State) → StandsFor self s → HasEnded self s made.0 made.1) }
         ensures handed_back { IfErr result (λ fault. (s : State) → StandsFor self s → IsHandedBack self s fault) }
     {
-        let Session { variables, file } = self;
+        let Session {
+            variables,
+            check,
+            file,
+        } = self;
         let Variables {
             writer,
             registers,
@@ -101,7 +112,11 @@ impl Session {
                     registers,
                     null,
                 };
-                Err(EndFault::Kept(Session { variables, file }))
+                Err(EndFault::Kept(Session {
+                    variables,
+                    check,
+                    file,
+                }))
             }
             Err(CloseFault::Halfway(closing)) => Err(EndFault::Halfway(closing, file)),
         }
@@ -116,7 +131,11 @@ impl Session {
     fn into_writer(self) -> Writer
         ensures { result ≡ self.variables.writer }
     {
-        let Session { variables, file: _ } = self;
+        let Session {
+            variables,
+            check: _,
+            file: _,
+        } = self;
         variables.into_writer()
     }
 }

@@ -61,13 +61,16 @@ const SCRIPTS: &[Script] = &[
          refused NotRectilinear 4\n\
          blank\n",
     ),
-    // A cycle is looked at before its weight, and the weight of a cull before its range.
+    // The points of a contour are looked at before its weight, and that before how the cycle turns; the weight of a cull
+    // before its range.
     (
-        "addto currentpicture contour (0,0)--(1,0)--cycle withweight 4\n\
+        "addto currentpicture contour (0,0)--(1,1)--cycle withweight 4\n\
+         addto currentpicture contour (0,0)--(1,0)--cycle withweight 4\n\
          addto currentpicture contour (0,0)--(1,0)--(1,1)--(0,1)--cycle\n\
          cull currentpicture keeping (0,3) withweight 0\n\
          show currentpicture\n",
-        "refused Backtracks 0\n\
+        "refused NotRectilinear 0\n\
+         refused BadWeight\n\
          refused BadWeight\n\
          0 0 0 1\n",
     ),

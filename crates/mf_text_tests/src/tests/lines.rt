@@ -94,24 +94,34 @@ fn other_bytes(rt: HostRuntime) {
     assert_refused(&rt, alloc, "show ~", TextFault::Syntax(6));
 }
 
-/// A contour of 9,359 points with this end is refused with this fault.
-fn assert_points_refused(rt: &impl Abort, alloc: Global, end: &str, fault: TextFault) {
+/// A contour of so many points with this end is refused with this fault.
+fn assert_points_refused(
+    rt: &impl Abort,
+    alloc: Global,
+    points: usize,
+    end: &str,
+    fault: TextFault,
+) {
     let line = repeated(
         alloc,
         b"addto a contour ",
         b"(0,0)--",
-        9_359,
+        points,
         end.as_bytes(),
     )
     .expect(rt, "there is room for the line");
-    assert_bytes_refused(rt, alloc, &line, fault, ("9,359 points and", end));
+    assert_bytes_refused(rt, alloc, &line, fault, (points, "points and", end));
 }
 
 #[test]
 fn many_points(rt: HostRuntime) {
     let alloc = rt.alloc();
     let too_many = TextFault::Cycle(CycleFault::TooManyPoints);
-    assert_points_refused(&rt, alloc, "cycle", too_many);
+    assert_points_refused(&rt, alloc, 9_359, "cycle", too_many);
     // A fault of the grammar at the end comes before those of the points.
-    assert_points_refused(&rt, alloc, "cycle!", TextFault::Syntax(65_535));
+    assert_points_refused(&rt, alloc, 9_359, "cycle!", TextFault::Syntax(65_535));
+    // Those come before one of the weight.
+    assert_points_refused(&rt, alloc, 4_097, "cycle withweight 4", too_many);
+    let repeats = TextFault::Cycle(CycleFault::NotRectilinear(0));
+    assert_points_refused(&rt, alloc, 4_096, "cycle withweight 4", repeats);
 }

@@ -21,20 +21,34 @@ const REFUSED: &[(&str, TextFault)] = &[
         TextFault::Cycle(CycleFault::PointOutOfRange(1)),
     ),
     (
-        "addto a contour (0,0)--(1,0)--(1,2)--(2,2)--(2,1)--(0,1)--cycle",
-        TextFault::Cycle(CycleFault::TurningZero),
-    ),
-    (
-        "addto a contour (0,0)--(3,0)--(1,0)--(1,1)--(0,1)--cycle",
-        TextFault::Cycle(CycleFault::Backtracks(1)),
-    ),
-    (
         "addto a contour (0,0)--(1,0)--(1,1)--(0,1)--cycle withweight 4",
         TextFault::BadWeight,
     ),
+    // What the points are refused for comes before the weight.
+    (
+        "addto a contour (0,0)--cycle withweight 4",
+        TextFault::Cycle(CycleFault::TooFewPoints),
+    ),
+    (
+        "addto a contour (0,0)--(4096,0)--(4096,1)--(0,1)--cycle withweight 4",
+        TextFault::Cycle(CycleFault::PointOutOfRange(1)),
+    ),
+    (
+        "addto a contour (0,0)--(1,1)--(0,1)--cycle withweight 4",
+        TextFault::Cycle(CycleFault::NotRectilinear(0)),
+    ),
+    // What the turning check would refuse shows when the contour is filled, so the weight comes first.
     (
         "addto a contour (0,0)--(1,0)--cycle withweight 4",
-        TextFault::Cycle(CycleFault::Backtracks(0)),
+        TextFault::BadWeight,
+    ),
+    (
+        "addto a contour (0,0)--(3,0)--(1,0)--(1,1)--(0,1)--cycle withweight 4",
+        TextFault::BadWeight,
+    ),
+    (
+        "addto a contour (0,0)--(1,0)--(1,2)--(2,2)--(2,1)--(0,1)--cycle withweight 0",
+        TextFault::BadWeight,
     ),
     ("cull a keeping (0,3)", TextFault::BadCull),
     ("cull a dropping (1,3)", TextFault::BadCull),

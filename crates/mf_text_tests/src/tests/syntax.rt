@@ -2,7 +2,7 @@
 
 use super::{assert_refused, keeping};
 use crate::tests::assertions::{assert_holds, assert_same};
-use mf_geom::CycleFault;
+use mf_geom::{Check, CycleFault};
 use mf_ops::Sign;
 use mf_text::{Command, Name, Source, TextFault, read_command};
 use std::alloc::Global;
@@ -68,6 +68,29 @@ const LINES: &[(&str, u32)] = &[
     ("shipout a code 1 dx 1234567890", 21),
     ("shipout a code 1 dx 0 width", 28),
     ("shipout a code 65 dx 0 width 0 0", 32),
+    ("turningcheck", 13),
+    ("turningcheck :=", 16),
+    ("turningcheck 0", 14),
+    ("turningcheck=0", 13),
+    ("turningcheck : = 0", 14),
+    ("turningcheck;", 13),
+    ("turningcheck := ;", 17),
+    ("turningcheck := x", 17),
+    ("turningcheck := nullpicture", 17),
+    ("turningcheck := (1,2)", 17),
+    ("turningcheck := 1234567890", 17),
+    ("turningcheck := --1", 17),
+    ("turningcheck := -", 18),
+    ("turningcheck := -x", 18),
+    ("turningcheck := -1234567890", 18),
+    ("turningcheck := 2 withweight 1", 19),
+    ("turningcheck := 1 2", 19),
+    ("turningcheck := 1 ; 2", 21),
+    ("TurningCheck := 1", 1),
+    ("turningchecks := 1", 1),
+    ("a turningcheck := 1", 3),
+    ("a := turningcheck", 6),
+    ("show turningcheck", 6),
 ];
 
 /// Each of these lines goes wrong at its column.
@@ -128,6 +151,12 @@ const CUTS: &[(&str, &[u32])] = &[
         ],
     ),
     (
+        "turningcheck := -7;",
+        &[
+            WHOLE, 2, 1, 1, 1, 1, 1, 1, 1, 1, 1, 1, 13, 13, 14, 16, 16, 18, WHOLE,
+        ],
+    ),
+    (
         "z:=z rotated 90",
         &[WHOLE, 2, 2, 4, 5, 5, 6, 6, 6, 6, 6, 6, 13, 13, WHOLE],
     ),
@@ -163,6 +192,9 @@ fn is_answer_of(rt: &impl Abort, cut: &[u8], answer: &Result<Command, TextFault>
             let expected = if cut.ends_with(b"-12") { -12 } else { -1 };
             cut.starts_with(b"shipout a code 65 dx 327680 width -1")
                 && (*source, *code, *dx, *width) == (register(0), 65, 327_680, expected)
+        }
+        Ok(Command::Turning(check)) => {
+            cut == b"turningcheck := -7".as_slice() && *check == Check::Off
         }
         Err(TextFault::Cycle(fault)) => {
             cut == b"addto a contour (0,-1)--cycle".as_slice() && *fault == CycleFault::TooFewPoints

@@ -1,7 +1,7 @@
 //! Run texts and grid texts.
 
 use crate::tests::assertions::assert_same;
-use mf_geom::{Cycle, Point};
+use mf_geom::{Check, Cycle, Point};
 use mf_ops::{Op, Scale, Weight, after};
 use mf_rows::{Picture, RowBuilder, Run};
 use mf_text::{GridFault, proof_grid, show_runs};
@@ -27,7 +27,7 @@ const UNIT: &[Point] = &[
 fn contour(rt: &impl Abort, alloc: Global, corners: &[Point]) -> Op {
     let points = Vec::from_slice(alloc, corners).expect(rt, "there is room for the path");
     match (Cycle::new(points), Weight::new(1)) {
-        (Ok(cycle), Ok(weight)) => Op::Contour(cycle, weight),
+        (Ok(cycle), Ok(weight)) => Op::Contour(cycle, weight, Check::On),
         _ => panic!(rt; "no contour of weight 1"),
     }
 }

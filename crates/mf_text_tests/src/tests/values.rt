@@ -2,7 +2,7 @@
 
 use super::{dropping, keeping, read};
 use crate::tests::assertions::{assert_holds, assert_same};
-use mf_geom::Point;
+use mf_geom::Check;
 use mf_ops::{Cull, Quarter, Scale, Sign};
 use mf_text::{Command, Name, Source};
 use std::alloc::Global;
@@ -53,55 +53,39 @@ fn moves(rt: HostRuntime) {
     assert_turns(&rt, alloc, "a := a rotated90", (A, Quarter::Once));
 }
 
-const RECTANGLE: &[Point] = &[
-    Point { x: 0, y: 0 },
-    Point { x: 3, y: 0 },
-    Point { x: 3, y: 2 },
-    Point { x: 0, y: 2 },
+/// Lines that set the turning check, each with what it becomes.
+const CHECKS: &[(&str, Check)] = &[
+    ("turningcheck := 1", Check::On),
+    ("turningcheck := 2", Check::On),
+    ("turningcheck := 999999999", Check::On),
+    ("turningcheck:=000000001;", Check::On),
+    ("\tturningcheck\t:=1 ; % on", Check::On),
+    ("turningcheck := 0", Check::Off),
+    ("turningcheck := 000", Check::Off),
+    ("turningcheck := -0", Check::Off),
+    ("turningcheck := - 0", Check::Off),
+    ("turningcheck := -000", Check::Off),
+    ("turningcheck := -1", Check::Off),
+    ("turningcheck := -999999999", Check::Off),
+    ("turningcheck:=-2;", Check::Off),
 ];
 
-/// A rectangle that reaches from the left end of the field to the right one.
-const WIDE: &[Point] = &[
-    Point { x: -4095, y: 7 },
-    Point { x: -4095, y: -8 },
-    Point { x: 4095, y: -8 },
-    Point { x: 4095, y: 7 },
-];
-
-/// The line is a contour of this name and weight through these points.
-fn assert_contour(
-    rt: &impl Abort,
-    alloc: Global,
-    line: &str,
-    expected: (Name, i32),
-    points: &[Point],
-) {
+fn assert_check(rt: &impl Abort, alloc: Global, line: &str, expected: Check) {
     match read(rt, alloc, line) {
-        Command::Contour(name, cycle, weight) => {
-            assert_same(rt, (name, weight.get()), expected, line);
-            assert_same(rt, cycle.points(), points, line);
-        }
-        _ => panic!(rt; "{line} is no contour"),
+        Command::Turning(check) => assert_same(rt, check, expected, line),
+        _ => panic!(rt; "{line} sets no check"),
+    }
+}
+
+fn assert_all_checks(rt: &impl Abort, alloc: Global, lines: &[(&str, Check)]) {
+    for (line, expected) in lines {
+        assert_check(rt, alloc, line, *expected);
     }
 }
 
 #[test]
-fn contours(rt: HostRuntime) {
-    let alloc = rt.alloc();
-    assert_contour(
-        &rt,
-        alloc,
-        "addto currentpicture contour (0,0)--(3,0)--(3,2)--(0,2)--cycle withweight -2",
-        (Name::Current, -2),
-        RECTANGLE,
-    );
-    assert_contour(
-        &rt,
-        alloc,
-        "addto b contour (-4095,7)--(-4095,-8)--(4095,-8)--(4095,7)--cycle",
-        (B, 1),
-        WIDE,
-    );
+fn turning_checks(rt: HostRuntime) {
+    assert_all_checks(&rt, rt.alloc(), CHECKS);
 }
 
 fn assert_culls(rt: &impl Abort, alloc: Global, line: &str, expected: (Name, Cull)) {

@@ -2,7 +2,7 @@
 
 use super::TRIES;
 use crate::tests::assertions::{assert_holds, assert_same};
-use mf_geom::{Cycle, OutOfMemory, Point};
+use mf_geom::{Check, Cycle, OutOfMemory, Point};
 use mf_ops::{Cull, Op, OpFault, Quarter, Scale, Sign, Weight, after};
 use mf_rows::{Picture, RowBuilder, Run};
 use std::alloc::Global;
@@ -60,7 +60,7 @@ fn assert_runs(rt: &impl Abort, picture: &Picture, runs: &[Run]) {
 /// The operation goes through the corners, or adds the pixels of the rectangle, where it does one of these.
 fn assert_op(rt: &impl Abort, op: &Op) {
     match op {
-        Op::Contour(cycle, _) => assert_cycle(rt, cycle),
+        Op::Contour(cycle, _, _) => assert_cycle(rt, cycle),
         Op::Also(other, _) => assert_runs(rt, other, &block()),
         Op::Cull(_) | Op::Shift(_, _) | Op::Scale(_) | Op::Quarter(_) | Op::Clear => (),
     }
@@ -147,7 +147,7 @@ fn assert_makes(rt: &impl Abort, alloc: Global, op: &Op, runs: &[Run]) {
 /// Fills the rectangle.
 fn filling(rt: &impl Abort, cycle: Cycle, weight: i32) -> Op {
     let weight = Weight::new(weight).expect(rt, "it is a weight");
-    Op::Contour(cycle, weight)
+    Op::Contour(cycle, weight, Check::On)
 }
 
 /// Gives weight -1 to pixels whose weight is in the range.

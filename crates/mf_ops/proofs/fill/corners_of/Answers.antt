@@ -11,7 +11,7 @@ loop-place-init c = rw c.new-corners.ensures.items (AreSides-none _ _)
 pub push_side-requires : goal.push_side-requires
 push_side-requires c =
     let ps = c.args.cycle.now in
-    let cycle = c.edge.ensures.lawful.onward.rectilinear in
+    let cycle = c.edge.ensures.lawful in
     let weight_is : to_z w32 (of_z w32 c.args.weight) ≡ c.args.weight = omega (arith, ints) in
     let count_is = ap length c.points-count.ensures.points in
     let below : c.loop-place.place < length ps = omega (arith, count_is) in
@@ -38,7 +38,7 @@ pub returns : goal.returns
 returns c =
     let ps = c.args.cycle.now in
     let corners = c.loop-place.corners.items in
-    let rectilinear = c.points-count.ensures.lawful.onward.rectilinear in
+    let rectilinear = c.points-count.ensures.lawful in
     let weight_is : to_z w32 (of_z w32 c.args.weight) ≡ c.args.weight = omega (arith, ints) in
     let count_is = ap length c.points-count.ensures.points in
     let all : c.loop-place.place ≡ length ps = omega (arith, count_is) in

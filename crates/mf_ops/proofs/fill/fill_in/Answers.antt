@@ -1,24 +1,35 @@
-use Rattle.std.proofs.Common.{arith}
+use Rattle.std.proofs.Common.{◌≡◌, Some, refl, to_z, of_z, w32, arith}
 use Rattle.std.proofs.lemmas.Int.{ints}
-use Rattle.std.proofs.lemmas.Result.{err_from_is_err_and}
+use Rattle.mf_geom.specs.Winding.{filling_weight}
 use Rattle.mf_ops.specs.declared.op.Op.TheVariants.{Contour}
-use Rattle.mf_ops.proofs.Faults.{HasWeights-same, IsUnlawfulSomewhere-same, stepped-from_weights, fault_of-from_weights, fault_of-op_fault, contour_stays}
-use Rattle.mf_ops.proofs.Sides.{with_corners_at-contour}
+use Rattle.mf_ops.specs.declared.op.OpFault.TheVariants.{Cycle}
+use Rattle.mf_ops.specs.Step.{fault_of}
+use Rattle.mf_ops.proofs.Faults.{fault_of-turn, fault_of-unchecked, not_turning, stepped-unchecked}
 use Rattle.mf_ops.proofs.fill.fill_in.Goals as goal
 
-pub returns-in_err-add_corners-clause-refused : goal.returns-in_err-add_corners-clause-refused
-returns-in_err-add_corners-clause-refused c =
+pub returns-in-Ok : goal.returns-in-Ok
+returns-in-Ok c =
     let ds = c.args.picture.now in
-    let op = Contour c.args.cycle.now c.args.weight in
-    let same = with_corners_at-contour ds c.args.cycle.now c.args.weight _ _ (omega (arith, ints)) c.in_ok-corners.ensures.added in
-    let passed_on = err_from_is_err_and c.from_residual-in_err-add_corners.result c.from_residual-in_err-add_corners.ensures.1 in
-    rw (passed_on.1, passed_on.2) (fault_of-op_fault ds op _ (contour_stays ds _ _) (λ other. IsUnlawfulSomewhere-same _ _ same (c.in_err-add_corners.ensures.too_large other)))
+    let ps = c.args.cycle.now in
+    let filling_is : to_z w32 (of_z w32 c.in-Ok.weight) ≡ filling_weight c.args.check ps c.args.weight = omega (arith, ints, c.in-Ok.ensures.value) in
+    let is_unchecked = fault_of-unchecked ds ps c.args.weight c.args.check c.in-Ok.ensures.passes in
+    record {
+      step = rw (stepped-unchecked ds ps c.args.weight c.args.check) (rw filling_is at c.add_sides.ensures.step);
+      unchanged = c.add_sides.ensures.unchanged;
+      accepted = rw is_unchecked (rw filling_is at c.add_sides.ensures.accepted);
+      refused = rw is_unchecked (rw filling_is at c.add_sides.ensures.refused);
+      turning = λ fault found. absurd (not_turning ds (Contour ps c.args.weight c.args.check) fault (record { none = c.in-Ok.ensures.passes }) found);
+    }
 
-pub returns : goal.returns
-returns c =
+pub returns-in-Err : goal.returns-in-Err
+returns-in-Err c =
     let ds = c.args.picture.now in
-    let op = Contour c.args.cycle.now c.args.weight in
-    let same = with_corners_at-contour ds c.args.cycle.now c.args.weight _ _ (omega (arith, ints)) c.in_ok-corners.ensures.added in
-    let has = HasWeights-same _ _ _ same c.in_ok-add_corners.ensures.weights in
-    let picture = c.in_ok-add_corners.ensures.lawful in
-    record { step = stepped-from_weights ds op _ picture has; accepted = fault_of-from_weights ds op _ (contour_stays ds _ _) picture has; unchanged = tt; refused = tt }
+    let op = Contour c.args.cycle.now c.args.weight c.args.check in
+    let first : fault_of ds op ≡ Some (Cycle c.in-Err.fault) = fault_of-turn ds op (Cycle c.in-Err.fault) c.in-Err.ensures.refused in
+    record {
+      step = tt;
+      unchanged = refl;
+      accepted = tt;
+      refused = λ _. first;
+      turning = λ fault found. cc;
+    }

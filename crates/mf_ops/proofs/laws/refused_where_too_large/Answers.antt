@@ -2,10 +2,12 @@ use Rattle.mf_ops.proofs.Faults.{fault_of-too_large, not_too_large-accepted, too
 use Rattle.mf_ops.proofs.laws.refused_where_too_large.Goals as goal
 
 pub returns-clause-refused : goal.returns-clause-refused
-returns-clause-refused c = fault_of-too_large
+returns-clause-refused c ds op turns stays = fault_of-too_large ds op (record { turns = turns; stays = stays })
 
 pub returns-clause-accepted : goal.returns-clause-accepted
 returns-clause-accepted c = not_too_large-accepted
 
 pub returns-clause-only : goal.returns-clause-only
-returns-clause-only c = too_large-refused
+returns-clause-only c ds op refused =
+    let is = too_large-refused ds op refused in
+    (is.inside.turns, is.inside.stays, is.too_large)

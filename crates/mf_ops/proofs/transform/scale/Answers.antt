@@ -1,4 +1,4 @@
-use Rattle.std.proofs.Common.{ap, ◌∙◌}
+use Rattle.std.proofs.Common.{refl, ap, ◌∙◌}
 use Rattle.std.proofs.lemmas.Bool.{both_ways}
 use Rattle.mf_ops.specs.declared.op.Op.TheVariants.{Scale}
 use Rattle.mf_ops.proofs.Faults.{stepped-from_weights, fault_of-from_weights, fault_of-leaves, not_out}
@@ -10,7 +10,7 @@ pub returns-then-not-stays_inside-clause-refused : goal.returns-then-not-stays_i
 returns-then-not-stays_inside-clause-refused c other =
     let columns = c.stretch.ensures ∙ ap by_factor (factor_passed _ _ c.x-x.ensures.factor c.x-x.ensures.value) in
     let rows = c.stretch-2.ensures ∙ ap by_factor (factor_passed _ _ c.y-y.ensures.factor c.y-y.ensures.value) in
-    fault_of-leaves c.args.picture.now (Scale c.args.scale)
+    fault_of-leaves c.args.picture.now (Scale c.args.scale) (record { none = refl })
     (leaves-scale c.args.picture.now c.args.scale (λ inside. both_ways _ c.if-not-stays_inside.true (c.stays_inside.ensures.1 (rw (columns, rows) inside))))
 
 pub stretch-requires-5 : goal.stretch-requires-5

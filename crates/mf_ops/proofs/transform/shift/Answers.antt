@@ -1,4 +1,4 @@
-use Rattle.std.proofs.Common.{◌≡◌, ℤ, pos, ◌-ℤ◌, List, FitsSigned, w32, to_z, of_z, ◌∙◌, arith}
+use Rattle.std.proofs.Common.{◌≡◌, refl, ℤ, pos, ◌-ℤ◌, List, FitsSigned, w32, to_z, of_z, ◌∙◌, arith}
 use Rattle.std.proofs.lemmas.Bool.{both_ways}
 use Rattle.std.proofs.lemmas.Int.{ints, to_z-of_z}
 use Rattle.mf_edges.specs.declared.stretch.Stretch.{Stretch}
@@ -31,7 +31,7 @@ returns-then-not-stays_inside-clause-refused c =
     let columns = offset-read_back _ right c.ranges.right c.stretch-columns.ensures in
     let rows = offset-read_back _ up c.ranges.up c.stretch-rows.ensures in
     let test = rw (columns, rows) at c.stays_inside.ensures.1 in
-    λ other. fault_of-leaves ds (Shift right up) (leaves-shift ds right up (λ inside. both_ways _ c.if-not-stays_inside.true (test inside)))
+    λ other. fault_of-leaves ds (Shift right up) (record { none = refl }) (leaves-shift ds right up (λ inside. both_ways _ c.if-not-stays_inside.true (test inside)))
 
 pub returns : goal.returns
 returns c =

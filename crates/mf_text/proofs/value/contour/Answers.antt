@@ -1,4 +1,4 @@
-use Rattle.std.proofs.Common.{inl, refl}
+use Rattle.std.proofs.Common.{inl, refl, arith}
 use Rattle.mf_geom.specs.Lawful.{IsFault}
 use Rattle.mf_geom.specs.declared.cycle.CycleFault.TheVariants.{TooManyPoints}
 use Rattle.mf_text.proofs.value.contour.Goals as goal
@@ -6,4 +6,5 @@ use Rattle.mf_text.proofs.value.contour.Goals as goal
 pub returns-then-path-gt-MAX_POINTS-clause-refused : goal.returns-then-path-gt-MAX_POINTS-clause-refused
 unfolding IsFault
 returns-then-path-gt-MAX_POINTS-clause-refused c memory points is =
-    inl (record { cause = TooManyPoints; fault = is.many c.if-path-gt-MAX_POINTS.true; is = refl })
+    let many = is.many c.if-path-gt-MAX_POINTS.true in
+    inl (record { cause = TooManyPoints; none = λ cycle. omega (arith, many, cycle.reach.sized.greatest); fault = many; is = refl })

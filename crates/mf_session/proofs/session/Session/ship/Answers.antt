@@ -18,7 +18,7 @@ returns-in-Ok-clause-answer c = λ s stands.
     let new : HasCode c.args.code s.characters → ⊥ = λ has. let refused = (c.in-Ok.ensures.code_shipped [] s.characters stands.file).0 has in absurd (cc) in
     let fits : limit c.args.self.now.file < length (front [] (s.characters ++ shipped ∷ [])) → ⊥ = λ long. let refused = (rw (dx, width, picture) at (c.in-Ok.ensures.too_long [] s.characters stands.file new)).0 long in absurd (cc) in
     let printed : c.into_bytes-text.result.items ≡ codes "[" ++ decimal c.args.code ++ codes "]\n" = search rules in
-    let done = shipped-new c.args.self.now (record { variables = c.args.self.now.variables; file = c.ship.new.self }) s shipped _ stands refl keeps new fits printed in
+    let done = shipped-new c.args.self.now (record { variables = c.args.self.now.variables; check = c.args.self.now.check; file = c.ship.new.self }) s shipped _ stands (record { pictures_are = refl; check_is = refl }) keeps new fits printed in
     record { next = done.next; answer = done.answer; stands = done.stands }
 
 pub returns-in-Err-CodeShipped-clause-answer : goal.returns-in-Err-CodeShipped-clause-answer
@@ -27,7 +27,7 @@ returns-in-Err-CodeShipped-clause-answer c =
     (λ text printed s stands.
     let shipped = character c.args.code c.args.dx c.args.width (source_picture s.pictures c.args.source) in
     let has = (c.in-Err-CodeShipped.ensures.code_shipped [] s.characters stands.file).1 (ap Err c.in-Err-CodeShipped.field-0-is) in
-    let done = shipped-before c.args.self.now (record { variables = c.args.self.now.variables; file = c.ship.new.self }) s shipped _ stands refl c.in-Err-CodeShipped.ensures.unchanged has printed in
+    let done = shipped-before c.args.self.now (record { variables = c.args.self.now.variables; check = c.args.self.now.check; file = c.ship.new.self }) s shipped _ stands (record { pictures_are = refl; check_is = refl }) c.in-Err-CodeShipped.ensures.unchanged has printed in
     record { next = done.next; answer = done.answer; stands = done.stands })
     c.refused.ensures
 
@@ -42,6 +42,6 @@ returns-in-Err-FileTooLong-clause-answer c =
     let shipped = character c.args.code c.args.dx c.args.width (source_picture s.pictures c.args.source) in
     let new : HasCode c.args.code s.characters → ⊥ = λ has. let refused = (c.in-Err-FileTooLong.ensures.code_shipped [] s.characters stands.file).0 has in absurd (cc) in
     let long = (rw (dx, width, picture) at (c.in-Err-FileTooLong.ensures.too_long [] s.characters stands.file new)).1 (ap Err c.in-Err-FileTooLong.field-0-is) in
-    let done = shipped-overlong c.args.self.now (record { variables = c.args.self.now.variables; file = c.ship.new.self }) s shipped _ stands refl c.in-Err-FileTooLong.ensures.unchanged new long printed in
+    let done = shipped-overlong c.args.self.now (record { variables = c.args.self.now.variables; check = c.args.self.now.check; file = c.ship.new.self }) s shipped _ stands (record { pictures_are = refl; check_is = refl }) c.in-Err-FileTooLong.ensures.unchanged new long printed in
     record { next = done.next; answer = done.answer; stands = done.stands })
     c.refused-in-Err-FileTooLong.ensures
