@@ -28,6 +28,7 @@ mod RunEdges
 mod RunsLeft
 pub mod RunsLemmas
 pub mod StretchBounds
+mod StripCopies
 mod StripsLemmas
 pub mod Totals
 mod TurnChanges

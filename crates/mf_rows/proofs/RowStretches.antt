@@ -19,67 +19,38 @@ use Rattle.mf_rows.proofs.EdgeRowsLemmas.{weight_in_rows-append, weight_in_rows-
 use Rattle.mf_rows.proofs.RowSums.{by_same}
 use Rattle.mf_edges.proofs.Sources.{stretched_to-le, stretched_to-next, source_of-reached, source_of-from, source_of-is}
 
--- ---- the strip of a row
-
--- behind rows there are now the first `down` of those that a row becomes: with the others they are all
-pub record IsStripSoFar (before : List EdgeRow) (r : EdgeRow) (s : Stretch) (down : ℤ) (after : List EdgeRow) : Type 0 where
-  pub all : after ++ strip (stretched_to s r.y) r.edges (unsigned_abs (s.factor -ℤ down)) ≡ before ++ strip (stretched_to s r.y) r.edges (unsigned_abs s.factor)
-
-pub strip_none : (before : List EdgeRow) (r : EdgeRow) (s : Stretch) → IsStripSoFar before r s (pos 0) before
-strip_none before r s =
-    let all : s.factor -ℤ pos 0 ≡ s.factor = omega (arith, ints) in
-    record { all = rw all refl }
-
--- a number and the next one, as sizes
-record AreSizes (larger smaller : ℤ) : Type 0 where
-  next : unsigned_abs larger ≡ suc (unsigned_abs smaller)
-  size : pos (unsigned_abs smaller) ≡ smaller
-
-are_sizes : (larger smaller : ℤ) → pos 0 ≤ℤ smaller → larger ≡ smaller +ℤ pos 1 → AreSizes larger smaller
-are_sizes larger smaller least next = record { next = omega (arith, ints); size = omega (arith, ints) }
-
--- the next row goes below them
-pub strip_more : (before : List EdgeRow) (r : EdgeRow) (s : Stretch) (down : ℤ) (after : List EdgeRow) (row : EdgeRow) → (down +ℤ pos 1) ≤ℤ s.factor → IsStripSoFar before r s down after → row ≡ record { y = stretched_to s r.y +ℤ (s.factor -ℤ (down +ℤ pos 1)); edges = r.edges } → IsStripSoFar before r s (down +ℤ pos 1) (after ++ row ∷ [])
-unfolding strip
-strip_more before r s down after row le so_far is =
-    let bottom = stretched_to s r.y in
-    let below = s.factor -ℤ (down +ℤ pos 1) in
-    let sizes = are_sizes (s.factor -ℤ down) below (omega (arith, ints)) (omega (arith, ints)) in
-    let n = unsigned_abs below in
-    let row_is : row ≡ record { y = bottom +ℤ pos n; edges = r.edges } = is ∙ rw sizes.size refl in
-    record { all = append_assoc after (row ∷ []) (strip bottom r.edges n) ∙ ap (λ t. after ++ t ∷ strip bottom r.edges n) row_is ∙ rw sizes.next at so_far.all }
-
--- all rows of the strip are there
-pub strip_all : (before : List EdgeRow) (r : EdgeRow) (s : Stretch) (down : ℤ) (after : List EdgeRow) → s.factor ≡ down → IsStripSoFar before r s down after → HasStretched before r s after
-unfolding strip
-strip_all before r s down after end so_far =
-    let none : s.factor -ℤ down ≡ pos 0 = omega (arith, ints) in
-    record { all = sym (append-nil after) ∙ rw none at so_far.all }
-
 -- ---- numbers that the code computes
 
-pub product_read_back : (y f : ℤ) → negsuc 4094 ≤ℤ y → y ≤ℤ pos 4094 → pos 1 ≤ℤ f → f ≤ℤ pos 4095 → to_z w32 (of_z w32 (y *ℤ f)) ≡ y *ℤ f
-product_read_back y f bottom top least greatest = to_z-of_z w32 (y *ℤ f) (fits_signed_mul w32 y f 4095 4095 (omega (arith, ints)) (omega (arith, ints)) (omega arith))
+pub product_fits : (y f : ℤ) → negsuc 4094 ≤ℤ y → y ≤ℤ pos 4094 → pos 1 ≤ℤ f → f ≤ℤ pos 4095 → FitsSigned w32 (to_z w32 (of_z w32 y) *ℤ to_z w32 (of_z w32 f))
+product_fits y f bottom top least greatest =
+    let y_is : to_z w32 (of_z w32 y) ≡ y = omega (arith, ints) in
+    let f_is : to_z w32 (of_z w32 f) ≡ f = omega (arith, ints) in
+    rw (y_is, f_is) (fits_signed_mul w32 y f 4095 4095 (omega (arith, ints)) (omega (arith, ints)) (omega arith))
 
--- where the next row of a strip stands, as the code computes it
-pub record NextStripRow (s : Stretch) (y down : ℤ) : Type 0 where
-  pub more : to_z w32 (of_z w32 (down +ℤ pos 1)) ≡ down +ℤ pos 1
+-- where the strip of a row begins and ends, as the code computes it
+pub record StripPlace (s : Stretch) (y : ℤ) : Type 0 where
+  pub bottom_fits : FitsSigned w32 (to_z w32 (of_z w32 (to_z w32 (of_z w32 y) *ℤ to_z w32 (of_z w32 s.factor))) +ℤ to_z w32 (of_z w32 s.offset))
   pub bottom : to_z w32 (of_z w32 (to_z w32 (of_z w32 (to_z w32 (of_z w32 y) *ℤ to_z w32 (of_z w32 s.factor))) +ℤ to_z w32 (of_z w32 s.offset))) ≡ stretched_to s y
-  pub up : to_z w32 (of_z w32 (to_z w32 (of_z w32 (to_z w32 (of_z w32 s.factor) -ℤ pos 1)) -ℤ down)) ≡ s.factor -ℤ (down +ℤ pos 1)
-  pub fits : FitsSigned w32 (stretched_to s y +ℤ (s.factor -ℤ (down +ℤ pos 1)))
-  pub row : to_z w32 (of_z w32 (stretched_to s y +ℤ (s.factor -ℤ (down +ℤ pos 1)))) ≡ stretched_to s y +ℤ (s.factor -ℤ (down +ℤ pos 1))
+  pub top_fits : FitsSigned w32 (stretched_to s y +ℤ to_z w32 (of_z w32 s.factor))
+  pub top : to_z w32 (of_z w32 (stretched_to s y +ℤ to_z w32 (of_z w32 s.factor))) ≡ stretched_to s y +ℤ s.factor
+  pub order : stretched_to s y ≤ℤ (stretched_to s y +ℤ s.factor)
+  pub end : (stretched_to s y +ℤ s.factor) ≤ℤ pos 4095
+  pub size : (stretched_to s y +ℤ s.factor) -ℤ stretched_to s y ≡ s.factor
 
-pub next_strip_row : (s : Stretch) (y down : ℤ) → IsStretch s → negsuc 4094 ≤ℤ y → y ≤ℤ pos 4094 → PlaceStaysInside s y → to_z w32 (of_z w32 s.offset) ≡ s.offset → pos 0 ≤ℤ down → (down +ℤ pos 1) ≤ℤ s.factor → NextStripRow s y down
-next_strip_row s y down stretch bottom top inside offset least greatest =
-    let product = product_read_back y s.factor bottom top stretch.least stretch.greatest in
+pub strip_place : (s : Stretch) (y : ℤ) → IsStretch s → negsuc 4094 ≤ℤ y → y ≤ℤ pos 4094 → PlaceStaysInside s y → to_z w32 (of_z w32 s.offset) ≡ s.offset → StripPlace s y
+strip_place s y stretch bottom top inside offset =
+    let product = to_z-of_z w32 _ (product_fits y s.factor bottom top stretch.least stretch.greatest) in
     let y_is : to_z w32 (of_z w32 y) ≡ y = omega (arith, ints) in
     let factor_is : to_z w32 (of_z w32 s.factor) ≡ s.factor = omega (arith, ints) in
+    let end : (stretched_to s y +ℤ s.factor) ≤ℤ pos 4095 = subst (λ z. z ≤ℤ pos 4095) (stretched_to-next s y) inside.end.greatest in
     record {
-      more = omega (arith, ints);
-      bottom = rw (y_is, factor_is, product, offset) (omega (arith, ints));
-      up = rw factor_is (omega (arith, ints));
-      fits = omega (arith, ints);
-      row = omega (arith, ints);
+      bottom_fits = rw (product, y_is, factor_is, offset) (omega (arith, ints, inside.start));
+      bottom = rw (product, y_is, factor_is, offset) (omega (arith, ints, inside.start));
+      top_fits = rw factor_is (omega (arith, ints));
+      top = rw factor_is (omega (arith, ints));
+      order = omega (arith, ints);
+      end = end;
+      size = omega (arith, ints);
     }
 
 -- ---- the weights of a strip

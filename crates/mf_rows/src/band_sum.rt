@@ -101,11 +101,25 @@ fn push_sum(
             alloc, sum, left, right,
         ),
         // No picture has two bands of one number, but no invariant says so.
-        _ => {
-            let rows = sum_of_rows(alloc, &rows_of(alloc, left)?, &rows_of(alloc, right)?)?;
-            Ok(push_rows(alloc, sum, rows)?)
-        }
+        _ => push_sum_of_rows(alloc, sum, left, right),
     }
+}
+
+/// Adds the sum of some bands, of any numbers, to a list of bands.
+fn push_sum_of_rows(
+    alloc: Global,
+    sum: &mut Vec<Arc<Band>>,
+    left: &[Arc<Band>],
+    right: &[Arc<Band>],
+) -> Result<(), AddFault>
+    requires left { AreRows (rows_of_bands left.now) }
+    requires right { AreRows (rows_of_bands right.now) }
+    ensures pushed { OnOk result (HasSum (rows_of_bands sum.old.items) (rows_of_bands left.now) (rows_of_bands right.now) (rows_of_bands sum.new.items)) }
+    ensures too_large { IfErr result (λ fault. fault ≢ AddFault.OutOfMemory → IsUnlawfulSomewhere (weight_in_all (rows_of_bands left.now) (rows_of_bands right.now))) }
+{
+    let (left, right) = (rows_of(alloc, left)?, rows_of(alloc, right)?);
+    let rows = sum_of_rows(alloc, &left, &right)?;
+    Ok(push_rows(alloc, sum, rows)?)
 }
 
 /// Adds the sum of two bands of one number to a list of bands.

@@ -77,8 +77,5 @@ fn push_strip(
     kept.extend_from_slice(edges)?;
     let first = Row::new(alloc, top - 1, kept)?;
     rows.reserve((top - bottom) as usize)?;
-    for down in 0..top - bottom {
-        rows.push(first.share_at(top - 1 - down)?)?;
-    }
-    Ok(())
+    first.push_copies(rows, bottom, top)
 }

@@ -54,8 +54,5 @@ fn push_stretched(rows: &mut Vec<Row>, row: &Row, stretch: &Stretch) -> Result<(
     ensures { OnOk result (HasStretched (edge_rows rows.old.items) (edge_row row.now) stretch.now (edge_rows rows.new.items)) }
 {
     let bottom = row.y * stretch.factor + stretch.offset;
-    for down in 0..stretch.factor {
-        rows.push(row.share_at(bottom + (stretch.factor - 1 - down))?)?;
-    }
-    Ok(())
+    row.push_copies(rows, bottom, bottom + stretch.factor)
 }

@@ -1,6 +1,8 @@
 //! How rows are made and shared.
-ghost use Rattle.std.specs.Prelude.{◌≡◌, IfOk, IsNone};
-ghost use Rattle.mf_rows.specs.Bands.{edge_row};
+ghost use Rattle.std.specs.Prelude.{◌≡◌, ◌++◌, IfOk, OnOk, IsNone, pos, negsuc, ◌≤ℤ◌, ◌-ℤ◌};
+ghost use Rattle.std.specs.Int.RustNames.{unsigned_abs};
+ghost use Rattle.mf_rows.specs.Bands.{edge_row, edge_rows};
+ghost use Rattle.mf_rows.specs.RowMoves.{strip};
 ghost use Rattle.mf_edges.specs.Edges.{AreEdges};
 ghost use Rattle.mf_edges.specs.Reaches.{HasReach, IsAttained, StaysInReach};
 
@@ -51,6 +53,24 @@ impl Row {
             reach: self.reach,
             edges: Arc::try_clone(&self.edges)?,
         })
+    }
+
+    /// Adds the row at each height from `top - 1` down to `bottom`.
+    pub(crate) fn push_copies(
+        &self,
+        rows: &mut Vec<Row>,
+        bottom: i32,
+        top: i32,
+    ) -> Result<(), OutOfMemory>
+        requires bottom { negsuc 4094 ≤ℤ bottom }
+        requires order { bottom ≤ℤ top }
+        requires top { top ≤ℤ pos 4095 }
+        ensures { OnOk result (edge_rows rows.new.items ≡ edge_rows rows.old.items ++ strip bottom (edge_row self.now).edges (unsigned_abs (top -ℤ bottom))) }
+    {
+        for down in 0..top - bottom {
+            rows.push(self.share_at(top - 1 - down)?)?;
+        }
+        Ok(())
     }
 
     /// Its edges.

@@ -1,0 +1,69 @@
+-- Strips of rows of the same edges, which are pushed from the top.
+use Rattle.std.proofs.Common.{◌≡◌, ◌≢◌, ℕ, zero, suc, ℤ, pos, negsuc, ◌+ℤ◌, ◌-ℤ◌, ◌≤ℤ◌, ◌<ℤ◌, List, [], ◌∷◌, ◌++◌, refl, sym, ap, ◌∙◌, append_assoc, append-nil, to_z, of_z, w32, arith}
+use Rattle.std.specs.Int.RustNames.{unsigned_abs}
+use Rattle.std.proofs.lemmas.Int.{ints}
+use Rattle.mf_edges.specs.declared.edge.Edge.{Edge}
+use Rattle.mf_edges.specs.Edges.{AreEdges}
+use Rattle.mf_rows.specs.EdgeRows.{EdgeRow}
+use Rattle.mf_rows.specs.RowMoves.{strip}
+use Rattle.mf_rows.specs.Strips.{HasStrip}
+use Rattle.mf_rows.proofs.StripsLemmas.{pushed_row}
+
+-- behind old rows there are now the first `down` rows of a strip: with the others they are all
+pub record AreCopiesSoFar (old : List EdgeRow) (es : List Edge) (bottom top down : ℤ) (new : List EdgeRow) : Type 0 where
+  pub all : new ++ strip bottom es (unsigned_abs ((top -ℤ bottom) -ℤ down)) ≡ old ++ strip bottom es (unsigned_abs (top -ℤ bottom))
+
+pub copies_none : (old : List EdgeRow) (es : List Edge) (bottom top : ℤ) → AreCopiesSoFar old es bottom top (pos 0) old
+copies_none old es bottom top =
+    let all : (top -ℤ bottom) -ℤ pos 0 ≡ top -ℤ bottom = omega (arith, ints) in
+    record { all = rw all refl }
+
+-- a number and the next one, as sizes
+record AreSizes (larger smaller : ℤ) : Type 0 where
+  next : unsigned_abs larger ≡ suc (unsigned_abs smaller)
+  size : pos (unsigned_abs smaller) ≡ smaller
+
+are_sizes : (larger smaller : ℤ) → pos 0 ≤ℤ smaller → larger ≡ smaller +ℤ pos 1 → AreSizes larger smaller
+are_sizes larger smaller least next = record { next = omega (arith, ints); size = omega (arith, ints) }
+
+-- the next row goes below them
+pub copies_more : (old : List EdgeRow) (es : List Edge) (bottom top down : ℤ) (new : List EdgeRow) (row : EdgeRow) → (down +ℤ pos 1) ≤ℤ (top -ℤ bottom) → AreCopiesSoFar old es bottom top down new → row ≡ record { y = top -ℤ (down +ℤ pos 1); edges = es } → AreCopiesSoFar old es bottom top (down +ℤ pos 1) (new ++ row ∷ [])
+unfolding strip
+copies_more old es bottom top down new row le so_far is =
+    let below = (top -ℤ bottom) -ℤ (down +ℤ pos 1) in
+    let sizes = are_sizes ((top -ℤ bottom) -ℤ down) below (omega (arith, ints)) (omega (arith, ints)) in
+    let n = unsigned_abs below in
+    let place : top -ℤ (down +ℤ pos 1) ≡ bottom +ℤ pos n = rw sizes.size (omega (arith, ints)) in
+    let row_is : row ≡ record { y = bottom +ℤ pos n; edges = es } = is ∙ rw place refl in
+    record { all = append_assoc new (row ∷ []) (strip bottom es n) ∙ ap (λ t. new ++ t ∷ strip bottom es n) row_is ∙ rw sizes.next at so_far.all }
+
+-- all rows of the strip are there
+pub copies_all : (old : List EdgeRow) (es : List Edge) (bottom top down : ℤ) (new : List EdgeRow) → top -ℤ bottom ≡ down → AreCopiesSoFar old es bottom top down new → new ≡ old ++ strip bottom es (unsigned_abs (top -ℤ bottom))
+unfolding strip
+copies_all old es bottom top down new end so_far =
+    let none : (top -ℤ bottom) -ℤ down ≡ pos 0 = omega (arith, ints) in
+    sym (append-nil new) ∙ rw none at so_far.all
+
+-- where the next row stands, as the code computes it
+pub record NextPlace (bottom top down : ℤ) : Type 0 where
+  pub more : to_z w32 (of_z w32 (down +ℤ pos 1)) ≡ down +ℤ pos 1
+  pub row : to_z w32 (of_z w32 (to_z w32 (of_z w32 (top -ℤ pos 1)) -ℤ down)) ≡ top -ℤ (down +ℤ pos 1)
+  pub least : pos 0 ≤ℤ (down +ℤ pos 1)
+
+pub next_place : (bottom top down : ℤ) → negsuc 4094 ≤ℤ bottom → top ≤ℤ pos 4095 → pos 0 ≤ℤ down → (down +ℤ pos 1) ≤ℤ (top -ℤ bottom) → NextPlace bottom top down
+next_place bottom top down low high least greatest = record {
+  more = omega (arith, ints);
+  row = omega (arith, ints);
+  least = omega (arith, ints);
+}
+
+-- a strip of lawful edges that are some goes below rows
+pub pushed_strip : (old rows : List EdgeRow) (es : List Edge) (n : ℕ) (bottom high top : ℤ) → HasStrip old es high top rows → high ≡ bottom +ℤ pos n → negsuc 4094 ≤ℤ bottom → high ≤ℤ top → top ≤ℤ pos 4095 → es ≢ [] → AreEdges es → HasStrip old es bottom top (rows ++ strip bottom es n)
+unfolding strip
+pushed_strip old rows es zero bottom high top have next low under in_reach some edges =
+    let same : high ≡ bottom = omega (arith, ints) in
+    rw (append-nil rows, ← same) have
+pushed_strip old rows es (suc n) bottom high top have next low under in_reach some edges =
+    let row : EdgeRow = record { y = bottom +ℤ pos n; edges = es } in
+    let pushed = pushed_row old rows es (bottom +ℤ pos n) high top have (omega (arith, ints)) (omega (arith, ints)) (omega (arith, ints)) in_reach some edges (rows ++ row ∷ []) row refl refl in
+    rw (← append_assoc rows (row ∷ []) (strip bottom es n)) (pushed_strip old (rows ++ row ∷ []) es n bottom (bottom +ℤ pos n) top pushed refl low (omega (arith, ints)) in_reach some edges)
