@@ -54,6 +54,10 @@ weight_taken w e es rest =
     let behind = rest_lawful (negsuc 4094) w e es rest in
     omega (arith, ints, before.least, before.greatest, behind.least, behind.greatest)
 
+-- which is another weight
+pub weight_changed : (w : ℤ) (e : Edge) (es : List Edge) → IsRestOfRow (negsuc 4094) w (e ∷ es) → (w +ℤ e.weight) ≢ w
+weight_changed w e es rest same = rest.sorted.0.nonzero (omega (arith, ints, same))
+
 -- the column of the edge fits too
 pub column_taken : (w : ℤ) (e : Edge) (es : List Edge) → IsRestOfRow (negsuc 4094) w (e ∷ es) → to_z w32 (of_z w32 e.x) ≡ e.x
 column_taken w e es rest = omega (arith, ints, rest.sorted.0.left, rest.sorted.0.right)

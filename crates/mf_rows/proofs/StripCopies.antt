@@ -27,15 +27,15 @@ are_sizes : (larger smaller : ℤ) → pos 0 ≤ℤ smaller → larger ≡ small
 are_sizes larger smaller least next = record { next = omega (arith, ints); size = omega (arith, ints) }
 
 -- the next row goes below them
-pub copies_more : (old : List EdgeRow) (es : List Edge) (bottom top down : ℤ) (new : List EdgeRow) (row : EdgeRow) → (down +ℤ pos 1) ≤ℤ (top -ℤ bottom) → AreCopiesSoFar old es bottom top down new → row ≡ record { y = top -ℤ (down +ℤ pos 1); edges = es } → AreCopiesSoFar old es bottom top (down +ℤ pos 1) (new ++ row ∷ [])
+pub copies_more : (old : List EdgeRow) (es : List Edge) (bottom top down : ℤ) (new : List EdgeRow) → (down +ℤ pos 1) ≤ℤ (top -ℤ bottom) → AreCopiesSoFar old es bottom top down new → AreCopiesSoFar old es bottom top (down +ℤ pos 1) (new ++ record { y = top -ℤ (down +ℤ pos 1); edges = es } ∷ [])
 unfolding strip
-copies_more old es bottom top down new row le so_far is =
+copies_more old es bottom top down new le so_far =
     let below = (top -ℤ bottom) -ℤ (down +ℤ pos 1) in
     let sizes = are_sizes ((top -ℤ bottom) -ℤ down) below (omega (arith, ints)) (omega (arith, ints)) in
     let n = unsigned_abs below in
     let place : top -ℤ (down +ℤ pos 1) ≡ bottom +ℤ pos n = rw sizes.size (omega (arith, ints)) in
-    let row_is : row ≡ record { y = bottom +ℤ pos n; edges = es } = is ∙ rw place refl in
-    record { all = append_assoc new (row ∷ []) (strip bottom es n) ∙ ap (λ t. new ++ t ∷ strip bottom es n) row_is ∙ rw sizes.next at so_far.all }
+    let row : EdgeRow = record { y = bottom +ℤ pos n; edges = es } in
+    record { all = rw place (append_assoc new (row ∷ []) (strip bottom es n) ∙ rw sizes.next at so_far.all) }
 
 -- all rows of the strip are there
 pub copies_all : (old : List EdgeRow) (es : List Edge) (bottom top down : ℤ) (new : List EdgeRow) → top -ℤ bottom ≡ down → AreCopiesSoFar old es bottom top down new → new ≡ old ++ strip bottom es (unsigned_abs (top -ℤ bottom))

@@ -95,7 +95,7 @@ pub(crate) fn push_shared_rows(rows: &mut Vec<Row>, others: &[Row]) -> Result<()
 {
     rows.reserve(others.len())?;
     for row in others {
-        rows.push(row.share()?)?;
+        row.push_at(rows, row.y)?;
     }
     Ok(())
 }

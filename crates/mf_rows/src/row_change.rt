@@ -65,8 +65,8 @@ pub(crate) fn with_columns_stretched(
 pub(crate) fn push_unless_blank(rows: &mut Vec<Row>, row: &Row, y: i32) -> Result<(), OutOfMemory>
     ensures { OnOk result (edge_rows rows.new.items ≡ edge_rows rows.old.items ++ unless_blank (record { y = y; edges = (edge_row row.now).edges })) }
 {
-    if !row.edges().is_empty() {
-        rows.push(row.share_at(y)?)?;
+    if row.edges().is_empty() {
+        return Ok(());
     }
-    Ok(())
+    row.push_at(rows, y)
 }

@@ -21,7 +21,7 @@ pub(crate) fn mirrored_rows(alloc: Global, rows: &[Row]) -> Result<Vec<Row>, Out
     let mut mirrored = Vec::new(alloc);
     mirrored.reserve(rows.len())?;
     for row in rows.iter().rev() {
-        mirrored.push(row.share_at(-1 - row.y)?)?;
+        row.push_at(&mut mirrored, -1 - row.y)?;
     }
     Ok(mirrored)
 }

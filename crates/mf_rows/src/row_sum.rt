@@ -66,7 +66,7 @@ fn push_sum(
 {
     match left {
         Some(left) => push_sum_of_both(alloc, sum, left, right),
-        None => Ok(sum.push(right.share()?)?),
+        None => Ok(right.push_at(sum, right.y)?),
     }
 }
 

@@ -1,5 +1,5 @@
 //! How rows are made and shared.
-ghost use Rattle.std.specs.Prelude.{◌≡◌, ◌++◌, IfOk, OnOk, IsNone, pos, negsuc, ◌≤ℤ◌, ◌-ℤ◌};
+ghost use Rattle.std.specs.Prelude.{◌≡◌, [], ◌∷◌, ◌++◌, IfOk, OnOk, IsNone, pos, negsuc, ◌≤ℤ◌, ◌-ℤ◌};
 ghost use Rattle.std.specs.Int.RustNames.{unsigned_abs};
 ghost use Rattle.mf_rows.specs.Bands.{edge_row, edge_rows};
 ghost use Rattle.mf_rows.specs.RowMoves.{strip};
@@ -37,22 +37,17 @@ impl Row {
         })
     }
 
-    /// The same row again.
-    pub(crate) fn share(&self) -> Result<Row, OutOfMemory>
-        ensures { IfOk result (λ row. edge_row row ≡ edge_row self.now) }
+    /// Adds row y with the edges of this row, which are shared, to a list of rows.
+    pub(crate) fn push_at(&self, rows: &mut Vec<Row>, y: i32) -> Result<(), OutOfMemory>
+        ensures { OnOk result (edge_rows rows.new.items ≡ edge_rows rows.old.items ++ record { y = y; edges = (edge_row self.now).edges } ∷ []) }
     {
-        self.share_at(self.y)
-    }
-
-    /// Row y with the edges of this row.
-    pub(crate) fn share_at(&self, y: i32) -> Result<Row, OutOfMemory>
-        ensures { IfOk result (λ row. edge_row row ≡ record { y = y; edges = (edge_row self.now).edges }) }
-    {
-        Ok(Row {
+        let edges = Arc::try_clone(&self.edges)?;
+        rows.push(Row {
             y,
             reach: self.reach,
-            edges: Arc::try_clone(&self.edges)?,
-        })
+            edges,
+        })?;
+        Ok(())
     }
 
     /// Adds the row at each height from `top - 1` down to `bottom`.
@@ -68,7 +63,7 @@ impl Row {
         ensures { OnOk result (edge_rows rows.new.items ≡ edge_rows rows.old.items ++ strip bottom (edge_row self.now).edges (unsigned_abs (top -ℤ bottom))) }
     {
         for down in 0..top - bottom {
-            rows.push(self.share_at(top - 1 - down)?)?;
+            self.push_at(rows, top - 1 - down)?;
         }
         Ok(())
     }

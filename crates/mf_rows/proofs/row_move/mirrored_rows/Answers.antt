@@ -1,9 +1,8 @@
-use Rattle.std.proofs.Common.{◌≡◌, ◌∷◌, [], negsuc, ◌-ℤ◌, refl, to_z, of_z, w32, arith}
+use Rattle.std.proofs.Common.{◌≡◌, negsuc, ◌-ℤ◌, refl, to_z, of_z, w32, arith}
 use Rattle.std.proofs.lemmas.Int.{ints}
-use Rattle.std.proofs.lemmas.List.{map-append}
 use Rattle.mf_rows.specs.Bands.{edge_row, edge_rows}
 use Rattle.mf_edges.specs.Axes.{opposite}
-use Rattle.mf_rows.proofs.RowMoves.{opposite_row, lawful_mirror, mirror_weights, mirror_next, mirror_last, mirror_more, mirror_all}
+use Rattle.mf_rows.proofs.RowMoves.{lawful_mirror, mirror_weights, mirror_next, mirror_last, mirror_more, mirror_all}
 use Rattle.mf_rows.proofs.row_move.mirrored_rows.Goals as goal
 
 pub loop-row-init : goal.loop-row-init
@@ -18,8 +17,7 @@ loop-row-preserved c =
     let next = mirror_next c.loop-row.row-iterator.iter.rest.now rest row c.in-Some.ensures.steps c.loop-row.invariant in
     let last = mirror_last (edge_rows rest) (edge_row row) next in
     let y_is : to_z w32 (of_z w32 (negsuc 0 -ℤ to_z w32 (of_z w32 row.y))) ≡ opposite row.y = omega (arith, ints, last.bottom, last.top) in
-    let moved : edge_row c.in_ok-share_at.field-0 ≡ opposite_row (edge_row row) = rw y_is at c.in_ok-share_at.ensures in
-    rw (c.in_ok-push.ensures.items, map-append edge_row c.loop-row.mirrored.items (c.in_ok-share_at.field-0 ∷ []), moved)
+    rw (c.in_ok-push_at.ensures, y_is)
     (mirror_more (edge_rows rest) (edge_row row) next)
 
 pub returns-clause-rows : goal.returns-clause-rows

@@ -1,6 +1,5 @@
-use Rattle.std.proofs.Common.{◌≡◌, pos, ◌+ℤ◌, ◌-ℤ◌, ◌≤ℤ◌, to_z, of_z, w32, ap, ◌∙◌, arith}
+use Rattle.std.proofs.Common.{◌≡◌, pos, ◌+ℤ◌, ◌-ℤ◌, ◌≤ℤ◌, to_z, of_z, w32, arith}
 use Rattle.std.proofs.lemmas.Int.{ints}
-use Rattle.std.proofs.lemmas.List.{map_push}
 use Rattle.mf_rows.specs.Bands.{edge_row, edge_rows}
 use Rattle.mf_rows.proofs.StripCopies.{copies_none, copies_more, copies_all, next_place}
 use Rattle.mf_rows.proofs.row.Row.push_copies.Goals as goal
@@ -24,10 +23,8 @@ loop-down-preserved c =
     let down = to_z w32 c.loop-down.down-bits in
     let bound : (down +ℤ pos 1) ≤ℤ (c.args.top -ℤ c.args.bottom) = omega (arith, ints, c.loop-down-test.true, c.requires) in
     let place = next_place c.args.bottom c.args.top down c.requires.bottom c.requires.top c.loop-down.invariant.least bound in
-    let pushed = ap edge_rows c.in_ok-push.ensures.items ∙ map_push edge_row c.loop-down.rows.items c.in_ok-share_at.field-0 in
-    let copy = c.in_ok-share_at.ensures ∙ rw (top, place.row) in
     record {
-      copies = rw (top, bottom, place.more, pushed) (copies_more (edge_rows c.args.rows.now.items) edges c.args.bottom c.args.top down (edge_rows c.loop-down.rows.items) (edge_row c.in_ok-share_at.field-0) bound (rw (top, bottom) at c.loop-down.invariant.copies) copy);
+      copies = rw (top, bottom, place.more, c.in_ok-push_at.ensures, top, place.row) (copies_more (edge_rows c.args.rows.now.items) edges c.args.bottom c.args.top down (edge_rows c.loop-down.rows.items) bound (rw (top, bottom) at c.loop-down.invariant.copies));
       least = rw place.more place.least;
       greatest = rw (place.more, top, bottom) bound;
     }

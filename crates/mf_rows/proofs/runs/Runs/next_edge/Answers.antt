@@ -1,5 +1,5 @@
 use Rattle.std.proofs.Common.{sym, ◌∙◌}
-use Rattle.mf_rows.proofs.RunsLeft.{rest_taken, rest_behind, fits_taken, weight_taken, column_taken, runs_taken}
+use Rattle.mf_rows.proofs.RunsLeft.{rest_taken, rest_behind, fits_taken, weight_taken, weight_changed, column_taken, runs_taken}
 use Rattle.mf_rows.proofs.runs.Runs.next_edge.Goals as goal
 
 pub overflow_add-self : goal.overflow_add-self
@@ -23,3 +23,8 @@ returns-clause-edge c =
       column = rw x rest.sorted.0.left;
       behind = rw x rest.sorted.2;
     }
+
+pub returns-clause-changed : goal.returns-clause-changed
+returns-clause-changed c =
+    let rest = rest_taken _ _ _ _ c.in_ok-edge.ensures.cases.0 c.enter_row.new.self.rest in
+    rw (weight_taken _ _ _ rest, ← c.enter_row.ensures.weight) (weight_changed _ _ _ rest)
