@@ -21,6 +21,22 @@ split_at_height-requires c =
     let below = rw y_is at c.count_rows_above.ensures.others in
     rw (y_is, c.split_at.ensures.back) (rest_from _ _ _ c.loop-added.left.now c.loop-added.right.now c.loop-added.invariant r c.in-Some.rest_right.now c.in-Some.ensures.cases.0 _ above below)
 
+pub push_sum-requires-clause-left : goal.push_sum-requires-clause-left
+push_sum-requires-clause-left c =
+    let r = c.in-Some.added.now in
+    let y_is : to_z w32 (of_z w32 r.y) ≡ r.y = omega (arith, ints) in
+    let left = rw (y_is, c.split_at.ensures.back) at c.split_at_height.ensures in
+    left.here
+
+pub push_sum-requires-clause-right : goal.push_sum-requires-clause-right
+push_sum-requires-clause-right c =
+    let r = c.in-Some.added.now in
+    let y_is : to_z w32 (of_z w32 r.y) ≡ r.y = omega (arith, ints) in
+    let above = rw y_is at c.count_rows_above.ensures.above in
+    let below = rw y_is at c.count_rows_above.ensures.others in
+    let right = added_split _ _ _ c.loop-added.left.now c.loop-added.right.now c.loop-added.invariant r c.in-Some.rest_right.now c.in-Some.ensures.cases.0 _ above below in
+    right.here
+
 pub returns-in_err-push_sum-clause-too_large : goal.returns-in_err-push_sum-clause-too_large
 returns-in_err-push_sum-clause-too_large c =
     let r = c.in-Some.added.now in
