@@ -5,5 +5,5 @@
 mod scripts;
 mod streams;
 
-pub use scripts::{Script, worked_scripts};
+pub use scripts::{RECT, RECT_FILE, Script, worked_scripts};
 pub use streams::{LineFeeds, Pieces, Sink};

@@ -2,8 +2,11 @@
 //! command and each refusal is among them. Others, which are only run, stand in `tests/scripts`.
 
 mod contours;
+mod fonts;
 mod lines;
 mod pictures;
+
+pub use fonts::{RECT, RECT_FILE};
 
 /// A script and its transcript. Every line of both ends with a line feed.
 pub type Script = (&'static str, &'static str);

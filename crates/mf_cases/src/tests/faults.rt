@@ -1,58 +1,74 @@
 //! What faults of readers and writers leave.
 
-use super::{AMPLE, assert_ends, joined};
+use super::{AMPLE, End, assert_ends};
 use crate::tests::assertions::{assert_holds, assert_same};
 use mf_desk::{RunFault, run};
 use mf_testing::{LineFeeds, Pieces, Sink};
 use std::io::{BufWriter, Write};
 use std::process::Abort;
 use std::sync::Wait;
-use std::test::Fail;
 
-/// A line that prints nothing, and one that prints a total weight.
-const CONTOUR: &[u8] = b"addto currentpicture contour (0,0)--(3,0)--(3,2)--(0,2)--cycle";
+/// Scripts at whose end a reader fails, and what they print. The last line of the last three is not ended.
+const FAILING: &[(&[u8], &[u8])] = &[
+    (b"", b""),
+    (
+        b"addto currentpicture contour (0,0)--(3,0)--(3,2)--(0,2)--cycle\n",
+        b"",
+    ),
+    (
+        b"addto currentpicture contour (0,0)--(3,0)--(3,2)--(0,2)--cycle\n\
+          show totalweight currentpicture",
+        b"",
+    ),
+    (
+        b"show totalweight currentpicture\n\
+          show totalweight currentpicture",
+        b"totalweight 0\n",
+    ),
+    (
+        b"addto currentpicture contour (0,0)--(3,0)--(3,2)--(0,2)--cycle\n\
+          show totalweight currentpicture\n\
+          show totalweight currentpicture",
+        b"totalweight 6\n",
+    ),
+];
 
-const TOTAL: &[u8] = b"show totalweight currentpicture";
-
-/// What the second prints behind the first, and alone.
-const SIX: &[u8] = b"totalweight 6\n";
-
-const NOTHING: &[u8] = b"totalweight 0\n";
-
-/// What it prints behind the first, twice.
-const TWO_SIXES: &[u8] = b"totalweight 6\ntotalweight 6\n";
+fn assert_read_faults<R: Abort + Wait + AllocGlobal>(rt: &R, cases: &[(&[u8], &[u8])]) {
+    for (script, text) in cases {
+        let mut reader = Pieces::failing(script);
+        let end = (Some(RunFault::ReadFault), *text);
+        assert_ends(rt, &mut reader, &AMPLE, end, *script);
+    }
+}
 
 #[test]
-fn reader_fails(rt: HostRuntime) -> Result<(), Fail> {
-    let alloc = rt.alloc();
-    let scripts: [(&[&[u8]], &[u8]); 5] = [
-        (&[], b""),
-        (&[CONTOUR, b"\n"], b""),
-        (&[CONTOUR, b"\n", TOTAL], b""),
-        (&[TOTAL, b"\n", TOTAL], NOTHING),
-        (&[CONTOUR, b"\n", TOTAL, b"\n", TOTAL], SIX),
-    ];
-    for (parts, text) in scripts {
-        let script = joined(alloc, parts)?;
-        let mut reader = Pieces::failing(&script);
-        let end = (Some(RunFault::ReadFault), text);
-        assert_ends(&rt, &mut reader, &AMPLE, end, parts);
-    }
-    Ok(())
+fn reader_fails(rt: HostRuntime) {
+    assert_read_faults(&rt, FAILING);
+}
+
+/// A script of so many reads ends so.
+fn assert_reads<R: Abort + Wait + AllocGlobal>(rt: &R, left: u32, end: End<'_>) {
+    assert_ends(rt, &mut LineFeeds { left }, &AMPLE, end, left);
 }
 
 /// The read that answers the end counts.
 #[test]
 fn reads_end(rt: HostRuntime) {
-    let ends: [(u32, Option<RunFault>); 2] = [
-        (1_048_575, None),
-        (1_048_576, Some(RunFault::ReadFault)),
-    ];
-    for (left, fault) in ends {
-        let end = (fault, b"".as_slice());
-        assert_ends(&rt, &mut LineFeeds { left }, &AMPLE, end, left);
-    }
+    assert_reads(&rt, 1_048_575, (None, b""));
+    assert_reads(&rt, 1_048_576, (Some(RunFault::ReadFault), b""));
 }
+
+/// A script that prints a total weight twice, and what it prints.
+const TWICE: &[u8] = b"addto currentpicture contour (0,0)--(3,0)--(3,2)--(0,2)--cycle\n\
+                       show totalweight currentpicture\n\
+                       show totalweight currentpicture\n";
+
+const TWO_SIXES: &[u8] = b"totalweight 6\ntotalweight 6\n";
+
+/// The same, whose last line is not ended.
+const TWICE_UNENDED: &[u8] = b"addto currentpicture contour (0,0)--(3,0)--(3,2)--(0,2)--cycle\n\
+                               show totalweight currentpicture\n\
+                               show totalweight currentpicture";
 
 /// The run of a script into this writer ends with this fault, or none.
 fn assert_ends_in<R: Abort + Wait + AllocGlobal, W: Write>(
@@ -72,59 +88,69 @@ fn assert_took(rt: &impl Abort, sink: &Sink, texts: &[u8], count: usize) {
     assert_holds(rt, texts.starts_with(taken), ("bytes", count));
 }
 
-/// The run of a script into a writer that keeps bytes back, and hands them on to this sink, ends with this fault, or none,
-/// and hands on so many bytes of these texts.
+/// The run of that script into this sink ends with this fault, or none, and the sink takes so many bytes.
+fn assert_takes<R: Abort + Wait + AllocGlobal>(
+    rt: &R,
+    mut sink: Sink,
+    fault: Option<RunFault>,
+    count: usize,
+) {
+    assert_ends_in(rt, TWICE, &mut sink, fault);
+    assert_took(rt, &sink, TWO_SIXES, count);
+}
+
+/// A sink with so much room: one that answers an error where it has none, and one that takes no byte then.
+fn assert_fills<R: Abort + Wait + AllocGlobal>(rt: &R, room: usize) {
+    let fault = Some(RunFault::WriteFault(room as u128));
+    assert_takes(rt, Sink::failing(rt.alloc(), room), fault, room);
+    assert_takes(rt, Sink::full_after(rt.alloc(), room), fault, room);
+}
+
+#[test]
+fn writer_fails(rt: HostRuntime) {
+    for room in [0, 5, 14, 20] {
+        assert_fills(&rt, room);
+    }
+    assert_takes(&rt, Sink::bytewise(rt.alloc()), None, 28);
+}
+
+/// The run of that script, whose last line is not ended, into a writer that keeps bytes back, and hands them on to this
+/// sink, ends with this fault, or none, and hands on so many bytes.
 fn assert_hands_on<R: Abort + Wait + AllocGlobal>(
     rt: &R,
-    script: &[u8],
     sink: Sink,
     fault: Option<RunFault>,
     count: usize,
 ) {
     let mut writer = BufWriter::new(rt.alloc(), sink).expect(rt, "there is room for a buffer");
-    assert_ends_in(rt, script, &mut writer, fault);
+    assert_ends_in(rt, TWICE_UNENDED, &mut writer, fault);
     assert_took(rt, writer.get_ref(), TWO_SIXES, count);
 }
 
-#[test]
-fn writer_fails(rt: HostRuntime) -> Result<(), Fail> {
-    let alloc = rt.alloc();
-    let script = joined(alloc, &[CONTOUR, b"\n", TOTAL, b"\n", TOTAL, b"\n"])?;
-    for room in [0, 5, 14, 20] {
-        // The first answers an error where it has no room, and the second takes no byte.
-        for mut writer in [Sink::failing(alloc, room), Sink::full_after(alloc, room)] {
-            let fault = Some(RunFault::WriteFault(room as u128));
-            assert_ends_in(&rt, &script, &mut writer, fault);
-            assert_took(&rt, &writer, TWO_SIXES, room);
-        }
-    }
-    let mut writer = Sink::bytewise(alloc);
-    assert_ends_in(&rt, &script, &mut writer, None);
-    assert_took(&rt, &writer, TWO_SIXES, 28);
-    Ok(())
+/// What is handed on finds room for so many bytes, and so many went out before.
+fn assert_hands_on_to<R: Abort + Wait + AllocGlobal>(rt: &R, room: usize, count: u128) {
+    let fault = Some(RunFault::WriteFault(count));
+    assert_hands_on(rt, Sink::failing(rt.alloc(), room), fault, room);
 }
 
 /// A writer that keeps bytes back has handed them on when the run ends, and its faults are found.
 #[test]
-fn writer_keeps_bytes_back(rt: HostRuntime) -> Result<(), Fail> {
-    let alloc = rt.alloc();
-    let script = joined(alloc, &[CONTOUR, b"\n", TOTAL, b"\n", TOTAL])?;
-    assert_hands_on(&rt, &script, Sink::new(alloc), None, 28);
-    for (room, count) in [(5, 14), (20, 28)] {
-        let fault = Some(RunFault::WriteFault(count));
-        assert_hands_on(&rt, &script, Sink::failing(alloc, room), fault, room);
-    }
-    Ok(())
+fn writer_keeps_bytes_back(rt: HostRuntime) {
+    assert_hands_on(&rt, Sink::new(rt.alloc()), None, 28);
+    assert_hands_on_to(&rt, 5, 14);
+    assert_hands_on_to(&rt, 20, 28);
 }
 
+/// A line that prints a total weight, twice, and how many bytes it has before its line feed.
+const TOTALS: &[u8] = b"show totalweight currentpicture\n\
+                        show totalweight currentpicture\n";
+
+const LINE: usize = 31;
+
 /// What is handed on behind a first read of so many bytes finds no room.
-fn assert_hands_on_before_the_rest<R: Abort + Wait + AllocGlobal>(
-    rt: &R,
-    script: &[u8],
-    first: usize,
-) {
+fn assert_hands_on_before_the_rest<R: Abort + Wait + AllocGlobal>(rt: &R, first: usize) {
     let alloc = rt.alloc();
-    let mut reader = Pieces::split(script, first);
+    let mut reader = Pieces::split(TOTALS, first);
     let mut writer = BufWriter::new(alloc, Sink::failing(alloc, 0)).expect(
         rt,
         "there is room for a buffer",
@@ -136,12 +162,10 @@ fn assert_hands_on_before_the_rest<R: Abort + Wait + AllocGlobal>(
 /// Where what is handed on finds no room before the rest of a line is read, the piece of the line that was read has
 /// printed nothing.
 #[test]
-fn piece_of_a_line_is_not_performed(rt: HostRuntime) -> Result<(), Fail> {
-    let script = joined(rt.alloc(), &[TOTAL, b"\n", TOTAL, b"\n"])?;
-    for piece in [0, 1, 18, TOTAL.len()] {
-        assert_hands_on_before_the_rest(&rt, &script, TOTAL.len() + 1 + piece);
+fn piece_of_a_line_is_not_performed(rt: HostRuntime) {
+    for piece in [0, 1, 18, LINE] {
+        assert_hands_on_before_the_rest(&rt, LINE + 1 + piece);
     }
-    Ok(())
 }
 
 /// A fault is told so.

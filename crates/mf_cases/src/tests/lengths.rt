@@ -1,11 +1,21 @@
 //! Long lines and long contours.
 
-use super::{assert_prints, joined};
+use super::assert_prints;
 use mf_testing::Pieces;
 use std::alloc::{AllocError, Global};
-use std::test::Fail;
+use std::process::Abort;
+use std::sync::Wait;
 
 const LINE_TOO_LONG: &[u8] = b"refused LineTooLong\n";
+
+/// These parts, one after another.
+fn joined(alloc: Global, parts: &[&[u8]]) -> Result<Vec<u8>, AllocError> {
+    let mut all = Vec::new(alloc);
+    for part in parts {
+        all.extend_from_slice(part)?;
+    }
+    Ok(all)
+}
 
 /// A line of this many spaces, and what ends it.
 fn long_line(alloc: Global, count: usize, end: &[u8]) -> Result<Vec<u8>, AllocError> {
@@ -14,28 +24,33 @@ fn long_line(alloc: Global, count: usize, end: &[u8]) -> Result<Vec<u8>, AllocEr
     Ok(line)
 }
 
-#[test]
-fn long_lines(rt: HostRuntime) -> Result<(), Fail> {
-    let cases: [(usize, &[u8], &[u8]); 12] = [
-        (65_536, b"", b""),
-        (65_536, b"\n", b""),
-        (65_536, b"\r\n", b""),
-        (65_536, b"\r", LINE_TOO_LONG),
-        (65_536, b"\r\r\n", LINE_TOO_LONG),
-        (65_537, b"", LINE_TOO_LONG),
-        (65_537, b"\n", LINE_TOO_LONG),
-        (65_537, b"\r\n", LINE_TOO_LONG),
-        (65_537, b"\r", LINE_TOO_LONG),
-        (200_000, b"\n", LINE_TOO_LONG),
-        // The length is looked at before the bytes.
-        (65_535, b"\xe9\n", b"refused NotAscii\n"),
-        (65_536, b"\xe9\n", LINE_TOO_LONG),
-    ];
+/// Lines of so many spaces, what ends them, and what they print.
+const LONG_LINES: &[(usize, &[u8], &[u8])] = &[
+    (65_536, b"", b""),
+    (65_536, b"\n", b""),
+    (65_536, b"\r\n", b""),
+    (65_536, b"\r", LINE_TOO_LONG),
+    (65_536, b"\r\r\n", LINE_TOO_LONG),
+    (65_537, b"", LINE_TOO_LONG),
+    (65_537, b"\n", LINE_TOO_LONG),
+    (65_537, b"\r\n", LINE_TOO_LONG),
+    (65_537, b"\r", LINE_TOO_LONG),
+    (200_000, b"\n", LINE_TOO_LONG),
+    // The length is looked at before the bytes.
+    (65_535, b"\xe9\n", b"refused NotAscii\n"),
+    (65_536, b"\xe9\n", LINE_TOO_LONG),
+];
+
+fn assert_long_lines<R: Abort + Wait + AllocGlobal>(rt: &R, cases: &[(usize, &[u8], &[u8])]) {
     for (count, end, text) in cases {
-        let script = long_line(rt.alloc(), count, end)?;
-        assert_prints(&rt, Pieces::whole(&script), text, "a line of spaces");
+        let script = long_line(rt.alloc(), *count, end).expect(rt, "there is room for the line");
+        assert_prints(rt, Pieces::whole(&script), text, "a line of spaces");
     }
-    Ok(())
+}
+
+#[test]
+fn long_lines(rt: HostRuntime) {
+    assert_long_lines(&rt, LONG_LINES);
 }
 
 /// A line that fills the pixel (0, 0), walked so many times, with this weight.
@@ -50,22 +65,37 @@ fn many_times(alloc: Global, times: usize, weight: &[u8]) -> Result<Vec<u8>, All
     Ok(line)
 }
 
+/// A line, so often, and behind that the picture.
+fn shown_after(alloc: Global, line: &[u8], times: usize) -> Result<Vec<u8>, AllocError> {
+    joined(alloc, &[&line.repeat(alloc, times)?, b"show a\n"])
+}
+
+/// A line that fills the pixel (0, 0) so many times prints this with the picture.
+fn assert_fills<R: Abort + Wait + AllocGlobal>(rt: &R, times: usize, text: &[u8]) {
+    let line = many_times(rt.alloc(), times, b"1").expect(rt, "there is room for the line");
+    let script = shown_after(rt.alloc(), &line, 1).expect(rt, "there is room for the script");
+    assert_prints(rt, Pieces::whole(&script), text, "a long contour");
+}
+
 #[test]
-fn long_contours(rt: HostRuntime) -> Result<(), Fail> {
-    let alloc = rt.alloc();
-    let longest = many_times(alloc, 1024, b"1")?;
-    let script = joined(alloc, &[&longest, b"show a\n"])?;
-    assert_prints(&rt, Pieces::whole(&script), b"0 0 0 1024\n", "4096 points");
+fn long_contours(rt: HostRuntime) {
+    assert_fills(&rt, 1024, b"0 0 0 1024\n");
+    assert_fills(&rt, 1025, b"refused TooManyPoints\nblank\n");
+}
 
-    let too_long = many_times(alloc, 1025, b"1")?;
-    let script = joined(alloc, &[&too_long, b"show a\n"])?;
-    let text = b"refused TooManyPoints\nblank\n";
-    assert_prints(&rt, Pieces::whole(&script), text, "4100 points");
-
+/// A long contour fills a pixel ten times, and once more, which is refused.
+fn heavy_contours(alloc: Global) -> Result<Vec<u8>, AllocError> {
     let heavy = many_times(alloc, 1024, b"-3")?;
-    let ten = heavy.repeat(alloc, 10)?;
-    let script = joined(alloc, &[&ten, b"show a\n", &heavy, b"show a\n"])?;
+    let (ten, one) = (
+        shown_after(alloc, &heavy, 10)?,
+        shown_after(alloc, &heavy, 1)?,
+    );
+    joined(alloc, &[&ten, &one])
+}
+
+#[test]
+fn weights_of_long_contours_add_up(rt: HostRuntime) {
+    let script = heavy_contours(rt.alloc()).expect(&rt, "there is room for the script");
     let text = b"0 0 0 -30720\nrefused WeightTooLarge\n0 0 0 -30720\n";
     assert_prints(&rt, Pieces::whole(&script), text, "weights add up");
-    Ok(())
 }

@@ -1,19 +1,34 @@
 //! How lines end, at each place at which a read may end, and the bytes that lines may have.
 
-use super::{assert_prints, joined};
+use super::assert_prints;
 use mf_testing::Pieces;
 use std::process::Abort;
 use std::sync::Wait;
-use std::test::Fail;
 
-/// Three lines, of which the second has no byte, and what they print.
-const LINES: [&[u8]; 3] = [
-    b"addto currentpicture contour (0,0)--(3,0)--(3,2)--(0,2)--cycle",
-    b"",
-    b"show totalweight currentpicture",
+/// Three lines, of which the second has no byte: ended by line feeds, the last by none, and by carriage returns and line
+/// feeds; and no line.
+const SCRIPTS: &[(&[u8], &[u8])] = &[
+    (
+        b"addto currentpicture contour (0,0)--(3,0)--(3,2)--(0,2)--cycle\n\
+          \n\
+          show totalweight currentpicture\n",
+        b"totalweight 6\n",
+    ),
+    (
+        b"addto currentpicture contour (0,0)--(3,0)--(3,2)--(0,2)--cycle\n\
+          \n\
+          show totalweight currentpicture",
+        b"totalweight 6\n",
+    ),
+    (
+        b"addto currentpicture contour (0,0)--(3,0)--(3,2)--(0,2)--cycle\r\n\
+          \r\n\
+          show totalweight currentpicture\r\n",
+        b"totalweight 6\n",
+    ),
+    (b"\n", b""),
+    (b"", b""),
 ];
-
-const TEXT: &[u8] = b"totalweight 6\n";
 
 const NOT_ASCII: &[u8] = b"refused NotAscii\n";
 
@@ -34,41 +49,43 @@ fn assert_prints_however_cut<R: Abort + Wait + AllocGlobal>(
     }
 }
 
+/// Each of these scripts prints its text, however it is cut.
+fn assert_all_print<R: Abort + Wait + AllocGlobal>(rt: &R, scripts: &[(&[u8], &[u8])]) {
+    for (script, text) in scripts {
+        assert_prints_however_cut(rt, script, text);
+    }
+}
+
 #[test]
-fn end_at_line_feeds(rt: HostRuntime) -> Result<(), Fail> {
-    let alloc = rt.alloc();
-    let [first, second, third] = LINES;
-    let ended = joined(alloc, &[first, b"\n", second, b"\n", third, b"\n"])?;
-    assert_prints_however_cut(&rt, &ended, TEXT);
-    let unended = joined(alloc, &[first, b"\n", second, b"\n", third])?;
-    assert_prints_however_cut(&rt, &unended, TEXT);
-    let returned = joined(alloc, &[first, b"\r\n", second, b"\r\n", third, b"\r\n"])?;
-    assert_prints_however_cut(&rt, &returned, TEXT);
-    assert_prints_however_cut(&rt, b"\n", b"");
-    assert_prints_however_cut(&rt, b"", b"");
-    Ok(())
+fn end_at_line_feeds(rt: HostRuntime) {
+    assert_all_print(&rt, SCRIPTS);
 }
 
 /// A carriage return at the end of the script belongs to its line, and so does one in the middle of a line.
+const RETURNS: &[(&[u8], &[u8])] = &[
+    (b"show a\r", NOT_ASCII),
+    (b"\r", NOT_ASCII),
+    (b"show a\r\r\n", NOT_ASCII),
+    (b"show\ra\n", NOT_ASCII),
+];
+
 #[test]
 fn carriage_returns_are_no_text(rt: HostRuntime) {
-    assert_prints_however_cut(&rt, b"show a\r", NOT_ASCII);
-    assert_prints_however_cut(&rt, b"\r", NOT_ASCII);
-    assert_prints_however_cut(&rt, b"show a\r\r\n", NOT_ASCII);
-    assert_prints_however_cut(&rt, b"show\ra\n", NOT_ASCII);
+    assert_all_print(&rt, RETURNS);
+}
+
+/// A comment with this byte prints nothing, or is refused.
+fn assert_comment<R: Abort + Wait + AllocGlobal>(rt: &R, byte: u8) {
+    let is_text = matches!(byte, b'\t' | b'\n' | b' '..=b'~');
+    let text = if is_text { b"" } else { NOT_ASCII };
+    let script = [b'%', byte, b' ', b'\n'];
+    assert_prints(rt, Pieces::whole(&script), text, "in a comment");
 }
 
 #[test]
 fn other_bytes_are_no_text(rt: HostRuntime) {
     assert_prints_however_cut(&rt, b"% \xe9\n", NOT_ASCII);
     for byte in 0..=255 {
-        let is_text = matches!(byte, b'\t' | b'\n' | b' '..=b'~');
-        let text = if is_text { b"" } else { NOT_ASCII };
-        assert_prints(
-            &rt,
-            Pieces::whole(&[b'%', byte, b' ', b'\n']),
-            text,
-            "in a comment",
-        );
+        assert_comment(&rt, byte);
     }
 }

@@ -49,30 +49,37 @@ fn broken<'a>(before: &'a str, behind: &'a str, is_interrupted: bool) -> Breaks<
     }
 }
 
+/// A reader that is interrupted between these two texts ends the run, which prints this.
+fn assert_interrupted<R: Abort + Wait + AllocGlobal>(
+    rt: &R,
+    before: &str,
+    behind: &str,
+    text: &str,
+) {
+    let mut reader = broken(before, behind, true);
+    let end = (Some(RunFault::ReadFault), text.as_bytes());
+    assert_ends(rt, &mut reader, &AMPLE, end, before);
+}
+
 #[test]
 fn interrupted_read_is_a_fault(rt: HostRuntime) {
-    for (before, behind, text) in [
-        ("", LINE, ""),
-        ("show totalweight", " currentpicture\n", ""),
-        (LINE, LINE, TEXT),
-    ] {
-        let mut reader = broken(before, behind, true);
-        let end = (Some(RunFault::ReadFault), text.as_bytes());
-        assert_ends(&rt, &mut reader, &AMPLE, end, before);
-    }
+    assert_interrupted(&rt, "", LINE, "");
+    assert_interrupted(&rt, "show totalweight", " currentpicture\n", "");
+    assert_interrupted(&rt, LINE, LINE, TEXT);
+}
+
+/// A reader that answers the end behind this text, and would give a line after that, ends the run, which prints this.
+fn assert_ended<R: Abort + Wait + AllocGlobal>(rt: &R, before: &str, text: &str) {
+    let mut reader = broken(before, LINE, false);
+    assert_ends(rt, &mut reader, &AMPLE, (None, text.as_bytes()), before);
 }
 
 /// A terminal may give more behind the end.
 #[test]
 fn nothing_is_read_behind_the_end(rt: HostRuntime) {
-    for (before, behind, text) in [
-        ("", LINE, ""),
-        ("show totalweight currentpicture", LINE, TEXT),
-        (LINE, LINE, TEXT),
-    ] {
-        let mut reader = broken(before, behind, false);
-        assert_ends(&rt, &mut reader, &AMPLE, (None, text.as_bytes()), before);
-    }
+    assert_ended(&rt, "", "");
+    assert_ended(&rt, "show totalweight currentpicture", TEXT);
+    assert_ended(&rt, LINE, TEXT);
 }
 
 /// A writer that is interrupted in its first write or in its first flush, and would take all bytes after that.

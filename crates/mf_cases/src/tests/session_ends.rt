@@ -3,11 +3,11 @@ ghost use Rattle.std.specs.Prelude.{◌≡◌};
 ghost use Rattle.mf_live.specs.Viewers as viewers;
 
 use super::AMPLE;
-use super::fonts::{RECT, RECT_FILE};
 use super::sessions::{finish, opened, perform};
 use crate::tests::assertions::assert_same;
 use mf_gf::{GfFault, GfFile};
 use mf_live::{Ended, Viewer};
+use mf_testing::{RECT, RECT_FILE};
 use std::alloc::Global;
 use std::process::Abort;
 use std::sync::Wait;
@@ -42,38 +42,45 @@ fn assert_tells<R: Abort + Wait>(rt: &R, alloc: Global, script: &str, revision: 
     ended.discard(rt);
 }
 
-/// The notice of the end tells of each operation that was accepted, published or not.
-#[test]
-fn tell_of_all_operations(rt: HostRuntime) {
-    for (script, revision) in [
-        ("", 0),
-        ("publish\nshow currentpicture\n", 0),
-        (
-            "addto currentpicture contour (0,0)--(3,0)--(3,2)--(0,2)--cycle\n",
-            1,
-        ),
-        (
-            "addto currentpicture contour (0,0)--(3,0)--(3,2)--(0,2)--cycle\n\
-             publish\n",
-            1,
-        ),
-        // Operations on registers and refused ones are not counted, and neither is what is shipped.
-        (
-            "addto a contour (0,0)--(3,0)--(3,2)--(0,2)--cycle\n\
-             addto currentpicture also a\n\
-             publish\n\
-             currentpicture := currentpicture shifted (4096,0)\n\
-             currentpicture := currentpicture shifted (7,7)\n\
-             shipout currentpicture code 65 dx 0 width 0\n\
-             currentpicture := nullpicture\n",
-            3,
-        ),
-    ] {
-        assert_tells(&rt, rt.alloc(), script, revision);
+/// Scripts, and how many operations each of them has.
+const OPERATIONS: &[(&str, u32)] = &[
+    ("", 0),
+    ("publish\nshow currentpicture\n", 0),
+    (
+        "addto currentpicture contour (0,0)--(3,0)--(3,2)--(0,2)--cycle\n",
+        1,
+    ),
+    (
+        "addto currentpicture contour (0,0)--(3,0)--(3,2)--(0,2)--cycle\n\
+         publish\n",
+        1,
+    ),
+    // Operations on registers and refused ones are not counted, and neither is what is shipped.
+    (
+        "addto a contour (0,0)--(3,0)--(3,2)--(0,2)--cycle\n\
+         addto currentpicture also a\n\
+         publish\n\
+         currentpicture := currentpicture shifted (4096,0)\n\
+         currentpicture := currentpicture shifted (7,7)\n\
+         shipout currentpicture code 65 dx 0 width 0\n\
+         currentpicture := nullpicture\n",
+        3,
+    ),
+];
+
+fn assert_all_tell<R: Abort + Wait>(rt: &R, alloc: Global, cases: &[(&str, u32)]) {
+    for (script, revision) in cases {
+        assert_tells(rt, alloc, script, *revision);
     }
 }
 
-/// The end hands out a file with so many characters, which is finished as these bytes, or refused.
+/// The notice of the end tells of each operation that was accepted, published or not.
+#[test]
+fn tell_of_all_operations(rt: HostRuntime) {
+    assert_all_tell(&rt, rt.alloc(), OPERATIONS);
+}
+
+/// The end hands out a file with so many characters, which is finished as these bytes, or refused with this fault.
 fn assert_hands_out<R: Abort + Wait>(
     rt: &R,
     alloc: Global,
@@ -90,14 +97,19 @@ fn assert_hands_out<R: Abort + Wait>(
     }
 }
 
+/// The end hands out a file with no character.
+fn assert_ships_nothing<R: Abort + Wait>(rt: &R, alloc: Global, script: &str) {
+    assert_hands_out(rt, alloc, script, 0, Err(GfFault::NoCharacters));
+}
+
 /// What is shipped goes into the file that the end hands out.
 #[test]
 fn hand_out_the_font_file(rt: HostRuntime) {
     let alloc = rt.alloc();
     assert_hands_out(&rt, alloc, RECT, 1, Ok(RECT_FILE));
-    for script in ["", "show a\n", "shipout a code 256 dx 0 width 0\n"] {
-        assert_hands_out(&rt, alloc, script, 0, Err(GfFault::NoCharacters));
-    }
+    assert_ships_nothing(&rt, alloc, "");
+    assert_ships_nothing(&rt, alloc, "show a\n");
+    assert_ships_nothing(&rt, alloc, "shipout a code 256 dx 0 width 0\n");
 }
 
 /// A viewer that has looked at the blank picture, and learns of the end behind these lines, sees so many operations and
@@ -120,18 +132,27 @@ fn assert_ends_with<R: Abort + Wait + AllocGlobal>(
     ended.discard(rt);
 }
 
+const FILL: &str = "addto currentpicture contour (0,0)--(3,0)--(3,2)--(0,2)--cycle";
+
+/// Two lines, and what a viewer sees behind them: so many operations, and a picture of this total.
+type Ending = ((&'static str, &'static str), u32, i64);
+
+const ENDINGS: &[Ending] = &[
+    (("show a", "publish"), 0, 0),
+    ((FILL, ""), 1, 6),
+    ((FILL, "publish"), 1, 6),
+    (("publish", FILL), 1, 6),
+    ((FILL, "addto currentpicture also currentpicture"), 2, 12),
+    ((FILL, "currentpicture := nullpicture"), 2, 0),
+];
+
+fn assert_all_end_with<R: Abort + Wait + AllocGlobal>(rt: &R, cases: &[Ending]) {
+    for (lines, revision, total) in cases {
+        assert_ends_with(rt, *lines, *revision, *total);
+    }
+}
+
 #[test]
 fn show_the_end_to_their_viewers(rt: HostRuntime) {
-    let fill = "addto currentpicture contour (0,0)--(3,0)--(3,2)--(0,2)--cycle";
-    assert_ends_with(&rt, ("show a", "publish"), 0, 0);
-    assert_ends_with(&rt, (fill, ""), 1, 6);
-    assert_ends_with(&rt, (fill, "publish"), 1, 6);
-    assert_ends_with(&rt, ("publish", fill), 1, 6);
-    assert_ends_with(
-        &rt,
-        (fill, "addto currentpicture also currentpicture"),
-        2,
-        12,
-    );
-    assert_ends_with(&rt, (fill, "currentpicture := nullpicture"), 2, 0);
+    assert_all_end_with(&rt, ENDINGS);
 }

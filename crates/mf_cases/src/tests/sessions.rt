@@ -109,26 +109,37 @@ fn assert_total(rt: &impl Abort, session: &Session, name: Name, total: i64)
     assert_same(rt, session.picture(&name).total(), total, name);
 }
 
+/// So do these lines.
+fn assert_all_print<R: Abort + Wait + AllocGlobal>(
+    rt: &R,
+    session: &mut Session,
+    lines: &[(&str, &str)],
+) {
+    for (line, text) in lines {
+        assert_prints(rt, session, line, text);
+    }
+}
+
+const LENDING: &[(&str, &str)] = &[
+    (
+        "addto currentpicture contour (0,0)--(3,0)--(3,2)--(0,2)--cycle",
+        "",
+    ),
+    ("addto z also currentpicture", ""),
+    ("z := z shifted (0,4094)", "refused OutOfField\n"),
+    ("addto z also z", ""),
+    ("currentpicture := currentpicture yscaled 3", ""),
+    (
+        "currentpicture := nullpicture",
+        "refused TooManyOperations\n",
+    ),
+    ("publish", "published 2\n"),
+];
+
 #[test]
 fn lend_pictures(rt: HostRuntime) {
     let (mut session, _) = opened(&rt, rt.alloc(), 2);
-    for (line, text) in [
-        (
-            "addto currentpicture contour (0,0)--(3,0)--(3,2)--(0,2)--cycle",
-            "",
-        ),
-        ("addto z also currentpicture", ""),
-        ("z := z shifted (0,4094)", "refused OutOfField\n"),
-        ("addto z also z", ""),
-        ("currentpicture := currentpicture yscaled 3", ""),
-        (
-            "currentpicture := nullpicture",
-            "refused TooManyOperations\n",
-        ),
-        ("publish", "published 2\n"),
-    ] {
-        assert_prints(&rt, &mut session, line, text);
-    }
+    assert_all_print(&rt, &mut session, LENDING);
     assert_total(&rt, &session, Name::Current, 18);
     assert_total(&rt, &session, Name::Register(0), 0);
     assert_total(&rt, &session, Name::Register(24), 0);
@@ -153,15 +164,24 @@ fn seated(rt: &impl Abort, desk: &mut Desk) -> Viewer {
     desk.viewer().expect(rt, "a place is left")
 }
 
+const FILLING: &[(&str, &str)] = &[
+    (
+        "addto currentpicture contour (0,0)--(3,0)--(3,2)--(0,2)--cycle",
+        "",
+    ),
+    ("publish", "published 1\n"),
+    (
+        "addto currentpicture contour (0,0)--(3,0)--(3,2)--(0,2)--cycle",
+        "",
+    ),
+];
+
 /// The desk of a session gives out viewers of its `currentpicture`.
 #[test]
 fn have_viewers(rt: HostRuntime) {
     let (mut session, mut desk) = opened(&rt, rt.alloc(), AMPLE.max_ops);
     let viewer = seated(&rt, &mut desk);
-    let fill = "addto currentpicture contour (0,0)--(3,0)--(3,2)--(0,2)--cycle";
-    for (line, text) in [(fill, ""), ("publish", "published 1\n"), (fill, "")] {
-        assert_prints(&rt, &mut session, line, text);
-    }
+    assert_all_print(&rt, &mut session, FILLING);
     assert_sees(&rt, viewer, 1, 6);
     assert_total(&rt, &session, Name::Current, 12);
     session.discard(&rt);

@@ -16,20 +16,27 @@ const CORNERS: [Point; 4] = [
     Point { x: 0, y: 2 },
 ];
 
-/// A run of pixels.
-fn run(y: i32, x: i32, len: u32, weight: i32) -> Run {
-    Run { y, x, len, weight }
+/// A run of pixels, in a constant: tables that a test makes itself cost the prover seconds.
+macro_rules! run_of {
+    ($y:expr, $x:expr, $len:expr, $weight:expr) => {
+        Run {
+            y: $y,
+            x: $x,
+            len: $len,
+            weight: $weight,
+        }
+    };
 }
 
 /// The runs of the rectangle.
-fn block() -> [Run; 2] {
-    [run(1, 0, 3, 1), run(0, 0, 3, 1)]
-}
+const BLOCK: &[Run] = &[run_of!(1, 0, 3, 1), run_of!(0, 0, 3, 1)];
 
 /// Two rows far apart, one of which has two weights side by side.
-fn apart() -> [Run; 3] {
-    [run(1, 0, 2, 1), run(1, 2, 1, 3), run(-70, 0, 1, -2)]
-}
+const APART: &[Run] = &[
+    run_of!(1, 0, 2, 1),
+    run_of!(1, 2, 1, 3),
+    run_of!(-70, 0, 1, -2),
+];
 
 /// The path through the corners.
 fn rectangle(rt: &impl Abort, alloc: Global) -> Cycle {
@@ -61,7 +68,7 @@ fn assert_runs(rt: &impl Abort, picture: &Picture, runs: &[Run]) {
 fn assert_op(rt: &impl Abort, op: &Op) {
     match op {
         Op::Contour(cycle, _, _) => assert_cycle(rt, cycle),
-        Op::Also(other, _) => assert_runs(rt, other, &block()),
+        Op::Also(other, _) => assert_runs(rt, other, BLOCK),
         Op::Cull(_) | Op::Shift(_, _) | Op::Scale(_) | Op::Quarter(_) | Op::Clear => (),
     }
 }
@@ -136,10 +143,10 @@ fn assert_equal(rt: &impl Abort, one: &Picture, other: &Picture) {
 
 /// An operation and its copy make these runs of the two rows.
 fn assert_makes(rt: &impl Abort, alloc: Global, op: &Op, runs: &[Run]) {
-    let picture = built(rt, alloc, &apart());
+    let picture = built(rt, alloc, APART);
     let copy = copied_op(rt, alloc, op);
-    let new = changed(rt, alloc, &picture, op, &apart());
-    let same = changed(rt, alloc, &picture, &copy, &apart());
+    let new = changed(rt, alloc, &picture, op, APART);
+    let same = changed(rt, alloc, &picture, &copy, APART);
     assert_runs(rt, &new, runs);
     assert_equal(rt, &new, &same);
 }
@@ -172,9 +179,9 @@ fn assert_fills(rt: &impl Abort, alloc: Global) {
     let cycle = copied_cycle(rt, alloc, &rectangle(rt, alloc));
     let blank = Picture::blank(alloc);
     let filled = changed(rt, alloc, &blank, &filling(rt, cycle, 1), &[]);
-    let built = built(rt, alloc, &block());
+    let built = built(rt, alloc, BLOCK);
     assert_equal(rt, &filled, &built);
-    assert_runs(rt, &built, &block());
+    assert_runs(rt, &built, BLOCK);
 }
 
 #[test]
@@ -182,81 +189,101 @@ fn fill_a_rectangle(rt: HostRuntime) {
     assert_fills(&rt, rt.alloc());
 }
 
+/// The two rows behind a filling of weight 2, and when the rectangle is added or subtracted.
+const FILLED: &[Run] = &[
+    run_of!(1, 0, 2, 3),
+    run_of!(1, 2, 1, 5),
+    run_of!(0, 0, 3, 2),
+    run_of!(-70, 0, 1, -2),
+];
+
+const SUM: &[Run] = &[
+    run_of!(1, 0, 2, 2),
+    run_of!(1, 2, 1, 4),
+    run_of!(0, 0, 3, 1),
+    run_of!(-70, 0, 1, -2),
+];
+
+const REST: &[Run] = &[
+    run_of!(1, 2, 1, 2),
+    run_of!(0, 0, 3, -1),
+    run_of!(-70, 0, 1, -2),
+];
+
+/// The rectangle, added or subtracted, makes these runs of the two rows.
+fn assert_adds(rt: &impl Abort, alloc: Global, sign: Sign, runs: &[Run]) {
+    let op = Op::Also(built(rt, alloc, BLOCK), sign);
+    assert_makes(rt, alloc, &op, runs);
+}
+
 /// What is filled, added and subtracted.
 #[test]
 fn add_to_a_picture(rt: HostRuntime) {
     let alloc = rt.alloc();
     let contour = filling(&rt, rectangle(&rt, alloc), 2);
-    let sum = [
-        run(1, 0, 2, 3),
-        run(1, 2, 1, 5),
-        run(0, 0, 3, 2),
-        run(-70, 0, 1, -2),
-    ];
-    assert_makes(&rt, alloc, &contour, &sum);
-
-    let plus = Op::Also(built(&rt, alloc, &block()), Sign::Plus);
-    let sum = [
-        run(1, 0, 2, 2),
-        run(1, 2, 1, 4),
-        run(0, 0, 3, 1),
-        run(-70, 0, 1, -2),
-    ];
-    assert_makes(&rt, alloc, &plus, &sum);
-
-    let minus = Op::Also(built(&rt, alloc, &block()), Sign::Minus);
-    let rest = [run(1, 2, 1, 2), run(0, 0, 3, -1), run(-70, 0, 1, -2)];
-    assert_makes(&rt, alloc, &minus, &rest);
+    assert_makes(&rt, alloc, &contour, FILLED);
+    assert_adds(&rt, alloc, Sign::Plus, SUM);
+    assert_adds(&rt, alloc, Sign::Minus, REST);
 }
 
-/// What is culled, shifted and scaled.
+/// The two rows when they are culled, shifted and stretched.
+const KEPT: &[Run] = &[run_of!(1, 0, 2, -1)];
+
+const NOT_DROPPED: &[Run] = &[run_of!(1, 2, 1, -1)];
+
+const SHIFTED: &[Run] = &[
+    run_of!(0, 2, 2, 1),
+    run_of!(0, 4, 1, 3),
+    run_of!(-71, 2, 1, -2),
+];
+
+const STRETCHED: &[Run] = &[
+    run_of!(1, 0, 4, 1),
+    run_of!(1, 4, 2, 3),
+    run_of!(-70, 0, 2, -2),
+];
+
+const REFLECTED: &[Run] = &[
+    run_of!(69, -2, 2, -2),
+    run_of!(-2, -6, 2, 3),
+    run_of!(-2, -4, 4, 1),
+];
+
 #[test]
 fn change_a_picture(rt: HostRuntime) {
     let alloc = rt.alloc();
-    let cases: [(Op, &[Run]); 5] = [
-        (keeping(&rt, 1, 2), &[run(1, 0, 2, -1)]),
-        (dropping(&rt, -2, 2), &[run(1, 2, 1, -1)]),
-        (
-            Op::Shift(2, -1),
-            &[run(0, 2, 2, 1), run(0, 4, 1, 3), run(-71, 2, 1, -2)],
-        ),
-        (
-            stretching(&rt, 2, 1),
-            &[run(1, 0, 4, 1), run(1, 4, 2, 3), run(-70, 0, 2, -2)],
-        ),
-        (
-            stretching(&rt, -2, -1),
-            &[run(69, -2, 2, -2), run(-2, -6, 2, 3), run(-2, -4, 4, 1)],
-        ),
-    ];
-    for (op, runs) in &cases {
-        assert_makes(&rt, alloc, op, runs);
-    }
+    assert_makes(&rt, alloc, &keeping(&rt, 1, 2), KEPT);
+    assert_makes(&rt, alloc, &dropping(&rt, -2, 2), NOT_DROPPED);
+    assert_makes(&rt, alloc, &Op::Shift(2, -1), SHIFTED);
+    assert_makes(&rt, alloc, &stretching(&rt, 2, 1), STRETCHED);
+    assert_makes(&rt, alloc, &stretching(&rt, -2, -1), REFLECTED);
 }
 
-/// What is turned: the pixels of a row stand in a column then, but after two quarters.
+/// The two rows when they are turned: the pixels of a row stand in a column then, but after two quarters.
+const ONCE: &[Run] = &[
+    run_of!(2, -2, 1, 3),
+    run_of!(1, -2, 1, 1),
+    run_of!(0, -2, 1, 1),
+    run_of!(0, 69, 1, -2),
+];
+
+const TWICE: &[Run] = &[
+    run_of!(69, -1, 1, -2),
+    run_of!(-2, -3, 1, 3),
+    run_of!(-2, -2, 2, 1),
+];
+
+const THRICE: &[Run] = &[
+    run_of!(-1, -70, 1, -2),
+    run_of!(-1, 1, 1, 1),
+    run_of!(-2, 1, 1, 1),
+    run_of!(-3, 1, 1, 3),
+];
+
 #[test]
 fn turn_a_picture(rt: HostRuntime) {
     let alloc = rt.alloc();
-    let once = [
-        run(2, -2, 1, 3),
-        run(1, -2, 1, 1),
-        run(0, -2, 1, 1),
-        run(0, 69, 1, -2),
-    ];
-    let twice = [run(69, -1, 1, -2), run(-2, -3, 1, 3), run(-2, -2, 2, 1)];
-    let thrice = [
-        run(-1, -70, 1, -2),
-        run(-1, 1, 1, 1),
-        run(-2, 1, 1, 1),
-        run(-3, 1, 1, 3),
-    ];
-    let cases: [(Quarter, &[Run]); 3] = [
-        (Quarter::Once, &once),
-        (Quarter::Twice, &twice),
-        (Quarter::Thrice, &thrice),
-    ];
-    for (quarter, runs) in cases {
-        assert_makes(&rt, alloc, &Op::Quarter(quarter), runs);
-    }
+    assert_makes(&rt, alloc, &Op::Quarter(Quarter::Once), ONCE);
+    assert_makes(&rt, alloc, &Op::Quarter(Quarter::Twice), TWICE);
+    assert_makes(&rt, alloc, &Op::Quarter(Quarter::Thrice), THRICE);
 }

@@ -1,19 +1,17 @@
 //! Viewers beside a script: what they see, and the lines that they print behind its transcript.
 ghost use Rattle.std.specs.Prelude.{◌≤◌};
 
-use super::fonts::{RECT as SHIPPED, RECT_FILE};
 use super::{AMPLE, BLANK, PUBLISHED, PUBLISHED_TEXT, SIX, performed};
 use crate::tests::assertions::{assert_holds, assert_same};
 use mf_desk::{Glance, Outcome};
-use mf_testing::{Pieces, Script, Sink, worked_scripts};
+use mf_testing::{Pieces, RECT, RECT_FILE, Script, Sink, worked_scripts};
 use std::alloc::{AllocError, Global};
 use std::process::Abort;
 use std::sync::Wait;
-use std::test::Fail;
 use std::thread::Threads;
 
 /// A rectangle of 3 by 2 pixels.
-const RECT: &str = "addto currentpicture contour (0,0)--(3,0)--(3,2)--(0,2)--cycle\n";
+const FILLED: &str = "addto currentpicture contour (0,0)--(3,0)--(3,2)--(0,2)--cycle\n";
 
 /// What two viewers print where it is not published.
 const BOTH_SEE_SIX: &str = "viewer 0 revision 1 totalweight 6\n\
@@ -55,13 +53,17 @@ fn line(alloc: Global, number: usize, last: &Glance) -> Result<String, AllocErro
     format!(in alloc; "viewer {number} revision {revision} totalweight {total}\n")
 }
 
+/// Two viewers who do not look beside the script see the rectangle, and nothing was shipped.
+fn assert_both_see_six<R: Abort + Wait + Threads + AllocGlobal>(rt: &R, script: &str, text: &str) {
+    let outcome = outcome_beside(rt, 2, 0, script, text);
+    assert_no_font_file(rt, &outcome);
+    assert_all_saw(rt, &outcome, 2, &[SIX]);
+}
+
 #[test]
 fn see_the_last_picture(rt: HostRuntime) {
-    for (script, text) in [(PUBLISHED, PUBLISHED_TEXT), (RECT, BOTH_SEE_SIX)] {
-        let outcome = outcome_beside(&rt, 2, 0, script, text);
-        assert_no_font_file(&rt, &outcome);
-        assert_all_saw(&rt, &outcome, 2, &[SIX]);
-    }
+    assert_both_see_six(&rt, PUBLISHED, PUBLISHED_TEXT);
+    assert_both_see_six(&rt, FILLED, BOTH_SEE_SIX);
 }
 
 /// Two viewers look once beside the script, at what was there before the rectangle or at the rectangle, and once behind it.
@@ -76,30 +78,36 @@ fn assert_saw_whole_pictures(rt: &impl Abort, outcome: &Outcome) {
 
 #[test]
 fn see_whole_pictures(rt: HostRuntime) {
-    for (script, text) in [(PUBLISHED, PUBLISHED_TEXT), (RECT, BOTH_SEE_SIX)] {
-        let outcome = outcome_beside(&rt, 2, 1, script, text);
-        assert_saw_whole_pictures(&rt, &outcome);
-    }
+    let outcome = outcome_beside(&rt, 2, 1, PUBLISHED, PUBLISHED_TEXT);
+    assert_saw_whole_pictures(&rt, &outcome);
+    let outcome = outcome_beside(&rt, 2, 1, FILLED, BOTH_SEE_SIX);
+    assert_saw_whole_pictures(&rt, &outcome);
 }
+
+/// What two viewers print where nothing is drawn.
+const BOTH_SEE_NOTHING: &str = "viewer 0 revision 0 totalweight 0\n\
+                                viewer 1 revision 0 totalweight 0\n";
 
 #[test]
 fn see_nothing_of_an_empty_script(rt: HostRuntime) {
-    let text = "viewer 0 revision 0 totalweight 0\n\
-                viewer 1 revision 0 totalweight 0\n";
-    let outcome = outcome_beside(&rt, 2, 3, "", text);
-    assert_all_saw(&rt, &outcome, 2, &[BLANK; 4]);
+    let outcome = outcome_beside(&rt, 2, 3, "", BOTH_SEE_NOTHING);
+    assert_all_saw(&rt, &outcome, 2, &[BLANK, BLANK, BLANK, BLANK]);
+}
+
+/// The lines of so many viewers who have seen nothing.
+fn blank_lines(alloc: Global, viewers: usize) -> Result<String, AllocError> {
+    let mut text = String::new(alloc);
+    for number in 0..viewers {
+        text.push_str(&line(alloc, number, &BLANK)?)?;
+    }
+    Ok(text)
 }
 
 #[test]
-fn may_be_64(rt: HostRuntime) -> Result<(), Fail> {
-    let alloc = rt.alloc();
-    let mut text = String::new(alloc);
-    for number in 0..64 {
-        text.push_str(&line(alloc, number, &BLANK)?)?;
-    }
+fn may_be_64(rt: HostRuntime) {
+    let text = blank_lines(rt.alloc(), 64).expect(&rt, "there is room for the lines");
     let outcome = outcome_beside(&rt, 64, 1, "", &text);
-    assert_all_saw(&rt, &outcome, 64, &[BLANK; 2]);
-    Ok(())
+    assert_all_saw(&rt, &outcome, 64, &[BLANK, BLANK]);
 }
 
 #[test]
@@ -121,12 +129,14 @@ fn assert_ships<R: Abort + Wait + Threads + AllocGlobal>(
     assert_same(rt, gf.bytes(), file, script);
 }
 
+/// What is printed where the rectangle is shipped.
+const RECT_TEXT: &str = "[65]\n\
+                         viewer 0 revision 1 totalweight 6\n\
+                         viewer 1 revision 1 totalweight 6\n";
+
 #[test]
 fn leave_the_font_file_as_it_is(rt: HostRuntime) {
-    let text = "[65]\n\
-                viewer 0 revision 1 totalweight 6\n\
-                viewer 1 revision 1 totalweight 6\n";
-    assert_ships(&rt, SHIPPED, text, RECT_FILE);
+    assert_ships(&rt, RECT, RECT_TEXT, RECT_FILE);
 }
 
 /// A record of 20,000 looks and one more shows whole publishes of two pixels each, never goes back, and ends with the
@@ -156,14 +166,17 @@ fn assert_whole_publishes<R: Abort + Wait + Threads + AllocGlobal>(rt: &R, scrip
     }
 }
 
+/// Fills a pixel twice, and publishes that.
+const TWICE: &str = "addto currentpicture contour (0,0)--(1,0)--(1,1)--(0,1)--cycle\n\
+                     addto currentpicture contour (0,0)--(1,0)--(1,1)--(0,1)--cycle\n\
+                     publish\n";
+
 #[test]
-fn see_whole_publishes(rt: HostRuntime) -> Result<(), Fail> {
-    let lines = "addto currentpicture contour (0,0)--(1,0)--(1,1)--(0,1)--cycle\n\
-                 addto currentpicture contour (0,0)--(1,0)--(1,1)--(0,1)--cycle\n\
-                 publish\n";
-    let script = lines.repeat(rt.alloc(), 300)?;
+fn see_whole_publishes(rt: HostRuntime) {
+    let script = TWICE
+        .repeat(rt.alloc(), 300)
+        .expect(&rt, "there is room for the script");
     assert_whole_publishes(&rt, &script);
-    Ok(())
 }
 
 /// What is seen last of the scripts that change `currentpicture`, in their order: the number of their operations, and
@@ -218,16 +231,23 @@ fn seen_last<R: Abort + Wait + Threads + AllocGlobal>(
     Ok(last)
 }
 
-/// The line of each viewer tells what it has seen last, which is the same for all.
-#[test]
-fn print_what_they_see_last(rt: HostRuntime) -> Result<(), Fail> {
+/// What is seen last of the scripts that change `currentpicture`.
+fn all_seen_last<R: Abort + Wait + Threads + AllocGlobal>(
+    rt: &R,
+) -> Result<Vec<(u32, i64)>, AllocError> {
     let mut all = Vec::new(rt.alloc());
     for script in worked_scripts().iter().copied().flatten() {
-        let Glance { revision, total } = seen_last(&rt, script)?;
+        let Glance { revision, total } = seen_last(rt, script)?;
         if revision > 0 {
             all.push((revision, total))?;
         }
     }
+    Ok(all)
+}
+
+/// The line of each viewer tells what it has seen last, which is the same for all.
+#[test]
+fn print_what_they_see_last(rt: HostRuntime) {
+    let all = all_seen_last(&rt).expect(&rt, "there is room for the lines");
     assert_same(&rt, all.as_slice(), SEEN_LAST, "what is seen last");
-    Ok(())
 }
