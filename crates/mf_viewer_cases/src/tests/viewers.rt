@@ -200,7 +200,7 @@ fn last_of(rt: &impl Abort, seen: &[Glance], script: &str) -> Glance {
     assert_same(rt, seen.len(), 6, script);
     let mut last = BLANK;
     for glance in seen {
-        assert_holds(rt, last.revision <= glance.revision, (script, seen));
+        assert_holds(rt, last.revision <= glance.revision, script);
         last = *glance;
     }
     last
