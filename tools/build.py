@@ -17,7 +17,7 @@ from collections.abc import Iterator
 from prover import Failure, Prover
 
 PROGRAM = "mfpic"
-FIRST_TIME = "about 8 minutes on four processors, and 0.7 GB of disk"
+FIRST_TIME = "8 to 16 minutes on four processors, and 0.7 GB of disk"
 # Memory of a job, in bytes: the most that one was seen to take.
 JOB_MEMORY = 2_000_000_000
 
