@@ -5,8 +5,9 @@
 
 Random cycles are filled into blank pictures, each with a weight and a value of `turningcheck`, by the program and by METAFONT,
 whose edge structures are read from its log. A cycle that the program refuses under the check METAFONT fills all the same, so
-of these only the name of the refusal is looked at: that METAFONT calls just those of turning number 0 without a reversal a
-strange path. It is run by hand.
+the pixels of these are not compared. Of those of turning number 0 without a reversal it is asked that METAFONT calls them a
+strange path just where its check is above 1; of those that turn straight back nothing is asked, since METAFONT counts a
+reversal as a left turn. It is run by hand.
 """
 
 import collections
