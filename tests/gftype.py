@@ -7,8 +7,10 @@ The tests of mf_gf compare each character that the library writes with the bytes
 table, wraps each character into a GF file with a postamble of its own, has gftype print it with its images, and
 compares: gftype has no complaint, it finds the character and its locator, and its image is the black pixels that the
 table names. Then PROGRAM, which is `mfpic` beside this folder unless another is named, ships the letters of
-examples/font.mfp: their images are the grids that `proof` shows before each, the dx and width of each locator are those
-of the script, its place is that of the character, and gftopk packs the file. It is run by hand.
+examples/font.mfp, alone and with lines behind them that ship codes again: the images are the grids that `proof` shows
+before each, each code has one locator, with the dx and width of the script and the place of the last character, the
+place that each character names is that of the one before it with its code, gftopk packs the file, and its bytes are
+those that `font_model.py` writes. It is run by hand.
 """
 
 import ast
@@ -20,9 +22,30 @@ import subprocess
 import sys
 import tempfile
 
+import font_model
+from font_model import NOWHERE
+
 ROOT = pathlib.Path(__file__).parent.parent
 TABLE = ROOT / "crates/mf_gf_tests/src/tests/characters.rt"
 FONT = ROOT / "examples/font.mfp"
+
+# Lines that may stand behind those of the font. The code of H is shipped four times in all, once with no black pixel,
+# and that of T far from all others and then among them.
+AGAIN = """
+proof h
+shipout h code 72 dx 0 width 1
+proof nullpicture
+shipout nullpicture code 72 dx 655361 width 0
+t := t shifted (-300,4000)
+proof t
+shipout t code 84 dx 655360 width 655360
+proof f
+shipout f code 72 dx -65536 width -655360
+proof h
+shipout h code 84 dx 16777216 width 0
+proof f
+shipout f code 70 dx 16711680 width 655360
+"""
 
 # Seconds that a run may take. The program may take more, since `mfpic` builds it where it is missing.
 LIMIT = 60
@@ -42,12 +65,16 @@ LAWFUL = re.compile(
     r"|This is GFtype, .*|Options selected: [^!]*|''|\(initially n=-?\d+\)( paint [\d()]+)?"
     r"|\d+: (newrow|skip[0-3]) \d+ \(n=-?\d+\) paint [\d()]+|\d+: eoc|\(The character is entirely blank\.\)"
     r"|Postamble starts at byte \d+\.|design size = \d+ \([\d.]+pt\)|check sum = \d+|[hv]ppp = \d+ \([\d.]+\)"
-    r"|min [mn] = -?\d+, max [mn] = -?\d+|The file had \d+ characters?( altogether)?\."
+    r"|min [mn] = -?\d+, max [mn] = -?\d+"
 )
 
 BEGINNING = re.compile(r"(\d+): beginning of char (\d+): -?\d+<=m<=-?\d+ -?\d+<=n<=-?\d+")
 
+PREVIOUS = re.compile(r"\(previous character with the same code started at byte (\d+)\)")
+
 LOCATOR = re.compile(r"Character (\d+): dx (-?\d+) \([-.\d]+\), width (-?\d+) \([-.\d]+\), loc (\d+)")
+
+TOTAL = re.compile(r"The file had (\d+) characters?( altogether)?\.")
 
 UPPER_END = re.compile(r"\.<--This pixel's lower left corner is at \((-?\d+),(-?\d+)\) in METAFONT coordinates")
 
@@ -57,15 +84,15 @@ IMAGE_ROW = re.compile(r"[* ]*")
 
 SHIPPING = re.compile(r"^shipout \w+ code (\d+) dx (-?\d+) width (-?\d+)$", re.MULTILINE)
 
-ANSWER = re.compile(r"^(?:\[(\d+)\]|refused .*)$", re.MULTILINE)
-
 
 @dataclasses.dataclass
 class Character:
-    """A character as gftype prints it: its code, its place in the file, and its black pixels."""
+    """A character as gftype prints it: its code, its place in the file, that of the previous character which it names,
+    and its black pixels."""
 
     code: int
     place: int
+    previous: int
     black: set
 
 
@@ -102,10 +129,12 @@ def told_by_gftype(path):
     """What gftype prints of a font: its characters in order, dx, width and place by code, and its complaints."""
     ran = run(["gftype", "-mnemonics", "-images", str(path)])
     wrong = [f"gftype ends with status {ran.returncode}"] if ran.returncode != 0 else []
-    characters, locators, left, row = [], {}, None, None
+    characters, locators, total, left, row = [], {}, None, None, None
     for line in ran.stdout.splitlines():
         if begins := BEGINNING.fullmatch(line):
-            characters.append(Character(int(begins[2]), int(begins[1]), set()))
+            characters.append(Character(int(begins[2]), int(begins[1]), NOWHERE, set()))
+        elif previous := PREVIOUS.fullmatch(line):
+            characters[-1].previous = int(previous[1])
         elif end := UPPER_END.fullmatch(line):
             left, row = int(end[1]), int(end[2])
         elif LOWER_END.fullmatch(line):
@@ -115,8 +144,12 @@ def told_by_gftype(path):
             characters[-1].black |= {(left + i, row) for i, mark in enumerate(line) if mark == "*"}
         elif locator := LOCATOR.fullmatch(line):
             locators[int(locator[1])] = tuple(map(int, locator.groups()[1:]))
+        elif counted := TOTAL.fullmatch(line):
+            total = int(counted[1])
         elif not LAWFUL.fullmatch(line):
             wrong.append(line)
+    if total != len(characters):
+        wrong.append(f"gftype counts {total} characters and prints {len(characters)}")
     return characters, locators, wrong
 
 
@@ -156,29 +189,35 @@ def grids_of(transcript):
     return grids
 
 
-def shipped_by(script, transcript):
-    """Code, dx and width of each character that a script ships, in order. It has no refused lines but of shippings."""
-    lines, answers = SHIPPING.findall(script), ANSWER.findall(transcript)
-    if len(lines) != len(answers):
-        sys.exit(f"{FONT.name} ships {len(lines)} times, and its transcript has {len(answers)} answers")
-    return [tuple(map(int, line)) for line, answer in zip(lines, answers) if answer == line[0]]
+def previous_places(characters):
+    """For each character the place of the one before it with the same code."""
+    last, previous = {}, []
+    for found in characters:
+        previous.append(last.get(found.code, NOWHERE))
+        last[found.code] = found.place
+    return previous
 
 
-def complaints_about_font(program, folder):
-    """What is wrong with the font that the program ships."""
-    path, script = folder / "font.gf", FONT.read_text(encoding="ascii")
+def complaints_about_font(program, script, folder):
+    """What is wrong with the font that the program makes of a script."""
+    path = folder / "font.gf"
     ran = run([program, "--gf", str(path)], LIMIT_WITH_BUILD, input=script)
     if ran.returncode != 0:
         return [f"the program ends with status {ran.returncode}: {ran.stderr}"]
     characters, locators, wrong = told_by_gftype(path)
-    grids, shipped = grids_of(ran.stdout), shipped_by(script, ran.stdout)
-    if not grids or [(found.code, at_corner(found.black)) for found in characters] != grids:
-        wrong.append("the images differ from the grids")
+    grids, shipped = grids_of(ran.stdout), [tuple(map(int, line)) for line in SHIPPING.findall(script)]
     if [code for code, _, _ in shipped] != [found.code for found in characters]:
-        wrong.append("the characters are not those that the script ships")
+        return [*wrong, "the characters are not those that the script ships"]
+    if [(found.code, at_corner(found.black)) for found in characters] != grids:
+        wrong.append("the images differ from the grids")
+    if [found.previous for found in characters] != previous_places(characters):
+        wrong.append("a character does not name the one before it with its code")
     expected = {code: (dx, width, found.place) for (code, dx, width), found in zip(shipped, characters)}
     if locators != expected:
         wrong.append(f"the locators are {locators} in place of {expected}")
+    modelled = [font_model.Character(*line, frozenset(found.black)) for line, found in zip(shipped, characters)]
+    if path.read_bytes() != b"".join(font_model.font_commands(modelled)):
+        wrong.append("the bytes are not those of the model")
     packed = run(["gftopk", str(path), str(folder / "font.pk")])
     if packed.returncode != 0:
         wrong.append(f"gftopk ends with status {packed.returncode}: {packed.stdout}")
@@ -207,11 +246,14 @@ def main():
             failed += bool(wrong)
             for line in wrong:
                 print(f"{case['about']}: {line}")
-        wrong = complaints_about_font(program, pathlib.Path(folder))
-        for line in wrong:
-            print(f"{FONT.name}: {line}")
-    print(f"{len(cases)} characters, {failed} with complaints; {FONT.name}, {len(wrong)} complaints")
-    sys.exit(failed > 0 or bool(wrong))
+        font = FONT.read_text(encoding="ascii")
+        for about, script in ((FONT.name, font), (f"{FONT.name} with codes shipped again", font + AGAIN)):
+            wrong = complaints_about_font(program, script, pathlib.Path(folder))
+            failed += bool(wrong)
+            for line in wrong:
+                print(f"{about}: {line}")
+    print(f"{len(cases)} characters and 2 fonts, {failed} with complaints")
+    sys.exit(failed > 0)
 
 
 if __name__ == "__main__":

@@ -2,8 +2,11 @@
 
 A picture is a dictionary of pixels with their weights, and a contour is filled by adding up, for each pixel, the
 quarter turns of the path round its centre. The model shares nothing with the program but the rules of
-docs/LANGUAGE.md and docs/PICTURES.md. It knows no bytes of font files, so it never answers FileTooLong.
+docs/LANGUAGE.md and docs/PICTURES.md. It keeps the characters that are shipped, of which `font_model.py` makes a font
+file, and never answers FileTooLong.
 """
+
+from font_model import Character
 
 FIELD = range(-4095, 4095)
 WEIGHTS = (-3, -2, -1, 1, 2, 3)
@@ -141,18 +144,18 @@ def ends(places):
 
 
 class Model:
-    """The pictures of a script, how many operations `currentpicture` has accepted, the codes that were shipped, and
-    whether contours are refused for how they turn."""
+    """The pictures of a script, how many operations `currentpicture` has accepted, the characters that were shipped, in
+    order, and whether contours are refused for how they turn."""
 
     def __init__(self, accepted=0):
         self.pictures = {}
         self.accepted = accepted
-        self.shipped = set()
+        self.shipped = []
         self.checks = True
 
     def copy(self):
         other = Model(self.accepted)
-        other.pictures, other.shipped, other.checks = dict(self.pictures), set(self.shipped), self.checks
+        other.pictures, other.shipped, other.checks = dict(self.pictures), list(self.shipped), self.checks
         return other
 
     def picture(self, name):
@@ -246,10 +249,9 @@ class Model:
     def proof(self, source):
         return grid_text(self.picture(source))
 
-    def ship(self, code):
-        if code in self.shipped:
-            return "refused CodeShipped\n"
-        self.shipped.add(code)
+    def ship(self, source, code, dx, width):
+        black = frozenset(pixel for pixel, weight in self.picture(source).items() if weight > 0)
+        self.shipped.append(Character(code, dx, width, black))
         return f"[{code}]\n"
 
     def publish(self):

@@ -2,6 +2,7 @@
 
 import typing
 
+from font_model import PIXEL
 from pixel_model import MAX_WEIGHT
 from random_cycles import NEAR, Cycles
 from reading_model import refused_place
@@ -14,6 +15,12 @@ FOREIGN = [*"!\"#$&'*+./:<=>?@[\\]^_`{|}~", "contur", "Show", "A", "aa", "cyclew
 FOREIGN += ["0000000001", "1234567890", "9" * 30]
 # Words that begin a line, and stand nowhere else.
 BEGINNINGS = ["turningcheck"] * 6 + ["addto", "cull", "show", "proof", "shipout", "publish"]
+# Where strokes lie: a first column and row, and how far from there a stroke begins, to the right and downwards. With
+# their lengths these come to the numbers at which a font needs another command, and past them.
+CORNERS = [(0, 255), (0, 255), (0, 3), (1, 0), (-1, 2), (-300, -20), (-4095, 4094), (3000, 300)]
+ACROSS = [0, 1, 3, 63, 64, 65, 163, 164, 165, 255, 256, 257, 400]
+DOWN = [0, 0, 1, 1, 1, 2, 3, 255, 256, 257, 258]
+LENGTHS = [1, 1, 1, 1, 1, 1, 2, 2, 62, 63, 64, 255, 256]
 # Ways to write 0.
 ZEROS = [["0"], ["0"], ["-", "0"], ["000"], ["0" * 9], ["-", "00"]]
 
@@ -58,13 +65,14 @@ class Chance(Cycles):
     def kinds(self):
         """What makes a line."""
         kinds = [self.contour] * 4 + [self.also] * 2 + [self.cull] * 2 + [self.shift] * 2
-        kinds += [self.clear, self.scale, self.turn, self.total, self.show, self.proof, self.ship, self.publish]
-        return [*kinds, self.nothing]
+        kinds += [self.clear, self.scale, self.turn, self.total, self.show, self.proof, self.publish]
+        return [*kinds, self.ship, self.ship, self.nothing]
 
     def lines(self):
         """One random line, or several that belong together."""
-        kind = self.choice([*self.kinds(), self.doubled, self.framed])
-        return kind() if kind in (self.doubled, self.framed) else [kind()]
+        several = [self.doubled, self.framed, self.scattered]
+        kind = self.choice([*self.kinds(), *several])
+        return kind() if kind in several else [kind()]
 
     def ended(self, line):
         return line._replace(tokens=[*line.tokens, ";"]) if self.happens(0.15) else line
@@ -176,13 +184,33 @@ class Chance(Cycles):
         return Line("proof", ["proof", source], lambda m: m.proof(source))
 
     def ship(self):
-        code = self.choice([0, 0, 1, 2, 255, self.place(0, 255)])
-        return self.ship_of(self.integer(code), lambda m: m.ship(code))
+        return self.ship_of(self.source(), self.code())
 
-    def ship_of(self, code, perform):
-        dx, width = (self.number([0, self.place(-99999, 99999)]) for _ in range(2))
-        tokens = ["shipout", self.source(), "code", *code, "dx", *self.integer(dx), "width", *self.integer(width)]
-        return Line("shipout", tokens, perform)
+    def code(self):
+        """A code, often one of a few, so that these are shipped again and again."""
+        return self.choice([0, 0, 0, 0, 1, 65, 255, self.place(0, 255)])
+
+    def escapement(self):
+        """A dx: a whole number of pixels, one that is nearly so, or another."""
+        whole = PIXEL * self.choice([0, 0, 1, 5, 254, 255, 256, -1, self.place(0, 255)])
+        return self.number([whole, whole, whole - 1, whole + 1, self.place(-99999, 99999)])
+
+    def ship_of(self, source, code):
+        dx, width = self.escapement(), self.number([0, self.place(-99999, 99999)])
+        operands = ["code", *self.integer(code), "dx", *self.integer(dx), "width", *self.integer(width)]
+        return Line("shipout", ["shipout", source, *operands], lambda m: m.ship(source, code, dx, width))
+
+    def scattered(self):
+        """Strokes with gaps between them, some of negative weight, shipped again and again as more come."""
+        name, (column, row) = self.name(), self.choice(CORNERS)
+        lines = [self.clear_of(name)] if self.happens(0.8) else []
+        for _ in range(self.place(1, 5)):
+            left, top = column + self.choice(ACROSS), row - self.choice(DOWN)
+            points = self.rectangle((left, left + self.choice(LENGTHS)), (top, top + 1))
+            lines.append(self.contour_of(name, points, self.choice([1, 1, 1, 2, -1])))
+            if self.happens(0.6):
+                lines.append(self.ship_of(name, self.code()))
+        return lines
 
     def publish(self):
         return Line("publish", ["publish"], lambda m: m.publish())
@@ -282,4 +310,4 @@ class Chance(Cycles):
     def recoded(self, _):
         """A shipout whose code is out of range."""
         code = self.choice([256, 257, 512, 65536, 999999999, -1, -5, -255, -256, -999999999])
-        return self.ship_of(self.integer(code), None).tokens, 3
+        return self.ship_of(self.source(), code).tokens, 3

@@ -1,22 +1,26 @@
 #!/usr/bin/env python3
-"""Compares the transcripts of random scripts with those of a small, slow model of pictures, pixel by pixel.
+"""Compares the transcripts and the font files of random scripts with those of small, slow models.
 
     tests/random_scripts.py [PROGRAM [SCRIPTS [SEED [WRONG]]]]
 
 PROGRAM is `mfpic` beside this folder unless another is named. WRONG is the part of all lines which no line of the
-grammar is, at most 0.5, and 0.05 unless it is given. The first scripts that differ are printed, without the lines that
-they may lack and still differ. At the end stands how often each command was performed and each refusal was answered,
-and so each way in which a contour is answered with the turning check on and off. With 10,000 scripts or more it is a
+grammar is, at most 0.5, and 0.05 unless it is given. Each script is run with a font file asked for, which is not made
+where no character is shipped. The first scripts that differ are printed, without the lines that they may lack and still
+differ. At the end stands how often each command was performed and each refusal was answered, and so each way in which
+a contour is answered with the turning check on and off, and what stood in fonts. With 10,000 scripts or more it is a
 fault if one of them never came. FileTooLong is not among them. The lines are made by `random_lines.py`, with
-`random_cycles.py` and `random_spelling.py`. The model is `pixel_model.py`, with `reading_model.py` for some lines of no
-form; these share nothing with the program but its rules. It is run by hand.
+`random_cycles.py` and `random_spelling.py`. The models are `pixel_model.py`, with `reading_model.py` for some lines of
+no form, and `font_model.py`; these share nothing with the program but its rules. It is run by hand.
 """
 
 import collections
 import pathlib
 import subprocess
 import sys
+import tempfile
+import typing
 
+from font_model import Opcode, font_commands
 from pixel_model import MAX_OPERATIONS, Model, TooSlow, fault_of_bytes, path_fault, turning, turning_fault
 from random_lines import Chance
 
@@ -26,7 +30,7 @@ COMMANDS += ["rotated", "show totalweight", "show", "proof", "shipout", "publish
 COMMANDS += ["turningcheck on", "turningcheck off"]
 REFUSALS = ["TooFewPoints", "TooManyPoints", "PointOutOfRange", "NotRectilinear", "Backtracks", "TurningZero"]
 REFUSALS += ["BadWeight", "BadCull", "BadScale", "BadTurn", "OutOfField", "WeightTooLarge", "TooManyOperations"]
-REFUSALS += ["LineTooLong", "NotAscii", "Syntax", "CodeShipped", "ProofTooLarge"]
+REFUSALS += ["LineTooLong", "NotAscii", "Syntax", "ProofTooLarge"]
 # Each character of a grid text, and numbers at the limits in a run text.
 SHOWN = [*(f"proof with {character}" for character in ".123456789+abcdefghi-")]
 SHOWN += [f"show with {number}" for number in (-4095, 4094, -32767, 32767)]
@@ -38,11 +42,27 @@ for refused in ("TurningZero", "Backtracks"):
 TURNED = [f"contour {turn}, {c}: {how}" for turn, checks in TURNS.items() for c, hows in checks.items() for how in hows]
 TURNED += [f"contour, {check}: weight {weight}" for check in ("on", "off") for weight in (-32767, 32767)]
 TURNED += ["contour, off: no pixel", "contour, off: no pixel last"]
-KNOWN = [*COMMANDS, *REFUSALS, "Syntax of turningcheck", *SHOWN, *TURNED]
+# What stands in fonts: commands, by their first bytes, and some of what the characters may be.
+WRITTEN = {opcode: f"font with {opcode.name.lower()}" for opcode in Opcode}
+SHIPPED = ["a blank character", "a code shipped again", "a code shipped three times or more", "boc of a new code"]
+FONTS = ["no font", *WRITTEN.values(), *(f"font with {part}" for part in SHIPPED)]
+KNOWN = [*COMMANDS, *REFUSALS, "Syntax of turningcheck", *SHOWN, *TURNED, *FONTS]
+# The place of no character, in a boc.
+NO_PLACE = bytes([255] * 4)
 # So many scripts are enough for each of these to come.
 ENOUGH = 10_000
 # So many scripts that differ are printed.
 TOLD = 5
+
+
+class End(typing.NamedTuple):
+    """How a script ends for which a font file is asked: the status, what is printed, the message, and the file, if one
+    is made."""
+
+    status: int
+    printed: str
+    message: str
+    font: bytes | None
 
 
 def answer(model, line, text, columns):
@@ -81,6 +101,18 @@ def cases_of(line, printed, before, model):
             yield f"contour, {check}: no pixel{last}"
 
 
+def count_font(counts, characters, commands):
+    times = collections.Counter(character.code for character in characters).values()
+    counts["no font"] += not characters
+    counts["font with a blank character"] += sum(not character.black for character in characters)
+    counts["font with a code shipped again"] += sum(count > 1 for count in times)
+    counts["font with a code shipped three times or more"] += sum(count > 2 for count in times)
+    counts["font with boc of a new code"] += sum(
+        command[0] == Opcode.BOC and command[5:9] == NO_PLACE for command in commands
+    )
+    counts.update(WRITTEN[command[0]] for command in commands if command[0] in WRITTEN)
+
+
 def spelled(chance, lines):
     """Lines, each with its bytes, its columns, and the end that follows it."""
     for i, line in enumerate(lines):
@@ -90,8 +122,8 @@ def spelled(chance, lines):
 
 
 def performed(cleared, lines, counts):
-    """The lines that the model can perform, where `currentpicture` was cleared so many times before, and what they
-    print."""
+    """The lines that the model can perform, where `currentpicture` was cleared so many times before, and how a script
+    of them ends."""
     model, kept, transcript = Model(cleared), [], ""
     for line, text, columns, end in lines:
         before = model.copy()
@@ -104,29 +136,35 @@ def performed(cleared, lines, counts):
             counts.update(cases_of(line, printed, before, model))
         kept.append((line, text, columns, end))
         transcript += printed
-    return kept, transcript
+    commands = font_commands(model.shipped) if model.shipped else []
+    count_font(counts, model.shipped, commands)
+    if not commands:
+        return kept, End(3, transcript, "mfpic: NoCharacters\n", None)
+    return kept, End(0, transcript, "", b"".join(commands))
 
 
-def differs(program, cleared, lines, transcript):
-    """What the program prints, and its status, where it prints anything else."""
-    text = b"".join(text + end for _, text, _, end in lines)
-    shown = subprocess.run([program], input=CLEARED * cleared + text, capture_output=True, timeout=600, check=False)
-    if (shown.returncode, shown.stdout, shown.stderr) == (0, transcript.encode(), b""):
-        return None
-    return (shown.stdout + shown.stderr).decode(errors="replace"), shown.returncode
+def run(program, cleared, lines, path):
+    """How the program ends a script, where the font file has this path."""
+    words, text = [program, "--gf", path], b"".join(text + end for _, text, _, end in lines)
+    shown = subprocess.run(words, input=CLEARED * cleared + text, capture_output=True, timeout=600, check=False)
+    font = path.read_bytes() if path.exists() else None
+    path.unlink(missing_ok=True)
+    return End(shown.returncode, shown.stdout.decode(errors="replace"), shown.stderr.decode(errors="replace"), font)
 
 
-def tell(program, number, cleared, lines):
-    """Prints a script that differs, without all lines that it may lack and still differ."""
+def tell(program, number, cleared, lines, path):
+    """Prints a script that ends otherwise, without all lines that it may lack and still do so."""
     for place in reversed(range(len(lines))):
-        fewer, transcript = performed(cleared, lines[:place] + lines[place + 1 :], collections.Counter())
-        if differs(program, cleared, fewer, transcript):
+        fewer, expected = performed(cleared, lines[:place] + lines[place + 1 :], collections.Counter())
+        if run(program, cleared, fewer, path) != expected:
             lines = fewer
-    lines, transcript = performed(cleared, lines, collections.Counter())
-    printed, status = differs(program, cleared, lines, transcript) or ("what is right, this time,", 0)
+    lines, expected = performed(cleared, lines, collections.Counter())
     print(f"script {number}, behind {cleared} lines that clear currentpicture:")
     print(*(text + end for _, text, _, end in lines), sep="\n")
-    print(f"ended with status {status} and printed\n{printed}\nand not\n{transcript}", flush=True)
+    for end, kind in ((run(program, cleared, lines, path), "ended"), (expected, "and not")):
+        font = "no font" if end.font is None else f"the font {end.font.hex()}"
+        print(f"{kind} with status {end.status}, the message {end.message!r}, {font}, and printed\n{end.printed}")
+    sys.stdout.flush()
 
 
 def main():
@@ -136,14 +174,16 @@ def main():
     chance = Chance(int(words[2]) if len(words) > 2 else 1)
     wrong = float(words[3]) if len(words) > 3 else 0.05
     counts, different = collections.Counter(), 0
-    for number in range(scripts):
-        # Some scripts begin shortly before the last operation that `currentpicture` may accept.
-        cleared = MAX_OPERATIONS - chance.place(1, 3) if number % 250 == 0 else 0
-        lines, transcript = performed(cleared, spelled(chance, chance.script(cleared > 0, wrong)), counts)
-        if differs(program, cleared, lines, transcript):
-            different += 1
-            if different <= TOLD:
-                tell(program, number, cleared, lines)
+    with tempfile.TemporaryDirectory() as folder:
+        path = pathlib.Path(folder) / "font.gf"
+        for number in range(scripts):
+            # Some scripts begin shortly before the last operation that `currentpicture` may accept.
+            cleared = MAX_OPERATIONS - chance.place(1, 3) if number % 250 == 0 else 0
+            lines, expected = performed(cleared, spelled(chance, chance.script(cleared > 0, wrong)), counts)
+            if run(program, cleared, lines, path) != expected:
+                different += 1
+                if different <= TOLD:
+                    tell(program, number, cleared, lines, path)
     for known in KNOWN:
         print(f"{counts[known]:9} {known}")
     missing = [known for known in KNOWN if counts[known] == 0]

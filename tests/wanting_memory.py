@@ -88,6 +88,7 @@ addto currentpicture contour (0,-20)--(2,-20)--(2,20)--(-5,20)--(-5,18)--(0,18)-
 cull a keeping (1,32767) withweight 2|cull a dropping (-9,9)|addto a also currentpicture|a := a shifted (3,-17)
 a := a scaled 2|a := a xscaled -1|a := a yscaled -3|a := a rotated 90|a := a rotated 180|a := a rotated 270|proof a
 shipout a code 65 dx 655360 width 655360|a := nullpicture||shipout nullpicture code 0 dx 0 width -1
+shipout a code 65 dx 1 width 0
 addto c contour (0,0)--(9,0)--(9,9)--(8,9)--(8,1)--(6,1)--(6,9)--(4,9)--(4,1)--(2,1)--(2,9)--(1,9)--(1,1)--(0,1)--cycle
 addto d also c|addto c contour (1,1)--(8,1)--(8,9)--(1,9)--cycle|show c|addto c also -d|show c
 turningcheck := 0|addto e contour (0,0)--(0,2)--(3,2)--(3,0)--cycle withweight -2|addto e contour (0,0)--(1,0)--cycle
@@ -102,7 +103,7 @@ addto a contour (0,0)--(4,0)--(4,3)--(0,3)--(0,2)--(5,2)--(5,0)|addto a contour 
 addto a contour (0,0)--(1,1)--(0,1)--cycle|addto a contour (0,0)--(3,0)--(1,0)--(1,1)--(0,1)--cycle|a := a scaled 0
 addto a contour (0,0)--(1,0)--(1,2)--(2,2)--(2,1)--(0,1)--cycle|a := a rotated 45|cull a keeping (0,3)|% \x7f
 addto a contour (0,0)--(1,0)--(1,1)--(0,1)--cycle withweight 4|a := a shifted (4095,0)|shipout a code 65 dx 0 width 0
-shipout a code 65 dx 0 width 0|shipout a code 256 dx 0 width 0|addto b contour (0,0)--(1,0)--(1,129)--(0,129)--cycle
+shipout a code 256 dx 0 width 0|addto b contour (0,0)--(1,0)--(1,129)--(0,129)--cycle
 proof b|""".replace("|", "\n").encode() + 15 * b"addto a also a\n" + b"show totalweight a\n"
 # Lines that are longer than a read: one that is too long, and a contour of too many points.
 LONG = b"%" + 70_000 * b"x" + b"\nshow a\naddto a contour " + 4097 * b"(1,1)--" + b"cycle\nshow totalweight a"
