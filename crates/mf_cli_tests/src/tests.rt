@@ -122,35 +122,40 @@ fn assert_writes<R: Abort + Wait + Threads + Files + AllocGlobal>(
     assert_same(rt, written.taken(), text.as_bytes(), (viewers, script));
 }
 
+const PUBLISHED: &str = "addto currentpicture contour (0,0)--(3,0)--(3,2)--(0,2)--cycle\npublish\n";
+
+const UNPUBLISHED: &str = "addto currentpicture contour (0,0)--(3,0)--(3,2)--(0,2)--cycle\n";
+
+/// A number of viewers, a script, and what is written.
+const BESIDE_VIEWERS: &[(&str, &str, &str)] = &[
+    (
+        "2",
+        PUBLISHED,
+        "published 1\n\
+         viewer 0 revision 1 totalweight 6\n\
+         viewer 1 revision 1 totalweight 6\n",
+    ),
+    (
+        "2",
+        UNPUBLISHED,
+        "viewer 0 revision 1 totalweight 6\n\
+         viewer 1 revision 1 totalweight 6\n",
+    ),
+    (
+        "2",
+        "",
+        "viewer 0 revision 0 totalweight 0\n\
+         viewer 1 revision 0 totalweight 0\n",
+    ),
+    ("0", PUBLISHED, "published 1\n"),
+    ("0", UNPUBLISHED, ""),
+];
+
 /// Viewers see the last picture, published or not.
 #[test]
 fn writes_the_lines_of_viewers(rt: HostRuntime) {
-    let unpublished = "addto currentpicture contour (0,0)--(3,0)--(3,2)--(0,2)--cycle\n";
-    let published = "addto currentpicture contour (0,0)--(3,0)--(3,2)--(0,2)--cycle\npublish\n";
-    for (viewers, script, text) in [
-        (
-            "2",
-            published,
-            "published 1\n\
-             viewer 0 revision 1 totalweight 6\n\
-             viewer 1 revision 1 totalweight 6\n",
-        ),
-        (
-            "2",
-            unpublished,
-            "viewer 0 revision 1 totalweight 6\n\
-             viewer 1 revision 1 totalweight 6\n",
-        ),
-        (
-            "2",
-            "",
-            "viewer 0 revision 0 totalweight 0\n\
-             viewer 1 revision 0 totalweight 0\n",
-        ),
-        ("0", published, "published 1\n"),
-        ("0", unpublished, ""),
-    ] {
-        assert_writes(&rt, viewers, script, text);
+    for (viewers, script, text) in BESIDE_VIEWERS {
+        assert_writes(&rt, *viewers, *script, *text);
     }
 }
 

@@ -53,195 +53,213 @@ fn needs_no_words(rt: HostRuntime) {
     assert_asks_for_nothing(&rt, &[]);
 }
 
+// The tables stand in constants, so that the tests are checked without them.
+
+const NUMBERS: &[(&str, u32)] = &[
+    ("0", 0),
+    ("1", 1),
+    ("16", 16),
+    ("+3", 3),
+    ("03", 3),
+    ("+016", 16),
+    ("000000000000000000000000000007", 7),
+];
+
+const NUMBERS_IN_ONE_WORD: &[(&str, u32)] = &[
+    ("--viewers=16", 16),
+    ("--viewers=+3", 3),
+    ("--viewers=-0", 0),
+];
+
 /// N is what a 64-bit number may be written as, from 0 to 16.
 #[test]
 fn reads_the_number(rt: HostRuntime) {
-    for (number, viewers) in [
-        ("0", 0),
-        ("1", 1),
-        ("16", 16),
-        ("+3", 3),
-        ("03", 3),
-        ("+016", 16),
-        ("000000000000000000000000000007", 7),
-    ] {
-        assert_reads(&rt, &["--viewers", number], viewers, None);
+    for (number, viewers) in NUMBERS {
+        assert_reads(&rt, &["--viewers", *number], *viewers, None);
     }
-    for (word, viewers) in [
-        ("--viewers=16", 16),
-        ("--viewers=+3", 3),
-        ("--viewers=-0", 0),
-    ] {
-        assert_reads(&rt, &[word], viewers, None);
+    for (word, viewers) in NUMBERS_IN_ONE_WORD {
+        assert_reads(&rt, &[*word], *viewers, None);
     }
 }
 
+const NO_NUMBERS: &[&str] = &[
+    "17",
+    "-1",
+    "=3",
+    "x",
+    "",
+    " 3",
+    "3 ",
+    "3.0",
+    "0x3",
+    "+",
+    "++3",
+    "+-3",
+    "٣",
+    "4294967295",
+    "4294967296",
+    "18446744073709551616",
+    "--",
+    "--gf",
+    "--viewers",
+];
+
 #[test]
 fn refuses_what_is_no_number_of_viewers(rt: HostRuntime) -> Result<(), Fail> {
-    for number in [
-        "17",
-        "-1",
-        "=3",
-        "x",
-        "",
-        " 3",
-        "3 ",
-        "3.0",
-        "0x3",
-        "+",
-        "++3",
-        "+-3",
-        "٣",
-        "4294967295",
-        "4294967296",
-        "18446744073709551616",
-        "--",
-        "--gf",
-        "--viewers",
-    ] {
-        assert_refused(&rt, &["--viewers", number]);
-        let word = ["--viewers=", number].concat(rt.alloc())?;
+    for number in NO_NUMBERS {
+        assert_refused(&rt, &["--viewers", *number]);
+        let word = ["--viewers=", *number].concat(rt.alloc())?;
         assert_refused(&rt, &[word.as_str()]);
     }
     Ok(())
 }
 
+const BOTH: &[&[&str]] = &[
+    &["--viewers", "2", "--gf", "a"],
+    &["--gf", "a", "--viewers", "2"],
+    &["--gf", "a", "--viewers=2", "--"],
+    &["--viewers", "+2", "--gf=a", "--"],
+];
+
 #[test]
 fn reads_both_in_either_order(rt: HostRuntime) {
-    for words in [
-        ["--viewers", "2", "--gf", "a"],
-        ["--gf", "a", "--viewers", "2"],
-        ["--gf", "a", "--viewers=2", "--"],
-        ["--viewers", "+2", "--gf=a", "--"],
-    ] {
-        assert_reads(&rt, &words, 2, Some("a"));
+    for words in BOTH {
+        assert_reads(&rt, words, 2, Some("a"));
     }
 }
+
+const FILES: &[&str] = &[
+    "out.gf",
+    "",
+    "-",
+    " a file ",
+    "größe π.gf",
+    "a=b",
+    "../x/y.gf",
+    "help",
+];
+
+const FILES_IN_ONE_WORD: &[(&str, &str)] = &[
+    ("--gf=out.gf", "out.gf"),
+    ("--gf=", ""),
+    ("--gf=-", "-"),
+    ("--gf=--gf", "--gf"),
+    ("--gf=-g", "-g"),
+    ("--gf==x", "=x"),
+    ("--gf=a=b", "a=b"),
+    ("--gf=größe π.gf", "größe π.gf"),
+];
 
 /// FILE is any text, and no word that begins with `-` unless it stands alone or behind `=`.
 #[test]
 fn takes_the_file_as_it_stands(rt: HostRuntime) {
-    for file in [
-        "out.gf",
-        "",
-        "-",
-        " a file ",
-        "größe π.gf",
-        "a=b",
-        "../x/y.gf",
-        "help",
-    ] {
-        assert_reads(&rt, &["--gf", file], 0, Some(file));
+    for file in FILES {
+        assert_reads(&rt, &["--gf", *file], 0, Some(*file));
     }
-    for (word, file) in [
-        ("--gf=out.gf", "out.gf"),
-        ("--gf=", ""),
-        ("--gf=-", "-"),
-        ("--gf=--gf", "--gf"),
-        ("--gf=-g", "-g"),
-        ("--gf==x", "=x"),
-        ("--gf=a=b", "a=b"),
-        ("--gf=größe π.gf", "größe π.gf"),
-    ] {
-        assert_reads(&rt, &[word], 0, Some(file));
-        assert_reads(&rt, &[word, "--"], 0, Some(file));
+    for (word, file) in FILES_IN_ONE_WORD {
+        assert_reads(&rt, &[*word], 0, Some(*file));
+        assert_reads(&rt, &[*word, "--"], 0, Some(*file));
     }
 }
+
+const ONE_WORD: &[&str] = &[
+    "--gf",
+    "x",
+    "",
+    " ",
+    "-",
+    "-g",
+    "-gx",
+    "--g",
+    "--gfx",
+    "--GF",
+    "gf",
+    "help",
+    "version",
+    "--help",
+    "-h",
+    "-?",
+    "--version",
+    "-V",
+    "--viewers",
+    "--=x",
+    "---",
+    "--gf ",
+    "größe",
+];
 
 #[test]
 fn refuses_one_word(rt: HostRuntime) {
-    for word in [
-        "--gf",
-        "x",
-        "",
-        " ",
-        "-",
-        "-g",
-        "-gx",
-        "--g",
-        "--gfx",
-        "--GF",
-        "gf",
-        "help",
-        "version",
-        "--help",
-        "-h",
-        "-?",
-        "--version",
-        "-V",
-        "--viewers",
-        "--=x",
-        "---",
-        "--gf ",
-        "größe",
-    ] {
-        assert_refused(&rt, &[word]);
+    for word in ONE_WORD {
+        assert_refused(&rt, &[*word]);
     }
 }
+
+const TWO_WORDS: &[(&str, &str)] = &[
+    ("--gf", "--gf"),
+    ("--gf", "--viewers"),
+    ("--gf", "--help"),
+    ("--gf", "-h"),
+    ("--gf", "--"),
+    ("--gf", "-x"),
+    ("--gf", "-1"),
+    ("--gf", "--x"),
+    ("--gf=a", "b"),
+    ("--gf=a", "--gf=b"),
+    ("--gf=a", "--gf"),
+    ("--", "x"),
+    ("--", "--gf=a"),
+    ("--", "--"),
+    ("-g", "x"),
+    ("x", "--gf=a"),
+    ("--view", "3"),
+    ("--viewer", "3"),
+    ("-v", "3"),
+    ("--viewers", "-0"),
+    ("--viewers=2", "--viewers=2"),
+    ("--viewers=2", "--viewers"),
+    ("--viewers=2", "3"),
+];
 
 #[test]
 fn refuses_two_words(rt: HostRuntime) {
-    for (first, second) in [
-        ("--gf", "--gf"),
-        ("--gf", "--viewers"),
-        ("--gf", "--help"),
-        ("--gf", "-h"),
-        ("--gf", "--"),
-        ("--gf", "-x"),
-        ("--gf", "-1"),
-        ("--gf", "--x"),
-        ("--gf=a", "b"),
-        ("--gf=a", "--gf=b"),
-        ("--gf=a", "--gf"),
-        ("--", "x"),
-        ("--", "--gf=a"),
-        ("--", "--"),
-        ("-g", "x"),
-        ("x", "--gf=a"),
-        ("--view", "3"),
-        ("--viewer", "3"),
-        ("-v", "3"),
-        ("--viewers", "-0"),
-        ("--viewers=2", "--viewers=2"),
-        ("--viewers=2", "--viewers"),
-        ("--viewers=2", "3"),
-    ] {
-        assert_refused(&rt, &[first, second]);
+    for (first, second) in TWO_WORDS {
+        assert_refused(&rt, &[*first, *second]);
     }
 }
 
+const MORE_WORDS: &[&[&str]] = &[
+    &["--gf", "a", "b"],
+    &["--gf", "a", "--gf"],
+    &["--gf", "--", "a"],
+    &["--", "--gf", "a"],
+    &["x", "--gf", "a"],
+    &["--gf", "--viewers", "3"],
+    &["--gf", "--viewers=3", "a"],
+    &["--viewers", "--gf", "a"],
+    &["--viewers", "3", "4"],
+    &["--viewers", "3", "--viewers"],
+    &["--viewers", "3", "--viewers=3"],
+    &["--gf", "a", "--gf", "a"],
+    &["--viewers", "2", "--viewers", "2"],
+    &["--viewers", "17", "--gf", "a"],
+    &["--gf", "a", "--viewers", "17"],
+    &["--gf", "a", "b", "--viewers=2"],
+];
+
 #[test]
 fn refuses_more_words(rt: HostRuntime) {
-    for words in [
-        ["--gf", "a", "b"],
-        ["--gf", "a", "--gf"],
-        ["--gf", "--", "a"],
-        ["--", "--gf", "a"],
-        ["x", "--gf", "a"],
-        ["--gf", "--viewers", "3"],
-        ["--gf", "--viewers=3", "a"],
-        ["--viewers", "--gf", "a"],
-        ["--viewers", "3", "4"],
-        ["--viewers", "3", "--viewers"],
-        ["--viewers", "3", "--viewers=3"],
-    ] {
-        assert_refused(&rt, &words);
-    }
-    for words in [
-        ["--gf", "a", "--gf", "a"],
-        ["--viewers", "2", "--viewers", "2"],
-        ["--viewers", "17", "--gf", "a"],
-        ["--gf", "a", "--viewers", "17"],
-        ["--gf", "a", "b", "--viewers=2"],
-    ] {
-        assert_refused(&rt, &words);
+    for words in MORE_WORDS {
+        assert_refused(&rt, words);
     }
 }
+
+const NAMES: &[&str] = &["", "--gf", "--gf=a", "--help", "-", "a/b/mfpic"];
 
 /// The first word is no argument, whatever it is.
 #[test]
 fn passes_over_the_first_word(rt: HostRuntime) {
-    for name in ["", "--gf", "--gf=a", "--help", "-", "a/b/mfpic"] {
-        assert_asks_for_nothing(&rt, &[name]);
+    for name in NAMES {
+        assert_asks_for_nothing(&rt, &[*name]);
     }
 }
