@@ -1,7 +1,9 @@
 -- The box of pixels of the field, and the bytes that begin its character, read back.
-use Rattle.std.proofs.Common.{◌≡◌, ℕ, suc, ◌-◌, ◌^◌, nat_lt, true, ◌&&◌, ℤ, pos, negsuc, ◌+ℤ◌, ◌-ℤ◌, ◌≤ℤ◌, unsigned_abs, List, [], ◌∷◌, ◌++◌, ◌<◌, Some, refl, ap, ap₂, ◌∙◌, arith, lt-ltb, le-ltb}
+use Rattle.std.proofs.Common.{◌≡◌, ℕ, suc, ◌-◌, ◌^◌, nat_lt, true, ◌&&◌, ℤ, pos, negsuc, ◌+ℤ◌, ◌-ℤ◌, ◌≤ℤ◌, unsigned_abs, List, [], ◌∷◌, ◌++◌, ◌<◌, Some, refl, sym, ap, ap₂, ◌∙◌, arith, lt-ltb, le-ltb}
 use Rattle.std.specs.List.{All}
+use Rattle.std.specs.Ordering.{int_eq}
 use Rattle.std.proofs.lemmas.Bool.{cond_both, cond-true, cond-false, and_parts, false≢true}
+use Rattle.std.proofs.lemmas.Bool.Decides.{Decides-int_eq}
 use Rattle.std.proofs.lemmas.Int.{ints, clamps}
 use Rattle.std.proofs.lemmas.List.Elements.{All-head, All-cons, All-nil, All-weaker}
 use Rattle.byteorder.specs.Endian.{big_number, twos_complement}
@@ -9,7 +11,7 @@ use Rattle.byteorder.specs.Numbers.{big_number-reads_back}
 use Rattle.mf_rows.specs.Dots.{Dot, IsDot, AreDotsFrom, place}
 use Rattle.mf_gf.specs.declared.boxes.CharacterBox.{CharacterBox}
 use Rattle.mf_gf.specs.Boxes.{box_of, box_of_pixel, joined}
-use Rattle.mf_gf.specs.Numbers.{word}
+use Rattle.mf_gf.specs.Numbers.{IsWord, word}
 use Rattle.mf_gf.specs.Painting as painting
 use Rattle.mf_gf.specs.Painting.{drawn_from, drawn_in, head_of}
 use Rattle.mf_gf.specs.Places.{IsInReach}
@@ -63,17 +65,21 @@ dots_from_box low b [] dots round = tt
 dots_from_box low b (d ∷ ds) dots round = let first = All-head (StandsIn b) d ds round.dots in (dots.0, omega (arith, ints, first), dots.2)
 
 -- a signed number of four bytes
-pub word-reads_back : (z : ℤ) (rest : List ℕ) → IsInReach z → twos_complement 4 (big_number 4 (word z ++ rest)) ≡ z
-word-reads_back (pos n) rest reach =
-    let greatest = reach.greatest in
+pub word-reads_back : (z : ℤ) (rest : List ℕ) → IsWord z → twos_complement 4 (big_number 4 (word z ++ rest)) ≡ z
+word-reads_back (pos n) rest fits =
+    let greatest = fits.greatest in
     ap (twos_complement 4) (big_number-reads_back 4 n rest (omega (arith, ints)))
     ∙ cond-true (nat_lt n (2 ^ 31)) _ _ (lt-ltb n (2 ^ 31) (omega (arith, ints)))
-word-reads_back (negsuc n) rest reach =
-    let least = reach.least in
+word-reads_back (negsuc n) rest fits =
+    let least = fits.least in
     let x = 2 ^ 32 - suc n in
     ap (twos_complement 4) (big_number-reads_back 4 x rest (omega (arith, ints)))
     ∙ cond-false (nat_lt x (2 ^ 31)) (pos x) (pos x -ℤ pos (2 ^ 32)) (le-ltb x (2 ^ 31) (omega (arith, ints)))
     ∙ omega (arith, ints)
+
+-- those that the field allows are such
+reach_fits : (z : ℤ) → IsInReach z → IsWord z
+reach_fits z reach = record { least = omega (arith, ints, reach.least); greatest = omega (arith, ints, reach.greatest) }
 
 byte-reads_back : (z : ℤ) → is_byte z ≡ true → pos (unsigned_abs z) ≡ z
 byte-reads_back (pos n) fits = refl
@@ -98,31 +104,34 @@ short-reads_back b short =
     record { left = omega (arith, ints, columns, last); right = last; bottom = omega (arith, ints, rows, first); top = first }
 
 -- the bytes that begin a character, read back
-pub head-begin : (code : ℕ) (b : CharacterBox) (rest : List ℕ) → code < 256 → IsBoxInReach b → head_of (begin code b ++ rest) ≡ Some (record { code = pos code; earlier = negsuc 0; box = b })
+pub head-begin : (code : ℕ) (p : ℤ) (b : CharacterBox) (rest : List ℕ) → code < 256 → IsWord p → IsBoxInReach b
+    → head_of (begin code p b ++ rest) ≡ Some (record { code = pos code; earlier = p; box = b })
 unfolding head_of
-head-begin code b rest fits reach =
-    let all = λ (bytes : List ℕ). head_of (bytes ++ rest) ≡ Some (record { code = pos code; earlier = negsuc 0; box = b }) in
-    cond_both (is_short b) (short_begin code b) (long_begin code b) all
+head-begin code p b rest fits p_fits reach =
+    let all = λ (bytes : List ℕ). head_of (bytes ++ rest) ≡ Some (record { code = pos code; earlier = p; box = b }) in
+    cond_both (int_eq p (negsuc 0) && is_short b) (short_begin code b) (long_begin code p b) all
     (λ short.
-    let back = short-reads_back b short in
-    λ t. Some (record { code = pos code; earlier = negsuc 0; box = record { min_m = back.left t; max_m = back.right t; min_n = back.bottom t; max_n = back.top t } }))
+    let both = and_parts (int_eq p (negsuc 0)) (is_short b) short in
+    let none = sym ((Decides-int_eq p (negsuc 0)).0 both.0) in
+    let back = short-reads_back b both.1 in
+    λ t. Some (record { code = pos code; earlier = none t; box = record { min_m = back.left t; max_m = back.right t; min_n = back.bottom t; max_n = back.top t } }))
     (λ long.
     let numbers = word b.min_m ++ word b.max_m ++ word b.min_n ++ word b.max_n ++ rest in
-    let code_is = word-reads_back (pos code) (word (negsuc 0) ++ numbers) (record { least = omega (arith, ints); greatest = omega (arith, ints) }) in
-    let earlier_is = word-reads_back (negsuc 0) numbers (record { least = omega (arith, ints); greatest = omega (arith, ints) }) in
-    let left = word-reads_back b.min_m (word b.max_m ++ word b.min_n ++ word b.max_n ++ rest) reach.columns.0 in
-    let right = word-reads_back b.max_m (word b.min_n ++ word b.max_n ++ rest) reach.columns.1 in
-    let bottom = word-reads_back b.min_n (word b.max_n ++ rest) reach.rows.0 in
-    let top = word-reads_back b.max_n rest reach.rows.1 in
+    let code_is = word-reads_back (pos code) (word p ++ numbers) (record { least = omega (arith, ints); greatest = omega (arith, ints) }) in
+    let earlier_is = word-reads_back p numbers p_fits in
+    let left = word-reads_back b.min_m (word b.max_m ++ word b.min_n ++ word b.max_n ++ rest) (reach_fits _ reach.columns.0) in
+    let right = word-reads_back b.max_m (word b.min_n ++ word b.max_n ++ rest) (reach_fits _ reach.columns.1) in
+    let bottom = word-reads_back b.min_n (word b.max_n ++ rest) (reach_fits _ reach.rows.0) in
+    let top = word-reads_back b.max_n rest (reach_fits _ reach.rows.1) in
     λ t. Some (record { code = code_is t; earlier = earlier_is t; box = record { min_m = left t; max_m = right t; min_n = bottom t; max_n = top t } }))
 
 -- so the commands behind them paint from the left end and the top of the box on
-pub paint-begin : (code : ℕ) (b : CharacterBox) (rest : List ℕ) → IsBoxInReach b → painting.paint (begin code b ++ rest) ≡ drawn_in b rest
+pub paint-begin : (code : ℕ) (p : ℤ) (b : CharacterBox) (rest : List ℕ) → IsBoxInReach b → painting.paint (begin code p b ++ rest) ≡ drawn_in b rest
 unfolding painting.paint
-paint-begin code b rest reach =
-    cond_both (is_short b) (short_begin code b) (long_begin code b) (λ bytes. painting.paint (bytes ++ rest) ≡ drawn_in b rest)
-    (λ short. let back = short-reads_back b short in ap₂ (λ l t. drawn_from l t rest) back.left back.top)
+paint-begin code p b rest reach =
+    cond_both (int_eq p (negsuc 0) && is_short b) (short_begin code b) (long_begin code p b) (λ bytes. painting.paint (bytes ++ rest) ≡ drawn_in b rest)
+    (λ short. let back = short-reads_back b (and_parts (int_eq p (negsuc 0)) (is_short b) short).1 in ap₂ (λ l t. drawn_from l t rest) back.left back.top)
     (λ long.
     ap₂ (λ l t. drawn_from l t rest)
-    (word-reads_back b.min_m (word b.max_m ++ word b.min_n ++ word b.max_n ++ rest) reach.columns.0)
-    (word-reads_back b.max_n rest reach.rows.1))
+    (word-reads_back b.min_m (word b.max_m ++ word b.min_n ++ word b.max_n ++ rest) (reach_fits _ reach.columns.0))
+    (word-reads_back b.max_n rest (reach_fits _ reach.rows.1)))

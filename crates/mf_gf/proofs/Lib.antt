@@ -3,11 +3,16 @@ pub mod BlackDots
 mod BlackRuns
 mod BoxOfDots
 mod BoxesInReach
+mod CharactersRead
 mod DrawnRows
 mod Endings
+mod Escapements
 mod KnownTexts
 pub mod Lengthening
 mod LocatorTexts
+mod LocatorsRead
+mod PaintedBack
+mod PostFound
 mod ReadBack
 mod Shipped
 mod ShortBoxes

@@ -1,66 +1,58 @@
--- The bytes of locators, one more at a time.
-use Rattle.std.proofs.Common.{◌≡◌, ◌≢◌, ◌+◌, ◌==◌, ◌<◌, ℕ, zero, suc, if◌then◌else◌, List, [], ◌∷◌, ◌++◌, length, get_or, take, ap, sym, subst, ◌∙◌, append_assoc, eq-eqb, true, false, arith}
-use Rattle.std.proofs.lemmas.Bool.{ne_eqb}
-use Rattle.std.proofs.lemmas.List.{append-nil, take_more}
+-- The bytes of locators, one code more at a time.
+use Rattle.std.proofs.Common.{◌≡◌, ◌+◌, ◌<◌, ◌==◌, ℕ, zero, suc, List, [], ◌∷◌, ◌++◌, Option, None, Some, option_map, length, slice_index_or, set, take, refl, ap, ap₂, sym, subst, ◌∙◌, append_assoc, eq-eqb, arith}
+use Rattle.std.specs.List.{flat_map}
+use Rattle.std.proofs.lemmas.Bool.{cond_both, eqb-true, false≢true}
+use Rattle.std.proofs.lemmas.Grind.{flat_map-append}
+use Rattle.std.proofs.lemmas.List.{append-nil, take_more, get_or-set_same, get_or-set_other}
 use Rattle.mf_gf.specs.declared.locator.Locator.{Locator}
+use Rattle.mf_gf.specs.declared.locators.Locators.{Locators}
 use Rattle.mf_gf.specs.declared.spelling.Spelling.{Spelling}
-use Rattle.mf_gf.specs.Files.{locator_text, locators_of, locators_from}
+use Rattle.mf_gf.specs.Files.{Shipment, last_of, locator_if, locator_of, locators_from}
+use Rattle.mf_gf.specs.Keeping.{HasLasts, table_text}
 use Rattle.mf_gf.specs.Spellings.{Holds}
 
--- the bytes of a locator among those of a code
-abbrev text_of : ℕ → Locator → List ℕ
-text_of code l = if l.code == code then locator_text l else []
-
-locators_of-more : (code : ℕ) (ls : List Locator) (l : Locator) → locators_of code (ls ++ l ∷ []) ≡ locators_of code ls ++ text_of code l
-unfolding locators_of
-locators_of-more code [] l = append-nil (text_of code l)
-locators_of-more code (k ∷ ls) l = ap (λ later. text_of code k ++ later) (locators_of-more code ls l) ∙ sym (append_assoc (text_of code k) (locators_of code ls) (text_of code l))
-
-locators_from-more : (code n : ℕ) (ls : List Locator) → locators_from code (n + 1) ls ≡ locators_from code n ls ++ locators_of (code + n) ls
-unfolding locators_from
-locators_from-more code zero ls = append-nil (locators_of code ls) ∙ ap (λ c. locators_of c ls) (omega arith)
-locators_from-more code (suc n) ls =
-    let next : suc n + 1 ≡ suc (n + 1) = omega arith in
-    let place : code + 1 + n ≡ code + suc n = omega arith in
-    ap (λ m. locators_from code m ls) next
-    ∙ ap (λ later. locators_of code ls ++ later) (locators_from-more (code + 1) n ls ∙ ap (λ c. locators_from (code + 1) n ls ++ locators_of c ls) place)
-    ∙ sym (append_assoc (locators_of code ls) (locators_from (code + 1) n ls) (locators_of (code + suc n) ls))
-
-held-more : (s : Spelling) (text before more all : List ℕ) → all ≡ before ++ more → Holds s (text ++ before ++ more) → Holds s (text ++ all)
-held-more s text before more all is held = subst (Holds s) (append_assoc text before more ∙ ap (λ bytes. text ++ bytes) (sym is)) held
-
--- no locator yet, and no code yet
-pub none_held : (s : Spelling) (text : List ℕ) (code : ℕ) → Holds s text → Holds s (text ++ locators_of code [])
-unfolding locators_of
-none_held s text code held = subst (Holds s) (sym (append-nil text)) held
-
-pub no_code_held : (s : Spelling) (text : List ℕ) (ls : List Locator) → Holds s text → Holds s (text ++ locators_from 0 0 ls)
-unfolding locators_from
-no_code_held s text ls held = subst (Holds s) (sym (append-nil text)) held
-
--- the next locator is one of the code, or another
-module _ (s : Spelling) (text : List ℕ) (code : ℕ) (items ls : List Locator) (are : items ≡ ls) (i : ℕ) (d : Locator) (within : i < length ls) where
-  next_is : locators_of code (take (i + 1) ls) ≡ locators_of code (take i ls) ++ text_of code (get_or items i d)
-  next_is =
-      ap (locators_of code) (take_more ls i d within) ∙ locators_of-more code (take i ls) (get_or ls i d)
-      ∙ ap (λ all. locators_of code (take i ls) ++ text_of code (get_or all i d)) (sym are)
-
-  pub next_held : (get_or items i d).code ≡ code → Holds s (text ++ locators_of code (take i ls) ++ locator_text (get_or items i d)) → Holds s (text ++ locators_of code (take (i + 1) ls))
-  next_held same held =
-      let test : ((get_or items i d).code == code) ≡ true = eq-eqb _ _ same in
-      held-more s text (locators_of code (take i ls)) (locator_text (get_or items i d)) (locators_of code (take (i + 1) ls))
-      (next_is ∙ ap (λ t. locators_of code (take i ls) ++ (if t then locator_text (get_or items i d) else [])) test) held
-
-  pub other_held : (get_or items i d).code ≢ code → Holds s (text ++ locators_of code (take i ls)) → Holds s (text ++ locators_of code (take (i + 1) ls))
-  other_held other held =
-      let test : ((get_or items i d).code == code) ≡ false = ne_eqb _ _ other in
-      let same : locators_of code (take (i + 1) ls) ≡ locators_of code (take i ls) =
-      next_is ∙ ap (λ t. locators_of code (take i ls) ++ (if t then locator_text (get_or items i d) else [])) test ∙ append-nil (locators_of code (take i ls)) in
-      subst (λ bytes. Holds s (text ++ bytes)) (sym same) held
+-- no code yet
+pub no_code_held : (s : Spelling) (text : List ℕ) (items : List (Option Locator)) → Holds s text → Holds s (text ++ flat_map locator_if (take 0 items))
+no_code_held s text items held = subst (Holds s) (sym (append-nil text)) held
 
 -- the next code
-pub next_code_held : (s : Spelling) (text : List ℕ) (ls : List Locator) (code n : ℕ) → n ≡ code + 1
-    → Holds s (text ++ locators_from 0 code ls ++ locators_of code ls) → Holds s (text ++ locators_from 0 n ls)
-next_code_held s text ls code n is held =
-    held-more s text (locators_from 0 code ls) (locators_of code ls) (locators_from 0 n ls)
-    (ap (λ m. locators_from 0 m ls) is ∙ locators_from-more 0 code ls ∙ ap (λ c. locators_from 0 code ls ++ locators_of c ls) (omega arith)) held
+pub next_code_held : (s : Spelling) (text : List ℕ) (items : List (Option Locator)) (code : ℕ) (d : Option Locator) → code < length items
+    → Holds s (text ++ flat_map locator_if (take code items) ++ locator_if (slice_index_or items code d)) → Holds s (text ++ flat_map locator_if (take (code + 1) items))
+next_code_held s text items code d within held =
+    let before = flat_map locator_if (take code items) in
+    let last = slice_index_or items code d in
+    let all : flat_map locator_if (take (code + 1) items) ≡ before ++ locator_if last =
+    ap (flat_map locator_if) (take_more items code d within)
+    ∙ flat_map-append locator_if (take code items) (last ∷ []) ∙ ap (λ more. before ++ more) (append-nil (locator_if last)) in
+    subst (Holds s) (append_assoc text before (locator_if last) ∙ ap (λ bytes. text ++ bytes) (sym all)) held
+
+-- the locator of the last character of a code
+abbrev pub last_locator : ℕ → List Shipment → Option Locator
+last_locator code shipped = option_map locator_of (last_of code shipped)
+
+-- a list with that of each of n codes
+lasts_text : (shipped : List Shipment) (items : List (Option Locator)) (code n : ℕ) → length items ≡ n
+    → ((i : ℕ) → i < n → slice_index_or items i None ≡ last_locator (code + i) shipped) → flat_map locator_if items ≡ locators_from code n shipped
+unfolding locators_from
+lasts_text shipped [] code zero same lasts = refl
+lasts_text shipped [] code (suc n) same lasts = absurd (omega (arith, same))
+lasts_text shipped (last ∷ items) code zero same lasts = absurd (omega (arith, same))
+lasts_text shipped (last ∷ items) code (suc n) same lasts =
+    let first : last ≡ last_locator code shipped = lasts 0 (omega arith) ∙ ap (λ c. last_locator c shipped) (omega arith) in
+    let others = lasts_text shipped items (code + 1) n (omega (arith, same)) (λ i within. lasts (suc i) (omega (arith, within)) ∙ ap (λ c. last_locator c shipped) (omega arith)) in
+    ap₂ (λ one more. locator_if one ++ more) first others
+
+pub table_text-is : (table : Locators) (shipped : List Shipment) → HasLasts table shipped → table_text table ≡ locators_from 0 256 shipped
+table_text-is table shipped lasts = lasts_text shipped table.by_code.items 0 256 table.all (λ i within. lasts.last i within ∙ ap (λ c. last_locator c shipped) (omega arith))
+
+-- one character more is the last one of its code
+pub lasts-set : (items : List (Option Locator)) (s : Shipment) (shipped : List Shipment) → length items ≡ 256 → s.character.code < 256
+    → ((code : ℕ) → code < 256 → slice_index_or items code None ≡ last_locator code shipped)
+    → (code : ℕ) → code < 256 → slice_index_or (set items s.character.code (Some (locator_of s))) code None ≡ last_locator code (s ∷ shipped)
+unfolding last_of
+lasts-set items s shipped same fits lasts code code_fits =
+    let own = s.character.code in
+    let changed = set items own (Some (locator_of s)) in
+    cond_both (own == code) (Some s) (last_of code shipped) (λ last. slice_index_or changed code None ≡ option_map locator_of last)
+    (λ yes. ap (λ c. slice_index_or changed c None) (sym (eqb-true own code yes)) ∙ get_or-set_same items own (Some (locator_of s)) None (omega (arith, same, fits)))
+    (λ no. get_or-set_other items own code (Some (locator_of s)) None (λ equal. false≢true (sym no ∙ eq-eqb own code (sym equal))) ∙ lasts code code_fits)

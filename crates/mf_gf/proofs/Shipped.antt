@@ -1,69 +1,43 @@
 -- Characters of a file, with one more at the end.
-use Rattle.std.proofs.Common.{◌≡◌, ◌≤◌, ◌+◌, ◌==◌, ◌↔◌, ℕ, suc, ℤ, Bool, List, [], ◌∷◌, ◌++◌, Some, length, refl, ap, sym, ◌∙◌, append_assoc, length-append, IsTrue, eq-eqb, eqb-true, ◌||◌, arith}
-use Rattle.std.specs.List.{flat_map, list_any}
-use Rattle.std.specs.Int.{int_min, int_max}
-use Rattle.std.proofs.lemmas.Grind.{flat_map-append}
-use Rattle.std.proofs.lemmas.Int.{ints, clamps}
-use Rattle.std.proofs.lemmas.List.{append-nil}
-use Rattle.std.proofs.lemmas.List.Folds.{Any-from_list_any, list_any-from_Any}
+use Rattle.std.proofs.Common.{◌≡◌, ◌≤◌, ℕ, ℤ, List, [], ◌∷◌, ◌++◌, Option, Some, length, refl, ap, sym, subst, ◌∙◌, append_assoc, length-append, arith}
 use Rattle.mf_rows.specs.Dots.{Dot}
-use Rattle.mf_gf.specs.declared.boxes.CharacterBox.{CharacterBox}
+use Rattle.mf_gf.specs.declared.file.FontWords.{FontWords}
 use Rattle.mf_gf.specs.declared.file.GfFile.{GfFile}
-use Rattle.mf_gf.specs.declared.locator.Locator.{Locator}
 use Rattle.mf_gf.specs.Boxes.{box_of, joined, widened}
-use Rattle.mf_gf.specs.Files.{Character, HasCode, spell_character, preamble, front, located_from, located, box_of_all}
-use Rattle.mf_gf.specs.Keeping.{IsAppended, Keeps, bounds_of}
-use Rattle.mf_gf.specs.Spelling.{spell}
+use Rattle.mf_gf.specs.Files.{Character, FileSoFar, Shipment, body, box_of_all, ending, file_of, file_so_far, front, last_place, locator_of, locators_from, post, shipments, spell_after, with_character, with_characters}
+use Rattle.mf_gf.specs.Keeping.{HasLasts, IsAppended, Keeps, bounds_of}
+use Rattle.mf_gf.specs.Spelling.{pointer, spell}
 use Rattle.mf_gf.proofs.BlackBoxes.{joined-assoc}
 
 -- a character has bytes
-pub spell_some : (code : ℕ) (ds : List Dot) → 1 ≤ length (spell code ds)
+pub spell_some : (code : ℕ) (p : ℤ) (ds : List Dot) → 1 ≤ length (spell code p ds)
 unfolding spell
-spell_some code ds = simp length-append (omega arith)
+spell_some code p ds = simp length-append (omega arith)
 
-pub front-more : (comment : List ℕ) (cs : List Character) (c : Character) → front comment (cs ++ c ∷ []) ≡ front comment cs ++ spell_character c
-front-more comment cs c =
-    ap (λ all. preamble comment ++ all) (flat_map-append spell_character cs (c ∷ []) ∙ ap (λ last. flat_map spell_character cs ++ last) (append-nil (spell_character c)))
-    ∙ sym (append_assoc (preamble comment) (flat_map spell_character cs) (spell_character c))
+with_characters-more : (f : FileSoFar) (cs : List Character) (c : Character) → with_characters f (cs ++ c ∷ []) ≡ with_character (with_characters f cs) c
+unfolding with_characters
+with_characters-more f [] c = refl
+with_characters-more f (b ∷ cs) c = with_characters-more (with_character f b) cs c
 
--- where a character stands
-abbrev pub locator_at : Character → ℕ → Locator
-locator_at c place = record { code = c.code; dx = c.dx; width = c.width; place = place }
+file_so_far-more : (comment : List ℕ) (cs : List Character) (c : Character) → file_so_far comment (cs ++ c ∷ []) ≡ with_character (file_so_far comment cs) c
+file_so_far-more comment cs c = with_characters-more _ cs c
 
-located_from-more : (place : ℕ) (cs : List Character) (c : Character)
-    → located_from place (cs ++ c ∷ []) ≡ located_from place cs ++ locator_at c (place + length (flat_map spell_character cs)) ∷ []
-unfolding located_from
-located_from-more place [] c = ap (λ there. locator_at c there ∷ []) (omega arith)
-located_from-more place (b ∷ cs) c =
-    let further : place + length (spell_character b) + length (flat_map spell_character cs) ≡ place + length (spell_character b ++ flat_map spell_character cs) = simp length-append (omega arith) in
-    ap (λ ls. locator_at b place ∷ ls) (located_from-more (place + length (spell_character b)) cs c ∙ ap (λ there. located_from (place + length (spell_character b)) cs ++ locator_at c there ∷ []) further)
+pub front-more : (comment : List ℕ) (cs : List Character) (c : Character) → front comment (cs ++ c ∷ []) ≡ front comment cs ++ spell_after (file_so_far comment cs) c
+front-more comment cs c = ap (λ (f : FileSoFar). f.bytes) (file_so_far-more comment cs c)
 
-pub located-more : (comment : List ℕ) (cs : List Character) (c : Character) → located comment (cs ++ c ∷ []) ≡ located comment cs ++ locator_at c (length (front comment cs)) ∷ []
-located-more comment cs c =
-    located_from-more (length (preamble comment)) cs c
-    ∙ ap (λ there. located comment cs ++ locator_at c there ∷ []) (sym (length-append (preamble comment) (flat_map spell_character cs)))
+-- the bytes that are kept, with those of one more, which names this earlier one of its code
+pub front-kept : (file : GfFile) (comment : List ℕ) (cs : List Character) (c : Character) (earlier : Option ℕ) → Keeps file comment cs
+    → earlier ≡ last_place c.code (shipments comment cs) → front comment (cs ++ c ∷ []) ≡ file.bytes.items ++ spell c.code (pointer earlier) c.black
+front-kept file comment cs c earlier keeps is =
+    front-more comment cs c ∙ ap (λ bytes. bytes ++ spell_after (file_so_far comment cs) c) (sym keeps.bytes)
+    ∙ ap (λ place. file.bytes.items ++ spell c.code (pointer place) c.black) (sym is)
 
-length-located_from : (place : ℕ) (cs : List Character) → length (located_from place cs) ≡ length cs
-unfolding located_from
-length-located_from place [] = refl
-length-located_from place (c ∷ cs) = ap suc (length-located_from (place + length (spell_character c)) cs)
+-- a character after these bytes
+abbrev pub shipment_after : List ℕ → Character → Shipment
+shipment_after bytes c = record { character = c; place = length bytes }
 
-pub length-located : (comment : List ℕ) (cs : List Character) → length (located comment cs) ≡ length cs
-length-located comment cs = length-located_from (length (preamble comment)) cs
-
--- the locators have the codes of the characters
-any_code-located : (code place : ℕ) (cs : List Character) → list_any (λ (l : Locator). l.code == code) (located_from place cs) ≡ list_any (λ (c : Character). c.code == code) cs
-unfolding located_from
-any_code-located code place [] = refl
-any_code-located code place (c ∷ cs) = ap (λ later. (c.code == code) || later) (any_code-located code (place + length (spell_character c)) cs)
-
-pub has_code-located : (is_there : Bool) (code : ℕ) (comment : List ℕ) (cs : List Character)
-    → is_there ≡ list_any (λ (l : Locator). l.code == code) (located comment cs) → IsTrue is_there ↔ HasCode code cs
-has_code-located is_there code comment cs is =
-    let same = is ∙ any_code-located code (length (preamble comment)) cs in (
-      λ yes. let there = Any-from_list_any (λ (c : Character). c.code == code) cs (sym same ∙ yes) in (there.0, there.1, there.2, there.3, eqb-true _ _ there.4),
-      λ there. same ∙ list_any-from_Any (λ (c : Character). c.code == code) cs (there.0, there.1, there.2, there.3, eq-eqb _ _ there.4),
-    )
+pub shipments-more : (comment : List ℕ) (cs : List Character) (c : Character) → shipments comment (cs ++ c ∷ []) ≡ shipment_after (front comment cs) c ∷ shipments comment cs
+shipments-more comment cs c = ap (λ (f : FileSoFar). f.shipped) (file_so_far-more comment cs c)
 
 pub box_of_all-more : (b : Character) (cs : List Character) (c : Character) → box_of_all (b ∷ cs ++ c ∷ []) ≡ joined (box_of_all (b ∷ cs)) (box_of c.black)
 unfolding box_of_all
@@ -76,11 +50,22 @@ bounds_of-more [] c = refl
 bounds_of-more (b ∷ cs) c = ap (λ box. Some box) (box_of_all-more b cs c)
 
 pub keeps-more : (before after : GfFile) (comment : List ℕ) (cs : List Character) (c : Character)
-    → IsAppended before after (locator_at c (length before.bytes.items)) (box_of c.black) (spell_character c) → Keeps before comment cs → Keeps after comment (cs ++ c ∷ [])
+    → IsAppended before after (locator_of (shipment_after before.bytes.items c)) (box_of c.black) (spell_after (file_so_far comment cs) c) → Keeps before comment cs → Keeps after comment (cs ++ c ∷ [])
 keeps-more before after comment cs c appended keeps = record {
-  bytes = appended.bytes ∙ ap (λ bytes. bytes ++ spell_character c) keeps.bytes ∙ sym (front-more comment cs c);
+  bytes = appended.bytes ∙ ap (λ bytes. bytes ++ spell_after (file_so_far comment cs) c) keeps.bytes ∙ sym (front-more comment cs c);
   locators =
-      appended.locators ∙ ap (λ ls. ls ++ locator_at c (length before.bytes.items) ∷ []) keeps.locators
-      ∙ ap (λ bytes. located comment cs ++ locator_at c (length bytes) ∷ []) keeps.bytes ∙ sym (located-more comment cs c);
+      subst (HasLasts after.locators) (ap (λ bytes. shipment_after bytes c ∷ shipments comment cs) keeps.bytes ∙ sym (shipments-more comment cs c))
+      (appended.locators (shipment_after before.bytes.items c) (shipments comment cs) refl keeps.locators);
+  count = let one_more = length-append cs (c ∷ []) in let counted = appended.count in let count = keeps.count in omega (arith, one_more, counted, count);
   bounds = appended.bounds ∙ ap (λ bounds. Some (widened bounds (box_of c.black))) keeps.bounds ∙ sym (bounds_of-more cs c);
 }
+
+-- a file begins with its preamble and its characters
+pub file-begins : (words : FontWords) (comment : List ℕ) (cs : List Character) → (rest : List ℕ) × (file_of words comment cs ≡ front comment cs ++ rest)
+unfolding file_of
+file-begins words comment cs =
+    let before = front comment cs in
+    let behind = post words (box_of_all cs) (length before) in
+    let locators = locators_from 0 256 (shipments comment cs) in
+    let last = ending (length before) (length (body words comment cs)) in
+    (behind ++ (locators ++ last), append_assoc (before ++ behind) locators last ∙ append_assoc before behind (locators ++ last))

@@ -83,6 +83,6 @@ module _ (before : Spelling) (left : ℤ) (text : List ℕ) (out : Spelling) (ro
       (sym (append-nil so_far.written) ∙ ap (λ bytes. so_far.written ++ bytes) (sym (rows-nil left row column)) ∙ ap (λ rs. so_far.written ++ rows left row column rs) (sym none) ∙ so_far.rest)
       so_far.writes
 
-pub spell-is : (code : ℕ) (ds : List Dot) (b : CharacterBox) (rs : List Run) → b ≡ box_of ds → rs ≡ runs_of ds → begin code b ++ rows b.min_m b.max_n b.min_m rs ++ 69 ∷ [] ≡ spell code ds
+pub spell-is : (code : ℕ) (p : ℤ) (ds : List Dot) (b : CharacterBox) (rs : List Run) → b ≡ box_of ds → rs ≡ runs_of ds → begin code p b ++ rows b.min_m b.max_n b.min_m rs ++ 69 ∷ [] ≡ spell code p ds
 unfolding spell
-spell-is code ds b rs bounds all = rw (bounds, all) refl
+spell-is code p ds b rs bounds all = rw (bounds, all) refl

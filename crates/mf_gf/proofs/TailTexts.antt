@@ -7,19 +7,19 @@ use Rattle.mf_gf.specs.declared.fault.GfFault.TheVariants as fault
 use Rattle.mf_gf.specs.declared.file.FontWords.{FontWords}
 use Rattle.mf_gf.specs.declared.file.GfFile.{GfFile}
 use Rattle.mf_gf.specs.declared.finished.GfBytes.{GfBytes}
-use Rattle.mf_gf.specs.declared.locator.Locator.{Locator}
 use Rattle.mf_gf.specs.declared.spelling.Spelling.{Spelling}
-use Rattle.mf_gf.specs.Files.{Character, box_of_all, ending, file_of, front, located, locators_from, post}
-use Rattle.mf_gf.specs.Keeping.{IsRefusedAs, IsSameFile, Keeps, bounds_of}
+use Rattle.mf_gf.specs.Files.{Character, box_of_all, ending, file_of, front, shipments, locators_from, post}
+use Rattle.mf_gf.specs.Keeping.{IsRefusedAs, IsSameFile, Keeps, bounds_of, table_text}
 use Rattle.mf_gf.specs.Spellings.{Holds}
 use Rattle.mf_gf.specs.Tails.{tail_of}
+use Rattle.mf_gf.proofs.LocatorTexts.{table_text-is}
 
-pub tail_held : (s : Spelling) (words : FontWords) (b : CharacterBox) (place : ℕ) (bytes : List ℕ) (locators : List Locator) → place ≡ length bytes
-    → Holds s (post words b place ++ locators_from 0 256 locators ++ ending place (place + length (post words b place ++ locators_from 0 256 locators)))
+pub tail_held : (s : Spelling) (words : FontWords) (b : CharacterBox) (place : ℕ) (bytes locators : List ℕ) → place ≡ length bytes
+    → Holds s (post words b place ++ locators ++ ending place (place + length (post words b place ++ locators)))
     → Holds s (tail_of words b bytes locators)
 unfolding tail_of
 tail_held s words b place bytes locators is =
-    subst (λ (at : ℕ). Holds s (post words b at ++ locators_from 0 256 locators ++ ending at (at + length (post words b at ++ locators_from 0 256 locators)))) is
+    subst (λ (at : ℕ). Holds s (post words b at ++ locators ++ ending at (at + length (post words b at ++ locators)))) is
 
 -- they find no room where the whole finds none
 pub too_long_behind : {P : Type 0} (room limit : ℕ) (before text : List ℕ) → room + length before ≡ limit → (room < length text) ↔ P → (limit < length (before ++ text)) ↔ P
@@ -37,10 +37,10 @@ split_front characters post locators last =
     ∙ ap (λ n. characters ++ (post ++ locators ++ last n)) (length-append characters (post ++ locators))
 
 file_of-tail : (words : FontWords) (comment : List ℕ) (cs : List Character)
-    → file_of words comment cs ≡ front comment cs ++ tail_of words (box_of_all cs) (front comment cs) (located comment cs)
+    → file_of words comment cs ≡ front comment cs ++ tail_of words (box_of_all cs) (front comment cs) (locators_from 0 256 (shipments comment cs))
 unfolding file_of tail_of
 file_of-tail words comment cs =
-    split_front (front comment cs) (post words (box_of_all cs) (length (front comment cs))) (locators_from 0 256 (located comment cs)) (ending (length (front comment cs)))
+    split_front (front comment cs) (post words (box_of_all cs) (length (front comment cs))) (locators_from 0 256 (shipments comment cs)) (ending (length (front comment cs)))
 
 box_of_all-some : (cs : List Character) (b : CharacterBox) → bounds_of cs ≡ Some b → box_of_all cs ≡ b
 box_of_all-some [] b is = absurd (cc)
@@ -48,13 +48,14 @@ box_of_all-some (c ∷ cs) b is = cc
 
 -- a whole file is what was kept of it and its tail
 pub file_of-kept : (file : GfFile) (words : FontWords) (b : CharacterBox) (comment : List ℕ) (cs : List Character) → file.bounds ≡ Some b → Keeps file comment cs
-    → file_of words comment cs ≡ file.bytes.items ++ tail_of words b file.bytes.items file.locators.items
+    → file_of words comment cs ≡ file.bytes.items ++ tail_of words b file.bytes.items (table_text file.locators)
 file_of-kept file words b comment cs some keeps =
+    let locators = locators_from 0 256 (shipments comment cs) in
     let bounds = box_of_all-some cs b (sym keeps.bounds ∙ some) in
     file_of-tail words comment cs
-    ∙ ap (λ box. front comment cs ++ tail_of words box (front comment cs) (located comment cs)) bounds
-    ∙ ap (λ bytes. bytes ++ tail_of words b bytes (located comment cs)) (sym keeps.bytes)
-    ∙ ap (λ locators. file.bytes.items ++ tail_of words b file.bytes.items locators) (sym keeps.locators)
+    ∙ ap (λ box. front comment cs ++ tail_of words box (front comment cs) locators) bounds
+    ∙ ap (λ bytes. bytes ++ tail_of words b bytes locators) (sym keeps.bytes)
+    ∙ ap (λ text. file.bytes.items ++ tail_of words b file.bytes.items text) (sym (table_text-is file.locators (shipments comment cs) keeps.locators))
 
 -- want of memory is no other refusal
 pub wanting_only : (before : GfFile) (r : Result GfBytes (GfFile × GfFault)) → IfErr r (λ refused. IsSameFile before refused.0 × (refused.1 ≡ fault.OutOfMemory)) → IsRefusedAs fault.FileTooLong r → ⊥

@@ -1,5 +1,5 @@
 -- GF files (The METAFONTbook, Appendix G).
-use Rattle.std.specs.Prelude.{◌≡◌, ◌≤◌, ◌+◌, ◌-◌, ◌*◌, ◌%◌, ◌==◌, ◌&&◌, ℕ, zero, suc, ℤ, pos, int_le, int_div, int_rem, Any, List, [], ◌∷◌, ◌++◌, length, replicate, flat_map, Option, None, Some, if◌then◌else◌}
+use Rattle.std.specs.Prelude.{◌≡◌, ◌≤◌, ◌+◌, ◌-◌, ◌*◌, ◌%◌, ◌==◌, ◌&&◌, ℕ, zero, suc, ℤ, pos, int_le, int_div, int_rem, List, [], ◌∷◌, ◌++◌, length, replicate, Option, None, Some, option_map, find, if◌then◌else◌}
 use Rattle.std.specs.Int.RustNames.{unsigned_abs}
 use Rattle.std.specs.Ordering.{int_eq}
 use Rattle.mf_rows.specs.Dots.{Dot}
@@ -8,7 +8,7 @@ use Rattle.mf_gf.specs.declared.file.FontWords.{FontWords}
 use Rattle.mf_gf.specs.declared.locator.Locator.{Locator}
 use Rattle.mf_gf.specs.Boxes.{box_of, joined, no_box}
 use Rattle.mf_gf.specs.Numbers.{word}
-use Rattle.mf_gf.specs.Spelling.{spell}
+use Rattle.mf_gf.specs.Spelling.{pointer, spell}
 
 -- a shipped character: its code, its escapement in 1/65536 pixel, its width, and its black pixels
 pub record Character : Type 0 where
@@ -17,28 +17,50 @@ pub record Character : Type 0 where
   pub width : ℤ
   pub black : List Dot
 
--- a character has this code
-abbrev pub HasCode : ℕ → List Character → Type 0
-HasCode code characters = Any (λ (c : Character). c.code ≡ code) characters
-
 -- pre, with the number of GF and the comment
 abbrev pub preamble : List ℕ → List ℕ
 preamble comment = 247 ∷ 131 ∷ length comment ∷ comment
 
-abbrev pub spell_character : Character → List ℕ
-spell_character c = spell c.code c.black
+-- a shipped character and its place: the length of the file before it
+pub record Shipment : Type 0 where
+  pub character : Character
+  pub place : ℕ
 
--- the preamble and the characters in the order shipped
+-- the last character of a code; in the list the one that was shipped last stands first
+unfoldable pub last_of : ℕ → List Shipment → Option Shipment
+last_of code shipped = find (λ (s : Shipment). s.character.code == code) shipped
+
+-- and its place
+abbrev pub last_place : ℕ → List Shipment → Option ℕ
+last_place code shipped = option_map (λ (s : Shipment). s.place) (last_of code shipped)
+
+-- a file so far: its bytes, and the characters that were shipped, the last one first
+pub record FileSoFar : Type 0 where
+  pub bytes : List ℕ
+  pub shipped : List Shipment
+
+-- the bytes of one character more, in which p names the last one of its code
+abbrev pub spell_after : FileSoFar → Character → List ℕ
+spell_after f c = spell c.code (pointer (last_place c.code f.shipped)) c.black
+
+-- and the file with it
+abbrev pub with_character : FileSoFar → Character → FileSoFar
+with_character f c = record { bytes = f.bytes ++ spell_after f c; shipped = record { character = c; place = length f.bytes } ∷ f.shipped }
+
+-- one after another, in the order shipped
+unfoldable pub with_characters : FileSoFar → List Character → FileSoFar
+with_characters f [] = f
+with_characters f (c ∷ cs) = with_characters (with_character f c) cs
+
+-- the preamble and the characters
+abbrev pub file_so_far : List ℕ → List Character → FileSoFar
+file_so_far comment characters = with_characters (record { bytes = preamble comment; shipped = [] }) characters
+
 abbrev pub front : List ℕ → List Character → List ℕ
-front comment characters = preamble comment ++ flat_map spell_character characters
+front comment characters = (file_so_far comment characters).bytes
 
--- the places of characters, of which the first has this one: the length of the file before it
-unfoldable pub located_from : ℕ → List Character → List Locator
-located_from place [] = []
-located_from place (c ∷ cs) = record { code = c.code; dx = c.dx; width = c.width; place = place } ∷ located_from (place + length (spell_character c)) cs
-
-abbrev pub located : List ℕ → List Character → List Locator
-located comment characters = located_from (length (preamble comment)) characters
+abbrev pub shipments : List ℕ → List Character → List Shipment
+shipments comment characters = (file_so_far comment characters).shipped
 
 -- an escapement of a whole number of pixels in 0..255
 abbrev pub short_dx : ℤ → Option ℕ
@@ -57,15 +79,19 @@ locator_head code dx None = (245 ∷ code ∷ []) ++ word dx ++ word (pos 0)
 abbrev pub locator_text : Locator → List ℕ
 locator_text l = locator_head l.code l.dx (short_dx l.dx) ++ word l.width ++ word (pos l.place)
 
--- those of a code
-unfoldable pub locators_of : ℕ → List Locator → List ℕ
-locators_of code [] = []
-locators_of code (l ∷ ls) = (if l.code == code then locator_text l else []) ++ locators_of code ls
+-- the locator of a character
+abbrev pub locator_of : Shipment → Locator
+locator_of s = record { code = s.character.code; dx = s.character.dx; width = s.character.width; place = s.place }
 
--- the locators of n codes from this one on, codes rising
-unfoldable pub locators_from : ℕ → ℕ → List Locator → List ℕ
-locators_from code zero ls = []
-locators_from code (suc n) ls = locators_of code ls ++ locators_from (code + 1) n ls
+-- its bytes, if there is one
+abbrev pub locator_if : Option Locator → List ℕ
+locator_if None = []
+locator_if (Some l) = locator_text l
+
+-- the locators of n codes from this one on, codes rising: each is that of the last character of its code
+unfoldable pub locators_from : ℕ → ℕ → List Shipment → List ℕ
+locators_from code zero shipped = []
+locators_from code (suc n) shipped = locator_if (option_map locator_of (last_of code shipped)) ++ locators_from (code + 1) n shipped
 
 -- the least box round all boxes as written
 unfoldable pub box_of_all : List Character → CharacterBox
@@ -90,7 +116,7 @@ ending place before = (249 ∷ []) ++ word (pos place) ++ (131 ∷ []) ++ replic
 -- all but the ending
 abbrev pub body : FontWords → List ℕ → List Character → List ℕ
 body words comment characters =
-    front comment characters ++ post words (box_of_all characters) (length (front comment characters)) ++ locators_from 0 256 (located comment characters)
+    front comment characters ++ post words (box_of_all characters) (length (front comment characters)) ++ locators_from 0 256 (shipments comment characters)
 
 -- the file of characters
 unfoldable pub file_of : FontWords → List ℕ → List Character → List ℕ

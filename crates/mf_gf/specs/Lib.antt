@@ -7,6 +7,7 @@ pub mod Numbers
 pub mod Painting
 pub mod Pixels
 pub mod Places
+pub mod Pointers
 pub mod Spelling
 pub mod Spellings
 pub mod Tails

@@ -1,7 +1,12 @@
 -- Numbers in the fields of a GF file, the highest byte first.
-use Rattle.std.specs.Prelude.{ℕ, ℤ, List, drop}
+use Rattle.std.specs.Prelude.{ℕ, ℤ, pos, negsuc, ◌≤ℤ◌, List, drop}
 use Rattle.std.specs.Int.{cast_unsigned, w32}
 use Rattle.byteorder.specs.Endian.{big_bytes, big_number, twos_complement}
+
+-- a signed number of four bytes
+pub record IsWord (z : ℤ) : Type 0 where
+  pub least : negsuc 2147483647 ≤ℤ z
+  pub greatest : z ≤ℤ pos 2147483647
 
 -- the four bytes of a number, in two's complement
 abbrev pub word : ℤ → List ℕ

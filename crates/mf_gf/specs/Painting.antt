@@ -81,7 +81,7 @@ unfoldable pub drawn : Pen → List Stroke → List Dot
 drawn pen [] = []
 drawn pen (stroke ∷ strokes) = painted pen stroke ++ drawn (moved pen stroke) strokes
 
--- what a character says before its commands: its code, the place of an earlier character of this code (-1: there is none),
+-- what a character says before its commands: its code, the place of the last earlier character of this code (-1: there is none),
 -- and its box
 pub record Head : Type 0 where
   pub code : ℤ
@@ -102,7 +102,7 @@ head_of_boc1 bytes = record {
   };
 }
 
--- boc: the code, the place of an earlier character, and the least and greatest m and n, four bytes each
+-- boc: the code, the place of the last earlier character of this code, and the least and greatest m and n, four bytes each
 abbrev pub head_of_boc : List ℕ → Head
 head_of_boc bytes = record {
   code = word_at 0 bytes;

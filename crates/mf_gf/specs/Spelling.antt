@@ -1,5 +1,5 @@
 -- The bytes of a character (The METAFONTbook, Appendix G).
-use Rattle.std.specs.Prelude.{◌+◌, ◌-◌, ◌==◌, ◌&&◌, Bool, ℕ, nat_le, ℤ, pos, negsuc, ◌+ℤ◌, ◌-ℤ◌, int_le, List, [], ◌∷◌, ◌++◌, if◌then◌else◌}
+use Rattle.std.specs.Prelude.{◌+◌, ◌-◌, ◌==◌, ◌&&◌, Bool, ℕ, nat_le, ℤ, pos, negsuc, ◌+ℤ◌, ◌-ℤ◌, int_le, List, [], ◌∷◌, ◌++◌, Option, None, Some, if◌then◌else◌}
 use Rattle.std.specs.Int.RustNames.{unsigned_abs}
 use Rattle.std.specs.Ordering.{int_eq}
 use Rattle.byteorder.specs.Endian.{big_bytes}
@@ -51,17 +51,23 @@ is_byte z = int_le (pos 0) z && int_le z (pos 255)
 abbrev pub is_short : CharacterBox → Bool
 is_short b = is_byte (b.max_m -ℤ b.min_m) && (is_byte b.max_m && (is_byte (b.max_n -ℤ b.min_n) && is_byte b.max_n))
 
--- boc1
+-- p of boc: the place of the last earlier character of the code, or -1
+abbrev pub pointer : Option ℕ → ℤ
+pointer None = negsuc 0
+pointer (Some place) = pos place
+
+-- boc1, which has no p
 abbrev pub short_begin : ℕ → CharacterBox → List ℕ
 short_begin code b = 68 ∷ code ∷ unsigned_abs (b.max_m -ℤ b.min_m) ∷ unsigned_abs b.max_m ∷ unsigned_abs (b.max_n -ℤ b.min_n) ∷ unsigned_abs b.max_n ∷ []
 
--- boc, with no earlier character of this code
-abbrev pub long_begin : ℕ → CharacterBox → List ℕ
-long_begin code b = (67 ∷ []) ++ word (pos code) ++ word (negsuc 0) ++ word b.min_m ++ word b.max_m ++ word b.min_n ++ word b.max_n
+-- boc, with p
+abbrev pub long_begin : ℕ → ℤ → CharacterBox → List ℕ
+long_begin code p b = (67 ∷ []) ++ word (pos code) ++ word p ++ word b.min_m ++ word b.max_m ++ word b.min_n ++ word b.max_n
 
-abbrev pub begin : ℕ → CharacterBox → List ℕ
-begin code b = if is_short b then short_begin code b else long_begin code b
+-- boc1 where there is no earlier character of this code and the box allows it
+abbrev pub begin : ℕ → ℤ → CharacterBox → List ℕ
+begin code p b = if int_eq p (negsuc 0) && is_short b then short_begin code b else long_begin code p b
 
--- the bytes of a character with these black pixels
-unfoldable pub spell : ℕ → List Dot → List ℕ
-spell code ds = begin code (box_of ds) ++ rows (box_of ds).min_m (box_of ds).max_n (box_of ds).min_m (runs_of ds) ++ (69 ∷ [])
+-- the bytes of a character with these black pixels; p is the place of the last earlier character of this code, or -1
+unfoldable pub spell : ℕ → ℤ → List Dot → List ℕ
+spell code p ds = begin code p (box_of ds) ++ rows (box_of ds).min_m (box_of ds).max_n (box_of ds).min_m (runs_of ds) ++ (69 ∷ [])

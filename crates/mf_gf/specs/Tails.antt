@@ -2,13 +2,12 @@
 use Rattle.std.specs.Prelude.{◌+◌, ℕ, List, ◌++◌, length}
 use Rattle.mf_gf.specs.declared.boxes.CharacterBox.{CharacterBox}
 use Rattle.mf_gf.specs.declared.file.FontWords.{FontWords}
-use Rattle.mf_gf.specs.declared.locator.Locator.{Locator}
-use Rattle.mf_gf.specs.Files.{ending, locators_from, post}
+use Rattle.mf_gf.specs.Files.{ending, post}
 
 -- post and the locators, behind these bytes
-abbrev pub before_ending : FontWords → CharacterBox → List ℕ → List Locator → List ℕ
-before_ending words b front locators = post words b (length front) ++ locators_from 0 256 locators
+abbrev pub before_ending : FontWords → CharacterBox → List ℕ → List ℕ → List ℕ
+before_ending words b front locators = post words b (length front) ++ locators
 
 -- and the ending
-unfoldable pub tail_of : FontWords → CharacterBox → List ℕ → List Locator → List ℕ
+unfoldable pub tail_of : FontWords → CharacterBox → List ℕ → List ℕ → List ℕ
 tail_of words b front locators = before_ending words b front locators ++ ending (length front) (length front + length (before_ending words b front locators))

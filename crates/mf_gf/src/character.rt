@@ -1,9 +1,10 @@
 //! Characters.
-ghost use Rattle.std.specs.Prelude.{◌≡◌, ◌&&◌, ◌-ℤ◌, ◌++◌, List, ℕ};
+ghost use Rattle.std.specs.Prelude.{◌≡◌, ◌&&◌, ◌-ℤ◌, ◌++◌, List, ℕ, true};
 ghost use Rattle.mf_gf.specs.Boxes.{box_of};
+ghost use Rattle.mf_gf.specs.Numbers.{word};
 ghost use Rattle.mf_gf.specs.Pixels.{black};
 ghost use Rattle.mf_gf.specs.Places.{IsInReach};
-ghost use Rattle.mf_gf.specs.Spelling.{begin, is_byte, is_short, long_begin, spell};
+ghost use Rattle.mf_gf.specs.Spelling.{begin, is_byte, is_short, long_begin, pointer, short_begin, spell};
 ghost use Rattle.mf_gf.specs.Spellings.{Holds};
 
 use crate::boxes::CharacterBox;
@@ -21,29 +22,47 @@ const BOC1: u8 = 68;
 /// eoc, which ends a character (gftype.web).
 const EOC: u8 = 69;
 
-/// Spells the character with this code and box whose black pixels are those of positive weight.
-pub(crate) fn spell(out: &mut Spelling, code: u8, picture: &Picture, bounds: &CharacterBox)
+/// Spells the character with this code and box whose black pixels are those of positive weight. `earlier` is the place of the
+/// last character of its code, if there is one.
+pub(crate) fn spell(
+    out: &mut Spelling,
+    code: u8,
+    earlier: Option<u32>,
+    picture: &Picture,
+    bounds: &CharacterBox,
+)
     requires { bounds.now ≡ box_of (black picture.now) }
-    ensures held { (text : List ℕ) → Holds out.old text → Holds out.new (text ++ spell code (black picture.now)) }
+    ensures held { (text : List ℕ) → Holds out.old text → Holds out.new (text ++ spell code (pointer earlier) (black picture.now)) }
     ensures room { out.new.room ≡ out.old.room }
 {
     let stretches = Stretches::over(picture);
-    put_begin(out, code, bounds);
+    put_begin(out, code, earlier, bounds);
     spell_rows(out, stretches, bounds);
     out.put_byte(EOC);
 }
 
-/// Begins a character: in short where its box allows it.
-fn put_begin(out: &mut Spelling, code: u8, bounds: &CharacterBox)
+/// Begins a character: in short where it is the first of its code and its box allows it.
+fn put_begin(out: &mut Spelling, code: u8, earlier: Option<u32>, bounds: &CharacterBox)
     requires columns { IsInReach bounds.now.min_m × IsInReach bounds.now.max_m }
     requires rows { IsInReach bounds.now.min_n × IsInReach bounds.now.max_n }
-    ensures held { (text : List ℕ) → Holds out.old text → Holds out.new (text ++ begin code bounds.now) }
+    ensures held { (text : List ℕ) → Holds out.old text → Holds out.new (text ++ begin code (pointer earlier) bounds.now) }
     ensures room { out.new.room ≡ out.old.room }
 {
-    if !is_short(bounds) {
-        put_long_begin(out, code, bounds);
-        return;
+    if earlier.is_none() && is_short(bounds) {
+        put_short_begin(out, code, bounds);
+    } else {
+        put_long_begin(out, code, earlier, bounds);
     }
+}
+
+/// Begins a character whose fields have one byte.
+fn put_short_begin(out: &mut Spelling, code: u8, bounds: &CharacterBox)
+    requires columns { IsInReach bounds.now.min_m × IsInReach bounds.now.max_m }
+    requires rows { IsInReach bounds.now.min_n × IsInReach bounds.now.max_n }
+    requires short { is_short bounds.now ≡ true }
+    ensures held { (text : List ℕ) → Holds out.old text → Holds out.new (text ++ short_begin code bounds.now) }
+    ensures room { out.new.room ≡ out.old.room }
+{
     out.put(&[
         BOC1,
         code,
@@ -54,18 +73,29 @@ fn put_begin(out: &mut Spelling, code: u8, bounds: &CharacterBox)
     ]);
 }
 
-/// Begins a character whose fields have four bytes. It has no earlier character of its code.
-fn put_long_begin(out: &mut Spelling, code: u8, bounds: &CharacterBox)
-    ensures held { (text : List ℕ) → Holds out.old text → Holds out.new (text ++ long_begin code bounds.now) }
+/// Begins a character whose fields have four bytes.
+fn put_long_begin(out: &mut Spelling, code: u8, earlier: Option<u32>, bounds: &CharacterBox)
+    ensures held { (text : List ℕ) → Holds out.old text → Holds out.new (text ++ long_begin code (pointer earlier) bounds.now) }
     ensures room { out.new.room ≡ out.old.room }
 {
     out.put_byte(BOC);
     out.put_unsigned(u32::from(code));
-    out.put_word(-1);
+    put_pointer(out, earlier);
     out.put_word(bounds.min_m);
     out.put_word(bounds.max_m);
     out.put_word(bounds.min_n);
     out.put_word(bounds.max_n);
+}
+
+/// p of boc: the place of the last earlier character of the code, or -1 (gftype.web).
+fn put_pointer(out: &mut Spelling, earlier: Option<u32>)
+    ensures held { (text : List ℕ) → Holds out.old text → Holds out.new (text ++ word (pointer earlier)) }
+    ensures room { out.new.room ≡ out.old.room }
+{
+    match earlier {
+        Some(place) => out.put_unsigned(place),
+        None => out.put_word(-1),
+    }
 }
 
 /// Whether a box fits into fields of one byte.

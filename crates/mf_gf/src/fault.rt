@@ -9,8 +9,6 @@ use std::fmt;
 /// Why a character or a file is refused.
 #[derive(Clone, Copy, Debug, PartialEq, Eq)]
 pub enum GfFault {
-    /// Refusal 19: a character with this code was shipped before.
-    CodeShipped,
     /// Refusal 20: the file would have more bytes than it may.
     FileTooLong,
     /// Refusal 21: no character was shipped.
@@ -29,7 +27,6 @@ impl fmt::Display for GfFault {
 
     fn fmt<W: fmt::Write>(&self, f: &mut fmt::Formatter<W>) -> fmt::Result {
         match self {
-            GfFault::CodeShipped => write!(f, "CodeShipped"),
             GfFault::FileTooLong => write!(f, "FileTooLong"),
             GfFault::NoCharacters => write!(f, "NoCharacters"),
             GfFault::CommentTooLong => write!(f, "CommentTooLong"),

@@ -2,7 +2,7 @@
 ghost use Rattle.std.specs.Prelude.{◌≤◌, length};
 
 use crate::boxes::CharacterBox;
-use crate::locator::Locator;
+use crate::locators::Locators;
 use std::alloc::Global;
 
 mod steps;
@@ -27,13 +27,15 @@ pub struct GfFile {
     pub(crate) alloc: Global,
     /// The preamble and the characters.
     pub(crate) bytes: Vec<u8>,
-    /// The characters, in the order shipped.
-    pub(crate) locators: Vec<Locator>,
+    /// The locator of the last character of each code.
+    pub(crate) locators: Locators,
+    /// How many characters were shipped. Each has bytes, so they are no more than those.
+    pub(crate) count: u32,
     /// The least box round the boxes of all characters.
     pub(crate) bounds: Option<CharacterBox>,
     /// Most bytes of the whole file.
     pub(crate) max_bytes: u32,
     ghost small: { max_bytes ≤ 2147483647 },
     ghost within: { length bytes.items ≤ max_bytes },
-    ghost few: { length locators.items ≤ length bytes.items },
+    ghost few: { count ≤ length bytes.items },
 }

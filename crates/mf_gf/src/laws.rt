@@ -1,22 +1,25 @@
 //! Laws of GF files: each is the contract of a function that does nothing.
-ghost use Rattle.std.specs.Prelude.{◌≡◌, ◌↔◌, ◌<◌, ◌<ℤ◌, ◌∷◌, [], ◌++◌, length, ℕ, ℤ, pos, negsuc, List, Some};
+ghost use Rattle.std.specs.Prelude.{◌≡◌, ◌↔◌, ◌<◌, ◌<ℤ◌, ◌∷◌, [], ◌++◌, length, ℕ, ℤ, pos, List, Some};
 ghost use Rattle.mf_gf.specs.Boxes.{IsLeastBox, box_of, joined};
-ghost use Rattle.mf_gf.specs.Files.{Character, IsPadded, IsShortDx, box_of_all, file_of, front, located, short_dx, spell_character};
+ghost use Rattle.mf_gf.specs.Files.{Character, IsPadded, IsShortDx, box_of_all, file_of, front, last_place, shipments, short_dx};
 ghost use Rattle.mf_gf.specs.declared.file.FontWords.{FontWords};
+ghost use Rattle.mf_gf.specs.Numbers.{IsWord};
 ghost use Rattle.mf_gf.specs.Painting.{head_of, paint};
 ghost use Rattle.mf_gf.specs.Pixels.{IsPixelSet, black};
-ghost use Rattle.mf_gf.specs.Spelling.{spell};
+ghost use Rattle.mf_gf.specs.Pointers.{AreShippable, IsReadBack};
+ghost use Rattle.mf_gf.specs.Spelling.{pointer, spell};
 ghost use Rattle.mf_rows.specs.Dots.{Dot, IsPicture, weight_at};
 
-/// The painting law: painting the bytes of a finite set of pixels of the field gives that set, for every code.
+/// The painting law: painting the bytes of a finite set of pixels of the field gives that set, for every code and every p.
 pub fn painted_back()
-    ensures { (code : ℕ) (ds : List Dot) → code < 256 → IsPixelSet ds → paint (spell code ds) ≡ Some ds }
+    ensures { (code : ℕ) (p : ℤ) (ds : List Dot) → code < 256 → IsPixelSet ds → paint (spell code p ds) ≡ Some ds }
 {}
 
-/// The bytes of a set of pixels begin with its code and its box, and name no earlier character of this code.
+/// The bytes of a set of pixels begin with its code, with p, which is the place of the last character of this code or -1, and
+/// with its box, for every p of four bytes.
 pub fn head_read_back()
-    ensures { (code : ℕ) (ds : List Dot) → code < 256 → IsPixelSet ds →
-        head_of (spell code ds) ≡ Some (record { code = pos code; earlier = negsuc 0; box = box_of ds }) }
+    ensures { (code : ℕ) (p : ℤ) (ds : List Dot) → code < 256 → IsWord p → IsPixelSet ds →
+        head_of (spell code p ds) ≡ Some (record { code = pos code; earlier = p; box = box_of ds }) }
 {}
 
 /// The black pixels of a picture are a set of pixels: those of positive weight.
@@ -35,14 +38,20 @@ pub fn short_escapements()
     ensures { (dx : ℤ) (pixels : ℕ) → (short_dx dx ≡ Some pixels) ↔ IsShortDx dx pixels }
 {}
 
-/// A file begins with its preamble and its characters. One character more stands behind them, and has a locator behind theirs
-/// with its code, its escapement, its width, and the place where its bytes begin; the box of all is joined with its own.
+/// A file begins with its preamble and its characters. One character more comes after them, with the place of the last one of
+/// its code as p; it is the last of its code then, and its place is where its bytes begin; the box of all is joined with its own.
 pub fn one_character_more()
     ensures begins { (words : FontWords) (comment : List ℕ) (cs : List Character) → (rest : List ℕ) × (file_of words comment cs ≡ front comment cs ++ rest) }
-    ensures bytes { (comment : List ℕ) (cs : List Character) (c : Character) → front comment (cs ++ c ∷ []) ≡ front comment cs ++ spell_character c }
-    ensures locator { (comment : List ℕ) (cs : List Character) (c : Character) →
-        located comment (cs ++ c ∷ []) ≡ located comment cs ++ (record { code = c.code; dx = c.dx; width = c.width; place = length (front comment cs) }) ∷ [] }
+    ensures bytes { (comment : List ℕ) (cs : List Character) (c : Character) → front comment (cs ++ c ∷ []) ≡ front comment cs ++ spell c.code (pointer (last_place c.code (shipments comment cs))) c.black }
+    ensures place { (comment : List ℕ) (cs : List Character) (c : Character) → shipments comment (cs ++ c ∷ []) ≡ record { character = c; place = length (front comment cs) } ∷ shipments comment cs }
     ensures bounds { (b : Character) (cs : List Character) (c : Character) → box_of_all (b ∷ cs ++ c ∷ []) ≡ joined (box_of_all (b ∷ cs)) (box_of c.black) }
+{}
+
+/// A reader of a finished file finds all of its characters. The codes of the locators rise; there is one for each code that was
+/// shipped, and for no other. Each has the dx, the width and the place of the last character of its code, and from there p leads
+/// to all characters of the code, from the last to the first, and then to none.
+pub fn characters_are_read_back()
+    ensures { (words : FontWords) (comment : List ℕ) (cs : List Character) → AreShippable comment cs → IsReadBack (file_of words comment cs) cs }
 {}
 
 /// The length of a finished file is a multiple of 4, and its last four to seven bytes are 223.

@@ -8,6 +8,7 @@ mod file;
 mod finished;
 pub mod laws;
 mod locator;
+mod locators;
 mod output;
 mod rows;
 mod spelling;

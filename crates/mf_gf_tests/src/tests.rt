@@ -1,5 +1,6 @@
 //! Tests of GF files: bytes worked out from the format by hand, refusals and writers that fail.
 
+mod again;
 mod assertions;
 mod characters;
 mod files;
@@ -91,14 +92,13 @@ pub(crate) fn ship(
 /// A file with no comment, of at most so many bytes, to which a rectangle was shipped with code 65.
 pub(crate) fn with_rectangle(rt: &impl Abort, alloc: Global, max_bytes: u32) -> GfFile {
     let mut file = short_file(rt, alloc, max_bytes);
-    ship(
-        rt,
-        &mut file,
-        65,
-        (327_680, 0),
-        &picture(rt, alloc, RECT, 1),
-    );
+    ship_rectangle(rt, alloc, &mut file);
     file
+}
+
+/// Ships the rectangle with code 65.
+pub(crate) fn ship_rectangle(rt: &impl Abort, alloc: Global, file: &mut GfFile) {
+    ship(rt, file, 65, (327_680, 0), &picture(rt, alloc, RECT, 1));
 }
 
 /// So many characters were shipped.

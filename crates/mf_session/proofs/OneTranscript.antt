@@ -53,14 +53,9 @@ proof_once ds text other (inr p) (inr q) = one_grid_text ds text other p.printed
 ships_once : (limits : Limits) (shipped : List Character) (c : Character) (text other : List ℕ) (after later : List Character)
     → Ships limits shipped c text after → Ships limits shipped c other later → (text ≡ other) × (after ≡ later)
 ships_once limits shipped c text other after later (inl p) (inl q) = (p.printed ∙ sym q.printed, p.same ∙ sym q.same)
-ships_once limits shipped c text other after later (inl p) (inr (inl q)) = absurd (q.new p.before)
-ships_once limits shipped c text other after later (inl p) (inr (inr q)) = absurd (q.new p.before)
-ships_once limits shipped c text other after later (inr (inl p)) (inl q) = absurd (p.new q.before)
-ships_once limits shipped c text other after later (inr (inl p)) (inr (inl q)) = (p.printed ∙ sym q.printed, p.same ∙ sym q.same)
-ships_once limits shipped c text other after later (inr (inl p)) (inr (inr q)) = absurd (q.fits p.too_long)
-ships_once limits shipped c text other after later (inr (inr p)) (inl q) = absurd (p.new q.before)
-ships_once limits shipped c text other after later (inr (inr p)) (inr (inl q)) = absurd (p.fits q.too_long)
-ships_once limits shipped c text other after later (inr (inr p)) (inr (inr q)) = (p.printed ∙ sym q.printed, p.appended ∙ sym q.appended)
+ships_once limits shipped c text other after later (inl p) (inr q) = absurd (q.fits p.too_long)
+ships_once limits shipped c text other after later (inr p) (inl q) = absurd (p.fits q.too_long)
+ships_once limits shipped c text other after later (inr p) (inr q) = (p.printed ∙ sym q.printed, p.appended ∙ sym q.appended)
 
 -- a command has one answer
 answers_once : (limits : Limits) (s t u : State) (given : Command) (text other : List ℕ) → AnswersTo limits s given text t → AnswersTo limits s given other u → (text ≡ other) × (t ≡ u)

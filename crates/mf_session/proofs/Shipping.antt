@@ -1,9 +1,9 @@
 -- What a session stands for once a character is shipped, or refused.
-use Rattle.std.proofs.Common.{◌≡◌, ◌<◌, ℕ, List, [], ◌∷◌, ◌++◌, codes, decimal, inl, inr, length, refl, sym, ◌∙◌}
+use Rattle.std.proofs.Common.{◌≡◌, ◌<◌, ℕ, List, [], ◌∷◌, ◌++◌, codes, decimal, inl, inr, length, refl, sym, subst, ◌∙◌}
 use Rattle.mf_gf.specs.declared.file.GfFile.{GfFile}
-use Rattle.mf_gf.specs.Files.{Character, HasCode, front}
-use Rattle.mf_gf.specs.Keeping.{IsSameFile, Keeps}
-use Rattle.mf_session.specs.declared.refusal.Refusal.TheVariants.{CodeShipped, FileTooLong}
+use Rattle.mf_gf.specs.Files.{Character, front, shipments}
+use Rattle.mf_gf.specs.Keeping.{HasLasts, IsSameFile, Keeps}
+use Rattle.mf_session.specs.declared.refusal.Refusal.TheVariants.{FileTooLong}
 use Rattle.mf_session.specs.declared.session.Session.{Session}
 use Rattle.mf_session.specs.Answers.{KeepsDrawn}
 use Rattle.mf_session.specs.Refusals.{refused_line}
@@ -29,33 +29,28 @@ kept s = record { pictures = refl; check = refl }
 -- a file that is as it was keeps what it kept
 pub keeps-same : (before after : GfFile) (comment : List ℕ) (characters : List Character) → IsSameFile before after → Keeps before comment characters → Keeps after comment characters
 keeps-same before after comment characters same keeps =
-    record { bytes = same.bytes ∙ keeps.bytes; locators = same.locators ∙ keeps.locators; bounds = same.bounds ∙ keeps.bounds }
+    record {
+      bytes = same.bytes ∙ keeps.bytes;
+      locators = subst (λ table. HasLasts table (shipments comment characters)) (sym same.locators) keeps.locators;
+      count = same.count ∙ keeps.count;
+      bounds = same.bounds ∙ keeps.bounds;
+    }
 
 pub shipped-new : (before after : Session) (s : State) (c : Character) (text : List ℕ) → StandsFor before s → IsDrawnAlike before after
-    → Keeps after.file [] (s.characters ++ c ∷ []) → (HasCode c.code s.characters → ⊥) → ((limits before).max_bytes < length (front [] (s.characters ++ c ∷ [])) → ⊥)
+    → Keeps after.file [] (s.characters ++ c ∷ []) → ((limits before).max_bytes < length (front [] (s.characters ++ c ∷ [])) → ⊥)
     → text ≡ codes "[" ++ decimal c.code ++ codes "]\n" → HasShipped before s c text after
-shipped-new before after s c text stands same keeps new fits printed =
+shipped-new before after s c text stands same keeps fits printed =
     record {
       next = record { pictures = s.pictures; check = s.check; characters = s.characters ++ c ∷ [] };
-      answer = (inr (inr (record { new = new; fits = fits; printed = printed; appended = refl })), record { pictures = refl; check = refl });
+      answer = (inr (record { fits = fits; printed = printed; appended = refl }), record { pictures = refl; check = refl });
       stands = record { pictures = stands.pictures ∙ sym same.pictures_are; check = stands.check ∙ sym same.check_is; file = keeps };
     }
 
-pub shipped-before : (before after : Session) (s : State) (c : Character) (text : List ℕ) → StandsFor before s → IsDrawnAlike before after
-    → IsSameFile before.file after.file → HasCode c.code s.characters → text ≡ refused_line CodeShipped → HasShipped before s c text after
-shipped-before before after s c text stands same same_file has printed =
-    record {
-      next = s;
-      answer = (inl (record { before = has; printed = printed; same = refl }), kept s);
-      stands = record { pictures = stands.pictures ∙ sym same.pictures_are; check = stands.check ∙ sym same.check_is; file = keeps-same before.file after.file [] s.characters same_file stands.file };
-    }
-
 pub shipped-overlong : (before after : Session) (s : State) (c : Character) (text : List ℕ) → StandsFor before s → IsDrawnAlike before after
-    → IsSameFile before.file after.file → (HasCode c.code s.characters → ⊥) → (limits before).max_bytes < length (front [] (s.characters ++ c ∷ []))
-    → text ≡ refused_line FileTooLong → HasShipped before s c text after
-shipped-overlong before after s c text stands same same_file new too_long printed =
+    → IsSameFile before.file after.file → (limits before).max_bytes < length (front [] (s.characters ++ c ∷ [])) → text ≡ refused_line FileTooLong → HasShipped before s c text after
+shipped-overlong before after s c text stands same same_file too_long printed =
     record {
       next = s;
-      answer = (inr (inl (record { new = new; too_long = too_long; printed = printed; same = refl })), kept s);
+      answer = (inl (record { too_long = too_long; printed = printed; same = refl }), kept s);
       stands = record { pictures = stands.pictures ∙ sym same.pictures_are; check = stands.check ∙ sym same.check_is; file = keeps-same before.file after.file [] s.characters same_file stands.file };
     }

@@ -1,11 +1,9 @@
 -- Each line has an answer, and so each script has a transcript.
-use Rattle.std.proofs.Common.{◌⊎◌, inl, inr, ℕ, ◌==◌, List, [], ◌∷◌, ◌++◌, Option, None, Some, codes, length, refl, eqb-true, eq-eqb, arith}
-use Rattle.std.specs.List.{list_any}
+use Rattle.std.proofs.Common.{inl, inr, ℕ, List, [], ◌∷◌, ◌++◌, Option, None, Some, codes, length, refl, arith}
 use Rattle.std.specs.Prelude.{decimal}
 use Rattle.std.specs.Str.Lines.{lines}
-use Rattle.std.proofs.lemmas.Bool.{both_ways, cases_Bool, cases_lt}
-use Rattle.std.proofs.lemmas.List.Folds.{Any-from_list_any, list_any-from_Any}
-use Rattle.mf_gf.specs.Files.{Character, HasCode, front}
+use Rattle.std.proofs.lemmas.Bool.{cases_lt}
+use Rattle.mf_gf.specs.Files.{Character, front}
 use Rattle.mf_gf.specs.Keeping.{character}
 use Rattle.mf_live.specs.Entries.{rev}
 use Rattle.mf_live.specs.declared.fault.Fault.{Fault}
@@ -20,7 +18,7 @@ use Rattle.mf_text.specs.RunText.{run_text}
 use Rattle.mf_text.proofs.GridTexts.{grid_of_box, not_too_large, some_grid_text}
 use Rattle.mf_text.proofs.LeastBoxes.{least_box_of_some, some_least_box}
 use Rattle.mf_text.proofs.SomeAnswer as text
-use Rattle.mf_session.specs.declared.refusal.Refusal.TheVariants.{CodeShipped, FileTooLong, Line, ProofTooLarge, Operation as RefusedOperation}
+use Rattle.mf_session.specs.declared.refusal.Refusal.TheVariants.{FileTooLong, Line, ProofTooLarge, Operation as RefusedOperation}
 use Rattle.mf_session.specs.Answers.{Answers, AnswersTo, Operates, ProofAnswers, total_line}
 use Rattle.mf_session.specs.Changes.{Becomes, operated, refusal_of}
 use Rattle.mf_session.specs.Pictures.{Pictures, source_picture}
@@ -60,25 +58,15 @@ proof_some (d ∷ ds) =
       ]
     ]
 
-code_or_not : (code : ℕ) (shipped : List Character) → HasCode code shipped ⊎ (HasCode code shipped → ⊥)
-code_or_not code shipped =
-    elim (cases_Bool (list_any (λ (c : Character). c.code == code) shipped)) [
-      | inl found ↦ (let there = Any-from_list_any (λ (c : Character). c.code == code) shipped found in inl (there.0, there.1, there.2, there.3, eqb-true _ _ there.4))
-      | inr none ↦ inr (λ there. both_ways _ none (list_any-from_Any (λ (c : Character). c.code == code) shipped (there.0, there.1, there.2, there.3, eq-eqb _ _ there.4)))
-    ]
-
 ships_some : (limits : Limits) (shipped : List Character) (c : Character) → (text : List ℕ) × (after : List Character) × Ships limits shipped c text after
 ships_some limits shipped c =
-    elim (code_or_not c.code shipped) [
-      | inl before ↦ (refused_line CodeShipped, shipped, inl (record { before = before; printed = refl; same = refl }))
-      | inr new ↦ elim (cases_lt limits.max_bytes (length (front [] (shipped ++ c ∷ [])))) [
-        | inl long ↦ (refused_line FileTooLong, shipped, inr (inl (record { new = new; too_long = long; printed = refl; same = refl })))
-        | inr fits ↦ (
-          codes "[" ++ decimal c.code ++ codes "]\n",
-          shipped ++ c ∷ [],
-          inr (inr (record { new = new; fits = λ long. omega (arith, long, fits); printed = refl; appended = refl })),
-        )
-      ]
+    elim (cases_lt limits.max_bytes (length (front [] (shipped ++ c ∷ [])))) [
+      | inl long ↦ (refused_line FileTooLong, shipped, inl (record { too_long = long; printed = refl; same = refl }))
+      | inr fits ↦ (
+        codes "[" ++ decimal c.code ++ codes "]\n",
+        shipped ++ c ∷ [],
+        inr (record { fits = λ long. omega (arith, long, fits); printed = refl; appended = refl }),
+      )
     ]
 
 command_some : (limits : Limits) (s : State) (given : Command) → (text : List ℕ) × (t : State) × AnswersTo limits s given text t

@@ -1,30 +1,22 @@
 -- What shipping a character answers.
 use Rattle.std.specs.Prelude.{◌≡◌, ◌⊎◌, ◌<◌, ℕ, List, [], ◌∷◌, ◌++◌, codes, decimal, length}
-use Rattle.mf_gf.specs.Files.{Character, HasCode, front}
+use Rattle.mf_gf.specs.Files.{Character, front}
 use Rattle.mf_session.specs.Refusals.{refused_line}
 use Rattle.mf_session.specs.States.{Limits}
-use Rattle.mf_session.specs.declared.refusal.Refusal.TheVariants.{CodeShipped, FileTooLong}
-
--- a character with the code of this one was shipped before
-pub record IsShippedBefore (shipped : List Character) (c : Character) (text : List ℕ) (after : List Character) : Type 0 where
-  pub before : HasCode c.code shipped
-  pub printed : text ≡ refused_line CodeShipped
-  pub same : after ≡ shipped
+use Rattle.mf_session.specs.declared.refusal.Refusal.TheVariants.{FileTooLong}
 
 -- the preamble and the characters with this one would have more bytes than the font file may
 pub record IsOverlong (limits : Limits) (shipped : List Character) (c : Character) (text : List ℕ) (after : List Character) : Type 0 where
-  pub new : HasCode c.code shipped → ⊥
   pub too_long : limits.max_bytes < length (front [] (shipped ++ c ∷ []))
   pub printed : text ≡ refused_line FileTooLong
   pub same : after ≡ shipped
 
--- the character is shipped, and its code is printed in brackets
+-- the character is shipped, whether its code was shipped before or not, and its code is printed in brackets
 pub record IsShipped (limits : Limits) (shipped : List Character) (c : Character) (text : List ℕ) (after : List Character) : Type 0 where
-  pub new : HasCode c.code shipped → ⊥
   pub fits : limits.max_bytes < length (front [] (shipped ++ c ∷ [])) → ⊥
   pub printed : text ≡ codes "[" ++ decimal c.code ++ codes "]\n"
   pub appended : after ≡ shipped ++ c ∷ []
 
 -- what shipping a character answers, where these were shipped before
 abbrev pub Ships : Limits → List Character → Character → List ℕ → List Character → Type 0
-Ships limits shipped c text after = IsShippedBefore shipped c text after ⊎ IsOverlong limits shipped c text after ⊎ IsShipped limits shipped c text after
+Ships limits shipped c text after = IsOverlong limits shipped c text after ⊎ IsShipped limits shipped c text after

@@ -16,8 +16,6 @@ pub enum Refusal {
     Line(TextFault),
     /// Refusals 5, 6 and 11 to 13: the operation is refused.
     Operation(Fault),
-    /// Refusal 19: a character with this code was shipped before.
-    CodeShipped,
     /// Refusal 20: the font file would have more bytes than it may.
     FileTooLong,
     /// Refusal 23: the grid text would be wider or higher than 128 characters.
@@ -34,7 +32,6 @@ impl fmt::Display for Refusal {
         match self {
             Refusal::Line(fault) => write!(f, "{fault}"),
             Refusal::Operation(fault) => write!(f, "{fault}"),
-            Refusal::CodeShipped => write!(f, "CodeShipped"),
             Refusal::FileTooLong => write!(f, "FileTooLong"),
             Refusal::ProofTooLarge => write!(f, "ProofTooLarge"),
         }

@@ -1,8 +1,9 @@
 //! How a file is made.
-ghost use Rattle.std.specs.Prelude.{◌≡◌, ◌⊎◌, ◌<◌, ◌≤◌, ◌↔◌, ◌++◌, ◌∷◌, [], Err, IfErr, IfOk, IsTrue, OnErr, OnOk, List, ℕ, length, min};
+ghost use Rattle.std.specs.Prelude.{◌≡◌, ◌⊎◌, ◌<◌, ◌≤◌, ◌↔◌, ◌++◌, ◌∷◌, [], Err, IfErr, IfOk, OnErr, OnOk, List, ℕ, length, min};
 ghost use Rattle.mf_gf.specs.Boxes.{box_of};
 ghost use Rattle.mf_gf.specs.Spelling as spelling;
-ghost use Rattle.mf_gf.specs.Files.{Character, front, preamble, HasCode};
+ghost use Rattle.mf_gf.specs.Spelling.{pointer};
+ghost use Rattle.mf_gf.specs.Files.{Character, front, preamble};
 ghost use Rattle.mf_gf.specs.Keeping.{IsAppended, IsSameFile, Keeps, character, limit};
 ghost use Rattle.mf_gf.specs.Pixels.{black};
 
@@ -11,6 +12,7 @@ use crate::boxes::CharacterBox;
 use crate::character::spell;
 use crate::fault::GfFault;
 use crate::locator::Locator;
+use crate::locators::Locators;
 use crate::spelling::Spelling;
 use mf_geom::OutOfMemory;
 use mf_rows::Picture;
@@ -49,36 +51,35 @@ impl GfFile {
         Ok(GfFile {
             alloc,
             bytes: preamble(alloc, comment)?,
-            locators: Vec::new(alloc),
+            locators: Locators::new(alloc)?,
+            count: 0,
             bounds: None,
             max_bytes,
         })
     }
 
-    /// How many characters were shipped.
+    /// How many characters were shipped, each counted, whatever its code.
     pub fn count(&self) -> u32
         ensures { (comment : List ℕ) (characters : List Character) → Keeps self.now comment characters → result ≡ length characters }
     {
-        self.locators.len() as u32
+        self.count
     }
 
     /// Ships a character: its black pixels are the pixels of positive weight. `dx` is its escapement in 1/65536 pixel,
-    /// `width` its width in 1/1048576 of the design size. Refusals CodeShipped (19), exactly where a character with this
-    /// code was shipped before, else FileTooLong (20), exactly where preamble and characters would have more bytes than
-    /// the file may, and OutOfMemory (14). A refusal leaves the file as it was.
+    /// `width` its width in 1/1048576 of the design size. Its code may have been shipped before: p of the new character is then
+    /// the place of the last one of that code, and the locator of the code is from now on that of the new one. Refusals
+    /// FileTooLong (20), exactly where preamble and characters would have more bytes than the file may, and OutOfMemory (14). A
+    /// refusal leaves the file as it was.
     pub fn ship(&mut self, code: u8, dx: i32, width: i32, picture: &Picture) -> Result<(), GfFault>
         ensures shipped { OnOk result ((comment : List ℕ) (characters : List Character) → Keeps self.old comment characters → Keeps self.new comment (characters ++ character code dx width picture.now ∷ [])) }
         ensures unchanged { OnErr result (IsSameFile self.old self.new) }
         ensures limit { limit self.new ≡ limit self.old }
-        ensures code_shipped { (comment : List ℕ) (characters : List Character) → Keeps self.old comment characters → HasCode code characters ↔ (result ≡ Err GfFault.CodeShipped) }
-        ensures too_long { (comment : List ℕ) (characters : List Character) → Keeps self.old comment characters → (HasCode code characters → ⊥) → (limit self.old < length (front comment (characters ++ character code dx width picture.now ∷ []))) ↔ (result ≡ Err GfFault.FileTooLong) }
-        ensures fault { IfErr result (λ fault. (fault ≡ GfFault.CodeShipped) ⊎ (fault ≡ GfFault.FileTooLong) ⊎ (fault ≡ GfFault.OutOfMemory)) }
+        ensures too_long { (comment : List ℕ) (characters : List Character) → Keeps self.old comment characters → (limit self.old < length (front comment (characters ++ character code dx width picture.now ∷ []))) ↔ (result ≡ Err GfFault.FileTooLong) }
+        ensures fault { IfErr result (λ fault. (fault ≡ GfFault.FileTooLong) ⊎ (fault ≡ GfFault.OutOfMemory)) }
     {
-        if self.has_code(code) {
-            return Err(GfFault::CodeShipped);
-        }
+        let earlier = self.locators.last_place(code);
         let bounds = CharacterBox::of_black(picture);
-        let spelled = self.spelled(code, picture, &bounds)?;
+        let spelled = self.spelled(code, earlier, picture, &bounds)?;
         let locator = Locator {
             code,
             dx,
@@ -88,28 +89,23 @@ impl GfFile {
         Ok(self.append(locator, bounds, &spelled)?)
     }
 
-    /// Whether a character with this code was shipped.
-    fn has_code(&self, code: u8) -> bool
-        ensures { (comment : List ℕ) (characters : List Character) → Keeps self.now comment characters → IsTrue result ↔ HasCode code characters }
-    {
-        self.locators.iter().any(|locator| locator.code == code)
-    }
-
-    /// The bytes of a character, for which there is room in the file.
+    /// The bytes of a character, if the file has room for them. `earlier` is the place of the last character of its code, if
+    /// there is one.
     fn spelled(
         &self,
         code: u8,
+        earlier: Option<u32>,
         picture: &Picture,
         bounds: &CharacterBox,
     ) -> Result<Vec<u8>, GfFault>
         requires { bounds.now ≡ box_of (black picture.now) }
-        ensures bytes { IfOk result (λ bytes. bytes.items ≡ spelling.spell code (black picture.now)) }
-        ensures too_long { (self.now.max_bytes < length (self.now.bytes.items ++ spelling.spell code (black picture.now))) ↔ (result ≡ Err GfFault.FileTooLong) }
+        ensures bytes { IfOk result (λ bytes. bytes.items ≡ spelling.spell code (pointer earlier) (black picture.now)) }
+        ensures too_long { (self.now.max_bytes < length (self.now.bytes.items ++ spelling.spell code (pointer earlier) (black picture.now))) ↔ (result ≡ Err GfFault.FileTooLong) }
         ensures fault { IfErr result (λ fault. (fault ≡ GfFault.FileTooLong) ⊎ (fault ≡ GfFault.OutOfMemory)) }
     {
         let room = self.max_bytes as usize - self.bytes.len();
         let mut out = Spelling::new(self.alloc, room);
-        spell(&mut out, code, picture, bounds);
+        spell(&mut out, code, earlier, picture, bounds);
         out.finish()
     }
 
@@ -126,11 +122,9 @@ impl GfFile {
         ensures unchanged { OnErr result (IsSameFile self.old self.new) }
         ensures limit { limit self.new ≡ limit self.old }
     {
-        self.locators.push(locator)?;
-        if self.bytes.extend_from_slice(spelled).is_err() {
-            self.locators.pop();
-            return Err(OutOfMemory);
-        }
+        self.bytes.extend_from_slice(spelled)?;
+        self.locators.set(locator);
+        self.count += 1;
         self.bounds = Some(CharacterBox::widened(self.bounds, bounds));
         Ok(())
     }

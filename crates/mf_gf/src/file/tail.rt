@@ -1,7 +1,7 @@
 //! The end of a file: the postamble, the locators and what stands behind them.
 ghost use Rattle.std.specs.Prelude.{◌≡◌, ◌⊎◌, ◌<◌, ◌≤◌, ◌↔◌, ◌+◌, ◌++◌, [], Err, IfErr, IfOk, List, ℕ, length};
-ghost use Rattle.mf_gf.specs.Files.{Character, ending, file_of, locators_from, locators_of, post};
-ghost use Rattle.mf_gf.specs.Keeping.{IsRefusedAs, IsSameFile, Keeps, limit};
+ghost use Rattle.mf_gf.specs.Files.{Character, ending, file_of, post};
+ghost use Rattle.mf_gf.specs.Keeping.{IsRefusedAs, IsSameFile, Keeps, limit, table_text};
 ghost use Rattle.mf_gf.specs.Spellings.{Holds};
 ghost use Rattle.mf_gf.specs.Tails.{tail_of};
 
@@ -45,38 +45,16 @@ impl GfFile {
 
     /// The bytes behind the characters.
     fn tail(&self, words: &FontWords, bounds: &CharacterBox) -> Result<Vec<u8>, GfFault>
-        ensures bytes { IfOk result (λ tail. tail.items ≡ tail_of words.now bounds.now self.now.bytes.items self.now.locators.items) }
-        ensures too_long { (self.now.max_bytes < length (self.now.bytes.items ++ tail_of words.now bounds.now self.now.bytes.items self.now.locators.items)) ↔ (result ≡ Err GfFault.FileTooLong) }
+        ensures bytes { IfOk result (λ tail. tail.items ≡ tail_of words.now bounds.now self.now.bytes.items (table_text self.now.locators)) }
+        ensures too_long { (self.now.max_bytes < length (self.now.bytes.items ++ tail_of words.now bounds.now self.now.bytes.items (table_text self.now.locators))) ↔ (result ≡ Err GfFault.FileTooLong) }
         ensures fault { IfErr result (λ fault. (fault ≡ GfFault.FileTooLong) ⊎ (fault ≡ GfFault.OutOfMemory)) }
     {
         let place = self.bytes.len() as u32;
         let mut out = Spelling::new(self.alloc, (self.max_bytes - place) as usize);
         put_post(&mut out, words, bounds, place);
-        self.put_locators(&mut out);
+        self.locators.spell(&mut out);
         out.put_end(place);
         out.finish()
-    }
-
-    /// The locators, codes rising.
-    fn put_locators(&self, out: &mut Spelling)
-        ensures held { (text : List ℕ) → Holds out.old text → Holds out.new (text ++ locators_from 0 256 self.now.locators.items) }
-        ensures room { out.new.room ≡ out.old.room }
-    {
-        for code in 0..=255u8 {
-            self.put_locators_of(out, code);
-        }
-    }
-
-    /// The locators of a code.
-    fn put_locators_of(&self, out: &mut Spelling, code: u8)
-        ensures held { (text : List ℕ) → Holds out.old text → Holds out.new (text ++ locators_of code self.now.locators.items) }
-        ensures room { out.new.room ≡ out.old.room }
-    {
-        for locator in &self.locators {
-            if locator.code == code {
-                locator.spell(out);
-            }
-        }
     }
 
     /// The file with its tail.

@@ -15,7 +15,7 @@ const UNIT: &[(i32, i32, u32)] = &[(0, 0, 1)];
 // The tables of bytes stand behind functions, so that the tests are checked without them.
 
 /// The bytes of a file are these parts, one behind another.
-fn assert_bytes(rt: &impl Abort, alloc: Global, file: &GfBytes, parts: &[&[u8]]) {
+pub(crate) fn assert_bytes(rt: &impl Abort, alloc: Global, file: &GfBytes, parts: &[&[u8]]) {
     let expected = parts
         .concat(alloc)
         .expect(rt, "there is room for the bytes");
@@ -103,10 +103,10 @@ fn long_fields(rt: HostRuntime) {
 }
 
 /// Bytes of a file: the place of the first one, the bytes, and what they are.
-type Part = (usize, &'static [u8], &'static str);
+pub(crate) type Part = (usize, &'static [u8], &'static str);
 
 /// These bytes stand in a file.
-fn assert_parts(rt: &impl Abort, file: &GfBytes, parts: &[Part]) {
+pub(crate) fn assert_parts(rt: &impl Abort, file: &GfBytes, parts: &[Part]) {
     for (first, bytes, case) in parts {
         assert_part(rt, file, *first, bytes, *case);
     }

@@ -1,7 +1,7 @@
 //! Files and characters that are refused, and what is left then.
 
 use super::{
-    NO_WORDS, RECT, assert_count, assert_length, finished, gf_file, part, picture, ship,
+    NO_WORDS, RECT, assert_count, assert_length, finished, part, picture, ship, ship_rectangle,
     short_file, with_rectangle,
 };
 use crate::tests::assertions::assert_same;
@@ -9,9 +9,6 @@ use mf_gf::{GfFault, GfFile};
 use mf_rows::Picture;
 use std::alloc::Global;
 use std::process::Abort;
-
-/// A stretch far from the rectangle, which would make the box of a file larger.
-const FAR: &[(i32, i32, u32)] = &[(9, -7, 30)];
 
 /// Comments of so many bytes in files of at most so many, and their refusals.
 const COMMENTS: &[(usize, u32, Option<GfFault>)] = &[
@@ -61,39 +58,18 @@ fn assert_same_files(rt: &impl Abort, file: GfFile, other: GfFile) {
     assert_same(rt, file.bytes(), other.bytes(), "the file");
 }
 
-/// A file to which a picture was shipped with these codes.
-fn with_codes(rt: &impl Abort, alloc: Global, codes: &[u8], picture: &Picture) -> GfFile {
-    let mut file = gf_file(rt, alloc);
-    for code in codes {
-        ship(rt, &mut file, *code, (0, 0), picture);
-    }
-    file
-}
-
+/// A second character of a code takes 30 bytes where the first took 11, and is refused for its length alone.
 #[test]
-fn codes(rt: HostRuntime) {
+fn code_that_was_shipped(rt: HostRuntime) {
     let alloc = rt.alloc();
     let rect = picture(&rt, alloc, RECT, 1);
-    let far = picture(&rt, alloc, FAR, 1);
-    let mut file = with_codes(&rt, alloc, &[7], &rect);
-    assert_refused(&rt, &mut file, 7, (1, 2), &far, GfFault::CodeShipped);
-    assert_count(&rt, &file, 1);
-    ship(&rt, &mut file, 8, (0, 0), &rect);
+    let mut file = with_rectangle(&rt, alloc, 43);
+    assert_refused(&rt, &mut file, 65, (0, 0), &rect, GfFault::FileTooLong);
+    ship(&rt, &mut file, 66, (0, 0), &rect);
     assert_count(&rt, &file, 2);
-    // The refused character left nothing behind.
-    assert_same_files(&rt, file, with_codes(&rt, alloc, &[7, 8], &rect));
-}
-
-/// A code that was shipped comes before a file that is too long.
-#[test]
-fn code_before_length(rt: HostRuntime) {
-    let alloc = rt.alloc();
-    let rect = picture(&rt, alloc, RECT, 1);
-    let mut file = short_file(&rt, alloc, 14);
+    let mut file = with_rectangle(&rt, alloc, 44);
     ship(&rt, &mut file, 65, (0, 0), &rect);
-    assert_refused(&rt, &mut file, 65, (0, 0), &rect, GfFault::CodeShipped);
-    assert_refused(&rt, &mut file, 66, (0, 0), &rect, GfFault::FileTooLong);
-    assert_count(&rt, &file, 1);
+    assert_count(&rt, &file, 2);
 }
 
 /// The file, whose end is refused with this fault.
@@ -146,6 +122,22 @@ fn too_long_character(rt: HostRuntime) {
     assert_refused(&rt, &mut file, 66, (1, 2), &long, GfFault::FileTooLong);
     assert_count(&rt, &file, 1);
     assert_same_files(&rt, file, with_rectangle(&rt, alloc, 72));
+}
+
+/// A second character of a code that is too long leaves nothing behind: the next one names the first, and the locator leads to
+/// that next one.
+#[test]
+fn too_long_second_character(rt: HostRuntime) {
+    let alloc = rt.alloc();
+    let long = long_rows(&rt, alloc);
+    let mut file = with_rectangle(&rt, alloc, 104);
+    assert_refused(&rt, &mut file, 65, (1, 2), &long, GfFault::FileTooLong);
+    assert_count(&rt, &file, 1);
+    ship_rectangle(&rt, alloc, &mut file);
+    let mut other = with_rectangle(&rt, alloc, 104);
+    ship_rectangle(&rt, alloc, &mut other);
+    assert_count(&rt, &file, 2);
+    assert_same_files(&rt, file, other);
 }
 
 #[test]

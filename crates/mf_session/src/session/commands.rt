@@ -93,7 +93,6 @@ impl Session {
         let picture = self.variables.source(&source);
         match self.file.ship(code, dx, width, picture) {
             Ok(()) => Ok(text),
-            Err(GfFault::CodeShipped) => refused(alloc, Refusal::CodeShipped),
             Err(GfFault::FileTooLong) => refused(alloc, Refusal::FileTooLong),
             Err(GfFault::NoCharacters | GfFault::CommentTooLong | GfFault::OutOfMemory) => Err(
                 OutOfMemory,

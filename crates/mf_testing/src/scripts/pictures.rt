@@ -211,7 +211,7 @@ const SCRIPTS: &[Script] = &[
          refused OutOfField\n\
          published 3\n",
     ),
-    // Shipping: a code is shipped once, and what is shipped is no operation.
+    // A code may be shipped again, and a shipping is no operation.
     (
         "addto currentpicture contour (0,0)--(3,0)--(3,2)--(0,2)--cycle\n\
          shipout currentpicture code 65 dx 327680 width 0\n\
@@ -220,9 +220,9 @@ const SCRIPTS: &[Script] = &[
          shipout b code -0 dx 0 width 0\n\
          publish\n",
         "[65]\n\
-         refused CodeShipped\n\
+         [65]\n\
          [0]\n\
-         refused CodeShipped\n\
+         [0]\n\
          published 1\n",
     ),
     (

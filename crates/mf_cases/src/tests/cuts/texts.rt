@@ -171,15 +171,15 @@ const CUT_LINES: &[CutLine] = &[
         "- 2 1 1 1 1 1 8 8 10 10 11 11 11 15 16 17 18 18 20 21 22 23 24 25 26 27 28 29 30 30 \
          30 30 30 35 - - - - - - - - -",
         "[255]\n\
-         refused CodeShipped\n\
-         refused CodeShipped\n\
-         refused CodeShipped\n\
-         refused CodeShipped\n\
-         refused CodeShipped\n\
-         refused CodeShipped\n\
-         refused CodeShipped\n\
-         refused CodeShipped\n\
-         refused CodeShipped\n\
+         [255]\n\
+         [255]\n\
+         [255]\n\
+         [255]\n\
+         [255]\n\
+         [255]\n\
+         [255]\n\
+         [255]\n\
+         [255]\n\
          0 0 2 1\n\
          blank\n\
          published 0\n",

@@ -12,8 +12,8 @@ returns-clause-held c =
     let min_n : FitsSigned w32 bounds.min_n = search rules in
     let max_n : FitsSigned w32 bounds.max_n = search rules in
     let code = write_both _ _ _ _ _ c.put_byte.ensures.held (write_same _ _ _ _ (ap (λ n. word (pos n)) c.from.ensures) c.put_unsigned.ensures.held) in
-    let place = write_both _ _ _ _ _ code c.put_word.ensures.held in
-    let left = write_both _ _ _ _ _ place (write_word _ _ bounds.min_m min_m c.put_word-2.ensures.held) in
-    let right = write_both _ _ _ _ _ left (write_word _ _ bounds.max_m max_m c.put_word-3.ensures.held) in
-    let bottom = write_both _ _ _ _ _ right (write_word _ _ bounds.min_n min_n c.put_word-4.ensures.held) in
-    write_both _ _ _ _ _ bottom (write_word _ _ bounds.max_n max_n c.put_word-5.ensures.held)
+    let place = write_both _ _ _ _ _ code c.put_pointer.ensures.held in
+    let left = write_both _ _ _ _ _ place (write_word _ _ bounds.min_m min_m c.put_word.ensures.held) in
+    let right = write_both _ _ _ _ _ left (write_word _ _ bounds.max_m max_m c.put_word-2.ensures.held) in
+    let bottom = write_both _ _ _ _ _ right (write_word _ _ bounds.min_n min_n c.put_word-3.ensures.held) in
+    write_both _ _ _ _ _ bottom (write_word _ _ bounds.max_n max_n c.put_word-4.ensures.held)

@@ -1,12 +1,12 @@
-use Rattle.std.proofs.Common.{refl, sym, ◌∙◌}
-use Rattle.std.proofs.lemmas.List.{append-nil}
-use Rattle.mf_gf.specs.Files.{preamble, located_from}
+use Rattle.std.proofs.Common.{refl}
+use Rattle.mf_gf.specs.Files.{with_characters}
 use Rattle.mf_gf.proofs.file.GfFile.new.Goals as goal
 
 pub returns-clause-kept : goal.returns-clause-kept
-unfolding located_from
+unfolding with_characters
 returns-clause-kept c = record {
-  bytes = c.in_ok-preamble.ensures ∙ sym (append-nil (preamble c.args.comment.now));
-  locators = c.new.ensures.items;
+  bytes = c.in_ok-preamble.ensures;
+  locators = c.in_ok-new.ensures;
+  count = refl;
   bounds = refl;
 }

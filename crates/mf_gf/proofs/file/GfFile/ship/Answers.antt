@@ -1,19 +1,40 @@
-use Rattle.std.proofs.Common.{◌≡◌, ◌≤◌, length, sym, subst, ◌∙◌, w32, to_z, of_z, arith}
+use Rattle.std.proofs.Common.{◌≡◌, ◌≤◌, rules, length, ap, sym, subst, ◌∙◌, w32, to_z, of_z, arith}
 use Rattle.std.proofs.lemmas.Int.{ints}
+use Rattle.mf_gf.specs.Files.{shipments}
 use Rattle.mf_gf.specs.Keeping.{character}
 use Rattle.mf_gf.specs.Pixels.{black}
-use Rattle.mf_gf.proofs.Shipped.{spell_some, keeps-more}
+use Rattle.mf_gf.specs.Spelling.{pointer, spell}
+use Rattle.mf_gf.proofs.Shipped.{front-kept, keeps-more, spell_some}
 use Rattle.mf_gf.proofs.file.GfFile.ship.Goals as goal
 
 pub append-requires-clause-some : goal.append-requires-clause-some
 append-requires-clause-some c =
-    subst (λ bytes. 1 ≤ length bytes) (sym (c.deref.ensures.value ∙ c.in_ok-spelled.ensures.bytes)) (spell_some c.args.code (black c.args.picture.now))
+    subst (λ bytes. 1 ≤ length bytes) (sym (c.deref.ensures.value ∙ c.in_ok-spelled.ensures.bytes)) (spell_some c.args.code (pointer c.last_place-earlier.result) (black c.args.picture.now))
 
 pub returns-clause-shipped : goal.returns-clause-shipped
 returns-clause-shipped c = λ comment characters keeps.
     let dx : to_z w32 (of_z w32 c.args.dx) ≡ c.args.dx = omega (arith, ints) in
     let width : to_z w32 (of_z w32 c.args.width) ≡ c.args.width = omega (arith, ints) in
     let place : c.len.result ≡ length c.args.self.now.bytes.items = c.len.ensures ∙ c.args.self.now.bytes.ok.0 in
-    let spelled = c.deref.ensures.value ∙ c.in_ok-spelled.ensures.bytes in
+    let earlier = c.last_place-earlier.ensures (shipments comment characters) keeps.locators in
+    let spelled = c.deref.ensures.value ∙ c.in_ok-spelled.ensures.bytes ∙ ap (λ p. spell c.args.code (pointer p) (black c.args.picture.now)) earlier in
     keeps-more c.args.self.now c.append.new.self comment characters (character c.args.code c.args.dx c.args.width c.args.picture.now)
     (rw (dx, width, place, c.of_black-bounds.ensures.value, spelled) at c.in_ok-append.ensures.appended) keeps
+
+pub returns-in_err-spelled-clause-too_long : goal.returns-in_err-spelled-clause-too_long
+returns-in_err-spelled-clause-too_long c = λ comment characters keeps.
+    let this = character c.args.code c.args.dx c.args.width c.args.picture.now in
+    let whole = front-kept c.args.self.now comment characters this c.last_place-earlier.result keeps (c.last_place-earlier.ensures (shipments comment characters) keeps.locators) in
+    rw whole (search rules)
+
+pub returns-in_err-append-clause-too_long : goal.returns-in_err-append-clause-too_long
+returns-in_err-append-clause-too_long c = λ comment characters keeps.
+    let this = character c.args.code c.args.dx c.args.width c.args.picture.now in
+    let whole = front-kept c.args.self.now comment characters this c.last_place-earlier.result keeps (c.last_place-earlier.ensures (shipments comment characters) keeps.locators) in
+    rw whole (search rules)
+
+pub returns-clause-too_long : goal.returns-clause-too_long
+returns-clause-too_long c = λ comment characters keeps.
+    let this = character c.args.code c.args.dx c.args.width c.args.picture.now in
+    let whole = front-kept c.args.self.now comment characters this c.last_place-earlier.result keeps (c.last_place-earlier.ensures (shipments comment characters) keeps.locators) in
+    rw whole (search rules)

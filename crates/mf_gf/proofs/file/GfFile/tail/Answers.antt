@@ -1,15 +1,16 @@
 use Rattle.std.proofs.Common.{[], ◌∙◌, arith}
 use Rattle.std.proofs.lemmas.Result.{IfOk-weaker}
+use Rattle.mf_gf.specs.Keeping.{table_text}
 use Rattle.mf_gf.specs.Spellings.{Holds}
 use Rattle.mf_gf.specs.Tails.{tail_of}
 use Rattle.mf_gf.proofs.TailTexts.{tail_held, too_long_behind}
 use Rattle.mf_gf.proofs.file.GfFile.tail.Goals as goal
 
 -- what the spelling holds at its end
-held : (c : goal.After-finish) → Holds c.put_end.new.self (tail_of c.args.words.now c.args.bounds.now c.args.self.now.bytes.items c.args.self.now.locators.items)
+held : (c : goal.After-finish) → Holds c.put_end.new.self (tail_of c.args.words.now c.args.bounds.now c.args.self.now.bytes.items (table_text c.args.self.now.locators))
 held c =
     tail_held _ _ _ _ c.args.self.now.bytes.items _ (c.len-place.ensures ∙ c.args.self.now.bytes.ok.0)
-    (c.put_end.ensures.held _ (c.put_locators.ensures.held _ (c.put_post.ensures.held [] c.new-out.ensures.empty)))
+    (c.put_end.ensures.held _ (c.spell.ensures.held _ (c.put_post.ensures.held [] c.new-out.ensures.empty)))
 
 pub returns-clause-bytes : goal.returns-clause-bytes
 returns-clause-bytes c = IfOk-weaker c.finish.result _ _ (λ bytes each. each _ (held c)) c.finish.ensures.bytes

@@ -1,10 +1,10 @@
 use Rattle.std.proofs.Common.{rules, ◌≡◌, ◌<◌, Err, length, refl, [], ◌∷◌, ◌++◌, codes, decimal, ap, sym, ◌∙◌, w32, to_z, of_z, arith}
 use Rattle.std.proofs.lemmas.Int.{ints}
 use Rattle.std.proofs.lemmas.Result.{IfOk-weaker}
-use Rattle.mf_gf.specs.Files.{HasCode, front}
+use Rattle.mf_gf.specs.Files.{front}
 use Rattle.mf_gf.specs.Keeping.{Keeps, character, limit}
 use Rattle.mf_session.specs.Pictures.{source_picture}
-use Rattle.mf_session.proofs.Shipping.{shipped-new, shipped-before, shipped-overlong}
+use Rattle.mf_session.proofs.Shipping.{shipped-new, shipped-overlong}
 use Rattle.mf_session.proofs.session.Session.ship.Goals as goal
 
 pub returns-in-Ok-clause-answer : goal.returns-in-Ok-clause-answer
@@ -15,33 +15,21 @@ returns-in-Ok-clause-answer c = λ s stands.
     c.source-picture.ensures ∙ ap (λ p. source_picture p c.args.source) (sym stands.pictures) in
     let shipped = character c.args.code c.args.dx c.args.width (source_picture s.pictures c.args.source) in
     let keeps : Keeps c.ship.new.self [] (s.characters ++ shipped ∷ []) = rw (dx, width, picture) at (c.in-Ok.ensures.shipped [] s.characters stands.file) in
-    let new : HasCode c.args.code s.characters → ⊥ = λ has. let refused = (c.in-Ok.ensures.code_shipped [] s.characters stands.file).0 has in absurd (cc) in
-    let fits : limit c.args.self.now.file < length (front [] (s.characters ++ shipped ∷ [])) → ⊥ = λ long. let refused = (rw (dx, width, picture) at (c.in-Ok.ensures.too_long [] s.characters stands.file new)).0 long in absurd (cc) in
+    let fits : limit c.args.self.now.file < length (front [] (s.characters ++ shipped ∷ [])) → ⊥ = λ long. let refused = (rw (dx, width, picture) at (c.in-Ok.ensures.too_long [] s.characters stands.file)).0 long in absurd (cc) in
     let printed : c.into_bytes-text.result.items ≡ codes "[" ++ decimal c.args.code ++ codes "]\n" = search rules in
-    let done = shipped-new c.args.self.now (record { variables = c.args.self.now.variables; check = c.args.self.now.check; file = c.ship.new.self }) s shipped _ stands (record { pictures_are = refl; check_is = refl }) keeps new fits printed in
+    let done = shipped-new c.args.self.now (record { variables = c.args.self.now.variables; check = c.args.self.now.check; file = c.ship.new.self }) s shipped _ stands (record { pictures_are = refl; check_is = refl }) keeps fits printed in
     record { next = done.next; answer = done.answer; stands = done.stands }
-
-pub returns-in-Err-CodeShipped-clause-answer : goal.returns-in-Err-CodeShipped-clause-answer
-returns-in-Err-CodeShipped-clause-answer c =
-    IfOk-weaker c.refused.result _ _
-    (λ text printed s stands.
-    let shipped = character c.args.code c.args.dx c.args.width (source_picture s.pictures c.args.source) in
-    let has = (c.in-Err-CodeShipped.ensures.code_shipped [] s.characters stands.file).1 (ap Err c.in-Err-CodeShipped.field-0-is) in
-    let done = shipped-before c.args.self.now (record { variables = c.args.self.now.variables; check = c.args.self.now.check; file = c.ship.new.self }) s shipped _ stands (record { pictures_are = refl; check_is = refl }) c.in-Err-CodeShipped.ensures.unchanged has printed in
-    record { next = done.next; answer = done.answer; stands = done.stands })
-    c.refused.ensures
 
 pub returns-in-Err-FileTooLong-clause-answer : goal.returns-in-Err-FileTooLong-clause-answer
 returns-in-Err-FileTooLong-clause-answer c =
-    IfOk-weaker c.refused-in-Err-FileTooLong.result _ _
+    IfOk-weaker c.refused.result _ _
     (λ text printed s stands.
     let dx : to_z w32 (of_z w32 c.args.dx) ≡ c.args.dx = omega (arith, ints) in
     let width : to_z w32 (of_z w32 c.args.width) ≡ c.args.width = omega (arith, ints) in
     let picture : c.source-picture.result.now ≡ source_picture s.pictures c.args.source =
     c.source-picture.ensures ∙ ap (λ p. source_picture p c.args.source) (sym stands.pictures) in
     let shipped = character c.args.code c.args.dx c.args.width (source_picture s.pictures c.args.source) in
-    let new : HasCode c.args.code s.characters → ⊥ = λ has. let refused = (c.in-Err-FileTooLong.ensures.code_shipped [] s.characters stands.file).0 has in absurd (cc) in
-    let long = (rw (dx, width, picture) at (c.in-Err-FileTooLong.ensures.too_long [] s.characters stands.file new)).1 (ap Err c.in-Err-FileTooLong.field-0-is) in
-    let done = shipped-overlong c.args.self.now (record { variables = c.args.self.now.variables; check = c.args.self.now.check; file = c.ship.new.self }) s shipped _ stands (record { pictures_are = refl; check_is = refl }) c.in-Err-FileTooLong.ensures.unchanged new long printed in
+    let long = (rw (dx, width, picture) at (c.in-Err-FileTooLong.ensures.too_long [] s.characters stands.file)).1 (ap Err c.in-Err-FileTooLong.field-0-is) in
+    let done = shipped-overlong c.args.self.now (record { variables = c.args.self.now.variables; check = c.args.self.now.check; file = c.ship.new.self }) s shipped _ stands (record { pictures_are = refl; check_is = refl }) c.in-Err-FileTooLong.ensures.unchanged long printed in
     record { next = done.next; answer = done.answer; stands = done.stands })
-    c.refused-in-Err-FileTooLong.ensures
+    c.refused.ensures

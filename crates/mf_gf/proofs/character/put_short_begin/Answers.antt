@@ -1,22 +1,21 @@
-use Rattle.std.proofs.Common.{◌≡◌, ◌-ℤ◌, to_z, of_z, w32, sym, arith}
-use Rattle.std.proofs.lemmas.Bool.{cond-true}
+use Rattle.std.proofs.Common.{◌≡◌, ◌-ℤ◌, to_z, of_z, w32, refl, arith}
 use Rattle.std.proofs.lemmas.Int.{ints}
-use Rattle.mf_gf.specs.Spelling.{is_short, short_begin, long_begin}
+use Rattle.mf_gf.specs.Spelling.{short_begin}
 use Rattle.mf_gf.proofs.ShortBoxes.{short_box, byte_fits}
 use Rattle.mf_gf.proofs.Writing.{write_same}
-use Rattle.mf_gf.proofs.character.put_begin.Goals as goal
+use Rattle.mf_gf.proofs.character.put_short_begin.Goals as goal
 
 pub overflow_cast-bounds : goal.overflow_cast-bounds
 overflow_cast-bounds c =
     let b = c.args.bounds.now in
-    let short = short_box b (sym c.if-not-is_short.ensures) in
+    let short = short_box b c.requires.short in
     let width : to_z w32 (of_z w32 (to_z w32 (of_z w32 b.max_m) -ℤ to_z w32 (of_z w32 b.min_m))) ≡ b.max_m -ℤ b.min_m = omega (arith, ints) in
     rw width (byte_fits _ short.width)
 
 pub overflow_cast-bounds-3 : goal.overflow_cast-bounds-3
 overflow_cast-bounds-3 c =
     let b = c.args.bounds.now in
-    let short = short_box b (sym c.if-not-is_short.ensures) in
+    let short = short_box b c.requires.short in
     let height : to_z w32 (of_z w32 (to_z w32 (of_z w32 b.max_n) -ℤ to_z w32 (of_z w32 b.min_n))) ≡ b.max_n -ℤ b.min_n = omega (arith, ints) in
     rw height (byte_fits _ short.height)
 
@@ -27,5 +26,4 @@ returns-clause-held c =
     let right : to_z w32 (of_z w32 b.max_m) ≡ b.max_m = omega (arith, ints) in
     let height : to_z w32 (of_z w32 (to_z w32 (of_z w32 b.max_n) -ℤ to_z w32 (of_z w32 b.min_n))) ≡ b.max_n -ℤ b.min_n = omega (arith, ints) in
     let top : to_z w32 (of_z w32 b.max_n) ≡ b.max_n = omega (arith, ints) in
-    let short = cond-true (is_short b) (short_begin c.args.code b) (long_begin c.args.code b) (sym c.if-not-is_short.ensures) in
-    write_same _ _ _ _ (rw (width, right, height, top) (sym short)) c.put.ensures.held
+    write_same _ _ _ _ (let same : short_begin c.args.code b ≡ short_begin c.args.code b = refl in rw (width, right, height, top) same) c.put.ensures.held

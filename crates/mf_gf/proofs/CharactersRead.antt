@@ -1,0 +1,195 @@
+-- The characters of a file, read back by p.
+use Rattle.std.proofs.Common.{◌≡◌, ◌<◌, ◌≤◌, ◌==◌, ◌||◌, ℕ, Bool, true, false, ℤ, pos, if◌then◌else◌, List, [], ◌∷◌, ◌++◌, map, reverse, length, take, drop, Some, option_map, is_some, refl, ap, sym, subst, ◌∙◌, append_assoc, append-nil, length-append, eqb-true, arith}
+use Rattle.std.specs.List.{All, filter, list_any}
+use Rattle.std.proofs.Math.Seq.{drop-append_seam, take-append_seam}
+use Rattle.std.proofs.lemmas.Int.{ints}
+use Rattle.std.proofs.lemmas.List.{drop-append-le}
+use Rattle.std.proofs.lemmas.List.Elements.{All-head, All-tail}
+use mathlib.Core.List.{reverse-cons}
+use Rattle.mf_rows.specs.Dots.{Dot, start_of_field}
+use Rattle.mf_rows.specs.Runs.{runs_of}
+use Rattle.mf_gf.specs.Boxes.{box_of}
+use Rattle.mf_gf.specs.Files.{Character, FileSoFar, Shipment, front, last_of, last_place, shipments, spell_after, with_character, with_characters}
+use Rattle.mf_gf.specs.Numbers.{IsWord}
+use Rattle.mf_gf.specs.Painting.{head_of, paint}
+use Rattle.mf_gf.specs.Pixels.{IsPixelSet}
+use Rattle.mf_gf.specs.Pointers.{IsCharacterAt, IsShippable, LeadsBack}
+use Rattle.mf_gf.specs.Spelling.{begin, pointer, rows, spell}
+use Rattle.mf_gf.proofs.BoxesInReach.{box_from}
+use Rattle.mf_gf.proofs.BoxOfDots.{head-begin}
+use Rattle.mf_gf.proofs.LocatorsRead.{split}
+use Rattle.mf_gf.proofs.PaintedBack.{paint-spell}
+use Rattle.mf_gf.proofs.Shipped.{shipment_after}
+
+-- ---- one character
+
+pub head-spell : (code : ℕ) (p : ℤ) (ds : List Dot) (rest : List ℕ) → code < 256 → IsWord p → IsPixelSet ds → head_of (spell code p ds ++ rest) ≡ Some (record { code = pos code; earlier = p; box = box_of ds })
+unfolding spell
+head-spell code p ds rest fits p_fits set =
+    let b = box_of ds in
+    let all = rows b.min_m b.max_n b.min_m (runs_of ds) in
+    ap (λ bytes. head_of (bytes ++ rest)) (append_assoc (begin code p b) all (69 ∷ []))
+    ∙ ap head_of (append_assoc (begin code p b) (all ++ 69 ∷ []) rest)
+    ∙ head-begin code p b (all ++ 69 ∷ [] ++ rest) fits p_fits (box_from start_of_field ds set.picture.dots)
+
+-- a character stands in bytes at its place, and has this p
+pub record StandsAt (bytes : List ℕ) (s : Shipment) (p : ℤ) : Type 0 where
+  pub shippable : IsShippable s.character
+  pub before : s.place ≤ length bytes
+  pub rest : List ℕ
+  pub there : drop s.place bytes ≡ spell s.character.code p s.character.black ++ rest
+
+is_at : (file : List ℕ) (s : Shipment) (p : ℤ) → StandsAt file s p → IsWord p → IsCharacterAt file s.place s.character p
+is_at file s p stands fits =
+    let c = s.character in
+    let bytes = spell c.code p c.black in
+    let shippable = stands.shippable in
+    record {
+      head = ap head_of stands.there ∙ head-spell c.code p c.black stands.rest shippable.code fits shippable.black;
+      count = length bytes;
+      painted = ap (λ it. paint (take (length bytes) it)) stands.there ∙ ap paint (take-append_seam bytes stands.rest) ∙ paint-spell c.code p c.black shippable.black;
+    }
+
+-- ---- all of them
+
+-- each stands, and its p is the place of the last one of its code before it
+abbrev pub AllStand : List ℕ → List Shipment → Type 0
+AllStand bytes [] = Unit {0}
+AllStand bytes (s ∷ shipped) = StandsAt bytes s (pointer (last_place s.character.code shipped)) × AllStand bytes shipped
+
+stands_before : (bytes more : List ℕ) (s : Shipment) (p : ℤ) → StandsAt bytes s p → StandsAt (bytes ++ more) s p
+stands_before bytes more s p stands = record {
+  shippable = stands.shippable;
+  before = let both = length-append bytes more in omega (arith, both, stands.before);
+  rest = stands.rest ++ more;
+  there = drop-append-le s.place bytes more stands.before ∙ ap (λ it. it ++ more) stands.there ∙ append_assoc (spell s.character.code p s.character.black) stands.rest more;
+}
+
+pub all_before : (bytes more : List ℕ) (shipped : List Shipment) → AllStand bytes shipped → AllStand (bytes ++ more) shipped
+all_before bytes more [] stand = tt
+all_before bytes more (s ∷ shipped) stand = (stands_before bytes more s _ stand.0, all_before bytes more shipped stand.1)
+
+one_stands : (f : FileSoFar) (c : Character) → IsShippable c → StandsAt (f.bytes ++ spell_after f c) (shipment_after f.bytes c) (pointer (last_place c.code f.shipped))
+one_stands f c shippable = record {
+  shippable = shippable;
+  before = let both = length-append f.bytes (spell_after f c) in omega (arith, both);
+  rest = [];
+  there = drop-append_seam f.bytes (spell_after f c) ∙ sym (append-nil (spell_after f c));
+}
+
+stand_from : (f : FileSoFar) (cs : List Character) → All IsShippable cs → AllStand f.bytes f.shipped → AllStand (with_characters f cs).bytes (with_characters f cs).shipped
+unfolding with_characters
+stand_from f [] shippable stand = stand
+stand_from f (c ∷ cs) shippable stand =
+    stand_from (with_character f c) cs (All-tail IsShippable c cs shippable) (one_stands f c (All-head IsShippable c cs shippable), all_before f.bytes (spell_after f c) f.shipped stand)
+
+pub all_stand : (comment : List ℕ) (cs : List Character) → All IsShippable cs → AllStand (front comment cs) (shipments comment cs)
+all_stand comment cs shippable = stand_from _ cs shippable tt
+
+-- the last one of a code stands
+pub record LastStands (bytes : List ℕ) (s : Shipment) : Type 0 where
+  pub p : ℤ
+  pub stands : StandsAt bytes s p
+
+pub last_stands : (bytes : List ℕ) (code : ℕ) (s : Shipment) (shipped : List Shipment) → AllStand bytes shipped → last_of code shipped ≡ Some s → LastStands bytes s
+unfolding last_of
+last_stands bytes code s [] stand is = absurd (cc)
+last_stands bytes code s (t ∷ shipped) stand is =
+    split (λ test. (if test then Some t else last_of code shipped) ≡ Some s → LastStands bytes s) (t.character.code == code)
+    (λ yes found. let same : t ≡ s = cc in subst (LastStands bytes) same (record { p = pointer (last_place t.character.code shipped); stands = stand.0 }))
+    (λ no found. last_stands bytes code s shipped stand.1 found) is
+
+-- p is a number of four bytes
+pointer_fits : (bytes : List ℕ) (code : ℕ) (shipped : List Shipment) → length bytes < 2147483648 → AllStand bytes shipped → IsWord (pointer (last_place code shipped))
+unfolding last_of
+pointer_fits bytes code [] short stand = record { least = omega (arith, ints); greatest = omega (arith, ints) }
+pointer_fits bytes code (s ∷ shipped) short stand =
+    split (λ test. IsWord (pointer (option_map (λ (it : Shipment). it.place) (if test then Some s else last_of code shipped)))) (s.character.code == code)
+    (λ yes. let before = stand.0.before in record { least = omega (arith, ints); greatest = omega (arith, ints, before, short) })
+    (λ no. pointer_fits bytes code shipped short stand.1)
+
+-- ---- from one to the next
+
+abbrev pub character_of : Shipment → Character
+character_of s = s.character
+
+abbrev pub of_code : ℕ → List Character → List Character
+of_code code characters = filter (λ (c : Character). c.code == code) characters
+
+-- from the last one of a code p leads to all of them
+pub leads_back : (front file : List ℕ) (code : ℕ) (shipped : List Shipment) → length front < 2147483648 → AllStand front shipped → AllStand file shipped
+    → LeadsBack file (pointer (last_place code shipped)) (of_code code (map character_of shipped))
+unfolding last_of LeadsBack
+leads_back front file code [] short stand whole = refl
+leads_back front file code (s ∷ shipped) short stand whole =
+    let own = s.character.code in
+    split
+    (λ test.
+    LeadsBack file (pointer (option_map (λ (it : Shipment). it.place) (if test then Some s else last_of code shipped)))
+    (if test then s.character ∷ of_code code (map character_of shipped) else of_code code (map character_of shipped)))
+    (own == code)
+    (λ yes.
+    let same = eqb-true own code yes in
+    let p = pointer (last_place own shipped) in
+    let this = is_at file s p whole.0 (pointer_fits front own shipped short stand.1) in
+    (s.place, refl, p, this, subst (λ c. LeadsBack file (pointer (last_place c shipped)) (of_code code (map character_of shipped))) (sym same) (leads_back front file code shipped short stand.1 whole.1)))
+    (λ no. leads_back front file code shipped short stand.1 whole.1)
+
+-- the first of them is the last one of the code
+pub record BeginsWith (cs : List Character) (c : Character) : Type 0 where
+  pub others : List Character
+  pub all : cs ≡ c ∷ others
+
+pub last_is_first : (code : ℕ) (s : Shipment) (shipped : List Shipment) → last_of code shipped ≡ Some s → BeginsWith (of_code code (map character_of shipped)) s.character
+unfolding last_of
+last_is_first code s [] is = absurd (cc)
+last_is_first code s (t ∷ shipped) is =
+    let others = of_code code (map character_of shipped) in
+    split (λ test. (if test then Some t else last_of code shipped) ≡ Some s → BeginsWith (if test then t.character ∷ others else others) s.character) (t.character.code == code)
+    (λ yes found. let same : t ≡ s = cc in record { others = others; all = ap (λ (it : Shipment). it.character ∷ others) same })
+    (λ no found. last_is_first code s shipped found) is
+
+-- those that were shipped, from the last to the first
+characters_with : (f : FileSoFar) (cs : List Character) → map character_of (with_characters f cs).shipped ≡ reverse cs ++ map character_of f.shipped
+unfolding with_characters
+characters_with f [] = refl
+characters_with f (c ∷ cs) =
+    characters_with (with_character f c) cs
+    ∙ sym (append_assoc (reverse cs) (c ∷ []) (map character_of f.shipped))
+    ∙ ap (λ back. back ++ map character_of f.shipped) (sym (reverse-cons c cs))
+
+pub characters_shipped : (comment : List ℕ) (cs : List Character) → map character_of (shipments comment cs) ≡ reverse cs
+characters_shipped comment cs = characters_with _ cs ∙ append-nil (reverse cs)
+
+-- ---- codes
+
+-- a code has a last character where it was shipped
+abbrev pub has_last : ℕ → List Shipment → Bool
+has_last code shipped = is_some (last_of code shipped)
+
+has_last-cons : (code : ℕ) (s : Shipment) (shipped : List Shipment) → has_last code (s ∷ shipped) ≡ ((s.character.code == code) || has_last code shipped)
+unfolding last_of
+has_last-cons code s shipped =
+    split (λ test. is_some (if test then Some s else last_of code shipped) ≡ (test || has_last code shipped)) (s.character.code == code) (λ yes. refl) (λ no. refl)
+
+or_swap : (a b c : Bool) → ((a || b) || c) ≡ (b || (a || c))
+or_swap true true c = refl
+or_swap true false c = refl
+or_swap false true c = refl
+or_swap false false c = refl
+
+or_none : (a : Bool) → a ≡ (a || false)
+or_none true = refl
+or_none false = refl
+
+has_last-with : (code : ℕ) (f : FileSoFar) (cs : List Character) → has_last code (with_characters f cs).shipped ≡ (has_last code f.shipped || list_any (λ (c : Character). c.code == code) cs)
+unfolding with_characters
+has_last-with code f [] = or_none (has_last code f.shipped)
+has_last-with code f (c ∷ cs) =
+    has_last-with code (with_character f c) cs
+    ∙ ap (λ test. test || list_any (λ (d : Character). d.code == code) cs) (has_last-cons code (shipment_after f.bytes c) f.shipped)
+    ∙ or_swap (c.code == code) (has_last code f.shipped) (list_any (λ (d : Character). d.code == code) cs)
+
+pub has_last-shipped : (code : ℕ) (comment : List ℕ) (cs : List Character) → has_last code (shipments comment cs) ≡ list_any (λ (c : Character). c.code == code) cs
+unfolding last_of
+has_last-shipped code comment cs = has_last-with code _ cs

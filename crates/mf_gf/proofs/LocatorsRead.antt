@@ -1,0 +1,177 @@
+-- The locators of a file, read back: those of the last characters of their codes.
+use Rattle.std.proofs.Common.{◌≡◌, ◌+◌, ◌<◌, ◌≤◌, ◌==◌, ◌||◌, ℕ, zero, suc, Bool, true, false, pos, if◌then◌else◌, List, [], ◌∷◌, ◌++◌, Option, None, Some, option_map, refl, ap, sym, subst, ◌∙◌, append_assoc, eqb-true, eq-eqb, ⊎_elim, eq-or-lt_of_le, arith}
+use Rattle.std.specs.List.{All, AllPairs, list_any}
+use Rattle.std.proofs.lemmas.List.Elements.{All-cons, All-nil, All-weaker}
+use Rattle.std.proofs.lemmas.List.Kept.{AllPairs-cons}
+use Rattle.byteorder.specs.Numbers.{big_number-reads_back}
+use Rattle.mf_gf.specs.declared.locator.Locator.{Locator}
+use Rattle.mf_gf.specs.Files.{Shipment, ending, last_of, locator_head, locator_if, locator_of, locator_text, locators_from, short_dx}
+use Rattle.mf_gf.specs.Numbers.{IsWord, word}
+use Rattle.mf_gf.specs.Pointers.{Item, locators_within, read_item}
+use Rattle.mf_gf.proofs.BoxOfDots.{word-reads_back}
+use Rattle.mf_gf.proofs.Escapements.{short_dx-is}
+
+-- the value of a test, with what it says
+pub split : (P : Bool → Type 0) (test : Bool) → (test ≡ true → P true) → (test ≡ false → P false) → P test
+split P true at_true at_false = at_true refl
+split P false at_true at_false = at_false refl
+
+or_true : (test : Bool) → (test || true) ≡ true
+or_true true = refl
+or_true false = refl
+
+-- ---- one locator
+
+-- a locator whose numbers fit into its bytes
+pub record IsReadable (l : Locator) : Type 0 where
+  pub dx : IsWord l.dx
+  pub width : IsWord l.width
+  pub place : l.place < 2147483648
+
+abbrev read_as : Locator → List ℕ → Option Item
+read_as l rest = Some (record { locator = Some l; rest = rest })
+
+-- char_loc0, or char_loc
+head_reads : (l : Locator) (rest : List ℕ) (short : Option ℕ) → IsReadable l → short_dx l.dx ≡ short → read_item (locator_head l.code l.dx short ++ (word l.width ++ (word (pos l.place) ++ rest))) ≡ read_as l rest
+unfolding read_item
+head_reads l rest (Some pixels) fits short =
+    let dx = sym (short_dx-is l.dx pixels short).whole in
+    let width = word-reads_back l.width (word (pos l.place) ++ rest) fits.width in
+    let place = big_number-reads_back 4 l.place rest (omega (arith, fits.place)) in
+    λ t. Some (record { locator = Some (record { code = l.code; dx = dx t; width = width t; place = place t }); rest = rest })
+head_reads l rest None fits short =
+    let dx = word-reads_back l.dx (word (pos 0) ++ word l.width ++ word (pos l.place) ++ rest) fits.dx in
+    let width = word-reads_back l.width (word (pos l.place) ++ rest) fits.width in
+    let place = big_number-reads_back 4 l.place rest (omega (arith, fits.place)) in
+    λ t. Some (record { locator = Some (record { code = l.code; dx = dx t; width = width t; place = place t }); rest = rest })
+
+locator_reads : (l : Locator) (rest : List ℕ) → IsReadable l → read_item (locator_text l ++ rest) ≡ read_as l rest
+locator_reads l rest fits =
+    ap read_item (append_assoc (locator_head l.code l.dx (short_dx l.dx) ++ word l.width) (word (pos l.place)) rest)
+    ∙ ap read_item (append_assoc (locator_head l.code l.dx (short_dx l.dx)) (word l.width) (word (pos l.place) ++ rest))
+    ∙ head_reads l rest (short_dx l.dx) fits refl
+
+-- ---- all of them
+
+abbrev with_last : Option Shipment → List Locator → List Locator
+with_last None ls = ls
+with_last (Some s) ls = locator_of s ∷ ls
+
+-- the locators of n codes from this one on
+unfoldable pub lasts_from : ℕ → ℕ → List Shipment → List Locator
+lasts_from code zero shipped = []
+lasts_from code (suc n) shipped = with_last (last_of code shipped) (lasts_from (code + 1) n shipped)
+
+-- what is read where an item was read, or none
+abbrev read_on : ℕ → Option Item → Option (List Locator)
+read_on n next = elim next [
+  | None ↦ None
+  | Some item ↦ elim item.locator [
+    | None ↦ Some []
+    | Some l ↦ option_map (λ ls. l ∷ ls) (locators_within n item.rest)
+  ]
+]
+
+within-suc : (n : ℕ) (bytes : List ℕ) → locators_within (suc n) bytes ≡ read_on n (read_item bytes)
+unfolding locators_within
+within-suc n bytes = refl
+
+-- post_post ends them
+end_within : (n place before : ℕ) → 1 ≤ n → locators_within n (ending place before) ≡ Some []
+unfolding locators_within read_item
+end_within zero place before some = absurd (omega (arith, some))
+end_within (suc n) place before some = refl
+
+module _ (shipped : List Shipment) (fits : (code : ℕ) (s : Shipment) → last_of code shipped ≡ Some s → IsReadable (locator_of s)) (place before : ℕ) where
+  one_read : (code n m : ℕ) (last : Option Shipment) → suc n < m → last_of code shipped ≡ last
+      → ((k : ℕ) → n < k → locators_within k (locators_from (code + 1) n shipped ++ ending place before) ≡ Some (lasts_from (code + 1) n shipped))
+      → locators_within m (locator_if (option_map locator_of last) ++ locators_from (code + 1) n shipped ++ ending place before) ≡ Some (with_last last (lasts_from (code + 1) n shipped))
+  one_read code n m None few is others = others m (omega (arith, few))
+  one_read code n zero (Some s) few is others = absurd (omega (arith, few))
+  one_read code n (suc m) (Some s) few is others =
+      let l = locator_of s in
+      let rest = locators_from (code + 1) n shipped ++ ending place before in
+      within-suc m (locator_text l ++ locators_from (code + 1) n shipped ++ ending place before)
+      ∙ ap (λ bytes. read_on m (read_item bytes)) (append_assoc (locator_text l) (locators_from (code + 1) n shipped) (ending place before))
+      ∙ ap (read_on m) (locator_reads l rest (fits code s is))
+      ∙ ap (option_map (λ more. l ∷ more)) (others m (omega (arith, few)))
+
+  pub within-reads : (code n m : ℕ) → n < m → locators_within m (locators_from code n shipped ++ ending place before) ≡ Some (lasts_from code n shipped)
+  unfolding locators_from lasts_from
+  within-reads code zero m few = end_within m place before (omega (arith, few))
+  within-reads code (suc n) m few = one_read code n m (last_of code shipped) few refl (λ k less. within-reads (code + 1) n k less)
+
+-- ---- what they are
+
+pub last_of-code : (code : ℕ) (s : Shipment) (shipped : List Shipment) → last_of code shipped ≡ Some s → s.character.code ≡ code
+unfolding last_of
+last_of-code code s [] is = absurd (cc)
+last_of-code code s (t ∷ shipped) is =
+    split (λ test. (if test then Some t else last_of code shipped) ≡ Some s → s.character.code ≡ code) (t.character.code == code)
+    (λ yes found. let same : t ≡ s = cc in ap (λ (it : Shipment). it.character.code) (sym same) ∙ eqb-true t.character.code code yes)
+    (λ no found. last_of-code code s shipped found) is
+
+-- each is that of the last character of its code, and none has a code below the first
+pub record IsLastFrom (shipped : List Shipment) (code : ℕ) (l : Locator) : Type 0 where
+  pub least : code ≤ l.code
+  pub shipment : Shipment
+  pub is : l ≡ locator_of shipment
+  pub last : last_of l.code shipped ≡ Some shipment
+
+one_last : (shipped : List Shipment) (code : ℕ) (s : Shipment) → last_of code shipped ≡ Some s → IsLastFrom shipped code (locator_of s)
+one_last shipped code s is =
+    let same = last_of-code code s shipped is in
+    record { least = omega (arith, same); shipment = s; is = refl; last = subst (λ c. last_of c shipped ≡ Some s) (sym same) is }
+
+later_too : (shipped : List Shipment) (code : ℕ) (others : List Locator) → All (IsLastFrom shipped (code + 1)) others → All (IsLastFrom shipped code) others
+later_too shipped code others =
+    All-weaker (IsLastFrom shipped (code + 1)) (IsLastFrom shipped code) (λ l from. record { least = omega (arith, from.least); shipment = from.shipment; is = from.is; last = from.last }) others
+
+with_one : (shipped : List Shipment) (code : ℕ) (last : Option Shipment) (others : List Locator) → last_of code shipped ≡ last → All (IsLastFrom shipped (code + 1)) others
+    → All (IsLastFrom shipped code) (with_last last others)
+with_one shipped code None others is later = later_too shipped code others later
+with_one shipped code (Some s) others is later = All-cons (IsLastFrom shipped code) (locator_of s) others (one_last shipped code s is) (later_too shipped code others later)
+
+pub lasts_are_last : (shipped : List Shipment) (code n : ℕ) → All (IsLastFrom shipped code) (lasts_from code n shipped)
+unfolding lasts_from
+lasts_are_last shipped code zero = All-nil (IsLastFrom shipped code)
+lasts_are_last shipped code (suc n) = with_one shipped code (last_of code shipped) (lasts_from (code + 1) n shipped) refl (lasts_are_last shipped (code + 1) n)
+
+-- their codes rise
+abbrev IsBefore : Locator → Locator → Type 0
+IsBefore l later = l.code < later.code
+
+rise_on : (shipped : List Shipment) (code : ℕ) (last : Option Shipment) (others : List Locator) → last_of code shipped ≡ last → All (IsLastFrom shipped (code + 1)) others
+    → AllPairs IsBefore others → AllPairs IsBefore (with_last last others)
+rise_on shipped code None others is later pairs = pairs
+rise_on shipped code (Some s) others is later pairs =
+    let same = last_of-code code s shipped is in
+    AllPairs-cons IsBefore (locator_of s) others (All-weaker (IsLastFrom shipped (code + 1)) (IsBefore (locator_of s)) (λ k from. omega (arith, same, from.least)) others later) pairs
+
+pub lasts_rise : (shipped : List Shipment) (code n : ℕ) → AllPairs IsBefore (lasts_from code n shipped)
+unfolding lasts_from
+lasts_rise shipped code zero = λ i j d before within. absurd (omega (arith, within))
+lasts_rise shipped code (suc n) = rise_on shipped code (last_of code shipped) (lasts_from (code + 1) n shipped) refl (lasts_are_last shipped (code + 1) n) (lasts_rise shipped (code + 1) n)
+
+-- a code that has a last character has a locator
+abbrev has_code : ℕ → Locator → Bool
+has_code code l = l.code == code
+
+found_here : (code : ℕ) (s : Shipment) (last : Option Shipment) (others : List Locator) → last ≡ Some s → s.character.code ≡ code → list_any (has_code code) (with_last last others) ≡ true
+found_here code s None others is same = absurd (cc)
+found_here code s (Some t) others is same =
+    let equal : t ≡ s = cc in
+    ap (λ test. test || list_any (has_code code) others) (eq-eqb t.character.code code (ap (λ (it : Shipment). it.character.code) equal ∙ same))
+
+found_later : (code : ℕ) (last : Option Shipment) (others : List Locator) → list_any (has_code code) others ≡ true → list_any (has_code code) (with_last last others) ≡ true
+found_later code None others later = later
+found_later code (Some t) others later = ap (λ test. (t.character.code == code) || test) later ∙ or_true (t.character.code == code)
+
+pub lasts_have : (shipped : List Shipment) (code : ℕ) (s : Shipment) (first n : ℕ) → last_of code shipped ≡ Some s → first ≤ code → code < first + n → list_any (has_code code) (lasts_from first n shipped) ≡ true
+unfolding lasts_from
+lasts_have shipped code s first zero is least most = absurd (omega (arith, least, most))
+lasts_have shipped code s first (suc n) is least most =
+    ⊎_elim
+    (λ same. found_here code s (last_of first shipped) (lasts_from (first + 1) n shipped) (ap (λ c. last_of c shipped) same ∙ is) (last_of-code code s shipped is))
+    (λ further. found_later code (last_of first shipped) (lasts_from (first + 1) n shipped) (lasts_have shipped code s (first + 1) n is (omega (arith, further)) (omega (arith, most))))
+    (eq-or-lt_of_le least)

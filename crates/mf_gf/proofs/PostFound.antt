@@ -1,0 +1,73 @@
+-- The postamble of a file, found from its end, and the locators after it.
+use Rattle.std.proofs.Common.{◌≡◌, ◌+◌, ◌<◌, ◌==◌, ℕ, zero, suc, pos, List, [], ◌∷◌, ◌++◌, reverse, replicate, length, drop, slice_index, Option, None, Some, refl, ap, sym, ◌∙◌, append_assoc, length-append, eq-eqb, arith}
+use Rattle.std.proofs.Math.Seq.{drop-append_seam, get_or-append_seam}
+use Rattle.std.proofs.lemmas.Bool.{cond-true}
+use Rattle.std.proofs.lemmas.List.{reverse-append}
+use mathlib.Core.List.{reverse-cons}
+use Rattle.byteorder.specs.Endian.{big_number}
+use Rattle.byteorder.specs.Numbers.{big_number-reads_back}
+use Rattle.mf_gf.specs.declared.boxes.CharacterBox.{CharacterBox}
+use Rattle.mf_gf.specs.declared.file.FontWords.{FontWords}
+use Rattle.mf_gf.specs.declared.locator.Locator.{Locator}
+use Rattle.mf_gf.specs.Files.{Character, Shipment, body, box_of_all, ending, file_of, front, last_of, locator_of, locators_from, padding, post, shipments}
+use Rattle.mf_gf.specs.Numbers.{word}
+use Rattle.mf_gf.specs.Pointers.{locators_after, locators_of, locators_within, post_place, post_place_back}
+use Rattle.mf_gf.proofs.LocatorsRead.{IsReadable, lasts_from, within-reads}
+
+-- the bytes 223 are passed
+padding_passed : (count : ℕ) (rest : List ℕ) → post_place_back (reverse (replicate count 223) ++ rest) ≡ post_place_back rest
+unfolding post_place_back
+padding_passed zero rest = refl
+padding_passed (suc count) rest =
+    ap (λ back. post_place_back (back ++ rest)) (reverse-cons 223 (replicate count 223))
+    ∙ ap post_place_back (append_assoc (reverse (replicate count 223)) (223 ∷ []) rest)
+    ∙ padding_passed count (223 ∷ rest)
+
+four_back : (a b c d : ℕ) (rest : List ℕ) → post_place_back (reverse (249 ∷ a ∷ b ∷ c ∷ d ∷ 131 ∷ []) ++ rest) ≡ Some (big_number 4 (a ∷ b ∷ c ∷ d ∷ []))
+unfolding post_place_back
+four_back a b c d rest = refl
+
+-- before the padding stand the number of GF and the place of post
+place_found : (before : List ℕ) (place count : ℕ) → place < 2147483648 → post_place (before ++ ((249 ∷ []) ++ word (pos place) ++ (131 ∷ []) ++ replicate count 223)) ≡ Some place
+place_found before place count short =
+    let named = (249 ∷ []) ++ word (pos place) ++ (131 ∷ []) in
+    ap post_place_back (reverse-append before (named ++ replicate count 223))
+    ∙ ap (λ back. post_place_back (back ++ reverse before)) (reverse-append named (replicate count 223))
+    ∙ ap post_place_back (append_assoc (reverse (replicate count 223)) (reverse named) (reverse before))
+    ∙ padding_passed count (reverse named ++ reverse before)
+    ∙ four_back _ _ _ _ (reverse before)
+    ∙ ap (λ n. Some n) (big_number-reads_back 4 place [] (omega (arith, short)))
+
+-- post has 37 bytes
+length-post : (words : FontWords) (b : CharacterBox) (place : ℕ) → length (post words b place) ≡ 37
+length-post words b place = refl
+
+abbrev after_post : List ℕ → Option ℕ → Option (List Locator)
+after_post file found = elim found [
+  | None ↦ None
+  | Some place ↦ locators_after place file
+]
+
+-- what a reader finds after it
+pub locators_found : (words : FontWords) (comment : List ℕ) (cs : List Character) → length (front comment cs) < 2147483648
+    → ((code : ℕ) (s : Shipment) → last_of code (shipments comment cs) ≡ Some s → IsReadable (locator_of s))
+    → locators_of (file_of words comment cs) ≡ Some (lasts_from 0 256 (shipments comment cs))
+unfolding file_of
+locators_found words comment cs short fits =
+    let characters = front comment cs in
+    let place = length characters in
+    let b = box_of_all cs in
+    let behind = post words b place in
+    let locators = locators_from 0 256 (shipments comment cs) in
+    let last = ending place (length (body words comment cs)) in
+    let file = file_of words comment cs in
+    let whole : file ≡ characters ++ (behind ++ (locators ++ last)) = append_assoc (characters ++ behind) locators last ∙ append_assoc characters behind (locators ++ last) in
+    let seam : length (characters ++ behind) ≡ place + 37 = length-append characters behind in
+    let after : drop (place + 37) file ≡ locators ++ last =
+    ap (drop (place + 37)) (append_assoc (characters ++ behind) locators last) ∙ ap (λ n. drop n ((characters ++ behind) ++ (locators ++ last))) (sym seam) ∙ drop-append_seam (characters ++ behind) (locators ++ last) in
+    let there : post_place file ≡ Some place = place_found (body words comment cs) place (padding (length (body words comment cs) + 6)) short in
+    let opcode : slice_index file place ≡ 248 = ap (λ bytes. slice_index bytes place) whole ∙ get_or-append_seam characters 248 _ 0 in
+    ap (after_post file) there
+    ∙ cond-true (slice_index file place == 248) (locators_within 257 (drop (place + 37) file)) None (eq-eqb _ _ opcode)
+    ∙ ap (locators_within 257) after
+    ∙ within-reads (shipments comment cs) fits place (length (body words comment cs)) 0 256 257 (omega arith)

@@ -1,0 +1,111 @@
+-- The characters of a finished file, as a reader finds them: the last bytes name the postamble, after which each locator names the
+-- last character of its code, and each character names the one before it by p (The METAFONTbook, Appendix G; gftype.web).
+use Rattle.std.specs.Prelude.{◌≡◌, ◌<◌, ◌+◌, ◌*◌, ◌==◌, ◌↔◌, ℕ, zero, suc, ℤ, pos, negsuc, All, AllPairs, Any, List, [], ◌∷◌, length, take, drop, reverse, filter, slice_index, Option, None, Some, option_map, if◌then◌else◌}
+use Rattle.byteorder.specs.Endian.{big_number}
+use Rattle.mf_gf.specs.declared.locator.Locator.{Locator}
+use Rattle.mf_gf.specs.Boxes.{box_of}
+use Rattle.mf_gf.specs.Files.{Character, front}
+use Rattle.mf_gf.specs.Numbers.{IsWord, word_at}
+use Rattle.mf_gf.specs.Painting.{head_of, paint}
+use Rattle.mf_gf.specs.Pixels.{IsPixelSet}
+
+-- ---- the reader
+
+-- the place of post: the four bytes before the number of GF, after which bytes 223 alone stand; here the last byte comes first
+unfoldable pub post_place_back : List ℕ → Option ℕ
+post_place_back [] = None
+post_place_back (b ∷ bytes) = if b == 223 then post_place_back bytes else (if b == 131 then Some (big_number 4 (reverse (take 4 bytes))) else None)
+
+abbrev pub post_place : List ℕ → Option ℕ
+post_place file = post_place_back (reverse file)
+
+-- what stands after post, and the bytes after it: a locator, or none where the end begins
+pub record Item : Type 0 where
+  pub locator : Option Locator
+  pub rest : List ℕ
+
+-- char_loc has its code in one byte, and dx, dy, the width and the place in four each; char_loc0 has its code and dx in pixels in one
+-- byte each, and the width and the place in four; post_post begins the end. (dy is passed over.)
+unfoldable pub read_item : List ℕ → Option Item
+read_item [] = None
+read_item (b ∷ bytes) =
+    if b == 245 then Some (record {
+      locator = Some (record { code = slice_index bytes 0; dx = word_at 1 bytes; width = word_at 9 bytes; place = big_number 4 (drop 13 bytes) });
+      rest = drop 17 bytes;
+    })
+    else (if b == 246 then Some (record {
+      locator = Some (record { code = slice_index bytes 0; dx = pos (65536 * slice_index bytes 1); width = word_at 2 bytes; place = big_number 4 (drop 6 bytes) });
+      rest = drop 10 bytes;
+    })
+    else (if b == 249 then Some (record { locator = None; rest = bytes }) else None))
+
+-- the locators up to the end, where that is one of the first n items
+unfoldable pub locators_within : ℕ → List ℕ → Option (List Locator)
+locators_within zero bytes = None
+locators_within (suc n) bytes = elim (read_item bytes) [
+  | None ↦ None
+  | Some item ↦ elim item.locator [
+    | None ↦ Some []
+    | Some l ↦ option_map (λ ls. l ∷ ls) (locators_within n item.rest)
+  ]
+]
+
+-- after post, which has 37 bytes and begins with 248: one locator for each of 256 codes at most, and the end
+abbrev pub locators_after : ℕ → List ℕ → Option (List Locator)
+locators_after place file = if slice_index file place == 248 then locators_within 257 (drop (place + 37) file) else None
+
+abbrev pub locators_of : List ℕ → Option (List Locator)
+locators_of file = elim (post_place file) [
+  | None ↦ None
+  | Some place ↦ locators_after place file
+]
+
+-- a character begins at a place with this p: its head says so, and its bytes paint its pixels
+pub record IsCharacterAt (file : List ℕ) (place : ℕ) (c : Character) (p : ℤ) : Type 0 where
+  pub head : head_of (drop place file) ≡ Some (record { code = pos c.code; earlier = p; box = box_of c.black })
+  pub count : ℕ
+  pub painted : paint (take count (drop place file)) ≡ Some c.black
+
+-- p leads to the first of these characters, the p of that to the next, and so on; the last of them names none
+unfoldable pub LeadsBack : List ℕ → ℤ → List Character → Type 0
+LeadsBack file p [] = p ≡ negsuc 0
+LeadsBack file p (c ∷ cs) = (place : ℕ) × (p ≡ pos place) × (before : ℤ) × IsCharacterAt file place c before × LeadsBack file before cs
+
+-- ---- what it finds
+
+-- a character has this code
+abbrev pub HasCode : ℕ → List Character → Type 0
+HasCode code characters = Any (λ (c : Character). c.code ≡ code) characters
+
+-- the characters of a code, from the last to the first
+abbrev pub characters_of : ℕ → List Character → List Character
+characters_of code characters = filter (λ (c : Character). c.code == code) (reverse characters)
+
+-- a locator has the numbers of the last character of its code, and leads from it to all others
+pub record LeadsToAll (file : List ℕ) (characters : List Character) (l : Locator) : Type 0 where
+  pub last : Character
+  pub earlier : List Character
+  pub all : characters_of l.code characters ≡ last ∷ earlier
+  pub dx : l.dx ≡ last.dx
+  pub width : l.width ≡ last.width
+  pub back : LeadsBack file (pos l.place) (last ∷ earlier)
+
+-- the codes of the locators rise, they are those of the characters, and each locator leads to all characters of its code
+pub record IsReadBack (file : List ℕ) (characters : List Character) : Type 0 where
+  pub locators : List Locator
+  pub read : locators_of file ≡ Some locators
+  pub rise : AllPairs (λ (l later : Locator). l.code < later.code) locators
+  pub codes : (code : ℕ) → HasCode code characters ↔ Any (λ (l : Locator). l.code ≡ code) locators
+  pub lead : All (LeadsToAll file characters) locators
+
+-- a character that may be shipped
+pub record IsShippable (c : Character) : Type 0 where
+  pub code : c.code < 256
+  pub dx : IsWord c.dx
+  pub width : IsWord c.width
+  pub black : IsPixelSet c.black
+
+-- characters that fit in a file, where each place is a number of four bytes with a sign
+pub record AreShippable (comment : List ℕ) (characters : List Character) : Type 0 where
+  pub each : All IsShippable characters
+  pub short : length (front comment characters) < 2147483648
