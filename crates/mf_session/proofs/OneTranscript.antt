@@ -7,10 +7,10 @@ use Rattle.mf_live.specs.declared.fault.Fault.{Fault}
 use Rattle.mf_ops.specs.declared.op.Op.{Op}
 use Rattle.mf_ops.specs.declared.op.Op.TheVariants as ops
 use Rattle.mf_rows.specs.Dots.{Dot}
+use Rattle.mf_show.proofs.GridTexts.{one_grid_text}
 use Rattle.mf_text.specs.declared.command.Command.{Command}
 use Rattle.mf_text.specs.declared.command.Command.TheVariants.{Nothing, Turning, Contour, Also, Cull, Clear, Shift, Scale, Quarter, Total, Show, Proof, Ship, Publish}
 use Rattle.mf_text.specs.declared.command.Name.{Name}
-use Rattle.mf_text.proofs.GridTexts.{one_grid_text}
 use Rattle.mf_text.proofs.OneAnswer.{gives_one, refused_once, given_or_refused}
 use Rattle.mf_session.specs.declared.refusal.Refusal.TheVariants.{Line}
 use Rattle.mf_session.specs.Answers.{Prints, Operates, KeepsRest, ProofAnswers, AnswersTo, Answers}

@@ -10,13 +10,13 @@ use Rattle.mf_live.specs.declared.fault.Fault.{Fault}
 use Rattle.mf_ops.specs.declared.op.Op.{Op}
 use Rattle.mf_ops.specs.declared.op.Op.TheVariants as ops
 use Rattle.mf_rows.specs.Dots.{Dot}
+use Rattle.mf_show.specs.Grid.{IsTooLarge, box_text, extent}
+use Rattle.mf_show.specs.RunText.{run_text}
+use Rattle.mf_show.proofs.GridTexts.{grid_of_box, not_too_large, some_grid_text}
+use Rattle.mf_show.proofs.LeastBoxes.{least_box_of_some, some_least_box}
 use Rattle.mf_text.specs.declared.command.Command.{Command}
 use Rattle.mf_text.specs.declared.command.Command.TheVariants.{Nothing, Turning, Contour, Also, Cull, Clear, Shift, Scale, Quarter, Total, Show, Proof, Ship, Publish}
 use Rattle.mf_text.specs.declared.command.Name.{Name}
-use Rattle.mf_text.specs.Grid.{IsTooLarge, box_text, extent}
-use Rattle.mf_text.specs.RunText.{run_text}
-use Rattle.mf_text.proofs.GridTexts.{grid_of_box, not_too_large, some_grid_text}
-use Rattle.mf_text.proofs.LeastBoxes.{least_box_of_some, some_least_box}
 use Rattle.mf_text.proofs.SomeAnswer as text
 use Rattle.mf_session.specs.declared.refusal.Refusal.TheVariants.{FileTooLong, Line, ProofTooLarge, Operation as RefusedOperation}
 use Rattle.mf_session.specs.Answers.{Answers, AnswersTo, Operates, ProofAnswers, total_line}

@@ -5,9 +5,9 @@ use Rattle.mf_gf.specs.Keeping.{character}
 use Rattle.mf_rows.specs.Dots.{Dot, total_of}
 use Rattle.mf_ops.specs.declared.op.Op.{Op}
 use Rattle.mf_ops.specs.declared.op.Op.TheVariants as ops
-use Rattle.mf_text.specs.Grid.{IsGridText, IsTooLarge}
+use Rattle.mf_show.specs.Grid.{IsGridText, IsTooLarge}
+use Rattle.mf_show.specs.RunText.{run_text}
 use Rattle.mf_text.specs.Lines.{Gives, IsRefused}
-use Rattle.mf_text.specs.RunText.{run_text}
 use Rattle.mf_text.specs.declared.command.Command.{Command}
 use Rattle.mf_text.specs.declared.command.Command.TheVariants.{Nothing, Turning, Contour, Also, Cull, Clear, Shift, Scale, Quarter, Total, Show, Proof, Ship, Publish}
 use Rattle.mf_text.specs.declared.command.Name.{Name}

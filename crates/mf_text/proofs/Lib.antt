@@ -1,14 +1,10 @@
 pub mod Digits
-pub mod GridPixels
-pub mod GridTexts
 pub mod Leading
-pub mod LeastBoxes
 pub mod LineReading
 pub mod LinesEnd
 pub mod LinesRead
 pub mod LineTokens
 pub mod OneAnswer
-pub mod PassedPixels
 pub mod Places
 pub mod ReadCorners
 pub mod ReadInts
@@ -18,4 +14,3 @@ pub mod Registers
 pub mod SomeAnswer
 pub mod TokenTexts
 pub mod Words
-pub mod WrittenRuns

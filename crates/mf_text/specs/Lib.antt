@@ -3,7 +3,6 @@ pub mod Bytes
 pub mod Codes
 pub mod Corners
 pub mod Grammar
-pub mod Grid
 pub mod Ints
 pub mod Left
 pub mod Lines
@@ -14,8 +13,6 @@ pub mod Phrases
 pub mod Readers
 pub mod Readings
 pub mod Registers
-pub mod RunsAhead
-pub mod RunText
 pub mod Steps
 pub mod Syntax
 pub mod Tokens

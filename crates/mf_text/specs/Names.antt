@@ -2,8 +2,6 @@
 use Rattle.std.specs.Prelude.{ℕ, List, ◌++◌, codes, decimal}
 use Rattle.mf_geom.specs.Names.{fault_text, memory_text}
 use Rattle.mf_ops.specs.Names.{bad_weight_text, bad_cull_text, bad_scale_text, bad_turn_text}
-use Rattle.mf_text.specs.declared.fault.GridFault.{GridFault}
-use Rattle.mf_text.specs.declared.fault.GridFault.TheVariants.{ProofTooLarge, OutOfMemory as NoMemory}
 use Rattle.mf_text.specs.declared.fault.TextFault.{TextFault}
 use Rattle.mf_text.specs.declared.fault.TextFault.TheVariants.{Cycle, BadWeight, BadCull, BadScale, BadTurn, OutOfMemory, LineTooLong, NotAscii, Syntax}
 
@@ -18,8 +16,3 @@ text_fault_text OutOfMemory = memory_text
 text_fault_text LineTooLong = codes "LineTooLong"
 text_fault_text NotAscii = codes "NotAscii"
 text_fault_text (Syntax column) = codes "Syntax " ++ decimal column
-
--- the name of what a grid text is refused for
-abbrev pub grid_fault_text : GridFault → List ℕ
-grid_fault_text ProofTooLarge = codes "ProofTooLarge"
-grid_fault_text NoMemory = memory_text

@@ -1,4 +1,4 @@
-//! Why lines and texts are refused.
+//! Why lines are refused.
 use mf_geom::{CycleFault, OutOfMemory};
 use mf_ops::{BadCull, BadScale, BadTurn, BadWeight};
 use std::error::Error;
@@ -52,31 +52,6 @@ impl fmt::Display for TextFault {
 
 impl Error for TextFault {}
 
-/// Why a picture has no grid text.
-#[derive(Clone, Copy, Debug, PartialEq, Eq)]
-pub enum GridFault {
-    /// Refusal 23: the least box is wider or higher than 128 pixels.
-    ProofTooLarge,
-    /// Refusal 14. It never comes in the place of 23.
-    OutOfMemory,
-}
-
-impl fmt::Display for GridFault {
-    ghost use Rattle.std.specs.Prelude.{Some};
-    ghost use Rattle.mf_text.specs.Names.{grid_fault_text};
-
-    ghost output = { λ fault. Some (grid_fault_text fault) };
-
-    fn fmt<W: fmt::Write>(&self, f: &mut fmt::Formatter<W>) -> fmt::Result {
-        match self {
-            GridFault::ProofTooLarge => write!(f, "ProofTooLarge"),
-            GridFault::OutOfMemory => write!(f, "{OutOfMemory}"),
-        }
-    }
-}
-
-impl Error for GridFault {}
-
 impl From<OutOfMemory> for TextFault {
     ghost use Rattle.std.specs.Prelude.{◌≡◌};
     ghost use Rattle.mf_text.specs.declared.fault.TextFault.TheVariants.{OutOfMemory};
@@ -85,16 +60,5 @@ impl From<OutOfMemory> for TextFault {
 
     fn from(_fault: OutOfMemory) -> TextFault {
         TextFault::OutOfMemory
-    }
-}
-
-impl From<OutOfMemory> for GridFault {
-    ghost use Rattle.std.specs.Prelude.{◌≡◌};
-    ghost use Rattle.mf_text.specs.declared.fault.GridFault.TheVariants.{OutOfMemory};
-
-    ghost from_gives = { λ _ fault. fault ≡ OutOfMemory };
-
-    fn from(_fault: OutOfMemory) -> GridFault {
-        GridFault::OutOfMemory
     }
 }

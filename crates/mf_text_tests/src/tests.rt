@@ -5,7 +5,6 @@ mod contours;
 mod lines;
 mod refusals;
 mod syntax;
-mod texts;
 mod values;
 
 use assertions::assert_same;

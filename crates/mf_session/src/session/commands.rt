@@ -15,7 +15,8 @@ use mf_geom::{Check, OutOfMemory};
 use mf_gf::GfFault;
 use mf_ops::Op;
 use mf_rows::Picture;
-use mf_text::{Command, GridFault, Source, proof_grid, show_runs};
+use mf_show::{GridFault, proof_grid, show_runs};
+use mf_text::{Command, Source};
 use std::alloc::Global;
 use std::sync::Wait;
 

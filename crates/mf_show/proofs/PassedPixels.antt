@@ -1,0 +1,131 @@
+-- Walks over the weights of a picture.
+use Rattle.std.proofs.Common.{◌≡◌, ℕ, zero, suc, ◌≤◌, ◌<◌, ℤ, pos, ◌+ℤ◌, ◌≤ℤ◌, ◌<ℤ◌, Option, None, Some, MatchOption, List, [], ◌∷◌, ◌++◌, length, refl, sym, ap, ◌∙◌, subst, arith}
+use Rattle.std.specs.List.{All, flat_map}
+use Rattle.std.proofs.lemmas.Int.{ints}
+use Rattle.std.proofs.lemmas.List.Elements.{All-nil, All-head, All-tail}
+use Rattle.mf_rows.specs.declared.run.Run.{Run}
+use Rattle.mf_rows.specs.Dots.{Dot, IsPicture, AreDotsFrom, place, start_of_field, weight_at}
+use Rattle.mf_rows.specs.Order.{IsRun}
+use Rattle.mf_rows.specs.Runs.{stretch, dots_of, runs_of}
+use Rattle.mf_rows.proofs.DotsLemmas.{weight_at-before}
+use Rattle.mf_rows.proofs.PlacesLemmas.{place-next}
+use Rattle.mf_rows.proofs.RunDots.{IsOnRun, weight_at-on_run, weight_at-off_run, weight_at-append_after, weight_at-append_none, before_stretch-end}
+use Rattle.mf_rows.proofs.RunsLemmas.{dots_of-runs_of}
+use Rattle.mf_rows.proofs.Totals.{total_none}
+use Rattle.mf_show.specs.RunsAhead.{with_taken, AreInOrder, AreSameFrom, IsNotBefore}
+
+-- ---- the weight that a run gives to a pixel
+
+pub weight_on : (r : Run) (x y : ℤ) → IsRun r → IsOnRun r x y → r.weight ≡ weight_at (dots_of r) x y
+weight_on r x y run on = sym (weight_at-on_run [] r x y (record { run = run; after = All-nil (λ d. place d.x d.y <ℤ place r.x r.y) }) on)
+
+pub weight_off : (r : Run) (x y : ℤ) → (IsOnRun r x y → ⊥) → pos 0 ≡ weight_at (dots_of r) x y
+unfolding weight_at
+weight_off r x y off = sym (weight_at-off_run [] r x y off)
+
+-- ---- the runs ahead
+
+-- the dots behind a stretch begin behind its end
+dots_behind : (low y x w : ℤ) (n : ℕ) (es : List Dot) → AreDotsFrom low (stretch y x w (suc n) ++ es) → AreDotsFrom (place (x +ℤ pos (suc n)) y) es
+unfolding stretch
+dots_behind low y x w zero es dots = subst (λ p. AreDotsFrom p es) (sym (place-next x y)) dots.2
+dots_behind low y x w (suc n) es dots =
+    subst (λ u. AreDotsFrom (place u y) es) (omega (arith, ints)) (dots_behind (place x y +ℤ pos 1) y (x +ℤ pos 1) w n es dots.2)
+
+dots_behind_run : (low : ℤ) (y x w : ℤ) (n : ℕ) (es : List Dot) → 1 ≤ n → AreDotsFrom low (stretch y x w n ++ es)
+    → AreDotsFrom (place (x +ℤ pos n) y) es
+dots_behind_run low y x w zero es some dots = absurd (omega arith)
+dots_behind_run low y x w (suc n) es some dots = dots_behind low y x w n es dots
+
+behind_first : (r : Run) (rs : List Run) → AreInOrder (r ∷ rs) → AreDotsFrom (place (r.x +ℤ pos r.len) r.y) (flat_map dots_of rs)
+unfolding dots_of
+behind_first r rs ordered =
+    dots_behind_run ordered.low r.y r.x r.weight r.len (flat_map dots_of rs) (All-head IsRun r rs ordered.runs).some ordered.dots
+
+order_behind : (r : Run) (rs : List Run) → AreInOrder (r ∷ rs) → AreInOrder rs
+order_behind r rs ordered = record { runs = All-tail IsRun r rs ordered.runs; low = place (r.x +ℤ pos r.len) r.y; dots = behind_first r rs ordered }
+
+-- pixels behind the first run have the weights of the others
+same_behind : (r : Run) (rs : List Run) (p : ℤ) → place (r.x +ℤ pos r.len) r.y ≤ℤ p → AreSameFrom p (flat_map dots_of (r ∷ rs)) (flat_map dots_of rs)
+unfolding dots_of
+same_behind r rs p end = record {
+  same = λ x y from.
+      let passed = before_stretch-end r.y r.x r.weight r.len (place x y) (omega (arith, ints)) in
+      sym (weight_at-append_after (stretch r.y r.x r.weight r.len) (flat_map dots_of rs) x y passed);
+}
+
+-- a pixel that the first run reaches has the weight that this run gives to it
+weight_reached : (r : Run) (rs : List Run) (x y : ℤ) → AreInOrder (r ∷ rs) → IsNotBefore x y r
+    → weight_at (dots_of r) x y ≡ weight_at (flat_map dots_of (r ∷ rs)) x y
+weight_reached r rs x y ordered reached =
+    let none = weight_at-before (place (r.x +ℤ pos r.len) r.y) (flat_map dots_of rs) x y (behind_first r rs ordered) reached.reach in
+    sym (weight_at-append_none (dots_of r) (flat_map dots_of rs) x y none)
+
+pub same_all : (p : ℤ) (ds : List Dot) → AreSameFrom p ds ds
+same_all p ds = record { same = λ x y from. refl }
+
+same_more : (p : ℤ) (ds es fs : List Dot) → AreSameFrom p ds es → AreSameFrom p es fs → AreSameFrom p ds fs
+same_more p ds es fs first second = record { same = λ x y from. second.same x y from ∙ first.same x y from }
+
+-- all runs of a picture are in order
+pub all_in_order : (ds : List Dot) (rs : List Run) → IsPicture ds → rs ≡ runs_of ds → AreInOrder rs
+all_in_order ds rs picture all = record {
+  runs = (total_none ds rs picture all).passes.runs;
+  low = start_of_field;
+  dots = rw (all, dots_of-runs_of ds) picture.dots;
+}
+
+-- ---- runs that are passed
+
+-- of the runs that were ahead these are left, and nothing that they say of pixels from (x, y) on was lost
+pub record ArePassedTo (x y : ℤ) (all rs : List Run) : Type 0 where
+  pub order : AreInOrder rs
+  pub same : AreSameFrom (place x y) (flat_map dots_of all) (flat_map dots_of rs)
+
+pub none_passed : (x y : ℤ) (all : List Run) → AreInOrder all → ArePassedTo x y all all
+none_passed x y all ordered = record { order = ordered; same = same_all (place x y) (flat_map dots_of all) }
+
+-- a run that was taken is the first one ahead
+taken_first : (o : Option Run) (r : Run) (rs : List Run) → o ≡ Some r → with_taken o rs ≡ r ∷ rs
+taken_first o r rs some = rw some refl
+
+pub taken_is_lawful : (o : Option Run) (r : Run) (rs : List Run) → o ≡ Some r → AreInOrder (with_taken o rs) → IsRun r
+taken_is_lawful o r rs some ordered = All-head IsRun r rs (subst (All IsRun) (taken_first o r rs some) ordered.runs)
+
+one_more : (x y : ℤ) (all : List Run) (r : Run) (rs : List Run) → place (r.x +ℤ pos r.len) r.y ≤ℤ place x y → ArePassedTo x y all (r ∷ rs)
+    → ArePassedTo x y all rs
+one_more x y all r rs end so_far = record {
+  order = order_behind r rs so_far.order;
+  same = same_more (place x y) (flat_map dots_of all) (flat_map dots_of (r ∷ rs)) (flat_map dots_of rs) so_far.same (same_behind r rs (place x y) end);
+}
+
+-- the run that an iterator gives is the first of those that it had left
+next_taken : (o : Option Run) (rs others : List Run) → MatchOption o ((rs ≡ []) × (others ≡ [])) (λ r. rs ≡ r ∷ others) → rs ≡ with_taken o others
+next_taken None rs others none = none.0
+next_taken (Some r) rs others first = first
+
+pub one_more_passed : (x y : ℤ) (all : List Run) (o p : Option Run) (r : Run) (rs others : List Run) → o ≡ Some r
+    → place (r.x +ℤ pos r.len) r.y ≤ℤ place x y → MatchOption p ((rs ≡ []) × (others ≡ [])) (λ s. rs ≡ s ∷ others)
+    → ArePassedTo x y all (with_taken o rs) → ArePassedTo x y all (with_taken p others)
+one_more_passed x y all o p r rs others some end next so_far =
+    subst (ArePassedTo x y all) (next_taken p rs others next) (one_more x y all r rs end (subst (ArePassedTo x y all) (taken_first o r rs some) so_far))
+
+pub fewer_ahead : (o p : Option Run) (r : Run) (rs others : List Run) → o ≡ Some r
+    → MatchOption p ((rs ≡ []) × (others ≡ [])) (λ s. rs ≡ s ∷ others) → length (with_taken p others) < length (with_taken o rs)
+fewer_ahead o p r rs others some next = rw (← next_taken p rs others next, taken_first o r rs some) (omega arith)
+
+-- ---- the weight of the pixel (x, y), where the first run ahead reaches it
+
+pub weight_of_taken : (x y : ℤ) (all : List Run) (o : Option Run) (r : Run) (rs : List Run) → o ≡ Some r → AreInOrder (with_taken o rs)
+    → IsNotBefore x y r → AreSameFrom (place x y) (flat_map dots_of all) (flat_map dots_of (with_taken o rs))
+    → weight_at (dots_of r) x y ≡ weight_at (flat_map dots_of all) x y
+weight_of_taken x y all o r rs some ordered reached so_far =
+    weight_reached r rs x y (subst AreInOrder (taken_first o r rs some) ordered) reached
+    ∙ ap (λ (ahead : List Run). weight_at (flat_map dots_of ahead) x y) (sym (taken_first o r rs some))
+    ∙ so_far.same x y (omega (arith, ints))
+
+pub weight_of_none : (x y : ℤ) (all : List Run) (o : Option Run) (rs : List Run) → o ≡ None
+    → AreSameFrom (place x y) (flat_map dots_of all) (flat_map dots_of (with_taken o rs)) → pos 0 ≡ weight_at (flat_map dots_of all) x y
+unfolding weight_at
+weight_of_none x y all None rs none so_far = so_far.same x y (omega (arith, ints))
+weight_of_none x y all (Some r) rs none so_far = absurd cc

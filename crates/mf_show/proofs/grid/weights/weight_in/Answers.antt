@@ -1,0 +1,20 @@
+use Rattle.std.proofs.Common.{◌≡◌, ◌∙◌, to_z, of_z, w32, arith}
+use Rattle.std.proofs.lemmas.Int.{ints}
+use Rattle.mf_rows.specs.Dots.{place}
+use Rattle.mf_show.proofs.PassedPixels.{weight_on, weight_off}
+use Rattle.mf_show.proofs.grid.weights.weight_in.Goals as goal
+use Rattle.mf_show.proofs.grid.weights.weight_in.Goals.{else-run-y-via-then-run-y+else-run-x, else-run-y-via-else-run-y}
+
+pub returns-then-run-x : goal.returns-then-run-x
+unfolding place
+returns-then-run-x c =
+    let run = c.args.run.now in
+    let weight : to_z w32 (of_z w32 run.weight) ≡ run.weight = omega (arith, ints) in
+    weight ∙ weight_on run c.args.x c.args.y c.requires.run (record { row = omega (arith, ints); left = omega (arith, ints); right = omega (arith, ints) })
+
+pub returns : goal.returns
+returns c = weight_off c.args.run.now c.args.x c.args.y (λ on.
+    elim c.else-run-y.branch [
+      | else-run-y-via-then-run-y+else-run-x w ↦ omega (arith, ints, on.left, w.if-run-x)
+      | else-run-y-via-else-run-y w ↦ omega (arith, ints, on.row, w.if-run-y)
+    ])

@@ -1,0 +1,4 @@
+pub mod Grid
+pub mod Names
+pub mod RunsAhead
+pub mod RunText

@@ -1,0 +1,40 @@
+//! Why pictures have no grid text.
+use mf_geom::OutOfMemory;
+use std::error::Error;
+use std::fmt;
+
+/// Why a picture has no grid text.
+#[derive(Clone, Copy, Debug, PartialEq, Eq)]
+pub enum GridFault {
+    /// Refusal 23: the least box is wider or higher than 128 pixels.
+    ProofTooLarge,
+    /// Refusal 14. It never comes in the place of 23.
+    OutOfMemory,
+}
+
+impl fmt::Display for GridFault {
+    ghost use Rattle.std.specs.Prelude.{Some};
+    ghost use Rattle.mf_show.specs.Names.{grid_fault_text};
+
+    ghost output = { λ fault. Some (grid_fault_text fault) };
+
+    fn fmt<W: fmt::Write>(&self, f: &mut fmt::Formatter<W>) -> fmt::Result {
+        match self {
+            GridFault::ProofTooLarge => write!(f, "ProofTooLarge"),
+            GridFault::OutOfMemory => write!(f, "{OutOfMemory}"),
+        }
+    }
+}
+
+impl Error for GridFault {}
+
+impl From<OutOfMemory> for GridFault {
+    ghost use Rattle.std.specs.Prelude.{◌≡◌};
+    ghost use Rattle.mf_show.specs.declared.fault.GridFault.TheVariants.{OutOfMemory};
+
+    ghost from_gives = { λ _ fault. fault ≡ OutOfMemory };
+
+    fn from(_fault: OutOfMemory) -> GridFault {
+        GridFault::OutOfMemory
+    }
+}

@@ -1,0 +1,101 @@
+//! Grid texts.
+ghost use Rattle.std.specs.Prelude.{◌≡◌, ◌≤ℤ◌, ◌+ℤ◌, ◌++◌, ◌↔◌, Err, IfOk, codes, pos, negsuc};
+ghost use Rattle.mf_rows.specs.Bounds.{IsLeastBox};
+ghost use Rattle.mf_rows.specs.Dots.{place};
+ghost use Rattle.mf_show.specs.Grid.{IsGridText, IsTooLarge, extent, box_text, row_text, character};
+ghost use Rattle.mf_show.specs.RunsAhead.{runs_ahead, dots_ahead, AreInOrder, AreSameFrom};
+
+mod weights;
+
+use crate::fault::GridFault;
+use crate::grid::weights::Weights;
+use mf_geom::OutOfMemory;
+use mf_rows::{Box4, Picture};
+use std::alloc::Global;
+
+/// Most columns and most rows of a grid.
+const MAX_SIDE: u32 = 128;
+
+/// The grid text of a picture: a character for each pixel of its least box, rows from the top, each ended by a line
+/// feed: `.` for weight 0, `1` to `9`, `+` above, `a` to `i` for -1 to -9, `-` below; `blank` where no pixel has a
+/// weight. Refusals ProofTooLarge (23), exactly where the box is wider or higher than 128 pixels, and OutOfMemory (14).
+pub fn proof_grid(alloc: Global, picture: &Picture) -> Result<Vec<u8>, GridFault>
+    ensures text { IfOk result (λ text. IsGridText picture.now text.items) }
+    ensures too_large { IsTooLarge picture.now ↔ (result ≡ Err GridFault.ProofTooLarge) }
+{
+    let Some(bounds) = picture.bounds() else {
+        return Ok(blank(alloc)?);
+    };
+    let columns = extent(bounds.min_x, bounds.max_x);
+    let rows = extent(bounds.min_y, bounds.max_y);
+    if columns > MAX_SIDE || rows > MAX_SIDE {
+        return Err(GridFault::ProofTooLarge);
+    }
+    Ok(drawn(alloc, picture, &bounds)?)
+}
+
+/// The text of the blank picture.
+fn blank(alloc: Global) -> Result<Vec<u8>, OutOfMemory>
+    ensures { IfOk result (λ text. text.items ≡ codes "blank\n") }
+{
+    Ok(Vec::from_slice(alloc, b"blank\n")?)
+}
+
+/// How many columns, or rows, lie from the first to the last.
+fn extent(first: i32, last: i32) -> u32
+    requires least { negsuc 4094 ≤ℤ first }
+    requires greatest { last ≤ℤ pos 4094 }
+    requires order { first ≤ℤ last }
+    ensures { result ≡ extent first last }
+{
+    (last - first) as u32 + 1
+}
+
+/// The text of the least box.
+fn drawn(alloc: Global, picture: &Picture, bounds: &Box4) -> Result<Vec<u8>, OutOfMemory>
+    requires { IsLeastBox picture.now bounds.now }
+    ensures { IfOk result (λ text. text.items ≡ box_text picture.now bounds.now) }
+{
+    let mut text = Vec::new(alloc);
+    let mut weights = Weights::over(picture);
+    for y in (bounds.min_y..bounds.max_y + 1).rev() {
+        push_row(&mut text, &mut weights, y, bounds.min_x, bounds.max_x)?;
+    }
+    Ok(text)
+}
+
+/// Appends the line of a row, from a first to a last column.
+fn push_row(
+    text: &mut Vec<u8>,
+    weights: &mut Weights<'_>,
+    y: i32,
+    first: i32,
+    last: i32,
+) -> Result<(), OutOfMemory>
+    requires order { AreInOrder (runs_ahead weights.old) }
+    requires least { negsuc 4094 ≤ℤ first }
+    requires greatest { last ≤ℤ pos 4094 }
+    requires columns { first ≤ℤ last }
+    ensures text { IfOk result (λ _. text.new.items ≡ text.old.items ++ row_text (dots_ahead weights.old) y first (extent first last) ++ codes "\n") }
+    ensures order { IfOk result (λ _. AreInOrder (runs_ahead weights.new)) }
+    ensures later { IfOk result (λ _. AreSameFrom (place (last +ℤ pos 1) y) (dots_ahead weights.old) (dots_ahead weights.new)) }
+{
+    for x in first..last + 1 {
+        text.push(character(weights.weight(x, y)))?;
+    }
+    text.push(b'\n')?;
+    Ok(())
+}
+
+/// The character of a weight.
+fn character(weight: i32) -> u8
+    ensures { result ≡ character weight }
+{
+    match weight {
+        0 => b'.',
+        1..=9 => b'0' + weight as u8,
+        -9..=-1 => b'a' - 1 + weight.unsigned_abs() as u8,
+        _ if weight > 0 => b'+',
+        _ => b'-',
+    }
+}

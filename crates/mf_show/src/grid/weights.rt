@@ -1,0 +1,86 @@
+//! The weights of pixels in reading order.
+ghost use Rattle.std.specs.Prelude.{◌≡◌, ◌↔◌, IsTrue, IfSome, pos, negsuc, ◌≤ℤ◌, ◌+ℤ◌};
+ghost use Rattle.mf_rows.specs.Dots.{IsPicture, place, weight_at};
+ghost use Rattle.mf_rows.specs.Order.{IsRun};
+ghost use Rattle.mf_rows.specs.Runs.{dots_of, runs_of};
+ghost use Rattle.mf_show.specs.RunsAhead.{runs_ahead, dots_ahead, AreInOrder, AreSameFrom, IsNotBefore};
+
+use mf_rows::{Picture, Run, Runs};
+
+/// A walk over the weights of a picture, which passes each of its runs once. The first run that may reach the next
+/// pixel was taken already.
+#[derive(Drop)]
+pub(crate) struct Weights<'a> {
+    run: Option<Run>,
+    runs: Runs<'a>,
+}
+
+impl<'a> Weights<'a> {
+    /// The weights of a picture.
+    pub(crate) fn over(picture: &'a Picture) -> Weights<'a>
+        ensures runs { runs_ahead result ≡ runs_of picture.now }
+        ensures lawful { IsPicture picture.now }
+    {
+        let mut runs = picture.runs();
+        let run = runs.next();
+        Weights { run, runs }
+    }
+
+    /// The weight of a pixel. Those before it are passed: their weights are not known any more.
+    pub(crate) fn weight(&mut self, x: i32, y: i32) -> i32
+        requires order { AreInOrder (runs_ahead self.old) }
+        requires left { negsuc 4094 ≤ℤ x }
+        requires right { x ≤ℤ pos 4094 }
+        ensures order { AreInOrder (runs_ahead self.new) }
+        ensures weight { result ≡ weight_at (dots_ahead self.old) x y }
+        ensures later { AreSameFrom (place x y) (dots_ahead self.old) (dots_ahead self.new) }
+    {
+        self.pass(x, y);
+        match self.run {
+            Some(run) => weight_in(&run, x, y),
+            None => 0,
+        }
+    }
+
+    /// Passes the runs that end before a pixel.
+    fn pass(&mut self, x: i32, y: i32)
+        requires order { AreInOrder (runs_ahead self.old) }
+        requires left { negsuc 4094 ≤ℤ x }
+        requires right { x ≤ℤ pos 4094 }
+        ensures order { AreInOrder (runs_ahead self.new) }
+        ensures reach { IfSome self.new.run (IsNotBefore x y) }
+        ensures later { AreSameFrom (place x y) (dots_ahead self.old) (dots_ahead self.new) }
+    {
+        while let Some(run) = self.run {
+            if !is_before(&run, x, y) {
+                return;
+            }
+            self.run = self.runs.next();
+        }
+    }
+}
+
+/// Whether a run ends before a pixel.
+fn is_before(run: &Run, x: i32, y: i32) -> bool
+    requires run { IsRun run.now }
+    requires left { negsuc 4094 ≤ℤ x }
+    requires right { x ≤ℤ pos 4094 }
+    ensures { IsTrue result ↔ (place (run.now.x +ℤ pos run.now.len) run.now.y ≤ℤ place x y) }
+{
+    if run.y == y {
+        return run.x + run.len as i32 <= x;
+    }
+    run.y > y
+}
+
+/// The weight that a run gives to a pixel, where it does not end before it.
+fn weight_in(run: &Run, x: i32, y: i32) -> i32
+    requires run { IsRun run.now }
+    requires reach { IsNotBefore x y run.now }
+    ensures { result ≡ weight_at (dots_of run.now) x y }
+{
+    if run.y == y && run.x <= x {
+        return run.weight;
+    }
+    0
+}

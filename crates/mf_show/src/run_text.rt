@@ -1,0 +1,47 @@
+//! Run texts.
+ghost use Rattle.std.specs.Prelude.{◌≡◌, ◌++◌, IfOk};
+ghost use Rattle.std.specs.Fmt.{signed_decimal};
+ghost use Rattle.mf_rows.specs.Order.{IsRun};
+ghost use Rattle.mf_show.specs.RunText.{run_text, run_line};
+
+use itoa::Buffer;
+use mf_geom::OutOfMemory;
+use mf_rows::{Picture, Run};
+use std::alloc::Global;
+
+/// The run text of a picture: a line `y x1 x2 w` for each maximal run of one nonzero weight, rows from the top and
+/// columns rising, with the first and the last column and the weight; `blank` where there is none. Refusal
+/// OutOfMemory (14).
+pub fn show_runs(alloc: Global, picture: &Picture) -> Result<Vec<u8>, OutOfMemory>
+    ensures { IfOk result (λ text. text.items ≡ run_text picture.now) }
+{
+    let mut text = Vec::new(alloc);
+    for run in picture.runs() {
+        push_line(&mut text, &run)?;
+    }
+    if text.is_empty() {
+        text.extend_from_slice(b"blank\n")?;
+    }
+    Ok(text)
+}
+
+/// Appends the line of a run.
+fn push_line(text: &mut Vec<u8>, run: &Run) -> Result<(), OutOfMemory>
+    requires { IsRun run.now }
+    ensures { IfOk result (λ _. text.new.items ≡ text.old.items ++ run_line run.now) }
+{
+    push_number(text, run.y, b" ")?;
+    push_number(text, run.x, b" ")?;
+    push_number(text, run.x + (run.len - 1) as i32, b" ")?;
+    push_number(text, run.weight, b"\n")
+}
+
+/// Appends a number and what stands behind it.
+fn push_number(text: &mut Vec<u8>, number: i32, behind: &[u8]) -> Result<(), OutOfMemory>
+    ensures { IfOk result (λ _. text.new.items ≡ text.old.items ++ signed_decimal number ++ behind.now) }
+{
+    let mut buffer = Buffer::new();
+    text.extend_from_slice(buffer.format(number).as_bytes())?;
+    text.extend_from_slice(behind)?;
+    Ok(())
+}

@@ -1,0 +1,5 @@
+//! Tests of `mf_show`.
+#![tactic(auto)]
+
+#[cfg(test)]
+mod tests;

@@ -1,0 +1,4 @@
+//! Tests of the texts of pictures.
+
+mod assertions;
+mod texts;

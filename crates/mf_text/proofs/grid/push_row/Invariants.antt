@@ -1,6 +1,0 @@
-use Rattle.mf_text.specs.RunsAhead.{runs_ahead}
-use Rattle.mf_text.proofs.GridTexts.{IsRowSoFar}
-use Rattle.mf_text.proofs.grid.push_row.Given as goal
-
-abbrev pub invariant-loop-x : goal.invariant-loop-x
-invariant-loop-x l = IsRowSoFar l.y l.first l.last l.initial.text.items (runs_ahead l.initial.weights) l.x l.text.items (runs_ahead l.weights)
