@@ -1,158 +1,226 @@
--- Tokens begin a line exactly where all of them can be read, and are one exactly where a whole line was read.
-use Rattle.std.proofs.Common.{◌≡◌, ◌⊎◌, inl, inr, ℕ, suc, List, [], ◌∷◌, ◌++◌, Option, Some, None, length, take, false, length-append, refl, sym, ap, subst, ◌∙◌, append_assoc, append-nil, arith}
-use Rattle.std.specs.Option.{IfSome, option_map, option_and_then}
-use Rattle.std.proofs.Math.Seq.{take-length, take-append_seam}
+-- What comes of tokens: they are a line, or go wrong where no line goes on.
+use Rattle.std.proofs.Common.{◌≡◌, ◌⊎◌, ◌&&◌, inl, inr, ℕ, zero, suc, ◌<◌, ◌≤◌, Bool, true, false, List, [], ◌∷◌, ◌++◌, eqb, length, take, Option, Some, None, Result, Ok, Err, ok_or, if◌then◌else◌, refl, sym, ap, subst, ◌∙◌, arith}
+use Rattle.std.proofs.lemmas.Bool.{and_parts, eqb-true, false≢true}
+use Rattle.std.proofs.lemmas.List.{length-map}
 use Rattle.std.proofs.lemmas.Option.{none-some, same_Some}
-use Rattle.mf_text.specs.declared.place.Place.TheVariants as place
+use Rattle.mf_text.specs.declared.token.Mark.TheVariants as mark
+use Rattle.mf_text.specs.declared.token.Placed.{Placed}
 use Rattle.mf_text.specs.declared.token.Token.{Token}
-use Rattle.mf_text.specs.Grammar.{Form, Line, spell_form, spell_line}
+use Rattle.mf_text.specs.declared.token.Token.TheVariants as token
+use Rattle.mf_text.specs.declared.token.Word.TheVariants as word
+use Rattle.mf_text.specs.Ahead.{Ahead, behind, column_at, column_of}
+use Rattle.mf_text.specs.Grammar.{Line, spell_line}
+use Rattle.mf_text.specs.LineRests.{line}
 use Rattle.mf_text.specs.Phrases.{IsWrongAt}
-use Rattle.mf_text.specs.Readings.{Reading, Open, Ended, to_place, form_at, step, read, start, line_read, tokens_read}
-use Rattle.mf_text.specs.Syntax.{IsLine, BeginsLine}
-use Rattle.mf_text.proofs.Leading.{Spells, form-spelled, Read, step-read}
-use Rattle.mf_text.proofs.LinesEnd.{can_end}
-use Rattle.mf_text.proofs.LinesRead.{line-read}
+use Rattle.mf_text.specs.Rests.{Place, Before, CodeNumber, ends, follow, from, shown, step}
+use Rattle.mf_text.specs.Syntax.{BeginsLine, IsSyntaxFault, is_negative_code, shown_at}
+use Rattle.mf_text.specs.Tokens.{kinds}
+use Rattle.mf_text.proofs.LineRests.{line_read}
+use Rattle.mf_text.proofs.Rests.{is_code_number, is_code_number_at, place_ends, reads}
+use Rattle.mf_text.proofs.Sound.{sound_line}
 
--- ---- reading tokens
+-- ---- lines are what is read
 
-pub read-append : (r : Option Reading) (ts us : List Token) → read r (ts ++ us) ≡ read (read r ts) us
-unfolding read
-read-append r [] us = refl
-read-append r (t ∷ ts) us = read-append (option_and_then (λ s. step s t) r) ts us
+pub read_is_line : (ts : List Token) (l : Line) → reads (Some (Before line)) ts ≡ Some l → ts ≡ spell_line l
+read_is_line ts l is = sym ((sound_line (length ts)).spelled ts l (omega arith) is)
 
-pub read-none : (ts : List Token) → read None ts ≡ None
-unfolding read
-read-none [] = refl
-read-none (t ∷ ts) = read-none ts
-
-one-more : (us : List Token) (t : Token) (r : Option Reading) → Read us r → Read (us ++ t ∷ []) (option_and_then (λ s. step s t) r)
-one-more us t None is = tt
-one-more us t (Some s) is = subst (λ vs. Read (vs ++ t ∷ []) (step s t)) is (step-read s t)
-
-reads : (us : List Token) (r : Option Reading) (ts : List Token) → Read us r → Read (us ++ ts) (read r ts)
-unfolding read
-reads us r [] is = subst (λ vs. Read vs r) (sym (append-nil us)) is
-reads us r (t ∷ ts) is = subst (λ vs. Read vs (read (option_and_then (λ s. step s t) r) ts)) (append_assoc us (t ∷ []) ts) (reads (us ++ t ∷ []) (option_and_then (λ s. step s t) r) ts (one-more us t r is))
-
--- what is read of tokens is these tokens
-pub all-read : (ts : List Token) → Read ts (read start ts)
-unfolding to_place
-all-read ts = reads [] start ts refl
-
-line_of_form : (ts : List Token) (form : Option Form) → Spells ts form → IfSome (option_map (λ f. record { form = f; ended = false }) form) (λ (l : Line). spell_line l ≡ ts)
-line_of_form ts None is = tt
-line_of_form ts (Some form) is = append-nil (spell_form form) ∙ is
-
-line-spelled : (r : Reading) → IfSome (line_read r) (λ l. spell_line l ≡ tokens_read r)
-line-spelled (Open others p) = line_of_form (to_place others p) (form_at others p) (form-spelled others p)
-line-spelled (Ended form) = refl
-
-whole_reading : (ts : List Token) (r : Option Reading) → Read ts r → IfSome (option_and_then line_read r) (λ l. spell_line l ≡ ts)
-whole_reading ts None is = tt
-whole_reading ts (Some r) is = subst (λ us. IfSome (line_read r) (λ l. spell_line l ≡ us)) is (line-spelled r)
-
--- a line that was read is spelled by the tokens
-whole-line : (ts : List Token) → IfSome (option_and_then line_read (read start ts)) (λ l. spell_line l ≡ ts)
-whole-line ts = whole_reading ts (read start ts) (all-read ts)
-
-pub is_line : (ts : List Token) (l : Line) → option_and_then line_read (read start ts) ≡ Some l → ts ≡ spell_line l
-is_line ts l whole = sym (subst (λ (o : Option Line). IfSome o (λ m. spell_line m ≡ ts)) whole (whole-line ts))
-
-pub line_is-read : (ts : List Token) (line : IsLine ts) → option_and_then line_read (read start ts) ≡ Some line.tree
-line_is-read ts line = ap (λ us. option_and_then line_read (read start us)) line.spelled ∙ line-read line.tree
+pub line_is_read : (ts : List Token) (l : Line) → ts ≡ spell_line l → reads (Some (Before line)) ts ≡ Some l
+line_is_read ts l is = ap (reads (Some (Before line))) is ∙ line_read l
 
 -- tokens are at most one line
 pub same_line : (l m : Line) → spell_line l ≡ spell_line m → l ≡ m
-same_line l m same = same_Some l m (sym (line-read l) ∙ ap (λ us. option_and_then line_read (read start us)) same ∙ line-read m)
+same_line l m same = same_Some l m (sym (line_read l) ∙ line_is_read (spell_line l) m same)
 
--- ---- beginnings
+-- a line goes on behind these tokens, from a place
+record GoesOn (p : Option Place) (ts : List Token) : Type 0 where
+  rest : List Token
+  tree : Line
+  read : reads p (ts ++ rest) ≡ Some tree
 
-pub begins-read : (ts : List Token) (r : Reading) → read start ts ≡ Some r → BeginsLine ts
-begins-read ts r is =
-    let end = can_end r in
-    record {
-      rest = end.rest;
-      phrase = record {
-        tree = end.line;
-        spelled = is_line (ts ++ end.rest) end.line (ap (option_and_then line_read) (read-append start ts end.rest ∙ ap (λ s. read s end.rest) is) ∙ end.whole);
-      };
-    }
+goes_on_or_not : (p : Option Place) (ts : List Token) → GoesOn p ts ⊎ (GoesOn p ts → ⊥)
+unfolding reads
+goes_on_or_not None ts = inr (λ on. none-some on.tree on.read)
+goes_on_or_not (Some p) [] = let end = place_ends p in inl (record { rest = end.tokens; tree = end.line; read = end.whole })
+goes_on_or_not (Some p) (t ∷ ts) =
+    elim (goes_on_or_not (step p t) ts) [
+      | inl on ↦ inl (record { rest = on.rest; tree = on.tree; read = on.read })
+      | inr ends_here ↦ inr (λ on. ends_here (record { rest = on.rest; tree = on.tree; read = on.read }))
+    ]
 
-pub begins_no-read : (ts : List Token) → read start ts ≡ None → BeginsLine ts → ⊥
-begins_no-read ts none begun =
-    none-some begun.phrase.tree
-    (sym (ap (option_and_then line_read) (read-append start ts begun.rest ∙ ap (λ s. read s begun.rest) none ∙ read-none begun.rest))
-    ∙ line_is-read (ts ++ begun.rest) begun.phrase)
+begins : (ts : List Token) → GoesOn (Some (Before line)) ts → BeginsLine ts
+begins ts on = record { rest = on.rest; phrase = record { tree = on.tree; spelled = read_is_line (ts ++ on.rest) on.tree on.read } }
 
-begins_by : (ts : List Token) (r : Option Reading) → read start ts ≡ r → BeginsLine ts ⊎ (BeginsLine ts → ⊥)
-begins_by ts None is = inr (begins_no-read ts is)
-begins_by ts (Some r) is = inl (begins-read ts r is)
+goes_on : (ts : List Token) → BeginsLine ts → GoesOn (Some (Before line)) ts
+goes_on ts begun = record { rest = begun.rest; tree = begun.phrase.tree; read = line_is_read (ts ++ begun.rest) begun.phrase.tree begun.phrase.spelled }
 
--- a line begins with tokens or not
 pub begins_or_not : (ts : List Token) → BeginsLine ts ⊎ (BeginsLine ts → ⊥)
-begins_or_not ts = begins_by ts (read start ts) refl
-
-no_line : (ts : List Token) → option_and_then line_read (read start ts) ≡ None → IsLine ts → ⊥
-no_line ts none line = none-some line.tree (sym none ∙ line_is-read ts line)
-
-line_by : (ts : List Token) (l : Option Line) → option_and_then line_read (read start ts) ≡ l → IsLine ts ⊎ (IsLine ts → ⊥)
-line_by ts None is = inr (no_line ts is)
-line_by ts (Some l) is = inl (record { tree = l; spelled = is_line ts l is })
-
--- tokens are a line or not
-pub line_or_not : (ts : List Token) → IsLine ts ⊎ (IsLine ts → ⊥)
-line_or_not ts = line_by ts (option_and_then line_read (read start ts)) refl
+begins_or_not ts =
+    elim (goes_on_or_not (Some (Before line)) ts) [
+      | inl on ↦ inl (begins ts on)
+      | inr ends_here ↦ inr (λ begun. ends_here (goes_on ts begun))
+    ]
 
 -- ---- where tokens go wrong
 
--- behind tokens that can be read, at one that cannot
-pub wrong_behind : (before : List Token) (t : Token) (rest : List Token) (r : Reading) → read start before ≡ Some r → step r t ≡ None
-    → IsWrongAt spell_line (before ++ t ∷ rest) (length before)
-unfolding read
-wrong_behind before t rest r begun wrong =
-    let ts = before ++ t ∷ rest in
-    let more : before ++ t ∷ rest ≡ (before ++ t ∷ []) ++ rest = sym (append_assoc before (t ∷ []) rest) in
-    let longer : suc (length before) ≡ length (before ++ t ∷ []) = omega (arith, length-append before (t ∷ [])) in
-    let front : take (length before) ts ≡ before = take-append_seam before (t ∷ rest) in
-    let front_more : take (suc (length before)) ts ≡ before ++ t ∷ [] = rw (more, longer) (take-append_seam (before ++ t ∷ []) rest) in
-    let stuck : read start (before ++ t ∷ []) ≡ None = read-append start before (t ∷ []) ∙ ap (λ s. read s (t ∷ [])) begun ∙ wrong in
-    record {
-      within = omega (arith, length-append before (t ∷ rest));
-      begins = subst BeginsLine (sym front) (begins-read before r begun);
-      wrong = λ below. subst (λ us. BeginsLine us → ⊥) (sym front_more) (begins_no-read (before ++ t ∷ []) stuck);
-      unended = λ end. absurd (omega (arith, length-append before (t ∷ rest), end));
-    }
+record Wrong (p : Option Place) (ts : List Token) (k : ℕ) : Type 0 where
+  within : k ≤ length ts
+  before : GoesOn p (take k ts)
+  wrong : k < length ts → GoesOn p (take (suc k) ts) → ⊥
+  unended : k ≡ length ts → (l : Line) → reads p ts ≡ Some l → ⊥
 
--- or at the end, where no line is whole
-pub wrong_end : (ts : List Token) (r : Reading) → read start ts ≡ Some r → line_read r ≡ None → IsWrongAt spell_line ts (length ts)
-wrong_end ts r begun unended = record {
-  within = omega arith;
-  begins = subst BeginsLine (sym (take-length ts)) (begins-read ts r begun);
-  wrong = λ below. absurd (omega (arith, below));
-  unended = λ end. no_line ts (ap (option_and_then line_read) begun ∙ unended);
+-- the column of the token before these, or of the one before the token k
+abbrev last_column : ℕ → List Placed → ℕ → ℕ
+last_column last ps zero = last
+last_column last [] (suc k) = last
+last_column last (p ∷ ps) (suc k) = last_column p.column ps k
+
+-- a column that shows where tokens go wrong
+record Stops (p : Place) (last past : ℕ) (ps : List Placed) (column : ℕ) : Type 0 where
+  place : ℕ
+  at : Wrong (Some p) (kinds ps) place
+  column_is : column ≡ (if is_code_number_at (Some p) (kinds ps) place then last_column last ps place else column_of (behind place ps past).tokens (behind place ps past).past)
+
+same_Err : (m n : ℕ) (r : Result Line ℕ) → r ≡ Err m → r ≡ Err n → n ≡ m
+same_Err m n r p q = cc
+
+at_end : (p : Place) (last past column : ℕ) (end : Option Line) → ends p ≡ end → ok_or end past ≡ Err column → Stops p last past [] column
+unfolding reads is_code_number_at
+at_end p last past column None is wrong = let end = place_ends p in record {
+  place = 0;
+  at = record {
+    within = omega arith;
+    before = record { rest = end.tokens; tree = end.line; read = end.whole };
+    wrong = λ more. absurd (omega (arith, more));
+    unended = λ whole l read. none-some l (sym is ∙ read);
+  };
+  column_is = same_Err past column (Err past) refl wrong;
+}
+at_end p last past column (Some l) is wrong = absurd (let no = wrong in cc)
+
+later : (p : Place) (t : Token) (ts : List Token) (k : ℕ) → Wrong (step p t) ts k → Wrong (Some p) (t ∷ ts) (suc k)
+unfolding reads
+later p t ts k wrong = record {
+  within = omega (arith, wrong.within);
+  before = record { rest = wrong.before.rest; tree = wrong.before.tree; read = wrong.before.read };
+  wrong = λ more on. wrong.wrong (omega (arith, more)) (record { rest = on.rest; tree = on.tree; read = on.read });
+  unended = λ whole l read. wrong.unended (omega (arith, whole)) l read;
 }
 
-abbrev SomewhereWrong : List Token → Type 0
-SomewhereWrong ts = (k : ℕ) × IsWrongAt spell_line ts k
+shown_is : (p : Place) (t : Token) (last own : ℕ) → shown p t last own ≡ (if is_code_number p t then last else own)
+shown_is (CodeNumber next) (token.Number n) last own = refl
+shown_is p t last own = refl
 
-wrong_at_end : (ts : List Token) (r : Reading) → read start ts ≡ Some r → (IsLine ts → ⊥) → (l : Option Line) → line_read r ≡ l → SomewhereWrong ts
-wrong_at_end ts r begun none None is = (length ts, wrong_end ts r begun is)
-wrong_at_end ts r begun none (Some l) is = absurd (none (record { tree = l; spelled = is_line ts l (ap (option_and_then line_read) begun ∙ is) }))
+at_token : (p : Place) (last past : ℕ) (t : Placed) (ps : List Placed) (column : ℕ) (q : Option Place) → step p t.token ≡ q
+    → follow (ok_or q (shown p t.token last t.column)) t.column t.after ps ≡ Err column
+    → ((s : Place) → follow (Ok s) t.column t.after ps ≡ Err column → Stops s t.column t.after ps column) → Stops p last past (t ∷ ps) column
+unfolding reads is_code_number_at follow
+at_token p last past t ps column None is wrong behind_it = let end = place_ends p in record {
+  place = 0;
+  at = record {
+    within = omega arith;
+    before = record { rest = end.tokens; tree = end.line; read = end.whole };
+    wrong = λ more on. none-some on.tree (ap (λ q. reads q on.rest) (sym is) ∙ on.read);
+    unended = λ whole. absurd (omega (arith, whole));
+  };
+  column_is = same_Err (shown p t.token last t.column) column (Err (shown p t.token last t.column)) refl wrong ∙ shown_is p t.token last t.column;
+}
+at_token p last past t ps column (Some s) is wrong behind_it = let stops = behind_it s wrong in record {
+  place = suc stops.place;
+  at = later p t.token (kinds ps) stops.place (subst (λ q. Wrong q (kinds ps) stops.place) (sym is) stops.at);
+  column_is = stops.column_is
+      ∙ ap (λ q. if is_code_number_at q (kinds ps) stops.place then last_column t.column ps stops.place else column_of (behind stops.place ps t.after).tokens (behind stops.place ps t.after).past)
+      (sym is);
+}
 
-next_wrong : (before : List Token) (t : Token) (rest : List Token) (last : Reading) → read start before ≡ Some last → (s : Option Reading) → step last t ≡ s
-    → ((r : Reading) → read start (before ++ t ∷ []) ≡ Some r → SomewhereWrong ((before ++ t ∷ []) ++ rest)) → SomewhereWrong (before ++ t ∷ rest)
-unfolding read
-next_wrong before t rest last begun None is later = (length before, wrong_behind before t rest last begun is)
-next_wrong before t rest last begun (Some r) is later =
-    subst SomewhereWrong (append_assoc before (t ∷ []) rest) (later r (read-append start before (t ∷ []) ∙ ap (λ s. read s (t ∷ [])) begun ∙ is))
+stops : (p : Place) (last past : ℕ) (ps : List Placed) (column : ℕ) → follow (Ok p) last past ps ≡ Err column → Stops p last past ps column
+unfolding follow
+stops p last past [] column is = at_end p last past column (ends p) refl is
+stops p last past (t ∷ ps) column is = at_token p last past t ps column (step p t.token) refl is (λ s. stops s t.column t.after ps column)
 
-wrong_from : (before rest : List Token) (r : Reading) → read start before ≡ Some r → (IsLine (before ++ rest) → ⊥) → SomewhereWrong (before ++ rest)
-wrong_from before [] r begun none = wrong_at_end (before ++ []) r (ap (read start) (append-nil before) ∙ begun) none (line_read r) refl
-wrong_from before (t ∷ rest) r begun none =
-    next_wrong before t rest r begun (step r t) refl
-    (λ s more. wrong_from (before ++ t ∷ []) rest s more (λ line. none (subst IsLine (append_assoc before (t ∷ []) rest) line)))
+-- ---- the number of a code shows at its `-`
 
--- tokens that are no line go wrong somewhere
-pub some_wrong_place : (ts : List Token) → (IsLine ts → ⊥) → SomewhereWrong ts
-unfolding read
-some_wrong_place ts none = wrong_from [] ts (Open [] place.Front) refl none
+shipped : (s : Token) (n : ℕ) (ts us : List Token) (l : Line)
+    → reads (Some (Before line)) (token.Word word.Shipout ∷ s ∷ token.Word word.Code ∷ token.Mark mark.Minus ∷ us) ≡ Some l
+    → is_code_number_at (Some (Before line)) (token.Word word.Shipout ∷ s ∷ token.Word word.Code ∷ token.Mark mark.Minus ∷ token.Number n ∷ ts) 4 ≡ true
+unfolding reads is_code_number_at
+shipped (token.Word word.NullPicture) n ts us l read = refl
+shipped (token.Word word.CurrentPicture) n ts us l read = refl
+shipped (token.Letter letter) n ts us l read = refl
+shipped s n ts us l read = absurd (none-some l read)
+
+negative_shows : (ts us : List Token) (l : Line) → is_negative_code ts ≡ true → reads (Some (Before line)) (take 4 ts ++ us) ≡ Some l
+    → is_code_number_at (Some (Before line)) ts 4 ≡ true
+negative_shows (token.Word word.Shipout ∷ s ∷ token.Word word.Code ∷ token.Mark mark.Minus ∷ token.Number n ∷ ts) us l is read = shipped s n ts us l read
+negative_shows ts us l is read = absurd (false≢true is)
+
+column_before : (ps : List Placed) (last past : ℕ) → 4 ≤ length ps → last_column last ps 4 ≡ column_of (behind 3 ps past).tokens (behind 3 ps past).past
+column_before (a ∷ b ∷ c ∷ d ∷ ps) last past long = refl
+column_before [] last past long = absurd (omega (arith, long))
+column_before (a ∷ []) last past long = absurd (omega (arith, long))
+column_before (a ∷ b ∷ []) last past long = absurd (omega (arith, long))
+column_before (a ∷ b ∷ c ∷ []) last past long = absurd (omega (arith, long))
+
+shown_three : (ts : List Token) (k : ℕ) → is_negative_code ts ≡ true → k ≡ 4 → shown_at ts k ≡ 3
+shown_three ts k negative fourth = rw (negative, fourth) refl
+
+module _ (ahead : Ahead) (column : ℕ) (found : Stops (Before line) ahead.past ahead.past ahead.tokens column) where
+  abbrev ts : List Token
+  ts = kinds ahead.tokens
+
+  abbrev is_shown : Bool
+  is_shown = is_code_number_at (Some (Before line)) ts found.place
+
+  -- the tokens are no line
+  wrong_at : IsWrongAt spell_line ts found.place
+  wrong_at = let at = found.at in record {
+    within = at.within;
+    begins = begins (take found.place ts) at.before;
+    wrong = λ more begun. at.wrong more (goes_on (take (suc found.place) ts) begun);
+    unended = λ whole line. at.unended whole line.tree (line_is_read ts line.tree line.spelled);
+  }
+
+  abbrev chosen : Bool → ℕ
+  chosen shows = if shows then last_column ahead.past ahead.tokens found.place else column_at ahead found.place
+
+  shows_before : is_shown ≡ true → column ≡ column_at ahead (shown_at ts found.place)
+  shows_before shows =
+      let coded = (sound_line (length ts)).coded ts found.place (omega arith) shows in
+      let fourth : found.place ≡ 4 = omega (arith, coded.1) in
+      let long : 4 ≤ length ahead.tokens = omega (arith, fourth, found.at.within, length-map ahead.tokens (λ (p : Placed). p.token)) in
+      found.column_is ∙ ap chosen shows ∙ ap (last_column ahead.past ahead.tokens) fourth ∙ column_before ahead.tokens ahead.past ahead.past long
+      ∙ ap (column_at ahead) (sym (shown_three ts found.place coded.0 fourth))
+
+  shows_there : is_shown ≡ false → (bad : Bool) → (is_negative_code ts && eqb found.place 4) ≡ bad → column ≡ column_at ahead (shown_at ts found.place)
+  shows_there plain false good = found.column_is ∙ ap chosen plain ∙ ap (λ b. column_at ahead (if b then 3 else found.place)) (sym good)
+  shows_there plain true bad =
+      let parts = and_parts (is_negative_code ts) (eqb found.place 4) bad in
+      let fourth = eqb-true found.place 4 parts.1 in
+      let before = subst (λ k. GoesOn (Some (Before line)) (take k ts)) fourth found.at.before in
+      absurd (false≢true (sym plain ∙ ap (is_code_number_at (Some (Before line)) ts) fourth ∙ negative_shows ts before.rest before.tree parts.0 before.read))
+
+  by_shown : (shows : Bool) → is_shown ≡ shows → column ≡ column_at ahead (shown_at ts found.place)
+  by_shown true shows = shows_before shows
+  by_shown false plain = shows_there plain (is_negative_code ts && eqb found.place 4) refl
+
+  syntax_fault : IsSyntaxFault ahead column
+  syntax_fault = record { place = found.place; at = wrong_at; column_is = by_shown is_shown refl }
+
+pub goes_wrong : (ahead : Ahead) (column : ℕ) → from line ahead ≡ Err column → IsSyntaxFault ahead column
+goes_wrong ahead column is = syntax_fault ahead column (stops (Before line) ahead.past ahead.past ahead.tokens column is)
+
+-- ---- what is followed to its end is read
+
+follows : (p : Place) (last past : ℕ) (ps : List Placed) (l : Line) → follow (Ok p) last past ps ≡ Ok l → reads (Some p) (kinds ps) ≡ Some l
+unfolding follow reads
+follows p last past [] l is = end_is (ends p) is where
+  end_is : (end : Option Line) → ok_or end past ≡ Ok l → end ≡ Some l
+  end_is None other = absurd (let wrong = other in cc)
+  end_is (Some m) same = cc
+follows p last past (t ∷ ps) l is = on_to (step p t.token) is (λ s. follows s t.column t.after ps l) where
+  on_to : (q : Option Place) → follow (ok_or q (shown p t.token last t.column)) t.column t.after ps ≡ Ok l
+      → ((s : Place) → follow (Ok s) t.column t.after ps ≡ Ok l → reads (Some s) (kinds ps) ≡ Some l) → reads q (kinds ps) ≡ Some l
+  on_to None other later = absurd (let wrong = other in cc)
+  on_to (Some s) is later = later s is
+
+pub is_line : (ahead : Ahead) (l : Line) → from line ahead ≡ Ok l → kinds ahead.tokens ≡ spell_line l
+is_line ahead l is = read_is_line (kinds ahead.tokens) l (follows (Before line) ahead.past ahead.past ahead.tokens l is)

@@ -66,7 +66,7 @@ tokens-blank : (column b : ℕ) (bs : List ℕ) → is_blank b ≡ true → toke
 unfolding tokens_from tokens_within
 tokens-blank column b bs blank = rw blank refl
 
-tokens-step : (column b : ℕ) (bs : List ℕ) → is_blank b ≡ false → eqb b 37 ≡ false
+pub tokens-step : (column b : ℕ) (bs : List ℕ) → is_blank b ≡ false → eqb b 37 ≡ false
     → tokens_from column (b ∷ bs) ≡ placed column (first_token (b ∷ bs))
     ∷ tokens_from (column + (first_token (b ∷ bs)).bytes) (drop (first_token (b ∷ bs)).bytes (b ∷ bs))
 unfolding tokens_from tokens_within

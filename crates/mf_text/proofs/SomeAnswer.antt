@@ -1,5 +1,5 @@
 -- Each line of bytes has an answer: a command, or a refusal.
-use Rattle.std.proofs.Common.{◌≡◌, ◌≢◌, ◌⊎◌, inl, inr, ℕ, ℤ, pos, negsuc, List, Option, Some, None, length, refl, sym, ◌∙◌, arith}
+use Rattle.std.proofs.Common.{◌≡◌, ◌≢◌, ◌⊎◌, inl, inr, ℕ, ℤ, pos, negsuc, List, Option, Some, None, Result, Ok, Err, length, refl, sym, ◌∙◌, arith}
 use lib.IntN.{ℤ_discrete}
 use Rattle.std.specs.List.{list_all}
 use Rattle.std.proofs.lemmas.Bool.{cases_Bool, cases_lt}
@@ -22,16 +22,17 @@ use Rattle.mf_text.specs.declared.command.Command.TheVariants as command
 use Rattle.mf_text.specs.declared.command.Name.{Name}
 use Rattle.mf_text.specs.declared.fault.TextFault.{TextFault}
 use Rattle.mf_text.specs.declared.fault.TextFault.TheVariants as faults
-use Rattle.mf_text.specs.Ahead.{column_at}
 use Rattle.mf_text.specs.Bytes.{is_text_byte}
-use Rattle.mf_text.specs.Grammar.{Form, Nothing, AddContour, AddPicture, CullKeeping, CullDropping, Clear, Move, ShowTotal, ShowPicture, ShowProof, ShipOut, SetCheck, PublishAll, Transform, Shifted, Scaled, XScaled, YScaled, Rotated, weight_value, path_value}
+use Rattle.mf_text.specs.Grammar.{Form, Nothing, AddContour, AddPicture, CullKeeping, CullDropping, Clear, Move, ShowTotal, ShowPicture, ShowProof, ShipOut, SetCheck, PublishAll, Transform, Shifted, Scaled, XScaled, YScaled, Rotated, Line, weight_value, path_value}
 use Rattle.mf_text.specs.Codes.{code_value}
 use Rattle.mf_text.specs.Ints.{int_value, pair_value}
 use Rattle.mf_text.specs.Lines.{IsText, front, Gives, HasBadValues, IsRefused}
 use Rattle.mf_text.specs.Meaning.{IsCommandOf, IsNoCycle, IsRefusalOf, IsRefusedContour, IsRefusedCull, check_of, both, of_columns, of_rows}
-use Rattle.mf_text.specs.Syntax.{IsLine, shown_at}
+use Rattle.mf_text.specs.LineRests.{line}
+use Rattle.mf_text.specs.Rests.{from}
+use Rattle.mf_text.specs.Syntax.{IsLine}
 use Rattle.mf_text.specs.Tokens.{kinds, tokens}
-use Rattle.mf_text.proofs.LineReading.{line_or_not, some_wrong_place}
+use Rattle.mf_text.proofs.LineReading.{goes_wrong, is_line}
 
 -- ---- values are lawful or not
 
@@ -199,20 +200,16 @@ line_answered bytes text line (inl (given, is)) = inl (given, record { line = li
 line_answered bytes text line (inr (fault, values, is)) =
     inr (fault, values.told, values.refuses bytes (record { line = line.tree; line_is = record { text = text; spelled = line.spelled }; refusal_is = is }))
 
-text_answered : (bytes : List ℕ) → IsText bytes → IsLine (kinds (tokens bytes)) ⊎ (IsLine (kinds (tokens bytes)) → ⊥) → HasAnswer bytes
-text_answered bytes text (inl line) = line_answered bytes text line (answered line.tree.form)
-text_answered bytes text (inr no_line) =
-    let ts = kinds (tokens bytes) in
-    let (place, wrong) = some_wrong_place ts no_line in
-    let column = column_at (front bytes) (shown_at ts place) in
-    inr (faults.Syntax column, (λ e. cc), record { text = text; wrong = record { place = place; at = wrong; column_is = refl } })
+text_answered : (bytes : List ℕ) → IsText bytes → (o : Result Line ℕ) → from line (front bytes) ≡ o → HasAnswer bytes
+text_answered bytes text (Ok l) is = line_answered bytes text (record { tree = l; spelled = is_line (front bytes) l is }) (answered l.form)
+text_answered bytes text (Err column) is = inr (faults.Syntax column, (λ e. cc), record { text = text; wrong = goes_wrong (front bytes) column is })
 
 pub some_answer : (bytes : List ℕ) → HasAnswer bytes
 some_answer bytes =
     elim (cases_lt 65536 (length bytes)) [
       | inl long ↦ inr (faults.LineTooLong, (λ e. cc), long)
       | inr short ↦ elim (cases_Bool (list_all is_text_byte bytes)) [
-        | inl text ↦ (let is : IsText bytes = record { short = short; text = text } in text_answered bytes is (line_or_not (kinds (tokens bytes))))
+        | inl text ↦ (let is : IsText bytes = record { short = short; text = text } in text_answered bytes is (from line (front bytes)) refl)
         | inr other ↦ inr (faults.NotAscii, (λ e. cc), record { short = short; other = other })
       ]
     ]

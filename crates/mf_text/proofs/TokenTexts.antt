@@ -75,7 +75,7 @@ number-text text rest all =
 
 -- ---- marks
 
-begins : (bs text : List ℕ) → starts_with eqb bs text ≡ true → bs ≡ text ++ drop (length text) bs
+pub begins : (bs text : List ℕ) → starts_with eqb bs text ≡ true → bs ≡ text ++ drop (length text) bs
 begins bs text is = (starts_is Decides-eqb bs text (starts_with eqb bs text) refl).0 is
 
 -- the text of a mark at the front

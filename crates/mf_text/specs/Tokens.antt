@@ -70,6 +70,11 @@ word_token letters = if is_letter letters then token.Letter (letter_number lette
 unfoldable pub number_token : List ℕ → Token
 number_token digits = if nat_le (length digits) 9 then token.Number (digits_value 10 digits) else token.Unknown
 
+-- the mark that was found, or another byte, which is a token of its own
+abbrev pub taken_mark : Option (Mark × ℕ) → Taken
+taken_mark None = record { token = token.Unknown; bytes = 1 }
+taken_mark (Some found) = record { token = token.Mark found.0; bytes = found.1 }
+
 -- the first of these marks with which the bytes begin; another byte is a token of its own
 unfoldable pub mark_among : List (List ℕ × Mark) → List ℕ → Taken
 mark_among [] bs = record { token = token.Unknown; bytes = 1 }

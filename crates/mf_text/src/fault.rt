@@ -52,6 +52,23 @@ impl fmt::Display for TextFault {
 
 impl Error for TextFault {}
 
+/// A token that no line has where it stands: the column at which that shows.
+#[derive(Clone, Copy, Debug, PartialEq, Eq)]
+pub(crate) struct SyntaxFault {
+    pub(crate) column: u32,
+}
+
+impl From<SyntaxFault> for TextFault {
+    ghost use Rattle.std.specs.Prelude.{◌≡◌};
+    ghost use Rattle.mf_text.specs.declared.fault.TextFault.TheVariants.{Syntax};
+
+    ghost from_gives = { λ fault text. text ≡ Syntax fault.column };
+
+    fn from(fault: SyntaxFault) -> TextFault {
+        TextFault::Syntax(fault.column)
+    }
+}
+
 impl From<OutOfMemory> for TextFault {
     ghost use Rattle.std.specs.Prelude.{◌≡◌};
     ghost use Rattle.mf_text.specs.declared.fault.TextFault.TheVariants.{OutOfMemory};

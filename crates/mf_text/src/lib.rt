@@ -6,14 +6,14 @@ mod command;
 mod fault;
 mod int;
 pub mod laws;
+mod lines;
 mod pair;
 mod path;
-mod place;
-mod reader;
+mod phrases;
 mod token;
 mod tokens;
 mod value;
 
 pub use command::{Command, Name, Source};
 pub use fault::TextFault;
-pub use value::read_command;
+pub use lines::read_command;

@@ -1,4 +1,7 @@
 //! Tokens of lines.
+ghost use Rattle.std.specs.Prelude.{◌≡◌};
+
+use crate::fault::SyntaxFault;
 
 /// The words of the commands.
 #[derive(Clone, Copy, Debug, PartialEq, Eq)]
@@ -96,4 +99,15 @@ pub struct Placed {
     pub token: Token,
     pub column: u32,
     pub after: u32,
+}
+
+impl Placed {
+    /// That no line has it where it stands.
+    pub fn fault(self) -> SyntaxFault
+        ensures { result.column ≡ self.column }
+    {
+        SyntaxFault {
+            column: self.column,
+        }
+    }
 }

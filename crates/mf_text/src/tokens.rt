@@ -1,9 +1,9 @@
 //! The tokens of a line, one after another.
-ghost use Rattle.std.specs.Prelude.{◌≡◌, ◌+◌, ◌<◌, ◌≤◌, ◌^◌, length, map};
+ghost use Rattle.std.specs.Prelude.{◌≡◌, ◌+◌, ◌<◌, ◌≤◌, ◌^◌, length, map, IfSome};
 ghost use Rattle.std.specs.Char.{is_ascii_alphabetic, is_ascii_digit};
 ghost use Rattle.std.specs.List.{prefix_len, take_while};
 ghost use Rattle.mf_text.specs.Bytes.{IsClear};
-ghost use Rattle.mf_text.specs.Tokens.{first_token, marks, mark_among, number_token, words, word_among, word_token, written};
+ghost use Rattle.mf_text.specs.Tokens.{first_token, marks, mark_among, taken_mark, number_token, words, word_among, word_token, written};
 
 use crate::token::{Mark, Placed, Token, WORDS, Word};
 
@@ -13,21 +13,23 @@ const MAX_DIGITS: usize = 9;
 /// The tokens of a line, from the left. The line is shorter than 2^31 bytes.
 #[derive(Clone, Copy, Debug)]
 pub struct Tokens<'a> {
-    rest: &'a [u8],
+    pub(crate) rest: &'a [u8],
     /// The column of the first byte of the rest, from 1.
-    column: u32,
+    pub(crate) column: u32,
     ghost short: { length rest.now + column < 2 ^ 32 },
 }
 
 impl<'a> Tokens<'a> {
-    ghost use Rattle.std.specs.Prelude.{◌≡◌, ◌<◌, ◌^◌, length};
+    ghost use Rattle.std.specs.Prelude.{◌≡◌, ◌<◌, ◌^◌, ◌∷◌, [], length};
+    ghost use Rattle.std.specs.Option.{MatchOption};
     ghost use Rattle.mf_text.specs.Left.{tokens_left};
     ghost use Rattle.mf_text.specs.Tokens.{tokens};
 
     /// The tokens of this line.
     pub fn new(line: &'a [u8]) -> Tokens<'a>
         requires { length line.now < 2 ^ 31 }
-        ensures { tokens_left result ≡ tokens line.now }
+        ensures tokens { tokens_left result ≡ tokens line.now }
+        ensures column { result.column ≡ 1 }
     {
         Tokens {
             rest: line,
@@ -36,7 +38,8 @@ impl<'a> Tokens<'a> {
     }
 
     /// Goes on behind the blanks at the front.
-    fn skip_blanks(&mut self)
+    #[inline(always)]
+    pub fn skip_blanks(&mut self)
         ensures same { tokens_left self.new ≡ tokens_left self.old }
         ensures clear { IsClear self.new.rest.now }
     {
@@ -47,19 +50,12 @@ impl<'a> Tokens<'a> {
             };
         }
     }
-}
 
-impl Iterator for Tokens<'_> {
-    ghost use Rattle.std.specs.Iterator.{YieldsFirst, item_count};
-    ghost use Rattle.mf_text.specs.Left.{tokens_left};
-
-    type Item = Placed;
-
-    ghost next_gives = { YieldsFirst tokens_left };
-
-    ghost remaining = { item_count tokens_left };
-
-    fn next(&mut self) -> Option<Placed> {
+    /// Passes the next token.
+    #[inline(always)]
+    pub fn token(&mut self) -> Option<Placed>
+        ensures { MatchOption result (tokens_left self.old ≡ []) (λ placed. (tokens_left self.old ≡ placed ∷ tokens_left self.new) × (self.new.column ≡ placed.after)) }
+    {
         self.skip_blanks();
         if let [] | [b'%', ..] = self.rest {
             return None;
@@ -81,6 +77,7 @@ impl Iterator for Tokens<'_> {
 
 /// The token at the front, and how many bytes it takes.
 #[tactic(auto, unfolding(crate::specs::Tokens::first_token))]
+#[inline(always)]
 fn first_token(text: &[u8]) -> (Token, usize)
     requires { 0 < length text.now }
     ensures token { result.0 ≡ (first_token text.now).token }
@@ -96,6 +93,7 @@ fn first_token(text: &[u8]) -> (Token, usize)
 }
 
 /// The token of the letters at the front, and how many there are.
+#[inline(never)]
 fn word_at(text: &[u8]) -> (Token, usize)
     ensures token { result.0 ≡ word_token (take_while is_ascii_alphabetic text.now) }
     ensures bytes { result.1 ≡ prefix_len is_ascii_alphabetic text.now }
@@ -105,6 +103,7 @@ fn word_at(text: &[u8]) -> (Token, usize)
 }
 
 /// The token of the digits at the front, and how many there are.
+#[inline(always)]
 fn number_at(text: &[u8]) -> (Token, usize)
     ensures token { result.0 ≡ number_token (take_while is_ascii_digit text.now) }
     ensures bytes { result.1 ≡ prefix_len is_ascii_digit text.now }
@@ -132,6 +131,7 @@ fn letters_at(text: &[u8]) -> usize
 }
 
 /// How many bytes at the front are digits.
+#[inline(never)]
 fn digits_at(text: &[u8]) -> usize
     ensures { result ≡ prefix_len is_ascii_digit text.now }
 {
@@ -171,8 +171,8 @@ fn word_in(entries: &[(&[u8], Word)], letters: &[u8]) -> Option<Word>
     None
 }
 
-/// The token of other bytes, and how many of them it takes: of `--` and `-` the longer.
-#[tactic(auto, unfolding(crate::specs::Tokens::mark_among))]
+/// The token of other bytes, and how many of them it takes.
+#[inline(always)]
 fn mark_token(text: &[u8]) -> (Token, usize)
     requires { 0 < length text.now }
     ensures token { result.0 ≡ (mark_among marks text.now).token }
@@ -180,14 +180,28 @@ fn mark_token(text: &[u8]) -> (Token, usize)
     ensures some { 0 < result.1 }
     ensures within { result.1 ≤ length text.now }
 {
+    match mark_at(text) {
+        Some((mark, bytes)) => (Token::Mark(mark), bytes),
+        None => (Token::Unknown, 1),
+    }
+}
+
+/// The mark at the front, and how many bytes it takes: of `--` and `-` the longer.
+#[inline(always)]
+#[tactic(auto, unfolding(crate::specs::Tokens::mark_among))]
+pub fn mark_at(text: &[u8]) -> Option<(Mark, usize)>
+    ensures mark { mark_among marks text.now ≡ taken_mark result }
+    ensures some { IfSome result (λ it. 0 < it.1) }
+    ensures within { IfSome result (λ it. it.1 ≤ length text.now) }
+{
     match text {
-        [b'-', b'-', ..] => (Token::Mark(Mark::Join), 2),
-        [b'-', ..] => (Token::Mark(Mark::Minus), 1),
-        [b':', b'=', ..] => (Token::Mark(Mark::Becomes), 2),
-        [b'(', ..] => (Token::Mark(Mark::Open), 1),
-        [b')', ..] => (Token::Mark(Mark::Close), 1),
-        [b',', ..] => (Token::Mark(Mark::Comma), 1),
-        [b';', ..] => (Token::Mark(Mark::Semicolon), 1),
-        _ => (Token::Unknown, 1),
+        [b'-', b'-', ..] => Some((Mark::Join, 2)),
+        [b'-', ..] => Some((Mark::Minus, 1)),
+        [b':', b'=', ..] => Some((Mark::Becomes, 2)),
+        [b'(', ..] => Some((Mark::Open, 1)),
+        [b')', ..] => Some((Mark::Close, 1)),
+        [b',', ..] => Some((Mark::Comma, 1)),
+        [b';', ..] => Some((Mark::Semicolon, 1)),
+        _ => None,
     }
 }

@@ -1,0 +1,150 @@
+-- The rests of lines: what is spelled is read, some tokens end each rest, and where a line goes wrong.
+use Rattle.std.proofs.Common.{◌≡◌, ℕ, zero, suc, Bool, true, false, List, [], ◌∷◌, ◌++◌, Option, Some, None, if◌then◌else◌, refl, sym, ap, subst, ◌∙◌, append_assoc, append-nil, flat_map, rules}
+use Rattle.std.specs.Option.{option_and_then}
+use Rattle.mf_text.specs.declared.code.Code.{Code}
+use Rattle.mf_text.specs.declared.command.Name.{Name}
+use Rattle.mf_text.specs.declared.command.Name.TheVariants.{Current, Register}
+use Rattle.mf_text.specs.declared.command.Source.{Source}
+use Rattle.mf_text.specs.declared.command.Source.TheVariants.{Null, Named}
+use Rattle.mf_text.specs.declared.int.Int.{Int}
+use Rattle.mf_text.specs.declared.pair.Pair.{Pair}
+use Rattle.mf_text.specs.declared.token.Mark.TheVariants as mark
+use Rattle.mf_text.specs.declared.token.Token.{Token}
+use Rattle.mf_text.specs.declared.token.Token.TheVariants as token
+use Rattle.mf_text.specs.declared.token.Word.TheVariants as word
+use Rattle.mf_text.specs.Codes.{code_of}
+use Rattle.mf_text.specs.Grammar.{Line, Path, spell_int, spell_code, spell_pair, spell_name, spell_source, spell_corner, spell_path}
+use Rattle.mf_text.specs.Ints.{int_of}
+use Rattle.mf_text.specs.Rests.{Rest, Ends, One, Or, AName, OrName, ANumber, ACode, Corners, Place, Before, CodeNumber, before, corner, ends, if_token, int, is_token, pair, path, source, step, step_from}
+use Rattle.mf_text.proofs.ReadInts.{int_of-back, code_of-back}
+
+-- the line that these tokens are, read from a place
+unfoldable pub reads : Option Place → List Token → Option Line
+reads None ts = None
+reads (Some p) [] = ends p
+reads (Some p) (t ∷ ts) = reads (step p t) ts
+
+-- ---- what is spelled is read
+
+-- these tokens lead from one rest to another
+pub record Leads (r : Rest) (ts : List Token) (s : Rest) : Type 0 where
+  pub by : (us : List Token) → reads (Some (Before r)) (ts ++ us) ≡ reads (Some (Before s)) us
+
+pub on : {r s q : Rest} {ts us : List Token} → Leads r ts s → Leads s us q → Leads r (ts ++ us) q
+on {r} {s} {q} {ts} {us} first second = record { by = λ vs. ap (reads (Some (Before r))) (append_assoc ts us vs) ∙ first.by (us ++ vs) ∙ second.by vs }
+
+same_token : (t : Token) → is_token t t ≡ true
+same_token t = search rules
+
+pub if_same : (u : Token) (this : Rest) (other : Option Place) → if_token u u this other ≡ Some (Before this)
+if_same u this other = ap (λ b. if b then Some (Before this) else other) (same_token u)
+
+pub one_read : (u : Token) (this : Rest) → Leads (One u this) (u ∷ []) this
+unfolding reads
+one_read u this = record { by = λ us. ap (λ p. reads p us) (if_same u this None) }
+
+pub or_read : (u : Token) (this other : Rest) → Leads (Or u this other) (u ∷ []) this
+unfolding reads
+or_read u this other = record { by = λ us. ap (λ p. reads p us) (if_same u this (step_from other u)) }
+
+pub name_read : (next : Name → Rest) (name : Name) → Leads (AName next) (spell_name name) (next name)
+unfolding reads
+name_read next Current = record { by = λ us. refl }
+name_read next (Register letter) = record { by = λ us. refl }
+
+pub source_read : (next : Source → Rest) (s : Source) → Leads (source next) (spell_source s) (next s)
+unfolding reads
+source_read next Null = record { by = λ us. refl }
+source_read next (Named Current) = record { by = λ us. refl }
+source_read next (Named (Register letter)) = record { by = λ us. refl }
+
+signed_read : (next : Int → Rest) (negative : Bool) (n : ℕ) (us : List Token)
+    → reads (Some (Before (int next))) ((if negative then token.Mark mark.Minus ∷ token.Number n ∷ [] else token.Number n ∷ []) ++ us) ≡ reads (before next (int_of negative n)) us
+unfolding reads
+signed_read next true n us = refl
+signed_read next false n us = refl
+
+pub int_read : (next : Int → Rest) (n : Int) → Leads (int next) (spell_int n) (next n)
+int_read next n = record { by = λ us. signed_read next n.negative n.magnitude us ∙ ap (λ i. reads (before next i) us) (int_of-back n) }
+
+signed_code_read : (next : Code → Rest) (negative : Bool) (n : ℕ) (us : List Token)
+    → reads (Some (Before (ACode next))) ((if negative then token.Mark mark.Minus ∷ token.Number n ∷ [] else token.Number n ∷ []) ++ us)
+    ≡ reads (before next (option_and_then code_of (int_of negative n))) us
+unfolding reads
+signed_code_read next true n us = refl
+signed_code_read next false n us = refl
+
+pub code_read : (next : Code → Rest) (code : Code) → Leads (ACode next) (spell_code code) (next code)
+code_read next code = record {
+  by = λ us.
+      signed_code_read next code.int.negative code.int.magnitude us ∙ ap (λ i. reads (before next (option_and_then code_of i)) us) (int_of-back code.int)
+      ∙ ap (λ c. reads (before next c) us) (code_of-back code);
+}
+
+pub pair_read : (next : Pair → Rest) (p : Pair) → Leads (pair next) (spell_pair p) (next p)
+pair_read next p = on (on (on (on (one_read _ _) (int_read _ p.across)) (one_read _ _)) (int_read _ p.up)) (one_read _ _)
+
+corner_read : (next : Pair → Rest) (p : Pair) → Leads (One (token.Mark mark.Open) (corner next)) (spell_corner p) (next p)
+corner_read next p = on (pair_read (λ q. One (token.Mark mark.Join) (next q)) p) (one_read _ _)
+
+abbrev one_more : Pair → List Pair → (Path → Rest) → Pair → Rest
+one_more first others next p = Corners first (others ++ p ∷ []) next
+
+next_corner_read : (first : Pair) (others : List Pair) (next : Path → Rest) (p : Pair) → Leads (Corners first others next) (spell_corner p) (one_more first others next p)
+unfolding reads
+next_corner_read first others next p = record { by = (corner_read (one_more first others next) p).by }
+
+corners_read : (first : Pair) (others : List Pair) (next : Path → Rest) (ps : List Pair)
+    → Leads (Corners first others next) (flat_map spell_corner ps) (Corners first (others ++ ps) next)
+corners_read first others next [] = record { by = λ us. ap (λ all. reads (Some (Before (Corners first all next))) us) (sym (append-nil others)) }
+corners_read first others next (p ∷ ps) =
+    subst (λ all. Leads (Corners first others next) (flat_map spell_corner (p ∷ ps)) (Corners first all next)) (append_assoc others (p ∷ []) ps)
+    (on (next_corner_read first others next p) (corners_read first (others ++ p ∷ []) next ps))
+
+cycle_read : (first : Pair) (others : List Pair) (next : Path → Rest) → Leads (Corners first others next) (token.Word word.Cycle ∷ []) (next (record { first = first; others = others }))
+unfolding reads
+cycle_read first others next = record { by = λ us. refl }
+
+pub path_read : (next : Path → Rest) (p : Path) → Leads (path next) (spell_path p) (next p)
+path_read next p = on (on (corner_read (λ first. Corners first [] next) p.first) (corners_read p.first [] next p.others)) (cycle_read p.first p.others next)
+
+-- ---- some tokens end each rest
+
+pub record CanEnd (p : Place) : Type 0 where
+  pub tokens : List Token
+  pub line : Line
+  pub whole : reads (Some p) tokens ≡ Some line
+
+-- one token more
+further : (p : Place) (t : Token) (q : Place) → step p t ≡ Some q → CanEnd q → CanEnd p
+unfolding reads
+further p t q is end = record { tokens = t ∷ end.tokens; line = end.line; whole = ap (λ s. reads s end.tokens) is ∙ end.whole }
+
+rest_ends : (r : Rest) → CanEnd (Before r)
+unfolding reads int_of code_of
+rest_ends (Ends l) = record { tokens = []; line = l; whole = refl }
+rest_ends (One u this) = further (Before (One u this)) u (Before this) (if_same u this None) (rest_ends this)
+rest_ends (Or u this other) = further (Before (Or u this other)) u (Before this) (if_same u this (step_from other u)) (rest_ends this)
+rest_ends (AName next) = further (Before (AName next)) (token.Word word.CurrentPicture) (Before (next Current)) refl (rest_ends (next Current))
+rest_ends (OrName next other) = further (Before (OrName next other)) (token.Word word.CurrentPicture) (Before (next Current)) refl (rest_ends (next Current))
+rest_ends (ANumber negative next) = further (Before (ANumber negative next)) (token.Number 0) _ refl (rest_ends (next _))
+rest_ends (ACode next) = further (Before (ACode next)) (token.Number 0) _ refl (rest_ends (next _))
+rest_ends (Corners first others next) = further (Before (Corners first others next)) (token.Word word.Cycle) _ refl (rest_ends (next _))
+
+pub place_ends : (p : Place) → CanEnd p
+unfolding int_of code_of
+place_ends (Before r) = rest_ends r
+place_ends (CodeNumber next) = further (CodeNumber next) (token.Number 0) _ refl (rest_ends (next _))
+
+-- ---- a token that ends an int behind `code` and `-`
+
+abbrev pub is_code_number : Place → Token → Bool
+is_code_number (CodeNumber next) (token.Number n) = true
+is_code_number p t = false
+
+-- the token k of these is one
+unfoldable pub is_code_number_at : Option Place → List Token → ℕ → Bool
+is_code_number_at None ts k = false
+is_code_number_at (Some p) [] k = false
+is_code_number_at (Some p) (t ∷ ts) zero = is_code_number p t
+is_code_number_at (Some p) (t ∷ ts) (suc k) = is_code_number_at (step p t) ts k
