@@ -16,7 +16,7 @@ HasNoContour (command.Contour name cycle weight) = ⊥
 HasNoContour given = Unit {0}
 
 form_takes_none : (form : Form) (given : Command) → HasNoContour given → IsCommandOf form given → TakesMemory form → ⊥
-form_takes_none (AddContour name path weight) given none is memory = subst HasNoContour is.is none
+form_takes_none (AddContour name path weight) given none is memory = subst HasNoContour is.1.1 none
 form_takes_none Nothing given none is memory = memory
 form_takes_none (AddPicture name sign source) given none is memory = memory
 form_takes_none (CullKeeping name range weight) given none is memory = memory

@@ -11,11 +11,11 @@ use Rattle.mf_text.specs.declared.token.Token.{Token}
 use Rattle.mf_text.specs.declared.token.Token.TheVariants as token
 use Rattle.mf_text.specs.declared.token.Word.TheVariants as word
 use Rattle.mf_text.specs.declared.tokens.Tokens.{Tokens}
-use Rattle.mf_text.specs.Grammar.{Form, Nothing, AddContour, AddPicture, CullKeeping, CullDropping, Clear, Move, ShowTotal, ShowPicture, ShowProof, ShipOut, SetCheck, PublishAll, Transform, Shifted, Scaled, XScaled, YScaled, Rotated, Line}
+use Rattle.mf_text.specs.Grammar.{Nothing, Line}
 use Rattle.mf_text.specs.Left.{tokens_left}
 use Rattle.mf_text.specs.LineRests.{front, line}
 use Rattle.mf_text.specs.Lines.{IsText, IsLineOf, Gives, IsRefused, front as line_front}
-use Rattle.mf_text.specs.Meaning.{IsAnswerOf, IsRefusalOf, IsRefusedTransform}
+use Rattle.mf_text.specs.Meaning.{Meaning, Is, IfCycle, IfWeight, IfCull, IfFactors, Turns, IsAnswerOf, Refuses, meaning}
 use Rattle.mf_text.specs.Reads.{Answers, ahead}
 use Rattle.mf_text.specs.Rests.{Before, Rest, from, step_from}
 use Rattle.mf_text.specs.Tokens.{tokens}
@@ -62,49 +62,36 @@ IsOfValues faults.BadScale = Unit {0}
 IsOfValues faults.BadTurn = Unit {0}
 IsOfValues fault = ⊥
 
-transform-values : (transform : Transform) (fault : TextFault) → IsRefusedTransform transform fault → IsOfValues fault
-transform-values (Shifted by) fault is = absurd is
-transform-values (Scaled n) fault is = rw is.is tt
-transform-values (XScaled n) fault is = rw is.is tt
-transform-values (YScaled n) fault is = rw is.is tt
-transform-values (Rotated n) fault is = rw is.is tt
-
-form-values : (form : Form) (fault : TextFault) → IsRefusalOf form fault → IsOfValues fault
-form-values Nothing fault is = absurd is
-form-values (AddContour name path weight) fault (inl is) = rw is.is tt
-form-values (AddContour name path weight) fault (inr is) = rw is.is tt
-form-values (AddPicture name sign source) fault is = absurd is
-form-values (CullKeeping name range weight) fault (inl is) = rw is.is tt
-form-values (CullKeeping name range weight) fault (inr is) = rw is.is tt
-form-values (CullDropping name range weight) fault (inl is) = rw is.is tt
-form-values (CullDropping name range weight) fault (inr is) = rw is.is tt
-form-values (Clear name) fault is = absurd is
-form-values (Move name transform) fault is = transform-values transform fault is
-form-values (ShowTotal source) fault is = absurd is
-form-values (ShowPicture source) fault is = absurd is
-form-values (ShowProof source) fault is = absurd is
-form-values (ShipOut source code dx width) fault is = absurd is
-form-values (SetCheck n) fault is = absurd is
-form-values PublishAll fault is = absurd is
+refusals_of_values : (m : Meaning) (fault : TextFault) → Refuses m fault → IsOfValues fault
+refusals_of_values (Is made) fault is = absurd is
+refusals_of_values (IfCycle points rest) fault (inl is) = rw is.is tt
+refusals_of_values (IfCycle points rest) fault (inr is) = refusals_of_values rest fault is.1
+refusals_of_values (IfWeight weight rest) fault (inl is) = rw is.is tt
+refusals_of_values (IfWeight weight rest) fault (inr is) = refusals_of_values rest fault is.1
+refusals_of_values (IfCull rule rest) fault (inl is) = rw is.is tt
+refusals_of_values (IfCull rule rest) fault (inr is) = refusals_of_values rest fault is.1
+refusals_of_values (IfFactors factors rest) fault (inl is) = rw is.is tt
+refusals_of_values (IfFactors factors rest) fault (inr is) = refusals_of_values rest fault is.1
+refusals_of_values (Turns name angle) fault is = rw is.is tt
 
 -- ---- the answer
 
 -- a line is answered so
 abbrev Answered : List ℕ → Result Command TextFault → Type 0
-Answered line (Ok given) = Gives line given
-Answered line (Err fault) = IsRefused line fault
+Answered bytes (Ok given) = Gives bytes given
+Answered bytes (Err fault) = IsRefused bytes fault
 
 whole-answered : (line : List ℕ) (l : Line) (r : Result Command TextFault) → IsLineOf line l → IsAnswerOf l.form r → Answered line r
-whole-answered line l (Ok given) is answer = record { line = l; line_is = is; command_is = answer }
-whole-answered line l (Err (faults.Cycle cause)) is answer = record { line = l; line_is = is; refusal_is = answer }
-whole-answered line l (Err faults.BadWeight) is answer = record { line = l; line_is = is; refusal_is = answer }
-whole-answered line l (Err faults.BadCull) is answer = record { line = l; line_is = is; refusal_is = answer }
-whole-answered line l (Err faults.BadScale) is answer = record { line = l; line_is = is; refusal_is = answer }
-whole-answered line l (Err faults.BadTurn) is answer = record { line = l; line_is = is; refusal_is = answer }
-whole-answered line l (Err faults.OutOfMemory) is answer = record { line = l; line_is = is; memory = answer }
-whole-answered line l (Err faults.LineTooLong) is answer = absurd (form-values l.form faults.LineTooLong answer)
-whole-answered line l (Err faults.NotAscii) is answer = absurd (form-values l.form faults.NotAscii answer)
-whole-answered line l (Err (faults.Syntax column)) is answer = absurd (form-values l.form (faults.Syntax column) answer)
+whole-answered bytes l (Ok given) is answer = record { line = l; line_is = is; command_is = answer }
+whole-answered bytes l (Err (faults.Cycle cause)) is answer = record { line = l; line_is = is; refusal_is = answer }
+whole-answered bytes l (Err faults.BadWeight) is answer = record { line = l; line_is = is; refusal_is = answer }
+whole-answered bytes l (Err faults.BadCull) is answer = record { line = l; line_is = is; refusal_is = answer }
+whole-answered bytes l (Err faults.BadScale) is answer = record { line = l; line_is = is; refusal_is = answer }
+whole-answered bytes l (Err faults.BadTurn) is answer = record { line = l; line_is = is; refusal_is = answer }
+whole-answered bytes l (Err faults.OutOfMemory) is answer = record { line = l; line_is = is; memory = answer }
+whole-answered bytes l (Err faults.LineTooLong) is answer = absurd (refusals_of_values (meaning l.form) faults.LineTooLong answer)
+whole-answered bytes l (Err faults.NotAscii) is answer = absurd (refusals_of_values (meaning l.form) faults.NotAscii answer)
+whole-answered bytes l (Err (faults.Syntax column)) is answer = absurd (refusals_of_values (meaning l.form) (faults.Syntax column) answer)
 
 read_answered : (line_bytes : List ℕ) (o : Result Line ℕ) (r : Result Command TextFault) → IsText line_bytes → from line (line_front line_bytes) ≡ o → Answers o r → Answered line_bytes r
 read_answered bytes (Ok l) r text is answer = whole-answered bytes l r (record { text = text; spelled = is_line (line_front bytes) l is }) answer

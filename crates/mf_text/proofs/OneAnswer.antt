@@ -1,24 +1,23 @@
 -- A line has one answer: a command, or a refusal.
-use Rattle.std.proofs.Common.{◌≡◌, ◌≢◌, inl, inr, ℕ, suc, ◌<◌, ◌≤◌, ℤ, List, ◌++◌, length, take, drop, append_assoc, refl, sym, ap, ◌∙◌, subst, arith}
+use Rattle.std.proofs.Common.{◌≡◌, ◌≢◌, ◌⊎◌, inl, inr, ℕ, suc, ◌<◌, ◌≤◌, List, ◌++◌, length, take, drop, append_assoc, refl, sym, ap, ◌∙◌, subst, arith}
 use Rattle.std.proofs.lemmas.Bool.{cases_lt}
 use Rattle.std.proofs.lemmas.Int.{ints}
 use Rattle.std.proofs.lemmas.List.{take-append-drop, take-take}
 use Rattle.mf_geom.proofs.FirstFaults.{fault_of-fault}
-use Rattle.mf_geom.specs.declared.point.Point.{Point}
-use Rattle.mf_ops.specs.Moves.{degrees}
-use Rattle.mf_ops.specs.declared.cull.CullRule.{CullRule}
+use Rattle.mf_ops.specs.ContourWeight.{IsContourWeight}
+use Rattle.mf_ops.specs.Cull.{IsLawfulCull}
+use Rattle.mf_ops.specs.Moves.{AreFactors, degrees}
 use Rattle.mf_ops.specs.declared.quarter.Quarter.{Quarter}
 use Rattle.mf_ops.specs.declared.quarter.Quarter.TheVariants.{Once, Twice, Thrice}
 use Rattle.mf_text.specs.declared.command.Command.{Command}
 use Rattle.mf_text.specs.declared.command.Command.TheVariants as command
-use Rattle.mf_text.specs.declared.command.Name.{Name}
 use Rattle.mf_text.specs.declared.fault.TextFault.{TextFault}
 use Rattle.mf_text.specs.declared.fault.TextFault.TheVariants as faults
 use Rattle.mf_text.specs.declared.token.Token.{Token}
 use Rattle.mf_text.specs.Ahead.{Ahead, column_at}
-use Rattle.mf_text.specs.Grammar.{Form, Nothing, AddContour, AddPicture, CullKeeping, CullDropping, Clear, Move, ShowTotal, ShowPicture, ShowProof, ShipOut, SetCheck, PublishAll, Transform, Shifted, Scaled, XScaled, YScaled, Rotated, Line, spell_line}
+use Rattle.mf_text.specs.Grammar.{Line, spell_line}
 use Rattle.mf_text.specs.Lines.{IsText, front, IsLineOf, Gives, HasBadValues, HasOtherBytes, HasSyntaxFault, IsRefused}
-use Rattle.mf_text.specs.Meaning.{IsContour, IsCull, IsTransform, IsCommandOf, IsRefusedTransform, IsRefusalOf, IsRefusedContour, IsRefusedCull}
+use Rattle.mf_text.specs.Meaning.{Meaning, Is, IfCycle, IfWeight, IfCull, IfFactors, Turns, IsCommandOf, IsRefusalOf, IsUnlawful, Means, Refuses, meaning}
 use Rattle.mf_text.specs.Phrases.{IsPhrase, BeginsPhrase, IsWrongAt}
 use Rattle.mf_text.specs.Syntax.{IsLine, shown_at, IsSyntaxFault}
 use Rattle.mf_text.specs.Tokens.{kinds}
@@ -37,93 +36,48 @@ same_angle Thrice Once same = absurd (omega (arith, ints))
 same_angle Thrice Twice same = absurd (omega (arith, ints))
 same_angle Thrice Thrice same = refl
 
-pub one_command : (form : Form) (one other : Command) → IsCommandOf form one → IsCommandOf form other → one ≡ other
-one_command Nothing one other p q = cc
-one_command (AddContour name path weight) one other p q = cc
-one_command (AddPicture name sign source) one other p q = cc
-one_command (CullKeeping name range weight) one other p q = cc
-one_command (CullDropping name range weight) one other p q = cc
-one_command (Clear name) one other p q = cc
-one_command (Move name (Shifted by)) one other p q = cc
-one_command (Move name (Scaled n)) one other p q = cc
-one_command (Move name (XScaled n)) one other p q = cc
-one_command (Move name (YScaled n)) one other p q = cc
-one_command (Move name (Rotated n)) one other p q =
-    p.is ∙ ap (command.Quarter name) (same_angle p.quarter q.quarter (p.angle_is ∙ sym q.angle_is)) ∙ sym q.is
-one_command (ShowTotal source) one other p q = cc
-one_command (ShowPicture source) one other p q = cc
-one_command (ShowProof source) one other p q = cc
-one_command (ShipOut source code dx width) one other p q = cc
-one_command (SetCheck n) one other p q = cc
-one_command PublishAll one other p q = cc
+one_meant : (m : Meaning) (one other : Command) → Means m one → Means m other → one ≡ other
+one_meant (Is made) one other p q = cc
+one_meant (IfCycle points rest) one other p q = one_meant rest one other p.1 q.1
+one_meant (IfWeight weight rest) one other p q = one_meant rest one other p.1 q.1
+one_meant (IfCull rule rest) one other p q = one_meant rest one other p.1 q.1
+one_meant (IfFactors factors rest) one other p q = one_meant rest one other p.1 q.1
+one_meant (Turns name angle) one other p q = p.is ∙ ap (command.Quarter name) (same_angle p.quarter q.quarter (p.angle_is ∙ sym q.angle_is)) ∙ sym q.is
 
-contour_refusal : (points : List Point) (weight : ℤ) (one other : TextFault) → IsRefusedContour points weight one
-    → IsRefusedContour points weight other → one ≡ other
-contour_refusal points weight one other (inl p) (inl q) = let first = fault_of-fault points p.cause p.fault in let second = fault_of-fault points q.cause q.fault in cc
-contour_refusal points weight one other (inl p) (inr q) = absurd (p.none q.cycle)
-contour_refusal points weight one other (inr p) (inl q) = absurd (q.none p.cycle)
-contour_refusal points weight one other (inr p) (inr q) = cc
+-- a value is refused for itself, or what follows it is
+module _ (lawful : Type 0) (fault : TextFault) (rest : TextFault → Type 0) where
+  abbrev Checked : TextFault → Type 0
+  Checked refused = IsUnlawful lawful fault refused ⊎ (lawful × rest refused)
 
-cull_refusal : (rule : CullRule) (weight : ℤ) (one other : TextFault) → IsRefusedCull rule weight one → IsRefusedCull rule weight other → one ≡ other
-cull_refusal rule weight one other (inl p) (inl q) = cc
-cull_refusal rule weight one other (inl p) (inr q) = absurd (p.unlawful q.weight_lawful)
-cull_refusal rule weight one other (inr p) (inl q) = absurd (q.unlawful p.weight_lawful)
-cull_refusal rule weight one other (inr p) (inr q) = cc
+  one_checked : (one other : TextFault) → (rest one → rest other → one ≡ other) → Checked one → Checked other → one ≡ other
+  one_checked one other behind (inl p) (inl q) = p.is ∙ sym q.is
+  one_checked one other behind (inl p) (inr q) = absurd (p.unlawful q.0)
+  one_checked one other behind (inr p) (inl q) = absurd (q.unlawful p.0)
+  one_checked one other behind (inr p) (inr q) = behind p.1 q.1
 
-move_refusal : (transform : Transform) (one other : TextFault) → IsRefusedTransform transform one → IsRefusedTransform transform other → one ≡ other
-move_refusal (Shifted by) one other p q = absurd p
-move_refusal (Scaled n) one other p q = cc
-move_refusal (XScaled n) one other p q = cc
-move_refusal (YScaled n) one other p q = cc
-move_refusal (Rotated n) one other p q = cc
+  not_checked : (refused : TextFault) → (rest refused → ⊥) → lawful → Checked refused → ⊥
+  not_checked refused behind holds (inl q) = q.unlawful holds
+  not_checked refused behind holds (inr q) = behind q.1
 
-one_refusal : (form : Form) (one other : TextFault) → IsRefusalOf form one → IsRefusalOf form other → one ≡ other
-one_refusal Nothing one other p q = absurd p
-one_refusal (AddContour name path weight) one other p q = contour_refusal _ _ one other p q
-one_refusal (AddPicture name sign source) one other p q = absurd p
-one_refusal (CullKeeping name range weight) one other p q = cull_refusal _ _ one other p q
-one_refusal (CullDropping name range weight) one other p q = cull_refusal _ _ one other p q
-one_refusal (Clear name) one other p q = absurd p
-one_refusal (Move name transform) one other p q = move_refusal transform one other p q
-one_refusal (ShowTotal source) one other p q = absurd p
-one_refusal (ShowPicture source) one other p q = absurd p
-one_refusal (ShowProof source) one other p q = absurd p
-one_refusal (ShipOut source code dx width) one other p q = absurd p
-one_refusal (SetCheck n) one other p q = absurd p
-one_refusal PublishAll one other p q = absurd p
+one_refused : (m : Meaning) (one other : TextFault) → Refuses m one → Refuses m other → one ≡ other
+one_refused (Is made) one other p q = absurd p
+one_refused (IfCycle points rest) one other (inl p) (inl q) = let first = fault_of-fault points p.cause p.fault in let second = fault_of-fault points q.cause q.fault in cc
+one_refused (IfCycle points rest) one other (inl p) (inr q) = absurd (p.none q.0)
+one_refused (IfCycle points rest) one other (inr p) (inl q) = absurd (q.none p.0)
+one_refused (IfCycle points rest) one other (inr p) (inr q) = one_refused rest one other p.1 q.1
+one_refused (IfWeight weight rest) one other p q = one_checked (IsContourWeight weight) faults.BadWeight (Refuses rest) one other (one_refused rest one other) p q
+one_refused (IfCull rule rest) one other p q = one_checked (IsLawfulCull rule) faults.BadCull (Refuses rest) one other (one_refused rest one other) p q
+one_refused (IfFactors factors rest) one other p q = one_checked (AreFactors factors) faults.BadScale (Refuses rest) one other (one_refused rest one other) p q
+one_refused (Turns name angle) one other p q = p.is ∙ sym q.is
 
-contour_not_both : (name : Name) (points : List Point) (weight : ℤ) (given : Command) (fault : TextFault) → IsContour name points weight given
-    → IsRefusedContour points weight fault → ⊥
-contour_not_both name points weight given fault p (inl q) = q.none p.cycle
-contour_not_both name points weight given fault p (inr q) = q.unlawful p.lawful
-
-cull_not_both : (name : Name) (rule : CullRule) (weight : ℤ) (given : Command) (fault : TextFault) → IsCull name rule weight given
-    → IsRefusedCull rule weight fault → ⊥
-cull_not_both name rule weight given fault p (inl q) = q.unlawful p.weight_lawful
-cull_not_both name rule weight given fault p (inr q) = q.unlawful p.lawful
-
-move_not_both : (name : Name) (transform : Transform) (given : Command) (fault : TextFault) → IsTransform name transform given
-    → IsRefusedTransform transform fault → ⊥
-move_not_both name (Shifted by) given fault p q = q
-move_not_both name (Scaled n) given fault p q = q.unlawful p.lawful
-move_not_both name (XScaled n) given fault p q = q.unlawful p.lawful
-move_not_both name (YScaled n) given fault p q = q.unlawful p.lawful
-move_not_both name (Rotated n) given fault p q = q.unlawful p.quarter p.angle_is
-
-form_not_both : (form : Form) (given : Command) (fault : TextFault) → IsCommandOf form given → IsRefusalOf form fault → ⊥
-form_not_both Nothing given fault p q = q
-form_not_both (AddContour name path weight) given fault p q = contour_not_both name _ _ given fault p q
-form_not_both (AddPicture name sign source) given fault p q = q
-form_not_both (CullKeeping name range weight) given fault p q = cull_not_both name _ _ given fault p q
-form_not_both (CullDropping name range weight) given fault p q = cull_not_both name _ _ given fault p q
-form_not_both (Clear name) given fault p q = q
-form_not_both (Move name transform) given fault p q = move_not_both name transform given fault p q
-form_not_both (ShowTotal source) given fault p q = q
-form_not_both (ShowPicture source) given fault p q = q
-form_not_both (ShowProof source) given fault p q = q
-form_not_both (ShipOut source code dx width) given fault p q = q
-form_not_both (SetCheck n) given fault p q = q
-form_not_both PublishAll given fault p q = q
+not_both : (m : Meaning) (given : Command) (fault : TextFault) → Means m given → Refuses m fault → ⊥
+not_both (Is made) given fault p q = q
+not_both (IfCycle points rest) given fault p (inl q) = q.none p.0
+not_both (IfCycle points rest) given fault p (inr q) = not_both rest given fault p.1 q.1
+not_both (IfWeight weight rest) given fault p q = not_checked (IsContourWeight weight) faults.BadWeight (Refuses rest) fault (not_both rest given fault p.1) p.0 q
+not_both (IfCull rule rest) given fault p q = not_checked (IsLawfulCull rule) faults.BadCull (Refuses rest) fault (not_both rest given fault p.1) p.0 q
+not_both (IfFactors factors rest) given fault p q = not_checked (AreFactors factors) faults.BadScale (Refuses rest) fault (not_both rest given fault p.1) p.0 q
+not_both (Turns name angle) given fault p q = q.unlawful (p.quarter, p.angle_is)
 
 -- ---- where tokens go wrong
 
@@ -179,7 +133,7 @@ one_line bytes l m p q = same_line l m (sym p.spelled ∙ q.spelled)
 
 pub gives_one : (bytes : List ℕ) (one other : Command) → Gives bytes one → Gives bytes other → one ≡ other
 gives_one bytes one other p q =
-    one_command q.line.form one other
+    one_meant (meaning q.line.form) one other
     (subst (λ (l : Line). IsCommandOf l.form one) (one_line bytes p.line q.line p.line_is q.line_is) p.command_is) q.command_is
 
 -- why a line is refused, where memory isn't wanting
@@ -224,7 +178,7 @@ one_cause bytes one other (BadValues values) (TooLong q long) = absurd (omega (a
 one_cause bytes one other (BadValues values) (NoText q bad) = absurd (text_is_text bytes values.line_is.text bad)
 one_cause bytes one other (BadValues values) (NoLine column q wrong) = absurd (no_line-line bytes column values.line wrong values.line_is)
 one_cause bytes one other (BadValues p) (BadValues q) =
-    one_refusal q.line.form one other
+    one_refused (meaning q.line.form) one other
     (subst (λ (l : Line). IsRefusalOf l.form one) (one_line bytes p.line q.line p.line_is q.line_is) p.refusal_is) q.refusal_is
 
 pub refused_once : (bytes : List ℕ) (one other : TextFault) → one ≢ faults.OutOfMemory → other ≢ faults.OutOfMemory → IsRefused bytes one
@@ -236,7 +190,7 @@ given-cause bytes given fault p (TooLong _ long) = omega (arith, long, p.line_is
 given-cause bytes given fault p (NoText _ bad) = text_is_text bytes p.line_is.text bad
 given-cause bytes given fault p (NoLine column _ wrong) = no_line-line bytes column p.line wrong p.line_is
 given-cause bytes given fault p (BadValues q) =
-    form_not_both q.line.form given fault
+    not_both (meaning q.line.form) given fault
     (subst (λ (l : Line). IsCommandOf l.form given) (one_line bytes p.line q.line p.line_is q.line_is) p.command_is) q.refusal_is
 
 pub given_or_refused : (bytes : List ℕ) (given : Command) (fault : TextFault) → fault ≢ faults.OutOfMemory → Gives bytes given → IsRefused bytes fault

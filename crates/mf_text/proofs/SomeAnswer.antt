@@ -23,11 +23,9 @@ use Rattle.mf_text.specs.declared.command.Name.{Name}
 use Rattle.mf_text.specs.declared.fault.TextFault.{TextFault}
 use Rattle.mf_text.specs.declared.fault.TextFault.TheVariants as faults
 use Rattle.mf_text.specs.Bytes.{is_text_byte}
-use Rattle.mf_text.specs.Grammar.{Form, Nothing, AddContour, AddPicture, CullKeeping, CullDropping, Clear, Move, ShowTotal, ShowPicture, ShowProof, ShipOut, SetCheck, PublishAll, Transform, Shifted, Scaled, XScaled, YScaled, Rotated, Line, weight_value, path_value}
-use Rattle.mf_text.specs.Codes.{code_value}
-use Rattle.mf_text.specs.Ints.{int_value, pair_value}
+use Rattle.mf_text.specs.Grammar.{Line}
 use Rattle.mf_text.specs.Lines.{IsText, front, Gives, HasBadValues, IsRefused}
-use Rattle.mf_text.specs.Meaning.{IsCommandOf, IsNoCycle, IsRefusalOf, IsRefusedContour, IsRefusedCull, check_of, both, of_columns, of_rows}
+use Rattle.mf_text.specs.Meaning.{Meaning, Is, IfCycle, IfWeight, IfCull, IfFactors, Turns, IsNoCycle, IsUnlawful, Means, Refuses, meaning}
 use Rattle.mf_text.specs.LineRests.{line}
 use Rattle.mf_text.specs.Rests.{from}
 use Rattle.mf_text.specs.Syntax.{IsLine}
@@ -120,74 +118,38 @@ of_scale = record { refuses = λ bytes bad. bad; told = λ e. cc }
 of_turn : IsOfValues faults.BadTurn
 of_turn = record { refuses = λ bytes bad. bad; told = λ e. cc }
 
-abbrev Answered : Form → Type 0
-Answered form =
-    ((given : Command) × IsCommandOf form given) ⊎ ((fault : TextFault) × IsOfValues fault × IsRefusalOf form fault)
+abbrev Answered : Meaning → Type 0
+Answered m = ((given : Command) × Means m given) ⊎ ((fault : TextFault) × IsOfValues fault × Refuses m fault)
 
-contour_answered : (name : Name) (points : List Point) (weight : ℤ) (form : Form) → (IsRectilinearCycle points → IsContourWeight weight → IsCommandOf form (command.Contour name points weight))
-    → ((fault : TextFault) → IsRefusedContour points weight fault → IsRefusalOf form fault) → Answered form
-contour_answered name points weight form given refused =
-    elim (cycle_or_not points (form_fault points) refl) [
-      | inr (cause, fault) ↦ inr (faults.Cycle cause, of_cycle cause, refused (faults.Cycle cause) (inl fault))
-      | inl cycle ↦ elim (weight_or_not weight) [
-        | inr never ↦ inr (faults.BadWeight, of_weight, refused faults.BadWeight (inr (record { cycle = cycle; unlawful = never; is = refl })))
-        | inl lawful ↦ inl (command.Contour name points weight, given cycle lawful)
-      ]
-    ]
+-- a value that is lawful, and what follows it
+behind : (lawful : Type 0) (rest : Command → Type 0) (refuses : TextFault → Type 0) (first : TextFault → Type 0) → lawful
+    → ((given : Command) × rest given) ⊎ ((fault : TextFault) × IsOfValues fault × refuses fault)
+    → ((given : Command) × (lawful × rest given)) ⊎ ((fault : TextFault) × IsOfValues fault × (first fault ⊎ (lawful × refuses fault)))
+behind lawful rest refuses first holds (inl (given, is)) = inl (given, (holds, is))
+behind lawful rest refuses first holds (inr (fault, values, is)) = inr (fault, values, inr (holds, is))
 
-cull_answered : (name : Name) (rule : CullRule) (weight : ℤ) (form : Form) → (IsContourWeight weight → IsLawfulCull rule → IsCommandOf form (command.Cull name rule))
-    → ((fault : TextFault) → IsRefusedCull rule weight fault → IsRefusalOf form fault) → Answered form
-cull_answered name rule weight form given refused =
-    elim (weight_or_not weight) [
-      | inr never ↦ inr (faults.BadWeight, of_weight, refused faults.BadWeight (inl (record { unlawful = never; is = refl })))
-      | inl lawful ↦ elim (cull_or_not rule) [
-        | inr never ↦ inr (faults.BadCull, of_cull, refused faults.BadCull (inr (record { weight_lawful = lawful; unlawful = never; is = refl })))
-        | inl range ↦ inl (command.Cull name rule, given lawful range)
-      ]
-    ]
+checked : (lawful : Type 0) (rest : Command → Type 0) (refuses : TextFault → Type 0) (fault : TextFault) → IsOfValues fault → lawful ⊎ (lawful → ⊥)
+    → ((given : Command) × rest given) ⊎ ((other : TextFault) × IsOfValues other × refuses other)
+    → ((given : Command) × (lawful × rest given)) ⊎ ((other : TextFault) × IsOfValues other × (IsUnlawful lawful fault other ⊎ (lawful × refuses other)))
+checked lawful rest refuses fault values (inl holds) later = behind lawful rest refuses (IsUnlawful lawful fault) holds later
+checked lawful rest refuses fault values (inr never) later = inr (fault, values, inl (record { unlawful = never; is = refl }))
 
-move_answered : (name : Name) (transform : Transform) → Answered (Move name transform)
-move_answered name (Shifted p) = inl (command.Shift name (pair_value p).x (pair_value p).y, refl)
-move_answered name (Scaled n) =
-    elim (factors_or_not (both (int_value n))) [
-      | inr never ↦ inr (faults.BadScale, of_scale, record { unlawful = never; is = refl })
-      | inl lawful ↦ inl (command.Scale name (both (int_value n)), record { lawful = lawful; is = refl })
-    ]
-move_answered name (XScaled n) =
-    elim (factors_or_not (of_columns (int_value n))) [
-      | inr never ↦ inr (faults.BadScale, of_scale, record { unlawful = never; is = refl })
-      | inl lawful ↦ inl (command.Scale name (of_columns (int_value n)), record { lawful = lawful; is = refl })
-    ]
-move_answered name (YScaled n) =
-    elim (factors_or_not (of_rows (int_value n))) [
-      | inr never ↦ inr (faults.BadScale, of_scale, record { unlawful = never; is = refl })
-      | inl lawful ↦ inl (command.Scale name (of_rows (int_value n)), record { lawful = lawful; is = refl })
-    ]
-move_answered name (Rotated n) =
-    elim (turn_or_not (int_value n)) [
-      | inr never ↦ inr (faults.BadTurn, of_turn, record { unlawful = never; is = refl })
-      | inl (quarter, is) ↦ inl (command.Quarter name quarter, record { quarter = quarter; angle_is = is; is = refl })
-    ]
+cycle_checked : (points : List Point) (rest : Meaning) → Answered rest → IsRectilinearCycle points ⊎ ((cause : CycleFault) × IsNoCycle points (faults.Cycle cause))
+    → Answered (IfCycle points rest)
+cycle_checked points rest later (inl cycle) = behind (IsRectilinearCycle points) (Means rest) (Refuses rest) (IsNoCycle points) cycle later
+cycle_checked points rest later (inr (cause, fault)) = inr (faults.Cycle cause, of_cycle cause, inl fault)
 
-answered : (form : Form) → Answered form
-answered Nothing = inl (command.Nothing, refl)
-answered (AddContour name path weight) =
-    contour_answered name (path_value path) (weight_value weight) (AddContour name path weight) (λ cycle lawful. record { cycle = cycle; lawful = lawful; is = refl }) (λ fault refused. refused)
-answered (AddPicture name sign source) = inl (command.Also name source sign, refl)
-answered (CullKeeping name range weight) =
-    let w = weight_value weight in
-    cull_answered name (Keeping (pair_value range).x (pair_value range).y w) w (CullKeeping name range weight) (λ lawful some. record { weight_lawful = lawful; lawful = some; is = refl }) (λ fault refused. refused)
-answered (CullDropping name range weight) =
-    let w = weight_value weight in
-    cull_answered name (Dropping (pair_value range).x (pair_value range).y w) w (CullDropping name range weight) (λ lawful some. record { weight_lawful = lawful; lawful = some; is = refl }) (λ fault refused. refused)
-answered (Clear name) = inl (command.Clear name, refl)
-answered (Move name transform) = move_answered name transform
-answered (ShowTotal source) = inl (command.Total source, refl)
-answered (ShowPicture source) = inl (command.Show source, refl)
-answered (ShowProof source) = inl (command.Proof source, refl)
-answered (ShipOut source code dx width) = inl (command.Ship source (code_value code) (int_value dx) (int_value width), refl)
-answered (SetCheck n) = inl (command.Turning (check_of (int_value n)), refl)
-answered PublishAll = inl (command.Publish, refl)
+turn_checked : (name : Name) (angle : ℤ) → ((quarter : Quarter) × (degrees quarter ≡ angle)) ⊎ ((quarter : Quarter) → degrees quarter ≡ angle → ⊥) → Answered (Turns name angle)
+turn_checked name angle (inl (quarter, is)) = inl (command.Quarter name quarter, record { quarter = quarter; angle_is = is; is = refl })
+turn_checked name angle (inr never) = inr (faults.BadTurn, of_turn, record { unlawful = λ turn. never turn.0 turn.1; is = refl })
+
+answered : (m : Meaning) → Answered m
+answered (Is made) = inl (made, refl)
+answered (IfCycle points rest) = cycle_checked points rest (answered rest) (cycle_or_not points (form_fault points) refl)
+answered (IfWeight weight rest) = checked (IsContourWeight weight) (Means rest) (Refuses rest) faults.BadWeight of_weight (weight_or_not weight) (answered rest)
+answered (IfCull rule rest) = checked (IsLawfulCull rule) (Means rest) (Refuses rest) faults.BadCull of_cull (cull_or_not rule) (answered rest)
+answered (IfFactors factors rest) = checked (AreFactors factors) (Means rest) (Refuses rest) faults.BadScale of_scale (factors_or_not factors) (answered rest)
+answered (Turns name angle) = turn_checked name angle (turn_or_not angle)
 
 -- ---- lines have one
 
@@ -195,13 +157,13 @@ abbrev HasAnswer : List ℕ → Type 0
 HasAnswer bytes =
     ((given : Command) × Gives bytes given) ⊎ ((fault : TextFault) × (fault ≢ faults.OutOfMemory) × IsRefused bytes fault)
 
-line_answered : (bytes : List ℕ) → IsText bytes → (line : IsLine (kinds (tokens bytes))) → Answered line.tree.form → HasAnswer bytes
+line_answered : (bytes : List ℕ) → IsText bytes → (line : IsLine (kinds (tokens bytes))) → Answered (meaning line.tree.form) → HasAnswer bytes
 line_answered bytes text line (inl (given, is)) = inl (given, record { line = line.tree; line_is = record { text = text; spelled = line.spelled }; command_is = is })
 line_answered bytes text line (inr (fault, values, is)) =
     inr (fault, values.told, values.refuses bytes (record { line = line.tree; line_is = record { text = text; spelled = line.spelled }; refusal_is = is }))
 
 text_answered : (bytes : List ℕ) → IsText bytes → (o : Result Line ℕ) → from line (front bytes) ≡ o → HasAnswer bytes
-text_answered bytes text (Ok l) is = line_answered bytes text (record { tree = l; spelled = is_line (front bytes) l is }) (answered l.form)
+text_answered bytes text (Ok l) is = line_answered bytes text (record { tree = l; spelled = is_line (front bytes) l is }) (answered (meaning l.form))
 text_answered bytes text (Err column) is = inr (faults.Syntax column, (λ e. cc), record { text = text; wrong = goes_wrong (front bytes) column is })
 
 pub some_answer : (bytes : List ℕ) → HasAnswer bytes

@@ -20,28 +20,16 @@ use Rattle.mf_text.specs.Codes.{code_value}
 use Rattle.mf_text.specs.Grammar.{Form, Nothing, AddContour, AddPicture, CullKeeping, CullDropping, Clear, Move, ShowTotal, ShowPicture, ShowProof, ShipOut, SetCheck, PublishAll, Transform, Shifted, Scaled, XScaled, YScaled, Rotated, weight_value, path_value}
 use Rattle.mf_text.specs.Ints.{int_value, pair_value}
 
--- a contour through these points, which are any cycle: the turning check comes when it is filled
-pub record IsContour (name : Name) (points : List Point) (weight : ℤ) (given : Command) : Type 0 where
-  pub cycle : IsRectilinearCycle points
-  pub lawful : IsContourWeight weight
-  pub is : given ≡ command.Contour name points weight
-
--- a cull by this rule
-pub record IsCull (name : Name) (rule : CullRule) (weight : ℤ) (given : Command) : Type 0 where
-  pub weight_lawful : IsContourWeight weight
-  pub lawful : IsLawfulCull rule
-  pub is : given ≡ command.Cull name rule
-
--- a scale by these factors
-pub record IsScale (name : Name) (factors : Factors) (given : Command) : Type 0 where
-  pub lawful : AreFactors factors
-  pub is : given ≡ command.Scale name factors
-
--- a turn by this angle
-pub record IsTurn (name : Name) (angle : ℤ) (given : Command) : Type 0 where
-  pub quarter : Quarter
-  pub angle_is : degrees quarter ≡ angle
-  pub is : given ≡ command.Quarter name quarter
+-- what a form says: a command, where its values are lawful, which are looked at in this order
+pub data Meaning : Type 0 where
+  Is : Command → Meaning
+  -- the points are any cycle: the turning check comes when it is filled
+  IfCycle : List Point → Meaning → Meaning
+  IfWeight : ℤ → Meaning → Meaning
+  IfCull : CullRule → Meaning → Meaning
+  IfFactors : Factors → Meaning → Meaning
+  -- a turn of the picture by this angle
+  Turns : Name → ℤ → Meaning
 
 abbrev pub both : ℤ → Factors
 both n = record { x = n; y = n }
@@ -52,33 +40,56 @@ of_columns n = record { x = n; y = pos 1 }
 abbrev pub of_rows : ℤ → Factors
 of_rows n = record { x = pos 1; y = n }
 
--- the command of a transform
-abbrev pub IsTransform : Name → Transform → Command → Type 0
-IsTransform name (Shifted p) given = given ≡ command.Shift name (pair_value p).x (pair_value p).y
-IsTransform name (Scaled n) given = IsScale name (both (int_value n)) given
-IsTransform name (XScaled n) given = IsScale name (of_columns (int_value n)) given
-IsTransform name (YScaled n) given = IsScale name (of_rows (int_value n)) given
-IsTransform name (Rotated n) given = IsTurn name (int_value n) given
+abbrev pub contour_meaning : Name → List Point → ℤ → Meaning
+contour_meaning name points weight = IfCycle points (IfWeight weight (Is (command.Contour name points weight)))
+
+-- the weight of a cull is looked at first
+abbrev pub cull_meaning : Name → CullRule → ℤ → Meaning
+cull_meaning name rule weight = IfWeight weight (IfCull rule (Is (command.Cull name rule)))
+
+abbrev pub scale_meaning : Name → Factors → Meaning
+scale_meaning name factors = IfFactors factors (Is (command.Scale name factors))
+
+abbrev pub transform_meaning : Name → Transform → Meaning
+transform_meaning name (Shifted p) = Is (command.Shift name (pair_value p).x (pair_value p).y)
+transform_meaning name (Scaled n) = scale_meaning name (both (int_value n))
+transform_meaning name (XScaled n) = scale_meaning name (of_columns (int_value n))
+transform_meaning name (YScaled n) = scale_meaning name (of_rows (int_value n))
+transform_meaning name (Rotated n) = Turns name (int_value n)
 
 -- the turning check is on exactly where its number is positive
 abbrev pub check_of : ℤ → Check
 check_of n = if int_lt (pos 0) n then On else Off
 
--- the command that a form gives
-abbrev pub IsCommandOf : Form → Command → Type 0
-IsCommandOf Nothing given = given ≡ command.Nothing
-IsCommandOf (AddContour name path weight) given = IsContour name (path_value path) (weight_value weight) given
-IsCommandOf (AddPicture name sign source) given = given ≡ command.Also name source sign
-IsCommandOf (CullKeeping name range weight) given = IsCull name (Keeping (pair_value range).x (pair_value range).y (weight_value weight)) (weight_value weight) given
-IsCommandOf (CullDropping name range weight) given = IsCull name (Dropping (pair_value range).x (pair_value range).y (weight_value weight)) (weight_value weight) given
-IsCommandOf (Clear name) given = given ≡ command.Clear name
-IsCommandOf (Move name transform) given = IsTransform name transform given
-IsCommandOf (ShowTotal source) given = given ≡ command.Total source
-IsCommandOf (ShowPicture source) given = given ≡ command.Show source
-IsCommandOf (ShowProof source) given = given ≡ command.Proof source
-IsCommandOf (ShipOut source code dx width) given = given ≡ command.Ship source (code_value code) (int_value dx) (int_value width)
-IsCommandOf (SetCheck n) given = given ≡ command.Turning (check_of (int_value n))
-IsCommandOf PublishAll given = given ≡ command.Publish
+abbrev pub meaning : Form → Meaning
+meaning Nothing = Is command.Nothing
+meaning (AddContour name path weight) = contour_meaning name (path_value path) (weight_value weight)
+meaning (AddPicture name sign source) = Is (command.Also name source sign)
+meaning (CullKeeping name range weight) = cull_meaning name (Keeping (pair_value range).x (pair_value range).y (weight_value weight)) (weight_value weight)
+meaning (CullDropping name range weight) = cull_meaning name (Dropping (pair_value range).x (pair_value range).y (weight_value weight)) (weight_value weight)
+meaning (Clear name) = Is (command.Clear name)
+meaning (Move name transform) = transform_meaning name transform
+meaning (ShowTotal source) = Is (command.Total source)
+meaning (ShowPicture source) = Is (command.Show source)
+meaning (ShowProof source) = Is (command.Proof source)
+meaning (ShipOut source code dx width) = Is (command.Ship source (code_value code) (int_value dx) (int_value width))
+meaning (SetCheck n) = Is (command.Turning (check_of (int_value n)))
+meaning PublishAll = Is command.Publish
+
+-- a turn by an angle that is some quarters
+pub record IsTurn (name : Name) (angle : ℤ) (given : Command) : Type 0 where
+  pub quarter : Quarter
+  pub angle_is : degrees quarter ≡ angle
+  pub is : given ≡ command.Quarter name quarter
+
+-- the command
+abbrev pub Means : Meaning → Command → Type 0
+Means (Is made) given = given ≡ made
+Means (IfCycle points rest) given = IsRectilinearCycle points × Means rest given
+Means (IfWeight weight rest) given = IsContourWeight weight × Means rest given
+Means (IfCull rule rest) given = IsLawfulCull rule × Means rest given
+Means (IfFactors factors rest) given = AreFactors factors × Means rest given
+Means (Turns name angle) given = IsTurn name angle given
 
 -- points that are no cycle, and their fault, which so is none of the turning check's
 pub record IsNoCycle (points : List Point) (refused : TextFault) : Type 0 where
@@ -87,53 +98,26 @@ pub record IsNoCycle (points : List Point) (refused : TextFault) : Type 0 where
   pub fault : IsFault points cause
   pub is : refused ≡ faults.Cycle cause
 
--- a cycle with a weight that no contour has
-pub record IsBadContour (points : List Point) (weight : ℤ) (refused : TextFault) : Type 0 where
-  pub cycle : IsRectilinearCycle points
-  pub unlawful : IsContourWeight weight → ⊥
-  pub is : refused ≡ faults.BadWeight
+-- a value that is not lawful, and its refusal
+pub record IsUnlawful (lawful : Type 0) (fault refused : TextFault) : Type 0 where
+  pub unlawful : lawful → ⊥
+  pub is : refused ≡ fault
 
--- a cull with a weight that none has, or else a range that none has
-pub record IsBadCullWeight (weight : ℤ) (refused : TextFault) : Type 0 where
-  pub unlawful : IsContourWeight weight → ⊥
-  pub is : refused ≡ faults.BadWeight
+-- the refusal of the first value that is not lawful
+abbrev pub Refuses : Meaning → TextFault → Type 0
+Refuses (Is made) refused = ⊥
+Refuses (IfCycle points rest) refused = IsNoCycle points refused ⊎ (IsRectilinearCycle points × Refuses rest refused)
+Refuses (IfWeight weight rest) refused = IsUnlawful (IsContourWeight weight) faults.BadWeight refused ⊎ (IsContourWeight weight × Refuses rest refused)
+Refuses (IfCull rule rest) refused = IsUnlawful (IsLawfulCull rule) faults.BadCull refused ⊎ (IsLawfulCull rule × Refuses rest refused)
+Refuses (IfFactors factors rest) refused = IsUnlawful (AreFactors factors) faults.BadScale refused ⊎ (AreFactors factors × Refuses rest refused)
+Refuses (Turns name angle) refused = IsUnlawful ((quarter : Quarter) × (degrees quarter ≡ angle)) faults.BadTurn refused
 
-pub record IsBadCull (rule : CullRule) (weight : ℤ) (refused : TextFault) : Type 0 where
-  pub weight_lawful : IsContourWeight weight
-  pub unlawful : IsLawfulCull rule → ⊥
-  pub is : refused ≡ faults.BadCull
+-- the command that a form gives, and why its values are refused
+abbrev pub IsCommandOf : Form → Command → Type 0
+IsCommandOf form given = Means (meaning form) given
 
-pub record IsBadScale (factors : Factors) (refused : TextFault) : Type 0 where
-  pub unlawful : AreFactors factors → ⊥
-  pub is : refused ≡ faults.BadScale
-
-pub record IsBadTurn (angle : ℤ) (refused : TextFault) : Type 0 where
-  pub unlawful : (quarter : Quarter) → degrees quarter ≡ angle → ⊥
-  pub is : refused ≡ faults.BadTurn
-
--- why a transform is refused
-abbrev pub IsRefusedTransform : Transform → TextFault → Type 0
-IsRefusedTransform (Shifted p) refused = ⊥
-IsRefusedTransform (Scaled n) refused = IsBadScale (both (int_value n)) refused
-IsRefusedTransform (XScaled n) refused = IsBadScale (of_columns (int_value n)) refused
-IsRefusedTransform (YScaled n) refused = IsBadScale (of_rows (int_value n)) refused
-IsRefusedTransform (Rotated n) refused = IsBadTurn (int_value n) refused
-
--- why a contour is refused: the cycle is looked at first
-abbrev pub IsRefusedContour : List Point → ℤ → TextFault → Type 0
-IsRefusedContour points weight refused = IsNoCycle points refused ⊎ IsBadContour points weight refused
-
--- why a cull is refused: the weight is looked at first
-abbrev pub IsRefusedCull : CullRule → ℤ → TextFault → Type 0
-IsRefusedCull rule weight refused = IsBadCullWeight weight refused ⊎ IsBadCull rule weight refused
-
--- why the values of a form are refused
 abbrev pub IsRefusalOf : Form → TextFault → Type 0
-IsRefusalOf (AddContour name path weight) refused = IsRefusedContour (path_value path) (weight_value weight) refused
-IsRefusalOf (CullKeeping name range weight) refused = IsRefusedCull (Keeping (pair_value range).x (pair_value range).y (weight_value weight)) (weight_value weight) refused
-IsRefusalOf (CullDropping name range weight) refused = IsRefusedCull (Dropping (pair_value range).x (pair_value range).y (weight_value weight)) (weight_value weight) refused
-IsRefusalOf (Move name transform) refused = IsRefusedTransform transform refused
-IsRefusalOf form refused = ⊥
+IsRefusalOf form refused = Refuses (meaning form) refused
 
 -- a form takes memory: that of a contour
 abbrev pub TakesMemory : Form → Type 0

@@ -8,19 +8,19 @@ use Rattle.mf_text.specs.declared.tokens.Tokens.{Tokens}
 use Rattle.mf_text.specs.Ahead.{Ahead}
 use Rattle.mf_text.specs.declared.path.Path as paths
 use Rattle.mf_text.specs.Grammar.{Form, Line, Path, path_value}
+use Rattle.mf_text.specs.Left.{tokens_left}
 use Rattle.mf_text.specs.LineRests.{whole}
 use Rattle.mf_text.specs.Meaning.{IsAnswerOf}
 use Rattle.mf_text.specs.Paths.{HasPoints}
 use Rattle.mf_text.specs.Rests.{Rest, path, from}
-use Rattle.mf_text.specs.Tokens.{tokens_from}
 
 -- what tokens have before them
 abbrev pub ahead : Tokens → Ahead
-ahead t = record { tokens = tokens_from t.column t.rest.now; past = t.column }
+ahead t = record { tokens = tokens_left t; past = t.column }
 
 -- no more tokens stand before one than before the other
 abbrev pub IsWithin : Tokens → Tokens → Type 0
-IsWithin after before = length (ahead after).tokens ≤ length (ahead before).tokens
+IsWithin after before = length (tokens_left after) ≤ length (tokens_left before)
 
 abbrev pub then_from : {A : Type 0} → (A → Rest) → Ahead → Result A SyntaxFault → Result Line ℕ
 then_from next after (Ok a) = from (next a) after
@@ -40,11 +40,6 @@ then_rest rest after (Err fault) = Err fault.column
 abbrev pub Passes : {A : Type 0} → ((A → Rest) → Rest) → Tokens → Tokens → Result A SyntaxFault → Type 0
 Passes {A} phrase before after result = (next : A → Rest) → from (phrase next) (ahead before) ≡ then_from next (ahead after) result
 
--- the answer to what comes of a line
-abbrev pub Answers : Result Line ℕ → Result Command TextFault → Type 0
-Answers (Ok line) result = IsAnswerOf line.form result
-Answers (Err column) result = result ≡ Err (Syntax column)
-
 -- the same of a path, whose points are kept
 pub record HasPassedPath (before after : Tokens) (kept : paths.Path) : Type 0 where
   pub tree : Path
@@ -63,3 +58,8 @@ pub record HasEnded (form : Form) (read : Result Line ℕ) : Type 0 where
 abbrev pub Closes : Tokens → Result (Unit {0}) SyntaxFault → Type 0
 Closes before (Ok done) = (form : Form) → HasEnded form (from (whole form) (ahead before))
 Closes before (Err fault) = (form : Form) → from (whole form) (ahead before) ≡ Err fault.column
+
+-- the answer to what comes of a line
+abbrev pub Answers : Result Line ℕ → Result Command TextFault → Type 0
+Answers (Ok line) result = IsAnswerOf line.form result
+Answers (Err column) result = result ≡ Err (Syntax column)

@@ -5,13 +5,12 @@ ghost use Rattle.std.specs.Option.{MatchOption};
 ghost use Rattle.mf_text.specs.Bytes.{is_text_byte};
 ghost use Rattle.mf_text.specs.LineRests as rests;
 ghost use Rattle.mf_text.specs.Lines.{Gives, IsRefused};
-ghost use Rattle.mf_text.specs.Grammar.{Nothing, Rotated, Scaled, XScaled, YScaled, weight_value};
+ghost use Rattle.mf_text.specs.Grammar.{Nothing, Rotated, Scaled, XScaled, YScaled};
 ghost use Rattle.mf_text.specs.Reads.{Answers, ahead};
 ghost use Rattle.mf_text.specs.Rests.{Ends, from};
 
 use crate::command::{Command, Name, Source};
 use crate::fault::TextFault;
-use crate::int::Int;
 use crate::token::{Mark, Placed, Token, Word};
 use crate::tokens::Tokens;
 use crate::value::{check, contour, dropping, keeping, rotated, scaled};
@@ -117,17 +116,7 @@ fn add_contour(alloc: Global, tokens: &mut Tokens<'_>, name: Name) -> Result<Com
     let path = tokens.path(alloc)?;
     let weight = tokens.weight()?;
     tokens.end()?;
-    contour(name, path, weight_value(weight))
-}
-
-/// The weight of a contour or a cull, which is 1 where none stands.
-fn weight_value(weight: Option<Int>) -> i32
-    ensures { result ≡ weight_value weight }
-{
-    match weight {
-        Some(weight) => weight.value(),
-        None => 1,
-    }
+    contour(name, path, weight)
 }
 
 /// `addto` a name `also` and a sign ..
@@ -158,7 +147,7 @@ fn keep(tokens: &mut Tokens<'_>, name: Name) -> Result<Command, TextFault>
     let range = tokens.pair()?;
     let weight = tokens.weight()?;
     tokens.end()?;
-    keeping(name, range.value(), weight_value(weight))
+    keeping(name, range, weight)
 }
 
 /// `cull` a name `dropping` ..
@@ -168,7 +157,7 @@ fn drop_range(tokens: &mut Tokens<'_>, name: Name) -> Result<Command, TextFault>
     let range = tokens.pair()?;
     let weight = tokens.weight()?;
     tokens.end()?;
-    dropping(name, range.value(), weight_value(weight))
+    dropping(name, range, weight)
 }
 
 /// `show` ..
@@ -307,7 +296,7 @@ fn turn(tokens: &mut Tokens<'_>, name: Name) -> Result<Command, TextFault>
 {
     let angle = tokens.int()?;
     tokens.end()?;
-    rotated(name, angle.value())
+    rotated(name, angle)
 }
 
 /// A name `:=` that name `shifted` ..

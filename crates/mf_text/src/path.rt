@@ -18,12 +18,12 @@ pub struct Path {
 }
 
 impl Path {
-    /// A path of no points, with room for some, if there is memory for it.
-    pub fn with_room(alloc: Global, room: usize) -> Path
+    /// A path of no points.
+    pub fn new(alloc: Global) -> Path
         ensures { HasPoints result [] }
     {
         Path {
-            points: points_with_room(alloc, room),
+            points: Vec::new(alloc),
             corners: 0,
             is_wanting: false,
         }
@@ -51,15 +51,5 @@ impl Path {
             return Err(OutOfMemory);
         }
         Ok(self.points)
-    }
-}
-
-/// No points, and room for some, if there is memory for it.
-fn points_with_room(alloc: Global, room: usize) -> Vec<Point>
-    ensures { result.items ≡ [] }
-{
-    match Vec::with_capacity(alloc, room) {
-        Ok(points) => points,
-        Err(_) => Vec::new(alloc),
     }
 }

@@ -15,11 +15,7 @@ use crate::pair::Pair;
 use crate::path::Path;
 use crate::token::{Mark, Placed, Token, Word};
 use crate::tokens::{Tokens, mark_at};
-use mf_geom::MAX_POINTS;
 use std::alloc::Global;
-
-/// About how many bytes a short corner has, with its `--`.
-const CORNER_BYTES: usize = 8;
 
 impl Tokens<'_> {
     /// Passes the next token.
@@ -194,8 +190,7 @@ impl Tokens<'_> {
         ensures { PassesPath self.old self.new result }
     {
         self.pass_mark(Mark::Open)?;
-        let room = (self.rest.len() / CORNER_BYTES).min(MAX_POINTS);
-        let mut path = Path::with_room(alloc, room);
+        let mut path = Path::new(alloc);
         path.push(self.corner()?.value());
         'corners: while self.takes_mark(Mark::Open) {
             path.push(self.corner()?.value());

@@ -32,32 +32,33 @@ pub enum Word {
     YScaled,
 }
 
-/// The words, as they are written: the definition of the language takes them from here.
+/// The words, as they are written: the definition of the language takes them from here. They are looked for in this order, so those
+/// of contours come first.
 pub(crate) const WORDS: [(&[u8], Word); 24] = [
     (b"addto", Word::Addto),
-    (b"also", Word::Also),
-    (b"code", Word::Code),
     (b"contour", Word::Contour),
-    (b"cull", Word::Cull),
     (b"currentpicture", Word::CurrentPicture),
     (b"cycle", Word::Cycle),
-    (b"dropping", Word::Dropping),
-    (b"dx", Word::Dx),
-    (b"keeping", Word::Keeping),
+    (b"withweight", Word::WithWeight),
+    (b"also", Word::Also),
     (b"nullpicture", Word::NullPicture),
-    (b"proof", Word::Proof),
-    (b"publish", Word::Publish),
-    (b"rotated", Word::Rotated),
-    (b"scaled", Word::Scaled),
-    (b"shifted", Word::Shifted),
-    (b"shipout", Word::Shipout),
+    (b"cull", Word::Cull),
+    (b"keeping", Word::Keeping),
+    (b"dropping", Word::Dropping),
     (b"show", Word::Show),
     (b"totalweight", Word::TotalWeight),
-    (b"turningcheck", Word::TurningCheck),
+    (b"shifted", Word::Shifted),
+    (b"publish", Word::Publish),
+    (b"shipout", Word::Shipout),
+    (b"code", Word::Code),
+    (b"dx", Word::Dx),
     (b"width", Word::Width),
-    (b"withweight", Word::WithWeight),
+    (b"proof", Word::Proof),
+    (b"scaled", Word::Scaled),
     (b"xscaled", Word::XScaled),
     (b"yscaled", Word::YScaled),
+    (b"rotated", Word::Rotated),
+    (b"turningcheck", Word::TurningCheck),
 ];
 
 /// The marks of the commands.

@@ -1,20 +1,24 @@
 //! Commands from the values of lines.
 ghost use Rattle.std.specs.Prelude.{◌≡◌, ◌≢◌, List, IfOk, IfErr};
 ghost use Rattle.mf_geom.specs.declared.point.Point.{Point};
-ghost use Rattle.mf_ops.specs.declared.cull.CullRule.TheVariants.{Keeping, Dropping};
-ghost use Rattle.mf_text.specs.Meaning.{check_of, IsContour, IsCull, IsScale, IsBadScale, IsTurn, IsBadTurn, IsRefusedContour, IsRefusedCull};
+ghost use Rattle.mf_ops.specs.ContourWeight.{IsContourWeight};
+ghost use Rattle.mf_text.specs.Grammar as grammar;
+ghost use Rattle.mf_text.specs.Grammar.{weight_value};
+ghost use Rattle.mf_text.specs.Meaning.{IsAnswerOf, IsUnlawful, Means, Refuses, check_of, contour_meaning, scale_meaning};
 ghost use Rattle.mf_text.specs.Paths.{HasPoints};
 
 use crate::command::{Command, Name};
 use crate::fault::TextFault;
+use crate::int::Int;
+use crate::pair::Pair;
 use crate::path::Path;
 use mf_geom::{Check, Cycle, CycleFault, MAX_POINTS, Point};
 use mf_ops::{Cull, Quarter, Scale, Weight};
 
 /// The command of a contour.
-pub fn contour(name: Name, path: Path, weight: i32) -> Result<Command, TextFault>
-    ensures given { IfOk result (λ command. (points : List Point) → HasPoints path points → IsContour name points weight command) }
-    ensures refused { IfErr result (λ fault. fault ≢ TextFault.OutOfMemory → (points : List Point) → HasPoints path points → IsRefusedContour points weight fault) }
+pub fn contour(name: Name, path: Path, weight: Option<Int>) -> Result<Command, TextFault>
+    ensures given { IfOk result (λ command. (points : List Point) → HasPoints path points → Means (contour_meaning name points (weight_value weight)) command) }
+    ensures refused { IfErr result (λ fault. fault ≢ TextFault.OutOfMemory → (points : List Point) → HasPoints path points → Refuses (contour_meaning name points (weight_value weight)) fault) }
 {
     if path.corners > MAX_POINTS {
         return Err(TextFault::Cycle(CycleFault::TooManyPoints));
@@ -23,28 +27,42 @@ pub fn contour(name: Name, path: Path, weight: i32) -> Result<Command, TextFault
 }
 
 /// The command of a contour through these points.
-fn contour_through(name: Name, points: Vec<Point>, weight: i32) -> Result<Command, TextFault>
-    ensures given { IfOk result (IsContour name points.items weight) }
-    ensures refused { IfErr result (IsRefusedContour points.items weight) }
+fn contour_through(
+    name: Name,
+    points: Vec<Point>,
+    weight: Option<Int>,
+) -> Result<Command, TextFault>
+    ensures given { IfOk result (Means (contour_meaning name points.items (weight_value weight))) }
+    ensures refused { IfErr result (Refuses (contour_meaning name points.items (weight_value weight))) }
 {
     let cycle = match Cycle::new(points) {
         Ok(cycle) => cycle,
         Err((fault, _)) => return Err(TextFault::Cycle(fault)),
     };
+    Ok(Command::Contour(name, cycle, lawful_weight(weight)?))
+}
+
+/// The weight of a contour or a cull, which is 1 where none stands.
+fn lawful_weight(weight: Option<Int>) -> Result<Weight, TextFault>
+    ensures given { IfOk result (λ found. (found ≡ weight_value weight) × IsContourWeight (weight_value weight)) }
+    ensures refused { IfErr result (IsUnlawful (IsContourWeight (weight_value weight)) TextFault.BadWeight) }
+{
+    let weight = match weight {
+        Some(weight) => weight.value(),
+        None => 1,
+    };
     match Weight::new(weight) {
-        Ok(weight) => Ok(Command::Contour(name, cycle, weight)),
+        Ok(weight) => Ok(weight),
         Err(_) => Err(TextFault::BadWeight),
     }
 }
 
 /// The command of a cull that keeps a range.
-pub fn keeping(name: Name, range: Point, weight: i32) -> Result<Command, TextFault>
-    ensures given { IfOk result (IsCull name (Keeping range.x range.y weight) weight) }
-    ensures refused { IfErr result (IsRefusedCull (Keeping range.x range.y weight) weight) }
+pub fn keeping(name: Name, range: Pair, weight: Option<Int>) -> Result<Command, TextFault>
+    ensures { IsAnswerOf (grammar.CullKeeping name range weight) result }
 {
-    let Ok(kept) = Weight::new(weight) else {
-        return Err(TextFault::BadWeight);
-    };
+    let kept = lawful_weight(weight)?;
+    let range = range.value();
     match Cull::keeping(range.x, range.y, kept) {
         Ok(cull) => Ok(Command::Cull(name, cull)),
         Err(_) => Err(TextFault::BadCull),
@@ -52,13 +70,11 @@ pub fn keeping(name: Name, range: Point, weight: i32) -> Result<Command, TextFau
 }
 
 /// The command of a cull that drops a range.
-pub fn dropping(name: Name, range: Point, weight: i32) -> Result<Command, TextFault>
-    ensures given { IfOk result (IsCull name (Dropping range.x range.y weight) weight) }
-    ensures refused { IfErr result (IsRefusedCull (Dropping range.x range.y weight) weight) }
+pub fn dropping(name: Name, range: Pair, weight: Option<Int>) -> Result<Command, TextFault>
+    ensures { IsAnswerOf (grammar.CullDropping name range weight) result }
 {
-    let Ok(others) = Weight::new(weight) else {
-        return Err(TextFault::BadWeight);
-    };
+    let others = lawful_weight(weight)?;
+    let range = range.value();
     match Cull::dropping(range.x, range.y, others) {
         Ok(cull) => Ok(Command::Cull(name, cull)),
         Err(_) => Err(TextFault::BadCull),
@@ -67,8 +83,8 @@ pub fn dropping(name: Name, range: Point, weight: i32) -> Result<Command, TextFa
 
 /// The command of a scale.
 pub fn scaled(name: Name, x: i32, y: i32) -> Result<Command, TextFault>
-    ensures given { IfOk result (IsScale name (record { x = x; y = y })) }
-    ensures refused { IfErr result (IsBadScale (record { x = x; y = y })) }
+    ensures given { IfOk result (Means (scale_meaning name (record { x = x; y = y }))) }
+    ensures refused { IfErr result (Refuses (scale_meaning name (record { x = x; y = y }))) }
 {
     match Scale::new(x, y) {
         Ok(scale) => Ok(Command::Scale(name, scale)),
@@ -77,11 +93,10 @@ pub fn scaled(name: Name, x: i32, y: i32) -> Result<Command, TextFault>
 }
 
 /// The command of a turn.
-pub fn rotated(name: Name, angle: i32) -> Result<Command, TextFault>
-    ensures given { IfOk result (IsTurn name angle) }
-    ensures refused { IfErr result (IsBadTurn angle) }
+pub fn rotated(name: Name, angle: Int) -> Result<Command, TextFault>
+    ensures { IsAnswerOf (grammar.Move name (grammar.Rotated angle)) result }
 {
-    match Quarter::new(angle) {
+    match Quarter::new(angle.value()) {
         Ok(quarter) => Ok(Command::Quarter(name, quarter)),
         Err(_) => Err(TextFault::BadTurn),
     }

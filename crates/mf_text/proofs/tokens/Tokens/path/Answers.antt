@@ -8,7 +8,7 @@ pub corners-init : goal.corners-init
 corners-init c = record {
   first = c.in_ok-corner.field-0;
   others = [];
-  points = subst (λ v. HasPoints c.push.new.self (v ∷ [])) c.value.ensures (c.push.ensures [] c.with_room-path.ensures);
+  points = subst (λ v. HasPoints c.push.new.self (v ∷ [])) c.value.ensures (c.push.ensures [] c.new-path.ensures);
   read = λ next. c.in_ok-pass_mark.ensures.read _ ∙ c.in_ok-corner.ensures.read (λ first. Corners first [] next);
 }
 
