@@ -5,7 +5,6 @@ use Rattle.std.specs.List.{prefix_len, starts_with}
 use Rattle.std.specs.Str.Parse.{digits_value}
 use Rattle.std.proofs.lemmas.Bool.{cases_Bool, cond_both, eqb-true, false≢true}
 use Rattle.mf_text.specs.declared.token.Mark.{Mark}
-use Rattle.mf_text.specs.declared.token.Token.{Token}
 use Rattle.mf_text.specs.declared.token.Token.TheVariants as token
 use Rattle.mf_text.specs.declared.token.Word.{Word}
 use Rattle.mf_text.specs.declared.tokens.Tokens.{Tokens}
@@ -51,9 +50,6 @@ unfolding first_token
 first_is_mark b bs can = rw (can.no_letter, can.no_digit) refl
 
 -- ---- a token that is no mark
-
-is_no_mark : Token → Mark → Type 0
-is_no_mark t m = is_token t (token.Mark m) ≡ false
 
 known_is_none : (word : Option Word) (m : Mark) → is_token (known_word word) (token.Mark m) ≡ false
 known_is_none None m = refl

@@ -157,8 +157,7 @@ impl Tokens<'_> {
         ensures { Passes rests.pair self.old self.new result }
     {
         self.pass_mark(Mark::Open)?;
-        let pair = self.inner()?;
-        Ok(pair)
+        self.inner()
     }
 
     /// Passes the rest of a pair behind its `(`.
