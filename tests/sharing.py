@@ -18,7 +18,7 @@ import subprocess
 import sys
 import tempfile
 
-from wanting_memory import OTHERS, ROOT
+from refusing import ROOT, unknown_growths
 
 LIBRARY = r"""
 #define _GNU_SOURCE
@@ -166,9 +166,7 @@ def main():
         sys.exit("there is no C compiler: cc")
     if not pathlib.Path(program).is_file():
         sys.exit(f"there is no program: {program}")
-    names = subprocess.run(["nm", "-D", program], capture_output=True, encoding="utf-8", check=True).stdout.split()
-    unknown = OTHERS & {name.split("@")[0] for name in names}
-    if unknown:
+    if unknown := unknown_growths(pathlib.Path(program)):
         sys.exit(f"the program asks for memory in ways that are not counted: {unknown}")
     count = 0
     with tempfile.TemporaryDirectory() as folder:

@@ -1,85 +1,43 @@
 #!/usr/bin/env python3
-"""Runs scripts while memory is refused to the program, one growth after another.
+"""Runs scripts and tests while memory is refused to the program, one growth after another.
 
-    tests/wanting_memory.py [PROGRAM]
+    tests/wanting_memory.py [--all] [PROGRAM]
 
 PROGRAM is the built program (crates/mfpic/out/mfpic) unless another is named. Each script is run with ample memory,
 with its first growth refused, with its second, and so on, until a run has fewer growths; then so again with all later
-growths refused, too. A growth is a call of malloc or realloc, or the start of a thread. A library refuses it, which
-`cc` compiles and LD_PRELOAD puts before the C library.
+growths refused, too (`refusing.py` says how). Without --all these are scripts that reach each command and each refusal.
 
 A run must end by itself as docs/LANGUAGE.md says of want of memory: with status 4 and one message, with what the lines
 before that of the refused growth print, and with the old font file untouched. Or it does what it does with ample
 memory, where nothing hung on that growth alone: the points of a line that is refused for its form or for too many
 points, room that is given back, the guess what refused words mean, and a list of bands, for which less is asked then.
-The first run that does anything else is printed, and the status is 1. It is run by hand.
 
-Tests that make calls again which were refused are run so, too, one growth refused after another, and must pass: those of
-AGAIN, by the programs of tests that `rt ci` has left (crates/NAME/out/NAME_tests).
+Tests are run so, too, by the programs of tests that `rt ci` has left (crates/NAME/out/NAME_tests), and must pass. Those
+of modules `growths` make one call while growths are refused, look at what stands then, and make it again; there only the
+growths of that call count, and a test of which none was refused fails. Those of AGAIN make all of their calls twice where
+they must.
+
+The first case or test that does anything else is printed, and the status is 1.
 """
 
+import concurrent.futures
 import dataclasses
 import itertools
 import os
 import pathlib
+import re
 import subprocess
 import sys
 import tempfile
+from collections.abc import Callable, Iterator
 
-ROOT = pathlib.Path(__file__).parent.parent
-LIBRARY = r"""
-#define _GNU_SOURCE
-#include <dlfcn.h>
-#include <errno.h>
-#include <pthread.h>
-#include <stdlib.h>
-#include <sys/syscall.h>
-#include <unistd.h>
+from refusing import FOREVER, OLD, ROOT, Answer, Case, Runner, build_library, unknown_growths
 
-void *__libc_malloc(size_t), *__libc_realloc(void *, size_t);
-static int (*start)(pthread_t *, const pthread_attr_t *, void *(*)(void *), void *);
-static long growths, first, last = -1, report;
-static size_t piece;
-
-/* Runs when the C library is ready, before the program: growths are counted from here. */
-__attribute__((constructor)) static void begin(void) {
-    start = dlsym(RTLD_NEXT, "pthread_create");
-    piece = atol(getenv("PIECE")), report = atol(getenv("REPORT"));
-    first = atol(getenv("FIRST")), last = atol(getenv("LAST")), growths = 0;
-}
-
-/* Whether this growth is refused, of which the file REPORT is told by a byte. */
-static int refused(void) {
-    long number = __atomic_add_fetch(&growths, 1, __ATOMIC_SEQ_CST);
-    if (number < first || number > last) return 0;
-    syscall(SYS_write, report, ".", 1);
-    errno = ENOMEM;
-    return 1;
-}
-
-void *malloc(size_t size) { return refused() ? NULL : __libc_malloc(size); }
-void *realloc(void *old, size_t size) { return refused() ? NULL : __libc_realloc(old, size); }
-int pthread_create(pthread_t *made, const pthread_attr_t *how, void *(*run)(void *), void *with) {
-    return refused() ? EAGAIN : start(made, how, run, with);
-}
-/* A read ends at a line feed and after PIECE bytes, unless PIECE is 0. */
-ssize_t read(int file, void *bytes, size_t size) {
-    if (piece == 0) return syscall(SYS_read, file, bytes, size);
-    size_t count = 0;
-    for (char *next = bytes; count < size && count < piece && syscall(SYS_read, file, next, 1) == 1; next++)
-        if (count++, *next == '\n') break;
-    return count;
-}
-"""
-# Ways to ask for memory that the library does not know.
-OTHERS = {"aligned_alloc", "brk", "calloc", "memalign", "mmap", "posix_memalign", "reallocarray", "sbrk", "valloc"}
 # Tests that make a call again which was refused.
 AGAIN = [("mf_live_tests", "tests::again::calls_are_made_again")]
 AGAIN += [("mf_cases", f"tests::again::{name}") for name in ("perform_lines", "end_a_script")]
 PICTURES = ("fill_a_rectangle", "add_to_a_picture", "change_a_picture", "turn_a_picture")
 AGAIN += [("mf_cases", f"tests::again::pictures::{name}") for name in PICTURES]
-FOREVER = 1 << 40
-OLD = b"what was there"
 
 # Every command and operation, on registers and on the live picture; the last line has no line feed.
 COMMANDS = """% Every command.|addto a contour (0,0)--(4,0)--(4,3)--(0,3)--cycle|addto currentpicture also a|show a
@@ -109,63 +67,15 @@ proof b|""".replace("|", "\n").encode() + 15 * b"addto a also a\n" + b"show tota
 LONG = b"%" + 70_000 * b"x" + b"\nshow a\naddto a contour " + 4097 * b"(1,1)--" + b"cycle\nshow totalweight a"
 
 
-@dataclasses.dataclass(frozen=True)
-class Case:
-    """Words and a script, and what comes of them with ample memory. A read gives a line of the script, or a piece of so
-    many bytes of a longer one; and where it is run twice, also all that there is. Another program may be named."""
-
-    about: str
-    words: tuple
-    script: bytes
-    begins: bytes = b""
-    status: int = 0
-    message: bytes = b""
-    piece: int = 1 << 16
-    twice: bool = True
-    program: str | None = None
+# A front of a script, and what its lines print.
+Texts = list[bytes]
 
 
-@dataclasses.dataclass
-class Answer:
-    """What a run does; how much of the script it has read, and how many growths were refused, are not compared."""
-
-    status: int
-    out: bytes
-    message: bytes
-    font: bytes
-    taken: int = dataclasses.field(compare=False)
-    refused: int = dataclasses.field(compare=False)
+class Fault(Exception):
+    """What is wrong with a case, or with a test."""
 
 
-class Runner:
-    """Runs the program with a library that refuses growths."""
-
-    def __init__(self, program, folder):
-        self.program, self.folder, self.count = program, folder, 0
-        self.library, source = folder / "refuse.so", folder / "refuse.c"
-        source.write_text(LIBRARY)
-        subprocess.run(["cc", "-O1", "-Wall", "-shared", "-fPIC", "-o", self.library, source], check=True)
-
-    def run(self, case, first=FOREVER, last=FOREVER, piece=None):
-        self.count += 1
-        font, place = self.folder / "font.gf", self.folder / "script"
-        font.write_bytes(OLD)
-        place.write_bytes(case.script)
-        words = [case.program or self.program, *(word.replace("FOLDER", str(self.folder)) for word in case.words)]
-        with open(place, "rb") as reader, open(self.folder / "report", "wb") as report:
-            numbers = {"FIRST": first, "LAST": last, "PIECE": case.piece if piece is None else piece}
-            numbers["REPORT"] = report.fileno()
-            environment = {"LD_PRELOAD": str(self.library)} | {name: str(n) for name, n in numbers.items()}
-            try:
-                given = {"stdin": reader, "env": environment, "pass_fds": [report.fileno()]}
-                ended = subprocess.run(words, capture_output=True, check=False, timeout=60, **given)
-            except subprocess.TimeoutExpired as late:
-                ended = subprocess.CompletedProcess(words, "it does not end", late.stdout, late.stderr)
-            taken, refused = os.lseek(reader.fileno(), 0, os.SEEK_CUR), os.fstat(report.fileno()).st_size
-        return Answer(ended.returncode, ended.stdout, ended.stderr, font.read_bytes(), taken, refused)
-
-
-def wrong_with_ample_memory(case, ample):
+def wrong_with_ample_memory(case: Case, ample: Answer) -> str | None:
     """What is wrong with a run with ample memory, if anything is."""
     if (ample.status, ample.message) != (case.status, case.message) or not ample.out.startswith(case.begins):
         return "the run with ample memory does not end as it must"
@@ -174,7 +84,7 @@ def wrong_with_ample_memory(case, ample):
     return None
 
 
-def wrong(case, texts, ample, answer):
+def wrong(case: Case, texts: Texts, ample: Answer, answer: Answer) -> str | None:
     """What is wrong with a run to which memory was refused, if anything is. `texts` are what its first lines print."""
     if answer == ample:
         return None
@@ -194,15 +104,14 @@ def wrong(case, texts, ample, answer):
     return None if answer.out in may_be[answer.message] else "the output is not what the lines before print"
 
 
-def try_case(runner, case):
-    """Refuses each growth of a case, alone and with all later ones. Answers what is wrong, if anything is."""
+def try_case(runner: Runner, case: Case) -> str:
+    """Refuses each growth of a case, alone and with all later ones. Says how many there were."""
     lines = case.script.splitlines(keepends=True)
     fronts = [b"".join(lines[:count]) for count in range(len(lines) + 1)]
     texts = [runner.run(dataclasses.replace(case, words=(), script=front)).out for front in fronts]
-    ample = runner.run(case)
-    fault, traceless = wrong_with_ample_memory(case, ample), 0
-    if fault:
-        return f"{case}\n{ample}\n{fault}"
+    ample, traceless = runner.run(case), 0
+    if fault := wrong_with_ample_memory(case, ample):
+        raise Fault(f"{case}\n{ample}\n{fault}")
     for and_later in (False, True):
         for growth in itertools.count(1):
             last = FOREVER if and_later else growth
@@ -214,29 +123,62 @@ def try_case(runner, case):
             if not fault and (and_later or answer.refused == 0) and (answer == ample) == (answer.refused > 0):
                 fault = "it is as with ample memory where all is refused, or is not where nothing is"
             if fault:
-                return f"{case}\n{answer}\n{fault}: growth {growth}{' and all later ones' if and_later else ''}"
+                raise Fault(f"{case}\n{answer}\n{fault}: growth {growth}{' and all later ones' if and_later else ''}")
             if answer.refused == 0:
                 break
             traceless += answer == ample
-    print(f"{case.about} {' '.join(case.words)}: {growth - 1} growths, {traceless} missed by nobody", flush=True)
-    return None
+    return f"{case.about} {' '.join(case.words)}: {growth - 1} growths, {traceless} missed by nobody"
 
 
-def try_test(runner, crate, name):
-    """Refuses each growth of a test, alone. Answers what is wrong, if anything is."""
-    program = str(ROOT / "crates" / crate / "out" / f"{crate}_tests")
-    case = Case(name, (name,), b"", program=program)
-    for growth in itertools.count(1):
-        answer = runner.run(case, growth, growth)
-        if answer.status != 0:
-            return f"{case}\n{answer}\nthe test does not pass: growth {growth}"
-        if answer.refused == 0:
-            break
-    print(f"{crate} {name}: {growth - 1} growths", flush=True)
-    return None
+def try_test(runner: Runner, test: Case) -> str:
+    """Refuses each growth of a test, alone and, where it is marked, with all later ones. Says how many there were."""
+    counts = []
+    for and_later in (False, True) if test.marked else (False,):
+        for growth in itertools.count(1):
+            answer = runner.run(test, growth, FOREVER if and_later else growth)
+            if answer.status != 0:
+                which = f"growth {growth}{' and all later ones' if and_later else ''}"
+                raise Fault(f"{test}\n{answer}\nthe test does not pass: {which}")
+            if answer.refused == 0:
+                break
+        counts.append(growth - 1)
+    if 0 in counts:
+        raise Fault(f"{test}\nno growth of this test was refused")
+    return f"{test.about}: {counts[0]} growths"
 
 
-def cases():
+def test_of(crate: str, name: str, marked: bool) -> Case:
+    """A test, by its crate and its name there."""
+    return Case(f"{crate} {name}", (name,), ROOT / "crates" / crate / f"out/{crate}_tests", marked=marked)
+
+
+def marked_tests() -> Iterator[Case]:
+    """The tests of the modules `growths`, which stand in these files and in the folders beside them."""
+    files: dict[str, list[pathlib.Path]] = {}
+    for pattern in ("crates/*/src/tests/growths.rt", "crates/*/src/tests/growths/**/*.rt"):
+        for path in sorted(ROOT.glob(pattern)):
+            files.setdefault(path.relative_to(ROOT).parts[1], []).append(path)
+    for crate, paths in sorted(files.items()):
+        program = ROOT / "crates" / crate / f"out/{crate}_tests"
+        if not program.exists():
+            raise Fault(f"the tests of {crate} are not built: rt ci builds them")
+        listed = subprocess.run([program, "--list"], capture_output=True, check=True, encoding="utf-8").stdout
+        names = [name for name in re.findall(r"^(\S+): test$", listed, re.M) if "::growths::" in name]
+        if len(names) != sum(path.read_text(encoding="utf-8").count("#[test]") for path in paths):
+            raise Fault(f"the tests of {crate} are not built from what stands there now: rt ci builds them")
+        yield from (test_of(crate, name, marked=True) for name in names)
+
+
+def scripts(program: pathlib.Path) -> Iterator[Case]:
+    """Scripts that reach each command and each refusal."""
+    font = ("--gf", "FOLDER/font.gf")
+    yield Case("commands", font, program, COMMANDS)
+    yield Case("commands", ("--gf=FOLDER/font.gf", "--viewers", "4"), program, COMMANDS)
+    yield Case("refused lines", font, program, REFUSED)
+    yield Case("no character", font, program, b"show a\n", status=3, message=b"mfpic: NoCharacters\n")
+
+
+def more_scripts(program: pathlib.Path) -> Iterator[Case]:
     """The examples, the scripts beside them, and scripts and words that reach what they do not."""
     font = ("--gf", "FOLDER/font.gf")
     viewers = {"examples": [(), ("--viewers", "1"), ("--viewers", "4")], "tests/scripts": [()]}
@@ -245,34 +187,60 @@ def cases():
         few = path.stem not in ("field", "large_contours")
         for words in viewers[str(path.parent.relative_to(ROOT))] if few else [()]:
             ships = font if path.with_suffix(".gf").exists() else ()
-            yield Case(path.stem, words + ships, text, transcript, twice=few)
+            yield Case(path.stem, words + ships, program, text, transcript, twice=few)
     for about, script in [("commands", COMMANDS), ("refused lines", REFUSED)]:
-        for words in [font, ("--viewers=1", *font), ("--gf=FOLDER/font.gf", "--viewers", "4")]:
-            yield Case(about, words, script)
-        yield Case(f"{about}, in pieces of 7 bytes,", font, script, piece=7, twice=False)
-    yield Case("long lines", (), LONG, twice=False)
-    yield Case("no character", font, b"show a\n", status=3, message=b"mfpic: NoCharacters\n")
-    yield Case("no file", ("--gf", "FOLDER"), COMMANDS, status=3, message=b"mfpic: WriteFault\n")
+        yield Case(about, ("--viewers=1", *font), program, script)
+        yield Case(f"{about}, in pieces of 7 bytes,", font, program, script, piece=7, twice=False)
+    yield Case("refused lines", ("--gf=FOLDER/font.gf", "--viewers", "4"), program, REFUSED)
+    yield Case("long lines", (), program, LONG, twice=False)
+    yield Case("no file", ("--gf", "FOLDER"), program, COMMANDS, status=3, message=b"mfpic: WriteFault\n")
     usage = b"usage: mfpic [--viewers 0..16] [--gf FILE]\n"
     for words in ["--help", "--viewers 17", "--viewer 3", "--gf", "--gf x --gf y", "x"]:
-        yield Case("bad words", tuple(words.split()), b"show a\n", status=2, message=usage)
+        yield Case("bad words", tuple(words.split()), program, b"show a\n", status=2, message=usage)
 
 
-def main():
-    program = sys.argv[1] if len(sys.argv) > 1 else str(ROOT / "crates/mfpic/out/mfpic")
-    names = subprocess.run(["nm", "-D", program], capture_output=True, encoding="utf-8", check=True).stdout.split()
-    unknown = OTHERS & {name.split("@")[0] for name in names}
-    if unknown:
-        sys.exit(f"the program asks for memory in ways that are not refused: {unknown}")
-    with tempfile.TemporaryDirectory() as folder:
-        runner = Runner(program, pathlib.Path(folder))
-        of_tests = (try_test(runner, crate, name) for crate, name in AGAIN)
-        of_cases = (try_case(runner, case) for case in cases())
-        for fault in itertools.chain(of_tests, of_cases):
-            if fault:
-                sys.exit(fault)
-        print(f"{runner.count} runs, each as the documents say")
+def try_all(folder: pathlib.Path, cases: list[Case], tests: list[Case]) -> tuple[int, int]:
+    """Tries all of these, as many at once as there are processors. Says how many growths were refused, in how many runs."""
+    library = build_library(folder)
+
+    def trial(number: int, run: Callable[[Runner, Case], str], case: Case) -> Runner:
+        place = folder / str(number)
+        place.mkdir()
+        runner = Runner(library, place)
+        print(run(runner, case), flush=True)
+        return runner
+
+    todo = [(try_case, case) for case in cases] + [(try_test, test) for test in tests]
+    with concurrent.futures.ThreadPoolExecutor(len(os.sched_getaffinity(0))) as pool:
+        trials = [pool.submit(trial, number, *both) for number, both in enumerate(todo)]
+        for done in concurrent.futures.as_completed(trials):
+            if fault := done.exception():
+                pool.shutdown(cancel_futures=True)
+                raise fault
+    runners = [done.result() for done in trials]
+    return sum(runner.refused for runner in runners), sum(runner.runs for runner in runners)
+
+
+def main() -> int:
+    words = sys.argv[1:]
+    whole = words[:1] == ["--all"]
+    named = words[whole:]
+    program = pathlib.Path(named[0]).resolve() if named else ROOT / "crates/mfpic/out/mfpic"
+    try:
+        cases = [*scripts(program), *(more_scripts(program) if whole else [])]
+        tests = [*marked_tests(), *(test_of(crate, name, marked=False) for crate, name in AGAIN)]
+        for path in sorted({case.program for case in (*cases, *tests)}):
+            if unknown := unknown_growths(path):
+                raise Fault(f"{path} asks for memory in ways that are not refused: {unknown}")
+        with tempfile.TemporaryDirectory() as folder:
+            refused, runs = try_all(pathlib.Path(folder), cases, tests)
+    except Fault as fault:
+        print(fault, file=sys.stderr)
+        return 1
+    print(f"{refused} growths refused in {runs} runs: {len(cases)} scripts and {len(tests)} tests")
+    print(f"{len(cases) + len(tests)} passed, 0 failed")
+    return 0
 
 
 if __name__ == "__main__":
-    main()
+    sys.exit(main())

@@ -2,9 +2,10 @@
 
 mod assertions;
 mod cycles;
+mod growths;
 mod refusals;
 
-use mf_geom::Point;
+use mf_geom::{Cycle, Point};
 use std::process::Abort;
 
 /// The points of a path, as pairs of coordinates.
@@ -35,4 +36,12 @@ fn walk<R: Abort + AllocGlobal>(rt: &R, corners: Corners, times: usize) -> Vec<P
         }
     }
     points
+}
+
+/// The cycle through the points of the path, walked so many times.
+fn cycle_of<R: Abort + AllocGlobal>(rt: &R, corners: Corners, times: usize) -> Cycle {
+    match Cycle::new(walk(rt, corners, times)) {
+        Ok(cycle) => cycle,
+        Err((fault, back)) => panic!(rt; "{back:?} is refused: {fault:?}"),
+    }
 }

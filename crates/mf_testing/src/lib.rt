@@ -2,8 +2,10 @@
 //! pieces, and fail.
 #![tactic(auto)]
 
+mod growths;
 mod scripts;
 mod streams;
 
+pub use growths::{grow_again, refuse_all_growths, refuse_growths};
 pub use scripts::{RECT, RECT_FILE, Script, worked_scripts};
-pub use streams::{LineFeeds, Pieces, Sink};
+pub use streams::{FailsOnce, FlushFails, LineFeeds, Pieces, Remembers, Sink};

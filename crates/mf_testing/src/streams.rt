@@ -1,5 +1,5 @@
 //! Readers and writers for tests: they give and take pieces, and fail.
-use std::alloc::Global;
+use std::alloc::{AllocError, Global};
 use std::io::{self, ErrorKind, Read, Write};
 
 /// A reader of these bytes, which ends with a fault where it is told so.
@@ -86,6 +86,51 @@ impl Read for LineFeeds {
     }
 }
 
+/// A reader that remembers how many reads there were, and how many bytes they asked for.
+#[derive(Drop)]
+pub struct Remembers<I> {
+    reader: I,
+    reads: u32,
+    least: usize,
+    greatest: usize,
+}
+
+impl<I: Read> Remembers<I> {
+    /// Gives what this reader gives.
+    pub fn new(reader: I) -> Remembers<I> {
+        Remembers {
+            reader,
+            reads: 0,
+            least: usize::MAX,
+            greatest: 0,
+        }
+    }
+
+    /// Number of reads, those that were answered by an error among them.
+    pub fn reads(&self) -> u32 {
+        self.reads
+    }
+
+    /// Least number of bytes that a read asked for.
+    pub fn least(&self) -> usize {
+        self.least
+    }
+
+    /// Greatest number of bytes that a read asked for.
+    pub fn greatest(&self) -> usize {
+        self.greatest
+    }
+}
+
+impl<I: Read> Read for Remembers<I> {
+    fn read(&mut self, buf: &mut [u8]) -> io::Result<usize> {
+        self.reads = self.reads.saturating_add(1);
+        self.least = self.least.min(buf.len());
+        self.greatest = self.greatest.max(buf.len());
+        self.reader.read(buf)
+    }
+}
+
 /// A writer that keeps what it took, and at last answers an error or takes no byte. Where memory is wanting it takes nothing
 /// and answers an error.
 #[derive(Drop)]
@@ -107,6 +152,13 @@ impl Sink {
             size: usize::MAX,
             fails: false,
         }
+    }
+
+    /// Takes all bytes, and so many of them without asking for memory.
+    pub fn reserved(alloc: Global, count: usize) -> Result<Sink, AllocError> {
+        let mut sink = Sink::new(alloc);
+        sink.taken = Vec::with_capacity(alloc, count)?;
+        Ok(sink)
     }
 
     /// Takes all bytes, one in a write.
@@ -169,5 +221,135 @@ impl Write for Sink {
 
     fn flush(&mut self) -> io::Result<()> {
         Ok(())
+    }
+}
+
+/// A writer that answers one error in place of a write, and would take all bytes after that.
+#[derive(Drop)]
+pub struct FailsOnce {
+    sink: Sink,
+    /// Number of bytes that it takes before its error.
+    room: usize,
+    has_failed: bool,
+    calls_behind: u32,
+}
+
+impl FailsOnce {
+    /// Takes `room` bytes, and then answers its error.
+    pub fn new(alloc: Global, room: usize) -> FailsOnce {
+        FailsOnce {
+            sink: Sink::new(alloc),
+            room,
+            has_failed: false,
+            calls_behind: 0,
+        }
+    }
+
+    /// The bytes that it took, before its error and behind it.
+    pub fn taken(&self) -> &[u8] {
+        self.sink.taken()
+    }
+
+    /// Number of writes and flushes behind its error.
+    pub fn calls_behind(&self) -> u32 {
+        self.calls_behind
+    }
+}
+
+impl Write for FailsOnce {
+    fn write(&mut self, buf: &[u8]) -> io::Result<usize> {
+        if self.has_failed {
+            self.calls_behind = self.calls_behind.saturating_add(1);
+            return self.sink.write(buf);
+        }
+        if self.room == 0 {
+            self.has_failed = true;
+            return Err(io::Error::from(ErrorKind::Other));
+        }
+        let count = self.room.min(buf.len());
+        let taken = self.sink.write(&buf[..count])?;
+        self.room = self.room.saturating_sub(taken);
+        Ok(taken)
+    }
+
+    fn flush(&mut self) -> io::Result<()> {
+        if self.has_failed {
+            self.calls_behind = self.calls_behind.saturating_add(1);
+        }
+        Ok(())
+    }
+}
+
+/// A writer that takes all bytes, and answers errors where it is flushed.
+#[derive(Drop)]
+pub struct FlushFails {
+    sink: Sink,
+    /// Number of flushes that it answers well before its first error.
+    good: u32,
+    /// Number of errors that it still answers.
+    errors: u32,
+    has_failed: bool,
+    calls_behind: u32,
+}
+
+impl FlushFails {
+    /// Answers an error to one flush, behind so many others.
+    pub fn once(alloc: Global, good: u32) -> FlushFails {
+        FlushFails {
+            sink: Sink::new(alloc),
+            good,
+            errors: 1,
+            has_failed: false,
+            calls_behind: 0,
+        }
+    }
+
+    /// Answers an error to each flush behind so many.
+    pub fn for_ever(alloc: Global, good: u32) -> FlushFails {
+        FlushFails {
+            sink: Sink::new(alloc),
+            good,
+            errors: u32::MAX,
+            has_failed: false,
+            calls_behind: 0,
+        }
+    }
+
+    /// The bytes that it took, before its first error and behind it.
+    pub fn taken(&self) -> &[u8] {
+        self.sink.taken()
+    }
+
+    /// Number of writes and flushes behind its first error.
+    pub fn calls_behind(&self) -> u32 {
+        self.calls_behind
+    }
+
+    /// Counts a call behind its first error.
+    fn count_call(&mut self) {
+        if self.has_failed {
+            self.calls_behind = self.calls_behind.saturating_add(1);
+        }
+    }
+}
+
+impl Write for FlushFails {
+    fn write(&mut self, buf: &[u8]) -> io::Result<usize> {
+        self.count_call();
+        self.sink.write(buf)
+    }
+
+    fn flush(&mut self) -> io::Result<()> {
+        self.count_call();
+        if self.good > 0 {
+            self.good -= 1;
+            return Ok(());
+        }
+        if self.errors == 0 {
+            return Ok(());
+        }
+        self.errors -= 1;
+        self.has_failed = true;
+        Err(io::Error::from(ErrorKind::Other))
     }
 }

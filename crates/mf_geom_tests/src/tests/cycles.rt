@@ -1,17 +1,9 @@
 //! Cycles with their turning number and area.
 
-use super::{CLOCKWISE, Corners, EIGHT, PIXEL, REACH, RECTANGLE, walk};
+use super::{CLOCKWISE, Corners, EIGHT, PIXEL, REACH, RECTANGLE, cycle_of, walk};
 use crate::tests::assertions::assert_same;
 use mf_geom::{Cycle, CycleFault, Point};
 use std::process::Abort;
-
-/// The cycle through the points of the path, walked so many times.
-fn cycle_of<R: Abort + AllocGlobal>(rt: &R, corners: Corners, times: usize) -> Cycle {
-    match Cycle::new(walk(rt, corners, times)) {
-        Ok(cycle) => cycle,
-        Err((fault, back)) => panic!(rt; "{back:?} is refused: {fault:?}"),
-    }
-}
 
 /// What is known of a cycle: its points, its turning number or the fault in its place, and its area.
 fn known(cycle: &Cycle) -> (&[Point], Result<i32, CycleFault>, i64) {

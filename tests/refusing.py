@@ -1,0 +1,143 @@
+"""Runs programs while growths are refused to them. (`wanting_memory.py` uses it.)
+
+A growth is a call of malloc or realloc, or the start of a thread. A library counts and refuses them, which `cc` compiles and
+LD_PRELOAD puts before the C library.
+"""
+
+import dataclasses
+import os
+import pathlib
+import subprocess
+
+ROOT = pathlib.Path(__file__).parent.parent
+LIBRARY = r"""
+#define _GNU_SOURCE
+#include <dlfcn.h>
+#include <errno.h>
+#include <pthread.h>
+#include <stdlib.h>
+#include <sys/syscall.h>
+#include <unistd.h>
+
+/* Growths of these sizes say where growths count (crates/mf_testing/src/growths.rt). */
+enum { FROM_HERE = 33554467, TO_HERE };
+
+void *__libc_malloc(size_t), *__libc_realloc(void *, size_t);
+static int (*start)(pthread_t *, const pthread_attr_t *, void *(*)(void *), void *);
+static long growths, first, last = -1, report;
+static size_t piece;
+static int counts;
+
+/* Runs when the C library is ready, before the program: growths are counted from here, or where the program says. */
+__attribute__((constructor)) static void begin(void) {
+    start = dlsym(RTLD_NEXT, "pthread_create");
+    piece = atol(getenv("PIECE")), report = atol(getenv("REPORT"));
+    first = atol(getenv("FIRST")), last = atol(getenv("LAST")), growths = 0;
+    counts = !atol(getenv("MARKED"));
+}
+
+/* Whether this growth is refused, of which the file REPORT is told by a byte. */
+static int refused(size_t size) {
+    if (size == FROM_HERE || size == TO_HERE) {
+        counts = size == FROM_HERE;
+        return 1;
+    }
+    if (!counts) return 0;
+    long number = __atomic_add_fetch(&growths, 1, __ATOMIC_SEQ_CST);
+    if (number < first || number > last) return 0;
+    syscall(SYS_write, report, ".", 1);
+    errno = ENOMEM;
+    return 1;
+}
+
+void *malloc(size_t size) { return refused(size) ? NULL : __libc_malloc(size); }
+void *realloc(void *old, size_t size) { return refused(size) ? NULL : __libc_realloc(old, size); }
+int pthread_create(pthread_t *made, const pthread_attr_t *how, void *(*run)(void *), void *with) {
+    return refused(0) ? EAGAIN : start(made, how, run, with);
+}
+/* A read ends at a line feed and after PIECE bytes, unless PIECE is 0. */
+ssize_t read(int file, void *bytes, size_t size) {
+    if (piece == 0) return syscall(SYS_read, file, bytes, size);
+    size_t count = 0;
+    for (char *next = bytes; count < size && count < piece && syscall(SYS_read, file, next, 1) == 1; next++)
+        if (count++, *next == '\n') break;
+    return count;
+}
+"""
+# Ways to ask for memory that the library does not know.
+OTHERS = {"aligned_alloc", "brk", "calloc", "memalign", "mmap", "posix_memalign", "reallocarray", "sbrk", "valloc"}
+# No run has as many growths.
+FOREVER = 1 << 40
+OLD = b"what was there"
+
+
+@dataclasses.dataclass(frozen=True)
+class Case:
+    """Words and a script for a program, and what comes of them with ample memory. A read gives a line of the script, or a
+    piece of so many bytes of a longer one; and where it is run twice, also all that there is. Where it is marked, the program
+    says from where on growths count, and up to where."""
+
+    about: str
+    words: tuple[str, ...]
+    program: pathlib.Path
+    script: bytes = b""
+    begins: bytes = b""
+    status: int = 0
+    message: bytes = b""
+    piece: int = 1 << 16
+    twice: bool = True
+    marked: bool = False
+
+
+@dataclasses.dataclass
+class Answer:
+    """What a run does; how much of the script it has read, and how many growths were refused, are not compared."""
+
+    status: int | str
+    out: bytes
+    message: bytes
+    font: bytes
+    taken: int = dataclasses.field(compare=False)
+    refused: int = dataclasses.field(compare=False)
+
+
+def build_library(folder: pathlib.Path) -> pathlib.Path:
+    """The library that refuses growths, which is made in this folder."""
+    library, source = folder / "refuse.so", folder / "refuse.c"
+    source.write_text(LIBRARY, encoding="ascii")
+    subprocess.run(["cc", "-O1", "-Wall", "-shared", "-fPIC", "-o", library, source], check=True)
+    return library
+
+
+def unknown_growths(program: pathlib.Path) -> set[str]:
+    """The ways in which a program asks for memory that the library does not refuse."""
+    names = subprocess.run(["nm", "-D", program], capture_output=True, encoding="utf-8", check=True).stdout.split()
+    return OTHERS & {name.split("@")[0] for name in names}
+
+
+class Runner:
+    """Runs programs with the library, one after another, with their files in a folder, and counts runs and growths that were
+    refused."""
+
+    def __init__(self, library: pathlib.Path, folder: pathlib.Path) -> None:
+        self.library, self.folder, self.runs, self.refused = library, folder, 0, 0
+
+    def run(self, case: Case, first: int = FOREVER, last: int = FOREVER, piece: int | None = None) -> Answer:
+        """Runs a case, where these growths are refused."""
+        font, place = self.folder / "font.gf", self.folder / "script"
+        font.write_bytes(OLD)
+        place.write_bytes(case.script)
+        words = [case.program, *(word.replace("FOLDER", str(self.folder)) for word in case.words)]
+        with open(place, "rb") as reader, open(self.folder / "report", "wb") as report:
+            numbers = {"FIRST": first, "LAST": last, "PIECE": case.piece if piece is None else piece}
+            numbers |= {"MARKED": int(case.marked), "REPORT": report.fileno()}
+            environment = {"LD_PRELOAD": str(self.library)} | {name: str(n) for name, n in numbers.items()}
+            given = {"stdin": reader, "env": environment, "pass_fds": [report.fileno()]}
+            try:
+                ended = subprocess.run(words, capture_output=True, check=False, timeout=60, **given)
+                status, out, message = ended.returncode, ended.stdout, ended.stderr
+            except subprocess.TimeoutExpired as late:
+                status, out, message = "it does not end", late.stdout or b"", late.stderr or b""
+            taken, refused = os.lseek(reader.fileno(), 0, os.SEEK_CUR), os.fstat(report.fileno()).st_size
+        self.runs, self.refused = self.runs + 1, self.refused + refused
+        return Answer(status, out, message, font.read_bytes(), taken, refused)
