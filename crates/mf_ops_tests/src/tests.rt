@@ -4,6 +4,7 @@ mod assertions;
 mod contours;
 mod copies;
 mod culls;
+mod growths;
 mod moves;
 mod scattered;
 mod sums;

@@ -5,6 +5,7 @@ mod chance;
 mod corners;
 mod equal;
 mod generated;
+mod growths;
 mod moves;
 mod rectangle_sums;
 mod rectangles;
@@ -25,6 +26,12 @@ fn make_run(y: i32, x: i32, len: u32, weight: i32) -> Run {
 /// A builder with these runs, each of which has to fit.
 fn builder_of<R: Abort + AllocGlobal>(rt: &R, runs: &[Run]) -> RowBuilder {
     let mut builder = RowBuilder::new(rt.alloc());
+    push_all(rt, &mut builder, runs);
+    builder
+}
+
+/// Pushes runs, each of which has to fit.
+fn push_all(rt: &impl Abort, builder: &mut RowBuilder, runs: &[Run]) {
     for run in runs {
         assert_holds(rt, builder.fits(run), ("fits", *run));
         if builder.fits(run) {
@@ -33,7 +40,6 @@ fn builder_of<R: Abort + AllocGlobal>(rt: &R, runs: &[Run]) -> RowBuilder {
                 .expect(rt, "there is room for the run");
         }
     }
-    builder
 }
 
 /// The picture that was made, where there was room for it.

@@ -1,4 +1,5 @@
 //! Tests of the texts of pictures.
 
 mod assertions;
+mod growths;
 mod texts;

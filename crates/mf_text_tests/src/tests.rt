@@ -2,6 +2,7 @@
 
 mod assertions;
 mod contours;
+mod growths;
 mod lines;
 mod refusals;
 mod syntax;

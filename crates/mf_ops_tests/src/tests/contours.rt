@@ -36,7 +36,7 @@ fn weights_of_contours(rt: HostRuntime) {
 }
 
 /// The picture of these runs, each of which has to fit.
-fn built<R: Abort + AllocGlobal>(rt: &R, runs: &[Run]) -> Picture {
+pub(super) fn built<R: Abort + AllocGlobal>(rt: &R, runs: &[Run]) -> Picture {
     let mut builder = RowBuilder::new(rt.alloc());
     for run in runs {
         assert_holds(rt, builder.fits(run), ("fits", *run));

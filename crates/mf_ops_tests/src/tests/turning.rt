@@ -10,10 +10,10 @@ use mf_rows::{Picture, Run};
 use std::process::Abort;
 
 /// Two squares that meet, one walked counterclockwise and the other clockwise: its turning number is 0.
-const EIGHT: Corners = &[(0, 0), (1, 0), (1, 2), (2, 2), (2, 1), (0, 1)];
+pub(super) const EIGHT: Corners = &[(0, 0), (1, 0), (1, 2), (2, 2), (2, 1), (0, 1)];
 
 /// The pixel (0, 0), with a spike of two edges to the right, which turns straight back at vertex 1.
-const SPIKE: Corners = &[(0, 0), (3, 0), (1, 0), (1, 1), (0, 1)];
+pub(super) const SPIKE: Corners = &[(0, 0), (3, 0), (1, 0), (1, 1), (0, 1)];
 
 /// An edge there and back.
 const THERE_AND_BACK: Corners = &[(0, 0), (1, 0)];

@@ -242,7 +242,12 @@ fn assert_small(rt: &impl Abort, stretch: &Stretch)
 }
 
 /// Asserts that stretches take no pixel of a picture out of the field.
-fn assert_stays_inside(rt: &impl Abort, picture: &Picture, columns: &Stretch, rows: &Stretch)
+pub(super) fn assert_stays_inside(
+    rt: &impl Abort,
+    picture: &Picture,
+    columns: &Stretch,
+    rows: &Stretch,
+)
     ensures columns { IsStretch columns.now }
     ensures rows { IsStretch rows.now }
     ensures inside { PixelsStayInside columns.now rows.now picture.now }

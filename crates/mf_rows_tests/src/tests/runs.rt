@@ -29,7 +29,7 @@ fn assert_box<R: Abort + AllocGlobal>(rt: &R, runs: &[Run], bounds: Box4, total:
 }
 
 /// Each of these runs fits a builder, or none does.
-fn assert_fits(rt: &impl Abort, builder: &RowBuilder, runs: &[Run], fits: bool) {
+pub(super) fn assert_fits(rt: &impl Abort, builder: &RowBuilder, runs: &[Run], fits: bool) {
     for run in runs {
         assert_same(rt, builder.fits(run), fits, ("fits", *run));
     }

@@ -54,7 +54,7 @@ fn push(rt: &impl Abort, builder: &mut RowBuilder, run: Run) {
 }
 
 /// The picture of these runs: row, first column, length and weight.
-fn built(rt: &impl Abort, alloc: Global, runs: &[(i32, i32, u32, i32)]) -> Picture {
+pub(super) fn built(rt: &impl Abort, alloc: Global, runs: &[(i32, i32, u32, i32)]) -> Picture {
     let mut builder = RowBuilder::new(alloc);
     for (y, x, len, weight) in runs {
         let run = Run {

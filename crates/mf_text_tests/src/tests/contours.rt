@@ -52,9 +52,20 @@ fn assert_contour(
     expected: (Name, i32),
     points: &[Point],
 ) {
-    match read(rt, alloc, line) {
+    assert_is_contour(rt, &read(rt, alloc, line), line, expected, points);
+}
+
+/// The command of the line is a contour of this name and weight through these points.
+pub(super) fn assert_is_contour(
+    rt: &impl Abort,
+    command: &Command,
+    line: &str,
+    expected: (Name, i32),
+    points: &[Point],
+) {
+    match command {
         Command::Contour(name, cycle, weight) => {
-            assert_same(rt, (name, weight.get()), expected, line);
+            assert_same(rt, (*name, weight.get()), expected, line);
             assert_same(rt, cycle.points(), points, line);
         }
         _ => panic!(rt; "{line} is no contour"),

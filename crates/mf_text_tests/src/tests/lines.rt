@@ -21,7 +21,7 @@ fn lines_without_a_command(rt: HostRuntime) {
 }
 
 /// These bytes, so many times the piece, and the end.
-fn repeated(
+pub(super) fn repeated(
     alloc: Global,
     begin: &[u8],
     piece: &[u8],

@@ -1,0 +1,206 @@
+//! Builders.
+
+use super::APART;
+use crate::tests::runs::assert_fits;
+use crate::tests::{assert_runs, assert_weights, builder_of, made, push_all};
+use mf_rows::{OutOfMemory, RowBuilder, Run};
+use mf_testing::{grow_again, refuse_growths};
+use std::process::Abort;
+
+/// A run that is pushed behind others while growths are refused.
+struct Push {
+    before: &'static [Run],
+    run: Run,
+    behind: &'static [Run],
+    /// Runs that fit behind those before, and runs that do not.
+    fitting: &'static [Run],
+    others: &'static [Run],
+    /// The runs of the picture of them all.
+    all: &'static [Run],
+}
+
+/// The first run: it asks for the edges of its row, and for the list of rows.
+const FIRST: Push = Push {
+    before: &[],
+    run: run_of!(5, 0, 2, 1),
+    behind: &[run_of!(5, 3, 1, 2), run_of!(4, 0, 1, 1)],
+    fitting: &[
+        run_of!(4094, -4095, 1, 1),
+        run_of!(5, 0, 2, 1),
+        run_of!(-4095, 4094, 1, -32767),
+    ],
+    others: &[run_of!(5, 0, 0, 1), run_of!(5, 4094, 2, 1)],
+    all: &[
+        run_of!(5, 0, 2, 1),
+        run_of!(5, 3, 1, 2),
+        run_of!(4, 0, 1, 1),
+    ],
+};
+
+/// The run of a fifth row: it asks for the edges of its row, and a list of four rows grows.
+const FIFTH_ROW: Push = Push {
+    before: &[
+        run_of!(5, 0, 1, 1),
+        run_of!(4, 1, 1, 1),
+        run_of!(3, 2, 1, 1),
+        run_of!(2, 3, 2, 1),
+    ],
+    run: run_of!(1, 4, 1, 1),
+    behind: &[run_of!(1, 6, 1, 2), run_of!(0, 5, 1, 1)],
+    fitting: &[
+        run_of!(2, 5, 1, 1),
+        run_of!(1, -7, 3, 2),
+        run_of!(1, 4, 1, 1),
+    ],
+    others: &[run_of!(2, 4, 1, 1), run_of!(3, 9, 1, 1)],
+    all: &[
+        run_of!(5, 0, 1, 1),
+        run_of!(4, 1, 1, 1),
+        run_of!(3, 2, 1, 1),
+        run_of!(2, 3, 2, 1),
+        run_of!(1, 4, 1, 1),
+        run_of!(1, 6, 1, 2),
+        run_of!(0, 5, 1, 1),
+    ],
+};
+
+/// The third run of a row, apart from the others: a list of four edges grows.
+const THIRD_IN_ROW: Push = Push {
+    before: &[run_of!(0, 0, 1, 1), run_of!(0, 2, 1, 2)],
+    run: run_of!(0, 4, 1, 3),
+    behind: &[run_of!(0, 6, 1, 4), run_of!(-70, 0, 1, 1)],
+    fitting: &[
+        run_of!(0, 3, 1, 1),
+        run_of!(0, 4, 1, 3),
+        run_of!(-1, -4095, 8190, 1),
+    ],
+    others: &[run_of!(0, 2, 1, 1), run_of!(1, 0, 1, 1)],
+    all: &[
+        run_of!(0, 0, 1, 1),
+        run_of!(0, 2, 1, 2),
+        run_of!(0, 4, 1, 3),
+        run_of!(0, 6, 1, 4),
+        run_of!(-70, 0, 1, 1),
+    ],
+};
+
+/// The same where the third run touches the second: one edge changes, and only the other one is new.
+const TOUCHING: Push = Push {
+    before: &[run_of!(0, 0, 2, 7), run_of!(0, 4, 2, 7)],
+    run: run_of!(0, 6, 3, -7),
+    behind: &[],
+    fitting: &[
+        run_of!(0, 6, 1, 1),
+        run_of!(0, 6, 3, -7),
+        run_of!(-1, 0, 1, 1),
+    ],
+    others: &[run_of!(0, 5, 1, 1), run_of!(1, 0, 1, 1)],
+    all: &[
+        run_of!(0, 0, 2, 7),
+        run_of!(0, 4, 2, 7),
+        run_of!(0, 6, 3, -7),
+    ],
+};
+
+/// Pushes a run, which has to fit, while growths are refused.
+fn push_refused<R: Abort + AllocGlobal>(
+    rt: &R,
+    builder: &mut RowBuilder,
+    run: Run,
+) -> Result<(), OutOfMemory> {
+    assert!(rt; builder.fits(&run), "{run:?} does not fit");
+    refuse_growths(rt.alloc());
+    let pushed = builder.push_run(run);
+    grow_again(rt.alloc());
+    pushed
+}
+
+/// The same runs fit a builder as before the push.
+fn assert_fits_as_before(rt: &impl Abort, builder: &RowBuilder, push: &Push) {
+    assert_fits(rt, builder, push.fitting, true);
+    assert_fits(rt, builder, push.others, false);
+}
+
+/// A builder that refused the run is as it was: the same runs fit, and with the run and those behind it it makes the
+/// picture of them all.
+fn assert_pushed<R: Abort + AllocGlobal>(rt: &R, push: &Push) {
+    let mut builder = builder_of(rt, push.before);
+    assert_fits_as_before(rt, &builder, push);
+    if push_refused(rt, &mut builder, push.run).is_err() {
+        assert_fits_as_before(rt, &builder, push);
+        push_all(rt, &mut builder, &[push.run]);
+    }
+    push_all(rt, &mut builder, push.behind);
+    assert_runs(rt, &made(rt, builder.finish()), push.all);
+}
+
+/// A builder makes the picture without the run where it refused it. An edge of the run that stayed alone would be in
+/// no run, and shows in the weight of its pixels.
+fn assert_left_out<R: Abort + AllocGlobal>(rt: &R, push: &Push) {
+    let mut builder = builder_of(rt, push.before);
+    let (runs, weight) = match push_refused(rt, &mut builder, push.run) {
+        Ok(()) => (push.all, push.run.weight),
+        Err(_) => (push.before, 0),
+    };
+    let picture = made(rt, builder.finish());
+    assert_runs(rt, &picture, runs);
+    assert_weights(rt, &picture, &[(push.run.x, push.run.y, weight)]);
+}
+
+#[test]
+fn a_first_run_is_pushed(rt: HostRuntime) {
+    assert_pushed(&rt, &FIRST);
+}
+
+#[test]
+fn a_run_of_a_fifth_row_is_pushed(rt: HostRuntime) {
+    assert_pushed(&rt, &FIFTH_ROW);
+}
+
+#[test]
+fn a_third_run_of_a_row_is_pushed(rt: HostRuntime) {
+    assert_pushed(&rt, &THIRD_IN_ROW);
+}
+
+#[test]
+fn a_run_that_touches_the_last_is_pushed(rt: HostRuntime) {
+    assert_pushed(&rt, &TOUCHING);
+}
+
+#[test]
+fn a_refused_run_is_left_out(rt: HostRuntime) {
+    assert_left_out(&rt, &TOUCHING);
+}
+
+/// More rows than a list of rows has room for at first, of which two are in a band of their own.
+const MANY_ROWS: &[Run] = &[
+    run_of!(5, 0, 1, 1),
+    run_of!(4, 1, 1, 2),
+    run_of!(3, 2, 1, 3),
+    run_of!(2, 3, 2, -32767),
+    run_of!(1, -4095, 8190, 32767),
+    run_of!(-4094, 0, 1, 1),
+    run_of!(-4094, 1, 1, -1),
+    run_of!(-4095, 4094, 1, 1),
+];
+
+/// The runs are finished while growths are refused. A builder that is refused is gone, and another one with the same
+/// runs makes the picture.
+fn assert_finished<R: Abort + AllocGlobal>(rt: &R, runs: &[Run]) {
+    let builder = builder_of(rt, runs);
+    refuse_growths(rt.alloc());
+    let picture = builder.finish();
+    grow_again(rt.alloc());
+    let picture = picture.or_else(|_| builder_of(rt, runs).finish());
+    assert_runs(rt, &made(rt, picture), runs);
+}
+
+#[test]
+fn a_picture_is_finished(rt: HostRuntime) {
+    assert_finished(&rt, APART);
+}
+
+#[test]
+fn a_picture_of_many_rows_is_finished(rt: HostRuntime) {
+    assert_finished(&rt, MANY_ROWS);
+}

@@ -1,0 +1,167 @@
+//! Copies of pictures, and pictures that are made from one.
+
+use super::APART;
+use crate::tests::moves::assert_stays_inside;
+use crate::tests::{assert_runs, made, picture_of};
+use mf_rows::{Choice, OutOfMemory, Picture, Run, Stretch, WeightMap};
+use mf_testing::{grow_again, refuse_growths};
+use std::alloc::Global;
+use std::process::Abort;
+
+/// What is made from a picture.
+#[derive(Clone, Copy, Debug)]
+enum Derived {
+    Copy,
+    Negated,
+    /// Weights 1 and 2 become 3, and all others 0.
+    Chosen,
+    ColumnsMirrored,
+    RowsMirrored,
+    Turned,
+}
+
+impl Derived {
+    /// It is made from this picture.
+    fn of(self, alloc: Global, picture: &Picture) -> Result<Picture, OutOfMemory> {
+        match self {
+            Derived::Copy => picture.copy(alloc),
+            Derived::Negated => picture.map_weights(alloc, &WeightMap::Negate),
+            Derived::Chosen => chosen(alloc, picture),
+            Derived::ColumnsMirrored => picture.mirror_columns(alloc),
+            Derived::RowsMirrored => picture.mirror_rows(alloc),
+            Derived::Turned => picture.turn(alloc),
+        }
+    }
+}
+
+/// The picture in which weights 1 and 2 become 3, and all others 0.
+fn chosen(alloc: Global, picture: &Picture) -> Result<Picture, OutOfMemory> {
+    let choice = Choice {
+        low: 1,
+        high: 2,
+        inside: 3,
+        outside: 0,
+    };
+    picture.map_weights(alloc, &WeightMap::Choose(choice))
+}
+
+/// What is made from the rows while growths are refused has these runs, and the rows stay as they are.
+fn assert_makes<R: Abort + AllocGlobal>(rt: &R, what: Derived, runs: &[Run]) {
+    let picture = picture_of(rt, APART);
+    refuse_growths(rt.alloc());
+    let new = what.of(rt.alloc(), &picture);
+    grow_again(rt.alloc());
+    assert_runs(rt, &picture, APART);
+    let new = made(rt, new.or_else(|_| what.of(rt.alloc(), &picture)));
+    assert_runs(rt, &new, runs);
+    assert_runs(rt, &picture, APART);
+}
+
+#[test]
+fn a_picture_is_copied(rt: HostRuntime) {
+    assert_makes(&rt, Derived::Copy, APART);
+}
+
+#[test]
+fn a_picture_is_negated(rt: HostRuntime) {
+    const NEGATED: &[Run] = &[
+        run_of!(90, -3, 2, -5),
+        run_of!(1, 0, 2, -1),
+        run_of!(1, 2, 1, -3),
+        run_of!(0, -1, 3, 32767),
+        run_of!(-70, 0, 1, 2),
+    ];
+    assert_makes(&rt, Derived::Negated, NEGATED);
+}
+
+#[test]
+fn weights_are_chosen(rt: HostRuntime) {
+    const CHOSEN: &[Run] = &[run_of!(1, 0, 2, 3)];
+    assert_makes(&rt, Derived::Chosen, CHOSEN);
+}
+
+#[test]
+fn columns_are_mirrored(rt: HostRuntime) {
+    const MIRRORED: &[Run] = &[
+        run_of!(90, 1, 2, 5),
+        run_of!(1, -3, 1, 3),
+        run_of!(1, -2, 2, 1),
+        run_of!(0, -2, 3, -32767),
+        run_of!(-70, -1, 1, -2),
+    ];
+    assert_makes(&rt, Derived::ColumnsMirrored, MIRRORED);
+}
+
+#[test]
+fn rows_are_mirrored(rt: HostRuntime) {
+    const MIRRORED: &[Run] = &[
+        run_of!(69, 0, 1, -2),
+        run_of!(-1, -1, 3, -32767),
+        run_of!(-2, 0, 2, 1),
+        run_of!(-2, 2, 1, 3),
+        run_of!(-91, -3, 2, 5),
+    ];
+    assert_makes(&rt, Derived::RowsMirrored, MIRRORED);
+}
+
+#[test]
+fn a_picture_is_turned(rt: HostRuntime) {
+    const TURNED: &[Run] = &[
+        run_of!(2, -2, 1, 3),
+        run_of!(1, -2, 1, 1),
+        run_of!(1, -1, 1, -32767),
+        run_of!(0, -2, 1, 1),
+        run_of!(0, -1, 1, -32767),
+        run_of!(0, 69, 1, -2),
+        run_of!(-1, -1, 1, -32767),
+        run_of!(-2, -91, 1, 5),
+        run_of!(-3, -91, 1, 5),
+    ];
+    assert_makes(&rt, Derived::Turned, TURNED);
+}
+
+/// The rows, stretched while growths are refused, have these runs, and stay as they are.
+fn assert_stretches<R: Abort + AllocGlobal>(
+    rt: &R,
+    columns: &Stretch,
+    rows: &Stretch,
+    runs: &[Run],
+) {
+    let picture = picture_of(rt, APART);
+    assert_stays_inside(rt, &picture, columns, rows);
+    refuse_growths(rt.alloc());
+    let new = picture.stretch(rt.alloc(), columns, rows);
+    grow_again(rt.alloc());
+    assert_runs(rt, &picture, APART);
+    let new = match new {
+        Ok(new) => new,
+        Err(_) => made(rt, picture.stretch(rt.alloc(), columns, rows)),
+    };
+    assert_runs(rt, &new, runs);
+    assert_runs(rt, &picture, APART);
+}
+
+#[test]
+fn a_picture_is_stretched(rt: HostRuntime) {
+    const STRETCHED: &[Run] = &[
+        run_of!(182, -10, 6, 5),
+        run_of!(181, -10, 6, 5),
+        run_of!(4, -1, 6, 1),
+        run_of!(4, 5, 3, 3),
+        run_of!(3, -1, 6, 1),
+        run_of!(3, 5, 3, 3),
+        run_of!(2, -4, 9, -32767),
+        run_of!(1, -4, 9, -32767),
+        run_of!(-138, -1, 3, -2),
+        run_of!(-139, -1, 3, -2),
+    ];
+    let columns = Stretch {
+        factor: 3,
+        offset: -1,
+    };
+    let rows = Stretch {
+        factor: 2,
+        offset: 1,
+    };
+    assert_stretches(&rt, &columns, &rows, STRETCHED);
+}

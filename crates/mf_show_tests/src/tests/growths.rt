@@ -1,0 +1,102 @@
+//! Texts whose growths are refused, one after another. The picture is as it was then, and with ample memory it has
+//! its text.
+
+use super::texts::built;
+use crate::tests::assertions::assert_same;
+use mf_rows::{Picture, Run};
+use mf_show::{GridFault, proof_grid, show_runs};
+use mf_testing::{grow_again, refuse_all_growths, refuse_growths};
+use std::alloc::Global;
+use std::process::Abort;
+
+/// Runs of a picture: row, first column, length and weight.
+type Runs = &'static [(i32, i32, u32, i32)];
+
+/// Rows with blank ones between them; one has two weights side by side.
+const ROWS: Runs = &[
+    (3, -2, 4, 12),
+    (1, 0, 2, 1),
+    (1, 2, 1, 3),
+    (0, -1, 3, -4),
+    (-2, 4, 1, -32767),
+];
+
+/// A picture has exactly these runs.
+fn assert_picture(rt: &impl Abort, picture: &Picture, runs: Runs) {
+    for (k, (y, x, len, weight)) in runs.iter().enumerate() {
+        let run = Run {
+            y: *y,
+            x: *x,
+            len: *len,
+            weight: *weight,
+        };
+        assert_same(rt, picture.run(k), Some(run), ("run", k));
+    }
+    assert_same(rt, picture.run(runs.len()), None, "the last run");
+}
+
+/// The picture of these runs has this run text.
+fn assert_shown(rt: &impl Abort, alloc: Global, runs: Runs, want: &str) {
+    let picture = built(rt, alloc, runs);
+    refuse_growths(alloc);
+    let text = show_runs(alloc, &picture);
+    grow_again(alloc);
+    assert_picture(rt, &picture, runs);
+    let text = text
+        .or_else(|_| show_runs(alloc, &picture))
+        .expect(rt, "there is room for the text");
+    assert_same(rt, text.as_slice(), want.as_bytes(), ("the runs", want));
+}
+
+#[test]
+fn runs_are_shown(rt: HostRuntime) {
+    let text = "3 -2 1 12\n1 0 1 1\n1 2 2 3\n0 -1 1 -4\n-2 4 4 -32767\n";
+    assert_shown(&rt, rt.alloc(), ROWS, text);
+}
+
+#[test]
+fn no_runs_are_shown(rt: HostRuntime) {
+    assert_shown(&rt, rt.alloc(), &[], "blank\n");
+}
+
+/// The picture of these runs has this grid text.
+fn assert_drawn(rt: &impl Abort, alloc: Global, runs: Runs, want: &str) {
+    let picture = built(rt, alloc, runs);
+    refuse_growths(alloc);
+    let text = proof_grid(alloc, &picture);
+    grow_again(alloc);
+    assert_picture(rt, &picture, runs);
+    let text = match text {
+        Ok(text) => text,
+        Err(fault) => {
+            assert_same(rt, fault, GridFault::OutOfMemory, "the refusal");
+            proof_grid(alloc, &picture).expect(rt, "there is room for the grid")
+        }
+    };
+    assert_same(rt, text.as_slice(), want.as_bytes(), ("the grid", want));
+}
+
+#[test]
+fn a_grid_is_drawn(rt: HostRuntime) {
+    let grid = "++++...\n.......\n..113..\n.ddd...\n.......\n......-\n";
+    assert_drawn(&rt, rt.alloc(), ROWS, grid);
+}
+
+#[test]
+fn no_grid_is_drawn(rt: HostRuntime) {
+    assert_drawn(&rt, rt.alloc(), &[], "blank\n");
+}
+
+/// A run that is too long for a grid is refused as such, also where no memory is left.
+#[test]
+fn a_grid_that_is_too_large_comes_before_want_of_memory(rt: HostRuntime) {
+    let (alloc, long): (Global, Runs) = (rt.alloc(), &[(0, 0, 129, 1)]);
+    let picture = built(&rt, alloc, long);
+    refuse_all_growths(alloc);
+    let text = proof_grid(alloc, &picture);
+    grow_again(alloc);
+    let too_large = Some(GridFault::ProofTooLarge);
+    assert_same(&rt, text.err(), too_large, "without memory");
+    assert_same(&rt, proof_grid(alloc, &picture).err(), too_large, "with it");
+    assert_picture(&rt, &picture, long);
+}
