@@ -4,6 +4,7 @@ mod again;
 mod assertions;
 mod characters;
 mod files;
+mod growths;
 mod refusals;
 mod writers;
 

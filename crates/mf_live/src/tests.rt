@@ -1,7 +1,9 @@
-//! Tests of states into which no caller can bring a picture while memory is ample. The others are in `mf_live_tests`.
+//! Tests of states into which no caller can bring a picture. The others are in `mf_live_tests`.
 ghost use Rattle.std.specs.Prelude.{◌≡◌};
 ghost use Rattle.mf_live.specs.Viewers as viewers;
 ghost use Rattle.mf_live.specs.Writers as writers;
+
+mod growths;
 
 use crate::closing::{Closing, Ended};
 use crate::desk::open_picture;
@@ -56,7 +58,7 @@ fn assert_shows(rt: &impl Abort, viewer: Viewer, revision: u32, total: i64) -> V
     }
 }
 
-/// A picture whose end mark is set and not published yet, as `close` hands it back where memory is wanting.
+/// A picture whose end mark is set and not published yet. No call answers it: `close` gets its memory before it sets the mark.
 fn half_closed(writer: Writer) -> Closing
     ensures { writers.closing_name result ≡ writers.name writer }
 {
@@ -81,14 +83,20 @@ fn ended<R: Abort + Wait>(rt: &R, closing: Closing) -> Ended
     }
 }
 
-/// A notice of the end tells of so many operations, and the viewer learns it.
+/// A notice of the end tells of so many operations.
+fn assert_tells(rt: &impl Abort, ended: &mut Ended, revision: u32)
+    ensures { writers.ended_name ended.new ≡ writers.ended_name ended.old }
+{
+    assert_eq!(rt; ended.notice().revision(), revision, "what is told");
+}
+
+/// The viewer learns a notice of the end, which tells of so many operations.
 fn learn_end(rt: &impl Abort, ended: &mut Ended, viewer: Viewer, revision: u32) -> Viewer
     requires { viewers.name viewer ≡ writers.ended_name ended.old }
 {
+    assert_tells(rt, ended, revision);
     let mut viewer = viewer;
-    let notice = ended.notice();
-    assert_eq!(rt; notice.revision(), revision, "what is told");
-    viewer.learn(notice);
+    viewer.learn(ended.notice());
     viewer
 }
 

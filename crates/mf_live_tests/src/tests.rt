@@ -1,4 +1,4 @@
-//! Tests of live pictures, over two small contours.
+//! Tests of live pictures, most of them over two small contours.
 ghost use Rattle.std.specs.Prelude.{◌≡◌, ◌≤◌};
 ghost use Rattle.mf_live.specs.Desks.{desk_name};
 ghost use Rattle.mf_live.specs.Viewers as viewers;
@@ -7,6 +7,7 @@ ghost use Rattle.mf_live.specs.Writers as writers;
 mod again;
 mod assertions;
 mod ending;
+mod growths;
 mod looking;
 mod sheets;
 mod threads;
@@ -16,7 +17,7 @@ use assertions::{assert_holds, assert_same};
 use mf_geom::{Check, Cycle, Point};
 use mf_live::{CloseFault, Desk, Ended, Notice, Viewer, Writer, open_picture};
 use mf_ops::{Op, Weight};
-use mf_rows::Picture;
+use mf_rows::{Picture, RowBuilder, Run};
 use std::alloc::{AllocError, Global};
 use std::process::Abort;
 use std::sync::Wait;
@@ -26,6 +27,12 @@ pub(crate) const RECT: &[(i32, i32)] = &[(0, 0), (3, 0), (3, 2), (0, 2)];
 
 /// The pixel (0, 0), counterclockwise.
 pub(crate) const UNIT: &[(i32, i32)] = &[(0, 0), (1, 0), (1, 1), (0, 1)];
+
+/// A run of pixels: row, first column, length and weight.
+pub(crate) type Pixels = (i32, i32, u32, i32);
+
+/// The rectangle, filled with weight 1.
+pub(crate) const RECT_RUNS: &[Pixels] = &[(1, 0, 3, 1), (0, 0, 3, 1)];
 
 /// The points of a path.
 fn points(alloc: Global, corners: &[(i32, i32)]) -> Result<Vec<Point>, AllocError> {
@@ -54,6 +61,28 @@ fn contour_through(rt: &impl Abort, points: Vec<Point>, weight: i32, check: Chec
         (Ok(cycle), Ok(weight)) => Op::Contour(cycle, weight, check),
         _ => panic!(rt; "no contour of weight {weight}"),
     }
+}
+
+/// Adds a run, which must fit behind the others.
+pub(crate) fn push(rt: &impl Abort, builder: &mut RowBuilder, run: Run) {
+    assert!(rt; builder.fits(&run), "{run:?}");
+    builder
+        .push_run(run)
+        .expect(rt, "there is room for the run");
+}
+
+/// The run of these pixels.
+pub(crate) fn run_of((y, x, len, weight): Pixels) -> Run {
+    Run { y, x, len, weight }
+}
+
+/// The picture of these runs.
+pub(crate) fn picture(rt: &impl Abort, alloc: Global, runs: &[Pixels]) -> Picture {
+    let mut builder = RowBuilder::new(alloc);
+    for run in runs {
+        push(rt, &mut builder, run_of(*run));
+    }
+    builder.finish().expect(rt, "there is room for the picture")
 }
 
 /// A picture of at most so many operations, and a desk of so many viewers.
@@ -147,6 +176,29 @@ pub(crate) fn assert_working(rt: &impl Abort, writer: &Writer, pending: u32, tot
         (pending, total),
         "operations that wait, and the total",
     );
+}
+
+/// A picture has exactly these runs.
+pub(crate) fn assert_runs(rt: &impl Abort, picture: &Picture, runs: &[Pixels], case: &'static str) {
+    let mut found = picture.runs();
+    for run in runs {
+        assert_same(rt, found.next(), Some(run_of(*run)), case);
+    }
+    assert_same(rt, found.next(), None, case);
+}
+
+/// A look shows so many operations, and a picture of exactly these runs.
+pub(crate) fn assert_sees(rt: &impl Abort, viewer: Viewer, revision: u32, runs: &[Pixels]) -> Viewer
+    ensures { viewers.name result ≡ viewers.name viewer }
+{
+    match viewer.look() {
+        Ok(look) => {
+            assert_same(rt, look.revision(), revision, "the revision of a look");
+            assert_runs(rt, look.picture(), runs, "the runs of a look");
+            look.leave()
+        }
+        Err(_) => panic!(rt; "the look is not answered"),
+    }
 }
 
 /// A look shows so many operations, and a picture of this total.

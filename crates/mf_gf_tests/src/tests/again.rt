@@ -22,7 +22,7 @@ const TWICE: &[&[u8]] = &[
     b"\xf9\x00\x00\x00\x2c\x83\xdf\xdf\xdf\xdf\xdf\xdf",
 ];
 
-fn twice() -> &'static [&'static [u8]] {
+pub(crate) fn twice() -> &'static [&'static [u8]] {
     TWICE
 }
 

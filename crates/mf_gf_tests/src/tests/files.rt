@@ -34,7 +34,7 @@ const ONE: &[&[u8]] = &[
     b"\xf9\x00\x00\x00\x0e\x83\xdf\xdf\xdf\xdf",
 ];
 
-fn one() -> &'static [&'static [u8]] {
+pub(crate) fn one() -> &'static [&'static [u8]] {
     ONE
 }
 
@@ -152,7 +152,8 @@ fn two_characters(rt: HostRuntime) {
     assert_parts(&rt, &file, two());
 }
 
-const WORDS: FontWords = FontWords {
+/// Numbers of a font, at the ends of their ranges.
+pub(crate) const WORDS: FontWords = FontWords {
     ds: -1,
     cs: u32::MAX,
     hppp: i32::MIN,
@@ -177,7 +178,7 @@ const CORNERS: &[&[u8]] = &[
     b"\xf9\x00\x00\x00\x4b\x83\xdf\xdf\xdf\xdf\xdf",
 ];
 
-fn corners() -> &'static [&'static [u8]] {
+pub(crate) fn corners() -> &'static [&'static [u8]] {
     CORNERS
 }
 
@@ -186,13 +187,19 @@ fn ship_pixel(rt: &impl Abort, alloc: Global, file: &mut GfFile, code: u8, y: i3
     ship(rt, file, code, (0, 0), &picture(rt, alloc, &[(y, x, 1)], 1));
 }
 
+/// That file, before it is finished.
+pub(crate) fn corners_file(rt: &impl Abort, alloc: Global) -> GfFile {
+    let mut file = GfFile::new(alloc, b"a comment", MAX_BYTES).expect(rt, "the comment fits");
+    ship_pixel(rt, alloc, &mut file, 1, 4094, -4095);
+    ship(rt, &mut file, 2, (0, 0), &picture(rt, alloc, &[], 1));
+    ship_pixel(rt, alloc, &mut file, 0, -4095, 4094);
+    file
+}
+
 #[test]
 fn comment_and_words(rt: HostRuntime) {
     let alloc = rt.alloc();
-    let mut file = GfFile::new(alloc, b"a comment", MAX_BYTES).expect(&rt, "the comment fits");
-    ship_pixel(&rt, alloc, &mut file, 1, 4094, -4095);
-    ship(&rt, &mut file, 2, (0, 0), &picture(&rt, alloc, &[], 1));
-    ship_pixel(&rt, alloc, &mut file, 0, -4095, 4094);
+    let file = corners_file(&rt, alloc);
     assert_bytes(&rt, alloc, &finished_with(&rt, file, WORDS), corners());
 }
 

@@ -73,7 +73,7 @@ fn code_that_was_shipped(rt: HostRuntime) {
 }
 
 /// The file, whose end is refused with this fault.
-fn unfinished(rt: &impl Abort, file: GfFile, fault: GfFault) -> GfFile {
+pub(crate) fn unfinished(rt: &impl Abort, file: GfFile, fault: GfFault) -> GfFile {
     match file.finish(NO_WORDS) {
         Ok(_) => panic!(rt; "the file is finished"),
         Err((file, found)) => {
@@ -104,7 +104,7 @@ fn no_characters_before_length(rt: HostRuntime) {
 }
 
 /// Rows of a character of which each takes three bytes, so that all 30 do not fit behind 14 of 72.
-fn long_rows(rt: &impl Abort, alloc: Global) -> Picture {
+pub(crate) fn long_rows(rt: &impl Abort, alloc: Global) -> Picture {
     let mut rows = Vec::new(alloc);
     for y in (0..30).rev() {
         rows.push((y, -7, 70))

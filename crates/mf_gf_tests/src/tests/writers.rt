@@ -5,6 +5,7 @@ use crate::tests::assertions::assert_same;
 use mf_gf::{GfBytes, WriteFault};
 use mf_testing::Sink;
 use std::alloc::Global;
+use std::io::{self, ErrorKind, Write};
 use std::process::Abort;
 
 /// The file is written into memory.
@@ -83,4 +84,119 @@ fn written_in_parts(rt: HostRuntime) {
     let file = finished(&rt, file);
     assert_whole(&rt, alloc, &file, 1);
     assert_whole(&rt, alloc, &file, 7);
+}
+
+/// How a write fails.
+#[derive(Clone, Copy, Debug)]
+enum Failure {
+    /// It is answered by an error of this kind.
+    Error(ErrorKind),
+    /// It takes no byte.
+    NoByte,
+}
+
+/// A writer that fails in one write and takes all bytes in the others, before and behind it.
+#[derive(Drop)]
+struct FailingOnce {
+    taken: Vec<u8>,
+    /// Greatest number of bytes that it takes in a write.
+    size: usize,
+    /// Number of writes before the one that fails.
+    before: usize,
+    failure: Failure,
+    /// Number of writes that were made.
+    writes: usize,
+}
+
+impl Write for FailingOnce {
+    fn write(&mut self, buf: &[u8]) -> io::Result<usize> {
+        let before = self.writes;
+        self.writes = before.saturating_add(1);
+        if before == self.before {
+            return match self.failure {
+                Failure::Error(kind) => Err(io::Error::from(kind)),
+                Failure::NoByte => Ok(0),
+            };
+        }
+        let count = self.size.min(buf.len());
+        self.taken.extend_from_slice(&buf[..count])?;
+        Ok(count)
+    }
+
+    fn flush(&mut self) -> io::Result<()> {
+        Ok(())
+    }
+}
+
+/// A writer that fails after so many writes, each of at most so many bytes, has taken the bytes of these, and is asked no more.
+fn assert_asked_no_more(
+    rt: &impl Abort,
+    alloc: Global,
+    file: &GfBytes,
+    (before, size): (usize, usize),
+    failure: Failure,
+) {
+    let mut writer = FailingOnce {
+        taken: Vec::new(alloc),
+        size,
+        before,
+        failure,
+        writes: 0,
+    };
+    let sent = before.saturating_mul(size);
+    let written = file.write_to(&mut writer);
+    let fault = WriteFault(sent as u128);
+    assert_same(rt, written, Err(fault), (failure, "after", sent));
+    let taken = writer.taken.as_slice();
+    assert_same(rt, taken, part(rt, file.bytes(), 0, sent), failure);
+    assert_same(rt, writer.writes, before.saturating_add(1), "writes");
+}
+
+/// The file of a rectangle, of 72 bytes.
+fn rectangle_bytes(rt: &impl Abort, alloc: Global) -> GfBytes {
+    finished(rt, with_rectangle(rt, alloc, MAX_BYTES))
+}
+
+#[test]
+fn an_error_is_not_tried_again(rt: HostRuntime) {
+    let alloc = rt.alloc();
+    let file = rectangle_bytes(&rt, alloc);
+    let failure = Failure::Error(ErrorKind::Other);
+    assert_asked_no_more(&rt, alloc, &file, (0, 72), failure);
+}
+
+/// Where std tries a write again.
+#[test]
+fn a_write_that_was_interrupted_is_not_tried_again(rt: HostRuntime) {
+    let alloc = rt.alloc();
+    let file = rectangle_bytes(&rt, alloc);
+    let failure = Failure::Error(ErrorKind::Interrupted);
+    assert_asked_no_more(&rt, alloc, &file, (0, 72), failure);
+    assert_asked_no_more(&rt, alloc, &file, (1, 71), failure);
+}
+
+#[test]
+fn a_write_that_took_no_byte_is_not_tried_again(rt: HostRuntime) {
+    let alloc = rt.alloc();
+    let file = rectangle_bytes(&rt, alloc);
+    assert_asked_no_more(&rt, alloc, &file, (0, 72), Failure::NoByte);
+}
+
+#[test]
+fn an_error_after_parts_is_not_tried_again(rt: HostRuntime) {
+    let alloc = rt.alloc();
+    let file = rectangle_bytes(&rt, alloc);
+    let failure = Failure::Error(ErrorKind::Other);
+    assert_asked_no_more(&rt, alloc, &file, (1, 14), failure);
+    assert_asked_no_more(&rt, alloc, &file, (3, 7), failure);
+    assert_asked_no_more(&rt, alloc, &file, (71, 1), failure);
+}
+
+#[test]
+fn a_write_of_no_byte_after_parts_is_not_tried_again(rt: HostRuntime) {
+    let alloc = rt.alloc();
+    let file = rectangle_bytes(&rt, alloc);
+    assert_asked_no_more(&rt, alloc, &file, (1, 14), Failure::NoByte);
+    assert_asked_no_more(&rt, alloc, &file, (3, 7), Failure::NoByte);
+    assert_asked_no_more(&rt, alloc, &file, (71, 1), Failure::NoByte);
 }

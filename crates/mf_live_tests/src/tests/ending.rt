@@ -1,13 +1,17 @@
 //! Pictures that end.
 
-use super::{assert_shows, assert_tells, close, fill, opened, seated};
+use super::{
+    RECT_RUNS, assert_sees, assert_shows, assert_tells, close, fill, opened, publish_rectangle,
+    seated,
+};
 use crate::tests::assertions::assert_holds;
 use mf_live::{SheetFault, Viewer};
 use std::alloc::Global;
 use std::process::Abort;
 
+/// The rectangle is published by the end alone.
 #[test]
-fn shows_the_end(rt: HostRuntime) {
+fn shows_the_end_to_a_viewer_that_comes_after_it(rt: HostRuntime) {
     let alloc = rt.alloc();
     let (mut writer, mut desk) = opened(&rt, alloc, 1, 10);
     fill(&rt, alloc, &mut writer);
@@ -16,7 +20,37 @@ fn shows_the_end(rt: HostRuntime) {
     let notice = ended.notice();
     assert_tells(&rt, &notice, 1);
     viewer.learn(notice);
+    let viewer = assert_sees(&rt, viewer, 1, RECT_RUNS);
     assert_shows(&rt, viewer, 1, 6);
+    ended.discard(&rt);
+}
+
+/// To close a picture of which nothing was accepted takes no memory.
+#[test]
+fn shows_the_end_of_a_picture_that_nothing_changed(rt: HostRuntime) {
+    let alloc = rt.alloc();
+    let (writer, mut desk) = opened(&rt, alloc, 1, 10);
+    let mut viewer = seated(&rt, &mut desk);
+    let mut ended = close(&rt, writer);
+    let notice = ended.notice();
+    assert_tells(&rt, &notice, 0);
+    viewer.learn(notice);
+    assert_sees(&rt, viewer, 0, &[]);
+    ended.discard(&rt);
+}
+
+/// The end publishes nothing more where all is published.
+#[test]
+fn shows_the_end_of_a_picture_that_is_published(rt: HostRuntime) {
+    let alloc = rt.alloc();
+    let (mut writer, mut desk) = opened(&rt, alloc, 1, 10);
+    let mut viewer = seated(&rt, &mut desk);
+    publish_rectangle(&rt, alloc, &mut writer);
+    let mut ended = close(&rt, writer);
+    let notice = ended.notice();
+    assert_tells(&rt, &notice, 1);
+    viewer.learn(notice);
+    assert_sees(&rt, viewer, 1, RECT_RUNS);
     ended.discard(&rt);
 }
 
@@ -32,6 +66,8 @@ fn assert_refused(rt: &impl Abort, alloc: Global, viewer: Viewer) {
     }
 }
 
+/// What was accepted and not published is never seen. A look may be refused after a discard, and is: the viewer has looked at
+/// nothing before.
 #[test]
 fn looks_are_refused_after_a_discard(rt: HostRuntime) {
     let alloc = rt.alloc();

@@ -1,12 +1,17 @@
 //! What looks show, and what notices tell.
 
+ghost use Rattle.std.specs.Prelude.{◌≤◌};
+
 use super::{
-    RECT, apply, assert_no_place, assert_shows, assert_tells, assert_working, close, contour, fill,
-    opened, publish, publish_rectangle, seated,
+    Pixels, RECT, RECT_RUNS, apply, assert_no_place, assert_sees, assert_shows, assert_tells,
+    assert_working, close, contour, fill, opened, publish, publish_rectangle, seated,
 };
 use crate::tests::assertions::assert_same;
-use mf_live::open_picture;
+use mf_live::{Desk, Viewer, Writer, open_picture};
 use mf_ops::Op;
+use std::alloc::Global;
+use std::process::Abort;
+use std::sync::Wait;
 use std::test::Fail;
 
 /// The example of docs/LIVE.md.
@@ -65,39 +70,107 @@ fn each_desk_has_its_own_picture(rt: HostRuntime) {
     second.discard(&rt);
 }
 
+/// A picture that nobody can look at is written, published and closed all the same.
 #[test]
-fn has_so_many_places(rt: HostRuntime) {
+fn has_no_place(rt: HostRuntime) {
     let alloc = rt.alloc();
     let (mut writer, mut desk) = opened(&rt, alloc, 0, 10);
     assert_no_place(&rt, &mut desk);
     publish_rectangle(&rt, alloc, &mut writer);
-    close(&rt, writer).discard(&rt);
+    assert_working(&rt, &writer, 0, 6);
+    assert_tells(&rt, &writer.tell(), 1);
+    assert_no_place(&rt, &mut desk);
+    let mut ended = close(&rt, writer);
+    assert_tells(&rt, &ended.notice(), 1);
+    assert_no_place(&rt, &mut desk);
+    ended.discard(&rt);
+}
 
-    // Places are given once.
-    let (writer, mut desk) = opened(&rt, alloc, 2, 10);
-    seated(&rt, &mut desk);
-    seated(&rt, &mut desk);
+#[test]
+fn gives_no_place_of_a_dropped_viewer_again(rt: HostRuntime) {
+    let (writer, mut desk) = opened(&rt, rt.alloc(), 2, 10);
+    drop(seated(&rt, &mut desk));
+    drop(seated(&rt, &mut desk));
     assert_no_place(&rt, &mut desk);
     writer.discard(&rt);
 }
 
+/// The viewers of a desk that has so many places and no more.
+fn all_seated(rt: &impl Abort, alloc: Global, desk: &mut Desk, places: u32) -> Vec<Viewer> {
+    let mut viewers = Vec::new(alloc);
+    for _ in 0..places {
+        viewers
+            .push(seated(rt, desk))
+            .expect(rt, "there is room for a viewer");
+    }
+    assert_no_place(rt, desk);
+    viewers
+}
+
+/// All viewers see so many operations, and a picture of exactly these runs.
+fn all_see(
+    rt: &impl Abort,
+    alloc: Global,
+    viewers: Vec<Viewer>,
+    revision: u32,
+    runs: &[Pixels],
+) -> Vec<Viewer> {
+    let mut after = Vec::new(alloc);
+    for viewer in viewers {
+        after
+            .push(assert_sees(rt, viewer, revision, runs))
+            .expect(rt, "there is room for a viewer");
+    }
+    after
+}
+
+/// A picture of so many places has so many viewers, who all see the same before a publish and behind it.
+fn assert_places<R: Abort + Wait>(rt: &R, alloc: Global, places: u32)
+    requires { places ≤ 64 }
+{
+    let (mut writer, mut desk) = opened(rt, alloc, places, 10);
+    let viewers = all_seated(rt, alloc, &mut desk, places);
+    let viewers = all_see(rt, alloc, viewers, 0, &[]);
+    publish_rectangle(rt, alloc, &mut writer);
+    let viewers = all_see(rt, alloc, viewers, 1, RECT_RUNS);
+    assert_same(rt, viewers.len(), places as usize, "viewers");
+    writer.discard(rt);
+}
+
 #[test]
-fn learns_in_any_order(rt: HostRuntime) {
+fn has_1_to_15_places(rt: HostRuntime) {
+    for places in 1..16 {
+        assert_places(&rt, rt.alloc(), places);
+    }
+}
+
+#[test]
+fn has_64_places(rt: HostRuntime) {
+    assert_places(&rt, rt.alloc(), 64);
+}
+
+/// The later notice counts, also where it is learnt first.
+#[test]
+fn learns_the_second_notice_before_the_first(rt: HostRuntime) {
     let alloc = rt.alloc();
     let (mut writer, mut desk) = opened(&rt, alloc, 1, 10);
     let mut viewer = seated(&rt, &mut desk);
     publish_rectangle(&rt, alloc, &mut writer);
     let first = writer.tell();
-    apply(&rt, alloc, &mut writer, Op::Clear);
+    apply(&rt, alloc, &mut writer, Op::Shift(2, 1));
     publish(&rt, &mut writer);
-    viewer.learn(writer.tell());
+    let second = writer.tell();
+    assert_tells(&rt, &second, 2);
+    viewer.learn(second);
+    assert_tells(&rt, &first, 1);
     viewer.learn(first);
-    assert_shows(&rt, viewer, 2, 0);
+    let viewer = assert_sees(&rt, viewer, 2, &[(2, 2, 3, 1), (1, 2, 3, 1)]);
+    assert_sees(&rt, viewer, 2, &[(2, 2, 3, 1), (1, 2, 3, 1)]);
     writer.discard(&rt);
 }
 
 #[test]
-fn publishes_after_a_viewer_is_gone(rt: HostRuntime) {
+fn publishes_after_a_viewer_was_dropped(rt: HostRuntime) {
     let alloc = rt.alloc();
     let (mut writer, mut desk) = opened(&rt, alloc, 1, 10);
     let viewer = seated(&rt, &mut desk);
@@ -106,5 +179,32 @@ fn publishes_after_a_viewer_is_gone(rt: HostRuntime) {
     publish_rectangle(&rt, alloc, &mut writer);
     assert_tells(&rt, &writer.tell(), 2);
     assert_working(&rt, &writer, 0, 12);
+    writer.discard(&rt);
+}
+
+/// How often the rectangle is moved to the right and back.
+const MOVES: u32 = 49_999;
+
+/// Moves the picture to the right and back, and publishes both moves at once, again and again.
+fn publish_moves<R: Abort + Wait>(rt: &R, alloc: Global, writer: &mut Writer) {
+    for _ in 0..MOVES {
+        apply(rt, alloc, writer, Op::Shift(1, 0));
+        apply(rt, alloc, writer, Op::Shift(-1, 0));
+        publish(rt, writer);
+    }
+}
+
+#[test]
+fn shows_100_000_operations(rt: HostRuntime) {
+    let alloc = rt.alloc();
+    let (mut writer, mut desk) = opened(&rt, alloc, 1, 100_000);
+    let viewer = seated(&rt, &mut desk);
+    publish_rectangle(&rt, alloc, &mut writer);
+    publish_moves(&rt, alloc, &mut writer);
+    let viewer = assert_sees(&rt, viewer, 99_999, RECT_RUNS);
+    apply(&rt, alloc, &mut writer, Op::Shift(0, 4));
+    publish(&rt, &mut writer);
+    assert_tells(&rt, &writer.tell(), 100_000);
+    assert_sees(&rt, viewer, 100_000, &[(5, 0, 3, 1), (4, 0, 3, 1)]);
     writer.discard(&rt);
 }

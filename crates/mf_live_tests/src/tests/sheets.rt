@@ -2,15 +2,18 @@
 ghost use Rattle.std.specs.Prelude.{◌≡◌};
 ghost use Rattle.mf_live.specs.Viewers.{name};
 
-use super::{apply, assert_shows, opened, publish, publish_rectangle, seated};
+use super::{
+    Pixels, apply, assert_shows, opened, publish, publish_rectangle, push, run_of, seated,
+};
 use crate::tests::assertions::assert_same;
 use mf_live::{Sheet, Viewer};
-use mf_ops::Op;
+use mf_ops::{Op, Sign};
+use mf_rows::{Picture, RowBuilder};
 use std::alloc::Global;
 use std::process::Abort;
 
 /// A sheet.
-fn taken(rt: &impl Abort, alloc: Global, viewer: &mut Viewer) -> Sheet
+pub(crate) fn taken(rt: &impl Abort, alloc: Global, viewer: &mut Viewer) -> Sheet
     ensures { name viewer.new ≡ name viewer.old }
 {
     viewer.sheet(alloc).expect(rt, "there is room for a sheet")
@@ -36,5 +39,58 @@ fn sheets_stay(rt: HostRuntime) {
     viewer.learn(writer.tell());
     assert_shows(&rt, viewer, 2, 0);
     assert_sheet(&rt, &first, 1, 6);
+    writer.discard(&rt);
+}
+
+/// Adds a row of 1000 isolated pixels, at the even columns, whose weight is one more than the number of the row.
+fn push_row(rt: &impl Abort, builder: &mut RowBuilder, y: i32) {
+    for across in 0..1000i32 {
+        let pixel = (y, across.saturating_mul(2), 1, y.saturating_add(1));
+        push(rt, builder, run_of(pixel));
+    }
+}
+
+/// A picture of a million runs: 1000 of those rows.
+fn million(rt: &impl Abort, alloc: Global) -> Picture {
+    let mut builder = RowBuilder::new(alloc);
+    for y in (0..1000).rev() {
+        push_row(rt, &mut builder, y);
+    }
+    builder.finish().expect(rt, "there is room for the picture")
+}
+
+/// Some runs of that picture, by their number: the first and the second, the last of a row and the first of the next one, one
+/// halfway, and the last.
+const SOME: &[(usize, Pixels)] = &[
+    (0, (999, 0, 1, 1000)),
+    (1, (999, 2, 1, 1000)),
+    (999, (999, 1998, 1, 1000)),
+    (1000, (998, 0, 1, 999)),
+    (500_500, (499, 1000, 1, 500)),
+    (999_999, (0, 1998, 1, 1)),
+];
+
+/// A picture has these runs, and none behind a million.
+fn assert_million(rt: &impl Abort, picture: &Picture, some: &[(usize, Pixels)]) {
+    for (k, run) in some {
+        assert_same(rt, picture.run(*k), Some(run_of(*run)), ("run", *k));
+    }
+    assert_same(rt, picture.run(1_000_000), None, "behind the last run");
+}
+
+/// The weights of the rows add up to 500,500, and each has 1000 pixels.
+#[test]
+fn sheets_have_a_million_runs(rt: HostRuntime) {
+    let alloc = rt.alloc();
+    let (mut writer, mut desk) = opened(&rt, alloc, 1, 10);
+    let mut viewer = seated(&rt, &mut desk);
+    let million = Op::Also(million(&rt, alloc), Sign::Plus);
+    apply(&rt, alloc, &mut writer, million);
+    publish(&rt, &mut writer);
+    let sheet = taken(&rt, alloc, &mut viewer);
+    apply(&rt, alloc, &mut writer, Op::Clear);
+    publish(&rt, &mut writer);
+    assert_sheet(&rt, &sheet, 1, 500_500_000);
+    assert_million(&rt, sheet.picture(), SOME);
     writer.discard(&rt);
 }

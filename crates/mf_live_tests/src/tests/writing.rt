@@ -1,8 +1,8 @@
 //! What a writer does, and what is refused.
 
 use super::{
-    UNIT, apply, assert_no_place, assert_tells, assert_working, close, contour, copied, fill,
-    opened, publish, seated, unchecked,
+    UNIT, apply, assert_tells, assert_working, close, contour, copied, fill, opened, publish,
+    unchecked,
 };
 use crate::tests::assertions::{assert_holds, assert_same};
 use mf_geom::CycleFault;
@@ -27,7 +27,7 @@ fn assert_full(rt: &impl Abort, alloc: Global, writer: &mut Writer) {
 #[test]
 fn accepts_so_many_operations(rt: HostRuntime) {
     let alloc = rt.alloc();
-    let (mut writer, mut desk) = opened(&rt, alloc, 1, 2);
+    let (mut writer, _desk) = opened(&rt, alloc, 1, 2);
     fill(&rt, alloc, &mut writer);
     double(&rt, alloc, &mut writer);
     assert_working(&rt, &writer, 2, 12);
@@ -42,26 +42,24 @@ fn accepts_so_many_operations(rt: HostRuntime) {
     assert_working(&rt, &writer, 0, 12);
     assert_tells(&rt, &writer.tell(), 2);
 
-    seated(&rt, &mut desk);
-    assert_no_place(&rt, &mut desk);
-
     let mut ended = close(&rt, writer);
     assert_tells(&rt, &ended.notice(), 2);
     ended.discard(&rt);
 }
 
 #[test]
-fn accepts_none(rt: HostRuntime) {
+fn accepts_no_operation(rt: HostRuntime) {
     let alloc = rt.alloc();
     let (mut writer, _desk) = opened(&rt, alloc, 1, 0);
     assert_full(&rt, alloc, &mut writer);
+    assert_working(&rt, &writer, 0, 0);
     let mut ended = close(&rt, writer);
     assert_tells(&rt, &ended.notice(), 0);
     ended.discard(&rt);
 }
 
 #[test]
-fn publishes_nothing(rt: HostRuntime) {
+fn publishes_nothing_three_times(rt: HostRuntime) {
     let (mut writer, _desk) = opened(&rt, rt.alloc(), 1, 10);
     for _ in 0..3 {
         publish(&rt, &mut writer);

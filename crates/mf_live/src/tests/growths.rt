@@ -1,0 +1,46 @@
+//! The end of a picture, published while growths are refused.
+
+use super::{Closing, Ended, Viewer, assert_shows, assert_tells, ended, fill, half_closed, opened};
+use std::alloc::{AllocError, Global};
+use std::process::Abort;
+use std::sync::Wait;
+
+/// A growth of so many bytes says that growths are refused from here on, and one more byte that memory is ample again, as in
+/// `mf_testing`, which is no library of this crate.
+const REFUSED_FROM_HERE: usize = 33_554_467;
+
+/// Asks for so many bytes, and gives them back.
+fn ask(alloc: Global, size: usize) {
+    let asked: Result<Vec<u8>, AllocError> = Vec::with_capacity(alloc, size);
+    drop(asked);
+}
+
+/// The end that was published, or that is published again with ample memory. Till then a look shows what was published before.
+fn ended_again<R: Abort + Wait>(
+    rt: &R,
+    published: Result<Ended, Closing>,
+    viewer: Viewer,
+) -> (Ended, Viewer) {
+    match published {
+        Ok(ended) => (ended, viewer),
+        Err(closing) => {
+            let viewer = assert_shows(rt, viewer, 0, 0);
+            (ended(rt, closing), viewer)
+        }
+    }
+}
+
+#[test]
+fn the_end_is_published(rt: HostRuntime) {
+    let alloc = rt.alloc();
+    let (mut writer, viewer) = opened(&rt, alloc);
+    fill(&rt, alloc, &mut writer);
+    let closing = half_closed(writer);
+    ask(alloc, REFUSED_FROM_HERE);
+    let published = closing.publish(&rt);
+    ask(alloc, REFUSED_FROM_HERE + 1);
+    let (mut ended, viewer) = ended_again(&rt, published, viewer);
+    assert_tells(&rt, &mut ended, 1);
+    assert_shows(&rt, viewer, 1, 6);
+    ended.discard(&rt);
+}

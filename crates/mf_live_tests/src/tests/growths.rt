@@ -1,0 +1,51 @@
+//! Calls whose growths are refused, one after another. Where a call was refused, the picture and what viewers see of it are as
+//! they were, and the same call with ample memory has its value.
+
+mod ending;
+mod opening;
+mod operations;
+mod publishing;
+mod sheets;
+
+use super::{
+    Pixels, RECT_RUNS, apply, assert_runs, assert_sees, assert_tells, opened, publish_rectangle,
+    seated,
+};
+use crate::tests::assertions::assert_same;
+use mf_live::{Viewer, Writer};
+use mf_ops::Op;
+use std::alloc::Global;
+use std::process::Abort;
+use std::sync::Wait;
+
+/// The rectangle, moved by a column and 13 rows: rows 14 and 15 are kept apart, so a change of both makes two lists of rows.
+const MOVED: &[Pixels] = &[(14, 1, 3, 1), (13, 1, 3, 1)];
+
+/// A picture of which the rectangle is published and seen, and its move there is accepted and waits.
+fn moved<R: Abort + Wait>(rt: &R, alloc: Global) -> (Writer, Viewer) {
+    let (mut writer, mut desk) = opened(rt, alloc, 1, 10);
+    let viewer = seated(rt, &mut desk);
+    publish_rectangle(rt, alloc, &mut writer);
+    apply(rt, alloc, &mut writer, Op::Shift(1, 13));
+    assert_waiting(rt, &writer, (1, 2), MOVED);
+    (writer, assert_sees(rt, viewer, 1, RECT_RUNS))
+}
+
+/// So many operations wait to be published, of so many that were accepted, and the working picture has exactly these runs.
+fn assert_waiting(rt: &impl Abort, writer: &Writer, counts: (u32, u32), runs: &[Pixels]) {
+    let found = (writer.pending(), writer.revision());
+    assert_same(rt, found, counts, "operations that wait, and all");
+    assert_runs(rt, writer.working(), runs, "the working picture");
+}
+
+/// So many operations are published, and a picture of exactly these runs is seen.
+fn assert_published(
+    rt: &impl Abort,
+    writer: &mut Writer,
+    viewer: Viewer,
+    revision: u32,
+    runs: &[Pixels],
+) -> Viewer {
+    assert_tells(rt, &writer.tell(), revision);
+    assert_sees(rt, viewer, revision, runs)
+}

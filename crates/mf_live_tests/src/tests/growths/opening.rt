@@ -1,0 +1,57 @@
+//! Pictures that are opened.
+
+use super::assert_waiting;
+use crate::tests::assertions::assert_same;
+use crate::tests::{
+    RECT_RUNS, assert_no_place, assert_sees, assert_tells, opened, publish_rectangle, seated,
+};
+use mf_geom::OutOfMemory;
+use mf_live::{Desk, Writer, open_picture};
+use mf_testing::{grow_again, refuse_growths};
+use std::alloc::Global;
+use std::process::Abort;
+use std::sync::Wait;
+
+/// The picture that was opened for three viewers, or one that is opened with ample memory.
+fn opened_again<R: Abort + Wait>(
+    rt: &R,
+    alloc: Global,
+    found: Result<(Writer, Desk), OutOfMemory>,
+) -> (Writer, Desk) {
+    match found {
+        Ok(opened) => opened,
+        Err(fault) => {
+            assert_same(rt, fault, OutOfMemory, "a new picture");
+            opened(rt, alloc, 3, 10)
+        }
+    }
+}
+
+/// Three viewers are given, who see what is published, and no fourth.
+fn assert_three_places<R: Abort + Wait>(
+    rt: &R,
+    alloc: Global,
+    writer: &mut Writer,
+    desk: &mut Desk,
+) {
+    let (first, second, third) = (seated(rt, desk), seated(rt, desk), seated(rt, desk));
+    assert_no_place(rt, desk);
+    let first = assert_sees(rt, first, 0, &[]);
+    publish_rectangle(rt, alloc, writer);
+    assert_sees(rt, first, 1, RECT_RUNS);
+    assert_sees(rt, second, 1, RECT_RUNS);
+    assert_sees(rt, third, 1, RECT_RUNS);
+}
+
+#[test]
+fn a_picture_of_three_places_is_opened(rt: HostRuntime) {
+    let alloc = rt.alloc();
+    refuse_growths(alloc);
+    let found = open_picture(&rt, alloc, 3, 10);
+    grow_again(alloc);
+    let (mut writer, mut desk) = opened_again(&rt, alloc, found);
+    assert_waiting(&rt, &writer, (0, 0), &[]);
+    assert_tells(&rt, &writer.tell(), 0);
+    assert_three_places(&rt, alloc, &mut writer, &mut desk);
+    writer.discard(&rt);
+}

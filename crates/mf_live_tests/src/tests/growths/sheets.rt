@@ -1,0 +1,63 @@
+//! Sheets that are taken.
+
+use super::{MOVED, moved};
+use crate::tests::assertions::assert_same;
+use crate::tests::sheets::taken;
+use crate::tests::{
+    Pixels, RECT_RUNS, assert_runs, assert_sees, opened, publish, publish_rectangle, seated,
+};
+use mf_live::{Sheet, SheetFault, Viewer};
+use mf_testing::{grow_again, refuse_growths};
+use std::alloc::Global;
+use std::process::Abort;
+
+/// A sheet has this revision and exactly these runs.
+fn assert_sheet(rt: &impl Abort, sheet: &Sheet, revision: u32, runs: &[Pixels]) {
+    assert_same(rt, sheet.revision(), revision, "the revision of a sheet");
+    assert_runs(rt, sheet.picture(), runs, "the runs of a sheet");
+}
+
+/// Takes a sheet while growths are refused, and where that was refused once more, after a look: both have this revision and
+/// exactly these runs.
+fn assert_taken(
+    rt: &impl Abort,
+    alloc: Global,
+    viewer: Viewer,
+    revision: u32,
+    runs: &[Pixels],
+) -> Viewer {
+    let mut viewer = viewer;
+    refuse_growths(alloc);
+    let found = viewer.sheet(alloc);
+    grow_again(alloc);
+    match found {
+        Ok(sheet) => assert_sheet(rt, &sheet, revision, runs),
+        Err(fault) => {
+            assert_same(rt, fault, SheetFault::OutOfMemory, "the sheet");
+            viewer = assert_sees(rt, viewer, revision, runs);
+            assert_sheet(rt, &taken(rt, alloc, &mut viewer), revision, runs);
+        }
+    }
+    assert_sees(rt, viewer, revision, runs)
+}
+
+#[test]
+fn a_first_sheet_is_taken(rt: HostRuntime) {
+    let alloc = rt.alloc();
+    let (mut writer, mut desk) = opened(&rt, alloc, 1, 10);
+    publish_rectangle(&rt, alloc, &mut writer);
+    assert_taken(&rt, alloc, seated(&rt, &mut desk), 1, RECT_RUNS);
+    writer.discard(&rt);
+}
+
+/// A sheet that was taken before stays as it is, whether the later one is refused or not.
+#[test]
+fn a_later_sheet_is_taken(rt: HostRuntime) {
+    let alloc = rt.alloc();
+    let (mut writer, mut viewer) = moved(&rt, alloc);
+    let first = taken(&rt, alloc, &mut viewer);
+    publish(&rt, &mut writer);
+    assert_taken(&rt, alloc, viewer, 2, MOVED);
+    assert_sheet(&rt, &first, 1, RECT_RUNS);
+    writer.discard(&rt);
+}
