@@ -5,13 +5,16 @@ mod assertions;
 mod cuts;
 mod faults;
 mod fonts;
+mod growths;
 mod lengths;
 mod limits;
 mod lines;
+mod readers;
 mod second_tries;
 mod session_ends;
 mod sessions;
 mod transcripts;
+mod writers;
 
 use assertions::assert_same;
 use mf_desk::{RunFault, Settings, run};

@@ -154,9 +154,16 @@ fn assert_cuts_print<R: Abort + Wait>(rt: &R, alloc: Global, cut_line: &CutLine)
     assert_same(rt, all.as_slice(), texts.as_bytes(), line);
 }
 
+/// So it is with each of these lines.
+fn assert_all_cuts_print<R: Abort + Wait>(rt: &R, alloc: Global, cut_lines: &[CutLine]) {
+    for cut_line in cut_lines {
+        assert_cuts_print(rt, alloc, cut_line);
+    }
+}
+
 #[test]
 fn cuts_print_what_is_left(rt: HostRuntime) {
-    for cut_line in cut_lines() {
-        assert_cuts_print(&rt, rt.alloc(), cut_line);
+    for lines in cut_lines().iter() {
+        assert_all_cuts_print(&rt, rt.alloc(), lines);
     }
 }

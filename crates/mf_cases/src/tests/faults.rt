@@ -59,16 +59,17 @@ fn reads_end(rt: HostRuntime) {
 }
 
 /// A script that prints a total weight twice, and what it prints.
-const TWICE: &[u8] = b"addto currentpicture contour (0,0)--(3,0)--(3,2)--(0,2)--cycle\n\
-                       show totalweight currentpicture\n\
-                       show totalweight currentpicture\n";
+pub(super) const TWICE: &[u8] = b"addto currentpicture contour (0,0)--(3,0)--(3,2)--(0,2)--cycle\n\
+                                  show totalweight currentpicture\n\
+                                  show totalweight currentpicture\n";
 
-const TWO_SIXES: &[u8] = b"totalweight 6\ntotalweight 6\n";
+pub(super) const TWO_SIXES: &[u8] = b"totalweight 6\ntotalweight 6\n";
 
 /// The same, whose last line is not ended.
-const TWICE_UNENDED: &[u8] = b"addto currentpicture contour (0,0)--(3,0)--(3,2)--(0,2)--cycle\n\
-                               show totalweight currentpicture\n\
-                               show totalweight currentpicture";
+pub(super) const TWICE_UNENDED: &[u8] =
+    b"addto currentpicture contour (0,0)--(3,0)--(3,2)--(0,2)--cycle\n\
+      show totalweight currentpicture\n\
+      show totalweight currentpicture";
 
 /// The run of a script into this writer ends with this fault, or none.
 fn assert_ends_in<R: Abort + Wait + AllocGlobal, W: Write>(

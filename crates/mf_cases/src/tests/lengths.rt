@@ -6,7 +6,7 @@ use std::alloc::{AllocError, Global};
 use std::process::Abort;
 use std::sync::Wait;
 
-const LINE_TOO_LONG: &[u8] = b"refused LineTooLong\n";
+pub(super) const LINE_TOO_LONG: &[u8] = b"refused LineTooLong\n";
 
 /// These parts, one after another.
 fn joined(alloc: Global, parts: &[&[u8]]) -> Result<Vec<u8>, AllocError> {
@@ -18,7 +18,7 @@ fn joined(alloc: Global, parts: &[&[u8]]) -> Result<Vec<u8>, AllocError> {
 }
 
 /// A line of this many spaces, and what ends it.
-fn long_line(alloc: Global, count: usize, end: &[u8]) -> Result<Vec<u8>, AllocError> {
+pub(super) fn long_line(alloc: Global, count: usize, end: &[u8]) -> Result<Vec<u8>, AllocError> {
     let mut line = vec![in alloc; b' '; count]?;
     line.extend_from_slice(end)?;
     Ok(line)

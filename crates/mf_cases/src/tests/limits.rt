@@ -119,3 +119,43 @@ fn registers_have_no_limit(rt: HostRuntime) {
          published 0\n",
     );
 }
+
+/// Where no operation on `currentpicture` is accepted, each of them is refused, behind the refusals of its line and
+/// before those of the operation; all else is performed.
+#[test]
+fn no_operation(rt: HostRuntime) {
+    assert_prints_within(
+        &rt,
+        0,
+        "addto currentpicture contour (0,0)--(1,0)--(1,1)--(0,1)--cycle\n\
+         addto currentpicture contour (0,0)--(1,0)--cycle\n\
+         addto currentpicture also nullpicture\n\
+         cull currentpicture dropping (0,0)\n\
+         currentpicture := nullpicture\n\
+         currentpicture := currentpicture shifted (8190,0)\n\
+         currentpicture := currentpicture scaled 1\n\
+         currentpicture := currentpicture rotated 180\n\
+         addto currentpicture contour (0,0)--cycle\n\
+         cull currentpicture keeping (0,0)\n\
+         currentpicture := currentpicture yscaled 0\n\
+         currentpicture := currentpicture rotated 360\n\
+         show currentpicture\n\
+         shipout currentpicture code 65 dx 0 width 0\n\
+         publish\n",
+        "refused TooManyOperations\n\
+         refused TooManyOperations\n\
+         refused TooManyOperations\n\
+         refused TooManyOperations\n\
+         refused TooManyOperations\n\
+         refused TooManyOperations\n\
+         refused TooManyOperations\n\
+         refused TooManyOperations\n\
+         refused TooFewPoints\n\
+         refused BadCull\n\
+         refused BadScale\n\
+         refused BadTurn\n\
+         blank\n\
+         [65]\n\
+         published 0\n",
+    );
+}

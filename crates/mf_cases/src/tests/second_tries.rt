@@ -68,6 +68,13 @@ fn interrupted_read_is_a_fault(rt: HostRuntime) {
     assert_interrupted(&rt, LINE, LINE, TEXT);
 }
 
+/// A rectangle is filled, and the line behind it would print its total weight.
+#[test]
+fn nothing_is_written_where_the_second_read_fails(rt: HostRuntime) {
+    let rectangle = "addto currentpicture contour (0,0)--(3,0)--(3,2)--(0,2)--cycle\n";
+    assert_interrupted(&rt, rectangle, LINE, "");
+}
+
 /// A reader that answers the end behind this text, and would give a line after that, ends the run, which prints this.
 fn assert_ended<R: Abort + Wait + AllocGlobal>(rt: &R, before: &str, text: &str) {
     let mut reader = broken(before, LINE, false);

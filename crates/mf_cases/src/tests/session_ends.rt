@@ -22,7 +22,7 @@ fn finished<R: Abort + Wait>(rt: &R, alloc: Global, script: &str) -> (Ended, GfF
 }
 
 /// A look shows so many operations, and a picture of this total.
-fn assert_shows<R: Abort>(rt: &R, viewer: Viewer, revision: u32, total: i64) -> Viewer
+pub(super) fn assert_shows<R: Abort>(rt: &R, viewer: Viewer, revision: u32, total: i64) -> Viewer
     ensures { viewers.name result ≡ viewers.name viewer }
 {
     match viewer.look() {
@@ -113,15 +113,16 @@ fn hand_out_the_font_file(rt: HostRuntime) {
 }
 
 /// A viewer that has looked at the blank picture, and learns of the end behind these lines, sees so many operations and
-/// a picture of this total.
+/// a picture of this total. At most `max_ops` operations are accepted.
 fn assert_ends_with<R: Abort + Wait + AllocGlobal>(
     rt: &R,
+    max_ops: u32,
     lines: (&str, &str),
     revision: u32,
     total: i64,
 ) {
     let alloc = rt.alloc();
-    let (mut session, mut desk) = opened(rt, alloc, AMPLE.max_ops);
+    let (mut session, mut desk) = opened(rt, alloc, max_ops);
     let viewer = desk.viewer().expect(rt, "a place is left");
     let mut viewer = assert_shows(rt, viewer, 0, 0);
     perform(rt, alloc, &mut session, lines.0);
@@ -129,6 +130,7 @@ fn assert_ends_with<R: Abort + Wait + AllocGlobal>(
     let (mut ended, _) = finish(rt, session);
     viewer.learn(ended.notice());
     assert_shows(rt, viewer, revision, total);
+    assert_same(rt, ended.notice().revision(), revision, lines);
     ended.discard(rt);
 }
 
@@ -148,11 +150,18 @@ const ENDINGS: &[Ending] = &[
 
 fn assert_all_end_with<R: Abort + Wait + AllocGlobal>(rt: &R, cases: &[Ending]) {
     for (lines, revision, total) in cases {
-        assert_ends_with(rt, *lines, *revision, *total);
+        assert_ends_with(rt, AMPLE.max_ops, *lines, *revision, *total);
     }
 }
 
 #[test]
 fn show_the_end_to_their_viewers(rt: HostRuntime) {
     assert_all_end_with(&rt, ENDINGS);
+}
+
+/// Where no operation is accepted, none is told of or shown.
+#[test]
+fn show_no_operation_where_none_is_accepted(rt: HostRuntime) {
+    assert_ends_with(&rt, 0, (FILL, "publish"), 0, 0);
+    assert_ends_with(&rt, 0, ("currentpicture := nullpicture", FILL), 0, 0);
 }

@@ -1,0 +1,103 @@
+//! How many bytes reads ask for, and how many reads there are.
+
+use super::lengths::{LINE_TOO_LONG, long_line};
+use super::{AMPLE, End, assert_ends};
+use crate::tests::assertions::{assert_holds, assert_same};
+use mf_desk::RunFault;
+use mf_testing::{LineFeeds, Pieces, Remembers};
+use std::io::Read;
+use std::process::Abort;
+use std::sync::Wait;
+
+/// The reader's script ends so, and each of its reads has asked for a byte at least, and for 65,536 bytes at most.
+fn assert_asks<R: Abort + Wait + AllocGlobal, I: Read>(
+    rt: &R,
+    reader: &mut Remembers<I>,
+    end: End<'_>,
+    case: &str,
+) {
+    assert_ends(rt, reader, &AMPLE, end, case);
+    let (least, greatest) = (reader.least(), reader.greatest());
+    assert_holds(rt, least >= 1, (case, "at least", least));
+    assert_holds(rt, greatest <= 65_536, (case, "at most", greatest));
+}
+
+/// A script prints this, and its reads ask for lawful numbers of bytes, whether they get all of them or one.
+fn assert_asks_for<R: Abort + Wait + AllocGlobal>(rt: &R, script: &[u8], text: &[u8], case: &str) {
+    let end = (None, text);
+    let mut whole = Remembers::new(Pieces::whole(script));
+    assert_asks(rt, &mut whole, end, case);
+    let mut bytewise = Remembers::new(Pieces::bytewise(script));
+    assert_asks(rt, &mut bytewise, end, case);
+    assert_same(
+        rt,
+        bytewise.reads() as usize,
+        script.len().saturating_add(1),
+        case,
+    );
+}
+
+/// Short scripts, and what they print.
+const SHORT: &[(&str, &str)] = &[
+    ("", ""),
+    ("\n", ""),
+    ("show a", "blank\n"),
+    ("show a\nshow a\n", "blank\nblank\n"),
+];
+
+#[test]
+fn short_scripts(rt: HostRuntime) {
+    for (script, text) in SHORT {
+        assert_asks_for(&rt, script.as_bytes(), text.as_bytes(), script);
+    }
+}
+
+/// Lines of so many spaces, and what they print. The last is cut by several reads.
+const LONG: &[(usize, &[u8])] = &[
+    (65_534, b""),
+    (65_535, b""),
+    (65_536, b""),
+    (65_537, LINE_TOO_LONG),
+    (65_538, LINE_TOO_LONG),
+    (65_539, LINE_TOO_LONG),
+    (131_072, LINE_TOO_LONG),
+    (200_000, LINE_TOO_LONG),
+];
+
+/// A line of so many spaces, ended by these bytes, prints this.
+fn assert_asks_for_spaces<R: Abort + Wait + AllocGlobal>(
+    rt: &R,
+    count: usize,
+    end: &[u8],
+    text: &[u8],
+) {
+    let script = long_line(rt.alloc(), count, end).expect(rt, "there is room for the line");
+    assert_asks_for(rt, &script, text, "a line of spaces");
+}
+
+#[test]
+fn long_lines(rt: HostRuntime) {
+    for (count, text) in LONG {
+        assert_asks_for_spaces(&rt, *count, b"\n", text);
+        assert_asks_for_spaces(&rt, *count, b"", text);
+    }
+}
+
+/// A line, and behind it as many others as make a script of several reads.
+#[test]
+fn long_scripts(rt: HostRuntime) {
+    let script = b"show totalweight nullpicture;\n".repeat(rt.alloc(), 5_000);
+    let text = b"totalweight 0\n".repeat(rt.alloc(), 5_000);
+    let script = script.expect(&rt, "there is room for the script");
+    let text = text.expect(&rt, "there is room for its text");
+    assert_asks_for(&rt, &script, &text, "a long script");
+}
+
+/// Behind 1,048,576 reads there is none, whatever it would give.
+#[test]
+fn reads_end_for_good(rt: HostRuntime) {
+    let mut reader = Remembers::new(LineFeeds { left: u32::MAX });
+    let end = (Some(RunFault::ReadFault), b"".as_slice());
+    assert_asks(&rt, &mut reader, end, "line feeds");
+    assert_same(&rt, reader.reads(), 1_048_576, "reads");
+}
