@@ -2,16 +2,24 @@
 ghost use Rattle.std.specs.Prelude.{◌≤◌};
 
 mod assertions;
+mod ends;
 mod flags;
 mod gates;
+mod growths;
 mod joins;
-mod viewer_faults;
+mod lines;
+mod meetings;
+mod numbers;
+mod outcomes;
+mod readers;
+mod texts;
 mod viewers;
+mod writers;
 
+use assertions::assert_same;
 use mf_desk::{Glance, OpenGate, Outcome, RunFault, Settings, perform};
 use mf_gf::FontWords;
-use mf_testing::Pieces;
-use std::io::Write;
+use std::io::{Read, Write};
 use std::process::Abort;
 use std::sync::{Arc, Wait};
 use std::thread::Threads;
@@ -27,6 +35,13 @@ const AMPLE: Settings = Settings {
         vppp: 0,
     },
 };
+
+/// A rectangle of 3 by 2 pixels.
+const FILLED: &str = "addto currentpicture contour (0,0)--(3,0)--(3,2)--(0,2)--cycle\n";
+
+/// What two viewers print where it is not published.
+const BOTH_SEE_SIX: &str = "viewer 0 revision 1 totalweight 6\n\
+                            viewer 1 revision 1 totalweight 6\n";
 
 /// A rectangle of 3 by 2 pixels, published.
 const PUBLISHED: &str = "addto currentpicture contour (0,0)--(3,0)--(3,2)--(0,2)--cycle\n\
@@ -51,10 +66,10 @@ const SIX: Glance = Glance {
 /// The fault of a run, or none, and what it prints.
 type End<'a> = (Option<RunFault>, &'a [u8]);
 
-/// Performs the reader's script beside so many viewers, who look so many times each.
-fn performed<R: Abort + Wait + Threads + AllocGlobal, W: Write>(
+/// Performs the reader's script beside so many viewers, who look so many times each. No thread has the gate any more then.
+fn performed<R: Abort + Wait + Threads + AllocGlobal, I: Read, W: Write>(
     rt: &R,
-    mut reader: Pieces<'_>,
+    reader: &mut I,
     writer: &mut W,
     settings: &Settings,
     viewers: u32,
@@ -64,14 +79,7 @@ fn performed<R: Abort + Wait + Threads + AllocGlobal, W: Write>(
 {
     let alloc = rt.alloc();
     let gate = Arc::new(alloc, OpenGate).expect(rt, "there is room for a gate");
-    perform(
-        rt,
-        alloc,
-        &mut reader,
-        writer,
-        settings,
-        viewers,
-        looks,
-        &gate,
-    )
+    let result = perform(rt, alloc, reader, writer, settings, viewers, looks, &gate);
+    assert_same(rt, Arc::strong_count(&gate), 1, "owners of the gate");
+    result
 }

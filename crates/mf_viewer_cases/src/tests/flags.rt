@@ -1,8 +1,8 @@
-//! Flags that threads wait for, and streams that wait for them and set them.
+//! Flags and counts that threads wait for, and streams that wait for them and set them.
 
 use mf_testing::{Pieces, Sink};
 use std::io::{self, ErrorKind, Read, Write};
-use std::sync::atomic::{AtomicBool, Ordering};
+use std::sync::atomic::{AtomicBool, AtomicU64, Ordering};
 use std::thread::yield_now;
 
 /// How often a flag is looked at before it is given up.
@@ -41,19 +41,70 @@ impl Flag {
     }
 }
 
+/// A count that threads add to, and wait for.
+#[derive(Drop)]
+pub(crate) struct Count {
+    count: AtomicU64,
+}
+
+impl Count {
+    pub(crate) fn new() -> Count {
+        Count {
+            count: AtomicU64::new(0),
+        }
+    }
+
+    /// Adds one. Answers the count before.
+    pub(crate) fn add_one(&self) -> u64 {
+        self.count.fetch_add(1, Ordering::SeqCst)
+    }
+
+    pub(crate) fn get(&self) -> u64 {
+        self.count.load(Ordering::SeqCst)
+    }
+
+    /// Whether it comes to so many before it is given up.
+    pub(crate) fn comes_to(&self, count: u64) -> bool {
+        for _ in 0..TURNS {
+            if self.get() >= count {
+                return true;
+            }
+            yield_now();
+        }
+        false
+    }
+}
+
 /// A reader that gives nothing before a flag is set.
 #[derive(Drop)]
-pub(crate) struct ReadsAfter<'a> {
-    pub(crate) flag: &'a Flag,
+pub(crate) struct ReadsAfter<'f, 'a> {
+    pub(crate) flag: &'f Flag,
     pub(crate) pieces: Pieces<'a>,
 }
 
-impl Read for ReadsAfter<'_> {
+impl Read for ReadsAfter<'_, '_> {
     fn read(&mut self, buf: &mut [u8]) -> io::Result<usize> {
         if !self.flag.is_set_within(TURNS) {
             return Err(io::Error::from(ErrorKind::TimedOut));
         }
         self.pieces.read(buf)
+    }
+}
+
+/// A reader that sets a flag where it answers the end or an error.
+#[derive(Drop)]
+pub(crate) struct TellsOfEnd<'a, I> {
+    pub(crate) flag: &'a Flag,
+    pub(crate) reader: I,
+}
+
+impl<I: Read> Read for TellsOfEnd<'_, I> {
+    fn read(&mut self, buf: &mut [u8]) -> io::Result<usize> {
+        let answer = self.reader.read(buf);
+        if let Ok(0) | Err(_) = answer {
+            self.flag.set();
+        }
+        answer
     }
 }
 

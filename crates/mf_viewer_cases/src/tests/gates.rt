@@ -1,13 +1,11 @@
 //! Viewers that wait while they hold a look.
 
-mod outcomes;
-
-use super::flags::{Flag, ReadsAfter, TURNS};
+use super::flags::{Count, Flag, ReadsAfter, TURNS};
+use super::outcomes::{assert_saw, outcome_of, outcome_telling, shared};
 use super::{BLANK, PUBLISHED, PUBLISHED_TEXT, SIX};
 use crate::tests::assertions::{assert_holds, assert_same};
 use mf_desk::{Gate, Glance};
 use mf_testing::Pieces;
-use outcomes::{assert_saw, outcome_of, outcome_telling, shared};
 use std::process::Abort;
 
 /// A rectangle of 3 by 2 pixels, whose total is printed before it is published.
@@ -20,46 +18,6 @@ const PUBLISHED_TWICE: &[u8] = b"addto currentpicture contour (0,0)--(3,0)--(3,2
                                  publish\n\
                                  cull currentpicture keeping (1,1) withweight 2\n\
                                  publish\n";
-
-/// Each of two viewers waits for the look of the other.
-#[derive(Drop)]
-struct Meeting {
-    first: Flag,
-    second: Flag,
-    /// Set where one has not met the other.
-    missed: Flag,
-}
-
-impl Gate for Meeting {
-    fn hold(&self, viewer: u32, _look: u32) {
-        let (own, other) = match viewer {
-            0 => (&self.first, &self.second),
-            _ => (&self.second, &self.first),
-        };
-        own.set();
-        if !other.is_set_within(TURNS) {
-            self.missed.set();
-        }
-    }
-}
-
-#[test]
-fn looks_are_held_at_once(rt: HostRuntime) {
-    let meeting = Meeting {
-        first: Flag::new(),
-        second: Flag::new(),
-        missed: Flag::new(),
-    };
-    let gate = shared(&rt, meeting);
-    let text = b"viewer 0 revision 0 totalweight 0\nviewer 1 revision 0 totalweight 0\n";
-    outcome_of(&rt, &gate, &mut Pieces::whole(b""), 2, 1, text);
-    assert_holds(
-        &rt,
-        gate.first.is_set() && gate.second.is_set(),
-        "both look",
-    );
-    assert_holds(&rt, !gate.missed.is_set(), "they meet");
-}
 
 /// Tells that viewer 0 holds a look.
 #[derive(Drop)]
@@ -218,48 +176,57 @@ fn second_publish_waits_for_a_held_look(rt: HostRuntime) {
     assert_holds(&rt, waited, "the second publish waited");
 }
 
-/// The script is read when viewer 0 has looked twice and viewer 1 holds its first look, which lasts until the script has
-/// printed.
+/// What the published rectangle prints beside four viewers.
+const FOUR_SEE_SIX: &[u8] = b"published 1\n\
+                              viewer 0 revision 1 totalweight 6\n\
+                              viewer 1 revision 1 totalweight 6\n\
+                              viewer 2 revision 1 totalweight 6\n\
+                              viewer 3 revision 1 totalweight 6\n";
+
+/// Viewer k holds its look k until the script has printed, which is read when all of four viewers do.
 #[derive(Drop)]
 struct TakesTurns {
+    looked: Count,
     held: Flag,
-    looked: Flag,
     printed: Flag,
+    /// Set where a look was given up.
+    missed: Flag,
 }
 
 impl Gate for TakesTurns {
     fn hold(&self, viewer: u32, look: u32) {
-        if viewer == 0 && look == 1 && self.held.is_set_within(TURNS) {
-            self.looked.set();
+        if viewer != look {
+            return;
         }
-        if viewer == 1 && look == 0 {
+        if self.looked.add_one() == 3 {
             self.held.set();
-            self.printed.is_set_within(TURNS);
+        }
+        if !self.printed.is_set_within(TURNS) {
+            self.missed.set();
         }
     }
 }
 
+/// Viewer k has looked k + 1 times before the publish, so no two records are the same.
 #[test]
 fn records_stand_in_the_order_of_the_viewers(rt: HostRuntime) {
     let turns = TakesTurns {
+        looked: Count::new(),
         held: Flag::new(),
-        looked: Flag::new(),
         printed: Flag::new(),
+        missed: Flag::new(),
     };
     let gate = shared(&rt, turns);
     let mut reader = ReadsAfter {
-        flag: &gate.looked,
+        flag: &gate.held,
         pieces: Pieces::whole(PUBLISHED.as_bytes()),
     };
-    let outcome = outcome_telling(
-        &rt,
-        &gate,
-        &mut reader,
-        2,
-        2,
-        (&gate.printed, b"published 1\n"),
-        PUBLISHED_TEXT.as_bytes(),
-    );
-    assert_saw(&rt, &outcome, 0, &[BLANK, BLANK, SIX]);
-    assert_saw(&rt, &outcome, 1, &[BLANK, SIX, SIX]);
+    let told: (&Flag, &[u8]) = (&gate.printed, b"published 1\n");
+    let outcome = outcome_telling(&rt, &gate, &mut reader, 4, 4, told, FOUR_SEE_SIX);
+    assert_holds(&rt, !gate.missed.is_set(), "all looks were held");
+    assert_same(&rt, outcome.seen.len(), 4, "viewers");
+    assert_saw(&rt, &outcome, 0, &[BLANK, SIX, SIX, SIX, SIX]);
+    assert_saw(&rt, &outcome, 1, &[BLANK, BLANK, SIX, SIX, SIX]);
+    assert_saw(&rt, &outcome, 2, &[BLANK, BLANK, BLANK, SIX, SIX]);
+    assert_saw(&rt, &outcome, 3, &[BLANK, BLANK, BLANK, BLANK, SIX]);
 }

@@ -4,7 +4,8 @@ use super::AMPLE;
 use super::flags::{Flag, ReadsAfter};
 use crate::tests::assertions::{assert_holds, assert_same};
 use mf_desk::{Gate, OpenGate, RunFault, perform};
-use mf_testing::{Pieces, Sink};
+use mf_testing::{FlushFails, Pieces, Sink};
+use std::io::Write;
 use std::process::Abort;
 use std::sync::{Arc, Wait};
 use std::thread::{Threads, yield_now};
@@ -56,45 +57,50 @@ fn assert_ends_late<R: Abort + Wait + Threads + AllocGlobal>(
     assert_same(rt, Arc::strong_count(&gate), 1, "the threads have ended");
 }
 
+/// A line, and what it prints.
+const LINE: &[u8] = b"show totalweight a\n";
+
+const TEXT: &[u8] = b"totalweight 0\n";
+
 #[test]
-fn faults_wait_for_looks(rt: HostRuntime) {
-    let alloc = rt.alloc();
-    let script = b"show totalweight a\n";
-    assert_ends_late(
-        &rt,
-        Pieces::failing(script),
-        Sink::new(alloc),
-        RunFault::ReadFault,
-        b"totalweight 0\n",
-    );
-    assert_ends_late(
-        &rt,
-        Pieces::whole(script),
-        Sink::failing(alloc, 5),
-        RunFault::WriteFault(5),
-        b"total",
-    );
+fn read_fault_waits_for_a_held_look(rt: HostRuntime) {
+    let pieces = Pieces::failing(LINE);
+    let writer = Sink::new(rt.alloc());
+    assert_ends_late(&rt, pieces, writer, RunFault::ReadFault, TEXT);
+}
+
+#[test]
+fn write_fault_waits_for_a_held_look(rt: HostRuntime) {
+    let pieces = Pieces::whole(LINE);
+    let writer = Sink::failing(rt.alloc(), 5);
+    assert_ends_late(&rt, pieces, writer, RunFault::WriteFault(5), b"total");
 }
 
 /// Threads that have hardly begun when the fault comes are joined too: none has the gate any more.
-fn assert_joins_all<R: Abort + Wait + Threads + AllocGlobal>(rt: &R) {
+fn assert_joins_all<R: Abort + Wait + Threads + AllocGlobal, W: Write>(
+    rt: &R,
+    writer: &mut W,
+    fault: RunFault,
+) {
     let alloc = rt.alloc();
     let gate = Arc::new(alloc, OpenGate).expect(rt, "there is room for a gate");
     let mut reader = Pieces::failing(b"");
-    let mut writer = Sink::new(alloc);
-    let result = perform(rt, alloc, &mut reader, &mut writer, &AMPLE, 64, 1, &gate);
-    assert_same(
-        rt,
-        result.err(),
-        Some(RunFault::ReadFault),
-        "nothing is read",
-    );
+    let result = perform(rt, alloc, &mut reader, writer, &AMPLE, 64, 1, &gate);
+    assert_same(rt, result.err(), Some(fault), "nothing is read");
     assert_same(rt, Arc::strong_count(&gate), 1, "the threads have ended");
 }
 
 #[test]
 fn faults_wait_for_all_threads(rt: HostRuntime) {
     for _ in 0..10 {
-        assert_joins_all(&rt);
+        assert_joins_all(&rt, &mut Sink::new(rt.alloc()), RunFault::ReadFault);
+    }
+}
+
+#[test]
+fn write_faults_wait_for_all_threads(rt: HostRuntime) {
+    for _ in 0..10 {
+        let mut writer = FlushFails::once(rt.alloc(), 0);
+        assert_joins_all(&rt, &mut writer, RunFault::WriteFault(0));
     }
 }

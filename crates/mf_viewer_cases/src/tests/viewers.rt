@@ -1,21 +1,15 @@
 //! Viewers beside a script: what they see, and the lines that they print behind its transcript.
 ghost use Rattle.std.specs.Prelude.{◌≤◌};
 
-use super::{AMPLE, BLANK, PUBLISHED, PUBLISHED_TEXT, SIX, performed};
+use super::lines::{blank_lines, line};
+use super::{AMPLE, BLANK, BOTH_SEE_SIX, FILLED, PUBLISHED, PUBLISHED_TEXT, SIX, performed};
 use crate::tests::assertions::{assert_holds, assert_same};
 use mf_desk::{Glance, Outcome};
 use mf_testing::{Pieces, RECT, RECT_FILE, Script, Sink, worked_scripts};
-use std::alloc::{AllocError, Global};
+use std::alloc::AllocError;
 use std::process::Abort;
 use std::sync::Wait;
 use std::thread::Threads;
-
-/// A rectangle of 3 by 2 pixels.
-const FILLED: &str = "addto currentpicture contour (0,0)--(3,0)--(3,2)--(0,2)--cycle\n";
-
-/// What two viewers print where it is not published.
-const BOTH_SEE_SIX: &str = "viewer 0 revision 1 totalweight 6\n\
-                            viewer 1 revision 1 totalweight 6\n";
 
 /// The script, performed beside so many viewers, prints this.
 fn outcome_beside<R: Abort + Wait + Threads + AllocGlobal>(
@@ -28,8 +22,8 @@ fn outcome_beside<R: Abort + Wait + Threads + AllocGlobal>(
     requires { viewers ≤ 64 }
 {
     let mut writer = Sink::new(rt.alloc());
-    let reader = Pieces::whole(script.as_bytes());
-    let result = performed(rt, reader, &mut writer, &AMPLE, viewers, looks);
+    let mut reader = Pieces::whole(script.as_bytes());
+    let result = performed(rt, &mut reader, &mut writer, &AMPLE, viewers, looks);
     assert_same(rt, writer.taken(), text.as_bytes(), script);
     result.expect(rt, "the script is performed to its end")
 }
@@ -47,12 +41,6 @@ fn assert_no_font_file(rt: &impl Abort, outcome: &Outcome) {
     assert_holds(rt, outcome.gf.is_none(), "nothing was shipped");
 }
 
-/// The line of the viewer of this number, who has seen this last.
-fn line(alloc: Global, number: usize, last: &Glance) -> Result<String, AllocError> {
-    let Glance { revision, total } = last;
-    format!(in alloc; "viewer {number} revision {revision} totalweight {total}\n")
-}
-
 /// Two viewers who do not look beside the script see the rectangle, and nothing was shipped.
 fn assert_both_see_six<R: Abort + Wait + Threads + AllocGlobal>(rt: &R, script: &str, text: &str) {
     let outcome = outcome_beside(rt, 2, 0, script, text);
@@ -61,8 +49,12 @@ fn assert_both_see_six<R: Abort + Wait + Threads + AllocGlobal>(rt: &R, script: 
 }
 
 #[test]
-fn see_the_last_picture(rt: HostRuntime) {
+fn see_what_was_published_where_they_look_at_the_end_alone(rt: HostRuntime) {
     assert_both_see_six(&rt, PUBLISHED, PUBLISHED_TEXT);
+}
+
+#[test]
+fn see_what_was_not_published_where_they_look_at_the_end_alone(rt: HostRuntime) {
     assert_both_see_six(&rt, FILLED, BOTH_SEE_SIX);
 }
 
@@ -77,9 +69,13 @@ fn assert_saw_whole_pictures(rt: &impl Abort, outcome: &Outcome) {
 }
 
 #[test]
-fn see_whole_pictures(rt: HostRuntime) {
+fn see_what_was_published_or_nothing(rt: HostRuntime) {
     let outcome = outcome_beside(&rt, 2, 1, PUBLISHED, PUBLISHED_TEXT);
     assert_saw_whole_pictures(&rt, &outcome);
+}
+
+#[test]
+fn see_what_was_not_published_or_nothing(rt: HostRuntime) {
     let outcome = outcome_beside(&rt, 2, 1, FILLED, BOTH_SEE_SIX);
     assert_saw_whole_pictures(&rt, &outcome);
 }
@@ -92,15 +88,6 @@ const BOTH_SEE_NOTHING: &str = "viewer 0 revision 0 totalweight 0\n\
 fn see_nothing_of_an_empty_script(rt: HostRuntime) {
     let outcome = outcome_beside(&rt, 2, 3, "", BOTH_SEE_NOTHING);
     assert_all_saw(&rt, &outcome, 2, &[BLANK, BLANK, BLANK, BLANK]);
-}
-
-/// The lines of so many viewers who have seen nothing.
-fn blank_lines(alloc: Global, viewers: usize) -> Result<String, AllocError> {
-    let mut text = String::new(alloc);
-    for number in 0..viewers {
-        text.push_str(&line(alloc, number, &BLANK)?)?;
-    }
-    Ok(text)
 }
 
 #[test]
@@ -154,9 +141,9 @@ fn assert_saw_whole_publishes(rt: &impl Abort, seen: &[Glance]) {
 
 /// Each look of four viewers shows all of a publish or nothing of it, and none goes back.
 fn assert_whole_publishes<R: Abort + Wait + Threads + AllocGlobal>(rt: &R, script: &str) {
-    let reader = Pieces::bytewise(script.as_bytes());
+    let mut reader = Pieces::bytewise(script.as_bytes());
     let mut writer = Sink::new(rt.alloc());
-    let outcome = performed(rt, reader, &mut writer, &AMPLE, 4, 20_000).expect(
+    let outcome = performed(rt, &mut reader, &mut writer, &AMPLE, 4, 20_000).expect(
         rt,
         "the script is performed to its end",
     );
@@ -214,8 +201,8 @@ fn seen_last<R: Abort + Wait + Threads + AllocGlobal>(
     let alloc = rt.alloc();
     let (script, transcript) = *script;
     let mut writer = Sink::new(alloc);
-    let reader = Pieces::whole(script.as_bytes());
-    let outcome = performed(rt, reader, &mut writer, &AMPLE, 3, 5).expect(
+    let mut reader = Pieces::whole(script.as_bytes());
+    let outcome = performed(rt, &mut reader, &mut writer, &AMPLE, 3, 5).expect(
         rt,
         "the script is performed to its end",
     );

@@ -1,8 +1,8 @@
 //! Scripts that are performed beside viewers at gates, and what these have seen.
 ghost use Rattle.std.specs.Prelude.{◌≤◌};
 
-use super::super::AMPLE;
-use super::super::flags::{Flag, Tells};
+use super::AMPLE;
+use super::flags::{Flag, Tells};
 use crate::tests::assertions::assert_same;
 use mf_desk::{Gate, Glance, Outcome, perform};
 use mf_testing::Sink;
@@ -16,7 +16,8 @@ pub(super) fn shared<R: Abort + AllocGlobal, G: Gate + Drop>(rt: &R, gate: G) ->
     Arc::new(rt.alloc(), gate).expect(rt, "there is room for a gate")
 }
 
-/// The reader's script is performed to its end beside so many viewers, who look so many times each, and prints this.
+/// The reader's script is performed to its end beside so many viewers, who look so many times each, and prints this. No
+/// thread has the gate any more then.
 pub(super) fn outcome_of<R: Abort + Wait + Threads + AllocGlobal, I: Read, G: Gate + 'static>(
     rt: &R,
     gate: &Arc<G>,
@@ -31,6 +32,7 @@ pub(super) fn outcome_of<R: Abort + Wait + Threads + AllocGlobal, I: Read, G: Ga
     let mut writer = Sink::new(alloc);
     let result = perform(rt, alloc, reader, &mut writer, &AMPLE, viewers, looks, gate);
     assert_same(rt, writer.taken(), transcript, "the transcript");
+    assert_same(rt, Arc::strong_count(gate), 1, "owners of the gate");
     result.expect(rt, "the script is performed to its end")
 }
 
@@ -55,6 +57,7 @@ pub(super) fn outcome_telling<R: Abort + Wait + Threads + AllocGlobal, I: Read, 
     };
     let result = perform(rt, alloc, reader, &mut writer, &AMPLE, viewers, looks, gate);
     assert_same(rt, writer.sink.taken(), transcript, "the transcript");
+    assert_same(rt, Arc::strong_count(gate), 1, "owners of the gate");
     result.expect(rt, "the script is performed to its end")
 }
 

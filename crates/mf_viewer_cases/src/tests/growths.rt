@@ -1,0 +1,228 @@
+//! Scripts that are performed beside viewers while growths are refused, the starts of threads among them.
+ghost use Rattle.std.specs.Prelude.{◌≤◌};
+
+use super::{AMPLE, BLANK, SIX};
+use crate::tests::assertions::{assert_holds, assert_same};
+use mf_desk::{Glance, OpenGate, Outcome, RunFault, perform};
+use mf_testing::{Pieces, RECT, RECT_FILE, Remembers, Sink, grow_again, refuse_growths};
+use std::process::Abort;
+use std::sync::{Arc, Wait};
+use std::thread::Threads;
+
+/// A script, and what comes of it beside viewers.
+#[derive(Drop)]
+struct Case {
+    script: &'static str,
+    /// What its lines print that print something, and then the line of each viewer.
+    texts: &'static [&'static str],
+    /// What each viewer sees last.
+    last: Glance,
+    /// Its font file, if it ships.
+    file: Option<&'static [u8]>,
+}
+
+/// Two contours that are published, and a cull that is not. The last line is not ended.
+const DRAWN: &str = "addto currentpicture contour (0,0)--(3,0)--(3,2)--(0,2)--cycle\n\
+                     publish\n\
+                     show totalweight currentpicture\n\
+                     addto currentpicture contour (5,5)--(6,5)--(6,6)--(5,6)--cycle\n\
+                     show currentpicture\n\
+                     publish\n\
+                     cull currentpicture keeping (1,1) withweight 2\n\
+                     proof a";
+
+const DRAWN_BESIDE_FOUR: &Case = &Case {
+    script: DRAWN,
+    texts: &[
+        "published 1\n",
+        "totalweight 6\n",
+        "5 5 5 1\n1 0 2 1\n0 0 2 1\n",
+        "published 2\n",
+        "blank\n",
+        "viewer 0 revision 3 totalweight 14\n",
+        "viewer 1 revision 3 totalweight 14\n",
+        "viewer 2 revision 3 totalweight 14\n",
+        "viewer 3 revision 3 totalweight 14\n",
+    ],
+    last: Glance {
+        revision: 3,
+        total: 14,
+    },
+    file: None,
+};
+
+const DRAWN_BESIDE_NOBODY: &Case = &Case {
+    script: DRAWN,
+    texts: &[
+        "published 1\n",
+        "totalweight 6\n",
+        "5 5 5 1\n1 0 2 1\n0 0 2 1\n",
+        "published 2\n",
+        "blank\n",
+    ],
+    last: BLANK,
+    file: None,
+};
+
+const SHIPPED_BESIDE_FOUR: &Case = &Case {
+    script: RECT,
+    texts: &[
+        "[65]\n",
+        "viewer 0 revision 1 totalweight 6\n",
+        "viewer 1 revision 1 totalweight 6\n",
+        "viewer 2 revision 1 totalweight 6\n",
+        "viewer 3 revision 1 totalweight 6\n",
+    ],
+    last: SIX,
+    file: Some(RECT_FILE),
+};
+
+const EMPTY_BESIDE_FOUR: &Case = &Case {
+    script: "",
+    texts: &[
+        "viewer 0 revision 0 totalweight 0\n",
+        "viewer 1 revision 0 totalweight 0\n",
+        "viewer 2 revision 0 totalweight 0\n",
+        "viewer 3 revision 0 totalweight 0\n",
+    ],
+    last: BLANK,
+    file: None,
+};
+
+/// How many of these texts the bytes are, if each of them is there whole, and no more.
+fn count_of_texts(texts: &[&str], bytes: &[u8]) -> Option<usize> {
+    let mut rest = bytes;
+    let mut count = 0usize;
+    for text in texts {
+        if rest.is_empty() {
+            return Some(count);
+        }
+        rest = rest.strip_prefix(text.as_bytes())?;
+        count = count.saturating_add(1);
+    }
+    if rest.is_empty() { Some(count) } else { None }
+}
+
+/// So many viewers have looked twice, and once more, and the font file is that of the case.
+fn assert_outcome(rt: &impl Abort, outcome: &Outcome, viewers: u32, case: &Case) {
+    assert_same(rt, outcome.seen.len(), viewers as usize, "viewers");
+    for seen in &outcome.seen {
+        let looks = (seen.len(), seen.last().copied());
+        assert_same(rt, looks, (3, Some(case.last)), "a record");
+    }
+    let file = outcome.gf.as_ref().map(|gf| gf.bytes());
+    assert_same(rt, file, case.file, "the font file");
+}
+
+/// What a script leaves that was performed while memory was wanting.
+#[derive(Drop)]
+struct Left<'a> {
+    result: Result<Outcome, RunFault>,
+    reads: u32,
+    taken: &'a [u8],
+}
+
+/// The outcome is whole, with all texts; or memory was wanting, behind the whole texts of the first lines and viewers; or
+/// a viewer had no place or no thread, and nothing was read or written. No look is refused, since it takes no memory.
+fn assert_answer(rt: &impl Abort, left: &Left<'_>, viewers: u32, case: &Case) {
+    let count = count_of_texts(case.texts, left.taken);
+    match &left.result {
+        Ok(outcome) => {
+            assert_outcome(rt, outcome, viewers, case);
+            assert_same(rt, count, Some(case.texts.len()), "all texts");
+        }
+        Err(RunFault::NoPlace) => {
+            assert_holds(rt, viewers > 0, "a viewer had no place");
+            assert_same(rt, (left.reads, count), (0, Some(0)), "reads and texts");
+        }
+        Err(fault) => {
+            assert_same(rt, *fault, RunFault::OutOfMemory, "the fault");
+            assert_holds(rt, count.is_some(), "whole texts");
+        }
+    }
+}
+
+/// A reader of the script, whose first read ends within the first line.
+fn reader_of(case: &Case) -> Remembers<Pieces<'static>> {
+    Remembers::new(Pieces::split(case.script.as_bytes(), 20))
+}
+
+/// So many viewers look on twice while the script is performed and growths are refused. The threads have ended whatever the
+/// answer is, and with ample memory the script is performed to its end.
+fn assert_performs<R: Abort + Wait + Threads + AllocGlobal>(rt: &R, viewers: u32, case: &Case)
+    requires { viewers ≤ 64 }
+{
+    let alloc = rt.alloc();
+    let gate = Arc::new(alloc, OpenGate).expect(rt, "there is room for a gate");
+    let mut reader = reader_of(case);
+    let mut writer = Sink::reserved(alloc, 1_000).expect(rt, "there is room for the texts");
+    refuse_growths(alloc);
+    let result = perform(
+        rt,
+        alloc,
+        &mut reader,
+        &mut writer,
+        &AMPLE,
+        viewers,
+        2,
+        &gate,
+    );
+    grow_again(alloc);
+    let left = Left {
+        result,
+        reads: reader.reads(),
+        taken: writer.taken(),
+    };
+    assert_answer(rt, &left, viewers, case);
+    assert_same(rt, Arc::strong_count(&gate), 1, "owners of the gate");
+    assert_performs_again(rt, viewers, case, &gate);
+}
+
+/// With ample memory the script is performed to its end beside so many viewers at this gate.
+fn assert_performs_again<R: Abort + Wait + Threads + AllocGlobal>(
+    rt: &R,
+    viewers: u32,
+    case: &Case,
+    gate: &Arc<OpenGate>,
+)
+    requires { viewers ≤ 64 }
+{
+    let alloc = rt.alloc();
+    let mut reader = reader_of(case);
+    let mut writer = Sink::new(alloc);
+    let result = perform(
+        rt,
+        alloc,
+        &mut reader,
+        &mut writer,
+        &AMPLE,
+        viewers,
+        2,
+        gate,
+    );
+    let outcome = result.expect(rt, "memory is ample");
+    assert_outcome(rt, &outcome, viewers, case);
+    let count = count_of_texts(case.texts, writer.taken());
+    assert_same(rt, count, Some(case.texts.len()), "all texts");
+    assert_same(rt, Arc::strong_count(gate), 1, "owners of the gate");
+}
+
+#[test]
+fn pictures_are_drawn_beside_four_viewers(rt: HostRuntime) {
+    assert_performs(&rt, 4, DRAWN_BESIDE_FOUR);
+}
+
+#[test]
+fn pictures_are_drawn_beside_nobody(rt: HostRuntime) {
+    assert_performs(&rt, 0, DRAWN_BESIDE_NOBODY);
+}
+
+#[test]
+fn a_character_is_shipped_beside_four_viewers(rt: HostRuntime) {
+    assert_performs(&rt, 4, SHIPPED_BESIDE_FOUR);
+}
+
+#[test]
+fn nothing_is_drawn_beside_four_viewers(rt: HostRuntime) {
+    assert_performs(&rt, 4, EMPTY_BESIDE_FOUR);
+}

@@ -1,0 +1,59 @@
+//! Viewers that wait for each other while they hold their looks.
+ghost use Rattle.std.specs.Prelude.{◌≤◌};
+
+use super::flags::{Count, Flag};
+use super::lines::blank_lines;
+use super::outcomes::{outcome_of, shared};
+use crate::tests::assertions::{assert_holds, assert_same};
+use mf_desk::Gate;
+use mf_testing::Pieces;
+use std::process::Abort;
+use std::sync::Wait;
+use std::thread::Threads;
+
+/// In each look each of so many viewers waits until all others hold theirs.
+#[derive(Drop)]
+struct Meeting {
+    viewers: u64,
+    held: Count,
+    /// Set where one has not met all others.
+    missed: Flag,
+}
+
+impl Gate for Meeting {
+    fn hold(&self, _viewer: u32, look: u32) {
+        self.held.add_one();
+        let due = self.viewers.saturating_mul((look as u64).saturating_add(1));
+        if !self.held.comes_to(due) {
+            self.missed.set();
+        }
+    }
+}
+
+/// So many viewers all meet in their first look, and again in their second.
+fn assert_meet<R: Abort + Wait + Threads + AllocGlobal>(rt: &R, viewers: u32)
+    requires { viewers ≤ 64 }
+{
+    let meeting = Meeting {
+        viewers: viewers as u64,
+        held: Count::new(),
+        missed: Flag::new(),
+    };
+    let gate = shared(rt, meeting);
+    let text = blank_lines(rt.alloc(), viewers as usize).expect(rt, "there is room for the lines");
+    let mut reader = Pieces::whole(b"");
+    outcome_of(rt, &gate, &mut reader, viewers, 2, text.as_bytes());
+    let looks = (viewers as u64).saturating_mul(2);
+    assert_same(rt, gate.held.get(), looks, "looks");
+    assert_holds(rt, !gate.missed.is_set(), "they meet");
+}
+
+#[test]
+fn five_viewers_hold_looks_at_once(rt: HostRuntime) {
+    assert_meet(&rt, 5);
+}
+
+#[test]
+fn viewers_hold_64_looks_at_once(rt: HostRuntime) {
+    assert_meet(&rt, 64);
+}

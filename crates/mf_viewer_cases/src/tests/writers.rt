@@ -1,0 +1,207 @@
+//! Writers that fail where viewers look on, and font files that are too long.
+
+use super::{AMPLE, End, PUBLISHED, PUBLISHED_TEXT, performed};
+use crate::tests::assertions::{assert_holds, assert_same};
+use mf_desk::{RunFault, Settings};
+use mf_testing::{FailsOnce, FlushFails, Pieces, RECT, Remembers, Sink};
+use std::io::{BufWriter, Write};
+use std::ops::Range;
+use std::process::Abort;
+use std::sync::Wait;
+use std::thread::Threads;
+
+/// The rectangle is published beside two viewers, into this writer, and that ends with this fault, or none.
+fn assert_publishes<R: Abort + Wait + Threads + AllocGlobal, W: Write>(
+    rt: &R,
+    writer: &mut W,
+    fault: Option<RunFault>,
+    case: usize,
+) {
+    let mut reader = Pieces::whole(PUBLISHED.as_bytes());
+    let result = performed(rt, &mut reader, writer, &AMPLE, 2, 3);
+    assert_same(rt, result.err(), fault, case);
+}
+
+/// What was taken is a front of the transcript and the lines of viewers, of so many bytes.
+fn assert_front(rt: &impl Abort, taken: &[u8], count: usize) {
+    assert_same(rt, taken.len(), count, "bytes");
+    assert_holds(rt, PUBLISHED_TEXT.as_bytes().starts_with(taken), count);
+}
+
+/// A write fails once behind so many bytes, and would take the rest if it were tried again; and a write takes no byte there.
+fn assert_write_fault<R: Abort + Wait + Threads + AllocGlobal>(rt: &R, room: usize) {
+    let fault = Some(RunFault::WriteFault(room as u128));
+    let mut writer = FailsOnce::new(rt.alloc(), room);
+    assert_publishes(rt, &mut writer, fault, room);
+    assert_front(rt, writer.taken(), room);
+    assert_same(rt, writer.calls_behind(), 0, room);
+    let mut writer = Sink::full_after(rt.alloc(), room);
+    assert_publishes(rt, &mut writer, fault, room);
+    assert_front(rt, writer.taken(), room);
+}
+
+/// So it is behind each of these numbers of bytes.
+fn assert_write_faults<R: Abort + Wait + Threads + AllocGlobal>(rt: &R, rooms: Range<usize>) {
+    for room in rooms {
+        assert_write_fault(rt, room);
+    }
+}
+
+/// Its text has 12 bytes.
+#[test]
+fn write_fails_once_in_the_text_of_a_line(rt: HostRuntime) {
+    assert_write_faults(&rt, 0..12);
+}
+
+/// Each line of a viewer has 34 bytes.
+#[test]
+fn write_fails_once_in_the_line_of_viewer_0(rt: HostRuntime) {
+    assert_write_faults(&rt, 12..46);
+}
+
+#[test]
+fn write_fails_once_in_the_line_of_viewer_1(rt: HostRuntime) {
+    assert_write_faults(&rt, 46..80);
+}
+
+#[test]
+fn writer_has_just_enough_room(rt: HostRuntime) {
+    let mut writer = Sink::failing(rt.alloc(), 80);
+    assert_publishes(&rt, &mut writer, None, 80);
+    assert_front(&rt, writer.taken(), 80);
+}
+
+/// The flush behind so many others fails once, when so many bytes were taken in so many reads.
+fn assert_flush_fault<R: Abort + Wait + Threads + AllocGlobal>(
+    rt: &R,
+    script: &str,
+    good: u32,
+    count: usize,
+    reads: u32,
+) {
+    let mut reader = Remembers::new(Pieces::whole(script.as_bytes()));
+    let mut writer = FlushFails::once(rt.alloc(), good);
+    let result = performed(rt, &mut reader, &mut writer, &AMPLE, 2, 3);
+    let fault = RunFault::WriteFault(count as u128);
+    assert_same(rt, result.err(), Some(fault), good);
+    assert_front(rt, writer.taken(), count);
+    assert_same(
+        rt,
+        (writer.calls_behind(), reader.reads()),
+        (0, reads),
+        good,
+    );
+}
+
+#[test]
+fn flush_fails_once_before_the_first_read(rt: HostRuntime) {
+    assert_flush_fault(&rt, PUBLISHED, 0, 0, 0);
+}
+
+#[test]
+fn flush_fails_once_before_the_second_read(rt: HostRuntime) {
+    assert_flush_fault(&rt, PUBLISHED, 1, 12, 1);
+}
+
+/// No line feed ends the last line, so its text comes when the second read has answered the end.
+#[test]
+fn flush_fails_once_behind_the_text_of_an_unended_line(rt: HostRuntime) {
+    assert_flush_fault(&rt, PUBLISHED.trim_end(), 2, 12, 2);
+}
+
+#[test]
+fn flush_fails_once_behind_the_lines_of_the_viewers(rt: HostRuntime) {
+    assert_flush_fault(&rt, PUBLISHED, 2, 80, 2);
+}
+
+/// A writer keeps bytes back, and what it hands them on to has so much room: the fault counts so many bytes that went out.
+fn assert_hands_on<R: Abort + Wait + Threads + AllocGlobal>(rt: &R, room: usize, count: u128) {
+    let alloc = rt.alloc();
+    let mut writer = BufWriter::new(alloc, Sink::failing(alloc, room)).expect(
+        rt,
+        "there is room for a buffer",
+    );
+    assert_publishes(rt, &mut writer, Some(RunFault::WriteFault(count)), room);
+    assert_front(rt, writer.get_ref().taken(), room);
+}
+
+/// What is kept back goes out before the second read, which finds the end.
+#[test]
+fn text_that_is_kept_back_finds_no_room(rt: HostRuntime) {
+    assert_hands_on(&rt, 5, 12);
+}
+
+/// And behind the lines of the viewers.
+#[test]
+fn lines_that_are_kept_back_find_no_room(rt: HostRuntime) {
+    assert_hands_on(&rt, 12, 80);
+    assert_hands_on(&rt, 20, 80);
+    assert_hands_on(&rt, 79, 80);
+}
+
+#[test]
+fn all_that_is_kept_back_is_handed_on(rt: HostRuntime) {
+    let alloc = rt.alloc();
+    let mut writer = BufWriter::new(alloc, Sink::failing(alloc, 80)).expect(
+        &rt,
+        "there is room for a buffer",
+    );
+    assert_publishes(&rt, &mut writer, None, 80);
+    assert_front(&rt, writer.get_ref().taken(), 80);
+}
+
+/// A script that ships the rectangle ends so beside two viewers where a file has at most so many bytes.
+fn assert_ships_within<R: Abort + Wait + Threads + AllocGlobal>(
+    rt: &R,
+    max_bytes: u32,
+    fault: Option<RunFault>,
+    text: &str,
+) {
+    let settings = Settings { max_bytes, ..AMPLE };
+    let mut reader = Pieces::whole(RECT.as_bytes());
+    let mut writer = Sink::new(rt.alloc());
+    let result = performed(rt, &mut reader, &mut writer, &settings, 2, 3);
+    let end: End<'_> = (fault, text.as_bytes());
+    assert_same(rt, (result.err(), writer.taken()), end, max_bytes);
+}
+
+/// What is printed where the rectangle is shipped.
+const SHIPPED_TEXT: &str = "[65]\n\
+                            viewer 0 revision 1 totalweight 6\n\
+                            viewer 1 revision 1 totalweight 6\n";
+
+/// And where that is refused.
+const REFUSED_TEXT: &str = "refused FileTooLong\n\
+                            viewer 0 revision 1 totalweight 6\n\
+                            viewer 1 revision 1 totalweight 6\n";
+
+#[test]
+fn character_has_no_room_in_the_font_file(rt: HostRuntime) {
+    assert_ships_within(&rt, 3, None, REFUSED_TEXT);
+}
+
+/// Where the end of the file has no room all lines are there.
+#[test]
+fn end_has_no_room_in_the_font_file(rt: HostRuntime) {
+    assert_ships_within(&rt, 71, Some(RunFault::FileTooLong), SHIPPED_TEXT);
+}
+
+#[test]
+fn font_file_has_just_enough_room(rt: HostRuntime) {
+    assert_ships_within(&rt, 72, None, SHIPPED_TEXT);
+}
+
+/// Nothing is read or written where no file is short enough.
+#[test]
+fn no_font_file_is_short_enough(rt: HostRuntime) {
+    let settings = Settings {
+        max_bytes: 2,
+        ..AMPLE
+    };
+    let mut reader = Remembers::new(Pieces::whole(RECT.as_bytes()));
+    let mut writer = Sink::new(rt.alloc());
+    let result = performed(&rt, &mut reader, &mut writer, &settings, 2, 3);
+    let end: End<'_> = (Some(RunFault::FileTooLong), b"");
+    assert_same(&rt, (result.err(), writer.taken()), end, "2 bytes");
+    assert_same(&rt, reader.reads(), 0, "reads");
+}
