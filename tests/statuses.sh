@@ -1,11 +1,20 @@
 #!/bin/bash
 # The statuses and messages of the program where it does not end well: words that it does not know, a word that is no
-# text, a folder as its script, an output that is full, a font file without a character.
+# text, a folder as its script, an output that is full or closed, a font file without a character, and one that cannot be
+# made. The font file that was there before a fault of the words or of the script is there after it, as it was.
 set -u
 cd "$(dirname "$0")/.."
 
+folder=$(mktemp -d)
+trap 'rm -r "$folder"' EXIT
+
 # The program is built before its messages are looked at.
 ./mfpic < /dev/null || exit
+
+fails() {
+    echo "$@" >&2
+    exit 1
+}
 
 count=0
 ends_with() {
@@ -14,14 +23,39 @@ ends_with() {
     told=$("$@" 2>&1 > /dev/null)
     got=$?
     if [ "$got" -ne "$status" ] || [ "$told" != "$message" ]; then
-        echo "status $got and '$told' in place of $status and '$message': $*" >&2
-        exit 1
+        fails "status $got and '$told' in place of $status and '$message': $*"
     fi
     count=$((count + 1))
 }
+
+# The command has the path of a font file that is there, in FONT. It prints what the file says, and the font file stays as
+# it was.
+export FONT=$folder/font.gf
+keeps_font() {
+    local printed=$1 status=$2 message=$3 command=$4
+    echo 'what was there' > "$folder/kept"
+    cp "$folder/kept" "$FONT"
+    ends_with "$status" "$message" bash -c "{ $command; } > '$folder/printed'"
+    cmp "$FONT" "$folder/kept" || fails "another font file: $command"
+    cmp "$folder/printed" "$printed" || fails "another transcript: $command"
+}
+
 ends_with 2 'usage: mfpic [--viewers 0..16] [--gf FILE]' ./mfpic --help
 ends_with 2 'usage: mfpic [--viewers 0..16] [--gf FILE]' ./mfpic $'\xff'
 ends_with 3 'mfpic: ReadFault' bash -c './mfpic < /'
 ends_with 3 'mfpic: WriteFault' bash -c './mfpic < examples/rectangle.mfp > /dev/full'
 ends_with 3 'mfpic: NoCharacters' bash -c './mfpic --gf /dev/null < examples/rectangle.mfp'
+
+ends_with 0 '' bash -c './mfpic --gf "$FONT" < examples/font.mfp'
+cmp "$FONT" examples/font.gf || fails 'another font file'
+keeps_font /dev/null 2 'usage: mfpic [--viewers 0..16] [--gf FILE]' './mfpic --gf "$FONT" more < examples/font.mfp'
+keeps_font /dev/null 3 'mfpic: ReadFault' './mfpic --gf "$FONT" < /'
+keeps_font /dev/null 3 'mfpic: ReadFault' './mfpic --gf "$FONT" <&-'
+keeps_font /dev/null 3 'mfpic: WriteFault' './mfpic --gf "$FONT" < examples/font.mfp > /dev/full'
+keeps_font /dev/null 3 'mfpic: WriteFault' './mfpic --gf "$FONT" < examples/font.mfp >&-'
+keeps_font /dev/null 3 'mfpic: WriteFault' './mfpic --viewers 2 --gf "$FONT" < examples/font.mfp > /dev/full'
+keeps_font examples/rectangle.transcript 3 'mfpic: NoCharacters' './mfpic --gf "$FONT" < examples/rectangle.mfp'
+keeps_font examples/font.transcript 3 'mfpic: WriteFault' './mfpic --gf "$FONT/font.gf" < examples/font.mfp'
+keeps_font examples/font.transcript 3 'mfpic: WriteFault' './mfpic --gf "${FONT%/*}/none/font.gf" < examples/font.mfp'
+keeps_font examples/font.transcript 3 'mfpic: WriteFault' './mfpic --gf / < examples/font.mfp'
 echo "$count passed, 0 failed"

@@ -2,7 +2,9 @@
 
 mod assertions;
 mod font_files;
+mod growths;
 mod long_files;
+mod streams;
 mod words;
 
 use assertions::{assert_holds, assert_same};
@@ -11,7 +13,7 @@ use mf_cli::program::{BAD_WORDS, DONE, STREAM_FAULT, WANTING, program, report};
 use mf_desk::RunFault;
 use mf_testing::{Pieces, Script, Sink, worked_scripts};
 use std::alloc::{AllocError, Global};
-use std::io::Read;
+use std::io::{Read, Write};
 use std::process::Abort;
 use std::rt::Files;
 use std::sync::Wait;
@@ -39,12 +41,12 @@ fn words_of(alloc: Global, texts: &[&str]) -> Result<Vec<String>, AllocError> {
 }
 
 /// With these words the program ends with this status.
-fn status_of<R: Abort + Wait + Threads + Files + AllocGlobal>(
+fn status_of<R: Abort + Wait + Threads + Files + AllocGlobal, I: Read, W: Write, E: Write>(
     rt: &R,
     words: &[&str],
-    reader: &mut Pieces<'_>,
-    writer: &mut Sink,
-    errors: &mut Sink,
+    reader: &mut I,
+    writer: &mut W,
+    errors: &mut E,
 ) -> u8 {
     let alloc = rt.alloc();
     let words = words_of(alloc, words).expect(rt, "there is room for the words");

@@ -7,7 +7,7 @@ use std::process::Abort;
 use std::test::Fail;
 
 /// The program's name, and the words behind it.
-fn command_line(alloc: Global, texts: &[&str]) -> Result<Vec<String>, AllocError> {
+pub(super) fn command_line(alloc: Global, texts: &[&str]) -> Result<Vec<String>, AllocError> {
     let mut words = words_of(alloc, &["mfpic"])?;
     for text in texts {
         words.push(String::from_str(alloc, text)?)?;
@@ -21,19 +21,30 @@ fn read(alloc: Global, texts: &[&str]) -> Result<Words, WordsFault> {
 }
 
 /// The words ask for so many viewers and this FILE.
-fn assert_words(rt: &impl Abort, words: &Words, viewers: u32, file: Option<&str>, case: &[&str]) {
+pub(super) fn assert_words(
+    rt: &impl Abort,
+    words: &Words,
+    viewers: u32,
+    file: Option<&str>,
+    case: &[&str],
+) {
     let found = (words.viewers, words.gf.as_ref().map(|file| file.as_str()));
     assert_same(rt, found, (viewers, file), case);
 }
 
 /// The words behind the program's name ask for so many viewers and this FILE.
-fn assert_reads<R: Abort + AllocGlobal>(rt: &R, texts: &[&str], viewers: u32, file: Option<&str>) {
+pub(super) fn assert_reads<R: Abort + AllocGlobal>(
+    rt: &R,
+    texts: &[&str],
+    viewers: u32,
+    file: Option<&str>,
+) {
     let words = read(rt.alloc(), texts).expect(rt, "the words are a command line");
     assert_words(rt, &words, viewers, file, texts);
 }
 
 /// The words behind the program's name are no command line.
-fn assert_refused<R: Abort + AllocGlobal>(rt: &R, texts: &[&str]) {
+pub(super) fn assert_refused<R: Abort + AllocGlobal>(rt: &R, texts: &[&str]) {
     let fault = read(rt.alloc(), texts).err();
     assert_same(rt, fault, Some(WordsFault::BadWords), texts);
 }
