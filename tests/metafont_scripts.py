@@ -1,0 +1,410 @@
+#!/usr/bin/env python3
+"""Compares random scripts with METAFONT (`mf-nowin`, Debian package texlive-binaries).
+
+    tests/metafont_scripts.py PROGRAM COUNT SEED
+
+Each script has the commands that METAFONT has too: contours, with the turning check on and off, sums and differences, culls,
+shifts, scales, turns, clears, totals, and characters that are shipped. The program and METAFONT perform it. Compared are the
+totals, the weights of all pixels of each picture at the end, and the two font files: their characters in order, and for each
+code dx, width and the last character. Of characters with the same box all commands are compared, and of the others, whose
+boxes METAFONT leaves larger than they need to be, the black pixels.
+
+The lines are made by `random_lines.py`. Left out are those that the program refuses, by `pixel_model.py`, those with numbers
+that METAFONT has not, and those that make a picture too large for it or for the model: METAFONT keeps the room of pixels that
+are blank again. The first script that differs is printed, without the lines that it may lack and still differ. Where METAFONT
+is not installed, nothing is compared.
+"""
+
+import collections
+import os
+import pathlib
+import re
+import shutil
+import struct
+import subprocess
+import sys
+import tempfile
+import typing
+
+from font_model import NOWHERE, PIXEL, Opcode
+from metafont_contours import HEAD, POINTS, pixels_of_edges, pixels_of_runs
+from pixel_model import MAX_COORDINATE, Model, TooSlow
+from pixel_model import edges as sides
+from random_lines import NAMES, Chance, Line
+
+METAFONT = "mf-nowin"
+# METAFONT reads the script in the folder where it is run, and has this memory, in words of eight bytes.
+ENVIRONMENT = {**os.environ, "MFINPUTS": ".", "main_memory": "8000000"}
+COMMANDS = ["contour", "also", "also -", "keeping", "dropping", ":=", "shifted", "scaled", "xscaled", "yscaled"]
+UNCHANGING = ["show totalweight", "shipout", "turningcheck on", "turningcheck off"]
+COMMANDS += ["rotated", *UNCHANGING]
+# Characters that are compared command by command, and those that are compared by their black pixels; and what else fonts have.
+SAME_BOX, SMALLER_BOX = "a character with METAFONT's box", "a character with a smaller box"
+SHIPPED = [SAME_BOX, SMALLER_BOX, "a blank character", "a code shipped again", "a dx that is no whole number of pixels"]
+KNOWN = [*COMMANDS, *SHIPPED]
+# So many scripts are enough for each of these to come.
+ENOUGH = 300
+# Few enough pixels for the model, and edges of a picture for METAFONT, which sorts those of a row one by one.
+MAX_PIXELS, MAX_EDGES = 2_000, 4_000
+# Seconds that a run may take.
+LIMIT = 60
+# METAFONT's width in 1/65536 point is so many times ours, since its design size is 128 points where none is set; its dx is
+# below 4096 pixels, and its width below 2048 points.
+WIDTH, MAX_DX, MAX_WIDTH = 8, 4096 * PIXEL, 2048 * PIXEL // 8
+
+
+class Scripts(Chance):
+    """Random scripts."""
+
+    def kinds(self):
+        """What makes a line."""
+        kinds = [self.contour] * 5 + [self.also] * 2 + [self.cull] * 2 + [self.shift, self.scale, self.turn] * 2
+        return [*kinds, self.clear, self.total, self.ship, self.ship]
+
+    def lawful_script(self):
+        """Lines that the program accepts, of the commands that METAFONT has."""
+        turns, lines = self.choice([0, 0, 0.03, 0.2]), []
+        if self.happens(0.6):
+            lines.append(self.turningcheck())
+        for _ in range(self.place(3, 25)):
+            for line in self.lines():
+                lines += [self.turningcheck(), line] if self.happens(turns) else [line]
+        return lawful(lines)
+
+
+class Room:
+    """What METAFONT keeps of each picture: the box of all pixels that it had since it was cleared or culled, and how many
+    edges at most."""
+
+    def __init__(self):
+        self.kept = {}
+
+    def kept_of(self, line, model):
+        """The corners and the number of edges of the picture that a line changes, where the model has performed it."""
+        name = line.tokens[0 if ":=" in line.tokens else 1]
+        corners, edges = self.kept.get(name, ([], 0))
+        if line.command == "contour":
+            return name, [*corners, *line.points], edges + sum(abs(b[1] - a[1]) for a, b in sides(line.points))
+        if line.command in ("also", "also -"):
+            others, more = self.kept.get(line.tokens[-1], ([], 0))
+            return name, [*corners, *others], edges + more
+        if line.command == ":=":
+            return name, [], 0
+        if line.command in ("keeping", "dropping"):
+            pixels = model.picture(name)
+            return name, [corner for x, y in pixels for corner in ((x, y), (x + 1, y + 1))], 2 * len(pixels)
+        operand = numbers(line.tokens)
+        if line.command == "rotated":
+            edges = 2 * sum(map(abs, model.picture(name).values()))
+        rows = abs(operand[0]) if line.command in ("scaled", "yscaled") else 1
+        return name, [moved(line.command, operand, corner) for corner in corners], edges * rows
+
+    def holds(self, line, model):
+        """Whether METAFONT holds the picture that a line changes. If so, that is kept in mind."""
+        if line.command in UNCHANGING:
+            return True
+        name, corners, edges = self.kept_of(line, model)
+        if edges > MAX_EDGES or any(abs(place) > MAX_COORDINATE for corner in corners for place in corner):
+            return False
+        self.kept[name] = ends_of(corners), edges
+        return True
+
+
+def ends_of(corners):
+    """The least and the greatest corner of a box, if there is one."""
+    if not corners:
+        return []
+    columns, rows = zip(*corners)
+    return [(min(columns), min(rows)), (max(columns), max(rows))]
+
+
+def moved(command, operand, corner):
+    """Where a shift, scale or turn takes a point."""
+    x, y = corner
+    if command == "shifted":
+        return x + operand[0], y + operand[1]
+    if command == "rotated":
+        return {90: (-y, x), 180: (-x, -y), 270: (y, -x)}[operand[0]]
+    return x * (1 if command == "yscaled" else operand[0]), y * (1 if command == "xscaled" else operand[0])
+
+
+def numbers(tokens):
+    """The numbers of a line."""
+    return [int(word) for word in re.findall(r"-?\d+", "".join(token for token in tokens if token != "--"))]
+
+
+def is_expressed(line, model):
+    """Whether METAFONT has the numbers of a line, whose picture the model has not yet changed."""
+    if line.command == "contour":
+        return len(line.points) <= POINTS
+    operands = numbers(line.tokens)
+    if line.command == "shipout":
+        return abs(operands[1]) < MAX_DX and abs(operands[2]) < MAX_WIDTH
+    if line.command in ("keeping", "dropping"):
+        # Greater bounds become this one, which is the same where no weight is greater.
+        large = max(map(abs, model.picture(line.tokens[1]).values()), default=0)
+        return large <= MAX_COORDINATE or max(map(abs, operands)) <= MAX_COORDINATE
+    return line.command.startswith("turningcheck") or all(abs(number) <= MAX_COORDINATE for number in operands)
+
+
+def lawful(lines):
+    """The lines that the program accepts, without the others."""
+    model, room, kept = Model(), Room(), []
+    for line in lines:
+        if line.command not in COMMANDS or not is_expressed(line, model):
+            continue
+        after = model.copy()
+        try:
+            printed = line.perform(after)
+        except TooSlow:
+            continue
+        few = all(len(picture) <= MAX_PIXELS for picture in after.pictures.values())
+        if few and not printed.startswith("refused") and room.holds(line, after):
+            model = after
+            kept.append(line)
+    return kept
+
+
+class Shipped(typing.NamedTuple):
+    """A character of a font file: its first byte, code, the number of the previous character with this code, box, commands
+    and black pixels."""
+
+    opcode: int
+    code: int
+    previous: int
+    box: tuple
+    commands: bytes
+    black: frozenset
+
+
+class Font(typing.NamedTuple):
+    """A font file: its characters, and for each code dx, dy, width and the number of its last character."""
+
+    characters: list
+    locators: dict
+
+
+class End(typing.NamedTuple):
+    """What a script comes to: its totals, the weights of its pictures, and its font, where characters were shipped."""
+
+    totals: list
+    pictures: list
+    font: Font | None
+
+
+def painted(font, place, left, row):
+    """The black pixels that the commands from a place to eoc paint, and the place behind eoc."""
+    black, column, is_black = set(), left, False
+    while font[place] != Opcode.EOC:
+        opcode, place = font[place], place + 1
+        if Opcode.NEW_ROW_0 <= opcode <= Opcode.NEW_ROW_164:
+            column, row, is_black = left + opcode - Opcode.NEW_ROW_0, row - 1, True
+            continue
+        first = Opcode.PAINT_63 if opcode <= Opcode.PAINT2 else Opcode.SKIP0
+        size = max(opcode - first, 0)
+        if size > 2:
+            raise ValueError(f"the command {opcode} is none that paints or moves")
+        number = int.from_bytes(font[place : place + size], "big") if size else min(opcode, first) % Opcode.SKIP0
+        place += size
+        if first == Opcode.SKIP0:
+            column, row, is_black = left, row - 1 - number, False
+            continue
+        if is_black:
+            black |= {(x, row) for x in range(column, column + number)}
+        column, is_black = column + number, not is_black
+    return frozenset(black), place + 1
+
+
+def character_at(font, place, places):
+    """The character at a place of a font file, and the place behind it. `places` are those of the characters before."""
+    opcode, previous = font[place], NOWHERE
+    if opcode == Opcode.BOC1:
+        code, width, right, height, top = font[place + 1 : place + 6]
+        box, behind = (right - width, right, top - height, top), place + 6
+    elif opcode == Opcode.BOC:
+        code, pointer, *box = struct.unpack_from(">6i", font, place + 1)
+        previous, behind = NOWHERE if pointer == NOWHERE else places.index(pointer), place + 25
+    else:
+        raise ValueError(f"the command {opcode} begins no character")
+    black, end = painted(font, behind, box[0], box[3])
+    return Shipped(opcode, code, previous, tuple(box), font[behind:end], black), end
+
+
+def font_of(font):
+    """What stands in a font file."""
+    places, characters, place = [], [], 3 + font[2]
+    while font[place] != Opcode.POST:
+        character, behind = character_at(font, place, places)
+        characters.append(character)
+        places.append(place)
+        place = behind
+    locators, place = {}, place + 37
+    while font[place] != Opcode.POST_POST:
+        if font[place] == Opcode.CHAR_LOC0:
+            code, pixels, width, last = struct.unpack_from(">2B2i", font, place + 1)
+            locators[code], place = (pixels * PIXEL, 0, width, places.index(last)), place + 11
+        else:
+            code, dx, dy, width, last = struct.unpack_from(">B4i", font, place + 1)
+            locators[code], place = (dx, dy, width, places.index(last)), place + 18
+    return Font(characters, locators)
+
+
+def font_at(path):
+    """The font file at a path, which is removed, if there is one."""
+    if not path.exists():
+        return None
+    font = font_of(path.read_bytes())
+    path.unlink()
+    return font
+
+
+def by_program(program, lines, folder):
+    """What a script comes to by the program."""
+    texts = [" ".join(line.tokens) for line in lines]
+    for name in NAMES:
+        texts += ["publish", f"show {name}"]
+    path = folder / "shipped.gf"
+    words = [program, "--gf", path] if any(line.command == "shipout" for line in lines) else [program]
+    script = "\n".join(texts) + "\n"
+    how = {"stdout": subprocess.PIPE, "check": True, "encoding": "ascii", "timeout": LIMIT}
+    printed = subprocess.run(words, input=script, **how).stdout
+    told, *shown = re.split(r"^published \d+\n", printed, flags=re.MULTILINE)
+    if "refused" in printed:
+        raise ValueError("the program refuses a line")
+    totals = [int(number) for number in re.findall(r"^totalweight (-?\d+)$", told, re.MULTILINE)]
+    return End(totals, [pixels_of_runs(text) for text in shown], font_at(path))
+
+
+def scaled(number):
+    """A number of METAFONT's, in 1/65536."""
+    return f"{number / PIXEL:.12f}"
+
+
+def for_metafont(line):
+    """A line as METAFONT reads it."""
+    if line.command == "shipout":
+        code, dx, width = numbers(line.tokens)
+        return f"charcode:={code}; chardx:={scaled(dx)}; charwd:={scaled(width * WIDTH)}; shipout {line.tokens[1]};"
+    if line.command == "contour":
+        # A line of METAFONT's is short.
+        return " ".join("--\n" if token == "--" else token for token in line.tokens) + ";"
+    # A number that is too large stands for any large one.
+    tokens = [str(min(int(token), MAX_COORDINATE)) if token.isdigit() else token for token in line.tokens]
+    return " ".join(tokens) + ";"
+
+
+def by_metafont(lines, folder):
+    """What a script comes to by METAFONT."""
+    texts = [HEAD, "turningcheck:=1;", f"picture {','.join(NAMES)};", *(f"{name}:=nullpicture;" for name in NAMES)]
+    texts += map(for_metafont, lines)
+    for name in NAMES:
+        texts += ['message "next";', f"show {name};"]
+    (folder / "work.mf").write_text("\n".join([*texts, "end", ""]), encoding="ascii")
+    words = [METAFONT, "-ini", "-interaction=batchmode", "work.mf"]
+    how = {"stdin": subprocess.DEVNULL, "stdout": subprocess.PIPE, "check": False, "timeout": LIMIT}
+    subprocess.run(words, cwd=folder, env=ENVIRONMENT, **how)
+    log = (folder / "work.log").read_text(encoding="latin-1")
+    if fault := re.search(r"^! .*", log, re.MULTILINE):
+        raise ValueError(f"METAFONT finds an error: {fault[0]}")
+    told, *shown = log.split("\nnext")
+    totals = [round(float(number) * PIXEL) for number in re.findall(r"^>> (-?[\d.]+)", told, re.MULTILINE)]
+    return End(totals, [pixels_of_edges(text) for text in shown], font_at(folder / "work.gf"))
+
+
+def is_within(inner, outer):
+    return inner[0] >= outer[0] and inner[1] <= outer[1] and inner[2] >= outer[2] and inner[3] <= outer[3]
+
+
+def difference_of_characters(number, ours, theirs):
+    """How two characters differ, if they do: also in bytes, where they have the same box."""
+    if ours.box == theirs.box or not is_within(ours.box, theirs.box):
+        told = (f"{one._replace(commands=one.commands.hex(), black=len(one.black))}" for one in (ours, theirs))
+        return "" if ours == theirs else f"character {number}: {' and '.join(told)}"
+    if (ours.code, ours.previous) != (theirs.code, theirs.previous):
+        return f"character {number}: code and previous {ours[1:3]} and {theirs[1:3]}"
+    return "" if ours.black == theirs.black else f"character {number}: {sorted(ours.black)} and {sorted(theirs.black)}"
+
+
+def difference_of_fonts(ours, theirs):
+    """How two fonts differ, if they do."""
+    if ours is None or theirs is None:
+        return "" if ours is theirs else f"the fonts are {ours} and {theirs}"
+    if ours.locators != theirs.locators:
+        return f"the locators are {ours.locators} and {theirs.locators}"
+    if len(ours.characters) != len(theirs.characters):
+        return f"{len(ours.characters)} and {len(theirs.characters)} characters"
+    pairs = enumerate(zip(ours.characters, theirs.characters))
+    return next(filter(None, (difference_of_characters(number, *pair) for number, pair in pairs)), "")
+
+
+def difference(ours, theirs):
+    """How two ends differ, if they do."""
+    if ours.totals != theirs.totals:
+        return f"the totals are {ours.totals} and {theirs.totals}"
+    for name, own, other in zip(NAMES, ours.pictures, theirs.pictures, strict=True):
+        if own != other:
+            apart = sorted({pixel for pixel, _ in own.items() ^ other.items()})[:8]
+            return f"{name}: {[(pixel, own.get(pixel, 0), other.get(pixel, 0)) for pixel in apart]}"
+    return difference_of_fonts(ours.font, theirs.font)
+
+
+def count_font(counts, ours, theirs):
+    for own, other in zip(ours.characters, theirs.characters):
+        counts[SAME_BOX if own.box == other.box else SMALLER_BOX] += 1
+        counts["a blank character"] += not own.black
+        counts["a code shipped again"] += own.previous != NOWHERE
+    counts["a dx that is no whole number of pixels"] += any(dx % PIXEL for dx, *_ in ours.locators.values())
+
+
+def told_of(program, lines, folder, counts):
+    """How the program and METAFONT differ in a script, if they do."""
+    try:
+        ours, theirs = by_program(program, lines, folder), by_metafont(lines, folder)
+    except (ValueError, IndexError, struct.error, subprocess.SubprocessError) as fault:
+        return f"{type(fault).__name__}: {fault}"
+    finally:
+        (folder / "shipped.gf").unlink(missing_ok=True)
+        (folder / "work.gf").unlink(missing_ok=True)
+    told = difference(ours, theirs)
+    if not told:
+        counts.update(line.command for line in lines)
+        if ours.font:
+            count_font(counts, ours.font, theirs.font)
+    return told
+
+
+def shortened(program, lines, folder):
+    """A script that differs, without the lines that it may lack and still differ."""
+    for place in reversed(range(len(lines))):
+        fewer = lawful(lines[:place] + lines[place + 1 :])
+        if told_of(program, fewer, folder, collections.Counter()):
+            lines = fewer
+    return lines
+
+
+def main():
+    program, count, chance = sys.argv[1], int(sys.argv[2]), Scripts(int(sys.argv[3]))
+    if not shutil.which(METAFONT):
+        print(f"0 scripts compared: {METAFONT} is not installed")
+        return 0
+    counts = collections.Counter()
+    with tempfile.TemporaryDirectory() as name:
+        folder = pathlib.Path(name)
+        for number in range(count):
+            lines = chance.lawful_script()
+            if told_of(program, lines, folder, counts):
+                lines = shortened(program, lines, folder)
+                print(f"script {number}:", *(" ".join(line.tokens) for line in lines), sep="\n")
+                print("mfpic and METAFONT:", told_of(program, lines, folder, counts))
+                return 1
+    print("\n".join(f"{counts[known]:9} {known}" for known in KNOWN))
+    missing = [known for known in KNOWN if counts[known] == 0]
+    if missing and count >= ENOUGH:
+        print(f"never came: {', '.join(missing)}")
+        return 1
+    print(f"{count} passed, 0 failed")
+    return 0
+
+
+if __name__ == "__main__":
+    sys.exit(main())
