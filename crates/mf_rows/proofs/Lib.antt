@@ -1,6 +1,7 @@
 mod BandsAdded
 mod BandsLemmas
 mod BandSumsLemmas
+mod BlankPictures
 mod BlankRowsLemmas
 pub mod BoundsInField
 mod BuildingLemmas

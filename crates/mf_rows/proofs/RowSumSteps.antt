@@ -92,7 +92,7 @@ no_edges low (e ∷ es) sorted blank =
     absurd (sorted.0.nonzero (omega (arith, ints, blank e.x)))
 
 -- where all weights of a row are 0, the row is not there
-no_row : (top y : ℤ) (rs : List EdgeRow) → AreRowsFrom top rs → ((x : ℤ) → weight_in_rows rs x y ≡ pos 0) → All (λ r. r.y ≢ y) rs
+pub no_row : (top y : ℤ) (rs : List EdgeRow) → AreRowsFrom top rs → ((x : ℤ) → weight_in_rows rs x y ≡ pos 0) → All (λ r. r.y ≢ y) rs
 no_row top y [] rows blank = All-nil (λ r. r.y ≢ y)
 no_row top y (r ∷ rs) rows blank =
     let apart : r.y ≢ y = λ here. rows.0.some (no_edges (negsuc 4094) r.edges rows.0.edges.sorted (λ x.

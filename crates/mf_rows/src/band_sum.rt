@@ -1,5 +1,5 @@
 //! The sum of two lists of bands.
-ghost use Rattle.std.specs.Prelude.{◌≡◌, ◌≢◌, ◌⊎◌, [], IfOk, IfErr, OnOk, OnErr, IfSome, IsNone};
+ghost use Rattle.std.specs.Prelude.{◌≡◌, ◌≢◌, ◌⊎◌, [], IsOk, IfOk, IfErr, OnOk, OnErr, IfSome, IsNone};
 ghost use Rattle.mf_rows.specs.Bands.{rows_in, rows_of_bands};
 ghost use Rattle.mf_rows.specs.BandSums.{EndsStep, IsStep, HasSum};
 ghost use Rattle.mf_rows.specs.EdgeRows.{AreRows};
@@ -13,7 +13,7 @@ use std::alloc::Global;
 use std::sync::Arc;
 
 /// Adds bands to a list of bands, which keeps its bands above and below them as they are. Refused with WeightTooLarge
-/// where a weight would pass 32767 in size; a refusal leaves the list as it was.
+/// where a weight would pass 32767 in size; a refusal leaves the list as it was. Where no band is added it takes no memory.
 pub(crate) fn add_bands(
     alloc: Global,
     bands: &mut Vec<Arc<Band>>,
@@ -24,6 +24,7 @@ pub(crate) fn add_bands(
     ensures rows { AreRows (rows_of_bands bands.new.items) }
     ensures weights { OnOk result (HaveRowWeights (weight_in_all (rows_of_bands bands.old.items) (rows_of_bands added.now)) (rows_of_bands bands.new.items)) }
     ensures unchanged { OnErr result (bands.new.items ≡ bands.old.items) }
+    ensures none { added.now ≡ [] → IsOk result }
     ensures too_large { IfErr result (λ fault. fault ≢ AddFault.OutOfMemory → IsUnlawfulSomewhere (weight_in_all (rows_of_bands bands.old.items) (rows_of_bands added.now))) }
 {
     let (Some(first), Some(last)) = (added.first(), added.last()) else {

@@ -1,5 +1,5 @@
 //! Lists of bands: an operation makes the bands anew that it touches, and shares the others.
-ghost use Rattle.std.specs.Prelude.{◌≡◌, ◌++◌, ◌≤◌, pos, negsuc, IsNone, IfSome, IfOk, OnOk, ◌≤ℤ◌, length, take, drop, All};
+ghost use Rattle.std.specs.Prelude.{◌≡◌, [], ◌++◌, ◌≤◌, pos, negsuc, IsNone, IsOk, IfSome, IfOk, OnOk, ◌≤ℤ◌, length, take, drop, All};
 ghost use Rattle.std.specs.Arc.{arc_value};
 ghost use Rattle.mf_rows.specs.Bands.{bottom_of, edge_row, edge_rows, rows_in, rows_of_bands, HasRow, HasNoRow, HasSameRow, AreAbove};
 ghost use Rattle.mf_rows.specs.BandSums.{AreUpTo, AreBehind, AreNumberedBehind};
@@ -100,12 +100,13 @@ pub(crate) fn push_shared_rows(rows: &mut Vec<Row>, others: &[Row]) -> Result<()
     Ok(())
 }
 
-/// Adds bands to a list of bands, which shares these.
+/// Adds bands to a list of bands, which shares these. Where there are none it takes no memory.
 pub(crate) fn push_shared(
     bands: &mut Vec<Arc<Band>>,
     others: &[Arc<Band>],
 ) -> Result<(), OutOfMemory>
-    ensures { OnOk result (rows_of_bands bands.new.items ≡ rows_of_bands bands.old.items ++ rows_of_bands others.now) }
+    ensures rows { OnOk result (rows_of_bands bands.new.items ≡ rows_of_bands bands.old.items ++ rows_of_bands others.now) }
+    ensures none { others.now ≡ [] → IsOk result }
 {
     bands.reserve(others.len())?;
     for band in others {

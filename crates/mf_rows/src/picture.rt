@@ -1,5 +1,5 @@
 //! Pictures.
-ghost use Rattle.std.specs.Prelude.{◌≡◌, ◌≢◌, [], IsNone, IfSome, IfOk, IfErr, OnOk, OnErr, IsTrue, slice_get, ◌↔◌};
+ghost use Rattle.std.specs.Prelude.{◌≡◌, ◌≢◌, [], IsNone, IsOk, IfSome, IfOk, IfErr, OnOk, OnErr, IsTrue, slice_get, ◌↔◌};
 ghost use Rattle.mf_rows.specs.Bands.{edge_rows};
 ghost use Rattle.mf_rows.specs.EdgeRows.{AreRows};
 
@@ -68,9 +68,10 @@ impl Picture {
         }
     }
 
-    /// An equal picture, which shares the rows of this one. Refusal OutOfMemory (14).
+    /// An equal picture, which shares the rows of this one. Refusal OutOfMemory (14), never for a blank picture.
     pub fn copy(&self, alloc: Global) -> Result<Picture, OutOfMemory>
         ensures value { IfOk result (λ copy. copy ≡ self.now) }
+        ensures blank { self.now ≡ [] → IsOk result }
         ensures lawful { IsPicture self.now }
     {
         let mut bands = Vec::new(alloc);
@@ -142,9 +143,10 @@ impl Picture {
 
     /// The picture whose weight at each pixel is the sum of those of this picture and of another, as `add` makes it;
     /// both are unchanged. It shares the bands that only one of them has. Refusals WeightTooLarge (12), where a
-    /// weight would pass 32767 in size, and OutOfMemory (14).
+    /// weight would pass 32767 in size, and OutOfMemory (14), never where both are blank.
     pub fn plus(&self, alloc: Global, other: &Picture) -> Result<Picture, AddFault>
         ensures weights { IfOk result (HasWeights (sum_at self.now other.now)) }
+        ensures blank { self.now ≡ [] → other.now ≡ [] → IsOk result }
         ensures lawful { IfOk result IsPicture }
         ensures too_large { IfErr result (λ fault. fault ≢ AddFault.OutOfMemory → IsUnlawfulSomewhere (sum_at self.now other.now)) }
     {
@@ -156,9 +158,10 @@ impl Picture {
     /// Adds another picture to this one, as `addto .. also` does (The METAFONTbook, chapter 13; mf.web: `merge_edges`):
     /// the weight of each pixel is then the sum of both, and the other picture is unchanged. Bands that only one of
     /// them has stay as they are, or are shared. Refusals WeightTooLarge (12), where a weight would pass 32767 in size,
-    /// and OutOfMemory (14), which leave it as it was.
+    /// and OutOfMemory (14), which leave it as it was. Adding a blank picture is never refused.
     pub fn add(&mut self, alloc: Global, other: &Picture) -> Result<(), AddFault>
         ensures weights { OnOk result (HasWeights (sum_at self.old other.now) self.new) }
+        ensures blank { other.now ≡ [] → IsOk result }
         ensures unchanged { OnErr result (self.new ≡ self.old) }
         ensures lawful { OnOk result (IsPicture self.new) }
         ensures too_large { IfErr result (λ fault. fault ≢ AddFault.OutOfMemory → IsUnlawfulSomewhere (sum_at self.old other.now)) }
@@ -168,12 +171,16 @@ impl Picture {
 
     /// The picture in which each weight is mapped by itself, as `cull` does (The METAFONTbook, chapter 13; mf.web:
     /// `cull_edges`); this one is unchanged. Weight 0 must stay 0, and weights in -32767..32767 must become such
-    /// weights. Refusal OutOfMemory (14).
+    /// weights. Refusal OutOfMemory (14), never for a blank picture.
     pub fn map_weights(&self, alloc: Global, map: &WeightMap) -> Result<Picture, OutOfMemory>
         requires { IsWeightMap map.now }
         ensures weights { IfOk result (HasWeights (mapped_at map.now self.now)) }
+        ensures blank { self.now ≡ [] → IsOk result }
         ensures lawful { IfOk result IsPicture }
     {
+        if self.is_blank() {
+            return Ok(Picture::blank(alloc));
+        }
         let rows = rows_of(alloc, &self.bands)?;
         let changed = changed_rows(alloc, &rows, &RowChange::Weights(*map))?;
         Picture::from_rows(alloc, changed)
@@ -256,6 +263,13 @@ impl Picture {
     {
         let added = Picture::from_rows(alloc, rows_of_corners(alloc, corners)?)?;
         self.add(alloc, &added)
+    }
+
+    /// Whether it is blank.
+    fn is_blank(&self) -> bool
+        ensures { IsTrue result ↔ (self.now ≡ []) }
+    {
+        self.bands.is_empty()
     }
 
     /// The picture of these rows.

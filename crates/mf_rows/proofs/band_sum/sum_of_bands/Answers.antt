@@ -53,10 +53,10 @@ loop-number-preserved c =
 
 pub returns-clause-rows : goal.returns-clause-rows
 returns-clause-rows c =
-    let all = c.in_ok-push_shared-2.ensures ∙ ap (λ rs. rs ++ rows_of_bands c.loop-number.right.now) c.in_ok-push_shared.ensures in
+    let all = c.in_ok-push_shared-2.ensures.rows ∙ ap (λ rs. rs ++ rows_of_bands c.loop-number.right.now) c.in_ok-push_shared.ensures.rows in
     subst AreRows (sym all) (rows_with_bands _ _ _ _ _ c.loop-number.invariant (c.in_default.ensures.none refl))
 
 pub returns-clause-weights : goal.returns-clause-weights
 returns-clause-weights c =
-    let all = c.in_ok-push_shared-2.ensures ∙ ap (λ rs. rs ++ rows_of_bands c.loop-number.right.now) c.in_ok-push_shared.ensures in
+    let all = c.in_ok-push_shared-2.ensures.rows ∙ ap (λ rs. rs ++ rows_of_bands c.loop-number.right.now) c.in_ok-push_shared.ensures.rows in
     subst (HaveRowWeights (weight_in_all (rows_of_bands c.args.left.now) (rows_of_bands c.args.right.now))) (sym all) (weights_with_rest _ _ _ _ _ c.loop-number.invariant)

@@ -5,9 +5,13 @@ use Rattle.mf_rows.specs.Dots.{IsPicture}
 use Rattle.mf_rows.specs.EdgeRows.{picture_of_rows}
 use Rattle.mf_rows.specs.Sums.{HasWeights}
 use Rattle.mf_rows.specs.WeightMaps.{mapped_at}
+use Rattle.mf_rows.proofs.BlankPictures.{blank_mapped}
 use Rattle.mf_rows.proofs.EdgeRowsLemmas.{lawful_picture_of_rows}
 use Rattle.mf_rows.proofs.PictureRows.{weights_mapped}
 use Rattle.mf_rows.proofs.picture.Picture.map_weights.Goals as goal
+
+pub returns-then-is_blank-clause-weights : goal.returns-then-is_blank-clause-weights
+returns-then-is_blank-clause-weights c = rw c.blank.ensures (blank_mapped c.args.self.now c.args.map.now (c.is_blank.ensures.0 c.if-is_blank.true) c.requires)
 
 pub returns-clause-weights : goal.returns-clause-weights
 returns-clause-weights c =
