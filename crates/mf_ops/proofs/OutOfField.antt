@@ -1,4 +1,4 @@
--- When a shift, a scale or a turn takes a pixel out of the field.
+-- When a shift or a scale takes a pixel out of the field, and that no other operation does.
 use Rattle.std.proofs.Common.{◌≡◌, ◌≢◌, ◌&&◌, Bool, true, false, ℤ, pos, negsuc, ◌+ℤ◌, ◌-ℤ◌, ◌*ℤ◌, ◌≤ℤ◌, List, [], ◌∷◌, Some, refl, sym, ◌∙◌, inl, inr, arith}
 use Rattle.std.specs.Int.{int_max, int_min}
 use Rattle.std.specs.List.{list_any}
@@ -8,19 +8,27 @@ use Rattle.std.proofs.lemmas.Bool.Decides.{Decides-int_eq}
 use Rattle.std.proofs.lemmas.Int.{ints, clamps, by_lt_z}
 use Rattle.std.proofs.lemmas.List.Elements.{All-contains}
 use Rattle.std.proofs.lemmas.List.Folds.{Any-from_list_any}
+use Rattle.mf_geom.specs.declared.check.Check.{Check}
+use Rattle.mf_geom.specs.declared.point.Point.{Point}
 use Rattle.mf_geom.specs.Field.{IsInField}
+use Rattle.mf_geom.specs.Winding.{contour, winding}
 use Rattle.mf_rows.specs.Dots.{Dot, IsDot, IsPicture, start_of_field, weight_at}
 use Rattle.mf_edges.specs.Axes.{opposite, IsPointInReach, PlaceStaysInside}
 use Rattle.mf_rows.proofs.DotsLemmas.{IsAt, weight_at-dot, dots_from-lawful, weight_at-outside}
+use Rattle.mf_ops.specs.Cull.{IsLawfulCull, culled}
 use Rattle.mf_ops.specs.Moves.{Factors, AreFactors, IsFactor, HasPlace, scale_source, is_in_reach, stays_inside, turned, turned_by}
-use Rattle.mf_ops.specs.Step.{step_at, leaves, fault_of, LiesOutside, TurnsLawfully}
+use Rattle.mf_ops.specs.Step.{step_at, leaves, fault_of, LiesOutside, MayLeave, TurnsLawfully}
+use Rattle.mf_ops.specs.declared.cull.CullRule.{CullRule}
+use Rattle.mf_ops.specs.declared.cull.CullRule.TheVariants.{Keeping, Dropping}
 use Rattle.mf_ops.specs.declared.op.Op.{Op}
 use Rattle.mf_ops.specs.declared.op.Op.TheVariants as ops
-use Rattle.mf_ops.specs.declared.op.Op.TheVariants.{Shift, Scale}
+use Rattle.mf_ops.specs.declared.op.Op.TheVariants.{Contour, Also, Cull, Shift, Scale, Clear}
 use Rattle.mf_ops.specs.declared.op.OpFault.TheVariants.{OutOfField}
 use Rattle.mf_ops.specs.declared.quarter.Quarter.{Quarter}
 use Rattle.mf_ops.specs.declared.quarter.Quarter.TheVariants.{Once, Twice, Thrice}
-use Rattle.mf_ops.proofs.Faults.{leaves-refused, fault_of-leaves}
+use Rattle.mf_ops.specs.declared.sign.Sign.{Sign}
+use Rattle.mf_ops.specs.declared.sign.Sign.TheVariants.{Plus, Minus}
+use Rattle.mf_ops.proofs.Faults.{leaves-refused, fault_of-leaves, contour_not_out, also_not_out, cull_not_out, quarter_not_out, clear_not_out}
 use Rattle.mf_ops.proofs.Places.{scale_source-covered, scale_source-only, HasPlace-first, HasPlace-last}
 
 -- where the weight is not 0 a dot stands
@@ -228,3 +236,38 @@ pub turn-inside : (ds : List Dot) (q : Quarter) → IsPicture ds → LiesOutside
 unfolding ZeroOutside
 turn-inside ds q picture at =
     at.nonzero (turned_by-outside q (weight_at ds) (λ x y outside. weight_at-outside ds x y picture outside) at.x at.y at.outside)
+
+-- ---- all others
+
+-- a cycle winds round no pixel outside the field
+pub contour-inside : (ds : List Dot) (ps : List Point) (w : ℤ) (check : Check) → IsPicture ds → ((x y : ℤ) → (IsInField x y → ⊥) → winding ps x y ≡ pos 0) → LiesOutside (step_at ds (Contour ps w check)) → ⊥
+unfolding contour
+contour-inside ds ps w check picture none at =
+    at.nonzero (rw (weight_at-outside ds at.x at.y picture at.outside, none at.x at.y at.outside) (omega (arith, ints)))
+
+pub also-inside : (ds es : List Dot) (s : Sign) → IsPicture ds → IsPicture es → LiesOutside (step_at ds (Also es s)) → ⊥
+also-inside ds es Plus picture other at =
+    at.nonzero (omega (arith, ints, weight_at-outside ds at.x at.y picture at.outside, weight_at-outside es at.x at.y other at.outside))
+also-inside ds es Minus picture other at =
+    at.nonzero (omega (arith, ints, weight_at-outside ds at.x at.y picture at.outside, weight_at-outside es at.x at.y other at.outside))
+
+-- a lawful cull leaves weight 0 as it is
+culled_zero : (c : CullRule) → IsLawfulCull c → culled c (pos 0) ≡ pos 0
+culled_zero (Keeping a b w) lawful = grind (arith, ints)
+culled_zero (Dropping a b w) lawful = grind (arith, ints)
+
+pub cull-inside : (ds : List Dot) (c : CullRule) → IsPicture ds → IsLawfulCull c → LiesOutside (step_at ds (Cull c)) → ⊥
+cull-inside ds c picture lawful at = at.nonzero (rw (weight_at-outside ds at.x at.y picture at.outside) (culled_zero c lawful))
+
+pub clear-inside : (ds : List Dot) → LiesOutside (step_at ds Clear) → ⊥
+clear-inside ds at = at.nonzero refl
+
+-- so only a shift or a scale is refused with OutOfField
+pub may_leave-refused : (ds : List Dot) (op : Op) → fault_of ds op ≡ Some OutOfField → MayLeave op
+may_leave-refused ds (Contour ps w check) refused = contour_not_out ds ps w check refused
+may_leave-refused ds (Also es s) refused = also_not_out ds es s refused
+may_leave-refused ds (Cull c) refused = cull_not_out ds c refused
+may_leave-refused ds (Shift dx dy) refused = tt
+may_leave-refused ds (Scale s) refused = tt
+may_leave-refused ds (ops.Quarter q) refused = quarter_not_out ds q refused
+may_leave-refused ds Clear refused = clear_not_out ds refused

@@ -42,6 +42,16 @@ leaves (Scale s) d = not (stays_inside s.x (pos 0) d.x && stays_inside s.y (pos 
 leaves (Quarter q) d = false
 leaves Clear d = false
 
+-- an operation that may take a pixel out of the field: a shift or a scale
+abbrev pub MayLeave : Op → Type 0
+MayLeave (Contour ps w check) = ⊥
+MayLeave (Also es s) = ⊥
+MayLeave (Cull c) = ⊥
+MayLeave (Shift dx dy) = Unit {0}
+MayLeave (Scale s) = Unit {0}
+MayLeave (Quarter q) = ⊥
+MayLeave Clear = ⊥
+
 -- an operation takes no pixel of the picture ds out of the field
 pub record StaysInField (ds : List Dot) (op : Op) : Type 0 where
   pub none_leaves : list_any (leaves op) ds ≡ false

@@ -15,9 +15,10 @@ ghost use Rattle.mf_rows.specs.Dots.{Dot, IsPicture, total_of, weight_at};
 ghost use Rattle.mf_ops.specs.Cull.{IsLawfulCull, culled};
 ghost use Rattle.mf_ops.specs.Moves.{Factors, AreFactors, IsFactor, HasPlace, scale_source, turned};
 ghost use Rattle.mf_ops.specs.Operations.{AreAccepted, picture_after, revision_after};
-ghost use Rattle.mf_ops.specs.Step.{step_at, stepped, fault_of, StaysInField, TurnsLawfully, LiesOutside};
+ghost use Rattle.mf_ops.specs.Step.{step_at, stepped, fault_of, StaysInField, TurnsLawfully, LiesOutside, MayLeave};
 ghost use Rattle.mf_ops.specs.Weights.{is_too_large, IsTooLargeSomewhere};
 ghost use Rattle.mf_ops.specs.declared.op.Op.{Op};
+ghost use Rattle.mf_ops.specs.declared.cull.CullRule.{CullRule};
 ghost use Rattle.mf_ops.specs.declared.cull.CullRule.TheVariants.{Keeping, Dropping};
 ghost use Rattle.mf_ops.specs.declared.op.Op.TheVariants as ops;
 ghost use Rattle.mf_ops.specs.declared.op.Op.TheVariants.{Contour, Also, Cull, Shift, Scale, Clear};
@@ -26,6 +27,8 @@ ghost use Rattle.mf_ops.specs.declared.sign.Sign.TheVariants.{Minus};
 ghost use Rattle.mf_ops.specs.declared.op.OpFault.TheVariants as OpFault;
 ghost use Rattle.mf_ops.specs.declared.op.OpFault.TheVariants.{OutOfField, WeightTooLarge};
 ghost use Rattle.mf_ops.specs.declared.quarter.Quarter.{Quarter};
+
+use mf_geom::laws::nothing_outside_the_field;
 
 /// An operation whose cycle turns lawfully, if it has one, and that takes no pixel of a picture out of the field is refused
 /// exactly where the weight of some pixel of the field would pass 32767 in size.
@@ -48,15 +51,26 @@ pub fn refused_where_it_turns_back()
 {}
 
 /// A shift or a scale is refused with OutOfField exactly where some pixel outside the field would have a weight
-/// other than 0. A turn gives no pixel outside the field a weight.
+/// other than 0. No other operation is refused so, or gives a pixel outside the field a weight: a contour, a picture that is
+/// added or subtracted, a lawful cull, a turn, a clear.
 pub fn refused_where_a_pixel_leaves()
     ensures shift { (ds : List Dot) (dx dy : ℤ) → IsPicture ds →
         (fault_of ds (Shift dx dy) ≡ Some OutOfField) ↔ LiesOutside (step_at ds (Shift dx dy)) }
     ensures scale { (ds : List Dot) (s : Factors) → IsPicture ds → AreFactors s →
         (fault_of ds (Scale s) ≡ Some OutOfField) ↔ LiesOutside (step_at ds (Scale s)) }
+    ensures contour { (ds : List Dot) (ps : List Point) (w : ℤ) (check : Check) → IsPicture ds → IsRectilinearCycle ps →
+        LiesOutside (step_at ds (Contour ps w check)) → ⊥ }
+    ensures also { (ds es : List Dot) (s : Sign) → IsPicture ds → IsPicture es →
+        LiesOutside (step_at ds (Also es s)) → ⊥ }
+    ensures cull { (ds : List Dot) (c : CullRule) → IsPicture ds → IsLawfulCull c →
+        LiesOutside (step_at ds (Cull c)) → ⊥ }
     ensures turn { (ds : List Dot) (q : Quarter) → IsPicture ds →
         LiesOutside (step_at ds (ops.Quarter q)) → ⊥ }
-{}
+    ensures clear { (ds : List Dot) → LiesOutside (step_at ds Clear) → ⊥ }
+    ensures only { (ds : List Dot) (op : Op) → fault_of ds op ≡ Some OutOfField → MayLeave op }
+{
+    nothing_outside_the_field();
+}
 
 /// A clear, a turn of a picture and a cull with a lawful weight are never refused; a shift or a scale of a picture
 /// never is for its weights, and a contour or another picture never because a pixel leaves.
