@@ -1,5 +1,5 @@
 -- Pictures with the weights of sums, differences and culls.
-use Rattle.std.proofs.Common.{◌≡◌, ℤ, pos, List, [], subst, refl, arith}
+use Rattle.std.proofs.Common.{◌≡◌, ℤ, pos, List, [], subst, refl, sym, ap, ◌∙◌, arith}
 use Rattle.std.proofs.lemmas.Int.{ints}
 use Rattle.mf_edges.specs.declared.weight_map.WeightMap.{WeightMap}
 use Rattle.mf_edges.specs.declared.weight_map.WeightMap.TheVariants.{Negate}
@@ -8,6 +8,8 @@ use Rattle.mf_rows.specs.Dots.{Dot, IsPicture, weight_at}
 use Rattle.mf_rows.specs.Sums.{HasWeights, IsUnlawfulSomewhere, sum_at}
 use Rattle.mf_edges.specs.WeightMaps.{mapped_to}
 use Rattle.mf_rows.specs.WeightMaps.{mapped_at}
+use Rattle.mf_rows.specs.Weights.{picture_of}
+use Rattle.mf_rows.proofs.WeightsLemmas.{picture_of-from_weights}
 use Rattle.mf_ops.specs.Cull.{culled}
 use Rattle.mf_ops.specs.Step.{step_at}
 use Rattle.mf_ops.specs.declared.cull.CullRule.{CullRule}
@@ -40,3 +42,14 @@ IsPicture-blank = record { dots = tt }
 pub HasWeights-blank : HasWeights (λ x y. pos 0) []
 unfolding weight_at
 HasWeights-blank = record { weights = λ x y in_field. refl }
+
+-- and so has the negated one, which is blank again
+negated_blank_weights : HasWeights (mapped_at Negate []) []
+unfolding mapped_at weight_at
+negated_blank_weights = record { weights = λ x y in_field. refl }
+
+pub negated_blank : (es negated : List Dot) → es ≡ [] → IsPicture negated → HasWeights (mapped_at Negate es) negated → negated ≡ []
+negated_blank es negated blank picture has =
+    picture_of-from_weights negated (mapped_at Negate es) picture has.weights
+    ∙ ap (λ ds. picture_of (mapped_at Negate ds)) blank
+    ∙ sym (picture_of-from_weights [] (mapped_at Negate []) IsPicture-blank negated_blank_weights.weights)

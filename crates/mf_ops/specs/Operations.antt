@@ -27,10 +27,10 @@ AreAcceptedOn ds (op ∷ ops) = (fault_of ds op ≡ None) × AreAcceptedOn (step
 pub record AreAccepted (ops : List Op) : Type 0 where
   pub steps : AreAcceptedOn [] ops
 
--- an operation that holds neither points nor a picture, so that a copy of it takes no memory
+-- an operation that holds neither points nor pixels, so that a copy of it takes no memory
 abbrev pub HoldsNoList : Op → Type 0
 HoldsNoList (Contour ps w check) = ⊥
-HoldsNoList (Also es s) = ⊥
+HoldsNoList (Also es s) = es ≡ []
 HoldsNoList (Cull c) = Unit {0}
 HoldsNoList (Shift dx dy) = Unit {0}
 HoldsNoList (Scale s) = Unit {0}

@@ -1,5 +1,5 @@
 //! Adding a picture to another, or subtracting it.
-ghost use Rattle.std.specs.Prelude.{◌≡◌, ◌≢◌, None, Some, IfOk, IfErr, OnOk, OnErr};
+ghost use Rattle.std.specs.Prelude.{◌≡◌, ◌≢◌, [], None, Some, IsOk, IfOk, IfErr, OnOk, OnErr};
 ghost use Rattle.mf_ops.specs.Step.{stepped, fault_of};
 ghost use Rattle.mf_ops.specs.declared.op.Op.TheVariants.{Also};
 
@@ -8,7 +8,7 @@ use crate::sign::Sign;
 use mf_rows::{Picture, WeightMap};
 use std::alloc::Global;
 
-/// The picture after another was added or subtracted.
+/// The picture after another was added or subtracted. Where both are blank it takes no memory.
 pub fn add(
     alloc: Global,
     picture: &Picture,
@@ -18,13 +18,14 @@ pub fn add(
     ensures step { IfOk result (λ new. new ≡ stepped picture.now (Also other.now sign)) }
     ensures accepted { OnOk result (fault_of picture.now (Also other.now sign) ≡ None) }
     ensures refused { IfErr result (λ fault. fault ≢ OpFault.OutOfMemory → fault_of picture.now (Also other.now sign) ≡ Some fault) }
+    ensures blank { picture.now ≡ [] → other.now ≡ [] → IsOk result }
 {
     let mut sum = picture.copy(alloc)?;
     add_to(alloc, &mut sum, other, sign)?;
     Ok(sum)
 }
 
-/// Adds another picture to a picture, or subtracts it from it. A refusal leaves it as it was.
+/// Adds another picture to a picture, or subtracts it from it. A refusal leaves it as it was. A blank picture is never refused.
 pub(crate) fn add_to(
     alloc: Global,
     picture: &mut Picture,
@@ -35,6 +36,7 @@ pub(crate) fn add_to(
     ensures unchanged { OnErr result (picture.new ≡ picture.old) }
     ensures accepted { OnOk result (fault_of picture.old (Also other.now sign) ≡ None) }
     ensures refused { IfErr result (λ fault. fault ≢ OpFault.OutOfMemory → fault_of picture.old (Also other.now sign) ≡ Some fault) }
+    ensures blank { other.now ≡ [] → IsOk result }
 {
     match sign {
         Sign::Plus => add_plus(alloc, picture, other),
@@ -48,6 +50,7 @@ fn add_plus(alloc: Global, picture: &mut Picture, other: &Picture) -> Result<(),
     ensures unchanged { OnErr result (picture.new ≡ picture.old) }
     ensures accepted { OnOk result (fault_of picture.old (Also other.now Sign.Plus) ≡ None) }
     ensures refused { IfErr result (λ fault. fault ≢ OpFault.OutOfMemory → fault_of picture.old (Also other.now Sign.Plus) ≡ Some fault) }
+    ensures blank { other.now ≡ [] → IsOk result }
 {
     Ok(picture.add(alloc, other)?)
 }
@@ -58,6 +61,7 @@ fn add_minus(alloc: Global, picture: &mut Picture, other: &Picture) -> Result<()
     ensures unchanged { OnErr result (picture.new ≡ picture.old) }
     ensures accepted { OnOk result (fault_of picture.old (Also other.now Sign.Minus) ≡ None) }
     ensures refused { IfErr result (λ fault. fault ≢ OpFault.OutOfMemory → fault_of picture.old (Also other.now Sign.Minus) ≡ Some fault) }
+    ensures blank { other.now ≡ [] → IsOk result }
 {
     let negated = other.map_weights(alloc, &WeightMap::Negate)?;
     Ok(picture.add(alloc, &negated)?)

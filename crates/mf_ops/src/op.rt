@@ -1,9 +1,11 @@
 //! Operations on pictures, and what they make of a picture.
-ghost use Rattle.std.specs.Prelude.{◌≡◌, ◌≢◌, None, Some, Err, IsOk, IfOk, IfErr, OnOk, OnErr};
+ghost use Rattle.std.specs.Prelude.{◌≡◌, ◌≢◌, [], None, Some, Err, IsOk, IfOk, IfErr, OnOk, OnErr};
 ghost use Rattle.mf_geom.specs.declared.cycle.CycleFault.{CycleFault};
 ghost use Rattle.mf_ops.specs.Operations.{HoldsNoList};
 ghost use Rattle.mf_ops.specs.Step.{stepped, fault_of};
+ghost use Rattle.mf_ops.specs.declared.cull.CullRule.{CullRule};
 ghost use Rattle.mf_ops.specs.declared.op.Op.TheVariants as ops;
+ghost use Rattle.mf_ops.specs.declared.sign.Sign.{Sign};
 
 use crate::add::{add, add_to};
 use crate::cull::Cull;
@@ -101,8 +103,8 @@ impl From<AddFault> for OpFault {
 }
 
 impl Op {
-    /// The same operation again. Refusal OutOfMemory (14), for a contour and for another picture alone: nothing was
-    /// made then.
+    /// The same operation again. Refusal OutOfMemory (14), for a contour and for another picture that is not blank alone:
+    /// nothing was made then.
     pub fn copy(&self, alloc: Global) -> Result<Op, OutOfMemory>
         ensures value { IfOk result (λ copy. copy ≡ self.now) }
         ensures copied { HoldsNoList self.now → IsOk result }
@@ -124,7 +126,8 @@ impl Op {
 /// The picture after an operation; the given one is unchanged. Refusals of a contour under the turning check, Backtracks
 /// (5), with the first vertex at which its cycle turns straight back, else TurningZero (6); then OutOfField (11), exactly
 /// where a pixel of nonzero weight would leave the field, else WeightTooLarge (12), exactly where the weight of a pixel would
-/// pass 32767 in size, and OutOfMemory (14), which may come in the place of WeightTooLarge alone. A clear is never refused.
+/// pass 32767 in size, and OutOfMemory (14), which may come in the place of WeightTooLarge alone. A clear is never refused, nor
+/// is a cull of a blank picture, or a blank picture that is added to one or subtracted from it.
 #[tactic(auto, using(crate::proofs::Faults::contour_not_out, crate::proofs::Faults::also_not_out, crate::proofs::Faults::cull_not_out, crate::proofs::Faults::quarter_not_out, crate::proofs::Faults::clear_not_out, crate::proofs::Faults::also_turns, crate::proofs::Faults::cull_turns, crate::proofs::Faults::shift_turns, crate::proofs::Faults::scale_turns, crate::proofs::Faults::quarter_turns, crate::proofs::Faults::clear_turns))]
 pub fn after(alloc: Global, picture: &Picture, op: &Op) -> Result<Picture, OpFault>
     ensures step { IfOk result (λ new. new ≡ stepped picture.now op.now) }
@@ -133,6 +136,8 @@ pub fn after(alloc: Global, picture: &Picture, op: &Op) -> Result<Picture, OpFau
     ensures turning { (fault : CycleFault) → fault_of picture.now op.now ≡ Some (OpFault.Cycle fault) → result ≡ Err (OpFault.Cycle fault) }
     ensures out_of_field { fault_of picture.now op.now ≡ Some OpFault.OutOfField → result ≡ Err OpFault.OutOfField }
     ensures clears { op.now ≡ ops.Clear → IsOk result }
+    ensures blank { (sign : Sign) → picture.now ≡ [] → op.now ≡ ops.Also [] sign → IsOk result }
+    ensures culls_blank { (cull : CullRule) → picture.now ≡ [] → op.now ≡ ops.Cull cull → IsOk result }
 {
     match op {
         Op::Contour(cycle, weight, check) => fill(alloc, picture, cycle, *weight, *check),
@@ -146,7 +151,7 @@ pub fn after(alloc: Global, picture: &Picture, op: &Op) -> Result<Picture, OpFau
 }
 
 /// Performs an operation on a picture: contours and other pictures are added to it in place. Refusals are those of
-/// `after`, and leave it as it was.
+/// `after`, and leave it as it was. A blank picture that is added or subtracted is never refused.
 #[tactic(auto, using(crate::proofs::Faults::contour_not_out, crate::proofs::Faults::also_not_out, crate::proofs::Faults::also_turns))]
 pub fn apply(alloc: Global, picture: &mut Picture, op: &Op) -> Result<(), OpFault>
     ensures step { OnOk result (picture.new ≡ stepped picture.old op.now) }
@@ -156,6 +161,8 @@ pub fn apply(alloc: Global, picture: &mut Picture, op: &Op) -> Result<(), OpFaul
     ensures turning { (fault : CycleFault) → fault_of picture.old op.now ≡ Some (OpFault.Cycle fault) → result ≡ Err (OpFault.Cycle fault) }
     ensures out_of_field { fault_of picture.old op.now ≡ Some OpFault.OutOfField → result ≡ Err OpFault.OutOfField }
     ensures clears { op.now ≡ ops.Clear → IsOk result }
+    ensures blank { (sign : Sign) → op.now ≡ ops.Also [] sign → IsOk result }
+    ensures culls_blank { (cull : CullRule) → picture.old ≡ [] → op.now ≡ ops.Cull cull → IsOk result }
 {
     match op {
         Op::Contour(cycle, weight, check) => fill_in(alloc, picture, cycle, *weight, *check),
@@ -172,6 +179,7 @@ fn after_cull(alloc: Global, picture: &Picture, cull: Cull) -> Result<Picture, O
     ensures step { IfOk result (λ new. new ≡ stepped picture.now (ops.Cull cull)) }
     ensures accepted { OnOk result (fault_of picture.now (ops.Cull cull) ≡ None) }
     ensures refused { IfErr result (λ fault. fault ≡ OpFault.OutOfMemory) }
+    ensures blank { picture.now ≡ [] → IsOk result }
 {
     Ok(picture.map_weights(alloc, &cull.weight_map())?)
 }

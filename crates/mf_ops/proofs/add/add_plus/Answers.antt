@@ -1,3 +1,4 @@
+use Rattle.std.proofs.Common.{refl}
 use Rattle.std.proofs.lemmas.Result.{err_from_is_err_and}
 use Rattle.mf_ops.specs.declared.op.Op.TheVariants.{Also}
 use Rattle.mf_ops.specs.declared.sign.Sign.TheVariants.{Plus}
@@ -18,4 +19,4 @@ returns c =
     let es = c.args.other.now in
     let has = HasWeights-same _ _ _ (sum_at-plus ds es) c.in_ok-add.ensures.weights in
     let picture = c.in_ok-add.ensures.lawful in
-    record { step = stepped-from_weights ds (Also es Plus) _ picture has; accepted = fault_of-from_weights ds (Also es Plus) _ (also_stays ds es Plus) picture has; unchanged = tt; refused = tt }
+    record { step = stepped-from_weights ds (Also es Plus) _ picture has; accepted = fault_of-from_weights ds (Also es Plus) _ (also_stays ds es Plus) picture has; unchanged = tt; refused = tt; blank = λ blank. refl }
