@@ -1,6 +1,7 @@
 -- The rows of a picture that is being built.
-use Rattle.std.specs.Prelude.{◌≡◌, ◌<◌, ◌-◌, ℤ, pos, ◌+ℤ◌, ◌≤ℤ◌, ◌<ℤ◌, All, List, map, length}
+use Rattle.std.specs.Prelude.{◌≡◌, ◌<◌, ◌≤◌, ◌+◌, ◌-◌, ℤ, pos, ◌+ℤ◌, ◌≤ℤ◌, ◌<ℤ◌, All, List, map, length}
 use Rattle.std.specs.List.{HoldsAt}
+use Rattle.std.specs.Vec.{vec_len, vec_capacity}
 use Rattle.mf_edges.specs.declared.edge.Edge.{Edge}
 use Rattle.mf_rows.specs.declared.builder.OpenRow.{OpenRow}
 use Rattle.mf_rows.specs.declared.run.Run.{Run}
@@ -19,6 +20,10 @@ open_rows rows = map open_row rows
 pub record EndInRow (rows : List OpenRow) (y : ℤ) : Type 0 where
   pub some : 0 < length rows
   pub last : HoldsAt (λ r. r.y ≡ y) rows (length rows - 1)
+
+-- a row has room for the two edges of a run
+abbrev pub HasRoom : OpenRow → Type 0
+HasRoom r = vec_len r.edges + 2 ≤ vec_capacity r.edges
 
 -- edges that stand at or left of column x
 abbrev pub EndAt : ℤ → List Edge → Type 0

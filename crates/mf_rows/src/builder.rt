@@ -1,7 +1,8 @@
 //! Pictures built from runs.
-ghost use Rattle.std.specs.Prelude.{◌≡◌, [], ◌++◌, ◌↔◌, IsTrue, IfOk, OnOk, OnErr};
+ghost use Rattle.std.specs.Prelude.{◌≡◌, ◌-◌, [], ◌++◌, ◌↔◌, length, IsTrue, IsOk, IfOk, OnOk, OnErr};
+ghost use Rattle.std.specs.List.{HoldsAt};
 ghost use Rattle.mf_rows.specs.Bands.{edge_row, edge_rows};
-ghost use Rattle.mf_rows.specs.Building.{open_row, open_rows, EndInRow, EndAt, EndsBefore, HasRun};
+ghost use Rattle.mf_rows.specs.Building.{open_row, open_rows, EndInRow, EndAt, EndsBefore, HasRoom, HasRun};
 ghost use Rattle.mf_rows.specs.Dots.{place};
 ghost use Rattle.mf_edges.specs.Edges.{AreEdges};
 ghost use Rattle.mf_rows.specs.EdgeRows.{AreRows, picture_of_rows};
@@ -114,7 +115,8 @@ fn end_in_row(rows: &[OpenRow], run: &Run) -> bool
     }
 }
 
-/// Adds a run to the last of the rows. Want of memory leaves the rows as they were.
+/// Adds a run to the last of the rows. Want of memory, only where that row has no room for two more edges, leaves the rows
+/// as they were.
 fn push_on_last(rows: &mut [OpenRow], run: Run) -> Result<(), OutOfMemory>
     requires rows { AreRows (open_rows rows.old) }
     requires last { EndInRow rows.old run.y }
@@ -122,6 +124,7 @@ fn push_on_last(rows: &mut [OpenRow], run: Run) -> Result<(), OutOfMemory>
     ensures rows { AreRows (open_rows rows.new) }
     ensures ok { OnOk result (picture_of_rows (open_rows rows.new) ≡ picture_of_rows (open_rows rows.old) ++ dots_of run) }
     ensures unchanged { OnErr result (open_rows rows.new ≡ open_rows rows.old) }
+    ensures succeeds { HoldsAt HasRoom rows.old (length rows.old - 1) → IsOk result }
 {
     let last = rows.len() - 1;
     rows[last].push_run(run)
@@ -152,7 +155,8 @@ impl OpenRow {
         Ok(row)
     }
 
-    /// Adds a run in this row, which comes after those that it has. Want of memory leaves the row as it was.
+    /// Adds a run in this row, which comes after those that it has. Want of memory, only where there is no room for two more
+    /// edges, leaves the row as it was.
     fn push_run(&mut self, run: Run) -> Result<(), OutOfMemory>
         requires run { IsRun run }
         requires row { self.old.y ≡ run.y }
@@ -160,6 +164,7 @@ impl OpenRow {
         requires after { EndAt run.x self.old.edges.items }
         ensures ok { OnOk result (HasRun (open_row self.old) run (open_row self.new)) }
         ensures unchanged { OnErr result (open_row self.new ≡ open_row self.old) }
+        ensures succeeds { HasRoom self.old → IsOk result }
     {
         self.edges.reserve(2)?;
         add_edge(&mut self.edges, run.x, run.weight)?;

@@ -33,6 +33,9 @@ returns-clause-unchanged c =
     let is_last = last_is_last rows c.index-rows-last.result c.requires.last.some in
     on_err_weaker c.push_run.result (rows-kept_last rows _ c.push_run.new.self is_last) c.push_run.ensures.unchanged
 
+pub returns-clause-succeeds : goal.returns-clause-succeeds
+returns-clause-succeeds c = λ room. c.push_run.ensures.succeeds (room c.index-rows-last.result)
+
 -- in either case the rows are lawful
 pub returns-clause-rows : goal.returns-clause-rows
 returns-clause-rows c =

@@ -82,6 +82,10 @@ pub returns-clause-unchanged : goal.returns-clause-unchanged
 returns-clause-unchanged c =
     on_err-from_ok c.add_edge-2.result _ (c.add_edge-2.ensures.succeeds (omega (arith, c.in_ok-reserve.ensures.ok, c.add_edge.ensures.len, c.add_edge.ensures.capacity)))
 
+pub returns-clause-succeeds : goal.returns-clause-succeeds
+returns-clause-succeeds c = λ room.
+    c.add_edge-2.ensures.succeeds (omega (arith, c.in_ok-reserve.ensures.ok, c.add_edge.ensures.len, c.add_edge.ensures.capacity))
+
 pub overflow_cast-run : goal.overflow_cast-run
 overflow_cast-run c = (run_numbers c.args.run c.requires.run).cast
 
