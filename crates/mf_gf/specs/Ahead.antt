@@ -4,7 +4,6 @@ use Rattle.mf_rows.specs.declared.run.Run.{Run}
 use Rattle.mf_rows.specs.Dots.{AreDotsFrom}
 use Rattle.mf_rows.specs.Order.{IsRun}
 use Rattle.mf_rows.specs.Runs.{dots_of, runs_of}
-use Rattle.mf_rows.specs.Walk.{runs_left}
 use Rattle.mf_gf.specs.declared.stretches.Stretches.{Stretches}
 
 -- the runs of positive weight, as runs of weight 1
@@ -25,7 +24,7 @@ pub record AreInOrder (rs : List Run) : Type 0 where
 
 -- the black runs that are still to come
 abbrev pub blacks_ahead : Stretches → List Run
-blacks_ahead s = with_next s.next (blacks (runs_left s.runs))
+blacks_ahead s = with_next s.next (blacks s.runs)
 
 -- and the stretches that they make
 abbrev pub stretches_left : Stretches → List Run

@@ -4,7 +4,6 @@ ghost use Rattle.mf_gf.specs.Ahead.{AreInOrder, blacks, blacks_ahead, stretches_
 ghost use Rattle.mf_gf.specs.Pixels.{black};
 ghost use Rattle.mf_rows.specs.Dots.{IsPicture};
 ghost use Rattle.mf_rows.specs.Runs.{dots_of, runs_of};
-ghost use Rattle.mf_rows.specs.Walk.{runs_left};
 
 use mf_rows::{Picture, Run, Runs};
 
@@ -68,7 +67,7 @@ impl Iterator for Stretches<'_> {
 
 /// The next run of positive weight, as one of weight 1.
 fn next_black(runs: &mut Runs<'_>) -> Option<Run>
-    ensures next { blacks (runs_left runs.old) ≡ with_next result (blacks (runs_left runs.new)) }
+    ensures next { blacks runs.old ≡ with_next result (blacks runs.new) }
 {
     while let Some(run) = runs.next() {
         if run.weight > 0 {

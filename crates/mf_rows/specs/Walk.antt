@@ -1,10 +1,10 @@
--- What an iterator over runs has left.
+-- What a walk over the edges of a picture has left.
 use Rattle.std.specs.Prelude.{◌≡◌, ℤ, pos, negsuc, ◌+ℤ◌, ◌-ℤ◌, ◌≤ℤ◌, List, [], ◌∷◌, ◌++◌, flat_map, if◌then◌else◌}
 use Rattle.std.specs.Ordering.{int_eq}
 use Rattle.std.specs.Int.RustNames.{unsigned_abs}
 use Rattle.mf_edges.specs.declared.edge.Edge.{Edge}
 use Rattle.mf_rows.specs.declared.run.Run.{Run}
-use Rattle.mf_rows.specs.declared.runs.Runs.{Runs}
+use Rattle.mf_rows.specs.declared.walk.Walk.{Walk}
 use Rattle.mf_edges.specs.Edges.{AreEdgesFrom}
 use Rattle.mf_rows.specs.EdgeRows.{EdgeRow}
 use Rattle.mf_rows.specs.Rest.{rows_left}
@@ -24,11 +24,11 @@ abbrev pub runs_of_rows : List EdgeRow → List Run
 runs_of_rows rs = flat_map (λ r. runs_of_edges r.y (pos 0) r.edges) rs
 
 -- the runs that are still to come
-abbrev pub runs_left : Runs → List Run
+abbrev pub runs_left : Walk → List Run
 runs_left r = runs_of_edges r.y r.weight r.edges.now ++ runs_of_rows (rows_left r.rows)
 
 -- an edge at column x was taken from s, which left t: the run up to the next edge begins there, unless the weight is 0
-pub record IsEdgeTaken (s : Runs) (x : ℤ) (t : Runs) : Type 0 where
+pub record IsEdgeTaken (s : Walk) (x : ℤ) (t : Walk) : Type 0 where
   pub left : runs_left s ≡ run_up_to t.y x t.weight t.edges.now ++ runs_left t
   pub column : negsuc 4094 ≤ℤ x
   pub behind : AreEdgesFrom (x +ℤ pos 1) t.edges.now

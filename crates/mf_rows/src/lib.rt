@@ -17,6 +17,7 @@ mod rows;
 mod run;
 mod runs;
 mod turn;
+mod walk;
 
 pub use bounds::Box4;
 pub use builder::RowBuilder;

@@ -54,7 +54,6 @@ impl Picture {
     ghost use Rattle.mf_rows.specs.Moves.{PixelsStayInside, columns_mirrored_at, rows_mirrored_at, stretched_at, turned_at};
     ghost use Rattle.mf_rows.specs.Runs.{runs_of};
     ghost use Rattle.mf_rows.specs.Sums.{HasWeights, IsUnlawfulSomewhere, sum_at};
-    ghost use Rattle.mf_rows.specs.Walk.{runs_left};
     ghost use Rattle.mf_edges.specs.WeightMaps.{IsWeightMap};
     ghost use Rattle.mf_rows.specs.WeightMaps.{mapped_at};
     ghost use Rattle.mf_rows.specs.Weights.{HaveSameWeights};
@@ -127,7 +126,7 @@ impl Picture {
 
     /// The maximal runs of one nonzero weight, rows from the top and columns rising.
     pub fn runs(&self) -> Runs<'_>
-        ensures runs { runs_left result ≡ runs_of self.now }
+        ensures runs { result ≡ runs_of self.now }
         ensures lawful { IsPicture self.now }
     {
         Runs::over(&self.bands)

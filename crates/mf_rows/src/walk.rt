@@ -1,4 +1,4 @@
-//! The maximal runs of a picture, one after another.
+//! The walk over the edges of a picture, which meets its runs one after another.
 ghost use Rattle.std.specs.Prelude.{◌≡◌, ◌≢◌, [], IfNone, IfSome, pos, negsuc};
 ghost use Rattle.mf_rows.specs.Bands.{rows_of_bands};
 ghost use Rattle.mf_rows.specs.EdgeRows.{AreRows, picture_of_rows};
@@ -10,10 +10,9 @@ use crate::run::Run;
 use mf_edges::Edge;
 use std::sync::Arc;
 
-/// An iterator over the maximal runs of a picture, rows from the top and columns rising. It walks the
-/// edges once.
+/// A walk over the edges of a picture, once, which gives its maximal runs, rows from the top and columns rising.
 #[derive(Drop)]
-pub struct Runs<'a> {
+pub(crate) struct Walk<'a> {
     /// Rows that are still to come.
     rows: Rows<'a>,
     /// Edges of row `y` that are still to come, and the weight left of them.
@@ -24,16 +23,16 @@ pub struct Runs<'a> {
     ghost others: { AreEdgeRows (rows_left rows) } by { AreEdgeRows-prop (rows_left rows) },
 }
 
-impl<'a> Runs<'a> {
+impl<'a> Walk<'a> {
     ghost use Rattle.mf_rows.specs.Runs.{runs_of};
     ghost use Rattle.mf_rows.specs.Walk.{runs_left, IsEdgeTaken};
 
-    /// The runs of these bands.
-    pub(crate) fn over(bands: &'a [Arc<Band>]) -> Runs<'a>
+    /// The walk over these bands.
+    pub(crate) fn over(bands: &'a [Arc<Band>]) -> Walk<'a>
         requires { AreRows (rows_of_bands bands.now) }
         ensures { runs_left result ≡ runs_of (picture_of_rows (rows_of_bands bands.now)) }
     {
-        Runs {
+        Walk {
             rows: Rows::over(bands),
             edges: &[],
             y: 0,
@@ -83,7 +82,7 @@ impl<'a> Runs<'a> {
     }
 }
 
-impl Iterator for Runs<'_> {
+impl Iterator for Walk<'_> {
     type Item = Run;
 
     ghost use Rattle.std.specs.Iterator.{YieldsFirst, item_count};

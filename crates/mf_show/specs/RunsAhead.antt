@@ -4,7 +4,6 @@ use Rattle.mf_rows.specs.declared.run.Run.{Run}
 use Rattle.mf_rows.specs.Dots.{Dot, AreDotsFrom, place, weight_at}
 use Rattle.mf_rows.specs.Order.{IsRun}
 use Rattle.mf_rows.specs.Runs.{dots_of}
-use Rattle.mf_rows.specs.Walk.{runs_left}
 use Rattle.mf_show.specs.declared.grid.weights.Weights.{Weights}
 
 -- a run that was taken already, and those behind it: where none was taken none is left
@@ -14,7 +13,7 @@ with_taken (Some r) rs = r ∷ rs
 
 -- the runs ahead, and their dots
 abbrev pub runs_ahead : Weights → List Run
-runs_ahead w = with_taken w.run (runs_left w.runs)
+runs_ahead w = with_taken w.run w.runs
 
 abbrev pub dots_ahead : Weights → List Dot
 dots_ahead w = flat_map dots_of (runs_ahead w)

@@ -1,7 +1,6 @@
 use Rattle.std.proofs.Common.{◌≡◌}
-use Rattle.mf_rows.specs.Walk.{runs_left}
 use Rattle.mf_gf.specs.Ahead.{blacks}
 use Rattle.mf_gf.proofs.stretches.next_black.Given as goal
 
 abbrev pub invariant-loop-run : goal.invariant-loop-run
-invariant-loop-run l = blacks (runs_left l.initial.runs) ≡ blacks (runs_left l.runs)
+invariant-loop-run l = blacks l.initial.runs ≡ blacks l.runs

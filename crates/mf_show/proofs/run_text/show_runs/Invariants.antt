@@ -1,6 +1,5 @@
-use Rattle.mf_rows.specs.Walk.{runs_left}
 use Rattle.mf_show.proofs.WrittenRuns.{AreWritten}
 use Rattle.mf_show.proofs.run_text.show_runs.Given as goal
 
 abbrev pub invariant-loop-run : goal.invariant-loop-run
-invariant-loop-run l = AreWritten l.picture (runs_left l.run-iterator) l.text.items
+invariant-loop-run l = AreWritten l.picture l.run-iterator l.text.items

@@ -1,6 +1,6 @@
 use Rattle.std.proofs.Common.{sym, ◌∙◌}
 use Rattle.mf_rows.proofs.RunsLeft.{rest_taken, rest_behind, fits_taken, weight_taken, weight_changed, column_taken, runs_taken}
-use Rattle.mf_rows.proofs.runs.Runs.next_edge.Goals as goal
+use Rattle.mf_rows.proofs.walk.Walk.next_edge.Goals as goal
 
 pub overflow_add-self : goal.overflow_add-self
 overflow_add-self c =

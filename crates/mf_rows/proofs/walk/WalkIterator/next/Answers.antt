@@ -3,7 +3,7 @@ use Rattle.std.proofs.lemmas.Int.{ints}
 use Rattle.std.proofs.lemmas.List.{nil_from_length}
 use Rattle.mf_rows.specs.Walk.{runs_left}
 use Rattle.mf_rows.proofs.RunsLeft.{weight_none, run_found}
-use Rattle.mf_rows.proofs.runs.RunsIterator.next.Goals as goal
+use Rattle.mf_rows.proofs.walk.WalkIterator.next.Goals as goal
 
 -- where a run begins its row goes on
 pub returns-in_err-end-clause-steps : goal.returns-in_err-end-clause-steps

@@ -1,0 +1,56 @@
+//! The maximal runs of a picture, one after another.
+ghost use Rattle.mf_rows.specs.Bands.{rows_of_bands};
+ghost use Rattle.mf_rows.specs.EdgeRows.{AreRows, picture_of_rows};
+
+use crate::band::Band;
+use crate::run::Run;
+use crate::walk::Walk;
+use std::marker::Model;
+use std::sync::Arc;
+
+/// An iterator over the maximal runs of a picture, rows from the top and columns rising. To callers it is the list of the
+/// runs that are still to come. It walks the edges once, and takes no memory.
+#[derive(Drop)]
+pub struct Runs<'a> {
+    walk: Walk<'a>,
+}
+
+impl<'a> Model for Runs<'a> {
+    ghost use Rattle.std.specs.Prelude.{List};
+    ghost use Rattle.mf_rows.specs.declared.run.Run.{Run};
+
+    ghost Value = { List Run };
+
+    ghost use Rattle.mf_rows.specs.Walk.{runs_left};
+
+    ghost view = { λ runs. runs_left runs.walk };
+}
+
+impl<'a> Runs<'a> {
+    ghost use Rattle.std.specs.Prelude.{◌≡◌};
+    ghost use Rattle.mf_rows.specs.Runs.{runs_of};
+
+    /// The runs of these bands.
+    pub(crate) fn over(bands: &'a [Arc<Band>]) -> Runs<'a>
+        requires { AreRows (rows_of_bands bands.now) }
+        ensures { result ≡ runs_of (picture_of_rows (rows_of_bands bands.now)) }
+    {
+        Runs {
+            walk: Walk::over(bands),
+        }
+    }
+}
+
+impl Iterator for Runs<'_> {
+    type Item = Run;
+
+    ghost use Rattle.std.specs.Iterator.{YieldsFirst, item_count};
+
+    ghost next_gives = { YieldsFirst (λ runs. runs) };
+
+    ghost remaining = { item_count (λ runs. runs) };
+
+    fn next(&mut self) -> Option<Run> {
+        self.walk.next()
+    }
+}
