@@ -25,7 +25,8 @@ pub fn add(
     Ok(sum)
 }
 
-/// Adds another picture to a picture, or subtracts it from it. A refusal leaves it as it was. A blank picture is never refused.
+/// Adds another picture to a picture, or subtracts it from it. A refusal, which never comes for a blank one, leaves it as it
+/// was.
 pub(crate) fn add_to(
     alloc: Global,
     picture: &mut Picture,

@@ -51,8 +51,8 @@ pub fn refused_where_it_turns_back()
 {}
 
 /// A shift or a scale is refused with OutOfField exactly where some pixel outside the field would have a weight
-/// other than 0. No other operation is refused so, or gives a pixel outside the field a weight: a contour, a picture that is
-/// added or subtracted, a lawful cull, a turn, a clear.
+/// other than 0. No other operation is refused so, or gives a pixel outside the field a weight: a contour, a picture
+/// that is added or subtracted, a lawful cull, a turn, a clear.
 pub fn refused_where_a_pixel_leaves()
     ensures shift { (ds : List Dot) (dx dy : ℤ) → IsPicture ds →
         (fault_of ds (Shift dx dy) ≡ Some OutOfField) ↔ LiesOutside (step_at ds (Shift dx dy)) }

@@ -103,8 +103,8 @@ impl From<AddFault> for OpFault {
 }
 
 impl Op {
-    /// The same operation again. Refusal OutOfMemory (14), for a contour and for another picture that is not blank alone:
-    /// nothing was made then.
+    /// The same operation again. Refusal OutOfMemory (14), for a contour and for another picture that is not blank
+    /// alone: nothing was made then.
     pub fn copy(&self, alloc: Global) -> Result<Op, OutOfMemory>
         ensures value { IfOk result (λ copy. copy ≡ self.now) }
         ensures copied { HoldsNoList self.now → IsOk result }
@@ -126,8 +126,8 @@ impl Op {
 /// The picture after an operation; the given one is unchanged. Refusals of a contour under the turning check, Backtracks
 /// (5), with the first vertex at which its cycle turns straight back, else TurningZero (6); then OutOfField (11), exactly
 /// where a pixel of nonzero weight would leave the field, else WeightTooLarge (12), exactly where the weight of a pixel would
-/// pass 32767 in size, and OutOfMemory (14), which may come in the place of WeightTooLarge alone. A clear is never refused, nor
-/// is a cull of a blank picture, or a blank picture that is added to one or subtracted from it.
+/// pass 32767 in size, and OutOfMemory (14), which may come in the place of WeightTooLarge alone. A clear is never refused,
+/// nor is a cull of a blank picture, or a blank picture that is added to one or subtracted from it.
 #[tactic(auto, using(crate::proofs::Faults::contour_not_out, crate::proofs::Faults::also_not_out, crate::proofs::Faults::cull_not_out, crate::proofs::Faults::quarter_not_out, crate::proofs::Faults::clear_not_out, crate::proofs::Faults::also_turns, crate::proofs::Faults::cull_turns, crate::proofs::Faults::shift_turns, crate::proofs::Faults::scale_turns, crate::proofs::Faults::quarter_turns, crate::proofs::Faults::clear_turns))]
 pub fn after(alloc: Global, picture: &Picture, op: &Op) -> Result<Picture, OpFault>
     ensures step { IfOk result (λ new. new ≡ stepped picture.now op.now) }

@@ -13,7 +13,8 @@ use std::alloc::Global;
 use std::sync::Arc;
 
 /// Adds bands to a list of bands, which keeps its bands above and below them as they are. Refused with WeightTooLarge
-/// where a weight would pass 32767 in size; a refusal leaves the list as it was. Where no band is added it takes no memory.
+/// where a weight would pass 32767 in size; a refusal leaves the list as it was. Where no band is added it takes no
+/// memory.
 pub(crate) fn add_bands(
     alloc: Global,
     bands: &mut Vec<Arc<Band>>,

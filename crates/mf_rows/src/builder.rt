@@ -115,8 +115,8 @@ fn end_in_row(rows: &[OpenRow], run: &Run) -> bool
     }
 }
 
-/// Adds a run to the last of the rows. Want of memory, only where that row has no room for two more edges, leaves the rows
-/// as they were.
+/// Adds a run to the last of the rows. Want of memory, only where that row has no room for two more edges, leaves the
+/// rows as they were.
 fn push_on_last(rows: &mut [OpenRow], run: Run) -> Result<(), OutOfMemory>
     requires rows { AreRows (open_rows rows.old) }
     requires last { EndInRow rows.old run.y }
@@ -155,8 +155,8 @@ impl OpenRow {
         Ok(row)
     }
 
-    /// Adds a run in this row, which comes after those that it has. Want of memory, only where there is no room for two more
-    /// edges, leaves the row as it was.
+    /// Adds a run in this row, which comes after those that it has. Want of memory, only where there is no room for
+    /// two more edges, leaves the row as it was.
     fn push_run(&mut self, run: Run) -> Result<(), OutOfMemory>
         requires run { IsRun run }
         requires row { self.old.y ≡ run.y }

@@ -7,6 +7,7 @@ use Rattle.mf_rows.proofs.picture.Picture.is_blank.Goals as goal
 pub returns : goal.returns
 returns c =
     let bands = c.self.inside.bands.items in
-    let count = c.self.inside.bands.ok.0 in
-    (λ test. sym c.self.view_is ∙ blank_of_none bands (nil_from_length bands (grind (arith, common_steps, c.is_empty.ensures, count))),
-    λ blank. let none = ap length (no_bands bands c.self.invariant (c.self.view_is ∙ blank)) in grind (arith, common_steps, c.is_empty.ensures, count))
+    let count = c.self.inside.bands.ok.0 in (
+      λ test. sym c.self.view_is ∙ blank_of_none bands (nil_from_length bands (grind (arith, common_steps, c.is_empty.ensures, count))),
+      λ blank. let none = ap length (no_bands bands c.self.invariant (c.self.view_is ∙ blank)) in grind (arith, common_steps, c.is_empty.ensures, count),
+    )
