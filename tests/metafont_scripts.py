@@ -20,17 +20,18 @@ import os
 import pathlib
 import re
 import shutil
-import struct
 import subprocess
 import sys
 import tempfile
 import typing
 
-from font_model import NOWHERE, PIXEL, Opcode
 from metafont_contours import HEAD, POINTS, pixels_of_edges, pixels_of_runs
 from pixel_model import MAX_COORDINATE, Model, TooSlow
 from pixel_model import edges as sides
 from random_lines import NAMES, Chance, Line
+
+sys.path.append(str(pathlib.Path(__file__).parent.parent / "tools"))
+import gf
 
 METAFONT = "mf-nowin"
 # METAFONT reads the script in the folder where it is run, and has this memory, in words of eight bytes.
@@ -50,7 +51,7 @@ MAX_PIXELS, MAX_EDGES = 2_000, 4_000
 LIMIT = 60
 # METAFONT's width in 1/65536 point is so many times ours, since its design size is 128 points where none is set; its dx is
 # below 4096 pixels, and its width below 2048 points.
-WIDTH, MAX_DX, MAX_WIDTH = 8, 4096 * PIXEL, 2048 * PIXEL // 8
+WIDTH, MAX_DX, MAX_WIDTH = 8, 4096 * gf.PIXEL, 2048 * gf.PIXEL // 8
 
 
 class Scripts(Chance):
@@ -165,95 +166,19 @@ def lawful(lines):
     return kept
 
 
-class Shipped(typing.NamedTuple):
-    """A character of a font file: its first byte, code, the number of the previous character with this code, box, commands
-    and black pixels."""
-
-    opcode: int
-    code: int
-    previous: int
-    box: tuple
-    commands: bytes
-    black: frozenset
-
-
-class Font(typing.NamedTuple):
-    """A font file: its characters, and for each code dx, dy, width and the number of its last character."""
-
-    characters: list
-    locators: dict
-
-
 class End(typing.NamedTuple):
     """What a script comes to: its totals, the weights of its pictures, and its font, where characters were shipped."""
 
     totals: list
     pictures: list
-    font: Font | None
-
-
-def painted(font, place, left, row):
-    """The black pixels that the commands from a place to eoc paint, and the place behind eoc."""
-    black, column, is_black = set(), left, False
-    while font[place] != Opcode.EOC:
-        opcode, place = font[place], place + 1
-        if Opcode.NEW_ROW_0 <= opcode <= Opcode.NEW_ROW_164:
-            column, row, is_black = left + opcode - Opcode.NEW_ROW_0, row - 1, True
-            continue
-        first = Opcode.PAINT_63 if opcode <= Opcode.PAINT2 else Opcode.SKIP0
-        size = max(opcode - first, 0)
-        if size > 2:
-            raise ValueError(f"the command {opcode} is none that paints or moves")
-        number = int.from_bytes(font[place : place + size], "big") if size else min(opcode, first) % Opcode.SKIP0
-        place += size
-        if first == Opcode.SKIP0:
-            column, row, is_black = left, row - 1 - number, False
-            continue
-        if is_black:
-            black |= {(x, row) for x in range(column, column + number)}
-        column, is_black = column + number, not is_black
-    return frozenset(black), place + 1
-
-
-def character_at(font, place, places):
-    """The character at a place of a font file, and the place behind it. `places` are those of the characters before."""
-    opcode, previous = font[place], NOWHERE
-    if opcode == Opcode.BOC1:
-        code, width, right, height, top = font[place + 1 : place + 6]
-        box, behind = (right - width, right, top - height, top), place + 6
-    elif opcode == Opcode.BOC:
-        code, pointer, *box = struct.unpack_from(">6i", font, place + 1)
-        previous, behind = NOWHERE if pointer == NOWHERE else places.index(pointer), place + 25
-    else:
-        raise ValueError(f"the command {opcode} begins no character")
-    black, end = painted(font, behind, box[0], box[3])
-    return Shipped(opcode, code, previous, tuple(box), font[behind:end], black), end
-
-
-def font_of(font):
-    """What stands in a font file."""
-    places, characters, place = [], [], 3 + font[2]
-    while font[place] != Opcode.POST:
-        character, behind = character_at(font, place, places)
-        characters.append(character)
-        places.append(place)
-        place = behind
-    locators, place = {}, place + 37
-    while font[place] != Opcode.POST_POST:
-        if font[place] == Opcode.CHAR_LOC0:
-            code, pixels, width, last = struct.unpack_from(">2B2i", font, place + 1)
-            locators[code], place = (pixels * PIXEL, 0, width, places.index(last)), place + 11
-        else:
-            code, dx, dy, width, last = struct.unpack_from(">B4i", font, place + 1)
-            locators[code], place = (dx, dy, width, places.index(last)), place + 18
-    return Font(characters, locators)
+    font: gf.Font | None
 
 
 def font_at(path):
     """The font file at a path, which is removed, if there is one."""
     if not path.exists():
         return None
-    font = font_of(path.read_bytes())
+    font = gf.read_font(path.read_bytes())
     path.unlink()
     return font
 
@@ -277,7 +202,7 @@ def by_program(program, lines, folder):
 
 def scaled(number):
     """A number of METAFONT's, in 1/65536."""
-    return f"{number / PIXEL:.12f}"
+    return f"{number / gf.PIXEL:.12f}"
 
 
 def for_metafont(line):
@@ -307,7 +232,7 @@ def by_metafont(lines, folder):
     if fault := re.search(r"^! .*", log, re.MULTILINE):
         raise ValueError(f"METAFONT finds an error: {fault[0]}")
     told, *shown = log.split("\nnext")
-    totals = [round(float(number) * PIXEL) for number in re.findall(r"^>> (-?[\d.]+)", told, re.MULTILINE)]
+    totals = [round(float(number) * gf.PIXEL) for number in re.findall(r"^>> (-?[\d.]+)", told, re.MULTILINE)]
     return End(totals, [pixels_of_edges(text) for text in shown], font_at(folder / "work.gf"))
 
 
@@ -315,11 +240,17 @@ def is_within(inner, outer):
     return inner[0] >= outer[0] and inner[1] <= outer[1] and inner[2] >= outer[2] and inner[3] <= outer[3]
 
 
+def told_of_character(character):
+    """All of a character but its place, which those before it decide, too."""
+    head = f"first byte {character.opcode}, code {character.code}, previous {character.previous}, box {tuple(character.box)}"
+    return f"{head}, commands {character.commands.hex()}"
+
+
 def difference_of_characters(number, ours, theirs):
     """How two characters differ, if they do: also in bytes, where they have the same box."""
     if ours.box == theirs.box or not is_within(ours.box, theirs.box):
-        told = (f"{one._replace(commands=one.commands.hex(), black=len(one.black))}" for one in (ours, theirs))
-        return "" if ours == theirs else f"character {number}: {' and '.join(told)}"
+        own, other = told_of_character(ours), told_of_character(theirs)
+        return "" if own == other else f"character {number}: {own} and {other}"
     if (ours.code, ours.previous) != (theirs.code, theirs.previous):
         return f"character {number}: code and previous {ours[1:3]} and {theirs[1:3]}"
     return "" if ours.black == theirs.black else f"character {number}: {sorted(ours.black)} and {sorted(theirs.black)}"
@@ -352,15 +283,15 @@ def count_font(counts, ours, theirs):
     for own, other in zip(ours.characters, theirs.characters):
         counts[SAME_BOX if own.box == other.box else SMALLER_BOX] += 1
         counts["a blank character"] += not own.black
-        counts["a code shipped again"] += own.previous != NOWHERE
-    counts["a dx that is no whole number of pixels"] += any(dx % PIXEL for dx, *_ in ours.locators.values())
+        counts["a code shipped again"] += own.previous != gf.NOWHERE
+    counts["a dx that is no whole number of pixels"] += any(dx % gf.PIXEL for dx, *_ in ours.locators.values())
 
 
 def told_of(program, lines, folder, counts):
     """How the program and METAFONT differ in a script, if they do."""
     try:
         ours, theirs = by_program(program, lines, folder), by_metafont(lines, folder)
-    except (ValueError, IndexError, struct.error, subprocess.SubprocessError) as fault:
+    except (ValueError, gf.NotGf, subprocess.SubprocessError) as fault:
         return f"{type(fault).__name__}: {fault}"
     finally:
         (folder / "shipped.gf").unlink(missing_ok=True)

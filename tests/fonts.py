@@ -1,0 +1,268 @@
+#!/usr/bin/env python3
+"""Compares whole fonts with METAFONT's (`mf-nowin`, Debian packages texlive-binaries and texlive-base).
+
+    tests/fonts.py [PROGRAM]
+
+METAFONT draws four fonts at two resolutions. tools/mf2mfp.py makes a script of what it logs of each, and PROGRAM, which is
+`mfpic` beside this folder unless another is named, makes a font file of that. Compared are the black pixels of all
+characters in order, their codes, and of each code dx and width; characters whose boxes are the same are counted, since
+METAFONT's may be wider. gftype must have no complaint of the file and show the same pixels, and gftopk must pack it. So is
+a font of everything that is translated, `pictures.mf`; and what is not translated must be told.
+
+examples/logo10.mfp must be what is made of logo10 at the lower resolution. examples/logo10.gf must have METAFONT's
+characters, and the grid in examples/logo10.transcript METAFONT's weights.
+
+Where METAFONT, its base, a source or a program is not installed, nothing is compared.
+"""
+
+import os
+import pathlib
+import re
+import shutil
+import subprocess
+import sys
+import tempfile
+import typing
+
+import gftype
+from metafont_contours import pixels_of_edges
+
+ROOT = pathlib.Path(__file__).resolve().parent.parent
+TOOLS, TESTS = ROOT / "tools", ROOT / "tests"
+sys.path.append(str(TOOLS))
+
+from gf import Font, NotGf, read_font
+
+METAFONT, BASE = "mf-nowin", "mf.base"
+PROGRAMS = (METAFONT, "kpsewhich", "gftype", "gftopk")
+SOURCES = ("logo10", "cmr10", "cmti10", "cmex10")
+PICTURES = "pictures"
+# The example, and the code of its character that is proofed.
+EXAMPLE, PROOFED = "logo10", 77
+# METAFONT finds these sources before all others, has this memory, in words of eight bytes, and makes nothing that is missing.
+ENVIRONMENT = {**os.environ, "MFINPUTS": f"{TOOLS}:{TESTS}:", "main_memory": "8000000", "MKTEXFMT": "0", "MKTEXMF": "0"}
+# Seconds that a run may take. The program may take more, since `mfpic` builds it where it is missing.
+LIMIT, LIMIT_WITH_BUILD = 60, 3600
+
+# METAFONT's commands in a letter, and what tools/mf2mfp.py says of those that it does not translate.
+UNTRANSLATED = (
+    ("u := nullpicture; t := u;", "it is not known what is assigned to the picture t"),
+    ("u := nullpicture; show currentpicture; t := u;", "it is not known what is assigned to the picture t"),
+    ("currentpicture := t;", "it is not known what is assigned to the picture currentpicture_"),
+    ("begingroup save v; picture v; v := nullpicture; endgroup; addto currentpicture also v;", "what the picture v is"),
+    ("addto currentpicture also (pic_ shifted (1, 1));", "METAFONT found an error: Missing `)'"),
+    ("addto currentpicture also -t;", "it is not known what picture is -"),
+    ("addto_ currentpicture contour unitsquare;", "METAFONT's addto under another name"),
+    ("cull_ currentpicture keeping_ (1, 2);", "METAFONT's cull under another name"),
+    ("tracingcommands := 0; fill unitsquare; cullit;", "METAFONT does not trace addto"),
+    ("tracingedges := 0; fill unitsquare; cullit;", "something else is done before a contour is added"),
+    ("addto v contour begingroup fill unitsquare; unitsquare endgroup;", "something else is done before a contour is added"),
+    ("if totalweight(currentpicture shifted (1, 1)) > 0: fi;", "METAFONT's operation {totalweight(picture)}"),
+    ("for i = 1 upto 24: w[i] := nullpicture; endfor", "there is no register left for the picture w23"),
+    ("currentpicture := currentpicture rotated 45;", "METAFONT found an error"),
+    ("charext := 1;", "METAFONT ships 65, and the font has the character 321 in this place"),
+    ("chardy := 2;", "the character 65 has an escapement upwards"),
+    ("def shipit = shipout nullpicture hide(chardx := 7) enddef;", "the escapement of the character 65 is 37 here"),
+    ("proofing := -1;", "METAFONT ships 65 behind the last character of the font"),
+)
+LETTER = """mode_setup; picture t, u, v, w[]; t := nullpicture; v := currentpicture; beginchar("B", 9pt#, 9pt#, 0); endchar;
+beginchar("A", 9pt#, 9pt#, 0); fill unitsquare scaled 9;
+{} endchar; end
+"""
+
+
+class Mode(typing.NamedTuple):
+    """What METAFONT knows of a printer: pixels per inch, and how it corrects for the printer's blackness and overshoot."""
+
+    pixels: int
+    blacker: str
+    fillin: str
+    overshoot: str
+
+
+MODES = (Mode(300, "0", ".2", ".6"), Mode(600, ".25", "0", "1"))
+
+
+class Compared(typing.NamedTuple):
+    """What came of a font: how many characters were compared, how many have METAFONT's box, and what is wrong."""
+
+    characters: int
+    same_box: int
+    wrong: list[str]
+
+
+class Failure(Exception):
+    """A program ends with another status than 0, or not in time."""
+
+
+def run(words: list[object], folder: pathlib.Path, limit: int = LIMIT, script: str = "") -> str:
+    """What a program prints that is run in a folder and must end with status 0."""
+    texts = [str(word) for word in words]
+    how = {"input": script, "capture_output": True, "encoding": "latin-1", "timeout": limit, "check": False}
+    try:
+        ran = subprocess.run(texts, cwd=folder, env=ENVIRONMENT, **how)
+    except subprocess.TimeoutExpired:
+        raise Failure(f"{texts[0]} has not ended after {limit} seconds") from None
+    if ran.returncode != 0:
+        raise Failure(f"{' '.join(texts)} ends with status {ran.returncode}: {(ran.stderr or ran.stdout).strip()[-400:]}")
+    return ran.stdout
+
+
+def missing() -> str | None:
+    """What is not installed, if something is not."""
+    for program in PROGRAMS:
+        if not shutil.which(program):
+            return program
+    for words in (["-engine=metafont", BASE], *(["-format=mf", f"{source}.mf"] for source in SOURCES)):
+        if subprocess.run(["kpsewhich", *words], env=ENVIRONMENT, capture_output=True, check=False).returncode != 0:
+            return words[1]
+    return None
+
+
+def drawn(name: str, mode: Mode, folder: pathlib.Path, more: str = "") -> pathlib.Path:
+    """The font file that METAFONT draws, with its log beside it. It performs more commands before the font."""
+    setting = f"pixels_per_inch := {mode.pixels}; blacker := {mode.blacker}; fillin := {mode.fillin};"
+    setting += f" o_correction := {mode.overshoot}; proofing := 0; fontmaking := 1; tracingtitles := 0;"
+    line = f"\\mode_def trial = {setting} enddef; mode := trial; input mf2mfp; {more} input {name}"
+    run([METAFONT, f"-jobname={name}", "-interaction=batchmode", line], folder)
+    return folder / f"{name}.{mode.pixels}gf"
+
+
+def translated(font: pathlib.Path, *options: str) -> str:
+    """The script that is made of a font file and the log beside it."""
+    return run([sys.executable, TOOLS / "mf2mfp.py", font.with_suffix(".log"), font, *options], font.parent)
+
+
+def difference(ours: Font, theirs: Font) -> list[str]:
+    """How two fonts differ, if they do."""
+    wrong = []
+    if len(ours.characters) != len(theirs.characters):
+        wrong.append(f"{len(ours.characters)} and {len(theirs.characters)} characters")
+    for number, (own, other) in enumerate(zip(ours.characters, theirs.characters)):
+        if (own.code, own.previous) != (other.code, other.previous):
+            told = " and ".join(f"the code {one.code} behind character {one.previous}" for one in (own, other))
+            wrong.append(f"character {number}: {told}")
+        elif own.runs != other.runs:
+            apart = sorted(own.black ^ other.black)
+            wrong.append(f"the code {own.code}: {len(apart)} pixels differ, the first ones are {apart[:4]}")
+    for code in sorted(ours.locators.keys() | theirs.locators.keys()):
+        own, other = ours.locators.get(code), theirs.locators.get(code)
+        if own != other:
+            wrong.append(f"the code {code}: {own} and {other}")
+    return wrong
+
+
+def complaints(path: pathlib.Path, font: Font) -> list[str]:
+    """What gftype and gftopk say of a font file, and where gftype shows other pixels than have been read."""
+    characters, _, wrong = gftype.told_by_gftype(path)
+    pairs = zip(characters, font.characters)
+    wrong += [f"gftype shows the code {own.code} otherwise" for shown, own in pairs if shown.black != own.black]
+    if path.stat().st_size % 4:
+        wrong.append("the length of the file is no multiple of 4")
+    if told := run(["gftopk", path, path.with_suffix(".pk")], path.parent):
+        wrong.append(f"gftopk says: {told}")
+    return wrong
+
+
+def at_corner(weights: dict[tuple[int, int], int]) -> dict[tuple[int, int], int]:
+    """Weights by pixels, moved so that the least column and row are 0."""
+    left, low = (min(places) for places in zip(*weights))
+    return {(x - left, y - low): weight for (x, y), weight in weights.items()}
+
+
+def grid_of(transcript: str) -> dict[tuple[int, int], int]:
+    """The weights by pixels that a transcript shows before its first character."""
+    rows = enumerate(reversed(transcript.partition("[")[0].splitlines()))
+    return {(x, y): int(mark) for y, row in rows for x, mark in enumerate(row) if mark != "."}
+
+
+def weights_by_metafont(folder: pathlib.Path) -> dict[tuple[int, int], int]:
+    """The weights by pixels of the example's character that is proofed, when METAFONT ships it."""
+    showing = f'extra_endchar := extra_endchar & "if charcode = {PROOFED}: show currentpicture; fi";'
+    log = drawn(EXAMPLE, MODES[0], folder, showing).with_suffix(".log")
+    return pixels_of_edges(log.read_text(encoding="latin-1"))
+
+
+def about_example(script: str, theirs: Font, folder: pathlib.Path) -> list[str]:
+    """What is wrong with the example, where this script should be it, with METAFONT's characters."""
+    example = ROOT / "examples" / EXAMPLE
+    wrong = difference(read_font(example.with_suffix(".gf").read_bytes()), theirs)
+    if example.with_suffix(".mfp").read_text(encoding="ascii") != script:
+        wrong.append("this is not the script that is made of the font")
+    grid = grid_of(example.with_suffix(".transcript").read_text(encoding="ascii"))
+    if at_corner(grid) != at_corner(weights_by_metafont(folder)):
+        wrong.append("the grid has other weights than METAFONT's picture")
+    return [f"examples/{EXAMPLE}: {line}" for line in wrong]
+
+
+def about_untranslated(commands: str, told: str, folder: pathlib.Path) -> list[str]:
+    """What is wrong where a letter has these commands, of which this is told."""
+    (folder / "letter.mf").write_text(LETTER.format(commands), encoding="ascii")
+    try:
+        font = drawn("letter", MODES[0], folder)
+    except Failure:
+        font = folder / f"letter.{MODES[0].pixels}gf"
+    try:
+        return [f"{commands}: this makes the script {translated(font)}"]
+    except Failure as fault:
+        return [] if re.search(rf": line \d+: .*{re.escape(told)}", str(fault)) else [f"{commands}: {fault}"]
+
+
+def compare(program: str, name: str, mode: Mode, folder: pathlib.Path) -> Compared:
+    """Draws a font with METAFONT and by a script, and compares both."""
+    font, path = drawn(name, mode, folder), folder / "ours.gf"
+    theirs, script = read_font(font.read_bytes()), translated(font)
+    path.unlink(missing_ok=True)
+    transcript = run([program, "--gf", path], folder, LIMIT_WITH_BUILD, script)
+    ours = read_font(path.read_bytes())
+    refused = [line for line in transcript.splitlines() if line.startswith("refused")]
+    wrong = refused + difference(ours, theirs) + complaints(path, ours)
+    if (name, mode) == (EXAMPLE, MODES[0]):
+        wrong += about_example(translated(font, "--proof", str(PROOFED)), theirs, folder)
+    same = sum(own.box == other.box for own, other in zip(ours.characters, theirs.characters))
+    return Compared(len(theirs.characters), same, wrong)
+
+
+def is_passed(program: str, name: str, mode: Mode) -> bool:
+    """Whether a font is as METAFONT draws it, which is told."""
+    about = f"{name} at {mode.pixels} dots per inch"
+    with tempfile.TemporaryDirectory() as folder:
+        try:
+            characters, same, wrong = compare(program, name, mode, pathlib.Path(folder))
+        except (Failure, NotGf, OSError) as fault:
+            characters, same, wrong = 0, 0, [str(fault)]
+    print("\n".join([*(f"{about}: {line}" for line in wrong), f"{about}: {characters} characters, {same} with METAFONT's box"]))
+    return not wrong and characters > 0
+
+
+def are_told() -> bool:
+    """Whether all that is not translated is told, which is told in turn."""
+    wrong = []
+    for commands, told in UNTRANSLATED:
+        with tempfile.TemporaryDirectory() as folder:
+            wrong += about_untranslated(commands, told, pathlib.Path(folder))
+    print("\n".join([*wrong, f"{len(UNTRANSLATED)} letters that are not translated, {len(wrong)} of them wrong"]))
+    return not wrong
+
+
+def main() -> int:
+    if absent := missing():
+        print(f"0 fonts compared: {absent} is not installed")
+        return 0
+    program = os.path.abspath(sys.argv[1]) if len(sys.argv) > 1 else str(ROOT / "mfpic")
+    # These are no fonts that are counted, but they must pass.
+    failed = 0 if are_told() else 1
+    failed += 0 if is_passed(program, PICTURES, MODES[0]) else 1
+    passed = 0
+    for name in SOURCES:
+        for mode in MODES:
+            if is_passed(program, name, mode):
+                passed += 1
+            else:
+                failed += 1
+    print(f"{passed} passed, {failed} failed")
+    return 1 if failed else 0
+
+
+if __name__ == "__main__":
+    sys.exit(main())

@@ -1,0 +1,214 @@
+#!/usr/bin/env python3
+"""Makes of a GF file a script that draws each of its characters by its outline, and ships it.
+
+    tools/gf2mfp.py FILE.gf > FILE.mfp
+
+Each line of a contour walks round a boundary between black and white, counterclockwise from its lowest corner. An outer
+boundary has weight 1. A hole says `withweight -1`, so that one sees which contours are holes, and they count alike whether the
+turning check is on or off. Characters come in the order of the file, with what the font says of their codes. A character that
+no line can say is named, and no script is written.
+"""
+
+import argparse
+import bisect
+import collections
+import os
+import pathlib
+import sys
+import typing
+from collections.abc import Iterable, Iterator
+
+import gf
+
+Point = tuple[int, int]
+# What the program takes (docs/LANGUAGE.md): the columns and rows of pixels, the points of a contour, the digits of a number,
+# the codes, and the operations of `currentpicture`.
+FIELD = range(-4095, 4095)
+MAX_POINTS = 4096
+MAX_NUMBER = 999_999_999
+CODES = range(256)
+MAX_OPERATIONS = 1_000_000
+
+
+class Failure(Exception):
+    """Why no script is made: a line for each fault."""
+
+
+class Edge(typing.NamedTuple):
+    """A horizontal edge between black and white, which has the black pixels on its left, in the direction that it goes."""
+
+    start: Point
+    end: Point
+
+    @property
+    def goes_right(self) -> bool:
+        return self.start[0] < self.end[0]
+
+
+class Borders:
+    """The horizontal edges of black pixels, and how one comes from each to the next round its boundary.
+
+    Where two pixels touch at a corner only, one turns left, and so stays with the same pixel: they are not joined there."""
+
+    def __init__(self, runs: Iterable[gf.Run]) -> None:
+        # The columns of each row in which its colour changes.
+        self.changes: dict[int, set[int]] = collections.defaultdict(set)
+        for run in runs:
+            self.changes[run.row] |= {run.left, run.right}
+        self.edges = [edge for row in self.heights() for edge in self.edges_at(row)]
+        self.rightward = {edge.start: edge for edge in self.edges if edge.goes_right}
+        self.leftward = {edge.start: edge for edge in self.edges if not edge.goes_right}
+        self.corners: dict[int, list[int]] = collections.defaultdict(list)
+        for x, y in sorted({corner for edge in self.edges for corner in edge}):
+            self.corners[x].append(y)
+
+    def heights(self) -> list[int]:
+        """The heights at which there may be edges, rising."""
+        return sorted({height for row in self.changes for height in (row, row + 1)})
+
+    def changes_of(self, row: int) -> set[int]:
+        return self.changes.get(row, set())
+
+    def edges_at(self, y: int) -> Iterator[Edge]:
+        """The edges at a height, between the row above it and the row below."""
+        above, below = self.changes_of(y), self.changes_of(y - 1)
+        is_above = is_below = False
+        before = 0
+        for x in sorted(above | below):
+            if is_above != is_below:
+                yield Edge((before, y), (x, y)) if is_above else Edge((x, y), (before, y))
+            is_above, is_below, before = is_above != (x in above), is_below != (x in below), x
+
+    def following(self, edge: Edge) -> Edge:
+        """The edge behind this one, and behind the vertical edge between them."""
+        x, y = edge.end
+        goes_up = x in self.changes_of(y) if edge.goes_right else x not in self.changes_of(y - 1)
+        corners = self.corners[x]
+        corner = x, corners[bisect.bisect(corners, y) if goes_up else bisect.bisect_left(corners, y) - 1]
+        left, right = (self.leftward, self.rightward) if goes_up else (self.rightward, self.leftward)
+        return left.get(corner) or right[corner]
+
+    def boundaries(self) -> Iterator[list[Point]]:
+        """The corners of each boundary, which has the black pixels on its left."""
+        walked: set[Edge] = set()
+        for edge in self.edges:
+            corners: list[Point] = []
+            while edge not in walked:
+                walked.add(edge)
+                corners += edge
+                edge = self.following(edge)
+            if corners:
+                yield corners
+
+
+class Contour(typing.NamedTuple):
+    """A contour: its points, counterclockwise, and its weight."""
+
+    points: list[Point]
+    weight: int
+
+    def line(self) -> str:
+        path = "--".join(f"({x},{y})" for x, y in self.points)
+        weight = "" if self.weight == 1 else f" withweight {self.weight}"
+        return f"addto currentpicture contour {path}--cycle{weight}"
+
+
+def doubled_area(points: list[Point]) -> int:
+    """Twice the area that a path goes round, which is negative where it goes clockwise."""
+    return sum(x * below - after * y for (x, y), (after, below) in zip(points, points[1:] + points[:1]))
+
+
+def contour_of(boundary: list[Point]) -> Contour:
+    """The contour of a boundary that has the black pixels on its left: a hole is walked clockwise, and is turned round."""
+    is_hole = doubled_area(boundary) < 0
+    points = boundary[::-1] if is_hole else boundary
+    first = min(range(len(points)), key=lambda number: points[number][::-1])
+    return Contour(points[first:] + points[:first], -1 if is_hole else 1)
+
+
+def contours_of(runs: list[gf.Run]) -> list[Contour]:
+    """The contours of black pixels. Where one would have too many points, the upper and the lower rows are drawn apart: one
+    row alone has rectangles."""
+    boundaries = list(Borders(runs).boundaries())
+    if all(len(boundary) <= MAX_POINTS for boundary in boundaries):
+        return sorted(map(contour_of, boundaries), key=lambda contour: contour.points[0][::-1])
+    middle = (runs[0].row + runs[-1].row + 1) // 2
+    upper, lower = [run for run in runs if run.row >= middle], [run for run in runs if run.row < middle]
+    return contours_of(lower) + contours_of(upper)
+
+
+def faults_of(character: gf.Character, locator: gf.Locator) -> Iterator[str]:
+    """Why no line can say a character."""
+    if character.code not in CODES:
+        yield f"its code is not from 0 to {CODES[-1]}"
+    if locator.dy != 0:
+        yield f"its dy is {locator.dy}, and a script has none"
+    for name, number in (("dx", locator.dx), ("width", locator.width)):
+        if abs(number) > MAX_NUMBER:
+            yield f"its {name} is {number}, and a number of a script has 9 digits at most"
+    outside = [run for run in character.runs if any(place not in FIELD for place in (run.left, run.right - 1, run.row))]
+    if outside:
+        yield f"row {outside[0].row} leaves the field of pixels from {FIELD[0]} to {FIELD[-1]}"
+
+
+def faults_of_font(font: gf.Font) -> Iterator[str]:
+    """Why no script can say a font."""
+    if not font.characters:
+        yield "it has no character"
+    for code, locator in font.locators.items():
+        if locator.last == gf.NOWHERE:
+            yield f"character {code}: the font has its width and no picture"
+    for character in font.characters:
+        for fault in faults_of(character, font.locator(character)):
+            yield f"character {character.code} at byte {character.place}: {fault}"
+
+
+def lines_of(character: gf.Character, locator: gf.Locator) -> list[str]:
+    """The lines that draw and ship a character."""
+    return [
+        "",
+        f"% Character {character.code}",
+        *(contour.line() for contour in contours_of(list(character.runs))),
+        f"shipout currentpicture code {character.code} dx {locator.dx} width {locator.width}",
+        "publish",
+        "currentpicture := nullpicture",
+    ]
+
+
+def script_of(font: gf.Font) -> list[str]:
+    """The lines of the script of a font."""
+    if faults := list(faults_of_font(font)):
+        raise Failure("\n".join(faults))
+    words = ", ".join(f"{name.replace('_', ' ')} {word}" for name, word in font.words._asdict().items())
+    lines = [
+        "% Each character is drawn by its outline: outer boundaries have weight 1, and holes -1.",
+        f"% The words of the font that was read: {words}.",
+    ]
+    for character in font.characters:
+        lines += lines_of(character, font.locator(character))
+    operations = sum(line.startswith(("addto", "currentpicture")) for line in lines)
+    if operations > MAX_OPERATIONS:
+        raise Failure(f"it takes {operations} operations, and currentpicture accepts {MAX_OPERATIONS}")
+    return lines
+
+
+def main(words: list[str]) -> int:
+    parser = argparse.ArgumentParser(description="Makes of a GF file a script that draws and ships its characters.")
+    parser.add_argument("file", type=pathlib.Path, metavar="FILE.gf")
+    file = parser.parse_args(words).file
+    try:
+        script = "\n".join([*script_of(gf.read_font(file.read_bytes())), ""])
+    except (Failure, gf.NotGf, OSError) as fault:
+        told = fault.strerror if isinstance(fault, OSError) else fault
+        print("\n".join(f"gf2mfp.py: {file}: {line}" for line in str(told).splitlines()), file=sys.stderr)
+        return 1
+    try:
+        print(script, end="", flush=True)
+    except OSError as fault:
+        print(f"gf2mfp.py: the script was not written: {fault.strerror}", file=sys.stderr)
+        os._exit(1)
+    return 0
+
+
+if __name__ == "__main__":
+    sys.exit(main(sys.argv[1:]))

@@ -1,0 +1,128 @@
+#!/usr/bin/env python3
+"""Sets the words of a finished GF file: its design size, its check sum, and its pixels per point in both directions.
+
+    tools/gfwords.py FILE.gf --design-size POINTS --checksum N --resolution DPI
+    tools/gfwords.py FILE.gf --like OTHER.gf
+
+The program mfpic writes 0 for each of these words, of which TeX's programs complain. What is not named stays as it is, and so
+does the rest of the file. `--like` takes all four words of another font, and the other options come after it. The new file is
+written beside the old one and then takes its place, so that a fault leaves the old one.
+"""
+
+import argparse
+import fractions
+import os
+import pathlib
+import re
+import shutil
+import struct
+import sys
+import tempfile
+
+import gf
+
+# The units of a design size in a point, the units of the pixels per point in a pixel, and the points of an inch.
+POINT, PIXEL, INCH = 1 << 20, 1 << 16, fractions.Fraction("72.27")
+# A word has four bytes with a sign. A check sum may be written without one.
+GREATEST = (1 << 31) - 1
+CHECK_SUMS = range(-GREATEST - 1, 1 << 32)
+# How far behind the beginning of the postamble the words stand.
+WORDS = 5
+
+
+def word_of(text: str, units: int | fractions.Fraction) -> int:
+    """A decimal number in these units, rounded, as a word above 0."""
+    if not re.fullmatch(r"[0-9]{1,20}(\.[0-9]{1,20})?", text):
+        raise argparse.ArgumentTypeError(f"{text} is no decimal number")
+    word = round(fractions.Fraction(text) * units)
+    if not 0 < word <= GREATEST:
+        raise argparse.ArgumentTypeError(f"{text} is not above 0, or too large for a word of four bytes")
+    return word
+
+
+def design_size(text: str) -> int:
+    return word_of(text, POINT)
+
+
+def resolution(text: str) -> int:
+    return word_of(text, PIXEL / INCH)
+
+
+def check_sum(text: str) -> int:
+    if not re.fullmatch(r"-?[0-9]{1,20}", text):
+        raise argparse.ArgumentTypeError(f"{text} is no whole number")
+    number = int(text)
+    if number not in CHECK_SUMS:
+        raise argparse.ArgumentTypeError(f"{text} is too large for a word of four bytes")
+    return number - (number > GREATEST) * (1 << 32)
+
+
+def arguments(words: list[str]) -> argparse.Namespace:
+    parser = argparse.ArgumentParser(description="Sets the words of a finished GF file. What is not named stays as it is.")
+    parser.add_argument("file", type=pathlib.Path, metavar="FILE.gf")
+    parser.add_argument("--like", type=pathlib.Path, metavar="OTHER.gf", help="take all words of this font first")
+    parser.add_argument("--design-size", type=design_size, metavar="POINTS", help="such as 10")
+    parser.add_argument("--checksum", type=check_sum, metavar="N", help="that of the font's TFM file")
+    parser.add_argument("--resolution", type=resolution, metavar="DPI", help="pixels per inch, across and up")
+    named = parser.parse_args(words)
+    if all(value is None for name, value in vars(named).items() if name != "file"):
+        parser.error("no word is named: give --like, --design-size, --checksum or --resolution")
+    return named
+
+
+def read(file: pathlib.Path) -> tuple[bytes, gf.Font]:
+    """The bytes of a file, and the font that they are."""
+    font = file.read_bytes()
+    try:
+        return font, gf.read_font(font)
+    except gf.NotGf as fault:
+        raise SystemExit(told(file, str(fault))) from None
+
+
+def told(file: pathlib.Path, fault: str) -> str:
+    return f"gfwords.py: {file}: {fault}"
+
+
+def new_words(words: gf.Words, named: argparse.Namespace) -> gf.Words:
+    """The words of a font, with those that are named."""
+    if named.like is not None:
+        words = read(named.like)[1].words
+    given = {
+        "design_size": named.design_size,
+        "check_sum": named.checksum,
+        "hppp": named.resolution,
+        "vppp": named.resolution,
+    }
+    return words._replace(**{name: word for name, word in given.items() if word is not None})
+
+
+def replace(file: pathlib.Path, font: bytes) -> None:
+    """Writes bytes beside a file, and puts them in its place."""
+    handle, beside = tempfile.mkstemp(prefix=f"{file.name}.", dir=file.parent)
+    try:
+        with os.fdopen(handle, "wb") as output:
+            output.write(font)
+        shutil.copymode(file, beside)
+        os.replace(beside, file)
+    except BaseException:
+        os.unlink(beside)
+        raise
+
+
+def main(words: list[str]) -> int:
+    named = arguments(words)
+    file = named.file
+    try:
+        font, read_as = read(file)
+        place = read_as.postamble + WORDS
+        packed = struct.pack(">4i", *new_words(read_as.words, named))
+        # A link keeps leading to the file.
+        replace(file.resolve(), font[:place] + packed + font[place + len(packed) :])
+    except OSError as fault:
+        print(told(fault.filename or file, fault.strerror or str(fault)), file=sys.stderr)
+        return 1
+    return 0
+
+
+if __name__ == "__main__":
+    sys.exit(main(sys.argv[1:]))

@@ -1,0 +1,502 @@
+#!/usr/bin/env python3
+"""Makes a script for mfpic of what METAFONT logged of a font, and of the GF file that it wrote.
+
+    mf-nowin -jobname=logo10 -interaction=batchmode '\\mode=ljfour; mag=1; input tools/mf2mfp; input logo10'
+    tools/mf2mfp.py logo10.log logo10.600gf > logo10.mfp
+    ./mfpic --gf logo10.gf < logo10.mfp
+
+    tools/mf2mfp.py LOG FONT [--proof CODE]
+
+The log is one of METAFONT to which mf2mfp.mf was read before the font. Contours are in it as METAFONT has digitized them;
+culls, sums, shifts, clears and shipouts of pictures are marked between them. The escapement and the width of each character
+are those of the GF file. METAFONT's `currentpicture` is that of the script, and its other pictures become registers, `pic_`
+the register p. With --proof the script proofs `currentpicture` before it ships the character with this code.
+
+What is not translated is named with its line of the log, and then no script is written: another use of a picture than
+these, a picture assigned from one that is neither `currentpicture` nor `pic_`, one that is turned or stretched otherwise
+than mfpic does it, more pictures than registers, and an error that METAFONT found, such as of a picture that is moved in
+parentheses and then added. The status is then 1.
+"""
+
+import argparse
+import dataclasses
+import fractions
+import math
+import os
+import pathlib
+import re
+import sys
+import typing
+
+from gf import CODES, PIXEL, Font, NotGf, read_font
+
+Point = tuple[int, int]
+
+# METAFONT's names of the pictures of plain METAFONT, as mf2mfp.mf has them, with their names in the script.
+CURRENT, KEPT = "currentpicture_", "pic__"
+PLAIN = {CURRENT: "currentpicture", KEPT: "p"}
+# The registers for other pictures, and the one in which a picture is moved before it is added.
+OTHERS, MOVED = "abcdefghijklmnoqrstuvwxy", "z"
+# So many points may a contour have, and so large may they be.
+MAX_POINTS, MAX_COORDINATE = 4096, 4095
+
+# METAFONT breaks lines of its log behind so many characters.
+WIDTH = 79
+MARK = re.compile(r"mf2mfp ([a-z]+) ?(.*)")
+EDGES = re.compile(r"Tracing edges at line (\d+): \(weight (-?\d+)\)")
+NOTHING = "(No new edges added.)"
+ASSIGNMENT = re.compile(r"\{(?:(.+):=picture|\(unknown picture (.+)\)=\(picture\))\}")
+OPERATION = re.compile(r"\{\(picture\)([a-z]+)\((.*)\)\}")
+RESTORED = re.compile(r"\{restoring ([^}]*)\}")
+# A question about a picture, and the trace of commands that show one.
+QUESTION = re.compile(r"\{(totalweight|known|unknown|picture)\(picture\)\}")
+SHOWING = {"{display}", "{show}"}
+# The trace of a command, an assignment or an equation, and the trace of the marks themselves.
+ENDING = re.compile(r"\{([a-z]+\}$|.*:=|.*\)=\()")
+OF_MARKS = {"{exitif}", "{message}", "{false}"}
+GROUPS = {"{begingroup}": 1, "{endgroup}": -1}
+# Commands that METAFONT traces directly behind their marks, and how many words each mark has.
+COMMANDS = ("addto", "cull", "shipout")
+MARKS = {"uses": 1, "addto": 1, "also": 1, "cull": 1, "keeping": 2, "dropping": 2, "weight": 1, "shipout": 5}
+
+
+class Untranslated(Exception):
+    """What cannot be translated."""
+
+
+class Step(typing.NamedTuple):
+    """Something that is done to a picture: a word and its operand."""
+
+    word: str
+    operand: str
+
+
+NEGATED = Step("-", "")
+
+
+@dataclasses.dataclass
+class Source:
+    """A picture that is added, shipped or assigned: how many groups it stands in, its name, the pictures that are used before
+    and behind `:=`, whether one of them is blank, and what is done to it."""
+
+    depth: int
+    name: str = ""
+    uses: list[str] = dataclasses.field(default_factory=list)
+    is_null: bool = False
+    steps: list[Step] = dataclasses.field(default_factory=list)
+
+    def is_begun(self) -> bool:
+        return bool(self.name or self.uses or self.is_null)
+
+
+@dataclasses.dataclass
+class Statement:
+    """A command that the log has begun: its word, the picture that it changes, what it adds or ships, and what is marked."""
+
+    word: str
+    name: str
+    source: Source
+    marks: dict[str, list[str]] = dataclasses.field(default_factory=dict)
+
+
+def scaled(text: str) -> fractions.Fraction:
+    """A number of METAFONT's, which is a multiple of 1/65536."""
+    try:
+        return fractions.Fraction(round(fractions.Fraction(text) * 65536), 65536)
+    except ValueError:
+        raise Untranslated(f"{text} is no number") from None
+
+
+def rounded(number: fractions.Fraction) -> int:
+    """The whole number that METAFONT takes for a number."""
+    return math.floor(number + fractions.Fraction(1, 2))
+
+
+def without_repeated(corners: list[Point]) -> list[Point]:
+    """The corners of a closed path, each but once where the next one is the same."""
+    return [corner for corner, after in zip(corners, corners[1:] + corners[:1]) if corner != after]
+
+
+def path_of(text: str) -> list[Point]:
+    """The corners of a contour in the log, each but once where it is repeated."""
+    if not re.fullmatch(r"(\(-?\d+,-?\d+\))+\.", text):
+        raise Untranslated(f"no contour: {text[:60]}")
+    corners = [(int(x), int(y)) for x, y in re.findall(r"\((-?\d+),(-?\d+)\)", text)]
+    points = without_repeated(corners)
+    for (x, y), (after_x, after_y) in zip(points, points[1:] + points[:1]):
+        if (x == after_x) == (y == after_y):
+            raise Untranslated(f"the contour goes aslant from ({x},{y}) to ({after_x},{after_y})")
+    if any(abs(place) > MAX_COORDINATE for point in points for place in point):
+        raise Untranslated(f"a point of the contour has a coordinate above {MAX_COORDINATE}")
+    return points
+
+
+def cut(points: list[Point]) -> typing.Iterator[list[Point]]:
+    """Contours of few enough points that together wind as this one. Where it is cut, one part walks back along the cut, by way
+    of a corner, and the other one walks there."""
+    while len(points) > MAX_POINTS:
+        first, last = points[0], points[MAX_POINTS - 2]
+        corner = last[0], first[1]
+        yield without_repeated([*points[: MAX_POINTS - 1], corner])
+        points = without_repeated([first, corner, *points[MAX_POINTS - 2 :]])
+    if points:
+        yield points
+
+
+def transform(step: Step) -> list[str]:
+    """What is done to a picture of the script for a step, if something is."""
+    word, operand = step
+    numbers = [scaled(text) for text in re.findall(r"[-.\d]+", operand)]
+    if word == "-":
+        return []
+    if word == "shifted" and len(numbers) == 2:
+        return shift(*numbers)
+    if word in ("scaled", "xscaled", "yscaled") and len(numbers) == 1 and is_factor(numbers[0]):
+        return [f"{word} {numbers[0]}"]
+    if word == "rotated" and len(numbers) == 1 and numbers[0] % 90 == 0:
+        return [f"rotated {numbers[0] % 360}"] if numbers[0] % 360 else []
+    if word == "transformed" and len(numbers) == 6:
+        across, up, xx, xy, yx, yy = numbers
+        if xy == yx == 0 and is_factor(xx) and is_factor(yy):
+            return [*stretch(xx, yy), *shift(across, up)]
+        if xx == yy == 0 and is_factor(xy) and is_factor(yx):
+            return ["rotated 90", *stretch(-xy, yx), *shift(across, up)]
+    raise Untranslated(f"a picture is {word} {operand}")
+
+
+def is_factor(number: fractions.Fraction) -> bool:
+    return number.denominator == 1 and number != 0
+
+
+def shift(across: fractions.Fraction, up: fractions.Fraction) -> list[str]:
+    x, y = rounded(across), rounded(up)
+    return [f"shifted ({x},{y})"] if x or y else []
+
+
+def stretch(across: fractions.Fraction, up: fractions.Fraction) -> list[str]:
+    factors = {"xscaled": across, "yscaled": up}
+    return [f"{word} {factor}" for word, factor in factors.items() if factor != 1]
+
+
+class Script:
+    """The script in the making. Pictures are named as METAFONT names them; each but `currentpicture` has a register."""
+
+    def __init__(self, font: Font, proofs: set[int]) -> None:
+        self.font, self.proofs = font, proofs
+        self.lines = ["% Made by tools/mf2mfp.py of what METAFONT drew.", "turningcheck := 0"]
+        self.registers = dict(PLAIN)
+        self.known = set(PLAIN)
+        self.shipped = 0
+
+    def register(self, name: str) -> str:
+        """The name in the script of a picture that is assigned."""
+        if name not in self.registers:
+            left = sorted(set(OTHERS) - set(self.registers.values()))
+            if not left:
+                raise Untranslated(f"there is no register left for the picture {name}")
+            self.registers[name] = left[0]
+        return self.registers[name]
+
+    def used(self, name: str) -> str:
+        """The name in the script of a picture that must be known."""
+        if name not in self.known:
+            raise Untranslated(f"it is not known what the picture {name or 'without a name'} is")
+        return self.registers[name]
+
+    def known_by(self, token: str) -> set[str]:
+        """The known pictures whose names begin with this token."""
+        return {name for name in self.known if re.match(r"[A-Za-z_]*", name)[0] == token}
+
+    def contour(self, name: str, weight: str, points: list[Point]) -> None:
+        target = self.used(name)
+        behind = "" if weight == "1" else f" withweight {weight}"
+        for part in cut(points):
+            path = "--".join(f"({x},{y})" for x, y in part)
+            self.lines.append(f"addto {target} contour {path}--cycle{behind}")
+
+    def moved(self, name: str, steps: list[Step]) -> str:
+        """The name in the script of a picture to which the steps are done."""
+        if not steps:
+            return self.used(name)
+        sign = "-" if steps.count(NEGATED) % 2 else ""
+        self.lines += [f"{MOVED} := nullpicture", f"addto {MOVED} also {sign}{self.used(name)}"]
+        self.transform(MOVED, steps)
+        return MOVED
+
+    def transform(self, target: str, steps: list[Step]) -> None:
+        for step in steps:
+            self.lines += [f"{target} := {target} {done}" for done in transform(step)]
+
+    def also(self, name: str, added: str, steps: list[Step]) -> None:
+        target = self.used(name)
+        if steps == [NEGATED]:
+            self.lines.append(f"addto {target} also -{self.used(added)}")
+        elif added:
+            self.lines.append(f"addto {target} also {self.moved(added, steps)}")
+
+    def assign(self, name: str, assigned: str, steps: list[Step]) -> None:
+        target = self.register(name)
+        if name == assigned and NEGATED not in steps:
+            self.transform(self.used(name), steps)
+            return
+        moved, cleared = self.moved(assigned, steps) if assigned else "", f"{target} := nullpicture"
+        self.lines += [cleared] if self.lines[-1] != cleared else []
+        self.lines += [f"addto {target} also {moved}"] if moved else []
+        self.known.add(name)
+
+    def cull(self, name: str, word: str, least: str, greatest: str, weight: str) -> None:
+        ends = f"({math.ceil(scaled(least))},{math.floor(scaled(greatest))})"
+        number = rounded(scaled(weight))
+        behind = "" if number == 1 else f" withweight {number}"
+        self.lines.append(f"cull {self.used(name)} {word} {ends}{behind}")
+
+    def ship(self, name: str, steps: list[Step], code: str, dx: str, across: str, up: str) -> None:
+        """Ships a picture, moved by METAFONT's offsets, as the next character of the font."""
+        if self.shipped == len(self.font.characters):
+            raise Untranslated(f"METAFONT ships {code} behind the last character of the font")
+        character = self.font.characters[self.shipped]
+        locator = self.font.locator(character)
+        if character.code != rounded(scaled(code)) % CODES:
+            raise Untranslated(f"METAFONT ships {code}, and the font has the character {character.code} in this place")
+        if locator.last == self.shipped and locator.dx != scaled(dx) * PIXEL:
+            raise Untranslated(f"the escapement of the character {character.code} is {dx} here, and another one in the font")
+        if locator.dy:
+            raise Untranslated(f"the character {character.code} has an escapement upwards")
+        if shift(scaled(across), scaled(up)):
+            steps = [*steps, Step("shifted", f"({across},{up})")]
+        picture = self.moved(name, steps) if name else "nullpicture"
+        self.lines += [f"proof {picture}"] if character.code in self.proofs else []
+        self.lines += [f"shipout {picture} code {character.code} dx {locator.dx} width {locator.width}", "publish"]
+        self.shipped += 1
+
+    def finished(self) -> str:
+        """The whole script."""
+        if self.shipped != len(self.font.characters):
+            raise Untranslated(f"METAFONT ships {self.shipped} characters, and the font has {len(self.font.characters)}")
+        return "\n".join(self.lines) + "\n"
+
+
+class Log:
+    """Reads a log and writes the script."""
+
+    def __init__(self, script: Script) -> None:
+        self.script = script
+        # The cull, sum or shipout that has begun last, and what is used behind it.
+        self.statement: Statement | None = None
+        self.source = Source(0)
+        # The number of METAFONT's groups in which the program stands.
+        self.depth = 0
+        # The command whose trace must come next; whether METAFONT shows a picture, so that what is used means nothing.
+        self.awaited, self.is_shown = "", False
+        # The picture that the last addto names, and whether the log has yet to say what is added.
+        self.target, self.is_open = "", False
+        # The weight of a contour and what has been read of its corners.
+        self.weight, self.corners = "", ""
+
+    def read(self, line: str) -> None:
+        """Reads a line of the log."""
+        if self.weight:
+            self.read_corners(line)
+        elif mark := MARK.fullmatch(line):
+            self.read_mark(mark[1], mark[2].split(" "))
+        elif edges := EDGES.fullmatch(line):
+            self.weight = edges[2]
+        elif line.startswith("! "):
+            raise Untranslated(f"METAFONT found an error: {line[2:]}")
+        elif line.startswith("{"):
+            self.read_trace(line)
+
+    def read_corners(self, line: str) -> None:
+        """Reads a line of the corners of a contour, which end in a point."""
+        self.corners += line
+        if not self.corners.endswith((".", NOTHING)):
+            return
+        if not self.target:
+            raise Untranslated("a contour is added to no picture")
+        if self.corners != NOTHING:
+            self.script.contour(self.target, self.weight, path_of(self.corners))
+        self.weight, self.corners, self.is_open = "", "", False
+
+    def read_mark(self, word: str, rest: list[str]) -> None:
+        """Reads a mark."""
+        if MARKS.get(word) != len(rest):
+            raise Untranslated(f"a mark that is none: {word} {' '.join(rest)}")
+        if self.awaited:
+            raise Untranslated(f"METAFONT does not trace {self.awaited}")
+        if word == "uses":
+            # A mark in an expression stands in a group of its own.
+            self.in_use(self.depth - 1).uses.append(rest[0])
+            return
+        if word in COMMANDS:
+            self.end_statement()
+            self.awaited = word
+        if word == "addto":
+            self.target, self.is_open = rest[0], True
+        elif word == "also":
+            self.statement, self.is_open = Statement(word, self.target, Source(self.depth, rest[0])), False
+        elif word in ("cull", "shipout"):
+            self.statement = Statement(word, rest[0], Source(self.depth, rest[0]), {word: rest[1:]})
+        elif self.statement:
+            self.statement.marks[word] = rest
+        self.source = Source(self.depth)
+
+    def in_use(self, depth: int) -> Source:
+        """That to which the next use of a picture belongs: the source of the last command until it has one."""
+        if self.statement and not self.statement.source.is_begun():
+            return self.statement.source
+        if not self.source.is_begun():
+            self.source.depth = depth
+        return self.source
+
+    def being_made(self) -> Source:
+        """That to which a step belongs."""
+        return self.source if not self.statement or self.source.is_begun() or self.is_shown else self.statement.source
+
+    def read_trace(self, line: str) -> None:
+        """Reads a line of METAFONT's own trace."""
+        if assignment := ASSIGNMENT.fullmatch(line):
+            self.read_assignment(assignment[1] or assignment[2])
+        elif line == "{nullpicture}":
+            self.in_use(self.depth).is_null = True
+        elif operation := OPERATION.fullmatch(line):
+            self.read_step(Step(operation[1], operation[2]))
+        elif line == "{-(picture)}":
+            self.read_step(NEGATED)
+        elif restored := RESTORED.fullmatch(line):
+            self.read_restored(restored[1])
+        elif "(picture)" in line and not (QUESTION.fullmatch(line) and not self.being_made().steps):
+            raise Untranslated(f"METAFONT's operation {line}")
+        elif line[1:-1] in COMMANDS:
+            self.read_command(line[1:-1])
+        elif line in GROUPS:
+            self.depth += GROUPS[line]
+        elif line not in OF_MARKS and ENDING.match(line):
+            self.read_other(line)
+
+    def read_command(self, word: str) -> None:
+        """Reads the trace of a command before which there must be a mark."""
+        if self.awaited != word:
+            raise Untranslated(f"METAFONT's {word} under another name")
+        self.source, self.is_shown, self.awaited = Source(self.depth), False, ""
+
+    def read_step(self, step: Step) -> None:
+        """Reads something that is done to a picture."""
+        source = self.being_made()
+        if not source.is_begun() and not self.is_shown:
+            raise Untranslated(f"it is not known what picture is {step.word} {step.operand}")
+        source.steps.append(step)
+
+    def read_restored(self, token: str) -> None:
+        """Reads that the names that begin with a token are restored. Their pictures are no longer known."""
+        if names := self.script.known_by(token):
+            self.end_statement()
+            self.script.known -= names
+
+    def read_other(self, line: str) -> None:
+        """Reads the trace of something that is done to no picture. In a group that stands in an expression it ends nothing."""
+        if line in SHOWING:
+            self.end_statement()
+            self.is_shown = True
+        elif self.depth <= self.source.depth or not self.source.is_begun():
+            self.source, self.is_shown = Source(self.depth), False
+
+    def read_assignment(self, name: str) -> None:
+        """Reads the assignment of a picture."""
+        self.end_statement()
+        source, self.source = self.source, Source(self.depth)
+        if name in PLAIN and source.uses[:1] == [name]:
+            del source.uses[0]
+        is_clear = self.depth == source.depth and not self.is_shown and not (source.is_null and source.steps)
+        if not is_clear or len(source.uses) + source.is_null != 1:
+            raise Untranslated(f"it is not known what is assigned to the picture {name}")
+        self.script.assign(name, "" if source.is_null else source.uses[0], source.steps)
+
+    def end(self) -> None:
+        """Ends the script at the end of the log."""
+        self.end_statement()
+        if self.awaited or self.weight:
+            raise Untranslated("the log ends in a command")
+
+    def end_statement(self) -> None:
+        """Writes the command that has begun last, now that all of it has been read."""
+        statement, self.statement = self.statement, None
+        if self.is_open:
+            raise Untranslated(f"something else is done before a contour is added to the picture {self.target}")
+        if statement and statement.word == "cull":
+            self.end_cull(statement.name, statement.marks)
+        elif statement:
+            name = source_name(statement.source)
+            if statement.word == "also":
+                self.script.also(statement.name, name, statement.source.steps)
+            else:
+                self.script.ship(name, statement.source.steps, *statement.marks["shipout"])
+
+    def end_cull(self, name: str, marks: dict[str, list[str]]) -> None:
+        ranges = [(word, *marks[word]) for word in ("keeping", "dropping") if word in marks]
+        if len(ranges) != 1:
+            raise Untranslated("a cull has no range")
+        self.script.cull(name, *ranges[0], marks.get("weight", ["1"])[0])
+
+
+def source_name(source: Source) -> str:
+    """The name of a picture that is added or shipped, or nothing where it is blank."""
+    if source.name:
+        return source.name
+    # Where something is done to a picture that was marked, it is the one that is meant.
+    if len(source.uses) == 1 and source.steps and not source.is_null:
+        return source.uses[0]
+    if not source.uses and not source.steps and source.is_null:
+        return ""
+    raise Untranslated("it is not known what picture is added or shipped")
+
+
+def whole_lines(log: str) -> typing.Iterator[tuple[int, str]]:
+    """The lines of a log, each with its number. METAFONT breaks lines that are too long; those of its trace are joined."""
+    begun = ""
+    for number, line in enumerate(log.splitlines(), 1):
+        whole = begun + line
+        is_broken = len(line) == WIDTH and whole.startswith("{") and not whole.endswith("}")
+        begun = whole if is_broken else ""
+        if len(line) == WIDTH and MARK.match(line):
+            raise Untranslated("a name is too long")
+        if not is_broken:
+            yield number, whole
+
+
+def translated(log: str, script: Script) -> str:
+    """The script of a log. What is not translated is told with its line."""
+    reader, number = Log(script), 0
+    try:
+        for number, line in whole_lines(log):
+            reader.read(line)
+        reader.end()
+        return script.finished()
+    except Untranslated as fault:
+        raise Untranslated(f"line {number}: {fault}") from None
+
+
+def main() -> int:
+    parser = argparse.ArgumentParser(description="Makes a script for mfpic of METAFONT's log and GF file.")
+    parser.add_argument("log", type=pathlib.Path, metavar="LOG", help="of METAFONT, which read mf2mfp.mf before the font")
+    parser.add_argument("font", type=pathlib.Path, metavar="FONT", help="the GF file that METAFONT wrote")
+    parser.add_argument("--proof", type=int, action="append", default=[], metavar="CODE", help="a character to proof")
+    words = parser.parse_args()
+    path = words.font
+    try:
+        font = read_font(path.read_bytes())
+        path = words.log
+        script = translated(path.read_text(encoding="latin-1"), Script(font, set(words.proof)))
+    except (OSError, NotGf, Untranslated) as fault:
+        told = fault.strerror if isinstance(fault, OSError) else fault
+        print(f"mf2mfp.py: {path}: {told}", file=sys.stderr)
+        return 1
+    try:
+        print(script, end="", flush=True)
+    except OSError as fault:
+        print(f"mf2mfp.py: the script was not written: {fault.strerror}", file=sys.stderr)
+        os._exit(1)
+    return 0
+
+
+if __name__ == "__main__":
+    sys.exit(main())
