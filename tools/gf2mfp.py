@@ -12,13 +12,13 @@ no line can say is named, and no script is written.
 import argparse
 import bisect
 import collections
-import os
 import pathlib
 import sys
 import typing
 from collections.abc import Iterable, Iterator
 
 import gf
+from printing import print_script
 
 Point = tuple[int, int]
 # What the program takes (docs/LANGUAGE.md): the columns and rows of pixels, the points of a contour, the digits of a number,
@@ -202,11 +202,7 @@ def main(words: list[str]) -> int:
         told = fault.strerror if isinstance(fault, OSError) else fault
         print("\n".join(f"gf2mfp.py: {file}: {line}" for line in str(told).splitlines()), file=sys.stderr)
         return 1
-    try:
-        print(script, end="", flush=True)
-    except OSError as fault:
-        print(f"gf2mfp.py: the script was not written: {fault.strerror}", file=sys.stderr)
-        os._exit(1)
+    print_script("gf2mfp.py", script)
     return 0
 
 

@@ -22,13 +22,13 @@ import argparse
 import dataclasses
 import fractions
 import math
-import os
 import pathlib
 import re
 import sys
 import typing
 
 from gf import CODES, PIXEL, Font, NotGf, read_font
+from printing import print_script
 
 Point = tuple[int, int]
 
@@ -490,11 +490,7 @@ def main() -> int:
         told = fault.strerror if isinstance(fault, OSError) else fault
         print(f"mf2mfp.py: {path}: {told}", file=sys.stderr)
         return 1
-    try:
-        print(script, end="", flush=True)
-    except OSError as fault:
-        print(f"mf2mfp.py: the script was not written: {fault.strerror}", file=sys.stderr)
-        os._exit(1)
+    print_script("mf2mfp.py", script)
     return 0
 
 
