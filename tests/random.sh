@@ -4,16 +4,17 @@
 set -u
 cd "$(dirname "$0")/.."
 
-# The program is built before two scripts run it.
+# The program is built where it is missing, and then run without the script that looks whether it is.
 ./mfpic < /dev/null || exit
+program=crates/mfpic/out/mfpic
 
 folder=$(mktemp -d)
 trap 'rm -r "$folder"' EXIT
 today=$(date -u +%Y%m%d)
 
-tests/random_scripts.py ./mfpic 3000 2 > "$folder/fixed" &
+tests/random_scripts.py $program 3000 2 > "$folder/fixed" &
 fixed=$!
-tests/random_scripts.py ./mfpic 500 "$today" > "$folder/today" &
+tests/random_scripts.py $program 500 "$today" > "$folder/today" &
 daily=$!
 
 # A run that was begun before ends well, and its count is shown.
