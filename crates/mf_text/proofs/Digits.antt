@@ -1,10 +1,10 @@
--- A row of at most nine digits, and its number.
-use Rattle.std.proofs.Common.{◌≡◌, ◌≢◌, inl, inr, ℕ, suc, ◌+◌, ◌-◌, ◌*◌, ◌^◌, ◌<◌, ◌≤◌, Bool, true, false, cond, List, [], ◌∷◌, length, get_or, take, refl, ap, sym, subst, arith}
+-- Rows of at most nine digits, and their numbers.
+use Rattle.std.proofs.Common.{◌≡◌, ◌≢◌, inl, inr, ℕ, suc, ◌+◌, ◌-◌, ◌*◌, ◌^◌, ◌<◌, ◌≤◌, Bool, true, false, cond, nat_lt, if◌then◌else◌, None, Some, List, [], ◌∷◌, length, get_or, take, refl, ap, sym, subst, ◌∙◌, arith}
 use Rattle.std.specs.Char.{digit_value, is_ascii_digit}
 use Rattle.std.specs.List.{prefix_len, take_while}
 use Rattle.std.specs.Str.Parse.{AllDigits, digits_value}
 use Rattle.std.proofs.Math.Nat.{eq-or-lt_of_le}
-use Rattle.std.proofs.lemmas.Bool.{le-leb, lt-leb}
+use Rattle.std.proofs.lemmas.Bool.{cases_Bool, cond_both, le-leb, lt-leb, ltb-false, ltb-true}
 use Rattle.std.proofs.lemmas.Bool.Decides.{nat_tests}
 use Rattle.std.proofs.lemmas.Int.Digits.{digits_more, digits_value_more}
 use Rattle.std.proofs.lemmas.List.{length-take-le}
@@ -12,8 +12,10 @@ use Rattle.std.proofs.lemmas.List.Folds.{length-prefix_len}
 use Rattle.std.proofs.lemmas.List.Sums.{prefix_len-le-length, prefix_len_passes, prefix_len_stops}
 use Rattle.std.proofs.lemmas.Str.{digit_value_digit}
 use Rattle.std.proofs.lemmas.Str.Parse.{numerals_by_value, tells_digits, digits_value_short, digit_from_value}
-use Rattle.mf_text.specs.declared.token.Token.TheVariants as token
-use Rattle.mf_text.specs.Tokens.{number_token}
+use Rattle.mf_text.specs.Token.{value_in}
+use Rattle.mf_text.specs.Token as token
+use Rattle.mf_text.specs.Tokens.{Finds, Taken, first_token, has_front, number_token}
+use Rattle.mf_text.proofs.Words.{digits_first, digits_lacking}
 
 digit_below_ten : (c : ℕ) → is_ascii_digit c ≡ true → digit_value c < 10
 digit_below_ten c e = grind (arith, nat_tests)
@@ -24,7 +26,7 @@ row_from b bs true e others =
     rw longer (digit_below_ten b e, others)
 row_from b bs false e others = tt
 
--- the row of digits at the front
+-- the row of digits at the front has digits only
 pub digits_of_row : (bs : List ℕ) → AllDigits 10 (take (prefix_len is_ascii_digit bs) bs)
 digits_of_row [] = tt
 digits_of_row (b ∷ bs) = row_from b bs (is_ascii_digit b) refl (digits_of_row bs)
@@ -34,7 +36,7 @@ short_value ds all short = digits_value_short (numerals_by_value (AllDigits 10) 
 
 -- ---- the number of the digits at the front of a text
 
--- so many digits at the front, at most nine, and their number
+-- the first i bytes are digits, at most nine of them, with this value
 pub record IsNumberTo (text : List ℕ) (i value : ℕ) : Type 0 where
   pub few : i ≤ 9
   pub front : i ≤ prefix_len is_ascii_digit text
@@ -44,7 +46,7 @@ pub record IsNumberTo (text : List ℕ) (i value : ℕ) : Type 0 where
 pub number-none : (text : List ℕ) → IsNumberTo text 0 0
 number-none text = record { few = omega arith; front = omega arith; digits = tt; value_is = refl }
 
--- a digit at i goes on with the digits before it
+-- a digit at i continues the digits before it
 digit_goes_on : (text : List ℕ) (i : ℕ) → i ≤ prefix_len is_ascii_digit text → i < length text → is_ascii_digit (get_or text i 0) ≡ true
     → i < prefix_len is_ascii_digit text
 digit_goes_on text i front inside digit =
@@ -55,7 +57,7 @@ digit_goes_on text i front inside digit =
       | inr goes_on ↦ goes_on
     ]
 
--- another byte at i ends them
+-- a byte at i that is not a digit ends the digits before it
 digits_end : (text : List ℕ) (i : ℕ) → i ≤ prefix_len is_ascii_digit text → is_ascii_digit (get_or text i 0) ≡ false
     → i ≡ prefix_len is_ascii_digit text
 digits_end text i front other =
@@ -90,7 +92,7 @@ number-more text i value to inside digit not_last =
       };
     }
 
-pub number-ends : (text : List ℕ) (i value : ℕ) → IsNumberTo text i value → i ≡ prefix_len is_ascii_digit text
+number-ends : (text : List ℕ) (i value : ℕ) → IsNumberTo text i value → i ≡ prefix_len is_ascii_digit text
     → token.Number value ≡ number_token (take_while is_ascii_digit text)
 unfolding number_token
 number-ends text i value to ends =
@@ -102,9 +104,41 @@ number-stops text i value to other = digits_end text i to.front other
 pub number-whole : (text : List ℕ) (i value : ℕ) → IsNumberTo text i value → length text ≤ i → i ≡ prefix_len is_ascii_digit text
 number-whole text i value to ended = omega (arith, to.front, ended, prefix_len-le-length is_ascii_digit text)
 
-pub number-long : (text : List ℕ) (i value : ℕ) → IsNumberTo text i value → i ≡ 9 → i < length text → is_ascii_digit (get_or text i 0) ≡ true
+number-long : (text : List ℕ) (i value : ℕ) → IsNumberTo text i value → i ≡ 9 → i < length text → is_ascii_digit (get_or text i 0) ≡ true
     → token.Unknown ≡ number_token (take_while is_ascii_digit text)
 unfolding number_token
 number-long text i value to last inside digit =
     let long = digit_goes_on text i to.front inside digit in
     rw (lt-leb (length (take_while is_ascii_digit text)) 9 (omega (arith, last, long, length-prefix_len is_ascii_digit text))) refl
+
+has_digit : (bs : List ℕ) → 0 < prefix_len is_ascii_digit bs → has_front is_ascii_digit bs ≡ true
+has_digit [] some = absurd (omega arith)
+has_digit (b ∷ bs) some = elim (cases_Bool (is_ascii_digit b)) [
+  | inl digit ↦ digit
+  | inr other ↦ absurd (let none : prefix_len is_ascii_digit (b ∷ bs) ≡ 0 = rw other refl in omega (arith, none))
+]
+
+-- the number that is found once all of its digits are passed
+pub number-found : (text : List ℕ) (i value : ℕ) → IsNumberTo text i value → i ≡ prefix_len is_ascii_digit text → Finds value_in text (if nat_lt 0 i then Some (value, i) else None)
+number-found text i value to ends =
+    cond_both (nat_lt 0 i) (Some (value, i)) None (Finds value_in text) (λ some. found (digits_first text (has_digit text (omega (arith, ltb-true 0 i some, ends)))))
+    (λ none. digits_lacking text (no_digit text (omega (arith, ltb-false 0 i none, ends)))) where
+      no_digit : (bs : List ℕ) → prefix_len is_ascii_digit bs ≡ 0 → has_front is_ascii_digit bs ≡ false
+      no_digit [] none = refl
+      no_digit (b ∷ bs) none = elim (cases_Bool (is_ascii_digit b)) [
+        | inr other ↦ other
+        | inl digit ↦ absurd (let some : prefix_len is_ascii_digit (b ∷ bs) ≡ 1 + prefix_len is_ascii_digit bs = rw digit refl in omega (arith, some))
+      ]
+
+      found : first_token text ≡ record { token = number_token (take_while is_ascii_digit text); bytes = length (take_while is_ascii_digit text) } → Finds value_in text (Some (value, i))
+      found first =
+          let count = length-prefix_len is_ascii_digit text in (
+            ap (λ (t : Taken). value_in t.token) first ∙ ap value_in (sym (number-ends text i value to ends)),
+            sym (ap (λ (t : Taken). t.bytes) first ∙ count ∙ sym ends),
+            omega (arith, ends, prefix_len-le-length is_ascii_digit text),
+          )
+
+-- with a tenth digit there is no number
+pub number-lacking : (text : List ℕ) (i value : ℕ) → IsNumberTo text i value → i ≡ 9 → i < length text → is_ascii_digit (get_or text i 0) ≡ true → value_in (first_token text).token ≡ None
+number-lacking text i value to last inside digit =
+    ap (λ (t : Taken). value_in t.token) (digits_first text (has_digit text (omega (arith, last, to.front)))) ∙ ap value_in (sym (number-long text i value to last inside digit))

@@ -1,4 +1,5 @@
 pub mod Digits
+pub mod Fronts
 pub mod LineAnswers
 pub mod LineReading
 pub mod LineRests
@@ -9,6 +10,7 @@ pub mod ReadInts
 pub mod Reading
 pub mod Registers
 pub mod Rests
+pub mod Rows
 pub mod SomeAnswer
 pub mod Sound
 pub mod TokenTexts

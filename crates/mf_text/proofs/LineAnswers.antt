@@ -1,59 +1,29 @@
--- What is answered to a line.
-use Rattle.std.proofs.Common.{◌≡◌, ◌∷◌, inl, inr, Option, None, Some, Result, Ok, Err, List, ℕ, false, refl, sym, ap, subst, ◌∙◌}
+-- The answer to a line.
+use Rattle.std.proofs.Common.{◌≡◌, inl, inr, Result, Ok, Err, List, [], ℕ, refl, sym, subst}
 use Rattle.std.specs.Prelude.{IfOk, IfErr}
-use Rattle.std.specs.Option.{MatchOption, option_map}
 use Rattle.mf_text.specs.declared.command.Command.{Command}
 use Rattle.mf_text.specs.declared.fault.TextFault.{TextFault}
 use Rattle.mf_text.specs.declared.fault.TextFault.TheVariants as faults
-use Rattle.mf_text.specs.declared.token.Mark.TheVariants as mark
-use Rattle.mf_text.specs.declared.token.Placed.{Placed}
-use Rattle.mf_text.specs.declared.token.Token.{Token}
-use Rattle.mf_text.specs.declared.token.Token.TheVariants as token
-use Rattle.mf_text.specs.declared.token.Word.TheVariants as word
 use Rattle.mf_text.specs.declared.tokens.Tokens.{Tokens}
-use Rattle.mf_text.specs.Grammar.{Nothing, Line}
+use Rattle.mf_text.specs.Grammar.{Line, Nothing}
 use Rattle.mf_text.specs.Left.{tokens_left}
-use Rattle.mf_text.specs.LineRests.{front, line}
+use Rattle.mf_text.specs.LineRests.{line}
 use Rattle.mf_text.specs.Lines.{IsText, IsLineOf, Gives, IsRefused, front as line_front}
 use Rattle.mf_text.specs.Meaning.{Meaning, Is, IfCycle, IfWeight, IfCull, IfFactors, Turns, IsAnswerOf, Refuses, meaning}
 use Rattle.mf_text.specs.Reads.{Answers, ahead}
-use Rattle.mf_text.specs.Rests.{Before, Rest, from, step_from}
+use Rattle.mf_text.specs.Rests.{follow, from}
 use Rattle.mf_text.specs.Tokens.{tokens}
 use Rattle.mf_text.proofs.LineReading.{goes_wrong, is_line}
-use Rattle.mf_text.proofs.Reading as reading
 
--- ---- the first token
+-- ---- a line with no token
 
-front_step : (t : Token) → step_from line t ≡ option_map Before (front t)
-front_step (token.Word word.Addto) = refl
-front_step (token.Word word.Cull) = refl
-front_step (token.Word word.Show) = refl
-front_step (token.Word word.Proof) = refl
-front_step (token.Word word.Shipout) = refl
-front_step (token.Word word.TurningCheck) = refl
-front_step (token.Word word.Publish) = refl
-front_step (token.Mark mark.Semicolon) = refl
-front_step t = refl
-
-module _ (old new : Tokens) (r : Result Command TextFault) where
-  first_answered : (p : Placed) (rest : Option Rest) → tokens_left old ≡ p ∷ tokens_left new → new.column ≡ p.after → front p.token ≡ rest
-      → MatchOption rest (r ≡ Err (faults.Syntax p.column)) (λ s. Answers (from s (ahead new)) r) → Answers (from line (ahead old)) r
-  first_answered p None tokens_are column_is is answered =
-      subst (λ o. Answers o r) (sym (reading.goes_wrong line old p (tokens_left new) tokens_are (front_step p.token ∙ ap (option_map Before) is))) answered
-  first_answered p (Some s) tokens_are column_is is answered =
-      subst (λ o. Answers o r) (sym (reading.goes_on line s old new p tokens_are column_is (front_step p.token ∙ ap (option_map Before) is))) answered
-
-pub first : (old new : Tokens) (p : Placed) (r : Result Command TextFault) → tokens_left old ≡ p ∷ tokens_left new → new.column ≡ p.after
-    → MatchOption (front p.token) (r ≡ Err (faults.Syntax p.column)) (λ s. Answers (from s (ahead new)) r) → Answers (from line (ahead old)) r
-first old new p r tokens_are column_is answered = first_answered old new r p (front p.token) tokens_are column_is refl answered
-
-pub nothing : (old : Tokens) → from line (ahead old) ≡ Ok (record { form = Nothing; ended = false }) → (r : Result Command TextFault)
-    → IsAnswerOf Nothing r → Answers (from line (ahead old)) r
-nothing old is r answer = subst (λ p. Answers p r) (sym is) answer
+pub nothing : (old : Tokens) → tokens_left old ≡ [] → (r : Result Command TextFault) → IsAnswerOf Nothing r → Answers (from line (ahead old)) r
+unfolding follow
+nothing old none r answer = subst (λ ps. Answers (from line (record { tokens = ps; past = old.column })) r) (sym none) answer
 
 -- ---- refusals of values
 
--- a fault that values have
+-- the fault is a refusal of values
 abbrev IsOfValues : TextFault → Type 0
 IsOfValues (faults.Cycle cause) = Unit {0}
 IsOfValues faults.BadWeight = Unit {0}
@@ -76,7 +46,7 @@ refusals_of_values (Turns name angle) fault is = rw is.is tt
 
 -- ---- the answer
 
--- a line is answered so
+-- this is the answer to a line: a command that it gives, or its refusal
 abbrev Answered : List ℕ → Result Command TextFault → Type 0
 Answered bytes (Ok given) = Gives bytes given
 Answered bytes (Err fault) = IsRefused bytes fault

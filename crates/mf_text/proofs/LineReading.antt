@@ -1,12 +1,12 @@
--- What comes of tokens: they are a line, or go wrong where no line goes on.
+-- What tokens give: they are a line, or go wrong where no line continues them.
 use Rattle.std.proofs.Common.{◌≡◌, ◌⊎◌, ◌&&◌, inl, inr, ℕ, zero, suc, ◌<◌, ◌≤◌, Bool, true, false, List, [], ◌∷◌, ◌++◌, eqb, length, take, Option, Some, None, Result, Ok, Err, ok_or, if◌then◌else◌, refl, sym, ap, subst, ◌∙◌, arith}
 use Rattle.std.proofs.lemmas.Bool.{and_parts, eqb-true, false≢true}
 use Rattle.std.proofs.lemmas.List.{length-map}
 use Rattle.std.proofs.lemmas.Option.{none-some, same_Some}
 use Rattle.mf_text.specs.declared.token.Mark.TheVariants as mark
-use Rattle.mf_text.specs.declared.token.Placed.{Placed}
-use Rattle.mf_text.specs.declared.token.Token.{Token}
-use Rattle.mf_text.specs.declared.token.Token.TheVariants as token
+use Rattle.mf_text.specs.Token.{Placed}
+use Rattle.mf_text.specs.Token.{Token}
+use Rattle.mf_text.specs.Token as token
 use Rattle.mf_text.specs.declared.token.Word.TheVariants as word
 use Rattle.mf_text.specs.Ahead.{Ahead, behind, column_at, column_of}
 use Rattle.mf_text.specs.Grammar.{Line, spell_line}
@@ -27,11 +27,11 @@ read_is_line ts l is = sym ((sound_line (length ts)).spelled ts l (omega arith) 
 pub line_is_read : (ts : List Token) (l : Line) → ts ≡ spell_line l → reads (Some (Before line)) ts ≡ Some l
 line_is_read ts l is = ap (reads (Some (Before line))) is ∙ line_read l
 
--- tokens are at most one line
+-- a list of tokens is at most one line
 pub same_line : (l m : Line) → spell_line l ≡ spell_line m → l ≡ m
 same_line l m same = same_Some l m (sym (line_read l) ∙ line_is_read (spell_line l) m same)
 
--- a line goes on behind these tokens, from a place
+-- from a place, these tokens and some others are read as a line
 record GoesOn (p : Option Place) (ts : List Token) : Type 0 where
   rest : List Token
   tree : Line
@@ -68,13 +68,13 @@ record Wrong (p : Option Place) (ts : List Token) (k : ℕ) : Type 0 where
   wrong : k < length ts → GoesOn p (take (suc k) ts) → ⊥
   unended : k ≡ length ts → (l : Line) → reads p ts ≡ Some l → ⊥
 
--- the column of the token before these, or of the one before the token k
+-- the column of the token before token k of these; `last` is that of the token before token 0
 abbrev last_column : ℕ → List Placed → ℕ → ℕ
 last_column last ps zero = last
 last_column last [] (suc k) = last
 last_column last (p ∷ ps) (suc k) = last_column p.column ps k
 
--- a column that shows where tokens go wrong
+-- the tokens after a place go wrong, which is reported at this column
 record Stops (p : Place) (last past : ℕ) (ps : List Placed) (column : ℕ) : Type 0 where
   place : ℕ
   at : Wrong (Some p) (kinds ps) place
@@ -137,7 +137,7 @@ unfolding follow
 stops p last past [] column is = at_end p last past column (ends p) refl is
 stops p last past (t ∷ ps) column is = at_token p last past t ps column (step p t.token) refl is (λ s. stops s t.column t.after ps column)
 
--- ---- the number of a code shows at its `-`
+-- ---- a number after `code -` is reported at the `-`
 
 shipped : (s : Token) (n : ℕ) (ts us : List Token) (l : Line)
     → reads (Some (Before line)) (token.Word word.Shipout ∷ s ∷ token.Word word.Code ∷ token.Mark mark.Minus ∷ us) ≡ Some l
@@ -170,7 +170,7 @@ module _ (ahead : Ahead) (column : ℕ) (found : Stops (Before line) ahead.past 
   abbrev is_shown : Bool
   is_shown = is_code_number_at (Some (Before line)) ts found.place
 
-  -- the tokens are no line
+  -- the tokens go wrong at this place
   wrong_at : IsWrongAt spell_line ts found.place
   wrong_at = let at = found.at in record {
     within = at.within;
@@ -208,7 +208,7 @@ module _ (ahead : Ahead) (column : ℕ) (found : Stops (Before line) ahead.past 
 pub goes_wrong : (ahead : Ahead) (column : ℕ) → from line ahead ≡ Err column → IsSyntaxFault ahead column
 goes_wrong ahead column is = syntax_fault ahead column (stops (Before line) ahead.past ahead.past ahead.tokens column is)
 
--- ---- what is followed to its end is read
+-- ---- tokens that are followed to the end of a line are read as that line
 
 follows : (p : Place) (last past : ℕ) (ps : List Placed) (l : Line) → follow (Ok p) last past ps ≡ Ok l → reads (Some p) (kinds ps) ≡ Some l
 unfolding follow reads

@@ -1,4 +1,4 @@
--- The rests of whole lines: each line is read as itself, and what is read is spelled so.
+-- The rests of complete lines: the spelling of each line is read as that line.
 use Rattle.std.proofs.Common.{◌≡◌, Bool, true, false, List, [], ◌∷◌, ◌++◌, Option, Some, None, refl, ap, ◌∙◌, append_assoc}
 use Rattle.mf_ops.specs.declared.sign.Sign.TheVariants.{Plus, Minus}
 use Rattle.mf_text.specs.declared.code.Code.{Code}
@@ -8,8 +8,8 @@ use Rattle.mf_text.specs.declared.command.Source.{Source}
 use Rattle.mf_text.specs.declared.command.Source.TheVariants.{Null, Named}
 use Rattle.mf_text.specs.declared.int.Int.{Int}
 use Rattle.mf_text.specs.declared.token.Mark.TheVariants as mark
-use Rattle.mf_text.specs.declared.token.Token.{Token}
-use Rattle.mf_text.specs.declared.token.Token.TheVariants as token
+use Rattle.mf_text.specs.Token.{Token}
+use Rattle.mf_text.specs.Token as token
 use Rattle.mf_text.specs.declared.token.Word.{Word}
 use Rattle.mf_text.specs.declared.token.Word.TheVariants as word
 use Rattle.mf_text.specs.Grammar.{Form, Nothing, AddContour, AddPicture, CullKeeping, CullDropping, Clear, Move, ShowTotal, ShowPicture, ShowProof, ShipOut, SetCheck, PublishAll, Transform, Shifted, Scaled, XScaled, YScaled, Rotated, Line, spell_int, spell_name, spell_source, spell_form, spell_end, spell_line, spell_weight, spell_transform}
@@ -19,7 +19,7 @@ use Rattle.mf_text.proofs.Rests.{Leads, on, reads, if_same, code_read, int_read,
 
 -- ---- each line is read as itself
 
--- what is read behind these tokens, and behind the `;` or without it
+-- the line that these tokens are read as, if there is one
 abbrev read_line : List Token → Option Line
 read_line ts = reads (Some (Before line)) ts
 
@@ -87,10 +87,11 @@ motion_read name (XScaled n) = on (word_read word.XScaled (moved name) (by_numbe
 motion_read name (YScaled n) = on (word_read word.YScaled (moved name) (by_number name YScaled) refl) (int_read _ n)
 motion_read name (Rotated n) = on (word_read word.Rotated (moved name) (by_number name Rotated) refl) (int_read _ n)
 
--- the rests of a shipment behind its code, and of its width
+-- the last int of a form, and the end of the line
 abbrev last_int : (Int → Form) → Rest
 last_int form = int (λ n. whole (form n))
 
+-- the rest of a line that ships a character, after its code
 abbrev behind_code : Source → Code → Rest
 behind_code s code = One (token.Word word.Dx) (int (λ dx. One (token.Word word.Width) (last_int (ShipOut s code dx))))
 

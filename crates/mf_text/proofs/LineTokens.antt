@@ -6,13 +6,13 @@ use Rattle.std.proofs.lemmas.Bool.{ltb-true, ne_eqb}
 use Rattle.std.proofs.lemmas.List.{take_rest}
 use Rattle.std.proofs.lemmas.List.Folds.{length-prefix_len}
 use Rattle.std.proofs.lemmas.List.Sums.{prefix_len-le-length}
-use Rattle.mf_text.specs.declared.token.Token.{Token}
+use Rattle.mf_text.specs.Token.{Token}
 use Rattle.mf_text.specs.Bytes.{is_blank, IsClear}
 use Rattle.mf_text.specs.Tokens.{Taken, placed, marks, mark_among, first_token, tokens_within, tokens_from}
 
 -- ---- how many bytes a token takes
 
--- at least one of the bytes, and at most n
+-- the token takes at least one byte, and at most n
 pub record TakesSome (n : ℕ) (t : Taken) : Type 0 where
   pub some : 0 < t.bytes
   pub within : t.bytes ≤ n
@@ -39,13 +39,13 @@ first_taken b bs =
 
 -- ---- a line from its front
 
--- the bytes behind the first token are fewer
+-- fewer bytes are left after the first token
 pub rest_shorter : (b : ℕ) (bs : List ℕ) → length (drop (first_token (b ∷ bs)).bytes (b ∷ bs)) ≤ length bs
 rest_shorter b bs =
     let some = first_taken b bs in
     omega (arith, some.some, some.within, length-drop (first_token (b ∷ bs)).bytes (b ∷ bs))
 
--- more steps than bytes find the same tokens
+-- any number of steps that is at least the number of bytes finds the same tokens
 tokens_within-same : (m n column : ℕ) (bs : List ℕ) → length bs ≤ m → length bs ≤ n → tokens_within m column bs ≡ tokens_within n column bs
 unfolding tokens_within
 tokens_within-same zero zero column bs p q = refl
@@ -75,7 +75,7 @@ tokens-step column b bs clear token =
     let rest = drop first.bytes (b ∷ bs) in
     rw (clear, token, tokens_within-same (length bs) (length rest) (column + first.bytes) rest (rest_shorter b bs) (omega arith)) refl
 
--- ---- what an iterator yields
+-- ---- the tokens that are left
 
 pub tokens_at_end : (column : ℕ) (text : List ℕ) → length text < 1 → tokens_from column text ≡ []
 unfolding tokens_from tokens_within

@@ -1,102 +1,117 @@
 -- A mark at the front of bytes.
-use Rattle.std.proofs.Common.{◌≡◌, ◌≢◌, inl, inr, ℕ, ◌+◌, ◌-◌, ◌≤◌, true, false, eqb, leb, List, [], ◌∷◌, length, codes, get_or, take, drop, ltb, Option, Some, None, refl, sym, ap, ◌∙◌, subst, arith}
+use Rattle.std.proofs.Common.{◌≡◌, inl, inr, ℕ, Bool, true, false, bytes_eq, eqb, if◌then◌else◌, ltb, List, [], ◌∷◌, ◌++◌, Some, ◌≤◌, length, take, drop, refl, sym, ap, ◌∙◌, rules}
 use Rattle.std.specs.Char.{is_ascii_alphabetic, is_ascii_digit}
-use Rattle.std.specs.List.{prefix_len, starts_with}
-use Rattle.std.specs.Str.Parse.{digits_value}
-use Rattle.std.proofs.lemmas.Bool.{cases_Bool, cond_both, eqb-true, false≢true}
+use Rattle.std.specs.List.{list_all, prefix_len, starts_with}
+use Rattle.std.proofs.lemmas.Bool.{and_parts, cases_Bool, cond_both, false≢true}
 use Rattle.mf_text.specs.declared.token.Mark.{Mark}
-use Rattle.mf_text.specs.declared.token.Token.TheVariants as token
-use Rattle.mf_text.specs.declared.token.Word.{Word}
-use Rattle.mf_text.specs.declared.tokens.Tokens.{Tokens}
-use Rattle.mf_text.specs.Bytes.{IsClear}
-use Rattle.mf_text.specs.Left.{tokens_left}
-use Rattle.mf_text.specs.Reads.{ahead}
-use Rattle.mf_text.specs.Rests.{Or, Rest, from, is_token}
-use Rattle.mf_text.specs.Tokens.{Taken, first_token, known_word, mark_among, marks, number_token, placed, tokens_from, word_among, word_token, words, is_letter}
-use Rattle.mf_text.proofs.TokenTexts.{begins}
-use Rattle.mf_text.proofs.LineTokens.{tokens_at_comment, tokens_at_end, tokens_at_token, tokens-step}
-use Rattle.mf_text.proofs.Reading.{as_other_end, takes_not}
+use Rattle.mf_text.specs.declared.token.Mark.TheVariants as mark
+use Rattle.mf_text.specs.Token.{Token, is_token}
+use Rattle.mf_text.specs.Token as token
+use Rattle.mf_text.specs.Tokens.{FindsToken, Taken, first_token, is_longer, mark_among, mark_text, marks}
+use Rattle.mf_text.proofs.Rows.{begins}
+use Rattle.mf_text.proofs.Words.{of_letters, of_numbers, same_bytes, same_token}
 
--- what a byte is with which a mark begins
-record CanBegin (b : ℕ) : Type 0 where
-  no_letter : is_ascii_alphabetic b ≡ false
-  no_digit : is_ascii_digit b ≡ false
-  no_comment : eqb b 37 ≡ false
+same_mark : (m n : Mark) → is_token (token.Mark m) (token.Mark n) ≡ true → m ≡ n
+same_mark m n same = search rules
 
-front_can : (b c : ℕ) (bs cs : List ℕ) → starts_with eqb (b ∷ bs) (c ∷ cs) ≡ true → CanBegin c → CanBegin b
-front_can b c bs cs front can =
-    let all = begins (b ∷ bs) (c ∷ cs) front in
-    let same : c ≡ b = cc in
-    subst CanBegin same can
-
--- a mark is at the front
-can_begin : (b : ℕ) (bs : List ℕ) (m : Mark) → (mark_among marks (b ∷ bs)).token ≡ token.Mark m → CanBegin b
+-- where each entry of a table has the text of its mark, a mark that is found has its text at the front
+are_written : (entries : List (List ℕ × Mark)) (m : Mark) (bs : List ℕ) → list_all (λ e. bytes_eq e.0 (mark_text e.1)) entries ≡ true
+    → is_token (mark_among entries bs).token (token.Mark m) ≡ true → starts_with eqb bs (mark_text m) ≡ true
 unfolding mark_among
-can_begin b bs m =
-    let xs : List ℕ = b ∷ bs in
-    let P : Taken → Type 0 = λ t. t.token ≡ token.Mark m → CanBegin b in
-    let here : CanBegin 45 = record { no_letter = refl; no_digit = refl; no_comment = refl } in
-    cond_both (starts_with eqb xs (codes "--")) _ _ P (λ front _. front_can b 45 bs (45 ∷ []) front here)
-    (λ _. cond_both (starts_with eqb xs (codes "-")) _ _ P (λ front _. front_can b 45 bs [] front here)
-    (λ _. cond_both (starts_with eqb xs (codes ":=")) _ _ P (λ front _. front_can b 58 bs (61 ∷ []) front (record { no_letter = refl; no_digit = refl; no_comment = refl }))
-    (λ _. cond_both (starts_with eqb xs (codes "(")) _ _ P (λ front _. front_can b 40 bs [] front (record { no_letter = refl; no_digit = refl; no_comment = refl }))
-    (λ _. cond_both (starts_with eqb xs (codes ")")) _ _ P (λ front _. front_can b 41 bs [] front (record { no_letter = refl; no_digit = refl; no_comment = refl }))
-    (λ _. cond_both (starts_with eqb xs (codes ",")) _ _ P (λ front _. front_can b 44 bs [] front (record { no_letter = refl; no_digit = refl; no_comment = refl }))
-    (λ _. cond_both (starts_with eqb xs (codes ";")) _ _ P (λ front _. front_can b 59 bs [] front (record { no_letter = refl; no_digit = refl; no_comment = refl }))
-    (λ _ other. absurd (let no_mark = other in cc))))))))
+are_written [] m bs all is = absurd (false≢true is)
+are_written (entry ∷ entries) m bs all is =
+    let parts = and_parts (bytes_eq entry.0 (mark_text entry.1)) (list_all (λ e. bytes_eq e.0 (mark_text e.1)) entries) all in
+    by_text (starts_with eqb bs entry.0) refl is (same_bytes entry.0 (mark_text entry.1) parts.0) (are_written entries m bs parts.1) where
+      by_text : (begun : Bool) → starts_with eqb bs entry.0 ≡ begun
+          → is_token (if begun then record { token = token.Mark entry.1; bytes = length entry.0 } else mark_among entries bs).token (token.Mark m) ≡ true
+          → entry.0 ≡ mark_text entry.1 → (is_token (mark_among entries bs).token (token.Mark m) ≡ true → starts_with eqb bs (mark_text m) ≡ true) → starts_with eqb bs (mark_text m) ≡ true
+      by_text true begun same own others = ap (starts_with eqb bs) (ap mark_text (sym (same_mark entry.1 m same)) ∙ sym own) ∙ begun
+      by_text false begun found own others = others found
 
-first_is_mark : (b : ℕ) (bs : List ℕ) → CanBegin b → first_token (b ∷ bs) ≡ mark_among marks (b ∷ bs)
+all_written : list_all (λ e. bytes_eq e.0 (mark_text e.1)) marks ≡ true
+all_written = refl
+
+is_mark : (m : Mark) (bs : List ℕ) → is_token (first_token bs).token (token.Mark m) ≡ true → starts_with eqb bs (mark_text m) ≡ true
 unfolding first_token
-first_is_mark b bs can = rw (can.no_letter, can.no_digit) refl
+is_mark m bs =
+    let f : Token → Bool = λ t. is_token t (token.Mark m) in
+    let P : Taken → Type 0 = λ t. f t.token ≡ true → starts_with eqb bs (mark_text m) ≡ true in
+    cond_both (ltb 0 (length (take (prefix_len is_ascii_alphabetic bs) bs))) _ _ P (λ _ is. absurd (false≢true (sym (of_letters f false refl (λ w. refl) (λ n. refl) _) ∙ is)))
+    (λ _. cond_both (ltb 0 (length (take (prefix_len is_ascii_digit bs) bs))) _ _ P (λ _ is. absurd (false≢true (sym (of_numbers f false refl (λ n. refl) _) ∙ is)))
+    (λ _ is. are_written marks m bs all_written is))
 
--- ---- a token that is no mark
-
-known_is_none : (word : Option Word) (m : Mark) → is_token (known_word word) (token.Mark m) ≡ false
-known_is_none None m = refl
-known_is_none (Some w) m = refl
-
-word_is_none : (letters : List ℕ) (m : Mark) → is_token (word_token letters) (token.Mark m) ≡ false
-unfolding word_token
-word_is_none letters m = cond_both (is_letter letters) _ _ (λ t. is_token t (token.Mark m) ≡ false) (λ _. refl) (λ _. known_is_none (word_among words letters) m)
-
-number_is_none : (digits : List ℕ) (m : Mark) → is_token (number_token digits) (token.Mark m) ≡ false
-unfolding number_token
-number_is_none digits m = cond_both (leb (length digits) 9) (token.Number (digits_value 10 digits)) token.Unknown (λ t. is_token t (token.Mark m) ≡ false) (λ _. refl) (λ _. refl)
-
-first_is_none : (bs : List ℕ) (m : Mark) → is_token (mark_among marks bs).token (token.Mark m) ≡ false → is_token (first_token bs).token (token.Mark m) ≡ false
-unfolding first_token
-first_is_none bs m other =
-    let P : Taken → Type 0 = λ t. is_token t.token (token.Mark m) ≡ false in
-    cond_both (ltb 0 (length (take (prefix_len is_ascii_alphabetic bs) bs))) _ _ P (λ _. word_is_none (take (prefix_len is_ascii_alphabetic bs) bs) m)
-    (λ _. cond_both (ltb 0 (length (take (prefix_len is_ascii_digit bs) bs))) _ _ P (λ _. number_is_none (take (prefix_len is_ascii_digit bs) bs) m) (λ _. other))
-
--- ---- tokens at a mark
-
-no_bytes : (m : Mark) (n : ℕ) → mark_among marks [] ≡ record { token = token.Mark m; bytes = n } → ⊥
-unfolding mark_among
-no_bytes m n is = let other = ap (λ (t : Taken). t.token) is in cc
-
-mark_first : (text : List ℕ) (m : Mark) (n : ℕ) → mark_among marks text ≡ record { token = token.Mark m; bytes = n } → (1 ≤ length text) × ((get_or text 0 0 ≢ 37) × (first_token text ≡ record { token = token.Mark m; bytes = n }))
-mark_first [] m n is = absurd (no_bytes m n is)
-mark_first (b ∷ bs) m n is =
-    let can = can_begin b bs m (ap (λ (t : Taken). t.token) is) in
-    (omega arith, (λ comment. absurd (false≢true (sym can.no_comment ∙ ap (λ c. eqb c 37) comment)), first_is_mark b bs can ∙ is))
-
-pub at_mark : (column : ℕ) (text : List ℕ) (m : Mark) (n : ℕ) → IsClear text → mark_among marks text ≡ record { token = token.Mark m; bytes = n }
-    → tokens_from column text ≡ record { token = token.Mark m; column = column; after = column + n } ∷ tokens_from (column + n) (take (length text - n) (drop n text))
-at_mark column text m n clear is =
-    let first = mark_first text m n is in
-    tokens_at_token column text (token.Mark m) n clear first.0 first.1.0 (sym (ap (λ (t : Taken). t.token) first.1.1)) (sym (ap (λ (t : Taken). t.bytes) first.1.1))
-
-pub other_mark : (text : List ℕ) (found : Taken) (m : Mark) → mark_among marks text ≡ found → is_token found.token (token.Mark m) ≡ false
-    → is_token (mark_among marks text).token (token.Mark m) ≡ false
-other_mark text found m is other = subst (λ (t : Taken). is_token t.token (token.Mark m) ≡ false) (sym is) other
-
-pub no_mark_taken : (old : Tokens) (column : ℕ) (text : List ℕ) (m : Mark) → tokens_left old ≡ tokens_from column text → IsClear text
-    → is_token (mark_among marks text).token (token.Mark m) ≡ false → (this other : Rest) → from (Or (token.Mark m) this other) (ahead old) ≡ from other (ahead old)
-no_mark_taken old column [] m same clear differs this other = as_other_end (Or (token.Mark m) this other) other old (same ∙ tokens_at_end column [] (omega arith)) refl
-no_mark_taken old column (b ∷ bs) m same clear differs this other =
-    elim (cases_Bool (eqb b 37)) [
-      | inl comment ↦ as_other_end (Or (token.Mark m) this other) other old (same ∙ tokens_at_comment column (b ∷ bs) (omega arith) (eqb-true b 37 comment)) refl
-      | inr no_comment ↦ takes_not (token.Mark m) this other old _ (placed column (first_token (b ∷ bs))) (same ∙ tokens-step column b bs clear no_comment) (first_is_none (b ∷ bs) m differs)
+lacking : (m : Mark) (bs : List ℕ) → starts_with eqb bs (mark_text m) ≡ false → is_token (first_token bs).token (token.Mark m) ≡ false
+lacking m bs lacks =
+    elim (cases_Bool (is_token (first_token bs).token (token.Mark m))) [
+      | inr other ↦ other
+      | inl is ↦ absurd (false≢true (sym lacks ∙ is_mark m bs is))
     ]
+
+-- the text of a mark is found as that mark, unless a longer mark is there
+counts : (m : Mark) (xs : List ℕ) → is_longer m (mark_text m ++ xs) ≡ false → first_token (mark_text m ++ xs) ≡ record { token = token.Mark m; bytes = length (mark_text m) }
+unfolding first_token mark_among
+counts mark.Becomes xs short = refl
+counts mark.Close xs short = refl
+counts mark.Comma xs short = refl
+counts mark.Join xs short = refl
+counts mark.Minus xs short = ap (λ (b : Bool). if b then record { token = token.Mark mark.Join; bytes = 2 } else record { token = token.Mark mark.Minus; bytes = 1 }) short
+counts mark.Open xs short = refl
+counts mark.Semicolon xs short = refl
+
+first : (m : Mark) (bs : List ℕ) → starts_with eqb bs (mark_text m) ≡ true → is_longer m bs ≡ false → first_token bs ≡ record { token = token.Mark m; bytes = length (mark_text m) }
+first m bs begun short =
+    let parts = begins bs (mark_text m) begun in
+    ap first_token parts ∙ counts m (drop (length (mark_text m)) bs) (ap (is_longer m) (sym parts) ∙ short)
+
+-- whether a mark is found, where this is its text
+module _ (m : Mark) (bs text : List ℕ) (is : text ≡ mark_text m) where
+  pub mark_lacking : starts_with eqb bs text ≡ false → is_token (first_token bs).token (token.Mark m) ≡ false
+  mark_lacking lacks = lacking m bs (ap (starts_with eqb bs) (sym is) ∙ lacks)
+
+  pub mark_found : starts_with eqb bs text ≡ true → is_longer m bs ≡ false → length text ≤ length bs → FindsToken (token.Mark m) bs (Some (length text))
+  mark_found begun short within =
+      let found = first m bs (ap (starts_with eqb bs) (sym is) ∙ begun) short in (
+        ap (λ (t : Taken). is_token t.token (token.Mark m)) found ∙ same_token (token.Mark m),
+        ap length is ∙ sym (ap (λ (t : Taken). t.bytes) found),
+        within,
+      )
+
+pub mark_longer : (m : Mark) (bs : List ℕ) → is_longer m bs ≡ true → is_token (first_token bs).token (token.Mark m) ≡ false
+unfolding first_token mark_among
+mark_longer mark.Minus bs longer = rw (begins bs (mark_text mark.Join) longer) refl
+mark_longer m bs longer = absurd (false≢true longer)
+
+-- ---- a mark that is at the front
+
+module _ (m : Mark) (bs : List ℕ) (is : (first_token bs).token ≡ token.Mark m) where
+  pub mark_there : starts_with eqb bs (mark_text m) ≡ true
+  mark_there = is_mark m bs (ap (λ t. is_token t (token.Mark m)) is ∙ same_token (token.Mark m))
+
+  pub no_longer : is_longer m bs ≡ false
+  no_longer = elim (cases_Bool (is_longer m bs)) [
+    | inr short ↦ short
+    | inl longer ↦ absurd (false≢true (sym (mark_longer m bs longer) ∙ ap (λ t. is_token t (token.Mark m)) is ∙ same_token (token.Mark m)))
+  ]
+
+  pub mark_bytes : (first_token bs).bytes ≡ length (mark_text m)
+  mark_bytes = ap (λ (t : Taken). t.bytes) (first m bs mark_there no_longer)
+
+-- an unknown token where no mark is found takes one byte
+pub one_byte : (bs : List ℕ) (entries : List (List ℕ × Mark)) → (mark_among entries bs).token ≡ token.Unknown → (mark_among entries bs).bytes ≡ 1
+unfolding mark_among
+one_byte bs [] is = refl
+one_byte bs (entry ∷ entries) is =
+    cond_both (starts_with eqb bs entry.0) _ _ (λ (t : Taken). t.token ≡ token.Unknown → t.bytes ≡ 1) (λ _ other. absurd (let marked = other in cc)) (λ _. one_byte bs entries) is
+
+-- where the token at the front is unknown, no mark is there
+pub none_there : (m : Mark) (bs : List ℕ) → (first_token bs).token ≡ token.Unknown → starts_with eqb bs (mark_text m) ≡ false
+none_there m bs is = elim (cases_Bool (starts_with eqb bs (mark_text m))) [
+  | inr none ↦ none
+  | inl begun ↦ elim (cases_Bool (is_longer m bs)) [
+    | inr short ↦ absurd (let found = ap (λ (t : Taken). t.token) (first m bs begun short) in let both = sym is ∙ found in cc)
+    | inl longer ↦ absurd (let both = sym is ∙ joined m bs longer in cc)
+  ]
+] where
+  joined : (n : Mark) (xs : List ℕ) → is_longer n xs ≡ true → (first_token xs).token ≡ token.Mark mark.Join
+  joined mark.Minus xs longer = ap (λ (t : Taken). t.token) (first mark.Join xs longer refl)
+  joined n xs longer = absurd (false≢true longer)

@@ -13,7 +13,7 @@ use Rattle.mf_text.specs.declared.command.Command.{Command}
 use Rattle.mf_text.specs.declared.command.Command.TheVariants as command
 use Rattle.mf_text.specs.declared.fault.TextFault.{TextFault}
 use Rattle.mf_text.specs.declared.fault.TextFault.TheVariants as faults
-use Rattle.mf_text.specs.declared.token.Token.{Token}
+use Rattle.mf_text.specs.Token.{Token}
 use Rattle.mf_text.specs.Ahead.{Ahead, column_at}
 use Rattle.mf_text.specs.Grammar.{Line, spell_line}
 use Rattle.mf_text.specs.Lines.{IsText, front, IsLineOf, Gives, HasBadValues, HasOtherBytes, HasSyntaxFault, IsRefused}
@@ -44,7 +44,7 @@ one_meant (IfCull rule rest) one other p q = one_meant rest one other p.1 q.1
 one_meant (IfFactors factors rest) one other p q = one_meant rest one other p.1 q.1
 one_meant (Turns name angle) one other p q = p.is ∙ ap (command.Quarter name) (same_angle p.quarter q.quarter (p.angle_is ∙ sym q.angle_is)) ∙ sym q.is
 
--- a value is refused for itself, or what follows it is
+-- either a value is refused, or something that is checked after it
 module _ (lawful : Type 0) (fault : TextFault) (rest : TextFault → Type 0) where
   abbrev Checked : TextFault → Type 0
   Checked refused = IsUnlawful lawful fault refused ⊎ (lawful × rest refused)
@@ -84,7 +84,7 @@ not_both (Turns name angle) given fault p q = q.unlawful (p.quarter, p.angle_is)
 rejoined : {A : Type 0} (xs : List A) (j k : ℕ) → j ≤ k → take j xs ++ drop j (take k xs) ≡ take k xs
 rejoined xs j k below = ap (λ front. front ++ drop j (take k xs)) (sym (take-take j k xs below)) ∙ take-append-drop j (take k xs)
 
--- what begins a phrase has only fronts that begin one
+-- where some phrase starts with tokens, one starts with each prefix of them
 begins-front : {A : Type 0} (spell : A → List Token) (ts : List Token) (j k : ℕ) → j ≤ k → BeginsPhrase spell (take k ts)
     → BeginsPhrase spell (take j ts)
 begins-front spell ts j k below begun = record {
@@ -93,7 +93,7 @@ begins-front spell ts j k below begun = record {
       record { tree = begun.phrase.tree; spelled = sym (append_assoc (take j ts) (drop j (take k ts)) begun.rest) ∙ ap (λ front. front ++ begun.rest) (rejoined ts j k below) ∙ begun.phrase.spelled };
 }
 
--- so they go wrong at one place
+-- tokens do not go wrong at two places
 not_before : {A : Type 0} (spell : A → List Token) (ts : List Token) (j k : ℕ) → IsWrongAt spell ts j → IsWrongAt spell ts k → j < k → ⊥
 not_before spell ts j k p q before =
     let within = q.within in
@@ -114,7 +114,7 @@ one_column ahead one other p q =
     let ts = kinds ahead.tokens in
     p.column_is ∙ ap (λ k. column_at ahead (shown_at ts k)) (one_place spell_line ts p.place q.place p.at q.at) ∙ sym q.column_is
 
--- and they are no phrase
+-- tokens that go wrong are not a phrase
 wrong_is_no_phrase : {A : Type 0} (spell : A → List Token) (ts : List Token) (k : ℕ) → IsWrongAt spell ts k → IsPhrase spell ts → ⊥
 wrong_is_no_phrase spell ts k wrong phrase =
     elim (cases_lt k (length ts)) [
@@ -136,7 +136,7 @@ gives_one bytes one other p q =
     one_meant (meaning q.line.form) one other
     (subst (λ (l : Line). IsCommandOf l.form one) (one_line bytes p.line q.line p.line_is q.line_is) p.command_is) q.command_is
 
--- why a line is refused, where memory isn't wanting
+-- why a line is refused, other than with `OutOfMemory`
 data IsCause (bytes : List ℕ) (fault : TextFault) : Type 0 where
   TooLong : fault ≡ faults.LineTooLong → 65536 < length bytes → IsCause bytes fault
   NoText : fault ≡ faults.NotAscii → HasOtherBytes bytes → IsCause bytes fault

@@ -1,4 +1,4 @@
--- Ints of numbers, and codes of ints.
+-- The ints of numbers, and the codes of ints.
 use Rattle.std.proofs.Common.{◌≡◌, ℕ, Bool, true, false, nat_lt, Some, None, refl, ap, sym, ◌∙◌}
 use Rattle.std.proofs.Math.Bool.{Bool-set}
 use Rattle.std.proofs.lemmas.Bool.{false≢true}
@@ -26,7 +26,7 @@ pub int_of-none : (negative : Bool) (n : ℕ) → nat_lt n 1000000000 ≡ false 
 unfolding int_of
 int_of-none negative n long = short_int-none negative n (nat_lt n 1000000000) refl long
 
--- an int comes back from its number
+-- the int of the sign and the number of an int is that int
 pub int_of-back : (n : Int) → int_of n.negative n.magnitude ≡ Some n
 int_of-back n = int_of-some n.negative n.magnitude n.short
 
@@ -46,6 +46,6 @@ pub code_of-none : (n : Int) → is_byte n ≡ false → code_of n ≡ None
 unfolding code_of
 code_of-none n other = byte_code-none n (is_byte n) refl other
 
--- a code comes back from its int
+-- the code of the int of a code is that code
 pub code_of-back : (code : Code) → code_of code.int ≡ Some code
 code_of-back code = code_of-some code.int code.is_byte

@@ -1,124 +1,138 @@
--- What comes of a line, at its next token and behind phrases.
-use Rattle.std.proofs.Common.{◌≡◌, ◌≢◌, ℕ, true, false, List, [], ◌∷◌, ◌++◌, map, Option, Some, None, Result, Ok, Err, ok_or, Bool, if◌then◌else◌, refl, sym, ap, subst, ◌∙◌}
+-- What a line gives at its next token, and after phrases.
+use Rattle.std.proofs.Common.{◌≡◌, ◌≢◌, inl, inr, ℕ, true, false, List, [], ◌∷◌, ◌++◌, map, Option, Some, None, Result, Ok, Err, ok_or, Bool, if◌then◌else◌, refl, sym, ap, subst, ◌∙◌, rules}
 use Rattle.std.specs.Result.{IsErrAnd}
+use Rattle.std.proofs.lemmas.Bool.{cases_Bool, eqb-true, false≢true}
 use Rattle.std.proofs.lemmas.List.{map-append}
+use Rattle.std.proofs.lemmas.Option.{none-some, same_Some}
 use Rattle.mf_geom.specs.declared.point.Point.{Point}
 use Rattle.mf_text.specs.declared.code.Code.{Code}
-use Rattle.mf_text.specs.declared.command.Source.{Source}
+use Rattle.mf_text.specs.declared.command.Name.{Name}
+use Rattle.mf_text.specs.declared.command.Name.TheVariants.{Current, Register}
 use Rattle.mf_text.specs.declared.fault.SyntaxFault.{SyntaxFault}
+use Rattle.mf_text.specs.declared.int.Int.{Int}
 use Rattle.mf_text.specs.declared.pair.Pair.{Pair}
 use Rattle.mf_text.specs.declared.path.Path as paths
 use Rattle.mf_text.specs.declared.token.Mark.TheVariants as mark
-use Rattle.mf_text.specs.declared.token.Placed.{Placed}
-use Rattle.mf_text.specs.declared.token.Token.{Token}
-use Rattle.mf_text.specs.declared.token.Token.TheVariants as token
 use Rattle.mf_text.specs.declared.token.Word.TheVariants as word
 use Rattle.mf_text.specs.declared.tokens.Tokens.{Tokens}
+use Rattle.mf_text.specs.Ahead.{Ahead, column_of}
 use Rattle.mf_text.specs.Grammar.{Line, Path}
 use Rattle.mf_text.specs.Ints.{pair_value}
 use Rattle.mf_text.specs.Left.{tokens_left}
+use Rattle.mf_text.specs.LineRests.{name_token}
 use Rattle.mf_text.specs.Paths.{HasPoints}
-use Rattle.mf_text.specs.Reads.{PassesPath, ahead, then_from}
-use Rattle.mf_text.specs.Rests.{Rest, ACode, Corners, One, Or, Place, Before, CodeNumber, before, code_in, corner, end_of, path, follow, from, if_token, is_token, shown, source, source_in, step_from}
+use Rattle.mf_text.specs.Reads.{HasTaken, Passes, PassesPath, Takes, after_first, ahead, is_next, taken, with_rest}
+use Rattle.mf_text.specs.Rests.{Rest, ACode, AName, ANumber, Corners, One, Or, OrName, Place, Before, CodeNumber, Ends, before, code_in, corner, end_of, path, follow, from, number_in, or_place, shown, step_from}
+use Rattle.mf_text.specs.Token.{Placed, Token, is_token, letter_in, name_in, value_in}
+use Rattle.mf_text.specs.Token as token
+use Rattle.mf_text.proofs.Words.{same_token}
 
--- the last column does not count before a rest
+-- before a rest, the column of the last token does not matter
 pub from_any : (r : Rest) (last past : ℕ) (ps : List Placed) → follow (Ok (Before r)) last past ps ≡ from r (record { tokens = ps; past = past })
 unfolding follow
 from_any r last past [] = refl
 from_any r last past (p ∷ ps) = refl
 
--- at a token
-pub at_token : (r : Rest) (old : Tokens) (p : Placed) (ps : List Placed) (step : Option Place) → tokens_left old ≡ p ∷ ps → step_from r p.token ≡ step
-    → from r (ahead old) ≡ follow (ok_or step p.column) p.column p.after ps
-unfolding follow
-at_token r old p ps step tokens_are is =
-    ap (follow (Ok (Before r)) old.column old.column) tokens_are ∙ ap (λ (s : Option Place). follow (ok_or s p.column) p.column p.after ps) is
-
-goes_to : (r s : Rest) (old : Tokens) (p : Placed) (ps : List Placed) → tokens_left old ≡ p ∷ ps → step_from r p.token ≡ Some (Before s)
-    → from r (ahead old) ≡ from s (record { tokens = ps; past = p.after })
-goes_to r s old p ps tokens_are step = at_token r old p ps (Some (Before s)) tokens_are step ∙ from_any s p.column p.after ps
-
-pub goes_on : (r s : Rest) (old new : Tokens) (p : Placed) → tokens_left old ≡ p ∷ tokens_left new → new.column ≡ p.after → step_from r p.token ≡ Some (Before s)
-    → from r (ahead old) ≡ from s (ahead new)
-goes_on r s old new p tokens_are column_is step =
-    goes_to r s old p (tokens_left new) tokens_are step ∙ ap (λ k. from s (record { tokens = tokens_left new; past = k })) (sym column_is)
-
-pub goes_wrong : (r : Rest) (old : Tokens) (p : Placed) (ps : List Placed) → tokens_left old ≡ p ∷ ps → step_from r p.token ≡ None → from r (ahead old) ≡ Err p.column
-unfolding follow
-goes_wrong r old p ps tokens_are step = at_token r old p ps None tokens_are step
-
-pub ends_early : (r : Rest) (old : Tokens) (end : Option Line) → tokens_left old ≡ [] → end_of r ≡ end → from r (ahead old) ≡ ok_or end old.column
-unfolding follow
-ends_early r old end none is = ap (follow (Ok (Before r)) old.column old.column) none ∙ ap (λ (l : Option Line). ok_or l old.column) is
-
--- the exit of a `?`
+-- where `?` returns, the result is the fault
 pub exit : {A : Type 0} (r : Result A SyntaxFault) (fault : SyntaxFault) → IsErrAnd r (λ y. y ≡ fault) → r ≡ Err fault
 exit (Ok x) fault none = absurd none
 exit (Err e) fault same = ap Err same
 
--- what a token means is found, or not
-pub met : {A : Type 0} (next : A → Rest) (new : Tokens) (p : Placed) (a : Option A) (column : ℕ) → new.column ≡ p.after
-    → (fault : SyntaxFault) → fault.column ≡ column → (r : Result A SyntaxFault) → r ≡ ok_or a fault
-    → follow (ok_or (before next a) column) p.column p.after (tokens_left new) ≡ then_from next (ahead new) r
-unfolding follow
-met next new p (Some a) column column_is fault shown_is r r_is =
-    rw r_is (from_any (next a) p.column p.after (tokens_left new) ∙ ap (λ k. from (next a) (record { tokens = tokens_left new; past = k })) (sym column_is))
-met next new p None column column_is fault shown_is r r_is = rw r_is (ap Err (sym shown_is))
+-- ---- a value of the next token
 
-pub found : {A : Type 0} (rest : Rest) (next : A → Rest) (old new : Tokens) (p : Placed) (a : Option A) → tokens_left old ≡ p ∷ tokens_left new → new.column ≡ p.after
-    → step_from rest p.token ≡ before next a → (fault : SyntaxFault) → fault.column ≡ p.column → (r : Result A SyntaxFault) → r ≡ ok_or a fault
-    → from rest (ahead old) ≡ then_from next (ahead new) r
-found rest next old new p a tokens_are column_is step fault shown_is r r_is =
-    at_token rest old p (tokens_left new) (before next a) tokens_are step ∙ met next new p a p.column column_is fault shown_is r r_is
+-- where no value is taken, the first token has none
+pub lacks : {A : Type 0} (f : Token → Option A) (p : Placed) (ps : List Placed) → taken f (p ∷ ps) ≡ None → f p.token ≡ None
+lacks {A} f p ps is = by_value (f p.token) is where
+  by_value : (v : Option A) → with_rest (record { tokens = ps; past = p.after }) v ≡ None → v ≡ None
+  by_value None none = refl
+  by_value (Some x) other = absurd (none-some (x, record { tokens = ps; past = p.after }) (sym other))
 
-pub found_none : {A : Type 0} (rest : Rest) (next : A → Rest) (old new : Tokens) (fault : SyntaxFault) → tokens_left old ≡ [] → end_of rest ≡ None → fault.column ≡ old.column
-    → (r : Result A SyntaxFault) → IsErrAnd r (λ y. y ≡ fault) → from rest (ahead old) ≡ then_from next (ahead new) r
-found_none rest next old new fault none never shown_is r r_is = rw (exit r fault r_is) (ends_early rest old None none never ∙ ap Err (sym shown_is))
+-- the rest goes on with a value of the first of these tokens, and no line ends before it
+pub record Follows {A : Type 0} (rest : Rest) (f : Token → Option A) (next : A → Rest) (ps : List Placed) : Type 0 where
+  pub steps : (p : Placed) (qs : List Placed) → ps ≡ p ∷ qs → step_from rest p.token ≡ before next (f p.token)
+  pub endless : end_of rest ≡ None
 
-pub source_step : (t : Token) (next : Source → Rest) → step_from (source next) t ≡ before next (source_in t)
-source_step (token.Word word.NullPicture) next = refl
-source_step (token.Word word.CurrentPicture) next = refl
-source_step (token.Letter letter) next = refl
-source_step t next = refl
+module _ {A : Type 0} (rest : Rest) (f : Token → Option A) (next : A → Rest) (past : ℕ) where
+  at_value : (p : Placed) (ps : List Placed) (v : Option A) → step_from rest p.token ≡ before next (f p.token) → f p.token ≡ v
+      → from rest (record { tokens = p ∷ ps; past = past }) ≡ follow (ok_or (before next v) p.column) p.column p.after ps
+  unfolding follow
+  at_value p ps v step is = ap (λ (s : Option Place). follow (ok_or s p.column) p.column p.after ps) (step ∙ ap (before next) is)
 
--- ---- tokens that are written in the language
+  pub goes_on_with : (ps : List Placed) → Follows rest f next ps → (a : A) (after : Ahead) → taken f ps ≡ Some (a, after)
+      → from rest (record { tokens = ps; past = past }) ≡ from (next a) after
+  unfolding follow
+  goes_on_with [] follows a after is = absurd (none-some (a, after) is)
+  goes_on_with (p ∷ ps) follows a after is = by_value (f p.token) refl is where
+    by_value : (v : Option A) → f p.token ≡ v → with_rest (record { tokens = ps; past = p.after }) v ≡ Some (a, after)
+        → from rest (record { tokens = p ∷ ps; past = past }) ≡ from (next a) after
+    by_value None found none = absurd (none-some (a, after) none)
+    by_value (Some x) found same =
+        at_value p ps (Some x) (follows.steps p ps refl) found ∙ from_any (next x) p.column p.after ps
+        ∙ ap (λ (v : A × Ahead). from (next v.0) v.1) (same_Some (x, record { tokens = ps; past = p.after }) (a, after) same)
 
-same_step : (t u : Token) (this : Rest) (other : Option Place) → is_token t u ≡ true → if_token t u this other ≡ Some (Before this)
-same_step t u this other same = rw same refl
+  pub goes_wrong_there : (ps : List Placed) → Follows rest f next ps → taken f ps ≡ None → from rest (record { tokens = ps; past = past }) ≡ Err (column_of ps past)
+  unfolding follow
+  goes_wrong_there [] follows is = ap (λ (l : Option Line). ok_or l past) follows.endless
+  goes_wrong_there (p ∷ ps) follows is = at_value p ps None (follows.steps p ps refl) (lacks f p ps is)
 
-other_step : (t u : Token) (this : Rest) (other : Option Place) → is_token t u ≡ false → if_token t u this other ≡ other
-other_step t u this other differs = rw differs refl
+-- a phrase that is the value of one token
+pub value_passed : {A : Type 0} (phrase : (A → Rest) → Rest) (f : Token → Option A) (before after : Tokens) → ((next : A → Rest) → Follows (phrase next) f next (tokens_left before))
+    → (a : A) → Takes f before after (Some a) → Passes phrase before after (Ok a)
+value_passed phrase f before after follows a took next = goes_on_with (phrase next) f next before.column (tokens_left before) (follows next) a (ahead after) took
 
-pub takes : (u : Token) (this other : Rest) (old new : Tokens) (p : Placed) → tokens_left old ≡ p ∷ tokens_left new → new.column ≡ p.after → is_token p.token u ≡ true
-    → from (Or u this other) (ahead old) ≡ from this (ahead new)
-takes u this other old new p tokens_are column_is same = goes_on (Or u this other) this old new p tokens_are column_is (same_step p.token u this (step_from other p.token) same)
+pub value_lacking : {A : Type 0} (phrase : (A → Rest) → Rest) (f : Token → Option A) (before same after : Tokens) → ((next : A → Rest) → Follows (phrase next) f next (tokens_left before))
+    → Takes f before same None → (fault : SyntaxFault) → fault.column ≡ column_of (tokens_left same) same.column → Passes phrase before after (Err fault)
+value_lacking phrase f before same after follows took fault column_is next =
+    goes_wrong_there (phrase next) f next before.column (tokens_left before) (follows next) took.0
+    ∙ ap (λ (t : Tokens). Err (column_of (tokens_left t) t.column)) (sym took.1) ∙ ap Err (sym column_is)
 
-pub takes_to : (u : Token) (this other : Rest) (old : Tokens) (p : Placed) (ps : List Placed) → tokens_left old ≡ p ∷ ps → is_token p.token u ≡ true
-    → from (Or u this other) (ahead old) ≡ from this (record { tokens = ps; past = p.after })
-takes_to u this other old p ps tokens_are same = goes_to (Or u this other) this old p ps tokens_are (same_step p.token u this (step_from other p.token) same)
+pub name_follows : (next : Name → Rest) (ps : List Placed) → Follows (AName next) name_in next ps
+name_follows next ps = record { steps = λ p qs is. refl; endless = refl }
 
--- two rests are the same at this token, and at the end
-pub as_other : (r other : Rest) (old : Tokens) (p : Placed) (ps : List Placed) → tokens_left old ≡ p ∷ ps → step_from r p.token ≡ step_from other p.token
-    → from r (ahead old) ≡ from other (ahead old)
-as_other r other old p ps tokens_are same =
-    at_token r old p ps (step_from other p.token) tokens_are same ∙ sym (at_token other old p ps (step_from other p.token) tokens_are refl)
+pub number_follows : (negative : Bool) (next : Int → Rest) (ps : List Placed) → Follows (ANumber negative next) (number_in negative) next ps
+number_follows negative next ps = record { steps = λ p qs is. refl; endless = refl }
 
-pub as_other_end : (r other : Rest) (old : Tokens) → tokens_left old ≡ [] → end_of r ≡ end_of other → from r (ahead old) ≡ from other (ahead old)
-as_other_end r other old none same = ends_early r old (end_of other) none same ∙ sym (ends_early other old (end_of other) none refl)
+-- a code without `-`
+pub code_follows : (next : Code → Rest) (ps : List Placed) → is_next (token.Mark mark.Minus) ps ≡ false → Follows (ACode next) (code_in false) next ps
+code_follows next ps differs = record {
+  steps = λ p qs is. ap (λ (b : Bool). if b then Some (CodeNumber next) else before next (code_in false p.token)) (ap (is_next (token.Mark mark.Minus)) (sym is) ∙ differs);
+  endless = refl;
+}
 
-pub takes_not : (u : Token) (this other : Rest) (old : Tokens) (ps : List Placed) (p : Placed) → tokens_left old ≡ p ∷ ps → is_token p.token u ≡ false
-    → from (Or u this other) (ahead old) ≡ from other (ahead old)
-takes_not u this other old ps p tokens_are differs = as_other (Or u this other) other old p ps tokens_are (other_step p.token u this (step_from other p.token) differs)
+-- where each token with the value a also has the value b, taking a takes b
+pub taken_as : {A B : Type 0} (f : Token → Option A) (g : Token → Option B) (a : A) (b : B) → ((t : Token) → f t ≡ Some a → g t ≡ Some b)
+    → (ps : List Placed) (after : Ahead) → taken f ps ≡ Some (a, after) → taken g ps ≡ Some (b, after)
+taken_as f g a b same [] after is = absurd (none-some (a, after) is)
+taken_as {A} {B} f g a b same (p ∷ ps) after is = by_value (f p.token) refl is where
+  by_value : (v : Option A) → f p.token ≡ v → with_rest (record { tokens = ps; past = p.after }) v ≡ Some (a, after) → taken g (p ∷ ps) ≡ Some (b, after)
+  by_value None found none = absurd (none-some (a, after) none)
+  by_value (Some x) found both =
+      let pairs = same_Some (x, record { tokens = ps; past = p.after }) (a, after) both in
+      ap (with_rest (record { tokens = ps; past = p.after })) (same p.token (found ∙ ap (λ (v : A × Ahead). Some v.0) pairs))
+      ∙ ap (λ (v : A × Ahead). Some (b, v.1)) pairs
 
-pub passes : (u : Token) (this : Rest) (old new : Tokens) (p : Placed) → tokens_left old ≡ p ∷ tokens_left new → new.column ≡ p.after → is_token p.token u ≡ true
-    → from (One u this) (ahead old) ≡ from this (ahead new)
-passes u this old new p tokens_are column_is same = goes_on (One u this) this old new p tokens_are column_is (same_step p.token u this None same)
+pub none_taken : {A : Type 0} (f : Token → Option A) (ps : List Placed) → ((p : Placed) (qs : List Placed) → ps ≡ p ∷ qs → f p.token ≡ None) → taken f ps ≡ None
+none_taken f [] never = refl
+none_taken f (p ∷ ps) never = ap (with_rest (record { tokens = ps; past = p.after })) (never p ps refl)
 
-pub passes_not : (u : Token) (this : Rest) (old : Tokens) (p : Placed) (ps : List Placed) → tokens_left old ≡ p ∷ ps → is_token p.token u ≡ false
-    → from (One u this) (ahead old) ≡ Err p.column
-passes_not u this old p ps tokens_are differs = goes_wrong (One u this) old p ps tokens_are (other_step p.token u this None differs)
+-- ---- a given word or mark
 
--- a token that must stand here is one that may stand here
+module _ (u : Token) (this other : Rest) (past : ℕ) where
+  pub chosen : (p : Placed) (ps : List Placed) → is_token p.token u ≡ true → from (Or u this other) (record { tokens = p ∷ ps; past = past }) ≡ from this (record { tokens = ps; past = p.after })
+  unfolding follow
+  chosen p ps same = ap (λ (b : Bool). follow (ok_or (if b then Some (Before this) else step_from other p.token) p.column) p.column p.after ps) same ∙ from_any this p.column p.after ps
+
+  pub not_chosen : (ps : List Placed) → is_next u ps ≡ false → from (Or u this other) (record { tokens = ps; past = past }) ≡ from other (record { tokens = ps; past = past })
+  unfolding follow
+  not_chosen [] differs = refl
+  not_chosen (p ∷ ps) differs = ap (λ (b : Bool). follow (ok_or (if b then Some (Before this) else step_from other p.token) p.column) p.column p.after ps) differs
+
+  pub not_here : (ps : List Placed) → is_next u ps ≡ false → from (One u this) (record { tokens = ps; past = past }) ≡ Err (column_of ps past)
+  unfolding follow
+  not_here [] differs = refl
+  not_here (p ∷ ps) differs = ap (λ (b : Bool). follow (ok_or (if b then Some (Before this) else None) p.column) p.column p.after ps) differs
+
+-- a token that must come is one that may come
 or_again : (u : Token) (this : Rest) (t : Token) → step_from (One u this) t ≡ step_from (Or u this (One u this)) t
 or_again u this t = again (is_token t u) refl where
   again : (same : Bool) → is_token t u ≡ same → (if same then Some (Before this) else None) ≡ (if same then Some (Before this) else (if is_token t u then Some (Before this) else None))
@@ -130,50 +144,171 @@ unfolding follow
 one_or u this past [] = refl
 one_or u this past (p ∷ ps) = ap (λ s. follow (ok_or s p.column) p.column p.after ps) (or_again u this p.token)
 
--- ---- the number of a code behind its `-`
+-- a token that must come was passed, or is not next
+module _ (u : Token) (old new : Tokens) (taken : Bool)
+    (read : (this other : Rest) → from (Or u this other) (ahead old) ≡ (if taken then from this (ahead new) else from other (ahead new)))
+    (took : HasTaken u old new taken) (this : Rest) where
+  pub passed : taken ≡ true → from (One u this) (ahead old) ≡ from this (ahead new)
+  passed is = one_or u this old.column (tokens_left old) ∙ read this (One u this) ∙ ap (λ (b : Bool). if b then from this (ahead new) else from (One u this) (ahead new)) is
 
-module _ (next : Code → Rest) (old : Tokens) (first : ℕ) where
-  abbrev behind_minus : Result Line ℕ
-  behind_minus = follow (Ok (CodeNumber next)) first old.column (tokens_left old)
+  pub missed : taken ≡ false → (fault : SyntaxFault) → fault.column ≡ column_of (tokens_left new) new.column → from (One u this) (ahead old) ≡ Err fault.column
+  missed is fault column_is =
+      not_here u this this old.column (tokens_left old) (sym took.next ∙ is) ∙ ap (λ (t : Tokens). Err (column_of (tokens_left t) t.column)) (sym (took.left is)) ∙ ap Err (sym column_is)
 
-  no_number : (p : Placed) (ps : List Placed) (t : Token) → p.token ≡ t → ((n : ℕ) → p.token ≢ token.Number n)
-      → follow (ok_or (before next (code_in true t)) (shown (CodeNumber next) t first p.column)) p.column p.after ps ≡ Err p.column
-  unfolding follow
-  no_number p ps (token.Number n) is other = absurd (other n is)
-  no_number p ps t is other = refl
+-- ---- the end of a line
 
-  pub code_found : (new : Tokens) (p : Placed) (n : ℕ) (code : Option Code) → tokens_left old ≡ p ∷ tokens_left new → new.column ≡ p.after
-      → p.token ≡ token.Number n → code_in true p.token ≡ code → (fault : SyntaxFault) → fault.column ≡ first → (r : Result Code SyntaxFault) → r ≡ ok_or code fault
-      → behind_minus ≡ then_from next (ahead new) r
-  unfolding follow
-  code_found new p n code tokens_are column_is number is fault shown_is r r_is =
-      ap (follow (Ok (CodeNumber next)) first old.column) tokens_are
-      ∙ ap (λ (s : Option Place). follow (ok_or s (shown (CodeNumber next) p.token first p.column)) p.column p.after (tokens_left new)) (ap (before next) is)
-      ∙ ap (λ (t : Token). follow (ok_or (before next code) (shown (CodeNumber next) t first p.column)) p.column p.after (tokens_left new)) number
-      ∙ met next new p code first column_is fault shown_is r r_is
-
-  pub code_lacking : (p : Placed) (ps : List Placed) → tokens_left old ≡ p ∷ ps → ((n : ℕ) → p.token ≢ token.Number n) → behind_minus ≡ Err p.column
-  unfolding follow
-  code_lacking p ps tokens_are other = ap (follow (Ok (CodeNumber next)) first old.column) tokens_are ∙ no_number p ps p.token refl other
-
-  pub code_ended : tokens_left old ≡ [] → behind_minus ≡ Err old.column
-  unfolding follow
-  code_ended none = ap (follow (Ok (CodeNumber next)) first old.column) none
-
-minus_step : (t : Token) (next : Code → Rest) → is_token t (token.Mark mark.Minus) ≡ true → step_from (ACode next) t ≡ Some (CodeNumber next)
-minus_step t next same = rw same refl
-
--- at the `-` of a code
-pub at_minus : (next : Code → Rest) (old new : Tokens) (p : Placed) (first : SyntaxFault) → tokens_left old ≡ p ∷ tokens_left new → new.column ≡ p.after
-    → is_token p.token (token.Mark mark.Minus) ≡ true → first.column ≡ p.column → from (ACode next) (ahead old) ≡ behind_minus next new first.column
+pub line_ends : (line : Line) (past : ℕ) (ps : List Placed) → ps ≡ [] → from (Ends line) (record { tokens = ps; past = past }) ≡ Ok line
 unfolding follow
-at_minus next old new p first tokens_are column_is same shown_is =
-    at_token (ACode next) old p (tokens_left new) (Some (CodeNumber next)) tokens_are (minus_step p.token next same)
-    ∙ ap (λ k. follow (Ok (CodeNumber next)) k p.after (tokens_left new)) (sym shown_is)
-    ∙ ap (λ k. follow (Ok (CodeNumber next)) first.column k (tokens_left new)) (sym column_is)
+line_ends line past ps none = ap (λ qs. from (Ends line) (record { tokens = qs; past = past })) none
 
-pub code_step : (t : Token) (next : Code → Rest) → is_token t (token.Mark mark.Minus) ≡ false → step_from (ACode next) t ≡ before next (code_in false t)
-code_step t next differs = rw differs refl
+pub line_goes_on : (line : Line) (past : ℕ) (ps : List Placed) → ps ≢ [] → from (Ends line) (record { tokens = ps; past = past }) ≡ Err (column_of ps past)
+unfolding follow
+line_goes_on line past [] some = absurd (some refl)
+line_goes_on line past (p ∷ ps) some = refl
+
+-- ---- a name, where one may come
+
+pub name_chosen : (this : Name → Rest) (other : Rest) (past : ℕ) (ps : List Placed) (name : Name) (after : Ahead) → taken name_in ps ≡ Some (name, after)
+    → from (OrName this other) (record { tokens = ps; past = past }) ≡ from (this name) after
+unfolding follow
+name_chosen this other past [] name after is = absurd (none-some (name, after) is)
+name_chosen this other past (p ∷ ps) name after is = by_value (name_in p.token) is refl where
+  by_value : (v : Option Name) → with_rest (record { tokens = ps; past = p.after }) v ≡ Some (name, after) → name_in p.token ≡ v
+      → from (OrName this other) (record { tokens = p ∷ ps; past = past }) ≡ from (this name) after
+  by_value None none found = absurd (none-some (name, after) none)
+  by_value (Some x) same found =
+      ap (λ (v : Option Name). follow (ok_or (or_place (before this v) (step_from other p.token)) p.column) p.column p.after ps) found ∙ from_any (this x) p.column p.after ps
+      ∙ ap (λ (v : Name × Ahead). from (this v.0) v.1) (same_Some (x, record { tokens = ps; past = p.after }) (name, after) same)
+
+pub name_not_chosen : (this : Name → Rest) (other : Rest) (past : ℕ) (ps : List Placed) → taken name_in ps ≡ None
+    → from (OrName this other) (record { tokens = ps; past = past }) ≡ from other (record { tokens = ps; past = past })
+unfolding follow
+name_not_chosen this other past [] is = refl
+name_not_chosen this other past (p ∷ ps) is =
+    ap (λ (v : Option Name). follow (ok_or (or_place (before this v) (step_from other p.token)) p.column) p.column p.after ps) (lacks name_in p ps is)
+
+token_is : (t u : Token) → is_token t u ≡ true → t ≡ u
+token_is (token.Word v) (token.Word w) same = ap token.Word (search rules)
+token_is (token.Letter m) (token.Letter n) same = ap token.Letter (eqb-true m n same)
+token_is (token.Number m) (token.Number n) same = ap token.Number (eqb-true m n same)
+token_is (token.Mark m) (token.Mark n) same = ap token.Mark (search rules)
+token_is token.Unknown token.Unknown same = refl
+token_is t u other = absurd (false≢true other)
+
+pub current_taken : (ps : List Placed) (after : Ahead) → is_next (token.Word word.CurrentPicture) ps ≡ true → after_first ps ≡ Some after → taken name_in ps ≡ Some (Current, after)
+current_taken [] after is after_is = absurd (false≢true is)
+current_taken (p ∷ ps) after is after_is =
+    ap (λ t. with_rest (record { tokens = ps; past = p.after }) (name_in t)) (token_is p.token (token.Word word.CurrentPicture) is)
+    ∙ ap (λ (a : Ahead). Some (Current, a)) (same_Some (record { tokens = ps; past = p.after }) after after_is)
+
+-- a letter is a name
+letter_name : (t : Token) (n : ℕ) → letter_in t ≡ Some n → name_in t ≡ Some (Register n)
+letter_name (token.Letter m) n is = ap (λ k. Some (Register k)) (same_Some m n is)
+letter_name t n is = absurd (none-some n is)
+
+pub letter_taken : (ps : List Placed) (n : ℕ) (after : Ahead) → taken letter_in ps ≡ Some (n, after) → taken name_in ps ≡ Some (Register n, after)
+letter_taken ps n after is = taken_as letter_in name_in n (Register n) (λ t. letter_name t n) ps after is
+
+no_name : (t : Token) → is_token t (token.Word word.CurrentPicture) ≡ false → letter_in t ≡ None → name_in t ≡ None
+no_name (token.Word word.CurrentPicture) other none = absurd (false≢true (sym other))
+no_name (token.Letter n) other none = absurd (none-some n (sym none))
+no_name t other none = refl
+
+pub no_name_taken : (ps : List Placed) → is_next (token.Word word.CurrentPicture) ps ≡ false → taken letter_in ps ≡ None → taken name_in ps ≡ None
+no_name_taken [] other none = refl
+no_name_taken (p ∷ ps) other none = ap (with_rest (record { tokens = ps; past = p.after })) (no_name p.token other (lacks letter_in p ps none))
+
+-- a token that is this name is the token of the name
+name_is : (t : Token) (name : Name) → name_in t ≡ Some name → t ≡ name_token name
+name_is (token.Word word.CurrentPicture) name is = ap name_token (same_Some Current name is)
+name_is (token.Letter n) name is = ap name_token (same_Some (Register n) name is)
+name_is t name is = absurd (none-some name is)
+
+name_of : (name : Name) → name_in (name_token name) ≡ Some name
+name_of Current = refl
+name_of (Register n) = refl
+
+-- a name that is taken is passed as this name
+pub name_passed : (name : Name) (this : Rest) (past : ℕ) (ps : List Placed) (after : Ahead) → taken name_in ps ≡ Some (name, after)
+    → from (One (name_token name) this) (record { tokens = ps; past = past }) ≡ from this after
+name_passed name this past ps after is =
+    one_or (name_token name) this past ps ∙ chosen_there ps is where
+      chosen_there : (qs : List Placed) → taken name_in qs ≡ Some (name, after) → from (Or (name_token name) this (One (name_token name) this)) (record { tokens = qs; past = past }) ≡ from this after
+      chosen_there [] none = absurd (none-some (name, after) none)
+      chosen_there (p ∷ qs) found = by_name (name_in p.token) refl found where
+        by_name : (v : Option Name) → name_in p.token ≡ v → with_rest (record { tokens = qs; past = p.after }) v ≡ Some (name, after)
+            → from (Or (name_token name) this (One (name_token name) this)) (record { tokens = p ∷ qs; past = past }) ≡ from this after
+        by_name None is_none none = absurd (none-some (name, after) none)
+        by_name (Some x) is_name both =
+            let pairs = same_Some (x, record { tokens = qs; past = p.after }) (name, after) both in
+            let same : is_token p.token (name_token name) ≡ true =
+            ap (λ t. is_token t (name_token name)) (name_is p.token name (is_name ∙ ap (λ (v : Name × Ahead). Some v.0) pairs)) ∙ same_token (name_token name) in
+            chosen (name_token name) this (One (name_token name) this) past p qs same ∙ ap (λ (v : Name × Ahead). from this v.1) pairs
+
+-- a name that is not taken as this name is not next
+pub name_missed : (name : Name) (old after : Tokens) (r : Option Name) → Takes name_in old after r → (r ≡ Some name → ⊥) → is_next (name_token name) (tokens_left old) ≡ false
+name_missed name old after r took other = differs (tokens_left old) (λ v is. other (taken_is r took v is)) where
+  taken_is : (r : Option Name) → Takes name_in old after r → (v : Ahead) → taken name_in (tokens_left old) ≡ Some (name, v) → r ≡ Some name
+  taken_is None none v is = absurd (none-some (name, v) (sym none.0 ∙ is))
+  taken_is (Some x) some v is = ap (λ (w : Name × Ahead). Some w.0) (same_Some (x, ahead after) (name, v) (sym some ∙ is))
+
+  differs : (ps : List Placed) → ((v : Ahead) → taken name_in ps ≡ Some (name, v) → ⊥) → is_next (name_token name) ps ≡ false
+  differs [] never = refl
+  differs (p ∷ ps) never = elim (cases_Bool (is_token p.token (name_token name))) [
+    | inr not_same ↦ not_same
+    | inl same ↦ absurd (never (record { tokens = ps; past = p.after })
+        (ap (λ t. with_rest (record { tokens = ps; past = p.after }) (name_in t)) (token_is p.token (name_token name) same) ∙ ap (with_rest (record { tokens = ps; past = p.after })) (name_of name)))
+  ]
+
+-- ---- the number of a code after its `-`
+
+-- what a line gives at the `-` of a code
+pub at_minus : (next : Code → Rest) (past : ℕ) (ps : List Placed) (after : Ahead) → is_next (token.Mark mark.Minus) ps ≡ true → after_first ps ≡ Some after
+    → from (ACode next) (record { tokens = ps; past = past }) ≡ follow (Ok (CodeNumber next)) (column_of ps past) after.past after.tokens
+unfolding follow
+at_minus next past [] after same is = absurd (none-some after is)
+at_minus next past (p ∷ ps) after same is =
+    ap (λ (b : Bool). follow (ok_or (if b then Some (CodeNumber next) else before next (code_in false p.token)) p.column) p.column p.after ps) same
+    ∙ ap (λ (a : Ahead). follow (Ok (CodeNumber next)) p.column a.past a.tokens) (same_Some (record { tokens = ps; past = p.after }) after is)
+
+module _ (next : Code → Rest) (first past : ℕ) where
+  -- a number is reported at the `-`, and any other token where it is
+  shown_number : (t : Token) (n column : ℕ) → value_in t ≡ Some n → shown (CodeNumber next) t first column ≡ first
+  shown_number (token.Number m) n column is = refl
+  shown_number t n column is = absurd (none-some n is)
+
+  shown_other : (t : Token) (column : ℕ) → value_in t ≡ None → (code_in true t ≡ None) × (shown (CodeNumber next) t first column ≡ column)
+  shown_other (token.Number m) column is = absurd (none-some m (sym is))
+  shown_other t column is = (refl, refl)
+
+  pub code_read : (ps : List Placed) (code : Code) (after : Ahead) → taken (code_in true) ps ≡ Some (code, after) → follow (Ok (CodeNumber next)) first past ps ≡ from (next code) after
+  unfolding follow
+  code_read [] code after is = absurd (none-some (code, after) is)
+  code_read (p ∷ ps) code after is = by_value (code_in true p.token) refl is where
+    by_value : (v : Option Code) → code_in true p.token ≡ v → with_rest (record { tokens = ps; past = p.after }) v ≡ Some (code, after)
+        → follow (Ok (CodeNumber next)) first past (p ∷ ps) ≡ from (next code) after
+    by_value None found none = absurd (none-some (code, after) none)
+    by_value (Some x) found same =
+        ap (λ (v : Option Code). follow (ok_or (before next v) (shown (CodeNumber next) p.token first p.column)) p.column p.after ps) found
+        ∙ from_any (next x) p.column p.after ps ∙ ap (λ (v : Code × Ahead). from (next v.0) v.1) (same_Some (x, record { tokens = ps; past = p.after }) (code, after) same)
+
+  pub code_bad : (ps : List Placed) (n : ℕ) (after : Ahead) → taken (code_in true) ps ≡ None → taken value_in ps ≡ Some (n, after) → follow (Ok (CodeNumber next)) first past ps ≡ Err first
+  unfolding follow
+  code_bad [] n after none is = absurd (none-some (n, after) is)
+  code_bad (p ∷ ps) n after none is = by_value (value_in p.token) refl is where
+    by_value : (v : Option ℕ) → value_in p.token ≡ v → with_rest (record { tokens = ps; past = p.after }) v ≡ Some (n, after)
+        → follow (Ok (CodeNumber next)) first past (p ∷ ps) ≡ Err first
+    by_value None found none = absurd (none-some (n, after) none)
+    by_value (Some x) found same =
+        ap (λ (v : Option Code). follow (ok_or (before next v) (shown (CodeNumber next) p.token first p.column)) p.column p.after ps) (lacks (code_in true) p ps none)
+        ∙ ap Err (shown_number p.token x p.column found)
+
+  pub code_missing : (ps : List Placed) → taken value_in ps ≡ None → follow (Ok (CodeNumber next)) first past ps ≡ Err (column_of ps past)
+  unfolding follow
+  code_missing [] none = refl
+  code_missing (p ∷ ps) none =
+      let other = shown_other p.token p.column (lacks value_in p ps none) in
+      ap (λ (v : Option Code). follow (ok_or (before next v) (shown (CodeNumber next) p.token first p.column)) p.column p.after ps) other.0 ∙ ap Err other.1
 
 -- ---- the corners of a path
 
@@ -193,7 +328,7 @@ unfolding follow
 corners_or first others next past [] = refl
 corners_or first others next past (p ∷ ps) = refl
 
--- what comes of a line at the `(` of one more corner, and at the `cycle` behind the last
+-- what a line gives at the `(` of one more corner, and at the `cycle` after the last one
 module _ (first : Pair) (others : List Pair) (now after : Tokens) (taken : Bool)
     (read : (this other : Rest) → from (Or (token.Mark mark.Open) this other) (ahead now) ≡ (if taken then from this (ahead after) else from other (ahead after))) where
   pub corner_more : (next : Path → Rest) → taken ≡ true → from (Corners first others next) (ahead now) ≡ from (corner (one_more first others next)) (ahead after)

@@ -1,6 +1,8 @@
 -- The registers that a line names are letters.
-use Rattle.std.proofs.Common.{ℕ, ◌<◌, List, [], ◌∷◌, ◌++◌, subst}
+use Rattle.std.proofs.Common.{◌≡◌, ℕ, ◌<◌, true, leb, List, [], ◌∷◌, ◌++◌, Option, None, Some, length, subst, sym, arith}
 use Rattle.std.specs.List.{AllByRecursion}
+use Rattle.std.specs.Str.Parse.{digits_value}
+use Rattle.std.proofs.lemmas.Bool.{and_parts, cond_both, false≢true, leb-true}
 use Rattle.mf_ops.specs.declared.sign.Sign.{Sign}
 use Rattle.mf_ops.specs.declared.sign.Sign.TheVariants.{Plus, Minus}
 use Rattle.mf_text.specs.declared.command.Command.{Command}
@@ -8,20 +10,20 @@ use Rattle.mf_text.specs.declared.command.Name.{Name}
 use Rattle.mf_text.specs.declared.command.Name.TheVariants.{Current, Register}
 use Rattle.mf_text.specs.declared.command.Source.{Source}
 use Rattle.mf_text.specs.declared.command.Source.TheVariants.{Null, Named}
-use Rattle.mf_text.specs.declared.token.Placed.{Placed}
-use Rattle.mf_text.specs.declared.token.Token.{Token}
-use Rattle.mf_text.specs.declared.token.Token.TheVariants as token
+use Rattle.mf_text.specs.declared.token.Word.{Word}
+use Rattle.mf_text.specs.Token.{Placed, Token}
+use Rattle.mf_text.specs.Token as token
 use Rattle.mf_text.specs.Grammar.{Form, Nothing, AddContour, AddPicture, CullKeeping, CullDropping, Clear, Move, ShowTotal, ShowPicture, ShowProof, ShipOut, SetCheck, PublishAll, Transform, Shifted, Scaled, XScaled, YScaled, Rotated, spell_name, spell_source, spell_signed, spell_form, spell_end}
 use Rattle.mf_text.specs.Lines.{Gives}
 use Rattle.mf_text.specs.Meaning.{Meaning, Is, IfCycle, IfWeight, IfCull, IfFactors, Turns, Means, meaning, transform_meaning}
 use Rattle.mf_text.specs.Registers.{IsName, IsSource, HasNames}
-use Rattle.mf_text.specs.Tokens.{tokens, kinds}
-use Rattle.mf_text.specs.TokenTexts.{AreTokens, IsTokenText}
+use Rattle.mf_text.specs.Tokens.{is_letter, kinds, known_word, letter_number, number_token, tokens, word_among, word_token, words}
+use Rattle.mf_text.specs.TokenTexts.{AMark, AreTokens, Digits, IsTokenText, Letters, OtherByte}
 use Rattle.mf_text.proofs.TokenTexts.{are_tokens}
 
 -- ---- every letter of a line is one of 26
 
--- what holds of a token of a line: a letter has a number below 26
+-- what is true of each token of a line: the number of a letter is below 26
 IsLetter : Token → Type 0
 IsLetter (token.Letter n) = n < 26
 IsLetter _ = Unit {0}
@@ -29,17 +31,35 @@ IsLetter _ = Unit {0}
 AreLetters : List Token → Type 0
 AreLetters ts = AllByRecursion IsLetter ts
 
+small_number : (text : List ℕ) → is_letter text ≡ true → letter_number text < 26
+small_number [] is = absurd (false≢true is)
+small_number (b ∷ []) is = let bounds = and_parts (leb 97 b) (leb b 122) is in omega (arith, leb-true 97 b bounds.0, leb-true b 122 bounds.1)
+small_number (b ∷ c ∷ bs) is = absurd (false≢true is)
+
+word_letter : (text : List ℕ) → IsLetter (word_token text)
+unfolding IsLetter word_token
+word_letter text = cond_both (is_letter text) _ _ IsLetter (small_number text) (λ _. known (word_among words text)) where
+  known : (o : Option Word) → IsLetter (known_word o)
+  known None = tt
+  known (Some w) = tt
+
+number_letter : (text : List ℕ) → IsLetter (number_token text)
+unfolding IsLetter number_token
+number_letter text = cond_both (leb (length text) 9) (token.Number (digits_value 10 text)) token.Unknown IsLetter (λ _. tt) (λ _. tt)
+
 token_letter : (t : Token) (text rest : List ℕ) → IsTokenText t text rest → IsLetter t
 unfolding IsLetter
-token_letter (token.Letter n) text rest is = is.few
-token_letter t text rest is = tt
+token_letter t text rest (Letters row is) = subst IsLetter (sym is) (word_letter text)
+token_letter t text rest (Digits row is) = subst IsLetter (sym is) (number_letter text)
+token_letter t text rest (AMark m written is) = subst IsLetter (sym is) tt
+token_letter t text rest (OtherByte other is) = subst IsLetter (sym is) tt
 
 all_letters : (column : ℕ) (bytes : List ℕ) (ps : List Placed) → AreTokens column bytes ps → AreLetters (kinds ps)
 unfolding AreLetters
 all_letters column bytes [] cut = tt
 all_letters column bytes (p ∷ ps) (blanks, (text, (others, (cut, later)))) = (token_letter p.token text others cut.token, all_letters p.after others ps later)
 
--- ---- the names of a form whose letters are such
+-- ---- the names of a form whose letters have numbers below 26
 
 front : (ts us : List Token) → AreLetters (ts ++ us) → AreLetters ts
 unfolding AreLetters
@@ -60,7 +80,7 @@ unfolding AreLetters IsLetter
 name_is Current all = tt
 name_is (Register letter) all = all.0
 
--- a name, and two phrases behind it
+-- a name, with two phrases after it
 first_name : (name : Name) (ts us : List Token) → AreLetters (spell_name name ++ ts ++ us) → IsName name
 first_name name ts us all = name_is name (front _ ts (front _ us all))
 
@@ -72,7 +92,7 @@ signed_is : (sign : Sign) (source : Source) → AreLetters (spell_signed sign so
 signed_is Plus source all = source_is source all
 signed_is Minus source all = source_is source (rest _ _ all)
 
--- the names of a command stand in what its form says
+-- the registers that the command of a meaning names are letters
 AreNamed : Meaning → Type 0
 AreNamed (Is made) = HasNames made
 AreNamed (IfCycle points rest) = AreNamed rest

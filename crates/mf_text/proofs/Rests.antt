@@ -1,4 +1,4 @@
--- The rests of lines: what is spelled is read, some tokens end each rest, and where a line goes wrong.
+-- The rests of lines: what is spelled is read, each rest can be ended by some tokens, and the number of a code after its `-`.
 use Rattle.std.proofs.Common.{◌≡◌, ℕ, zero, suc, Bool, true, false, List, [], ◌∷◌, ◌++◌, Option, Some, None, if◌then◌else◌, refl, sym, ap, subst, ◌∙◌, append_assoc, append-nil, flat_map, rules}
 use Rattle.std.specs.Option.{option_and_then}
 use Rattle.mf_text.specs.declared.code.Code.{Code}
@@ -9,16 +9,17 @@ use Rattle.mf_text.specs.declared.command.Source.TheVariants.{Null, Named}
 use Rattle.mf_text.specs.declared.int.Int.{Int}
 use Rattle.mf_text.specs.declared.pair.Pair.{Pair}
 use Rattle.mf_text.specs.declared.token.Mark.TheVariants as mark
-use Rattle.mf_text.specs.declared.token.Token.{Token}
-use Rattle.mf_text.specs.declared.token.Token.TheVariants as token
+use Rattle.mf_text.specs.Token.{Token}
+use Rattle.mf_text.specs.Token as token
 use Rattle.mf_text.specs.declared.token.Word.TheVariants as word
 use Rattle.mf_text.specs.Codes.{code_of}
 use Rattle.mf_text.specs.Grammar.{Line, Path, spell_int, spell_code, spell_pair, spell_name, spell_source, spell_corner, spell_path}
 use Rattle.mf_text.specs.Ints.{int_of}
-use Rattle.mf_text.specs.Rests.{Rest, Ends, One, Or, AName, OrName, ANumber, ACode, Corners, Place, Before, CodeNumber, before, corner, ends, if_token, int, is_token, pair, path, source, step, step_from}
+use Rattle.mf_text.specs.Rests.{Rest, Ends, One, Or, AName, OrName, ANumber, ACode, Corners, Place, Before, CodeNumber, before, corner, ends, if_token, int, pair, path, source, step, step_from}
+use Rattle.mf_text.specs.Token.{is_token}
 use Rattle.mf_text.proofs.ReadInts.{int_of-back, code_of-back}
 
--- the line that these tokens are, read from a place
+-- the line that these tokens are read as from a place, if there is one
 unfoldable pub reads : Option Place → List Token → Option Line
 reads None ts = None
 reads (Some p) [] = ends p
@@ -108,14 +109,14 @@ cycle_read first others next = record { by = λ us. refl }
 pub path_read : (next : Path → Rest) (p : Path) → Leads (path next) (spell_path p) (next p)
 path_read next p = on (on (corner_read (λ first. Corners first [] next) p.first) (corners_read p.first [] next p.others)) (cycle_read p.first p.others next)
 
--- ---- some tokens end each rest
+-- ---- each rest can be ended by some tokens
 
 pub record CanEnd (p : Place) : Type 0 where
   pub tokens : List Token
   pub line : Line
   pub whole : reads (Some p) tokens ≡ Some line
 
--- one token more
+-- a place can be ended if the place after one more token can
 further : (p : Place) (t : Token) (q : Place) → step p t ≡ Some q → CanEnd q → CanEnd p
 unfolding reads
 further p t q is end = record { tokens = t ∷ end.tokens; line = end.line; whole = ap (λ s. reads s end.tokens) is ∙ end.whole }
@@ -136,13 +137,13 @@ unfolding int_of code_of
 place_ends (Before r) = rest_ends r
 place_ends (CodeNumber next) = further (CodeNumber next) (token.Number 0) _ refl (rest_ends (next _))
 
--- ---- a token that ends an int behind `code` and `-`
+-- ---- the number of a code after its `-`
 
 abbrev pub is_code_number : Place → Token → Bool
 is_code_number (CodeNumber next) (token.Number n) = true
 is_code_number p t = false
 
--- the token k of these is one
+-- token k of these is the number of a code after its `-`
 unfoldable pub is_code_number_at : Option Place → List Token → ℕ → Bool
 is_code_number_at None ts k = false
 is_code_number_at (Some p) [] k = false

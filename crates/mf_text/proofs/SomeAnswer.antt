@@ -98,7 +98,7 @@ cycle_or_not points (Some cause) is =
 
 -- ---- forms have a command or a refusal
 
--- values alone are refused so
+-- only the values of a line are refused with this fault
 record IsOfValues (fault : TextFault) : Type 0 where
   refuses : (bytes : List ℕ) → HasBadValues bytes fault → IsRefused bytes fault
   told : fault ≢ faults.OutOfMemory
@@ -121,7 +121,7 @@ of_turn = record { refuses = λ bytes bad. bad; told = λ e. cc }
 abbrev Answered : Meaning → Type 0
 Answered m = ((given : Command) × Means m given) ⊎ ((fault : TextFault) × IsOfValues fault × Refuses m fault)
 
--- a value that is lawful, and what follows it
+-- a lawful value, and the answer after it
 behind : (lawful : Type 0) (rest : Command → Type 0) (refuses : TextFault → Type 0) (first : TextFault → Type 0) → lawful
     → ((given : Command) × rest given) ⊎ ((fault : TextFault) × IsOfValues fault × refuses fault)
     → ((given : Command) × (lawful × rest given)) ⊎ ((fault : TextFault) × IsOfValues fault × (first fault ⊎ (lawful × refuses fault)))
@@ -151,7 +151,7 @@ answered (IfCull rule rest) = checked (IsLawfulCull rule) (Means rest) (Refuses 
 answered (IfFactors factors rest) = checked (AreFactors factors) (Means rest) (Refuses rest) faults.BadScale of_scale (factors_or_not factors) (answered rest)
 answered (Turns name angle) = turn_checked name angle (turn_or_not angle)
 
--- ---- lines have one
+-- ---- lines have an answer
 
 abbrev HasAnswer : List ℕ → Type 0
 HasAnswer bytes =

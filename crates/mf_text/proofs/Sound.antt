@@ -1,4 +1,4 @@
--- What is read as a line is spelled so.
+-- Tokens that are read as a line are the spelling of that line.
 use Rattle.std.proofs.Common.{◌≡◌, ℕ, zero, suc, ◌+◌, ◌≤◌, Bool, true, false, List, [], ◌∷◌, ◌++◌, length, Option, Some, None, nat_lt, if◌then◌else◌, refl, sym, ap, subst, ◌∙◌, append_assoc, append-nil, flat_map, length-append, arith, rules}
 use Rattle.std.specs.Option.{IfSome, option_and_then}
 use Rattle.std.proofs.lemmas.Grind.{flat_map-append}
@@ -11,14 +11,15 @@ use Rattle.mf_text.specs.declared.command.Source.TheVariants.{Null, Named}
 use Rattle.mf_text.specs.declared.int.Int.{Int}
 use Rattle.mf_text.specs.declared.pair.Pair.{Pair}
 use Rattle.mf_text.specs.declared.token.Mark.TheVariants as mark
-use Rattle.mf_text.specs.declared.token.Token.{Token}
-use Rattle.mf_text.specs.declared.token.Token.TheVariants as token
+use Rattle.mf_text.specs.Token.{Token}
+use Rattle.mf_text.specs.Token as token
 use Rattle.mf_text.specs.declared.token.Word.TheVariants as word
 use Rattle.mf_text.specs.Codes.{code_of, byte_code}
 use Rattle.mf_text.specs.Grammar.{Form, Nothing, AddContour, AddPicture, CullKeeping, CullDropping, Clear, Move, ShowTotal, ShowPicture, ShowProof, ShipOut, SetCheck, PublishAll, Transform, Shifted, Scaled, XScaled, YScaled, Rotated, Line, Path, spell_form, spell_weight, spell_int, spell_code, spell_pair, spell_name, spell_source, spell_corner, spell_path, spell_line}
 use Rattle.mf_text.specs.Ints.{int_of, short_int, is_byte}
 use Rattle.mf_text.specs.LineRests.{addto, by_number, cull, line, moved, name_token, named, proof, shipout, show, turning_check, weighable, whole}
-use Rattle.mf_text.specs.Rests.{Rest, Ends, One, Or, AName, OrName, ANumber, ACode, Corners, Place, Before, CodeNumber, before, code_in, corner, ends, inner, int, is_token, name_in, number_in, or_place, pair, path, source, step, step_from}
+use Rattle.mf_text.specs.Rests.{Rest, Ends, One, Or, AName, OrName, ANumber, ACode, Corners, Place, Before, CodeNumber, before, code_in, corner, ends, inner, int, number_in, or_place, pair, path, source, step, step_from}
+use Rattle.mf_text.specs.Token.{is_token, name_in}
 use Rattle.mf_text.specs.Syntax.{is_negative_code}
 use Rattle.mf_text.proofs.Rests.{is_code_number, is_code_number_at, reads}
 
@@ -28,18 +29,19 @@ some_same a b is = cc
 none_is_some : {A : Type 0} (a : A) → None ≡ Some a → ⊥
 none_is_some a is = cc
 
--- behind these tokens, among at most n more: what is read as a line is spelled so, and a code that is none is where it shows so
+-- after these tokens, with at most n more: what is read as a line is its spelling, and the number of a code after its `-` is
+-- where `is_negative_code` says
 pub record Sound (n : ℕ) (past : List Token) (p : Place) : Type 0 where
   pub spelled : (us : List Token) (l : Line) → length us ≤ n → reads (Some p) us ≡ Some l → spell_line l ≡ past ++ us
   pub coded : (us : List Token) (k : ℕ) → length us ≤ n → is_code_number_at (Some p) us k ≡ true → (is_negative_code (past ++ us) ≡ true) × (length past + k ≡ 4)
 
--- the same by the token that comes
+-- the same, by the token that comes next
 record Fits (n : ℕ) (past : List Token) (p : Place) : Type 0 where
   end : (l : Line) → ends p ≡ Some l → spell_line l ≡ past
   code : (t : Token) (us : List Token) → is_code_number p t ≡ true → (is_negative_code (past ++ t ∷ us) ≡ true) × (length past ≡ 4)
   steps : (t : Token) (q : Place) → step p t ≡ Some q → Sound n (past ++ t ∷ []) q
 
--- a place behind one token more
+-- the place after one more token
 module _ (n : ℕ) (past us : List Token) (t : Token) (short : length us ≤ n) where
   spelled_on : (q : Option Place) → ((p : Place) → q ≡ Some p → Sound n (past ++ t ∷ []) p) → (l : Line) → reads q us ≡ Some l → spell_line l ≡ past ++ t ∷ us
   unfolding reads
@@ -160,7 +162,7 @@ code_spelled : (i : Int) → IfSome (code_of i) (λ (c : Code). spell_code c ≡
 unfolding code_of
 code_spelled i = byte_code_spelled i (is_byte i) refl
 
--- a value that is found is spelled by these tokens
+-- the value that is found is spelled with these tokens
 module _ {A : Type 0} (n : ℕ) (past front : List Token) (t : Token) (next : A → Rest) (spell : A → List Token)
     (after : (a : A) → Sound n (front ++ spell a) (Before (next a))) where
   found_step : (a : Option A) → IfSome a (λ x. front ++ spell x ≡ past ++ t ∷ []) → (q : Place) → before next a ≡ Some q → Sound n (past ++ t ∷ []) q
@@ -201,7 +203,7 @@ fits_int n past next after =
     (fits_number n (past ++ token.Mark mark.Minus ∷ []) past true (λ k. sym (append_assoc past (token.Mark mark.Minus ∷ []) (token.Number k ∷ []))) next after))
     (fits_number n past past false (λ k. refl) next after)
 
--- `shipout`, a picture and `code`
+-- `shipout`, a source and `code`
 abbrev to_code : Token → List Token
 to_code s = token.Word word.Shipout ∷ s ∷ token.Word word.Code ∷ []
 
@@ -248,14 +250,14 @@ fits_inner n past next after =
 fits_pair : (n : ℕ) (past : List Token) (next : Pair → Rest) → ((p : Pair) → Sound n (past ++ spell_pair p) (Before (next p))) → Fits n past (Before (pair next))
 fits_pair n past next after = fits_one n past (token.Mark mark.Open) (inner next) (sound n _ _ (fits_inner n past next after))
 
--- a corner behind its `(`
+-- a corner after its `(`
 sound_corner : (n : ℕ) (past : List Token) (next : Pair → Rest) → ((p : Pair) → Sound n (past ++ spell_corner p) (Before (next p)))
     → Sound n (past ++ token.Mark mark.Open ∷ []) (Before (corner next))
 sound_corner n past next after =
     sound n _ _ (fits_inner n past _ (λ p. sound n _ _ (fits_one n _ (token.Mark mark.Join) (next p)
     (at n _ _ (Before (next p)) (sym (append_assoc past (spell_pair p) (token.Mark mark.Join ∷ []))) (after p)))))
 
--- what may stand behind `contour`
+-- what may come after `contour`
 module _ (front : List Token) (next : Path → Rest) (after : (n : ℕ) (p : Path) → Sound n (front ++ spell_path p) (Before (next p))) where
   abbrev to_corners : Pair → List Pair → List Token
   to_corners first others = front ++ flat_map spell_corner (first ∷ others)
@@ -334,7 +336,7 @@ sound_show n =
 sound_proof : (n : ℕ) → Sound n (token.Word word.Proof ∷ []) (Before proof)
 sound_proof n = sound n _ _ (fits_source n _ _ (λ s. sound_whole n _ (ShowProof s) refl))
 
--- behind the code of a shipment, whose picture is this token
+-- the rest of a line that ships this picture, after its code
 sound_sizes : (n : ℕ) (s : Source) (past : List Token) (code : Code) → token.Word word.Shipout ∷ [] ++ spell_source s ++ token.Word word.Code ∷ [] ≡ past
     → Sound n (past ++ spell_code code) (Before (One (token.Word word.Dx) (int (λ dx. One (token.Word word.Width) (int (λ width. whole (ShipOut s code dx width)))))))
 sound_sizes n s past code is =
@@ -355,7 +357,7 @@ sound_shipout n = sound n _ _ (fits_source n _ _ (shipped n))
 sound_check : (n : ℕ) → Sound n (token.Word word.TurningCheck ∷ []) (Before turning_check)
 sound_check n = sound n _ _ (fits_one n _ (token.Mark mark.Becomes) _ (sound n _ _ (fits_int n _ _ (λ i. sound_whole n _ (SetCheck i) refl))))
 
--- behind the word of a motion its number
+-- the int after the word of a transform
 sound_motion : (n : ℕ) (past : List Token) (name : Name) (transform : Int → Transform) → ((i : Int) → spell_form (Move name (transform i)) ≡ past ++ spell_int i)
     → Sound n past (Before (by_number name transform))
 sound_motion n past name transform spelled = sound n _ _ (fits_int n _ _ (λ i. sound_whole n _ (Move name (transform i)) (spelled i)))

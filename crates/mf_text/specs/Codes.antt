@@ -4,13 +4,15 @@ use Rattle.mf_text.specs.declared.code.Code.{Code}
 use Rattle.mf_text.specs.declared.int.Int.{Int}
 use Rattle.mf_text.specs.Ints.{is_byte}
 
+-- the value of a code
 abbrev pub code_value : Code → ℕ
 code_value code = code.int.magnitude
 
+-- the code that an int is, where it is known whether the int is in 0..255
 abbrev pub byte_code : (n : Int) (byte : Bool) → is_byte n ≡ byte → Option Code
 byte_code n true is = Some (record { int = n; is_byte = is })
 byte_code n false is = None
 
--- the code that an int is, if it lies in 0..255
+-- the code that an int is, if it is in 0..255
 unfoldable pub code_of : Int → Option Code
 code_of n = byte_code n (is_byte n) refl

@@ -12,15 +12,17 @@ use Rattle.mf_text.specs.declared.int.Int.{Int}
 use Rattle.mf_text.specs.declared.pair.Pair.{Pair}
 use Rattle.mf_text.specs.declared.token.Mark.{Mark}
 use Rattle.mf_text.specs.declared.token.Mark.TheVariants as mark
-use Rattle.mf_text.specs.declared.token.Token.{Token}
-use Rattle.mf_text.specs.declared.token.Token.TheVariants as token
+use Rattle.mf_text.specs.Token.{Token}
+use Rattle.mf_text.specs.Token as token
 use Rattle.mf_text.specs.declared.token.Word.{Word}
 use Rattle.mf_text.specs.declared.token.Word.TheVariants as word
 use Rattle.mf_text.specs.Ints.{int_value, pair_value}
 
+-- a word is one token
 abbrev pub spell_word : Word → List Token
 spell_word w = token.Word w ∷ []
 
+-- a mark is one token
 abbrev pub spell_mark : Mark → List Token
 spell_mark m = token.Mark m ∷ []
 
@@ -28,7 +30,7 @@ spell_mark m = token.Mark m ∷ []
 abbrev pub spell_int : Int → List Token
 spell_int n = if n.negative then (token.Mark mark.Minus ∷ token.Number n.magnitude ∷ []) else (token.Number n.magnitude ∷ [])
 
--- the int after `code`, which lies in 0..255: of 0 there are two, since `-` may stand before it
+-- the int after `code`, in 0..255; 0 can be written in two ways, since `-` may come before it
 abbrev pub spell_code : Code → List Token
 spell_code code = spell_int code.int
 
@@ -46,7 +48,7 @@ abbrev pub spell_source : Source → List Token
 spell_source Null = spell_word word.NullPicture
 spell_source (Named name) = spell_name name
 
--- a source, and `-` before it where it is subtracted
+-- a source, with `-` before it where it is subtracted
 abbrev pub spell_signed : Sign → Source → List Token
 spell_signed Plus source = spell_source source
 spell_signed Minus source = spell_mark mark.Minus ++ spell_source source
@@ -56,6 +58,7 @@ abbrev pub spell_weight : Option Int → List Token
 spell_weight None = []
 spell_weight (Some n) = spell_word word.WithWeight ++ spell_int n
 
+-- the weight itself: the value of the int, or 1 where there is none
 abbrev pub weight_value : Option Int → ℤ
 weight_value None = pos 1
 weight_value (Some n) = int_value n
@@ -65,16 +68,19 @@ pub record Path : Type 0 where
   pub first : Pair
   pub others : List Pair
 
+-- a corner: a pair and the `--` after it
 abbrev pub spell_corner : Pair → List Token
 spell_corner p = spell_pair p ++ spell_mark mark.Join
 
+-- a path: its corners, and then `cycle`
 abbrev pub spell_path : Path → List Token
 spell_path p = flat_map spell_corner (p.first ∷ p.others) ++ spell_word word.Cycle
 
+-- the points of a path
 abbrev pub path_value : Path → List Point
 path_value p = map pair_value (p.first ∷ p.others)
 
--- `shifted` pair, `scaled` int, `xscaled` int, `yscaled` int, `rotated` int
+-- transform: `shifted` pair, `scaled` int, `xscaled` int, `yscaled` int, or `rotated` int
 pub data Transform : Type 0 where
   Shifted : Pair → Transform
   Scaled : Int → Transform
@@ -82,6 +88,7 @@ pub data Transform : Type 0 where
   YScaled : Int → Transform
   Rotated : Int → Transform
 
+-- a transform: its word, and then its pair or its int
 abbrev pub spell_transform : Transform → List Token
 spell_transform (Shifted p) = spell_word word.Shifted ++ spell_pair p
 spell_transform (Scaled n) = spell_word word.Scaled ++ spell_int n
@@ -89,7 +96,7 @@ spell_transform (XScaled n) = spell_word word.XScaled ++ spell_int n
 spell_transform (YScaled n) = spell_word word.YScaled ++ spell_int n
 spell_transform (Rotated n) = spell_word word.Rotated ++ spell_int n
 
--- the forms of commands, by what they do
+-- the forms of commands, one for each thing that a command does
 pub data Form : Type 0 where
   Nothing : Form
   AddContour : Name → Path → Option Int → Form
@@ -105,6 +112,7 @@ pub data Form : Type 0 where
   SetCheck : Int → Form
   PublishAll : Form
 
+-- how each form is spelled
 abbrev pub spell_form : Form → List Token
 spell_form Nothing = []
 spell_form (AddContour name path weight) = spell_word word.Addto ++ spell_name name ++ spell_word word.Contour ++ spell_path path ++ spell_weight weight
@@ -125,8 +133,10 @@ pub record Line : Type 0 where
   pub form : Form
   pub ended : Bool
 
+-- the end of a line: `;`, or nothing
 abbrev pub spell_end : Bool → List Token
 spell_end ended = if ended then spell_mark mark.Semicolon else []
 
+-- a line: its form, and then its end
 abbrev pub spell_line : Line → List Token
 spell_line l = spell_form l.form ++ spell_end l.ended

@@ -4,20 +4,23 @@ use Rattle.mf_geom.specs.declared.point.Point.{Point}
 use Rattle.mf_text.specs.declared.int.Int.{Int}
 use Rattle.mf_text.specs.declared.pair.Pair.{Pair}
 
+-- the value of an int
 abbrev pub int_value : Int → ℤ
 int_value n = if n.negative then neg_ℤ (pos n.magnitude) else pos n.magnitude
 
+-- the point that a pair names
 abbrev pub pair_value : Pair → Point
 pair_value p = record { x = int_value p.across; y = int_value p.up }
 
--- an int lies in 0..255
+-- the int is in 0..255
 abbrev pub is_byte : Int → Bool
 is_byte n = int_le (pos 0) (int_value n) && int_le (int_value n) (pos 255)
 
+-- the int of a number, where it is known whether the number has at most nine digits
 abbrev pub short_int : Bool → (n : ℕ) (short : Bool) → nat_lt n 1000000000 ≡ short → Option Int
 short_int negative n true is = Some (record { negative = negative; magnitude = n; short = is })
 short_int negative n false is = None
 
--- the int of a number, which has at most nine digits
+-- the int of a number, with `-` before it or not, if the number has at most nine digits
 unfoldable pub int_of : Bool → ℕ → Option Int
 int_of negative n = short_int negative n (nat_lt n 1000000000) refl

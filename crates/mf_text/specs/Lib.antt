@@ -15,4 +15,5 @@ pub mod Registers
 pub mod Rests
 pub mod Syntax
 pub mod TokenTexts
+pub mod Token
 pub mod Tokens

@@ -1,4 +1,4 @@
--- Lines, token by token: what may follow each token of a line.
+-- The grammar as a rest: what may follow in a line after each of its tokens.
 use Rattle.std.specs.Prelude.{true, false, Option, None, Some}
 use Rattle.mf_ops.specs.declared.sign.Sign.{Sign}
 use Rattle.mf_ops.specs.declared.sign.Sign.TheVariants.{Plus, Minus}
@@ -6,13 +6,13 @@ use Rattle.mf_text.specs.declared.command.Name.{Name}
 use Rattle.mf_text.specs.declared.command.Name.TheVariants.{Current, Register}
 use Rattle.mf_text.specs.declared.int.Int.{Int}
 use Rattle.mf_text.specs.declared.token.Mark.TheVariants as mark
-use Rattle.mf_text.specs.declared.token.Token.{Token}
-use Rattle.mf_text.specs.declared.token.Token.TheVariants as token
+use Rattle.mf_text.specs.Token.{Token}
+use Rattle.mf_text.specs.Token as token
 use Rattle.mf_text.specs.declared.token.Word.TheVariants as word
 use Rattle.mf_text.specs.Grammar.{Form, Nothing, AddContour, AddPicture, CullKeeping, CullDropping, Clear, Move, ShowTotal, ShowPicture, ShowProof, ShipOut, SetCheck, PublishAll, Transform, Shifted, Scaled, XScaled, YScaled, Rotated}
 use Rattle.mf_text.specs.Rests.{Rest, Ends, One, Or, AName, OrName, ACode, int, source, pair, path}
 
--- behind a whole command: `;`, or nothing
+-- after a complete command: `;`, or nothing
 abbrev pub whole : Form → Rest
 whole form = Or (token.Mark mark.Semicolon) (Ends (record { form = form; ended = true })) (Ends (record { form = form; ended = false }))
 
@@ -20,90 +20,96 @@ whole form = Or (token.Mark mark.Semicolon) (Ends (record { form = form; ended =
 abbrev pub weight : (Option Int → Rest) → Rest
 weight next = Or (token.Word word.WithWeight) (int (λ n. next (Some n))) (next None)
 
--- behind a command that may have a weight
+-- after a command that may have a weight: the weight, if there is one, and the end of the line
 abbrev pub weighable : (Option Int → Form) → Rest
 weighable form = weight (λ n. whole (form n))
 
+-- after `addto` name `also`, and `-` where it comes: a source
 abbrev pub added : Name → Sign → Rest
 added name sign = source (λ picture. whole (AddPicture name sign picture))
 
+-- after `addto` name `contour`
 abbrev pub contour : Name → Rest
 contour name = path (λ p. weighable (AddContour name p))
 
+-- after `addto`
 abbrev pub addto : Rest
 addto =
     AName (λ name. Or (token.Word word.Contour) (contour name)
     (One (token.Word word.Also) (Or (token.Mark mark.Minus) (added name Minus) (added name Plus))))
 
+-- after `cull` name `keeping`
 abbrev pub keep : Name → Rest
 keep name = pair (λ range. weighable (CullKeeping name range))
 
+-- after `cull` name `dropping`
 abbrev pub drop : Name → Rest
 drop name = pair (λ range. weighable (CullDropping name range))
 
+-- after `cull`
 abbrev pub cull : Rest
 cull = AName (λ name. Or (token.Word word.Keeping) (keep name) (One (token.Word word.Dropping) (drop name)))
 
+-- after `show` `totalweight`
 abbrev pub total : Rest
 total = source (λ picture. whole (ShowTotal picture))
 
+-- after `show`
 abbrev pub show : Rest
 show = Or (token.Word word.TotalWeight) total (source (λ picture. whole (ShowPicture picture)))
 
+-- after `proof`
 abbrev pub proof : Rest
 proof = source (λ picture. whole (ShowProof picture))
 
+-- after `shipout`
 abbrev pub shipout : Rest
 shipout =
     source (λ picture. One (token.Word word.Code) (ACode (λ code. One (token.Word word.Dx) (int (λ dx. One (token.Word word.Width)
     (int (λ width. whole (ShipOut picture code dx width))))))))
 
+-- after `turningcheck`
 abbrev pub turning_check : Rest
 turning_check = One (token.Mark mark.Becomes) (int (λ n. whole (SetCheck n)))
 
+-- the token of a name
 abbrev pub name_token : Name → Token
 name_token Current = token.Word word.CurrentPicture
 name_token (Register letter) = token.Letter letter
 
--- behind the word of a motion its number
+-- after the word of a transform that has an int: the int
 abbrev pub by_number : Name → (Int → Transform) → Rest
 by_number name transform = int (λ n. whole (Move name (transform n)))
 
+-- after name `:=` name `shifted`
 abbrev pub shifted : Name → Rest
 shifted name = pair (λ by. whole (Move name (Shifted by)))
 
-abbrev pub moved : Name → Rest
-moved name =
-    Or (token.Word word.Shifted) (shifted name) (Or (token.Word word.Scaled) (by_number name Scaled)
-    (Or (token.Word word.XScaled) (by_number name XScaled) (Or (token.Word word.YScaled) (by_number name YScaled)
-    (One (token.Word word.Rotated) (by_number name Rotated)))))
+-- after name `:=` name, where `shifted` does not come: another transform
+abbrev pub stretched : Name → Rest
+stretched name =
+    Or (token.Word word.Scaled) (by_number name Scaled) (Or (token.Word word.XScaled) (by_number name XScaled)
+    (Or (token.Word word.YScaled) (by_number name YScaled) (One (token.Word word.Rotated) (by_number name Rotated))))
 
+-- after name `:=` name: a transform
+abbrev pub moved : Name → Rest
+moved name = Or (token.Word word.Shifted) (shifted name) (stretched name)
+
+-- after name `:=` `nullpicture`
 abbrev pub cleared : Name → Rest
 cleared name = whole (Clear name)
 
+-- after the name that a line starts with
 abbrev pub named : Name → Rest
 named name = One (token.Mark mark.Becomes) (Or (token.Word word.NullPicture) (cleared name) (One (name_token name) (moved name)))
 
+-- after `publish`
 abbrev pub publish : Rest
 publish = whole PublishAll
 
--- a whole line
+-- a complete line
 abbrev pub line : Rest
 line =
     Or (token.Word word.Addto) addto (Or (token.Word word.Cull) cull (Or (token.Word word.Show) show (Or (token.Word word.Proof) proof
     (Or (token.Word word.Shipout) shipout (Or (token.Word word.TurningCheck) turning_check (Or (token.Word word.Publish) publish
     (OrName named (whole Nothing))))))))
-
--- what may follow the first token of a line
-abbrev pub front : Token → Option Rest
-front (token.Word word.Addto) = Some addto
-front (token.Word word.Cull) = Some cull
-front (token.Word word.Show) = Some show
-front (token.Word word.Proof) = Some proof
-front (token.Word word.Shipout) = Some shipout
-front (token.Word word.TurningCheck) = Some turning_check
-front (token.Word word.Publish) = Some publish
-front (token.Mark mark.Semicolon) = Some (Ends (record { form = Nothing; ended = true }))
-front (token.Word word.CurrentPicture) = Some (named Current)
-front (token.Letter letter) = Some (named (Register letter))
-front t = None

@@ -11,50 +11,50 @@ use Rattle.mf_text.specs.Meaning.{IsCommandOf, IsRefusalOf, TakesMemory}
 use Rattle.mf_text.specs.Syntax.{IsSyntaxFault}
 use Rattle.mf_text.specs.Tokens.{tokens, kinds}
 
--- a line is short, and each of its bytes is text
+-- the line has at most 65536 bytes, and each of them is text
 pub record IsText (line : List ℕ) : Type 0 where
   pub short : length line ≤ 65536
   pub text : list_all is_text_byte line ≡ true
 
--- the tokens of a line, before which a reader stands
+-- what is ahead at the front of a line: all of its tokens
 abbrev pub front : List ℕ → Ahead
 front line = record { tokens = tokens line; past = 1 }
 
--- a line of bytes is this line of the grammar
+-- the bytes are this line of the grammar
 pub record IsLineOf (bytes : List ℕ) (line : Line) : Type 0 where
   pub text : IsText bytes
   pub spelled : kinds (tokens bytes) ≡ spell_line line
 
--- a line gives a command
+-- the bytes are a line of the grammar that gives this command
 pub record Gives (bytes : List ℕ) (given : Command) : Type 0 where
   pub line : Line
   pub line_is : IsLineOf bytes line
   pub command_is : IsCommandOf line.form given
 
--- its values are refused
+-- the bytes are a line of the grammar whose values are refused in this way
 pub record HasBadValues (bytes : List ℕ) (refused : TextFault) : Type 0 where
   pub line : Line
   pub line_is : IsLineOf bytes line
   pub refusal_is : IsRefusalOf line.form refused
 
--- a byte is no text
+-- the line is short enough, and one of its bytes is not text
 pub record HasOtherBytes (bytes : List ℕ) : Type 0 where
   pub short : length bytes ≤ 65536
   pub other : list_all is_text_byte bytes ≡ false
 
--- no line of the grammar
+-- the bytes are text and not a line of the grammar, which is reported at this column
 pub record HasSyntaxFault (bytes : List ℕ) (column : ℕ) : Type 0 where
   pub text : IsText bytes
   pub wrong : IsSyntaxFault (front bytes) column
 
--- memory may be wanting for a line: it is that of a contour
+-- the bytes are a line that may be refused with `OutOfMemory`, which only that of a contour may be
 pub record MayWantMemory (bytes : List ℕ) : Type 0 where
   pub line : Line
   pub line_is : IsLineOf bytes line
   pub memory : TakesMemory line.form
 
--- why a line is refused: too long, else a byte that is no text, else no line of the grammar, else its values; or memory
--- was wanting
+-- why a line is refused: it is too long, or else a byte is not text, or else it is not in the grammar, or else its values are
+-- refused; or an allocation failed
 abbrev pub IsRefused : List ℕ → TextFault → Type 0
 IsRefused bytes LineTooLong = 65536 < length bytes
 IsRefused bytes NotAscii = HasOtherBytes bytes

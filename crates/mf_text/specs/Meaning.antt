@@ -20,10 +20,10 @@ use Rattle.mf_text.specs.Codes.{code_value}
 use Rattle.mf_text.specs.Grammar.{Form, Nothing, AddContour, AddPicture, CullKeeping, CullDropping, Clear, Move, ShowTotal, ShowPicture, ShowProof, ShipOut, SetCheck, PublishAll, Transform, Shifted, Scaled, XScaled, YScaled, Rotated, weight_value, path_value}
 use Rattle.mf_text.specs.Ints.{int_value, pair_value}
 
--- what a form says: a command, where its values are lawful, which are looked at in this order
+-- what a form means: its command, after checks of its values in this order
 pub data Meaning : Type 0 where
   Is : Command → Meaning
-  -- the points are any cycle: the turning check comes when it is filled
+  -- the points are a cycle; the turning check comes only when it is filled
   IfCycle : List Point → Meaning → Meaning
   IfWeight : ℤ → Meaning → Meaning
   IfCull : CullRule → Meaning → Meaning
@@ -31,25 +31,31 @@ pub data Meaning : Type 0 where
   -- a turn of the picture by this angle
   Turns : Name → ℤ → Meaning
 
+-- the factors of `scaled`
 abbrev pub both : ℤ → Factors
 both n = record { x = n; y = n }
 
+-- the factors of `xscaled`
 abbrev pub of_columns : ℤ → Factors
 of_columns n = record { x = n; y = pos 1 }
 
+-- the factors of `yscaled`
 abbrev pub of_rows : ℤ → Factors
 of_rows n = record { x = pos 1; y = n }
 
+-- the points of a contour are checked before its weight
 abbrev pub contour_meaning : Name → List Point → ℤ → Meaning
 contour_meaning name points weight = IfCycle points (IfWeight weight (Is (command.Contour name points weight)))
 
--- the weight of a cull is looked at first
+-- the weight of a cull is checked before its range
 abbrev pub cull_meaning : Name → CullRule → ℤ → Meaning
 cull_meaning name rule weight = IfWeight weight (IfCull rule (Is (command.Cull name rule)))
 
+-- the factors of a scale are checked
 abbrev pub scale_meaning : Name → Factors → Meaning
 scale_meaning name factors = IfFactors factors (Is (command.Scale name factors))
 
+-- what a transform of a picture means
 abbrev pub transform_meaning : Name → Transform → Meaning
 transform_meaning name (Shifted p) = Is (command.Shift name (pair_value p).x (pair_value p).y)
 transform_meaning name (Scaled n) = scale_meaning name (both (int_value n))
@@ -61,6 +67,7 @@ transform_meaning name (Rotated n) = Turns name (int_value n)
 abbrev pub check_of : ℤ → Check
 check_of n = if int_lt (pos 0) n then On else Off
 
+-- what each form means
 abbrev pub meaning : Form → Meaning
 meaning Nothing = Is command.Nothing
 meaning (AddContour name path weight) = contour_meaning name (path_value path) (weight_value weight)
@@ -76,13 +83,13 @@ meaning (ShipOut source code dx width) = Is (command.Ship source (code_value cod
 meaning (SetCheck n) = Is (command.Turning (check_of (int_value n)))
 meaning PublishAll = Is command.Publish
 
--- a turn by an angle that is some quarters
+-- the command is the turn by this angle, which is 90, 180 or 270 degrees
 pub record IsTurn (name : Name) (angle : ℤ) (given : Command) : Type 0 where
   pub quarter : Quarter
   pub angle_is : degrees quarter ≡ angle
   pub is : given ≡ command.Quarter name quarter
 
--- the command
+-- the command that a meaning gives, where all of its checks pass
 abbrev pub Means : Meaning → Command → Type 0
 Means (Is made) given = given ≡ made
 Means (IfCycle points rest) given = IsRectilinearCycle points × Means rest given
@@ -91,14 +98,14 @@ Means (IfCull rule rest) given = IsLawfulCull rule × Means rest given
 Means (IfFactors factors rest) given = AreFactors factors × Means rest given
 Means (Turns name angle) given = IsTurn name angle given
 
--- points that are no cycle, and their fault, which so is none of the turning check's
+-- the points are not a cycle, and this refusal is their fault, so it is not one of the turning check
 pub record IsNoCycle (points : List Point) (refused : TextFault) : Type 0 where
   pub cause : CycleFault
   pub none : IsRectilinearCycle points → ⊥
   pub fault : IsFault points cause
   pub is : refused ≡ faults.Cycle cause
 
--- a value that is not lawful, and its refusal
+-- a value is not lawful, and this is its refusal
 pub record IsUnlawful (lawful : Type 0) (fault refused : TextFault) : Type 0 where
   pub unlawful : lawful → ⊥
   pub is : refused ≡ fault
@@ -112,19 +119,20 @@ Refuses (IfCull rule rest) refused = IsUnlawful (IsLawfulCull rule) faults.BadCu
 Refuses (IfFactors factors rest) refused = IsUnlawful (AreFactors factors) faults.BadScale refused ⊎ (AreFactors factors × Refuses rest refused)
 Refuses (Turns name angle) refused = IsUnlawful ((quarter : Quarter) × (degrees quarter ≡ angle)) faults.BadTurn refused
 
--- the command that a form gives, and why its values are refused
+-- the command that a form gives
 abbrev pub IsCommandOf : Form → Command → Type 0
 IsCommandOf form given = Means (meaning form) given
 
+-- the refusal of the values of a form
 abbrev pub IsRefusalOf : Form → TextFault → Type 0
 IsRefusalOf form refused = Refuses (meaning form) refused
 
--- a form takes memory: that of a contour
+-- the form is that of a contour, the only one that allocates
 abbrev pub TakesMemory : Form → Type 0
 TakesMemory (AddContour name path weight) = Unit {0}
 TakesMemory form = ⊥
 
--- what is answered to a form: its command, or why its values are refused, or that memory was wanting for it
+-- the answer to a form: its command, the refusal of its values, or `OutOfMemory` where it allocates
 abbrev pub IsAnswerOf : Form → Result Command TextFault → Type 0
 IsAnswerOf form (Ok given) = IsCommandOf form given
 IsAnswerOf form (Err faults.OutOfMemory) = TakesMemory form

@@ -1,6 +1,6 @@
--- Phrases: what trees of the grammar are spelled as.
+-- Phrases: the lists of tokens that trees of the grammar are spelled as.
 use Rattle.std.specs.Prelude.{◌≡◌, ◌<◌, ◌≤◌, ℕ, suc, List, ◌++◌, length, take}
-use Rattle.mf_text.specs.declared.token.Token.{Token}
+use Rattle.mf_text.specs.Token.{Token}
 
 module _ {A : Type 0} (spell : A → List Token) where
   -- the tokens are a phrase
@@ -8,13 +8,13 @@ module _ {A : Type 0} (spell : A → List Token) where
     pub tree : A
     pub spelled : ts ≡ spell tree
 
-  -- the tokens begin a phrase
+  -- some phrase starts with the tokens
   pub record BeginsPhrase (ts : List Token) : Type 0 where
     pub rest : List Token
     pub phrase : IsPhrase (ts ++ rest)
 
-  -- the place of the first token such that no phrase begins with the tokens up to and with it; or the end, where the
-  -- tokens begin phrases but are none
+  -- the place, counted from 0, of the first token such that no phrase starts with the tokens up to and including it; or the end,
+  -- where some phrase starts with the tokens but they are not one
   pub record IsWrongAt (ts : List Token) (k : ℕ) : Type 0 where
     pub within : k ≤ length ts
     pub begins : BeginsPhrase (take k ts)

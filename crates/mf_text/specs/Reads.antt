@@ -1,5 +1,6 @@
--- What a reader reads: a phrase and what stands behind it, or the column at which the line goes wrong.
-use Rattle.std.specs.Prelude.{◌≡◌, ◌≤◌, ℕ, length, Bool, Result, Ok, Err}
+-- What the reader of a line does: it passes a phrase, or finds the column at which the line goes wrong.
+use Rattle.std.specs.Prelude.{◌≡◌, ◌≤◌, ℕ, length, Bool, true, false, List, [], ◌∷◌, Option, None, Some, Result, Ok, Err}
+use Rattle.mf_text.specs.declared.command.Name.{Name}
 use Rattle.mf_text.specs.declared.command.Command.{Command}
 use Rattle.mf_text.specs.declared.fault.TextFault.{TextFault}
 use Rattle.mf_text.specs.declared.fault.TextFault.TheVariants.{Syntax}
@@ -13,53 +14,93 @@ use Rattle.mf_text.specs.LineRests.{whole}
 use Rattle.mf_text.specs.Meaning.{IsAnswerOf}
 use Rattle.mf_text.specs.Paths.{HasPoints}
 use Rattle.mf_text.specs.Rests.{Rest, path, from}
+use Rattle.mf_text.specs.Token.{Token, Placed, is_token}
 
--- what tokens have before them
+-- what is ahead of the reader: the tokens that are left, and the column one past the token before them
 abbrev pub ahead : Tokens → Ahead
 ahead t = record { tokens = tokens_left t; past = t.column }
 
--- no more tokens stand before one than before the other
+-- no more tokens are left after than before
 abbrev pub IsWithin : Tokens → Tokens → Type 0
 IsWithin after before = length (tokens_left after) ≤ length (tokens_left before)
 
+-- the next token is this one
+abbrev pub is_next : Token → List Placed → Bool
+is_next t [] = false
+is_next t (p ∷ ps) = is_token p.token t
+
+-- what is ahead after the next token
+abbrev pub after_first : List Placed → Option Ahead
+after_first [] = None
+after_first (p ∷ ps) = Some (record { tokens = ps; past = p.after })
+
+-- this token was passed where it is the next one, and otherwise nothing was
+pub record HasTaken (t : Token) (before after : Tokens) (taken : Bool) : Type 0 where
+  pub next : taken ≡ is_next t (tokens_left before)
+  pub after_is : taken ≡ true → after_first (tokens_left before) ≡ Some (ahead after)
+  pub left : taken ≡ false → after ≡ before
+
+-- a value, if there is one, and what is ahead after it
+abbrev pub with_rest : {A : Type 0} → Ahead → Option A → Option (A × Ahead)
+with_rest after None = None
+with_rest after (Some a) = Some (a, after)
+
+-- the value of the next token, if it has one, and what is ahead after it
+abbrev pub taken : {A : Type 0} → (Token → Option A) → List Placed → Option (A × Ahead)
+taken f [] = None
+taken f (p ∷ ps) = with_rest (record { tokens = ps; past = p.after }) (f p.token)
+
+-- the next token was passed and its value returned where it has one, and otherwise nothing was passed
+abbrev pub Takes : {A : Type 0} → (Token → Option A) → Tokens → Tokens → Option A → Type 0
+Takes f before after None = (taken f (tokens_left before) ≡ None) × (after ≡ before)
+Takes f before after (Some a) = taken f (tokens_left before) ≡ Some (a, ahead after)
+
+-- what a line gives after a phrase: what its rest gives, or the column of the fault
 abbrev pub then_from : {A : Type 0} → (A → Rest) → Ahead → Result A SyntaxFault → Result Line ℕ
 then_from next after (Ok a) = from (next a) after
 then_from next after (Err fault) = Err fault.column
 
--- what comes of a line that may end here alone
+-- what a line gives that can only end here
 abbrev pub then_end : Line → Result (Unit {0}) SyntaxFault → Result Line ℕ
 then_end line (Ok done) = Ok line
 then_end line (Err fault) = Err fault.column
 
--- what comes of a line of which a token was passed, or not
+-- what a line gives after a token that must come: what its rest gives, or the column of the fault
 abbrev pub then_rest : Rest → Ahead → Result (Unit {0}) SyntaxFault → Result Line ℕ
 then_rest rest after (Ok done) = from rest after
 then_rest rest after (Err fault) = Err fault.column
 
--- a phrase was passed, or the line goes wrong in it, whatever may stand behind the phrase
+-- what a line gives where a name may come: what the rest after the name gives, or else another rest
+abbrev pub then_name : (Name → Rest) → Rest → Ahead → Option Name → Result Line ℕ
+then_name this other after (Some name) = from (this name) after
+then_name this other after None = from other after
+
+-- a phrase was passed, or the line goes wrong in it, whatever may follow the phrase
 abbrev pub Passes : {A : Type 0} → ((A → Rest) → Rest) → Tokens → Tokens → Result A SyntaxFault → Type 0
 Passes {A} phrase before after result = (next : A → Rest) → from (phrase next) (ahead before) ≡ then_from next (ahead after) result
 
--- the same of a path, whose points are kept
+-- a path was passed, whatever may follow it, and its points are kept
 pub record HasPassedPath (before after : Tokens) (kept : paths.Path) : Type 0 where
   pub tree : Path
   pub points : HasPoints kept (path_value tree)
   pub passed : (next : Path → Rest) → from (path next) (ahead before) ≡ from (next tree) (ahead after)
 
+-- a path was passed and kept, or the line goes wrong in it
 abbrev pub PassesPath : Tokens → Tokens → Result paths.Path SyntaxFault → Type 0
 PassesPath before after (Ok kept) = HasPassedPath before after kept
 PassesPath before after (Err fault) = (next : Path → Rest) → from (path next) (ahead before) ≡ Err fault.column
 
--- a whole command ends here, with `;` or without it
+-- the line ends here as this form, with `;` or without it
 pub record HasEnded (form : Form) (read : Result Line ℕ) : Type 0 where
   pub ended : Bool
   pub read_is : read ≡ Ok (record { form = form; ended = ended })
 
+-- the line ends here, or goes wrong at this column, whatever its form is
 abbrev pub Closes : Tokens → Result (Unit {0}) SyntaxFault → Type 0
 Closes before (Ok done) = (form : Form) → HasEnded form (from (whole form) (ahead before))
 Closes before (Err fault) = (form : Form) → from (whole form) (ahead before) ≡ Err fault.column
 
--- the answer to what comes of a line
+-- the answer to what a line gives: that of its form, or `Syntax` with the column at which it goes wrong
 abbrev pub Answers : Result Line ℕ → Result Command TextFault → Type 0
 Answers (Ok line) result = IsAnswerOf line.form result
 Answers (Err column) result = result ≡ Err (Syntax column)

@@ -7,16 +7,17 @@ use Rattle.mf_text.specs.declared.command.Name.TheVariants.{Current, Register}
 use Rattle.mf_text.specs.declared.command.Source.{Source}
 use Rattle.mf_text.specs.declared.command.Source.TheVariants.{Null, Named}
 
--- a register is one of the 26 letters
+-- the name is `currentpicture` or one of the 26 registers
 abbrev pub IsName : Name → Type 0
 IsName Current = Unit {0}
 IsName (Register letter) = letter < 26
 
+-- the source is `nullpicture` or has such a name
 abbrev pub IsSource : Source → Type 0
 IsSource Null = Unit {0}
 IsSource (Named name) = IsName name
 
--- the registers that a command names are letters
+-- each register that a command names is one of the 26
 abbrev pub HasNames : Command → Type 0
 HasNames Nothing = Unit {0}
 HasNames (Contour name cycle weight) = IsName name

@@ -1,101 +1,93 @@
--- The rest of a line: what may stand in it, token by token, and the line that it ends as.
+-- The rests of lines: what may follow in a line, token by token, and the line that it ends as.
 use Rattle.std.specs.Prelude.{ℕ, List, [], ◌∷◌, ◌++◌, Bool, true, false, Option, None, Some, Result, Ok, Err, ok_or, if◌then◌else◌}
 use Rattle.std.specs.Option.{option_map, option_and_then}
 use Rattle.mf_text.specs.declared.code.Code.{Code}
 use Rattle.mf_text.specs.declared.command.Name.{Name}
-use Rattle.mf_text.specs.declared.command.Name.TheVariants.{Current, Register}
 use Rattle.mf_text.specs.declared.command.Source.{Source}
 use Rattle.mf_text.specs.declared.command.Source.TheVariants.{Null, Named}
 use Rattle.mf_text.specs.declared.int.Int.{Int}
 use Rattle.mf_text.specs.declared.pair.Pair.{Pair}
 use Rattle.mf_text.specs.declared.token.Mark.TheVariants as mark
-use Rattle.mf_text.specs.declared.token.Placed.{Placed}
-use Rattle.mf_text.specs.declared.token.Token.{Token}
-use Rattle.mf_text.specs.declared.token.Token.TheVariants as token
 use Rattle.mf_text.specs.declared.token.Word.TheVariants as word
-use Rattle.mf_text.specs.contracts.token.TokenPartialEq.TheImpl as tokens
 use Rattle.mf_text.specs.Ahead.{Ahead}
 use Rattle.mf_text.specs.Codes.{code_of}
 use Rattle.mf_text.specs.Grammar.{Path, Line}
 use Rattle.mf_text.specs.Ints.{int_of}
+use Rattle.mf_text.specs.Token.{Token, Placed, is_token, name_in, value_in}
+use Rattle.mf_text.specs.Token as token
 
 -- what may follow in a line
 pub data Rest : Type 0 where
-  -- nothing, for the line is read
+  -- nothing, since the line is read
   Ends : Line → Rest
-  -- this token; this token, or what may stand here otherwise
+  -- this token; this token, or else what may come instead
   One : Token → Rest → Rest
   Or : Token → Rest → Rest → Rest
-  -- a name; a name, or what may stand here otherwise
+  -- a name; a name, or else what may come instead
   AName : (Name → Rest) → Rest
   OrName : (Name → Rest) → Rest → Rest
-  -- the number of an int, which may be negative
+  -- the number of an int, which is negative where this is true
   ANumber : Bool → (Int → Rest) → Rest
   -- an int that is a code
   ACode : (Code → Rest) → Rest
-  -- one more corner or `cycle`, behind the `--` of these corners
+  -- one more corner or `cycle`, after these corners
   Corners : Pair → List Pair → (Path → Rest) → Rest
 
--- a place in a line: before the rest, or between the `-` and the number of a code
+-- a place in a line: before a rest, or between the `-` and the number of a code
 pub data Place : Type 0 where
   Before : Rest → Place
   CodeNumber : (Code → Rest) → Place
 
 -- ---- phrases
 
+-- a source
 abbrev pub source : (Source → Rest) → Rest
 source next = Or (token.Word word.NullPicture) (next Null) (AName (λ name. next (Named name)))
 
+-- an int
 abbrev pub int : (Int → Rest) → Rest
 int next = Or (token.Mark mark.Minus) (ANumber true next) (ANumber false next)
 
--- a pair behind its `(`
+-- the rest of a pair after its `(`
 abbrev pub inner : (Pair → Rest) → Rest
 inner next = int (λ across. One (token.Mark mark.Comma) (int (λ up. One (token.Mark mark.Close) (next (record { across = across; up = up })))))
 
+-- a pair
 abbrev pub pair : (Pair → Rest) → Rest
 pair next = One (token.Mark mark.Open) (inner next)
 
--- a corner behind its `(`
+-- the rest of a corner after its `(`
 abbrev pub corner : (Pair → Rest) → Rest
 corner next = inner (λ p. One (token.Mark mark.Join) (next p))
 
+-- a path
 abbrev pub path : (Path → Rest) → Rest
 path next = One (token.Mark mark.Open) (corner (λ first. Corners first [] next))
 
 -- ---- a step
 
--- the same token
-abbrev pub is_token : Token → Token → Bool
-is_token t u = tokens.ghosts.eq t u
-
-abbrev pub name_in : Token → Option Name
-name_in (token.Word word.CurrentPicture) = Some Current
-name_in (token.Letter letter) = Some (Register letter)
-name_in t = None
-
-abbrev pub source_in : Token → Option Source
-source_in (token.Word word.NullPicture) = Some Null
-source_in t = option_map Named (name_in t)
-
+-- the int that a token is the number of, if it is a number
 abbrev pub number_in : Bool → Token → Option Int
-number_in negative (token.Number n) = int_of negative n
-number_in negative t = None
+number_in negative t = option_and_then (int_of negative) (value_in t)
 
+-- the code that a token is the number of, if it is the number of one
 abbrev pub code_in : Bool → Token → Option Code
 code_in negative t = option_and_then code_of (number_in negative t)
 
+-- the place before what follows a value, if there is a value
 abbrev pub before : {A : Type 0} → (A → Rest) → Option A → Option Place
 before next a = option_map (λ x. Before (next x)) a
 
+-- the first of two places if there is one, or else the second
 abbrev pub or_place : Option Place → Option Place → Option Place
 or_place None other = other
 or_place (Some p) other = Some p
 
+-- the place after this token if it comes, or else another place
 abbrev pub if_token : Token → Token → Rest → Option Place → Option Place
 if_token t u this other = if is_token t u then Some (Before this) else other
 
--- the place behind a token
+-- the place after a token, if the rest allows the token
 abbrev pub step_from : Rest → Token → Option Place
 step_from (Ends l) t = None
 step_from (One u this) t = if_token t u this None
@@ -108,33 +100,37 @@ step_from (Corners first others next) t =
     if_token t (token.Mark mark.Open) (corner (λ p. Corners first (others ++ p ∷ []) next))
     (if_token t (token.Word word.Cycle) (next (record { first = first; others = others })) None)
 
+-- the place after a token, if the token may come at this place
 abbrev pub step : Place → Token → Option Place
 step (Before r) t = step_from r t
 step (CodeNumber next) t = before next (code_in true t)
 
--- the line that ends here, where one does
+-- the line that can end before this rest, if there is one
 abbrev pub end_of : Rest → Option Line
 end_of (Ends l) = Some l
 end_of (Or u this other) = end_of other
 end_of (OrName next other) = end_of other
 end_of r = None
 
+-- the line that can end at this place, if there is one
 abbrev pub ends : Place → Option Line
 ends (Before r) = end_of r
 ends p = None
 
 -- ---- a line, or the column at which it goes wrong
 
--- the column at which a token shows that no line has here: its own, but of the number of a code that of the `-` before it
+-- the column at which a token that may not come is reported: its own, or that of the `-` for a number after `code -`
 abbrev pub shown : Place → Token → ℕ → ℕ → ℕ
 shown (CodeNumber next) (token.Number n) last column = last
 shown p t last column = column
 
--- what comes of the tokens behind a place, where the last token has this column and this one is past it
+-- what the tokens after a place give: a line, or the column at which they go wrong; the token before them is at column `last`,
+-- and ends before column `past`
 unfoldable pub follow : Result Place ℕ → ℕ → ℕ → List Placed → Result Line ℕ
 follow (Err column) last past ps = Err column
 follow (Ok place) last past [] = ok_or (ends place) past
 follow (Ok place) last past (p ∷ ps) = follow (ok_or (step place p.token) (shown place p.token last p.column)) p.column p.after ps
 
+-- what the tokens ahead give where they must be this rest: a line, or the column at which they go wrong
 abbrev pub from : Rest → Ahead → Result Line ℕ
 from rest ahead = follow (Ok (Before rest)) ahead.past ahead.past ahead.tokens

@@ -1,37 +1,37 @@
 -- Which lists of tokens are lines, and where others go wrong.
 use Rattle.std.specs.Prelude.{◌≡◌, ◌&&◌, ℕ, Bool, true, false, eqb, List, ◌∷◌, if◌then◌else◌}
 use Rattle.mf_text.specs.declared.token.Mark.TheVariants as mark
-use Rattle.mf_text.specs.declared.token.Token.{Token}
-use Rattle.mf_text.specs.declared.token.Token.TheVariants as token
+use Rattle.mf_text.specs.Token.{Token}
+use Rattle.mf_text.specs.Token as token
 use Rattle.mf_text.specs.declared.token.Word.TheVariants as word
 use Rattle.mf_text.specs.Ahead.{Ahead, column_at}
 use Rattle.mf_text.specs.Grammar.{spell_line}
 use Rattle.mf_text.specs.Phrases.{IsPhrase, BeginsPhrase, IsWrongAt}
 use Rattle.mf_text.specs.Tokens.{kinds}
 
--- tokens are a line of the grammar
+-- the tokens are a line of the grammar
 abbrev pub IsLine : List Token → Type 0
 IsLine ts = IsPhrase spell_line ts
 
--- a line of the grammar begins with these tokens
+-- some line of the grammar starts with these tokens
 abbrev pub BeginsLine : List Token → Type 0
 BeginsLine ts = BeginsPhrase spell_line ts
 
--- `-` and a number
+-- the tokens start with `-` and a number
 abbrev pub is_negative_int : List Token → Bool
 is_negative_int (token.Mark mark.Minus ∷ token.Number n ∷ ts) = true
 is_negative_int ts = false
 
--- `shipout`, a source and `code`, and then `-` and a number
+-- the tokens start with `shipout`, a source, `code`, `-` and a number
 abbrev pub is_negative_code : List Token → Bool
 is_negative_code (token.Word word.Shipout ∷ source ∷ token.Word word.Code ∷ ts) = is_negative_int ts
 is_negative_code ts = false
 
--- the token that shows what goes wrong at the token k: that one, but the number of an int after `code` shows at its `-`
+-- the token at which a line that goes wrong at token k is reported: that one, but for a number after `code -` the `-`
 abbrev pub shown_at : List Token → ℕ → ℕ
 shown_at ts k = if is_negative_code ts && eqb k 4 then 3 else k
 
--- what is ahead is no line, which shows at this column
+-- the tokens ahead are not a line, which is reported at this column
 pub record IsSyntaxFault (ahead : Ahead) (column : ℕ) : Type 0 where
   pub place : ℕ
   pub at : IsWrongAt spell_line (kinds ahead.tokens) place

@@ -1,59 +1,25 @@
--- How a line is cut into tokens, said without a scanner: each is as long as can be, and blanks alone stand between them.
-use Rattle.std.specs.Prelude.{◌≡◌, ◌⊎◌, ◌<◌, ◌≤◌, ◌+◌, ◌==◌, ℕ, Bool, true, false, List, [], ◌∷◌, ◌++◌, None, Some, length, nat_eq}
+-- How a line is cut into tokens, said without a scanner: each is as long as possible, and only blanks come between them.
+use Rattle.std.specs.Prelude.{◌≡◌, ◌<◌, ◌+◌, ℕ, Bool, true, false, List, [], ◌∷◌, ◌++◌, length, nat_eq}
 use Rattle.std.specs.Char.{is_ascii_alphabetic, is_ascii_digit}
 use Rattle.std.specs.List.{All, starts_with}
-use Rattle.std.specs.Str.Parse.{digits_value}
 use Rattle.mf_text.specs.declared.token.Mark.{Mark}
-use Rattle.mf_text.specs.declared.token.Mark.TheVariants as mark
-use Rattle.mf_text.specs.declared.token.Placed.{Placed}
-use Rattle.mf_text.specs.declared.token.Token.{Token}
-use Rattle.mf_text.specs.declared.token.Token.TheVariants as token
-use Rattle.mf_text.specs.declared.token.Word.{Word}
 use Rattle.mf_text.specs.Bytes.{is_blank}
-use Rattle.mf_text.specs.Tokens.{is_letter, mark_text, words, word_among}
+use Rattle.mf_text.specs.Token.{Placed, Token}
+use Rattle.mf_text.specs.Token as token
+use Rattle.mf_text.specs.Tokens.{has_front, is_longer, mark_text, number_token, word_token}
 
--- these bytes do not go on with a row
-abbrev pub Stops : (ℕ → Bool) → List ℕ → Type 0
-Stops p [] = Unit {0}
-Stops p (b ∷ bs) = p b ≡ false
-
--- a row of such bytes, as long as can be
+-- the text is a longest row of bytes of one kind: it has at least one, and the rest does not start with another
 pub record IsRow (p : ℕ → Bool) (text rest : List ℕ) : Type 0 where
+  pub some : 0 < length text
   pub all : All (λ b. p b ≡ true) text
-  pub longest : Stops p rest
+  pub longest : has_front p rest ≡ false
 
--- a word of the table
-pub record IsWordText (w : Word) (text rest : List ℕ) : Type 0 where
-  pub row : IsRow is_ascii_alphabetic text rest
-  pub word : word_among words text ≡ Some w
-
--- one letter `a`..`z`, by its number
-pub record IsLetterText (n : ℕ) (text rest : List ℕ) : Type 0 where
-  pub row : IsRow is_ascii_alphabetic text rest
-  pub letter : text ≡ (97 + n) ∷ []
-  pub few : n < 26
-
--- at most nine digits
-pub record IsNumberText (n : ℕ) (text rest : List ℕ) : Type 0 where
-  pub row : IsRow is_ascii_digit text rest
-  pub few : length text ≤ 9
-  pub value : n ≡ digits_value 10 text
-
--- a mark: of `--` and `-` the longer
+-- the text is that of a mark, and no longer mark is there: `-` only where `--` is not
 pub record IsMarkText (m : Mark) (text rest : List ℕ) : Type 0 where
   pub written : text ≡ mark_text m
-  pub longest : m ≡ mark.Minus → Stops (λ b. b == 45) rest
+  pub longest : is_longer m (text ++ rest) ≡ false
 
--- letters that are no word, more digits than a number has, and another byte with which no mark begins
-pub record IsOtherWord (text rest : List ℕ) : Type 0 where
-  pub row : IsRow is_ascii_alphabetic text rest
-  pub other : word_among words text ≡ None
-  pub long : is_letter text ≡ false
-
-pub record IsLongNumber (text rest : List ℕ) : Type 0 where
-  pub row : IsRow is_ascii_digit text rest
-  pub long : 9 < length text
-
+-- the text is one byte that is neither a letter nor a digit, and no mark is there
 pub record IsOtherByte (text rest : List ℕ) : Type 0 where
   pub byte : ℕ
   pub one : text ≡ byte ∷ []
@@ -61,15 +27,14 @@ pub record IsOtherByte (text rest : List ℕ) : Type 0 where
   pub no_digit : is_ascii_digit byte ≡ false
   pub no_mark : (m : Mark) → starts_with nat_eq (byte ∷ rest) (mark_text m) ≡ false
 
--- a token is this text, behind which the rest stands
-abbrev pub IsTokenText : Token → List ℕ → List ℕ → Type 0
-IsTokenText (token.Word w) text rest = IsWordText w text rest
-IsTokenText (token.Letter n) text rest = IsLetterText n text rest
-IsTokenText (token.Number n) text rest = IsNumberText n text rest
-IsTokenText (token.Mark m) text rest = IsMarkText m text rest
-IsTokenText token.Unknown text rest = IsOtherWord text rest ⊎ (IsLongNumber text rest ⊎ IsOtherByte text rest)
+-- the token has this text, after which the rest comes
+pub data IsTokenText (t : Token) (text rest : List ℕ) : Type 0 where
+  Letters : IsRow is_ascii_alphabetic text rest → t ≡ word_token text → IsTokenText t text rest
+  Digits : IsRow is_ascii_digit text rest → t ≡ number_token text → IsTokenText t text rest
+  AMark : (m : Mark) → IsMarkText m text rest → t ≡ token.Mark m → IsTokenText t text rest
+  OtherByte : IsOtherByte text rest → t ≡ token.Unknown → IsTokenText t text rest
 
--- bytes from a column on are blanks, the text of a token with its columns, and a rest
+-- the bytes from a column on are blanks, the text of a token with these columns, and a rest
 pub record IsCut (column : ℕ) (bytes : List ℕ) (p : Placed) (blanks text rest : List ℕ) : Type 0 where
   pub parts : bytes ≡ blanks ++ (text ++ rest)
   pub blank : All (λ b. is_blank b ≡ true) blanks
@@ -77,12 +42,12 @@ pub record IsCut (column : ℕ) (bytes : List ℕ) (p : Placed) (blanks text res
   pub after_is : p.after ≡ p.column + length text
   pub token : IsTokenText p.token text rest
 
--- a comment begins here, or nothing is left
+-- nothing is left, or a comment begins here
 abbrev pub IsEnd : List ℕ → Type 0
 IsEnd [] = Unit {0}
 IsEnd (b ∷ bs) = b ≡ 37
 
--- behind the last token stand blanks, and perhaps a comment
+-- the bytes after the last token are blanks, and perhaps a comment
 pub record EndsLine (bytes : List ℕ) : Type 0 where
   pub blanks : List ℕ
   pub rest : List ℕ
@@ -90,7 +55,7 @@ pub record EndsLine (bytes : List ℕ) : Type 0 where
   pub blank : All (λ b. is_blank b ≡ true) blanks
   pub end : IsEnd rest
 
--- bytes from a column on are cut into these tokens
+-- the bytes from a column on are cut into these tokens
 abbrev pub AreTokens : ℕ → List ℕ → List Placed → Type 0
 AreTokens column bytes [] = EndsLine bytes
 AreTokens column bytes (p ∷ ps) = (blanks : List ℕ) × ((text : List ℕ) × ((rest : List ℕ) × (IsCut column bytes p blanks text rest × AreTokens p.after rest ps)))

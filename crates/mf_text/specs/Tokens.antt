@@ -1,87 +1,82 @@
--- The tokens of a line of a script: words, letters, numbers and marks. Blanks stand between tokens, and `%` begins a
--- comment that goes to the end of the line.
-use Rattle.std.specs.Prelude.{ℕ, zero, suc, ◌+◌, ◌-◌, ◌==◌, ◌&&◌, Bool, List, [], ◌∷◌, Option, None, Some, length, drop, take_while, codes, map, nat_eq, nat_le, nat_lt, if◌then◌else◌}
-use Rattle.std.specs.Borrow.{Bor}
+-- The tokens of a line of a script: words, letters, numbers and marks. Blanks may come between tokens, and `%` begins a comment,
+-- which goes to the end of the line.
+use Rattle.std.specs.Prelude.{◌≡◌, ◌≤◌, true, false, ℕ, zero, suc, ◌+◌, ◌-◌, ◌==◌, ◌&&◌, Bool, List, [], ◌∷◌, Option, None, Some, length, drop, take_while, map, nat_eq, nat_le, nat_lt, if◌then◌else◌}
 use Rattle.std.specs.Char.{is_ascii_alphabetic, is_ascii_digit}
 use Rattle.std.specs.List.{starts_with}
 use Rattle.std.specs.Str.{bytes_eq}
 use Rattle.std.specs.Str.Parse.{digits_value}
 use Rattle.mf_text.specs.declared.token.Mark.{Mark}
 use Rattle.mf_text.specs.declared.token.Mark.TheVariants as mark
-use Rattle.mf_text.specs.declared.token.Placed.{Placed}
-use Rattle.mf_text.specs.declared.token.Token.{Token}
-use Rattle.mf_text.specs.declared.token.Token.TheVariants as token
-use Rattle.mf_text.specs.declared.token.TheConstants.{WORDS}
+use Rattle.mf_text.specs.declared.token.TheConstants.{MARKS, WORDS}
 use Rattle.mf_text.specs.declared.token.Word.{Word}
+use Rattle.mf_text.specs.contracts.token.MarkPartialEq.TheImpl as same_mark
+use Rattle.mf_text.specs.contracts.token.WordPartialEq.TheImpl as same_word
 use Rattle.mf_text.specs.Bytes.{is_blank}
+use Rattle.mf_text.specs.Token.{Token, Placed, is_token}
+use Rattle.mf_text.specs.Token as token
 
--- the marks, as they are written
-abbrev pub mark_text : Mark → List ℕ
-mark_text mark.Becomes = codes ":="
-mark_text mark.Close = codes ")"
-mark_text mark.Comma = codes ","
-mark_text mark.Join = codes "--"
-mark_text mark.Minus = codes "-"
-mark_text mark.Open = codes "("
-mark_text mark.Semicolon = codes ";"
-
--- their table: of `--` and `-` the longer comes first
-abbrev pub marks : List (List ℕ × Mark)
-marks = map (λ m. (mark_text m, m)) (mark.Join ∷ mark.Minus ∷ mark.Becomes ∷ mark.Open ∷ mark.Close ∷ mark.Comma ∷ mark.Semicolon ∷ [])
-
--- an entry of a table of words, as it is written
-abbrev pub written : Bor (List ℕ) × Word → List ℕ × Word
-written entry = (entry.0.now, entry.1)
-
--- the words, as they are written
+-- the words, each after the bytes that it is written with
 abbrev pub words : List (List ℕ × Word)
 words = map (λ entry. (entry.0.now, entry.1)) WORDS
 
--- the word that these letters are, if they are one
+-- the marks, each after the bytes that it is written with; of two at one place the first counts, and `--` comes before `-`
+abbrev pub marks : List (List ℕ × Mark)
+marks = map (λ entry. (entry.0.now, entry.1)) MARKS
+
+-- how a table writes a word or a mark
+abbrev pub text_in : {A : Type 0} → (A → A → Bool) → List (List ℕ × A) → A → List ℕ
+text_in same [] a = []
+text_in same (entry ∷ entries) a = if same entry.1 a then entry.0 else text_in same entries a
+
+-- how a word is written
+abbrev pub word_text : Word → List ℕ
+word_text w = text_in same_word.ghosts.eq words w
+
+-- how a mark is written
+abbrev pub mark_text : Mark → List ℕ
+mark_text m = text_in same_mark.ghosts.eq marks m
+
+-- the first word of the table that is written with these letters, if there is one
 unfoldable pub word_among : List (List ℕ × Word) → List ℕ → Option Word
 word_among [] letters = None
 word_among (entry ∷ entries) letters = if bytes_eq letters entry.0 then Some entry.1 else word_among entries letters
 
--- a token and how many bytes it takes
+-- a token, and how many bytes it takes
 pub record Taken : Type 0 where
   pub token : Token
   pub bytes : ℕ
 
--- one letter `a`..`z`
+-- the letters are a single one, `a`..`z`
 abbrev pub is_letter : List ℕ → Bool
 is_letter [] = nat_lt 1 0
 is_letter (b ∷ []) = nat_le 97 b && nat_le b 122
 is_letter (b ∷ c ∷ bs) = nat_lt 1 0
 
--- its number, from 0 for `a`
+-- the number of a single letter, 0 for `a`
 abbrev pub letter_number : List ℕ → ℕ
 letter_number [] = 0
 letter_number (b ∷ bs) = b - 97
 
+-- the token of a word, or the unknown token where there is no word
 abbrev pub known_word : Option Word → Token
 known_word None = token.Unknown
 known_word (Some w) = token.Word w
 
--- the token of a longest row of letters
+-- the token whose text is this longest row of letters
 unfoldable pub word_token : List ℕ → Token
 word_token letters = if is_letter letters then token.Letter (letter_number letters) else known_word (word_among words letters)
 
--- the token of a longest row of digits, of which there are at most nine in a number
+-- the token whose text is this longest row of digits: a number has at most nine of them
 unfoldable pub number_token : List ℕ → Token
 number_token digits = if nat_le (length digits) 9 then token.Number (digits_value 10 digits) else token.Unknown
 
--- the mark that was found, or another byte, which is a token of its own
-abbrev pub taken_mark : Option (Mark × ℕ) → Taken
-taken_mark None = record { token = token.Unknown; bytes = 1 }
-taken_mark (Some found) = record { token = token.Mark found.0; bytes = found.1 }
-
--- the first of these marks with which the bytes begin; another byte is a token of its own
+-- the first of these marks that the bytes start with; where there is none, the first byte is a token of its own
 unfoldable pub mark_among : List (List ℕ × Mark) → List ℕ → Taken
 mark_among [] bs = record { token = token.Unknown; bytes = 1 }
 mark_among (entry ∷ entries) bs =
     if starts_with nat_eq bs entry.0 then record { token = token.Mark entry.1; bytes = length entry.0 } else mark_among entries bs
 
--- the token that the bytes begin with
+-- the token that the bytes start with
 unfoldable pub first_token : List ℕ → Taken
 first_token bs =
     if nat_lt 0 (length (take_while is_ascii_alphabetic bs))
@@ -90,11 +85,31 @@ first_token bs =
     then record { token = number_token (take_while is_ascii_digit bs); bytes = length (take_while is_ascii_digit bs) }
     else mark_among marks bs)
 
--- a token at a column, which is that of its first byte, from 1
+-- a byte of this kind is at the front
+abbrev pub has_front : (ℕ → Bool) → List ℕ → Bool
+has_front p [] = false
+has_front p (b ∷ bs) = p b
+
+-- a longer mark that starts with this one is at the front
+abbrev pub is_longer : Mark → List ℕ → Bool
+is_longer mark.Minus bs = starts_with nat_eq bs (mark_text mark.Join)
+is_longer m bs = false
+
+-- what is found at the front: the value of the token there and how many bytes it takes, or that the token has no such value
+abbrev pub Finds : {A : Type 0} → (Token → Option A) → List ℕ → Option (A × ℕ) → Type 0
+Finds f bs None = f (first_token bs).token ≡ None
+Finds f bs (Some found) = (f (first_token bs).token ≡ Some found.0) × (found.1 ≡ (first_token bs).bytes) × (found.1 ≤ length bs)
+
+-- whether this token is found at the front: how many bytes it takes, or that another token is there
+abbrev pub FindsToken : Token → List ℕ → Option ℕ → Type 0
+FindsToken t bs None = is_token (first_token bs).token t ≡ false
+FindsToken t bs (Some bytes) = (is_token (first_token bs).token t ≡ true) × (bytes ≡ (first_token bs).bytes) × (bytes ≤ length bs)
+
+-- a token with its columns, where its first byte has this one
 abbrev pub placed : ℕ → Taken → Placed
 placed column taken = record { token = taken.token; column = column; after = column + taken.bytes }
 
--- the tokens among at most n tokens and blanks at the front, where the first byte has this column
+-- the tokens found in at most n steps, each past a token or a blank, where the first byte has this column
 unfoldable pub tokens_within : ℕ → ℕ → List ℕ → List Placed
 tokens_within zero column bs = []
 tokens_within (suc n) column [] = []
@@ -103,7 +118,7 @@ tokens_within (suc n) column (b ∷ bs) =
     else (if b == 37 then []
     else (placed column (first_token (b ∷ bs)) ∷ tokens_within n (column + (first_token (b ∷ bs)).bytes) (drop (first_token (b ∷ bs)).bytes (b ∷ bs))))
 
--- the tokens of bytes of which the first has this column
+-- the tokens of bytes, the first of which has this column
 unfoldable pub tokens_from : ℕ → List ℕ → List Placed
 tokens_from column bs = tokens_within (length bs) column bs
 
@@ -111,6 +126,6 @@ tokens_from column bs = tokens_within (length bs) column bs
 abbrev pub tokens : List ℕ → List Placed
 tokens line = tokens_from 1 line
 
--- tokens without their places
+-- the tokens without their columns
 abbrev pub kinds : List Placed → List Token
 kinds ps = map (λ p. p.token) ps

@@ -6,7 +6,8 @@ use crate::int::Int;
 
 mod steps;
 
-/// The int after `code`, which lies in 0..255. Of 0 there are two, since `-` may stand before it.
+/// The int after `code`, in 0..=255. The invariant says so, so that no use of its value needs a check. 0 can be written in two
+/// ways, since `-` may come before it.
 #[derive(Clone, Copy, Debug)]
 pub struct Code {
     pub(crate) int: Int,

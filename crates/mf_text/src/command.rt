@@ -1,4 +1,4 @@
-//! Commands.
+//! The commands of the language.
 use mf_geom::{Check, Cycle};
 use mf_ops::{Cull, Quarter, Scale, Sign, Weight};
 
@@ -7,11 +7,11 @@ use mf_ops::{Cull, Quarter, Scale, Sign, Weight};
 pub enum Name {
     /// `currentpicture`
     Current,
-    /// `a`..`z`, by its number from 0 to 25.
+    /// A register `a`..`z`, by its number in 0..=25.
     Register(u8),
 }
 
-/// The picture that a command reads.
+/// The picture that a command reads: `nullpicture` or a named one.
 #[derive(Clone, Copy, Debug, PartialEq, Eq)]
 pub enum Source {
     /// `nullpicture`
@@ -19,12 +19,12 @@ pub enum Source {
     Named(Name),
 }
 
-/// What a line of a script says.
+/// What a line of a script asks for, with its values checked.
 #[derive(Debug, Drop)]
 pub enum Command {
-    /// No command.
+    /// No command: an empty line, `;`, or a comment
     Nothing,
-    /// `addto p contour ..`, whose cycle need not pass the turning check
+    /// `addto p contour ..`; its cycle has not passed the turning check yet
     Contour(Name, Cycle, Weight),
     /// `addto p also q`, or `-q`
     Also(Name, Source, Sign),
@@ -32,8 +32,8 @@ pub enum Command {
     Cull(Name, Cull),
     /// `p := nullpicture`
     Clear(Name),
-    /// `p := p shifted (dx, dy)`, in pixels to the right and upwards, each from -999,999,999 to 999,999,999, as numbers
-    /// of a line are
+    /// `p := p shifted (dx, dy)`: dx pixels to the right and dy upwards, both in -999,999,999..=999,999,999, as all ints of a
+    /// line are
     Shift(Name, i32, i32),
     /// `p := p scaled s`, `xscaled s`, `yscaled s`
     Scale(Name, Scale),
@@ -45,10 +45,10 @@ pub enum Command {
     Show(Source),
     /// `proof p`
     Proof(Source),
-    /// `shipout p code c dx d width w`: the code, from 0 to 255, the escapement in 1/65536 pixel, and the width in
-    /// 1/1048576 of the design size, both from -999,999,999 to 999,999,999
+    /// `shipout p code c dx d width w`: the code, in 0..=255, the escapement in 1/65536 pixel, and the width in 1/1048576 of
+    /// the design size, both in -999,999,999..=999,999,999
     Ship(Source, u8, i32, i32),
-    /// `turningcheck := n`: on exactly where n is positive
+    /// `turningcheck := n`: the check is on exactly where n is positive
     Turning(Check),
     /// `publish`
     Publish,

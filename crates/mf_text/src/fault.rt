@@ -4,28 +4,29 @@ use mf_ops::{BadCull, BadScale, BadTurn, BadWeight};
 use std::error::Error;
 use std::fmt;
 
-/// Why a line is no command. Refusals 16, 17 and 18 come first, in that order, then the others in rising number.
+/// Why a line gives no command. `LineTooLong`, `NotAscii` and `Syntax` come first, in this order, and then the refusals of the
+/// values: of a contour `Cycle` before `BadWeight`, of a cull `BadWeight` before `BadCull`.
 #[derive(Clone, Copy, Debug, PartialEq, Eq)]
 pub enum TextFault {
-    /// Refusals 1 to 4: the points of the contour are no cycle.
+    /// The points of the contour are not a cycle: `TooFewPoints`, `TooManyPoints`, `PointOutOfRange` or `NotRectilinear`.
     Cycle(CycleFault),
-    /// Refusal 7: a weight other than -3, -2, -1, 1, 2 and 3.
+    /// The weight is not -3, -2, -1, 1, 2 or 3.
     BadWeight,
-    /// Refusal 8: a range of weights that the cull may not have.
+    /// The cull may not have this range of weights.
     BadCull,
-    /// Refusal 9: a factor that is 0 or beyond 4095 in size.
+    /// The factor is 0 or exceeds 4095 in absolute value.
     BadScale,
-    /// Refusal 10: an angle other than 90, 180 and 270 degrees.
+    /// The angle is not 90, 180 or 270 degrees.
     BadTurn,
-    /// Refusal 14. Of a contour alone it may come, in the place of 1 to 4, of 7 or of the command.
+    /// An allocation failed. This comes only for a contour, instead of `Cycle`, of `BadWeight` or of the command.
     OutOfMemory,
-    /// Refusal 16: more than 65,536 bytes.
+    /// The line has more than 65,536 bytes.
     LineTooLong,
-    /// Refusal 17: a byte that is neither a tab nor a printed character of ASCII.
+    /// Some byte of the line, comments included, is neither a tab nor printed ASCII.
     NotAscii,
-    /// Refusal 18: no line of the grammar, with the column, counted in bytes from 1, of the first token with which no
-    /// line begins, or the column one past the last token. Of an int behind `code` that is no byte it is the column of
-    /// the int.
+    /// The line is not in the grammar. The number is a column, in bytes from 1: that of the first token such that no line of
+    /// the grammar starts with the tokens up to and including it, or one past the last token where the line ends too early. A
+    /// number out of range after `code -` is reported at the `-`.
     Syntax(u32),
 }
 
@@ -52,7 +53,7 @@ impl fmt::Display for TextFault {
 
 impl Error for TextFault {}
 
-/// A token that no line has where it stands: the column at which that shows.
+/// Where a line goes wrong: the column, in bytes from 1, that `Syntax` reports.
 #[derive(Clone, Copy, Debug, PartialEq, Eq)]
 pub(crate) struct SyntaxFault {
     pub(crate) column: u32,

@@ -1,7 +1,8 @@
-//! Laws of the command language: each is the contract of a function that does nothing.
+//! Laws of the command language. Each is the contract of a function that does nothing: the toolchain proves a statement only
+//! where a function's contract names it.
 ghost use Rattle.std.specs.Prelude.{◌≡◌, ◌≢◌, ◌⊎◌, ℕ, List};
 ghost use Rattle.mf_text.specs.declared.command.Command.{Command};
-ghost use Rattle.mf_text.specs.declared.token.Token.{Token};
+ghost use Rattle.mf_text.specs.Token.{Token};
 ghost use Rattle.mf_text.specs.Ahead.{Ahead};
 ghost use Rattle.mf_text.specs.Grammar.{Line, spell_line};
 ghost use Rattle.mf_text.specs.Lines.{Gives, IsRefused};
@@ -12,18 +13,18 @@ ghost use Rattle.mf_text.specs.TokenTexts.{AreTokens};
 
 use crate::fault::TextFault;
 
-/// The tokens of a line are its bytes, cut from the left: each is as long as can be, blanks alone stand between them, and behind the
-/// last one blanks and perhaps a comment.
+/// The tokens of a line are its bytes, cut from the left: each is as long as possible, only blanks come between them, and after
+/// the last one only blanks and perhaps a comment.
 pub fn tokens_are_as_long_as_can_be()
     ensures { (line : List ℕ) → AreTokens 1 line (tokens line) }
 {}
 
-/// Tokens are at most one line of the grammar.
+/// A list of tokens is at most one line of the grammar.
 pub fn one_line()
     ensures { (l m : Line) → spell_line l ≡ spell_line m → l ≡ m }
 {}
 
-/// A line gives one command, or it has one refusal beside want of memory: one of the two, and never both.
+/// A line gives exactly one command or, allocation failures aside, has exactly one refusal, and never both.
 pub fn one_answer()
     ensures some { (bytes : List ℕ) → ((given : Command) × Gives bytes given) ⊎ ((fault : TextFault) × (fault ≢ TextFault.OutOfMemory) × IsRefused bytes fault) }
     ensures command { (bytes : List ℕ) (one other : Command) → Gives bytes one → Gives bytes other → one ≡ other }
@@ -31,17 +32,17 @@ pub fn one_answer()
     ensures not_both { (bytes : List ℕ) (given : Command) (fault : TextFault) → fault ≢ TextFault.OutOfMemory → Gives bytes given → IsRefused bytes fault → ⊥ }
 {}
 
-/// What goes wrong is no line of the grammar.
+/// Tokens that go wrong at a column are not a line of the grammar.
 pub fn wrong_is_no_line()
     ensures { (ahead : Ahead) (column : ℕ) → IsSyntaxFault ahead column → IsLine (kinds ahead.tokens) → ⊥ }
 {}
 
-/// A line of the grammar begins with some tokens, or none does.
+/// Some line of the grammar starts with given tokens, or none does.
 pub fn begins_or_not()
     ensures { (ts : List Token) → BeginsLine ts ⊎ (BeginsLine ts → ⊥) }
 {}
 
-/// The registers that the command of a line names are letters.
+/// The registers that the command of a line names are `a` to `z`.
 pub fn registers_are_letters()
     ensures { (bytes : List ℕ) (given : Command) → Gives bytes given → HasNames given }
 {}

@@ -1,4 +1,4 @@
-//! The command language of pictures: the commands that lines of a script give.
+//! The command language of pictures: which commands the lines of a script give.
 #![tactic(auto)]
 
 mod code;

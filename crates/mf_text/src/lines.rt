@@ -1,29 +1,31 @@
-//! Lines, read by one function for each form.
-ghost use Rattle.std.specs.Prelude.{◌≡◌, true, Err, IfOk, IfErr};
+//! Lines, with a function for each form that they may have.
+ghost use Rattle.std.specs.Prelude.{◌≡◌, true, IfOk, IfErr};
 ghost use Rattle.std.specs.List.{list_all};
-ghost use Rattle.std.specs.Option.{MatchOption};
 ghost use Rattle.mf_text.specs.Bytes.{is_text_byte};
 ghost use Rattle.mf_text.specs.LineRests as rests;
 ghost use Rattle.mf_text.specs.Lines.{Gives, IsRefused};
 ghost use Rattle.mf_text.specs.Grammar.{Nothing, Rotated, Scaled, XScaled, YScaled};
 ghost use Rattle.mf_text.specs.Reads.{Answers, ahead};
-ghost use Rattle.mf_text.specs.Rests.{Ends, from};
+ghost use Rattle.mf_text.specs.Rests.{from};
 
 use crate::command::{Command, Name, Source};
 use crate::fault::TextFault;
-use crate::token::{Mark, Placed, Token, Word};
+use crate::token::{Mark, Word};
 use crate::tokens::Tokens;
 use crate::value::{check, contour, dropping, keeping, rotated, scaled};
 use mf_ops::Sign;
 use std::alloc::Global;
 
-/// Most bytes of a line.
+/// The greatest number of bytes of a line.
 const MAX_LINE: usize = 65536;
 
-/// The command of a line, which is given without its end. Refusals LineTooLong (16), NotAscii (17), Syntax (18), then
-/// those of the values: of a contour the fault of its points (1 to 4) and BadWeight (7), of a cull BadWeight (7) and
-/// BadCull (8), of a scale BadScale (9), of a turn BadTurn (10). OutOfMemory (14) comes of a contour alone, in the
-/// place of 1 to 4, of 7 or of the command. A cycle that fails the turning check (5 and 6) is refused only when it is filled.
+/// The command of a line, which is given without the line feed that ends it or a carriage return before that. Refused with the
+/// first of these that applies: `LineTooLong` for more than 65,536 bytes, `NotAscii`, `Syntax` with a column in bytes from 1,
+/// and then the refusals of the line's values. These are, for a contour, `Cycle` with `TooFewPoints`, `TooManyPoints`,
+/// `PointOutOfRange` or `NotRectilinear`, and then `BadWeight`; for a cull `BadWeight`, and then `BadCull`; for a scale
+/// `BadScale`; for a turn `BadTurn`. Where an allocation fails, `OutOfMemory` may come instead of the refusal of a contour's
+/// values or of its command; no other line is refused with it. A cycle that fails the turning check is refused only when it is
+/// filled.
 pub fn read_command(alloc: Global, line: &[u8]) -> Result<Command, TextFault>
     ensures given { IfOk result (Gives line.now) }
     ensures refused { IfErr result (IsRefused line.now) }
@@ -37,8 +39,8 @@ pub fn read_command(alloc: Global, line: &[u8]) -> Result<Command, TextFault>
     line_of(alloc, Tokens::new(line))
 }
 
-/// Whether each byte of the line is text. It looks at all of them, since a loop that ends early is no quicker on lines that are
-/// text, and cannot look at several at once.
+/// Whether each byte of the line is text, in comments, too. It looks at all bytes: a loop that stops at the first other byte is
+/// no faster on lines that are text, and it cannot look at several bytes at once.
 fn is_text(line: &[u8]) -> bool
     ensures { result ≡ list_all is_text_byte line.now }
 {
@@ -49,67 +51,72 @@ fn is_text(line: &[u8]) -> bool
     text
 }
 
-/// Whether a byte is a tab or a printed character of ASCII.
+/// Whether a byte is text: a tab or printed ASCII.
 fn is_text_byte(byte: u8) -> bool
     ensures { result ≡ is_text_byte byte }
 {
     matches!(byte, b'\t' | b' '..=b'~')
 }
 
-/// The command of a line.
+/// The command of a line. Asks for the seven words that a command may start with, one after another, and then for a name.
 fn line_of(alloc: Global, tokens: Tokens<'_>) -> Result<Command, TextFault>
     ensures { Answers (from rests.line (ahead tokens.entry)) result }
 {
     let mut tokens = tokens;
-    match tokens.token() {
-        None => Ok(Command::Nothing),
-        Some(first) => begun(alloc, &mut tokens, first),
+    if tokens.is_ended() {
+        return Ok(Command::Nothing);
+    }
+    if tokens.takes_word(Word::Addto) {
+        return addto(alloc, &mut tokens);
+    }
+    if tokens.takes_word(Word::Cull) {
+        return cull(&mut tokens);
+    }
+    if tokens.takes_word(Word::Show) {
+        return show(&mut tokens);
+    }
+    if tokens.takes_word(Word::Proof) {
+        return proof(&mut tokens);
+    }
+    if tokens.takes_word(Word::Shipout) {
+        return shipout(&mut tokens);
+    }
+    if tokens.takes_word(Word::TurningCheck) {
+        return turning_check(&mut tokens);
+    }
+    if tokens.takes_word(Word::Publish) {
+        return publish(&mut tokens);
+    }
+    match tokens.takes_name() {
+        Some(name) => named(&mut tokens, name),
+        None => nothing(&mut tokens),
     }
 }
 
-/// The command of a line that begins with this token.
-fn begun(alloc: Global, tokens: &mut Tokens<'_>, first: Placed) -> Result<Command, TextFault>
-    ensures { MatchOption (rests.front first.token) (result ≡ Err (TextFault.Syntax first.column)) (λ rest. Answers (from rest (ahead tokens.old)) result) }
-{
-    match first.token {
-        Token::Word(Word::Addto) => addto(alloc, tokens),
-        Token::Word(Word::Cull) => cull(tokens),
-        Token::Word(Word::Show) => show(tokens),
-        Token::Word(Word::Proof) => proof(tokens),
-        Token::Word(Word::Shipout) => shipout(tokens),
-        Token::Word(Word::TurningCheck) => turning_check(tokens),
-        Token::Word(Word::Publish) => publish(tokens),
-        Token::Mark(Mark::Semicolon) => nothing(tokens),
-        Token::Word(Word::CurrentPicture) => named(tokens, Name::Current),
-        Token::Letter(letter) => named(tokens, Name::Register(letter)),
-        _ => Err(TextFault::Syntax(first.column)),
-    }
-}
-
-/// `;` alone
+/// The line without a command: `;`, or nothing.
 fn nothing(tokens: &mut Tokens<'_>) -> Result<Command, TextFault>
-    ensures { Answers (from (Ends (record { form = Nothing; ended = true })) (ahead tokens.old)) result }
+    ensures { Answers (from (rests.whole Nothing) (ahead tokens.old)) result }
 {
-    tokens.finish()?;
+    tokens.end()?;
     Ok(Command::Nothing)
 }
 
-/// `addto` ..
+/// The line after `addto`.
 fn addto(alloc: Global, tokens: &mut Tokens<'_>) -> Result<Command, TextFault>
     ensures { Answers (from rests.addto (ahead tokens.old)) result }
 {
     let name = tokens.name()?;
-    if tokens.takes(Token::Word(Word::Contour)) {
+    if tokens.takes_word(Word::Contour) {
         return add_contour(alloc, tokens, name);
     }
-    tokens.pass(Token::Word(Word::Also))?;
+    tokens.pass_word(Word::Also)?;
     if tokens.takes_mark(Mark::Minus) {
         return also(tokens, name, Sign::Minus);
     }
     also(tokens, name, Sign::Plus)
 }
 
-/// `addto` a name `contour` ..
+/// The line after `addto`, a name and `contour`.
 fn add_contour(alloc: Global, tokens: &mut Tokens<'_>, name: Name) -> Result<Command, TextFault>
     ensures { Answers (from (rests.contour name) (ahead tokens.old)) result }
 {
@@ -119,7 +126,7 @@ fn add_contour(alloc: Global, tokens: &mut Tokens<'_>, name: Name) -> Result<Com
     contour(name, path, weight)
 }
 
-/// `addto` a name `also` and a sign ..
+/// The line after `addto`, a name, `also`, and `-` where it comes.
 fn also(tokens: &mut Tokens<'_>, name: Name, sign: Sign) -> Result<Command, TextFault>
     ensures { Answers (from (rests.added name sign) (ahead tokens.old)) result }
 {
@@ -128,19 +135,19 @@ fn also(tokens: &mut Tokens<'_>, name: Name, sign: Sign) -> Result<Command, Text
     Ok(Command::Also(name, source, sign))
 }
 
-/// `cull` ..
+/// The line after `cull`.
 fn cull(tokens: &mut Tokens<'_>) -> Result<Command, TextFault>
     ensures { Answers (from rests.cull (ahead tokens.old)) result }
 {
     let name = tokens.name()?;
-    if tokens.takes(Token::Word(Word::Keeping)) {
+    if tokens.takes_word(Word::Keeping) {
         return keep(tokens, name);
     }
-    tokens.pass(Token::Word(Word::Dropping))?;
+    tokens.pass_word(Word::Dropping)?;
     drop_range(tokens, name)
 }
 
-/// `cull` a name `keeping` ..
+/// The line after `cull`, a name and `keeping`.
 fn keep(tokens: &mut Tokens<'_>, name: Name) -> Result<Command, TextFault>
     ensures { Answers (from (rests.keep name) (ahead tokens.old)) result }
 {
@@ -150,7 +157,7 @@ fn keep(tokens: &mut Tokens<'_>, name: Name) -> Result<Command, TextFault>
     keeping(name, range, weight)
 }
 
-/// `cull` a name `dropping` ..
+/// The line after `cull`, a name and `dropping`.
 fn drop_range(tokens: &mut Tokens<'_>, name: Name) -> Result<Command, TextFault>
     ensures { Answers (from (rests.drop name) (ahead tokens.old)) result }
 {
@@ -160,11 +167,11 @@ fn drop_range(tokens: &mut Tokens<'_>, name: Name) -> Result<Command, TextFault>
     dropping(name, range, weight)
 }
 
-/// `show` ..
+/// The line after `show`.
 fn show(tokens: &mut Tokens<'_>) -> Result<Command, TextFault>
     ensures { Answers (from rests.show (ahead tokens.old)) result }
 {
-    if tokens.takes(Token::Word(Word::TotalWeight)) {
+    if tokens.takes_word(Word::TotalWeight) {
         return total(tokens);
     }
     let source = tokens.source()?;
@@ -172,7 +179,7 @@ fn show(tokens: &mut Tokens<'_>) -> Result<Command, TextFault>
     Ok(Command::Show(source))
 }
 
-/// `show totalweight` ..
+/// The line after `show totalweight`.
 fn total(tokens: &mut Tokens<'_>) -> Result<Command, TextFault>
     ensures { Answers (from rests.total (ahead tokens.old)) result }
 {
@@ -181,7 +188,7 @@ fn total(tokens: &mut Tokens<'_>) -> Result<Command, TextFault>
     Ok(Command::Total(source))
 }
 
-/// `proof` ..
+/// The line after `proof`.
 fn proof(tokens: &mut Tokens<'_>) -> Result<Command, TextFault>
     ensures { Answers (from rests.proof (ahead tokens.old)) result }
 {
@@ -190,22 +197,22 @@ fn proof(tokens: &mut Tokens<'_>) -> Result<Command, TextFault>
     Ok(Command::Proof(source))
 }
 
-/// `shipout` ..
+/// The line after `shipout`.
 fn shipout(tokens: &mut Tokens<'_>) -> Result<Command, TextFault>
     ensures { Answers (from rests.shipout (ahead tokens.old)) result }
 {
     let source = tokens.source()?;
-    tokens.pass(Token::Word(Word::Code))?;
+    tokens.pass_word(Word::Code)?;
     let code = tokens.code()?;
-    tokens.pass(Token::Word(Word::Dx))?;
+    tokens.pass_word(Word::Dx)?;
     let dx = tokens.int()?;
-    tokens.pass(Token::Word(Word::Width))?;
+    tokens.pass_word(Word::Width)?;
     let width = tokens.int()?;
     tokens.end()?;
     Ok(Command::Ship(source, code.value(), dx.value(), width.value()))
 }
 
-/// `turningcheck` ..
+/// The line after `turningcheck`.
 fn turning_check(tokens: &mut Tokens<'_>) -> Result<Command, TextFault>
     ensures { Answers (from rests.turning_check (ahead tokens.old)) result }
 {
@@ -215,7 +222,7 @@ fn turning_check(tokens: &mut Tokens<'_>) -> Result<Command, TextFault>
     Ok(Command::Turning(check(number.value())))
 }
 
-/// `publish`
+/// The line after `publish`.
 fn publish(tokens: &mut Tokens<'_>) -> Result<Command, TextFault>
     ensures { Answers (from rests.publish (ahead tokens.old)) result }
 {
@@ -223,19 +230,19 @@ fn publish(tokens: &mut Tokens<'_>) -> Result<Command, TextFault>
     Ok(Command::Publish)
 }
 
-/// A name ..
+/// The line after the name that it starts with.
 fn named(tokens: &mut Tokens<'_>, name: Name) -> Result<Command, TextFault>
     ensures { Answers (from (rests.named name) (ahead tokens.old)) result }
 {
     tokens.pass_mark(Mark::Becomes)?;
-    if tokens.takes(Token::Word(Word::NullPicture)) {
+    if tokens.takes_word(Word::NullPicture) {
         return clear(tokens, name);
     }
-    tokens.pass(name_token(name))?;
+    tokens.pass_name(name)?;
     moved(tokens, name)
 }
 
-/// A name `:= nullpicture`
+/// The line after a name and `:= nullpicture`.
 fn clear(tokens: &mut Tokens<'_>, name: Name) -> Result<Command, TextFault>
     ensures { Answers (from (rests.cleared name) (ahead tokens.old)) result }
 {
@@ -243,27 +250,35 @@ fn clear(tokens: &mut Tokens<'_>, name: Name) -> Result<Command, TextFault>
     Ok(Command::Clear(name))
 }
 
-/// A name `:=` that name ..
+/// The line after a name, `:=` and the same name.
 fn moved(tokens: &mut Tokens<'_>, name: Name) -> Result<Command, TextFault>
     ensures { Answers (from (rests.moved name) (ahead tokens.old)) result }
 {
-    if tokens.takes(Token::Word(Word::Shifted)) {
+    if tokens.takes_word(Word::Shifted) {
         return shifted(tokens, name);
     }
-    if tokens.takes(Token::Word(Word::Scaled)) {
+    stretched(tokens, name)
+}
+
+/// The line after a name, `:=` and the same name, where `shifted` does not come: `scaled`, `xscaled`, `yscaled` or `rotated`
+/// must.
+fn stretched(tokens: &mut Tokens<'_>, name: Name) -> Result<Command, TextFault>
+    ensures { Answers (from (rests.stretched name) (ahead tokens.old)) result }
+{
+    if tokens.takes_word(Word::Scaled) {
         return scale_both(tokens, name);
     }
-    if tokens.takes(Token::Word(Word::XScaled)) {
+    if tokens.takes_word(Word::XScaled) {
         return scale_columns(tokens, name);
     }
-    if tokens.takes(Token::Word(Word::YScaled)) {
+    if tokens.takes_word(Word::YScaled) {
         return scale_rows(tokens, name);
     }
-    tokens.pass(Token::Word(Word::Rotated))?;
+    tokens.pass_word(Word::Rotated)?;
     turn(tokens, name)
 }
 
-/// A name `:=` that name `scaled` ..
+/// The line after a name, `:=`, the same name and `scaled`.
 fn scale_both(tokens: &mut Tokens<'_>, name: Name) -> Result<Command, TextFault>
     ensures { Answers (from (rests.by_number name Scaled) (ahead tokens.old)) result }
 {
@@ -272,7 +287,7 @@ fn scale_both(tokens: &mut Tokens<'_>, name: Name) -> Result<Command, TextFault>
     scaled(name, factor.value(), factor.value())
 }
 
-/// A name `:=` that name `xscaled` ..
+/// The line after a name, `:=`, the same name and `xscaled`.
 fn scale_columns(tokens: &mut Tokens<'_>, name: Name) -> Result<Command, TextFault>
     ensures { Answers (from (rests.by_number name XScaled) (ahead tokens.old)) result }
 {
@@ -281,7 +296,7 @@ fn scale_columns(tokens: &mut Tokens<'_>, name: Name) -> Result<Command, TextFau
     scaled(name, factor.value(), 1)
 }
 
-/// A name `:=` that name `yscaled` ..
+/// The line after a name, `:=`, the same name and `yscaled`.
 fn scale_rows(tokens: &mut Tokens<'_>, name: Name) -> Result<Command, TextFault>
     ensures { Answers (from (rests.by_number name YScaled) (ahead tokens.old)) result }
 {
@@ -290,7 +305,7 @@ fn scale_rows(tokens: &mut Tokens<'_>, name: Name) -> Result<Command, TextFault>
     scaled(name, 1, factor.value())
 }
 
-/// A name `:=` that name `rotated` ..
+/// The line after a name, `:=`, the same name and `rotated`.
 fn turn(tokens: &mut Tokens<'_>, name: Name) -> Result<Command, TextFault>
     ensures { Answers (from (rests.by_number name Rotated) (ahead tokens.old)) result }
 {
@@ -299,21 +314,11 @@ fn turn(tokens: &mut Tokens<'_>, name: Name) -> Result<Command, TextFault>
     rotated(name, angle)
 }
 
-/// A name `:=` that name `shifted` ..
+/// The line after a name, `:=`, the same name and `shifted`.
 fn shifted(tokens: &mut Tokens<'_>, name: Name) -> Result<Command, TextFault>
     ensures { Answers (from (rests.shifted name) (ahead tokens.old)) result }
 {
     let by = tokens.pair()?.value();
     tokens.end()?;
     Ok(Command::Shift(name, by.x, by.y))
-}
-
-/// The token of a name.
-fn name_token(name: Name) -> Token
-    ensures { result ≡ rests.name_token name }
-{
-    match name {
-        Name::Current => Token::Word(Word::CurrentPicture),
-        Name::Register(letter) => Token::Letter(letter),
-    }
 }

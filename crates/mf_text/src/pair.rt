@@ -5,7 +5,7 @@ ghost use Rattle.mf_text.specs.Ints.{pair_value};
 use crate::int::Int;
 use mf_geom::Point;
 
-/// Two ints in parentheses: `(`, the first, `,`, the second, `)`.
+/// Two ints in parentheses: `(`, the first, `,`, the second, and `)`.
 #[derive(Clone, Copy, Debug)]
 pub struct Pair {
     pub(crate) across: Int,
@@ -13,7 +13,7 @@ pub struct Pair {
 }
 
 impl Pair {
-    /// The point, or the range, that it names.
+    /// The point that it names, or the range from its first int to its second.
     pub fn value(self) -> Point
         ensures { result ≡ pair_value self }
     {

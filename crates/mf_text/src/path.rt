@@ -6,19 +6,19 @@ ghost use Rattle.mf_text.specs.Paths.{HasPoints};
 use mf_geom::{MAX_POINTS, OutOfMemory, Point};
 use std::alloc::Global;
 
-/// The points of a path, as far as a cycle may have so many and there is memory for them: whether the line is in the
-/// grammar shows without them.
+/// The points of a path, kept while the line is read: at most one more than a cycle may have, and none after an allocation has
+/// failed. Whether the line is in the grammar does not depend on them.
 #[derive(Debug, Drop)]
 pub struct Path {
     points: Vec<Point>,
-    /// How many points it has, or one more than a cycle may have.
+    /// How many points the path has, counted up to one more than a cycle may have.
     pub(crate) corners: usize,
-    /// Whether memory was wanting for some of them.
+    /// Whether an allocation has failed for one of them.
     is_wanting: bool,
 }
 
 impl Path {
-    /// A path of no points.
+    /// A path without points.
     pub fn new(alloc: Global) -> Path
         ensures { HasPoints result [] }
     {
@@ -29,7 +29,7 @@ impl Path {
         }
     }
 
-    /// Adds a point behind the others.
+    /// Adds a point after the others.
     pub fn push(&mut self, point: Point)
         ensures { (before : List points.Point) → HasPoints self.old before → HasPoints self.new (before ++ point ∷ []) }
     {
@@ -42,7 +42,8 @@ impl Path {
         }
     }
 
-    /// Its points, where they are not too many. Refusal OutOfMemory (14), where memory was wanting for them.
+    /// The points: all of them, unless there are more than a cycle may have. Refused with `OutOfMemory` where an allocation
+    /// failed for one of them.
     pub fn points(self) -> Result<Vec<Point>, OutOfMemory>
         ensures points { (all : List points.Point) → HasPoints self all → self.corners ≤ 4096 → IfOk result (λ points. points.items ≡ all) }
         ensures refused { IsErr result → IsTrue self.is_wanting }

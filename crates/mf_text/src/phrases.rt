@@ -1,11 +1,14 @@
-//! Phrases of lines, read from their tokens. Each fault is the column, from 1, at which the line goes wrong.
+//! Phrases of lines, each passed by a function of its own. A fault is the column, in bytes from 1, at which the line goes
+//! wrong.
 ghost use Rattle.std.specs.Prelude.{◌≡◌, ◌<◌, length, true, ◌∷◌, [], Ok, IfOk, IfErr, if◌then◌else◌};
 ghost use Rattle.mf_text.specs.Grammar.{Line};
 ghost use Rattle.mf_text.specs.Left.{tokens_left};
 ghost use Rattle.mf_text.specs.LineRests as lines;
-ghost use Rattle.mf_text.specs.Reads.{Closes, IsWithin, Passes, PassesPath, ahead, then_end, then_from, then_rest};
+ghost use Rattle.mf_text.specs.Reads.{Closes, IsWithin, Passes, PassesPath, Takes, ahead, then_end, then_from, then_name, then_rest};
 ghost use Rattle.mf_text.specs.Rests as rests;
-ghost use Rattle.mf_text.specs.Rests.{CodeNumber, Ends, Rest, follow, from, name_in, source_in};
+ghost use Rattle.mf_text.specs.Rests.{CodeNumber, Ends, Rest, follow, from};
+ghost use Rattle.mf_text.specs.Token as token;
+ghost use Rattle.mf_text.specs.Token.{name_in};
 
 use crate::code::Code;
 use crate::command::{Name, Source};
@@ -13,146 +16,152 @@ use crate::fault::SyntaxFault;
 use crate::int::Int;
 use crate::pair::Pair;
 use crate::path::Path;
-use crate::token::{Mark, Placed, Token, Word};
-use crate::tokens::{Tokens, mark_at};
+use crate::token::{Mark, Word};
+use crate::tokens::Tokens;
 use std::alloc::Global;
 
 impl Tokens<'_> {
-    /// Passes the next token.
-    #[inline(always)]
-    fn some_token(&mut self) -> Result<Placed, SyntaxFault>
-        ensures passed { IfOk result (λ placed. (tokens_left self.old ≡ placed ∷ tokens_left self.new) × (self.new.column ≡ placed.after)) }
-        ensures none { IfErr result (λ fault. (tokens_left self.old ≡ []) × (fault.column ≡ self.old.column)) }
-        ensures within { IfOk result (λ _. IsWithin self.new self.old) }
+    /// Passes this word, which must come next.
+    pub fn pass_word(&mut self, word: Word) -> Result<(), SyntaxFault>
+        ensures { (this : Rest) → from (rests.One (token.Word word) this) (ahead self.old) ≡ then_rest this (ahead self.new) result }
     {
-        let past = self.column;
-        match self.token() {
-            Some(placed) => Ok(placed),
-            None => Err(SyntaxFault { column: past }),
+        if self.takes_word(word) {
+            return Ok(());
         }
+        Err(self.fault())
     }
 
-    /// Passes this token.
-    pub fn pass(&mut self, token: Token) -> Result<(), SyntaxFault>
-        ensures read { (this : Rest) → from (rests.One token this) (ahead self.old) ≡ then_rest this (ahead self.new) result }
-        ensures within { IfOk result (λ _. IsWithin self.new self.old) }
-    {
-        let placed = self.some_token()?;
-        if placed.token != token {
-            return Err(placed.fault());
-        }
-        Ok(())
-    }
-
-    /// Passes this token, if it is the next one.
-    pub fn takes(&mut self, token: Token) -> bool
-        ensures read { (this other : Rest) → from (rests.Or token this other) (ahead self.old) ≡ (if result then from this (ahead self.new) else from other (ahead self.new)) }
-        ensures within { IsWithin self.new self.old }
-        ensures fewer { result ≡ true → length (tokens_left self.new) < length (tokens_left self.old) }
-    {
-        let mut behind = *self;
-        match behind.token() {
-            Some(placed) if placed.token == token => {
-                *self = behind;
-                true
-            }
-            _ => false,
-        }
-    }
-
-    /// Passes this mark, if it is the next token. It looks at no more of the bytes than the mark has: most tokens of a script are
-    /// marks.
-    #[inline(always)]
-    pub fn takes_mark(&mut self, mark: Mark) -> bool
-        ensures read { (this other : Rest) → from (rests.Or (Token.Mark mark) this other) (ahead self.old) ≡ (if result then from this (ahead self.new) else from other (ahead self.new)) }
-        ensures within { IsWithin self.new self.old }
-        ensures fewer { result ≡ true → length (tokens_left self.new) < length (tokens_left self.old) }
-    {
-        let mut front = *self;
-        front.skip_blanks();
-        match mark_at(front.rest) {
-            Some((found, bytes)) if found == mark => {
-                *self = Tokens {
-                    rest: &front.rest[bytes..],
-                    column: front.column + bytes as u32,
-                };
-                true
-            }
-            _ => false,
-        }
-    }
-
-    /// Passes this mark.
+    /// Passes this mark, which must come next.
     #[inline(always)]
     pub fn pass_mark(&mut self, mark: Mark) -> Result<(), SyntaxFault>
-        ensures read { (this : Rest) → from (rests.One (Token.Mark mark) this) (ahead self.old) ≡ then_rest this (ahead self.new) result }
+        ensures read { (this : Rest) → from (rests.One (token.Mark mark) this) (ahead self.old) ≡ then_rest this (ahead self.new) result }
         ensures within { IfOk result (λ _. IsWithin self.new self.old) }
     {
         if self.takes_mark(mark) {
             return Ok(());
         }
-        self.pass(Token::Mark(mark))
+        Err(self.fault())
     }
 
-    /// Passes a name.
+    /// Passes a name, if it is the next token.
+    pub fn takes_name(&mut self) -> Option<Name>
+        ensures took { Takes name_in self.old self.new result }
+        ensures read { (this : Name → Rest) → (other : Rest) → from (rests.OrName this other) (ahead self.old) ≡ then_name this other (ahead self.new) result }
+    {
+        if self.takes_word(Word::CurrentPicture) {
+            return Some(Name::Current);
+        }
+        Some(Name::Register(self.takes_letter()?))
+    }
+
+    /// Passes a name, which must come next.
     pub fn name(&mut self) -> Result<Name, SyntaxFault>
         ensures { Passes rests.AName self.old self.new result }
     {
-        let placed = self.some_token()?;
-        name(placed.token).ok_or(placed.fault())
+        match self.takes_name() {
+            Some(name) => Ok(name),
+            None => Err(self.fault()),
+        }
     }
 
-    /// Passes a name or `nullpicture`.
+    /// Passes this name, which must come next.
+    pub fn pass_name(&mut self, name: Name) -> Result<(), SyntaxFault>
+        ensures { (this : Rest) → from (rests.One (lines.name_token name) this) (ahead self.old) ≡ then_rest this (ahead self.new) result }
+    {
+        let mut after = *self;
+        if after.takes_name() == Some(name) {
+            *self = after;
+            return Ok(());
+        }
+        Err(self.fault())
+    }
+
+    /// Passes a source: `nullpicture`, or a name.
     pub fn source(&mut self) -> Result<Source, SyntaxFault>
         ensures { Passes rests.source self.old self.new result }
     {
-        let placed = self.some_token()?;
-        source(placed.token).ok_or(placed.fault())
+        if self.takes_word(Word::NullPicture) {
+            return Ok(Source::Null);
+        }
+        Ok(Source::Named(self.name()?))
     }
 
-    /// Passes the number of an int.
+    /// Passes the number of an int, if it is the next token. `negative` says whether `-` comes before it.
+    #[inline(always)]
+    fn takes_int(&mut self, negative: bool) -> Option<Int>
+        ensures { Takes (rests.number_in negative) self.old self.new result }
+    {
+        let mut after = *self;
+        let int = Int::new(negative, after.takes_number()?)?;
+        *self = after;
+        Some(int)
+    }
+
+    /// Passes the number of an int, which must come next. `negative` says whether `-` comes before it.
     #[inline(always)]
     fn number(&mut self, negative: bool) -> Result<Int, SyntaxFault>
         ensures read { Passes (rests.ANumber negative) self.old self.new result }
         ensures within { IfOk result (λ _. IsWithin self.new self.old) }
     {
-        let placed = self.some_token()?;
-        number(negative, placed.token).ok_or(placed.fault())
+        match self.takes_int(negative) {
+            Some(int) => Ok(int),
+            None => Err(self.fault()),
+        }
     }
 
-    /// Passes an int.
+    /// Passes an int: a number, or `-` and a number.
     #[inline(always)]
     pub fn int(&mut self) -> Result<Int, SyntaxFault>
         ensures read { Passes rests.int self.old self.new result }
         ensures within { IfOk result (λ _. IsWithin self.new self.old) }
     {
-        let negative = self.takes_mark(Mark::Minus);
-        self.number(negative)
+        if self.takes_mark(Mark::Minus) {
+            return self.number(true);
+        }
+        self.number(false)
     }
 
-    /// Passes an int that is a code. Where it is none, that shows at its first token.
+    /// Passes the number of a code, if it is the next token and the int is in 0..=255. `negative` says whether `-` comes before
+    /// it.
+    fn takes_code(&mut self, negative: bool) -> Option<Code>
+        ensures { Takes (rests.code_in negative) self.old self.new result }
+    {
+        let mut after = *self;
+        let code = Code::new(after.takes_int(negative)?)?;
+        *self = after;
+        Some(code)
+    }
+
+    /// Passes the int of a code. An int out of range is reported at its first token.
     pub fn code(&mut self) -> Result<Code, SyntaxFault>
         ensures { Passes rests.ACode self.old self.new result }
     {
-        let first = self.some_token()?;
-        if first.token == Token::Mark(Mark::Minus) {
-            return self.negative_code(first.fault());
+        let first = self.fault();
+        if self.takes_mark(Mark::Minus) {
+            return self.negative_code(first);
         }
-        code(false, first.token).ok_or(first.fault())
+        match self.takes_code(false) {
+            Some(code) => Ok(code),
+            None => Err(first),
+        }
     }
 
-    /// Passes the number of a code behind its `-`. A number that is none shows at the `-`.
+    /// Passes the number of a code after its `-`. A number out of range is reported at the `-`, which `first` is. This is a
+    /// rule of its own: a line may go on with `-` after `code`, since `-0` is a code.
     fn negative_code(&mut self, first: SyntaxFault) -> Result<Code, SyntaxFault>
         ensures { (next : Code → Rest) → follow (Ok (CodeNumber next)) first.column self.old.column (tokens_left self.old) ≡ then_from next (ahead self.new) result }
     {
-        let placed = self.some_token()?;
-        if let Token::Number(_) = placed.token {
-            return code(true, placed.token).ok_or(first);
+        if let Some(code) = self.takes_code(true) {
+            return Ok(code);
         }
-        Err(placed.fault())
+        let mut after = *self;
+        match after.takes_number() {
+            Some(_) => Err(first),
+            None => Err(self.fault()),
+        }
     }
 
-    /// Passes a pair.
+    /// Passes a pair: two ints in parentheses, with `,` between them.
     pub fn pair(&mut self) -> Result<Pair, SyntaxFault>
         ensures { Passes rests.pair self.old self.new result }
     {
@@ -160,7 +169,7 @@ impl Tokens<'_> {
         self.inner()
     }
 
-    /// Passes the rest of a pair behind its `(`.
+    /// Passes the rest of a pair after its `(`.
     #[inline(always)]
     fn inner(&mut self) -> Result<Pair, SyntaxFault>
         ensures read { Passes rests.inner self.old self.new result }
@@ -173,7 +182,7 @@ impl Tokens<'_> {
         Ok(Pair { across, up })
     }
 
-    /// Passes the rest of a corner behind its `(`.
+    /// Passes the rest of a corner after its `(`: the rest of a pair, and `--`.
     #[inline(always)]
     fn corner(&mut self) -> Result<Pair, SyntaxFault>
         ensures read { Passes rests.corner self.old self.new result }
@@ -184,7 +193,8 @@ impl Tokens<'_> {
         Ok(corner)
     }
 
-    /// Passes a path, and keeps its points.
+    /// Passes a path, and keeps its points. Where there is no memory for one of them, it still passes the rest of the path, so
+    /// that `OutOfMemory` never comes instead of `Syntax`.
     pub fn path(&mut self, alloc: Global) -> Result<Path, SyntaxFault>
         ensures { PassesPath self.old self.new result }
     {
@@ -194,21 +204,21 @@ impl Tokens<'_> {
         'corners: while self.takes_mark(Mark::Open) {
             path.push(self.corner()?.value());
         }
-        self.pass(Token::Word(Word::Cycle))?;
+        self.pass_word(Word::Cycle)?;
         Ok(path)
     }
 
-    /// Passes a weight, if one stands there.
+    /// Passes a weight, `withweight` and an int, if `withweight` comes next.
     pub fn weight(&mut self) -> Result<Option<Int>, SyntaxFault>
         ensures { Passes lines.weight self.old self.new result }
     {
-        if self.takes(Token::Word(Word::WithWeight)) {
+        if self.takes_word(Word::WithWeight) {
             return Ok(Some(self.int()?));
         }
         Ok(None)
     }
 
-    /// Passes the end of a line behind a command.
+    /// Passes the end of a line after its command: `;`, or nothing.
     pub fn end(&mut self) -> Result<(), SyntaxFault>
         ensures { Closes self.old result }
     {
@@ -216,51 +226,13 @@ impl Tokens<'_> {
         self.finish()
     }
 
-    /// That no token is left.
+    /// Checks that no token is left.
     pub fn finish(&mut self) -> Result<(), SyntaxFault>
         ensures { (line : Line) → from (Ends line) (ahead self.old) ≡ then_end line result }
     {
-        match self.token() {
-            Some(placed) => Err(placed.fault()),
-            None => Ok(()),
+        if self.is_ended() {
+            return Ok(());
         }
+        Err(self.fault())
     }
-}
-
-/// The name that a token is.
-fn name(token: Token) -> Option<Name>
-    ensures { result ≡ name_in token }
-{
-    match token {
-        Token::Word(Word::CurrentPicture) => Some(Name::Current),
-        Token::Letter(letter) => Some(Name::Register(letter)),
-        _ => None,
-    }
-}
-
-/// The picture that a token is.
-fn source(token: Token) -> Option<Source>
-    ensures { result ≡ source_in token }
-{
-    match token {
-        Token::Word(Word::NullPicture) => Some(Source::Null),
-        _ => Some(Source::Named(name(token)?)),
-    }
-}
-
-/// The int that a token is the number of.
-fn number(negative: bool, token: Token) -> Option<Int>
-    ensures { result ≡ rests.number_in negative token }
-{
-    match token {
-        Token::Number(number) => Int::new(negative, number),
-        _ => None,
-    }
-}
-
-/// The code that a token is the number of.
-fn code(negative: bool, token: Token) -> Option<Code>
-    ensures { result ≡ rests.code_in negative token }
-{
-    Code::new(number(negative, token)?)
 }

@@ -1,9 +1,7 @@
-//! Tokens of lines.
+//! The words and marks of the language.
 ghost use Rattle.std.specs.Prelude.{◌≡◌};
 
-use crate::fault::SyntaxFault;
-
-/// The words of the commands.
+/// The words that commands are written with.
 #[derive(Clone, Copy, Debug, PartialEq, Eq)]
 pub enum Word {
     Addto,
@@ -32,36 +30,48 @@ pub enum Word {
     YScaled,
 }
 
-/// The words, as they are written: the definition of the language takes them from here. They are looked for in this order, so those
-/// of contours come first.
+/// How each word is written, in the order of the cases of `Word`, so that `text` finds a word by the number of its case. The
+/// definition of the language takes the words from here, too.
 pub(crate) const WORDS: [(&[u8], Word); 24] = [
     (b"addto", Word::Addto),
+    (b"also", Word::Also),
+    (b"code", Word::Code),
     (b"contour", Word::Contour),
+    (b"cull", Word::Cull),
     (b"currentpicture", Word::CurrentPicture),
     (b"cycle", Word::Cycle),
-    (b"withweight", Word::WithWeight),
-    (b"also", Word::Also),
-    (b"nullpicture", Word::NullPicture),
-    (b"cull", Word::Cull),
-    (b"keeping", Word::Keeping),
     (b"dropping", Word::Dropping),
+    (b"dx", Word::Dx),
+    (b"keeping", Word::Keeping),
+    (b"nullpicture", Word::NullPicture),
+    (b"proof", Word::Proof),
+    (b"publish", Word::Publish),
+    (b"rotated", Word::Rotated),
+    (b"scaled", Word::Scaled),
+    (b"shifted", Word::Shifted),
+    (b"shipout", Word::Shipout),
     (b"show", Word::Show),
     (b"totalweight", Word::TotalWeight),
-    (b"shifted", Word::Shifted),
-    (b"publish", Word::Publish),
-    (b"shipout", Word::Shipout),
-    (b"code", Word::Code),
-    (b"dx", Word::Dx),
+    (b"turningcheck", Word::TurningCheck),
     (b"width", Word::Width),
-    (b"proof", Word::Proof),
-    (b"scaled", Word::Scaled),
+    (b"withweight", Word::WithWeight),
     (b"xscaled", Word::XScaled),
     (b"yscaled", Word::YScaled),
-    (b"rotated", Word::Rotated),
-    (b"turningcheck", Word::TurningCheck),
 ];
 
-/// The marks of the commands.
+impl Word {
+    ghost use Rattle.mf_text.specs.Tokens.{word_text};
+
+    /// The bytes that the word is written with.
+    #[inline(always)]
+    pub fn text(self) -> &'static [u8]
+        ensures { result.now ≡ word_text self }
+    {
+        WORDS[self as usize].0
+    }
+}
+
+/// The marks that commands are written with.
 #[derive(Clone, Copy, Debug, PartialEq, Eq)]
 pub enum Mark {
     /// `:=`
@@ -80,35 +90,27 @@ pub enum Mark {
     Semicolon,
 }
 
-/// A token: a longest row of letters or of digits, or a mark.
-#[derive(Clone, Copy, Debug, PartialEq, Eq)]
-pub enum Token {
-    Word(Word),
-    /// One letter `a`..`z`, by its number from 0.
-    Letter(u8),
-    /// A number of at most nine digits.
-    Number(u32),
-    Mark(Mark),
-    /// What no command has.
-    Unknown,
-}
+/// How each mark is written, in the order of the cases of `Mark`, so that `text` finds a mark by the number of its case. The
+/// definition of the language takes the marks from here, too. There the first of two marks at one place counts, so `--` comes
+/// before `-`.
+pub(crate) const MARKS: [(&[u8], Mark); 7] = [
+    (b":=", Mark::Becomes),
+    (b")", Mark::Close),
+    (b",", Mark::Comma),
+    (b"--", Mark::Join),
+    (b"-", Mark::Minus),
+    (b"(", Mark::Open),
+    (b";", Mark::Semicolon),
+];
 
-/// A token with its columns in the line, counted in bytes from 1: that of its first byte, and that of the byte behind
-/// its last.
-#[derive(Clone, Copy, Debug, PartialEq, Eq)]
-pub struct Placed {
-    pub token: Token,
-    pub column: u32,
-    pub after: u32,
-}
+impl Mark {
+    ghost use Rattle.mf_text.specs.Tokens.{mark_text};
 
-impl Placed {
-    /// That no line has it where it stands.
-    pub fn fault(self) -> SyntaxFault
-        ensures { result.column ≡ self.column }
+    /// The bytes that the mark is written with.
+    #[inline(always)]
+    pub fn text(self) -> &'static [u8]
+        ensures { result.now ≡ mark_text self }
     {
-        SyntaxFault {
-            column: self.column,
-        }
+        MARKS[self as usize].0
     }
 }

@@ -1,31 +1,39 @@
-//! The tokens of a line, one after another.
-ghost use Rattle.std.specs.Prelude.{◌≡◌, ◌+◌, ◌<◌, ◌≤◌, ◌^◌, length, map, IfSome};
-ghost use Rattle.std.specs.Char.{is_ascii_alphabetic, is_ascii_digit};
-ghost use Rattle.std.specs.List.{prefix_len, take_while};
+//! The tokens of a line, passed one after another where they are in its bytes. No token is made: the reader asks for the one
+//! that may come next.
+ghost use Rattle.std.specs.Prelude.{◌≡◌, ◌+◌, ◌<◌, ◌≤◌, ◌^◌, length, nat_lt, Some, None, if◌then◌else◌};
+ghost use Rattle.std.specs.Char.{is_ascii_alphabetic};
 ghost use Rattle.mf_text.specs.Bytes.{IsClear};
-ghost use Rattle.mf_text.specs.Tokens.{first_token, marks, mark_among, taken_mark, number_token, words, word_among, word_token, written};
+ghost use Rattle.mf_text.specs.Token as token;
+ghost use Rattle.mf_text.specs.Token.{letter_in, value_in};
+ghost use Rattle.mf_text.specs.Tokens.{Finds, FindsToken, has_front, is_longer};
 
-use crate::token::{Mark, Placed, Token, WORDS, Word};
+use crate::fault::SyntaxFault;
+use crate::token::{Mark, Word};
 
-/// Most digits that a number has.
+/// The greatest number of digits of a number.
 const MAX_DIGITS: usize = 9;
 
-/// The tokens of a line, from the left. The line is shorter than 2^31 bytes.
+/// The tokens of a line that are still to come. Columns count bytes from 1, and the line is shorter than 2^31 bytes, so that
+/// they fit 32 bits.
 #[derive(Clone, Copy, Debug)]
 pub struct Tokens<'a> {
+    /// The bytes that are left.
     pub(crate) rest: &'a [u8],
-    /// The column of the first byte of the rest, from 1.
+    /// The column of the first of these bytes, from 1.
     pub(crate) column: u32,
     ghost short: { length rest.now + column < 2 ^ 32 },
 }
 
 impl<'a> Tokens<'a> {
-    ghost use Rattle.std.specs.Prelude.{◌≡◌, ◌<◌, ◌^◌, ◌∷◌, [], length};
-    ghost use Rattle.std.specs.Option.{MatchOption};
+    ghost use Rattle.std.specs.Prelude.{ℕ, ◌≡◌, ◌≢◌, ◌+◌, ◌<◌, ◌≤◌, ◌^◌, drop, length, true, false, [], if◌then◌else◌};
+    ghost use Rattle.mf_text.specs.Ahead.{column_of};
+    ghost use Rattle.mf_text.specs.Bytes.{IsClear};
     ghost use Rattle.mf_text.specs.Left.{tokens_left};
+    ghost use Rattle.mf_text.specs.Reads.{HasTaken, IsWithin, Takes, ahead};
+    ghost use Rattle.mf_text.specs.Rests.{Or, Rest, from};
     ghost use Rattle.mf_text.specs.Tokens.{tokens};
 
-    /// The tokens of this line.
+    /// All tokens of this line. Requires it to be shorter than 2^31 bytes.
     pub fn new(line: &'a [u8]) -> Tokens<'a>
         requires { length line.now < 2 ^ 31 }
         ensures tokens { tokens_left result ≡ tokens line.now }
@@ -37,9 +45,9 @@ impl<'a> Tokens<'a> {
         }
     }
 
-    /// Goes on behind the blanks at the front.
+    /// Passes the blanks at the front.
     #[inline(always)]
-    pub fn skip_blanks(&mut self)
+    fn skip_blanks(&mut self)
         ensures same { tokens_left self.new ≡ tokens_left self.old }
         ensures clear { IsClear self.new.rest.now }
     {
@@ -51,157 +59,212 @@ impl<'a> Tokens<'a> {
         }
     }
 
-    /// Passes the next token.
+    /// What is left after this many bytes. Requires that many to be left.
     #[inline(always)]
-    pub fn token(&mut self) -> Option<Placed>
-        ensures { MatchOption result (tokens_left self.old ≡ []) (λ placed. (tokens_left self.old ≡ placed ∷ tokens_left self.new) × (self.new.column ≡ placed.after)) }
+    fn after(self, bytes: usize) -> Tokens<'a>
+        requires { bytes ≤ length self.rest.now }
+        ensures rest { result.rest.now ≡ drop bytes self.entry.rest.now }
+        ensures column { result.column ≡ self.entry.column + bytes }
     {
-        self.skip_blanks();
-        if let [] | [b'%', ..] = self.rest {
-            return None;
-        }
-        let (token, bytes) = first_token(self.rest);
-        let column = self.column;
-        let after = column + bytes as u32;
-        *self = Tokens {
+        Tokens {
             rest: &self.rest[bytes..],
-            column: after,
-        };
-        Some(Placed {
-            token,
-            column,
-            after,
-        })
+            column: self.column + bytes as u32,
+        }
+    }
+
+    /// Passes this word, if it is the next token, and returns whether it was. The word is compared with the bytes, and no table
+    /// is searched for the word that is there: only a few words may come at any place.
+    pub fn takes_word(&mut self, word: Word) -> bool
+        ensures read { (this other : Rest) → from (Or (token.Word word) this other) (ahead self.old) ≡ (if result then from this (ahead self.new) else from other (ahead self.new)) }
+        ensures took { HasTaken (token.Word word) self.old self.new result }
+    {
+        let mut front = *self;
+        front.skip_blanks();
+        match word_at(word, front.rest) {
+            Some(bytes) => {
+                *self = front.after(bytes);
+                true
+            }
+            None => false,
+        }
+    }
+
+    /// Passes this mark, if it is the next token, and returns whether it was. The mark is compared with the bytes, too: most
+    /// tokens of a contour are marks, and a search of their table would look at several entries for each.
+    #[inline(always)]
+    pub fn takes_mark(&mut self, mark: Mark) -> bool
+        ensures read { (this other : Rest) → from (Or (token.Mark mark) this other) (ahead self.old) ≡ (if result then from this (ahead self.new) else from other (ahead self.new)) }
+        ensures took { HasTaken (token.Mark mark) self.old self.new result }
+        ensures within { IsWithin self.new self.old }
+        ensures fewer { result ≡ true → length (tokens_left self.new) < length (tokens_left self.old) }
+    {
+        let mut front = *self;
+        front.skip_blanks();
+        match mark_at(mark, front.rest) {
+            Some(bytes) => {
+                *self = front.after(bytes);
+                true
+            }
+            None => false,
+        }
+    }
+
+    /// Passes a single letter `a`..`z`, if it is the next token, and returns its number, 0 for `a`.
+    #[inline(always)]
+    pub fn takes_letter(&mut self) -> Option<u8>
+        ensures { Takes letter_in self.old self.new result }
+    {
+        let mut front = *self;
+        front.skip_blanks();
+        let (letter, bytes) = letter_at(front.rest)?;
+        *self = front.after(bytes);
+        Some(letter)
+    }
+
+    /// Passes a number of at most nine digits, if it is the next token, and returns its value.
+    #[inline(always)]
+    pub fn takes_number(&mut self) -> Option<u32>
+        ensures { Takes value_in self.old self.new result }
+    {
+        let mut front = *self;
+        front.skip_blanks();
+        let (value, bytes) = number_at(front.rest)?;
+        *self = front.after(bytes);
+        Some(value)
+    }
+
+    /// Whether no token is left.
+    #[inline(always)]
+    pub fn is_ended(&self) -> bool
+        ensures ended { result ≡ true → tokens_left self.now ≡ [] }
+        ensures more { result ≡ false → tokens_left self.now ≢ [] }
+    {
+        let mut front = *self;
+        front.skip_blanks();
+        front.is_at_end()
+    }
+
+    /// Whether the line ends here or a comment begins here. Requires that no blank is at the front.
+    #[inline(always)]
+    fn is_at_end(&self) -> bool
+        requires { IsClear self.now.rest.now }
+        ensures ended { result ≡ true → tokens_left self.now ≡ [] }
+        ensures more { result ≡ false → tokens_left self.now ≢ [] }
+        ensures column { result ≡ false → (past : ℕ) → column_of (tokens_left self.now) past ≡ self.now.column }
+    {
+        match self.rest {
+            [] => true,
+            [byte, ..] => *byte == b'%',
+        }
+    }
+
+    /// The fault of a line that cannot go on with its next token: the column of that token, or one past the last token where
+    /// none is left.
+    pub fn fault(&self) -> SyntaxFault
+        ensures { result.column ≡ column_of (tokens_left self.now) self.now.column }
+    {
+        let mut front = *self;
+        front.skip_blanks();
+        if front.is_at_end() {
+            return SyntaxFault {
+                column: self.column,
+            };
+        }
+        SyntaxFault {
+            column: front.column,
+        }
     }
 }
 
-/// The token at the front, and how many bytes it takes.
-#[tactic(auto, unfolding(crate::specs::Tokens::first_token))]
+/// How many bytes this word takes, if it is the token at the front. It is not if another letter follows it, since a token is as
+/// long as possible.
 #[inline(always)]
-fn first_token(text: &[u8]) -> (Token, usize)
-    requires { 0 < length text.now }
-    ensures token { result.0 ≡ (first_token text.now).token }
-    ensures bytes { result.1 ≡ (first_token text.now).bytes }
-    ensures some { 0 < result.1 }
-    ensures within { result.1 ≤ length text.now }
+fn word_at(word: Word, text: &[u8]) -> Option<usize>
+    ensures { FindsToken (token.Word word) text.now result }
+{
+    let written = word.text();
+    if !text.starts_with(written) {
+        return None;
+    }
+    if has_letter(&text[written.len()..]) {
+        return None;
+    }
+    Some(written.len())
+}
+
+/// How many bytes this mark takes, if it is the token at the front.
+#[inline(always)]
+fn mark_at(mark: Mark, text: &[u8]) -> Option<usize>
+    ensures { FindsToken (token.Mark mark) text.now result }
+{
+    let written = mark.text();
+    if !text.starts_with(written) {
+        return None;
+    }
+    if is_longer(mark, text) {
+        return None;
+    }
+    Some(written.len())
+}
+
+/// Whether a longer mark that starts with this one is at the front: `--` for `-`.
+#[inline(always)]
+fn is_longer(mark: Mark, text: &[u8]) -> bool
+    ensures { result ≡ is_longer mark text.now }
+{
+    match mark {
+        Mark::Minus => text.starts_with(Mark::Join.text()),
+        _ => false,
+    }
+}
+
+/// The number of the letter `a`..`z` at the front, 0 for `a`, and how many bytes it takes, if no other letter follows it.
+#[inline(always)]
+fn letter_at(text: &[u8]) -> Option<(u8, usize)>
+    ensures { Finds letter_in text.now result }
+{
+    let [letter @ b'a'..=b'z', after @ ..] = text else {
+        return None;
+    };
+    if has_letter(after) {
+        return None;
+    }
+    Some((*letter - b'a', 1))
+}
+
+/// Whether a letter is at the front.
+#[inline(always)]
+fn has_letter(text: &[u8]) -> bool
+    ensures { result ≡ has_front is_ascii_alphabetic text.now }
 {
     match text {
-        [b'0'..=b'9', ..] => number_at(text),
-        [b'a'..=b'z' | b'A'..=b'Z', ..] => word_at(text),
-        _ => mark_token(text),
+        [byte, ..] => byte.is_ascii_alphabetic(),
+        [] => false,
     }
 }
 
-/// The token of the letters at the front, and how many there are.
-#[inline(never)]
-fn word_at(text: &[u8]) -> (Token, usize)
-    ensures token { result.0 ≡ word_token (take_while is_ascii_alphabetic text.now) }
-    ensures bytes { result.1 ≡ prefix_len is_ascii_alphabetic text.now }
-{
-    let letters = letters_at(text);
-    (word_token(&text[..letters]), letters)
-}
-
-/// The token of the digits at the front, and how many there are.
+/// The value of the number at the front and how many bytes it takes, if it has at most nine digits. Digits are counted, not the
+/// value, so leading zeros count, too.
 #[inline(always)]
-fn number_at(text: &[u8]) -> (Token, usize)
-    ensures token { result.0 ≡ number_token (take_while is_ascii_digit text.now) }
-    ensures bytes { result.1 ≡ prefix_len is_ascii_digit text.now }
+fn number_at(text: &[u8]) -> Option<(u32, usize)>
+    ensures { Finds value_in text.now result }
 {
     let mut value = 0;
     for (digits, byte) in text.iter().enumerate() {
         if !byte.is_ascii_digit() {
-            return (Token::Number(value), digits);
+            return number_of(value, digits);
         }
         if digits == MAX_DIGITS {
-            return (Token::Unknown, digits_at(text));
+            return None;
         }
         value = 10 * value + u32::from(*byte - b'0');
     }
-    (Token::Number(value), text.len())
+    number_of(value, text.len())
 }
 
-/// How many bytes at the front are letters.
-fn letters_at(text: &[u8]) -> usize
-    ensures { result ≡ prefix_len is_ascii_alphabetic text.now }
+/// This value and how many digits it has, unless there are none.
+fn number_of(value: u32, digits: usize) -> Option<(u32, usize)>
+    ensures { result ≡ (if nat_lt 0 digits then Some (value, digits) else None) }
 {
-    text.iter()
-        .take_while(|byte| byte.is_ascii_alphabetic())
-        .count()
-}
-
-/// How many bytes at the front are digits.
-#[inline(never)]
-fn digits_at(text: &[u8]) -> usize
-    ensures { result ≡ prefix_len is_ascii_digit text.now }
-{
-    text.iter().take_while(|byte| byte.is_ascii_digit()).count()
-}
-
-/// The token of a row of letters.
-#[tactic(auto, unfolding(crate::specs::Tokens::word_token))]
-fn word_token(letters: &[u8]) -> Token
-    ensures { result ≡ word_token letters.now }
-{
-    if let [letter @ b'a'..=b'z'] = letters {
-        return Token::Letter(*letter - b'a');
-    }
-    match word(letters) {
-        Some(word) => Token::Word(word),
-        None => Token::Unknown,
-    }
-}
-
-/// The word that these letters are.
-fn word(letters: &[u8]) -> Option<Word>
-    ensures { result ≡ word_among words letters.now }
-{
-    word_in(&WORDS, letters)
-}
-
-/// The word of the first entry that is written with these letters.
-fn word_in(entries: &[(&[u8], Word)], letters: &[u8]) -> Option<Word>
-    ensures { result ≡ word_among (map written entries.now) letters.now }
-{
-    for (text, word) in entries {
-        if letters == *text {
-            return Some(*word);
-        }
-    }
-    None
-}
-
-/// The token of other bytes, and how many of them it takes.
-#[inline(always)]
-fn mark_token(text: &[u8]) -> (Token, usize)
-    requires { 0 < length text.now }
-    ensures token { result.0 ≡ (mark_among marks text.now).token }
-    ensures bytes { result.1 ≡ (mark_among marks text.now).bytes }
-    ensures some { 0 < result.1 }
-    ensures within { result.1 ≤ length text.now }
-{
-    match mark_at(text) {
-        Some((mark, bytes)) => (Token::Mark(mark), bytes),
-        None => (Token::Unknown, 1),
-    }
-}
-
-/// The mark at the front, and how many bytes it takes: of `--` and `-` the longer.
-#[inline(always)]
-#[tactic(auto, unfolding(crate::specs::Tokens::mark_among))]
-pub fn mark_at(text: &[u8]) -> Option<(Mark, usize)>
-    ensures mark { mark_among marks text.now ≡ taken_mark result }
-    ensures some { IfSome result (λ it. 0 < it.1) }
-    ensures within { IfSome result (λ it. it.1 ≤ length text.now) }
-{
-    match text {
-        [b'-', b'-', ..] => Some((Mark::Join, 2)),
-        [b'-', ..] => Some((Mark::Minus, 1)),
-        [b':', b'=', ..] => Some((Mark::Becomes, 2)),
-        [b'(', ..] => Some((Mark::Open, 1)),
-        [b')', ..] => Some((Mark::Close, 1)),
-        [b',', ..] => Some((Mark::Comma, 1)),
-        [b';', ..] => Some((Mark::Semicolon, 1)),
-        _ => None,
-    }
+    (digits > 0).then_some((value, digits))
 }

@@ -1,4 +1,4 @@
-//! Commands from the values of lines.
+//! Commands, made from the values of lines, and the refusals of these values.
 ghost use Rattle.std.specs.Prelude.{◌≡◌, ◌≢◌, List, IfOk, IfErr};
 ghost use Rattle.mf_geom.specs.declared.point.Point.{Point};
 ghost use Rattle.mf_ops.specs.ContourWeight.{IsContourWeight};
@@ -15,7 +15,8 @@ use crate::path::Path;
 use mf_geom::{Check, Cycle, CycleFault, MAX_POINTS, Point};
 use mf_ops::{Cull, Quarter, Scale, Weight};
 
-/// The command of a contour.
+/// The command of a contour. Refused, in this order, with `TooManyPoints`, with `OutOfMemory` where an allocation failed for a
+/// point, with another fault of the points, or with `BadWeight`.
 pub fn contour(name: Name, path: Path, weight: Option<Int>) -> Result<Command, TextFault>
     ensures given { IfOk result (λ command. (points : List Point) → HasPoints path points → Means (contour_meaning name points (weight_value weight)) command) }
     ensures refused { IfErr result (λ fault. fault ≢ TextFault.OutOfMemory → (points : List Point) → HasPoints path points → Refuses (contour_meaning name points (weight_value weight)) fault) }
@@ -26,7 +27,7 @@ pub fn contour(name: Name, path: Path, weight: Option<Int>) -> Result<Command, T
     contour_through(name, path.points()?, weight)
 }
 
-/// The command of a contour through these points.
+/// The command of a contour through these points. Refused with their fault, or else with `BadWeight`.
 fn contour_through(
     name: Name,
     points: Vec<Point>,
@@ -42,7 +43,7 @@ fn contour_through(
     Ok(Command::Contour(name, cycle, lawful_weight(weight)?))
 }
 
-/// The weight of a contour or a cull, which is 1 where none stands.
+/// The weight of a contour or a cull, which is 1 where the line gives none. Refused with `BadWeight`.
 fn lawful_weight(weight: Option<Int>) -> Result<Weight, TextFault>
     ensures given { IfOk result (λ found. (found ≡ weight_value weight) × IsContourWeight (weight_value weight)) }
     ensures refused { IfErr result (IsUnlawful (IsContourWeight (weight_value weight)) TextFault.BadWeight) }
@@ -57,7 +58,7 @@ fn lawful_weight(weight: Option<Int>) -> Result<Weight, TextFault>
     }
 }
 
-/// The command of a cull that keeps a range.
+/// The command of a cull that keeps a range. Refused with `BadWeight`, or else with `BadCull`.
 pub fn keeping(name: Name, range: Pair, weight: Option<Int>) -> Result<Command, TextFault>
     ensures { IsAnswerOf (grammar.CullKeeping name range weight) result }
 {
@@ -69,7 +70,7 @@ pub fn keeping(name: Name, range: Pair, weight: Option<Int>) -> Result<Command, 
     }
 }
 
-/// The command of a cull that drops a range.
+/// The command of a cull that drops a range. Refused with `BadWeight`, or else with `BadCull`.
 pub fn dropping(name: Name, range: Pair, weight: Option<Int>) -> Result<Command, TextFault>
     ensures { IsAnswerOf (grammar.CullDropping name range weight) result }
 {
@@ -81,7 +82,7 @@ pub fn dropping(name: Name, range: Pair, weight: Option<Int>) -> Result<Command,
     }
 }
 
-/// The command of a scale.
+/// The command of a scale by these factors of columns and rows. Refused with `BadScale`.
 pub fn scaled(name: Name, x: i32, y: i32) -> Result<Command, TextFault>
     ensures given { IfOk result (Means (scale_meaning name (record { x = x; y = y }))) }
     ensures refused { IfErr result (Refuses (scale_meaning name (record { x = x; y = y }))) }
@@ -92,7 +93,7 @@ pub fn scaled(name: Name, x: i32, y: i32) -> Result<Command, TextFault>
     }
 }
 
-/// The command of a turn.
+/// The command of a turn by this angle, in degrees counterclockwise. Refused with `BadTurn`.
 pub fn rotated(name: Name, angle: Int) -> Result<Command, TextFault>
     ensures { IsAnswerOf (grammar.Move name (grammar.Rotated angle)) result }
 {
@@ -102,7 +103,7 @@ pub fn rotated(name: Name, angle: Int) -> Result<Command, TextFault>
     }
 }
 
-/// The turning check at a number.
+/// The turning check that a number sets: on exactly where the number is positive.
 pub fn check(number: i32) -> Check
     ensures { result ≡ check_of number }
 {

@@ -1,4 +1,4 @@
-//! Making codes, and their values.
+//! How codes are made, and their values.
 ghost use Rattle.std.specs.Prelude.{◌≡◌};
 ghost use Rattle.mf_text.specs.Codes.{code_of, code_value};
 ghost use Rattle.mf_text.specs.Ints.{is_byte};
@@ -7,7 +7,7 @@ use super::Code;
 use crate::int::Int;
 
 impl Code {
-    /// The code that an int is, if it lies in 0..255.
+    /// The code that an int is, if it is in 0..=255.
     pub fn new(int: Int) -> Option<Code>
         ensures { result ≡ code_of int }
     {
@@ -17,7 +17,7 @@ impl Code {
         None
     }
 
-    /// Its value.
+    /// Its value, in 0..=255.
     pub fn value(self) -> u8
         ensures { result ≡ code_value self }
     {
@@ -25,7 +25,7 @@ impl Code {
     }
 }
 
-/// Whether an int lies in 0..255.
+/// Whether an int is in 0..=255.
 fn is_byte(int: Int) -> bool
     ensures { result ≡ is_byte int }
 {

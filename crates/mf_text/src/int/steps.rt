@@ -1,11 +1,11 @@
-//! Making whole numbers, and their values.
+//! How ints are made, and their values.
 ghost use Rattle.std.specs.Prelude.{◌≡◌};
 ghost use Rattle.mf_text.specs.Ints.{int_of, int_value};
 
 use super::Int;
 
 impl Int {
-    /// The int of this number, which has at most nine digits.
+    /// The int of this number, with `-` before it where `negative` is true; `None` where the number has more than nine digits.
     pub fn new(negative: bool, magnitude: u32) -> Option<Int>
         ensures { result ≡ int_of negative magnitude }
     {
@@ -18,7 +18,7 @@ impl Int {
         None
     }
 
-    /// Its value.
+    /// Its value, in -999,999,999..=999,999,999.
     pub fn value(self) -> i32
         ensures { result ≡ int_value self }
     {

@@ -1,22 +1,18 @@
 use Rattle.std.proofs.Common.{◌≡◌, ◌∙◌, length, sym, arith}
-use Rattle.mf_text.proofs.Digits.{number-none, number-more, number-ends, number-stops, number-whole, number-long}
+use Rattle.mf_text.proofs.Digits.{number-found, number-lacking, number-more, number-none, number-stops, number-whole}
 use Rattle.mf_text.proofs.tokens.number_at.Goals as goal
 
 pub loop-digits-init : goal.loop-digits-init
 loop-digits-init c = number-none c.args.text.now
 
-pub returns-then-not-is_ascii_digit-clause-bytes : goal.returns-then-not-is_ascii_digit-clause-bytes
-returns-then-not-is_ascii_digit-clause-bytes c =
-    number-stops _ _ _ c.loop-digits.invariant (sym c.is_ascii_digit.ensures.value ∙ c.if-not-is_ascii_digit.true)
+pub returns-then-not-is_ascii_digit : goal.returns-then-not-is_ascii_digit
+returns-then-not-is_ascii_digit c =
+    rw c.number_of.ensures
+    (number-found _ _ _ c.loop-digits.invariant (number-stops _ _ _ c.loop-digits.invariant (sym c.is_ascii_digit.ensures.value ∙ c.if-not-is_ascii_digit.true)))
 
-pub returns-then-not-is_ascii_digit-clause-token : goal.returns-then-not-is_ascii_digit-clause-token
-returns-then-not-is_ascii_digit-clause-token c =
-    number-ends _ _ _ c.loop-digits.invariant (returns-then-not-is_ascii_digit-clause-bytes c)
-
-pub returns-then-digits-eq-MAX_DIGITS-clause-token : goal.returns-then-digits-eq-MAX_DIGITS-clause-token
-returns-then-digits-eq-MAX_DIGITS-clause-token c =
-    number-long _ _ _ c.loop-digits.invariant c.if-digits-eq-MAX_DIGITS.true c.loop-digits-test.true
-    (sym c.is_ascii_digit.ensures.value ∙ c.if-not-is_ascii_digit.false)
+pub returns-then-digits-eq-MAX_DIGITS : goal.returns-then-digits-eq-MAX_DIGITS
+returns-then-digits-eq-MAX_DIGITS c =
+    number-lacking _ _ _ c.loop-digits.invariant c.if-digits-eq-MAX_DIGITS.true c.loop-digits-test.true (sym c.is_ascii_digit.ensures.value ∙ c.if-not-is_ascii_digit.false)
 
 pub overflow_mul-value : goal.overflow_mul-value
 overflow_mul-value c =
@@ -36,11 +32,7 @@ loop-digits-preserved c =
     let goes_on = number-more _ _ _ c.loop-digits.invariant c.loop-digits-test.true digit c.if-digits-eq-MAX_DIGITS.false in
     rw c.from.ensures goes_on.more
 
-pub returns-clause-bytes : goal.returns-clause-bytes
-returns-clause-bytes c =
+pub returns : goal.returns
+returns c =
     let ended : c.loop-digits.digits ≡ length c.args.text.now = omega (arith, c.loop-digits-test.false, c.loop-digits.auto.digits-end) in
-    sym ended ∙ number-whole _ _ _ c.loop-digits.invariant c.loop-digits-test.false
-
-pub returns-clause-token : goal.returns-clause-token
-returns-clause-token c =
-    number-ends _ _ _ c.loop-digits.invariant (number-whole _ _ _ c.loop-digits.invariant c.loop-digits-test.false)
+    rw (c.number_of-2.ensures, sym ended) (number-found _ _ _ c.loop-digits.invariant (number-whole _ _ _ c.loop-digits.invariant c.loop-digits-test.false))

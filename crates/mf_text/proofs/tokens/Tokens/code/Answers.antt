@@ -1,26 +1,33 @@
-use Rattle.std.proofs.Common.{◌≡◌, true, false, Option, ok_or, refl, ap, ◌∙◌, rules}
-use Rattle.mf_text.specs.declared.code.Code.{Code}
+use Rattle.std.proofs.Common.{◌∙◌, ◌≡◌, false, Err, Ok, ap, sym}
 use Rattle.mf_text.specs.declared.token.Mark.TheVariants as mark
-use Rattle.mf_text.specs.declared.token.Token.TheVariants as token
-use Rattle.mf_text.specs.Rests.{ACode, code_in, is_token}
-use Rattle.mf_text.proofs.Reading.{at_minus, code_step, found, found_none}
+use Rattle.mf_text.specs.declared.tokens.Tokens.{Tokens}
+use Rattle.mf_text.specs.Left.{tokens_left}
+use Rattle.mf_text.specs.Reads.{ahead, is_next, taken}
+use Rattle.mf_text.specs.Rests.{ACode, CodeNumber, code_in, follow}
+use Rattle.mf_text.specs.Token as token
+use Rattle.mf_text.proofs.Reading.{at_minus, code_follows, goes_on_with, goes_wrong_there}
 use Rattle.mf_text.proofs.tokens.Tokens.code.Goals as goal
 
-pub returns-in_err-first : goal.returns-in_err-first
-returns-in_err-first c next =
-    let none = c.in_err-first.ensures.none in
-    found_none (ACode next) next c.args.self.now c.some_token.new.self c.in_err-first.field-0.0 none.0 refl none.1 c.from_residual.result c.from_residual.ensures.1
+pub returns-then-takes_mark : goal.returns-then-takes_mark
+returns-then-takes_mark c next =
+    let old = c.args.self.now in
+    let new = c.takes_mark.new.self in
+    let took = c.takes_mark.ensures.took in
+    at_minus next old.column (tokens_left old) (ahead new) (sym took.next ∙ c.if-takes_mark.true) (took.after_is c.if-takes_mark.true)
+    ∙ ap (λ k. follow (Ok (CodeNumber next)) k new.column (tokens_left new)) (sym c.fault-first.ensures) ∙ c.negative_code.ensures next
 
-pub returns-then-eq : goal.returns-then-eq
-returns-then-eq c next =
-    let same : is_token c.in_ok-first.first.token (token.Mark mark.Minus) ≡ true = search rules in
-    let passed = c.in_ok-first.ensures.passed in
-    at_minus next c.args.self.now c.some_token.new.self c.in_ok-first.first c.fault.result passed.0 passed.1 same c.fault.ensures ∙ c.negative_code.ensures next
+pub returns-in-Some : goal.returns-in-Some
+returns-in-Some c next =
+    let old = c.args.self.now in
+    let took = c.takes_mark.ensures.took in
+    let other : is_next (token.Mark mark.Minus) (tokens_left old) ≡ false = sym took.next ∙ c.if-takes_mark.false in
+    goes_on_with (ACode next) (code_in false) next old.column (tokens_left old) (code_follows next (tokens_left old) other) c.in-Some.code (ahead c.takes_code.new.self)
+    (ap (λ (t : Tokens). taken (code_in false) (tokens_left t)) (sym (took.left c.if-takes_mark.false)) ∙ c.in-Some.ensures)
 
-pub returns : goal.returns
-returns c next =
-    let differs : is_token c.in_ok-first.first.token (token.Mark mark.Minus) ≡ false = search rules in
-    let first = c.in_ok-first.first in
-    let passed = c.in_ok-first.ensures.passed in
-    found (ACode next) next c.args.self.now c.some_token.new.self first (code_in false first.token) passed.0 passed.1 (code_step first.token next differs)
-    c.fault-2.result c.fault-2.ensures c.ok_or.result (c.ok_or.ensures.value ∙ ap (λ (a : Option Code). ok_or a c.fault-2.result) c.code.ensures)
+pub returns-in-None : goal.returns-in-None
+returns-in-None c next =
+    let old = c.args.self.now in
+    let took = c.takes_mark.ensures.took in
+    let other : is_next (token.Mark mark.Minus) (tokens_left old) ≡ false = sym took.next ∙ c.if-takes_mark.false in
+    goes_wrong_there (ACode next) (code_in false) next old.column (tokens_left old) (code_follows next (tokens_left old) other)
+    (ap (λ (t : Tokens). taken (code_in false) (tokens_left t)) (sym (took.left c.if-takes_mark.false)) ∙ c.in-None.ensures.0) ∙ ap Err (sym c.fault-first.ensures)

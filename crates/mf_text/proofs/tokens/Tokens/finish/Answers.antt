@@ -1,10 +1,10 @@
-use Rattle.std.proofs.Common.{Some, refl, sym, ap, ◌∙◌, Err}
-use Rattle.mf_text.specs.Rests.{Ends}
-use Rattle.mf_text.proofs.Reading.{ends_early, goes_wrong}
+use Rattle.std.proofs.Common.{◌∙◌, Err, ap, sym}
+use Rattle.mf_text.specs.Left.{tokens_left}
+use Rattle.mf_text.proofs.Reading.{line_ends, line_goes_on}
 use Rattle.mf_text.proofs.tokens.Tokens.finish.Goals as goal
 
-pub returns-in-Some : goal.returns-in-Some
-returns-in-Some c line = goes_wrong (Ends line) c.args.self.now c.in-Some.placed _ c.in-Some.ensures.0 refl ∙ ap Err (sym c.fault.ensures)
+pub returns-then-is_ended : goal.returns-then-is_ended
+returns-then-is_ended c line = line_ends line c.args.self.now.column (tokens_left c.args.self.now) (c.is_ended.ensures.ended c.if-is_ended.true)
 
-pub returns-in-None : goal.returns-in-None
-returns-in-None c line = ends_early (Ends line) c.args.self.now (Some line) c.in-None.ensures refl
+pub returns : goal.returns
+returns c line = line_goes_on line c.args.self.now.column (tokens_left c.args.self.now) (c.is_ended.ensures.more c.if-is_ended.false) ∙ ap Err (sym c.fault.ensures)

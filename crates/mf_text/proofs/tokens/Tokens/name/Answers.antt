@@ -1,17 +1,13 @@
-use Rattle.std.proofs.Common.{Option, ok_or, refl, ap, ◌∙◌}
-use Rattle.mf_text.specs.declared.command.Name.{Name}
-use Rattle.mf_text.specs.Rests.{AName, name_in}
-use Rattle.mf_text.proofs.Reading.{found, found_none}
+use Rattle.mf_text.specs.Left.{tokens_left}
+use Rattle.mf_text.specs.Rests.{AName}
+use Rattle.mf_text.specs.Token.{name_in}
+use Rattle.mf_text.proofs.Reading.{name_follows, value_lacking, value_passed}
 use Rattle.mf_text.proofs.tokens.Tokens.name.Goals as goal
 
-pub returns-in_err-placed : goal.returns-in_err-placed
-returns-in_err-placed c next =
-    let none = c.in_err-placed.ensures.none in
-    found_none (AName next) next c.args.self.now c.some_token.new.self c.in_err-placed.field-0.0 none.0 refl none.1 c.from_residual.result c.from_residual.ensures.1
+pub returns-in-Some : goal.returns-in-Some
+returns-in-Some c =
+    value_passed AName name_in c.args.self.now c.takes_name.new.self (λ next. name_follows next (tokens_left c.args.self.now)) c.in-Some.name c.in-Some.ensures.took
 
-pub returns : goal.returns
-returns c next =
-    let placed = c.in_ok-placed.placed in
-    let passed = c.in_ok-placed.ensures.passed in
-    found (AName next) next c.args.self.now c.some_token.new.self placed (name_in placed.token) passed.0 passed.1 refl c.fault.result c.fault.ensures c.ok_or.result
-    (c.ok_or.ensures.value ∙ ap (λ (a : Option Name). ok_or a c.fault.result) c.name.ensures)
+pub returns-in-None : goal.returns-in-None
+returns-in-None c =
+    value_lacking AName name_in c.args.self.now c.takes_name.new.self c.takes_name.new.self (λ next. name_follows next (tokens_left c.args.self.now)) c.in-None.ensures.took c.fault.result c.fault.ensures

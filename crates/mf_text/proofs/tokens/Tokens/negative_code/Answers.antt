@@ -1,23 +1,23 @@
-use Rattle.std.proofs.Common.{◌≢◌, ℕ, true, Option, Err, ok_or, refl, sym, ap, ◌∙◌, rules}
-use Rattle.mf_text.specs.declared.code.Code.{Code}
-use Rattle.mf_text.specs.declared.token.Token.TheVariants as token
-use Rattle.mf_text.specs.Rests.{code_in}
-use Rattle.mf_text.proofs.Reading.{code_ended, code_found, code_lacking, exit}
+use Rattle.std.proofs.Common.{◌∙◌, Err, ap, sym}
+use Rattle.mf_text.specs.Ahead.{column_of}
+use Rattle.mf_text.specs.declared.tokens.Tokens.{Tokens}
+use Rattle.mf_text.specs.Left.{tokens_left}
+use Rattle.mf_text.specs.Reads.{ahead, taken}
+use Rattle.mf_text.specs.Token.{value_in}
+use Rattle.mf_text.proofs.Reading.{code_bad, code_missing, code_read}
 use Rattle.mf_text.proofs.tokens.Tokens.negative_code.Goals as goal
 
-pub returns-in_err-placed : goal.returns-in_err-placed
-returns-in_err-placed c next =
-    let none = c.in_err-placed.ensures.none in
-    rw (exit c.from_residual.result c.in_err-placed.field-0.0 c.from_residual.ensures.1) (code_ended next c.args.self.now c.args.first.column none.0 ∙ ap Err (sym none.1))
+pub returns-in-Some : goal.returns-in-Some
+returns-in-Some c next = code_read next c.args.first.column c.args.self.now.column (tokens_left c.args.self.now) c.in-Some.code (ahead c.takes_code.new.self) c.in-Some.ensures
 
-pub returns-in-Number : goal.returns-in-Number
-returns-in-Number c next =
-    let placed = c.in_ok-placed.placed in
-    let passed = c.in_ok-placed.ensures.passed in
-    code_found next c.args.self.now c.args.first.column c.some_token.new.self placed c.in-Number.field-0 (code_in true placed.token) passed.0 passed.1 c.in-Number.is refl
-    c.args.first refl c.ok_or.result (c.ok_or.ensures.value ∙ ap (λ (a : Option Code). ok_or a c.args.first) c.code.ensures)
+pub returns-in-Some-takes_number : goal.returns-in-Some-takes_number
+returns-in-Some-takes_number c next =
+    let none = c.in_default.ensures in
+    code_bad next c.args.first.column c.args.self.now.column (tokens_left c.args.self.now) _ (ahead c.takes_number.new.self) none.0
+    (ap (λ (t : Tokens). taken value_in (tokens_left t)) (sym none.1) ∙ c.in-Some-takes_number.ensures)
 
-pub returns : goal.returns
-returns c next =
-    let other : (n : ℕ) → c.in_ok-placed.placed.token ≢ token.Number n = λ n. search rules in
-    code_lacking next c.args.self.now c.args.first.column c.in_ok-placed.placed _ c.in_ok-placed.ensures.passed.0 other ∙ ap Err (sym c.fault.ensures)
+pub returns-in-None : goal.returns-in-None
+returns-in-None c next =
+    let none = c.in_default.ensures in
+    code_missing next c.args.first.column c.args.self.now.column (tokens_left c.args.self.now) (ap (λ (t : Tokens). taken value_in (tokens_left t)) (sym none.1) ∙ c.in-None.ensures.0)
+    ∙ ap (λ (t : Tokens). Err (column_of (tokens_left t) t.column)) (sym none.1) ∙ ap Err (sym c.fault.ensures)

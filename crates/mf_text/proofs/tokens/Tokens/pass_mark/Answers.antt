@@ -1,16 +1,13 @@
-use Rattle.std.proofs.Common.{◌∙◌}
-use Rattle.mf_text.specs.declared.token.Token.TheVariants as token
-use Rattle.mf_text.specs.Left.{tokens_left}
-use Rattle.mf_text.specs.Rests.{One}
-use Rattle.mf_text.proofs.Reading.{one_or}
+use Rattle.mf_text.specs.Token as token
+use Rattle.mf_text.proofs.Reading.{missed, passed}
 use Rattle.mf_text.proofs.tokens.Tokens.pass_mark.Goals as goal
 
 pub returns-then-takes_mark-clause-read : goal.returns-then-takes_mark-clause-read
 returns-then-takes_mark-clause-read c this =
-    let old = c.args.self.now in
-    one_or (token.Mark c.args.mark) this old.column (tokens_left old) ∙ c.if-takes_mark.ensures.read this (One (token.Mark c.args.mark) this)
+    let took = c.takes_mark.ensures in
+    passed (token.Mark c.args.mark) c.args.self.now c.takes_mark.new.self c.takes_mark.result took.read took.took this c.if-takes_mark.true
 
 pub returns-clause-read : goal.returns-clause-read
 returns-clause-read c this =
-    let old = c.args.self.now in
-    one_or (token.Mark c.args.mark) this old.column (tokens_left old) ∙ c.if-takes_mark.ensures.read this (One (token.Mark c.args.mark) this) ∙ c.pass.ensures.read this
+    let took = c.takes_mark.ensures in
+    missed (token.Mark c.args.mark) c.args.self.now c.takes_mark.new.self c.takes_mark.result took.read took.took this c.if-takes_mark.false c.fault.result c.fault.ensures

@@ -31,11 +31,11 @@ corners-preserved c =
           ∙ c.in_ok-corner-2.ensures.read (one_more so_far.first so_far.others next);
     }
 
-pub returns-in_err-pass : goal.returns-in_err-pass
-returns-in_err-pass c =
+pub returns-in_err-pass_word : goal.returns-in_err-pass_word
+returns-in_err-pass_word c =
     let so_far = c.corners.invariant in
-    path_wrong c.args.self.now c.pass.new.self c.from_residual-in_err-pass.result c.in_err-pass.field-0.0 c.from_residual-in_err-pass.ensures.1
-    (λ next. so_far.read next ∙ corner_last so_far.first so_far.others c.corners.self c.takes_mark.new.self c.takes_mark.result c.takes_mark.ensures.read next (search rules) ∙ c.in_err-pass.ensures.read _)
+    path_wrong c.args.self.now c.pass_word.new.self c.from_residual-in_err-pass_word.result c.in_err-pass_word.field-0.0 c.from_residual-in_err-pass_word.ensures.1
+    (λ next. so_far.read next ∙ corner_last so_far.first so_far.others c.corners.self c.takes_mark.new.self c.takes_mark.result c.takes_mark.ensures.read next (search rules) ∙ c.in_err-pass_word.ensures _)
 
 pub returns : goal.returns
 returns c =
@@ -43,5 +43,5 @@ returns c =
     record {
       tree = record { first = so_far.first; others = so_far.others };
       points = so_far.points;
-      passed = λ next. so_far.read next ∙ corner_last so_far.first so_far.others c.corners.self c.takes_mark.new.self c.takes_mark.result c.takes_mark.ensures.read next (search rules) ∙ c.in_ok-pass.ensures.read _;
+      passed = λ next. so_far.read next ∙ corner_last so_far.first so_far.others c.corners.self c.takes_mark.new.self c.takes_mark.result c.takes_mark.ensures.read next (search rules) ∙ c.in_ok-pass_word.ensures _;
     }
