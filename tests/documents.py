@@ -1,0 +1,773 @@
+#!/usr/bin/env python3
+"""Checks the documents: their commands print what is shown, their quotations are exact, and their links lead somewhere.
+
+    tests/documents.py [DOCUMENT..]
+    tests/documents.py --self-test
+
+The documents are README.md, bench/README.md and all of docs/. Where some are named, these alone are checked. The program
+must have been built (crates/mfpic/out/mfpic). The first word after the three backquotes of a fenced block says what is checked:
+
+    console               lines that begin with `$ ` are commands of bash, and the lines below each are all that it prints
+    console needs=NAME    run only where the program NAME is on the path; a NAME with a dot is a file that kpsewhich finds
+    console skip=REASON   not run, for a reason in words that are joined by hyphens
+    mfp                   each line is a script, and is not refused
+    mfp file=PATH         lines of this file that follow one another
+    mfp save=NAME         a script, which is written to the file NAME for the commands below it
+    rust file=PATH        lines of this file that follow one another, indentation aside
+    contract file=PATH    likewise; a line `..` means that lines are left out, but no head of a function
+    text                  not checked
+    text save=NAME        a text, which is written to the file NAME
+
+In what a command prints, a line `..` means any number of lines, and two dots within a line mean any text. All commands of
+a document run in order in one copy of the repository, each in a shell of its own and for at most 60 seconds.
+
+A relative link must lead to a file of the repository, and to a heading of it where an anchor is named. A word in backquotes
+that has a slash and ends like a source, or in a slash, must be a file or folder. Every document must be linked from README.md
+or from one that is; README.md must be short; no file may name a path that documents had before; only docs/user/LANGUAGE.md has
+the numbers of refusals; and no placeholder may be left.
+
+Each fault is a line `FILE:LINE: what is wrong`. The last line counts the commands, quotations and links that passed.
+With --self-test the checks are tried on small repositories with one fault each, which must be found.
+"""
+
+import collections
+import contextlib
+import dataclasses
+import fnmatch
+import io
+import os
+import pathlib
+import re
+import shutil
+import signal
+import subprocess
+import sys
+import tempfile
+from collections.abc import Callable, Iterable, Iterator, Mapping
+
+ROOT = pathlib.Path(__file__).resolve().parent.parent
+PROGRAM = "crates/mfpic/out/mfpic"
+README, LANGUAGE = "README.md", "docs/user/LANGUAGE.md"
+# Lines that README.md may have, and seconds that a command may take.
+MAX_LINES, LIMIT = 150, 60
+# The attributes that a block of each kind may have, and those of which it needs one.
+ATTRIBUTES = {"console": {"needs", "skip"}, "mfp": {"file", "save"}, "rust": {"file"}, "contract": {"file"}, "text": {"save"}}
+QUOTES = {"rust", "contract"}
+OLD = ("ASSURANCE", "DECISIONS", "FONTS", "GF", "LANGUAGE", "LIVE", "MAP", "PICTURES")
+
+FENCE = re.compile(r" *(`{3,})(.*)")
+HEADING = re.compile(r"(#{1,6}) +(.*?)[ #]*")
+LIST_ITEM = re.compile(r" *([-*+]|\d+\.) ")
+CODE = re.compile(r"(?<!`)(`+)(?!`)((?:(?!\n\s*\n).)+?)(?<!`)\1(?!`)", re.DOTALL)
+LINK = re.compile(r"\[[^\[\]]*\]\(\s*([^()\s]+)[^()]*\)|^ *\[[^\[\]]+\]: +(\S+)", re.MULTILINE)
+# What may be left out of a line that a command prints: two dots, and no more.
+GAP = re.compile(r"(?<!\.)\.\.(?!\.)")
+REASON = re.compile(r"\w+(-\w+)*")
+NAME = re.compile(r"[^/]*[A-Za-z*][^/]*(/.*)?")
+SOURCE = (".rt", ".antt", ".py", ".sh", ".mfp", ".md", ".mf", ".edit", "/")
+IN_A_CRATE = ("specs/", "src/", "proofs/", "must-fail/", "wrong/")
+# Words of a path that mean any name.
+ANY_NAME = re.compile(r"NAME|CRATE")
+HEAD = re.compile(r"(pub(\(.*\))? )?fn ")
+OLD_PATH = re.compile(rf"\bdocs/({'|'.join(OLD)})\.md")
+REFUSAL_NUMBER = re.compile(r"`[A-Z][A-Za-z]+( [a-z])?`\s+\(\d+\)|\b[Rr]efusals?\s+\d+")
+PLACEHOLDER = re.compile(r"@[A-Z][A-Z0-9_]*@")
+
+# What a check yields: the line it is about, and what is wrong there, which is nothing where it passes.
+Finding = tuple[int, str]
+FINE = ""
+
+
+@dataclasses.dataclass(frozen=True)
+class Block:
+    """A fenced block: the line of its fence, what it says of itself, and its lines."""
+
+    line: int
+    info: str
+    lines: list[str]
+
+    def kind(self) -> str:
+        return (self.info.split() or [""])[0]
+
+    def attributes(self) -> list[tuple[str, str]]:
+        return [(name, value) for name, _, value in (word.partition("=") for word in self.info.split()[1:])]
+
+    def value(self, name: str) -> str | None:
+        return dict(self.attributes()).get(name)
+
+
+@dataclasses.dataclass(frozen=True)
+class Document:
+    """A document: its path from the root, its lines, its blocks, and its lines without those of the blocks."""
+
+    path: str
+    lines: list[str]
+    blocks: list[Block]
+    prose: list[str]
+    # Faults of its blocks as such.
+    faults: list[Finding]
+
+    def text(self) -> str:
+        return "\n".join(self.prose)
+
+    def headings(self) -> list[tuple[int, int, str]]:
+        """Line, level and text of each heading."""
+        found = ((number, HEADING.fullmatch(line)) for number, line in enumerate(self.prose, 1))
+        return [(number, len(heading[1]), heading[2]) for number, heading in found if heading]
+
+
+@dataclasses.dataclass(frozen=True)
+class Repository:
+    """A folder with the files of a repository, its program, and how many seconds a command may take."""
+
+    root: pathlib.Path
+    files: set[str]
+    folders: set[str]
+    limit: int = LIMIT
+
+    def read(self, path: str) -> str:
+        return (self.root / path).read_text(encoding="utf-8")
+
+    def has(self, path: str) -> bool:
+        """Whether this is a file or folder of the repository. A `*` matches any name."""
+        wanted = path.rstrip("/")
+        if "*" not in wanted:
+            return wanted in self.folders or (wanted in self.files and not path.endswith("/"))
+        pattern = re.compile("[^/]*".join(map(re.escape, wanted.split("*"))))
+        return any(map(pattern.fullmatch, self.folders if path.endswith("/") else self.files | self.folders))
+
+    def crates(self) -> list[str]:
+        return sorted(folder.removeprefix("crates/") for folder in self.folders if re.fullmatch("crates/[^/]+", folder))
+
+    def documents(self) -> list[str]:
+        return sorted(path for path in self.files if path in (README, "bench/README.md") or fnmatch.fnmatch(path, "docs/*.md"))
+
+
+def open_repository(root: pathlib.Path, limit: int = LIMIT) -> Repository:
+    """The files that git knows or would add. Without git they are all files but those that are made."""
+    if (root / ".git").exists():
+        words = ["git", "-C", str(root), "ls-files", "-coz", "--exclude-standard"]
+        listed = subprocess.run(words, capture_output=True, text=True, check=True).stdout.split("\0")
+        files = {path for path in listed if path and (root / path).is_file()}
+    else:
+        paths = (path.relative_to(root) for path in root.rglob("*") if path.is_file())
+        files = {path.as_posix() for path in paths if not {"out", "__pycache__", ".git"} & set(path.parts)}
+    folders = {parent.as_posix() for path in files for parent in pathlib.PurePosixPath(path).parents}
+    return Repository(root, files, folders, limit)
+
+
+# Reading a document.
+
+
+def read_document(repository: Repository, path: str) -> Document:
+    lines = repository.read(path).split("\n")
+    blocks, prose, faults = [], list(lines), []
+    number = 0
+    while number < len(lines):
+        fence = FENCE.fullmatch(lines[number])
+        if not fence:
+            number += 1
+            continue
+        end = number + 1
+        while end < len(lines) and lines[end].strip() != fence[1]:
+            end += 1
+        indent = fence.start(1) * " "
+        blocks.append(Block(number + 1, fence[2].strip(), [line.removeprefix(indent) for line in lines[number + 1 : end]]))
+        if end == len(lines):
+            faults.append((number + 1, "the block has no end"))
+        prose[number : end + 1] = [""] * len(prose[number : end + 1])
+        number = end + 1
+    return Document(path, lines, blocks, prose, faults + list(indented_blocks(prose)))
+
+
+def indented_blocks(prose: list[str]) -> Iterator[Finding]:
+    """Lines that are indented like code, outside of lists."""
+    in_list = False
+    for number, line in enumerate(prose):
+        if line.strip() and not line.startswith("  "):
+            in_list = bool(LIST_ITEM.match(line))
+        before = prose[number - 1] if number else ""
+        if line.startswith("    ") and line.strip() and not before.strip() and not in_list:
+            yield number + 1, "the block is indented and not fenced"
+
+
+def line_of(text: str, place: int) -> int:
+    return text.count("\n", 0, place) + 1
+
+
+def code_spans(document: Document) -> list[tuple[int, str]]:
+    """Line and text of what is in backquotes."""
+    text = document.text()
+    return [(line_of(text, span.start()), span[2]) for span in CODE.finditer(text)]
+
+
+def links(document: Document) -> list[tuple[int, str]]:
+    """Line and target of each link within the repository."""
+    text = CODE.sub(lambda span: re.sub(r"[^\n]", "`", span[0]), document.text())
+    found = [(line_of(text, link.start()), link[1] or link[2]) for link in LINK.finditer(text)]
+    return [(line, target) for line, target in found if not re.match(r"[a-z]+:", target)]
+
+
+def anchors(document: Document) -> set[str]:
+    """The anchors of the headings."""
+    found: collections.Counter[str] = collections.Counter()
+    made = set()
+    for _, _, heading in document.headings():
+        words = re.sub(r"\[([^\[\]]*)\]\([^()]*\)", r"\1", heading)
+        anchor = re.sub(r"[^\w\- ]", "", words.lower()).replace(" ", "-")
+        made.add(f"{anchor}-{found[anchor]}" if found[anchor] else anchor)
+        found[anchor] += 1
+    return made
+
+
+def enclosing(document: Document, line: int) -> list[str]:
+    """The heading above a line, and those of the sections that have it."""
+    around: list[tuple[int, str]] = []
+    for number, level, text in document.headings():
+        if number <= line:
+            around = [(other, heading) for other, heading in around if other < level] + [(level, text)]
+    return [heading for _, heading in around]
+
+
+# Links, names of files, and words.
+
+
+def target_of(document: Document, target: str) -> tuple[str, str]:
+    """The path from the root that a link leads to, and its anchor."""
+    path, _, anchor = target.partition("#")
+    if not path:
+        return document.path, anchor
+    folder = pathlib.PurePosixPath(document.path).parent
+    return os.path.normpath(folder / path) + "/" * path.endswith("/"), anchor
+
+
+def check_links(repository: Repository, document: Document) -> Iterator[Finding]:
+    for line, target in links(document):
+        path, anchor = target_of(document, target)
+        if not repository.has(path):
+            yield line, f"the link {target} leads to no file"
+        elif anchor and (not path.endswith(".md") or anchor not in anchors(read_document(repository, path))):
+            yield line, f"the link {target} leads to no heading"
+        else:
+            yield line, FINE
+
+
+def named_crates(repository: Repository, document: Document, line: int) -> list[str]:
+    """The crates in which a path such as src/lib.rt is looked for: those that headings or the document's name say, else all."""
+    crates = repository.crates()
+    said = " ".join([*enclosing(document, line), "mf_" + pathlib.PurePosixPath(document.path).stem.lower()])
+    return [crate for crate in crates if re.search(rf"\b{crate}\b", said)] or crates
+
+
+def is_named_well(repository: Repository, document: Document, line: int, word: str) -> bool:
+    path = ANY_NAME.sub("*", word)
+    places = [path, f"crates/{path}"]
+    if path.startswith(IN_A_CRATE):
+        places += [f"crates/{crate}/{path}" for crate in named_crates(repository, document, line)]
+    return any(map(repository.has, places))
+
+
+def check_names(repository: Repository, document: Document) -> Iterator[Finding]:
+    """Words in backquotes that name files. Folders named out are made, so what is in them is not looked for."""
+    for line, span in code_spans(document):
+        for word in (word.strip(",;:()") for word in span.split()):
+            is_name = "/" in word and word.endswith(SOURCE) and NAME.fullmatch(word) and "://" not in word
+            if is_name and "out" not in word.split("/") and not is_named_well(repository, document, line, word):
+                yield line, f"{word} is no file or folder of the repository"
+
+
+def check_words(repository: Repository, document: Document) -> Iterator[Finding]:
+    """Numbers of refusals outside of their table, and placeholders."""
+    text = document.text()
+    for found in REFUSAL_NUMBER.finditer(text) if document.path != LANGUAGE else ():
+        number = " ".join(found[0].split())
+        yield line_of(text, found.start()), f"only {LANGUAGE} has the numbers of refusals, and not: {number}"
+    for number, line in enumerate(document.lines, 1):
+        for found in PLACEHOLDER.finditer(line):
+            yield number, f"the placeholder {found[0]} is left"
+
+
+# Quotations.
+
+
+def place_of(wanted: list[str], lines: list[str], start: int = 0) -> Iterator[int]:
+    """Where these lines follow one another in others, from a line on."""
+    for place in range(start, len(lines) - len(wanted) + 1):
+        if lines[place : place + len(wanted)] == wanted:
+            yield place
+
+
+def parts_of(lines: list[str]) -> list[list[str]]:
+    """The lines between those that are left out."""
+    parts: list[list[str]] = [[]]
+    for line in lines:
+        if line == "..":
+            parts.append([])
+        else:
+            parts[-1].append(line)
+    return [part for part in parts if part]
+
+
+def are_quoted(parts: list[list[str]], lines: list[str], end: int | None = None) -> bool:
+    """Whether the parts are in these lines, in order. No head of a function is passed over but to another one."""
+    if not parts:
+        return True
+    for place in place_of(parts[0], lines, end or 0):
+        if end is not None and not HEAD.match(parts[0][0]) and any(map(HEAD.match, lines[end:place])):
+            return False
+        if are_quoted(parts[1:], lines, place + len(parts[0])):
+            return True
+    return False
+
+
+def check_quotation(repository: Repository, block: Block) -> Finding:
+    name = block.value("file")
+    path = next((path for path in (name, f"crates/{name}") if path in repository.files), None)
+    if path is None:
+        return block.line, f"{name} is no file of the repository"
+    quoted, lines = block.lines, repository.read(path).splitlines()
+    if block.kind() != "mfp":
+        quoted, lines = [line.strip() for line in quoted], [line.strip() for line in lines]
+    parts = parts_of(quoted) if block.kind() == "contract" else [quoted]
+    if any(quoted) and are_quoted(parts, lines):
+        return block.line, FINE
+    known = {*lines, *([".."] if block.kind() == "contract" else [])}
+    absent = next((number for number, line in enumerate(quoted, 1) if line not in known), 0)
+    if absent:
+        return block.line + absent, f"{path} has no such line"
+    return block.line, f"{path} has these lines, but not in this order and next to each other"
+
+
+def check_script(repository: Repository, block: Block) -> Iterator[Finding]:
+    """Each line of a block is not refused."""
+    for number, line in enumerate(block.lines, block.line + 1):
+        words = [str(repository.root / PROGRAM)]
+        ran = subprocess.run(words, input=line, capture_output=True, text=True, check=False, timeout=repository.limit)
+        printed = ran.stdout + ran.stderr
+        if ran.returncode != 0 or "refused" in printed:
+            yield number, f"the program prints: {' '.join(printed.split())}"
+
+
+# Commands.
+
+
+@dataclasses.dataclass(frozen=True)
+class Command:
+    """A command with its line, and what it prints."""
+
+    line: int
+    text: str
+    expected: list[str]
+    # The line of the first line that it prints.
+    below: int
+
+
+class Sandbox:
+    """A copy of the repository in which the commands of a document run. It is made when the first of them does."""
+
+    def __init__(self, repository: Repository, folder: pathlib.Path) -> None:
+        self.repository, self.folder = repository, folder / "repository"
+
+    def place(self) -> pathlib.Path:
+        if not self.folder.exists():
+            for path in sorted({*self.repository.folders, str(pathlib.PurePosixPath(PROGRAM).parent)}):
+                (self.folder / path).mkdir(parents=True, exist_ok=True)
+            for path in sorted(self.repository.files):
+                shutil.copy(self.repository.root / path, self.folder / path, follow_symlinks=False)
+            # The program is the newest file, so `mfpic` does not build it.
+            shutil.copy(self.repository.root / PROGRAM, self.folder / PROGRAM)
+            os.utime(self.folder / PROGRAM)
+        return self.folder
+
+    def save(self, name: str, lines: list[str]) -> None:
+        (self.place() / name).write_text("".join(f"{line}\n" for line in lines), encoding="utf-8")
+
+    def run(self, command: str) -> list[str] | None:
+        """The lines that a command prints to both outputs, or none where it takes too long."""
+        started = subprocess.Popen(
+            ["bash", "-c", command],
+            cwd=self.place(),
+            env={**os.environ, "LC_ALL": "C.UTF-8"},
+            stdin=subprocess.DEVNULL,
+            stdout=subprocess.PIPE,
+            stderr=subprocess.STDOUT,
+            start_new_session=True,
+        )
+        try:
+            printed = started.communicate(timeout=self.repository.limit)[0]
+        except subprocess.TimeoutExpired:
+            os.killpg(started.pid, signal.SIGKILL)
+            started.communicate()
+            return None
+        lines = printed.decode(errors="replace").split("\n")
+        return lines[:-1] if lines[-1] == "" else lines
+
+
+def commands_of(block: Block) -> Iterator[Command]:
+    """The commands of a block. One whose line ends in a backslash goes on in the next line."""
+    number = 0
+    while number < len(block.lines):
+        start, text = number, block.lines[number].removeprefix("$ ")
+        while text.endswith("\\") and number + 1 < len(block.lines):
+            number += 1
+            text += "\n" + block.lines[number].removeprefix("> ")
+        number += 1
+        below = number
+        while number < len(block.lines) and not block.lines[number].startswith("$ "):
+            number += 1
+        yield Command(block.line + 1 + start, text, block.lines[below:number], block.line + 1 + below)
+
+
+def compare(command: Command, printed: list[str]) -> Finding:
+    """Compares what a command prints with what is shown, of which each line may fit in several places."""
+    places = {0}
+    for number, line in enumerate(command.expected):
+        if line == "..":
+            places = set(range(min(places), len(printed) + 1))
+            continue
+        pattern = re.compile(".*".join(map(re.escape, GAP.split(line))))
+        fitting = {place + 1 for place in places if place < len(printed) and pattern.fullmatch(printed[place])}
+        if not fitting:
+            return command.below + number, f"the command prints {shown(printed, places)} here"
+        places = fitting
+    if len(printed) not in places:
+        return command.line, f"the command also prints {printed[max(places)]!r} below what is shown"
+    return command.line, FINE
+
+
+def shown(printed: list[str], places: set[int]) -> str:
+    """What is printed in these places."""
+    if len(places) > 1:
+        return "no such line"
+    return repr(printed[min(places)]) if min(places) < len(printed) else "nothing more"
+
+
+def missing(names: Iterable[str]) -> str | None:
+    """The first of these programs, or files of TeX, that is not installed."""
+    return next((name for name in names if not (is_found_by_tex(name) if "." in name else shutil.which(name))), None)
+
+
+def is_found_by_tex(name: str) -> bool:
+    finder = shutil.which("kpsewhich")
+    return finder is not None and subprocess.run([finder, name], capture_output=True, check=False).returncode == 0
+
+
+def check_commands(sandbox: Sandbox, document: Document, block: Block) -> Iterator[Finding]:
+    place = f"{document.path}:{block.line}"
+    if reason := block.value("skip"):
+        print(f"{place}: not run: {reason}")
+        return
+    if absent := missing(value for name, value in block.attributes() if name == "needs"):
+        print(f"{place}: not run: {absent} is not installed")
+        return
+    if not block.lines or not block.lines[0].startswith("$ "):
+        yield block.line, "the block does not begin with a command"
+        return
+    for command in commands_of(block):
+        printed = sandbox.run(command.text)
+        if printed is None:
+            yield command.line, f"the command takes more than {sandbox.repository.limit} seconds"
+        else:
+            yield compare(command, printed)
+
+
+# Blocks and documents.
+
+
+def wrong_info(block: Block) -> str:
+    """What is wrong with what a block says of itself, if anything is."""
+    kind, attributes = block.kind(), block.attributes()
+    if kind not in ATTRIBUTES:
+        return f"the block says {block.info or 'nothing'}, which is not known"
+    for name, value in attributes:
+        if name not in ATTRIBUTES[kind] or not value:
+            return f"the block says {name}={value}, which is not known of {kind}"
+    names = [name for name, _ in attributes]
+    if len(set(names)) > 1 or (names and names[0] != "needs" and len(names) > 1):
+        return f"the block says too much: {block.info}"
+    if kind in QUOTES and not names:
+        return f"the block does not say of which file it is: {block.info}"
+    if not REASON.fullmatch(block.value("skip") or "none"):
+        return f"the reason is not in words that are joined by hyphens: {block.info}"
+    if "/" in (block.value("save") or ""):
+        return f"a file is saved in the folder itself: {block.info}"
+    return FINE
+
+
+def check_block(sandbox: Sandbox, document: Document, block: Block) -> Iterator[Finding]:
+    wrong = wrong_info(block)
+    if wrong:
+        yield block.line, wrong
+    elif name := block.value("save"):
+        sandbox.save(name, block.lines)
+    elif block.value("file"):
+        yield check_quotation(sandbox.repository, block)
+    elif block.kind() == "console":
+        yield from check_commands(sandbox, document, block)
+    elif block.kind() == "mfp":
+        refused = list(check_script(sandbox.repository, block))
+        yield from refused or [(block.line, FINE)]
+
+
+def check_document(repository: Repository, document: Document) -> Iterator[Finding]:
+    yield from document.faults
+    with tempfile.TemporaryDirectory() as folder:
+        sandbox = Sandbox(repository, pathlib.Path(folder))
+        for block in document.blocks:
+            yield from check_block(sandbox, document, block)
+    for check in (check_links, check_names, check_words):
+        yield from check(repository, document)
+
+
+# The repository.
+
+
+def unlinked(repository: Repository) -> list[str]:
+    """The documents to which no links lead from README.md."""
+    left, found = set(repository.documents()) - {README}, [README]
+    while found:
+        document = read_document(repository, found.pop())
+        reached = {target_of(document, target)[0] for _, target in links(document)} & left
+        left -= reached
+        found += sorted(reached)
+    return sorted(left)
+
+
+def old_paths(repository: Repository) -> Iterator[tuple[str, Finding]]:
+    for path in sorted(repository.files):
+        try:
+            text = repository.read(path)
+        except UnicodeDecodeError:
+            continue
+        for found in OLD_PATH.finditer(text):
+            yield path, (line_of(text, found.start()), f"{found[0]} is where the document was before")
+
+
+def check_repository(repository: Repository) -> Iterator[tuple[str, Finding]]:
+    """What is wrong with the documents taken together, each with its file."""
+    if README not in repository.files:
+        yield README, (1, "the file is missing")
+        return
+    count = len(repository.read(README).splitlines())
+    if count > MAX_LINES:
+        yield README, (count, f"the file has more than {MAX_LINES} lines")
+    for path in unlinked(repository):
+        yield path, (1, "no link leads here from README.md, nor from a document that it leads to")
+    yield from old_paths(repository)
+
+
+def findings(repository: Repository, named: list[str]) -> Iterator[tuple[str, Finding]]:
+    """All that is found, each with its file: of the documents that are named, or else of all and of the repository."""
+    for path in named or repository.documents():
+        for finding in check_document(repository, read_document(repository, path)):
+            yield path, finding
+    if not named:
+        yield from check_repository(repository)
+
+
+# The self-test.
+
+KIND = "file=mf_kind/src/lib.rt"
+# A repository without a fault. The program refuses lines with an x.
+SCRIPT = "a := nullpicture\n% second\n\nshow a\n"
+SOURCE_FILE = """impl Kind {
+    /// One.
+    pub fn one(&self) -> u8
+        ensures first { result ≡ 1 }
+        ensures second { result ≢ 2 }
+    {
+        1
+    }
+
+    fn two() -> u8
+        ensures third { result ≡ 2 }
+    {
+        2
+    }
+}
+"""
+PRETENDED = """#!/bin/bash
+while read -r line || [ -n "$line" ]; do
+    [[ $line != *x* ]] || echo "refused Syntax 1"
+done
+"""
+SOUND = {
+    "README.md": "# Title\n\n[A document](docs/A.md), [speed](bench/README.md#how-it-is-measured).\n",
+    "docs/A.md": "# A\n\nSee [B](user/B.md).\n",
+    "docs/user/B.md": "# B\n\n## `mf_kind`: one\n\n## Twice\n\n## Twice\n",
+    "bench/README.md": "# Speed\n\n## How *it* is measured\n",
+    "examples/a.mfp": SCRIPT,
+    "crates/mf_kind/src/lib.rt": SOURCE_FILE,
+    "crates/mf_other/src/only.rt": "",
+    "mfpic": "#!/bin/bash\nexec crates/mfpic/out/mfpic\n",
+    PROGRAM: PRETENDED,
+}
+
+
+def fenced(info: str, *lines: str) -> str:
+    return "\n".join([f"```{info}", *lines, "```", ""])
+
+
+CLAUSES = ("ensures first { result ≡ 1 }", "ensures second { result ≢ 2 }", "ensures third { result ≡ 2 }")
+ONE, TWO = "pub fn one(&self) -> u8", "fn two() -> u8"
+# What may stand at the end of README.md, and how many commands, quotations and links it has.
+RIGHT = {
+    "a command": (1, fenced("console", "$ echo a", "a")),
+    "both outputs": (1, fenced("console", "$ echo a; echo b >&2", "a", "b")),
+    "lines left out": (2, fenced("console", "$ seq 5", "1", "..", "4", "5", "$ seq 3", "..")),
+    "text left out": (1, fenced("console", "$ echo abc; echo 'a....b'", "a..c", "a....b")),
+    "a file of another command": (2, fenced("console", "$ echo a > new") + fenced("console", "$ cat new", "a")),
+    "a command of two lines": (1, fenced("console", "$ echo a \\", "    b", "a b")),
+    "the program": (1, fenced("console", "$ ./mfpic < examples/a.mfp")),
+    "a saved script": (1, fenced("mfp save=own", "x") + fenced("console", "$ ./mfpic < own", "refused Syntax 1")),
+    "a saved text": (1, fenced("text save=own", "x") + fenced("console", "$ cat own", "x")),
+    "a program that is missing": (0, fenced("console needs=bash needs=no-such-program", "$ echo a", "b")),
+    "a program that is there": (1, fenced("console needs=bash", "$ echo a", "a")),
+    "a skipped command": (0, fenced("console skip=takes-long", "$ echo a", "b")),
+    "a script": (1, fenced("mfp", "a := nullpicture", "", "% a comment")),
+    "a file": (1, fenced("mfp file=examples/a.mfp", *SCRIPT.splitlines())),
+    "lines of a file": (1, fenced("mfp file=examples/a.mfp", "", "show a")),
+    "lines of a source": (1, fenced(f"rust {KIND}", "{", "    1", "}")),
+    "a contract": (1, fenced(f"contract {KIND}", ONE, "..", CLAUSES[1], "..", TWO, f"    {CLAUSES[2]}")),
+    "a text": (0, fenced("text", "anything")),
+    "a link": (2, "[B](docs/user/B.md#mf_kind-one) and [again](docs/user/B.md#twice-1)\n"),
+    "no link": (0, "`[a](b.md)`, [web](https://example.org/b.md)\n"),
+    "names": (0, "`crates/mf_kind/`, `mf_kind/src/lib.rt`, `src/only.rt`, `crates/NAME/src/*.rt`, `a / 2`, `out/a.md`\n"),
+    "a name in a section": (0, "## `mf_kind`\n\n`src/lib.rt`\n"),
+    "a list": (0, "- One\n\n    and more of it\n"),
+}
+# The same with a fault, its line below the first one, and words of what is said of it.
+WRONG = {
+    "another output": (2, "prints 'a' here", fenced("console", "$ echo a", "b")),
+    "less output": (3, "prints nothing more here", fenced("console", "$ echo a", "a", "b")),
+    "more output": (1, "also prints 'b'", fenced("console", "$ echo a; echo b", "a")),
+    "another order": (5, "prints no such line here", fenced("console", "$ seq 4", "..", "2", "..", "1")),
+    "dots that are no gap": (2, "prints 'a--b' here", fenced("console", "$ echo a--b", "a...b")),
+    "a slow command": (1, "takes more than 1 second", fenced("console", "$ sleep 9")),
+    "no command": (0, "does not begin with a command", fenced("console", "echo a")),
+    "no info": (0, "says nothing", fenced("", "a")),
+    "another info": (0, "says python", fenced("python", "a")),
+    "another attribute": (0, "says file=a", fenced("console file=a", "$ true")),
+    "two attributes": (0, "says too much", fenced("mfp file=examples/a.mfp save=b", "show a")),
+    "a quotation of nothing": (0, "does not say of which file", fenced("rust", "a")),
+    "no reason": (0, "says skip=,", fenced("console skip=", "$ true")),
+    "a reason with commas": (0, "joined by hyphens", fenced("console skip=a,b", "$ true")),
+    "a file elsewhere": (0, "in the folder itself", fenced("mfp save=../a", "show a")),
+    "a refused line": (2, "prints: refused Syntax 1", fenced("mfp", "show a", "show x")),
+    "no such file": (0, "is no file", fenced("mfp file=examples/b.mfp", "show a")),
+    "another line": (2, "has no such line", fenced("mfp file=examples/a.mfp", "% second", "% third")),
+    "another indentation": (1, "has no such line", fenced("mfp file=examples/a.mfp", "  show a")),
+    "lines apart": (0, "but not in this order", fenced("mfp file=examples/a.mfp", "% second", "show a")),
+    "an empty quotation": (0, "but not in this order", fenced("mfp file=examples/a.mfp")),
+    "a source with gaps": (2, "has no such line", fenced(f"rust {KIND}", "{", "..", "}")),
+    "a clause less": (0, "but not in this order", fenced(f"contract {KIND}", ONE, CLAUSES[1])),
+    "another function's clause": (0, "but not in this order", fenced(f"contract {KIND}", ONE, "..", CLAUSES[2])),
+    "another clause": (2, "has no such line", fenced(f"contract {KIND}", ONE, "ensures first { result ≡ 2 }")),
+    "no end": (0, "has no end", "```text\na\n"),
+    "an indented block": (1, "indented and not fenced", "\n    echo a\n"),
+    "a broken link": (0, "leads to no file", "[a](docs/NONE.md)\n"),
+    "a link in two lines": (0, "leads to no file", "[a\nb](docs/NONE.md)\n"),
+    "a link out of the repository": (0, "leads to no file", "[a](../README.md)\n"),
+    "a link with a title": (0, "leads to no file", '[a](docs/NONE.md "A title")\n'),
+    "a link by reference": (0, "leads to no file", "[a]: docs/NONE.md\n"),
+    "no such heading": (0, "leads to no heading", "[a](docs/A.md#b)\n"),
+    "no such heading here": (0, "leads to no heading", "[a](#b)\n"),
+    "no such name": (0, "no file or folder", "`tests/none.py --all`\n"),
+    "a file as a folder": (0, "no file or folder", "`examples/a.mfp/`\n"),
+    "a name of another crate": (2, "no file or folder", "## `mf_kind`\n\n`src/only.rt`\n"),
+    "a refusal's number": (0, "numbers of refusals", "`WeightTooLarge` (12)\n"),
+    "a refusal's number in two lines": (0, "numbers of refusals", "`Backtracks i`\n(5)\n"),
+    "a refusal by number": (0, "numbers of refusals", "refusal 12\n"),
+    "a placeholder": (0, "placeholder @GATE_TIME@", "@GATE_TIME@ minutes\n"),
+}
+# Files that make the documents wrong when taken together, with the place of the fault and words of it.
+WRONG_FILES = {
+    "an unlinked document": ({"docs/user/LOST.md": "# Lost\n"}, "docs/user/LOST.md:1: ", "no link leads here"),
+    "documents that link each other": (
+        {"docs/C.md": "[D](D.md)\n", "docs/D.md": "[C](C.md)\n"},
+        "docs/C.md:1: ",
+        "no link leads here",
+    ),
+    "a long README": ({"README.md": SOUND["README.md"] + 150 * "a\n"}, "README.md:153: ", "more than 150 lines"),
+    "an old path": ({"tests/a.py": f"\n# docs/{OLD[0]}.md\n"}, "tests/a.py:2: ", "was before"),
+    "no README": ({"README.md": None}, "README.md:1: ", "is missing"),
+}
+
+
+def found_in(files: Mapping[str, str | None]) -> tuple[int, list[str]]:
+    """What is found in a repository of these files: how much passes, and the faults."""
+    with tempfile.TemporaryDirectory() as folder:
+        root = pathlib.Path(folder)
+        for path, text in files.items():
+            if text is not None:
+                (root / path).parent.mkdir(parents=True, exist_ok=True)
+                (root / path).write_text(text, encoding="utf-8")
+        for path in ("mfpic", PROGRAM):
+            (root / path).chmod(0o755)
+        return tally(findings(open_repository(root, limit=1), []), lambda fault: None)
+
+
+def at_the_end(text: str) -> dict[str, str]:
+    return {**SOUND, "README.md": f"{SOUND['README.md']}\n{text}"}
+
+
+def self_test() -> Iterator[tuple[str, str]]:
+    """Each trial by name, with what is wrong with it, which is nothing where it is as it must be."""
+    own, faults = found_in(SOUND)
+    yield "the repository without a fault", "; ".join(faults)
+    first = SOUND["README.md"].count("\n") + 2
+    for name, (count, text) in RIGHT.items():
+        passed, faults = found_in(at_the_end(text))
+        yield name, "; ".join(faults) if faults else FINE if passed == own + count else f"{passed - own} passed"
+    for name, (line, words, text) in WRONG.items():
+        yield name, missed(f"README.md:{first + line}: ", words, found_in(at_the_end(text))[1])
+    for name, (files, place, words) in WRONG_FILES.items():
+        yield name, missed(place, words, found_in({**SOUND, **files})[1])
+
+
+def missed(place: str, words: str, faults: list[str]) -> str:
+    """What is wrong where the first fault is not this one."""
+    is_found = faults and faults[0].startswith(place) and words in faults[0]
+    return FINE if is_found else f"the faults are {faults}, and not at {place}{words}"
+
+
+# Running.
+
+
+def tally(found: Iterable[tuple[str, Finding]], report: Callable[[str], None]) -> tuple[int, list[str]]:
+    """How much passes, and the faults, each of which is reported when it is found."""
+    passed, faults = 0, []
+    for path, (line, what) in found:
+        if what == FINE:
+            passed += 1
+        else:
+            faults.append(f"{path}:{line}: {what}")
+            report(faults[-1])
+    return passed, faults
+
+
+def main() -> int:
+    words = sys.argv[1:]
+    if words == ["--self-test"]:
+        # What is not run is no matter here.
+        with contextlib.redirect_stdout(io.StringIO()):
+            trials = list(self_test())
+        wrong = [f"{name}: {what}" for name, what in trials if what]
+        print("".join(f"{line}\n" for line in wrong), end="")
+        print(f"{len(trials) - len(wrong)} passed, {len(wrong)} failed")
+        return int(bool(wrong))
+    if not os.access(ROOT / PROGRAM, os.X_OK):
+        print(f"{PROGRAM} is missing: `./mfpic < /dev/null` builds it", file=sys.stderr)
+        return 1
+    repository = open_repository(ROOT)
+    named = [os.path.relpath(pathlib.Path(word).resolve(), ROOT) for word in words]
+    if unknown := sorted(set(named) - set(repository.documents())):
+        print(f"{unknown[0]} is not a document", file=sys.stderr)
+        return 2
+    passed, faults = tally(findings(repository, named), lambda fault: print(fault, flush=True))
+    print(f"{passed} passed, {len(faults)} failed")
+    return int(bool(faults))
+
+
+if __name__ == "__main__":
+    sys.exit(main())
