@@ -1,15 +1,14 @@
 #!/usr/bin/env python3
-"""Measures the program on the workloads of workloads.py, beside METAFONT where that is installed.
+"""Measures the program on the workloads of workloads.py, and compares it with METAFONT if that is installed.
 
     bench/run.py [--program PROGRAM] [--repeats N] [--seed S] [--only WORD] [--growth]
 
-PROGRAM is the built program, crates/mfpic/out/mfpic beside this folder unless another is named. Each workload runs
-N times (5 unless another number is given) or more, while that takes less than two seconds, up to 100 times: METAFONT
-(`mf-nowin`, Debian package texlive-binaries) and the program in turn; the least time of each counts. Where a workload
-ships characters, both write a font file. The totals that both print and the characters that both ship are compared. A
-difference ends this script with status 1, and so does a line that the program refuses or in which METAFONT finds an
-error. One more run of each tells its peak memory, by GNU time (Debian package time), where that is installed. With
---growth the program alone runs on sizes n, 2n and 4n.
+PROGRAM is the built program, by default crates/mfpic/out/mfpic beside this folder. Each workload runs at least N times, by
+default 5, and more often while all runs together take less than two seconds, up to 100 times. METAFONT (`mf-nowin`, Debian
+package texlive-binaries) and the program run in turn, and the least time of each counts. If a workload ships characters, both
+write a font file. The totals that both print and the characters that both ship are compared. The exit status is 1 if they differ,
+if the program refuses a line, or if METAFONT finds an error. One more run of each measures its peak memory with GNU time (Debian
+package time), if that is installed. With --growth only the program runs, on the sizes n, 2n and 4n.
 """
 
 import argparse
@@ -28,14 +27,14 @@ ROOT = pathlib.Path(__file__).resolve().parent.parent
 
 GNU_TIME = "/usr/bin/time"
 
-# METAFONT's greatest memory, in words of eight bytes.
+# METAFONT's memory limit, in words of eight bytes.
 ENVIRONMENT = {**os.environ, "main_memory": "8000000"}
 
 
 class Runner:
-    """One of the two programs, with a script of its own in a folder."""
+    """One of the two programs, with its own script in a folder."""
 
-    # The names of the script and of the font file, and the patterns of a total and of a fault in what is told.
+    # The names of the script and of the font file, and the patterns of a total and of a fault in what the program writes.
     SCRIPT, FONT, TOTAL, FAULT = "", "", r"", r""
 
     def __init__(self, words, text, folder):
@@ -48,11 +47,11 @@ class Runner:
         return self.folder / self.SCRIPT
 
     def told(self):
-        """What the last run told."""
+        """What the last run wrote."""
         return (self.folder / "printed").read_text()
 
     def run(self, before=()):
-        """Wall time of a run, in seconds."""
+        """Runs the program, and returns the wall time in seconds."""
         with open(self.stdin(), "rb") as lines, open(self.folder / "printed", "wb") as printed:
             begin = time.perf_counter()
             done = subprocess.run(
@@ -65,9 +64,9 @@ class Runner:
             )
             seconds = time.perf_counter() - begin
         if fault := re.search(self.FAULT, self.told(), re.MULTILINE):
-            raise SystemExit(f"{' '.join(self.words)} tells of a fault: {fault[0]}")
+            raise SystemExit(f"{' '.join(self.words)} reports a fault: {fault[0]}")
         if done.returncode != 0:
-            raise SystemExit(f"{' '.join(self.words)} ends with status {done.returncode}")
+            raise SystemExit(f"{' '.join(self.words)} exits with status {done.returncode}")
         return seconds
 
     def totals(self):
@@ -75,14 +74,14 @@ class Runner:
         return re.findall(self.TOTAL, self.told(), re.MULTILINE)
 
     def characters(self):
-        """The bytes of the characters that the last run shipped, in its font file between pre and post."""
+        """The bytes of the characters that the last run shipped, which are between pre and post in its font file."""
         font = (self.folder / self.FONT).read_bytes()
-        # A font file ends with the place of its post, 131, and some bytes 223.
+        # A font file ends with the place of its post, the byte 131, and some bytes 223.
         post = int.from_bytes(font.rstrip(bytes([223]))[-5:-1], "big")
         return font[3 + font[2] : post]
 
     def peak(self):
-        """Peak memory of one more run, in megabytes, as text."""
+        """The peak memory of one more run, in megabytes, as text."""
         if not os.path.exists(GNU_TIME):
             return "-"
         told = self.folder / "peak"
@@ -91,7 +90,7 @@ class Runner:
 
 
 class Program(Runner):
-    """The program, which tells its transcript. It writes a font file where the script ships characters."""
+    """The program, which writes a transcript, and a font file if the script ships characters."""
 
     SCRIPT, FONT, TOTAL, FAULT = "work.mfp", "shipped.gf", r"^totalweight (-?\d+)$", r"^refused .*"
 
@@ -104,7 +103,7 @@ class Program(Runner):
 
 
 class Metafont(Runner):
-    """METAFONT, which tells its log. It writes a font file where the script ships characters."""
+    """METAFONT, which writes a log, and a font file if the script ships characters."""
 
     SCRIPT, FONT, TOTAL, FAULT = "work.mf", "work.gf", r"^>> (-?[\d.]+)", r"^! .*"
 
@@ -118,12 +117,12 @@ class Metafont(Runner):
         return (self.folder / "work.log").read_text(errors="replace")
 
     def totals(self):
-        # A total weight of n is n / 65536 there, which is printed with as many digits as tell it from others.
+        # METAFONT has n / 65536 for a total weight of n, and prints it with enough digits to distinguish it from others.
         return [round(float(n) * 65536) for n in super().totals()]
 
 
 def is_wanted(repeats, times, seconds):
-    """Whether one more run is wanted behind those that took these times, and so many seconds in all."""
+    """Whether one more run is needed after runs with these times, all of which took this many seconds."""
     return len(times) < repeats or (len(times) < 100 and seconds < 2)
 
 
@@ -136,17 +135,17 @@ def repeated(repeats, runner):
 
 
 def difference(own, theirs, lines):
-    """What differs between the last runs, if something does."""
+    """What differs between the last runs, if anything does."""
     found, expected = own.totals(), theirs.totals()
     if found != expected:
-        return f"the totals begin with {found[:9]}, and METAFONT's with {expected[:9]}"
+        return f"the totals start with {found[:9]}, and METAFONT's with {expected[:9]}"
     if workloads.ships(lines) and own.characters() != theirs.characters():
         return "the characters are not METAFONT's"
     return None
 
 
 def beside_metafont(arguments, name, lines, folder):
-    """The row of a workload."""
+    """The row of a workload, with METAFONT."""
     own, theirs = Program(arguments.program, lines, folder), Metafont(lines, folder)
     own_times, their_times = [], []
     while is_wanted(arguments.repeats, own_times, sum(own_times + their_times)):

@@ -1,7 +1,7 @@
-"""Scripts for measuring, each made by a seed and a size.
+"""Scripts for measuring, each made from a seed and a size.
 
-A script is a list of lines in the command language of docs/LANGUAGE.md. METAFONT reads the same lines once
-`metafont` below has translated them, one by one.
+A script is a list of lines of docs/user/LANGUAGE.md. METAFONT reads the same lines once `metafont` below has translated them, one
+by one.
 """
 
 import random
@@ -17,8 +17,8 @@ currentpicture:=nullpicture; a:=nullpicture; b:=nullpicture; c:=nullpicture; d:=
 def metafont(lines):
     """The same script for METAFONT.
 
-    METAFONT's numbers are below 4096, so the greatest weight that a cull keeps, 32767, becomes 4095. No pixel here has
-    a greater one.
+    METAFONT's numbers are below 4096, so the greatest weight that a cull keeps, 32767, becomes 4095. No pixel here has a greater
+    weight.
     """
     out = [HEAD]
     for line in lines:
@@ -53,7 +53,7 @@ def one_line(seed, size):
 
 
 def scattered(seed, size, columns, rows):
-    """Rectangles with sides of 1 to 30, drawn evenly, with weights of -3 to 3."""
+    """Rectangles with sides of 1 to 30 and weights of -3 to 3, with uniformly random sizes and places."""
     draw = random.Random(seed)
     lines = []
     for _ in range(size):
@@ -73,7 +73,7 @@ def flat_rectangles(seed, size):
 
 
 def staircase(x, y, steps):
-    """A triangle with so many steps: 2 points and 2 for each step."""
+    """A triangle with this many steps. It has 2 points, and 2 more for each step."""
     points = [(x, y), (x + steps, y)]
     for i in range(1, steps + 1):
         points += [(x + steps - i + 1, y + i), (x + steps - i, y + i)]
@@ -81,7 +81,7 @@ def staircase(x, y, steps):
 
 
 def stairs(seed, size, steps, highest):
-    """So many staircases, drawn evenly up to a highest corner, with weights of -1 and 1."""
+    """`size` staircases with weights of -1 and 1, at uniformly random places, whose first corners are at most at `highest`."""
     draw = random.Random(seed)
     lines = []
     for _ in range(size):
@@ -95,7 +95,7 @@ def staircases(seed, size):
 
 
 def comb(teeth, rows):
-    """So many teeth of so many rows, each one pixel wide, one pixel apart, from the right to the left."""
+    """A comb, from right to left, with `teeth` teeth, each `rows` rows high and one pixel wide, with one pixel between them."""
     points = [(0, 0), (2 * teeth - 1, 0)]
     for i in range(teeth - 1, -1, -1):
         points += [(2 * i + 1, rows), (2 * i, rows)]
@@ -109,17 +109,17 @@ def culled_comb(points):
 
 
 def comb_from_right(seed, size):
-    """METAFONT's worst order: it finds the place of each edge of a row by passing those before it."""
+    """METAFONT's worst order: it finds the place of each edge of a row by passing all edges before it."""
     return culled_comb(comb(size, 300))
 
 
 def comb_from_left(seed, size):
-    """METAFONT's best order, and as many edges as its memory takes."""
+    """METAFONT's best order, with as many edges as its memory holds."""
     return culled_comb(comb(size, 1000)[::-1])
 
 
 def rounds(seed, size):
-    """A picture is copied, the copy moved and added, and the sum culled, again and again."""
+    """A picture is copied, the copy is moved and added, and the sum is culled, `size` times."""
     lines = scattered(seed, 1500, 2000, 2000)
     for _ in range(size):
         lines += [
@@ -142,7 +142,7 @@ def doubled(name, other, right, up):
 
 
 def checkerboard(seed, size):
-    """A board with sides of 2 ** size pixels, which is then moved, reflected, stretched and turned."""
+    """A checkerboard with sides of 2 ** size pixels, which is then moved, reflected, stretched and turned."""
     lines = [contour("a", rectangle(0, 0, 1, 1)), contour("a", rectangle(1, 1, 1, 1))]
     for k in range(1, size):
         lines += doubled("a", "b", 2**k, 0) + doubled("a", "b", 0, 2**k)
@@ -153,7 +153,7 @@ def checkerboard(seed, size):
 
 
 def copies(source, target, count, right, up):
-    """So many copies of a picture, each moved from the one before.
+    """`count` copies of a picture, each moved from the one before.
 
     The source is doubled again and again, and added for each bit of the count.
     """
@@ -169,7 +169,7 @@ def copies(source, target, count, right, up):
 
 
 def page(seed, size):
-    """Text-like: 131 letters on each of 100 lines, of 32 runs each, shipped so many times."""
+    """A page like text: 100 lines of 131 letters, each of 32 runs, which is shipped `size` times."""
     letter = [rectangle(0, 0, 4, 28), rectangle(14, 4, 4, 4), rectangle(4, 12, 12, 4), rectangle(4, 0, 12, 4)]
     lines = [contour("a", part) for part in letter]
     lines += copies("a", "c", 131, 30, 0) + copies("c", "d", 100, 0, 40) + [total("d")]
@@ -182,7 +182,7 @@ def ships(lines):
 
 
 def trivial_lines(seed, size):
-    """In turn no command, a comment, an operation that changes nothing, and a command that prints a line."""
+    """By turns an empty line, a comment, an operation that changes nothing, and a command that prints a line."""
     lines = ["", "% a comment", "addto a also nullpicture", total("a")]
     return lines * (size // 4) + [total()]
 
@@ -207,8 +207,8 @@ WORKLOADS = {
     "2,000 contours of 400 points": (contours, 2_000),
 }
 
-# Workloads whose time may be compared at a size, twice and four times that size. A page takes 838,624 bytes of the font
-# file, which may have 16,777,216: no more than 20 pages are in it.
+# Workloads whose times can be compared at a size, at twice that size and at four times that size. A page takes 838,624 bytes of
+# the font file, which may have 16,777,216, so it has room for 20 pages at most.
 GROWING = {
     "rectangles": (rectangles, 25_000),
     "rectangles on 200 rows": (flat_rectangles, 5_000),

@@ -1,8 +1,8 @@
 """Edits of a crate's files, and the functions that they change. (`wrong_bodies.py` uses it.)
 
-An edit is a file with a line `file: src/lib.rt` and pairs of lines `old: TEXT` and `new: TEXT` after it. A TEXT is one
-line, and the old one stands in that file exactly once, after the pairs before it. This is the form that the toolchain
-reads. A line `why: TEXT`, which the toolchain passes over, says why an edit is not refused, or cannot be judged.
+An edit is a file with a line `file: src/lib.rt`, followed by pairs of lines `old: TEXT` and `new: TEXT`. A TEXT is one line, and
+the old one must be in that file exactly once when the pairs before it have been applied. This is the form that the toolchain
+reads. A line `why: TEXT`, which the toolchain ignores, says why an edit is not refused, or cannot be judged.
 """
 
 import dataclasses
@@ -22,7 +22,8 @@ class UnfitEdit(Exception):
 
 @dataclasses.dataclass(frozen=True, order=True)
 class Function:
-    """A function of a crate: its file, and what it stands in, which is a type, or a type and a trait, or nothing."""
+    """A function of a crate: its file, the block that it is in, and its name. The block is a type, or a type and a trait, or
+    nothing."""
 
     file: str
     holder: str
@@ -39,14 +40,14 @@ class Function:
 
 @dataclasses.dataclass(frozen=True)
 class Edit:
-    """An edit: its pairs of texts with the file of each, and why it is not refused, if that is known."""
+    """An edit: its pairs of texts, each with its file, and why it is not refused, if that is known."""
 
     label: str
     pairs: tuple[tuple[str, str, str], ...]
     why: str
 
     def applied(self, texts: Mapping[str, str]) -> dict[str, str]:
-        """The files that it changes, as it leaves them."""
+        """The files that it changes, by their path, with their new texts."""
         changed: dict[str, str] = {}
         if not self.pairs:
             raise UnfitEdit("it has no file with a pair of an old and a new text")
@@ -59,7 +60,7 @@ class Edit:
 
 
 def read_edit(path: Path) -> Edit:
-    """The edit that a file holds."""
+    """The edit in a file."""
     file, old, why, pairs = "", "", "", []
     for line in path.read_text(encoding="utf-8").split("\n"):
         key, _, text = line.partition(":")
@@ -83,18 +84,18 @@ def texts_of(crate: Path) -> dict[str, str]:
 
 
 def without_parameters(name: str) -> str:
-    """The last word of a type's or a trait's path, without what stands in angle brackets."""
+    """The last word of the path of a type or a trait, without what is in angle brackets."""
     return re.sub(r"<.*", "", name).strip().lstrip("&").rpartition("::")[2]
 
 
 def with_crate(name: str) -> str:
-    """The last word of a type's path, behind the word before it, if there is one, as the prover writes `ClapError`."""
+    """The last word of a type's path, after the word before it if there is one, as the prover writes `ClapError`."""
     before = re.sub(r"<.*", "", name).strip().lstrip("&").split("::")[:-1]
     return "".join(word.capitalize() for word in before[-1:]) + without_parameters(name)
 
 
 def holder_of(head: str) -> str:
-    """What the prover calls the block of an `impl`, by the text behind that word: a type, or a type and a trait."""
+    """What the prover calls an `impl` block, by the text after that word: a type, or a type and a trait."""
     depth = 0
     for i, char in enumerate(head):
         depth += {"<": 1, ">": -1}.get(char, 0)
@@ -108,7 +109,7 @@ def holder_of(head: str) -> str:
 
 
 def end_of(lines: list[str], start: int, indent: str) -> int:
-    """The line at which a function ends that begins at this one, in the layout of `rt fmt`."""
+    """The last line of the function that starts at this line, in the layout of `rt fmt`."""
     if lines[start].endswith("}"):
         return start
     ends = (f"{indent}}}", f"{indent}{{}}")
@@ -116,7 +117,8 @@ def end_of(lines: list[str], start: int, indent: str) -> int:
 
 
 def split(file: str, text: str) -> tuple[dict[Function, str], list[str]]:
-    """The functions of a file with their texts, and the lines that stand in none of them. What a trait declares is none."""
+    """The functions of a file with their texts, and the lines outside of all functions. A function that a trait declares does not
+    count."""
     found: dict[Function, str] = {}
     others, lines, holder, kind, at = [], text.split("\n"), "", "", 0
     while at < len(lines):
@@ -147,8 +149,8 @@ def changed_items(before: list[str], after: list[str]) -> set[str]:
 
 
 def changed_by(edit: Edit, texts: Mapping[str, str]) -> tuple[set[Function], set[Function]]:
-    """The functions that an edit changes, and all that it may concern: those that name a constant or a type which it changes
-    are concerned too, and count as changed where no function is."""
+    """The functions that an edit changes, and all that it may concern. A function that names a constant or a type which the edit
+    changes is concerned, and counts as changed if the edit changes no function."""
     changed: set[Function] = set()
     names: set[str] = set()
     for file, text in edit.applied(texts).items():

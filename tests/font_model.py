@@ -1,7 +1,6 @@
 """A small, slow writer of font files, command by command.
 
-It shares nothing with the program but the rules of docs/GF.md. Its files have no comment, and the words of the font
-are 0.
+It shares nothing with the program but the rules of docs/library/GF.md. Its files have no comment, and their font words are 0.
 """
 
 import dataclasses
@@ -13,14 +12,14 @@ import struct
 BYTE = range(256)
 GF = 131
 PADDING = 223
-# A pixel in the units of dx.
+# One pixel, in the units of dx.
 PIXEL = 65536
-# The place of a character that is not there.
+# The place of a character that does not exist.
 NOWHERE = -1
 
 
 class Opcode(enum.IntEnum):
-    """The first bytes of commands, and both ends of the two ranges of them."""
+    """The first bytes of commands. Of the two ranges of first bytes, both ends."""
 
     PAINT_0 = 0
     PAINT_63 = 63
@@ -52,7 +51,7 @@ class Character:
 
     @functools.cached_property
     def box(self):
-        """Least m, greatest m, least n and greatest n."""
+        """The least and the greatest m, and the least and the greatest n."""
         if not self.black:
             return 0, 0, 0, 0
         columns, rows = zip(*self.black)
@@ -72,7 +71,7 @@ def skip(rows):
 
 
 def beginning(character, previous):
-    """boc1 or boc, where the previous character with this code has this place."""
+    """boc1 or boc. The previous character with this code is at the place `previous`."""
     least_m, greatest_m, least_n, greatest_n = character.box
     numbers = [character.code, greatest_m - least_m, greatest_m, greatest_n - least_n, greatest_n]
     if previous == NOWHERE and all(number in BYTE for number in numbers):
@@ -81,15 +80,15 @@ def beginning(character, previous):
 
 
 def row_beginning(offset, passed):
-    """The commands before the first black pixel of a row, which has this offset from the left end. So many blank rows
-    are passed between it and the row above, or None where it is the first."""
+    """The commands before the first black pixel of a row, which has this offset from the left end. `passed` is the number of
+    blank rows between this row and the one above, or None for the first row."""
     if passed == 0 and Opcode.NEW_ROW_0 + offset <= Opcode.NEW_ROW_164:
         return [bytes([Opcode.NEW_ROW_0 + offset])]
     return [paint(offset)] if passed is None else [skip(passed), paint(offset)]
 
 
 def stretches(columns):
-    """The lengths of the black and white stretches of a row, from its first black pixel to its last."""
+    """The lengths of the black and the white stretches of a row, from its first black pixel to its last."""
     borders = sorted(columns ^ {column + 1 for column in columns})
     return [right - left for left, right in itertools.pairwise(borders)]
 
@@ -106,7 +105,7 @@ def painting(character):
 
 
 def locator(character, place):
-    """char_loc0 or char_loc, where the character has this place."""
+    """char_loc0 or char_loc, for a character at this place."""
     pixels, rest = divmod(character.dx, PIXEL)
     if rest == 0 and pixels in BYTE:
         return struct.pack(">3B2i", Opcode.CHAR_LOC0, character.code, pixels, character.width, place)
@@ -114,8 +113,8 @@ def locator(character, place):
 
 
 class Font:
-    """A font file in the making: its characters, the commands of its preamble and its characters, and the place behind
-    them, which is their length. The last character of each code is kept with its place."""
+    """A font file that is being made: its characters, the commands of its preamble and its characters, and the place after them,
+    which is their length. The last character with each code is kept with its place."""
 
     def __init__(self):
         self.characters, self.last = [], {}
@@ -133,12 +132,12 @@ class Font:
         self.write([beginning(character, previous), *painting(character), bytes([Opcode.EOC])])
 
     def box(self):
-        """The least box round those of all characters, of which there is one at least."""
+        """The least box around the boxes of all characters. There must be at least one."""
         boxes = zip(*(character.box for character in self.characters))
         return [end(numbers) for end, numbers in zip((min, max, min, max), boxes)]
 
     def ending(self):
-        """The commands behind the characters, and four bytes or more, with which the length is a multiple of 4."""
+        """The commands after the characters, and four bytes or more, so that the length is a multiple of 4."""
         post = struct.pack(">B9i", Opcode.POST, self.place, 0, 0, 0, 0, *self.box())
         locators = [locator(*self.last[code]) for code in sorted(self.last)]
         commands = [post, *locators, struct.pack(">BiB", Opcode.POST_POST, self.place, GF)]
@@ -147,7 +146,7 @@ class Font:
 
 
 def font_commands(characters):
-    """The commands of the font file of these characters, of which there is one at least."""
+    """The commands of the font file with these characters. There must be at least one."""
     font = Font()
     for character in characters:
         font.ship(character)

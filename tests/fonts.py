@@ -3,16 +3,16 @@
 
     tests/fonts.py [PROGRAM]
 
-METAFONT draws four fonts at two resolutions. tools/mf2mfp.py makes a script of what it logs of each, and PROGRAM, which is
-`mfpic` beside this folder unless another is named, makes a font file of that. Compared are the black pixels of all
-characters in order, their codes, and of each code dx and width; characters whose boxes are the same are counted, since
-METAFONT's may be wider. gftype must have no complaint of the file and show the same pixels, and gftopk must pack it. So is
-a font of everything that is translated, `pictures.mf`; and what is not translated must be told.
+METAFONT draws four fonts at two resolutions. tools/mf2mfp.py makes a script from the log of each, and PROGRAM, by default `mfpic`
+beside this folder, makes a font file from that. This script compares the black pixels of all characters in order, their codes,
+and dx and width of each code. It counts the characters whose boxes are the same, because METAFONT's may be larger. gftype must
+not complain about the file and must show the same pixels, and gftopk must pack it. The same is done with `pictures.mf`, a font
+with everything that is translated. What is not translated must be reported.
 
-examples/logo10.mfp must be what is made of logo10 at the lower resolution. examples/logo10.gf must have METAFONT's
-characters, and the grid in examples/logo10.transcript METAFONT's weights.
+examples/logo10.mfp must be the script of logo10 at the lower resolution. examples/logo10.gf must have METAFONT's characters, and
+the grid in examples/logo10.transcript must have METAFONT's weights.
 
-Where METAFONT, its base, a source or a program is not installed, nothing is compared.
+If METAFONT, its base, a source or one of the programs is not installed, nothing is compared.
 """
 
 import os
@@ -37,14 +37,14 @@ METAFONT, BASE = "mf-nowin", "mf.base"
 PROGRAMS = (METAFONT, "kpsewhich", "gftype", "gftopk")
 SOURCES = ("logo10", "cmr10", "cmti10", "cmex10")
 PICTURES = "pictures"
-# The example, and the code of its character that is proofed.
+# The example, and the code of the character of which it has a proof.
 EXAMPLE, PROOFED = "logo10", 77
-# METAFONT finds these sources before all others, has this memory, in words of eight bytes, and makes nothing that is missing.
+# METAFONT finds the sources in these folders first, has this memory, in words of eight bytes, and does not make missing files.
 ENVIRONMENT = {**os.environ, "MFINPUTS": f"{TOOLS}:{TESTS}:", "main_memory": "8000000", "MKTEXFMT": "0", "MKTEXMF": "0"}
 # Seconds that a run may take. The program may take more, since `mfpic` builds it where it is missing.
 LIMIT, LIMIT_WITH_BUILD = 60, 3600
 
-# METAFONT's commands in a letter, and what tools/mf2mfp.py says of those that it does not translate.
+# METAFONT commands in a letter that tools/mf2mfp.py does not translate, and what it says about them.
 UNTRANSLATED = (
     ("u := nullpicture; t := u;", "it is not known what is assigned to the picture t"),
     ("u := nullpicture; show currentpicture; t := u;", "it is not known what is assigned to the picture t"),
@@ -63,7 +63,7 @@ UNTRANSLATED = (
     ("charext := 1;", "METAFONT ships 65, and the font has the character 321 in this place"),
     ("chardy := 2;", "the character 65 has an escapement upwards"),
     ("def shipit = shipout nullpicture hide(chardx := 7) enddef;", "the escapement of the character 65 is 37 here"),
-    ("proofing := -1;", "METAFONT ships 65 behind the last character of the font"),
+    ("proofing := -1;", "METAFONT ships 65 after the last character of the font"),
 )
 LETTER = """mode_setup; picture t, u, v, w[]; t := nullpicture; v := currentpicture; beginchar("B", 9pt#, 9pt#, 0); endchar;
 beginchar("A", 9pt#, 9pt#, 0); fill unitsquare scaled 9;
@@ -72,7 +72,7 @@ beginchar("A", 9pt#, 9pt#, 0); fill unitsquare scaled 9;
 
 
 class Mode(typing.NamedTuple):
-    """What METAFONT knows of a printer: pixels per inch, and how it corrects for the printer's blackness and overshoot."""
+    """What METAFONT knows about a printer: pixels per inch, and its corrections for the printer's blackness and for overshoot."""
 
     pixels: int
     blacker: str
@@ -84,7 +84,7 @@ MODES = (Mode(300, "0", ".2", ".6"), Mode(600, ".25", "0", "1"))
 
 
 class Compared(typing.NamedTuple):
-    """What came of a font: how many characters were compared, how many have METAFONT's box, and what is wrong."""
+    """The result of comparing a font: how many characters were compared, how many have METAFONT's box, and what is wrong."""
 
     characters: int
     same_box: int
@@ -92,24 +92,24 @@ class Compared(typing.NamedTuple):
 
 
 class Failure(Exception):
-    """A program ends with another status than 0, or not in time."""
+    """A program exits with a status other than 0, or does not exit in time."""
 
 
 def run(words: list[object], folder: pathlib.Path, limit: int = LIMIT, script: str = "") -> str:
-    """What a program prints that is run in a folder and must end with status 0."""
+    """Runs a program in a folder, and returns what it prints. It must exit with status 0."""
     texts = [str(word) for word in words]
     how = {"input": script, "capture_output": True, "encoding": "latin-1", "timeout": limit, "check": False}
     try:
         ran = subprocess.run(texts, cwd=folder, env=ENVIRONMENT, **how)
     except subprocess.TimeoutExpired:
-        raise Failure(f"{texts[0]} has not ended after {limit} seconds") from None
+        raise Failure(f"{texts[0]} is still running after {limit} seconds") from None
     if ran.returncode != 0:
-        raise Failure(f"{' '.join(texts)} ends with status {ran.returncode}: {(ran.stderr or ran.stdout).strip()[-400:]}")
+        raise Failure(f"{' '.join(texts)} exits with status {ran.returncode}: {(ran.stderr or ran.stdout).strip()[-400:]}")
     return ran.stdout
 
 
 def missing() -> str | None:
-    """What is not installed, if something is not."""
+    """Something that is needed and not installed, if there is such a thing."""
     for program in PROGRAMS:
         if not shutil.which(program):
             return program
@@ -120,7 +120,7 @@ def missing() -> str | None:
 
 
 def drawn(name: str, mode: Mode, folder: pathlib.Path, more: str = "") -> pathlib.Path:
-    """The font file that METAFONT draws, with its log beside it. It performs more commands before the font."""
+    """Has METAFONT draw a font, after the commands `more`. Returns the path of the font file, which has the log beside it."""
     setting = f"pixels_per_inch := {mode.pixels}; blacker := {mode.blacker}; fillin := {mode.fillin};"
     setting += f" o_correction := {mode.overshoot}; proofing := 0; fontmaking := 1; tracingtitles := 0;"
     line = f"\\mode_def trial = {setting} enddef; mode := trial; input mf2mfp; {more} input {name}"
@@ -129,7 +129,7 @@ def drawn(name: str, mode: Mode, folder: pathlib.Path, more: str = "") -> pathli
 
 
 def translated(font: pathlib.Path, *options: str) -> str:
-    """The script that is made of a font file and the log beside it."""
+    """The script that is made from a font file and the log beside it."""
     return run([sys.executable, TOOLS / "mf2mfp.py", font.with_suffix(".log"), font, *options], font.parent)
 
 
@@ -140,7 +140,7 @@ def difference(ours: Font, theirs: Font) -> list[str]:
         wrong.append(f"{len(ours.characters)} and {len(theirs.characters)} characters")
     for number, (own, other) in enumerate(zip(ours.characters, theirs.characters)):
         if (own.code, own.previous) != (other.code, other.previous):
-            told = " and ".join(f"the code {one.code} behind character {one.previous}" for one in (own, other))
+            told = " and ".join(f"the code {one.code} after character {one.previous}" for one in (own, other))
             wrong.append(f"character {number}: {told}")
         elif own.runs != other.runs:
             apart = sorted(own.black ^ other.black)
@@ -153,7 +153,7 @@ def difference(ours: Font, theirs: Font) -> list[str]:
 
 
 def complaints(path: pathlib.Path, font: Font) -> list[str]:
-    """What gftype and gftopk say of a font file, and where gftype shows other pixels than have been read."""
+    """What gftype and gftopk complain about in a font file, and where gftype shows other pixels than `font` has."""
     characters, _, wrong = gftype.told_by_gftype(path)
     pairs = zip(characters, font.characters)
     wrong += [f"gftype shows the code {own.code} otherwise" for shown, own in pairs if shown.black != own.black]
@@ -165,30 +165,30 @@ def complaints(path: pathlib.Path, font: Font) -> list[str]:
 
 
 def at_corner(weights: dict[tuple[int, int], int]) -> dict[tuple[int, int], int]:
-    """Weights by pixels, moved so that the least column and row are 0."""
+    """Weights by pixels, moved so that the least column and the least row are 0."""
     left, low = (min(places) for places in zip(*weights))
     return {(x - left, y - low): weight for (x, y), weight in weights.items()}
 
 
 def grid_of(transcript: str) -> dict[tuple[int, int], int]:
-    """The weights by pixels that a transcript shows before its first character."""
+    """The weights by pixels of the grid text that a transcript has before its first character."""
     rows = enumerate(reversed(transcript.partition("[")[0].splitlines()))
     return {(x, y): int(mark) for y, row in rows for x, mark in enumerate(row) if mark != "."}
 
 
 def weights_by_metafont(folder: pathlib.Path) -> dict[tuple[int, int], int]:
-    """The weights by pixels of the example's character that is proofed, when METAFONT ships it."""
+    """The weights by pixels of the character of which the example has a proof, when METAFONT ships it."""
     showing = f'extra_endchar := extra_endchar & "if charcode = {PROOFED}: show currentpicture; fi";'
     log = drawn(EXAMPLE, MODES[0], folder, showing).with_suffix(".log")
     return pixels_of_edges(log.read_text(encoding="latin-1"))
 
 
 def about_example(script: str, theirs: Font, folder: pathlib.Path) -> list[str]:
-    """What is wrong with the example, where this script should be it, with METAFONT's characters."""
+    """What is wrong with the example, which should be this script and have METAFONT's characters."""
     example = ROOT / "examples" / EXAMPLE
     wrong = difference(read_font(example.with_suffix(".gf").read_bytes()), theirs)
     if example.with_suffix(".mfp").read_text(encoding="ascii") != script:
-        wrong.append("this is not the script that is made of the font")
+        wrong.append("this is not the script that is made from the font")
     grid = grid_of(example.with_suffix(".transcript").read_text(encoding="ascii"))
     if at_corner(grid) != at_corner(weights_by_metafont(folder)):
         wrong.append("the grid has other weights than METAFONT's picture")
@@ -196,7 +196,7 @@ def about_example(script: str, theirs: Font, folder: pathlib.Path) -> list[str]:
 
 
 def about_untranslated(commands: str, told: str, folder: pathlib.Path) -> list[str]:
-    """What is wrong where a letter has these commands, of which this is told."""
+    """What is wrong if a letter with these commands does not get the message `told`."""
     (folder / "letter.mf").write_text(LETTER.format(commands), encoding="ascii")
     try:
         font = drawn("letter", MODES[0], folder)
@@ -209,7 +209,7 @@ def about_untranslated(commands: str, told: str, folder: pathlib.Path) -> list[s
 
 
 def compare(program: str, name: str, mode: Mode, folder: pathlib.Path) -> Compared:
-    """Draws a font with METAFONT and by a script, and compares both."""
+    """Draws a font with METAFONT and with a script, and compares both."""
     font, path = drawn(name, mode, folder), folder / "ours.gf"
     theirs, script = read_font(font.read_bytes()), translated(font)
     path.unlink(missing_ok=True)
@@ -224,7 +224,7 @@ def compare(program: str, name: str, mode: Mode, folder: pathlib.Path) -> Compar
 
 
 def is_passed(program: str, name: str, mode: Mode) -> bool:
-    """Whether a font is as METAFONT draws it, which is told."""
+    """Whether a font is as METAFONT draws it. Prints the result."""
     about = f"{name} at {mode.pixels} dots per inch"
     with tempfile.TemporaryDirectory() as folder:
         try:
@@ -236,7 +236,7 @@ def is_passed(program: str, name: str, mode: Mode) -> bool:
 
 
 def are_told() -> bool:
-    """Whether all that is not translated is told, which is told in turn."""
+    """Whether everything that is not translated is reported. Prints the result."""
     wrong = []
     for commands, told in UNTRANSLATED:
         with tempfile.TemporaryDirectory() as folder:
@@ -250,7 +250,7 @@ def main() -> int:
         print(f"0 fonts compared: {absent} is not installed")
         return 0
     program = os.path.abspath(sys.argv[1]) if len(sys.argv) > 1 else str(ROOT / "mfpic")
-    # These are no fonts that are counted, but they must pass.
+    # These two are not counted as fonts, but they must pass.
     failed = 0 if are_told() else 1
     failed += 0 if is_passed(program, PICTURES, MODES[0]) else 1
     passed = 0

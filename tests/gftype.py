@@ -3,14 +3,14 @@
 
     tests/gftype.py [PROGRAM]
 
-The tests of mf_gf compare each character that the library writes with the bytes in a table. This script reads that
-table, wraps each character into a GF file with a postamble of its own, has gftype print it with its images, and
-compares: gftype has no complaint, it finds the character and its locator, and its image is the black pixels that the
-table names. Then PROGRAM, which is `mfpic` beside this folder unless another is named, ships the letters of
-examples/font.mfp, alone and with lines behind them that ship codes again: the images are the grids that `proof` shows
-before each, each code has one locator, with the dx and width of the script and the place of the last character, the
-place that each character names is that of the one before it with its code, gftopk packs the file, and its bytes are
-those that `font_model.py` writes. It is run by hand.
+The tests of mf_gf compare each character that the library writes with the bytes in a table. This script reads that table, puts
+each character into a GF file with its own postamble, and has gftype print it with its image. gftype must not complain, it must
+find the character and its locator, and its image must be the black pixels in the table.
+
+Then PROGRAM, by default `mfpic` beside this folder, ships the letters of examples/font.mfp, alone and with more lines that ship
+codes again. The images must be the grids that `proof` prints before each character. Each code must have one locator, with the dx
+and width of the script and the place of its last character. The p of each character must be the place of the one before it with
+its code. gftopk must pack the file, and its bytes must be those that `font_model.py` writes. This script is run by hand.
 """
 
 import ast
@@ -29,8 +29,8 @@ ROOT = pathlib.Path(__file__).parent.parent
 TABLE = ROOT / "crates/mf_gf_tests/src/tests/characters.rt"
 FONT = ROOT / "examples/font.mfp"
 
-# Lines that may stand behind those of the font. The code of H is shipped four times in all, once with no black pixel,
-# and that of T far from all others and then among them.
+# Lines that can be added after those of the font. In total the code of H is shipped four times, once with no black pixel, and
+# that of T first far from all others and then among them.
 AGAIN = """
 proof h
 shipout h code 72 dx 0 width 1
@@ -59,8 +59,8 @@ CASE = re.compile(
     re.DOTALL,
 )
 
-# The whole lines that gftype prints of a lawful font, beside those below. A complaint may also stand behind the
-# beginning of such a line.
+# The lines that gftype prints about a correct font, besides those below. They must match completely, because a complaint may also
+# come at the end of such a line.
 LAWFUL = re.compile(
     r"|This is GFtype, .*|Options selected: [^!]*|''|\(initially n=-?\d+\)( paint [\d()]+)?"
     r"|\d+: (newrow|skip[0-3]) \d+ \(n=-?\d+\) paint [\d()]+|\d+: eoc|\(The character is entirely blank\.\)"
@@ -87,8 +87,8 @@ SHIPPING = re.compile(r"^shipout \w+ code (\d+) dx (-?\d+) width (-?\d+)$", re.M
 
 @dataclasses.dataclass
 class Character:
-    """A character as gftype prints it: its code, its place in the file, that of the previous character which it names,
-    and its black pixels."""
+    """A character as gftype prints it: its code, its place in the file, the place of the previous character with its code, and
+    its black pixels."""
 
     code: int
     place: int
@@ -97,20 +97,20 @@ class Character:
 
 
 def run(words, limit=LIMIT, **more):
-    """A run of a program, with all that it prints."""
+    """Runs a program, and keeps everything that it prints."""
     try:
         return subprocess.run(words, capture_output=True, text=True, check=False, timeout=limit, **more)
     except subprocess.TimeoutExpired:
-        sys.exit(f"{words[0]} has not ended after {limit} seconds")
+        sys.exit(f"{words[0]} is still running after {limit} seconds")
 
 
 def pixels_of(stretches):
-    """The pixels of stretches, each a row, a first column and a length."""
+    """The pixels of stretches, each of which is a row, a first column and a length."""
     return {(x + i, y) for y, x, length in stretches for i in range(length)}
 
 
 def gf_file(code, character, black):
-    """A GF file with this character alone."""
+    """A GF file with only this character."""
     columns = [x for x, _ in black] or [0]
     rows = [y for _, y in black] or [0]
     right = max(columns) + 1 if black else 0
@@ -126,9 +126,9 @@ def gf_file(code, character, black):
 
 
 def told_by_gftype(path):
-    """What gftype prints of a font: its characters in order, dx, width and place by code, and its complaints."""
+    """What gftype prints about a font: the characters in order, dx, width and place by code, and the complaints."""
     ran = run(["gftype", "-mnemonics", "-images", str(path)])
-    wrong = [f"gftype ends with status {ran.returncode}"] if ran.returncode != 0 else []
+    wrong = [f"gftype exits with status {ran.returncode}"] if ran.returncode != 0 else []
     characters, locators, total, left, row = [], {}, None, None, None
     for line in ran.stdout.splitlines():
         if begins := BEGINNING.fullmatch(line):
@@ -170,13 +170,13 @@ def complaints(case, folder):
 
 
 def at_corner(pixels):
-    """Pixels, moved so that their least column and row are 0."""
+    """Pixels, moved so that their least column and their least row are 0."""
     left, low = min((x for x, _ in pixels), default=0), min((y for _, y in pixels), default=0)
     return {(x - left, y - low) for x, y in pixels}
 
 
 def grids_of(transcript):
-    """The codes that a transcript shows, in order, each with the pixels of the grid before it."""
+    """The shipped codes in a transcript, in order, each with the pixels of the grid before it."""
     grids, grid = [], []
     for line in transcript.splitlines():
         if shipped := re.fullmatch(r"\[(\d+)\]", line):
@@ -190,7 +190,7 @@ def grids_of(transcript):
 
 
 def previous_places(characters):
-    """For each character the place of the one before it with the same code."""
+    """The place of the last character before each character with the same code."""
     last, previous = {}, []
     for found in characters:
         previous.append(last.get(found.code, NOWHERE))
@@ -199,11 +199,11 @@ def previous_places(characters):
 
 
 def complaints_about_font(program, script, folder):
-    """What is wrong with the font that the program makes of a script."""
+    """What is wrong with the font that the program makes from a script."""
     path = folder / "font.gf"
     ran = run([program, "--gf", str(path)], LIMIT_WITH_BUILD, input=script)
     if ran.returncode != 0:
-        return [f"the program ends with status {ran.returncode}: {ran.stderr}"]
+        return [f"the program exits with status {ran.returncode}: {ran.stderr}"]
     characters, locators, wrong = told_by_gftype(path)
     grids, shipped = grids_of(ran.stdout), [tuple(map(int, line)) for line in SHIPPING.findall(script)]
     if [code for code, _, _ in shipped] != [found.code for found in characters]:
@@ -211,26 +211,26 @@ def complaints_about_font(program, script, folder):
     if [(found.code, at_corner(found.black)) for found in characters] != grids:
         wrong.append("the images differ from the grids")
     if [found.previous for found in characters] != previous_places(characters):
-        wrong.append("a character does not name the one before it with its code")
+        wrong.append("the p of a character is not the place of the one before it with its code")
     expected = {code: (dx, width, found.place) for (code, dx, width), found in zip(shipped, characters)}
     if locators != expected:
-        wrong.append(f"the locators are {locators} in place of {expected}")
+        wrong.append(f"the locators are {locators} instead of {expected}")
     modelled = [font_model.Character(*line, frozenset(found.black)) for line, found in zip(shipped, characters)]
     if path.read_bytes() != b"".join(font_model.font_commands(modelled)):
         wrong.append("the bytes are not those of the model")
     packed = run(["gftopk", str(path), str(folder / "font.pk")])
     if packed.returncode != 0:
-        wrong.append(f"gftopk ends with status {packed.returncode}: {packed.stdout}")
+        wrong.append(f"gftopk exits with status {packed.returncode}: {packed.stdout}")
     return wrong
 
 
 def cases_of_table():
-    """The cases of the table, each of which must be laid out as the pattern says."""
+    """The cases of the table. Each must have the layout of the pattern."""
     table = CASES.search(TABLE.read_text(encoding="ascii"))
     if not table:
         sys.exit(f"{TABLE} has no table")
     if other := CASE.sub("", table[1]).strip():
-        sys.exit(f"the table has something else than cases, or a case that is laid out otherwise: {other}")
+        sys.exit(f"the table has something other than cases, or a case with another layout: {other}")
     return [match.groupdict() for match in CASE.finditer(table[1])]
 
 

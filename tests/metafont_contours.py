@@ -1,13 +1,13 @@
 #!/usr/bin/env python3
-"""Compares contours under the turning check, and without it, with METAFONT (`mf-nowin`, Debian package texlive-binaries).
+"""Compares contours, with the turning check on and off, with METAFONT (`mf-nowin`, Debian package texlive-binaries).
 
     tests/metafont_contours.py PROGRAM COUNT SEED
 
-Random cycles are filled into blank pictures, each with a weight and a value of `turningcheck`, by the program and by METAFONT,
-whose edge structures are read from its log. A cycle that the program refuses under the check METAFONT fills all the same, so
-the pixels of these are not compared. Of those of turning number 0 without a reversal it is asked that METAFONT calls them a
-strange path just where its check is above 1; of those that turn straight back nothing is asked, since METAFONT counts a
-reversal as a left turn. It is run by hand.
+The program and METAFONT fill random cycles into blank pictures, each with a weight and a value of `turningcheck`. METAFONT's edge
+structures are read from its log. METAFONT also fills a cycle that the program refuses under the check, so the pixels of these are
+not compared. METAFONT must call a cycle with turning number 0 and without a reversal a strange path exactly where its check is
+above 1. Nothing is required of cycles that turn straight back, because METAFONT counts a reversal as a left turn. This script is
+run by hand.
 """
 
 import collections
@@ -26,7 +26,7 @@ def --={curl 1}..{curl 1}enddef;
 autorounding:=0; smoothing:=0; granularity:=1;
 picture a;
 """
-# As many contours as METAFONT reads at once, and points that its paths may have.
+# The number of contours that METAFONT reads at once, and the greatest number of points of its paths.
 AT_ONCE, POINTS = 500, 200
 CHECKS = (-1, 0, 0, 1, 2, 2)
 SHOWN = re.compile(r"^row (-?\d+):(.*)$", re.M)
@@ -62,7 +62,7 @@ def by_metafont(cases, folder):
     """What METAFONT logs of each contour."""
     lines = [HEAD]
     for points, weight, check in cases:
-        # A line of METAFONT's is short.
+        # METAFONT reads only short lines.
         path = path_of(points).replace("--(", "--\n(")
         lines += [f"turningcheck:={check}; a:=nullpicture;", f"addto a contour {path} withweight {weight};"]
         lines += ["show a;", 'message "next";']
@@ -84,7 +84,8 @@ def pixels_of_runs(text):
 
 
 def pixels_of_edges(log):
-    """The weights of an edge structure: from the column of an edge on they grow by one for each + after it, or fall for each -."""
+    """The weights of an edge structure: at the column of an edge they increase by one for each + after it, and decrease for each
+    -."""
     found = {}
     for row, edges in SHOWN.findall(re.sub(r"\n(?= )", "", log)):
         changes = collections.Counter()

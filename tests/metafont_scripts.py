@@ -3,16 +3,16 @@
 
     tests/metafont_scripts.py PROGRAM COUNT SEED
 
-Each script has the commands that METAFONT has too: contours, with the turning check on and off, sums and differences, culls,
-shifts, scales, turns, clears, totals, and characters that are shipped. The program and METAFONT perform it. Compared are the
-totals, the weights of all pixels of each picture at the end, and the two font files: their characters in order, and for each
-code dx, width and the last character. Of characters with the same box all commands are compared, and of the others, whose
-boxes METAFONT leaves larger than they need to be, the black pixels.
+Each script has only commands that METAFONT has, too: contours, with the turning check on and off, sums and differences, culls,
+shifts, scales, turns, clears, totals, and shippings. The program and METAFONT both perform it. This script compares the totals,
+the weights of all pixels of each picture at the end, and the two font files: their characters in order, and dx, width and the
+last character of each code. Characters with the same box are compared command by command. The boxes of the others are larger than
+necessary in METAFONT's file, so only the black pixels of these are compared.
 
-The lines are made by `random_lines.py`. Left out are those that the program refuses, by `pixel_model.py`, those with numbers
-that METAFONT has not, and those that make a picture too large for it or for the model: METAFONT keeps the room of pixels that
-are blank again. The first script that differs is printed, without the lines that it may lack and still differ. Where METAFONT
-is not installed, nothing is compared.
+The lines are made by `random_lines.py`. Left out are lines that the program refuses, according to `pixel_model.py`, lines with
+numbers that METAFONT does not have, and lines that make a picture too large for METAFONT or for the model: METAFONT keeps the
+room of pixels that are blank again. The first script that differs is printed, without the lines that can be left out while it
+still differs. If METAFONT is not installed, nothing is compared.
 """
 
 import collections
@@ -34,23 +34,23 @@ sys.path.append(str(pathlib.Path(__file__).parent.parent / "tools"))
 import gf
 
 METAFONT = "mf-nowin"
-# METAFONT reads the script in the folder where it is run, and has this memory, in words of eight bytes.
+# METAFONT reads the script from the folder where it runs. Its memory is given in words of eight bytes.
 ENVIRONMENT = {**os.environ, "MFINPUTS": ".", "main_memory": "8000000"}
 COMMANDS = ["contour", "also", "also -", "keeping", "dropping", ":=", "shifted", "scaled", "xscaled", "yscaled"]
 UNCHANGING = ["show totalweight", "shipout", "turningcheck on", "turningcheck off"]
 COMMANDS += ["rotated", *UNCHANGING]
-# Characters that are compared command by command, and those that are compared by their black pixels; and what else fonts have.
+# Characters that are compared command by command, characters that are compared by their black pixels, and what else fonts have.
 SAME_BOX, SMALLER_BOX = "a character with METAFONT's box", "a character with a smaller box"
-SHIPPED = [SAME_BOX, SMALLER_BOX, "a blank character", "a code shipped again", "a dx that is no whole number of pixels"]
+SHIPPED = [SAME_BOX, SMALLER_BOX, "a blank character", "a code shipped again", "a dx that is not a whole number of pixels"]
 KNOWN = [*COMMANDS, *SHIPPED]
-# So many scripts are enough for each of these to come.
+# With this many scripts each of these must occur.
 ENOUGH = 300
-# Few enough pixels for the model, and edges of a picture for METAFONT, which sorts those of a row one by one.
+# The most pixels of a picture, for the model, and the most edges, for METAFONT, which sorts the edges of a row one by one.
 MAX_PIXELS, MAX_EDGES = 2_000, 4_000
 # Seconds that a run may take.
 LIMIT = 60
-# METAFONT's width in 1/65536 point is so many times ours, since its design size is 128 points where none is set; its dx is
-# below 4096 pixels, and its width below 2048 points.
+# METAFONT's width in 1/65536 point is 8 times ours, because its design size is 128 points if none is set. Its dx is below 4096
+# pixels, and its width below 2048 points.
 WIDTH, MAX_DX, MAX_WIDTH = 8, 4096 * gf.PIXEL, 2048 * gf.PIXEL // 8
 
 
@@ -58,12 +58,12 @@ class Scripts(Chance):
     """Random scripts."""
 
     def kinds(self):
-        """What makes a line."""
+        """The functions that make a line."""
         kinds = [self.contour] * 5 + [self.also] * 2 + [self.cull] * 2 + [self.shift, self.scale, self.turn] * 2
         return [*kinds, self.clear, self.total, self.ship, self.ship]
 
     def lawful_script(self):
-        """Lines that the program accepts, of the commands that METAFONT has."""
+        """Lines that the program accepts, with commands that METAFONT has, too."""
         turns, lines = self.choice([0, 0, 0.03, 0.2]), []
         if self.happens(0.6):
             lines.append(self.turningcheck())
@@ -74,14 +74,14 @@ class Scripts(Chance):
 
 
 class Room:
-    """What METAFONT keeps of each picture: the box of all pixels that it had since it was cleared or culled, and how many
-    edges at most."""
+    """What METAFONT keeps of each picture: the box of all pixels that it has had since it was cleared or culled, and a bound on
+    the number of its edges."""
 
     def __init__(self):
         self.kept = {}
 
     def kept_of(self, line, model):
-        """The corners and the number of edges of the picture that a line changes, where the model has performed it."""
+        """The name, the corners and the number of edges of the picture that a line changes, after the model has performed it."""
         name = line.tokens[0 if ":=" in line.tokens else 1]
         corners, edges = self.kept.get(name, ([], 0))
         if line.command == "contour":
@@ -101,7 +101,7 @@ class Room:
         return name, [moved(line.command, operand, corner) for corner in corners], edges * rows
 
     def holds(self, line, model):
-        """Whether METAFONT holds the picture that a line changes. If so, that is kept in mind."""
+        """Whether METAFONT has room for the picture that a line changes. If so, the picture is remembered."""
         if line.command in UNCHANGING:
             return True
         name, corners, edges = self.kept_of(line, model)
@@ -112,7 +112,7 @@ class Room:
 
 
 def ends_of(corners):
-    """The least and the greatest corner of a box, if there is one."""
+    """The least and the greatest corner of the box of these corners, if there are any."""
     if not corners:
         return []
     columns, rows = zip(*corners)
@@ -120,7 +120,7 @@ def ends_of(corners):
 
 
 def moved(command, operand, corner):
-    """Where a shift, scale or turn takes a point."""
+    """Where a shift, a scale or a turn moves a point."""
     x, y = corner
     if command == "shifted":
         return x + operand[0], y + operand[1]
@@ -135,21 +135,21 @@ def numbers(tokens):
 
 
 def is_expressed(line, model):
-    """Whether METAFONT has the numbers of a line, whose picture the model has not yet changed."""
+    """Whether METAFONT has the numbers of a line, which the model has not performed yet."""
     if line.command == "contour":
         return len(line.points) <= POINTS
     operands = numbers(line.tokens)
     if line.command == "shipout":
         return abs(operands[1]) < MAX_DX and abs(operands[2]) < MAX_WIDTH
     if line.command in ("keeping", "dropping"):
-        # Greater bounds become this one, which is the same where no weight is greater.
+        # Greater bounds are replaced by this one, which makes no difference if no weight is greater.
         large = max(map(abs, model.picture(line.tokens[1]).values()), default=0)
         return large <= MAX_COORDINATE or max(map(abs, operands)) <= MAX_COORDINATE
     return line.command.startswith("turningcheck") or all(abs(number) <= MAX_COORDINATE for number in operands)
 
 
 def lawful(lines):
-    """The lines that the program accepts, without the others."""
+    """The lines that the program accepts and METAFONT has, without the others."""
     model, room, kept = Model(), Room(), []
     for line in lines:
         if line.command not in COMMANDS or not is_expressed(line, model):
@@ -167,7 +167,7 @@ def lawful(lines):
 
 
 class End(typing.NamedTuple):
-    """What a script comes to: its totals, the weights of its pictures, and its font, where characters were shipped."""
+    """The result of a script: its totals, the weights of its pictures, and its font, if characters were shipped."""
 
     totals: list
     pictures: list
@@ -175,7 +175,7 @@ class End(typing.NamedTuple):
 
 
 def font_at(path):
-    """The font file at a path, which is removed, if there is one."""
+    """Reads the font file at a path, if there is one, and removes it."""
     if not path.exists():
         return None
     font = gf.read_font(path.read_bytes())
@@ -184,7 +184,7 @@ def font_at(path):
 
 
 def by_program(program, lines, folder):
-    """What a script comes to by the program."""
+    """The result of a script when the program performs it."""
     texts = [" ".join(line.tokens) for line in lines]
     for name in NAMES:
         texts += ["publish", f"show {name}"]
@@ -201,7 +201,7 @@ def by_program(program, lines, folder):
 
 
 def scaled(number):
-    """A number of METAFONT's, in 1/65536."""
+    """A number in 1/65536, as METAFONT writes it."""
     return f"{number / gf.PIXEL:.12f}"
 
 
@@ -211,15 +211,15 @@ def for_metafont(line):
         code, dx, width = numbers(line.tokens)
         return f"charcode:={code}; chardx:={scaled(dx)}; charwd:={scaled(width * WIDTH)}; shipout {line.tokens[1]};"
     if line.command == "contour":
-        # A line of METAFONT's is short.
+        # METAFONT reads only short lines.
         return " ".join("--\n" if token == "--" else token for token in line.tokens) + ";"
-    # A number that is too large stands for any large one.
+    # A number that is too large for METAFONT becomes the largest one.
     tokens = [str(min(int(token), MAX_COORDINATE)) if token.isdigit() else token for token in line.tokens]
     return " ".join(tokens) + ";"
 
 
 def by_metafont(lines, folder):
-    """What a script comes to by METAFONT."""
+    """The result of a script when METAFONT performs it."""
     texts = [HEAD, "turningcheck:=1;", f"picture {','.join(NAMES)};", *(f"{name}:=nullpicture;" for name in NAMES)]
     texts += map(for_metafont, lines)
     for name in NAMES:
@@ -241,13 +241,13 @@ def is_within(inner, outer):
 
 
 def told_of_character(character):
-    """All of a character but its place, which those before it decide, too."""
+    """Everything about a character but its place, which also depends on the characters before it."""
     head = f"first byte {character.opcode}, code {character.code}, previous {character.previous}, box {tuple(character.box)}"
     return f"{head}, commands {character.commands.hex()}"
 
 
 def difference_of_characters(number, ours, theirs):
-    """How two characters differ, if they do: also in bytes, where they have the same box."""
+    """How two characters differ, if they do. Characters with the same box are also compared byte by byte."""
     if ours.box == theirs.box or not is_within(ours.box, theirs.box):
         own, other = told_of_character(ours), told_of_character(theirs)
         return "" if own == other else f"character {number}: {own} and {other}"
@@ -269,7 +269,7 @@ def difference_of_fonts(ours, theirs):
 
 
 def difference(ours, theirs):
-    """How two ends differ, if they do."""
+    """How two results differ, if they do."""
     if ours.totals != theirs.totals:
         return f"the totals are {ours.totals} and {theirs.totals}"
     for name, own, other in zip(NAMES, ours.pictures, theirs.pictures, strict=True):
@@ -284,7 +284,7 @@ def count_font(counts, ours, theirs):
         counts[SAME_BOX if own.box == other.box else SMALLER_BOX] += 1
         counts["a blank character"] += not own.black
         counts["a code shipped again"] += own.previous != gf.NOWHERE
-    counts["a dx that is no whole number of pixels"] += any(dx % gf.PIXEL for dx, *_ in ours.locators.values())
+    counts["a dx that is not a whole number of pixels"] += any(dx % gf.PIXEL for dx, *_ in ours.locators.values())
 
 
 def told_of(program, lines, folder, counts):
@@ -305,7 +305,7 @@ def told_of(program, lines, folder, counts):
 
 
 def shortened(program, lines, folder):
-    """A script that differs, without the lines that it may lack and still differ."""
+    """A script that differs, without the lines that can be left out while it still differs."""
     for place in reversed(range(len(lines))):
         fewer = lawful(lines[:place] + lines[place + 1 :])
         if told_of(program, fewer, folder, collections.Counter()):

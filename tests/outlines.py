@@ -1,13 +1,13 @@
 #!/usr/bin/env python3
-"""The tools that read GF files: fonts are drawn again by their outlines, words are set, and what is no GF file is refused.
+"""Tests the tools that read GF files: fonts are drawn again by their outlines, font words are set, and other files are refused.
 
     tests/outlines.py [PROGRAM]
 
-Fonts are those of examples/ and tests/scripts/, and made-up ones, whose pixels are known. `tools/gf2mfp.py` makes a script of
-each, which the program performs. Of a font that the program or `font_model.py` has written, the same bytes must come again,
-and of others the same pixels, codes, dx and widths. Contours must have corners alone, few enough of them, and go round
-counterclockwise. Where gftype is installed (Debian package texlive-binaries), it must see the same pixels and words. And what
-the table of docs/FONTS.md says of lines must be what the program says. The last line counts what passed.
+The fonts are those of examples/ and tests/scripts/, and made-up ones, whose pixels are known. `tools/gf2mfp.py` makes a script
+from each, which the program performs. If the program or `font_model.py` has written the font, the result must have the same
+bytes; otherwise it must have the same pixels, codes, dx and widths. Contours must have only corners, not too many of them, and
+go around counterclockwise. If gftype is installed (Debian package texlive-binaries), it must see the same pixels and font words.
+And what the tables of docs/user/METAFONT.md say about lines must be what the program says. The last line counts what passed.
 """
 
 import contextlib
@@ -37,10 +37,10 @@ import gfwords
 # Seconds that a run may take. The program may take more, since `mfpic` builds it where it is missing.
 LIMIT, LIMIT_WITH_BUILD = 60, 3600
 MAX_POINTS = 4096
-FONTS = ROOT / "docs" / "FONTS.md"
+METAFONT = ROOT / "docs" / "user" / "METAFONT.md"
 CODE = re.compile(r"`([^`]*)`")
 CONTOUR = re.compile(r"addto currentpicture contour (.*)--cycle( withweight -1)?")
-# The box within which gftype shows whole characters.
+# gftype shows a character completely if its coordinates are below this in absolute value.
 SHOWN = 200
 SEED = 20
 Pixels = frozenset[tuple[int, int]]
@@ -48,8 +48,8 @@ Pixels = frozenset[tuple[int, int]]
 
 @dataclasses.dataclass(frozen=True)
 class Case:
-    """A font: its name, its bytes, the black pixels of its characters where they are known otherwise than by reading it, and
-    whether the program writes a font with these characters so."""
+    """A font: its name, its bytes, the black pixels of its characters if they are known without reading it, and whether the
+    program writes the same bytes for these characters."""
 
     name: str
     font: bytes
@@ -58,7 +58,7 @@ class Case:
 
 
 class Wrong(Exception):
-    """What a check finds."""
+    """What is wrong, according to a check."""
 
 
 def run(words: list[str | pathlib.Path], limit: int = LIMIT, text: str = "") -> subprocess.CompletedProcess[str]:
@@ -66,7 +66,7 @@ def run(words: list[str | pathlib.Path], limit: int = LIMIT, text: str = "") -> 
 
 
 class Ended(typing.NamedTuple):
-    """How a tool ends: its status, and what it writes to both outputs."""
+    """How a tool ends: its exit status, and what it writes to standard output and to standard error."""
 
     status: int
     printed: str
@@ -74,7 +74,7 @@ class Ended(typing.NamedTuple):
 
 
 def called(tool: types.ModuleType, words: list[str | pathlib.Path]) -> Ended:
-    """A run of a tool within this process, which takes less time than one of its own."""
+    """Runs a tool within this process, which takes less time than a process of its own."""
     printed, told = io.StringIO(), io.StringIO()
     with contextlib.redirect_stdout(printed), contextlib.redirect_stderr(told):
         try:
@@ -82,13 +82,13 @@ def called(tool: types.ModuleType, words: list[str | pathlib.Path]) -> Ended:
         except SystemExit as end:
             status = end.code
     if isinstance(status, str):
-        # So Python ends with a message.
+        # This is how Python exits with a message.
         return Ended(1, printed.getvalue(), f"{told.getvalue()}{status}\n")
     return Ended(status, printed.getvalue(), told.getvalue())
 
 
 def by_itself(tool: types.ModuleType, words: list[str | pathlib.Path]) -> Ended:
-    """A run of a tool in a process of its own."""
+    """Runs a tool in a process of its own."""
     ended_so = run([sys.executable, tool.__file__, *words])
     return Ended(ended_so.returncode, ended_so.stdout, ended_so.stderr)
 
@@ -102,7 +102,7 @@ def expect(is_so: bool, wrong: str) -> None:
 
 
 def rectangle(left: int, right: int, low: int, high: int) -> Pixels:
-    """The pixels from these columns and rows to those before the others."""
+    """The pixels of the columns `left` to `right - 1` in the rows `low` to `high - 1`."""
     return frozenset((x, y) for x in range(left, right) for y in range(low, high))
 
 
@@ -111,7 +111,7 @@ def checkerboard(size: int) -> Pixels:
 
 
 def comb(teeth: int) -> Pixels:
-    """A comb whose outline has four corners for each tooth."""
+    """A comb with this many teeth. Its outline has four corners for each tooth."""
     return rectangle(-teeth, teeth, 0, 2) | {(x, y) for x in range(-teeth, teeth, 2) for y in range(2, 5)}
 
 
@@ -120,7 +120,7 @@ def turned(pixels: Pixels) -> Pixels:
 
 
 def blot(chance: random.Random) -> Pixels:
-    """Rectangles, of which some are white, and pixels strewn over them."""
+    """Rectangles, some of them white, with single pixels scattered over them."""
     black: set[tuple[int, int]] = set()
     for _ in range(chance.randrange(1, 9)):
         left, low = chance.randrange(-20, 20), chance.randrange(-20, 20)
@@ -131,7 +131,7 @@ def blot(chance: random.Random) -> Pixels:
 
 
 def shapes() -> dict[str, list[Pixels]]:
-    """Black pixels of characters, by what they are."""
+    """Black pixels of characters, by what they show."""
     ring = rectangle(0, 9, 0, 7) - rectangle(2, 6, 3, 5)
     frame = rectangle(-1, 93, -1, 93)
     teeth = comb(1100)
@@ -152,7 +152,7 @@ def shapes() -> dict[str, list[Pixels]]:
 
 
 def made_up(name: str, blacks: list[Pixels]) -> Case:
-    """A font of these characters, of which the codes fall from 255, with dx and widths of all kinds and a code shipped again."""
+    """A font of these characters, with codes from 255 downwards, dx and widths of all kinds, and one code shipped again."""
     dxs, widths = (0, 655360, -65536, 98304, 999_999_999, -999_999_999), (0, 1, -655360, 999_999_999, -999_999_999)
     characters = [
         font_model.Character(255 - number, dxs[number % len(dxs)], widths[number % len(widths)], black)
@@ -164,16 +164,16 @@ def made_up(name: str, blacks: list[Pixels]) -> Case:
 
 
 def ended(front: bytes, locators: bytes, characters_end: int | None = None) -> bytes:
-    """A GF file of a preamble with characters, and of locators."""
-    behind = len(front) if characters_end is None else characters_end
-    post = front + struct.pack(">B9i", 248, behind, 10 << 20, -5, 544093, 272046, -9, 9, -9, 9) + locators
+    """A GF file with these bytes before the postamble, and these locators."""
+    end_of_characters = len(front) if characters_end is None else characters_end
+    post = front + struct.pack(">B9i", 248, end_of_characters, 10 << 20, -5, 544093, 272046, -9, 9, -9, 9) + locators
     end = post + struct.pack(">BiB", 249, len(front), 131)
     return end + bytes([223]) * (4 + -len(end) % 4)
 
 
 PREAMBLE = bytes([247, 131, 4]) + b"text"
-# A character with special commands, in a box that is too large: with commands that do nothing, numbers of more bytes than
-# they need, paints of no pixel, and a black run in two parts.
+# A character with special commands, in a box that is larger than necessary: commands that do nothing, numbers with more bytes
+# than they need, paint commands for no pixel, and a black run in two parts.
 SPECIAL = bytes([239, 3, *b"xyz", 243, 0, 1, 0, 0])
 LOOSE = struct.pack(">B6i", 67, 65, -1, -2, 9, -3, 3)
 LOOSE_ROWS = [
@@ -186,7 +186,7 @@ WHOLE = struct.pack(">2B4i", 245, 65, 5 * 65536, 0, 70, len(PREAMBLE))
 
 
 def loose() -> Case:
-    """A font with special commands, as METAFONT's proofs have. Its locator leads to the specials before the character."""
+    """A font with special commands, like METAFONT's proofs. Its locator leads to the special commands before the character."""
     front = PREAMBLE + SPECIAL + LOOSE + b"".join(LOOSE_ROWS)
     return Case("a font with special commands", ended(front + SPECIAL, WHOLE, len(front)), [LOOSE_BLACK], same_bytes=False)
 
@@ -204,7 +204,8 @@ def cases() -> Iterator[Case]:
 
 
 def check_contours(script: str) -> None:
-    """Contours have few points, corners alone, and go round counterclockwise. Nothing else has a weight."""
+    """Contours must not have too many points, must have only corners, and must go around counterclockwise. The only weight that a
+    line may name is -1."""
     for number, line in enumerate(script.splitlines(), 1):
         if not line.startswith("addto"):
             continue
@@ -216,19 +217,19 @@ def check_contours(script: str) -> None:
         corners = all((a[0] == b[0]) != (b[0] == c[0]) and (a[1] == b[1]) != (b[1] == c[1]) for a, b, c in around)
         expect(corners, f"line {number} has a point that is no corner")
         area = sum(a[0] * b[1] - b[0] * a[1] for a, b, _ in around)
-        expect(area > 0, f"line {number} goes round clockwise")
+        expect(area > 0, f"line {number} goes around clockwise")
 
 
 def script_of(font: pathlib.Path) -> str:
     made = called(gf2mfp, [font])
-    expect(made.status == 0 and not made.told, f"gf2mfp ends with status {made.status}: {made.told}")
+    expect(made.status == 0 and not made.told, f"gf2mfp exits with status {made.status}: {made.told}")
     return made.printed
 
 
 def perform(program: str, script: str, font: pathlib.Path) -> None:
-    """Has the program make a font of a script. It must ship each character of the script, and publish behind each."""
+    """Has the program make a font from a script. It must ship each character of the script, and publish after each."""
     performed = run([program, "--gf", font], LIMIT_WITH_BUILD, script)
-    expect(performed.returncode == 0, f"the program ends with status {performed.returncode}: {performed.stderr}")
+    expect(performed.returncode == 0, f"the program exits with status {performed.returncode}: {performed.stderr}")
     codes = re.findall(r"^% Character (\d+)$", script, re.MULTILINE)
     told = re.sub(r"^published \d+$", "published", performed.stdout, flags=re.MULTILINE)
     expect(told == "".join(f"[{code}]\npublished\n" for code in codes), f"the program prints {told[:200]}")
@@ -239,27 +240,27 @@ def seen(font: gf.Font) -> list[tuple[int, int, Pixels]]:
 
 
 def compare(case: Case, read: gf.Font, again: bytes) -> None:
-    """Compares a font with the one that was drawn again."""
+    """Compares a font with the one that was drawn from it."""
     if case.black is not None:
         expect([character.black for character in read.characters] == case.black, "the reader sees other pixels")
     if case.same_bytes:
         expect(again == case.font, "the bytes differ")
     drawn = gf.read_font(again)
-    expect(drawn.locators == read.locators, f"the locators are {drawn.locators} in place of {read.locators}")
+    expect(drawn.locators == read.locators, f"the locators are {drawn.locators} instead of {read.locators}")
     expect(len(drawn.characters) == len(read.characters), f"there are {len(drawn.characters)} characters")
     for number, (one, other) in enumerate(zip(seen(drawn), seen(read))):
-        expect(one == other, f"character {number}, of code {other[0]}, differs")
+        expect(one == other, f"character {number}, with code {other[0]}, differs")
 
 
 def check_again(program: str, case: Case, folder: pathlib.Path) -> None:
-    """A font is drawn again, and compared."""
+    """Draws a font again, and compares both."""
     font, again = folder / "read.gf", folder / "again.gf"
     font.write_bytes(case.font)
     again.unlink(missing_ok=True)
     read = gf.read_font(case.font)
     script = script_of(font)
     check_contours(script)
-    # The contours count alike where the turning check is off.
+    # The contours count the same when the turning check is off.
     perform(program, script, again)
     checked = again.read_bytes()
     perform(program, "turningcheck := 0\n" + script, again)
@@ -290,12 +291,12 @@ def check_cut(folder: pathlib.Path) -> None:
 
 
 def check_apart(folder: pathlib.Path) -> None:
-    """Pixels that touch only at a corner are drawn apart, and holes that do so together."""
+    """Pixels that touch only at a corner are drawn as two contours, and holes that touch only at a corner as one."""
     for black, expected in (({(0, 0), (1, 1)}, [1, 1]), (rectangle(0, 4, 0, 4) - {(1, 1), (2, 2)}, [1, -1])):
         font = folder / "corner.gf"
         font.write_bytes(b"".join(font_model.font_commands([font_model.Character(0, 0, 0, frozenset(black))])))
         weights = [-1 if " withweight -1" in line else 1 for line in script_of(font).splitlines() if "contour" in line]
-        expect(weights == expected, f"the weights of the contours are {weights} in place of {expected}")
+        expect(weights == expected, f"the weights of the contours are {weights} instead of {expected}")
 
 
 # What is refused.
@@ -307,12 +308,12 @@ FINE = ended(PREAMBLE + PIXEL, SHORT)
 
 
 def located(dx: int = 0, dy: int = 0, width: int = 0) -> bytes:
-    """A font with one pixel, and these numbers."""
+    """A font with one pixel, and with these numbers in its locator."""
     return ended(PREAMBLE + PIXEL, struct.pack(">2B4i", 245, 65, dx, dy, width, len(PREAMBLE)))
 
 
 def placed(code: int, left: int, row: int) -> bytes:
-    """A font with one pixel, in a character of this code, and in this column and row."""
+    """A font with one pixel in this column and row, in a character with this code."""
     front = PREAMBLE + struct.pack(">B6i", 67, code, -1, left, left + 1, row, row) + bytes([0, 1, 69])
     return ended(front, struct.pack(">3B2i", 246, code % 256, 1, 0, len(PREAMBLE)))
 
@@ -321,15 +322,15 @@ NO_GF = {
     "byte 0: the file ends too early": b"",
     "byte 0: the first byte of a GF file is 247, and here is 97": b"addto",
     "byte 1: the number of the format is 131, and here is 130": b"\xf7\x82\0",
-    "byte 7: the command 69 begins no character": ended(PREAMBLE + bytes([69]), b""),
-    "byte 14: the command 247 may not stand in a character": ended(PREAMBLE + PIXEL[:7] + bytes([247]), SHORT),
+    "byte 7: the command 69 does not begin a character": ended(PREAMBLE + bytes([69]), b""),
+    "byte 14: the command 247 is not allowed in a character": ended(PREAMBLE + PIXEL[:7] + bytes([247]), SHORT),
     "byte 14: a black pixel is outside the character's box": ended(PREAMBLE + PIXEL[:7] + bytes([2, 69]), SHORT),
     "byte 7: no character before this one begins at byte 3 and has its code 65": ended(
         PREAMBLE + struct.pack(">B6i", 67, 65, 3, 0, 0, 0, 0) + bytes([69]), SHORT
     ),
     "byte 16: the postamble says that the characters end at byte 15, and they end at 16": ended(PREAMBLE + PIXEL, SHORT, 15),
     "byte 7: no locator of the code 65 leads to this character, its last one": ended(PREAMBLE + PIXEL, b""),
-    "byte 64: the command 74 may not stand in the postamble": ended(PREAMBLE + PIXEL, SHORT + bytes([74])),
+    "byte 64: the command 74 is not allowed in the postamble": ended(PREAMBLE + PIXEL, SHORT + bytes([74])),
     "byte 64: the code 65 has two locators": ended(PREAMBLE + PIXEL, SHORT + SHORT),
     "byte 64: the locator of the code 66 leads to byte 8, where no character begins": ended(
         PREAMBLE + PIXEL, SHORT + WITHOUT_PICTURE[:7] + struct.pack(">i", 8)
@@ -339,7 +340,7 @@ NO_GF = {
     ),
     "byte 65: the end says that the postamble is at byte 17, and it is at 16": FINE[:65] + struct.pack(">i", 17) + FINE[69:],
     "byte 70: the file ends in 3 bytes 223 and not in 4 or more": FINE[:73],
-    "byte 76: behind the end come bytes 223 alone": FINE + bytes([0]),
+    "byte 76: only bytes 223 may follow the end": FINE + bytes([0]),
 }
 
 AT, DIGITS = "character 65 at byte 7: ", "and a number of a script has 9 digits at most"
@@ -360,17 +361,17 @@ NO_SCRIPT = {
 
 
 def check_refused(tool: types.ModuleType, wrong: str, font: bytes, folder: pathlib.Path) -> None:
-    """A tool says what is wrong with a file, leaves it as it is, and writes nothing."""
+    """A tool must say what is wrong with a file, leave it as it is, and write nothing."""
     file = folder / "refused.gf"
     file.write_bytes(font)
     ended_so = called(tool, [file, *(["--design-size", "10"] if tool == gfwords else [])])
     expected = Ended(1, "", f"{tool.__name__}.py: {file}: {wrong}\n")
-    expect(ended_so == expected, f"it ends so: {ended_so}, and not so: {expected}")
+    expect(ended_so == expected, f"it ends with {ended_so} instead of {expected}")
     expect(file.read_bytes() == font, "the file has changed")
 
 
 def check_processes(folder: pathlib.Path) -> None:
-    """Each tool has these statuses in a process of its own, and says there what it says within this one."""
+    """Each tool must have these exit statuses in a process of its own, and must say there what it says within this process."""
     none, fine, broken = folder / "none.gf", folder / "fine.gf", folder / "broken.gf"
     fine.write_bytes(FINE)
     broken.write_bytes(FINE[:50])
@@ -386,23 +387,23 @@ def check_processes(folder: pathlib.Path) -> None:
         (2, gfwords, [fine]),
     ):
         within, alone = called(tool, words), by_itself(tool, words)
-        expect(alone.status == status, f"{tool.__name__}.py ends so: {alone}")
+        expect(alone.status == status, f"{tool.__name__}.py ends with {alone}")
         is_same = (within.status, within.printed, within.told[-40:]) == (status, alone.printed, alone.told[-40:])
-        expect(is_same, f"{tool.__name__}.py ends so in this process: {within}, and so alone: {alone}")
+        expect(is_same, f"{tool.__name__}.py ends with {within} in this process, and with {alone} in its own")
 
 
 def check_prefixes(folder: pathlib.Path) -> None:
-    """A font that lacks bytes at its end is refused."""
+    """A font with bytes missing at its end must be refused."""
     for size in range(len(FINE.rstrip(bytes([223]))) + 4):
         expect(not is_read(FINE[:size]), f"the first {size} bytes are read as a font")
     expect(is_read(FINE), "the whole font is not read")
 
 
 def check_changed_bytes(folder: pathlib.Path) -> None:
-    """A font of which a byte is another is read, or refused as the reader refuses."""
+    """A font with one changed byte must be read, or refused with `NotGf`."""
     font = loose().font
     read = [is_read(font[:place] + bytes([byte]) + font[place + 1 :]) for place in range(len(font)) for byte in range(0, 256, 5)]
-    expect(len(set(read)) == 2, "all of the changed fonts are treated alike")
+    expect(len(set(read)) == 2, "all changed fonts are read, or all are refused")
 
 
 def is_read(font: bytes) -> bool:
@@ -413,20 +414,20 @@ def is_read(font: bytes) -> bool:
     return True
 
 
-# The table of docs/FONTS.md.
+# The tables of docs/user/METAFONT.md.
 
 
-def rows_of_table() -> list[list[str]]:
-    """The cells of the rows of "METAFONT, and here"."""
-    section = FONTS.read_text(encoding="utf-8").split("\n## METAFONT, and here\n")[1]
+def rows_of_tables() -> list[list[str]]:
+    """The cells of the rows of the section "What you type"."""
+    section = METAFONT.read_text(encoding="utf-8").split("\n## What you type\n")[1].split("\n## ")[0]
     rows = re.findall(r"^\| (`.*) \|$", section, re.MULTILINE)
     return [row.split(" | ") for row in rows]
 
 
-def check_table(program: str) -> None:
-    """What one types gets the refusal of its row, and how it is said here gets none."""
-    rows = rows_of_table()
-    expect(len(rows) > 30 and all(len(row) == 3 for row in rows), f"the table has other rows than expected: {len(rows)}")
+def check_tables(program: str) -> None:
+    """What you type gets the refusal of its row, and what to type here gets none."""
+    rows = rows_of_tables()
+    expect(len(rows) > 40 and all(len(row) == 3 for row in rows), f"the tables have other rows than expected: {len(rows)}")
     for typed, refusal, here in rows:
         command = CODE.findall(typed)[0]
         expected = "" if refusal == "none" else f"refused {refusal[1:-1]}\n"
@@ -439,12 +440,12 @@ def check_table(program: str) -> None:
 
 # Words.
 
-# The words of the font with special commands, at its place.
+# The words of the font with special commands.
 OLD = (10 << 20, -5, 544093, 272046)
 
 
 def worded() -> dict[str, tuple[int, ...]]:
-    """The words that options make of those of a font."""
+    """The font words that these options turn OLD into."""
     return {
         "--design-size 10 --checksum 1274110073 --resolution 600": (10485760, 1274110073, 544093, 544093),
         "--design-size 9.5": (9961472, *OLD[1:]),
@@ -457,7 +458,7 @@ def worded() -> dict[str, tuple[int, ...]]:
 
 
 def check_words(options: str, words: tuple[int, ...], folder: pathlib.Path) -> None:
-    """Options set these words, and change nothing else."""
+    """Options must set these words, and change nothing else."""
     font, place = loose().font, loose().font.index(struct.pack(">4i", *OLD))
     alone = folder / "words"
     alone.mkdir(exist_ok=True)
@@ -466,10 +467,10 @@ def check_words(options: str, words: tuple[int, ...], folder: pathlib.Path) -> N
     file.chmod(0o640)
     other = ROOT / "examples" / "font.gf"
     ended_so = called(gfwords, [file, *options.format(other=other).split()])
-    expect(ended_so == Ended(0, "", ""), f"it ends so: {ended_so}")
-    expect(file.read_bytes() == font[:place] + struct.pack(">4i", *words) + font[place + 16 :], "the bytes are others")
+    expect(ended_so == Ended(0, "", ""), f"it ends with {ended_so}")
+    expect(file.read_bytes() == font[:place] + struct.pack(">4i", *words) + font[place + 16 :], "the bytes differ")
     expect([path.name for path in alone.iterdir()] == [file.name], "another file is left")
-    expect(file.stat().st_mode & 0o777 == 0o640, "the file's mode is another")
+    expect(file.stat().st_mode & 0o777 == 0o640, "the file's mode has changed")
     if shutil.which("gftype"):
         told = run(["gftype", file]).stdout
         found = re.findall(r"^(?:design size|check sum|[hv]ppp) = (-?\d+)", told, re.MULTILINE)
@@ -482,17 +483,17 @@ USAGE = {
     "--design-size 2048": "argument --design-size: 2048 is not above 0, or too large for a word of four bytes",
     "--design-size ten": "argument --design-size: ten is no decimal number",
     "--checksum 4294967296": "argument --checksum: 4294967296 is too large for a word of four bytes",
-    "--checksum 1.5": "argument --checksum: 1.5 is no whole number",
+    "--checksum 1.5": "argument --checksum: 1.5 is not a whole number",
     "--resolution 1/0": "argument --resolution: 1/0 is no decimal number",
 }
 
 
 def check_usage(options: str, wrong: str, folder: pathlib.Path) -> None:
-    """Options that are wrong are named, and the file stays as it is."""
+    """Wrong options must be named, and the file must stay as it is."""
     file = folder / "usage.gf"
     file.write_bytes(FINE)
     ended_so = called(gfwords, [file, *options.split()])
-    expect(ended_so.status == 2 and ended_so.told.endswith(f"error: {wrong}\n"), f"it ends so: {ended_so}")
+    expect(ended_so.status == 2 and ended_so.told.endswith(f"error: {wrong}\n"), f"it ends with {ended_so}")
     expect(file.read_bytes() == FINE, "the file has changed")
 
 
@@ -506,7 +507,7 @@ def checks(program: str) -> Iterator[tuple[str, Callable[[pathlib.Path], None]]]
         yield f"gf2mfp.py: {wrong}", lambda folder, told=(gf2mfp, wrong, font): check_refused(*told, folder)
     for wrong, font in list(NO_GF.items())[:3]:
         yield f"gfwords.py: {wrong}", lambda folder, told=(gfwords, wrong, font): check_refused(*told, folder)
-    yield FONTS.name, lambda folder: check_table(program)
+    yield METAFONT.name, lambda folder: check_tables(program)
     yield "processes of the tools", check_processes
     yield "the beginnings of a font", check_prefixes
     yield "fonts with a changed byte", check_changed_bytes

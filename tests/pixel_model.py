@@ -1,9 +1,9 @@
 """A small, slow model of pictures, pixel by pixel, and of what the commands of a script print.
 
-A picture is a dictionary of pixels with their weights, and a contour is filled by adding up, for each pixel, the
-quarter turns of the path round its centre. The model shares nothing with the program but the rules of
-docs/LANGUAGE.md and docs/PICTURES.md. It keeps the characters that are shipped, of which `font_model.py` makes a font
-file, and never answers FileTooLong.
+A picture is a dictionary of pixels with their weights. A contour is filled by adding up, for each pixel, the quarter turns of the
+path around its centre. The model shares nothing with the program but the rules of docs/user/LANGUAGE.md and
+docs/user/PICTURES.md. It keeps the characters that are shipped, which `font_model.py` makes a font file of, and never answers
+FileTooLong.
 """
 
 from font_model import Character
@@ -18,16 +18,16 @@ MAX_POINTS = 4096
 MAX_PROOF = 128
 MAX_WEIGHT = 32767
 PRINTED = bytes([9, *range(32, 127)])
-# More pixels than these would make the model too slow.
+# With more pixels than this the model would be too slow.
 MAX_PIXELS = 20_000
 
 
 class TooSlow(Exception):
-    """A picture would have more pixels than the model can make in time."""
+    """A picture would have more pixels than the model can handle in time."""
 
 
 def fault_of_bytes(line):
-    """Why the bytes of a line, without its end, are refused before they are read as tokens, if they are."""
+    """Why the bytes of a line, without its line end, are refused before they are read as tokens, if they are."""
     if len(line) > MAX_LINE:
         return "LineTooLong"
     return "NotAscii" if line.translate(None, PRINTED) else None
@@ -38,7 +38,7 @@ def edges(points):
 
 
 def corner(points, i):
-    """The edges that arrive at and leave a vertex, as vectors."""
+    """The edge that arrives at a vertex, and the one that leaves it, as vectors."""
     (x, y), (u, v), (s, t) = points[i - 1], points[i], points[(i + 1) % len(points)]
     return (u - x, v - y), (s - u, t - v)
 
@@ -52,7 +52,7 @@ def turning(points):
 
 
 def path_fault(points):
-    """Why points are no rectilinear cycle, if they are none."""
+    """Why the points are not a rectilinear cycle, if they are not."""
     if len(points) < 2:
         return "TooFewPoints"
     if len(points) > MAX_POINTS:
@@ -76,17 +76,17 @@ def turning_fault(points):
 
 
 def winding(points, column, row):
-    """The quarter turns of a rectilinear cycle round the centre of a pixel, divided by 4."""
+    """The number of quarter turns of a rectilinear cycle around the centre of a pixel, divided by 4."""
     quadrants = [(3 if x > column else 2) if y <= row else (0 if x > column else 1) for x, y in points]
     turns = ((after - before + 1) % 4 - 1 for before, after in zip(quadrants, [*quadrants[1:], quadrants[0]]))
     return sum(turns) // 4
 
 
 def windings(points):
-    """The pixels round which a cycle winds, with how often it does."""
+    """The pixels around which a cycle winds, with their winding numbers."""
     columns, rows = (sorted(set(places)) for places in zip(*points))
     counts = {}
-    # All pixels between two neighbouring columns and rows of points have the points in the same quadrants.
+    # For all pixels between two neighbouring columns and two neighbouring rows of points, the points are in the same quadrants.
     for left, right in zip(columns, columns[1:]):
         for low, high in zip(rows, rows[1:]):
             if count := winding(points, left, low):
@@ -135,7 +135,7 @@ def leaves_field(picture):
 
 
 def stretched(place, factor):
-    """The columns, or rows, that one becomes under a scale."""
+    """The columns that a column becomes under a scale, or the rows that a row becomes."""
     return range(min(place * factor, (place + 1) * factor), max(place * factor, (place + 1) * factor))
 
 
@@ -144,8 +144,8 @@ def ends(places):
 
 
 class Model:
-    """The pictures of a script, how many operations `currentpicture` has accepted, the characters that were shipped, in
-    order, and whether contours are refused for how they turn."""
+    """The pictures of a script, the number of operations that `currentpicture` has accepted, the shipped characters in order, and
+    whether the turning check is on."""
 
     def __init__(self, accepted=0):
         self.pictures = {}

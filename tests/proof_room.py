@@ -1,4 +1,4 @@
-"""A copy of a crate that is proved with edits, and what the prover says. (`wrong_bodies.py` uses it.)"""
+"""Proves a copy of a crate with edits, and reads what the prover says. (`wrong_bodies.py` uses it.)"""
 
 import re
 import shutil
@@ -11,16 +11,16 @@ from edited_source import Function, texts_of
 sys.path.append(str(Path(__file__).resolve().parent.parent / "tools"))
 from prover import ROOT, SOURCES, Prover  # noqa: E402
 
-# What the prover says of a function, and its last line.
+# What the prover says about a function, and its last line.
 SAID = re.compile(r"^fn (\S+): (.*)$", re.M)
 VERDICT = re.compile(r"^(?:only|logic)=", re.M)
-# What an error says of a name that the body no longer gives to a file of proofs/.
+# What an error says when a file of proofs/ uses a name that the changed body no longer has.
 GONE = re.compile(r"has no `|has no field|is not in scope|was not admitted")
 
 
 def owner_of(symbol: str) -> tuple[str, ...]:
-    """The function that a symbol of the prover stands for, or stands in, as the closure `a::fn::b::map` stands in `a::b`:
-    a method by its type, and the trait, and its name, any other by its whole path."""
+    """The function that a symbol of the prover names, or that it is inside of, as the closure `a::fn::b::map` is inside of
+    `a::b`. A method is given by its type with the trait, and its name; any other function by its full path."""
     path = symbol.split("::")[1:]
     if "fn" in path:
         at = path.index("fn")
@@ -30,7 +30,7 @@ def owner_of(symbol: str) -> tuple[str, ...]:
 
 
 class Room:
-    """A copy of a crate, which is proved again and again over what its first proof kept."""
+    """A copy of a crate, which is proved again and again, each time starting from what its first proof has kept."""
 
     def __init__(self, crate: str, folder: Path) -> None:
         self.texts = texts_of(ROOT / "crates" / crate)
@@ -44,7 +44,7 @@ class Room:
                 shutil.copytree(ROOT / "crates" / crate / part, self.folder / part)
 
     def prove(self) -> str:
-        """Proves the crate as it stands, keeps that work, and notes the symbols of its functions."""
+        """Proves the crate as it is, keeps that work, and remembers the symbols of its functions."""
         said = self.check(self.texts, [])
         for symbol, _ in SAID.findall(said):
             self.symbols.setdefault(owner_of(symbol), []).append(symbol)
@@ -53,7 +53,7 @@ class Room:
         return said
 
     def check(self, texts: dict[str, str], only: list[str]) -> str:
-        """What a check says of the crate with these texts, or of some functions in it."""
+        """What a check says about the crate with these texts, or about some functions of it."""
         self.checks += 1
         for file, text in texts.items():
             (self.folder / file).write_text(text, encoding="utf-8")
@@ -78,7 +78,7 @@ class Room:
 
 
 def problem_of(said: str, control: list[str]) -> str:
-    """Why a check says nothing of its batch, or nothing."""
+    """Why a check says nothing about its batch, or an empty text."""
     errors = re.findall(r"^\S*error.*|^\S+:\d+:\d+: error.*", said, re.M)
     if not VERDICT.search(said):
         return f"it does not compile: {(errors or said.strip().splitlines()[-1:] or ['no word'])[0]}"
@@ -90,13 +90,13 @@ def problem_of(said: str, control: list[str]) -> str:
 
 
 def own_reasons(symbol: str, said: str) -> tuple[list[str], list[str]]:
-    """Why a function is not proved on its own account: its open goals and the answers that do not fit. And the errors of its
-    files that name what is gone."""
+    """The reasons of a function itself for not being proved: its open goals, and the answers that do not fit. And the errors of
+    its files that use names which are gone."""
     folder = re.escape("/".join(symbol.split("::")[1:]))
     errors = re.findall(rf"^\./(proofs/{folder}/\w+\.antt:\S+ error: .*)$", said, re.M)
     gone = [error for error in errors if GONE.search(error)]
     before, _, _ = said.partition(f"fn {symbol}: ")
-    # The notes on a function stand between the line of the function before it and its own.
+    # The notes on a function come between the line of the function before it and its own line.
     notes = before[before.rfind("\nfn ") + 1 :]
     goals = re.findall(r"^note: src/\S+: .*? \(`(\S+)`\)", notes, re.M)
     return goals + [error for error in errors if error not in gone], gone

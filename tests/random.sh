@@ -1,10 +1,10 @@
 #!/bin/bash
-# Random scripts beside models: 3,000 of a seed under which each command, refusal and part of a font comes, and 500 of the
-# day's seed. What differs is printed.
+# Compares random scripts with models: 3,000 of a seed under which each command, refusal and part of a font occurs, and 500 of
+# today's seed. Scripts that differ are printed.
 set -u
 cd "$(dirname "$0")/.."
 
-# The program is built where it is missing, and then run without the script that looks whether it is.
+# Builds the program if it is missing. After that it is run directly, and not by `mfpic`, which checks each time.
 ./mfpic < /dev/null || exit
 program=crates/mfpic/out/mfpic
 
@@ -17,7 +17,7 @@ fixed=$!
 tests/random_scripts.py $program 500 "$today" > "$folder/today" &
 daily=$!
 
-# A run that was begun before ends well, and its count is shown.
+# Waits for a run that was started before, and shows its count. Stops where the run failed.
 ends() {
     local job=$1 name=$2 about=$3
     if ! wait "$job"; then

@@ -1,9 +1,9 @@
-"""Random lists of points, most of them cycles, of which many turn back, or clockwise, or have turning number 0."""
+"""Random lists of points. Most are cycles, and many of these turn back, go around clockwise, or have turning number 0."""
 
 from pixel_model import MAX_COORDINATE, MAX_POINTS, MAX_PROOF
 from random_spelling import Spelling
 
-# Coordinates beside the limits of points, and some between which are 127 to 129 pixels.
+# Coordinates at the limits of points and just beyond, and coordinates with 127 to 129 pixels between them.
 FAR = [-MAX_COORDINATE - 1, -MAX_COORDINATE, MAX_COORDINATE, MAX_COORDINATE + 1]
 NEAR = [-MAX_PROOF // 2, 1 - MAX_PROOF // 2, MAX_PROOF // 2, MAX_PROOF // 2 + 1]
 
@@ -28,7 +28,7 @@ class Cycles(Spelling):
         return self.rectangle((x, x + 1), (y, y + 1))
 
     def walked(self):
-        """A square walked many times, up to as often as points allow. Some have a point too many, some turn back."""
+        """A square that is walked many times, up to the greatest number of points. Some have a point too many, some turn back."""
         times = self.choice([*range(2, 12), *range(2, 12), 250, MAX_POINTS // 4])
         points = self.square()
         if self.happens(0.15):
@@ -47,7 +47,7 @@ class Cycles(Spelling):
         return points + ([(first[0], y)] if x != first[0] and y != first[1] else [])
 
     def eight(self, square):
-        """A cycle of turning number 0, once round the pixel of a square and once, the other way, round another one."""
+        """A cycle with turning number 0, which goes once around the pixel of a square and once, the other way, around another."""
         (x, y), (u, v) = min(square), max(square)
         right, top = u + self.choice([1, 1, 2, 5]), v + self.choice([1, 1, 3])
         points = [(x, y), (u, y), (u, top), (right, top), (right, v), (x, v)]
@@ -56,7 +56,7 @@ class Cycles(Spelling):
         return points if self.happens(0.5) else points[::-1]
 
     def spiked(self, points):
-        """A cycle with another point on one of its edges or, where it then turns back, before or behind one."""
+        """A cycle with another point on one of its edges, or before or after the edge, where it then turns back."""
         place = self.place(0, len(points) - 1)
         (x, y), (u, v) = points[place], points[(place + 1) % len(points)]
         ends = sorted((x, u) if y == v else (y, v))
@@ -64,7 +64,7 @@ class Cycles(Spelling):
         return points[: place + 1] + [(along, y) if y == v else (x, along)] + points[place + 1 :]
 
     def flat(self):
-        """A cycle on one line, which winds round no pixel."""
+        """A cycle on a straight line, which winds around no pixel."""
         along, across = [self.place(-4, 4)], self.place(-4, 4)
         for _ in range(self.place(1, 4)):
             along.append(self.choice([place for place in range(-5, 6) if place != along[-1]]))
@@ -72,12 +72,12 @@ class Cycles(Spelling):
         return points if self.happens(0.5) else [(y, x) for x, y in points]
 
     def retraced(self):
-        """A cycle once there and once back, which winds round no pixel."""
+        """A cycle that goes along a path and back, and so winds around no pixel."""
         points = self.polygon()
         return points + points[:1] + points[:0:-1]
 
     def round_pixel(self, square):
-        """A cycle round the pixel of a square, which the turning check may refuse."""
+        """A cycle around the pixel of a square, which the turning check may refuse."""
         way = self.random.random()
         return square if way < 0.6 else self.spiked(square) if way < 0.8 else self.eight(square)
 

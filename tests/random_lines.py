@@ -1,4 +1,4 @@
-"""Random lines of docs/LANGUAGE.md, lawful and not, each with what `pixel_model.py` makes of it."""
+"""Random lines, in the grammar of docs/user/LANGUAGE.md and not, each with a function that performs it on `pixel_model.py`."""
 
 import typing
 
@@ -8,15 +8,15 @@ from random_cycles import NEAR, Cycles
 from reading_model import refused_place
 
 NAMES = ["currentpicture", "a", "b", "z"]
-# Sizes of weights that bound the range of a cull.
+# Absolute values of the weights that bound the range of a cull.
 SIZES = [1, 1, 2, 3, 4, 9, MAX_WEIGHT - 1, MAX_WEIGHT, MAX_WEIGHT + 1, 999999999]
-# Tokens that no command has.
+# Tokens that are in no command.
 FOREIGN = [*"!\"#$&'*+./:<=>?@[\\]^_`{|}~", "contur", "Show", "A", "aa", "cyclewithweight", "withweigh", "x" * 300]
 FOREIGN += ["0000000001", "1234567890", "9" * 30]
-# Words that begin a line, and stand nowhere else.
+# Words that start a line, and occur nowhere else.
 BEGINNINGS = ["turningcheck"] * 6 + ["addto", "cull", "show", "proof", "shipout", "publish"]
-# Where strokes lie: a first column and row, and how far from there a stroke begins, to the right and downwards. With
-# their lengths these come to the numbers at which a font needs another command, and past them.
+# Where strokes are: a first column and row, and how far to the right of it and below it a stroke starts. Together with the
+# lengths, these reach the numbers at which a font needs another command, and go past them.
 CORNERS = [(0, 255), (0, 255), (0, 3), (1, 0), (-1, 2), (-300, -20), (-4095, 4094), (3000, 300)]
 ACROSS = [0, 1, 3, 63, 64, 65, 163, 164, 165, 255, 256, 257, 400]
 DOWN = [0, 0, 1, 1, 1, 2, 3, 255, 256, 257, 258]
@@ -26,8 +26,8 @@ ZEROS = [["0"], ["0"], ["-", "0"], ["000"], ["0" * 9], ["-", "00"]]
 
 
 class Line(typing.NamedTuple):
-    """A command and its tokens, what the model makes of it, the place of the token that is refused, if one is, and the
-    points of a contour."""
+    """A command and its tokens, a function that performs it on the model, the place of the token that is refused, if one is, and
+    the points if it is a contour."""
 
     command: str
     tokens: list
@@ -40,7 +40,8 @@ class Chance(Cycles):
     """Random lines."""
 
     def script(self, is_late, wrong):
-        """The lines of a script, of which so large a part is wrong. In a late one `currentpicture` is soon full."""
+        """The lines of a script. `wrong` is the share of them that are not in the grammar. In a late script `currentpicture` is
+        soon full."""
         turns, lines = self.choice([0, 0, 0.03, 0.2]), []
         if turns < 0.2 and self.happens(0.6):
             lines.append(self.turningcheck())
@@ -63,7 +64,7 @@ class Chance(Cycles):
         return self.number([1, 1, 1, 1, 2, 3, -1, -2, -3, self.choice([1, 1, 0, 4, -4])])
 
     def kinds(self):
-        """What makes a line."""
+        """The functions that make a line."""
         kinds = [self.contour] * 4 + [self.also] * 2 + [self.cull] * 2 + [self.shift] * 2
         kinds += [self.clear, self.scale, self.turn, self.total, self.show, self.proof, self.publish]
         return [*kinds, self.ship, self.ship, self.nothing]
@@ -78,7 +79,7 @@ class Chance(Cycles):
         return line._replace(tokens=[*line.tokens, ";"]) if self.happens(0.15) else line
 
     def turningcheck(self):
-        """A line that turns the check of contours on, or off."""
+        """A line that turns the turning check on or off."""
         value = self.choice([0, 0, 0, 0, -1, -2, 1, 1, 1, 2, 3, self.number([self.choice([-1, 1]) * 999999999])])
         operand = self.integer(value) if value else self.choice(ZEROS)
         kind = "turningcheck on" if value > 0 else "turningcheck off"
@@ -92,7 +93,7 @@ class Chance(Cycles):
         return Line("contour", tokens, lambda m: m.contour(name, points, weight), points=points)
 
     def full(self):
-        """Contours of `currentpicture`, with the check on or off, which are as many as it may have, and more."""
+        """Contours of `currentpicture`, with the check on or off: more than it may still accept."""
         lines = [self.turningcheck()]
         for _ in range(self.place(6, 15)):
             points = self.choice([self.points, self.square, self.flat, lambda: self.eight(self.square())])()
@@ -109,7 +110,7 @@ class Chance(Cycles):
         return Line(" ".join(words), ["addto", name, *words, source], lambda m: m.also(name, source, sign))
 
     def doubled(self):
-        """A picture doubled again and again, with a contour each time, so that weights come to the limit or past it."""
+        """A picture that is doubled again and again, with a contour each time, so that weights reach the limit or exceed it."""
         name, square, weight = self.name(), self.square(), self.choice([1, 1, -1, -1, 2, -3])
         lines = [self.clear_of(name)] if self.happens(0.5) else []
         adds, turns = self.happens(0.7), self.happens(0.3)
@@ -122,12 +123,12 @@ class Chance(Cycles):
         return [*lines, *others, self.proof_of(name)]
 
     def framed(self):
-        """A contour whose box or weights may be too much for a grid, and that grid."""
+        """A contour whose box or weights may be too large for a grid text, and a line that prints its grid text."""
         name, points = self.name(), self.thin(NEAR) if self.happens(0.5) else self.walked()
         return [self.contour_of(name, points, self.choice([1, 1, -1, 2])), self.proof_of(name)]
 
     def range_of(self, keeps):
-        """The range of a cull, which is lawful more often than not."""
+        """The range of a cull, which is usually accepted."""
         if self.happens(0.25):
             return self.number(range(-4, 4)), self.number(range(-3, 6))
         small, large = sorted(self.random.sample(SIZES, 2))
@@ -191,7 +192,7 @@ class Chance(Cycles):
         return self.choice([0, 0, 0, 0, 1, 65, 255, self.place(0, 255)])
 
     def escapement(self):
-        """A dx: a whole number of pixels, one that is nearly so, or another."""
+        """A dx: a whole number of pixels, one unit more or less, or any other."""
         whole = PIXEL * self.choice([0, 0, 1, 5, 254, 255, 256, -1, self.place(0, 255)])
         return self.number([whole, whole, whole - 1, whole + 1, self.place(-99999, 99999)])
 
@@ -201,7 +202,7 @@ class Chance(Cycles):
         return Line("shipout", ["shipout", source, *operands], lambda m: m.ship(source, code, dx, width))
 
     def scattered(self):
-        """Strokes with gaps between them, some of negative weight, shipped again and again as more come."""
+        """Strokes with gaps between them, some with negative weights, which are shipped again and again while more are added."""
         name, (column, row) = self.name(), self.choice(CORNERS)
         lines = [self.clear_of(name)] if self.happens(0.8) else []
         for _ in range(self.place(1, 5)):
@@ -219,7 +220,7 @@ class Chance(Cycles):
         return Line("no command", [], lambda m: "")
 
     def wrong(self, line):
-        """A line that the grammar has not, made of this or of another, and the place of the token that is refused."""
+        """A line that is not in the grammar, made from this line or another, and the place of the token that is refused."""
         if len(line.tokens) > 1000 or self.happens(0.5):
             line = self.ended(self.choice([*self.kinds(), self.turningcheck, self.turningcheck])())
         ways = [self.foreign, self.overlong, self.repeated, self.cut, self.parted, self.followed, self.begun]
@@ -228,7 +229,7 @@ class Chance(Cycles):
         return line._replace(tokens=tokens, refused=refused)
 
     def foreign(self, line):
-        """A line with a token that no command has."""
+        """A line with a token that is in no command."""
         place = self.place(0, len(line.tokens))
         return line.tokens[:place] + [self.choice(FOREIGN)] + line.tokens[place:], place
 
@@ -242,13 +243,13 @@ class Chance(Cycles):
         return [*line.tokens[:place], digits, *line.tokens[place + 1 :]], place
 
     def repeated(self, line):
-        """A line with a token that comes twice."""
+        """A line with a token that is repeated."""
         tokens = line.tokens or [";"]
         place = self.place(0, len(tokens) - 1)
         return tokens[: place + 1] + tokens[place:], place + 1
 
     def within(self, line):
-        """A place in a line before which no line ends, or none."""
+        """A place in a line at which the line cannot end, if there is one."""
         places = [place for place, token in enumerate(line.tokens) if place > 0 and token not in ("withweight", ";")]
         return self.choice(places) if places else None
 
@@ -257,23 +258,23 @@ class Chance(Cycles):
         return (line.tokens[:place], place) if place else self.foreign(line)
 
     def parted(self, line):
-        """A line with a `;` within."""
+        """A line with a `;` in the middle."""
         place = self.within(line)
         return ([*line.tokens[:place], ";", *line.tokens[place:]], place) if place else self.foreign(line)
 
     def followed(self, line):
-        """A line with something behind its `;`."""
+        """A line with something after its `;`."""
         tokens = line.tokens if line.tokens[-1:] == [";"] else [*line.tokens, ";"]
         return [*tokens, self.choice(["a", "show", "1", "(", "-", ";", "cycle", *FOREIGN])], len(tokens)
 
     def begun(self, line):
-        """A line in which another begins."""
+        """A line in which another one starts."""
         place = self.place(1, max(len(line.tokens), 1))
         after = place if self.happens(0.5) else place + 1
         return [*(line.tokens[:place] or [";"]), self.choice(BEGINNINGS), *line.tokens[after:]], place
 
     def mixed(self, line):
-        """The first tokens of a line and the last ones of another, or a line without a token, or with another one."""
+        """The first tokens of a line and the last ones of another, or a line with one token left out, or with one replaced."""
         other = self.choice([*self.kinds(), self.turningcheck])().tokens or [";"]
         first, after = line.tokens[: self.place(0, len(line.tokens))], other[self.place(0, len(other)) :]
         rest = line.tokens[len(first) + 1 :]
@@ -292,7 +293,7 @@ class Chance(Cycles):
         return self.choice(lines)
 
     def named(self, _):
-        """A line about a picture that has no name, or one that cannot be changed."""
+        """A line with something that is not the name of a picture, or with a picture that cannot be changed."""
         word = self.choice(["nullpicture", "turningcheck", "cycle", "1", ","])
         lines = [["addto", word, "also", "a"], ["cull", word, "keeping", *self.pair(1, 2)]]
         sources = [["show", word], ["proof", word], ["show", "totalweight", word], ["addto", "b", "also", word]]
@@ -302,7 +303,7 @@ class Chance(Cycles):
         return line, len(line) - 1
 
     def renamed(self, _):
-        """A transform whose second name is another one."""
+        """A transform whose second name differs from the first."""
         line = self.choice([self.shift, self.scale, self.turn, self.clear])()
         others = [name for name in [*NAMES, "c"] if name != line.tokens[0]]
         return [*line.tokens[:2], self.choice(others), *line.tokens[3:]], 2

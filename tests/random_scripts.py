@@ -3,14 +3,17 @@
 
     tests/random_scripts.py [PROGRAM [SCRIPTS [SEED [WRONG]]]]
 
-PROGRAM is `mfpic` beside this folder unless another is named. WRONG is the part of all lines which no line of the
-grammar is, at most 0.5, and 0.05 unless it is given. Each script is run with a font file asked for, which is not made
-where no character is shipped. The first scripts that differ are printed, without the lines that they may lack and still
-differ. At the end stands how often each command was performed and each refusal was answered, and so each way in which
-a contour is answered with the turning check on and off, and what stood in fonts. With 10,000 scripts or more it is a
-fault if one of them never came. FileTooLong is not among them. The lines are made by `random_lines.py`, with
-`random_cycles.py` and `random_spelling.py`. The models are `pixel_model.py`, with `reading_model.py` for some lines of
-no form, and `font_model.py`; these share nothing with the program but its rules. It is run by hand.
+PROGRAM is by default `mfpic` beside this folder. WRONG is the share of lines that are not in the grammar, at most 0.5 and by
+default 0.05. Each script is run with `--gf`; a script that ships no character must make no font file. The first scripts that
+differ are printed, without the lines that can be left out while they still differ.
+
+At the end the counts are printed: how often each command was performed, how often each refusal was answered, how often contours
+had each answer with the turning check on and off, and what the font files had. With 10,000 scripts or more, a count of 0 is a
+failure. FileTooLong is not counted.
+
+The lines are made by `random_lines.py`, with `random_cycles.py` and `random_spelling.py`. The models are `pixel_model.py`, with
+`reading_model.py` for some lines that are not in the grammar, and `font_model.py`. They share nothing with the program but its
+rules. `tests/random.sh` runs this script in the gate.
 """
 
 import collections
@@ -34,7 +37,7 @@ REFUSALS += ["LineTooLong", "NotAscii", "Syntax", "ProofTooLarge"]
 # Each character of a grid text, and numbers at the limits in a run text.
 SHOWN = [*(f"proof with {character}" for character in ".123456789+abcdefghi-")]
 SHOWN += [f"show with {number}" for number in (-4095, 4094, -32767, 32767)]
-# How a contour turns, whether the turning check is on or off, and how the contour is answered.
+# How a contour turns, whether the turning check is on or off, and what the answer is.
 EARLY, LATE = ["BadWeight", "TooManyOperations"], ["WeightTooLarge", "filled", "filled last"]
 TURNS = {turn: {"on": EARLY + LATE, "off": EARLY + LATE} for turn in ("left", "right", "TurningZero", "Backtracks")}
 for refused in ("TurningZero", "Backtracks"):
@@ -42,22 +45,21 @@ for refused in ("TurningZero", "Backtracks"):
 TURNED = [f"contour {turn}, {c}: {how}" for turn, checks in TURNS.items() for c, hows in checks.items() for how in hows]
 TURNED += [f"contour, {check}: weight {weight}" for check in ("on", "off") for weight in (-32767, 32767)]
 TURNED += ["contour, off: no pixel", "contour, off: no pixel last"]
-# What stands in fonts: commands, by their first bytes, and some of what the characters may be.
+# What font files may have: commands, by their first bytes, and some kinds of characters.
 WRITTEN = {opcode: f"font with {opcode.name.lower()}" for opcode in Opcode}
 SHIPPED = ["a blank character", "a code shipped again", "a code shipped three times or more", "boc of a new code"]
 FONTS = ["no font", *WRITTEN.values(), *(f"font with {part}" for part in SHIPPED)]
 KNOWN = [*COMMANDS, *REFUSALS, "Syntax of turningcheck", *SHOWN, *TURNED, *FONTS]
-# The place of no character, in a boc.
+# The place in a boc that means no character.
 NO_PLACE = bytes([255] * 4)
-# So many scripts are enough for each of these to come.
+# With this many scripts each of these must occur.
 ENOUGH = 10_000
-# So many scripts that differ are printed.
+# How many of the scripts that differ are printed.
 TOLD = 5
 
 
 class End(typing.NamedTuple):
-    """How a script ends for which a font file is asked: the status, what is printed, the message, and the file, if one
-    is made."""
+    """How a script with `--gf` ends: the exit status, what is printed, the message, and the font file, if one is made."""
 
     status: int
     printed: str
@@ -66,7 +68,7 @@ class End(typing.NamedTuple):
 
 
 def answer(model, line, text, columns):
-    """What a line prints, by its bytes, its form, and the model."""
+    """What a line prints, from its bytes, its form, and the model."""
     fault = fault_of_bytes(text)
     if fault is None and line.refused is not None:
         fault = f"Syntax {columns[line.refused]}"
@@ -83,7 +85,7 @@ def count(counts, line, printed):
 
 
 def cases_of(line, printed, before, model):
-    """How a contour turns and what is answered, by the model before it and after it, if it is a rectilinear cycle."""
+    """How a contour turns and what the answer is, from the model before it and after it, if it is a rectilinear cycle."""
     if path_fault(line.points):
         return
     fault, name, check = turning_fault(line.points), line.tokens[1], "on" if model.checks else "off"
@@ -114,7 +116,7 @@ def count_font(counts, characters, commands):
 
 
 def spelled(chance, lines):
-    """Lines, each with its bytes, its columns, and the end that follows it."""
+    """Lines, each with its bytes, its columns, and its line end."""
     for i, line in enumerate(lines):
         end, part = chance.line_end(i == len(lines) - 1)
         written, columns = chance.spelled(line.tokens)
@@ -122,8 +124,7 @@ def spelled(chance, lines):
 
 
 def performed(cleared, lines, counts):
-    """The lines that the model can perform, where `currentpicture` was cleared so many times before, and how a script
-    of them ends."""
+    """The lines that the model can perform, after `currentpicture` was cleared `cleared` times, and how a script of them ends."""
     model, kept, transcript = Model(cleared), [], ""
     for line, text, columns, end in lines:
         before = model.copy()
@@ -144,7 +145,7 @@ def performed(cleared, lines, counts):
 
 
 def run(program, cleared, lines, path):
-    """How the program ends a script, where the font file has this path."""
+    """How the program ends a script, with the font file at this path."""
     words, text = [program, "--gf", path], b"".join(text + end for _, text, _, end in lines)
     shown = subprocess.run(words, input=CLEARED * cleared + text, capture_output=True, timeout=600, check=False)
     font = path.read_bytes() if path.exists() else None
@@ -153,13 +154,13 @@ def run(program, cleared, lines, path):
 
 
 def tell(program, number, cleared, lines, path):
-    """Prints a script that ends otherwise, without all lines that it may lack and still do so."""
+    """Prints a script that differs, without all lines that can be left out while it still differs."""
     for place in reversed(range(len(lines))):
         fewer, expected = performed(cleared, lines[:place] + lines[place + 1 :], collections.Counter())
         if run(program, cleared, fewer, path) != expected:
             lines = fewer
     lines, expected = performed(cleared, lines, collections.Counter())
-    print(f"script {number}, behind {cleared} lines that clear currentpicture:")
+    print(f"script {number}, after {cleared} lines that clear currentpicture:")
     print(*(text + end for _, text, _, end in lines), sep="\n")
     for end, kind in ((run(program, cleared, lines, path), "ended"), (expected, "and not")):
         font = "no font" if end.font is None else f"the font {end.font.hex()}"
@@ -177,7 +178,7 @@ def main():
     with tempfile.TemporaryDirectory() as folder:
         path = pathlib.Path(folder) / "font.gf"
         for number in range(scripts):
-            # Some scripts begin shortly before the last operation that `currentpicture` may accept.
+            # Some scripts start shortly before the last operation that `currentpicture` may accept.
             cleared = MAX_OPERATIONS - chance.place(1, 3) if number % 250 == 0 else 0
             lines, expected = performed(cleared, spelled(chance, chance.script(cleared > 0, wrong)), counts)
             if run(program, cleared, lines, path) != expected:

@@ -1,4 +1,4 @@
-"""Where the tokens of a line leave the grammar of docs/LANGUAGE.md: a small reader that goes from token to token."""
+"""A small reader that goes from token to token, to find where a line leaves the grammar of docs/user/LANGUAGE.md."""
 
 NAMES = {"currentpicture", *"abcdefghijklmnopqrstuvwxyz"}
 SOURCES = NAMES | {"nullpicture"}
@@ -6,7 +6,7 @@ SCALES = {"scaled", "xscaled", "yscaled"}
 
 
 class Refused(Exception):
-    """No line of the grammar begins with the tokens up to this one, or the line ends before it."""
+    """No line of the grammar starts with the tokens up to this one, or the line ends too early."""
 
 
 class Reader:
@@ -117,7 +117,8 @@ class Reader:
 
 
 def refused_place(tokens):
-    """The place of the token that is refused, which is behind the last where the line is cut, or None of a line."""
+    """The place of the token that is refused, which is the place after the last token if the line ends too early. None for a line
+    of the grammar."""
     reader = Reader(tokens)
     try:
         reader.line()

@@ -1,7 +1,7 @@
-"""Runs programs while growths are refused to them. (`wanting_memory.py` uses it.)
+"""Runs programs while their allocations are refused. (`wanting_memory.py` uses it.)
 
-A growth is a call of malloc or realloc, or the start of a thread. A library counts and refuses them, which `cc` compiles and
-LD_PRELOAD puts before the C library.
+An allocation here is a call of malloc or realloc, or the start of a thread; the code calls it a growth. A library, which `cc`
+compiles and LD_PRELOAD puts before the C library, counts and refuses them.
 """
 
 import dataclasses
@@ -19,7 +19,7 @@ LIBRARY = r"""
 #include <sys/syscall.h>
 #include <unistd.h>
 
-/* Growths of these sizes say where growths count (crates/mf_testing/src/growths.rt). */
+/* Allocations of these sizes say where allocations count (crates/mf_testing/src/growths.rt). */
 enum { FROM_HERE = 33554467, TO_HERE };
 
 void *__libc_malloc(size_t), *__libc_realloc(void *, size_t);
@@ -28,7 +28,7 @@ static long growths, first, last = -1, report;
 static size_t piece;
 static int counts;
 
-/* Runs when the C library is ready, before the program: growths are counted from here, or where the program says. */
+/* Runs when the C library is ready, before the program. Allocations count from here, or from where the program says. */
 __attribute__((constructor)) static void begin(void) {
     start = dlsym(RTLD_NEXT, "pthread_create");
     piece = atol(getenv("PIECE")), report = atol(getenv("REPORT"));
@@ -36,7 +36,7 @@ __attribute__((constructor)) static void begin(void) {
     counts = !atol(getenv("MARKED"));
 }
 
-/* Whether this growth is refused, of which the file REPORT is told by a byte. */
+/* Whether this allocation is refused. If so, a byte is written to the file REPORT. */
 static int refused(size_t size) {
     if (size == FROM_HERE || size == TO_HERE) {
         counts = size == FROM_HERE;
@@ -64,18 +64,18 @@ ssize_t read(int file, void *bytes, size_t size) {
     return count;
 }
 """
-# Ways to ask for memory that the library does not know.
+# Ways to allocate that the library does not know.
 OTHERS = {"aligned_alloc", "brk", "calloc", "memalign", "mmap", "posix_memalign", "reallocarray", "sbrk", "valloc"}
-# No run has as many growths.
+# No run makes as many allocations.
 FOREVER = 1 << 40
 OLD = b"what was there"
 
 
 @dataclasses.dataclass(frozen=True)
 class Case:
-    """Words and a script for a program, and what comes of them with ample memory. A read gives a line of the script, or a
-    piece of so many bytes of a longer one; and where it is run twice, also all that there is. Where it is marked, the program
-    says from where on growths count, and up to where."""
+    """Words and a script for a program, and what the program does with ample memory. A read gives a line of the script, or at
+    most `piece` bytes of a longer line. If `twice` is set, the script is also run in reads that give everything there is. If
+    `marked` is set, the program says where its allocations start and cease to count."""
 
     about: str
     words: tuple[str, ...]
@@ -91,7 +91,7 @@ class Case:
 
 @dataclasses.dataclass
 class Answer:
-    """What a run does; how much of the script it has read, and how many growths were refused, are not compared."""
+    """What a run does. How much of the script it has read, and how many allocations were refused, is not compared."""
 
     status: int | str
     out: bytes
@@ -102,7 +102,7 @@ class Answer:
 
 
 def build_library(folder: pathlib.Path) -> pathlib.Path:
-    """The library that refuses growths, which is made in this folder."""
+    """Builds the library that refuses allocations, in this folder."""
     library, source = folder / "refuse.so", folder / "refuse.c"
     source.write_text(LIBRARY, encoding="ascii")
     subprocess.run(["cc", "-O1", "-Wall", "-shared", "-fPIC", "-o", library, source], check=True)
@@ -110,20 +110,20 @@ def build_library(folder: pathlib.Path) -> pathlib.Path:
 
 
 def unknown_growths(program: pathlib.Path) -> set[str]:
-    """The ways in which a program asks for memory that the library does not refuse."""
+    """The ways in which a program allocates that the library does not refuse."""
     names = subprocess.run(["nm", "-D", program], capture_output=True, encoding="utf-8", check=True).stdout.split()
     return OTHERS & {name.split("@")[0] for name in names}
 
 
 class Runner:
-    """Runs programs with the library, one after another, with their files in a folder, and counts runs and growths that were
-    refused."""
+    """Runs programs with the library, one after another, with their files in a folder. Counts the runs and the allocations that
+    were refused."""
 
     def __init__(self, library: pathlib.Path, folder: pathlib.Path) -> None:
         self.library, self.folder, self.runs, self.refused = library, folder, 0, 0
 
     def run(self, case: Case, first: int = FOREVER, last: int = FOREVER, piece: int | None = None) -> Answer:
-        """Runs a case, where these growths are refused."""
+        """Runs a case while the allocations `first` to `last` are refused."""
         font, place = self.folder / "font.gf", self.folder / "script"
         font.write_bytes(OLD)
         place.write_bytes(case.script)

@@ -1,14 +1,14 @@
 #!/bin/bash
 # Runs the scripts of tests/scripts and examples through the program, and compares what it writes with the files beside
-# each:
+# each script:
 #
 #     NAME.mfp         the script
 #     NAME.transcript  what it prints
-#     NAME.viewer      what each viewer sees last, where that is not the blank picture that nothing was done to
-#     NAME.gf          the font file of what it ships, where that is looked at
+#     NAME.viewer      what each viewer sees last, unless that is the blank picture at revision 0
+#     NAME.gf          its font file, for some of the scripts that ship characters
 #
-# A script prints its transcript also without its last line feed, and with a carriage return before each. With 16 viewers
-# it prints their 16 lines behind it, every time.
+# A script must print its transcript also without its last line feed, and with a carriage return before each line feed. Beside 16
+# viewers it must print their 16 lines after the transcript, each time.
 set -u
 cd "$(dirname "$0")/.."
 
@@ -22,14 +22,14 @@ prints() {
     ./mfpic "$@" > "$folder/printed" && diff "$folder/printed" "$expected"
 }
 
-# The program writes this font file, and prints what the file has.
+# Whether the program writes this font file, and prints what is in the other file.
 ships() {
     local font=$1 expected=$2
     shift 2
     rm -f "$folder/font" && prints "$expected" --gf "$folder/font" "$@" && cmp "$folder/font" "$font"
 }
 
-# The transcript, and behind it the line of each of 16 viewers.
+# Prints the transcript, and after it the line of each of 16 viewers.
 with_viewers() {
     local name=$1 viewer seen='revision 0 totalweight 0'
     if [ -e "$name.viewer" ]; then
@@ -41,7 +41,7 @@ with_viewers() {
     done
 }
 
-# All that is said of the script of this name.
+# Makes all checks of the script with this name.
 passes() {
     local name=$1 run
     with_viewers "$name" > "$folder/viewed" || return
@@ -60,7 +60,7 @@ passes() {
 count=0
 for script in tests/scripts/*.mfp examples/*.mfp; do
     if ! passes "${script%.mfp}"; then
-        echo "$script does not print or ship what stands beside it" >&2
+        echo "$script does not print or ship what the files beside it say" >&2
         exit 1
     fi
     count=$((count + 1))

@@ -1,14 +1,14 @@
 #!/usr/bin/env python3
-"""Counts the bytes that commands ask for, to see that pictures share what a command does not change.
+"""Counts the bytes that commands allocate, to see that pictures share what a command does not change.
 
     tests/sharing.py [PROGRAM]
 
-PROGRAM is the built program (crates/mfpic/out/mfpic) unless another is named. It runs each script without its command
-and with it, and the difference is what the command asks for: the sizes given to malloc and realloc. A library counts
-them, which `cc` compiles and LD_PRELOAD puts before the C library.
+PROGRAM is the built program, by default crates/mfpic/out/mfpic. Each script is run without its command and with it, and the
+difference is what the command allocates: the sum of the sizes given to malloc and realloc. A library, which `cc` compiles and
+LD_PRELOAD puts before the C library, counts them.
 
-A command must ask for no more than what it has to make anew, and one that has to make all rows anew for no less than
-these, by the sizes below. The first one that does not is printed, and the status is 1.
+A command must not allocate more than it needs for what it makes anew, and a command that makes all rows anew must not allocate
+less than they need, by the sizes below. The first command that does is printed, and the exit status is 1.
 """
 
 import dataclasses
@@ -28,7 +28,7 @@ LIBRARY = r"""
 void *__libc_malloc(size_t), *__libc_realloc(void *, size_t);
 static unsigned long *asked;
 
-/* Runs when the C library is ready, before the program: bytes are counted from here, in the file REPORT. */
+/* Runs when the C library is ready, before the program. Bytes are counted from here, in the file REPORT. */
 __attribute__((constructor)) static void begin(void) {
     void *place = mmap(NULL, sizeof *asked, PROT_READ | PROT_WRITE, MAP_SHARED, atoi(getenv("REPORT")), 0);
     if (place == MAP_FAILED) abort();
@@ -43,17 +43,17 @@ void *malloc(size_t size) { return count(size), __libc_malloc(size); }
 void *realloc(void *old, size_t size) { return count(size), __libc_realloc(old, size); }
 """
 
-# The field has 8190 rows, in 512 bands of 16. A list of bands has 8 bytes for each. A row has 16 bytes beside its list
-# of edges, which has 8 bytes for each.
+# The field has 8190 rows, in 512 bands of 16. A list of bands takes 8 bytes for each. A row takes 16 bytes besides its list of
+# edges, which takes 8 bytes for each edge.
 FIELD, EDGE = 8190, 8
 LIST, ROWS = 8 * 512, 16 * FIELD
-# A band that is made anew: 48 bytes, and a list of up to 16 rows and one more, of which few get edges of their own: 304
-# bytes at least, and 512 at most. The points of a rectangle, its corners and its picture take 512 bytes at most.
+# A band that is made anew takes 48 bytes, and a list of up to 16 rows and one more, few of which get edges of their own: at least
+# 304 bytes and at most 512. The points of a rectangle, its corners and its picture take at most 512 bytes.
 BAND, LINE = 512, 512
-# A copy has a list of bands in the command, in the sum and in the picture that it becomes. The first two are got at
-# once, and what grows by doubling asks for four times its length at most: less than 8 lists, a quarter of the rows.
+# A copy needs a list of bands in the command, in the sum and in the picture that it becomes. The first two are allocated at once,
+# and a list that grows by doubling allocates at most four times its length: less than 8 lists, a quarter of the rows.
 LISTS = 8 * LIST
-# What goes through all rows has them in a list, in a list of changed ones, and in bands, each of which may have grown.
+# A command that goes through all rows has them in a list, in a list of changed ones, and in bands, and each list may have grown.
 PASS = 3 * 4 * ROWS
 # The edges of a row of a comb. With 128 teeth, those of all rows are ten times a pass.
 TEETH = 128
@@ -62,7 +62,8 @@ COMB = 2 * TEETH * EDGE
 
 @dataclasses.dataclass(frozen=True)
 class Case:
-    """Lines, a command behind them, what is shown then, and the least and the most bytes that the command asks for."""
+    """Lines, a command after them, the total weights of pictures after that, and the most and the least bytes that the command
+    may allocate."""
 
     about: str
     before: str
@@ -73,17 +74,17 @@ class Case:
 
 
 def box(name, left, bottom, right, top):
-    """A line that fills columns `left` to before `right` of rows `bottom` to before `top`."""
+    """A line that fills the columns `left` to `right - 1` of the rows `bottom` to `top - 1`."""
     return f"addto {name} contour ({left},{bottom})--({right},{bottom})--({right},{top})--({left},{top})--cycle\n"
 
 
 def tall(name):
-    """A picture with a run of 3 pixels in each row of the field. The rows share one list of edges."""
+    """A line for a picture with a run of 3 pixels in each row of the field. The rows share one list of edges."""
     return box(name, 0, -4095, 3, 4095)
 
 
 def striped(name):
-    """A comb in all rows but the lowest, and a pole in all, which was added: so each row has edges of its own."""
+    """Lines for a comb in all rows but the lowest, to which a pole in all rows is added, so that each row has its own edges."""
     points = ["(0,-4095)", f"({2 * TEETH},-4095)"]
     for right in range(2 * TEETH, 0, -2):
         points += [f"({right},4095)", f"({right - 1},4095)", f"({right - 1},-4094)", f"({right - 2},-4094)"]
@@ -91,10 +92,10 @@ def striped(name):
 
 
 def cases():
-    """What is shared, beside what is made anew."""
+    """Commands that share some of a picture, and make the rest anew."""
     of_tall, of_comb = 3 * FIELD, (TEETH + 1) * FIELD + TEETH
     a_and_b = tall("a") + "addto b also a\n"
-    # Rows of the first, of the second and of the last band; the second begins with row 4078.
+    # Rows of the first, the second and the last band. The second one starts with row 4078.
     few = box("b", 1, 4070, 5, 4083) + box("b", 1, -4095, 5, -4094)
     # Row 15 is the last of a band.
     halves = box("b", 0, 15, 3, 4095) + box("c", 0, -4095, 3, 15)
@@ -111,8 +112,8 @@ def cases():
     yield Case("a row of each of two bands", a_and_b, line, shown, LINE + 2 * BAND)
     yield Case("a publish", live, "publish\n", {"currentpicture": of_tall}, LISTS)
     line, shown = box("currentpicture", 1, 0, 5, 1), {"currentpicture": of_tall + 4}
-    yield Case("a row of one band behind a publish", live + "publish\n", line, shown, LINE + BAND)
-    # Every row that is reached gets edges of its own; a half more is for the rest of the row, and for the line.
+    yield Case("a row of one band after a publish", live + "publish\n", line, shown, LINE + BAND)
+    # Every row that is reached gets its own edges. Half as much again is for the rest of the row, and for the line.
     for about, bottom, top in [("a band", 4063, 4079), ("two bands", 4047, 4079), ("all rows", -4094, 4095)]:
         least = (top - bottom) * COMB
         line, shown = box("a", -9, bottom, -8, top), {"a": of_comb + top - bottom}
@@ -120,7 +121,7 @@ def cases():
     line, shown = "cull a keeping (1,3) withweight 2\n", {"a": 2 * of_comb}
     yield Case("a cull of equal rows", striped("a"), line, shown, PASS)
     yield Case("a negation of equal rows", striped("a"), "addto b also -a\n", {"b": -of_comb}, LISTS + PASS)
-    # A scale by a negative factor reflects, and then stretches.
+    # A scale by a negative factor reflects first, and then stretches.
     yield Case("mirrored rows", striped("a"), "a := a yscaled -1\n", {"a": of_comb}, 2 * PASS)
 
 
@@ -134,10 +135,10 @@ class Counter:
         subprocess.run(["cc", "-O1", "-Wall", "-shared", "-fPIC", "-o", self.library, source], check=True)
 
     def run(self, script):
-        """What a script prints, and how many bytes it asks for."""
+        """Runs a script. Returns what it prints, and how many bytes it allocates."""
         place = self.folder / "script"
         place.write_text(script)
-        # A file, of which each read gives all that is asked for: a line that a read cuts takes memory.
+        # Standard input is a file, so each read gives all bytes that it asks for. A line that a read cuts off would allocate.
         with open(place, "rb") as reader, open(self.folder / "report", "w+b") as report:
             report.truncate(8)
             environment = {"LD_PRELOAD": str(self.library), "REPORT": str(report.fileno())}
@@ -147,16 +148,16 @@ class Counter:
 
 
 def try_case(counter, case):
-    """Answers what is wrong with a case, if anything is."""
+    """What is wrong with a case, if anything is."""
     shows = "".join(f"show totalweight {name}\n" for name in case.shown)
     _, before = counter.run(case.before + shows)
-    printed, behind = counter.run(case.before + case.command + shows)
-    asked = behind - before
-    print(f"{case.about}: {asked} bytes, {case.least} to {case.most} are right", flush=True)
+    printed, after = counter.run(case.before + case.command + shows)
+    asked = after - before
+    print(f"{case.about}: {asked} bytes, {case.least} to {case.most} are allowed", flush=True)
     if not printed.endswith("".join(f"totalweight {total}\n" for total in case.shown.values())):
         return f"{case.about}: the totals are wrong:\n{printed}"
     if asked < case.least or case.most < asked:
-        return f"{case.about}: {'more' if asked > case.most else 'less'} than is right"
+        return f"{case.about}: {'more' if asked > case.most else 'less'} than is allowed"
     return None
 
 
@@ -167,7 +168,7 @@ def main():
     if not pathlib.Path(program).is_file():
         sys.exit(f"there is no program: {program}")
     if unknown := unknown_growths(pathlib.Path(program)):
-        sys.exit(f"the program asks for memory in ways that are not counted: {unknown}")
+        sys.exit(f"the program allocates in ways that are not counted: {unknown}")
     count = 0
     with tempfile.TemporaryDirectory() as folder:
         counter = Counter(program, pathlib.Path(folder))

@@ -1,14 +1,14 @@
 #!/bin/bash
-# The statuses and messages of the program where it does not end well: words that it does not know, a word that is no
-# text, a folder as its script, an output that is full or closed, a font file without a character, and one that cannot be
-# made. The font file that was there before a fault of the words or of the script is there after it, as it was.
+# Tests the exit statuses and messages of the program where it fails: words that it does not know, a word that is not UTF-8, a
+# folder as its script, an output that is full or closed, a font file without a character, and one that cannot be created. After
+# a fault of the words or of the script, a font file that was there before is there as it was.
 set -u
 cd "$(dirname "$0")/.."
 
 folder=$(mktemp -d)
 trap 'rm -r "$folder"' EXIT
 
-# The program is built before its messages are looked at.
+# Builds the program first, so that its messages are the only ones.
 ./mfpic < /dev/null || exit
 
 fails() {
@@ -23,13 +23,13 @@ ends_with() {
     told=$("$@" 2>&1 > /dev/null)
     got=$?
     if [ "$got" -ne "$status" ] || [ "$told" != "$message" ]; then
-        fails "status $got and '$told' in place of $status and '$message': $*"
+        fails "status $got and '$told' instead of $status and '$message': $*"
     fi
     count=$((count + 1))
 }
 
-# The command has the path of a font file that is there, in FONT. It prints what the file says, and the font file stays as
-# it was.
+# Runs a command that finds the path of an existing font file in FONT. It must end with this status and this message, print what
+# the file `printed` says, and leave the font file as it was.
 export FONT=$folder/font.gf
 keeps_font() {
     local printed=$1 status=$2 message=$3 command=$4

@@ -1,23 +1,25 @@
 #!/usr/bin/env python3
-"""Runs scripts and tests while memory is refused to the program, one growth after another.
+"""Runs scripts and tests while one allocation after another is refused.
 
     tests/wanting_memory.py [--all] [PROGRAM]
 
-PROGRAM is the built program (crates/mfpic/out/mfpic) unless another is named. Each script is run with ample memory,
-with its first growth refused, with its second, and so on, until a run has fewer growths; then so again with all later
-growths refused, too (`refusing.py` says how). Without --all these are scripts that reach each command and each refusal.
+PROGRAM is the built program, by default crates/mfpic/out/mfpic. Each script is run with ample memory, then with its first
+allocation refused, then with its second, and so on, until a run has fewer allocations. Then all of this is repeated with all
+later allocations refused, too (`refusing.py` says how). Without --all the scripts are a few that reach each command and each
+refusal.
 
-A run must end by itself as docs/LANGUAGE.md says of want of memory: with status 4 and one message, with what the lines
-before that of the refused growth print, and with the old font file untouched. Or it does what it does with ample
-memory, where nothing hung on that growth alone: the points of a line that is refused for its form or for too many
-points, room that is given back, the guess what refused words mean, and a list of bands, for which less is asked then.
+A run must exit by itself, as docs/user/PROGRAM.md says of `OutOfMemory`: with status 4 and one message, after printing what the
+lines before the refused allocation print, and with the old font file untouched. Or it does what it does with ample memory, if
+nothing depends on that one allocation: one for the points of a line that is refused as `Syntax` or `TooManyPoints`, one that
+would give back spare room, one for a guess at what refused words mean, or one for a list of bands, which is then tried with less
+room.
 
-Tests are run so, too, by the programs of tests that `rt ci` has left (crates/NAME/out/NAME_tests), and must pass. Those
-of modules `growths` make one call while growths are refused, look at what stands then, and make it again; there only the
-growths of that call count, and a test of which none was refused fails. Those of AGAIN make all of their calls twice where
-they must.
+Tests are run in the same way, by the programs of tests that `rt ci` has built (crates/NAME/out/NAME_tests), and must pass. Tests
+in modules `growths` make one call while allocations are refused, check what is left after it, and make the call again. In these
+only the allocations of that call count, and a test in which none was refused fails. The tests of AGAIN repeat each call that
+was refused.
 
-The first case or test that does anything else is printed, and the status is 1.
+The first case or test that does anything else is printed, and the exit status is 1.
 """
 
 import concurrent.futures
@@ -33,7 +35,7 @@ from collections.abc import Callable, Iterator
 
 from refusing import FOREVER, OLD, ROOT, Answer, Case, Runner, build_library, unknown_growths
 
-# Tests that make a call again which was refused.
+# Tests that repeat each call that was refused.
 AGAIN = [("mf_live_tests", "tests::again::calls_are_made_again")]
 AGAIN += [("mf_cases", f"tests::again::{name}") for name in ("perform_lines", "end_a_script")]
 PICTURES = ("fill_a_rectangle", "add_to_a_picture", "change_a_picture", "turn_a_picture")
@@ -63,11 +65,11 @@ addto a contour (0,0)--(1,0)--(1,2)--(2,2)--(2,1)--(0,1)--cycle|a := a rotated 4
 addto a contour (0,0)--(1,0)--(1,1)--(0,1)--cycle withweight 4|a := a shifted (4095,0)|shipout a code 65 dx 0 width 0
 shipout a code 256 dx 0 width 0|addto b contour (0,0)--(1,0)--(1,129)--(0,129)--cycle
 proof b|""".replace("|", "\n").encode() + 15 * b"addto a also a\n" + b"show totalweight a\n"
-# Lines that are longer than a read: one that is too long, and a contour of too many points.
+# Lines that are longer than a read: one that is too long, and a contour with too many points.
 LONG = b"%" + 70_000 * b"x" + b"\nshow a\naddto a contour " + 4097 * b"(1,1)--" + b"cycle\nshow totalweight a"
 
 
-# A front of a script, and what its lines print.
+# What the first lines of a script print, for each number of lines.
 Texts = list[bytes]
 
 
@@ -85,12 +87,12 @@ def wrong_with_ample_memory(case: Case, ample: Answer) -> str | None:
 
 
 def wrong(case: Case, texts: Texts, ample: Answer, answer: Answer) -> str | None:
-    """What is wrong with a run to which memory was refused, if anything is. `texts` are what its first lines print."""
+    """What is wrong with a run to which memory was refused, if anything is. `texts` has what the first lines print."""
     if answer == ample:
         return None
     if answer.status != 4 or answer.font != OLD:
         return "the status is neither 4 nor that with ample memory, or the old font file was touched"
-    # A read ends at a line feed, so what the last one gave was not performed, unless the end of the script was met.
+    # A read ends at a line feed, so the line that the last one gave was not performed, unless it reached the end of the script.
     ready = [texts[case.script[: max(answer.taken - 1, 0)].count(b"\n")]]
     lines = ample.out[len(texts[-1]) :].splitlines(keepends=True)
     ended = [texts[-1] + b"".join(lines[:shown]) for shown in range(len(lines) + 1)]
@@ -100,12 +102,12 @@ def wrong(case: Case, texts: Texts, ample: Answer, answer: Answer) -> str | None
         may_be[b"mfpic: NoPlace\n"] = [b""] if answer.taken == 0 else []
         may_be[b"mfpic: NoLook\n"] = at_end
     if answer.message not in may_be:
-        return "the message is none of want of memory"
+        return "the message is not one of a refused allocation"
     return None if answer.out in may_be[answer.message] else "the output is not what the lines before print"
 
 
 def try_case(runner: Runner, case: Case) -> str:
-    """Refuses each growth of a case, alone and with all later ones. Says how many there were."""
+    """Refuses each allocation of a case, alone and with all later ones. Says how many there were."""
     lines = case.script.splitlines(keepends=True)
     fronts = [b"".join(lines[:count]) for count in range(len(lines) + 1)]
     texts = [runner.run(dataclasses.replace(case, words=(), script=front)).out for front in fronts]
@@ -117,43 +119,43 @@ def try_case(runner: Runner, case: Case) -> str:
             last = FOREVER if and_later else growth
             answer = runner.run(case, growth, last)
             fault = wrong(case, texts, ample, answer)
-            # What is read at once has the same growths as what is read line by line.
+            # A script that is read at once makes the same allocations as one that is read line by line.
             if not fault and case.twice and runner.run(case, growth, last, piece=0) != answer:
-                fault = "it is another answer than where the script is read at once"
+                fault = "the answer differs from that of the script read at once"
             if not fault and (and_later or answer.refused == 0) and (answer == ample) == (answer.refused > 0):
-                fault = "it is as with ample memory where all is refused, or is not where nothing is"
+                fault = "all later allocations are refused and it is as with ample memory, or none is and it is not"
             if fault:
-                raise Fault(f"{case}\n{answer}\n{fault}: growth {growth}{' and all later ones' if and_later else ''}")
+                raise Fault(f"{case}\n{answer}\n{fault}: allocation {growth}{' and all later ones' if and_later else ''}")
             if answer.refused == 0:
                 break
             traceless += answer == ample
-    return f"{case.about} {' '.join(case.words)}: {growth - 1} growths, {traceless} missed by nobody"
+    return f"{case.about} {' '.join(case.words)}: {growth - 1} allocations, {traceless} of them not needed"
 
 
 def try_test(runner: Runner, test: Case) -> str:
-    """Refuses each growth of a test, alone and, where it is marked, with all later ones. Says how many there were."""
+    """Refuses each allocation of a test, alone and, if it is marked, with all later ones. Says how many there were."""
     counts = []
     for and_later in (False, True) if test.marked else (False,):
         for growth in itertools.count(1):
             answer = runner.run(test, growth, FOREVER if and_later else growth)
             if answer.status != 0:
-                which = f"growth {growth}{' and all later ones' if and_later else ''}"
+                which = f"allocation {growth}{' and all later ones' if and_later else ''}"
                 raise Fault(f"{test}\n{answer}\nthe test does not pass: {which}")
             if answer.refused == 0:
                 break
         counts.append(growth - 1)
     if 0 in counts:
-        raise Fault(f"{test}\nno growth of this test was refused")
-    return f"{test.about}: {counts[0]} growths"
+        raise Fault(f"{test}\nno allocation of this test was refused")
+    return f"{test.about}: {counts[0]} allocations"
 
 
 def test_of(crate: str, name: str, marked: bool) -> Case:
-    """A test, by its crate and its name there."""
+    """The test with this name in this crate."""
     return Case(f"{crate} {name}", (name,), ROOT / "crates" / crate / f"out/{crate}_tests", marked=marked)
 
 
 def marked_tests() -> Iterator[Case]:
-    """The tests of the modules `growths`, which stand in these files and in the folders beside them."""
+    """The tests of the modules `growths`: those in the files growths.rt and in the folders beside them."""
     files: dict[str, list[pathlib.Path]] = {}
     for pattern in ("crates/*/src/tests/growths.rt", "crates/*/src/tests/growths/**/*.rt"):
         for path in sorted(ROOT.glob(pattern)):
@@ -165,7 +167,7 @@ def marked_tests() -> Iterator[Case]:
         listed = subprocess.run([program, "--list"], capture_output=True, check=True, encoding="utf-8").stdout
         names = [name for name in re.findall(r"^(\S+): test$", listed, re.M) if "::growths::" in name]
         if len(names) != sum(path.read_text(encoding="utf-8").count("#[test]") for path in paths):
-            raise Fault(f"the tests of {crate} are not built from what stands there now: rt ci builds them")
+            raise Fault(f"the tests of {crate} have changed since they were built: rt ci builds them")
         yield from (test_of(crate, name, marked=True) for name in names)
 
 
@@ -179,7 +181,7 @@ def scripts(program: pathlib.Path) -> Iterator[Case]:
 
 
 def more_scripts(program: pathlib.Path) -> Iterator[Case]:
-    """The examples, the scripts beside them, and scripts and words that reach what they do not."""
+    """The examples, the scripts of tests/scripts, and scripts and words that reach what those do not."""
     font = ("--gf", "FOLDER/font.gf")
     viewers = {"examples": [(), ("--viewers", "1"), ("--viewers", "4")], "tests/scripts": [()]}
     for path in sorted(path for folder in viewers for path in (ROOT / folder).glob("*.mfp")):
@@ -200,7 +202,7 @@ def more_scripts(program: pathlib.Path) -> Iterator[Case]:
 
 
 def try_all(folder: pathlib.Path, cases: list[Case], tests: list[Case]) -> tuple[int, int]:
-    """Tries all of these, as many at once as there are processors. Says how many growths were refused, in how many runs."""
+    """Tries all of these, one on each processor at a time. Returns how many allocations were refused, and in how many runs."""
     library = build_library(folder)
 
     def trial(number: int, run: Callable[[Runner, Case], str], case: Case) -> Runner:
@@ -231,13 +233,13 @@ def main() -> int:
         tests = [*marked_tests(), *(test_of(crate, name, marked=False) for crate, name in AGAIN)]
         for path in sorted({case.program for case in (*cases, *tests)}):
             if unknown := unknown_growths(path):
-                raise Fault(f"{path} asks for memory in ways that are not refused: {unknown}")
+                raise Fault(f"{path} allocates in ways that are not refused: {unknown}")
         with tempfile.TemporaryDirectory() as folder:
             refused, runs = try_all(pathlib.Path(folder), cases, tests)
     except Fault as fault:
         print(fault, file=sys.stderr)
         return 1
-    print(f"{refused} growths refused in {runs} runs: {len(cases)} scripts and {len(tests)} tests")
+    print(f"{refused} allocations refused in {runs} runs: {len(cases)} scripts and {len(tests)} tests")
     print(f"{len(cases) + len(tests)} passed, 0 failed")
     return 0
 

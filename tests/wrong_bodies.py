@@ -4,21 +4,20 @@
     tests/wrong_bodies.py [--jobs N] [CRATE..]
 
 A wrong body is an edit, crates/NAME/must-fail/*.edit (which `rt ci` tries, too, one at a time) or crates/NAME/wrong/*.edit.
-Those of the crates named are tried, or of all, N crates side by side: if it is not given, one for each processor, but no
-more than one for each 4 GB of free memory. It needs the toolchain's command `rt` on the path. It is run by hand.
+The wrong bodies of these crates, or of all crates, are tried, N crates at a time. By default N is the number of processors, but
+at most one for each 4 GB of free memory. The toolchain's command `rt` must be on the path. This script is run by hand.
 
-A crate is copied to a temporary folder and proved there as it stands. Then it is proved with a batch of edits in place,
-over what that first proof kept, batch after batch. The edits of a batch change different functions, and only those
-functions are asked for. The repository is not written, except out/ of the crates below, which are built first.
+A crate is copied to a temporary folder and proved there as it is. Then it is proved with a batch of edits applied, starting from
+what that first proof has kept, batch after batch. The edits of a batch change different functions, and only those functions are
+proved. Nothing in the repository is written, except out/ of the crates that these crates use, which are built first.
 
-A body is refused where the prover finds a goal of the function that it cannot prove, on the function's own account: that
-it calls another function that is not proved says nothing. Where the only reason is that a file of proofs/ names what the
-edit took away, the body is not judged, because a right body might be refused for the same reason. Each batch has a
-control, from crates/NAME/wrong/*.right: an edit that writes a right body in another form. If the control is not proved,
-the batch says nothing, and it is tried again in halves.
+A body is refused if the prover finds a goal of the function itself that it cannot prove. That the function calls another one that
+is not proved says nothing. If the only reason is that a file of proofs/ uses a name that the edit has removed, the body is not
+judged, because a right body might be refused for the same reason. Each batch has a control, from crates/NAME/wrong/*.right: an
+edit that writes a right body in another way. If the control is not proved, the batch says nothing, and is tried again in halves.
 
-Every body that is proved or not judged is printed, with the line `why:` of its edit if it has one. The last line counts
-all of them. The status is 1 if a body is proved or not judged without such a line.
+Every body that is proved or not judged is printed, with the line `why:` of its edit if it has one. The last line counts all
+bodies. The exit status is 1 if a body without such a line is proved or not judged.
 """
 
 import argparse
@@ -37,20 +36,21 @@ from pathlib import Path
 from edited_source import Edit, Function, UnfitEdit, changed_by, read_edit, texts_of
 from proof_room import ROOT, SAID, Room, own_reasons, problem_of
 
-# These stand in tools/, where proof_room looks for them.
+# These are in tools/, which proof_room has put on the path.
 from build import prove_in_order  # isort: skip
 from prover import Failure, Prover, libraries_of_crates  # isort: skip
 
-# The memory that one check takes at most, in bytes.
+# The most memory that one check takes, in bytes.
 MEMORY = 4_000_000_000
 REFUSED, PROVED, NOT_JUDGED = "refused", "proved", "not judged"
-# What the prover says where only a function that is called is not proved.
+# What the prover says if only a function that is called is not proved.
 OF_ANOTHER = re.compile(r"it calls|it passes|a call of")
 
 
 @dataclasses.dataclass
 class Body:
-    """A body: its edit, the functions that it changes, those that it concerns, and what came of it."""
+    """A body: its edit, the functions that it changes and those that it concerns, the verdict with its reason, and an error about
+    a name that is gone."""
 
     edit: Edit
     changed: set[Function] = dataclasses.field(default_factory=set)
@@ -64,12 +64,12 @@ class Body:
 
 
 def shortened(text: str) -> str:
-    """A line of the prover, which may be very long, or its beginning."""
+    """A line of the prover, or its first part if it is very long."""
     return text if len(text) <= 240 else f"{text[:240]}.."
 
 
 def bodies_of(crate: str, pattern: str) -> list[Body]:
-    """The bodies that a crate's edits make. One whose edit cannot be applied is judged already."""
+    """The bodies that these edits of a crate make. A body whose edit cannot be applied is already judged."""
     folder = ROOT / "crates" / crate
     texts, bodies = texts_of(folder), []
     for path in sorted(folder.glob(pattern)):
@@ -102,7 +102,7 @@ def fits(body: Body, batch: list[Body], texts: dict[str, str]) -> bool:
 
 
 def in_batches(bodies: list[Body], texts: dict[str, str]) -> list[list[Body]]:
-    """The bodies in batches, few and about even."""
+    """The bodies in batches, as few as possible and of about the same size."""
     often = collections.Counter(function for body in bodies for function in body.changed)
     batches: list[list[Body]] = [[] for _ in range(max(often.values(), default=0))]
     for body in sorted(bodies, key=lambda body: -max(often[it] for it in body.changed)):
@@ -114,7 +114,7 @@ def in_batches(bodies: list[Body], texts: dict[str, str]) -> list[list[Body]]:
 
 
 def judge(body: Body, room: Room, said: str) -> None:
-    """Judges a body by what a check says, unless that is only that a function is not proved which the body calls."""
+    """Judges a body by what a check says, unless it says only that a function which the body calls is not proved."""
     symbols = room.symbols_of(body.changed)
     lines = {symbol: words for symbol, words in SAID.findall(said) if symbol in symbols}
     fallen = {symbol: words for symbol, words in lines.items() if not words.startswith("proved")}
@@ -130,13 +130,13 @@ def judge(body: Body, room: Room, said: str) -> None:
     elif any(OF_ANOTHER.search(words) for words in fallen.values()):
         return
     elif gone:
-        body.judge(NOT_JUDGED, f"only a proof file that names what is gone refuses it: {gone[0]}")
+        body.judge(NOT_JUDGED, f"only a file of proofs that uses a name which is gone refuses it: {gone[0]}")
     else:
         body.judge(NOT_JUDGED, "; ".join(f"{symbol}: {words}" for symbol, words in fallen.items()))
 
 
 def try_batch(batch: list[Body], controls: list[Body], room: Room) -> None:
-    """Tries a batch, in halves if the check says nothing of the whole, and judges what it can."""
+    """Tries a batch, in halves if the check says nothing about all of it, and judges what it can."""
     control = [it for it in controls if fits(it, batch, room.texts)][:1]
     changed = set().union(*(body.changed for body in [*batch, *control]))
     said = room.check(texts_with([*batch, *control], room.texts), room.symbols_of(changed))
@@ -153,14 +153,14 @@ def try_batch(batch: list[Body], controls: list[Body], room: Room) -> None:
 
 
 def is_proved(control: Body, room: Room) -> bool:
-    """Whether a control is proved with no other edit beside it."""
+    """Whether a control is proved when no other edit is applied."""
     symbols = room.symbols_of(control.changed)
     return not problem_of(room.check(texts_with([control], room.texts), symbols), symbols)
 
 
 @dataclasses.dataclass
 class Trial:
-    """What came of the wrong bodies of a crate: how many batches they took, and how many seconds."""
+    """The wrong bodies of a crate with their verdicts, and how many batches and seconds they took."""
 
     bodies: list[Body]
     batches: int = 0
@@ -183,7 +183,8 @@ class Trial:
 
 
 def trial_of(crate: str) -> Trial:
-    """Tries the wrong bodies of a crate. One that calls another of its batch is tried again if only that was said of it."""
+    """Tries the wrong bodies of a crate. A body that calls another one of its batch is tried again if nothing else was said about
+    it."""
     started = time.monotonic()
     trial = Trial(bodies_of(crate, "must-fail/*.edit") + bodies_of(crate, "wrong/*.edit"))
     controls = bodies_of(crate, "wrong/*.right")
@@ -211,39 +212,39 @@ def trial_of(crate: str) -> Trial:
 
 
 def print_trial(crate: str, trial: Trial) -> None:
-    """Prints what is not refused, or is refused although its edit has a reason, and the counts of a crate."""
+    """Prints the bodies of a crate that are not refused, or are refused although their edits give a reason, and the counts."""
     for body in trial.bodies:
         label = f"{crate}/{body.edit.label}"
         if body.verdict != REFUSED:
             print(f"{label}: {body.verdict}: {body.told}")
             print(f"  why: {body.edit.why}" if body.edit.why else "  it gives no reason")
         elif body.edit.why:
-            print(f"{label}: refused, although it says why it is not: {body.edit.why}")
+            print(f"{label}: refused, although it gives a reason why it is not: {body.edit.why}")
         elif body.gone:
             print(f"{label}: refused, for {body.told}, but also because of {body.gone}")
     print(f"{crate}: {trial.counts()}", flush=True)
 
 
 def build_below(names: list[str]) -> None:
-    """Builds the libraries that these crates stand on, where they have changed."""
+    """Builds the libraries that these crates use, if they have changed."""
     prover = Prover()
     below = {it for name in names for it in prover.below(name)}
     try:
         for name in prove_in_order(prover, [it for it in prover.libraries if it in below]):
             print(f"{name}: built", file=sys.stderr, flush=True)
     except Failure as failure:
-        sys.exit(f"a crate on which others stand is not proved: {failure}")
+        sys.exit(f"a crate that others use is not proved: {failure}")
 
 
 def checks_at_once() -> int:
-    """How many checks may run side by side."""
+    """How many checks may run at a time."""
     free = re.search(r"MemAvailable:\s+(\d+)", Path("/proc/meminfo").read_text(encoding="ascii"))
     return max(1, min(len(os.sched_getaffinity(0)), int(free[1]) * 1024 // MEMORY if free else 1))
 
 
 def main() -> None:
     parser = argparse.ArgumentParser(description=__doc__, formatter_class=argparse.RawDescriptionHelpFormatter)
-    parser.add_argument("--jobs", type=int, default=checks_at_once(), help="how many crates are tried side by side")
+    parser.add_argument("--jobs", type=int, default=checks_at_once(), help="how many crates are tried at a time")
     parser.add_argument("crates", nargs="*", metavar="CRATE")
     given = parser.parse_args()
     having = [name for name in libraries_of_crates() if any((ROOT / "crates" / name / it).is_dir() for it in ("must-fail", "wrong"))]
@@ -252,7 +253,7 @@ def main() -> None:
         parser.error(f"no wrong bodies in {', '.join(unknown)}" if unknown else "there is no command rt on the path")
     started, names = time.monotonic(), given.crates or having
     build_below(names)
-    # The crates with the most bodies come first, so that the last ones end at about the same time.
+    # The crates with the most bodies come first, so that the last ones are done at about the same time.
     names.sort(key=lambda name: -len([*(ROOT / "crates" / name).glob("*/*.edit")]))
     whole = Trial([])
     with concurrent.futures.ThreadPoolExecutor(given.jobs) as pool:

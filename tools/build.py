@@ -1,10 +1,10 @@
 #!/usr/bin/env python3
-"""Proves and builds the program mfpic, as far as it is not built yet.
+"""Proves and builds the program mfpic, except what is already proved and built.
 
     tools/build.py
 
-Each crate that the program stands on is proved as soon as those below it are, beside others where processors are free,
-since a part of each proof is done by one processor alone. A line tells each crate as it is proved.
+Each library of the program is proved as soon as the libraries that it uses are. Several are proved at a time where processors are
+free, because part of each proof keeps only one processor busy. A line is printed for each crate when it is proved.
 """
 
 import concurrent.futures
@@ -18,13 +18,13 @@ from prover import Failure, Prover
 
 PROGRAM = "mfpic"
 FIRST_TIME = "8 to 16 minutes on four processors, and 0.7 GB of disk"
-# Memory of a job, in bytes: the most that one was seen to take.
+# The memory of a job, in bytes: the most that any job was seen to take.
 JOB_MEMORY = 2_000_000_000
 
 
 def prove_in_order(prover: Prover, names: list[str]) -> Iterator[str]:
-    """Proves these crates of a repository, each once those below it are proved. Those of the first crates count that others
-    wait for. Yields each name when it is proved."""
+    """Proves these crates of the repository, each once the crates that it uses are proved. Crates that more others wait for get a
+    higher priority. Yields each name when its crate is proved."""
     jobs, left = count_jobs(), names
     proved: list[str] = []
     running: dict[concurrent.futures.Future[None], str] = {}
@@ -43,7 +43,7 @@ def prove_in_order(prover: Prover, names: list[str]) -> Iterator[str]:
 
 
 def count_jobs() -> int:
-    """How many jobs run at once: one for each processor, as far as memory is free for it."""
+    """How many jobs run at a time: one for each processor, if there is enough free memory."""
     free = os.sysconf("SC_AVPHYS_PAGES") * os.sysconf("SC_PAGE_SIZE")
     for line in pathlib.Path("/proc/meminfo").read_text(encoding="ascii").splitlines():
         if line.startswith("MemAvailable:"):
@@ -52,13 +52,13 @@ def count_jobs() -> int:
 
 
 def share_of(jobs: int, crates: int) -> int:
-    """How many jobs each of so many crates gets that are proved side by side: one more than its part of the processors,
-    since no crate has work for all of its jobs all the time."""
+    """How many jobs each of `crates` crates gets that are proved at a time: one more than its share of the processors, because no
+    crate has work for all of its jobs all the time."""
     return min(jobs, jobs // crates + 1)
 
 
 def build(prover: Prover) -> None:
-    """Proves the libraries that the program stands on, and the program."""
+    """Proves the libraries of the program, and then the program."""
     libraries, begun = prover.below(PROGRAM), time.monotonic()
 
     def tell(name: str, number: int) -> None:
@@ -72,7 +72,7 @@ def build(prover: Prover) -> None:
 
 
 def main() -> int:
-    """Tells what it does, and what the toolchain said where a crate is not proved."""
+    """Says what it does, and what the toolchain said if a crate is not proved."""
     print(f"mfpic: proving and building the program; the first time takes {FIRST_TIME}", file=sys.stderr)
     try:
         build(Prover())

@@ -1,9 +1,9 @@
-"""Reads GF files, METAFONT's generic fonts (The METAFONTbook, Appendix G; docs/GF.md).
+"""Reads GF files, METAFONT's generic fonts (The METAFONTbook, Appendix G; docs/library/GF.md).
 
     font = read_font(path.read_bytes())
 
-A place is a number of bytes from the beginning of the file. Special commands (xxx, yyy) and no_op are passed over.
-Bytes that are no GF file raise `NotGf`.
+A place is a number of bytes from the beginning of the file. Special commands (xxx, yyy) and no_op are skipped. `NotGf` is raised
+for bytes that are not a GF file.
 """
 
 import dataclasses
@@ -11,18 +11,18 @@ import enum
 import functools
 import typing
 
-# The number of a GF file's format, and the byte that fills its end, at least so many times.
+# The number of the GF format, the byte that fills the end of a file, and the least number of these bytes.
 FORMAT, PADDING, LEAST_PADDING = 131, 223, 4
-# A pixel in the units of dx.
+# One pixel, in the units of dx.
 PIXEL = 65536
-# The number and the place of a character that is not there.
+# The number and the place of a character that does not exist.
 NOWHERE = -1
-# Locators know of a code only what is left of it here.
+# Locators know a code only modulo this number.
 CODES = 256
 
 
 class Opcode(enum.IntEnum):
-    """The first bytes of commands, and both ends of the two ranges of them."""
+    """The first bytes of commands. Of each range of first bytes, both ends."""
 
     PAINT_0 = 0
     PAINT_63 = 63
@@ -47,7 +47,7 @@ class Opcode(enum.IntEnum):
 
 
 class NotGf(Exception):
-    """Bytes are no GF file: what is wrong, and at which place."""
+    """The bytes are not a GF file. The text says what is wrong, and at which place."""
 
     def __init__(self, place: int, wrong: str) -> None:
         super().__init__(f"byte {place}: {wrong}")
@@ -55,7 +55,7 @@ class NotGf(Exception):
 
 
 class Run(typing.NamedTuple):
-    """Black pixels side by side: their row, the first column, and the one behind the last."""
+    """Black pixels side by side: their row, their first column, and the column after the last."""
 
     row: int
     left: int
@@ -63,7 +63,7 @@ class Run(typing.NamedTuple):
 
 
 class Box(typing.NamedTuple):
-    """The bounds of a character: its columns and rows. The last column is the one behind its pixels."""
+    """The bounds of a character: its columns and rows. The last column is the one after its pixels."""
 
     min_m: int
     max_m: int
@@ -73,9 +73,9 @@ class Box(typing.NamedTuple):
 
 @dataclasses.dataclass(frozen=True)
 class Character:
-    """A character: the place of its first command, that command, its code, the number of the previous character with this
-    code or NOWHERE, its box, the bytes of its commands behind the first one, and the longest runs of its black pixels, rows
-    from the top."""
+    """A character: the place of its first command, that command, its code, the number of the previous character with this code or
+    NOWHERE, its box, the bytes of its commands after the first one, and the maximal runs of its black pixels, rows from the
+    top."""
 
     place: int
     opcode: int
@@ -92,7 +92,7 @@ class Character:
 
 
 class Locator(typing.NamedTuple):
-    """What a font says of a code: its escapement in 1/65536 pixel, its width in 1/1048576 of the design size, and the number
+    """What a font says about a code: its escapement in 1/65536 pixel, its width in 1/1048576 of the design size, and the number
     of its last character, or NOWHERE."""
 
     dx: int
@@ -102,7 +102,7 @@ class Locator(typing.NamedTuple):
 
 
 class Words(typing.NamedTuple):
-    """The words of a font: its design size in 1/1048576 point, its check sum, and the pixels per point, across and up, in
+    """The font words: the design size in 1/1048576 point, the check sum, and the horizontal and the vertical pixels per point, in
     1/65536."""
 
     design_size: int
@@ -113,8 +113,8 @@ class Words(typing.NamedTuple):
 
 @dataclasses.dataclass(frozen=True)
 class Font:
-    """A font: its comment, its characters in order, the place of its postamble, its words, the box that it says is round all
-    characters, and the locators by code."""
+    """A font: its comment, its characters in order, the place of its postamble, its font words, the box that it says contains all
+    characters, and its locators by code."""
 
     comment: bytes
     characters: tuple[Character, ...]
@@ -124,12 +124,12 @@ class Font:
     locators: dict[int, Locator]
 
     def locator(self, character: Character) -> Locator:
-        """The locator of a character's code."""
+        """The locator of the code of a character."""
         return self.locators[character.code % CODES]
 
 
 class Reader:
-    """Takes numbers from bytes, the highest byte of each first."""
+    """Takes numbers from bytes, the highest byte of each number first."""
 
     def __init__(self, font: bytes) -> None:
         self.font = font
@@ -154,7 +154,7 @@ class Reader:
             raise NotGf(self.place - 1, f"{name} is {expected}, and here is {found}")
 
     def command(self) -> int:
-        """Takes the first byte of the next command that is no special one."""
+        """Takes the first byte of the next command. Special commands are skipped."""
         while (opcode := self.unsigned()) in range(Opcode.XXX1, Opcode.CHAR_LOC):
             if opcode != Opcode.NO_OP:
                 self.take(4 if opcode == Opcode.YYY else self.unsigned(opcode - Opcode.XXX1 + 1))
@@ -162,7 +162,7 @@ class Reader:
 
 
 class Painter:
-    """The machine that paints a character: it stands in a row and a column, and has a colour."""
+    """The machine that paints a character. It has a row, a column and a colour."""
 
     def __init__(self, box: Box) -> None:
         self.left, self.column, self.row, self.is_black = box.min_m, box.min_m, box.max_n, False
@@ -181,15 +181,15 @@ class Painter:
 
 
 def read_font(font: bytes) -> Font:
-    """The font of these bytes."""
+    """The font with these bytes."""
     reader = Reader(font)
     reader.expect(Opcode.PRE, "the first byte of a GF file")
     reader.expect(FORMAT, "the number of the format")
     comment = reader.take(reader.unsigned())
-    characters, numbers, behind = read_characters(reader)
+    characters, numbers, end = read_characters(reader)
     postamble = reader.place - 1
-    if (place := reader.signed()) != behind:
-        raise NotGf(postamble, f"the postamble says that the characters end at byte {place}, and they end at {behind}")
+    if (place := reader.signed()) != end:
+        raise NotGf(postamble, f"the postamble says that the characters end at byte {place}, and they end at {end}")
     words = Words(*(reader.signed() for _ in Words._fields))
     box = read_box(reader)
     locators = read_locators(reader, numbers)
@@ -199,23 +199,23 @@ def read_font(font: bytes) -> Font:
 
 
 def read_characters(reader: Reader) -> tuple[list[Character], dict[int, int], int]:
-    """The characters, their numbers by the places that lead to them, and the place behind them. The first byte of the
-    postamble is read."""
+    """The characters, their numbers by the places that lead to them, and the place after them. The first byte of the postamble is
+    read, too."""
     characters: list[Character] = []
     numbers: dict[int, int] = {}
-    behind = reader.place
+    end = reader.place
     while (opcode := reader.command()) != Opcode.POST:
         place = reader.place - 1
         characters.append(read_character(reader, opcode, characters, numbers))
-        # METAFONT leads to the special commands before a character, where it has some.
-        numbers[behind] = numbers[place] = len(characters) - 1
-        behind = reader.place
-    return characters, numbers, behind
+        # In METAFONT's files the place that leads to a character is that of the special commands before it, if there are any.
+        numbers[end] = numbers[place] = len(characters) - 1
+        end = reader.place
+    return characters, numbers, end
 
 
 def read_character(reader: Reader, opcode: int, characters: list[Character], numbers: dict[int, int]) -> Character:
-    """The character whose first byte has been read. `numbers` are those of the characters before it, by the places that lead
-    to them."""
+    """The character whose first byte has been read. `numbers` has the numbers of the characters before it, by the places that
+    lead to them."""
     place, previous = reader.place - 1, NOWHERE
     if opcode == Opcode.BOC:
         code, pointer = reader.signed(), reader.signed()
@@ -227,14 +227,14 @@ def read_character(reader: Reader, opcode: int, characters: list[Character], num
         code, columns, max_m, rows, max_n = reader.take(5)
         box = Box(max_m - columns, max_m, max_n - rows, max_n)
     else:
-        raise NotGf(place, f"the command {opcode} begins no character")
-    behind = reader.place
+        raise NotGf(place, f"the command {opcode} does not begin a character")
+    start = reader.place
     runs = read_painting(reader, box)
-    return Character(place, opcode, code, previous, box, reader.font[behind : reader.place], tuple(runs))
+    return Character(place, opcode, code, previous, box, reader.font[start : reader.place], tuple(runs))
 
 
 def read_box(reader: Reader) -> Box:
-    """The box of four numbers."""
+    """A box, from four numbers."""
     return Box(*(reader.signed() for _ in Box._fields))
 
 
@@ -252,14 +252,15 @@ def read_painting(reader: Reader, box: Box) -> list[Run]:
         elif Opcode.NEW_ROW_0 <= opcode <= Opcode.NEW_ROW_164:
             painter.go_down(1, opcode - Opcode.NEW_ROW_0, is_black=True)
         else:
-            raise NotGf(place, f"the command {opcode} may not stand in a character")
+            raise NotGf(place, f"the command {opcode} is not allowed in a character")
         if painter.runs and (painter.runs[-1].right > box.max_m or painter.runs[-1].row < box.min_n):
             raise NotGf(place, "a black pixel is outside the character's box")
     return painter.runs
 
 
 def read_locators(reader: Reader, numbers: dict[int, int]) -> dict[int, Locator]:
-    """The locators by code, where these numbers of characters belong to places. The first byte behind is read."""
+    """The locators by code. `numbers` has the numbers of characters, by the places that lead to them. The first byte after the
+    locators is read, too."""
     locators: dict[int, Locator] = {}
     while (opcode := reader.command()) in (Opcode.CHAR_LOC, Opcode.CHAR_LOC0):
         place, code = reader.place - 1, reader.unsigned()
@@ -274,12 +275,12 @@ def read_locators(reader: Reader, numbers: dict[int, int]) -> dict[int, Locator]
             raise NotGf(place, f"the locator of the code {code} leads to byte {pointer}, where no character begins")
         locators[code] = Locator(dx, dy, width, numbers.get(pointer, NOWHERE))
     if opcode != Opcode.POST_POST:
-        raise NotGf(reader.place - 1, f"the command {opcode} may not stand in the postamble")
+        raise NotGf(reader.place - 1, f"the command {opcode} is not allowed in the postamble")
     return locators
 
 
 def read_end(reader: Reader, postamble: int) -> None:
-    """Reads what stands behind the first byte of post_post."""
+    """Reads what comes after the first byte of post_post."""
     place = reader.place
     if (pointer := reader.signed()) != postamble:
         raise NotGf(place, f"the end says that the postamble is at byte {pointer}, and it is at {postamble}")
@@ -288,13 +289,13 @@ def read_end(reader: Reader, postamble: int) -> None:
     padding = reader.font[place:]
     filled = len(padding) - len(padding.lstrip(bytes([PADDING])))
     if filled != len(padding):
-        raise NotGf(place + filled, f"behind the end come bytes {PADDING} alone")
+        raise NotGf(place + filled, f"only bytes {PADDING} may follow the end")
     if filled < LEAST_PADDING:
         raise NotGf(place, f"the file ends in {filled} bytes {PADDING} and not in {LEAST_PADDING} or more")
 
 
 def check_locators(characters: list[Character], locators: dict[int, Locator]) -> None:
-    """Each code that characters have must have a locator, which leads to the last of them."""
+    """Each code of a character must have a locator, which leads to the last character with this code."""
     last = {character.code % CODES: number for number, character in enumerate(characters)}
     for code, number in last.items():
         if code not in locators or locators[code].last != number:

@@ -1,12 +1,12 @@
 #!/usr/bin/env python3
-"""Makes of a GF file a script that draws each of its characters by its outline, and ships it.
+"""Makes a script from a GF file. The script draws each character by its outline, and ships it.
 
     tools/gf2mfp.py FILE.gf > FILE.mfp
 
-Each line of a contour walks round a boundary between black and white, counterclockwise from its lowest corner. An outer
-boundary has weight 1. A hole says `withweight -1`, so that one sees which contours are holes, and they count alike whether the
-turning check is on or off. Characters come in the order of the file, with what the font says of their codes. A character that
-no line can say is named, and no script is written.
+Each contour goes around a boundary between black and white, counterclockwise from its lowest corner. An outer boundary has weight
+1. A hole has `withweight -1`, so that you see which contours are holes, and contours count the same whether the turning check is
+on or off. Characters come in the order of the file, with what the font says about their codes. If no line can describe a
+character, it is named, and no script is written.
 """
 
 import argparse
@@ -21,8 +21,8 @@ import gf
 from printing import print_script
 
 Point = tuple[int, int]
-# What the program takes (docs/LANGUAGE.md): the columns and rows of pixels, the points of a contour, the digits of a number,
-# the codes, and the operations of `currentpicture`.
+# What the program accepts (docs/user/LANGUAGE.md): the columns and rows of pixels, the points of a contour, numbers, codes, and
+# the operations of `currentpicture`.
 FIELD = range(-4095, 4095)
 MAX_POINTS = 4096
 MAX_NUMBER = 999_999_999
@@ -31,11 +31,11 @@ MAX_OPERATIONS = 1_000_000
 
 
 class Failure(Exception):
-    """Why no script is made: a line for each fault."""
+    """Why no script is made. The text has a line for each fault."""
 
 
 class Edge(typing.NamedTuple):
-    """A horizontal edge between black and white, which has the black pixels on its left, in the direction that it goes."""
+    """A horizontal edge between black and white, with the black pixels on its left in the direction in which it goes."""
 
     start: Point
     end: Point
@@ -46,12 +46,13 @@ class Edge(typing.NamedTuple):
 
 
 class Borders:
-    """The horizontal edges of black pixels, and how one comes from each to the next round its boundary.
+    """The horizontal edges of black pixels, and how each leads to the next one around its boundary.
 
-    Where two pixels touch at a corner only, one turns left, and so stays with the same pixel: they are not joined there."""
+    Where two pixels touch only at a corner, the boundary turns left and so stays with the same pixel: they are not joined
+    there."""
 
     def __init__(self, runs: Iterable[gf.Run]) -> None:
-        # The columns of each row in which its colour changes.
+        # The columns of each row at which the colour changes.
         self.changes: dict[int, set[int]] = collections.defaultdict(set)
         for run in runs:
             self.changes[run.row] |= {run.left, run.right}
@@ -63,7 +64,7 @@ class Borders:
             self.corners[x].append(y)
 
     def heights(self) -> list[int]:
-        """The heights at which there may be edges, rising."""
+        """The heights at which there may be edges, in rising order."""
         return sorted({height for row in self.changes for height in (row, row + 1)})
 
     def changes_of(self, row: int) -> set[int]:
@@ -80,7 +81,7 @@ class Borders:
             is_above, is_below, before = is_above != (x in above), is_below != (x in below), x
 
     def following(self, edge: Edge) -> Edge:
-        """The edge behind this one, and behind the vertical edge between them."""
+        """The next horizontal edge, after the vertical edge that follows this one."""
         x, y = edge.end
         goes_up = x in self.changes_of(y) if edge.goes_right else x not in self.changes_of(y - 1)
         corners = self.corners[x]
@@ -89,7 +90,7 @@ class Borders:
         return left.get(corner) or right[corner]
 
     def boundaries(self) -> Iterator[list[Point]]:
-        """The corners of each boundary, which has the black pixels on its left."""
+        """The corners of each boundary, in the direction with the black pixels on the left."""
         walked: set[Edge] = set()
         for edge in self.edges:
             corners: list[Point] = []
@@ -114,12 +115,13 @@ class Contour(typing.NamedTuple):
 
 
 def doubled_area(points: list[Point]) -> int:
-    """Twice the area that a path goes round, which is negative where it goes clockwise."""
+    """Twice the area that a path goes around. It is negative if the path goes clockwise."""
     return sum(x * below - after * y for (x, y), (after, below) in zip(points, points[1:] + points[:1]))
 
 
 def contour_of(boundary: list[Point]) -> Contour:
-    """The contour of a boundary that has the black pixels on its left: a hole is walked clockwise, and is turned round."""
+    """The contour of a boundary that has the black pixels on its left. The boundary of a hole goes clockwise, so it is
+    reversed."""
     is_hole = doubled_area(boundary) < 0
     points = boundary[::-1] if is_hole else boundary
     first = min(range(len(points)), key=lambda number: points[number][::-1])
@@ -127,8 +129,8 @@ def contour_of(boundary: list[Point]) -> Contour:
 
 
 def contours_of(runs: list[gf.Run]) -> list[Contour]:
-    """The contours of black pixels. Where one would have too many points, the upper and the lower rows are drawn apart: one
-    row alone has rectangles."""
+    """The contours of black pixels. If one would have too many points, the upper and the lower rows are drawn separately. A
+    single row has only rectangles."""
     boundaries = list(Borders(runs).boundaries())
     if all(len(boundary) <= MAX_POINTS for boundary in boundaries):
         return sorted(map(contour_of, boundaries), key=lambda contour: contour.points[0][::-1])
@@ -138,7 +140,7 @@ def contours_of(runs: list[gf.Run]) -> list[Contour]:
 
 
 def faults_of(character: gf.Character, locator: gf.Locator) -> Iterator[str]:
-    """Why no line can say a character."""
+    """Why no line can describe a character."""
     if character.code not in CODES:
         yield f"its code is not from 0 to {CODES[-1]}"
     if locator.dy != 0:
@@ -152,7 +154,7 @@ def faults_of(character: gf.Character, locator: gf.Locator) -> Iterator[str]:
 
 
 def faults_of_font(font: gf.Font) -> Iterator[str]:
-    """Why no script can say a font."""
+    """Why no script can describe a font."""
     if not font.characters:
         yield "it has no character"
     for code, locator in font.locators.items():
@@ -193,7 +195,7 @@ def script_of(font: gf.Font) -> list[str]:
 
 
 def main(words: list[str]) -> int:
-    parser = argparse.ArgumentParser(description="Makes of a GF file a script that draws and ships its characters.")
+    parser = argparse.ArgumentParser(description="Makes a script from a GF file. The script draws and ships its characters.")
     parser.add_argument("file", type=pathlib.Path, metavar="FILE.gf")
     file = parser.parse_args(words).file
     try:

@@ -1,12 +1,12 @@
 #!/usr/bin/env python3
-"""Sets the words of a finished GF file: its design size, its check sum, and its pixels per point in both directions.
+"""Sets the font words of a finished GF file: its design size, its check sum, and its pixels per point in both directions.
 
     tools/gfwords.py FILE.gf --design-size POINTS --checksum N --resolution DPI
     tools/gfwords.py FILE.gf --like OTHER.gf
 
-The program mfpic writes 0 for each of these words, of which TeX's programs complain. What is not named stays as it is, and so
-does the rest of the file. `--like` takes all four words of another font, and the other options come after it. The new file is
-written beside the old one and then takes its place, so that a fault leaves the old one.
+The program mfpic writes 0 for each of these words, and TeX's programs complain about that. Words that are not named stay as they
+are, and so does the rest of the file. `--like` takes all four words from another font, and the other options are applied after
+it. The new file is written beside the old one and then replaces it, so that a fault leaves the old one.
 """
 
 import argparse
@@ -21,12 +21,12 @@ import tempfile
 
 import gf
 
-# The units of a design size in a point, the units of the pixels per point in a pixel, and the points of an inch.
+# How many units of a design size make a point, units of the pixels per point a pixel, and points an inch.
 POINT, PIXEL, INCH = 1 << 20, 1 << 16, fractions.Fraction("72.27")
-# A word has four bytes with a sign. A check sum may be written without one.
+# A word has four bytes and a sign. A check sum may be given as an unsigned number.
 GREATEST = (1 << 31) - 1
 CHECK_SUMS = range(-GREATEST - 1, 1 << 32)
-# How far behind the beginning of the postamble the words stand.
+# How many bytes of the postamble come before the words.
 WORDS = 5
 
 
@@ -50,7 +50,7 @@ def resolution(text: str) -> int:
 
 def check_sum(text: str) -> int:
     if not re.fullmatch(r"-?[0-9]{1,20}", text):
-        raise argparse.ArgumentTypeError(f"{text} is no whole number")
+        raise argparse.ArgumentTypeError(f"{text} is not a whole number")
     number = int(text)
     if number not in CHECK_SUMS:
         raise argparse.ArgumentTypeError(f"{text} is too large for a word of four bytes")
@@ -58,12 +58,12 @@ def check_sum(text: str) -> int:
 
 
 def arguments(words: list[str]) -> argparse.Namespace:
-    parser = argparse.ArgumentParser(description="Sets the words of a finished GF file. What is not named stays as it is.")
+    parser = argparse.ArgumentParser(description="Sets the font words of a finished GF file. Words not named stay as they are.")
     parser.add_argument("file", type=pathlib.Path, metavar="FILE.gf")
-    parser.add_argument("--like", type=pathlib.Path, metavar="OTHER.gf", help="take all words of this font first")
-    parser.add_argument("--design-size", type=design_size, metavar="POINTS", help="such as 10")
-    parser.add_argument("--checksum", type=check_sum, metavar="N", help="that of the font's TFM file")
-    parser.add_argument("--resolution", type=resolution, metavar="DPI", help="pixels per inch, across and up")
+    parser.add_argument("--like", type=pathlib.Path, metavar="OTHER.gf", help="first take all four words from this font")
+    parser.add_argument("--design-size", type=design_size, metavar="POINTS", help="the design size, such as 10")
+    parser.add_argument("--checksum", type=check_sum, metavar="N", help="the check sum in the font's TFM file")
+    parser.add_argument("--resolution", type=resolution, metavar="DPI", help="pixels per inch, in both directions")
     named = parser.parse_args(words)
     if all(value is None for name, value in vars(named).items() if name != "file"):
         parser.error("no word is named: give --like, --design-size, --checksum or --resolution")
@@ -71,7 +71,7 @@ def arguments(words: list[str]) -> argparse.Namespace:
 
 
 def read(file: pathlib.Path) -> tuple[bytes, gf.Font]:
-    """The bytes of a file, and the font that they are."""
+    """The bytes of a file, and its font."""
     font = file.read_bytes()
     try:
         return font, gf.read_font(font)
@@ -84,7 +84,7 @@ def told(file: pathlib.Path, fault: str) -> str:
 
 
 def new_words(words: gf.Words, named: argparse.Namespace) -> gf.Words:
-    """The words of a font, with those that are named."""
+    """The words of a font, with the changes that the options name."""
     if named.like is not None:
         words = read(named.like)[1].words
     given = {
@@ -97,7 +97,7 @@ def new_words(words: gf.Words, named: argparse.Namespace) -> gf.Words:
 
 
 def replace(file: pathlib.Path, font: bytes) -> None:
-    """Writes bytes beside a file, and puts them in its place."""
+    """Writes bytes to a new file beside this one, and then replaces this one."""
     handle, beside = tempfile.mkstemp(prefix=f"{file.name}.", dir=file.parent)
     try:
         with os.fdopen(handle, "wb") as output:

@@ -1,5 +1,5 @@
 #!/usr/bin/env python3
-"""Makes a script for mfpic of what METAFONT logged of a font, and of the GF file that it wrote.
+"""Makes a script for mfpic from METAFONT's log of a font, and from the GF file that METAFONT wrote.
 
     mf-nowin -jobname=logo10 -interaction=batchmode '\\mode=ljfour; mag=1; input tools/mf2mfp; input logo10'
     tools/mf2mfp.py logo10.log logo10.600gf > logo10.mfp
@@ -7,15 +7,15 @@
 
     tools/mf2mfp.py LOG FONT [--proof CODE]
 
-The log is one of METAFONT to which mf2mfp.mf was read before the font. Contours are in it as METAFONT has digitized them;
-culls, sums, shifts, clears and shipouts of pictures are marked between them. The escapement and the width of each character
-are those of the GF file. METAFONT's `currentpicture` is that of the script, and its other pictures become registers, `pic_`
-the register p. With --proof the script proofs `currentpicture` before it ships the character with this code.
+METAFONT must have read mf2mfp.mf before the font. The log has contours as METAFONT has digitized them, and between them marks for
+culls, sums, shifts, clears and shipouts of pictures. The escapement and the width of each character are those of the GF file.
+METAFONT's `currentpicture` is that of the script, `pic_` becomes the register p, and other pictures become other registers. With
+--proof the script prints a proof of the picture before it ships the character with this code.
 
-What is not translated is named with its line of the log, and then no script is written: another use of a picture than
-these, a picture assigned from one that is neither `currentpicture` nor `pic_`, one that is turned or stretched otherwise
-than mfpic does it, more pictures than registers, and an error that METAFONT found, such as of a picture that is moved in
-parentheses and then added. The status is then 1.
+Anything that cannot be translated is reported with its line of the log. Then no script is written, and the exit status is 1. This
+concerns other uses of pictures, a picture that is assigned from one that is neither `currentpicture` nor `pic_`, a turn or a
+stretch that mfpic does not have, more pictures than registers, and an error that METAFONT found, as for a picture that is moved
+in parentheses and then added.
 """
 
 import argparse
@@ -32,15 +32,15 @@ from printing import print_script
 
 Point = tuple[int, int]
 
-# METAFONT's names of the pictures of plain METAFONT, as mf2mfp.mf has them, with their names in the script.
+# The names of plain METAFONT's pictures in the log, as mf2mfp.mf sets them, and their names in the script.
 CURRENT, KEPT = "currentpicture_", "pic__"
 PLAIN = {CURRENT: "currentpicture", KEPT: "p"}
-# The registers for other pictures, and the one in which a picture is moved before it is added.
+# The registers for other pictures, and the register in which a picture is moved before it is added.
 OTHERS, MOVED = "abcdefghijklmnoqrstuvwxy", "z"
-# So many points may a contour have, and so large may they be.
+# How many points a contour may have, and the greatest absolute value of their coordinates.
 MAX_POINTS, MAX_COORDINATE = 4096, 4095
 
-# METAFONT breaks lines of its log behind so many characters.
+# METAFONT breaks the lines of its log after this many characters.
 WIDTH = 79
 MARK = re.compile(r"mf2mfp ([a-z]+) ?(.*)")
 EDGES = re.compile(r"Tracing edges at line (\d+): \(weight (-?\d+)\)")
@@ -48,20 +48,20 @@ NOTHING = "(No new edges added.)"
 ASSIGNMENT = re.compile(r"\{(?:(.+):=picture|\(unknown picture (.+)\)=\(picture\))\}")
 OPERATION = re.compile(r"\{\(picture\)([a-z]+)\((.*)\)\}")
 RESTORED = re.compile(r"\{restoring ([^}]*)\}")
-# A question about a picture, and the trace of commands that show one.
+# The trace of a question about a picture, and of commands that show one.
 QUESTION = re.compile(r"\{(totalweight|known|unknown|picture)\(picture\)\}")
 SHOWING = {"{display}", "{show}"}
 # The trace of a command, an assignment or an equation, and the trace of the marks themselves.
 ENDING = re.compile(r"\{([a-z]+\}$|.*:=|.*\)=\()")
 OF_MARKS = {"{exitif}", "{message}", "{false}"}
 GROUPS = {"{begingroup}": 1, "{endgroup}": -1}
-# Commands that METAFONT traces directly behind their marks, and how many words each mark has.
+# Commands that METAFONT traces directly after their marks, and the number of words of each mark.
 COMMANDS = ("addto", "cull", "shipout")
 MARKS = {"uses": 1, "addto": 1, "also": 1, "cull": 1, "keeping": 2, "dropping": 2, "weight": 1, "shipout": 5}
 
 
 class Untranslated(Exception):
-    """What cannot be translated."""
+    """Something cannot be translated."""
 
 
 class Step(typing.NamedTuple):
@@ -76,8 +76,8 @@ NEGATED = Step("-", "")
 
 @dataclasses.dataclass
 class Source:
-    """A picture that is added, shipped or assigned: how many groups it stands in, its name, the pictures that are used before
-    and behind `:=`, whether one of them is blank, and what is done to it."""
+    """A picture that is added, shipped or assigned: the number of groups around it, its name, the pictures that are used before
+    and after `:=`, whether `nullpicture` is used, and what is done to it."""
 
     depth: int
     name: str = ""
@@ -91,7 +91,7 @@ class Source:
 
 @dataclasses.dataclass
 class Statement:
-    """A command that the log has begun: its word, the picture that it changes, what it adds or ships, and what is marked."""
+    """A command that has started in the log: its word, the picture that it changes, what it adds or ships, and its marks."""
 
     word: str
     name: str
@@ -100,7 +100,7 @@ class Statement:
 
 
 def scaled(text: str) -> fractions.Fraction:
-    """A number of METAFONT's, which is a multiple of 1/65536."""
+    """The number that METAFONT has for this text, a multiple of 1/65536."""
     try:
         return fractions.Fraction(round(fractions.Fraction(text) * 65536), 65536)
     except ValueError:
@@ -108,32 +108,32 @@ def scaled(text: str) -> fractions.Fraction:
 
 
 def rounded(number: fractions.Fraction) -> int:
-    """The whole number that METAFONT takes for a number."""
+    """The integer to which METAFONT rounds a number."""
     return math.floor(number + fractions.Fraction(1, 2))
 
 
 def without_repeated(corners: list[Point]) -> list[Point]:
-    """The corners of a closed path, each but once where the next one is the same."""
+    """The corners of a closed path, without those that are the same as the next one."""
     return [corner for corner, after in zip(corners, corners[1:] + corners[:1]) if corner != after]
 
 
 def path_of(text: str) -> list[Point]:
-    """The corners of a contour in the log, each but once where it is repeated."""
+    """The corners of a contour in the log, without repetitions."""
     if not re.fullmatch(r"(\(-?\d+,-?\d+\))+\.", text):
         raise Untranslated(f"no contour: {text[:60]}")
     corners = [(int(x), int(y)) for x, y in re.findall(r"\((-?\d+),(-?\d+)\)", text)]
     points = without_repeated(corners)
     for (x, y), (after_x, after_y) in zip(points, points[1:] + points[:1]):
         if (x == after_x) == (y == after_y):
-            raise Untranslated(f"the contour goes aslant from ({x},{y}) to ({after_x},{after_y})")
+            raise Untranslated(f"the contour has a slanted edge from ({x},{y}) to ({after_x},{after_y})")
     if any(abs(place) > MAX_COORDINATE for point in points for place in point):
         raise Untranslated(f"a point of the contour has a coordinate above {MAX_COORDINATE}")
     return points
 
 
 def cut(points: list[Point]) -> typing.Iterator[list[Point]]:
-    """Contours of few enough points that together wind as this one. Where it is cut, one part walks back along the cut, by way
-    of a corner, and the other one walks there."""
+    """Contours that do not have too many points and together have the winding numbers of this one. Where it is cut, one part goes
+    along the cut, by way of a corner, and the other part goes back along it."""
     while len(points) > MAX_POINTS:
         first, last = points[0], points[MAX_POINTS - 2]
         corner = last[0], first[1]
@@ -144,7 +144,7 @@ def cut(points: list[Point]) -> typing.Iterator[list[Point]]:
 
 
 def transform(step: Step) -> list[str]:
-    """What is done to a picture of the script for a step, if something is."""
+    """What the script does to a picture for this step, if anything."""
     word, operand = step
     numbers = [scaled(text) for text in re.findall(r"[-.\d]+", operand)]
     if word == "-":
@@ -179,17 +179,17 @@ def stretch(across: fractions.Fraction, up: fractions.Fraction) -> list[str]:
 
 
 class Script:
-    """The script in the making. Pictures are named as METAFONT names them; each but `currentpicture` has a register."""
+    """The script that is being made. Pictures have METAFONT's names here; each but `currentpicture` has a register."""
 
     def __init__(self, font: Font, proofs: set[int]) -> None:
         self.font, self.proofs = font, proofs
-        self.lines = ["% Made by tools/mf2mfp.py of what METAFONT drew.", "turningcheck := 0"]
+        self.lines = ["% Made by tools/mf2mfp.py from what METAFONT drew.", "turningcheck := 0"]
         self.registers = dict(PLAIN)
         self.known = set(PLAIN)
         self.shipped = 0
 
     def register(self, name: str) -> str:
-        """The name in the script of a picture that is assigned."""
+        """The name in the script of a picture that is assigned to."""
         if name not in self.registers:
             left = sorted(set(OTHERS) - set(self.registers.values()))
             if not left:
@@ -204,18 +204,18 @@ class Script:
         return self.registers[name]
 
     def known_by(self, token: str) -> set[str]:
-        """The known pictures whose names begin with this token."""
+        """The known pictures whose names start with this token."""
         return {name for name in self.known if re.match(r"[A-Za-z_]*", name)[0] == token}
 
     def contour(self, name: str, weight: str, points: list[Point]) -> None:
         target = self.used(name)
-        behind = "" if weight == "1" else f" withweight {weight}"
+        tail = "" if weight == "1" else f" withweight {weight}"
         for part in cut(points):
             path = "--".join(f"({x},{y})" for x, y in part)
-            self.lines.append(f"addto {target} contour {path}--cycle{behind}")
+            self.lines.append(f"addto {target} contour {path}--cycle{tail}")
 
     def moved(self, name: str, steps: list[Step]) -> str:
-        """The name in the script of a picture to which the steps are done."""
+        """The name in the script of a picture after these steps."""
         if not steps:
             return self.used(name)
         sign = "-" if steps.count(NEGATED) % 2 else ""
@@ -247,13 +247,13 @@ class Script:
     def cull(self, name: str, word: str, least: str, greatest: str, weight: str) -> None:
         ends = f"({math.ceil(scaled(least))},{math.floor(scaled(greatest))})"
         number = rounded(scaled(weight))
-        behind = "" if number == 1 else f" withweight {number}"
-        self.lines.append(f"cull {self.used(name)} {word} {ends}{behind}")
+        tail = "" if number == 1 else f" withweight {number}"
+        self.lines.append(f"cull {self.used(name)} {word} {ends}{tail}")
 
     def ship(self, name: str, steps: list[Step], code: str, dx: str, across: str, up: str) -> None:
         """Ships a picture, moved by METAFONT's offsets, as the next character of the font."""
         if self.shipped == len(self.font.characters):
-            raise Untranslated(f"METAFONT ships {code} behind the last character of the font")
+            raise Untranslated(f"METAFONT ships {code} after the last character of the font")
         character = self.font.characters[self.shipped]
         locator = self.font.locator(character)
         if character.code != rounded(scaled(code)) % CODES:
@@ -270,7 +270,7 @@ class Script:
         self.shipped += 1
 
     def finished(self) -> str:
-        """The whole script."""
+        """The complete script."""
         if self.shipped != len(self.font.characters):
             raise Untranslated(f"METAFONT ships {self.shipped} characters, and the font has {len(self.font.characters)}")
         return "\n".join(self.lines) + "\n"
@@ -281,16 +281,16 @@ class Log:
 
     def __init__(self, script: Script) -> None:
         self.script = script
-        # The cull, sum or shipout that has begun last, and what is used behind it.
+        # The last cull, sum or shipout that has started, and what is used after it.
         self.statement: Statement | None = None
         self.source = Source(0)
-        # The number of METAFONT's groups in which the program stands.
+        # The number of METAFONT's groups that are open.
         self.depth = 0
-        # The command whose trace must come next; whether METAFONT shows a picture, so that what is used means nothing.
+        # The command whose trace must come next, and whether METAFONT shows a picture, so that uses of pictures mean nothing.
         self.awaited, self.is_shown = "", False
-        # The picture that the last addto names, and whether the log has yet to say what is added.
+        # The picture that the last addto changes, and whether the log has not yet said what is added.
         self.target, self.is_open = "", False
-        # The weight of a contour and what has been read of its corners.
+        # The weight of a contour, and its corners as far as they have been read.
         self.weight, self.corners = "", ""
 
     def read(self, line: str) -> None:
@@ -307,7 +307,7 @@ class Log:
             self.read_trace(line)
 
     def read_corners(self, line: str) -> None:
-        """Reads a line of the corners of a contour, which end in a point."""
+        """Reads a line of the corners of a contour, which end with a period."""
         self.corners += line
         if not self.corners.endswith((".", NOTHING)):
             return
@@ -324,7 +324,7 @@ class Log:
         if self.awaited:
             raise Untranslated(f"METAFONT does not trace {self.awaited}")
         if word == "uses":
-            # A mark in an expression stands in a group of its own.
+            # A mark in an expression is in a group of its own.
             self.in_use(self.depth - 1).uses.append(rest[0])
             return
         if word in COMMANDS:
@@ -341,7 +341,7 @@ class Log:
         self.source = Source(self.depth)
 
     def in_use(self, depth: int) -> Source:
-        """That to which the next use of a picture belongs: the source of the last command until it has one."""
+        """The source to which the next use of a picture belongs: that of the last command, until it has one."""
         if self.statement and not self.statement.source.is_begun():
             return self.statement.source
         if not self.source.is_begun():
@@ -349,7 +349,7 @@ class Log:
         return self.source
 
     def being_made(self) -> Source:
-        """That to which a step belongs."""
+        """The source to which a step belongs."""
         return self.source if not self.statement or self.source.is_begun() or self.is_shown else self.statement.source
 
     def read_trace(self, line: str) -> None:
@@ -374,7 +374,7 @@ class Log:
             self.read_other(line)
 
     def read_command(self, word: str) -> None:
-        """Reads the trace of a command before which there must be a mark."""
+        """Reads the trace of a command, which must come after its mark."""
         if self.awaited != word:
             raise Untranslated(f"METAFONT's {word} under another name")
         self.source, self.is_shown, self.awaited = Source(self.depth), False, ""
@@ -387,13 +387,13 @@ class Log:
         source.steps.append(step)
 
     def read_restored(self, token: str) -> None:
-        """Reads that the names that begin with a token are restored. Their pictures are no longer known."""
+        """Reads that the names that start with a token are restored. Their pictures are no longer known."""
         if names := self.script.known_by(token):
             self.end_statement()
             self.script.known -= names
 
     def read_other(self, line: str) -> None:
-        """Reads the trace of something that is done to no picture. In a group that stands in an expression it ends nothing."""
+        """Reads the trace of something that does nothing to pictures. In a group inside an expression it ends nothing."""
         if line in SHOWING:
             self.end_statement()
             self.is_shown = True
@@ -401,7 +401,7 @@ class Log:
             self.source, self.is_shown = Source(self.depth), False
 
     def read_assignment(self, name: str) -> None:
-        """Reads the assignment of a picture."""
+        """Reads an assignment to a picture."""
         self.end_statement()
         source, self.source = self.source, Source(self.depth)
         if name in PLAIN and source.uses[:1] == [name]:
@@ -418,7 +418,7 @@ class Log:
             raise Untranslated("the log ends in a command")
 
     def end_statement(self) -> None:
-        """Writes the command that has begun last, now that all of it has been read."""
+        """Writes the last command that has started, now that all of it has been read."""
         statement, self.statement = self.statement, None
         if self.is_open:
             raise Untranslated(f"something else is done before a contour is added to the picture {self.target}")
@@ -439,10 +439,10 @@ class Log:
 
 
 def source_name(source: Source) -> str:
-    """The name of a picture that is added or shipped, or nothing where it is blank."""
+    """The name of a picture that is added or shipped, or an empty text if it is `nullpicture`."""
     if source.name:
         return source.name
-    # Where something is done to a picture that was marked, it is the one that is meant.
+    # If something is done to a marked picture, that picture is the source.
     if len(source.uses) == 1 and source.steps and not source.is_null:
         return source.uses[0]
     if not source.uses and not source.steps and source.is_null:
@@ -451,7 +451,7 @@ def source_name(source: Source) -> str:
 
 
 def whole_lines(log: str) -> typing.Iterator[tuple[int, str]]:
-    """The lines of a log, each with its number. METAFONT breaks lines that are too long; those of its trace are joined."""
+    """The lines of a log, each with its number. METAFONT breaks long lines; broken lines of its trace are joined here."""
     begun = ""
     for number, line in enumerate(log.splitlines(), 1):
         whole = begun + line
@@ -464,7 +464,7 @@ def whole_lines(log: str) -> typing.Iterator[tuple[int, str]]:
 
 
 def translated(log: str, script: Script) -> str:
-    """The script of a log. What is not translated is told with its line."""
+    """The script of a log. Anything that cannot be translated is reported with its line."""
     reader, number = Log(script), 0
     try:
         for number, line in whole_lines(log):
@@ -476,10 +476,10 @@ def translated(log: str, script: Script) -> str:
 
 
 def main() -> int:
-    parser = argparse.ArgumentParser(description="Makes a script for mfpic of METAFONT's log and GF file.")
-    parser.add_argument("log", type=pathlib.Path, metavar="LOG", help="of METAFONT, which read mf2mfp.mf before the font")
+    parser = argparse.ArgumentParser(description="Makes a script for mfpic from METAFONT's log and GF file.")
+    parser.add_argument("log", type=pathlib.Path, metavar="LOG", help="the log of METAFONT, which read mf2mfp.mf before the font")
     parser.add_argument("font", type=pathlib.Path, metavar="FONT", help="the GF file that METAFONT wrote")
-    parser.add_argument("--proof", type=int, action="append", default=[], metavar="CODE", help="a character to proof")
+    parser.add_argument("--proof", type=int, action="append", default=[], metavar="CODE", help="print a proof of this character")
     words = parser.parse_args()
     path = words.font
     try:

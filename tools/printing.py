@@ -5,7 +5,7 @@ import sys
 
 
 def print_script(tool: str, script: str) -> None:
-    """Prints a script. Where that fails, the tool says so and ends with status 1, without a second try to write what is left."""
+    """Prints a script. If that fails, the tool says so and exits with status 1, without trying again to write what is left."""
     try:
         print(script, end="", flush=True)
     except OSError as fault:

@@ -1,8 +1,8 @@
 """The crates of the repository, and the toolchain's prover. (`build.py` and the tests of wrong bodies use it.)
 
-What a crate reads of those below it is what they state, and not their proofs: the proofs of all that the program stands on
-take longer to read than most crates take to prove. `rt ci` does the same, but `rt lib` makes libraries with their proofs.
-So the prover is called here as `rt ci` calls it, and these libraries stand apart from those of `rt lib`, in
+A crate is proved from the statements of the libraries that it uses, without their proofs: reading the proofs of all libraries of
+the program takes longer than proving most crates. `rt ci` does the same, but `rt lib` makes libraries with proofs. So the prover
+is called here as `rt ci` calls it, and these libraries are kept apart from those of `rt lib`, in the folder
 `out/rlib/statements` of each crate.
 """
 
@@ -16,11 +16,11 @@ SOURCES = ("src", "specs", "proofs")
 
 
 class Failure(Exception):
-    """A crate is not proved, or not built: what the toolchain said."""
+    """A crate is not proved, or not built. The text is what the toolchain said."""
 
 
 def libraries_of_crates() -> dict[str, list[str]]:
-    """The crates of the repository, lowest first, each with the libraries that it stands on, also those of the toolchain."""
+    """The crates of the repository, each after the crates that it uses, with all its libraries, including the toolchain's."""
     found = {}
     for line in (ROOT / "crates.txt").read_text(encoding="utf-8").splitlines():
         names, colon, below = line.partition("#")[0].partition(":")
@@ -30,7 +30,7 @@ def libraries_of_crates() -> dict[str, list[str]]:
 
 
 def statements_of(crate: str) -> pathlib.Path:
-    """Where a library with what a crate states is kept."""
+    """The path of the library with the statements of a crate."""
     return ROOT / "crates" / crate / "out/rlib/statements" / f"{crate}.rlib"
 
 
@@ -44,11 +44,11 @@ class Prover:
         self.libraries = libraries_of_crates()
 
     def below(self, crate: str) -> list[str]:
-        """The crates of the repository that a crate stands on."""
+        """The crates of the repository that a crate uses."""
         return [name for name in self.libraries[crate] if name in self.libraries]
 
     def words(self, verb: str, crate: str, root: str = "src/lib.rt") -> list[str]:
-        """The words that prove a crate, whose root file this is, over what the libraries below it state."""
+        """The command line that proves a crate with this root file, from the statements of the libraries that it uses."""
         kit = self.toolchain / "rlibs"
         words = [str(self.toolchain / "bin/rattle"), verb, "--crate-name", crate, root, "-L", f"dependency={kit}"]
         for name in ["std", *self.libraries[crate]]:
@@ -58,7 +58,7 @@ class Prover:
         return [*words, "--logic-built", str(self.toolchain / "logic_built")]
 
     def build(self, crate: str, jobs: int, niceness: int) -> None:
-        """Proves a library and keeps what it states, unless that is kept already."""
+        """Proves a library and keeps its statements, unless they are already kept."""
         place, sum_of_all = statements_of(crate), self.sum_of_sources(crate)
         stamp = place.parent / "stamp"
         if stamp.is_file() and stamp.read_text(encoding="utf-8") == sum_of_all:
@@ -69,7 +69,7 @@ class Prover:
         stamp.write_text(sum_of_all, encoding="utf-8")
 
     def link(self, crate: str, jobs: int) -> None:
-        """Proves, compiles and links a program, which then stands in the folder `out` of its crate."""
+        """Proves, compiles and links a program, and puts it into the folder `out` of its crate."""
         out = ROOT / "crates" / crate / "out"
         out.mkdir(exist_ok=True)
         made, compilers = str(out / f"{crate}.o"), ["--toolchain", str(self.toolchain / "toolchain")]
@@ -80,7 +80,7 @@ class Prover:
         self.run(crate, [*words, "-o", str(out / crate), made, *libraries])
 
     def sum_of_sources(self, crate: str) -> str:
-        """A sum of all that a crate is proved from."""
+        """A hash of everything that a crate is proved from."""
         found = hashlib.sha256(self.version)
         for name in [*self.below(crate), crate]:
             for file in sorted(it for part in SOURCES for it in (ROOT / "crates" / name / part).rglob("*") if it.is_file()):
@@ -94,4 +94,4 @@ class Prover:
         words = ["nice", "-n", str(niceness), *words]
         ran = subprocess.run(words, cwd=ROOT / "crates" / crate, check=False, encoding="utf-8", errors="replace", **how)
         if ran.returncode:
-            raise Failure(f"{crate}\n{ran.stdout}the prover ended with {ran.returncode}")
+            raise Failure(f"{crate}\n{ran.stdout}the prover exited with status {ran.returncode}")

@@ -1,4 +1,4 @@
-//! Tests of scripts, from the bytes that are read to the bytes that are written, and of sessions.
+//! Tests of sessions, and of scripts from the bytes that are read to the bytes that are written.
 #![tactic(auto)]
 
 #[cfg(test)]

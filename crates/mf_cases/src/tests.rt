@@ -1,4 +1,4 @@
-//! Tests of scripts, from the bytes that are read to the bytes that are written, and of sessions.
+//! Tests of sessions, and of scripts from the bytes that are read to the bytes that are written.
 
 mod again;
 mod assertions;
@@ -25,7 +25,7 @@ use std::io::Read;
 use std::process::Abort;
 use std::sync::Wait;
 
-/// More operations on `currentpicture` and more bytes of a font file than any of these scripts has.
+/// Settings that allow more operations on `currentpicture`, and more bytes of a font file, than any of these scripts has.
 const AMPLE: Settings = Settings {
     max_ops: 1_000_000,
     max_bytes: 1_000_000,
@@ -37,10 +37,10 @@ const AMPLE: Settings = Settings {
     },
 };
 
-/// The fault of a run, or none, and what it prints.
+/// How a run ends: its fault, or `None`, and what it has printed.
 type End<'a> = (Option<RunFault>, &'a [u8]);
 
-/// The reader's script, run within these settings, ends so.
+/// Asserts that the reader's script, run with these settings, ends in this way.
 fn assert_ends<R: Abort + Wait + AllocGlobal, I: Read, C: Debug + Drop>(
     rt: &R,
     reader: &mut I,
@@ -54,7 +54,7 @@ fn assert_ends<R: Abort + Wait + AllocGlobal, I: Read, C: Debug + Drop>(
     assert_same(rt, (result.err(), writer.taken()), end, case);
 }
 
-/// The reader's script is run to its end and prints this.
+/// Asserts that the reader's script runs to its end and prints this transcript.
 fn assert_prints<R: Abort + Wait + AllocGlobal>(
     rt: &R,
     mut reader: Pieces<'_>,

@@ -1,4 +1,4 @@
--- What the program puts out, where its run ends well and where it does not.
+-- What the program writes, whether its run ends well or not.
 use Rattle.std.proofs.Common.{ℕ, List, [], Option, Result, Ok, Err, IfErr, arith, inl, inr, refl, sym}
 use Rattle.std.proofs.KnownBytes.{Appends-nil, Consumes-nil}
 use Rattle.std.proofs.lemmas.List.{append-nil}
@@ -12,7 +12,7 @@ use Rattle.mf_desk.specs.declared.fault.RunFault.{RunFault}
 use Rattle.mf_desk.specs.declared.fault.RunFault.TheVariants.{OutOfMemory, NoPlace, FileTooLong, ReadFault, WriteFault, NoLook}
 use Rattle.mf_desk.specs.declared.outcome.Outcome.{Outcome}
 
--- a run beside nobody
+-- a run without viewers ends well
 pub performance-nobody : (outcome : Outcome) (held holds : Option (List ℕ)) (input : List ℕ)
     → IsRun settings outcome held holds input → IsPerformance settings 0 16 outcome held holds input
 unfolding viewer_lines
@@ -27,7 +27,7 @@ performance-nobody outcome held holds input run = record {
   seen = rw run.unseen (λ k d lt. absurd (omega (arith, lt)));
 }
 
--- or its fault
+-- a fault ends a run without viewers
 pub fault-nobody : (fault : RunFault) (unread left held holds : Option (List ℕ))
     → EndsEarly settings fault unread left held holds → StopsEarly settings 0 fault unread left held holds
 unfolding viewer_lines
@@ -61,7 +61,7 @@ unfolding ended_lines ended_of_parts
 fault-nothing viewers unread held =
     ([], Consumes-nil unread, ([], Appends-nil held, inl (record { done = []; more = []; last = start; first = inl refl; performed = (refl, refl) })))
 
--- a fault of a run beside nobody
+-- the same, where a run may end well or with a fault
 pub faults-nobody : (r : Result Outcome RunFault) (unread left held holds : Option (List ℕ))
     → IfErr r (λ fault. EndsEarly settings fault unread left held holds) → IfErr r (λ fault. StopsEarly settings 0 fault unread left held holds)
 faults-nobody (Ok outcome) unread left held holds early = tt

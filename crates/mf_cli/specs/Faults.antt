@@ -1,4 +1,4 @@
--- What has gone out where the program ends with a fault.
+-- What has been written where the program ends with a fault.
 use Rattle.std.specs.Prelude.{◌≡◌, ◌⊎◌, ◌<◌, ℕ, List, Option, None, Some, IfSome, IsSome, length}
 use Rattle.std.specs.Io.KnownBytes.{IsAtEnd}
 use Rattle.mf_desk.specs.Performances.{StopsEarly}
@@ -10,8 +10,8 @@ use Rattle.mf_cli.specs.Messages.{GetsMessage, message_of}
 use Rattle.mf_cli.specs.Output.{GetsOutput, settings}
 use Rattle.mf_cli.specs.Statuses.{status_of}
 
--- a font file that was asked for could not be written, or not to its end, as the number of its bytes that went out says:
--- the script was read to its end, and all that it prints is written
+-- a font file that was asked for could not be written, or not to its end, and the fault counts its bytes that went out; the
+-- script was read to its end, and everything that it prints is written
 pub record LosesFile (viewers : ℕ) (file : Option (List ℕ)) (fault : RunFault) (unread left held holds : Option (List ℕ)) : Type 0 where
   pub asked : IsSome file
   pub count : ℕ
@@ -21,14 +21,14 @@ pub record LosesFile (viewers : ℕ) (file : Option (List ℕ)) (fault : RunFaul
   pub few : (count ≡ 0) ⊎ (count < length gf)
   pub written : IfSome unread (GetsOutput viewers (Some gf) held holds)
 
--- what a fault of the program says of what was read and written, where the words ask for so many viewers and this FILE: a
--- fault of the run says what it says there; with no character shipped and a FILE asked for, all that the script prints is
--- written
+-- what a fault of the program says about what was read and written, where the words ask for this many viewers and this FILE: a
+-- fault of the run says what it says there, unless it is one of the font file; where a FILE is asked for and no character was
+-- shipped, everything that the script prints is written
 abbrev pub EndsBadly : ℕ → Option (List ℕ) → ProgramFault → Option (List ℕ) → Option (List ℕ) → Option (List ℕ) → Option (List ℕ) → Type 0
 EndsBadly viewers file (Run fault) unread left held holds = StopsEarly settings viewers fault unread left held holds ⊎ LosesFile viewers file fault unread left held holds
 EndsBadly viewers file NoCharacters unread left held holds = IsSome file × IsAtEnd left × IfSome unread (GetsOutput viewers None held holds)
 
--- the program ended with some fault, which has this status and whose message is written as far as it was taken
+-- the program ended with some fault, which has this status, and whose message is written as far as the writer took it
 pub record ReportsFault (viewers : ℕ) (file : Option (List ℕ)) (status : ℕ) (unread left held holds told tells : Option (List ℕ)) : Type 0 where
   pub fault : ProgramFault
   pub status_is : status_of fault ≡ status

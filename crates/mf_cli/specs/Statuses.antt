@@ -4,7 +4,7 @@ use Rattle.mf_cli.specs.declared.fault.ProgramFault.{ProgramFault}
 use Rattle.mf_cli.specs.declared.fault.ProgramFault.TheVariants.{Run, NoCharacters}
 use Rattle.mf_desk.specs.declared.fault.RunFault.TheVariants.{OutOfMemory, NoPlace, FileTooLong, ReadFault, WriteFault, NoLook}
 
--- the status after a fault: 4 where memory, a place or a look was wanting, else 3
+-- the status after a fault: 4 where memory, a place or a look was missing, else 3
 abbrev pub status_of : ProgramFault → ℕ
 status_of (Run OutOfMemory) = 4
 status_of (Run NoPlace) = 4

@@ -4,13 +4,13 @@ ghost use Rattle.mf_cli.specs.declared.fault.ProgramFault.TheVariants.{Run as Ru
 
 use mf_desk::RunFault;
 
-/// Why the program ends with a fault, beside words that are refused.
+/// Why the program ends with a fault, other than that its words are refused.
 #[derive(Clone, Copy, Debug, PartialEq, Eq)]
 pub enum ProgramFault {
-    /// Refusals 14, 15, 20 and 24 to 26: the run of the script, memory for it or for the words, or the writing of the font
-    /// file, of which a `WriteFault` then counts the bytes.
+    /// The run of the script failed, or memory for it or for the words was missing, or the font file could not be written; a
+    /// `WriteFault` of the font file counts the bytes of that file.
     Run(RunFault),
-    /// Refusal 21: a font file was asked for, and no character was shipped.
+    /// A font file was asked for, but no character was shipped.
     NoCharacters,
 }
 

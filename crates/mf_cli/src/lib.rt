@@ -1,4 +1,4 @@
-//! The program `mfpic` but for its `main`: the words of its command line, its run, its statuses and its messages.
+//! The program `mfpic` apart from its `main`: the words of its command line, its run, its statuses and its messages.
 #![tactic(auto)]
 
 mod fault;

@@ -1,4 +1,4 @@
-//! The program behind `main`: from its words and streams to its exit status.
+//! The program that `main` calls: from its words and streams to its exit status.
 ghost use Rattle.std.specs.Io.KnownBytes.{Appends, IsAtEnd};
 ghost use Rattle.std.specs.Prelude.{◌≡◌, ◌<◌, ◌≤◌, ◌⊎◌, ℕ, IfErr, IfOk, IfSome, OnOk, length, map, option_map, string_bytes, take};
 ghost use Rattle.mf_words.specs.CommandLine.{IsCommandLine, file_in, viewers_in};
@@ -19,7 +19,7 @@ use std::rt::Files;
 use std::sync::{Arc, Wait};
 use std::thread::Threads;
 
-/// What a script may do, and the numbers of its font.
+/// The limits of a script, and the numbers of its font.
 const SETTINGS: Settings = Settings {
     max_ops: 1_000_000,
     max_bytes: 16_777_216,
@@ -31,25 +31,25 @@ const SETTINGS: Settings = Settings {
     },
 };
 
-/// Number of looks of each viewer while the script runs.
+/// How often each viewer looks while the script runs.
 const LOOKS: u32 = 16;
 
-/// Status of a run that reached the end of its script, and wrote the font file that was asked for.
+/// Exit status after a run that reached the end of its script, and wrote the font file where one was asked for.
 pub const DONE: u8 = 0;
 
-/// Status where the words are not those of a command line.
+/// Exit status where the words are not those of a command line.
 pub const BAD_WORDS: u8 = 2;
 
-/// Status where a stream failed, or the font file: it would be too long, has no character, or could not be written.
+/// Exit status where a stream failed, or the font file did: it would be too long, has no character, or could not be written.
 pub const STREAM_FAULT: u8 = 3;
 
-/// Status where memory, a viewer's place or a look was wanting.
+/// Exit status where memory, a viewer's place or a look was missing.
 pub const WANTING: u8 = 4;
 
-/// Performs the script that `reader` gives beside as many viewers as the words ask for, writes its transcript and then
-/// the line of each viewer to `writer`, the font file where the words ask for it, and a message of what went wrong to
-/// `errors`, and answers the exit status. `words` are those of the command line, of which the first is the program's
-/// name. A fault of `errors` changes no status.
+/// Runs the script that `reader` gives, beside as many viewers as the words ask for. It writes the transcript and then the line
+/// of each viewer to `writer`, then the font file where the words ask for one, and a message to `errors` where something went
+/// wrong. Answers with the exit status. `words` are those of the command line, and the first is the program's name. A fault of
+/// `errors` changes no status.
 pub fn program<S: Wait + Threads + Files, R: Read, W: Write, E: Write>(
     rt: &S,
     alloc: Global,
@@ -80,7 +80,7 @@ pub fn program<S: Wait + Threads + Files, R: Read, W: Write, E: Write>(
     }
 }
 
-/// Performs the script as the words ask for, and then writes the font file where they ask for it.
+/// Runs the script as the words ask for it, and then writes the font file where they ask for one.
 fn perform<S: Wait + Threads + Files, R: Read, W: Write>(
     rt: &S,
     alloc: Global,
@@ -102,7 +102,7 @@ fn perform<S: Wait + Threads + Files, R: Read, W: Write>(
     }
 }
 
-/// Performs the script beside so many viewers. Where nobody looks on, it waits for nobody.
+/// Runs the script beside this many viewers. Without viewers it starts no thread and waits for nobody.
 fn run_script<S: Wait + Threads, R: Read, W: Write>(
     rt: &S,
     alloc: Global,
@@ -122,8 +122,8 @@ fn run_script<S: Wait + Threads, R: Read, W: Write>(
     mf_desk::perform(rt, alloc, reader, writer, &SETTINGS, viewers, LOOKS, &gate)
 }
 
-/// Writes a font file, which is made, or replaces what was there. Refusal WriteFault (25), which counts the bytes that
-/// went out, not all of them; also where it cannot be made.
+/// Writes a font file, and replaces what was there. Refused with `WriteFault`, whose number counts the bytes that went out: never
+/// all of them, and 0 where the file cannot be created.
 fn write_file<S: Files>(rt: &S, path: &str, file: &GfBytes) -> Result<(), RunFault>
     ensures { IfErr result (λ fault. (count : ℕ) × (fault ≡ RunFault.WriteFault count) × ((count ≡ 0) ⊎ (count < length file.now))) }
 {
@@ -133,7 +133,7 @@ fn write_file<S: Files>(rt: &S, path: &str, file: &GfBytes) -> Result<(), RunFau
     write_bytes(&mut out, file)
 }
 
-/// Writes the bytes of a font file. Refusal WriteFault (25), which counts those that went out: not all of them.
+/// Writes the bytes of a font file. Refused with `WriteFault`, whose number counts the bytes that went out: never all of them.
 fn write_bytes<W: Write>(out: &mut W, file: &GfBytes) -> Result<(), RunFault>
     ensures all { OnOk result (Appends (W.contents out.old) (W.contents out.new) file.now) }
     ensures front { IfErr result (λ fault. (count : ℕ) × (fault ≡ RunFault.WriteFault count) × (count < length file.now) × Appends (W.contents out.old) (W.contents out.new) (take count file.now)) }
@@ -144,8 +144,8 @@ fn write_bytes<W: Write>(out: &mut W, file: &GfBytes) -> Result<(), RunFault>
     }
 }
 
-/// Refuses the words of the command line: writes how the program is used, as far as `errors` takes it, and
-/// answers the status.
+/// Refuses the words of the command line: writes how to use the program, as far as `errors` takes it, and answers with the
+/// status.
 pub fn refuse_words<E: Write>(errors: &mut E) -> u8
     ensures status { result ≡ BAD_WORDS }
     ensures message { GetsMessage (E.contents errors.old) (E.contents errors.new) usage }
@@ -154,7 +154,7 @@ pub fn refuse_words<E: Write>(errors: &mut E) -> u8
     BAD_WORDS
 }
 
-/// Reports a fault by its name, as far as `errors` takes it, and answers the status.
+/// Reports a fault by its name, as far as `errors` takes it, and answers with the status.
 pub fn report<E: Write>(errors: &mut E, fault: ProgramFault) -> u8
     ensures status { result ≡ status_of fault }
     ensures message { GetsMessage (E.contents errors.old) (E.contents errors.new) (message_of fault) }
@@ -168,7 +168,7 @@ pub fn report<E: Write>(errors: &mut E, fault: ProgramFault) -> u8
     }
 }
 
-/// The message of a fault: the program's name, and the fault's.
+/// The message of a fault: the program's name, and the name of the fault.
 fn message_of(fault: ProgramFault) -> &'static str
     ensures { result.now ≡ message_of fault }
 {

@@ -1,4 +1,4 @@
-//! Tests of the program: the scripts, each status, and the message that goes with it.
+//! Tests of the program: worked scripts, each exit status, and the message that goes with it.
 
 mod assertions;
 mod font_files;
@@ -20,15 +20,15 @@ use std::sync::Wait;
 use std::test::Fail;
 use std::thread::Threads;
 
-/// A line, and its text.
+/// A line, and what it prints.
 const LINE: &[u8] = b"show totalweight currentpicture\n";
 
 const TEXT: &[u8] = b"totalweight 0\n";
 
-/// How the program is used.
+/// The message that says how the program is used.
 const USAGE: &[u8] = b"usage: mfpic [--viewers 0..16] [--gf FILE]\n";
 
-/// A status, what is written, and the message.
+/// How the program ends: its exit status, what it has written to standard output, and its message.
 type End<'a> = (u8, &'a [u8], &'a [u8]);
 
 /// The words of a command line.
@@ -40,7 +40,7 @@ fn words_of(alloc: Global, texts: &[&str]) -> Result<Vec<String>, AllocError> {
     Ok(words)
 }
 
-/// With these words the program ends with this status.
+/// Runs the program with these words, and returns its exit status.
 fn status_of<R: Abort + Wait + Threads + Files + AllocGlobal, I: Read, W: Write, E: Write>(
     rt: &R,
     words: &[&str],
@@ -53,7 +53,7 @@ fn status_of<R: Abort + Wait + Threads + Files + AllocGlobal, I: Read, W: Write,
     program(rt, alloc, words, reader, writer, errors)
 }
 
-/// With these words, and this writer, the program ends so.
+/// Asserts that the program, with these words and this writer, ends in this way.
 fn assert_ends_in<R: Abort + Wait + Threads + Files + AllocGlobal>(
     rt: &R,
     words: &[&str],
@@ -67,7 +67,7 @@ fn assert_ends_in<R: Abort + Wait + Threads + Files + AllocGlobal>(
     assert_same(rt, found, end, words);
 }
 
-/// With these words the program ends so.
+/// Asserts that the program, with these words, ends in this way.
 fn assert_ends<R: Abort + Wait + Threads + Files + AllocGlobal>(
     rt: &R,
     words: &[&str],
@@ -77,7 +77,7 @@ fn assert_ends<R: Abort + Wait + Threads + Files + AllocGlobal>(
     assert_ends_in(rt, words, &mut reader, Sink::new(rt.alloc()), end);
 }
 
-/// The script is performed beside so many viewers, with no fault: this is written.
+/// Performs the script beside `viewers` viewers, asserts that there is no fault, and returns what is written.
 fn written<R: Abort + Wait + Threads + Files + AllocGlobal>(
     rt: &R,
     viewers: &str,
@@ -94,7 +94,7 @@ fn written<R: Abort + Wait + Threads + Files + AllocGlobal>(
     writer
 }
 
-/// The script prints its transcript, where nobody looks on.
+/// Asserts that the script prints its transcript when there are no viewers.
 fn assert_performs<R: Abort + Wait + Threads + Files + AllocGlobal>(rt: &R, script: &Script) {
     let alloc = rt.alloc();
     let mut writer = Sink::new(alloc);
@@ -113,7 +113,7 @@ fn performs_scripts(rt: HostRuntime) {
     }
 }
 
-/// The script is performed beside so many viewers, and this is written.
+/// Asserts that the script, performed beside `viewers` viewers, writes this text.
 fn assert_writes<R: Abort + Wait + Threads + Files + AllocGlobal>(
     rt: &R,
     viewers: &str,
@@ -161,7 +161,7 @@ fn writes_the_lines_of_viewers(rt: HostRuntime) {
     }
 }
 
-/// 16 viewers see the same at the end, however their looks fell.
+/// Asserts that 16 viewers see the same at the end, whenever they looked before that.
 fn assert_viewers_agree<R: Abort + Wait + Threads + Files + AllocGlobal>(
     rt: &R,
     script: &Script,
@@ -193,7 +193,7 @@ fn performs_scripts_beside_viewers(rt: HostRuntime) -> Result<(), Fail> {
     Ok(())
 }
 
-/// Words are looked at before the script, of which nothing is read.
+/// Asserts that the words are refused before anything of the script is read.
 fn assert_refused<R: Abort + Wait + Threads + Files + AllocGlobal>(rt: &R, words: &[&str]) {
     let alloc = rt.alloc();
     let mut reader = Pieces::whole(LINE);
@@ -234,7 +234,7 @@ fn reports_a_write_fault(rt: HostRuntime) {
     }
 }
 
-/// A fault of a run has this status and this message.
+/// Asserts that a fault of a run has this exit status and this message.
 fn assert_reports<R: Abort + AllocGlobal>(rt: &R, fault: RunFault, status: u8, message: &[u8]) {
     let mut errors = Sink::new(rt.alloc());
     let reported = report(&mut errors, ProgramFault::Run(fault));
@@ -254,7 +254,8 @@ fn reports_other_faults(rt: HostRuntime) {
     );
 }
 
-/// With these words the program ends with this status, where messages go to this sink, which takes this.
+/// Asserts that the program, with these words, exits with this status when its messages go to this sink, and that the sink takes
+/// the bytes `told`.
 fn assert_keeps<R: Abort + Wait + Threads + Files + AllocGlobal>(
     rt: &R,
     words: &[&str],
@@ -268,7 +269,7 @@ fn assert_keeps<R: Abort + Wait + Threads + Files + AllocGlobal>(
     assert_same(rt, (found, errors.taken()), (status, told), words);
 }
 
-/// A fault of the messages changes no status.
+/// A message that cannot be written does not change the exit status.
 #[test]
 fn keeps_the_status(rt: HostRuntime) {
     let alloc = rt.alloc();

@@ -13,13 +13,13 @@ is_line_feed b = b == 10
 abbrev parts_of : List ℕ → List (List ℕ)
 parts_of = slice_split is_line_feed
 
--- the parts with a byte behind the last
+-- the parts with one more byte at the end of the last
 abbrev onto_last : List (List ℕ) → ℕ → List (List ℕ)
 onto_last [] b = (b ∷ []) ∷ []
 onto_last (x ∷ []) b = (x ++ b ∷ []) ∷ []
 onto_last (x ∷ y ∷ more) b = x ∷ onto_last (y ∷ more) b
 
--- there is a first part
+-- there is always a first part
 parts_first : (bs : List ℕ) → (x : List ℕ) × (more : List (List ℕ)) × (parts_of bs ≡ x ∷ more)
 parts_first [] = ([], [], refl)
 parts_first (b ∷ bs) =
@@ -40,7 +40,7 @@ onto_first-onto_last b [] c = refl
 onto_first-onto_last b (x ∷ []) c = refl
 onto_first-onto_last b (x ∷ y ∷ more) c = refl
 
--- a line feed begins a new part
+-- a line feed starts a new part
 parts-line_feed : (bs : List ℕ) → parts_of (bs ++ 10 ∷ []) ≡ parts_of bs ++ [] ∷ []
 parts-line_feed [] = refl
 parts-line_feed (b ∷ bs) =
@@ -52,7 +52,7 @@ parts-line_feed (b ∷ bs) =
       | false ↦ ap (onto_first b) rest ∙ onto_first-append b (parts_of bs) ([] ∷ []) x more is
     ]
 
--- another byte goes behind the last part
+-- any other byte goes at the end of the last part
 parts-other : (bs : List ℕ) (c : ℕ) → is_line_feed c ≡ false → parts_of (bs ++ c ∷ []) ≡ onto_last (parts_of bs) c
 parts-other [] c other = rw other refl
 parts-other (b ∷ bs) c other =
@@ -124,7 +124,7 @@ ended_lines-unbroken read (b ∷ more) unbroken =
     let other = ne_eqb b 10 (All-head (λ x. x ≢ 10) b more unbroken) in
     ap ended_lines (sym (append_assoc read (b ∷ []) more)) ∙ ended_lines-unbroken (read ++ b ∷ []) more (All-tail (λ x. x ≢ 10) b more unbroken) ∙ ended_lines-other read b other
 
--- they go behind the last line feed
+-- they go after the other bytes of the unended line
 pub unended-unbroken : (read bytes : List ℕ) → All (λ b. b ≢ 10) bytes → unended (read ++ bytes) ≡ unended read ++ bytes
 unended-unbroken read [] unbroken = ap unended (append-nil read) ∙ sym (append-nil (unended read))
 unended-unbroken read (b ∷ more) unbroken =
@@ -136,7 +136,7 @@ pub lines-ended : (read : List ℕ) → lines read ≡ ended_lines read ++ last_
 unfolding ended_lines unended
 lines-ended read = lines_of_parts-ended (parts_of read)
 
--- however the script goes on, the lines that are ended stay its first lines
+-- however the script goes on, the ended lines stay its first lines
 pub ended_lines-front : (read more : List ℕ) → (others : List (List ℕ)) × (ended_lines (read ++ more) ≡ ended_lines read ++ others)
 ended_lines-front read [] = ([], ap ended_lines (append-nil read) ∙ sym (append-nil (ended_lines read)))
 ended_lines-front read (b ∷ more) =
@@ -150,7 +150,7 @@ ended_lines-front read (b ∷ more) =
     (λ no. (others, goes_on ∙ ap (λ ls. ls ++ others) (ended_lines-other read b no)))
     (cases_Bool (eqb b 10))
 
--- no byte is behind the last line feed
+-- there is no byte after the last line feed
 pub lines-none : (read : List ℕ) → unended read ≡ [] → lines read ≡ ended_lines read
 lines-none read none = lines-ended read ∙ rw none (append-nil (ended_lines read))
 

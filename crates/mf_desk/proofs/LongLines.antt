@@ -1,4 +1,4 @@
--- A line that is too long may be cut, where it stays too long.
+-- A line that is too long may be cut, as long as it stays too long.
 use Rattle.std.proofs.Common.{◌≡◌, ℕ, ◌+◌, ◌-◌, ◌<◌, ◌≤◌, List, ◌++◌, eqb, length, take, get_or, sym, ap, ◌∙◌, subst, arith, ⊎_elim, inr, length-take}
 use Rattle.std.proofs.lemmas.Bool.{cases_lt, cond_both}
 use Rattle.std.proofs.lemmas.List.{take_all, take-append-le, length-take-le}
@@ -21,7 +21,7 @@ refused-too_long xs ys LineTooLong long longer refused = longer
 refused-too_long xs ys NotAscii long longer refused = absurd (omega (arith, refused.short))
 refused-too_long xs ys (Syntax column) long longer refused = absurd (omega (arith, refused.text.short))
 
--- so what one line that is too long answers, another one answers, too
+-- so all lines that are too long have the same answer
 Answers-too_long : (limits : Limits) (s t : State) (xs ys text : List ℕ) → 65536 < length xs → 65536 < length ys → Answers limits s xs text t → Answers limits s ys text t
 Answers-too_long limits s t xs ys text long longer answer =
     ⊎_elim
@@ -29,7 +29,7 @@ Answers-too_long limits s t xs ys text long longer answer =
     (λ (no : IsRefusedLine s xs text t). inr (record { fault = no.fault; told = no.told; refused = refused-too_long xs ys no.fault long longer no.refused; answer = no.answer }))
     answer
 
--- what is kept of a longer line is as much of more bytes
+-- of a line that grows, as many bytes are kept as of the complete line
 pub take-taken : (n : ℕ) (xs ys : List ℕ) → take n (take n xs ++ ys) ≡ take n (xs ++ ys)
 take-taken n xs ys =
     ⊎_elim

@@ -1,4 +1,4 @@
--- What a run beside viewers answers where its script has ended, and where it has not.
+-- What a run beside viewers answers, whether its script has ended or not.
 use Rattle.std.proofs.Common.{◌≡◌, ◌<◌, ◌+◌, ℕ, List, [], ◌++◌, All, Err, IfErr, Option, Result, length, inl, inr, refl, sym, ap, subst, ◌∙◌, append_assoc, length-append, arith}
 use Rattle.std.specs.Io.KnownBytes.{Appends, Consumes, IsAtEnd}
 use Rattle.std.proofs.KnownBytes.{Appends-nil, Appends-trans, Consumes-nil}
@@ -51,7 +51,7 @@ module _ (settings : Settings) (viewers : ℕ) where
     out-more text out = Appends-trans held holds later over.text text over.out out
 
     module _ (unread left : Option (List ℕ)) (consumed : Consumes unread left read) (all_read : IsAtEnd left) where
-      -- a fault came where the last looks and their lines were due
+      -- a fault comes where the last looks and their lines are due
       pub StopsEarly-showing : (fault : RunFault) → StopsShowing run viewers fault holds later → StopsEarly settings viewers fault unread left held later
       StopsEarly-showing OutOfMemory some =
           (read, consumed, (over.text ++ viewer_lines some.shown (glance run), out-more _ some.out, inr (all_read, record { last = over.last; shown = some.shown; few = some.few; performed = longer some.shown })))
@@ -81,7 +81,7 @@ module _ (settings : Settings) (viewers : ℕ) where
         pub StopsEarly-long : IsLongFile (limits_set settings).max_bytes settings.font over.last.characters → StopsEarly settings viewers FileTooLong unread left held later
         StopsEarly-long long = (read, consumed, (over.text ++ viewer_lines viewers (glance run), out-more _ out, inr (all_read, record { last = over.last; performed = longer viewers; too_long = long })))
 
-        -- or memory is wanting for it
+        -- an allocation for the font file fails
         pub StopsEarly-wanting : StopsEarly settings viewers OutOfMemory unread left held later
         StopsEarly-wanting =
             (read, consumed, (over.text ++ viewer_lines viewers (glance run), out-more _ out, inr (all_read, record { last = over.last; shown = viewers; few = omega arith; performed = longer viewers })))
@@ -101,7 +101,7 @@ module _ (settings : Settings) (viewers : ℕ) where
       seen = subst (λ L. All (λ v. HasSeen L looks v.items) outcome.seen.items) over.published seen;
     }
 
--- neither of the two parts of a run is refused for want of a place
+-- neither the script nor the last looks are refused with `NoPlace`
 pub elsewhere-script : (r : Result Outcome RunFault) (l : Limits) (unread left held holds : Option (List ℕ))
     → IfErr r (λ fault. BreaksScript l fault unread left held holds) → r ≡ Err NoPlace → ⊥
 elsewhere-script r l unread left held holds breaks is =

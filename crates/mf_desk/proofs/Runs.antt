@@ -1,4 +1,4 @@
--- What a run answers where its script is through, and where it is not.
+-- What a run answers, whether its script has ended or not.
 use Rattle.std.proofs.Common.{◌≡◌, ◌<◌, ℕ, List, [], Option, inl, inr, refl, sym, subst, ◌∙◌, append-nil, arith}
 use Rattle.std.specs.Io.KnownBytes.{Consumes, IsAtEnd}
 use Rattle.std.proofs.Math.Nat.{min-le_left}
@@ -29,16 +29,16 @@ EndsEarly-script settings l NoLook unread left held holds same (read, consumed, 
 EndsEarly-script settings l ReadFault unread left held holds same (read, consumed, (written, out, breaks)) = (read, consumed, (written, out, rw (← same) breaks))
 EndsEarly-script settings l (WriteFault count) unread left held holds same (read, consumed, (written, out, breaks)) = (read, consumed, (written, out, rw (← same) breaks))
 
--- memory was wanting before anything was read
+-- an allocation fails before anything is read
 pub EndsEarly-nothing : (settings : Settings) (unread held : Option (List ℕ)) → EndsEarly settings OutOfMemory unread unread held held
 EndsEarly-nothing settings unread held =
     EndsEarly-script settings (limits_set settings) OutOfMemory unread unread held held refl ([], Consumes-nil unread, CutsShort-nothing (limits_set settings) unread held)
 
--- nothing has been read where no file is so short
+-- nothing is read where the limit is below the length of any font file
 pub EndsEarly-no_room : (settings : Settings) (unread held : Option (List ℕ)) → settings.max_bytes < 3 → EndsEarly settings FileTooLong unread unread held held
 EndsEarly-no_room settings unread held few = ([], Consumes-nil unread, ([], Appends-nil held, inl (record { small = omega (arith, min-le_left settings.max_bytes 2147483647); unread = refl; nothing = refl })))
 
--- a script that is through, whose picture is closed
+-- the script has ended, and its picture is closed
 pub IsOver-ended : (held holds : Option (List ℕ)) (read : List ℕ) (performer : Performer) (run : EndedRun) (through : IsThrough held read performer holds)
     → IsEndOf performer through.last run → IsOver (limits performer.session) held read run holds
 IsOver-ended held holds read performer run through end = record {
@@ -52,7 +52,7 @@ IsOver-ended held holds read performer run through end = record {
   counted = end.counted ∙ through.counted;
 }
 
--- or memory is wanting to close it
+-- the script has ended, but an allocation fails while its picture is closed
 pub BreaksScript-unended : (unread left held holds : Option (List ℕ)) (l : Limits) (performer : Performer) → limits performer.session ≡ l → IsAtEnd left → ReadsThrough unread left held performer holds
     → (fault : RunFault) → fault ≡ OutOfMemory → BreaksScript l fault unread left held holds
 BreaksScript-unended unread left held holds l performer same all_read (read, consumed, through) fault is =
@@ -72,12 +72,12 @@ module _ (settings : Settings) (held holds : Option (List ℕ)) (read : List ℕ
   IsRun-over outcome fits font unseen =
       record { text = over.text; last = over.last; performed = over.performed; out = over.out; fits = fits; font = font; unseen = unseen }
 
-  -- or with a font file that is too long
+  -- the font file is too long
   pub EndsEarly-long : (unread left : Option (List ℕ)) → Consumes unread left read → IsAtEnd left → IsLongFile (limits_set settings).max_bytes settings.font over.last.characters
       → EndsEarly settings FileTooLong unread left held holds
   EndsEarly-long unread left consumed all_read long = (read, consumed, (over.text, over.out, inr (all_read, record { last = over.last; performed = over.performed; too_long = long })))
 
-  -- or memory is wanting for it
+  -- an allocation for the font file fails
   pub EndsEarly-wanting : (unread left : Option (List ℕ)) → Consumes unread left read → IsAtEnd left → EndsEarly settings OutOfMemory unread left held holds
   EndsEarly-wanting unread left consumed all_read = (
     read,

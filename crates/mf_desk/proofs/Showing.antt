@@ -10,7 +10,7 @@ use Rattle.mf_desk.specs.Performances.{viewer_line, viewer_lines}
 use Rattle.mf_watch.specs.Watchers.{glance_at}
 use Rattle.mf_desk.proofs.ViewerLines.{lines-nobody, lines-more}
 
--- the lines of the first so many viewers have gone out, and are counted
+-- the lines of the first `shown` viewers have gone out, and are counted
 pub record IsShown (run now : EndedRun) (shown : ℕ) (held holds : Option (List ℕ)) : Type 0 where
   pub same : IsSameEnd run now
   pub out : Appends held holds (viewer_lines shown (glance run))
@@ -28,15 +28,15 @@ IsShown-start run held =
       at_most = omega arith;
     }
 
--- another number may say how many
+-- an equal number counts the lines as well
 pub IsShown-number : (run now : EndedRun) (shown number : ℕ) (held holds : Option (List ℕ)) → number ≡ shown → IsShown run now shown held holds → IsShown run now number held holds
 IsShown-number run now shown number held holds same is = subst (λ n. IsShown run now n held holds) (sym same) is
 
--- the same is seen of both
+-- both runs give the same glance
 same_glance : (run now : EndedRun) → IsSameEnd run now → glance now ≡ glance run
 same_glance run now same = ap glance_at same.published
 
--- one line more goes out
+-- one more line goes out
 pub IsShown-next : (run before after : EndedRun) (shown : ℕ) (held holds later : Option (List ℕ)) → IsShown run before shown held holds → IsSameEnd before after
     → Appends holds later (viewer_line shown (glance before)) → after.written ≡ before.written + length (viewer_line shown (glance before)) → after.written ≤ before.written + 2 ^ 64
     → IsShown run after (shown + 1) held later
@@ -53,11 +53,11 @@ IsShown-next run before after shown held holds later is same out counted at_most
       at_most = omega (arith, is.at_most);
     }
 
--- memory is wanting behind these lines
+-- an allocation fails after these lines
 pub StopsShowing-behind : (run now : EndedRun) (shown viewers : ℕ) (held holds : Option (List ℕ)) → shown ≤ viewers → IsShown run now shown held holds → StopsShowing run viewers OutOfMemory held holds
 StopsShowing-behind run now shown viewers held holds few is = record { shown = shown; few = few; out = is.out }
 
--- nothing goes out behind these lines
+-- nothing more goes out after these lines
 abbrev shown_some : (run before : EndedRun) (shown viewers : ℕ) (held holds later : Option (List ℕ)) → shown ≤ viewers → IsShown run before shown held holds → Appends holds later [] → HasShownSome run viewers held later
 shown_some run before shown viewers held holds later few is nothing =
     let lines = viewer_lines shown (glance run) in

@@ -1,4 +1,4 @@
--- The stages of a run: what each step makes of the state after some bytes.
+-- The stages of a run: what each step does to the state after some bytes.
 use Rattle.std.proofs.Common.{◌≡◌, ◌≢◌, ℕ, true, false, ◌+◌, List, [], ◌∷◌, ◌++◌, Option, eqb, length, take, refl, inl, inr, sym, ap, ◌∙◌, subst, append_assoc, append-nil, arith, length-append, length-take}
 use Rattle.std.specs.Io.KnownBytes.{Appends, IsAtEnd, Keeps}
 use Rattle.std.specs.Prelude.{All}
@@ -29,7 +29,7 @@ pub IsAfter-start : (held : Option (List ℕ)) (progress : Progress) → StandsF
 unfolding ended_of_parts last_part ended_lines unended
 IsAfter-start held progress stands written line = record { text = []; last = start; performed = (refl, refl); stands = stands; line = line; out = Appends-nil held; counted = written }
 
--- bytes of which none is a line feed
+-- bytes without a line feed are read
 abbrev pub IsAfter-unbroken : (held holds : Option (List ℕ)) (read bytes : List ℕ) (old new : Progress) → All (λ byte. byte ≢ 10) bytes → new.performer ≡ old.performer
     → new.line ≡ take 65538 (old.line ++ bytes) → IsAfter held read old holds → IsAfter held (read ++ bytes) new holds
 IsAfter-unbroken held holds read bytes old new unbroken same line after =
@@ -43,19 +43,19 @@ IsAfter-unbroken held holds read bytes old new unbroken same line after =
       counted = rw same after.counted;
     }
 
--- one line more has been performed than those that a line feed ended
+-- one more line has been performed than a line feed has ended
 performed-more : (held holds : Option (List ℕ)) (read line more : List ℕ) (progress : Progress) (next : State) (after : IsAfter held read progress holds)
     → Answers (limits progress.performer.session) after.last line more next
     → Perform (limits progress.performer.session) start (ended_lines read ++ line ∷ []) (after.text ++ more) next
 performed-more held holds read line more progress next after answer =
     Perform-line (limits progress.performer.session) start after.last next (ended_lines read) line after.text more after.performed answer
 
--- what this line answers, the whole line answers that a line feed ends
+-- an answer to this line is one to the complete line that a line feed ends
 abbrev StandsForEnded : (progress : Progress) (s : State) (read line : List ℕ) → Type 0
 StandsForEnded progress s read line = (text : List ℕ) (next : State) → Answers (limits progress.performer.session) s line text next
     → Answers (limits progress.performer.session) s (strip_carriage_return (unended read)) text next
 
--- the line that a line feed ends
+-- the line that a line feed ends has been performed
 performed-ended : (held holds : Option (List ℕ)) (read line more : List ℕ) (progress : Progress) (next : State) (after : IsAfter held read progress holds)
     → StandsForEnded progress after.last read line → Answers (limits progress.performer.session) after.last line more next
     → Perform (limits progress.performer.session) start (ended_lines (read ++ 10 ∷ [])) (after.text ++ more) next
@@ -63,7 +63,7 @@ performed-ended held holds read line more progress next after whole answer =
     subst (λ ls. Perform (limits progress.performer.session) start ls (after.text ++ more) next) (sym (ended_lines-line_feed read))
     (performed-more held holds read (strip_carriage_return (unended read)) more progress next after (whole more next answer))
 
--- a line feed whose line has been performed
+-- a line feed is read, and its line has been performed
 IsAfter-ended : (held holds later : Option (List ℕ)) (read line : List ℕ) (old new : Progress) (after : IsAfter held read old holds) → StandsForEnded old after.last read line
     → IsWritten old.performer after.last new.performer line holds later → limits new.performer.session ≡ limits old.performer.session → new.line ≡ []
     → IsAfter held (read ++ 10 ∷ []) new later
@@ -92,14 +92,14 @@ pub IsAfter-line_feed : (held holds later : Option (List ℕ)) (read : List ℕ)
 IsAfter-line_feed held holds later read old new after =
     IsAfter-ended held holds later read (strip_carriage_return old.line) old new after (kept-ended held holds read old after)
 
--- memory was wanting between two lines
+-- an allocation fails between two lines
 pub CutsShort-between : (held left holds : Option (List ℕ)) (read more : List ℕ) (progress : Progress) → IsAfter held read progress holds
     → CutsShort (limits progress.performer.session) OutOfMemory left (read ++ more) held holds
 CutsShort-between held left holds read more progress after =
     let (others, first) = ended_lines-front read more in
     (after.text, after.out, record { done = ended_lines read; more = others; last = after.last; first = inl first; performed = after.performed })
 
--- the text of a line broke off, of bytes whose first whole lines are the performed ones and then this one
+-- the text of a line breaks off; the first completely read lines are the performed ones, and then this one
 CutsShort-text : (fault : RunFault) (held left holds later : Option (List ℕ)) (read bytes line : List ℕ) (others first behind : List (List ℕ)) (progress : Progress) (after : IsAfter held read progress holds)
     → AreWholeLines left bytes (ended_lines read ++ others)
     → AreWholeLines left bytes (first ++ behind)
@@ -126,7 +126,7 @@ CutsShort-text (WriteFault count) held left holds later read bytes line others f
       },
     )
 
--- the text of a line that a line feed ends broke off
+-- the text of a line that a line feed ends breaks off
 CutsShort-ended : (fault : RunFault) (held left holds later : Option (List ℕ)) (read more line : List ℕ) (progress : Progress) (after : IsAfter held read progress holds)
     → StandsForEnded progress after.last read line → BreaksOff fault progress.performer after.last line holds later
     → CutsShort (limits progress.performer.session) fault left (read ++ 10 ∷ more) held later
@@ -143,12 +143,12 @@ pub CutsShort-line_feed : (fault : RunFault) (held left holds later : Option (Li
 CutsShort-line_feed fault held left holds later read more progress after =
     CutsShort-ended fault held left holds later read more (strip_carriage_return progress.line) progress after (kept-ended held holds read progress after)
 
--- bytes are behind the last line feed
+-- there are bytes after the last line feed
 some-unended : (held holds : Option (List ℕ)) (read : List ℕ) (progress : Progress) → IsAfter held read progress holds → eqb (length progress.line) 0 ≡ false → eqb (length (unended read)) 0 ≡ false
 some-unended held holds read progress after some =
     ne_eqb (length (unended read)) 0 (λ empty. eqb-false (length progress.line) 0 some (ap length after.line ∙ omega (arith, length-take 65538 (unended read))))
 
--- the last line, which no line feed ends
+-- the last line, which no line feed ends, has been performed
 performed-last : (held holds : Option (List ℕ)) (read more : List ℕ) (progress : Progress) (next : State) (after : IsAfter held read progress holds)
     → Answers (limits progress.performer.session) after.last progress.line more next
     → Perform (limits progress.performer.session) start (ended_lines read ++ unended read ∷ []) (after.text ++ more) next
@@ -167,7 +167,7 @@ CutsShort-last fault held left holds later read progress all_read after some bro
     (λ text next answer. performed-last held holds read text progress next after answer)
     broken
 
--- no byte is behind the last line feed
+-- there is no byte after the last line feed
 empty-unended : (held holds : Option (List ℕ)) (read : List ℕ) (progress : Progress) → IsAfter held read progress holds → eqb (length progress.line) 0 ≡ true → unended read ≡ []
 empty-unended held holds read progress after none =
     let kept : length (take 65538 (unended read)) ≡ 0 = ap length (sym after.line) ∙ eqb-true (length progress.line) 0 none in
@@ -202,15 +202,15 @@ IsThrough-last held holds later read old new after some same written =
       counted = written.counted ∙ ap (λ n. n + length written.text) after.counted ∙ sym (length-append after.text written.text);
     }
 
--- memory was wanting before anything was read
+-- an allocation fails before anything is read
 pub CutsShort-nothing : (l : Limits) (left held : Option (List ℕ)) → CutsShort l OutOfMemory left [] held held
 CutsShort-nothing l left held = ([], Appends-nil held, record { done = []; more = ended_lines []; last = start; first = inl refl; performed = (refl, refl) })
 
--- the texts of the lines that a line feed ended
+-- a read fails: the texts of the lines that a line feed ended are written
 pub CutsShort-reads : (held left holds : Option (List ℕ)) (read : List ℕ) (progress : Progress) → IsAfter held read progress holds → CutsShort (limits progress.performer.session) ReadFault left read held holds
 CutsShort-reads held left holds read progress after = (after.text, after.out, record { last = after.last; performed = after.performed })
 
--- a line of which nothing was kept, and which ends with these bytes
+-- a line of which nothing was kept, so that all of it is in these bytes
 module _ (held holds : Option (List ℕ)) (read bytes : List ℕ) (old : Progress) (after : IsAfter held read old holds) (none : eqb (length old.line) 0 ≡ true) (unbroken : All (λ byte. byte ≢ 10) bytes) where
   abbrev with_bytes : Progress
   with_bytes = record { performer = old.performer; line = take 65538 (old.line ++ bytes) }
@@ -231,7 +231,7 @@ module _ (held holds : Option (List ℕ)) (read bytes : List ℕ) (old : Progres
       → CutsShort (limits old.performer.session) fault left (read ++ bytes ++ 10 ∷ more) held later
   CutsShort-whole fault left later more = CutsShort-ended fault held left holds later (read ++ bytes) more (strip_carriage_return bytes) with_bytes after_bytes whole_line
 
--- the writer hands on what it holds
+-- the writer is flushed
 pub IsAfter-flushed : (held holds later : Option (List ℕ)) (read : List ℕ) (progress : Progress) → Keeps holds later → IsAfter held read progress holds → IsAfter held read progress later
 IsAfter-flushed held holds later read progress same after = record {
   text = after.text;
@@ -253,7 +253,7 @@ IsThrough-flushed held holds later read performer same through = record {
   counted = through.counted;
 }
 
--- it does not hand on the texts of the lines that a line feed ended
+-- flushing the texts of the lines that a line feed ended fails
 pub CutsShort-unflushed : (held left holds later : Option (List ℕ)) (read : List ℕ) (progress : Progress) → Keeps holds later → IsAfter held read progress holds
     → (fault : RunFault) → fault ≡ WriteFault progress.performer.written → CutsShort (limits progress.performer.session) fault left read held later
 CutsShort-unflushed held left holds later read progress same after fault is =
@@ -268,7 +268,7 @@ CutsShort-unflushed held left holds later read progress same after fault is =
       },
     )
 
--- or those of all lines
+-- flushing the texts of all lines fails
 pub CutsShort-last_unflushed : (l : Limits) (held left holds later : Option (List ℕ)) (read : List ℕ) (performer : Performer) → IsAtEnd left → limits performer.session ≡ l → Keeps holds later → IsThrough held read performer holds
     → (fault : RunFault) → fault ≡ WriteFault performer.written → CutsShort l fault left read held later
 CutsShort-last_unflushed l held left holds later read performer all_read limits_are same through fault is =

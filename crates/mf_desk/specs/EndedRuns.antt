@@ -15,12 +15,12 @@ use Rattle.mf_session.specs.States.{State, Limits, start}
 use Rattle.mf_session.specs.Transcript.{Perform}
 use Rattle.mf_watch.specs.Watchers.{glance_at}
 
--- it is what a script has ended with, whose lines have made this state
+-- the script of this performer, whose lines have led to this state, has ended with this run
 pub record IsEndOf (performer : Performer) (s : State) (run : EndedRun) : Type 0 where
   pub ended : HasEnded performer.session s run.ended run.file
   pub counted : run.written ≡ performer.written
 
--- the run of these bytes, behind the end of the script: a writer that held some bytes has got the transcript, all that was
+-- the run of these bytes after the end of the script: a writer that held some bytes has got the transcript, everything that was
 -- accepted is published, and the font file keeps what was shipped
 pub record IsOver (limits : Limits) (held : Option (List ℕ)) (read : List ℕ) (run : EndedRun) (holds : Option (List ℕ)) : Type 0 where
   pub text : List ℕ
@@ -32,11 +32,11 @@ pub record IsOver (limits : Limits) (held : Option (List ℕ)) (read : List ℕ)
   pub out : Appends held holds text
   pub counted : run.written ≡ length text
 
--- all that a reader had was read, and performed
+-- everything that the reader had was read and performed
 abbrev pub EndsWith : Limits → Option (List ℕ) → Option (List ℕ) → Option (List ℕ) → EndedRun → Option (List ℕ) → Type 0
 EndsWith limits unread left held run holds = (read : List ℕ) × Consumes unread left read × IsOver limits held read run holds
 
--- what is seen of its last picture
+-- the glance that a look at its last picture gives
 abbrev pub glance : EndedRun → Glance
 glance run = glance_at (ended_published run.ended)
 
@@ -46,7 +46,7 @@ pub record IsSameEnd (before after : EndedRun) : Type 0 where
   pub published : ended_published after.ended ≡ ended_published before.ended
   pub file : after.file ≡ before.file
 
--- the line of the viewer of this number has gone out up to some byte, which the number counts
+-- the line of the viewer with this number has gone out up to some byte, and `count` counts the bytes of the run up to there
 pub record IsBrokenLine (run : EndedRun) (number : ℕ) (held holds : Option (List ℕ)) (count : ℕ) : Type 0 where
   pub front : List ℕ
   pub rest : List ℕ
@@ -54,7 +54,7 @@ pub record IsBrokenLine (run : EndedRun) (number : ℕ) (held holds : Option (Li
   pub out : Appends held holds front
   pub counted : count ≡ run.written + length front
 
--- a fault came where that line was due
+-- a fault comes where that line is due
 abbrev pub BreaksLine : EndedRun → ℕ → RunFault → Option (List ℕ) → Option (List ℕ) → Type 0
 BreaksLine run number OutOfMemory held holds = Appends held holds []
 BreaksLine run number NoLook held holds = Appends held holds []
@@ -67,7 +67,7 @@ pub record HasShownSome (run : EndedRun) (viewers : ℕ) (held holds : Option (L
   pub few : shown ≤ viewers
   pub out : Appends held holds (viewer_lines shown (glance run))
 
--- these lines have gone out up to some byte, which the number counts
+-- these lines have gone out up to some byte, and `count` counts the bytes of the run up to there
 pub record HasShownPart (run : EndedRun) (viewers : ℕ) (held holds : Option (List ℕ)) (count : ℕ) : Type 0 where
   pub shown : ℕ
   pub few : shown ≤ viewers
@@ -77,7 +77,7 @@ pub record HasShownPart (run : EndedRun) (viewers : ℕ) (held holds : Option (L
   pub out : Appends held holds front
   pub counted : count ≡ run.written + length front
 
--- a fault came where the lines of so many viewers were due; a look can be wanting only where a line is
+-- a fault comes where the lines of this many viewers are due; `NoLook` leaves at least one line out
 abbrev pub StopsShowing : EndedRun → ℕ → RunFault → Option (List ℕ) → Option (List ℕ) → Type 0
 StopsShowing run viewers OutOfMemory held holds = HasShownSome run viewers held holds
 StopsShowing run viewers NoLook held holds = (some : HasShownSome run viewers held holds) × (some.shown < viewers)

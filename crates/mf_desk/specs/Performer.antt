@@ -1,4 +1,4 @@
--- What has gone out where a line is performed.
+-- What has been written when a line is performed.
 use Rattle.std.specs.Prelude.{ℕ, List, [], ◌++◌, Option, ◌≡◌, ◌+◌, ◌<◌, ◌^◌, length}
 use Rattle.std.specs.Io.KnownBytes.{Appends}
 use Rattle.mf_session.specs.Answers.{Answers}
@@ -18,7 +18,7 @@ pub record IsWritten (before : Performer) (s : State) (after : Performer) (line 
   pub counted : after.written ≡ before.written + length text
   pub short : length text < 2 ^ 64
 
--- the text of a line has gone out up to some byte, which the number counts
+-- the text of a line has gone out up to some byte, and `count` counts the bytes of the run up to there
 pub record IsBrokenOff (before : Performer) (s : State) (line : List ℕ) (held holds : Option (List ℕ)) (count : ℕ) : Type 0 where
   pub front : List ℕ
   pub rest : List ℕ
@@ -27,7 +27,7 @@ pub record IsBrokenOff (before : Performer) (s : State) (line : List ℕ) (held 
   pub out : Appends held holds front
   pub counted : count ≡ before.written + length front
 
--- a fault came where the text of a line was due
+-- a fault comes where the text of a line is due
 abbrev pub BreaksOff : RunFault → Performer → State → List ℕ → Option (List ℕ) → Option (List ℕ) → Type 0
 BreaksOff OutOfMemory before s line held holds = Appends held holds []
 BreaksOff NoPlace before s line held holds = ⊥

@@ -10,8 +10,8 @@ use Rattle.mf_desk.specs.declared.line_buffer.TheConstants.{MAX_KEPT}
 use Rattle.mf_desk.specs.declared.performer.Performer.{Performer}
 use Rattle.mf_desk.specs.declared.progress.Progress.{Progress}
 
--- the run after these bytes of the script, by a writer that held some bytes and now holds others: the lines that a line
--- feed ended have been performed and their texts written, and of the one that is not ended enough is kept
+-- the run after these bytes of the script, with a writer that held some bytes and now holds others: the lines that a line feed
+-- ended have been performed and their texts written, and of the unended line enough is kept
 pub record IsAfter (held : Option (List ℕ)) (read : List ℕ) (progress : Progress) (holds : Option (List ℕ)) : Type 0 where
   pub text : List ℕ
   pub last : State
@@ -30,6 +30,6 @@ pub record IsThrough (held : Option (List ℕ)) (read : List ℕ) (performer : P
   pub out : Appends held holds text
   pub counted : performer.written ≡ length text
 
--- all that a reader had was read, and performed
+-- everything that the reader had was read and performed
 abbrev pub ReadsThrough : Option (List ℕ) → Option (List ℕ) → Option (List ℕ) → Performer → Option (List ℕ) → Type 0
 ReadsThrough unread left held performer holds = (read : List ℕ) × Consumes unread left read × IsThrough held read performer holds

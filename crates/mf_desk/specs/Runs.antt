@@ -9,7 +9,7 @@ use Rattle.mf_session.specs.Transcript.{Perform}
 use Rattle.mf_desk.specs.declared.settings.Settings.{Settings}
 use Rattle.mf_desk.specs.declared.outcome.Outcome.{Outcome}
 
--- the limits of a session, as the settings of a run say
+-- the limits of a session, from the settings of a run
 abbrev pub limits_set : Settings → Limits
 limits_set settings = limits_of settings.max_ops settings.max_bytes
 
@@ -18,13 +18,13 @@ abbrev pub font_file : FontWords → List Character → Option (List ℕ)
 font_file font [] = None
 font_file font (c ∷ cs) = Some (file_of font [] (c ∷ cs))
 
--- the font file of these characters would have more bytes than it may
+-- the font file of these characters would have more bytes than it may have
 pub record IsLongFile (max_bytes : ℕ) (font : FontWords) (characters : List Character) : Type 0 where
   pub some : characters ≡ [] → ⊥
   pub too_long : max_bytes < length (file_of font [] characters)
 
--- a run of these bytes: a writer that held some bytes has got the transcript, and the outcome is the font file of
--- exactly the characters that were shipped; nobody has looked on
+-- a run of these bytes without viewers: a writer that held some bytes has got the transcript, and the outcome is the font file of
+-- exactly the characters that were shipped
 pub record IsRun (settings : Settings) (outcome : Outcome) (held holds : Option (List ℕ)) (input : List ℕ) : Type 0 where
   pub text : List ℕ
   pub last : State

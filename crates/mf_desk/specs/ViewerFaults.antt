@@ -1,4 +1,4 @@
--- Which faults of viewers end a run with which fault.
+-- The fault that ends a run where its viewers fail.
 use Rattle.mf_live.specs.declared.sheet.SheetFault.{SheetFault}
 use Rattle.mf_live.specs.declared.sheet.SheetFault.TheVariants as sheet
 use Rattle.mf_watch.specs.declared.fault.StartFault.{StartFault}
@@ -6,12 +6,12 @@ use Rattle.mf_watch.specs.declared.fault.StartFault.TheVariants as start
 use Rattle.mf_desk.specs.declared.fault.RunFault.{RunFault}
 use Rattle.mf_desk.specs.declared.fault.RunFault.TheVariants.{OutOfMemory, NoPlace, NoLook}
 
--- where viewers are not started
+-- the fault of the run where its viewers cannot be started
 abbrev pub fault_of_start : StartFault → RunFault
 fault_of_start start.OutOfMemory = OutOfMemory
 fault_of_start start.NoPlace = NoPlace
 
--- where the last look of a viewer fails
+-- the fault of the run where the last look of a viewer fails
 abbrev pub fault_of_sheet : SheetFault → RunFault
 fault_of_sheet sheet.NoLook = NoLook
 fault_of_sheet sheet.OutOfMemory = OutOfMemory

@@ -15,17 +15,18 @@ use std::alloc::{AllocError, Global};
 use std::io::Write;
 use std::sync::Wait;
 
-/// A run whose script has ended. It is not `Drop`: end it by `file`.
+/// A run whose script has ended. It is not `Drop`, because its picture is not: end it with `file`.
 pub struct EndedRun {
     pub ended: Ended,
     pub file: GfFile,
-    /// Number of bytes that went out since the run began.
+    /// Number of bytes that were written since the run began.
     pub written: u128,
 }
 
 impl EndedRun {
-    /// Lets each viewer look once more, and writes its line, in order. Answers what they have seen. Refusals
-    /// OutOfMemory (14), WriteFault (25) and NoLook (26), also where a look was refused before.
+    /// Lets each viewer look once more and writes its line, in the order of their numbers. Answers with the records of all looks.
+    /// Refused with `OutOfMemory` where an allocation fails, with `WriteFault` where the writer fails, and with `NoLook` where a
+    /// look is refused now or was refused in a thread.
     pub fn show<W: Write>(
         &mut self,
         alloc: Global,
@@ -49,7 +50,7 @@ impl EndedRun {
         }
     }
 
-    /// Lets each viewer look once more, and writes its line. The writer hands on what it holds.
+    /// Lets each viewer look once more and writes its line. Then it flushes the writer.
     fn show_all<W: Write>(
         &mut self,
         alloc: Global,
@@ -75,7 +76,7 @@ impl EndedRun {
         Ok(seen)
     }
 
-    /// Lets a viewer look once more, and writes its line.
+    /// Lets a viewer look once more and writes its line.
     fn show_one<W: Write>(
         &mut self,
         alloc: Global,
@@ -106,7 +107,7 @@ impl EndedRun {
         }
     }
 
-    /// Ends it, and hands out the font file. Nobody looks any more, so it waits for nobody.
+    /// Ends the picture, and hands out the font file. Nobody looks any more, so it waits for nobody.
     pub fn file<S: Wait>(self, rt: &S) -> GfFile
         ensures { result ≡ self.file }
     {
@@ -120,7 +121,7 @@ impl EndedRun {
     }
 }
 
-/// The line of the viewer of this number, who has seen this last.
+/// The line of the viewer with this number, whose last glance is this.
 fn viewer_line(alloc: Global, number: u32, glance: Glance) -> Result<Vec<u8>, AllocError>
     ensures { IfOk result (λ line. line.items ≡ Rattle.mf_desk.specs.Performances.viewer_line number glance) }
 {

@@ -11,27 +11,27 @@ use thiserror::Error;
 /// Why a run did not end well. Its message is its name.
 #[derive(Clone, Copy, Debug, PartialEq, Eq, Error)]
 pub enum RunFault {
-    /// Refusal 14: a growth was refused. What the writer got is the texts of the first lines, whole,
-    /// and behind the whole transcript the lines of the first viewers, whole.
+    /// An allocation failed. The writer has got the texts of the first lines and, if it has got the complete transcript, the
+    /// lines of the first viewers. No text and no line is cut.
     #[error("OutOfMemory")]
     OutOfMemory,
-    /// Refusal 15: a place or a thread could not be had for a viewer, or the gate could not be shared with it. Nothing was
-    /// read or written.
+    /// There was no place or no thread for a viewer, or the gate could not be shared with it. Nothing was read or written.
     #[error("NoPlace")]
     NoPlace,
-    /// Refusal 20: a font file of the characters that were shipped would have more bytes than it may, and the writer got
-    /// the whole transcript, and the line of each viewer; or no file has so few bytes, and nothing was read or written.
+    /// The font file of the shipped characters would have more bytes than it may have: the writer has got the complete transcript
+    /// and the line of each viewer. Or the limit is below the 3 bytes of the shortest preamble: nothing was read or written.
     #[error("FileTooLong")]
     FileTooLong,
-    /// Refusal 24: the reader answered an error, or 1,048,576 reads did not reach the end of the script.
-    /// Every line that a line feed ended has been performed and its text written, and no other line.
+    /// The reader answered with an error, or 1,048,576 reads did not reach the end of the script. An interrupted read is an
+    /// error, too, and is not tried again. Exactly the lines that a line feed ended have been performed, and their texts written.
     #[error("ReadFault")]
     ReadFault,
-    /// Refusal 25: the writer answered an error, also where it was flushed, or took no byte. The number counts the bytes
-    /// that it took in this run, from 0; they are a front of the transcript and the lines of the viewers.
+    /// The writer answered with an error, also where it was flushed, or took no byte. An interrupted write is an error, too, and
+    /// is not tried again. The number counts the bytes that the writer took in this run. These bytes are a prefix of the
+    /// transcript and the lines of the viewers.
     #[error("WriteFault")]
     WriteFault(u128),
-    /// Refusal 26: a look was refused. The writer got the whole transcript, and the lines of the first viewers, whole.
+    /// A look was refused. The writer has got the complete transcript and the lines of the first viewers. No line is cut.
     #[error("NoLook")]
     NoLook,
 }

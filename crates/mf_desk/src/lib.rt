@@ -1,5 +1,4 @@
-//! Scripts of picture commands: they are read line by line, a session performs the lines, and viewers look on in
-//! threads.
+//! Runs of scripts: a script is read line by line, a session performs the lines, and viewers look on in threads.
 #![tactic(auto)]
 
 mod ended_run;

@@ -5,11 +5,11 @@ ghost use Rattle.std.specs.Str.Lines.{strip_carriage_return};
 use std::alloc::{AllocError, Global};
 use std::marker::Model;
 
-/// Greatest number of bytes of a line that are kept: one more than a lawful line and the carriage return
-/// behind it have (65,536 and 1), so that a line that is cut is still too long.
+/// The greatest number of bytes of a line that are kept. A lawful line has at most 65,536, and a carriage return may follow it;
+/// one more byte is kept, so that a line that is cut is still too long.
 pub const MAX_KEPT: usize = 65_538;
 
-/// The unended line of a script, of which the bytes behind the first [`MAX_KEPT`] are not kept.
+/// The unended line of a script. Of its bytes only the first [`MAX_KEPT`] are kept.
 #[derive(Drop)]
 pub struct LineBuffer {
     kept: Vec<u8>,
@@ -27,7 +27,7 @@ impl Model for LineBuffer {
 }
 
 impl LineBuffer {
-    /// A line of no bytes.
+    /// An empty line.
     pub fn new(alloc: Global) -> LineBuffer
         ensures { result ≡ [] }
     {
@@ -36,14 +36,14 @@ impl LineBuffer {
         }
     }
 
-    /// Whether the line has no byte.
+    /// Whether the line is empty.
     pub fn is_empty(&self) -> bool
         ensures { result ≡ (length self.now == 0) }
     {
         self.kept.is_empty()
     }
 
-    /// Adds bytes behind the others. Want of memory changes nothing.
+    /// Adds bytes at the end, as far as they are kept. Where an allocation fails, nothing changes.
     pub fn extend(&mut self, bytes: &[u8]) -> Result<(), AllocError>
         ensures added { OnOk result (self.new ≡ take MAX_KEPT (self.old ++ bytes.now)) }
         ensures unchanged { OnErr result (self.new ≡ self.old) }
@@ -53,21 +53,21 @@ impl LineBuffer {
         self.kept.extend_from_slice(&bytes[..count])
     }
 
-    /// The line without the bytes that it had.
+    /// Empties the line.
     pub fn clear(&mut self)
         ensures { self.new ≡ [] }
     {
         self.kept.clear();
     }
 
-    /// The bytes of the line where the script ends behind it: a carriage return at their end belongs to it.
+    /// The bytes of the line where the script ends after it. A carriage return at their end is part of the line.
     pub fn at_end(&self) -> &[u8]
         ensures { result.now ≡ self.now }
     {
         &self.kept
     }
 
-    /// The bytes of the line where a line feed follows: a carriage return at their end is no part of it.
+    /// The bytes of the line where a line feed follows it. A carriage return at their end is not part of the line.
     pub fn at_line_feed(&self) -> &[u8]
         ensures { result.now ≡ strip_carriage_return self.now }
     {
@@ -75,7 +75,8 @@ impl LineBuffer {
     }
 }
 
-/// The bytes of a line that a line feed follows: a carriage return at their end is no part of it.
+/// The bytes of a line that a line feed follows, without the carriage return at their end, if there is one: it is not part of the
+/// line.
 pub fn before_line_feed(bytes: &[u8]) -> &[u8]
     ensures { result.now ≡ strip_carriage_return bytes.now }
 {

@@ -5,9 +5,9 @@ use mf_watch::Glance;
 /// What a run of a script has made.
 #[derive(Drop)]
 pub struct Outcome {
-    /// The font file of the characters that were shipped, or none where none was shipped.
+    /// The bytes of the font file of the shipped characters, or `None` where no character was shipped.
     pub gf: Option<GfBytes>,
-    /// The looks of each viewer, in order; the last one was taken after the end of the script. Where nobody looks on it
-    /// is empty.
+    /// The record of each viewer: its looks in order, the last of which it took after the end of the script. Empty for a run
+    /// without viewers.
     pub seen: Vec<Vec<Glance>>,
 }

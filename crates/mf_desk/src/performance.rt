@@ -18,16 +18,16 @@ use std::io::{Read, Write};
 use std::sync::{Arc, Wait};
 use std::thread::Threads;
 
-/// Runs a script as [`run`](crate::run) does, while viewers look on: each in a thread of its own, which is started before
-/// the first read and looks so many times; the gate is told of each look while it is held. When the script has ended and
-/// its picture is closed, the threads are joined, each viewer looks once more, at the last picture, and a line
-/// `viewer k revision r totalweight t` is written for each, in order. The font file is finished after that. The caller
-/// owes that the viewers are at most 64.
+/// Runs a script as [`run`](crate::run) does, while viewers look on. Each has a thread of its own, which is started before the
+/// first read, and in which the viewer looks `looks` times; the gate learns of each look while it is held. When the script has
+/// ended and its picture is closed, the threads are joined. Then each viewer looks once more, at the last picture, and a line
+/// `viewer k revision r totalweight t` is written for it, in order. The font file is finished after that. Requires at most 64
+/// viewers. A publish may wait for looks that are held, and the end of the run waits for all of them.
 ///
-/// Refusals: those of `run`; NoPlace (15), where a place or a thread could not be had or the gate not be shared, and nothing was read or written;
-/// NoLook (26), where a look was refused. A fault of the script or of its end comes first, then a look that was refused
-/// in a thread, then what the last looks, the lines and the font file meet. After each the threads are joined. A publish
-/// may wait for looks that are held, and the end of the run waits for all of them.
+/// Refused as `run` is; with `NoPlace` where there is no place or no thread for a viewer, or the gate cannot be shared, and then
+/// nothing was read or written; and with `NoLook` where a look was refused. A fault of the script or of its end comes first, then
+/// a look that was refused in a thread, then the faults of the last looks, the lines and the font file. After each fault the
+/// threads are joined.
 pub fn perform<S: Wait + Threads, R: Read, W: Write, G: Gate + 'static>(
     rt: &S,
     alloc: Global,
@@ -67,8 +67,8 @@ pub fn perform<S: Wait + Threads, R: Read, W: Write, G: Gate + 'static>(
     )
 }
 
-/// Performs a script while these viewers look on, joins their threads, lets each look once more and writes its line, and
-/// finishes the font file. The chunk is what a read is given.
+/// Performs a script while these viewers look on, joins their threads, lets each viewer look once more and writes its line, and
+/// finishes the font file. `chunk` is the buffer for reads.
 fn perform_watched<S: Wait + Threads, R: Read, W: Write>(
     rt: &S,
     alloc: Global,

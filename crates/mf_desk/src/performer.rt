@@ -1,4 +1,4 @@
-//! Performs one line after another, and writes what each prints before the next.
+//! Performing lines one after another, and writing what each prints before the next is performed.
 ghost use Rattle.std.specs.Prelude.{◌≡◌, ◌⊎◌, ◌+◌, ◌<◌, ◌≤◌, ◌^◌, ◌↔◌, Err, IfErr, IfOk, OnOk};
 ghost use Rattle.mf_live.specs.Desks.{desk_name};
 ghost use Rattle.mf_desk.specs.EndedRuns.{IsEndOf};
@@ -17,15 +17,16 @@ use std::alloc::Global;
 use std::io::Write;
 use std::sync::Wait;
 
-/// A session, and how many bytes of its transcript went out.
+/// A session, and how many bytes of its transcript were written.
 pub struct Performer {
     pub session: Session,
-    /// Number of bytes that went out since the run began.
+    /// Number of bytes that were written since the run began.
     pub written: u128,
 }
 
 impl Performer {
-    /// A performer of a script of which no line has been performed, and the desk of at most so many viewers.
+    /// A performer that has performed no line, and the desk with at most `viewers` viewers. Refused with `FileTooLong` exactly
+    /// where `max_bytes` is below 3, and with `OutOfMemory` where an allocation fails.
     pub fn new<S: Wait>(
         rt: &S,
         alloc: Global,
@@ -53,7 +54,8 @@ impl Performer {
         }
     }
 
-    /// Performs a line and writes its text. The count of a WriteFault is that of all bytes that went out.
+    /// Performs a line and writes its text. Refused with `OutOfMemory`, or with `WriteFault`, which counts all bytes that were
+    /// written in the run.
     pub fn perform<S: Wait, W: Write>(
         &mut self,
         rt: &S,
@@ -78,7 +80,7 @@ impl Performer {
         }
     }
 
-    /// Ends the script. Refusal OutOfMemory (14).
+    /// Ends the script: closes its picture. Refused with `OutOfMemory` where an allocation fails.
     pub fn finish<S: Wait>(self, rt: &S) -> Result<EndedRun, RunFault>
         ensures ended { IfOk result (λ run. (s : State) → StandsFor self.session s → IsEndOf self s run) }
         ensures fault { IfErr result (λ fault. fault ≡ RunFault.OutOfMemory) }
@@ -97,7 +99,7 @@ impl Performer {
         }
     }
 
-    /// Ends it.
+    /// Ends the session without closing its picture.
     pub fn discard<S: Wait>(self, rt: &S) {
         let Performer {
             session,

@@ -1,4 +1,4 @@
-//! A run in progress: the lines that have been performed, and the bytes of the one that has not ended yet.
+//! A run in progress: the lines that have been performed, and the bytes of the unended line.
 ghost use Rattle.std.specs.Io.KnownBytes.{IsAtEnd};
 ghost use Rattle.std.specs.Prelude.{◌≡◌, ◌≢◌, ◌⊎◌, ◌+◌, ◌*◌, ◌<◌, ◌≤◌, ◌^◌, ◌↔◌, ◌++◌, ◌∷◌, All, Err, Option, List, ℕ, [], IfErr, IfOk, OnOk, length};
 ghost use Rattle.mf_live.specs.Desks.{desk_name};
@@ -21,7 +21,7 @@ use std::alloc::Global;
 use std::io::{Read, Write};
 use std::sync::Wait;
 
-/// Greatest number of reads of a run, the one that answers the end among them.
+/// The greatest number of reads of a run, including the one that reports the end.
 const MAX_READS: u32 = 1_048_576;
 
 /// A run in progress.
@@ -31,7 +31,8 @@ pub struct Progress {
 }
 
 impl Progress {
-    /// A run that has read nothing, and the desk of at most so many viewers.
+    /// A run that has read nothing, and the desk with at most `viewers` viewers. Refused with `FileTooLong` exactly where
+    /// `max_bytes` is below 3, and with `OutOfMemory` where an allocation fails.
     pub fn new<S: Wait>(
         rt: &S,
         alloc: Global,
@@ -51,7 +52,8 @@ impl Progress {
         Ok((Progress { performer, line }, desk))
     }
 
-    /// Reads a script to its end, performs its lines, writes their texts, and ends it. The chunk is what a read is given.
+    /// Reads a script to its end, performs its lines, writes their texts, and closes its picture. `chunk` is the buffer for
+    /// reads.
     pub fn complete<S: Wait, R: Read, W: Write>(
         self,
         rt: &S,
@@ -83,8 +85,8 @@ impl Progress {
         }
     }
 
-    /// Reads a script to its end, performs its lines and writes their texts. The writer hands on what it holds before
-    /// each read, which may wait for somebody who waits for these texts.
+    /// Reads a script to its end, performs its lines and writes their texts. The writer is flushed before each read: whoever
+    /// gives the script may be waiting for these texts.
     fn read_all<S: Wait, R: Read, W: Write>(
         &mut self,
         rt: &S,
@@ -115,8 +117,8 @@ impl Progress {
         Err(RunFault::ReadFault)
     }
 
-    /// Takes the next bytes of the script: performs each line that a line feed ends, and writes its text
-    /// before it performs the next.
+    /// Takes the next bytes of the script: performs each line that a line feed ends, and writes its text before it performs the
+    /// next.
     fn take<S: Wait, W: Write>(
         &mut self,
         rt: &S,
@@ -141,8 +143,8 @@ impl Progress {
         self.keep(rest)
     }
 
-    /// Takes the bytes before a line feed, and it: performs the line that it ends, and writes its text. A line of which
-    /// no byte was kept is performed where it stands.
+    /// Takes the bytes before a line feed, and the line feed: performs the line that it ends, and writes its text. A line of
+    /// which no byte was kept is performed in place, without a copy.
     fn take_line<S: Wait, W: Write>(
         &mut self,
         rt: &S,
@@ -168,7 +170,7 @@ impl Progress {
         self.end_line(rt, alloc, writer)
     }
 
-    /// Ends the script: the bytes behind its last line feed are a line where there are any. The writer hands on its text.
+    /// Ends the script: the bytes after its last line feed are a line, if there are any. The writer is flushed after its text.
     fn finish<S: Wait, W: Write>(
         &mut self,
         rt: &S,
@@ -192,7 +194,7 @@ impl Progress {
         flush(writer, self.performer.written)
     }
 
-    /// Performs the line, which a line feed ends, and writes its text.
+    /// Performs the kept line, which a line feed ends, and writes its text.
     fn end_line<S: Wait, W: Write>(
         &mut self,
         rt: &S,
@@ -214,7 +216,7 @@ impl Progress {
         Ok(())
     }
 
-    /// Keeps bytes of which none is a line feed.
+    /// Keeps bytes that have no line feed.
     fn keep(&mut self, bytes: &[u8]) -> Result<(), RunFault>
         requires { All (λ byte. byte ≢ 10) bytes.now }
         ensures after { OnOk result ((held : Option (List ℕ)) (read : List ℕ) (holds : Option (List ℕ)) → IsAfter held read self.old holds
@@ -227,7 +229,7 @@ impl Progress {
         Ok(())
     }
 
-    /// Ends it.
+    /// Ends the run without closing its picture.
     pub fn discard<S: Wait>(self, rt: &S) {
         let Progress { performer, line: _ } = self;
         performer.discard(rt);

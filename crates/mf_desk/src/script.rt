@@ -1,4 +1,4 @@
-//! A run: reads a script to its end, writes its transcript, and makes the font file of what it ships.
+//! A run without viewers: reads a script to its end, writes its transcript, and makes the font file of what it ships.
 ghost use Rattle.std.specs.Io.KnownBytes.{IsAtEnd};
 ghost use Rattle.std.specs.Prelude.{◌≡◌, ◌⊎◌, ◌<◌, ◌↔◌, [], Err, IfErr, IfOk, IfSome, OnOk, List};
 ghost use Rattle.mf_gf.specs.Files.{Character};
@@ -15,14 +15,14 @@ use std::alloc::Global;
 use std::io::{Read, Write};
 use std::sync::Wait;
 
-/// Number of bytes that a read asks for.
+/// Size of the buffer for reads, in bytes.
 pub const CHUNK_SIZE: usize = 65_536;
 
-/// Reads a script to its end, line by line, and writes the transcript: the text of each line is given to the writer
-/// before the next line is performed, and the writer is flushed before each read and behind the last text. Its outcome
-/// is the font file of the characters that the script has shipped. Refusals: OutOfMemory (14), FileTooLong (20),
-/// ReadFault (24), WriteFault (25), each with what [`RunFault`] says of the bytes that went out. It keeps at most one
-/// line, and of a line that is too long no more than shows this. Nobody looks on, so it waits for nobody.
+/// Reads a script to its end, line by line, and writes the transcript: the text of each line goes to the writer before the next
+/// line is performed, and the writer is flushed before each read and after the last text. The outcome is the font file of the
+/// characters that the script has shipped. Refused with `OutOfMemory`, `FileTooLong`, `ReadFault` or `WriteFault`; [`RunFault`]
+/// says what each means, and what was written by then. It keeps at most one line, and of a line that is too long only enough
+/// bytes to know that. It has no viewers, so it waits for nobody.
 pub fn run<S: Wait, R: Read, W: Write>(
     rt: &S,
     alloc: Global,
@@ -46,7 +46,8 @@ pub fn run<S: Wait, R: Read, W: Write>(
     })
 }
 
-/// The font file of the characters that were shipped, if any was.
+/// The font file of the shipped characters, if there are any. Refused with `FileTooLong` where it would have more bytes than it
+/// may have, and with `OutOfMemory` where an allocation fails.
 pub fn finished(file: GfFile, font: FontWords) -> Result<Option<GfBytes>, RunFault>
     ensures some { IfOk result (λ gf. (characters : List Character) → Keeps file [] characters → gf ≡ font_file font characters) }
     ensures too_long { (characters : List Character) → Keeps file [] characters → IsLongFile (limit file) font characters ↔ (result ≡ Err RunFault.FileTooLong) }

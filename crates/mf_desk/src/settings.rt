@@ -1,14 +1,14 @@
-//! What a run is given beside its script.
+//! The settings of a run.
 use mf_gf::FontWords;
 
-/// What a run may do, and what its font file tells.
+/// The limits of a run, and the numbers of its font.
 #[derive(Clone, Copy, Debug, PartialEq, Eq)]
 pub struct Settings {
-    /// Greatest number of operations on `currentpicture` that are accepted.
+    /// The greatest number of operations that `currentpicture` accepts.
     pub max_ops: u32,
-    /// Greatest number of bytes of the font file; more than 2,147,483,647 count as that. With fewer than 3 nothing is run,
-    /// since no file is so short.
+    /// The greatest number of bytes of the font file; more than 2,147,483,647 count as that. With fewer than 3 nothing is run,
+    /// since no font file is so short.
     pub max_bytes: u32,
-    /// Numbers of the font, for the end of its file.
+    /// The numbers of the font, which the end of its file has.
     pub font: FontWords,
 }

@@ -1,4 +1,4 @@
--- Edges after one of them was changed, removed or added.
+-- Edges after one of them is changed, removed or inserted.
 use Rattle.std.proofs.Common.{◌≡◌, ◌≢◌, ℕ, zero, suc, ◌<◌, ◌≤◌, ℤ, pos, negsuc, ◌+ℤ◌, ◌-ℤ◌, ◌≤ℤ◌, ◌<ℤ◌, int_le, List, [], ◌∷◌, length, get_or, add-one, All, Ok, Err, Bool, true, false, refl, sym, ap, ◌∙◌, arith, if◌then◌else◌}
 use Rattle.std.specs.List.{HoldsAt, insert, remove}
 use Rattle.std.specs.List.Sorted.{IsBinarySearchResult, IsSortedBy}
@@ -77,7 +77,7 @@ step_at_edge low (e ∷ es) (suc at) d from lt =
     let right = (edges_from-at (e.x +ℤ pos 1) es at d from.2 (omega arith)).1 in
     omega (arith, ints, step_at_edge (e.x +ℤ pos 1) es at d from.2 (omega arith), weight_in-left e es here.x (omega (arith, ints, right)), weight_in-left e es (here.x -ℤ pos 1) (omega (arith, ints, right)))
 
--- so it fits, and a lawful weight may be added to it
+-- so the weight fits, and a lawful weight may be added to it
 pub edge_is_small : (es : List Edge) (at : ℕ) (d : Edge) → AreOpenEdges es → at < length es → d ≡ get_or es at d → record { least : negsuc 65533 ≤ℤ d.weight; greatest : d.weight ≤ℤ pos 65534 }
 edge_is_small es at d edges lt read =
     let here = get_or es at d in
@@ -89,7 +89,7 @@ edge_is_small es at d edges lt read =
 
 -- ---- the answers
 
--- two parts of one column add up, and cancel with their weights
+-- two weights at one column add up, and cancel where their sum is 0
 parts_add : (b : Bool) (v w s : ℤ) → v +ℤ w ≡ s → (if b then s else pos 0) ≡ (if b then v else pos 0) +ℤ (if b then w else pos 0)
 parts_add true v w s is = sym is
 parts_add false v w s is = refl
@@ -152,7 +152,7 @@ columns_sorted es edges k d le lt =
 pub found_column : (es : List Edge) (x : ℤ) (at : ℕ) (d : Edge) → IsBinarySearchResult (λ e. int_cmp e.x x) es (Ok at) → (get_or es at d).x ≡ x
 found_column es x at d found = int_ranked _ x _ (sym (found d))
 
--- where none stands at a column, edges stand on both sides of it
+-- where there is no edge at a column, the edges are on both sides of it
 pub inserted_sorted : (es : List Edge) (x w : ℤ) (at : ℕ) → AreOpenEdges es → at ≤ length es → negsuc 4094 ≤ℤ x → x ≤ℤ pos 4095 → w ≢ pos 0 → IsBinarySearchResult (λ e. int_cmp e.x x) es (Err at) → AreEdgesFrom (negsuc 4094) (insert es at record { x = x; weight = w })
 inserted_sorted es x w at edges le left right nonzero parted =
     let sides = parted (searchable_from_sorted int_cmp_total (λ (e : Edge). e.x) es x (columns_sorted es edges)) in
@@ -161,7 +161,7 @@ inserted_sorted es x w at edges le left right nonzero parted =
     (λ k lt. int_ranked _ x _ (sym (sides.0 k e (omega arith) lt)))
     (λ k ge lt. int_ranked _ x _ (sym (sides.1 k e ge lt)))
 
--- and none stands there
+-- and there is none at the column
 pub none_there : (es : List Edge) (x : ℤ) (at : ℕ) → AreOpenEdges es → IsBinarySearchResult (λ e. int_cmp e.x x) es (Err at) → All (λ e. e.x ≢ x) es
 none_there es x at edges parted k d lt same =
     let sides = parted (searchable_from_sorted int_cmp_total (λ (e : Edge). e.x) es x (columns_sorted es edges)) in

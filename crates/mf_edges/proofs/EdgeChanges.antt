@@ -1,4 +1,4 @@
--- The edges of a row of which the columns change sides, and of one of which they are stretched.
+-- The edges of a row after its columns are reflected, or stretched.
 use Rattle.std.proofs.Common.{◌≡◌, ◌≤◌, ℤ, pos, negsuc, neg_ℤ, ◌+ℤ◌, ◌-ℤ◌, ◌*ℤ◌, ◌≤ℤ◌, ◌<ℤ◌, FitsSigned, unsigned_abs, w32, to_z, of_z, mul-le-mul, List, [], ◌∷◌, ◌++◌, length, map, refl, sym, subst, ap, ◌∙◌, append_assoc, append-nil, arith}
 use Rattle.std.specs.List.{All}
 use Rattle.std.proofs.lemmas.Int.{ints, by_lt_z, to_z-of_z, unsigned_abs-mul, fits_signed_from_abs}
@@ -15,7 +15,7 @@ use Rattle.mf_edges.proofs.Sources.{stretched_to-lt, source_of-reached, source_o
 
 -- ---- an edge among others
 
--- an edge that stands behind others
+-- an edge that comes after others
 edge_behind : (low : ℤ) (before : List Edge) (e : Edge) (behind : List Edge) → AreEdgesFrom low (before ++ e ∷ behind) → IsEdge e × (low ≤ℤ e.x)
 edge_behind low [] e behind edges = (edges.0, edges.1)
 edge_behind low (d ∷ before) e behind edges =
@@ -23,7 +23,7 @@ edge_behind low (d ∷ before) e behind edges =
     let start : low ≤ℤ d.x = edges.1 in
     (next.0, omega (arith, ints, next.1))
 
--- it changes the weight at its column by its own
+-- an edge changes the weight at its column by its own weight
 weight_changes : (low : ℤ) (before : List Edge) (e : Edge) (behind : List Edge) → AreEdgesFrom low (before ++ e ∷ behind) → weight_in (before ++ e ∷ behind) e.x ≡ weight_in (before ++ e ∷ behind) (e.x -ℤ pos 1) +ℤ e.weight
 weight_changes low [] e behind edges =
     let here = weight_in-left e behind e.x (omega (arith, ints)) in
@@ -38,9 +38,9 @@ weight_changes low (d ∷ before) e behind edges =
     let change = weight_changes (d.x +ℤ pos 1) before e behind edges.2 in
     omega (arith, ints)
 
--- ---- columns that change sides
+-- ---- columns that are reflected
 
--- an edge at the opposite point: what it added to the weights right of it, it takes from those left of it
+-- an edge at the opposite point: what it added to the weights to its right, it takes from those to its left
 abbrev pub flipped : Edge → Edge
 flipped e = record { x = neg_ℤ e.x; weight = neg_ℤ e.weight }
 
@@ -70,7 +70,8 @@ flipped-sorted low (e ∷ es) edges =
     (flipped-before (e.x +ℤ pos 1) (neg_ℤ e.x) es edges.2 (omega (arith, ints)))
     (edge, omega (arith, ints), tt)
 
--- an edge and its image add to the weights at a column and at the opposite one together what it adds to all
+-- what the image of an edge adds at a column, together with the edge's weight, is what the edge adds at the opposite
+-- column
 flipped-weight : (e : Edge) (x : ℤ) → weight_in (flipped e ∷ []) x +ℤ e.weight ≡ weight_in (e ∷ []) (opposite x)
 unfolding weight_in
 flipped-weight e x =
@@ -95,7 +96,7 @@ flipped-weights low (e ∷ es) x edges =
     let whole = weight_in-append (e ∷ []) es (opposite x) in
     omega (arith, ints)
 
--- the edges that have been passed, from the last one, and their images
+-- the edges that were passed, from the last one on, and their images
 pub record AreFlippedSoFar (es left new : List Edge) : Type 0 where
   pub passed : List Edge
   pub all : es ≡ left ++ passed
@@ -111,7 +112,7 @@ module _ (es before left : List Edge) (e : Edge) (new : List Edge) (last : left 
   pub last_edge : AreEdges es → IsEdge e
   last_edge edges = (edge_behind (negsuc 4094) before e so_far.passed (subst (AreEdgesFrom (negsuc 4094)) here edges.sorted)).0
 
-  -- its weight is the difference of two lawful ones
+  -- its weight is the difference of two lawful weights
   pub last_weight : AreEdges es → (negsuc 65534 ≤ℤ e.weight) × (e.weight ≤ℤ pos 65535)
   last_weight edges =
       let change = weight_changes (negsuc 4094) before e so_far.passed (subst (AreEdgesFrom (negsuc 4094)) here edges.sorted) in
@@ -122,7 +123,7 @@ module _ (es before left : List Edge) (e : Edge) (new : List Edge) (last : left 
   pub flipped_more : AreFlippedSoFar es before (new ++ flipped e ∷ [])
   flipped_more = record { passed = e ∷ so_far.passed; all = here; images = ap (λ t. t ++ flipped e ∷ []) so_far.images }
 
--- the weights of a row sum to 0, so those of the images right of a column are those of the edges left of the opposite one
+-- the edges of a row have a sum of 0, so a column of the images has the weight of the opposite column of the row
 mirrored_of : (es : List Edge) → AreEdges es → AreChanged Mirror es (all_flipped es)
 unfolding changed_in
 mirrored_of es row =
@@ -158,7 +159,7 @@ stretched-weights s (e ∷ es) x stretch =
     weight_in-left (stretched_edge s e) (map (stretched_edge s) es) x left
     ∙ (ap (λ w. e.weight +ℤ w) others ∙ sym (weight_in-left e es (source_of s x) (source_of-from s e.x x stretch left))))
 
--- the points at or right of a column stand, when stretched, at or right of another
+-- the points at or to the right of a column are, when stretched, at or to the right of another
 stretched-sorted : (s : Stretch) (low new : ℤ) (es : List Edge) → IsStretch s → ((x : ℤ) → low ≤ℤ x → IsPointInReach (stretched_to s x) → new ≤ℤ stretched_to s x) → AreEdgesFrom low es → All (λ e. IsPointInReach (stretched_to s e.x)) es → AreEdgesFrom new (map (stretched_edge s) es)
 stretched-sorted s low new [] stretch right edges inside = tt
 stretched-sorted s low new (e ∷ es) stretch right edges inside =
@@ -170,7 +171,7 @@ stretched-sorted s low new (e ∷ es) stretch right edges inside =
           edges.2 (All-tail (λ e. IsPointInReach (stretched_to s e.x)) e es inside),
     )
 
--- right of the field both have all their weights
+-- to the right of the field both rows have the sum of all their edges
 stretched-closed : (s : Stretch) (low : ℤ) (es : List Edge) → AreEdgesFrom low es → All (λ e. IsPointInReach (stretched_to s e.x)) es → weight_in (map (stretched_edge s) es) (pos 4095) ≡ weight_in es (pos 4095)
 unfolding weight_in
 stretched-closed s low [] edges inside = refl
@@ -191,7 +192,7 @@ stretched_of s es row stretch inside = record {
   weights = record { weights = λ x. stretched-weights s es x stretch };
 }
 
--- ---- the numbers of the code
+-- ---- the numbers that the code computes
 
 size : (z : ℤ) → negsuc 4094 ≤ℤ z → z ≤ℤ pos 4095 → unsigned_abs z ≤ 4095
 size z least greatest = omega (arith, ints)
@@ -218,7 +219,7 @@ module _ (s : Stretch) (e : Edge) (stretch : IsStretch s) (edge : IsEdge e) wher
   product_fits = rw (x_is, factor_is) (fits_signed_from_abs w32 (e.x *ℤ s.factor) (omega (arith, product_size)))
 
   module _ (reach : IsPointInReach (stretched_to s e.x)) where
-    -- the product is small, so the offset is, since the sum of the two is
+    -- the product is small, and so is the sum, so the offset is small, too
     sum_is : to_z w32 (of_z w32 (to_z w32 (of_z w32 e.x) *ℤ to_z w32 (of_z w32 s.factor))) +ℤ to_z w32 (of_z w32 s.offset) ≡ stretched_to s e.x
     sum_is =
         let product_is : to_z w32 (of_z w32 (e.x *ℤ s.factor)) ≡ e.x *ℤ s.factor = to_z-of_z w32 _ (fits_signed_from_abs w32 (e.x *ℤ s.factor) (omega (arith, product_size))) in

@@ -1,4 +1,4 @@
--- A row of edges of which each weight is mapped, edge by edge.
+-- A row of edges after each weight is mapped, edge by edge.
 use Rattle.std.proofs.Common.{◌≡◌, ℕ, ◌+◌, ◌<◌, ℤ, pos, negsuc, ◌+ℤ◌, ◌-ℤ◌, ◌≤ℤ◌, ◌<ℤ◌, List, [], ◌∷◌, ◌++◌, length, drop, get_or, refl, subst, sym, ap, ◌∙◌, arith}
 use Rattle.std.specs.List.{All}
 use Rattle.std.proofs.lemmas.Int.{ints, by_lt_z}
@@ -15,8 +15,8 @@ use Rattle.mf_edges.specs.WeightMaps.{mapped_to, IsWeightMap}
 use Rattle.mf_edges.proofs.EdgesLemmas.{weight_in-left, weight_in-right, weight_in-before}
 use Rattle.mf_edges.proofs.EdgeSums.{with_edge_in-before, with_edge_in-behind, weight_in-push, sorted_push, before_push, zero_lawful, IsColumnFrom}
 
--- left of a column, edges have the mapped weights of a row, of which the rest of the edges are still to come; at and
--- behind the column, the row without the rest has the running weight, and the edges have its image
+-- to the left of a column, the new edges have the mapped weights of a row, the rest of whose edges are still to come;
+-- from the column on, the row without the rest has the running weight, and the new edges have its image
 pub record IsMappedSoFar (m : WeightMap) (es mapped rest : List Edge) (weight image : ℤ) : Type 0 where
   pub low : ℤ
   pub left : AreEdgesFrom low rest
@@ -45,7 +45,7 @@ mapped_none m es row map = record {
 pub mapped_read : (m : WeightMap) (es mapped : List Edge) (i : ℕ) (d : Edge) (weight image : ℤ) → i < length es → IsMappedSoFar m es mapped (drop i es) weight image → IsMappedSoFar m es mapped (get_or es i d ∷ drop (i + 1) es) weight image
 mapped_read m es mapped i d weight image inside so_far = subst (λ rest. IsMappedSoFar m es mapped rest weight image) (drop_more es i d inside) so_far
 
--- where the rest adds nothing, the edges have the mapped weight of the row
+-- where the rest adds nothing, the new edges have the mapped weight of the row
 mapped_where_none : (m : WeightMap) (es mapped rest : List Edge) (weight image : ℤ) → IsMappedSoFar m es mapped rest weight image → (x : ℤ) → weight_in rest x ≡ pos 0 → weight_in mapped x ≡ mapped_to m (weight_in es x)
 mapped_where_none m es mapped rest weight image so_far x none =
     by_lt_z x so_far.low (so_far.weights x) (λ behind.

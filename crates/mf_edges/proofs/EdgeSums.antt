@@ -18,7 +18,7 @@ use Rattle.mf_edges.proofs.EdgesLemmas.{weight_in-append, weight_in-left, weight
 
 -- ---- one edge more
 
--- left of its column an edge changes nothing, elsewhere it adds its weight
+-- to the left of its column an edge changes nothing, elsewhere it adds its weight
 pub with_edge_in-before : (es : List Edge) (x w c : ℤ) → c <ℤ x → with_edge_in es x w c ≡ weight_in es c
 unfolding with_edge_in
 with_edge_in-before es x w c left =
@@ -73,7 +73,7 @@ split_behind es x left apart = record {
 
 -- ---- the first column
 
--- a column in reach, at or right of column low
+-- a column in reach, at or to the right of column low
 pub record IsColumnFrom (low x : ℤ) : Type 0 where
   pub from : low ≤ℤ x
   pub left : negsuc 4094 ≤ℤ x
@@ -85,7 +85,7 @@ begins_in_reach low x (e ∷ es) sorted at =
     let start : low ≤ℤ e.x = sorted.1 in
     record { from = omega (arith, ints); left = omega (arith, ints, sorted.0.left); right = omega (arith, ints, sorted.0.right) }
 
--- column x is the first at which an edge of two rows stands
+-- column x is the first at which one of two rows has an edge
 pub record IsFirstColumn (es fs : List Edge) (x : ℤ) : Type 0 where
   pub left : BeginFrom x es
   pub right : BeginFrom x fs
@@ -99,7 +99,7 @@ first_in_reach low x es fs left right first = ⊎_elim (begins_in_reach low x es
 pub zero_lawful : IsLawfulWeight (pos 0)
 zero_lawful = record { least = omega (arith, ints); greatest = omega (arith, ints) }
 
--- the edges of a row are changes too, of weights that were 0
+-- the edges of a row are also changes, of weights that were 0
 pub changes_of_edges : (es : List Edge) → AreEdges es → AreChanges es
 changes_of_edges es edges = record {
   sorted = edges.sorted;
@@ -107,7 +107,7 @@ changes_of_edges es edges = record {
   closed = edges.closed;
 }
 
--- where edges make changes of a change, each edge is the difference of two of them
+-- where edges change a change, each edge is the difference of two changes
 differences_from : (low weight : ℤ) (es : List Edge) → AreEdgesFrom low es → ((x : ℤ) → IsChange (weight +ℤ weight_in es x)) → All (λ e. IsDifference e.weight) es
 differences_from low weight [] sorted changes = All-nil (λ e. IsDifference e.weight)
 differences_from low weight (e ∷ es) sorted changes =
@@ -146,7 +146,7 @@ sum_none es fs left right = record {
   later = λ x le. omega (arith, ints);
 }
 
--- an edge more at the end of the sum, unless it is of weight 0
+-- one more edge at the end of the sum, unless its weight is 0
 pub by_push : (P : List Edge → Type 0) (sum : List Edge) (x w : ℤ) → (w ≡ pos 0 → P sum) → (w ≢ pos 0 → P (sum ++ record { x = x; weight = w } ∷ [])) → P (sum ++ unless_zero (record { x = x; weight = w }))
 by_push P sum x w none some =
     cond_both (int_eq w (pos 0)) [] (record { x = x; weight = w } ∷ []) (λ es. P (sum ++ es))

@@ -1,4 +1,4 @@
--- Edges that join the sum of two rows: those of one row as they are, a change, and the whole sum.
+-- Edges that join the sum of two rows: those of one row as they are, a change, and the rest at the end.
 use Rattle.std.proofs.Common.{◌≡◌, ◌≢◌, ◌<◌, ◌+◌, ◌⊎◌, Bool, true, false, cond, ℕ, ℤ, length, get_or, take, drop, FitsSigned, to_z, of_z, w32, pos, negsuc, ◌+ℤ◌, ◌-ℤ◌, ◌≤ℤ◌, ◌<ℤ◌, List, [], ◌∷◌, ◌++◌, refl, ap, sym, subst, ◌∙◌, ⊎_elim, inl, inr, arith}
 use Rattle.std.specs.List.{All}
 use Rattle.std.specs.Int.RustNames.{int_le}
@@ -126,7 +126,7 @@ module _ (whole_left whole_right sum es : List Edge) (f : Edge) (fs : List Edge)
     pub change_more : IsLawfulWeight (weight +ℤ (v +ℤ f.weight)) → IsSumSoFar whole_left whole_right (sum ++ unless_zero (record { x = f.x; weight = v +ℤ f.weight })) others fs (weight +ℤ (v +ℤ f.weight))
     change_more = sum_more whole_left whole_right sum es (f ∷ fs) weight so_far f.x change_first others fs v f.weight split change_split
 
--- ---- the whole sum
+-- ---- the complete sum
 
 module _ (whole_left whole_right sum es : List Edge) (weight : ℤ) (left : AreEdges whole_left) (right : AreChanges whole_right) (so_far : IsSumSoFar whole_left whole_right sum es [] weight) where
   weight_at_end : (x : ℤ) → weight_in (sum ++ es) x ≡ weight_in_both whole_left whole_right x

@@ -18,7 +18,7 @@ le_test a b le = grind (arith, ints)
 gt_test : (a b : ℤ) → b <ℤ a → int_le a b ≡ false
 gt_test a b gt = grind (arith, ints)
 
--- an edge that stands right of the column adds nothing, any other its weight
+-- an edge to the right of the column adds nothing, any other adds its weight
 pub weight_in-left : (e : Edge) (es : List Edge) (x : ℤ) → e.x ≤ℤ x → weight_in (e ∷ es) x ≡ e.weight +ℤ weight_in es x
 unfolding weight_in
 weight_in-left e es x left = ap (λ w. w +ℤ weight_in es x) (cond-true (int_le e.x x) e.weight (pos 0) (le_test e.x x left))
@@ -27,7 +27,7 @@ pub weight_in-right : (e : Edge) (es : List Edge) (x : ℤ) → x <ℤ e.x → w
 unfolding weight_in
 weight_in-right e es x right = omega (arith, ints, cond-false (int_le e.x x) e.weight (pos 0) (gt_test e.x x right))
 
--- left of the first edge the weight is 0
+-- to the left of the first edge the weight is 0
 pub weight_in-before : (low : ℤ) (es : List Edge) (x : ℤ) → AreEdgesFrom low es → x <ℤ low → weight_in es x ≡ pos 0
 unfolding weight_in
 weight_in-before low [] x edges before = refl
@@ -35,7 +35,7 @@ weight_in-before low (e ∷ es) x edges before =
     let start : low ≤ℤ e.x = edges.1 in
     weight_in-right e es x (omega (arith, ints)) ∙ weight_in-before (e.x +ℤ pos 1) es x edges.2 (omega (arith, ints))
 
--- right of the field it is that of the last column
+-- to the right of the field the weight is that of column 4095
 pub weight_in-behind : (low : ℤ) (es : List Edge) (x : ℤ) → AreEdgesFrom low es → pos 4095 ≤ℤ x → weight_in es x ≡ weight_in es (pos 4095)
 unfolding weight_in
 weight_in-behind low [] x edges behind = refl
@@ -49,7 +49,7 @@ pub edges_from-lower : (low high : ℤ) (es : List Edge) → low ≤ℤ high →
 edges_from-lower low high [] le edges = tt
 edges_from-lower low high (e ∷ es) le edges = let start : high ≤ℤ e.x = edges.1 in (edges.0, omega (arith, ints), edges.2)
 
--- edges may stand behind others that end before a column
+-- edges may follow others that end before a column
 pub edges_from-append : (low middle : ℤ) (es fs : List Edge) → low ≤ℤ middle → AreEdgesFrom low es → All (λ e. e.x <ℤ middle) es → AreEdgesFrom middle fs → AreEdgesFrom low (es ++ fs)
 edges_from-append low middle [] fs le front before back = edges_from-lower low middle fs le back
 edges_from-append low middle (e ∷ es) fs le front before back =

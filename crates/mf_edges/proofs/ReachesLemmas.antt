@@ -1,4 +1,4 @@
--- How far the weights of rows go from 0, edge by edge.
+-- The reach of a row, edge by edge.
 use Rattle.std.proofs.Common.{◌≡◌, ◌<◌, ◌≤◌, ◌+◌, cond, nat_abs, Bool, true, false, ℕ, zero, suc, ℤ, get_or, take, drop, length, int_le, int_lt, T, Fits, w16, FitsSigned, to_z, of_z, w32, neg_ℤ, pos, negsuc, ◌+ℤ◌, ◌≤ℤ◌, ◌<ℤ◌, List, [], ◌∷◌, ◌++◌, refl, sym, ap, subst, ◌∙◌, append-nil, append_assoc, arith}
 use Rattle.std.specs.List.{All, AllWithin}
 use Rattle.std.specs.List.Sorted.{IsPartitionedBy}
@@ -20,14 +20,14 @@ use Rattle.mf_edges.proofs.EdgesLemmas.{weight_in-left, weight_in-right, weight_
 use Rattle.mf_edges.proofs.EdgeSums.{changes_of_edges, sum_none}
 use Rattle.mf_edges.proofs.EdgesJoined.{kept_at_column, kept_more, left_of_change, change_at_column, change_more}
 
--- a weight does not pass a reach in size
+-- a weight does not exceed a reach in absolute value
 pub record IsInReach (reach w : ℤ) : Type 0 where
   pub least : pos 0 ≤ℤ (w +ℤ reach)
   pub greatest : w ≤ℤ reach
 
 -- ---- the reach of the edges that were passed
 
--- the weights left of the rest of a row stay in a reach, and at the first edge of the rest there was weight w
+-- the weights to the left of the rest of a row stay in a reach, and the weight just before the rest is w
 pub record IsReachBefore (es rest : List Edge) (w reach : ℤ) : Type 0 where
   pub low : ℤ
   pub sorted : AreEdgesFrom low rest
@@ -49,18 +49,18 @@ reach_none es edges = record {
 pub reach_read : (es : List Edge) (i : ℕ) (d : Edge) (w reach : ℤ) → i < length es → IsReachBefore es (drop i es) w reach → IsReachBefore es (get_or es i d ∷ drop (i + 1) es) w reach
 reach_read es i d w reach inside before = subst (λ rest. IsReachBefore es rest w reach) (drop_more es i d inside) before
 
--- left of its first edge the rest of a row adds nothing
+-- to the left of its first edge the rest of a row adds nothing
 rest_before : (e : Edge) (rest : List Edge) (low x : ℤ) → AreEdgesFrom low (e ∷ rest) → x <ℤ e.x → weight_in (e ∷ rest) x ≡ pos 0
 rest_before e rest low x sorted left = weight_in-right e rest x left ∙ weight_in-before (e.x +ℤ pos 1) rest x sorted.2 (omega (arith, ints))
 
--- at its column there is its weight alone
+-- at the column of its first edge it adds that edge's weight alone
 rest_at : (e : Edge) (rest : List Edge) (low x : ℤ) → AreEdgesFrom low (e ∷ rest) → x ≡ e.x → weight_in (e ∷ rest) x ≡ e.weight
 rest_at e rest low x sorted here =
     let first = weight_in-left e rest x (omega (arith, ints)) in
     let none = weight_in-before (e.x +ℤ pos 1) rest x sorted.2 (omega (arith, ints)) in
     omega (arith, ints)
 
--- the weight from an edge on is one of the row
+-- the weight from an edge on is a weight of the row
 pub weight_behind : (es : List Edge) (e : Edge) (rest : List Edge) (w reach : ℤ) → IsReachBefore es (e ∷ rest) w reach → weight_in es e.x ≡ w +ℤ e.weight
 weight_behind es e rest w reach so_far =
     let start = so_far.sorted.1 in
@@ -68,7 +68,7 @@ weight_behind es e rest w reach so_far =
     let here = rest_at e rest so_far.low e.x so_far.sorted refl in
     omega (arith, ints)
 
--- an edge and the weight behind it are small
+-- the weight before an edge and the weight after it are lawful
 pub record IsNextWeight (w change : ℤ) : Type 0 where
   pub least : negsuc 32766 ≤ℤ w
   pub greatest : w ≤ℤ pos 32767
@@ -114,7 +114,7 @@ negated_fits w change next =
     let greatest = next.next_greatest in
     omega (arith, ints)
 
--- the size of the next weight
+-- the absolute value of the next weight
 pub record IsSizeOf (w size : ℤ) : Type 0 where
   pub least : pos 0 ≤ℤ (w +ℤ size)
   pub greatest : w ≤ℤ size
@@ -178,7 +178,7 @@ reach_more es e rest w reach more so_far wider least greatest most = record {
   most = most;
 }
 
--- the greater of a reach and the size of the next weight is the next reach
+-- the greater of a reach and the absolute value of the next weight is the next reach
 pub reach_grows : (es : List Edge) (e : Edge) (rest : List Edge) (w reach size next : ℤ) → AreEdges es → IsReachBefore es (e ∷ rest) w reach → size ≡ pos (nat_abs (w +ℤ e.weight)) → next ≡ ord_max int_cmp reach size → IsReachBefore es rest (w +ℤ e.weight) next × (to_z w32 (of_z w32 next) ≡ next)
 reach_grows es e rest w reach size next edges so_far size_of next_of =
     let small = next_weight es e rest w reach edges so_far in

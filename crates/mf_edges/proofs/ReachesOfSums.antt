@@ -1,4 +1,4 @@
--- How far the weights of the sum of two rows go from 0, and changes that are added in reach.
+-- The reach of the sum of two rows, and changes that are added in reach.
 use Rattle.std.proofs.Common.{◌≡◌, ◌<◌, ◌≤◌, ◌+◌, cond, nat_abs, Bool, true, false, ℕ, zero, suc, ℤ, get_or, take, drop, length, int_le, int_lt, T, Fits, w16, FitsSigned, to_z, of_z, w32, neg_ℤ, pos, negsuc, ◌+ℤ◌, ◌≤ℤ◌, ◌<ℤ◌, List, [], ◌∷◌, ◌++◌, refl, sym, ap, subst, ◌∙◌, append-nil, append_assoc, arith}
 use Rattle.std.specs.List.{All, AllWithin}
 use Rattle.std.specs.List.Sorted.{IsPartitionedBy}
@@ -26,7 +26,7 @@ use Rattle.mf_edges.proofs.ReachesLemmas.{IsInReach}
 reach_at : (reach : ℤ) (es : List Edge) (x : ℤ) → StaysInReach reach es → IsInReach reach (weight_in es x)
 reach_at reach es x stays = record { least = stays.least x; greatest = stays.greatest x }
 
--- each weight of two rows together is lawful
+-- each weight of the sum of two rows is lawful
 pub lawful_in_reach : (es fs : List Edge) → AddInReach es fs → (x : ℤ) → IsLawfulWeight (weight_in_both es fs x)
 unfolding weight_in_both
 lawful_in_reach es fs reach x =
@@ -35,7 +35,7 @@ lawful_in_reach es fs reach x =
     let room = reach.room in
     record { least = omega (arith, ints, left.least, right.least, right.greatest); greatest = omega (arith, ints, left.greatest, right.greatest, right.least) }
 
--- a sum so far, whatever its running weight is
+-- a sum so far, with any running weight
 pub record IsSumInReach (whole_left whole_right sum es fs : List Edge) : Type 0 where
   pub weight : ℤ
   pub so_far : IsSumSoFar whole_left whole_right sum es fs weight
@@ -48,7 +48,7 @@ pub in_reach_sorted : (whole_left whole_right sum es fs : List Edge) → IsSumIn
 in_reach_sorted whole_left whole_right sum es fs within = edges_from-lower (negsuc 4094) within.so_far.low es within.so_far.reach within.so_far.left.sorted
 
 module _ (whole_left whole_right : List Edge) (lawful : (x : ℤ) → IsLawfulWeight (weight_in_both whole_left whole_right x)) where
-  -- the first edges of the left row join the sum as they are, so many as stand left of the next change
+  -- the first edges of the left row, those to the left of the next change, join the sum as they are
   in_reach_passed : (sum es : List Edge) (f : Edge) (fs : List Edge) (count : ℕ) → All (λ e. e.x <ℤ f.x) (take count es) → IsSumInReach whole_left whole_right sum es (f ∷ fs)
       → IsSumInReach whole_left whole_right (sum ++ take count es) (drop count es) (f ∷ fs)
   in_reach_passed sum es f fs zero left within = rw (append-nil sum) within
@@ -72,7 +72,7 @@ module _ (whole_left whole_right : List Edge) (lawful : (x : ℤ) → IsLawfulWe
       pub in_reach_difference : IsDifference f.weight
       in_reach_difference = All-head (λ e. IsDifference e.weight) f fs in_reach_before.so_far.right.differences
 
-      -- then the change joins, with the edge that stands at its column
+      -- then the change joins, with the edge at its column
       pub in_reach_more : (v : ℤ) (others : List Edge) → IsSplitAt (drop count es) f.x v others
           → IsSumInReach whole_left whole_right ((sum ++ take count es) ++ unless_zero (record { x = f.x; weight = v +ℤ f.weight })) others fs
       in_reach_more v others split =
@@ -82,7 +82,7 @@ module _ (whole_left whole_right : List Edge) (lawful : (x : ℤ) → IsLawfulWe
             so_far = change_more _ _ _ _ f fs in_reach_before.weight in_reach_before.so_far from v others split (subst IsLawfulWeight at (lawful f.x));
           }
 
--- ---- edges left of a column
+-- ---- edges to the left of a column
 
 abbrev pub is_left_of : ℤ → Edge → Bool
 is_left_of x e = int_lt e.x x
@@ -111,7 +111,7 @@ begin_from x (e ∷ es) all = All-head (λ e. x ≤ℤ e.x) e es all
 pub right_split : (x : ℤ) (n : ℕ) (es : List Edge) → AllWithin (λ e. is_left_of x e ≡ false) es n (length es) → BeginFrom x (drop n es)
 right_split x n es failed = begin_from x (drop n es) (All-weaker (λ e. is_left_of x e ≡ false) (λ e. x ≤ℤ e.x) (λ e right. grind (arith, ints)) (drop n es) (All-drop_within (λ e. is_left_of x e ≡ false) es n failed))
 
--- the sum of two reaches is one of the sum
+-- the sum of two reaches is a reach of the sum
 pub reach_of_sum : (es fs sum : List Edge) (a b : ℤ) → StaysInReach a es → StaysInReach b fs → (a +ℤ b) ≤ℤ pos 32767 → HaveWeights (weight_in_both es fs) sum → StaysInReach (a +ℤ b) sum
 unfolding weight_in_both
 reach_of_sum es fs sum a b left right most weights = record {

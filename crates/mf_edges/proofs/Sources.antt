@@ -7,7 +7,7 @@ use Rattle.mf_edges.specs.declared.stretch.Stretch.{Stretch}
 use Rattle.mf_edges.specs.Axes.{IsStretch, stretched_to, source_of}
 use borrow.Author.Differences.{up, down}
 
--- a product with a positive factor keeps the order
+-- multiplying by a positive factor keeps the order
 mul-le : (a b f : ℤ) → pos 1 ≤ℤ f → a ≤ℤ b → (a *ℤ f) ≤ℤ (b *ℤ f)
 mul-le a b (pos n) positive le =
     let parts : up a + down b ≤ up b + down a = omega (arith, ints) in
@@ -18,17 +18,17 @@ mul-le a b (negsuc n) positive le = absurd (omega (arith, ints))
 mul-next : (a f : ℤ) → (a +ℤ pos 1) *ℤ f ≡ (a *ℤ f) +ℤ f
 mul-next a f = omega (arith, ints, mul-add f a (pos 1))
 
--- the quotient times the divisor, and the next multiple
+-- the dividend is between the quotient times the divisor and the next multiple
 quotient-within : (d f : ℤ) → pos 1 ≤ℤ f → ((int_div_euclid d f *ℤ f) ≤ℤ d) × (d <ℤ ((int_div_euclid d f *ℤ f) +ℤ f))
 quotient-within (pos a) (pos n) positive = (omega (arith, ints), omega (arith, ints))
 quotient-within (negsuc a) (pos n) positive = (omega (arith, ints), omega (arith, ints))
 quotient-within d (negsuc n) positive = absurd (omega (arith, ints))
 
--- points keep their order
+-- stretched points keep their order
 pub stretched_to-le : (s : Stretch) (a b : ℤ) → IsStretch s → a ≤ℤ b → stretched_to s a ≤ℤ stretched_to s b
 stretched_to-le s a b stretch le = omega (arith, ints, mul-le a b s.factor stretch.least le)
 
--- the next point is a factor further
+-- the next point lands a factor further
 pub stretched_to-next : (s : Stretch) (p : ℤ) → stretched_to s (p +ℤ pos 1) ≡ stretched_to s p +ℤ s.factor
 stretched_to-next s p = omega (arith, ints, mul-next p s.factor)
 
@@ -39,7 +39,7 @@ stretched_to-lt s a b stretch lt =
     let after = stretched_to-le s (a +ℤ pos 1) b stretch (omega (arith, ints)) in
     omega (arith, ints)
 
--- a pixel stands at or right of a point where that is taken to the pixel's stretch or left of it
+-- the column that becomes q is at or to the right of p exactly where the stretch takes p to q or further left
 pub source_of-reached : (s : Stretch) (p q : ℤ) → IsStretch s → p ≤ℤ source_of s q → stretched_to s p ≤ℤ q
 unfolding source_of
 source_of-reached s p q stretch le =
@@ -58,7 +58,7 @@ source_of-from s p q stretch le =
     absurd (omega (arith, ints)))
     (λ ge. ge)
 
--- so the pixel comes from the one whose stretch has it, and from no other
+-- so a column comes from the one whose stretched part has it, and from no other
 pub source_of-is : (s : Stretch) (p q : ℤ) → IsStretch s → stretched_to s p ≤ℤ q → q <ℤ stretched_to s (p +ℤ pos 1) → source_of s q ≡ p
 source_of-is s p q stretch start behind =
     let from = source_of-from s p q stretch start in

@@ -1,4 +1,4 @@
--- The sum of the edges before an edge, which is the weight of a column.
+-- The sum of the edges before an edge, which is the weight at a column.
 use Rattle.std.proofs.Common.{◌≡◌, ℕ, ◌+◌, ◌<◌, ℤ, pos, ◌+ℤ◌, ◌-ℤ◌, ◌≤ℤ◌, ◌<ℤ◌, List, [], ◌∷◌, length, drop, get_or, subst, arith}
 use Rattle.std.proofs.lemmas.Int.{ints}
 use Rattle.std.proofs.lemmas.List.{drop_more}
@@ -7,8 +7,8 @@ use Rattle.mf_edges.specs.LawfulWeights.{IsLawfulWeight}
 use Rattle.mf_edges.specs.Edges.{weight_in, AreEdgesFrom, AreEdges}
 use Rattle.mf_edges.proofs.EdgesLemmas.{weight_in-left, weight_in-right, weight_in-before}
 
--- what holds where w is the sum of the edges before the rest of those of a row: the sum is that of the row at any
--- column before the rest, and at column x the rest is to be added
+-- w is the sum of the edges of a row before the rest of them: it is the row's weight at any column before the rest, and
+-- at column x what the rest adds is still missing
 pub record IsSumBefore (es : List Edge) (x : ℤ) (rest : List Edge) (w : ℤ) : Type 0 where
   pub low : ℤ
   pub sorted : AreEdgesFrom low rest
@@ -40,7 +40,7 @@ lawful_sum_before es x rest w lawful before =
     let w_is : weight_in es column ≡ w = omega (arith, ints) in
     subst IsLawfulWeight w_is (lawful.lawful column)
 
--- edges right of the column add nothing
+-- edges to the right of the column add nothing
 pub sum_before_right : (es : List Edge) (x : ℤ) (e : Edge) (rest : List Edge) (w : ℤ) → IsSumBefore es x (e ∷ rest) w → x <ℤ e.x → w ≡ weight_in es x
 sum_before_right es x e rest w before right =
     let all = before.here in

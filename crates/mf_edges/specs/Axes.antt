@@ -3,11 +3,11 @@ use Rattle.std.specs.Prelude.{ℤ, pos, negsuc, neg_ℤ, ◌+ℤ◌, ◌-ℤ◌,
 use Rattle.std.specs.Int.{int_div_euclid}
 use Rattle.mf_edges.specs.declared.stretch.Stretch.{Stretch}
 
--- the column, or row, on the other side of 0 and as far from it: its pixels lie between -p - 1 and -p
+-- the column, or row, that is the reflection of p in 0: its pixels lie between -p - 1 and -p
 abbrev pub opposite : ℤ → ℤ
 opposite p = neg_ℤ p -ℤ pos 1
 
--- a factor is at least 1 and at most 4095
+-- a stretch has a factor in 1..4095
 pub record IsStretch (s : Stretch) : Type 0 where
   pub least : pos 1 ≤ℤ s.factor
   pub greatest : s.factor ≤ℤ pos 4095
@@ -16,7 +16,7 @@ pub record IsStretch (s : Stretch) : Type 0 where
 abbrev pub stretched_to : Stretch → ℤ → ℤ
 stretched_to s x = (x *ℤ s.factor) +ℤ s.offset
 
--- the column, or row, that a stretch takes to a stretch which has q
+-- the column, or row, from which column, or row, q comes under a stretch
 unfoldable pub source_of : Stretch → ℤ → ℤ
 source_of s q = int_div_euclid (q -ℤ s.offset) s.factor
 
@@ -25,7 +25,7 @@ pub record IsPointInReach (x : ℤ) : Type 0 where
   pub least : negsuc 4094 ≤ℤ x
   pub greatest : x ≤ℤ pos 4095
 
--- a stretch takes the column, or row, p to a part of the field: both its ends
+-- a stretch takes the column, or row, p to a part of the field: both ends of that stay in reach
 pub record PlaceStaysInside (s : Stretch) (p : ℤ) : Type 0 where
   pub start : IsPointInReach (stretched_to s p)
   pub end : IsPointInReach (stretched_to s (p +ℤ pos 1))

@@ -1,42 +1,43 @@
--- What is left of the edges of two rows, while their sum is made.
+-- What is left of the edges of two rows while their sum is made.
 use Rattle.std.specs.Prelude.{◌≡◌, ◌<◌, ◌≤◌, ℤ, pos, negsuc, ◌+ℤ◌, ◌≤ℤ◌, All, List, [], ◌∷◌, length, if◌then◌else◌}
 use Rattle.std.specs.Ordering.{int_eq}
 use Rattle.mf_edges.specs.declared.edge.Edge.{Edge}
 use Rattle.mf_edges.specs.Edges.{AreEdgesFrom, weight_in}
 use Rattle.mf_edges.specs.Sums.{HaveWeights, with_edge_in}
 
--- the difference of two lawful weights is at most 65534 in size
+-- a difference of two lawful weights is at most 65534 in absolute value
 pub record IsChange (w : ℤ) : Type 0 where
   pub least : negsuc 65533 ≤ℤ w
   pub greatest : w ≤ℤ pos 65534
 
--- and the difference of two such changes is at most 131068
+-- a difference of two such changes is at most 131068 in absolute value
 pub record IsDifference (w : ℤ) : Type 0 where
   pub least : negsuc 131067 ≤ℤ w
   pub greatest : w ≤ℤ pos 131068
 
--- edges between changes of weights: sorted, and with changes that sum to 0
+-- the edges of changes of weights: sorted, with a sum of 0, and with differences of two lawful weights between them
 pub record AreChanges (es : List Edge) : Type 0 where
   pub sorted : AreEdgesFrom (negsuc 4094) es
   pub changes : (x : ℤ) → IsChange (weight_in es x)
   pub closed : weight_in es (pos 4095) ≡ pos 0
 
--- edges that are still to be added: sorted, the first of them at or right of column low, each a difference of two weights
+-- edges that are still to be added: sorted, the first of them at or to the right of column low, each the difference of
+-- two changes
 pub record AreEdgesLeft (low : ℤ) (es : List Edge) : Type 0 where
   pub sorted : AreEdgesFrom low es
   pub differences : All (λ e. IsDifference e.weight) es
 
--- the first edge, if there is one, stands at or right of column x
+-- the first edge, if there is one, is at or to the right of column x
 abbrev pub BeginFrom : ℤ → List Edge → Type 0
 BeginFrom x [] = Unit {0}
 BeginFrom x (e ∷ es) = x ≤ℤ e.x
 
--- the first edge stands at column x
+-- the first edge is at column x
 abbrev pub BeginAt : ℤ → List Edge → Type 0
 BeginAt x [] = ⊥
 BeginAt x (e ∷ es) = e.x ≡ x
 
--- the edge at column x has weight w, or none stands there and w is 0, and the others, fewer where one stands there, are left
+-- the edge at column x has weight w, or there is none and w is 0; the others are left, and are fewer where there is one
 pub record IsSplitAt (es : List Edge) (x w : ℤ) (others : List Edge) : Type 0 where
   pub weights : HaveWeights (with_edge_in others x w) es
   pub difference : IsDifference w

@@ -4,7 +4,7 @@ use Rattle.mf_edges.specs.declared.fault.AddFault.{AddFault}
 use Rattle.mf_edges.specs.declared.fault.AddFault.TheVariants.{WeightTooLarge, OutOfMemory}
 use Rattle.mf_geom.specs.Names.{memory_text}
 
--- the name of what a sum is refused for
+-- the name of the refusal of a sum
 abbrev pub add_fault_text : AddFault → List ℕ
 add_fault_text WeightTooLarge = codes "WeightTooLarge"
 add_fault_text OutOfMemory = memory_text

@@ -1,4 +1,4 @@
--- How far the sum of two rows of edges is made.
+-- The sum of two rows of edges while it is made.
 use Rattle.std.specs.Prelude.{◌≡◌, ℕ, ℤ, pos, negsuc, ◌+ℤ◌, ◌-ℤ◌, ◌≤ℤ◌, ◌<ℤ◌, All, List, ◌++◌, take, drop}
 use Rattle.mf_edges.specs.declared.edge.Edge.{Edge}
 use Rattle.mf_edges.specs.LawfulWeights.{IsLawfulWeight}
@@ -6,8 +6,9 @@ use Rattle.mf_edges.specs.Edges.{AreOpenEdges, weight_in}
 use Rattle.mf_edges.specs.Merging.{AreEdgesLeft, BeginFrom}
 use Rattle.mf_edges.specs.Sums.{IsUnlawfulColumn, weight_in_both}
 
--- a sum has the weights of two rows left of a column, and the others are those of what is left of the rows; at and
--- behind the column its weight is the running one, and what the right row has changed there is the same everywhere
+-- to the left of a column the sum has the weights of the two rows, and what is left of the rows gives all others; from
+-- the column on the weight of the sum is the running one, and what the right row has changed so far is the same
+-- everywhere
 pub record IsSumSoFar (whole_left whole_right sum es fs : List Edge) (weight : ℤ) : Type 0 where
   pub low : ℤ
   pub reach : negsuc 4094 ≤ℤ low
@@ -20,13 +21,14 @@ pub record IsSumSoFar (whole_left whole_right sum es fs : List Edge) (weight : �
   pub weights : (x : ℤ) → weight_in sum x +ℤ weight_in_both es fs x ≡ weight_in_both whole_left whole_right x
   pub later : (x : ℤ) → low ≤ℤ x → weight_in whole_right x -ℤ weight_in fs x ≡ weight_in whole_right (pos 4095) -ℤ weight_in fs (pos 4095)
 
--- the first edges of a row, so many, join a sum as they are, before the next change, which stands at or right of column x
+-- the first `count` edges of a row join a sum as they are, before the next change, which is at or to the right of
+-- column x
 pub record ArePassed (es : List Edge) (x weight : ℤ) (count : ℕ) (now : ℤ) : Type 0 where
   pub lawful : IsLawfulWeight now
   pub goes_on : (whole_left whole_right sum fs : List Edge) → BeginFrom x fs → IsSumSoFar whole_left whole_right sum es fs weight
       → IsSumSoFar whole_left whole_right (sum ++ take count es) (drop count es) fs now
 
--- the edges of a row left of column x bring a sum to a weight that is not lawful
+-- the edges of a row to the left of column x bring a sum to a weight that is not lawful
 pub record AreStopped (es : List Edge) (x weight : ℤ) : Type 0 where
   pub stops : (whole_left whole_right sum fs : List Edge) → BeginFrom x fs → IsSumSoFar whole_left whole_right sum es fs weight
       → IsUnlawfulColumn (weight_in_both whole_left whole_right)

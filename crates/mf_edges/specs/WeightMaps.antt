@@ -1,15 +1,15 @@
--- What becomes of weights where each of them is mapped by itself.
+-- Maps of weights, which take each weight by itself.
 use Rattle.std.specs.Prelude.{◌≡◌, ◌&&◌, ℤ, pos, neg_ℤ, int_le, if◌then◌else◌}
 use Rattle.mf_edges.specs.declared.weight_map.Choice.{Choice}
 use Rattle.mf_edges.specs.declared.weight_map.WeightMap.{WeightMap}
 use Rattle.mf_edges.specs.declared.weight_map.WeightMap.TheVariants as map
 use Rattle.mf_edges.specs.LawfulWeights.{IsLawfulWeight}
 
--- the weight that weight v becomes by a choice
+-- what weight v becomes by a choice
 abbrev pub chosen : Choice → ℤ → ℤ
 chosen c v = if int_le c.low v && int_le v c.high then c.inside else c.outside
 
--- the weight that weight v becomes
+-- what weight v becomes by a map
 abbrev pub mapped_to : WeightMap → ℤ → ℤ
 mapped_to map.Negate v = neg_ℤ v
 mapped_to (map.Choose c) v = chosen c v

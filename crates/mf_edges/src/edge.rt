@@ -1,4 +1,4 @@
-//! Edges of rows, and the weights between them.
+//! The edges of a row, and the weights between them.
 ghost use Rattle.std.specs.Prelude.{◌≡◌, ◌≢◌, ◌<◌, ◌≤◌, ◌+◌, ◌/◌, ◌++◌, All, IsOk, OnOk, OnErr, pos, negsuc, ◌≤ℤ◌};
 ghost use Rattle.std.specs.List.{HoldsAt};
 ghost use Rattle.std.specs.Vec.{vec_len, vec_capacity};
@@ -10,18 +10,19 @@ ghost use Rattle.mf_edges.specs.Sums.{HaveWeights, with_edge_in};
 
 use mf_geom::OutOfMemory;
 
-/// An edge: from its column on, the weights of a row are greater by its weight (mf.web, "edge
-/// structures").
+/// An edge of a row: the weights of the row's pixels at and to the right of its column are greater by its weight
+/// (mf.web, "edge structures").
 #[derive(Clone, Copy, Debug, PartialEq, Eq)]
 pub struct Edge {
-    /// Its column, in pixels; in a row it is in -4095..=4095.
+    /// The column, in pixels; in -4095..=4095 in a row, where 4095 is one past the last column of the field.
     pub x: i32,
-    /// What the weights change by.
+    /// By how much the weights change; not 0 in a row.
     pub weight: i32,
 }
 
-/// The weight at column x, in pixels, of a row with these edges. The caller owes the edges of a row: sorted by column, in
-/// -4095..=4095, none of weight 0, with lawful weights between them, and closed at the right end.
+/// The weight at column x, in pixels, of a row with these edges: the sum of the weights of the edges at or to the left
+/// of it. Requires the edges of a row: sorted by column, at most one a column, in -4095..=4095, none of weight 0, with
+/// weights in -32767..=32767 between them, and with a sum of 0.
 pub fn weight_at_column(edges: &[Edge], x: i32) -> i32
     requires { AreEdges edges.now }
     ensures { result ≡ weight_in edges.now x }
@@ -36,7 +37,8 @@ pub fn weight_at_column(edges: &[Edge], x: i32) -> i32
     weight
 }
 
-/// The greatest size of a weight between these edges, 0 where there are none. The caller owes the edges of a row.
+/// The least reach of a row with these edges: the greatest absolute value of its weights, 0 where there are no edges.
+/// Requires the edges of a row, as `weight_at_column` does.
 pub fn reach_of(edges: &[Edge]) -> i32
     requires { AreEdges edges.now }
     ensures stays { StaysInReach result edges.now }
@@ -51,11 +53,12 @@ pub fn reach_of(edges: &[Edge]) -> i32
     reach
 }
 
-/// Adds a weight from a column on: to the edge that stands there, which goes where the two cancel, or as
-/// an edge of its own. Refusal OutOfMemory (14), only where an edge of its own is wanted and there is no room left: the edges
-/// are as they were. The caller owes sorted edges in -4095..=4095,
-/// none of weight 0, with lawful weights between them, a column in -4095..=4095 and a lawful weight; that the weights are
-/// lawful afterwards is owed anew before the next call.
+/// Adds a weight to all columns from column x on. The weight is added to the edge at x, which is removed where the two
+/// cancel; where there is no edge at x, one is inserted. Refused with `OutOfMemory`, only where an edge must be
+/// inserted and there is no room left for it; the edges are then unchanged. Requires edges sorted by column, at most
+/// one a column, in -4095..=4095, none of weight 0, with weights in -32767..=32767 between them; a column in
+/// -4095..=4095; and a weight in -32767..=32767. The weights afterwards may exceed 32767 in absolute value, but the
+/// next call requires that they do not.
 pub fn add_edge(edges: &mut Vec<Edge>, x: i32, weight: i32) -> Result<(), OutOfMemory>
     requires edges { AreOpenEdges edges.old.items }
     requires left { negsuc 4094 ≤ℤ x }
@@ -81,7 +84,7 @@ pub fn add_edge(edges: &mut Vec<Edge>, x: i32, weight: i32) -> Result<(), OutOfM
     Ok(())
 }
 
-/// Adds a weight to an edge, which goes where the two cancel.
+/// Adds a weight to an edge, and removes the edge where the two cancel.
 fn change_edge(edges: &mut Vec<Edge>, at: usize, weight: i32)
     requires edges { AreOpenEdges edges.old.items }
     requires weight { IsLawfulWeight weight }
@@ -103,8 +106,8 @@ fn change_edge(edges: &mut Vec<Edge>, at: usize, weight: i32)
     }
 }
 
-/// Adds an edge to a list of edges, unless its weight is 0. Refusal OutOfMemory (14), only where the weight is not 0
-/// and there is no room left: the list is as it was.
+/// Appends an edge to a list of edges, unless its weight is 0. Refused with `OutOfMemory`, only where the weight is not
+/// 0 and there is no room left; the list is then unchanged.
 pub fn push_unless_zero(edges: &mut Vec<Edge>, edge: Edge) -> Result<(), OutOfMemory>
     ensures pushed { OnOk result (edges.new.items ≡ edges.old.items ++ unless_zero edge) }
     ensures unchanged { OnErr result (edges.new.items ≡ edges.old.items) }
@@ -118,8 +121,8 @@ pub fn push_unless_zero(edges: &mut Vec<Edge>, edge: Edge) -> Result<(), OutOfMe
     Ok(())
 }
 
-/// Gives back the room that edges which cancelled have left, where fewer edges stay than half of it, rounded down; of a list
-/// with no edge that is all of it.
+/// Gives back the room that cancelled edges have left, where fewer edges stay than half of the capacity, rounded down.
+/// A list with no edge then keeps none. Giving back less would cost more time than it saves memory.
 pub fn give_back_room(edges: &mut Vec<Edge>)
     ensures items { edges.new.items ≡ edges.old.items }
     ensures capacity { vec_capacity edges.new ≤ vec_capacity edges.old }

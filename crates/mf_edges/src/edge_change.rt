@@ -1,4 +1,4 @@
-//! Changes of the edges of a row.
+//! The edges of a row after its weights are mapped, or its columns reflected or stretched.
 ghost use Rattle.std.specs.Prelude.{◌≡◌, IfOk, All};
 ghost use Rattle.mf_edges.specs.Edges.{AreEdges};
 ghost use Rattle.mf_edges.specs.Axes.{IsStretch, IsPointInReach, stretched_to};
@@ -12,7 +12,7 @@ use crate::weight_map::WeightMap;
 use mf_geom::OutOfMemory;
 use std::alloc::Global;
 
-/// The edges of a row of which each weight is mapped.
+/// The edges of a row after each of its weights is mapped.
 pub(crate) fn mapped_edges(
     alloc: Global,
     edges: &[Edge],
@@ -41,7 +41,8 @@ pub(crate) fn mapped_edges(
     Ok(mapped)
 }
 
-/// The edges of a row of which the columns change sides.
+/// The edges of a row after its columns are reflected: column x becomes column -x - 1, so an edge at x moves to -x and
+/// changes its sign.
 pub(crate) fn mirrored_edges(alloc: Global, edges: &[Edge]) -> Result<Vec<Edge>, OutOfMemory>
     requires { AreEdges edges.now }
     ensures { IfOk result (λ mirrored. AreChanged Mirror edges.now mirrored.items) }
@@ -57,7 +58,7 @@ pub(crate) fn mirrored_edges(alloc: Global, edges: &[Edge]) -> Result<Vec<Edge>,
     Ok(mirrored)
 }
 
-/// The edges of a row of which the columns are stretched.
+/// The edges of a row after its columns are stretched.
 pub(crate) fn stretched_edges(
     alloc: Global,
     edges: &[Edge],

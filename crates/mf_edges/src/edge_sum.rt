@@ -13,9 +13,12 @@ use crate::field::is_lawful_weight;
 use mf_geom::OutOfMemory;
 use std::alloc::Global;
 
-/// The edges of a row and of what is added to it together. Refusals WeightTooLarge (12), where a weight
-/// between them would pass 32767 in size, and OutOfMemory (14), which may come in its place. The caller owes the edges of
-/// a row, and changes of one: sorted, closed, with differences of lawful weights.
+/// The edges of the sum of a row and of what is added to it. The edges of the row up to the next change are copied at
+/// once, so a change at few places costs little more than a copy; all weights that may become too large are checked.
+/// Refused with `WeightTooLarge` where a weight between the edges would exceed 32767 in absolute value, and with
+/// `OutOfMemory` where an allocation fails, which may come instead of `WeightTooLarge`. Requires the edges of a row on
+/// the left, and changes of a row on the right: sorted edges with a sum of 0, and between them differences of two
+/// lawful weights.
 pub fn sum_of_edges(alloc: Global, left: &[Edge], right: &[Edge]) -> Result<Vec<Edge>, AddFault>
     requires left { AreEdges left.now }
     requires right { AreChanges right.now }
@@ -51,9 +54,10 @@ pub fn sum_of_edges(alloc: Global, left: &[Edge], right: &[Edge]) -> Result<Vec<
     Ok(sum)
 }
 
-/// The edges of a row and of what is added to it together: no weight can pass 32767 in size, so none between them is
-/// looked at, and the place of each change is found by halving. Refusal OutOfMemory (14): nothing was made. The caller owes the
-/// edges of two rows, whose greatest sizes of a weight add up to at most 32767.
+/// The edges of the sum of two rows whose reaches leave room for each other. No weight can exceed 32767 in absolute
+/// value, so no weight between the edges of the left row is looked at, and the place of each edge of the right row is
+/// found by binary search. Refused with `OutOfMemory` where an allocation fails. Requires the edges of two rows whose
+/// least reaches add up to at most 32767.
 pub fn with_changes(alloc: Global, left: &[Edge], right: &[Edge]) -> Result<Vec<Edge>, OutOfMemory>
     requires left { AreEdges left.now }
     requires right { AreEdges right.now }
@@ -81,7 +85,7 @@ pub fn with_changes(alloc: Global, left: &[Edge], right: &[Edge]) -> Result<Vec<
     Ok(edges)
 }
 
-/// How many edges, the first ones, stand left of column x.
+/// The number of edges to the left of column x, which are the first ones.
 fn count_left_of(edges: &[Edge], x: i32) -> usize
     requires { AreEdgesFrom (negsuc 4094) edges.now }
     ensures within { result ≤ length edges.now }
@@ -91,15 +95,15 @@ fn count_left_of(edges: &[Edge], x: i32) -> usize
     edges.partition_point(|edge| edge.x < x)
 }
 
-/// Edges that were passed: how many, and the weight behind them.
+/// The edges that were passed: their number, and the weight after the last of them.
 #[derive(Clone, Copy)]
 struct Passed {
     count: usize,
     weight: i32,
 }
 
-/// Passes the edges left of column x, from this weight on. Refused with WeightTooLarge where a weight between
-/// them passes 32767 in size.
+/// Passes the edges to the left of column x, where the weight before them is the given one. Refused with
+/// `WeightTooLarge` where a weight between them exceeds 32767 in absolute value.
 fn pass_edges(edges: &[Edge], x: i32, weight: i32) -> Result<Passed, AddFault>
     requires differences { All (λ edge. IsDifference edge.weight) edges.now }
     requires weight { IsLawfulWeight weight }
@@ -126,8 +130,8 @@ fn pass_edges(edges: &[Edge], x: i32, weight: i32) -> Result<Passed, AddFault>
     Ok(passed)
 }
 
-/// The weight of the edge at a column, 0 where the first edge stands behind it, and the edges behind the
-/// column.
+/// Splits off the edge at column x, where no edge is further left: its weight, or 0 where there is none, and the edges
+/// to the right of the column.
 fn split_at(edges: &[Edge], x: i32) -> (i32, &[Edge])
     requires { AreEdgesLeft x edges.now }
     ensures { IsSplitAt edges.now x result.0 result.1.now }

@@ -5,12 +5,12 @@ use std::alloc::{AllocError, AllocFailed};
 use std::error::Error;
 use std::fmt;
 
-/// Why weights are not added to a picture.
+/// Why weights are not added to a row or a picture.
 #[derive(Clone, Copy, Debug, PartialEq, Eq)]
 pub enum AddFault {
-    /// Refusal 12: a weight would pass 32767 in size.
+    /// A weight would exceed 32767 in absolute value.
     WeightTooLarge,
-    /// Refusal 14. It may come in the place of 12.
+    /// An allocation failed. This may come instead of `WeightTooLarge`.
     OutOfMemory,
 }
 

@@ -1,14 +1,14 @@
-//! The limits of pictures.
+//! The limits of pictures, in pixels and weights.
 ghost use Rattle.std.specs.Prelude.{◌↔◌, IsTrue};
 ghost use Rattle.mf_edges.specs.LawfulWeights.{IsLawfulWeight};
 
-/// The first column and the lowest row of the field (mf.web bounds coordinates by 4095).
+/// The first column and the lowest row of the field, in pixels (mf.web bounds coordinates by 4095).
 pub const FIELD_START: i32 = -4095;
 
-/// The column behind the last and the row above the highest of the field.
+/// One past the last column and the highest row of the field, in pixels.
 pub const FIELD_END: i32 = 4095;
 
-/// Greatest size of the weight of a pixel, a limit of this project.
+/// The greatest absolute value of a pixel's weight. This limit is the project's own: METAFONT has none.
 pub const MAX_WEIGHT: i32 = 32767;
 
 /// Whether a pixel may have this weight.

@@ -1,4 +1,4 @@
-//! What a row undergoes by itself.
+//! Changes of a row that depend on that row alone.
 ghost use Rattle.std.specs.Prelude.{IfOk};
 ghost use Rattle.mf_edges.specs.Edges.{AreEdges};
 ghost use Rattle.mf_edges.specs.RowChanges.{AreChanged, EdgesAllowChange, IsRowChange};
@@ -10,20 +10,20 @@ use crate::weight_map::WeightMap;
 use mf_geom::OutOfMemory;
 use std::alloc::Global;
 
-/// A change that each row undergoes by itself.
+/// A change of each row of a picture, which depends on that row alone.
 #[derive(Clone, Copy, Debug)]
 pub enum RowChange {
     /// Each weight is mapped.
     Weights(WeightMap),
-    /// The columns change sides.
+    /// The columns are reflected: column x becomes column -x - 1.
     Mirror,
     /// The columns are stretched.
     Columns(Stretch),
 }
 
-/// The edges of a row after a change. Refusal OutOfMemory (14): nothing was made. The caller owes the edges of a row, and a
-/// change that it allows: a map that leaves weight 0 at 0 and gives lawful weights, or a stretch by a factor in
-/// 1..=4095 that keeps it in the field.
+/// The edges of a row after a change. Refused with `OutOfMemory` where an allocation fails. Requires the edges of a
+/// row, and a change that the row allows: a map that keeps weight 0 at 0 and lawful weights lawful, or a stretch by a
+/// factor in 1..=4095 that keeps the row in the field.
 pub fn changed_edges(
     alloc: Global,
     edges: &[Edge],

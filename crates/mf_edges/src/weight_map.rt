@@ -1,21 +1,21 @@
-//! What becomes of weights where each of them is mapped by itself.
+//! Maps of weights, which take each weight by itself.
 ghost use Rattle.std.specs.Prelude.{◌≡◌};
 ghost use Rattle.mf_edges.specs.LawfulWeights.{IsLawfulWeight};
 ghost use Rattle.mf_edges.specs.WeightMaps.{chosen, mapped_to, IsWeightMap};
 
-/// What each weight of a picture becomes, by itself. A picture may be mapped so where weight 0 stays 0 and weights in
-/// -32767..32767 become such weights.
+/// What each weight of a picture becomes, wherever its pixel is. Mapping a picture requires that weight 0 stays 0 and
+/// that weights in -32767..=32767 become such weights.
 #[derive(Clone, Copy, Debug, PartialEq, Eq)]
 pub enum WeightMap {
     /// The negated weight.
     Negate,
-    /// One of two weights.
+    /// One of two weights, by the range in which the weight lies.
     Choose(Choice),
 }
 
 /// Weights in `low..=high` become `inside`, and all others `outside` (`cull`: The METAFONTbook, chapter 13). `low` and
-/// `high` are any numbers. A picture may be mapped so where `inside` and `outside` are in -32767..32767, and the one
-/// that 0 becomes is 0.
+/// `high` are any numbers. Mapping a picture requires that `inside` and `outside` are in -32767..=32767, and that 0
+/// becomes 0.
 #[derive(Clone, Copy, Debug, PartialEq, Eq)]
 pub struct Choice {
     pub low: i32,

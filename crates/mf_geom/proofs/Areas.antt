@@ -15,7 +15,7 @@ use Rattle.mf_geom.proofs.Crossings.{passed-reached, passed-beyond, winding-cros
 use Rattle.mf_geom.proofs.Products.{mul-sub, mul-self, sub-mul, int_div-mul}
 use Rattle.mf_geom.proofs.Sums.{next_place-below, sum_below-same, sum_below-sub, sum_below-mul_and_differences, sum_over_field-mul, sum_over_field-product, sum_over_field-sum}
 
--- of the n numbers from a on, n - k have passed the one that is k further
+-- of the n numbers from a on, n - k have passed a + k
 sum_below-passed_after : (n k : ℕ) (a : ℤ) → sum_below n (λ i. passed (a +ℤ pos i) (a +ℤ pos k)) ≡ pos (n - k)
 unfolding sum_below
 sum_below-passed_after zero k a = omega (arith, ints)
@@ -25,7 +25,7 @@ sum_below-passed_after (suc n) k a =
     let reached : k ≤ n → passed (a +ℤ pos n) (a +ℤ pos k) ≡ pos 1 = λ le. passed-reached (a +ℤ pos n) (a +ℤ pos k) (omega (arith, ints)) in
     elim (cases_lt n k) [ inl lt ↦ let none = beyond lt in omega (arith, ints) | inr le ↦ let one = reached le in omega (arith, ints) ]
 
--- as many of the n numbers from a on have passed p as there are from p on
+-- of the n numbers from a on, those from p on have passed p
 sum_below-passed : (n : ℕ) (a p : ℤ) → a ≤ℤ p → p ≤ℤ (a +ℤ pos n) → sum_below n (λ i. passed (a +ℤ pos i) p) ≡ (a +ℤ pos n) -ℤ p
 sum_below-passed n a p from to =
     let k = nat_abs (p -ℤ a) in
@@ -35,8 +35,8 @@ sum_below-passed n a p from to =
 pub sum_below-passed_in_field : (p : ℤ) → negsuc 4094 ≤ℤ p → p ≤ℤ pos 4095 → sum_below 8190 (λ i. passed (negsuc 4094 +ℤ pos i) p) ≡ pos 4095 -ℤ p
 sum_below-passed_in_field p = sum_below-passed 8190 (negsuc 4094) p
 
--- what an edge adds to the sum of the winding numbers: the area between it and the right side of the
--- field, positive where it leads down
+-- what an edge adds to the sum of the winding numbers: the area between it and the right side of the field, positive
+-- where the edge leads down
 abbrev strip : Edge → ℤ
 strip e = (pos 4095 -ℤ e.from.x) *ℤ (e.from.y -ℤ e.to.y)
 
@@ -52,7 +52,7 @@ sum_over_field-crossing e from to =
     sum_over_field-product (λ x. passed x e.from.x) (λ y. passed y e.to.y -ℤ passed y e.from.y)
     ∙ (λ t. columns t *ℤ (rows ∙ height) t)
 
--- what remains of an edge's part of the shoelace sum, as a number of its ends
+-- what remains of an edge's part of the shoelace sum, as a value at each of its ends
 abbrev remainder : Point → ℤ
 remainder p = pos 8190 *ℤ p.y -ℤ p.x *ℤ p.y
 
@@ -66,7 +66,7 @@ shoelace-upright x y y' =
     let to = sub-mul (pos 4095) x y' in
     omega (arith, ints)
 
--- an edge's part of the shoelace sum is twice its strip and a difference of its ends
+-- an edge's part of the shoelace sum is twice its strip plus a difference between its ends
 shoelace-strip : (e : Edge) → IsRectilinear e → e.from.x *ℤ e.to.y -ℤ e.to.x *ℤ e.from.y ≡ pos 2 *ℤ strip e +ℤ (remainder e.to -ℤ remainder e.from)
 unfolding IsRectilinear across up
 shoelace-strip e (inl level) =
@@ -76,7 +76,7 @@ shoelace-strip e (inr upright) =
     let same_column : e.to.x ≡ e.from.x = let run = upright.0 in omega (arith, ints) in
     rw same_column (shoelace-upright e.from.x e.from.y e.to.y)
 
--- round a cycle the differences add up to 0
+-- round a cycle, the differences add up to 0
 shoelace-strips : (ps : List Point) → IsRectilinearCycle ps → sum_below (length ps) (shoelace_at ps) ≡ pos 2 *ℤ sum_below (length ps) (λ i. strip (edge_at ps i))
 unfolding shoelace_at edge_at
 shoelace-strips ps cycle =
@@ -101,7 +101,7 @@ sum_over_field-winding ps cycle =
     (λ i below. sum_over_field-crossing (edge_at ps i) (in_reach i below) (in_reach (next_place ps i) (next_place-below ps i below)))
     ∙ sym (area-strips ps cycle)
 
--- the weight comes out of the sum of the winding numbers, which is the area
+-- the weight is a factor of the sum, and the other factor is the sum of the winding numbers, the area
 pub sum_over_field-contour : (ps : List Point) (w : ℤ) (check : Check) → IsRectilinearCycle ps → sum_over_field (contour ps w check) ≡ filling_weight check ps w *ℤ area ps
 unfolding contour
 sum_over_field-contour ps w check cycle =

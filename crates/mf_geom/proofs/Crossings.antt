@@ -18,11 +18,11 @@ quarters_to right_down = pos 1
 quarters_to right_up = pos 2
 quarters_to left_up = pos 3
 
--- the quadrant that lies right of the centre or not, and above it or not
+-- the quadrant to the right of the centre or not, and above it or not
 abbrev corner : Bool → Bool → Quadrant
 corner right above = if right then (if above then right_up else right_down) else (if above then left_up else left_down)
 
--- 0 for what lies beyond, and 1 for what has been reached
+-- 0 for what is beyond, and 1 for what has been reached
 abbrev reached : Bool → ℤ
 reached beyond = if beyond then pos 0 else pos 1
 
@@ -32,8 +32,8 @@ quarter-upright right above above' = grind (arith, ints)
 quarter-level : (right right' above : Bool) → quarter (corner right above) (corner right' above) ≡ pos 4 *ℤ (reached right *ℤ (reached above -ℤ reached above)) +ℤ (quarters_to (corner right' above) -ℤ quarters_to (corner right above))
 quarter-level right right' above = grind (arith, ints)
 
--- an edge that is parallel to an axis leads to the same quadrant or to one beside it, so its quarter
--- turns are the difference of the two quadrants, but for the jump at the ray
+-- an edge that is parallel to an axis leads to the same quadrant or to a neighbouring one, so its quarter turns are the
+-- difference of the two quadrants, except for the jump at the ray
 quarter_along-crossing : (x y : ℤ) (e : Edge) → IsRectilinear e → quarter_along x y e ≡ pos 4 *ℤ crossing x y e +ℤ (quarters_to (quadrant x y e.to) -ℤ quarters_to (quadrant x y e.from))
 unfolding quarter_along crossing passed quadrant IsRectilinear across up
 quarter_along-crossing x y e (inl level) =
@@ -43,7 +43,7 @@ quarter_along-crossing x y e (inr upright) =
     let same_column : e.to.x ≡ e.from.x = let run = upright.0 in omega (arith, ints) in
     rw same_column (quarter-upright (int_lt x e.from.x) (int_lt y e.from.y) (int_lt y e.to.y))
 
--- round a cycle the differences of the quadrants add up to 0
+-- round a cycle, the differences of the quadrants add up to 0
 pub quarters-crossings : (ps : List Point) (x y : ℤ) → IsRectilinearCycle ps → sum_below (length ps) (quarter_at ps x y) ≡ pos 4 *ℤ sum_below (length ps) (crossing_at ps x y)
 unfolding quarter_at crossing_at edge_at
 quarters-crossings ps x y cycle =
@@ -64,7 +64,7 @@ pub passed-beyond : (x a : ℤ) → x <ℤ a → passed x a ≡ pos 0
 unfolding passed
 passed-beyond x a beyond = grind (arith, ints)
 
--- a cycle that lies on one side of the pixel's column crosses as often up as down
+-- a cycle that lies on one side of the pixel's column crosses the ray upwards as often as downwards
 pub crossings-beside : (ps : List Point) (x y side : ℤ) → ((i : ℕ) → i < length ps → passed x (point_at ps i).x ≡ side) → sum_below (length ps) (crossing_at ps x y) ≡ pos 0
 unfolding crossing_at crossing edge_at
 crossings-beside ps x y side same_side =
@@ -75,7 +75,7 @@ crossings-beside ps x y side same_side =
     ∙ ap (λ s. side *ℤ s) (sum_below-differences ps place)
     ∙ omega (arith, ints)
 
--- a cycle that lies on one side of the pixel's row never crosses
+-- a cycle that lies on one side of the pixel's row never crosses the ray
 pub crossings-over : (ps : List Point) (x y side : ℤ) → ((i : ℕ) → i < length ps → passed y (point_at ps i).y ≡ side) → sum_below (length ps) (crossing_at ps x y) ≡ pos 0
 unfolding crossing_at crossing edge_at
 crossings-over ps x y side same_side =

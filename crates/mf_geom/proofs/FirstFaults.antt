@@ -71,7 +71,7 @@ IsReversal-from_true a b passes = record { opposite = grind (arith, ints) }
 pub is_reversal-false : (a b : Edge) → ¬ IsReversal a b → is_reversal a b ≡ false
 is_reversal-false a b onward = false_from_ne_true _ (λ passes. onward (IsReversal-from_true a b passes))
 
--- what is left to look for, once the length is lawful
+-- what is left to check once the length is lawful
 form_fault-sized : (ps : List Point) → HasLawfulLength ps → form_fault ps ≡ fault_from_reach ps
 unfolding form_fault
 form_fault-sized ps sized = grind (arith, nat_tests)
@@ -126,7 +126,7 @@ fault_of-fault ps (Backtracks i) (cycle, first) =
     fault_of-rectilinear ps cycle ∙ rw found refl
 fault_of-fault ps TurningZero (never, zero_turns) = fault_of-onward ps never ∙ rw zero_turns refl
 
--- the test answers true at a first place below n
+-- the test answers true at a first index below n
 record Found (n : ℕ) (test : ℕ → Bool) : Type 0 where
   place : ℕ
   below : place < n
@@ -153,7 +153,7 @@ record IsFaulty (ps : List Point) : Type 0 where
   fault : CycleFault
   is : IsFault ps fault
 
--- and one for which it is no cycle
+-- the list has a fault for which it is not a cycle
 record IsMisformed (ps : List Point) : Type 0 where
   faulty : IsFaulty ps
   found : form_fault ps ≡ Some faulty.fault

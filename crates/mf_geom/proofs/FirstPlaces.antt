@@ -1,4 +1,4 @@
--- The first place at which a test answers true, where T and F say what its two answers mean.
+-- The first index at which a test answers true, where T and F say what its two answers mean.
 use Rattle.std.proofs.Common.{ℕ, ◌<◌, Option, Some, None, IfNone, IfSome}
 use Rattle.mf_geom.specs.Lawful.{IsFirst}
 

@@ -22,7 +22,7 @@ negative-from_signum a negative = grind (arith, ints)
 suc-mul-suc : (m n : ℕ) → 0 < suc m * suc n
 suc-mul-suc m n = mul-pos (omega arith) (omega arith)
 
--- a product's sign is the product of the signs
+-- the sign of a product is the product of the signs
 signum-product : (a b : ℤ) → a ≢ pos 0 → b ≢ pos 0 → int_signum (a *ℤ b) ≡ side (int_lt (pos 0) a) *ℤ side (int_lt (pos 0) b)
 signum-product (pos zero) b a_apart b_apart = absurd (a_apart refl)
 signum-product a (pos zero) a_apart b_apart = absurd (b_apart refl)
@@ -38,23 +38,23 @@ signum-neg a = grind (arith, ints)
 abbrev level_heading : Bool → ℤ
 level_heading rightwards = if rightwards then pos 0 else pos 2
 
--- and of one that leads up or down
+-- the heading of an edge that leads up or down
 abbrev upright_heading : Bool → ℤ
 upright_heading upwards = if upwards then pos 1 else pos 3
 
--- the heading of an edge that leads so far to the right and up, where it is rectilinear
+-- the heading of an edge that leads a to the right and b up, where it is rectilinear
 abbrev heading : ℤ → ℤ → ℤ
 heading a b = if int_lt (pos 0) a then pos 0 else (if int_lt a (pos 0) then pos 2 else upright_heading (int_lt (pos 0) b))
 
 heading-level : (a b : ℤ) → a ≢ pos 0 → heading a b ≡ level_heading (int_lt (pos 0) a)
 heading-level a b apart = grind (arith, ints)
 
--- the whole turns that are added to a difference of headings to give the turn: 1 from down to right, -1
--- from right to down, else 0
+-- the whole turns to add to a difference of headings to get the turn: 1 from down to right, -1 from right to down, else
+-- 0
 abbrev jump : ℤ → ℤ
 jump d = if int_lt d (negsuc 1) then pos 1 else (if int_lt (pos 2) d then negsuc 0 else pos 0)
 
--- the turn from a heading to another that is the same or beside it, by their difference
+-- the turn from a heading to the same or a neighbouring one, by their difference
 abbrev bend : ℤ → ℤ
 bend d = pos 4 *ℤ jump d +ℤ d
 
@@ -70,7 +70,7 @@ bend-level p q onward = grind (arith, ints)
 bend-upright : (p q : Bool) → side p *ℤ side q ≢ negsuc 0 → pos 0 ≡ bend (upright_heading q -ℤ upright_heading p)
 bend-upright p q onward = grind (arith, ints)
 
--- where a product is not negative, its factors have one sign
+-- where a product is not negative, its factors have the same sign
 same_side : (a b : ℤ) → a ≢ pos 0 → b ≢ pos 0 → ((a *ℤ b) <ℤ pos 0 → ⊥) → side (int_lt (pos 0) a) *ℤ side (int_lt (pos 0) b) ≢ negsuc 0
 same_side a b a_apart b_apart onward opposite =
     onward (negative-from_signum (a *ℤ b) (signum-product a b a_apart b_apart ∙ opposite))
@@ -96,8 +96,8 @@ cross-upright b d b_apart d_apart onward =
     let flat : pos 0 *ℤ d -ℤ b *ℤ pos 0 ≡ pos 0 = omega (arith, ints) in
     rw flat (bend-upright _ _ (same_side b d b_apart d_apart (λ less. onward (omega (arith, ints)))))
 
--- from one rectilinear edge to the next the turn is the difference of their headings, but for the jump
--- between right and down
+-- the turn from one rectilinear edge to the next is the difference of their headings, except for the jump between right
+-- and down
 cross-bend : (a b c d : ℤ) → ((a ≢ pos 0) × (b ≡ pos 0)) ⊎ ((a ≡ pos 0) × (b ≢ pos 0)) → ((c ≢ pos 0) × (d ≡ pos 0)) ⊎ ((c ≡ pos 0) × (d ≢ pos 0)) → ((a *ℤ c +ℤ b *ℤ d) <ℤ pos 0 → ⊥) → int_signum (a *ℤ d -ℤ b *ℤ c) ≡ bend (heading c d -ℤ heading a b)
 cross-bend a b c d (inl from) (inl to) onward =
     rw (from.1, to.1) (cross-level a c from.0 to.0 (λ less. onward (rw (from.1, to.1) less)))

@@ -1,9 +1,9 @@
--- Sums in loops: what has been added up so far, and how far it can be from 0.
+-- Sums in loops: what has been added up so far, and how far it may be from 0.
 use Rattle.std.proofs.Common.{◌≡◌, ℕ, ◌+◌, ◌*◌, ℤ, pos, neg_ℤ, ◌+ℤ◌, ◌≤ℤ◌, refl, arith, add-one}
 use Rattle.std.proofs.lemmas.Int.{ints}
 use Rattle.mf_geom.specs.Sum.{sum_below}
 
--- t is the sum of f 0, f 1, .. up to below n, and no further from 0 than n terms of size m can lead
+-- t is the sum f 0 + .. + f (n - 1), and at most m * n in absolute value, as each term is at most m
 pub record IsSumTo (m : ℕ) (f : ℕ → ℤ) (n : ℕ) (t : ℤ) : Type 0 where
   pub value : t ≡ sum_below n f
   pub least : neg_ℤ (pos (m * n)) ≤ℤ t

@@ -1,4 +1,4 @@
--- Signed numbers that pass through a call: they come out as they went in.
+-- Signed numbers come out of a call as they went in.
 use Rattle.std.proofs.Common.{◌≡◌, ℤ, ◌*ℤ◌, to_z, of_z, w32}
 use Rattle.std.proofs.lemmas.Int.{to_z-of_z}
 use mir.Val.{SFits}

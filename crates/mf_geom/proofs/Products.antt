@@ -1,4 +1,4 @@
--- Products of integers. An integer a is read as `up a - down a`, and of these two naturals one is 0.
+-- Products of integers. An integer a is read as `up a - down a`, where one of the two naturals is 0.
 use Rattle.std.proofs.Common.{◌≡◌, ℕ, ◌+◌, ◌*◌, ◌/◌, ◌<◌, ℤ, pos, ◌+ℤ◌, ◌-ℤ◌, ◌*ℤ◌, neg_ℤ, int_div, arith, ap, sym, ◌∙◌}
 use Rattle.std.proofs.lemmas.Int.{ints}
 use borrow.Author.Differences.{up, down, same_in, sum_is_lem, product_is, quot_is}

@@ -1,4 +1,4 @@
--- Laws of sums of whole numbers.
+-- Laws of sums of integers.
 use Rattle.std.proofs.Common.{◌≡◌, ℕ, zero, suc, ◌+◌, ◌<◌, ℤ, pos, negsuc, ◌+ℤ◌, ◌-ℤ◌, ◌*ℤ◌, List, length, refl, sym, ◌∙◌, ap, arith}
 use lib.IntN.{+ℤ_idr, *ℤ_comm}
 use Rattle.std.proofs.lemmas.Int.{ints}
@@ -34,7 +34,7 @@ unfolding sum_below
 sum_below-mul zero a f = omega (arith, ints)
 sum_below-mul (suc n) a f = ap (λ s. s +ℤ a *ℤ f n) (sum_below-mul n a f) ∙ sym (mul-add a (sum_below n f) (f n))
 
--- the two sums may change places
+-- two sums may be exchanged
 pub sum_below-swap : (m n : ℕ) (f : ℕ → ℕ → ℤ) → sum_below m (λ j. sum_below n (λ i. f j i)) ≡ sum_below n (λ i. sum_below m (λ j. f j i))
 unfolding sum_below
 sum_below-swap zero n f = sym (sum_below-zero n)
@@ -42,7 +42,7 @@ sum_below-swap (suc m) n f =
     ap (λ s. s +ℤ sum_below n (f m)) (sum_below-swap m n f)
     ∙ sym (sum_below-add n (λ i. sum_below m (λ j. f j i)) (f m))
 
--- one place further on, the first term is lost and a last one won
+-- moved on by one, a sum loses its first term and gains a new last one
 pub sum_below-next : (n : ℕ) (f : ℕ → ℤ) → sum_below n (λ i. f (i + 1)) +ℤ f 0 ≡ sum_below n f +ℤ f n
 unfolding sum_below
 sum_below-next zero f = refl
@@ -63,7 +63,7 @@ pub next_place-below : (ps : List Point) (i : ℕ) → i < length ps → next_pl
 unfolding next_place
 next_place-below ps i below = grind (arith, nat_tests)
 
--- a function that leads from each place to the next, and from the last to the first, only reorders the sum
+-- a function that takes each index to the next, and the last to the first, only reorders the sum
 sum_below-round : (n : ℕ) (next : ℕ → ℕ) (f : ℕ → ℤ) → ((i : ℕ) → i + 1 < n → next i ≡ i + 1) → ((i : ℕ) → i + 1 ≡ n → next i ≡ 0) → sum_below n (λ i. f (next i)) ≡ sum_below n f
 unfolding sum_below
 sum_below-round zero next f inner last = refl
@@ -71,17 +71,17 @@ sum_below-round (suc n) next f inner last =
     (λ t. sum_below-same n (λ i. f (next i)) (λ i. f (i + 1)) (λ i below. ap f (inner i (omega arith))) t +ℤ f (last n (omega arith) t))
     ∙ sum_below-next n f
 
--- round a cycle the sum over the next places is the sum over the places
+-- round a cycle, the sum over the next indices is the sum over the indices
 pub sum_below-next_place : (ps : List Point) (f : ℕ → ℤ) → sum_below (length ps) (λ i. f (next_place ps i)) ≡ sum_below (length ps) f
 sum_below-next_place ps f = sum_below-round (length ps) (next_place ps) f (next_place-inner ps) (next_place-last ps)
 
--- so differences from place to place add up to 0
+-- so the differences from each index to the next add up to 0
 pub sum_below-differences : (ps : List Point) (f : ℕ → ℤ) → sum_below (length ps) (λ i. f (next_place ps i) -ℤ f i) ≡ pos 0
 sum_below-differences ps f =
     let same = sum_below-next_place ps f in
     sum_below-sub (length ps) (λ i. f (next_place ps i)) f ∙ omega (arith, ints)
 
--- round a cycle the sum of multiples does not see what differences from place to place are added
+-- round a cycle, a sum of multiples stays the same when differences from each index to the next are added to its terms
 pub sum_below-mul_and_differences : (ps : List Point) (a : ℤ) (f g h : ℕ → ℤ) → ((i : ℕ) → i < length ps → f i ≡ a *ℤ g i +ℤ (h (next_place ps i) -ℤ h i)) → sum_below (length ps) f ≡ a *ℤ sum_below (length ps) g
 sum_below-mul_and_differences ps a f g h parts =
     let multiples : ℕ → ℤ = λ i. a *ℤ g i in
@@ -101,7 +101,7 @@ sum_over_field-mul a f =
     let at : ℕ → ℕ → ℤ = λ j i. f (negsuc 4094 +ℤ pos i) (negsuc 4094 +ℤ pos j) in
     (λ t. sum_below 8190 (λ j. sum_below-mul 8190 a (at j) t)) ∙ sum_below-mul 8190 a (λ j. sum_below 8190 (at j))
 
--- the sum of a product of a column's number and a row's number is the product of two sums
+-- the sum of products of a factor for the column and one for the row is the product of two sums
 pub sum_over_field-product : (f g : ℤ → ℤ) → sum_over_field (λ x y. f x *ℤ g y) ≡ sum_below 8190 (λ i. f (negsuc 4094 +ℤ pos i)) *ℤ sum_below 8190 (λ j. g (negsuc 4094 +ℤ pos j))
 unfolding sum_over_field
 sum_over_field-product f g =
@@ -110,7 +110,7 @@ sum_over_field-product f g =
     (λ t. sum_below 8190 (λ j. sum_below-mul_right 8190 column (row j) t))
     ∙ sum_below-mul 8190 (sum_below 8190 column) row
 
--- the sum over the field of a sum is the sum of the sums over the field
+-- the sum over the field of sums is the sum of the sums over the field
 pub sum_over_field-sum : (n : ℕ) (f : ℤ → ℤ → ℕ → ℤ) → sum_over_field (λ x y. sum_below n (f x y)) ≡ sum_below n (λ k. sum_over_field (λ x y. f x y k))
 unfolding sum_over_field
 sum_over_field-sum n f =

@@ -1,4 +1,4 @@
--- The definitions, computed at cycles whose numbers are known.
+-- The definitions, computed for cycles whose numbers are known.
 use Rattle.std.proofs.Common.{◌≡◌, ℤ, pos, negsuc, List, [], ◌∷◌, refl}
 use Rattle.mf_geom.specs.declared.check.Check.TheVariants.{Off, On}
 use Rattle.mf_geom.specs.declared.point.Point.{Point}
@@ -70,7 +70,7 @@ area-twice : area twice ≡ pos 8
 unfolding area sum_below shoelace_at point_at next_place twice
 area-twice = refl
 
--- a vertex at which the path goes straight on turns nothing
+-- a vertex at which the path goes straight on is no turn
 straight : List Point
 unfolding point
 straight = point (pos 0) (pos 0) ∷ point (pos 1) (pos 0) ∷ point (pos 3) (pos 0) ∷ point (pos 3) (pos 2) ∷ point (pos 0) (pos 2) ∷ []

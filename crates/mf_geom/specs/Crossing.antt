@@ -4,7 +4,7 @@ use Rattle.std.specs.Prelude.{ℕ, ℤ, pos, ◌-ℤ◌, ◌*ℤ◌, int_lt, Lis
 use Rattle.mf_geom.specs.declared.point.Point.{Point}
 use Rattle.mf_geom.specs.Path.{Edge, edge_at}
 
--- 1 where the number a is at most x, and 0 where it lies beyond
+-- 1 where a is at most x, and 0 where it is greater
 unfoldable pub passed : ℤ → ℤ → ℤ
 passed x a = if int_lt x a then pos 0 else pos 1
 
@@ -13,6 +13,6 @@ passed x a = if int_lt x a then pos 0 else pos 1
 unfoldable pub crossing : ℤ → ℤ → Edge → ℤ
 crossing x y e = passed x e.from.x *ℤ (passed y e.to.y -ℤ passed y e.from.y)
 
--- how the edge that leaves vertex i crosses it
+-- how the edge that leaves vertex i crosses that ray
 unfoldable pub crossing_at : List Point → ℤ → ℤ → ℕ → ℤ
 crossing_at ps x y i = crossing x y (edge_at ps i)

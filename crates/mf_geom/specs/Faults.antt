@@ -8,7 +8,7 @@ use Rattle.mf_geom.specs.declared.cycle.CycleFault.TheVariants.{TooFewPoints, To
 use Rattle.mf_geom.specs.Path.{Edge, point_at, edge_at, arriving, across, up}
 use Rattle.mf_geom.specs.Turning.{turning}
 
--- the first place below n that passes the test
+-- the first index below n that passes the test
 unfoldable pub first_place : ℕ → (ℕ → Bool) → Option ℕ
 first_place zero test = None
 first_place (suc n) test = option_or (first_place n test) (if test n then Some n else None)
@@ -25,34 +25,34 @@ is_out_of_reach p = not (is_coordinate p.x && is_coordinate p.y)
 unfoldable pub is_not_rectilinear : Edge → Bool
 is_not_rectilinear e = if int_eq (across e) (pos 0) then int_eq (up e) (pos 0) else not (int_eq (up e) (pos 0))
 
--- whether the scalar product of two edges is negative: for edges parallel to an axis that is where the
--- second leads opposite to the first
+-- whether the path turns straight back from the first edge to the second: for edges parallel to an axis that is where
+-- their scalar product is negative
 unfoldable pub is_reversal : Edge → Edge → Bool
 is_reversal a b = int_lt ((across a *ℤ across b) +ℤ (up a *ℤ up b)) (pos 0)
 
--- the fault of a cycle whose turning number alone is left to look at, if it has one
+-- the fault that the turning number alone gives, if any
 abbrev pub fault_from_turning : List Point → Option CycleFault
 fault_from_turning ps = if int_eq (turning ps) (pos 0) then Some TurningZero else None
 
--- why a cycle fails the turning check, if it does: its vertices are looked at first
+-- why a cycle fails the turning check, if it does: its vertices are checked before its turning number
 abbrev pub turning_fault : List Point → Option CycleFault
 turning_fault ps = option_or (option_map Backtracks (first_place (length ps) (λ i. is_reversal (arriving ps i) (edge_at ps i)))) (fault_from_turning ps)
 
--- the fault of the edges of a list of points, if they have one
+-- the fault that the edges of a list of points give, if any
 abbrev pub fault_from_edges : List Point → Option CycleFault
 fault_from_edges ps = option_map NotRectilinear (first_place (length ps) (λ i. is_not_rectilinear (edge_at ps i)))
 
--- the same where the points are left to look at first
+-- the fault that the points or the edges of a list give, if any: the points are checked first
 abbrev pub fault_from_reach : List Point → Option CycleFault
 fault_from_reach ps = option_or (option_map PointOutOfRange (first_place (length ps) (λ i. is_out_of_reach (point_at ps i)))) (fault_from_edges ps)
 
--- why a list of points is no cycle, if it is none
+-- why a list of points is not a cycle, if it is not
 unfoldable pub form_fault : List Point → Option CycleFault
 form_fault ps =
     if nat_lt (length ps) 2 then Some TooFewPoints
     else (if nat_lt 4096 (length ps) then Some TooManyPoints
     else fault_from_reach ps)
 
--- why a list of points is no cycle that passes the turning check, if it is none
+-- why a list of points is not a cycle that passes the turning check, if it is not
 abbrev pub fault_of : List Point → Option CycleFault
 fault_of ps = option_or (form_fault ps) (turning_fault ps)

@@ -1,8 +1,8 @@
--- The field: the pixels that a picture may give a weight (mf.web: the limits on edge structures).
+-- The field: the pixels that may have a weight other than 0 (mf.web: the limits on edge structures).
 use Rattle.std.specs.Prelude.{ℤ, pos, negsuc, ◌+ℤ◌, ◌≤ℤ◌}
 use Rattle.mf_geom.specs.Sum.{sum_below}
 
--- the pixel (x, y) lies in the field: both of its numbers are in -4095..4094
+-- the pixel (x, y) lies in the field: x and y are in -4095..4094
 pub record IsInField (x y : ℤ) : Type 0 where
   pub left : negsuc 4094 ≤ℤ x
   pub right : x ≤ℤ pos 4094

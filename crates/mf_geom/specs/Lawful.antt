@@ -1,4 +1,4 @@
--- Which lists of points are cycles, which cycles pass the turning check, and why another one is refused.
+-- Which lists of points are cycles, which cycles pass the turning check, and why any other list is refused.
 use Rattle.std.specs.Prelude.{◌≡◌, ◌≢◌, ℕ, ◌<◌, ◌≤◌, pos, List, length}
 use Rattle.mf_geom.specs.declared.point.Point.{Point}
 use Rattle.mf_geom.specs.declared.cycle.CycleFault.{CycleFault}
@@ -6,39 +6,39 @@ use Rattle.mf_geom.specs.declared.cycle.CycleFault.TheVariants.{TooFewPoints, To
 use Rattle.mf_geom.specs.Path.{point_at, edge_at, arriving, IsInReach, IsRectilinear, IsReversal}
 use Rattle.mf_geom.specs.Turning.{turning}
 
--- 2 to 4096 points
+-- the list has 2 to 4096 points
 pub record HasLawfulLength (ps : List Point) : Type 0 where
   pub least : 2 ≤ length ps
   pub greatest : length ps ≤ 4096
 
--- and each of them in reach
+-- the list has a lawful length, and each of its points is in reach
 pub record StaysInReach (ps : List Point) : Type 0 where
   pub sized : HasLawfulLength ps
   pub in_reach : (i : ℕ) → i < length ps → IsInReach (point_at ps i)
 
--- and each edge rectilinear: a cycle
+-- the list is a cycle: its points are in reach, and each edge is rectilinear
 pub record IsRectilinearCycle (ps : List Point) : Type 0 where
   pub reach : StaysInReach ps
   pub rectilinear : (i : ℕ) → i < length ps → IsRectilinear (edge_at ps i)
 
--- and no vertex at which the path turns straight back
+-- the list is a cycle that turns straight back at no vertex
 pub record NeverReverses (ps : List Point) : Type 0 where
   pub rectilinear : IsRectilinearCycle ps
   pub onward : (i : ℕ) → i < length ps → IsReversal (arriving ps i) (edge_at ps i) → ⊥
 
--- and a turning number that is not 0: a cycle that passes the turning check
+-- the list is a cycle that passes the turning check: it never turns straight back, and its turning number is not 0
 pub record PassesCheck (ps : List Point) : Type 0 where
   pub onward : NeverReverses ps
   pub turns : turning ps ≢ pos 0
 
--- i is the first of the places below n at which P holds
+-- i is the first index below n for which P holds
 pub record IsFirst (n : ℕ) (P : ℕ → Type 0) (i : ℕ) : Type 0 where
   pub below : i < n
   pub here : P i
   pub none_before : (k : ℕ) → k < i → P k → ⊥
 
--- the list is refused with this fault: the first one in the order of the cases, at its first place. The last two are those of
--- the turning check, which a cycle may have
+-- the list is refused with this fault: the first that applies, in the order of the cases, at the first index where it
+-- does; the last two are from the turning check, and a cycle may have them
 unfoldable pub IsFault : List Point → CycleFault → Type 0
 IsFault ps TooFewPoints = length ps < 2
 IsFault ps TooManyPoints = 4096 < length ps

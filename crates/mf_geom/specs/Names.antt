@@ -3,7 +3,7 @@ use Rattle.std.specs.Prelude.{ℕ, List, ◌++◌, codes, decimal}
 use Rattle.mf_geom.specs.declared.cycle.CycleFault.{CycleFault}
 use Rattle.mf_geom.specs.declared.cycle.CycleFault.TheVariants.{TooFewPoints, TooManyPoints, PointOutOfRange, NotRectilinear, Backtracks, TurningZero}
 
--- the name of a fault, and behind a space its place where it has one
+-- the name of a fault, followed by a space and its index where it has one
 abbrev pub fault_text : CycleFault → List ℕ
 fault_text TooFewPoints = codes "TooFewPoints"
 fault_text TooManyPoints = codes "TooManyPoints"
@@ -12,6 +12,6 @@ fault_text (NotRectilinear i) = codes "NotRectilinear " ++ decimal i
 fault_text (Backtracks i) = codes "Backtracks " ++ decimal i
 fault_text TurningZero = codes "TurningZero"
 
--- the name of a want of memory
+-- the name of the refusal for a failed allocation
 abbrev pub memory_text : List ℕ
 memory_text = codes "OutOfMemory"

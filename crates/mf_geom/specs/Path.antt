@@ -2,15 +2,15 @@
 use Rattle.std.specs.Prelude.{◌≡◌, ◌≢◌, ℕ, ◌+◌, ◌-◌, ◌==◌, ◌⊎◌, ℤ, pos, negsuc, ◌+ℤ◌, ◌-ℤ◌, ◌*ℤ◌, ◌<ℤ◌, ◌≤ℤ◌, List, length, slice_index_or, if◌then◌else◌}
 use Rattle.mf_geom.specs.declared.point.Point.{Point}
 
--- the point at place i
+-- the point at index i
 unfoldable pub point_at : List Point → ℕ → Point
 point_at ps i = slice_index_or ps i (record { x = pos 0; y = pos 0 })
 
--- the place after i: behind the last point comes the first
+-- the index after i: after the last point comes the first
 unfoldable pub next_place : List Point → ℕ → ℕ
 next_place ps i = if i + 1 == length ps then 0 else i + 1
 
--- the place before i: before the first point stands the last
+-- the index before i: before the first point comes the last
 unfoldable pub previous_place : List Point → ℕ → ℕ
 previous_place ps i = if i == 0 then length ps - 1 else i - 1
 
@@ -46,7 +46,7 @@ pub record IsInReach (p : Point) : Type 0 where
 unfoldable pub IsRectilinear : Edge → Type 0
 IsRectilinear e = ((across e ≢ pos 0) × (up e ≡ pos 0)) ⊎ ((across e ≡ pos 0) × (up e ≢ pos 0))
 
--- the scalar product of two edges is negative: for edges parallel to an axis that is where the path turns
--- straight back from one to the next, which leads in the opposite direction
+-- the path turns straight back from the first edge to the second: for edges parallel to an axis that is where their
+-- scalar product is negative
 pub record IsReversal (a b : Edge) : Type 0 where
   pub opposite : ((across a *ℤ across b) +ℤ (up a *ℤ up b)) <ℤ pos 0

@@ -13,6 +13,6 @@ turn a b = int_signum ((across a *ℤ up b) -ℤ (up a *ℤ across b))
 unfoldable pub turn_at : List Point → ℕ → ℤ
 turn_at ps i = turn (arriving ps i) (edge_at ps i)
 
--- the turning number: four left turns more than right turns make one whole turn
+-- the turning number: left turns less right turns, divided by 4
 unfoldable pub turning : List Point → ℤ
 turning ps = int_div (sum_below (length ps) (turn_at ps)) (pos 4)

@@ -1,5 +1,5 @@
--- How often a cycle winds round a pixel, and what filling it adds there (The METAFONTbook, chapters 13
--- and 24). The winding number is counted by the quadrants that the path visits round the pixel's centre.
+-- How often a cycle winds round a pixel, and what filling it adds there (The METAFONTbook, chapters 13 and 24). The
+-- winding number is counted by the quadrants round the pixel's centre that the path visits.
 use Rattle.std.specs.Prelude.{ℕ, ℤ, pos, negsuc, ◌*ℤ◌, int_div, int_lt, List, length, if◌then◌else◌}
 use Rattle.std.specs.Int.{int_signum}
 use Rattle.mf_geom.specs.declared.check.Check.{Check}
@@ -16,12 +16,12 @@ pub data Quadrant : Type 0 where
   left_down : Quadrant
   right_down : Quadrant
 
--- the quadrant of a point round the centre of the pixel (x, y)
+-- the quadrant round the centre of the pixel (x, y) in which a point lies
 unfoldable pub quadrant : ℤ → ℤ → Point → Quadrant
 quadrant x y p = if int_lt x p.x then (if int_lt y p.y then right_up else right_down) else (if int_lt y p.y then left_up else left_down)
 
--- the quarter turns round the centre, counterclockwise, on the way from one quadrant to another that is
--- the same or beside it (an edge parallel to an axis leads to no other)
+-- the quarter turns round the centre, positive counterclockwise, from one quadrant to the same or a neighbouring one
+-- (an edge parallel to an axis leads to no other)
 abbrev pub quarter : Quadrant → Quadrant → ℤ
 quarter right_up left_up = pos 1
 quarter left_up left_down = pos 1
@@ -41,7 +41,7 @@ quarter_along x y e = quarter (quadrant x y e.from) (quadrant x y e.to)
 unfoldable pub quarter_at : List Point → ℤ → ℤ → ℕ → ℤ
 quarter_at ps x y i = quarter_along x y (edge_at ps i)
 
--- the winding number round the pixel (x, y): four quarter turns make one whole turn
+-- the winding number round the pixel (x, y): the quarter turns along all edges, divided by 4
 unfoldable pub winding : List Point → ℤ → ℤ → ℤ
 winding ps x y = int_div (sum_below (length ps) (quarter_at ps x y)) (pos 4)
 

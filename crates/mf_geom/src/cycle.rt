@@ -9,21 +9,22 @@ use std::error::Error;
 use std::fmt;
 use std::marker::Model;
 
-/// Why a list of points is no cycle, or a cycle fails the turning check. A number is the place, counted from 0, of the first
-/// point, edge or vertex that is at fault; edge i leads from point i to the next one.
+/// Why a list of points is not a cycle, or why a cycle fails the turning check. The number is the index, counted from
+/// 0, of the first point, edge or vertex at fault; edge i leads from point i to the next one, and the last edge leads
+/// back to point 0.
 #[derive(Clone, Copy, Debug, PartialEq, Eq)]
 pub enum CycleFault {
-    /// Refusal 1: fewer than 2 points.
+    /// The list has fewer than 2 points.
     TooFewPoints,
-    /// Refusal 2: more than 4096 points.
+    /// The list has more than 4096 points.
     TooManyPoints,
-    /// Refusal 3: a coordinate outside -4095..4095.
+    /// This point has a coordinate outside -4095..=4095 pixels.
     PointOutOfRange(u32),
-    /// Refusal 4: this point and the next one do not differ in exactly one coordinate.
+    /// The ends of this edge do not differ in exactly one coordinate.
     NotRectilinear(u32),
-    /// Refusal 5, of the turning check: the path turns straight back at this vertex.
+    /// From the turning check: the path turns straight back at this vertex.
     Backtracks(u32),
-    /// Refusal 6, of the turning check: there are as many right turns as left turns.
+    /// From the turning check: there are as many right turns as left turns.
     TurningZero,
 }
 
@@ -47,9 +48,9 @@ impl fmt::Display for CycleFault {
 
 impl Error for CycleFault {}
 
-/// A closed path along the edges of pixels, which can be filled as a contour (The METAFONTbook, chapter 13): 2 to
-/// 4096 points with coordinates in -4095..4095 pixels (mf.web, "edge structures"), each of which differs from the
-/// next one in exactly one coordinate (the last one's next is the first). METAFONT itself fills more paths than these.
+/// A closed path along the edges of pixels, which can be filled as a contour (The METAFONTbook, chapter 13): 2 to 4096
+/// points with coordinates in -4095..=4095 pixels (mf.web, "edge structures"), each of which differs from the next one
+/// in exactly one coordinate. After the last point comes the first. METAFONT itself fills other paths, too.
 #[derive(Debug, Drop)]
 pub struct Cycle {
     points: Vec<Point>,
@@ -75,8 +76,9 @@ impl Cycle {
     ghost use Rattle.mf_geom.specs.Area.{area};
     ghost use Rattle.mf_geom.specs.Winding.{winding};
 
-    /// The cycle through these points, in this order. It takes no memory. Refusals 1 to 4 come in rising
-    /// order: all points are checked for one before any is checked for the next. The list comes back.
+    /// The cycle through these points, in this order. It keeps the list and allocates nothing. Refused with
+    /// `TooFewPoints`, `TooManyPoints`, `PointOutOfRange` or `NotRectilinear`: with the first of them that applies,
+    /// since all points are checked for one before any is checked for the next. A refusal gives the list back.
     pub fn new(points: Vec<Point>) -> Result<Cycle, (CycleFault, Vec<Point>)>
         ensures accepted { IsOk result ↔ IsRectilinearCycle points.items }
         ensures kept { IfOk result (λ cycle. cycle ≡ points.items) }
@@ -89,7 +91,7 @@ impl Cycle {
         }
     }
 
-    /// A cycle through the same points. Refusal OutOfMemory (14): nothing was made then.
+    /// A cycle through the same points. Refused with `OutOfMemory` where an allocation fails.
     pub fn copy(&self, alloc: Global) -> Result<Cycle, OutOfMemory>
         ensures value { IfOk result (λ copy. copy ≡ self.now) }
         ensures lawful { IsRectilinearCycle self.now }
@@ -99,7 +101,7 @@ impl Cycle {
         Ok(Cycle { points })
     }
 
-    /// The points, in the order in which they were given.
+    /// The points, in the order in which `new` was given them.
     pub fn points(&self) -> &[Point]
         ensures points { result.now ≡ self.now }
         ensures lawful { IsRectilinearCycle self.now }
@@ -107,8 +109,8 @@ impl Cycle {
         &self.points
     }
 
-    /// The ends of the edge that leaves vertex `place`, which is below the number of points: the last one leads
-    /// back to the first point.
+    /// The ends of the edge that leaves vertex `place`: from, then to. The last edge leads back to the first point.
+    /// Requires `place` to be below the number of points.
     pub fn edge(&self, place: usize) -> (Point, Point)
         requires within { place < length self.now }
         ensures from { result.0 ≡ (edge_at self.now place).from }
@@ -119,8 +121,9 @@ impl Cycle {
     }
 
     /// The turning number: left turns less right turns, divided by 4 (mf.web, "turning number"). It is positive for a
-    /// cycle that turns counterclockwise. Refusal Backtracks (5), with the first vertex at which the path turns straight
-    /// back: such a cycle has no turning number. It takes no memory.
+    /// cycle that turns counterclockwise. Refused with `Backtracks` and the first vertex at which the path turns
+    /// straight back, since such a cycle has no turning number; never refused with `TurningZero`: a turning number of 0
+    /// is an answer. Allocates nothing.
     #[tactic(auto, unfolding(crate::specs::Lawful::IsFault))]
     pub fn turning(&self) -> Result<i32, CycleFault>
         ensures value { IfOk result (λ number. number ≡ turning self.now) }
@@ -134,8 +137,8 @@ impl Cycle {
         }
     }
 
-    /// The winding number round the pixel (x, y): how often the cycle goes round it, counterclockwise
-    /// positive. It is 0 for a pixel outside the field.
+    /// The winding number round the pixel (x, y), in -4096..=4096: how often the cycle goes round it, positive
+    /// counterclockwise. It is 0 for a pixel outside the field.
     pub fn winding(&self, x: i32, y: i32) -> i32
         ensures value { result ≡ winding self.now x y }
         ensures lawful { IsRectilinearCycle self.now }
@@ -145,8 +148,8 @@ impl Cycle {
         winding::winding(&self.points, x, y)
     }
 
-    /// The signed area in pixels, by the shoelace formula: each pixel counts as often as the cycle winds round
-    /// it counterclockwise.
+    /// The signed area in pixels, by the shoelace formula: each pixel counts as often as the cycle winds round it
+    /// counterclockwise.
     pub fn area(&self) -> i64
         ensures value { result ≡ area self.now }
         ensures lawful { IsRectilinearCycle self.now }

@@ -1,5 +1,5 @@
-//! The edges and the vertices of a closed path, each named by its place in the path's slice of points:
-//! edge i leaves vertex i.
+//! The edges and vertices of a closed path, each given by its index in the path's slice of points: edge i leaves vertex
+//! i.
 ghost use Rattle.std.specs.Prelude.{◌≡◌, ◌↔◌, ◌<◌, ◌⊎◌, ◌≢◌, pos, negsuc, ◌+ℤ◌, ◌-ℤ◌, ◌*ℤ◌, ◌≤ℤ◌, length, IsTrue};
 ghost use Rattle.mf_geom.specs.Area.{shoelace_at};
 ghost use Rattle.mf_geom.specs.Lawful.{StaysInReach};
@@ -53,7 +53,7 @@ pub fn turn(points: &[Point], vertex: usize) -> i32
     (product(arriving.across, leaving.up) - product(arriving.up, leaving.across)).signum()
 }
 
-/// The part of the shoelace sum that an edge gives.
+/// What an edge contributes to the shoelace sum.
 pub fn shoelace(points: &[Point], edge: usize) -> i32
     requires reach { StaysInReach points.now }
     requires within { edge < length points.now }
@@ -65,7 +65,7 @@ pub fn shoelace(points: &[Point], edge: usize) -> i32
     product(from.x, to.y) - product(to.x, from.y)
 }
 
-/// How far the edge leads that leaves this vertex.
+/// How far the edge that leaves this vertex leads.
 fn step_along(points: &[Point], edge: usize) -> Step
     requires reach { StaysInReach points.now }
     requires within { edge < length points.now }
@@ -91,7 +91,7 @@ pub fn ends(points: &[Point], edge: usize) -> (Point, Point)
     (points[edge], points[next_place(points, edge)])
 }
 
-/// The place after this one: behind the last point comes the first.
+/// The index after this one: after the last point comes the first.
 #[tactic(auto, unfolding(crate::specs::Path::next_place))]
 fn next_place(points: &[Point], place: usize) -> usize
     requires { place < length points.now }
@@ -105,7 +105,7 @@ fn next_place(points: &[Point], place: usize) -> usize
     }
 }
 
-/// The place before this one: before the first point stands the last.
+/// The index before this one: before the first point comes the last.
 #[tactic(auto, unfolding(crate::specs::Path::previous_place))]
 fn previous_place(points: &[Point], place: usize) -> usize
     requires { place < length points.now }
@@ -119,7 +119,8 @@ fn previous_place(points: &[Point], place: usize) -> usize
     }
 }
 
-/// The product of two coordinates, or of how far two edges lead. It fits: none of them is beyond 8190.
+/// The product of two coordinates, or of the lengths of two edges. It fits 32 bits, since neither factor exceeds 8190
+/// in absolute value.
 fn product(a: i32, b: i32) -> i32
     requires a_least { negsuc 8189 ≤ℤ a }
     requires a_greatest { a ≤ℤ pos 8190 }

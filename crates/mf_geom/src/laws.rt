@@ -1,4 +1,5 @@
-//! Laws of the definitions: each is the contract of a function that does nothing.
+//! Laws of the definitions. Each is the contract of a function that does nothing: the toolchain proves a statement only
+//! where a function's contract names it.
 ghost use Rattle.std.specs.Prelude.{◌≡◌, ◌↔◌, ℤ, pos, ◌*ℤ◌, List, length, Some, None};
 ghost use Rattle.std.specs.Int.{int_signum};
 ghost use Rattle.mf_geom.specs.declared.point.Point.{Point};
@@ -13,8 +14,9 @@ ghost use Rattle.mf_geom.specs.Sum.{sum_below};
 ghost use Rattle.mf_geom.specs.Turning.{turn_at, turning};
 ghost use Rattle.mf_geom.specs.Winding.{quarter_at, winding, contour};
 
-/// The winding numbers of a cycle round all pixels of the field add up to its signed area; what filling the cycle
-/// adds there is its weight times its signed area, under the turning check also times the sign of its turning number.
+/// The winding numbers of a cycle, summed over all pixels of the field, are its signed area. What filling the cycle
+/// adds, summed so, is the weight times the signed area, and under the turning check also times the sign of the turning
+/// number.
 pub fn total_is_area()
     ensures windings { (ps : List Point) → IsRectilinearCycle ps → sum_over_field (winding ps) ≡ area ps }
     ensures filled { (ps : List Point) (w : ℤ) → IsRectilinearCycle ps →
@@ -23,34 +25,35 @@ pub fn total_is_area()
         sum_over_field (contour ps w Off) ≡ w *ℤ area ps }
 {}
 
-/// A rectilinear cycle winds round no pixel outside the field, so filling it never reaches beyond.
+/// A rectilinear cycle winds round no pixel outside the field, so filling it changes nothing there.
 pub fn nothing_outside_the_field()
     ensures { (ps : List Point) (x y : ℤ) → IsRectilinearCycle ps → ¬ IsInField x y →
         winding ps x y ≡ pos 0 }
 {}
 
-/// Round every pixel a rectilinear cycle makes whole turns: its quarter turns add up to four times the
-/// winding number, so nothing is lost by the division.
+/// Round every pixel a rectilinear cycle makes whole turns: its quarter turns add up to four times the winding number,
+/// so the division loses nothing.
 pub fn whole_turns()
     ensures { (ps : List Point) (x y : ℤ) → IsRectilinearCycle ps →
         sum_below (length ps) (quarter_at ps x y) ≡ pos 4 *ℤ winding ps x y }
 {}
 
-/// The turns of a rectilinear path that never turns straight back add up to four times its turning
-/// number, so nothing is lost by the division.
+/// The turns of a rectilinear path that never turns straight back add up to four times its turning number, so the
+/// division loses nothing.
 pub fn whole_turn_of_a_path()
     ensures { (ps : List Point) → NeverReverses ps →
         sum_below (length ps) (turn_at ps) ≡ pos 4 *ℤ turning ps }
 {}
 
-/// The shoelace sum of a rectilinear cycle is twice its area, so nothing is lost by the division.
+/// The shoelace sum of a rectilinear cycle is twice its area, so the division loses nothing.
 pub fn area_is_whole()
     ensures { (ps : List Point) → IsRectilinearCycle ps →
         sum_below (length ps) (shoelace_at ps) ≡ pos 2 *ℤ area ps }
 {}
 
-/// A list of points is a cycle that passes the turning check, or it has exactly one fault. It is a cycle exactly where it has
-/// none of the faults 1 to 4, and a cycle has no other fault than those of the turning check.
+/// A list of points either is a cycle that passes the turning check or has exactly one fault. It is a cycle exactly
+/// where it has none of the faults `TooFewPoints`, `TooManyPoints`, `PointOutOfRange` and `NotRectilinear`, and a cycle
+/// has no fault but those of the turning check.
 pub fn one_fault()
     ensures refused { (ps : List Point) (fault : CycleFault) → IsFault ps fault ↔ fault_of ps ≡ Some fault }
     ensures accepted { (ps : List Point) → PassesCheck ps ↔ fault_of ps ≡ None }
@@ -58,8 +61,8 @@ pub fn one_fault()
     ensures checked { (ps : List Point) → IsRectilinearCycle ps → fault_of ps ≡ turning_fault ps }
 {}
 
-/// The winding number of a rectilinear cycle counts how often it crosses the ray that leads left from the
-/// pixel's centre: downwards less upwards (mf.web fills by the sides of the cycle in the same way).
+/// The winding number of a rectilinear cycle counts its crossings of the ray that leads left from the pixel's centre,
+/// downwards less upwards (mf.web fills by the sides of the cycle in the same way).
 pub fn winding_counts_crossings()
     ensures { (ps : List Point) (x y : ℤ) → IsRectilinearCycle ps →
         winding ps x y ≡ sum_below (length ps) (crossing_at ps x y) }

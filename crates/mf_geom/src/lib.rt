@@ -1,5 +1,5 @@
-//! Cycles, METAFONT's closed paths, here rectilinear ones: their turning number, their winding number
-//! round a pixel, and their area.
+//! Cycles, METAFONT's closed paths, here rectilinear ones only, with their turning number, their winding numbers round
+//! pixels, and their area.
 #![tactic(auto)]
 
 mod check;

@@ -1,11 +1,11 @@
-//! Want of memory.
+//! Running out of memory.
 
 use std::alloc::{AllocError, AllocFailed};
 use std::error::Error;
 use std::fmt;
 
-/// Refusal 14: a growth was refused. Where a call that answers it has changed something, or gives something back, it says
-/// so.
+/// An allocation failed. A call that has changed something by then, or that gives something back, says so in its
+/// documentation.
 #[derive(Clone, Copy, Debug, PartialEq, Eq)]
 pub struct OutOfMemory;
 

@@ -1,4 +1,5 @@
-//! Closed paths as slices of their points: why one is no cycle, where it turns straight back, its turning number and its area.
+//! Closed paths as slices of their points: why one is not a cycle, where it turns straight back, its turning number and
+//! its area.
 ghost use Rattle.std.specs.Prelude.{◌≡◌, ◌↔◌, ℕ, ◌<◌, ◌≤◌, pos, length, true, false, IfNone, IfSome, IsTrue};
 ghost use Rattle.mf_geom.specs.Area.{area};
 ghost use Rattle.mf_geom.specs.Lawful.{IsFault, IsFirst, IsRectilinearCycle, HasLawfulLength, StaysInReach};
@@ -9,13 +10,13 @@ use crate::cycle::CycleFault;
 use crate::edge::{is_rectilinear, is_reversal, shoelace, turn};
 use crate::point::{MAX_COORDINATE, Point};
 
-/// Least number of points of a cycle (`CycleFault::TooFewPoints`).
+/// The least number of points of a cycle (`CycleFault::TooFewPoints`).
 const MIN_POINTS: usize = 2;
 
-/// Greatest number of points of a cycle (`CycleFault::TooManyPoints`).
+/// The greatest number of points of a cycle (`CycleFault::TooManyPoints`).
 pub const MAX_POINTS: usize = 4096;
 
-/// Why a closed path is no cycle, if it is none.
+/// Why a closed path is not a cycle; `None` where it is one.
 #[tactic(auto, unfolding(crate::specs::Lawful::IsFault))]
 pub fn form_fault(points: &[Point]) -> Option<CycleFault>
     ensures none { IfNone result (IsRectilinearCycle points.now) }
@@ -61,7 +62,7 @@ pub fn area(points: &[Point]) -> i64
     doubled / 2
 }
 
-/// The first point out of reach.
+/// The index of the first point out of reach.
 fn first_out_of_reach(points: &[Point]) -> Option<u32>
     requires { HasLawfulLength points.now }
     ensures none { IfNone result ((k : ℕ) → k < length points.now → IsInReach (point_at points.now k)) }
@@ -70,7 +71,7 @@ fn first_out_of_reach(points: &[Point]) -> Option<u32>
     first_place(points.len(), |place| !is_in_reach(points[place]))
 }
 
-/// The first edge that is not rectilinear.
+/// The index of the first edge that is not rectilinear.
 fn first_not_rectilinear(points: &[Point]) -> Option<u32>
     requires { StaysInReach points.now }
     ensures none { IfNone result ((k : ℕ) → k < length points.now → IsRectilinear (edge_at points.now k)) }
@@ -88,7 +89,7 @@ pub fn first_reversal(points: &[Point]) -> Option<u32>
     first_place(points.len(), |vertex| is_reversal(points, vertex))
 }
 
-/// The first of the places below `count` at which `at_fault` answers true.
+/// The first index below `count` for which `at_fault` answers true.
 fn first_place<F: Fn(usize) -> bool>(count: usize, at_fault: F) -> Option<u32>
     requires few { count ≤ 4096 }
     requires callable { (k : ℕ) → k < count → F.pre at_fault k }

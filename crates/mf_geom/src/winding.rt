@@ -7,7 +7,8 @@ ghost use Rattle.mf_geom.specs.Winding.{winding};
 use crate::edge::ends;
 use crate::point::Point;
 
-/// The winding number of a closed path round the pixel (x, y).
+/// The winding number of a closed path round the pixel (x, y), counted at a ray from its centre (the law
+/// `winding_counts_crossings`).
 pub fn winding(points: &[Point], x: i32, y: i32) -> i32
     requires { IsRectilinearCycle points.now }
     ensures value { result ≡ winding points.now x y }
@@ -37,7 +38,7 @@ fn crossing(points: &[Point], edge: usize, x: i32, y: i32) -> i32
     passed(y, to.y) - passed(y, from.y)
 }
 
-/// 1 where the number `a` is at most `x`, and 0 where it lies beyond.
+/// 1 where `a` is at most `x`, and 0 where it is greater.
 #[tactic(auto, unfolding(crate::specs::Crossing::passed))]
 fn passed(x: i32, a: i32) -> i32
     ensures value { result ≡ passed x a }

@@ -1,4 +1,4 @@
-//! Lists of points whose answer is known.
+//! Lists of points whose answers are known.
 
 mod assertions;
 mod cycles;
@@ -14,7 +14,7 @@ type Corners = &'static [(i32, i32)];
 /// A square of one pixel.
 const PIXEL: Corners = &[(0, 0), (1, 0), (1, 1), (0, 1)];
 
-/// A rectangle of 3 by 2 pixels, and the same rectangle clockwise.
+/// A rectangle of 3 by 2 pixels, counterclockwise; below it the same rectangle, clockwise.
 const RECTANGLE: Corners = &[(0, 0), (3, 0), (3, 2), (0, 2)];
 
 const CLOCKWISE: Corners = &[(0, 0), (0, 2), (3, 2), (3, 0)];
@@ -22,10 +22,10 @@ const CLOCKWISE: Corners = &[(0, 0), (0, 2), (3, 2), (3, 0)];
 /// A figure of eight: two squares that meet, one walked counterclockwise and the other clockwise.
 const EIGHT: Corners = &[(0, 0), (1, 0), (1, 2), (2, 2), (2, 1), (0, 1)];
 
-/// The greatest square.
+/// The largest square that points in reach can make.
 const REACH: Corners = &[(-4095, -4095), (4095, -4095), (4095, 4095), (-4095, 4095)];
 
-/// The points of the path, walked so many times.
+/// The points of the path, walked `times` times.
 fn walk<R: Abort + AllocGlobal>(rt: &R, corners: Corners, times: usize) -> Vec<Point> {
     let mut points = Vec::new(rt.alloc());
     for _ in 0..times {
@@ -38,7 +38,7 @@ fn walk<R: Abort + AllocGlobal>(rt: &R, corners: Corners, times: usize) -> Vec<P
     points
 }
 
-/// The cycle through the points of the path, walked so many times.
+/// The cycle through the points of the path, walked `times` times.
 fn cycle_of<R: Abort + AllocGlobal>(rt: &R, corners: Corners, times: usize) -> Cycle {
     match Cycle::new(walk(rt, corners, times)) {
         Ok(cycle) => cycle,

@@ -1,4 +1,4 @@
--- The box of the black pixels of a picture, grown from one stretch to the next.
+-- The box of the black pixels of a picture, widened by one stretch after another.
 use Rattle.std.proofs.Common.{◌≡◌, ℕ, zero, suc, ◌≤◌, ℤ, pos, ◌+ℤ◌, Option, None, Some, List, [], ◌∷◌, ◌++◌, refl, sym, ap, ◌∙◌, arith}
 use Rattle.std.specs.Int.{int_max, int_min}
 use Rattle.std.specs.Option.{unwrap_or}
@@ -53,7 +53,7 @@ box_of-stretch y x w (suc n) =
 
 -- ---- the box of the stretches of a picture
 
--- the box of some pixels, none where there is none
+-- the box of some pixels, or no box where there are none
 abbrev pub some_box : List Dot → Option CharacterBox
 some_box [] = None
 some_box (d ∷ ds) = Some (box_of (d ∷ ds))
@@ -65,7 +65,7 @@ some_box-stretch [] y x w (suc n) some = ap Some (box_of-stretch y x w n)
 some_box-stretch (d ∷ ds) y x w (suc n) some =
     ap Some (box_of-append d ds (record { y = y; x = x; weight = w }) (stretch y (x +ℤ pos 1) w n) ∙ ap (joined (box_of (d ∷ ds))) (box_of-stretch y x w n))
 
--- the box of the pixels before those of the last runs
+-- b is the box of the pixels that come before those of the remaining runs
 pub record IsBoxBefore (ds : List Dot) (rs : List Run) (b : Option CharacterBox) : Type 0 where
   pub passed : List Dot
   pub passes : ArePassed ds rs passed

@@ -1,4 +1,4 @@
--- The black pixels of a picture, and the runs that have them.
+-- The black pixels of a picture, and the runs that contain them.
 use Rattle.std.proofs.Common.{◌≡◌, ℕ, zero, suc, true, false, ℤ, pos, ◌+ℤ◌, ◌≤ℤ◌, List, [], ◌∷◌, ◌++◌, refl, sym, ap, ◌∙◌, arith}
 use Rattle.std.specs.Prelude.{int_lt}
 use Rattle.std.specs.List.{All, flat_map}
@@ -16,7 +16,7 @@ use Rattle.mf_rows.proofs.Totals.{total_none}
 use Rattle.mf_gf.specs.Ahead.{blacks, AreInOrder}
 use Rattle.mf_gf.specs.Pixels.{black}
 
--- ---- the dots of a run are black, or none is
+-- ---- all dots of a run are black, or none is
 
 black-stretch : (y x w : ℤ) (n : ℕ) (ds : List Dot) → int_lt (pos 0) w ≡ true → black (stretch y x w n ++ ds) ≡ stretch y x (pos 1) n ++ black ds
 unfolding black stretch
@@ -47,7 +47,7 @@ black-runs (r ∷ rs) =
 pub black-blacks : (ds : List Dot) → flat_map dots_of (blacks (runs_of ds)) ≡ black ds
 black-blacks ds = sym (black-runs (runs_of ds)) ∙ ap black (dots_of-runs_of ds)
 
--- ---- they are in reading order
+-- ---- black pixels are in reading order
 
 pub black-from : (low : ℤ) (ds : List Dot) → AreDotsFrom low ds → AreDotsFrom low (black ds)
 unfolding black
@@ -69,7 +69,7 @@ stretches-lawful ds picture = (total_none (black ds) (runs_of (black ds)) (black
 
 -- ---- the black runs of a picture
 
--- a run of weight 1
+-- the weight of a run is 1
 abbrev pub IsBlack : Run → Type 0
 IsBlack r = r.weight ≡ pos 1
 
@@ -113,13 +113,13 @@ blacks_in_order ds picture = record {
 
 -- ---- the runs of an iterator, passed one after another
 
--- a run of positive weight is the next black one
+-- a run of positive weight is the next black run
 pub black_taken : (rs others : List Run) (r : Run) → rs ≡ r ∷ others → int_lt (pos 0) r.weight ≡ true → blacks rs ≡ record { y = r.y; x = r.x; len = r.len; weight = pos 1 } ∷ blacks others
 unfolding blacks
 black_taken rs others r first positive =
     ap blacks first ∙ cond-true (int_lt (pos 0) r.weight) (record { y = r.y; x = r.x; len = r.len; weight = pos 1 } ∷ blacks others) (blacks others) positive
 
--- any other run is passed
+-- any other run is skipped
 pub other_passed : (rs others : List Run) (r : Run) → rs ≡ r ∷ others → int_lt (pos 0) r.weight ≡ false → blacks rs ≡ blacks others
 unfolding blacks
 other_passed rs others r first not_positive =

@@ -1,4 +1,4 @@
--- The runs of a set of pixels, as stretches of black pixels that a pen goes to one after another.
+-- The runs of a set of pixels, as stretches of black pixels that a pen can paint one after another.
 use Rattle.std.proofs.Common.{◌≡◌, ℤ, pos, negsuc, ◌+ℤ◌, ◌≤ℤ◌, List, [], ◌∷◌, sym, subst, subst₂, arith}
 use Rattle.std.specs.List.{All}
 use Rattle.std.proofs.lemmas.Bool.{cond_both}
@@ -11,7 +11,7 @@ use Rattle.mf_rows.proofs.PlacesLemmas.{place-next}
 use Rattle.mf_rows.proofs.RunsLemmas.{continued}
 use Rattle.mf_gf.proofs.DrawnRows.{IsNext, AreNext}
 
--- a dot of weight 1 at or behind a place
+-- a dot of weight 1 at a place or after it is a stretch that the pen can go to
 next_dot : (left row column : ℤ) (d : Dot) → negsuc 4094 ≤ℤ left → left ≤ℤ column → row ≤ℤ pos 4094 → IsDot d → d.weight ≡ pos 1 → left ≤ℤ d.x → place column row ≤ℤ place d.x d.y → IsNext left row column (run_from d 0)
 unfolding run_from place
 next_dot left row column d field_left column_left field_top dot one start behind =
@@ -28,7 +28,7 @@ next_dot left row column d field_left column_left field_top dot one start behind
       behind = λ same. omega (arith, ints, behind, same);
     }
 
--- and the run that it lengthens
+-- so is the run that this dot lengthens
 next_longer : (left row column : ℤ) (d : Dot) (r : Run) → IsNext left row column (run_from d 0) → IsFollowedBy (run_from d 0) r → IsNext left d.y (d.x +ℤ pos 1) r → IsNext left row column (run_from d r.len)
 unfolding run_from
 next_longer left row column d r first joined next = record {
@@ -55,7 +55,7 @@ next_with_dot left row column d (r ∷ rs) first others =
     ))
     (λ no. (first, others))
 
--- the runs of dots of weight 1, each from a place on
+-- the pen can go from run to run, starting at a place before the first one
 pub next_runs : (left row column : ℤ) (ds : List Dot) → negsuc 4094 ≤ℤ left → left ≤ℤ column → row ≤ℤ pos 4094 → AreDotsFrom (place column row) ds → All (λ d. d.weight ≡ pos 1) ds → All (λ d. left ≤ℤ d.x) ds → AreNext left row column (runs_of ds)
 unfolding runs_of
 next_runs left row column [] field_left column_left field_top dots ones starts = tt

@@ -18,19 +18,19 @@ use Rattle.mf_gf.specs.Places.{IsInReach}
 use Rattle.mf_gf.proofs.BoxesInReach.{IsBoxInReach}
 use Rattle.mf_gf.specs.Spelling.{is_byte, is_short, short_begin, long_begin, begin}
 
--- the left end and the top of a box are numbers of the field
+-- the left end and the top of a box are coordinates that the field allows
 pub record IsSmall (b : CharacterBox) : Type 0 where
   pub left : negsuc 4094 ≤ℤ b.min_m
   pub right : b.min_m ≤ℤ pos 4094
   pub bottom : negsuc 4094 ≤ℤ b.max_n
   pub top : b.max_n ≤ℤ pos 4094
 
--- a pixel stands in or behind the first column of a box, in its top row or below
+-- a pixel lies in the first column of a box or to the right of it, and in its top row or below
 pub record StandsIn (b : CharacterBox) (d : Dot) : Type 0 where
   pub column : b.min_m ≤ℤ d.x
   pub row : d.y ≤ℤ b.max_n
 
--- a box lies round pixels, as far as its left end and its top go
+-- a box encloses pixels, as far as its left end and its top are concerned
 pub record IsBoxRound (b : CharacterBox) (ds : List Dot) : Type 0 where
   pub small : IsSmall b
   pub dots : All (StandsIn b) ds
@@ -58,13 +58,13 @@ box_round_dots low [] dots = record { small = record { left = omega (arith, ints
 box_round_dots low (d ∷ []) dots = box_round_pixel d dots.0
 box_round_dots low (d ∷ e ∷ ds) dots = box_round_more (box_of (e ∷ ds)) d (e ∷ ds) dots.0 (box_round_dots (place d.x d.y +ℤ pos 1) (e ∷ ds) dots.2)
 
--- so the pixels may be painted from its left end and top on
+-- so a pen that starts at the left end and the top of the box can paint the pixels
 pub dots_from_box : (low : ℤ) (b : CharacterBox) (ds : List Dot) → AreDotsFrom low ds → IsBoxRound b ds → AreDotsFrom (place b.min_m b.max_n) ds
 unfolding place
 dots_from_box low b [] dots round = tt
 dots_from_box low b (d ∷ ds) dots round = let first = All-head (StandsIn b) d ds round.dots in (dots.0, omega (arith, ints, first), dots.2)
 
--- a signed number of four bytes
+-- a signed number of four bytes is read back
 pub word-reads_back : (z : ℤ) (rest : List ℕ) → IsWord z → twos_complement 4 (big_number 4 (word z ++ rest)) ≡ z
 word-reads_back (pos n) rest fits =
     let greatest = fits.greatest in
@@ -77,7 +77,7 @@ word-reads_back (negsuc n) rest fits =
     ∙ cond-false (nat_lt x (2 ^ 31)) (pos x) (pos x -ℤ pos (2 ^ 32)) (le-ltb x (2 ^ 31) (omega (arith, ints)))
     ∙ omega (arith, ints)
 
--- those that the field allows are such
+-- coordinates that the field allows are such numbers
 reach_fits : (z : ℤ) → IsInReach z → IsWord z
 reach_fits z reach = record { least = omega (arith, ints, reach.least); greatest = omega (arith, ints, reach.greatest) }
 
@@ -85,7 +85,7 @@ byte-reads_back : (z : ℤ) → is_byte z ≡ true → pos (unsigned_abs z) ≡ 
 byte-reads_back (pos n) fits = refl
 byte-reads_back (negsuc n) fits = absurd (false≢true fits)
 
--- the numbers of a box that fits into fields of one byte
+-- the numbers of a box that fits into one-byte fields are read back
 record AreReadBack (b : CharacterBox) : Type 0 where
   left : pos (unsigned_abs b.max_m) -ℤ pos (unsigned_abs (b.max_m -ℤ b.min_m)) ≡ b.min_m
   right : pos (unsigned_abs b.max_m) ≡ b.max_m
@@ -103,7 +103,7 @@ short-reads_back b short =
     let first = byte-reads_back b.max_n height.1 in
     record { left = omega (arith, ints, columns, last); right = last; bottom = omega (arith, ints, rows, first); top = first }
 
--- the bytes that begin a character, read back
+-- the bytes that begin a character are read back
 pub head-begin : (code : ℕ) (p : ℤ) (b : CharacterBox) (rest : List ℕ) → code < 256 → IsWord p → IsBoxInReach b
     → head_of (begin code p b ++ rest) ≡ Some (record { code = pos code; earlier = p; box = b })
 unfolding head_of
@@ -125,7 +125,7 @@ head-begin code p b rest fits p_fits reach =
     let top = word-reads_back b.max_n rest (reach_fits _ reach.rows.1) in
     λ t. Some (record { code = code_is t; earlier = earlier_is t; box = record { min_m = left t; max_m = right t; min_n = bottom t; max_n = top t } }))
 
--- so the commands behind them paint from the left end and the top of the box on
+-- so the commands after them start at the left end and the top of the box
 pub paint-begin : (code : ℕ) (p : ℤ) (b : CharacterBox) (rest : List ℕ) → IsBoxInReach b → painting.paint (begin code p b ++ rest) ≡ drawn_in b rest
 unfolding painting.paint
 paint-begin code p b rest reach =

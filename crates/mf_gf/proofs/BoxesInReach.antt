@@ -1,4 +1,4 @@
--- The ends of the box of a picture are numbers that the field allows.
+-- The ends of the box of a picture are coordinates that the field allows.
 use Rattle.std.proofs.Common.{◌≡◌, ℤ, pos, ◌+ℤ◌, List, [], ◌∷◌, sym, ap, subst, ◌∙◌, arith}
 use Rattle.std.specs.Prelude.{int_lt}
 use Rattle.std.specs.Int.{int_max, int_min}
@@ -53,7 +53,7 @@ box_from low (d ∷ e ∷ ds) dots =
       rows = (min_in_reach _ _ first.rows.0 others.rows.0, max_in_reach _ _ first.rows.1 others.rows.1);
     }
 
--- dots whose stretches lie before an iterator are a picture
+-- where the stretches of these dots are those ahead of an iterator, the dots are a picture
 picture_ahead : (s : Stretches) (ds : List Dot) → AreInOrder (blacks_ahead s) → stretches_left s ≡ runs_of ds → IsPicture ds
 picture_ahead s ds order ahead =
     let dots = flat_map dots_of (blacks_ahead s) in

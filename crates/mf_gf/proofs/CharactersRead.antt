@@ -1,4 +1,4 @@
--- The characters of a file, read back by p.
+-- The characters of a file, read back from p to p.
 use Rattle.std.proofs.Common.{◌≡◌, ◌<◌, ◌≤◌, ◌==◌, ◌||◌, ℕ, Bool, true, false, ℤ, pos, if◌then◌else◌, List, [], ◌∷◌, ◌++◌, map, reverse, length, take, drop, Some, option_map, is_some, refl, ap, sym, subst, ◌∙◌, append_assoc, append-nil, length-append, eqb-true, arith}
 use Rattle.std.specs.List.{All, filter, list_any}
 use Rattle.std.proofs.Math.Seq.{drop-append_seam, take-append_seam}
@@ -32,7 +32,7 @@ head-spell code p ds rest fits p_fits set =
     ∙ ap head_of (append_assoc (begin code p b) (all ++ 69 ∷ []) rest)
     ∙ head-begin code p b (all ++ 69 ∷ [] ++ rest) fits p_fits (box_from start_of_field ds set.picture.dots)
 
--- a character stands in bytes at its place, and has this p
+-- a character is in the bytes at its place, and has this p
 pub record StandsAt (bytes : List ℕ) (s : Shipment) (p : ℤ) : Type 0 where
   pub shippable : IsShippable s.character
   pub before : s.place ≤ length bytes
@@ -52,7 +52,7 @@ is_at file s p stands fits =
 
 -- ---- all of them
 
--- each stands, and its p is the place of the last one of its code before it
+-- each character is at its place, and its p is the place of the last one with its code before it
 abbrev pub AllStand : List ℕ → List Shipment → Type 0
 AllStand bytes [] = Unit {0}
 AllStand bytes (s ∷ shipped) = StandsAt bytes s (pointer (last_place s.character.code shipped)) × AllStand bytes shipped
@@ -86,7 +86,7 @@ stand_from f (c ∷ cs) shippable stand =
 pub all_stand : (comment : List ℕ) (cs : List Character) → All IsShippable cs → AllStand (front comment cs) (shipments comment cs)
 all_stand comment cs shippable = stand_from _ cs shippable tt
 
--- the last one of a code stands
+-- the last character with a code is at its place
 pub record LastStands (bytes : List ℕ) (s : Shipment) : Type 0 where
   pub p : ℤ
   pub stands : StandsAt bytes s p
@@ -99,7 +99,7 @@ last_stands bytes code s (t ∷ shipped) stand is =
     (λ yes found. let same : t ≡ s = cc in subst (LastStands bytes) same (record { p = pointer (last_place t.character.code shipped); stands = stand.0 }))
     (λ no found. last_stands bytes code s shipped stand.1 found) is
 
--- p is a number of four bytes
+-- p is a signed number of four bytes
 pointer_fits : (bytes : List ℕ) (code : ℕ) (shipped : List Shipment) → length bytes < 2147483648 → AllStand bytes shipped → IsWord (pointer (last_place code shipped))
 unfolding last_of
 pointer_fits bytes code [] short stand = record { least = omega (arith, ints); greatest = omega (arith, ints) }
@@ -116,7 +116,7 @@ character_of s = s.character
 abbrev pub of_code : ℕ → List Character → List Character
 of_code code characters = filter (λ (c : Character). c.code == code) characters
 
--- from the last one of a code p leads to all of them
+-- p leads from the last character with a code to all of them
 pub leads_back : (front file : List ℕ) (code : ℕ) (shipped : List Shipment) → length front < 2147483648 → AllStand front shipped → AllStand file shipped
     → LeadsBack file (pointer (last_place code shipped)) (of_code code (map character_of shipped))
 unfolding last_of LeadsBack
@@ -135,7 +135,7 @@ leads_back front file code (s ∷ shipped) short stand whole =
     (s.place, refl, p, this, subst (λ c. LeadsBack file (pointer (last_place c shipped)) (of_code code (map character_of shipped))) (sym same) (leads_back front file code shipped short stand.1 whole.1)))
     (λ no. leads_back front file code shipped short stand.1 whole.1)
 
--- the first of them is the last one of the code
+-- c is the first of these characters
 pub record BeginsWith (cs : List Character) (c : Character) : Type 0 where
   pub others : List Character
   pub all : cs ≡ c ∷ others
@@ -149,7 +149,7 @@ last_is_first code s (t ∷ shipped) is =
     (λ yes found. let same : t ≡ s = cc in record { others = others; all = ap (λ (it : Shipment). it.character ∷ others) same })
     (λ no found. last_is_first code s shipped found) is
 
--- those that were shipped, from the last to the first
+-- the characters that were shipped, from the last to the first
 characters_with : (f : FileSoFar) (cs : List Character) → map character_of (with_characters f cs).shipped ≡ reverse cs ++ map character_of f.shipped
 unfolding with_characters
 characters_with f [] = refl
@@ -163,7 +163,7 @@ characters_shipped comment cs = characters_with _ cs ∙ append-nil (reverse cs)
 
 -- ---- codes
 
--- a code has a last character where it was shipped
+-- whether a code has a last character
 abbrev pub has_last : ℕ → List Shipment → Bool
 has_last code shipped = is_some (last_of code shipped)
 

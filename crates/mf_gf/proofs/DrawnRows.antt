@@ -1,4 +1,4 @@
--- The pixels that stretches of black pixels, one after another, make black.
+-- The pixels that stretches of black pixels, painted one after another, make black.
 use Rattle.std.proofs.Common.{◌≡◌, ℕ, ◌+◌, ◌-◌, ◌≤◌, nat_le, ◌==◌, ◌&&◌, true, false, if◌then◌else◌, ℤ, pos, negsuc, ◌+ℤ◌, ◌-ℤ◌, ◌≤ℤ◌, List, [], ◌∷◌, ◌++◌, Some, option_map, refl, sym, ap, ◌∙◌, append_assoc, arith}
 use Rattle.std.specs.List.{flat_map}
 use Rattle.std.specs.Ordering.{int_eq}
@@ -12,7 +12,7 @@ use Rattle.mf_gf.specs.Painting.{Stroke, Paint, Skip, NewRow, Pen, drawn, pen_at
 use Rattle.mf_gf.specs.Spelling.{paint, skip, new_row, between, approach, rows}
 use Rattle.mf_gf.proofs.ReadBack.{Spells, spells_none, spells_one, spells_both, strokes-spelled, writes_paint, writes_skip, writes_new_row}
 
--- a stretch of black pixels that a pen may go to from a place in the same row or above it
+-- a stretch of black pixels to which a pen can go from a position in the same row or above it
 pub record IsNext (left row column : ℤ) (r : Run) : Type 0 where
   pub weight : r.weight ≡ pos 1
   pub field_left : negsuc 4094 ≤ℤ left
@@ -24,25 +24,25 @@ pub record IsNext (left row column : ℤ) (r : Run) : Type 0 where
   pub bottom : negsuc 4094 ≤ℤ r.y
   pub behind : r.y ≡ row → column ≤ℤ r.x
 
--- stretches of black pixels, each from the end of the one before it on
+-- stretches of black pixels, to each of which a pen can go from the end of the one before it
 abbrev pub AreNext : ℤ → ℤ → ℤ → List Run → Type 0
 AreNext left row column [] = Unit {0}
 AreNext left row column (r ∷ rs) = IsNext left row column r × AreNext left r.y (r.x +ℤ pos r.len) rs
 
--- the machine in a row and column, white or black
+-- the machine at a row and column, in white or black
 abbrev white_at : ℤ → ℤ → ℤ → Pen
 white_at left row column = record { row = row; column = column; left = left; is_black = false }
 
 abbrev black_at : ℤ → ℤ → ℤ → Pen
 black_at left row column = record { row = row; column = column; left = left; is_black = true }
 
--- black, it paints a run
+-- while it is black, the machine paints a run
 drawn_run : (left y x : ℤ) (r : Run) (others : List Stroke) → y ≡ r.y → x ≡ r.x → r.weight ≡ pos 1
     → drawn (black_at left y x) (Paint r.len ∷ others) ≡ dots_of r ++ drawn (white_at left r.y (r.x +ℤ pos r.len)) others
 unfolding drawn dots_of
 drawn_run left y x r others row column weight = rw (row, column, weight) refl
 
--- bytes that take the pen from a place to the beginning of a run
+-- bytes that take the pen from a position to the start of a run
 record Approaches (left row column : ℤ) (r : Run) (bytes : List ℕ) : Type 0 where
   commands : List Stroke
   spelled : Spells bytes commands
@@ -92,7 +92,7 @@ approaches left row column r next =
     (λ yes. let tests = and_parts (between row r.y == 1) (nat_le (between r.x left) 164) yes in in_next_row left row column r next (eqb-true (between row r.y) 1 tests.0) (leb-true (between r.x left) 164 tests.1))
     (λ far. in_lower_row left row column r next (λ same. false≢true (sym no ∙ (Decides-int_eq r.y row).1 same))))
 
--- bytes that make pixels black, from a place on
+-- bytes that make these pixels black, starting at a position
 record Draws (left row column : ℤ) (bytes : List ℕ) (ds : List Dot) : Type 0 where
   commands : List Stroke
   spelled : Spells bytes commands
@@ -111,7 +111,7 @@ draws_rows left row column (r ∷ rs) next =
       drawn = first.drawn others.commands ∙ ap (λ more. dots_of r ++ more) others.drawn;
     }
 
--- from the top left corner of a box
+-- the same, starting at the top left corner of a box
 pub drawn_from-rows : (left top : ℤ) (rs : List Run) → AreNext left top left rs → drawn_from left top (rows left top left rs ++ 69 ∷ []) ≡ Some (flat_map dots_of rs)
 drawn_from-rows left top rs next =
     let all = draws_rows left top left rs next in

@@ -1,4 +1,4 @@
--- The ending of a file, whose padding is known only where what stands before it has room.
+-- The ending of a file. Its padding is known only where there is room for what comes before it.
 use Rattle.std.proofs.Common.{◌≡◌, ℕ, ◌+◌, ◌<◌, List, [], ◌∷◌, ◌++◌, length, take, pos, subst, ◌∙◌, ⊎_elim, arith, length-append}
 use Rattle.std.specs.Prelude.{replicate}
 use Rattle.std.proofs.lemmas.Bool.{cases_lt}
@@ -9,7 +9,7 @@ use Rattle.mf_gf.specs.Numbers.{word}
 use Rattle.mf_gf.specs.Spellings.{Holds}
 use Rattle.mf_gf.proofs.Writing.{Writes, write_both, write_same}
 
--- of texts that find no room only that is known
+-- of texts for which there is no room, only that much is known
 pub holds_beyond : (s : Spelling) (text other : List ℕ) → s.room < length text → s.room < length other → Holds s text → Holds s other
 holds_beyond s text other long other_long held = record {
   counted = λ fits. absurd (omega arith);

@@ -1,11 +1,11 @@
--- Escapements of a whole number of pixels.
+-- Escapements that are a whole number of pixels.
 use Rattle.std.proofs.Common.{◌≡◌, ◌*◌, ◌/◌, ◌%◌, ◌≤◌, ◌&&◌, Bool, true, false, ℕ, ℤ, pos, negsuc, Some, None, if◌then◌else◌, int_le, refl, ap, ap₂, ◌∙◌, arith}
 use Rattle.std.specs.Ordering.{int_eq}
 use Rattle.std.proofs.lemmas.Bool.{and_parts, cond-true}
 use Rattle.std.proofs.lemmas.Int.{ints}
 use Rattle.mf_gf.specs.Files.{IsShortDx, short_dx}
 
--- a number that is answered only where a test holds
+-- where `Some b` is the answer, the test holds and a is b
 some_from_test : (test : Bool) (a b : ℕ) → (if test then Some a else None) ≡ Some b → (test ≡ true) × (a ≡ b)
 some_from_test true a b is = (refl, cc)
 some_from_test false a b is = absurd (cc)

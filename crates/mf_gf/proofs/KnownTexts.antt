@@ -1,11 +1,11 @@
--- Texts that go out in several writes.
+-- Texts that are written in several writes.
 use Rattle.std.proofs.Common.{◌≡◌, ℕ, ◌+◌, ◌-◌, List, ◌++◌, Option, length, take, drop, sym, ap, ◌∙◌, subst}
 use Rattle.std.proofs.Math.Seq.{take-add}
 use Rattle.std.proofs.lemmas.List.{take_rest}
 use Rattle.std.specs.Io.KnownBytes.{Appends}
 use Rattle.std.proofs.KnownBytes.{Appends-trans}
 
--- a write of n bytes of the rest, where the first `sent` had gone out
+-- a write of n bytes of the rest, after the first `sent` were written
 pub Appends-more : (held now new : Option (List ℕ)) (bytes : List ℕ) (sent n : ℕ) → Appends held now (take sent bytes)
     → Appends now new (take n (take (length bytes - sent) (drop sent bytes))) → Appends held new (take (sent + n) bytes)
 Appends-more held now new bytes sent n before more =

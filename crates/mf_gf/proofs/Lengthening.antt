@@ -16,7 +16,7 @@ use Rattle.mf_gf.proofs.BlackDots.{IsBlack}
 
 -- ---- runs in order
 
--- dots behind others are in order, too
+-- dots that come after others are in order, too
 dots_behind : (low : ℤ) (ds es : List Dot) → AreDotsFrom low (ds ++ es) → (p : ℤ) × AreDotsFrom p es
 dots_behind low [] es dots = (low, dots)
 dots_behind low (d ∷ ds) es dots = dots_behind (place d.x d.y +ℤ pos 1) ds es dots.2
@@ -28,7 +28,7 @@ order_behind r rs ordered =
 
 -- ---- a stretch so far
 
--- a stretch and the runs ahead have the dots of all these runs
+-- a stretch and the runs ahead together have the dots of all these runs
 pub record IsBegun (all : List Run) (r : Run) (rs : List Run) : Type 0 where
   pub order : AreInOrder (r ∷ rs)
   pub same : flat_map dots_of (r ∷ rs) ≡ flat_map dots_of all
@@ -45,7 +45,7 @@ stretch-joined y x w (suc m) n =
     let column : (x +ℤ pos 1) +ℤ pos m ≡ x +ℤ pos (suc m) = omega (arith, ints) in
     rw count (ap (λ dots. record { y = y; x = x; weight = w } ∷ dots) (rw column at (stretch-joined y (x +ℤ pos 1) w m n)))
 
--- a run begins behind the last column of another, in its row
+-- a run starts in the column after the last of another one, in the same row
 pub record IsNext (r s : Run) : Type 0 where
   pub row : s.y ≡ r.y
   pub column : s.x ≡ r.x +ℤ pos r.len
@@ -68,7 +68,7 @@ lengthened_run r s run further next = record {
   nonzero = run.nonzero;
 }
 
--- a run that follows lengthens it
+-- such a run lengthens the stretch
 pub lengthened : (all : List Run) (r s : Run) (rs : List Run) → IsNext r s → IsBegun all r (s ∷ rs) → IsBegun all (with_more r s) rs
 lengthened all r s rs next so_far =
     let ordered = so_far.order in
@@ -105,7 +105,7 @@ unfolding runs_of
 some_of_runs [] = All-nil HasPixel
 some_of_runs (d ∷ ds) = some_with_dot d (runs_of ds) (some_of_runs ds)
 
--- it is the first of the runs where the next one does not follow it
+-- a stretch is the first of the runs where the next run does not continue it
 stretch_first : (all : List Run) (r : Run) (rs : List Run) → AreMaximal (r ∷ runs_of (flat_map dots_of rs)) → IsBegun all r rs
     → runs_of (flat_map dots_of all) ≡ r ∷ runs_of (flat_map dots_of rs)
 stretch_first all r rs maximal so_far =
@@ -162,14 +162,14 @@ ended_at_run all r s o rs some apart so_far =
     let first = next_first o s rs some in
     rw first (ended_before all r s rs apart (subst (IsBegun all r) first so_far))
 
--- or where there is none
+-- the stretch also ends where there is no next run
 pub ended_at_none : (all : List Run) (r : Run) (o : Option Run) (rs : List Run) → o ≡ None → IsBegun all r (with_next o rs)
     → runs_of (flat_map dots_of all) ≡ r ∷ runs_of (flat_map dots_of (with_next o rs))
 unfolding runs_of
 ended_at_none all r None rs none so_far = stretch_first all r [] tt so_far
 ended_at_none all r (Some s) rs none so_far = absurd cc
 
--- where no run is ahead no stretch is left
+-- where no run is ahead, no stretch is left
 pub none_left : (o : Option Run) (rs : List Run) → o ≡ None → runs_of (flat_map dots_of (with_next o rs)) ≡ []
 unfolding runs_of
 none_left o rs none = rw none refl

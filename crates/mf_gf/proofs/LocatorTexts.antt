@@ -11,11 +11,11 @@ use Rattle.mf_gf.specs.Files.{Shipment, last_of, locator_if, locator_of, locator
 use Rattle.mf_gf.specs.Keeping.{HasLasts, table_text}
 use Rattle.mf_gf.specs.Spellings.{Holds}
 
--- no code yet
+-- before the first code
 pub no_code_held : (s : Spelling) (text : List ℕ) (items : List (Option Locator)) → Holds s text → Holds s (text ++ flat_map locator_if (take 0 items))
 no_code_held s text items held = subst (Holds s) (sym (append-nil text)) held
 
--- the next code
+-- after one more code
 pub next_code_held : (s : Spelling) (text : List ℕ) (items : List (Option Locator)) (code : ℕ) (d : Option Locator) → code < length items
     → Holds s (text ++ flat_map locator_if (take code items) ++ locator_if (slice_index_or items code d)) → Holds s (text ++ flat_map locator_if (take (code + 1) items))
 next_code_held s text items code d within held =
@@ -30,7 +30,7 @@ next_code_held s text items code d within held =
 abbrev pub last_locator : ℕ → List Shipment → Option Locator
 last_locator code shipped = option_map locator_of (last_of code shipped)
 
--- a list with that of each of n codes
+-- the locators of n codes are those of the last characters with these codes
 lasts_text : (shipped : List Shipment) (items : List (Option Locator)) (code n : ℕ) → length items ≡ n
     → ((i : ℕ) → i < n → slice_index_or items i None ≡ last_locator (code + i) shipped) → flat_map locator_if items ≡ locators_from code n shipped
 unfolding locators_from
@@ -45,7 +45,7 @@ lasts_text shipped (last ∷ items) code (suc n) same lasts =
 pub table_text-is : (table : Locators) (shipped : List Shipment) → HasLasts table shipped → table_text table ≡ locators_from 0 256 shipped
 table_text-is table shipped lasts = lasts_text shipped table.by_code.items 0 256 table.all (λ i within. lasts.last i within ∙ ap (λ c. last_locator c shipped) (omega arith))
 
--- one character more is the last one of its code
+-- one more character is the last one with its code
 pub lasts-set : (items : List (Option Locator)) (s : Shipment) (shipped : List Shipment) → length items ≡ 256 → s.character.code < 256
     → ((code : ℕ) → code < 256 → slice_index_or items code None ≡ last_locator code shipped)
     → (code : ℕ) → code < 256 → slice_index_or (set items s.character.code (Some (locator_of s))) code None ≡ last_locator code (s ∷ shipped)

@@ -1,4 +1,4 @@
--- The locators of a file, read back: those of the last characters of their codes.
+-- The locators of a file, read back: they are those of the last characters with their codes.
 use Rattle.std.proofs.Common.{◌≡◌, ◌+◌, ◌<◌, ◌≤◌, ◌==◌, ◌||◌, ℕ, zero, suc, Bool, true, false, pos, if◌then◌else◌, List, [], ◌∷◌, ◌++◌, Option, None, Some, option_map, refl, ap, sym, subst, ◌∙◌, append_assoc, eqb-true, eq-eqb, ⊎_elim, eq-or-lt_of_le, arith}
 use Rattle.std.specs.List.{All, AllPairs, list_any}
 use Rattle.std.proofs.lemmas.List.Elements.{All-cons, All-nil, All-weaker}
@@ -11,7 +11,7 @@ use Rattle.mf_gf.specs.Pointers.{Item, locators_within, read_item}
 use Rattle.mf_gf.proofs.BoxOfDots.{word-reads_back}
 use Rattle.mf_gf.proofs.Escapements.{short_dx-is}
 
--- the value of a test, with what it says
+-- what a test decides, shown for both of its values
 pub split : (P : Bool → Type 0) (test : Bool) → (test ≡ true → P true) → (test ≡ false → P false) → P test
 split P true at_true at_false = at_true refl
 split P false at_true at_false = at_false refl
@@ -31,7 +31,7 @@ pub record IsReadable (l : Locator) : Type 0 where
 abbrev read_as : Locator → List ℕ → Option Item
 read_as l rest = Some (record { locator = Some l; rest = rest })
 
--- char_loc0, or char_loc
+-- the bytes of char_loc0 and of char_loc are read back
 head_reads : (l : Locator) (rest : List ℕ) (short : Option ℕ) → IsReadable l → short_dx l.dx ≡ short → read_item (locator_head l.code l.dx short ++ (word l.width ++ (word (pos l.place) ++ rest))) ≡ read_as l rest
 unfolding read_item
 head_reads l rest (Some pixels) fits short =
@@ -51,18 +51,18 @@ locator_reads l rest fits =
     ∙ ap read_item (append_assoc (locator_head l.code l.dx (short_dx l.dx)) (word l.width) (word (pos l.place) ++ rest))
     ∙ head_reads l rest (short_dx l.dx) fits refl
 
--- ---- all of them
+-- ---- all locators
 
 abbrev with_last : Option Shipment → List Locator → List Locator
 with_last None ls = ls
 with_last (Some s) ls = locator_of s ∷ ls
 
--- the locators of n codes from this one on
+-- the locators of n codes, from this code on
 unfoldable pub lasts_from : ℕ → ℕ → List Shipment → List Locator
 lasts_from code zero shipped = []
 lasts_from code (suc n) shipped = with_last (last_of code shipped) (lasts_from (code + 1) n shipped)
 
--- what is read where an item was read, or none
+-- the locators from an item on, given what was read of it
 abbrev read_on : ℕ → Option Item → Option (List Locator)
 read_on n next = elim next [
   | None ↦ None
@@ -76,7 +76,7 @@ within-suc : (n : ℕ) (bytes : List ℕ) → locators_within (suc n) bytes ≡ 
 unfolding locators_within
 within-suc n bytes = refl
 
--- post_post ends them
+-- post_post ends the locators
 end_within : (n place before : ℕ) → 1 ≤ n → locators_within n (ending place before) ≡ Some []
 unfolding locators_within read_item
 end_within zero place before some = absurd (omega (arith, some))
@@ -101,7 +101,7 @@ module _ (shipped : List Shipment) (fits : (code : ℕ) (s : Shipment) → last_
   within-reads code zero m few = end_within m place before (omega (arith, few))
   within-reads code (suc n) m few = one_read code n m (last_of code shipped) few refl (λ k less. within-reads (code + 1) n k less)
 
--- ---- what they are
+-- ---- what the locators are
 
 pub last_of-code : (code : ℕ) (s : Shipment) (shipped : List Shipment) → last_of code shipped ≡ Some s → s.character.code ≡ code
 unfolding last_of
@@ -111,7 +111,7 @@ last_of-code code s (t ∷ shipped) is =
     (λ yes found. let same : t ≡ s = cc in ap (λ (it : Shipment). it.character.code) (sym same) ∙ eqb-true t.character.code code yes)
     (λ no found. last_of-code code s shipped found) is
 
--- each is that of the last character of its code, and none has a code below the first
+-- l is the locator of the last character with its code, which is at least the first code
 pub record IsLastFrom (shipped : List Shipment) (code : ℕ) (l : Locator) : Type 0 where
   pub least : code ≤ l.code
   pub shipment : Shipment
@@ -137,7 +137,7 @@ unfolding lasts_from
 lasts_are_last shipped code zero = All-nil (IsLastFrom shipped code)
 lasts_are_last shipped code (suc n) = with_one shipped code (last_of code shipped) (lasts_from (code + 1) n shipped) refl (lasts_are_last shipped (code + 1) n)
 
--- their codes rise
+-- the codes of the locators rise
 abbrev IsBefore : Locator → Locator → Type 0
 IsBefore l later = l.code < later.code
 
@@ -153,7 +153,7 @@ unfolding lasts_from
 lasts_rise shipped code zero = λ i j d before within. absurd (omega (arith, within))
 lasts_rise shipped code (suc n) = rise_on shipped code (last_of code shipped) (lasts_from (code + 1) n shipped) refl (lasts_are_last shipped (code + 1) n) (lasts_rise shipped (code + 1) n)
 
--- a code that has a last character has a locator
+-- where a code has a last character, it has a locator
 abbrev has_code : ℕ → Locator → Bool
 has_code code l = l.code == code
 

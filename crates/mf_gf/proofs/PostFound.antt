@@ -14,7 +14,7 @@ use Rattle.mf_gf.specs.Numbers.{word}
 use Rattle.mf_gf.specs.Pointers.{locators_after, locators_of, locators_within, post_place, post_place_back}
 use Rattle.mf_gf.proofs.LocatorsRead.{IsReadable, lasts_from, within-reads}
 
--- the bytes 223 are passed
+-- the reader passes over the bytes 223
 padding_passed : (count : ℕ) (rest : List ℕ) → post_place_back (reverse (replicate count 223) ++ rest) ≡ post_place_back rest
 unfolding post_place_back
 padding_passed zero rest = refl
@@ -27,7 +27,7 @@ four_back : (a b c d : ℕ) (rest : List ℕ) → post_place_back (reverse (249 
 unfolding post_place_back
 four_back a b c d rest = refl
 
--- before the padding stand the number of GF and the place of post
+-- before the padding come the place of post and the identification byte
 place_found : (before : List ℕ) (place count : ℕ) → place < 2147483648 → post_place (before ++ ((249 ∷ []) ++ word (pos place) ++ (131 ∷ []) ++ replicate count 223)) ≡ Some place
 place_found before place count short =
     let named = (249 ∷ []) ++ word (pos place) ++ (131 ∷ []) in
@@ -48,7 +48,7 @@ after_post file found = elim found [
   | Some place ↦ locators_after place file
 ]
 
--- what a reader finds after it
+-- what a reader finds after post
 pub locators_found : (words : FontWords) (comment : List ℕ) (cs : List Character) → length (front comment cs) < 2147483648
     → ((code : ℕ) (s : Shipment) → last_of code (shipments comment cs) ≡ Some s → IsReadable (locator_of s))
     → locators_of (file_of words comment cs) ≡ Some (lasts_from 0 256 (shipments comment cs))

@@ -7,16 +7,16 @@ use Rattle.byteorder.specs.Numbers.{big_number-reads_back}
 use Rattle.mf_gf.specs.Painting.{Stroke, Paint, Skip, NewRow, Read, with_bytes, read_stroke, ended, strokes_within, strokes}
 use Rattle.mf_gf.specs.Spelling.{with_parameter, paint, skip, new_row}
 
--- a command stands before a rest
+-- what is read where these bytes start with a command
 abbrev read_as : Stroke → List ℕ → Option Read
 read_as stroke rest = Some (record { stroke = Some stroke; rest = rest })
 
--- bytes with which a command is written, whatever stands behind them
+-- these bytes are read as this command, whatever comes after them
 pub record Writes (bytes : List ℕ) (stroke : Stroke) : Type 0 where
   pub some : 1 ≤ length bytes
   pub read : (rest : List ℕ) → read_stroke (bytes ++ rest) ≡ read_as stroke rest
 
--- a parameter of one byte or of two, behind the opcodes of a command
+-- a parameter of one or two bytes after the opcodes of a command is read back
 writes_parameter : (command : ℕ → Stroke) (opcode n : ℕ) → n < 65536
     → ((bytes : List ℕ) → read_stroke (opcode ∷ bytes) ≡ Some (with_bytes command 1 bytes))
     → ((bytes : List ℕ) → read_stroke ((opcode + 1) ∷ bytes) ≡ Some (with_bytes command 2 bytes))
@@ -59,7 +59,7 @@ writes_new_row n fits =
           rw (lt-leb b 63 (omega arith), lt-leb b 66 (omega arith), ne_eqb b 69 (λ same. omega arith), ne_eqb b 70 (λ same. omega arith), le-leb 71 b (omega arith), lt-leb b 73 (omega arith), le-leb 74 b (omega arith), le-leb b 238 (omega arith), offset) refl;
     }
 
--- commands that are read back one after another, whatever stands behind them
+-- these bytes are read as these commands, whatever comes after them
 pub record Spells (bytes : List ℕ) (commands : List Stroke) : Type 0 where
   pub few : length commands ≤ length bytes
   pub read : (m n : ℕ) (rest : List ℕ) → m ≡ length commands + n → strokes_within m (bytes ++ rest) ≡ option_map (λ others. commands ++ others) (strokes_within n rest)
@@ -70,7 +70,7 @@ spells_none = record {
   read = λ m n rest same. let equal : m ≡ n = omega (arith, same) in ap (λ fuel. strokes_within fuel rest) equal ∙ sym (option_map_id (strokes_within n rest));
 }
 
--- the commands from one on, where it was read with so many more allowed
+-- the commands from one on, where n more of them may be read
 abbrev from_read : ℕ → Option Read → Option (List Stroke)
 from_read n next = elim next [
   | None ↦ None
@@ -105,7 +105,7 @@ spells_both front back ss ts first second = record {
       ∙ all_of_both ss ts (strokes_within n rest));
 }
 
--- with the end of the character behind them
+-- the same with the end of the character after them
 pub strokes-spelled : (bytes : List ℕ) (commands : List Stroke) → Spells bytes commands → strokes (bytes ++ 69 ∷ []) ≡ Some commands
 unfolding strokes_within read_stroke
 strokes-spelled bytes commands spells =

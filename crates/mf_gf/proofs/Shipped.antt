@@ -1,4 +1,4 @@
--- Characters of a file, with one more at the end.
+-- The characters of a file, with one more at the end.
 use Rattle.std.proofs.Common.{◌≡◌, ◌≤◌, ℕ, ℤ, List, [], ◌∷◌, ◌++◌, Option, Some, length, refl, ap, sym, subst, ◌∙◌, append_assoc, length-append, arith}
 use Rattle.mf_rows.specs.Dots.{Dot}
 use Rattle.mf_gf.specs.declared.file.FontWords.{FontWords}
@@ -9,7 +9,7 @@ use Rattle.mf_gf.specs.Keeping.{HasLasts, IsAppended, Keeps, bounds_of}
 use Rattle.mf_gf.specs.Spelling.{pointer, spell}
 use Rattle.mf_gf.proofs.BlackBoxes.{joined-assoc}
 
--- a character has bytes
+-- the bytes of a character are not empty
 pub spell_some : (code : ℕ) (p : ℤ) (ds : List Dot) → 1 ≤ length (spell code p ds)
 unfolding spell
 spell_some code p ds = simp length-append (omega arith)
@@ -25,14 +25,14 @@ file_so_far-more comment cs c = with_characters-more _ cs c
 pub front-more : (comment : List ℕ) (cs : List Character) (c : Character) → front comment (cs ++ c ∷ []) ≡ front comment cs ++ spell_after (file_so_far comment cs) c
 front-more comment cs c = ap (λ (f : FileSoFar). f.bytes) (file_so_far-more comment cs c)
 
--- the bytes that are kept, with those of one more, which names this earlier one of its code
+-- the bytes kept, with those of one more character, whose p is this earlier place
 pub front-kept : (file : GfFile) (comment : List ℕ) (cs : List Character) (c : Character) (earlier : Option ℕ) → Keeps file comment cs
     → earlier ≡ last_place c.code (shipments comment cs) → front comment (cs ++ c ∷ []) ≡ file.bytes.items ++ spell c.code (pointer earlier) c.black
 front-kept file comment cs c earlier keeps is =
     front-more comment cs c ∙ ap (λ bytes. bytes ++ spell_after (file_so_far comment cs) c) (sym keeps.bytes)
     ∙ ap (λ place. file.bytes.items ++ spell c.code (pointer place) c.black) (sym is)
 
--- a character after these bytes
+-- the shipment of a character after these bytes
 abbrev pub shipment_after : List ℕ → Character → Shipment
 shipment_after bytes c = record { character = c; place = length bytes }
 

@@ -1,4 +1,4 @@
--- Boxes that fit into fields of one byte.
+-- Boxes that fit into one-byte fields.
 use Rattle.std.proofs.Common.{◌≡◌, ◌&&◌, Bool, true, false, ℤ, pos, negsuc, ◌-ℤ◌, ◌≤ℤ◌, int_le, nat_abs, Fits, w8, arith}
 use Rattle.std.specs.Prelude.{T}
 use lib.Signed.{non_neg}
@@ -37,7 +37,7 @@ short_box b test =
       top = byte_from_test _ height.1;
     }
 
--- the value of `x && y`, where y is asked for only if x holds
+-- the value of `x && y`, where y is evaluated only if x is true
 pub and_then : (x y a b : Bool) → x ≡ true → x ≡ a → y ≡ b → y ≡ (a && b)
 and_then x y true b holds x_is y_is = y_is
 and_then x y false b holds x_is y_is = cc

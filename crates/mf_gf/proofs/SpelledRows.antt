@@ -18,16 +18,16 @@ use Rattle.mf_gf.specs.Spelling.{approach, begin, paint, rows, spell}
 use Rattle.mf_gf.specs.Spellings.{Holds}
 use Rattle.mf_gf.proofs.Writing.{Writes, write_both, write_same}
 
--- lawful dots in reading order are a picture, wherever they begin
+-- lawful dots in reading order are a picture, wherever they start
 pub picture_from : (low : ℤ) (ds : List Dot) → AreDotsFrom low ds → IsPicture ds
 picture_from low [] dots = record { dots = tt }
 picture_from low (d ∷ ds) dots = record { dots = (dots.0, start_of_field-le d.x d.y dots.0.in_field, dots.2) }
 
--- each stretch of it is a run
+-- each stretch of a picture is a run
 pub stretches_are_runs : (ds : List Dot) → IsPicture ds → All IsRun (runs_of ds)
 stretches_are_runs ds picture = (total_none ds (runs_of ds) picture refl).passes.runs
 
--- the stretches up to a place are spelled, and those behind it are still to come
+-- the stretches up to a position are spelled, and those after it are still to come
 pub record AreSpelled (before : Spelling) (left : ℤ) (text : List ℕ) (out : Spelling) (row column : ℤ) (rs : List Run) : Type 0 where
   pub written : List ℕ
   pub writes : Writes before out written

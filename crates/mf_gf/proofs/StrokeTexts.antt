@@ -1,4 +1,4 @@
--- The bytes of painting commands, by the size of their parameters.
+-- The bytes of painting commands, by the number of bytes of their parameters.
 use Rattle.std.proofs.Common.{◌≡◌, ◌≢◌, ◌&&◌, if◌then◌else◌, ℕ, ◌-◌, ◌<◌, ◌≤◌, ℤ, [], ◌∷◌, ◌++◌, ◌∙◌, arith}
 use Rattle.std.specs.Prelude.{◌==◌, nat_le}
 use Rattle.std.specs.Ordering.{int_eq}

@@ -1,4 +1,4 @@
--- Bytes that are put behind a file.
+-- Bytes that are appended to a file.
 use Rattle.std.proofs.Common.{◌≡◌, ◌+◌, ◌<◌, ◌↔◌, ℕ, List, [], ◌∷◌, ◌++◌, Some, Result, Ok, Err, length, sym, ap, subst, ◌∙◌, append_assoc, length-append, arith}
 use Rattle.std.specs.Prelude.{IfErr}
 use Rattle.mf_gf.specs.declared.boxes.CharacterBox.{CharacterBox}
@@ -21,14 +21,14 @@ unfolding tail_of
 tail_held s words b place bytes locators is =
     subst (λ (at : ℕ). Holds s (post words b at ++ locators ++ ending at (at + length (post words b at ++ locators)))) is
 
--- they find no room where the whole finds none
+-- there is no room for the tail exactly where there is none for the complete file
 pub too_long_behind : {P : Type 0} (room limit : ℕ) (before text : List ℕ) → room + length before ≡ limit → (room < length text) ↔ P → (limit < length (before ++ text)) ↔ P
 too_long_behind room limit before text is fits = (
   λ long. let both = length-append before text in fits.0 (omega arith),
   λ refused. let both = length-append before text in let long = fits.1 refused in omega arith,
 )
 
--- a file, split behind its characters
+-- a file, split after its characters
 split_front : (characters post locators : List ℕ) (last : ℕ → List ℕ)
     → characters ++ post ++ locators ++ last (length (characters ++ post ++ locators)) ≡ characters ++ (post ++ locators ++ last (length characters + length (post ++ locators)))
 split_front characters post locators last =
@@ -46,7 +46,7 @@ box_of_all-some : (cs : List Character) (b : CharacterBox) → bounds_of cs ≡ 
 box_of_all-some [] b is = absurd (cc)
 box_of_all-some (c ∷ cs) b is = cc
 
--- a whole file is what was kept of it and its tail
+-- the complete file is what was kept of it, and its tail
 pub file_of-kept : (file : GfFile) (words : FontWords) (b : CharacterBox) (comment : List ℕ) (cs : List Character) → file.bounds ≡ Some b → Keeps file comment cs
     → file_of words comment cs ≡ file.bytes.items ++ tail_of words b file.bytes.items (table_text file.locators)
 file_of-kept file words b comment cs some keeps =
@@ -57,7 +57,7 @@ file_of-kept file words b comment cs some keeps =
     ∙ ap (λ bytes. bytes ++ tail_of words b bytes locators) (sym keeps.bytes)
     ∙ ap (λ text. file.bytes.items ++ tail_of words b file.bytes.items text) (sym (table_text-is file.locators (shipments comment cs) keeps.locators))
 
--- want of memory is no other refusal
+-- a refusal with OutOfMemory is not one with FileTooLong
 pub wanting_only : (before : GfFile) (r : Result GfBytes (GfFile × GfFault)) → IfErr r (λ refused. IsSameFile before refused.0 × (refused.1 ≡ fault.OutOfMemory)) → IsRefusedAs fault.FileTooLong r → ⊥
 wanting_only before (Ok bytes) is refused = refused
 wanting_only before (Err back) is refused = let same = is.1 in cc

@@ -6,7 +6,7 @@ use Rattle.mf_gf.specs.declared.spelling.Spelling.{Spelling}
 use Rattle.mf_gf.specs.Numbers.{word}
 use Rattle.mf_gf.specs.Spellings.{Holds}
 
--- these bytes were written behind those that were there
+-- these bytes were appended to the ones that were there
 abbrev pub Writes : Spelling → Spelling → List ℕ → Type 0
 Writes before after bytes = (text : List ℕ) → Holds before text → Holds after (text ++ bytes)
 
@@ -17,6 +17,6 @@ write_both before middle after first second writes_first writes_second text held
 pub write_same : (before after : Spelling) (bytes same : List ℕ) → bytes ≡ same → Writes before after bytes → Writes before after same
 write_same before after bytes same is writes = subst (Writes before after) is writes
 
--- a signed number, as it passes a call
+-- a signed number, as it is passed to a call
 pub write_word : (before after : Spelling) (z : ℤ) → FitsSigned w32 z → Writes before after (word (to_z w32 (of_z w32 z))) → Writes before after (word z)
 write_word before after z fits writes = write_same before after _ _ (ap word (to_z-of_z w32 z fits)) writes

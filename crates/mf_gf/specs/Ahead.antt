@@ -1,4 +1,4 @@
--- What an iterator over stretches of black pixels has before it.
+-- What an iterator over stretches of black pixels still has ahead.
 use Rattle.std.specs.Prelude.{◌≡◌, pos, ℤ, int_lt, All, List, [], ◌∷◌, flat_map, Option, None, Some, if◌then◌else◌}
 use Rattle.mf_rows.specs.declared.run.Run.{Run}
 use Rattle.mf_rows.specs.Dots.{AreDotsFrom}
@@ -6,7 +6,7 @@ use Rattle.mf_rows.specs.Order.{IsRun}
 use Rattle.mf_rows.specs.Runs.{dots_of, runs_of}
 use Rattle.mf_gf.specs.declared.stretches.Stretches.{Stretches}
 
--- the runs of positive weight, as runs of weight 1
+-- the runs of positive weight among these, as runs of weight 1
 unfoldable pub blacks : List Run → List Run
 blacks [] = []
 blacks (r ∷ rs) = if int_lt (pos 0) r.weight then record { y = r.y; x = r.x; len = r.len; weight = pos 1 } ∷ blacks rs else blacks rs
@@ -15,17 +15,17 @@ abbrev pub with_next : Option Run → List Run → List Run
 with_next None rs = []
 with_next (Some r) rs = r ∷ rs
 
--- lawful runs of weight 1 in reading order
+-- the runs are lawful, have weight 1 and are in reading order
 pub record AreInOrder (rs : List Run) : Type 0 where
   pub runs : All IsRun rs
   pub ones : All (λ (r : Run). r.weight ≡ pos 1) rs
   pub low : ℤ
   pub dots : AreDotsFrom low (flat_map dots_of rs)
 
--- the black runs that are still to come
+-- the black runs that an iterator still has ahead
 abbrev pub blacks_ahead : Stretches → List Run
 blacks_ahead s = with_next s.next (blacks s.runs)
 
--- and the stretches that they make
+-- the stretches that these black runs make
 abbrev pub stretches_left : Stretches → List Run
 stretches_left s = runs_of (flat_map dots_of (blacks_ahead s))

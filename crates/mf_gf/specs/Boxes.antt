@@ -9,14 +9,14 @@ use Rattle.mf_gf.specs.declared.boxes.CharacterBox.{CharacterBox}
 abbrev pub no_box : CharacterBox
 no_box = record { min_m = pos 0; max_m = pos 0; min_n = pos 0; max_n = pos 0 }
 
--- the box of a pixel: m may stand at its left and right edge
+-- the box of a pixel: m may be at its left and its right edge
 abbrev pub box_of_pixel : Dot → CharacterBox
 box_of_pixel d = record { min_m = d.x; max_m = d.x +ℤ pos 1; min_n = d.y; max_n = d.y }
 
 abbrev pub box_of_run : Run → CharacterBox
 box_of_run r = record { min_m = r.x; max_m = r.x +ℤ pos r.len; min_n = r.y; max_n = r.y }
 
--- the least box round two boxes
+-- the least box around two boxes
 abbrev pub joined : CharacterBox → CharacterBox → CharacterBox
 joined a b = record {
   min_m = int_min a.min_m b.min_m;
@@ -25,25 +25,25 @@ joined a b = record {
   max_n = int_max a.max_n b.max_n;
 }
 
--- and the least one round a box, where there is one, and another
+-- the least box around an earlier box, if there is one, and another
 abbrev pub widened : Option CharacterBox → CharacterBox → CharacterBox
 widened None b = b
 widened (Some before) b = joined before b
 
--- the box of a set of pixels
+-- the box of a set of pixels: the least one around them
 unfoldable pub box_of : List Dot → CharacterBox
 box_of [] = no_box
 box_of (d ∷ []) = box_of_pixel d
 box_of (d ∷ e ∷ ds) = joined (box_of_pixel d) (box_of (e ∷ ds))
 
--- a pixel lies in a box, whose right end is the column behind the last
+-- a pixel lies in a box, whose right end is one column after the last
 pub record IsWithin (b : CharacterBox) (d : Dot) : Type 0 where
   pub left : b.min_m ≤ℤ d.x
   pub right : d.x <ℤ b.max_m
   pub bottom : b.min_n ≤ℤ d.y
   pub top : d.y ≤ℤ b.max_n
 
--- the box is the least one round pixels: each lies in it, and each of its four ends is reached
+-- the box is the least one around pixels: each of them lies in it, and each of its four ends is reached
 pub record IsLeastBox (ds : List Dot) (b : CharacterBox) : Type 0 where
   pub within : All (IsWithin b) ds
   pub left : Any (λ (d : Dot). d.x ≡ b.min_m) ds

@@ -10,49 +10,50 @@ use Rattle.mf_gf.specs.Boxes.{box_of, joined, no_box}
 use Rattle.mf_gf.specs.Numbers.{word}
 use Rattle.mf_gf.specs.Spelling.{pointer, spell}
 
--- a shipped character: its code, its escapement in 1/65536 pixel, its width, and its black pixels
+-- a character that is shipped: its code, its escapement in 1/65536 pixel, its width in 1/1048576 of the design size, and its
+-- black pixels
 pub record Character : Type 0 where
   pub code : ℕ
   pub dx : ℤ
   pub width : ℤ
   pub black : List Dot
 
--- pre, with the number of GF and the comment
+-- the preamble: pre, the identification byte, the length of the comment, and the comment
 abbrev pub preamble : List ℕ → List ℕ
 preamble comment = 247 ∷ 131 ∷ length comment ∷ comment
 
--- a shipped character and its place: the length of the file before it
+-- a shipped character with its place, which is the length of the file before it
 pub record Shipment : Type 0 where
   pub character : Character
   pub place : ℕ
 
--- the last character of a code; in the list the one that was shipped last stands first
+-- the last character with a code, if there is one; the list has the character shipped last first
 unfoldable pub last_of : ℕ → List Shipment → Option Shipment
 last_of code shipped = find (λ (s : Shipment). s.character.code == code) shipped
 
--- and its place
+-- the place of the last character with a code, if there is one
 abbrev pub last_place : ℕ → List Shipment → Option ℕ
 last_place code shipped = option_map (λ (s : Shipment). s.place) (last_of code shipped)
 
--- a file so far: its bytes, and the characters that were shipped, the last one first
+-- a file so far: its bytes, and the characters shipped, the last one first
 pub record FileSoFar : Type 0 where
   pub bytes : List ℕ
   pub shipped : List Shipment
 
--- the bytes of one character more, in which p names the last one of its code
+-- the bytes of one more character, whose p is the place of the last one with its code
 abbrev pub spell_after : FileSoFar → Character → List ℕ
 spell_after f c = spell c.code (pointer (last_place c.code f.shipped)) c.black
 
--- and the file with it
+-- the file with one more character
 abbrev pub with_character : FileSoFar → Character → FileSoFar
 with_character f c = record { bytes = f.bytes ++ spell_after f c; shipped = record { character = c; place = length f.bytes } ∷ f.shipped }
 
--- one after another, in the order shipped
+-- the file with these characters more, in the order shipped
 unfoldable pub with_characters : FileSoFar → List Character → FileSoFar
 with_characters f [] = f
 with_characters f (c ∷ cs) = with_characters (with_character f c) cs
 
--- the preamble and the characters
+-- the file with this comment and these characters, without its end
 abbrev pub file_so_far : List ℕ → List Character → FileSoFar
 file_so_far comment characters = with_characters (record { bytes = preamble comment; shipped = [] }) characters
 
@@ -62,16 +63,16 @@ front comment characters = (file_so_far comment characters).bytes
 abbrev pub shipments : List ℕ → List Character → List Shipment
 shipments comment characters = (file_so_far comment characters).shipped
 
--- an escapement of a whole number of pixels in 0..255
+-- the number of pixels of an escapement, where it is a whole number of them in 0..255
 abbrev pub short_dx : ℤ → Option ℕ
 short_dx dx = if int_le (pos 0) dx && (int_eq (int_rem dx (pos 65536)) (pos 0) && int_le (int_div dx (pos 65536)) (pos 255)) then Some (unsigned_abs (int_div dx (pos 65536))) else None
 
--- which is 65536 times so many pixels
+-- an escapement is a whole number of pixels in 0..255, each of them 65536 units
 pub record IsShortDx (dx : ℤ) (pixels : ℕ) : Type 0 where
   pub whole : dx ≡ pos (65536 * pixels)
   pub fits : pixels ≤ 255
 
--- char_loc0 for such an escapement, else char_loc with no vertical one
+-- the bytes before the width: those of char_loc0 where the escapement is short, else those of char_loc, whose dy is 0
 abbrev pub locator_head : ℕ → ℤ → Option ℕ → List ℕ
 locator_head code dx (Some pixels) = 246 ∷ code ∷ pixels ∷ []
 locator_head code dx None = (245 ∷ code ∷ []) ++ word dx ++ word (pos 0)
@@ -79,50 +80,50 @@ locator_head code dx None = (245 ∷ code ∷ []) ++ word dx ++ word (pos 0)
 abbrev pub locator_text : Locator → List ℕ
 locator_text l = locator_head l.code l.dx (short_dx l.dx) ++ word l.width ++ word (pos l.place)
 
--- the locator of a character
+-- the locator of a shipped character
 abbrev pub locator_of : Shipment → Locator
 locator_of s = record { code = s.character.code; dx = s.character.dx; width = s.character.width; place = s.place }
 
--- its bytes, if there is one
+-- the bytes of a locator, if there is one
 abbrev pub locator_if : Option Locator → List ℕ
 locator_if None = []
 locator_if (Some l) = locator_text l
 
--- the locators of n codes from this one on, codes rising: each is that of the last character of its code
+-- the bytes of the locators of n codes from this one on, codes rising: each is that of the last character with its code
 unfoldable pub locators_from : ℕ → ℕ → List Shipment → List ℕ
 locators_from code zero shipped = []
 locators_from code (suc n) shipped = locator_if (option_map locator_of (last_of code shipped)) ++ locators_from (code + 1) n shipped
 
--- the least box round all boxes as written
+-- the least box around the boxes of all characters, as these are written
 unfoldable pub box_of_all : List Character → CharacterBox
 box_of_all [] = no_box
 box_of_all (c ∷ []) = box_of c.black
 box_of_all (c ∷ d ∷ cs) = joined (box_of c.black) (box_of_all (d ∷ cs))
 
--- post: its own place, the numbers of the font, and the box of all characters
+-- the postamble: post, its own place, the numbers of the font, and the box of all characters
 abbrev pub post : FontWords → CharacterBox → ℕ → List ℕ
 post words b place =
     (248 ∷ []) ++ word (pos place) ++ word words.ds ++ word (pos words.cs) ++ word words.hppp ++ word words.vppp
     ++ word b.min_m ++ word b.max_m ++ word b.min_n ++ word b.max_n
 
--- so many bytes 223, four to seven, make the length of a file a multiple of 4
+-- the number of bytes 223, four to seven, that make the length of a file a multiple of 4
 abbrev pub padding : ℕ → ℕ
 padding before = 7 - (before + 3) % 4
 
--- post_post: the place of post, the number of GF, and the padding, where the file had so many bytes before
+-- the ending: post_post, the place of post, the identification byte, and the padding; `before` bytes of the file come before it
 abbrev pub ending : ℕ → ℕ → List ℕ
 ending place before = (249 ∷ []) ++ word (pos place) ++ (131 ∷ []) ++ replicate (padding (before + 6)) 223
 
--- all but the ending
+-- the bytes of a file without its ending
 abbrev pub body : FontWords → List ℕ → List Character → List ℕ
 body words comment characters =
     front comment characters ++ post words (box_of_all characters) (length (front comment characters)) ++ locators_from 0 256 (shipments comment characters)
 
--- the file of characters
+-- the bytes of the finished file of these characters
 unfoldable pub file_of : FontWords → List ℕ → List Character → List ℕ
 file_of words comment characters = body words comment characters ++ ending (length (front comment characters)) (length (body words comment characters))
 
--- the length of a file is a multiple of 4, and behind the number of GF it ends with four to seven bytes 223
+-- the length of a file is a multiple of 4, and it ends with the identification byte and four to seven bytes 223
 pub record IsPadded (file : List ℕ) : Type 0 where
   pub multiple : length file % 4 ≡ 0
   pub before : List ℕ

@@ -1,4 +1,4 @@
--- What a file that is being made stands for.
+-- What a file that is being made represents.
 use Rattle.std.specs.Prelude.{◌≡◌, ◌<◌, ◌+◌, ℕ, ℤ, List, [], ◌∷◌, ◌++◌, length, slice_index_or, flat_map, Option, None, Some, option_map, Result, Ok, Err}
 use Rattle.mf_rows.specs.Dots.{Dot}
 use Rattle.mf_gf.specs.declared.boxes.CharacterBox.{CharacterBox}
@@ -11,7 +11,7 @@ use Rattle.mf_gf.specs.Boxes.{widened}
 use Rattle.mf_gf.specs.Files.{Character, Shipment, box_of_all, front, last_of, locator_if, locator_of, shipments}
 use Rattle.mf_gf.specs.Pixels.{black}
 
--- the character of a picture
+-- the character that is shipped with the picture ds
 abbrev pub character : ℕ → ℤ → ℤ → List Dot → Character
 character code dx width ds = record { code = code; dx = dx; width = width; black = black ds }
 
@@ -19,26 +19,26 @@ abbrev pub bounds_of : List Character → Option CharacterBox
 bounds_of [] = None
 bounds_of (c ∷ cs) = Some (box_of_all (c ∷ cs))
 
--- a table has the locator of the last character of each code
+-- a table has the locator of the last character with each code
 pub record HasLasts (table : Locators) (shipped : List Shipment) : Type 0 where
   pub last : (code : ℕ) → code < 256 → slice_index_or table.by_code.items code None ≡ option_map locator_of (last_of code shipped)
 
--- the bytes of its locators, codes rising
+-- the bytes of the locators of a table, codes rising
 abbrev pub table_text : Locators → List ℕ
 table_text table = flat_map locator_if table.by_code.items
 
--- a file keeps what its end needs of a comment and characters
+-- a file keeps what its end needs of this comment and these characters
 pub record Keeps (file : GfFile) (comment : List ℕ) (characters : List Character) : Type 0 where
   pub bytes : file.bytes.items ≡ front comment characters
   pub locators : HasLasts file.locators (shipments comment characters)
   pub count : file.count ≡ length characters
   pub bounds : file.bounds ≡ bounds_of characters
 
--- most bytes of the file
+-- the greatest number of bytes that a file may have
 abbrev pub limit : GfFile → ℕ
 limit file = file.max_bytes
 
--- a file is as it was
+-- a file is unchanged
 pub record IsSameFile (before after : GfFile) : Type 0 where
   pub bytes : after.bytes.items ≡ before.bytes.items
   pub locators : after.locators ≡ before.locators
@@ -46,14 +46,14 @@ pub record IsSameFile (before after : GfFile) : Type 0 where
   pub bounds : after.bounds ≡ before.bounds
   pub max_bytes : after.max_bytes ≡ before.max_bytes
 
--- a character with these bytes was appended
+-- a character with these bytes was appended to a file
 pub record IsAppended (before after : GfFile) (l : Locator) (b : CharacterBox) (spelled : List ℕ) : Type 0 where
   pub bytes : after.bytes.items ≡ before.bytes.items ++ spelled
   pub locators : (s : Shipment) (shipped : List Shipment) → locator_of s ≡ l → HasLasts before.locators shipped → HasLasts after.locators (s ∷ shipped)
   pub count : after.count ≡ before.count + 1
   pub bounds : after.bounds ≡ Some (widened before.bounds b)
 
--- the file comes back with this fault
+-- the file comes back with this refusal
 abbrev pub IsRefusedAs : GfFault → Result GfBytes (GfFile × GfFault) → Type 0
 IsRefusedAs fault (Ok bytes) = ⊥
 IsRefusedAs fault (Err refused) = refused.1 ≡ fault

@@ -3,7 +3,7 @@ use Rattle.std.specs.Prelude.{ℕ, ℤ, pos, negsuc, ◌≤ℤ◌, List, drop}
 use Rattle.std.specs.Int.{cast_unsigned, w32}
 use Rattle.byteorder.specs.Endian.{big_bytes, big_number, twos_complement}
 
--- a signed number of four bytes
+-- the number z fits into four bytes with a sign
 pub record IsWord (z : ℤ) : Type 0 where
   pub least : negsuc 2147483647 ≤ℤ z
   pub greatest : z ≤ℤ pos 2147483647

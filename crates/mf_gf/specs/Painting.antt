@@ -1,5 +1,5 @@
--- The painting machine: what the bytes of a character make black (gftype.web; The METAFONTbook, Appendix G). It has the
--- commands that paint or move; a character with specials or commands that do nothing is not read.
+-- The painting machine: which pixels the bytes of a character make black (gftype.web; The METAFONTbook, Appendix G). It has the
+-- commands that paint or move. A character with specials, or with commands that do nothing, is not read.
 use Rattle.std.specs.Prelude.{◌==◌, ◌&&◌, ◌+◌, ◌-◌, Bool, true, false, not, ℕ, zero, suc, nat_le, ℤ, pos, negsuc, ◌+ℤ◌, ◌-ℤ◌, List, [], ◌∷◌, ◌++◌, length, drop, slice_index, Option, None, Some, option_map, if◌then◌else◌}
 use Rattle.byteorder.specs.Endian.{big_number}
 use Rattle.mf_rows.specs.Dots.{Dot}
@@ -7,13 +7,13 @@ use Rattle.mf_rows.specs.Runs.{stretch}
 use Rattle.mf_gf.specs.declared.boxes.CharacterBox.{CharacterBox}
 use Rattle.mf_gf.specs.Numbers.{word_at}
 
--- a painting command: paint so many pixels, skip so many rows and one, or go to the next row at an offset
+-- a painting command: paint k pixels, skip k rows and go to the one after them, or go to the next row at offset k
 pub data Stroke : Type 0 where
   Paint : ℕ → Stroke
   Skip : ℕ → Stroke
   NewRow : ℕ → Stroke
 
--- a command and the bytes behind it; none is the end of the character
+-- a command and the bytes after it; no command at the end of the character
 pub record Read : Type 0 where
   pub stroke : Option Stroke
   pub rest : List ℕ
@@ -22,8 +22,8 @@ pub record Read : Type 0 where
 abbrev pub with_bytes : (ℕ → Stroke) → ℕ → List ℕ → Read
 with_bytes command n bytes = record { stroke = Some (command (big_number n bytes)); rest = drop n bytes }
 
--- the command with which the bytes begin: paint_0 to paint_63, paint1 to paint3, eoc, skip0, skip1 to skip3,
--- new_row_0 to new_row_164
+-- the command with which the bytes start: paint_0 to paint_63, paint1 to paint3, eoc, skip0, skip1 to skip3, or new_row_0 to
+-- new_row_164
 unfoldable pub read_stroke : List ℕ → Option Read
 read_stroke [] = None
 read_stroke (b ∷ bytes) =
@@ -35,11 +35,11 @@ read_stroke (b ∷ bytes) =
     else (if nat_le 74 b && nat_le b 238 then Some (record { stroke = Some (NewRow (b - 74)); rest = bytes })
     else None)))))
 
--- no byte stands behind the end of the character
+-- the end of a character, where no bytes come after it
 abbrev pub ended : List ℕ → Option (List Stroke)
 ended bytes = if length bytes == 0 then Some [] else None
 
--- the commands up to the end of the character, which ends the bytes, within n of them
+-- the commands up to the end of the character, which must be one of the first n commands and end the bytes
 unfoldable pub strokes_within : ℕ → List ℕ → Option (List Stroke)
 strokes_within zero bytes = None
 strokes_within (suc n) bytes = elim (read_stroke bytes) [
@@ -53,14 +53,14 @@ strokes_within (suc n) bytes = elim (read_stroke bytes) [
 abbrev pub strokes : List ℕ → Option (List Stroke)
 strokes bytes = strokes_within (length bytes) bytes
 
--- where the machine stands (GF: n and m), the left end of its box, and its colour
+-- the state of the machine: its row and column (n and m in GF), the left end of the box, and its colour
 pub record Pen : Type 0 where
   pub row : ℤ
   pub column : ℤ
   pub left : ℤ
   pub is_black : Bool
 
--- at the beginning of a character: at the left end of its top row, and white
+-- the machine at the beginning of a character: at the left end of the top row, and white
 abbrev pub pen_at : ℤ → ℤ → Pen
 pen_at left top = record { row = top; column = left; left = left; is_black = false }
 
@@ -70,26 +70,26 @@ painted pen (Paint k) = if pen.is_black then stretch pen.row pen.column (pos 1) 
 painted pen (Skip k) = []
 painted pen (NewRow k) = []
 
--- the machine after a command
+-- the state of the machine after a command
 abbrev pub moved : Pen → Stroke → Pen
 moved pen (Paint k) = record pen { column = pen.column +ℤ pos k; is_black = not pen.is_black }
 moved pen (Skip k) = record pen { row = pen.row -ℤ pos (k + 1); column = pen.left; is_black = false }
 moved pen (NewRow k) = record pen { row = pen.row -ℤ pos 1; column = pen.left +ℤ pos k; is_black = true }
 
--- the pixels that commands make black, in the order in which they are painted
+-- the pixels that commands make black, in the order in which they paint them
 unfoldable pub drawn : Pen → List Stroke → List Dot
 drawn pen [] = []
 drawn pen (stroke ∷ strokes) = painted pen stroke ++ drawn (moved pen stroke) strokes
 
--- what a character says before its commands: its code, the place of the last earlier character of this code (-1: there is none),
--- and its box
+-- what a character says before its commands: its code, the place of the last earlier character with this code (-1 where there is
+-- none), and its box
 pub record Head : Type 0 where
   pub code : ℤ
   pub earlier : ℤ
   pub box : CharacterBox
 
--- boc1: the code, the greatest m less the least m, the greatest m, the greatest n less the least n, and the greatest n,
--- a byte each, and no earlier character
+-- the head of boc1: the code, greatest less least m, greatest m, greatest less least n, and greatest n, one byte each; there is
+-- no earlier character
 abbrev pub head_of_boc1 : List ℕ → Head
 head_of_boc1 bytes = record {
   code = pos (slice_index bytes 0);
@@ -102,7 +102,8 @@ head_of_boc1 bytes = record {
   };
 }
 
--- boc: the code, the place of the last earlier character of this code, and the least and greatest m and n, four bytes each
+-- the head of boc: the code, the place of the last earlier character with this code, and the least and greatest m and n, four
+-- bytes each
 abbrev pub head_of_boc : List ℕ → Head
 head_of_boc bytes = record {
   code = word_at 0 bytes;
@@ -115,14 +116,14 @@ unfoldable pub head_of : List ℕ → Option Head
 head_of [] = None
 head_of (b ∷ bytes) = if b == 68 then Some (head_of_boc1 bytes) else (if b == 67 then Some (head_of_boc bytes) else None)
 
--- the pixels that the commands make black, from the left end and the top of a box on
+-- the pixels that commands make black, when they start at the left end and the top of a box
 abbrev pub drawn_from : ℤ → ℤ → List ℕ → Option (List Dot)
 drawn_from left top bytes = option_map (drawn (pen_at left top)) (strokes bytes)
 
 abbrev pub drawn_in : CharacterBox → List ℕ → Option (List Dot)
 drawn_in b bytes = drawn_from b.min_m b.max_n bytes
 
--- the pixels that a character makes black, by the commands behind its head
+-- the pixels that a character makes black with the commands after its head
 unfoldable pub paint : List ℕ → Option (List Dot)
 paint [] = None
 paint (b ∷ bytes) =

@@ -2,7 +2,7 @@
 use Rattle.std.specs.Prelude.{◌≡◌, pos, int_lt, All, List, [], ◌∷◌, if◌then◌else◌}
 use Rattle.mf_rows.specs.Dots.{Dot, IsPicture}
 
--- a finite set of pixels of the field
+-- a finite set of pixels of the field, as a picture in which each has weight 1
 pub record IsPixelSet (ds : List Dot) : Type 0 where
   pub picture : IsPicture ds
   pub ones : All (λ (d : Dot). d.weight ≡ pos 1) ds

@@ -1,5 +1,6 @@
--- The characters of a finished file, as a reader finds them: the last bytes name the postamble, after which each locator names the
--- last character of its code, and each character names the one before it by p (The METAFONTbook, Appendix G; gftype.web).
+-- The characters of a finished file, as a reader finds them. The last bytes give the place of the postamble. Each locator after
+-- it gives the place of the last character with its code. Each character gives the place of the one before it as p (The
+-- METAFONTbook, Appendix G; gftype.web).
 use Rattle.std.specs.Prelude.{◌≡◌, ◌<◌, ◌+◌, ◌*◌, ◌==◌, ◌↔◌, ℕ, zero, suc, ℤ, pos, negsuc, All, AllPairs, Any, List, [], ◌∷◌, length, take, drop, reverse, filter, slice_index, Option, None, Some, option_map, if◌then◌else◌}
 use Rattle.byteorder.specs.Endian.{big_number}
 use Rattle.mf_gf.specs.declared.locator.Locator.{Locator}
@@ -11,7 +12,8 @@ use Rattle.mf_gf.specs.Pixels.{IsPixelSet}
 
 -- ---- the reader
 
--- the place of post: the four bytes before the number of GF, after which bytes 223 alone stand; here the last byte comes first
+-- the place of post: the four bytes before the identification byte, after which there are only bytes 223; this list has the last
+-- byte first
 unfoldable pub post_place_back : List ℕ → Option ℕ
 post_place_back [] = None
 post_place_back (b ∷ bytes) = if b == 223 then post_place_back bytes else (if b == 131 then Some (big_number 4 (reverse (take 4 bytes))) else None)
@@ -19,13 +21,13 @@ post_place_back (b ∷ bytes) = if b == 223 then post_place_back bytes else (if 
 abbrev pub post_place : List ℕ → Option ℕ
 post_place file = post_place_back (reverse file)
 
--- what stands after post, and the bytes after it: a locator, or none where the end begins
+-- what comes after post, and the bytes after that: a locator, or none where the ending begins
 pub record Item : Type 0 where
   pub locator : Option Locator
   pub rest : List ℕ
 
--- char_loc has its code in one byte, and dx, dy, the width and the place in four each; char_loc0 has its code and dx in pixels in one
--- byte each, and the width and the place in four; post_post begins the end. (dy is passed over.)
+-- char_loc has its code in one byte, and dx, dy, the width and the place in four bytes each; char_loc0 has its code and dx in
+-- pixels in one byte each, and the width and the place in four; post_post begins the ending. (The reader ignores dy.)
 unfoldable pub read_item : List ℕ → Option Item
 read_item [] = None
 read_item (b ∷ bytes) =
@@ -39,7 +41,7 @@ read_item (b ∷ bytes) =
     })
     else (if b == 249 then Some (record { locator = None; rest = bytes }) else None))
 
--- the locators up to the end, where that is one of the first n items
+-- the locators up to the ending, where the ending is one of the first n items
 unfoldable pub locators_within : ℕ → List ℕ → Option (List Locator)
 locators_within zero bytes = None
 locators_within (suc n) bytes = elim (read_item bytes) [
@@ -50,7 +52,7 @@ locators_within (suc n) bytes = elim (read_item bytes) [
   ]
 ]
 
--- after post, which has 37 bytes and begins with 248: one locator for each of 256 codes at most, and the end
+-- the locators after post, which has 37 bytes and starts with 248: one for each of at most 256 codes, and then the ending
 abbrev pub locators_after : ℕ → List ℕ → Option (List Locator)
 locators_after place file = if slice_index file place == 248 then locators_within 257 (drop (place + 37) file) else None
 
@@ -66,22 +68,22 @@ pub record IsCharacterAt (file : List ℕ) (place : ℕ) (c : Character) (p : �
   pub count : ℕ
   pub painted : paint (take count (drop place file)) ≡ Some c.black
 
--- p leads to the first of these characters, the p of that to the next, and so on; the last of them names none
+-- p leads to the first of these characters, its p to the next one, and so on; the p of the last is -1
 unfoldable pub LeadsBack : List ℕ → ℤ → List Character → Type 0
 LeadsBack file p [] = p ≡ negsuc 0
 LeadsBack file p (c ∷ cs) = (place : ℕ) × (p ≡ pos place) × (before : ℤ) × IsCharacterAt file place c before × LeadsBack file before cs
 
--- ---- what it finds
+-- ---- what the reader finds
 
--- a character has this code
+-- some of these characters has this code
 abbrev pub HasCode : ℕ → List Character → Type 0
 HasCode code characters = Any (λ (c : Character). c.code ≡ code) characters
 
--- the characters of a code, from the last to the first
+-- the characters with a code, from the last shipped to the first
 abbrev pub characters_of : ℕ → List Character → List Character
 characters_of code characters = filter (λ (c : Character). c.code == code) (reverse characters)
 
--- a locator has the numbers of the last character of its code, and leads from it to all others
+-- a locator has the numbers of the last character with its code, and leads from it to all earlier ones
 pub record LeadsToAll (file : List ℕ) (characters : List Character) (l : Locator) : Type 0 where
   pub last : Character
   pub earlier : List Character
@@ -90,7 +92,8 @@ pub record LeadsToAll (file : List ℕ) (characters : List Character) (l : Locat
   pub width : l.width ≡ last.width
   pub back : LeadsBack file (pos l.place) (last ∷ earlier)
 
--- the codes of the locators rise, they are those of the characters, and each locator leads to all characters of its code
+-- the reader finds all characters: the codes of the locators rise, they are the codes of the characters, and each locator leads
+-- to all characters with its code
 pub record IsReadBack (file : List ℕ) (characters : List Character) : Type 0 where
   pub locators : List Locator
   pub read : locators_of file ≡ Some locators
@@ -98,14 +101,14 @@ pub record IsReadBack (file : List ℕ) (characters : List Character) : Type 0 w
   pub codes : (code : ℕ) → HasCode code characters ↔ Any (λ (l : Locator). l.code ≡ code) locators
   pub lead : All (LeadsToAll file characters) locators
 
--- a character that may be shipped
+-- the parts of a character are in the ranges that a shipped character may have
 pub record IsShippable (c : Character) : Type 0 where
   pub code : c.code < 256
   pub dx : IsWord c.dx
   pub width : IsWord c.width
   pub black : IsPixelSet c.black
 
--- characters that fit in a file, where each place is a number of four bytes with a sign
+-- the characters fit into a file, in which each place is a signed number of four bytes
 pub record AreShippable (comment : List ℕ) (characters : List Character) : Type 0 where
   pub each : All IsShippable characters
   pub short : length (front comment characters) < 2147483648

@@ -10,35 +10,35 @@ use Rattle.mf_gf.specs.declared.boxes.CharacterBox.{CharacterBox}
 use Rattle.mf_gf.specs.Boxes.{box_of}
 use Rattle.mf_gf.specs.Numbers.{word}
 
--- an opcode for a parameter of one byte, or the next for one of two
+-- an opcode with a parameter of one byte, or the next opcode with one of two bytes
 abbrev pub with_parameter : ℕ → ℕ → List ℕ
 with_parameter opcode n = if nat_le n 255 then (opcode ∷ n ∷ []) else ((opcode + 1) ∷ []) ++ big_bytes 2 n
 
--- paint_0 to paint_63, paint1, paint2
+-- the command that paints n pixels: paint_0 to paint_63, paint1 or paint2
 unfoldable pub paint : ℕ → List ℕ
 paint n = if nat_le n 63 then n ∷ [] else with_parameter 64 n
 
--- skip0, skip1, skip2: so many blank rows
+-- the command that skips n blank rows: skip0, skip1 or skip2
 unfoldable pub skip : ℕ → List ℕ
 skip n = if n == 0 then 70 ∷ [] else with_parameter 71 n
 
--- new_row_0 to new_row_164
+-- the command that goes to the next row at offset n: new_row_0 to new_row_164
 abbrev pub new_row : ℕ → List ℕ
 new_row n = (74 + n) ∷ []
 
--- so many columns, or rows, lie between
+-- the distance between two columns, or rows
 abbrev pub between : ℤ → ℤ → ℕ
 between a b = unsigned_abs (a -ℤ b)
 
--- from a place to the beginning of a stretch of black pixels: in the same row by white; into the next row by new_row,
--- if the offset from the left end of the box allows it; else by a skip and white
+-- from a position to the start of a stretch of black pixels: within the same row with white; to the next row with new_row, where
+-- the offset from the left end of the box allows it; else with a skip and white
 abbrev pub approach : ℤ → ℤ → ℤ → Run → List ℕ
 approach left row column r =
     if int_eq r.y row then paint (between r.x column)
     else (if between row r.y == 1 && nat_le (between r.x left) 164 then new_row (between r.x left)
     else skip (between row r.y - 1) ++ paint (between r.x left))
 
--- stretches of black pixels, one after another, from a place on
+-- stretches of black pixels, one after another, starting at a position
 unfoldable pub rows : ℤ → ℤ → ℤ → List Run → List ℕ
 rows left row column [] = []
 rows left row column (r ∷ rs) = approach left row column r ++ paint r.len ++ rows left r.y (r.x +ℤ pos r.len) rs
@@ -47,27 +47,27 @@ rows left row column (r ∷ rs) = approach left row column r ++ paint r.len ++ r
 abbrev pub is_byte : ℤ → Bool
 is_byte z = int_le (pos 0) z && int_le z (pos 255)
 
--- a box fits into fields of one byte
+-- a box fits into the one-byte fields of boc1
 abbrev pub is_short : CharacterBox → Bool
 is_short b = is_byte (b.max_m -ℤ b.min_m) && (is_byte b.max_m && (is_byte (b.max_n -ℤ b.min_n) && is_byte b.max_n))
 
--- p of boc: the place of the last earlier character of the code, or -1
+-- the field p of boc: the place of the last earlier character with the code, or -1
 abbrev pub pointer : Option ℕ → ℤ
 pointer None = negsuc 0
 pointer (Some place) = pos place
 
--- boc1, which has no p
+-- the bytes of boc1, which has no p
 abbrev pub short_begin : ℕ → CharacterBox → List ℕ
 short_begin code b = 68 ∷ code ∷ unsigned_abs (b.max_m -ℤ b.min_m) ∷ unsigned_abs b.max_m ∷ unsigned_abs (b.max_n -ℤ b.min_n) ∷ unsigned_abs b.max_n ∷ []
 
--- boc, with p
+-- the bytes of boc, which has p
 abbrev pub long_begin : ℕ → ℤ → CharacterBox → List ℕ
 long_begin code p b = (67 ∷ []) ++ word (pos code) ++ word p ++ word b.min_m ++ word b.max_m ++ word b.min_n ++ word b.max_n
 
--- boc1 where there is no earlier character of this code and the box allows it
+-- boc1 where there is no earlier character with this code and the box allows it, else boc
 abbrev pub begin : ℕ → ℤ → CharacterBox → List ℕ
 begin code p b = if int_eq p (negsuc 0) && is_short b then short_begin code b else long_begin code p b
 
--- the bytes of a character with these black pixels; p is the place of the last earlier character of this code, or -1
+-- the bytes of a character with these black pixels; p is the place of the last earlier character with this code, or -1
 unfoldable pub spell : ℕ → ℤ → List Dot → List ℕ
 spell code p ds = begin code p (box_of ds) ++ rows (box_of ds).min_m (box_of ds).max_n (box_of ds).min_m (runs_of ds) ++ (69 ∷ [])

@@ -8,8 +8,8 @@ ghost use Rattle.mf_rows.specs.Order.{IsRun};
 use crate::stretches::Stretches;
 use mf_rows::{Picture, Run};
 
-/// The box of a character, in pixels: the columns of its black pixels, and one column more at the right, where the
-/// painting position stands at last; and their rows.
+/// The box of a character, in pixels: `min_m..=max_m` are the columns of its black pixels and one more column at the right, where
+/// the painting position is after the last pixel; `min_n..=max_n` are their rows.
 #[derive(Clone, Copy, Debug, PartialEq, Eq)]
 pub(crate) struct CharacterBox {
     pub min_m: i32,
@@ -44,7 +44,7 @@ impl CharacterBox {
         }
     }
 
-    /// The least box round two boxes.
+    /// The least box around two boxes.
     fn joined(&self, other: &CharacterBox) -> CharacterBox
         ensures { result ≡ joined self.now other.now }
     {
@@ -56,7 +56,7 @@ impl CharacterBox {
         }
     }
 
-    /// The least box round a box, where there is one, and another.
+    /// The least box around an earlier box, if there is one, and another box.
     pub(crate) fn widened(bounds: Option<CharacterBox>, other: CharacterBox) -> CharacterBox
         ensures { result ≡ widened bounds other }
     {
@@ -66,7 +66,7 @@ impl CharacterBox {
         }
     }
 
-    /// The box of the black pixels of a picture.
+    /// The box of the black pixels of a picture: those of positive weight.
     pub(crate) fn of_black(picture: &Picture) -> CharacterBox
         ensures value { result ≡ box_of (black picture.now) }
         ensures lawful { IsPicture picture.now }

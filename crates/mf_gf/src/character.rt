@@ -1,4 +1,4 @@
-//! Characters.
+//! The bytes of a character.
 ghost use Rattle.std.specs.Prelude.{◌≡◌, ◌&&◌, ◌-ℤ◌, ◌++◌, List, ℕ, true};
 ghost use Rattle.mf_gf.specs.Boxes.{box_of};
 ghost use Rattle.mf_gf.specs.Numbers.{word};
@@ -13,17 +13,17 @@ use crate::spelling::Spelling;
 use crate::stretches::Stretches;
 use mf_rows::Picture;
 
-/// boc, which begins a character (gftype.web).
+/// boc, the command that begins a character (gftype.web).
 const BOC: u8 = 67;
 
-/// boc1, which begins one whose numbers have one byte each (gftype.web).
+/// boc1, the command that begins a character whose numbers have one byte each (gftype.web).
 const BOC1: u8 = 68;
 
-/// eoc, which ends a character (gftype.web).
+/// eoc, the command that ends a character (gftype.web).
 const EOC: u8 = 69;
 
 /// Spells the character with this code and box whose black pixels are those of positive weight. `earlier` is the place of the
-/// last character of its code, if there is one.
+/// last earlier character with this code, if there is one.
 pub(crate) fn spell(
     out: &mut Spelling,
     code: u8,
@@ -41,7 +41,7 @@ pub(crate) fn spell(
     out.put_byte(EOC);
 }
 
-/// Begins a character: in short where it is the first of its code and its box allows it.
+/// Begins a character: with boc1 where it is the first of its code and its box allows it, else with boc.
 fn put_begin(out: &mut Spelling, code: u8, earlier: Option<u32>, bounds: &CharacterBox)
     requires columns { IsInReach bounds.now.min_m × IsInReach bounds.now.max_m }
     requires rows { IsInReach bounds.now.min_n × IsInReach bounds.now.max_n }
@@ -55,7 +55,7 @@ fn put_begin(out: &mut Spelling, code: u8, earlier: Option<u32>, bounds: &Charac
     }
 }
 
-/// Begins a character whose fields have one byte.
+/// Begins a character with boc1, whose fields have one byte each.
 fn put_short_begin(out: &mut Spelling, code: u8, bounds: &CharacterBox)
     requires columns { IsInReach bounds.now.min_m × IsInReach bounds.now.max_m }
     requires rows { IsInReach bounds.now.min_n × IsInReach bounds.now.max_n }
@@ -73,7 +73,7 @@ fn put_short_begin(out: &mut Spelling, code: u8, bounds: &CharacterBox)
     ]);
 }
 
-/// Begins a character whose fields have four bytes.
+/// Begins a character with boc, whose fields have four bytes each.
 fn put_long_begin(out: &mut Spelling, code: u8, earlier: Option<u32>, bounds: &CharacterBox)
     ensures held { (text : List ℕ) → Holds out.old text → Holds out.new (text ++ long_begin code (pointer earlier) bounds.now) }
     ensures room { out.new.room ≡ out.old.room }
@@ -87,7 +87,7 @@ fn put_long_begin(out: &mut Spelling, code: u8, earlier: Option<u32>, bounds: &C
     out.put_word(bounds.max_n);
 }
 
-/// p of boc: the place of the last earlier character of the code, or -1 (gftype.web).
+/// The field p of boc: the place of the last earlier character with the same code, or -1 (gftype.web).
 fn put_pointer(out: &mut Spelling, earlier: Option<u32>)
     ensures held { (text : List ℕ) → Holds out.old text → Holds out.new (text ++ word (pointer earlier)) }
     ensures room { out.new.room ≡ out.old.room }
@@ -98,7 +98,7 @@ fn put_pointer(out: &mut Spelling, earlier: Option<u32>)
     }
 }
 
-/// Whether a box fits into fields of one byte.
+/// Whether a box fits into the one-byte fields of boc1.
 fn is_short(bounds: &CharacterBox) -> bool
     requires columns { IsInReach bounds.now.min_m × IsInReach bounds.now.max_m }
     requires rows { IsInReach bounds.now.min_n × IsInReach bounds.now.max_n }
@@ -107,7 +107,7 @@ fn is_short(bounds: &CharacterBox) -> bool
     is_short_side(bounds.min_m, bounds.max_m) && is_short_side(bounds.min_n, bounds.max_n)
 }
 
-/// Whether the length and the greater end of a side of a box fit into one byte.
+/// Whether the extent and the greater end of a side of a box each fit into one byte.
 fn is_short_side(least: i32, greatest: i32) -> bool
     requires least { IsInReach least }
     requires greatest { IsInReach greatest }

@@ -1,4 +1,4 @@
-//! Why characters and files are refused.
+//! Why characters and files are refused, and how writing fails.
 ghost use Rattle.std.specs.Prelude.{◌≡◌};
 ghost use Rattle.mf_gf.specs.declared.fault.GfFault.TheVariants.{OutOfMemory as NoMemory};
 
@@ -9,13 +9,13 @@ use std::fmt;
 /// Why a character or a file is refused.
 #[derive(Clone, Copy, Debug, PartialEq, Eq)]
 pub enum GfFault {
-    /// Refusal 20: the file would have more bytes than it may.
+    /// The file would have more bytes than it may have.
     FileTooLong,
-    /// Refusal 21: no character was shipped.
+    /// No character was shipped.
     NoCharacters,
-    /// Refusal 22: the comment is longer than 255 bytes.
+    /// The comment has more than 255 bytes.
     CommentTooLong,
-    /// Refusal 14. It never comes in the place of the others.
+    /// An allocation failed. This never comes instead of another refusal.
     OutOfMemory,
 }
 
@@ -37,7 +37,7 @@ impl fmt::Display for GfFault {
 
 impl Error for GfFault {}
 
-/// Refusal 25: the writer answered an error or took no byte. The number counts the bytes that went out.
+/// A writer failed with an error, or took no byte. The number says how many bytes were written before that.
 #[derive(Clone, Copy, Debug, PartialEq, Eq)]
 pub struct WriteFault(pub u128);
 

@@ -8,11 +8,11 @@ use std::alloc::Global;
 mod steps;
 mod tail;
 
-/// The number that says that a file is a GF file (gftype.web).
+/// The identification byte, which says that a file is a GF file (gftype.web).
 const GF_ID: u8 = 131;
 
-/// Numbers of a font, which the postamble has: its design size in 1/1048576 point, its checksum, and the pixels per
-/// point, horizontally and vertically, in 1/65536.
+/// The numbers of a font, which are in the postamble: its design size `ds` in 1/1048576 point, its checksum `cs`, and the pixels
+/// per point, horizontally `hppp` and vertically `vppp`, in 1/65536.
 #[derive(Clone, Copy, Debug, PartialEq, Eq)]
 pub struct FontWords {
     pub ds: i32,
@@ -21,7 +21,7 @@ pub struct FontWords {
     pub vppp: i32,
 }
 
-/// A GF file that is being made: its preamble, the characters that were shipped, and what its end will tell of them.
+/// A GF file that is being made: its preamble, the characters that were shipped, and what its end will say about them.
 #[derive(Drop)]
 pub struct GfFile {
     pub(crate) alloc: Global,
@@ -29,11 +29,11 @@ pub struct GfFile {
     pub(crate) bytes: Vec<u8>,
     /// The locator of the last character of each code.
     pub(crate) locators: Locators,
-    /// How many characters were shipped. Each has bytes, so they are no more than those.
+    /// The number of characters that were shipped. Each has bytes, so there are no more of them than bytes.
     pub(crate) count: u32,
-    /// The least box round the boxes of all characters.
+    /// The least box around the boxes of all characters; `None` where there is none yet.
     pub(crate) bounds: Option<CharacterBox>,
-    /// Most bytes of the whole file.
+    /// The greatest number of bytes in the finished file.
     pub(crate) max_bytes: u32,
     ghost small: { max_bytes ≤ 2147483647 },
     ghost within: { length bytes.items ≤ max_bytes },

@@ -22,22 +22,22 @@ impl Model for GfBytes {
 }
 
 impl GfBytes {
-    /// A file of these bytes.
+    /// The finished file with these bytes.
     pub(crate) fn new(bytes: Vec<u8>) -> GfBytes
         ensures { result ≡ bytes.items }
     {
         GfBytes { bytes }
     }
 
-    /// All its bytes.
+    /// All bytes of the file.
     pub fn bytes(&self) -> &[u8]
         ensures { result.now ≡ self.now }
     {
         &self.bytes
     }
 
-    /// Writes all its bytes, in as many writes as the writer needs. Refusal WriteFault (25) where the writer answered an
-    /// error or took no byte: exactly so many of the first bytes went out, and some did not.
+    /// Writes all bytes of the file, in as many writes as the writer needs. Refused with `WriteFault` where the writer fails with
+    /// an error or takes no byte. Its number says how many bytes were written before: fewer than the file has.
     pub fn write_to<W: Write>(&self, writer: &mut W) -> Result<(), WriteFault>
         ensures all { OnOk result (Appends (W.contents writer.old) (W.contents writer.new) self.now) }
         ensures front { IfErr result (λ fault. Appends (W.contents writer.old) (W.contents writer.new) (take fault.0 self.now)) }

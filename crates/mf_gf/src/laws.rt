@@ -1,4 +1,5 @@
-//! Laws of GF files: each is the contract of a function that does nothing.
+//! Laws of GF files. Each is the contract of a function that does nothing, because the toolchain proves a statement only where
+//! the contract of a function names it.
 ghost use Rattle.std.specs.Prelude.{◌≡◌, ◌↔◌, ◌<◌, ◌<ℤ◌, ◌∷◌, [], ◌++◌, length, ℕ, ℤ, pos, List, Some};
 ghost use Rattle.mf_gf.specs.Boxes.{IsLeastBox, box_of, joined};
 ghost use Rattle.mf_gf.specs.Files.{Character, IsPadded, IsShortDx, box_of_all, file_of, front, last_place, shipments, short_dx};
@@ -10,36 +11,38 @@ ghost use Rattle.mf_gf.specs.Pointers.{AreShippable, IsReadBack};
 ghost use Rattle.mf_gf.specs.Spelling.{pointer, spell};
 ghost use Rattle.mf_rows.specs.Dots.{Dot, IsPicture, weight_at};
 
-/// The painting law: painting the bytes of a finite set of pixels of the field gives that set, for every code and every p.
+/// Painting the bytes of a character gives back exactly its pixels, for every finite set of pixels of the field, every code and
+/// every p.
 pub fn painted_back()
     ensures { (code : ℕ) (p : ℤ) (ds : List Dot) → code < 256 → IsPixelSet ds → paint (spell code p ds) ≡ Some ds }
 {}
 
-/// The bytes of a set of pixels begin with its code, with p, which is the place of the last character of this code or -1, and
-/// with its box, for every p of four bytes.
+/// The bytes of a character begin with its code, with p, which is the place of the last earlier character with this code or -1,
+/// and with the box of its pixels. This holds for every p of four bytes.
 pub fn head_read_back()
     ensures { (code : ℕ) (p : ℤ) (ds : List Dot) → code < 256 → IsWord p → IsPixelSet ds →
         head_of (spell code p ds) ≡ Some (record { code = pos code; earlier = p; box = box_of ds }) }
 {}
 
-/// The black pixels of a picture are a set of pixels: those of positive weight.
+/// The black pixels of a picture are exactly those of positive weight.
 pub fn black_pixels_are_a_set()
     ensures set { (ds : List Dot) → IsPicture ds → IsPixelSet (black ds) }
     ensures which { (ds : List Dot) (x y : ℤ) → IsPicture ds → (weight_at (black ds) x y ≡ pos 1) ↔ (pos 0 <ℤ weight_at ds x y) }
 {}
 
-/// The box of a character is the least one round its black pixels.
+/// The box of a character is the least one around its black pixels.
 pub fn box_is_least()
     ensures { (d : Dot) (ds : List Dot) → IsLeastBox (d ∷ ds) (box_of (d ∷ ds)) }
 {}
 
-/// An escapement is written in one byte exactly where it is 65536 times this byte.
+/// An escapement is written in one byte exactly where it is 65536 times that byte.
 pub fn short_escapements()
     ensures { (dx : ℤ) (pixels : ℕ) → (short_dx dx ≡ Some pixels) ↔ IsShortDx dx pixels }
 {}
 
-/// A file begins with its preamble and its characters. One character more comes after them, with the place of the last one of
-/// its code as p; it is the last of its code then, and its place is where its bytes begin; the box of all is joined with its own.
+/// A file begins with its preamble and its characters. One more character comes after the others, and its p is the place of the
+/// last one with its code. It is then the last one with that code, its place is where its bytes begin, and the box of the file is
+/// joined with its own box.
 pub fn one_character_more()
     ensures begins { (words : FontWords) (comment : List ℕ) (cs : List Character) → (rest : List ℕ) × (file_of words comment cs ≡ front comment cs ++ rest) }
     ensures bytes { (comment : List ℕ) (cs : List Character) (c : Character) → front comment (cs ++ c ∷ []) ≡ front comment cs ++ spell c.code (pointer (last_place c.code (shipments comment cs))) c.black }
@@ -47,14 +50,14 @@ pub fn one_character_more()
     ensures bounds { (b : Character) (cs : List Character) (c : Character) → box_of_all (b ∷ cs ++ c ∷ []) ≡ joined (box_of_all (b ∷ cs)) (box_of c.black) }
 {}
 
-/// A reader of a finished file finds all of its characters. The codes of the locators rise; there is one for each code that was
-/// shipped, and for no other. Each has the dx, the width and the place of the last character of its code, and from there p leads
-/// to all characters of the code, from the last to the first, and then to none.
+/// A reader of a finished file finds all of its characters. The codes of the locators rise; there is a locator for each code that
+/// was shipped, and for no other. Each has the dx, the width and the place of the last character with its code. From there p
+/// leads to all characters with the code, from the last to the first, and then to none.
 pub fn characters_are_read_back()
     ensures { (words : FontWords) (comment : List ℕ) (cs : List Character) → AreShippable comment cs → IsReadBack (file_of words comment cs) cs }
 {}
 
-/// The length of a finished file is a multiple of 4, and its last four to seven bytes are 223.
+/// The length of a finished file is a multiple of 4, and the file ends with four to seven bytes 223.
 pub fn files_are_padded()
     ensures { (words : FontWords) (comment : List ℕ) (characters : List Character) → IsPadded (file_of words comment characters) }
 {}

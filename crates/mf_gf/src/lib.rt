@@ -1,4 +1,5 @@
-//! GF files, METAFONT's generic fonts: characters of black pixels, by code (The METAFONTbook, Appendix G).
+//! GF files, METAFONT's generic fonts: characters of black pixels, by code (The METAFONTbook, Appendix G). `GfFile::new` begins a
+//! file, `ship` adds a character, and `finish` gives the bytes of the complete file.
 #![tactic(auto)]
 
 mod boxes;

@@ -1,21 +1,21 @@
-//! Where the characters of a file stand.
+//! Where the characters of a file are.
 ghost use Rattle.std.specs.Prelude.{◌≡◌, ◌++◌, List, ℕ};
 ghost use Rattle.mf_gf.specs.Files.{locator_text, short_dx};
 ghost use Rattle.mf_gf.specs.Spellings.{Holds};
 
 use crate::spelling::Spelling;
 
-/// char_loc, the locator of a character (gftype.web).
+/// char_loc, the command for the locator of a character (gftype.web).
 const CHAR_LOC: u8 = 245;
 
-/// char_loc0, the locator of one whose escapement is a whole number of pixels of one byte (gftype.web).
+/// char_loc0, the command for the locator of a character whose escapement is a whole number of pixels in 0..255 (gftype.web).
 const CHAR_LOC0: u8 = 246;
 
-/// A pixel in the units of `dx`, which are 1/65536 pixel (gftype.web).
+/// One pixel in the units of `dx`, which are 1/65536 pixel (gftype.web).
 const PIXEL: i32 = 65_536;
 
-/// A character of a file: its code, its escapement in 1/65536 pixel, its width in 1/1048576 of the design size, and its
-/// place, the number of bytes of the file before it.
+/// The locator of a character: its code, its escapement in 1/65536 pixel, its width in 1/1048576 of the design size, and its
+/// place, which is the number of bytes of the file before it.
 #[derive(Clone, Copy, Debug, PartialEq, Eq)]
 pub(crate) struct Locator {
     pub code: u8,
@@ -25,7 +25,7 @@ pub(crate) struct Locator {
 }
 
 impl Locator {
-    /// Spells it: in short where the escapement is a whole number of pixels in 0..255.
+    /// Spells the locator: as char_loc0 where the escapement is a whole number of pixels in 0..255, else as char_loc.
     pub(crate) fn spell(&self, out: &mut Spelling)
         ensures held { (text : List ℕ) → Holds out.old text → Holds out.new (text ++ locator_text self.now) }
         ensures room { out.new.room ≡ out.old.room }
@@ -42,7 +42,7 @@ impl Locator {
         out.put_unsigned(self.place);
     }
 
-    /// The escapement in pixels, if it is a whole number of them in 0..255.
+    /// The escapement in pixels, if it is a whole number of pixels in 0..255.
     fn whole_pixels(&self) -> Option<u8>
         ensures { result ≡ short_dx self.now.dx }
     {

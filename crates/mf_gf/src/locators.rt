@@ -5,13 +5,14 @@ use crate::locator::Locator;
 
 mod steps;
 
-/// Number of codes.
+/// The number of codes.
 const CODES: usize = 256;
 
-/// The locator of the last character of each code, for the end of a file.
+/// The locator of the last character with each code, for the end of a file. A file keeps these and not its characters, so
+/// spelling them costs the same however many characters were shipped.
 #[derive(Drop)]
 pub(crate) struct Locators {
-    /// At each code its locator, if a character of it was shipped.
+    /// The locator of each code, at the code as index; `None` where no character with it was shipped.
     by_code: Vec<Option<Locator>>,
     ghost all: { length by_code.items ≡ 256 },
 }

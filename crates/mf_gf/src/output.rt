@@ -1,11 +1,11 @@
-//! Writing that counts: how many bytes a writer took before it failed.
+//! Writing that counts how many bytes a writer took before it failed.
 ghost use Rattle.std.specs.Io.KnownBytes.{Appends};
 ghost use Rattle.std.specs.Prelude.{◌<◌, IfErr, OnOk, length, take};
 
 use std::io::Write;
 
-/// Writes all these bytes, in as many writes as the writer needs. Where it answers an error or takes no
-/// byte, the answer is how many of them went out: not all of them.
+/// Writes all these bytes, in as many writes as the writer needs. Where the writer fails with an error or takes no byte, the
+/// error is the number of bytes that were written: fewer than all of them.
 pub fn write_counted<W: Write>(writer: &mut W, bytes: &[u8]) -> Result<(), usize>
     ensures all { OnOk result (Appends (W.contents writer.old) (W.contents writer.new) bytes.now) }
     ensures front { IfErr result (λ count. Appends (W.contents writer.old) (W.contents writer.new) (take count bytes.now)) }

@@ -1,4 +1,4 @@
-//! The rows of a character.
+//! The rows of a character: the commands that paint its stretches of black pixels.
 ghost use Rattle.std.specs.Prelude.{◌≡◌, ◌++◌, List, ℕ};
 ghost use Rattle.mf_gf.specs.Ahead.{AreInOrder, blacks_ahead, stretches_left};
 ghost use Rattle.mf_gf.specs.Places.{IsInReach};
@@ -11,17 +11,17 @@ use crate::spelling::Spelling;
 use crate::stretches::Stretches;
 use mf_rows::Run;
 
-/// Greatest offset of a new row (gftype.web).
+/// The greatest offset of a new_row command (gftype.web).
 const MOST_NEW_ROW: u32 = 164;
 
-/// Where the painting machine stands.
+/// A position of the painting machine.
 #[derive(Clone, Copy, Debug)]
 struct Place {
     row: i32,
     column: i32,
 }
 
-/// Spells stretches, one after another, from the left end of the top row of their box on.
+/// Spells stretches of black pixels one after another, starting from the left end of the top row of their box.
 pub(crate) fn spell_rows(out: &mut Spelling, stretches: Stretches<'_>, bounds: &CharacterBox)
     requires order { AreInOrder (blacks_ahead stretches) }
     requires left { IsInReach bounds.now.min_m }
@@ -43,7 +43,7 @@ pub(crate) fn spell_rows(out: &mut Spelling, stretches: Stretches<'_>, bounds: &
     }
 }
 
-/// Goes from a place to the beginning of a stretch, behind which black is painted. `left` is the left end of the box.
+/// Goes from a position to the start of a stretch, where the next paint is black. `left` is the left end of the box.
 fn go_to(out: &mut Spelling, left: i32, from: Place, stretch: &Run)
     requires stretch { IsRun stretch.now }
     requires left { IsInReach left }

@@ -3,15 +3,15 @@ ghost use Rattle.std.specs.Prelude.{◌≤◌, ◌^◌};
 
 mod steps;
 
-/// Bytes that are being written, with room for so many. Those that find no room or no memory are counted, so that a
-/// file that is too long is known to be so, memory or not.
+/// Bytes that are being written, with room for at most `room` of them. Bytes for which there is no room, or for which an
+/// allocation fails, are only counted. So a file that is too long is refused as such, whether or not there is memory for it.
 #[derive(Drop)]
 pub(crate) struct Spelling {
     bytes: Vec<u8>,
-    /// Number of bytes; above `room` it is not exact.
+    /// The number of bytes. Once it exceeds `room` it is no longer exact.
     length: usize,
     room: usize,
-    /// Whether memory was wanting for some of them.
+    /// Whether an allocation failed for some of the bytes.
     is_wanting: bool,
     ghost small: { room ≤ 2 ^ 31 },
     ghost counted: { length ≤ 2 ^ 33 },

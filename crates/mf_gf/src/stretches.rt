@@ -7,17 +7,18 @@ ghost use Rattle.mf_rows.specs.Runs.{dots_of, runs_of};
 
 use mf_rows::{Picture, Run, Runs};
 
-/// An iterator over the stretches of black pixels of a picture, rows from the top and columns rising: the maximal
-/// runs of pixels of positive weight, given with weight 1. It passes the runs of the picture once and takes no memory.
+/// An iterator over the stretches of black pixels of a picture: the maximal runs of pixels of positive weight, each returned with
+/// weight 1. Rows are in order from the top, and the stretches of a row from the left. It passes the runs of the picture once and
+/// allocates nothing.
 #[derive(Drop)]
 pub(crate) struct Stretches<'a> {
-    /// The first run of positive weight that is still to come, and the runs behind it.
+    /// The next run of positive weight, and the runs after it.
     next: Option<Run>,
     runs: Runs<'a>,
 }
 
 impl<'a> Stretches<'a> {
-    /// The stretches of a picture.
+    /// An iterator over the stretches of a picture.
     pub(crate) fn over(picture: &'a Picture) -> Stretches<'a>
         ensures order { AreInOrder (blacks_ahead result) }
         ensures stretches { stretches_left result ≡ runs_of (black picture.now) }
@@ -28,7 +29,7 @@ impl<'a> Stretches<'a> {
         Stretches { next, runs }
     }
 
-    /// The stretch that begins with this one and has the runs that continue it, which are passed.
+    /// Returns the stretch that starts with this run, lengthened by the runs that continue it. It passes those.
     fn lengthened(&mut self, begun: Run) -> Run
         requires order { AreInOrder (begun ∷ blacks_ahead self.old) }
         ensures order { AreInOrder (blacks_ahead self.new) }
@@ -65,7 +66,7 @@ impl Iterator for Stretches<'_> {
     }
 }
 
-/// The next run of positive weight, as one of weight 1.
+/// The next run of positive weight, returned with weight 1.
 fn next_black(runs: &mut Runs<'_>) -> Option<Run>
     ensures next { blacks runs.old ≡ with_next result (blacks runs.new) }
 {

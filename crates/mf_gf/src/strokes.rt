@@ -5,24 +5,23 @@ ghost use Rattle.mf_gf.specs.Spellings.{Holds};
 
 use crate::spelling::Spelling;
 
-/// paint1, whose length is its parameter of one byte (gftype.web).
+/// paint1, which paints as many pixels as its one-byte parameter says (gftype.web).
 const PAINT1: u8 = 64;
 
-/// Greatest length that is its own opcode: those of paint_0 to paint_63 (gftype.web).
+/// The greatest number of pixels that is its own opcode: paint_0 to paint_63 (gftype.web).
 const MOST_PAINTED: u32 = 63;
 
-/// skip0, which passes no row (gftype.web).
+/// skip0, which goes to the next row and skips no blank row (gftype.web).
 const SKIP0: u8 = 70;
 
-/// skip1, which passes as many rows as its parameter of one byte says (gftype.web).
+/// skip1, which skips as many blank rows as its one-byte parameter says (gftype.web).
 const SKIP1: u8 = 71;
 
-/// new_row_0, which begins the next row at the left end of the box; the opcodes up to that of new_row_164 follow it
-/// (gftype.web).
+/// new_row_0, which goes to the next row, to the left end of the box. The opcodes up to new_row_164 follow it (gftype.web).
 const NEW_ROW_0: u8 = 74;
 
 impl Spelling {
-    /// Paints so many pixels.
+    /// Appends a command that paints `length` pixels.
     pub(crate) fn paint(&mut self, length: u32)
         requires { length < 2 ^ 16 }
         ensures held { (text : List ℕ) → Holds self.old text → Holds self.new (text ++ paint length) }
@@ -35,7 +34,7 @@ impl Spelling {
         }
     }
 
-    /// Passes so many blank rows.
+    /// Appends a command that skips `rows` blank rows.
     pub(crate) fn skip(&mut self, rows: u32)
         requires { rows < 2 ^ 16 }
         ensures held { (text : List ℕ) → Holds self.old text → Holds self.new (text ++ skip rows) }
@@ -48,7 +47,7 @@ impl Spelling {
         }
     }
 
-    /// Begins the next row at this offset from the left end of the box.
+    /// Appends a command that goes to the next row, to this offset from the left end of the box.
     pub(crate) fn new_row(&mut self, offset: u32)
         requires { offset ≤ 164 }
         ensures held { (text : List ℕ) → Holds self.old text → Holds self.new (text ++ new_row offset) }
@@ -57,7 +56,7 @@ impl Spelling {
         self.put_byte(NEW_ROW_0 + offset as u8);
     }
 
-    /// An opcode with its parameter: this one for a parameter of one byte, the next for one of two.
+    /// Appends a command with its parameter: this opcode for a parameter of one byte, and the next one for two bytes.
     fn put_parameter(&mut self, opcode: u8, parameter: u32)
         requires opcode { opcode < 255 }
         requires parameter { parameter < 2 ^ 16 }

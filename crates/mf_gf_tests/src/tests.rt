@@ -1,4 +1,4 @@
-//! Tests of GF files: bytes worked out from the format by hand, refusals and writers that fail.
+//! Tests of GF files: bytes worked out by hand from the format, refusals, and writers that fail.
 
 mod again;
 mod assertions;
@@ -15,7 +15,7 @@ use std::alloc::Global;
 use std::fmt::Debug;
 use std::process::Abort;
 
-/// No number of the font is given.
+/// The numbers of a font are all 0.
 const NO_WORDS: FontWords = FontWords {
     ds: 0,
     cs: 0,
@@ -23,13 +23,13 @@ const NO_WORDS: FontWords = FontWords {
     vppp: 0,
 };
 
-/// Most bytes of files in these tests.
+/// The greatest number of bytes in the files of these tests.
 const MAX_BYTES: u32 = 16_777_216;
 
-/// A rectangle of 3 by 2 pixels. Its character has 11 bytes, and a file of it alone, with no comment, 72.
+/// A rectangle of 3 by 2 pixels. Its character has 11 bytes, and a file of it alone, without a comment, has 72.
 const RECT: &[(i32, i32, u32)] = &[(1, 0, 3), (0, 0, 3)];
 
-/// Adds a run, which must fit behind the others.
+/// Adds a run, which must fit after the ones before it.
 fn push(rt: &impl Abort, builder: &mut RowBuilder, run: Run) {
     assert!(rt; builder.fits(&run), "{run:?}");
     builder
@@ -37,7 +37,7 @@ fn push(rt: &impl Abort, builder: &mut RowBuilder, run: Run) {
         .expect(rt, "there is room for the run");
 }
 
-/// The picture of these runs: row, first column, length and weight.
+/// The picture of these runs, given as row, first column, length and weight.
 pub(crate) fn weighted(rt: &impl Abort, alloc: Global, runs: &[(i32, i32, u32, i32)]) -> Picture {
     let mut builder = RowBuilder::new(alloc);
     for (y, x, len, weight) in runs {
@@ -52,7 +52,7 @@ pub(crate) fn weighted(rt: &impl Abort, alloc: Global, runs: &[(i32, i32, u32, i
     builder.finish().expect(rt, "there is room for the picture")
 }
 
-/// The picture of these stretches, row, first column and length, all of one weight.
+/// The picture of these stretches, given as row, first column and length, all with the same weight.
 pub(crate) fn picture(
     rt: &impl Abort,
     alloc: Global,
@@ -67,17 +67,17 @@ pub(crate) fn picture(
     weighted(rt, alloc, &runs)
 }
 
-/// A file with no comment.
+/// A file without a comment.
 pub(crate) fn gf_file(rt: &impl Abort, alloc: Global) -> GfFile {
     short_file(rt, alloc, MAX_BYTES)
 }
 
-/// A file with no comment, of at most so many bytes.
+/// A file without a comment, of at most `max_bytes` bytes.
 pub(crate) fn short_file(rt: &impl Abort, alloc: Global, max_bytes: u32) -> GfFile {
     GfFile::new(alloc, b"", max_bytes).expect(rt, "the preamble fits")
 }
 
-/// Ships a character, which is accepted.
+/// Ships a character, which must be accepted.
 pub(crate) fn ship(
     rt: &impl Abort,
     file: &mut GfFile,
@@ -90,7 +90,7 @@ pub(crate) fn ship(
     assert_same(rt, shipped, Ok(()), ("code", code));
 }
 
-/// A file with no comment, of at most so many bytes, to which a rectangle was shipped with code 65.
+/// A file without a comment, of at most `max_bytes` bytes, to which the rectangle was shipped with code 65.
 pub(crate) fn with_rectangle(rt: &impl Abort, alloc: Global, max_bytes: u32) -> GfFile {
     let mut file = short_file(rt, alloc, max_bytes);
     ship_rectangle(rt, alloc, &mut file);
@@ -102,17 +102,17 @@ pub(crate) fn ship_rectangle(rt: &impl Abort, alloc: Global, file: &mut GfFile) 
     ship(rt, file, 65, (327_680, 0), &picture(rt, alloc, RECT, 1));
 }
 
-/// So many characters were shipped.
+/// Asserts that this number of characters was shipped.
 pub(crate) fn assert_count(rt: &impl Abort, file: &GfFile, count: u32) {
     assert_same(rt, file.count(), count, "characters");
 }
 
-/// The bytes of a file that can be finished.
+/// The bytes of a file, which must be accepted when it is finished.
 pub(crate) fn finished(rt: &impl Abort, file: GfFile) -> GfBytes {
     finished_with(rt, file, NO_WORDS)
 }
 
-/// The bytes of a file that can be finished with these numbers of the font.
+/// The bytes of a file, which must be accepted when it is finished with these numbers of the font.
 pub(crate) fn finished_with(rt: &impl Abort, file: GfFile, words: FontWords) -> GfBytes {
     match file.finish(words) {
         Ok(bytes) => bytes,
@@ -120,7 +120,7 @@ pub(crate) fn finished_with(rt: &impl Abort, file: GfFile, words: FontWords) -> 
     }
 }
 
-/// So many of the bytes, from this one on.
+/// `length` of the bytes, from `first` on.
 pub(crate) fn part<'a>(rt: &impl Abort, bytes: &'a [u8], first: usize, length: usize) -> &'a [u8] {
     match bytes.get(first..first.saturating_add(length)) {
         Some(part) => part,
@@ -128,7 +128,7 @@ pub(crate) fn part<'a>(rt: &impl Abort, bytes: &'a [u8], first: usize, length: u
     }
 }
 
-/// These bytes stand in a file from this one on.
+/// Asserts that a file has these bytes, from `first` on.
 pub(crate) fn assert_part<C: Debug + Drop>(
     rt: &impl Abort,
     file: &GfBytes,
@@ -140,7 +140,7 @@ pub(crate) fn assert_part<C: Debug + Drop>(
     assert_same(rt, found, expected, case);
 }
 
-/// A file has so many bytes.
+/// Asserts that a file has this number of bytes.
 pub(crate) fn assert_length(rt: &impl Abort, file: &GfBytes, length: usize) {
     assert_same(rt, file.bytes().len(), length, "bytes of the file");
 }

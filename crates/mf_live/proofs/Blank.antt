@@ -11,7 +11,7 @@ pub rev-none : rev [] ≡ 0
 unfolding revision_after
 rev-none = refl
 
--- the picture and the revision number of a list of nothing
+-- the picture and the revision of an empty list
 pub pic-blank : (L : List Entry) → L ≡ [] → pic L ≡ []
 pic-blank L none = ap pic none ∙ pic-none
 

@@ -1,4 +1,4 @@
--- What a writer has accepted, when an operation or the end mark is added to it.
+-- What a writer has accepted once an operation or the end mark is added.
 use Rattle.std.proofs.Common.{◌≡◌, ◌∙◌, ◌+◌, ◌≤◌, ◌||◌, Bool, true, false, ℕ, [], ◌∷◌, ◌++◌, refl, sym, ap}
 use Rattle.mf_ops.specs.declared.op.Op.{Op}
 use Rattle.mf_live.specs.declared.holder.Holder.{Holder}
@@ -7,7 +7,7 @@ use Rattle.mf_live.specs.Holders.{accepted, published, version}
 use Rattle.mf_live.proofs.EntryLists.{rev-push, rev-whole, is_closed-append}
 use Rattle.mf_live.proofs.Histories.{lawful}
 
--- no more is published than was accepted
+-- no more is published than is accepted
 pub told-few : (h : Holder) → (version h).notice.number ≤ h.revision
 told-few h =
     let whole : rev (published h) ≤ rev (accepted h) = rev-whole (published h) (accepted h) (lawful h).whole in
@@ -22,7 +22,7 @@ or-true true = refl
 or-true false = refl
 
 module _ (old new : Holder) (n : ℕ) where
-  -- one operation more has the next number, and does not end a list
+  -- one more operation has the next number, and does not close the list
   module _ (op : Op) (more : accepted new ≡ accepted old ++ entry n (Operation op) ∷ []) where
     pub revision-push : new.revision ≡ old.revision + 1
     revision-push = new.numbered ∙ ap rev more ∙ rev-push (accepted old) n op ∙ ap (λ m. m + 1) (sym old.numbered)
@@ -30,7 +30,7 @@ module _ (old new : Holder) (n : ℕ) where
     pub open-push : is_closed (accepted old) ≡ false → is_closed (accepted new) ≡ false
     open-push is_open = ap is_closed more ∙ is_closed-append (accepted old) (entry n (Operation op) ∷ []) ∙ or-false (is_closed (accepted old)) is_open
 
-  -- the end mark does
+  -- the end mark closes the list
   module _ (more : accepted new ≡ accepted old ++ entry n End ∷ []) where
     pub closed-end : is_closed (accepted new) ≡ true
     closed-end = ap is_closed more ∙ is_closed-append (accepted old) (entry n End ∷ []) ∙ or-true (is_closed (accepted old))

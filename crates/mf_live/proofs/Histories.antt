@@ -1,4 +1,4 @@
--- The history of what the writer of a picture holds: how long it is, and what one event more makes of it.
+-- The history of what a picture's writer holds: how long it is, and what one more event does to it.
 use Rattle.std.proofs.Common.{◌≡◌, ◌≤◌, ◌+◌, false, List, [], ◌∷◌, ◌++◌, length, ap, sym, ◌∙◌, append_assoc, arith, length-append}
 use Rattle.std.proofs.lemmas.List.{append-nil, nil_from_length}
 use Rattle.left_right.specs.Sides.{view}
@@ -17,7 +17,7 @@ use Rattle.mf_live.proofs.Worlds.{world_after-push, Happen-push, lawful-after}
 pub lawful : (h : Holder) → IsLawful most (world_after start (events h))
 lawful h = lawful-after most (events h) h.lawful
 
--- at most all operations and the end mark were accepted
+-- at most `most` operations and the end mark were accepted
 pub few_entries : (h : Holder) → length (accepted h) ≤ 4294967296
 few_entries h = omega (arith, length-rev (accepted h) (lawful h).ended, (lawful h).few)
 
@@ -28,18 +28,18 @@ few_events h = omega (arith, h.short, h.since, few_entries h)
 pub few_unwritten : (h : Holder) → h.unwritten ≤ 4294967296
 few_unwritten h = omega (arith, h.since, few_entries h)
 
--- where nothing waits, all that was accepted is published
+-- where nothing waits, everything that was accepted is published
 pub none_waits : (h : Holder) → h.unwritten ≡ 0 → published h ≡ accepted h
 none_waits h none =
     let written : (view h.swap.desk.place).unwritten ≡ [] = nil_from_length (view h.swap.desk.place).unwritten (omega (arith, h.counted, none)) in
     let log : events h ≡ events_of (version h) = ap (λ (more : List Event). events_of (version h) ++ more) written ∙ append-nil (events_of (version h)) in
     ap published_of log ∙ sym (version h).notice.whole ∙ sym (ap accepted_of log)
 
--- where something waits, it does not
+-- where everything that was accepted is published, nothing waits
 pub some_wait : (h : Holder) → published h ≡ accepted h → h.unwritten ≡ 0
 some_wait h all = omega (arith, h.since, ap length h.shown_is, ap length all)
 
--- the writer has an event more to write, by which the entry e is accepted
+-- the writer has one more event to write, by which the entry e is accepted
 pub record HasOneMore (h : Holder) (x : Version) (w : View) (e : Entry) : Type 0 where
   pub accepted : accepted_of (history x w) ≡ accepted h ++ e ∷ []
   pub published : published_of (history x w) ≡ published h

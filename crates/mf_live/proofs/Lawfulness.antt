@@ -15,12 +15,12 @@ use Rattle.mf_live.specs.World.{World, start, May, after_event, notice_at, put, 
 use Rattle.mf_live.proofs.EntryLists.{rev-push, rev-end, unrefused-push, unrefused-end, ends_last-push}
 use Rattle.mf_live.proofs.WholePrefixes.{labels-append, length-labels, whole-self, whole-nil, whole-trans, whole-longer}
 
--- the next label is the last one and 1
+-- the next label is one more than the last
 last-label : (n : ℕ) (e : Entry) (es : List Entry) → get_or (labels (e ∷ es)) (length es) 0 + 1 ≡ next_after n (e ∷ es)
 last-label n e [] = refl
 last-label n e (f ∷ fs) = last-label (e.label + 1) f fs
 
--- where labels end with the one before q, and q follows, the two differ
+-- where the last label is one less than q, and q follows, the two differ
 ends_apart : (ns more : List ℕ) (n k q : ℕ) → length ns ≡ n → n ≡ suc k → get_or ns k 0 + 1 ≡ q → get_or (ns ++ q ∷ more) (n - 1) 0 ≢ get_or (ns ++ q ∷ more) n 0
 ends_apart ns more n k q long some last same =
     let place : n - 1 ≡ k = omega arith in
@@ -29,7 +29,7 @@ ends_apart ns more n k q long some last same =
     let equal = rw place at same in
     absurd (omega arith)
 
--- what is published is whole, since every entry after it has the next label
+-- what is published is a whole prefix, since every entry after it has the next label
 pending-whole : (P rest : List Entry) → All (λ (e : Entry). e.label ≡ next P) rest → IsWholePrefix P (P ++ rest)
 pending-whole [] rest labelled = whole-nil rest
 pending-whole (p ∷ ps) [] labelled = rw (append-nil (p ∷ ps)) (whole-self (p ∷ ps))
@@ -63,7 +63,7 @@ notice-whole [] k P each = whole-nil P
 notice-whole (n ∷ ns) zero P each = All-head (λ n. IsWholePrefix n P) n ns each
 notice-whole (n ∷ ns) (suc k) P each = notice-whole ns k P (All-tail (λ n. IsWholePrefix n P) n ns each)
 
--- what one viewer sees more leaves the others
+-- when one viewer sees more, the others keep what they had seen
 put-whole : (seen : ℕ → List Entry) (i : ℕ) (L P : List Entry) → ((j : ℕ) → IsWholePrefix (seen j) P) → IsWholePrefix L P → (j : ℕ) → IsWholePrefix (put seen i L j) P
 put-whole seen i L P each more j = cond_both (j == i) L (seen j) (λ S. IsWholePrefix S P) (λ _. more) (λ _. each j)
 
@@ -85,7 +85,7 @@ lawful_start max_ops = record {
 abbrev with_change : World → Change → List Entry
 with_change w c = w.accepted ++ entry (next w.published) c ∷ []
 
--- the writer accepts one change more
+-- the writer accepts one more change
 accepts : (max_ops : ℕ) (w : World) (c : Change) → IsLawful max_ops w → IsUnrefused (with_change w c) → rev (with_change w c) ≤ max_ops → is_closed w.accepted ≡ false → IsLawful max_ops (record w { accepted = with_change w c })
 accepts max_ops w c lawful unrefused few not_closed = record {
   unrefused = unrefused;
@@ -97,7 +97,7 @@ accepts max_ops w c lawful unrefused few not_closed = record {
   ended = ends_last-push w.accepted (entry (next w.published) c) not_closed lawful.ended;
 }
 
--- or publishes all that it has accepted
+-- the writer publishes everything that it has accepted
 publishes_all : (max_ops : ℕ) (w : World) (gone : Bool) → IsLawful max_ops w → IsLawful max_ops (record w { published = w.accepted; dropped = gone })
 publishes_all max_ops w gone lawful = record {
   unrefused = lawful.unrefused;
@@ -109,7 +109,7 @@ publishes_all max_ops w gone lawful = record {
   ended = lawful.ended;
 }
 
--- or leaves the list as it is, whatever others have seen of it
+-- the writer leaves the list as it is, whatever others have seen of it
 leaves_list : (max_ops : ℕ) (w : World) (seen : ℕ → List Entry) (notices : List (List Entry)) (gone : Bool) → IsLawful max_ops w → ((i : ℕ) → IsWholePrefix (seen i) w.published) → All (λ n. IsWholePrefix n w.published) notices → IsLawful max_ops (record w { seen = seen; notices = notices; dropped = gone })
 leaves_list max_ops w seen notices gone lawful each_seen each_notice = record {
   unrefused = lawful.unrefused;
@@ -121,7 +121,7 @@ leaves_list max_ops w seen notices gone lawful each_seen each_notice = record {
   ended = lawful.ended;
 }
 
--- a viewer sees a list that is whole in what is published
+-- a viewer sees a whole prefix of what is published
 sees : (max_ops : ℕ) (w : World) (i : ℕ) (L : List Entry) → IsLawful max_ops w → IsWholePrefix L w.published → IsLawful max_ops (record w { seen = put w.seen i L })
 sees max_ops w i L lawful more = leaves_list max_ops w (put w.seen i L) w.notices w.dropped lawful (put-whole w.seen i L w.published lawful.each_seen more) lawful.each_notice
 
@@ -144,7 +144,7 @@ lawful_event max_ops w (Learn i k) lawful may =
     sees max_ops w i (longer (w.seen i) (notice_at w.notices k)) lawful
     (whole-longer (w.seen i) (notice_at w.notices k) w.published (lawful.each_seen i) (notice-whole w.notices k w.published lawful.each_notice))
 
--- an event leaves what was published, or publishes more
+-- an event leaves what is published as it is, or publishes more
 pub published-event : (max_ops : ℕ) (w : World) (e : Event) → IsLawful max_ops w → IsWholePrefix w.published (after_event w e).published
 published-event max_ops w Publish lawful = lawful.whole
 published-event max_ops w (Discard true) lawful = lawful.whole

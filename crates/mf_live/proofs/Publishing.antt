@@ -16,7 +16,7 @@ module _ (h : Holder) where
   abbrev pub written : List Event
   written = publishing (view h.swap.desk.place)
 
-  -- the history behind that
+  -- the history after that
   abbrev pub all_written : List Event
   all_written = events_of (version h) ++ written
 

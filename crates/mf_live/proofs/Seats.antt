@@ -1,4 +1,4 @@
--- Each step keeps the rule over the version that is shown and what each seat knows.
+-- Each step keeps the rule that ties what each seat knows to the version that is shown.
 use Rattle.std.proofs.Common.{◌≡◌, ◌≢◌, ◌⊎◌, ℕ, true, false, List, [], ◌∷◌, ◌++◌, set, refl, sym, subst, ◌∙◌, ⊎_elim}
 use Rattle.std.proofs.lemmas.Bool.{false≢true}
 use mathlib.Core.List.{IsPrefix}
@@ -12,23 +12,23 @@ use Rattle.mf_live.specs.declared.view.View.{View}
 use Rattle.mf_live.specs.Rule.{Begins, Kept, Knows, Looked, Shown, newcomer, knowing, token_of, book_of, events_of}
 use Rattle.mf_live.proofs.Beginnings.{prefix-self, prefix-trans}
 
--- what the token has begins what the version knows
+-- what the token has is a prefix of what the version knows
 abbrev Shows : Version → Token → Type 0
 Shows x t = Begins (book_of x) (events_of x) t
 
 shows_itself : (x : Version) → Shows x (token_of x)
 shows_itself x = record { book = refl; begins = prefix-self (events_of x) }
 
--- a seat that does not know which picture it is knows nothing wrong
+-- the rule asks nothing of a seat that does not know which picture it is
 knows_nothing : (x : Version) (v : View) → v.named ≡ false → Knows x v
 knows_nothing x v unnamed named = absurd (false≢true (sym unnamed ∙ named))
 
--- a seat with another view that has seen the same knows as much
+-- two views that have seen the same know the same
 knows_same : (x : Version) (v w : View) → w.named ≡ v.named → w.last ≡ v.last → w.now ≡ v.now → Knows x v → Knows x w
 knows_same x v w named last now knows w_named = let begin = knows (sym named ∙ w_named) in
     (subst (Shows x) (sym last) begin.0, subst (Shows x) (sym now) begin.1)
 
--- one seat has another view, and of y the others know what they knew of x
+-- one seat gets another view, and the others know of y what they knew of x
 kept_set : (x y : Version) (views : List View) (seat : ℕ) (w : View) → ((v : View) → Knows x v → Knows y v) → Kept x views → Knows y w
     → Kept y (set views seat w)
 kept_set x y views seat w still kept here = record {
@@ -36,7 +36,7 @@ kept_set x y views seat w still kept here = record {
       (λ (that : (other ≢ seat) × (get_elem? views other ≡ some v)). still v (kept.each_seat other v that.1)) (at_set views seat other w v at);
 }
 
--- one seat has another view of the same picture
+-- one seat gets another view, and the version stays
 kept_view : (x : Version) (views : List View) (seat : ℕ) (w : View) → Kept x views → Knows x w → Kept x (set views seat w)
 kept_view x views seat w = kept_set x x views seat w (λ v knows. knows)
 
@@ -50,7 +50,7 @@ kept_more x views w kept here = record {
 pub admits : Admits Kept newcomer
 admits x views kept = kept_more x views newcomer kept (knows_nothing x newcomer refl)
 
--- a seat's view is cut in two, of which the first has seen what it had, and the second the same or nothing
+-- a seat's view is split in two: the first has seen what it had seen, and the second the same or nothing
 pub forks : (seat : ℕ) (v left right : View) → left.named ≡ v.named → left.last ≡ v.last → left.now ≡ v.now → (right ≡ v) ⊎ (right.named ≡ false)
     → Forks Kept seat v left right
 forks seat v left right named last now given x views kept at = let knows : Knows x v = kept.each_seat seat v at in
@@ -72,7 +72,7 @@ looks keep seat v is_kept x views kept at = let knows : Knows x v = kept.each_se
     let w : View = record { named = v.named; last = keep v; now = token_of x; unwritten = v.unwritten } in
     (w, kept_view x views seat w kept (λ named. (keeps named, shows_itself x)), record { knows = knows; now = refl })
 
--- what is known of x is known of y, which knows more of one history
+-- what is known of x is known of y, where y knows more of the same history
 shows_more : (x y : Version) → book_of y ≡ book_of x → IsPrefix (events_of x) (events_of y) → (t : Token) → Shows x t → Shows y t
 shows_more x y book more t begins = record {
   book = begins.book ∙ sym book;
@@ -82,7 +82,7 @@ shows_more x y book more t begins = record {
 knows_more : (x y : Version) → book_of y ≡ book_of x → IsPrefix (events_of x) (events_of y) → (v : View) → Knows x v → Knows y v
 knows_more x y book more v knows named = let still = shows_more x y book more in (still v.last (knows named).0, still v.now (knows named).1)
 
--- a publish keeps the rule where the version knows more of the history
+-- a publish keeps the rule where the new version knows more of the history
 pub publishes : (seat : ℕ) (v : View) (x y : Version) → book_of y ≡ book_of x → IsPrefix (events_of x) (events_of y) → TurnsAt Kept seat v x y Shown
 publishes seat v x y book more views kept at =
     (knowing (token_of y), kept_set x y views seat (knowing (token_of y)) (knows_more x y book more) kept (λ named. (shows_itself y, shows_itself y)), refl)

@@ -13,7 +13,7 @@ length-labels L = length-map L (λ (e : Entry). e.label)
 pub labels-append : (xs ys : List Entry) → labels (xs ++ ys) ≡ labels xs ++ labels ys
 labels-append xs ys = map-append (λ (e : Entry). e.label) xs ys
 
--- a place before the end of some labels stays one when more labels follow
+-- a cut before the end of some labels stays a cut when more labels follow
 cut_among-append : (ns more : List ℕ) (n : ℕ) → n < length ns → IsCutAmong ns n → IsCutAmong (ns ++ more) n
 cut_among-append ns more n inside (inl first) = inl first
 cut_among-append ns more n inside (inr (inl last)) = absurd (omega arith)
@@ -33,7 +33,7 @@ cut_among-front ns more n inside (inr (inr between)) = elim (cases_lt n (length 
   | inr end ↦ inr (inl (omega arith))
 ]
 
--- so with a place of a list
+-- the same for a cut of a list
 cut-append : (L more : List Entry) (n : ℕ) → n < length L → IsCut L n → IsCut (L ++ more) n
 cut-append L more n inside cut = rw (labels-append L more) (cut_among-append (labels L) (labels more) n (omega (arith, length-labels L)) cut)
 
@@ -52,7 +52,7 @@ whole-nil L = record { rest = L; whole = refl; cut = inl refl }
 pub whole-length : (S L : List Entry) → IsWholePrefix S L → length S ≤ length L
 whole-length S L whole = omega (arith, length-append S whole.rest, ap length whole.whole)
 
--- a prefix as long as the list is the list
+-- a whole prefix as long as the list is the list
 pub whole-same : (S L : List Entry) → IsWholePrefix S L → length L ≤ length S → S ≡ L
 whole-same S L whole long =
     let none = nil_from_length whole.rest (omega (arith, length-append S whole.rest, ap length whole.whole)) in
@@ -68,7 +68,7 @@ whole-trans A B C first second = record {
   ];
 }
 
--- of two whole prefixes the shorter is one of the longer
+-- of two whole prefixes, the shorter is a whole prefix of the longer
 pub whole-shorter : (a b L : List Entry) → IsWholePrefix a L → IsWholePrefix b L → length a ≤ length b → IsWholePrefix a b
 whole-shorter a b L one other shorter =
     let front : a ≡ take (length a) b =
@@ -81,7 +81,7 @@ whole-shorter a b L one other shorter =
       cut = cut-front b other.rest (length a) shorter (rw other.whole at one.cut);
     }
 
--- the longer of two whole prefixes is one
+-- the longer of two whole prefixes is a whole prefix
 pub whole-longer : (a b L : List Entry) → IsWholePrefix a L → IsWholePrefix b L → IsWholePrefix (longer a b) L
 whole-longer a b L one other = cond_both (nat_lt (length a) (length b)) b a (λ S. IsWholePrefix S L) (λ _. other) (λ _. one)
 
@@ -103,7 +103,7 @@ longer-assoc a b c = elim (cases_lt (length a) (length b)) [
   ]
 ]
 
--- where one is a whole prefix of the other, the longer is that
+-- where one list is a whole prefix of the other, the other is the longer
 pub longer-whole : (a b : List Entry) → IsWholePrefix a b → longer a b ≡ b
 longer-whole a b whole = elim (cases_lt (length a) (length b)) [
   | inl shorter ↦ longer-shorter a b shorter

@@ -1,4 +1,4 @@
--- Labels never fall, so that a beginning that cuts no publish in two has of each publish nothing or all.
+-- Labels never fall, so a prefix that cuts no publish in two has, of each publish, nothing or all of it.
 use Rattle.std.proofs.Common.{◌≡◌, ◌≢◌, ◌≤◌, ◌<◌, ◌+◌, ◌-◌, ◌==◌, ◌⊎◌, inl, inr, ◌∙◌, true, ℕ, zero, suc, List, [], ◌∷◌, ◌++◌, length, get_or, refl, sym, ap, arith, length-append}
 use Rattle.std.proofs.lemmas.Bool.{cases_lt, ne_eqb}
 use Rattle.std.proofs.lemmas.List.{append-nil, get_or_append_left, get_or_at, nil_from_length}
@@ -10,7 +10,7 @@ use Rattle.mf_live.specs.Prefixes.{labels, IsCut, IsWholePrefix, labelled, HasWh
 use Rattle.mf_live.specs.World.{World, start, after_event, world_after, published_of}
 use Rattle.mf_live.proofs.WholePrefixes.{labels-append, length-labels}
 
--- the labels of a list go from at least m up to at most n, and never fall
+-- the labels of a list never fall, from at least m to at most n
 abbrev Rises : ℕ → List Entry → ℕ → Type 0
 Rises m [] n = m ≤ n
 Rises m (e ∷ es) n = (m ≤ e.label) × Rises e.label es n
@@ -55,7 +55,7 @@ none_above m (e ∷ L) n k rises above =
     let greatest : e.label ≤ n = Rises-bounds e.label L n rises.1 in
     rw (ne_eqb e.label k (λ same. omega arith)) (none_above e.label L n k rises.1 above)
 
--- at a place where the labels on the two sides differ
+-- the prefix ends at a place where the labels on the two sides differ
 whole_at_change : (S : List Entry) (e : Entry) (rest : List Entry) (n k : ℕ) → 0 < length S → Rises 0 (S ++ e ∷ rest) n
     → get_or (labels (S ++ e ∷ rest)) (length S - 1) 0 ≢ get_or (labels (S ++ e ∷ rest)) (length S) 0
     → (labelled k S ≡ []) ⊎ (labelled k S ≡ labelled k (S ++ e ∷ rest))
@@ -86,7 +86,7 @@ at_cut S (e ∷ rest) n k (inr (inl all)) rises =
     absurd (omega arith)
 at_cut S (e ∷ rest) n k (inr (inr change)) rises = whole_at_change S e rest n k change.0 rises change.2
 
--- the labels of a world never fall, and none passes the next one
+-- the labels of a world never fall, and none exceeds the next label
 record AreRising (w : World) : Type 0 where
   accepted : Rises 0 w.accepted (next w.published)
   published : Rises 0 w.published (next w.published)
@@ -108,7 +108,7 @@ rising-after : (w : World) (events : List Event) → AreRising w → AreRising (
 rising-after w [] rising = rising
 rising-after w (e ∷ events) rising = rising-after (after_event w e) events (rising-event w e rising)
 
--- a whole prefix of what is published has of each publish nothing, or all
+-- a whole prefix of what is published has, of each publish, nothing or all of it
 pub whole_publishes : (S : List Entry) (events : List Event) → IsWholePrefix S (published_of events) → HasWholePublishes S (published_of events)
 whole_publishes S events whole =
     let L : List Entry = published_of events in

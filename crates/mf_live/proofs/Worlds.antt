@@ -51,7 +51,7 @@ published-on max_ops w (x ∷ xs) lawful happen =
     let later = published-on max_ops w_next xs (lawful_event max_ops w x lawful happen.0) happen.1 in
     whole-trans w.published w_next.published (world_after w_next xs).published (published-event max_ops w x lawful) later
 
--- what was published begins, whole, what is published later
+-- what is published is a whole prefix of what is published later
 pub published-grows : (max_ops : ℕ) (xs ys : List Event) → Happen max_ops start (xs ++ ys) → IsWholePrefix (published_of xs) (published_of (xs ++ ys))
 published-grows max_ops xs ys happen =
     let lawful = lawful-after max_ops xs (Happen-front max_ops start xs ys happen) in

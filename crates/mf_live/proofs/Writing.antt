@@ -35,7 +35,7 @@ module _ (seen more : List Event) (old count : ℕ) where
   abbrev pub Steps : List Cell → List Event → Type 0
   Steps = Goes IsKept nothing_shown any_move 0 view exchanged told
 
-  -- the word has `old`, so all of the log was seen, and the events are added
+  -- the word is `old`, so the whole log was seen, and the events are added
   adds : old ≡ length seen → count ≡ length more → Happen most (world_after start seen) more
       → (log : List Event) → Happen most start log → IsPrefix seen log → (length log == old) ≡ true → Steps (counting (length log)) log
   adds all counted may log lawful begins found =
@@ -53,14 +53,14 @@ module _ (seen more : List Event) (old count : ℕ) where
         rw found (sym appended, both_lawful),
       )
 
-  -- the word has another number, and keeps it
+  -- the word is another number, and stays
   leaves : (log : List Event) → Happen most start log → (length log == old) ≡ false → Steps (counting (length log)) log
   leaves log lawful found =
       let same : log ≡ log ++ [] = sym (append-nil log) in
       let word : exchanged (length log) ≡ length (log ++ []) = rw found (ap length same) in
       (keeps, [], None, tt, record { words = ap counting word; lawful = subst (Happen most start) same lawful }, inl (refl, refl), rw found tt)
 
-  -- whatever the book has, the step adds the events to all that was seen, or leaves it
+  -- whatever the book has, the step adds the events to everything that was seen, or leaves the book as it is
   pub writes : old ≡ length seen → count ≡ length more → Happen most (world_after start seen) more
       → Moves IsKept nothing_shown any_move 0 view exchanged told
   writes all counted may cells log kept begins away =

@@ -1,4 +1,4 @@
--- What a clause reads of a desk.
+-- What contracts say about a desk.
 use Rattle.std.specs.Prelude.{ℕ, length}
 use Rattle.logbook.specs.Pages.{Book}
 use Rattle.mf_live.specs.declared.desk.Desk.{Desk}
@@ -8,6 +8,6 @@ use Rattle.mf_live.specs.Viewers.{notice_name}
 abbrev pub desk_name : Desk → Book
 desk_name d = notice_name d.known
 
--- so many viewers are left
+-- how many viewers are left
 abbrev pub left : Desk → ℕ
 left d = length d.viewers.items

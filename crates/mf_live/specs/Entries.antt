@@ -9,7 +9,7 @@ pub data Change : Type 0 where
   Operation : Op → Change
   End : Change
 
--- a change with the label of its publish: what is published together has one label
+-- a change with the label of its publish: changes that are published together have one label
 pub record Entry : Type 0 where
   pub label : ℕ
   pub change : Change
@@ -31,7 +31,7 @@ operations (e ∷ es) = operation_of e.change ++ operations es
 abbrev pub pic : List Entry → List Dot
 pic L = picture_after (operations L)
 
--- its revision number: how many operations it has
+-- its revision: how many operations it has
 abbrev pub rev : List Entry → ℕ
 rev L = revision_after (operations L)
 
@@ -43,7 +43,7 @@ abbrev pub is_end : Change → Bool
 is_end (Operation op) = false
 is_end End = true
 
--- the end mark is in a list
+-- whether the end mark is in a list
 abbrev pub is_closed : List Entry → Bool
 is_closed [] = false
 is_closed (e ∷ es) = is_end e.change || is_closed es
@@ -52,7 +52,7 @@ abbrev pub is_empty : List Entry → Bool
 is_empty [] = true
 is_empty (e ∷ es) = false
 
--- nothing follows the end mark
+-- whether nothing follows the end mark
 abbrev pub ends_last : List Entry → Bool
 ends_last [] = true
 ends_last (e ∷ es) = (not (is_end e.change) || is_empty es) && ends_last es
@@ -62,6 +62,6 @@ abbrev pub next_after : ℕ → List Entry → ℕ
 next_after n [] = n
 next_after n (e ∷ es) = next_after (e.label + 1) es
 
--- the label of what is accepted next, where this list is published
+-- the label of what is accepted next, once this list is published
 abbrev pub next : List Entry → ℕ
 next L = next_after 0 L

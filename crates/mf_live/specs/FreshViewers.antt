@@ -1,4 +1,4 @@
--- That viewers have seen nothing is a fact with one proof at most.
+-- The fact that viewers have seen nothing has at most one proof, as a type's invariant requires.
 use Rattle.std.specs.Prelude.{All, List}
 use Rattle.std.proofs.Props.{props}
 use Rattle.mf_live.specs.declared.history.Token.{Token}

@@ -1,4 +1,4 @@
--- That events can happen is a fact with one proof at most.
+-- The fact that events can happen has at most one proof, as a type's invariant requires.
 use Rattle.std.specs.Prelude.{ℕ, List, [], ◌∷◌}
 use Rattle.std.proofs.Props.{props}
 use Rattle.mf_live.specs.declared.event.Event.{Event}

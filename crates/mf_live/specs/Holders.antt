@@ -1,4 +1,4 @@
--- What a clause reads of what the writer of a picture holds.
+-- What contracts say about what the writer of a picture holds.
 use Rattle.std.specs.Prelude.{List}
 use Rattle.logbook.specs.Pages.{Book}
 use Rattle.left_right.specs.Sides.{view}
@@ -10,11 +10,11 @@ use Rattle.mf_live.specs.Entries.{Entry}
 use Rattle.mf_live.specs.Rule.{book_of, history, shown_by, token_of}
 use Rattle.mf_live.specs.World.{accepted_of, published_of}
 
--- what viewers can look at
+-- the version that viewers can look at
 abbrev pub version : Holder → Version
 version h = h.swap.desk.shown.value
 
--- how much of the history this is
+-- how much of the history that version knows
 abbrev pub known : Holder → Token
 known h = token_of (version h)
 
@@ -22,7 +22,7 @@ known h = token_of (version h)
 abbrev pub name : Holder → Book
 name h = book_of (version h)
 
--- what has happened to it
+-- the events that have happened to it
 abbrev pub events : Holder → List Event
 events h = history (version h) (view h.swap.desk.place)
 

@@ -1,4 +1,4 @@
--- The names of refusals, as texts show them.
+-- The names of refusals, as they are printed.
 use Rattle.std.specs.Prelude.{ℕ, List, codes}
 use Rattle.mf_geom.specs.Names.{memory_text}
 use Rattle.mf_ops.specs.Names.{op_fault_text}
@@ -7,12 +7,12 @@ use Rattle.mf_live.specs.declared.fault.Fault.TheVariants.{TooManyOperations, Re
 use Rattle.mf_live.specs.declared.sheet.SheetFault.{SheetFault}
 use Rattle.mf_live.specs.declared.sheet.SheetFault.TheVariants.{NoLook, OutOfMemory}
 
--- the name of what an operation is not accepted for
+-- the name of the reason why an operation is not accepted
 abbrev pub operation_text : Fault → List ℕ
 operation_text TooManyOperations = codes "TooManyOperations"
 operation_text (Refused fault) = op_fault_text fault
 
--- the name of what no sheet is given for
+-- the name of the reason why there is no sheet
 abbrev pub sheet_fault_text : SheetFault → List ℕ
 sheet_fault_text NoLook = codes "NoLook"
 sheet_fault_text OutOfMemory = memory_text

@@ -1,4 +1,4 @@
--- Beginnings of lists that cut no publish in two.
+-- Prefixes of lists that cut no publish in two.
 use Rattle.std.specs.Prelude.{◌≡◌, ◌≢◌, ◌==◌, ◌⊎◌, ◌<◌, ◌-◌, ℕ, List, [], ◌++◌, map, length, get_or, nat_lt, if◌then◌else◌}
 use Rattle.std.specs.List.{filter}
 use Rattle.mf_live.specs.Entries.{Entry}
@@ -6,15 +6,15 @@ use Rattle.mf_live.specs.Entries.{Entry}
 abbrev pub labels : List Entry → List ℕ
 labels L = map (λ (e : Entry). e.label) L
 
--- a place among labels: at an end, or where the labels on its two sides differ
+-- a place among labels is a cut: it is at an end, or the labels on its two sides differ
 abbrev pub IsCutAmong : List ℕ → ℕ → Type 0
 IsCutAmong ns n = (n ≡ 0) ⊎ ((n ≡ length ns) ⊎ ((0 < n) × (n < length ns) × (get_or ns (n - 1) 0 ≢ get_or ns n 0)))
 
--- no publish stands on both sides of the place n
+-- no publish has entries on both sides of the place n
 abbrev pub IsCut : List Entry → ℕ → Type 0
 IsCut L n = IsCutAmong (labels L) n
 
--- L begins with S, and no publish of L is cut there
+-- S is a prefix of L, and no publish of L is cut at its end
 pub record IsWholePrefix (S L : List Entry) : Type 0 where
   pub rest : List Entry
   pub whole : L ≡ S ++ rest
@@ -28,6 +28,6 @@ longer a b = if nat_lt (length a) (length b) then b else a
 abbrev pub labelled : ℕ → List Entry → List Entry
 labelled n L = filter (λ (e : Entry). e.label == n) L
 
--- of each publish, S has nothing, or all that L has
+-- of each publish, S has nothing or all that L has
 pub record HasWholePublishes (S L : List Entry) : Type 0 where
   pub nothing_or_all : (n : ℕ) → (labelled n S ≡ []) ⊎ (labelled n S ≡ labelled n L)

@@ -1,4 +1,4 @@
--- The rule over the version that is shown and over what each seat knows, and what a look and a publish tell.
+-- The rule that ties what each seat knows to the version that is shown, and what a look and a publish promise.
 use Rattle.std.specs.Prelude.{◌≡◌, Bool, true, false, ℕ, List, [], ◌∷◌, ◌++◌, if◌then◌else◌}
 use mathlib.Core.List.{IsPrefix}
 use mathlib.Core.Option.{some}
@@ -24,20 +24,20 @@ book_of x = (token_of x).seen.book
 abbrev pub events_of : Version → List Event
 events_of x = (token_of x).seen.log
 
--- the list that these have published, which it shows
+-- the list that these have published, which the version shows
 abbrev pub shown_by : Version → List Entry
 shown_by x = published_of (events_of x)
 
--- the token is of the book b, and its events begin these
+-- the token is of the book b, and its events are a prefix of these
 pub record Begins (b : Book) (events : List Event) (t : Token) : Type 0 where
   pub book : t.seen.book ≡ b
   pub begins : IsPrefix t.seen.log events
 
--- what a seat knows of the history begins what the shown version knows, once it knows which picture it is
+-- once a seat knows which picture it is, what it knows of the history is a prefix of what the shown version knows
 abbrev pub Knows : Version → View → Type 0
 Knows x v = v.named ≡ true → Begins (book_of x) (events_of x) v.last × Begins (book_of x) (events_of x) v.now
 
--- the rule
+-- the rule: it says that of each seat
 pub record Kept (x : Version) (views : List View) : Type 0 where
   pub each_seat : (seat : ℕ) (v : View) → get_elem? views seat ≡ some v → Knows x v
 
@@ -48,11 +48,12 @@ no_token = record { seen = record { marker = record {}; book = record { number =
 abbrev pub newcomer : View
 newcomer = record { named = false; last = no_token; now = no_token; unwritten = [] }
 
--- the view of a seat that knows this much of the history of a picture
+-- the view of a seat that knows this much of a picture's history
 abbrev pub knowing : Token → View
 knowing t = record { named = true; last = t; now = t; unwritten = [] }
 
--- what a seat keeps of what it knows, by whether the copy that it entered last was not shown
+-- what a seat has seen: what it saw at its last look or, where the copy that it entered last was not shown, what it had seen
+-- before
 abbrev pub kept_by : Bool → View → Token
 kept_by missed v = if missed then v.last else v.now
 
@@ -62,16 +63,17 @@ last_of v = v.last
 abbrev pub now_of : View → Token
 now_of v = v.now
 
--- the shown version knows all that the seat knew of the history, of which the seat keeps what `keep` says
+-- the shown version y knows everything that the seat knew of the history; the seat then knows what y knows, and keeps what `keep`
+-- says
 pub record Looked (keep : View → Token) (v : View) (x y : Version) (w : View) : Type 0 where
   pub knows : Knows y v
   pub now : w ≡ record { named = v.named; last = keep v; now = token_of y; unwritten = v.unwritten }
 
--- the writer knows what the version knows that it has shown, and has nothing to write into the book
+-- the writer knows what the version knows that it has just shown, and has nothing to write into the book
 abbrev pub Shown : View → Version → Version → View → Type 0
 Shown v x y w = w ≡ knowing (token_of y)
 
--- the writer's view with one event more to write into the book
+-- the writer's view with one more event to write into the book
 abbrev pub with_event : View → Event → View
 with_event v e = record { named = v.named; last = v.last; now = v.now; unwritten = v.unwritten ++ e ∷ [] }
 

@@ -1,4 +1,4 @@
--- What a clause reads of viewers, looks and notices.
+-- What contracts say about viewers, looks and notices.
 use Rattle.std.specs.Prelude.{◌≡◌, false, List, []}
 use Rattle.logbook.specs.Pages.{Book}
 use Rattle.left_right.specs.Sides.{view}
@@ -21,7 +21,7 @@ notice_name n = n.front.token.seen.book
 abbrev pub notice_events : Notice → List Event
 notice_events n = n.front.token.seen.log
 
--- the list that it tells
+-- the list that a notice says is published
 abbrev pub told : Notice → List Entry
 told n = published_of (notice_events n)
 
@@ -29,7 +29,7 @@ told n = published_of (notice_events n)
 abbrev pub name : Viewer → Book
 name v = notice_name v.known
 
--- the events of its picture that it knew in the last look that was answered
+-- the events of its picture that a viewer knew in its last look that was answered
 abbrev pub looked_events : Viewer → List Event
 looked_events v = (kept_by v.missed (view v.reader.place)).seen.log
 
@@ -37,29 +37,29 @@ looked_events v = (kept_by v.missed (view v.reader.place)).seen.log
 abbrev pub looked : Viewer → List Entry
 looked v = published_of (looked_events v)
 
--- the longest list that was learnt
+-- the longest list that a viewer has learnt of
 abbrev pub learnt : Viewer → List Entry
 learnt v = told v.known
 
--- what was looked at or learnt of
+-- what a viewer has looked at or learnt of
 abbrev pub seen : Viewer → List Entry
 seen v = longer (looked v) (learnt v)
 
--- L is what these events have published, and all that they have accepted; they may all happen, in this order, and the
--- writer is there behind them
+-- these events may all happen, in this order; the writer is still there after them; and L is both what they have published and
+-- everything that they have accepted
 pub record IsPublished (events : List Event) (L : List Entry) : Type 0 where
   pub happen : Happen most start events
   pub is : published_of events ≡ L
   pub all : accepted_of events ≡ L
   pub alive : (world_after start events).dropped ≡ false
 
--- L begins, whole, with all that the viewer has looked at or learnt of
+-- everything that the viewer has looked at or learnt of is a whole prefix of L
 pub record Extends (v : Viewer) (L : List Entry) : Type 0 where
   pub looked : IsWholePrefix (looked v) L
   pub learnt : IsWholePrefix (learnt v) L
   pub seen : IsWholePrefix (seen v) L
 
--- a viewer has seen what it had seen
+-- a viewer has seen what it had seen before
 pub record SeesTheSame (before after : Viewer) : Type 0 where
   pub looked : looked after ≡ looked before
   pub learnt : learnt after ≡ learnt before
@@ -67,7 +67,7 @@ pub record SeesTheSame (before after : Viewer) : Type 0 where
 abbrev pub look_name : Look → Book
 look_name l = notice_name l.known
 
--- the longest list that its viewer has learnt
+-- the longest list that its viewer has learnt of
 abbrev pub look_learnt : Look → List Entry
 look_learnt l = told l.known
 
@@ -79,7 +79,7 @@ look_events l = (view l.reading.place).now.seen.log
 abbrev pub shown : Look → List Entry
 shown l = published_of (look_events l)
 
--- a viewer that has seen nothing, of the picture with this token
+-- a viewer of the picture with this token that has seen nothing
 pub record IsFresh (t : Token) (v : Viewer) : Type 0 where
   pub name : name v ≡ t.seen.book
   pub looked : looked v ≡ []

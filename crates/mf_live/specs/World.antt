@@ -1,4 +1,4 @@
--- One published list, and what may happen to it.
+-- The world of one picture: what is accepted and published, what viewers have seen, and what may happen to it.
 use Rattle.std.specs.Prelude.{◌≡◌, ◌<◌, ◌≤◌, ◌++◌, ◌==◌, Bool, true, false, ℕ, zero, suc, List, [], ◌∷◌, All, length, None, if◌then◌else◌}
 use Rattle.mf_ops.specs.Step.{fault_of}
 use Rattle.mf_live.specs.declared.event.Event.{Event}
@@ -18,17 +18,17 @@ pub record World : Type 0 where
 abbrev pub start : World
 start = record { accepted = []; published = []; seen = λ i. []; notices = []; dropped = false }
 
--- the k-th notice, or nothing
+-- the k-th notice, or the empty list where there is none
 abbrev pub notice_at : List (List Entry) → ℕ → List Entry
 notice_at [] k = []
 notice_at (n ∷ ns) zero = n
 notice_at (n ∷ ns) (suc k) = notice_at ns k
 
--- the viewer i has seen L, and the others what they had
+-- the viewer i has seen L, and the others have seen what they had seen
 abbrev pub put : (ℕ → List Entry) → ℕ → List Entry → ℕ → List Entry
 put seen i L j = if j == i then L else seen j
 
--- when an event may happen, if so many operations may be accepted
+-- when an event may happen, where at most max_ops operations may be accepted
 abbrev pub May : ℕ → World → Event → Type 0
 May max_ops w (Accept op) = (w.dropped ≡ false) × (is_closed w.accepted ≡ false) × (rev w.accepted < max_ops) × (fault_of (pic w.accepted) op ≡ None)
 May max_ops w Refuse = Unit {0}
@@ -39,7 +39,7 @@ May max_ops w (Look i) = Unit {0}
 May max_ops w Tell = w.dropped ≡ false
 May max_ops w (Learn i k) = k < length w.notices
 
--- what an event does
+-- the world after an event
 abbrev pub after_event : World → Event → World
 after_event w (Accept op) = record w { accepted = w.accepted ++ entry (next w.published) (Operation op) ∷ [] }
 after_event w Refuse = w
@@ -50,7 +50,7 @@ after_event w (Look i) = record w { seen = put w.seen i w.published }
 after_event w Tell = record w { notices = w.notices ++ w.published ∷ [] }
 after_event w (Learn i k) = record w { seen = put w.seen i (longer (w.seen i) (notice_at w.notices k)) }
 
--- each event may happen where it stands
+-- each event may happen in its turn
 abbrev pub Happen : ℕ → World → List Event → Type 0
 Happen max_ops w [] = Unit {0}
 Happen max_ops w (e ∷ es) = May max_ops w e × Happen max_ops (after_event w e) es
@@ -65,9 +65,9 @@ pub record IsPending (published accepted : List Entry) : Type 0 where
   pub are : accepted ≡ published ++ pending
   pub labelled : All (λ (e : Entry). e.label ≡ next published) pending
 
--- no accepted operation is refused, and there are at most so many; what is published is a whole prefix of what is accepted,
--- and the rest has the next label; what each viewer has seen and each notice tells is a whole prefix of what is published;
--- and nothing follows the end mark
+-- no accepted operation is refused, and there are at most max_ops of them; what is published is a whole prefix of what is
+-- accepted, and the rest has the next label; what each viewer has seen and what each notice says are whole prefixes of what is
+-- published; and nothing follows the end mark
 pub record IsLawful (max_ops : ℕ) (w : World) : Type 0 where
   pub unrefused : IsUnrefused w.accepted
   pub few : rev w.accepted ≤ max_ops
@@ -77,7 +77,8 @@ pub record IsLawful (max_ops : ℕ) (w : World) : Type 0 where
   pub each_notice : All (λ n. IsWholePrefix n w.published) w.notices
   pub ended : ends_last w.accepted ≡ true
 
--- what a look shows begins, whole, with what its viewer had seen, and is what the viewer has seen then
+-- a look shows what is published, of which everything that its viewer had seen is a whole prefix, and then the viewer has seen
+-- that
 abbrev pub ShowsMore : World → Event → Type 0
 ShowsMore w (Look i) = IsWholePrefix (w.seen i) w.published × ((after_event w (Look i)).seen i ≡ w.published)
 ShowsMore w e = Unit {0}
@@ -91,7 +92,7 @@ StaysLawful max_ops w (e ∷ es) = IsLawful max_ops w × ShowsMore w e × StaysL
 abbrev pub EverySchedule : ℕ → Type 0
 EverySchedule max_ops = (events : List Event) → Happen max_ops start events → StaysLawful max_ops start events
 
--- what was accepted, and what was published, once these events have happened
+-- what is accepted, and what is published, once these events have happened
 abbrev pub accepted_of : List Event → List Entry
 accepted_of events = (world_after start events).accepted
 

@@ -1,4 +1,4 @@
--- What a clause reads of writers and of what they become at the end.
+-- What contracts say about writers and what they become at the end.
 use Rattle.std.specs.Prelude.{◌≡◌, ℕ, List, ◌∷◌, ◌++◌, []}
 use Rattle.logbook.specs.Pages.{Book}
 use Rattle.mf_live.specs.declared.closing.Closing.{Closing}
@@ -18,7 +18,7 @@ name w = holders.name w.holder
 abbrev pub accepted : Writer → List Entry
 accepted w = holders.accepted w.holder
 
--- what was published of it
+-- what of that is published
 abbrev pub published : Writer → List Entry
 published w = holders.published w.holder
 
@@ -26,7 +26,7 @@ published w = holders.published w.holder
 abbrev pub visible : Writer → List Entry
 visible w = holders.visible w.holder
 
--- how many operations are accepted at most
+-- the greatest number of operations that it accepts
 abbrev pub limit : Writer → ℕ
 limit w = w.max_ops
 
@@ -49,7 +49,7 @@ ended_name e = book_of e.swap.desk.shown.value
 abbrev pub ended_published : Ended → List Entry
 ended_published e = shown_by e.swap.desk.shown.value
 
--- the list that is accepted once the end mark is set
+-- what is accepted once the end mark is set
 abbrev pub with_end : Writer → List Entry
 with_end w = accepted w ++ entry (next (published w)) End ∷ []
 
@@ -60,7 +60,7 @@ pub record IsSameWriter (before after : Writer) : Type 0 where
   pub published : published after ≡ published before
   pub max_ops : limit after ≡ limit before
 
--- the end mark is set, and not published
+-- the end mark is set, and nothing was published
 pub record IsHalfway (before : Writer) (after : Closing) : Type 0 where
   pub name : closing_name after ≡ name before
   pub accepted : closing_accepted after ≡ with_end before
@@ -71,7 +71,7 @@ abbrev pub IsHandedBack : Writer → CloseFault → Type 0
 IsHandedBack w (Kept v) = IsSameWriter w v
 IsHandedBack w (Halfway c) = IsHalfway w c
 
--- the writer comes back, and the end mark is not set
+-- the writer came back, and the end mark is not set
 abbrev pub IsKept : CloseFault → Type 0
 IsKept (Kept v) = Unit {0}
 IsKept (Halfway c) = ⊥

@@ -6,7 +6,7 @@ use crate::event::Event;
 use logbook::{Gain, Plain, Play, Rule, Word};
 use std::marker::{Brand, PhantomData};
 
-/// The rule of a book: what it has could happen, in that order.
+/// The rule of a book: its events could happen, in their order.
 pub struct Law;
 
 impl Rule<Event, u64> for Law {
@@ -27,7 +27,7 @@ impl Rule<Event, u64> for Law {
     ghost moves = { λ ask before after answer. Unit {0} };
 }
 
-/// Nobody trades anything for a step.
+/// A step gains nothing.
 pub struct Nothing;
 
 impl Gain<Event, u64> for Nothing {
@@ -36,7 +36,7 @@ impl Gain<Event, u64> for Nothing {
     ghost after = { λ names about answer. ftrue };
 }
 
-/// Which events a step writes. Each call picks them.
+/// The events that a step writes, chosen at each call.
 pub trait Happening {
     ghost use Rattle.std.specs.Prelude.{List};
     ghost use Rattle.mf_live.specs.declared.event.Event.{Event};

@@ -10,23 +10,24 @@ use crate::writer::Writer;
 
 mod steps;
 
-/// A picture whose end mark is set and not published yet. It is not `Drop`: end it by `publish` or `discard`.
+/// A picture whose end mark is set but not published yet. It is not `Drop`, since ending it may mean waiting for looks: end it
+/// with `publish` or `discard`.
 pub struct Closing {
     pub(crate) holder: Holder,
     ghost closed: { is_closed (accepted holder) ≡ true },
 }
 
-/// A picture whose end mark is published: nothing changes it any more. Viewers can look at it until it is ended by
-/// `discard`.
+/// A picture whose end mark is published: nothing changes it any more. Viewers can look at it until `discard` ends it. It is not
+/// `Drop`, since ending it may mean waiting for looks.
 pub struct Ended {
     pub(crate) swap: Swap,
     ghost closed: { is_closed (shown_by swap.desk.shown.value) ≡ true },
 }
 
-/// What is handed back where memory was wanting to close a picture.
+/// What is handed back where an allocation fails while a picture is closed.
 pub enum CloseFault {
     /// The writer, as it was.
     Kept(Writer),
-    /// The end mark is set, and nothing was published.
+    /// The end mark is set, and nothing was published. No call answers this: `Writer::close` allocates before it sets the mark.
     Halfway(Closing),
 }

@@ -1,4 +1,4 @@
-//! The desk, which gives out viewers.
+//! The desk, which hands out viewers.
 ghost use Rattle.std.specs.Prelude.{All};
 ghost use Rattle.mf_live.specs.Viewers.{IsFresh};
 ghost use Rattle.mf_live.specs.FreshViewers.{are_fresh-prop};
@@ -11,15 +11,16 @@ mod steps;
 
 pub use open::open_picture;
 
-/// Refusal 15: no place is left.
+/// No viewer is left at the desk.
 #[derive(Clone, Copy, Debug, PartialEq, Eq)]
 pub struct NoPlace;
 
-/// The places of a picture that are not given out.
+/// The viewers of a picture that have not been handed out. They are all made when the picture is opened, so handing one out
+/// allocates nothing and does not need the writer.
 #[derive(Drop)]
 pub struct Desk {
     pub(crate) viewers: Vec<Viewer>,
-    /// What was published when the picture was opened: nothing. It names the picture.
+    /// A notice from when the picture was opened and nothing was published. It says which picture this is.
     pub(crate) known: Notice,
     ghost fresh: { All (IsFresh known.front.token) viewers.items } by { are_fresh-prop known.front.token viewers.items },
 }

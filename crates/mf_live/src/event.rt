@@ -1,7 +1,7 @@
-//! What may happen to a picture and to those who look at it.
+//! What may happen to a picture and to its viewers.
 use mf_ops::Op;
 
-/// An event. No value of it is made: the history of a picture exists in the proofs alone.
+/// An event. No value of this type is ever made: the history of a picture exists only in the proofs.
 #[derive(Drop)]
 pub enum Event {
     /// The writer accepts an operation.
@@ -10,14 +10,14 @@ pub enum Event {
     Refuse,
     /// The writer sets the end mark.
     Close,
-    /// The writer publishes all that it has accepted.
+    /// The writer publishes everything that it has accepted.
     Publish,
-    /// The writer goes, and publishes first what it has accepted, or not.
+    /// The writer goes away. The flag says whether it first publishes what it has accepted.
     Discard(bool),
-    /// The viewer of this number looks.
+    /// The viewer with this number looks.
     Look(u64),
-    /// The writer tells what is published.
+    /// The writer makes a notice of what is published.
     Tell,
-    /// The viewer of the first number learns the notice of the second.
+    /// The viewer with the first number learns the notice with the second.
     Learn(u64, u64),
 }

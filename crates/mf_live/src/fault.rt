@@ -6,9 +6,10 @@ use std::fmt;
 /// Why an operation is not accepted.
 #[derive(Clone, Copy, Debug, PartialEq, Eq)]
 pub enum Fault {
-    /// Refusal 13: as many operations as may be were accepted.
+    /// The picture has already accepted as many operations as it may have.
     TooManyOperations,
-    /// The operation is refused on the picture: refusals 5, 6, 11, 12 and 14.
+    /// The operation is refused on the working picture: with `Backtracks`, `TurningZero`, `OutOfField`, `WeightTooLarge` or
+    /// `OutOfMemory`.
     Refused(OpFault),
 }
 

@@ -12,13 +12,13 @@ mod steps;
 
 pub(crate) use steps::{open_history, write};
 
-/// The beginning of a history.
+/// A known prefix of a picture's history.
 #[derive(Drop)]
 pub struct Token {
     pub(crate) seen: Seen<Event, u64, Law>,
 }
 
-/// The beginning of a history, and how many events it has.
+/// A known prefix of a picture's history, and how many events it has.
 #[derive(Drop)]
 pub struct Front {
     pub(crate) events: u64,

@@ -15,17 +15,17 @@ use std::alloc::Global;
 mod publish;
 mod steps;
 
-/// The two copies that viewers look at, and the picture of all accepted operations. The version that is shown has all of
-/// the history that is in the book. It is not `Drop`: end it by `discard`.
+/// The two copies that viewers look at, and the picture of all accepted operations. The shown version knows all of the history
+/// that is in the book. It is not `Drop`: end it with `discard`.
 pub struct Holder {
     pub(crate) alloc: Global,
     pub(crate) swap: Swap,
     pub(crate) head: Head,
     /// The picture of all accepted operations.
     pub(crate) working: Picture,
-    /// Their number.
+    /// The number of accepted operations.
     pub(crate) revision: u32,
-    /// So many entries wait to be published, of which each has one event that is not in the book.
+    /// How many entries wait to be published. Each has one event that is not in the book yet.
     pub(crate) unwritten: u64,
     ghost head_is: { head ≡ head_of (book_of swap.desk.shown.value) },
     ghost shown_is: { shown_by swap.desk.shown.value ≡ published_of (history swap.desk.shown.value (view swap.desk.place)) },
@@ -34,7 +34,7 @@ pub struct Holder {
     ghost counted: { unwritten ≡ length (view swap.desk.place).unwritten },
     ghost pictured: { working ≡ pic (accepted_of (history swap.desk.shown.value (view swap.desk.place))) },
     ghost numbered: { revision ≡ rev (accepted_of (history swap.desk.shown.value (view swap.desk.place))) },
-    // So the number of events stays far below 2^64: there are at most two for each entry that is published.
+    // There are at most two events for each published entry, so their number stays far below 2^64.
     ghost since: { unwritten + length (shown_by swap.desk.shown.value) ≡ length (accepted_of (history swap.desk.shown.value (view swap.desk.place))) },
     ghost short: { length (events_of swap.desk.shown.value) ≤ 2 * length (shown_by swap.desk.shown.value) },
 }

@@ -1,4 +1,5 @@
-//! Laws of the live picture: each is the contract of a function that does nothing, or only calls another.
+//! Laws of the live picture. Each is the contract of a function that does nothing, or only calls others, because the toolchain
+//! proves a statement only where a function's contract names it.
 ghost use mathlib.Core.List.{IsPrefix};
 ghost use Rattle.std.specs.Prelude.{◌≡◌, ◌⊎◌, ◌≤◌, true, List, ◌++◌, IfErr, IfOk, MatchResult, OnOk};
 ghost use Rattle.mf_live.specs.declared.event.Event.{Event};
@@ -18,46 +19,47 @@ use crate::viewer::Viewer;
 use crate::writer::Writer;
 use std::alloc::Global;
 
-/// For every list of events, of one writer and any number of viewers, in every order: no operation of what was
-/// accepted is refused; what is published begins that, whole, and so does what each viewer has seen and what each
-/// notice tells; and each look shows what is published, which begins, whole, with all that its viewer had looked at
-/// or learnt of.
+/// For every list of events of one writer and any number of viewers, in every order: no accepted operation is refused; what is
+/// published is a whole prefix of what is accepted, and what each viewer has seen and what each notice says are whole prefixes of
+/// what is published; and each look shows what is published, of which everything that its viewer had looked at or learnt of is a
+/// whole prefix.
 pub fn every_schedule(max_ops: u32)
     ensures { EverySchedule max_ops }
 {}
 
-/// What is published later begins, whole, with what was published earlier, and so do the looks at it: none goes back.
+/// What was published earlier is a whole prefix of what is published later, and its revision is no greater. The same goes for the
+/// looks at it, so no look goes back.
 pub fn looks_never_go_back(max_ops: u32)
     ensures prefix { (before between : List Event) → Happen max_ops start (before ++ between) → IsWholePrefix (published_of before) (published_of (before ++ between)) }
     ensures revision { (before between : List Event) → Happen max_ops start (before ++ between) → rev (published_of before) ≤ rev (published_of (before ++ between)) }
 {}
 
-/// Of each publish, a list that begins what is published, whole, has nothing, or all that it has published. So has what was
-/// published earlier, and a look shows such a list.
+/// A whole prefix of what is published has, of each publish, nothing or all of it. What was published earlier is such a prefix,
+/// and so is what a look shows.
 pub fn looks_show_whole_publishes(max_ops: u32)
     ensures whole { (shown : List Entry) (events : List Event) → IsWholePrefix shown (published_of events) → HasWholePublishes shown (published_of events) }
     ensures earlier { (before after : List Event) → Happen max_ops start (before ++ after) → HasWholePublishes (published_of before) (published_of (before ++ after)) }
 {}
 
-/// What viewers can look at is what is published, whatever the writer has done: so a refused call shows them nothing.
+/// What viewers can look at is what is published, whatever the writer has done. So a refused call shows them nothing.
 pub fn published_is_visible(writer: &Writer)
     ensures { writers.visible writer.now ≡ writers.published writer.now }
 {}
 
-/// So it is while the end mark is not published.
+/// The same while the end mark is set but not published.
 pub fn published_is_visible_halfway(closing: &Closing)
     ensures { writers.closing_visible closing.now ≡ writers.closing_published closing.now }
 {}
 
-/// Of each publish a look has nothing, or all, whatever has happened since to its picture: it shows what the events that it
-/// knows have published.
+/// A look has, of each publish, nothing or all of it, whatever has happened to its picture since. It shows what the events that
+/// it knows have published.
 pub fn look_has_whole_publishes(look: &Look)
     ensures { (since : List Event) → Happen most start (viewers.look_events look.now ++ since) → HasWholePublishes (viewers.shown look.now) (published_of (viewers.look_events look.now ++ since)) }
 {}
 
-/// What a look and a notice of the same picture know of its events begin one history, and so do the lists, whole: the look
-/// begins with what the notice tells, or the notice tells all that the look shows. So where the picture was closed, a look
-/// shows nothing but what the writer of its picture has published: the notice of the end tells that.
+/// Take a look and a notice of one picture: the events that one of them knows are a prefix of those that the other knows, and the
+/// list of the one is a whole prefix of the list of the other. So a look at a picture that was closed shows nothing that its
+/// writer has not published: the notice of the end has all of that.
 pub fn one_history(look: &Look, notice: &Notice)
     requires { viewers.notice_name notice.now ≡ viewers.look_name look.now }
     ensures events { IsPrefix (viewers.notice_events notice.now) (viewers.look_events look.now) ⊎ IsPrefix (viewers.look_events look.now) (viewers.notice_events notice.now) }
@@ -66,8 +68,8 @@ pub fn one_history(look: &Look, notice: &Notice)
     look.reading.get().notice.front.meets(&notice.front);
 }
 
-/// What a viewer sees that has learnt of the end is the whole list, which the events that its look knows have published, and
-/// which begins, whole, with all that the viewer had seen. After NoLook (26) it has not looked, and has learnt of the end.
+/// A viewer that has learnt of the end sees the complete list. The events that its look knows have published it, and everything
+/// that the viewer had seen is a whole prefix of it. After `NoLook` the viewer has not looked, but has learnt of the end.
 pub fn last_look(viewer: Viewer, notice: Notice) -> Result<Look, (Viewer, NoLook)>
     requires name { viewers.notice_name notice ≡ viewers.name viewer }
     requires closed { is_closed (viewers.told notice) ≡ true }
@@ -82,9 +84,9 @@ pub fn last_look(viewer: Viewer, notice: Notice) -> Result<Look, (Viewer, NoLook
     viewer.look()
 }
 
-/// The sheet of a viewer that has learnt of the end is the last picture, and the whole list begins, whole, with all
-/// that the viewer had seen. After NoLook (26) it has not looked, and has learnt of the end; after OutOfMemory (14) it
-/// has looked at the whole list, which begins so then, too.
+/// The sheet of a viewer that has learnt of the end is the last picture, and everything that the viewer had seen is a whole
+/// prefix of the complete list. After `NoLook` the viewer has not looked, but has learnt of the end. After `OutOfMemory` it has
+/// looked at the complete list, and what it had seen before is a whole prefix of it then, too.
 pub fn last_sheet(viewer: &mut Viewer, alloc: Global, notice: Notice) -> Result<Sheet, SheetFault>
     requires name { viewers.notice_name notice ≡ viewers.name viewer.old }
     requires closed { is_closed (viewers.told notice) ≡ true }

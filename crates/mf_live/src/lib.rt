@@ -1,5 +1,5 @@
-//! The live picture: one writer changes it, and viewers in any threads look at it, wait for nobody, and never see
-//! half a publish or go back in time.
+//! The live picture: one writer changes it while viewers, in any threads, look at it. A viewer waits for nobody, never sees half
+//! a publish, and never goes back in time.
 #![tactic(auto)]
 
 mod book;

@@ -12,13 +12,14 @@ use left_right::reader::Reading;
 
 mod steps;
 
-/// Refusal 26: a look is not answered, since all was discarded at the writer's side, or since the copy that was entered is
-/// older than a notice that the viewer has learnt; a later look enters a copy anew.
+/// A look is not answered: everything was discarded at the writer's side, or the copy that the look entered is older than a
+/// notice that the viewer has learnt. The second does not happen, since a notice is made only once its publish has returned, but
+/// no contract of the toolchain says so. A later look enters a copy anew.
 #[derive(Clone, Copy, Debug, PartialEq, Eq)]
 pub struct NoLook;
 
-/// What a viewer looks at, which stays as it is until the look ends. The writer waits for a look that is held
-/// before it changes that copy.
+/// A look of a viewer. What it shows stays as it is until the look ends: the writer waits for a held look before it changes that
+/// copy. A look that is dropped ends, and its viewer with it.
 pub struct Look {
     pub(crate) reading: Reading<Version, View, Lists>,
     pub(crate) known: Notice,

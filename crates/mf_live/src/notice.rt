@@ -1,4 +1,4 @@
-//! Notices: what is published at a moment.
+//! Notices, from which viewers learn of a publish.
 ghost use Rattle.std.specs.Prelude.{◌≡◌};
 ghost use Rattle.mf_live.specs.Entries.{rev};
 ghost use Rattle.mf_live.specs.World.{accepted_of, published_of};
@@ -7,7 +7,7 @@ use crate::history::Front;
 
 mod steps;
 
-/// What is published at a moment. The looks of a viewer that has learnt it include all of that.
+/// A notice of what was published at one moment. Every later look of a viewer that has learnt it includes all of that.
 #[derive(Drop)]
 pub struct Notice {
     pub(crate) front: Front,

@@ -1,4 +1,4 @@
-//! The rule over the version that is shown, and what its steps tell.
+//! The rule that ties what each seat knows to the version that is shown, and what the steps under it promise.
 use crate::version::Version;
 use crate::view::View;
 use atomic_table::{Join, Split};
@@ -6,7 +6,7 @@ use crossbeam_utils::rule::{Outcome, Protocol};
 use left_right::writer::Writer;
 use std::marker::{Brand, PhantomData};
 
-/// The rule: what any seat knows of the history begins what the shown version knows.
+/// The rule: what any seat knows of the history is a prefix of what the shown version knows.
 pub struct Lists;
 
 impl Protocol<Version, View> for Lists {
@@ -17,7 +17,7 @@ impl Protocol<Version, View> for Lists {
     ghost first = { newcomer };
 }
 
-/// A look after one that was answered.
+/// A look where the copy that was entered last was shown.
 pub struct Looks;
 
 impl Outcome<Version, View> for Looks {
@@ -26,7 +26,7 @@ impl Outcome<Version, View> for Looks {
     ghost then = { Looked now_of };
 }
 
-/// A look after one that was not answered.
+/// A look where the copy that was entered last was not shown, because it was older than a notice.
 pub struct LooksAgain;
 
 impl Outcome<Version, View> for LooksAgain {
@@ -35,7 +35,7 @@ impl Outcome<Version, View> for LooksAgain {
     ghost then = { Looked last_of };
 }
 
-/// The writer shows a version. So does the publish that opens a picture, by which the writer knows which picture it is.
+/// The writer shows a version. Opening a picture takes this step too: it is how the writer learns which picture it has.
 pub struct Shows;
 
 impl Outcome<Version, View> for Shows {
@@ -44,7 +44,7 @@ impl Outcome<Version, View> for Shows {
     ghost then = { Shown };
 }
 
-/// The writer gives away what it knows, and keeps it.
+/// The writer hands out what it knows, and keeps it.
 pub struct Twice;
 
 impl Split<View> for Twice {
@@ -64,7 +64,7 @@ impl Join<View> for Takes {
     ghost spent = { newcomer };
 }
 
-/// The operation that the writer accepts. Each call picks it.
+/// The operation that the writer accepts, chosen at each call.
 pub trait Accepting {
     ghost use Rattle.mf_ops.specs.declared.op.Op.{Op};
 
@@ -77,7 +77,7 @@ impl Accepting for Brand {
     ghost op = { Clear };
 }
 
-/// The writer accepts an operation, and has that to write into the book.
+/// The writer accepts an operation, which it has yet to write into the book.
 pub struct Accepts<N> {
     op: PhantomData<N>,
 }
@@ -91,7 +91,7 @@ impl<N: Accepting> Split<View> for Accepts<N> {
     ghost right = { λ v. newcomer };
 }
 
-/// The writer sets the end mark, and has that to write into the book.
+/// The writer sets the end mark, which it has yet to write into the book.
 pub struct Ends;
 
 impl Split<View> for Ends {
@@ -103,5 +103,5 @@ impl Split<View> for Ends {
     ghost right = { λ v. newcomer };
 }
 
-/// The two copies.
+/// The two copies of the picture.
 pub type Swap = Writer<Version, (), View, Lists>;

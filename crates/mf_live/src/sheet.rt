@@ -1,4 +1,4 @@
-//! Sheets.
+//! Sheets: looks that are kept.
 use mf_geom::OutOfMemory;
 use mf_rows::Picture;
 use std::error::Error;
@@ -13,12 +13,12 @@ pub struct Sheet {
     pub(crate) revision: u32,
 }
 
-/// Why no sheet is given.
+/// Why there is no sheet.
 #[derive(Clone, Copy, Debug, PartialEq, Eq)]
 pub enum SheetFault {
-    /// Refusal 26: the look was not answered.
+    /// The look was not answered.
     NoLook,
-    /// Refusal 14. The viewer has looked all the same.
+    /// An allocation failed. The viewer has looked all the same.
     OutOfMemory,
 }
 

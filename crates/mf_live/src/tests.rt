@@ -1,4 +1,4 @@
-//! Tests of states into which no caller can bring a picture. The others are in `mf_live_tests`.
+//! Tests of states that no caller can bring a picture into, so they need private fields. All others are in `mf_live_tests`.
 ghost use Rattle.std.specs.Prelude.{◌≡◌};
 ghost use Rattle.mf_live.specs.Viewers as viewers;
 ghost use Rattle.mf_live.specs.Writers as writers;
@@ -23,7 +23,7 @@ const RECT: &[Point] = &[
     Point { x: 0, y: 2 },
 ];
 
-/// A picture and its one viewer.
+/// The writer of a picture, and its one viewer.
 fn opened<R: Abort + Wait>(rt: &R, alloc: Global) -> (Writer, Viewer)
     ensures { viewers.name result.1 ≡ writers.name result.0 }
 {
@@ -44,7 +44,7 @@ fn fill(rt: &impl Abort, alloc: Global, writer: &mut Writer)
         .expect(rt, "the operation is accepted");
 }
 
-/// A look shows so many operations, and a picture of this total.
+/// Asserts that a look shows this many operations, and a picture of this total weight.
 fn assert_shows(rt: &impl Abort, viewer: Viewer, revision: u32, total: i64) -> Viewer
     ensures { viewers.name result ≡ viewers.name viewer }
 {
@@ -58,7 +58,7 @@ fn assert_shows(rt: &impl Abort, viewer: Viewer, revision: u32, total: i64) -> V
     }
 }
 
-/// A picture whose end mark is set and not published yet. No call answers it: `close` gets its memory before it sets the mark.
+/// A picture whose end mark is set but not published yet. No call answers one: `close` allocates before it sets the mark.
 fn half_closed(writer: Writer) -> Closing
     ensures { writers.closing_name result ≡ writers.name writer }
 {
@@ -83,14 +83,14 @@ fn ended<R: Abort + Wait>(rt: &R, closing: Closing) -> Ended
     }
 }
 
-/// A notice of the end tells of so many operations.
+/// Asserts that a notice of the end has this revision.
 fn assert_tells(rt: &impl Abort, ended: &mut Ended, revision: u32)
     ensures { writers.ended_name ended.new ≡ writers.ended_name ended.old }
 {
     assert_eq!(rt; ended.notice().revision(), revision, "what is told");
 }
 
-/// The viewer learns a notice of the end, which tells of so many operations.
+/// Lets the viewer learn a notice of the end, which has this revision.
 fn learn_end(rt: &impl Abort, ended: &mut Ended, viewer: Viewer, revision: u32) -> Viewer
     requires { viewers.name viewer ≡ writers.ended_name ended.old }
 {

@@ -8,7 +8,7 @@ use left_right::Absorb;
 use mf_rows::Picture;
 use std::alloc::AllocError;
 
-/// What is published at a moment, with its picture. Viewers look at one version, and the writer has the one before it.
+/// What was published at one moment, with its picture. Viewers look at one version, and the writer has the one before it.
 #[derive(Drop)]
 pub struct Version {
     pub(crate) picture: Picture,
@@ -16,7 +16,8 @@ pub struct Version {
     ghost pictured: { picture ≡ pic (published_of notice.front.token.seen.log) },
 }
 
-/// A publish puts a whole version into a copy, so that no copy takes over anything else.
+/// A publish puts a complete version into a copy, so a copy has no operations to take over from the other: the queue of
+/// `left_right` is not used.
 impl Absorb<()> for Version {
     type State = ();
 

@@ -1,9 +1,9 @@
-//! What a seat at the live picture knows.
+//! What a seat at the live picture knows. The writer has a seat, and so has each viewer.
 use crate::event::Event;
 use crate::history::Token;
 use std::collections::LinkedList;
 
-/// What a seat knows. No value of it is made.
+/// What a seat knows. No value of this type is ever made: it exists only in the proofs.
 pub struct View {
     /// Whether it knows which picture it is.
     pub named: bool,
@@ -11,6 +11,6 @@ pub struct View {
     pub last: Token,
     /// What it saw at its last look.
     pub now: Token,
-    /// Of the writer: the events that are not in the book yet.
+    /// The writer's events that are not in the book yet.
     pub unwritten: LinkedList<Event>,
 }

@@ -10,13 +10,13 @@ use left_right::reader::Reader;
 
 mod steps;
 
-/// A place from which the picture can be looked at. It may go to any thread, and has one look at a time.
+/// A place from which to look at a picture. It may go to any thread, and has one look at a time.
 #[derive(Drop)]
 pub struct Viewer {
     pub(crate) reader: Reader<Version, View, Lists>,
-    /// The longest notice that was learnt.
+    /// The longest notice that it has learnt.
     pub(crate) known: Notice,
-    /// Whether the copy that was entered last was not shown, since it is older than a notice.
+    /// Whether the copy that it entered last was not shown, because that copy was older than a notice.
     pub(crate) missed: bool,
     ghost named: { (view reader.place).named ≡ true },
     ghost book: { (view reader.place).now.seen.book ≡ known.front.token.seen.book },

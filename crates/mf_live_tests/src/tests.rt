@@ -1,4 +1,4 @@
-//! Tests of live pictures, most of them over two small contours.
+//! Tests of live pictures, most of them with two small contours.
 ghost use Rattle.std.specs.Prelude.{◌≡◌, ◌≤◌};
 ghost use Rattle.mf_live.specs.Desks.{desk_name};
 ghost use Rattle.mf_live.specs.Viewers as viewers;
@@ -49,13 +49,13 @@ pub(crate) fn contour(rt: &impl Abort, alloc: Global, corners: &[(i32, i32)], we
     contour_through(rt, points, weight, Check::On)
 }
 
-/// The same, where the turning check is off.
+/// The same with the turning check off.
 pub(crate) fn unchecked(rt: &impl Abort, alloc: Global, corners: &[(i32, i32)], weight: i32) -> Op {
     let points = points(alloc, corners).expect(rt, "there is room for the path");
     contour_through(rt, points, weight, Check::Off)
 }
 
-/// The contour through these points, of this weight and under this turning check.
+/// The contour through these points, with this weight and this setting of the turning check.
 fn contour_through(rt: &impl Abort, points: Vec<Point>, weight: i32, check: Check) -> Op {
     match (Cycle::new(points), Weight::new(weight)) {
         (Ok(cycle), Ok(weight)) => Op::Contour(cycle, weight, check),
@@ -63,7 +63,7 @@ fn contour_through(rt: &impl Abort, points: Vec<Point>, weight: i32, check: Chec
     }
 }
 
-/// Adds a run, which must fit behind the others.
+/// Adds a run, which must fit after the others.
 pub(crate) fn push(rt: &impl Abort, builder: &mut RowBuilder, run: Run) {
     assert!(rt; builder.fits(&run), "{run:?}");
     builder
@@ -71,12 +71,12 @@ pub(crate) fn push(rt: &impl Abort, builder: &mut RowBuilder, run: Run) {
         .expect(rt, "there is room for the run");
 }
 
-/// The run of these pixels.
+/// These pixels as a run.
 pub(crate) fn run_of((y, x, len, weight): Pixels) -> Run {
     Run { y, x, len, weight }
 }
 
-/// The picture of these runs.
+/// The picture with these runs.
 pub(crate) fn picture(rt: &impl Abort, alloc: Global, runs: &[Pixels]) -> Picture {
     let mut builder = RowBuilder::new(alloc);
     for run in runs {
@@ -85,7 +85,7 @@ pub(crate) fn picture(rt: &impl Abort, alloc: Global, runs: &[Pixels]) -> Pictur
     builder.finish().expect(rt, "there is room for the picture")
 }
 
-/// A picture of at most so many operations, and a desk of so many viewers.
+/// The writer of a picture of at most `max_ops` operations, and a desk of at most `places` viewers.
 pub(crate) fn opened<R: Abort + Wait>(
     rt: &R,
     alloc: Global,
@@ -98,7 +98,7 @@ pub(crate) fn opened<R: Abort + Wait>(
     open_picture(rt, alloc, places, max_ops).expect(rt, "there is room for a picture")
 }
 
-/// A viewer, of which one is left.
+/// Takes a viewer from a desk that has one left.
 pub(crate) fn seated(rt: &impl Abort, desk: &mut Desk) -> Viewer
     ensures viewer { viewers.name result ≡ desk_name desk.old }
     ensures desk { desk_name desk.new ≡ desk_name desk.old }
@@ -106,7 +106,7 @@ pub(crate) fn seated(rt: &impl Abort, desk: &mut Desk) -> Viewer
     desk.viewer().expect(rt, "a place is left")
 }
 
-/// No viewer is left.
+/// Asserts that no viewer is left.
 pub(crate) fn assert_no_place(rt: &impl Abort, desk: &mut Desk) {
     assert_holds(rt, desk.viewer().is_err(), "no place is left");
 }
@@ -167,7 +167,7 @@ pub(crate) fn close<R: Abort + Wait>(rt: &R, writer: Writer) -> Ended
     }
 }
 
-/// The working picture has this total, and so many of its operations are not published.
+/// Asserts that the working picture has this total weight, and that this many of its operations are pending.
 pub(crate) fn assert_working(rt: &impl Abort, writer: &Writer, pending: u32, total: i64) {
     let found = (writer.pending(), writer.working().total());
     assert_same(
@@ -178,7 +178,7 @@ pub(crate) fn assert_working(rt: &impl Abort, writer: &Writer, pending: u32, tot
     );
 }
 
-/// A picture has exactly these runs.
+/// Asserts that a picture has exactly these runs.
 pub(crate) fn assert_runs(rt: &impl Abort, picture: &Picture, runs: &[Pixels], case: &'static str) {
     let mut found = picture.runs();
     for run in runs {
@@ -187,7 +187,7 @@ pub(crate) fn assert_runs(rt: &impl Abort, picture: &Picture, runs: &[Pixels], c
     assert_same(rt, found.next(), None, case);
 }
 
-/// A look shows so many operations, and a picture of exactly these runs.
+/// Asserts that a look shows this many operations, and a picture of exactly these runs.
 pub(crate) fn assert_sees(rt: &impl Abort, viewer: Viewer, revision: u32, runs: &[Pixels]) -> Viewer
     ensures { viewers.name result ≡ viewers.name viewer }
 {
@@ -201,7 +201,7 @@ pub(crate) fn assert_sees(rt: &impl Abort, viewer: Viewer, revision: u32, runs: 
     }
 }
 
-/// A look shows so many operations, and a picture of this total.
+/// Asserts that a look shows this many operations, and a picture of this total weight.
 pub(crate) fn assert_shows(rt: &impl Abort, viewer: Viewer, revision: u32, total: i64) -> Viewer
     ensures { viewers.name result ≡ viewers.name viewer }
 {
@@ -215,7 +215,7 @@ pub(crate) fn assert_shows(rt: &impl Abort, viewer: Viewer, revision: u32, total
     }
 }
 
-/// A notice tells of so many operations.
+/// Asserts that a notice has this revision.
 pub(crate) fn assert_tells(rt: &impl Abort, notice: &Notice, revision: u32) {
     assert_same(rt, notice.revision(), revision, "what is told");
 }

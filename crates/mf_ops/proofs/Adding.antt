@@ -20,7 +20,7 @@ pub sum_at-plus : (ds es : List Dot) (x y : ℤ) → sum_at ds es x y ≡ step_a
 unfolding sum_at
 sum_at-plus ds es x y = refl
 
--- the sum with the negated picture is the difference
+-- the sum of a picture and a negated one is the difference
 pub HasWeights-minus : (ds es negated new : List Dot) → HasWeights (mapped_at Negate es) negated → HasWeights (sum_at ds negated) new → HasWeights (step_at ds (Also es Minus)) new
 unfolding sum_at mapped_at
 HasWeights-minus ds es negated new negates has = record { weights = λ x y in_field. omega (arith, ints, negates.weights x y in_field, has.weights x y in_field) }
@@ -43,7 +43,7 @@ pub HasWeights-blank : HasWeights (λ x y. pos 0) []
 unfolding weight_at
 HasWeights-blank = record { weights = λ x y in_field. refl }
 
--- and so has the negated one, which is blank again
+-- so does its negation, which is blank again
 negated_blank_weights : HasWeights (mapped_at Negate []) []
 unfolding mapped_at weight_at
 negated_blank_weights = record { weights = λ x y in_field. refl }

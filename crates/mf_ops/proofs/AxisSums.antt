@@ -1,4 +1,4 @@
--- Sums over one axis of the field, and over the field, of what was moved.
+-- Sums over one axis of the field, and over the field, of weights that were moved.
 use Rattle.std.proofs.Common.{◌≡◌, ◌≢◌, ℕ, zero, suc, ◌+◌, ◌*◌, ◌<◌, inl, inr, Bool, true, false, ◌&&◌, ℤ, pos, negsuc, ◌+ℤ◌, ◌-ℤ◌, ◌*ℤ◌, ◌≤ℤ◌, ◌<ℤ◌, nat_abs, refl, sym, ◌∙◌, ap, arith}
 use Rattle.std.specs.Bool.{Decides}
 use Rattle.std.specs.Ordering.{int_eq}
@@ -37,7 +37,7 @@ sum_below-alone (suc n) k f below others =
           omega (arith, ints)
     ]
 
--- the last n numbers up to b, one by one downwards, are the n numbers from a on
+-- the n numbers from b downwards are the n numbers from a upwards
 sum_below-downwards : (n : ℕ) (a b : ℤ) (g : ℤ → ℤ) → a +ℤ pos n ≡ b +ℤ pos 1 → sum_below n (λ i. g (b -ℤ pos i)) ≡ sum_below n (λ i. g (a +ℤ pos i))
 unfolding sum_below
 sum_below-downwards zero a b g ends = refl
@@ -77,7 +77,7 @@ axis_sum-opposite g =
     let column : (i : ℕ) → opposite (negsuc 4094 +ℤ pos i) ≡ pos 4094 -ℤ pos i = λ i. omega (arith, ints) in
     (λ t. sum_below 8190 (λ i. g (column i t))) ∙ sum_below-downwards 8190 (negsuc 4094) (pos 4094) g refl
 
--- a turn by 90 degrees takes the field to itself
+-- a turn by 90 degrees maps the field to itself
 pub sum_over_field-turned : (f : ℤ → ℤ → ℤ) → sum_over_field (λ x y. f y (opposite x)) ≡ sum_over_field f
 sum_over_field-turned f =
     sum_over_field-axes (λ x y. f y (opposite x))
@@ -85,8 +85,8 @@ sum_over_field-turned f =
     ∙ axis_sum-opposite (λ y. axis_sum (λ x. f x y))
     ∙ sym (sum_over_field-axes f)
 
--- A move of the axis takes each column, or row, p to the n columns from first p on, and column q comes from
--- source q alone. Kept columns lie in the field before and after it.
+-- A move of the axis takes each column, or row, p to the n columns from `first p` on, and column q comes from `source q` alone. A
+-- column that is kept lies in the field before and after the move.
 pub record IsMove (n : ℕ) (source : ℤ → ℤ) (kept : ℤ → Bool) : Type 0 where
   pub first : ℤ → ℤ
   pub start : (q : ℤ) → first (source q) ≤ℤ q
@@ -133,7 +133,7 @@ times_twice m n a =
     let downs : n * down (pos m *ℤ a) ≡ n * (m * down a) = ap (λ k. n * k) (omega arith) in
     omega (arith, ints)
 
--- what the column p adds at the column q, where its n columns begin at s
+-- what column p adds at column q, where the n columns of p begin at s
 abbrev part : ℕ → ℤ → (ℤ → ℤ) → ℤ → ℤ → ℤ
 part n s g q p = g p *ℤ among n s q
 
@@ -143,7 +143,7 @@ part-other n s g q p outside = ap (λ a. g p *ℤ a) (among-outside n s q outsid
 part-zero : (n : ℕ) (s : ℤ) (g : ℤ → ℤ) (q p : ℤ) → g p ≡ pos 0 → part n s g q p ≡ pos 0
 part-zero n s g q p none = ap (λ a. a *ℤ among n s q) none ∙ zero-*ℤ (among n s q)
 
--- at the column q only its source adds anything
+-- only the source of column q adds anything at q
 from_source : (n : ℕ) (source : ℤ → ℤ) (kept : ℤ → Bool) (g : ℤ → ℤ) (q : ℤ) → (move : IsMove n source kept) → ((p : ℤ) → kept p ≡ false → g p ≡ pos 0) → axis_sum (λ p. part n (move.first p) g q p) ≡ g (source q)
 from_source n source kept g q move none =
     let p = source q in
@@ -165,7 +165,7 @@ from_source n source kept g q move none =
           ∙ sym blank
     ]
 
--- the column p adds n times what it has
+-- column p adds n times its own value
 to_columns : (n : ℕ) (source : ℤ → ℤ) (kept : ℤ → Bool) (g : ℤ → ℤ) (p : ℤ) → (move : IsMove n source kept) → ((o : ℤ) → kept o ≡ false → g o ≡ pos 0) → axis_sum (λ q. part n (move.first p) g q p) ≡ pos n *ℤ g p
 to_columns n source kept g p move none =
     elim (cases_Bool (kept p)) [
@@ -180,8 +180,8 @@ to_columns n source kept g p move none =
           ∙ sym (ap (λ a. pos n *ℤ a) blank ∙ *ℤ-zero (pos n))
     ]
 
--- Where columns that leave the field have 0, a move multiplies the sum by the number of columns to which it takes
--- each. Both sums add up the same parts, one by their sources and the other by their places.
+-- Where the columns that leave the field have value 0, a move multiplies the sum by the number of columns to which it takes each
+-- one. Both sums add the same parts, one grouped by source and the other by place.
 axis_sum-moved : (n : ℕ) (source : ℤ → ℤ) (kept : ℤ → Bool) (g : ℤ → ℤ) → IsMove n source kept → ((p : ℤ) → kept p ≡ false → g p ≡ pos 0) → axis_sum (λ q. g (source q)) ≡ pos n *ℤ axis_sum g
 axis_sum-moved n source kept g move none =
     let parts : ℤ → ℤ → ℤ = λ q p. part n (move.first p) g q p in
@@ -190,7 +190,7 @@ axis_sum-moved n source kept g move none =
     ∙ axis_sum-same (λ p. axis_sum (λ q. parts q p)) (λ p. pos n *ℤ g p) (λ p. to_columns n source kept g p move none)
     ∙ axis_sum-mul (pos n) g
 
--- the rows move, and in each row the columns
+-- the same for the field: the rows move, and within each row the columns
 pub sum_over_field-moved : (m n : ℕ) (column row : ℤ → ℤ) (kept_column kept_row : ℤ → Bool) (f : ℤ → ℤ → ℤ) → IsMove m column kept_column → IsMove n row kept_row → ((x y : ℤ) → (kept_column x && kept_row y) ≡ false → f x y ≡ pos 0) → sum_over_field (λ x y. f (column x) (row y)) ≡ pos (m * n) *ℤ sum_over_field f
 sum_over_field-moved m n column row kept_column kept_row f columns rows none =
     let moved_row : ℤ → ℤ = λ y. axis_sum (λ x. f (column x) y) in

@@ -49,7 +49,7 @@ none_too_large low [] dots = refl
 none_too_large low (d ∷ ds) dots =
     or_from _ _ (is_too_large-lawful d.weight dots.0.lawful) (none_too_large (place d.x d.y +ℤ pos 1) ds dots.2)
 
--- where no dot is too heavy, no pixel is
+-- where the weight of no dot is too large, that of no pixel is
 weight_at-not_too_large : (ds : List Dot) (x y : ℤ) → list_any (λ d. is_too_large d.weight) ds ≡ false → is_too_large (weight_at ds x y) ≡ false
 unfolding weight_at
 weight_at-not_too_large [] x y none = refl
@@ -62,7 +62,7 @@ some_too_large f at =
     let weight = weight_at-picture_of f at.x at.y at.in_field in
     true_from_ne_false _ (λ none. both_ways (is_too_large (f at.x at.y)) (rw weight at (weight_at-not_too_large (picture_of f) at.x at.y none)) at.too_large)
 
--- a picture that has weights has all that are the same
+-- where a picture has the weights f, and g equals f, it has the weights g
 pub HasWeights-same : (f g : ℤ → ℤ → ℤ) (ds : List Dot) → ((x y : ℤ) → f x y ≡ g x y) → HasWeights f ds → HasWeights g ds
 HasWeights-same f g ds same has = record { weights = λ x y in_field. has.weights x y in_field ∙ same x y }
 
@@ -70,31 +70,31 @@ pub IsUnlawfulSomewhere-same : (f g : ℤ → ℤ → ℤ) → ((x y : ℤ) → 
 IsUnlawfulSomewhere-same f g same at =
     record { x = at.x; y = at.y; in_field = at.in_field; unlawful = λ lawful. at.unlawful (subst IsLawfulWeight (sym (same at.x at.y)) lawful) }
 
--- a picture with the weights of a step is the picture after it
+-- a picture that has the weights of a step is the picture after that step
 pub stepped-from_weights : (ds : List Dot) (op : Op) (new : List Dot) → IsPicture new → HasWeights (step_at ds op) new → new ≡ stepped ds op
 unfolding stepped
 stepped-from_weights ds op new picture has = picture_of-from_weights new (step_at ds op) picture has.weights
 
 -- ---- how the cycle turns
 
--- what is found in how a cycle turns comes first
+-- a fault in how a cycle turns comes before all others
 pub fault_of-turn : (ds : List Dot) (op : Op) (fault : OpFault) → turn_fault op ≡ Some fault → fault_of ds op ≡ Some fault
 unfolding fault_of
 fault_of-turn ds op fault found = ap (λ (turn : Option OpFault). option_or turn (pixel_fault ds op)) found
 
--- a cycle's fault, by its definition, is the one that the turning check finds
+-- the fault of a cycle, by its definition, is the one that the turning check finds
 pub turning_fault-is : (ps : List Point) (fault : CycleFault) → IsRectilinearCycle ps → IsFault ps fault → turning_fault ps ≡ Some fault
 turning_fault-is ps fault cycle is = sym (fault_of-rectilinear ps cycle) ∙ fault_of-fault ps fault is
 
 pub turning_fault-none : (ps : List Point) → PassesCheck ps → turning_fault ps ≡ None
 turning_fault-none ps passes = sym (fault_of-rectilinear ps passes.onward.rectilinear) ∙ fault_of-cycle ps passes
 
--- where nothing is, the pixels decide
+-- where the turning check finds none, the pixels decide
 fault_of-pixels : (ds : List Dot) (op : Op) → TurnsLawfully op → fault_of ds op ≡ pixel_fault ds op
 unfolding fault_of
 fault_of-pixels ds op turns = ap (λ (turn : Option OpFault). option_or turn (pixel_fault ds op)) turns.none
 
--- a cycle turns lawfully or has a fault
+-- a cycle passes its turning check or has a fault
 TurnsOrFails : Op → Type 0
 TurnsOrFails op = TurnsLawfully op ⊎ ((f : CycleFault) × (turn_fault op ≡ Some (Cycle f)))
 
@@ -114,7 +114,7 @@ turns_or_fails (ops.Scale s) = inl (record { none = refl })
 turns_or_fails (ops.Quarter q) = inl (record { none = refl })
 turns_or_fails Clear = inl (record { none = refl })
 
--- what is no fault of a cycle is one of the pixels
+-- a fault that is not one of the cycle is one of the pixels
 from_pixels : (ds : List Dot) (op : Op) (found : Option OpFault) → ((f : CycleFault) → Some (Cycle f) ≢ found) → fault_of ds op ≡ found → TurnsLawfully op × (pixel_fault ds op ≡ found)
 unfolding TurnsOrFails
 from_pixels ds op found other is =
@@ -128,7 +128,7 @@ pixels_not_turning true large f same = cc
 pixels_not_turning false true f same = cc
 pixels_not_turning false false f same = cc
 
--- an operation whose cycle turns lawfully is not refused for it
+-- an operation whose cycle passes the turning check is not refused for its cycle
 pub not_turning : (ds : List Dot) (op : Op) (f : CycleFault) → TurnsLawfully op → fault_of ds op ≢ Some (Cycle f)
 not_turning ds op f turns same = pixels_not_turning _ _ f (sym (fault_of-pixels ds op turns) ∙ same)
 
@@ -164,7 +164,7 @@ quarter_turns ds q f = not_turning ds (ops.Quarter q) f (record { none = refl })
 pub clear_turns : (ds : List Dot) (f : CycleFault) → fault_of ds Clear ≢ Some (Cycle f)
 clear_turns ds f = not_turning ds Clear f (record { none = refl })
 
--- a contour that its check lets pass is an unchecked one with the weight that the check gives it
+-- a contour that passes its check makes the same picture as an unchecked one with the weight that the check gives it
 pub stepped-unchecked : (ds : List Dot) (ps : List Point) (w : ℤ) (check : Check) → stepped ds (Contour ps w check) ≡ stepped ds (Contour ps (filling_weight check ps w) Off)
 unfolding stepped contour
 stepped-unchecked ds ps w check = refl
@@ -174,21 +174,21 @@ unfolding stepped contour
 fault_of-unchecked ds ps w check turns =
     fault_of-pixels ds (Contour ps w check) (record { none = turns }) ∙ sym (fault_of-pixels ds (Contour ps (filling_weight check ps w) Off) (record { none = refl }))
 
--- ---- what its pixels say
+-- ---- faults of pixels
 
--- an operation is refused for its weights or not at all
+-- an operation that can be refused only for its weights
 pub record IsForWeights (ds : List Dot) (op : Op) : Type 0 where
   pub turns : TurnsLawfully op
   pub stays : StaysInField ds op
 
--- then the weights alone decide
+-- for such an operation the weights alone decide
 fault_of-inside : (ds : List Dot) (op : Op) → IsForWeights ds op → fault_of ds op ≡ weight_fault (stepped ds op)
 fault_of-inside ds op inside = fault_of-pixels ds op inside.turns ∙ (λ t. cond (inside.stays.none_leaves t) (Some OutOfField) (weight_fault (stepped ds op)))
 
 pub fault_of-leaves : (ds : List Dot) (op : Op) → TurnsLawfully op → list_any (leaves op) ds ≡ true → fault_of ds op ≡ Some OutOfField
 fault_of-leaves ds op turns leaves_it = fault_of-pixels ds op turns ∙ (λ t. cond (leaves_it t) (Some OutOfField) (weight_fault (stepped ds op)))
 
--- so a step with the weights of a picture is not refused
+-- a step that has the weights of a picture is not refused
 pub fault_of-from_weights : (ds : List Dot) (op : Op) (new : List Dot) → IsForWeights ds op → IsPicture new → HasWeights (step_at ds op) new → fault_of ds op ≡ None
 fault_of-from_weights ds op new stays picture has =
     let is = stepped-from_weights ds op new picture has in
@@ -204,12 +204,12 @@ pub fault_of-unlawful : (ds : List Dot) (op : Op) → IsForWeights ds op → IsU
 fault_of-unlawful ds op stays at =
     fault_of-too_large ds op stays record { x = at.x; y = at.y; in_field = at.in_field; too_large = is_too_large-unlawful (step_at ds op at.x at.y) at.unlawful }
 
--- where adding to a picture is refused, be it not for want of memory, the step is refused for the same cause
+-- where a sum is refused, and not because an allocation fails, the step is refused for the same reason
 pub fault_of-op_fault : (ds : List Dot) (op : Op) (fault : AddFault) → IsForWeights ds op → (fault ≢ add.OutOfMemory → IsUnlawfulSomewhere (step_at ds op)) → op_fault fault ≢ OutOfMemory → fault_of ds op ≡ Some (op_fault fault)
 fault_of-op_fault ds op add.WeightTooLarge stays unlawful other = fault_of-unlawful ds op stays (unlawful (λ same. cc))
 fault_of-op_fault ds op add.OutOfMemory stays unlawful other = absurd (other refl)
 
--- most operations take no pixel anywhere
+-- most operations take no pixel out of the field
 never : (ds : List Dot) → list_any (λ d. false) ds ≡ false
 never [] = refl
 never (d ∷ ds) = never ds
@@ -235,7 +235,7 @@ quarter_stays ds q = stays_everywhere ds (ops.Quarter q) (record { none = refl }
 pub clear_stays : (ds : List Dot) → IsForWeights ds Clear
 clear_stays ds = stays_everywhere ds Clear (record { none = refl }) (never ds)
 
--- so their steps are not refused with OutOfField
+-- so they are not refused with OutOfField
 weight_fault-not_out : (large : Bool) → cond large (Some WeightTooLarge) None ≢ Some OutOfField
 weight_fault-not_out true same = cc
 weight_fault-not_out false same = cc
@@ -260,7 +260,7 @@ quarter_not_out ds q = not_out ds (ops.Quarter q) (quarter_stays ds q)
 pub clear_not_out : (ds : List Dot) → fault_of ds Clear ≢ Some OutOfField
 clear_not_out ds = not_out ds Clear (clear_stays ds)
 
--- what each answer says of the two tests
+-- what each answer says about the two tests
 none_where_lawful : (out large : Bool) → cond out (Some OutOfField) (cond large (Some WeightTooLarge) None) ≡ None → (out ≡ false) × (large ≡ false)
 none_where_lawful true large none = cc
 none_where_lawful false true none = cc
@@ -276,7 +276,7 @@ some_where_out true large some = refl
 some_where_out false true some = cc
 some_where_out false false some = cc
 
--- an operation that is accepted turns lawfully, and its pixels have no fault
+-- an accepted operation passes the turning check, and its pixels have no fault
 pixels-accepted : (ds : List Dot) (op : Op) → fault_of ds op ≡ None → TurnsLawfully op × (pixel_fault ds op ≡ None)
 pixels-accepted ds op none = from_pixels ds op None (λ f same. cc) none
 
@@ -290,7 +290,7 @@ not_too_large-accepted ds op none x y in_field =
     let weight = weight_at-picture_of (step_at ds op) x y in_field in
     rw weight at (weight_at-not_too_large (picture_of (step_at ds op)) x y lawful)
 
--- a dot that is too heavy is a pixel of the field
+-- a dot whose weight is too large is a pixel of the field
 found_too_large : (f : ℤ → ℤ → ℤ) → list_any (λ d. is_too_large d.weight) (picture_of f) ≡ true → IsTooLargeSomewhere f
 found_too_large f some =
     let found = Any-from_list_any (λ d. is_too_large d.weight) (picture_of f) some in
@@ -298,7 +298,7 @@ found_too_large f some =
     let dot = All-contains (IsDotOf f) (picture_of f) d (picture_of-dots f) (found.0, found.2, found.3) in
     record { x = d.x; y = d.y; in_field = dot.in_field; too_large = rw dot.weight at found.4 }
 
--- so is one that is refused for a weight, but that some weight is too large
+-- an operation refused with WeightTooLarge could be refused only for its weights, and some weight is too large
 pub record IsRefusedForWeights (ds : List Dot) (op : Op) : Type 0 where
   pub inside : IsForWeights ds op
   pub too_large : IsTooLargeSomewhere (step_at ds op)
@@ -310,7 +310,7 @@ too_large-refused ds op refused =
     let tests = some_where_too_large _ _ found.1 in
     record { inside = stays_everywhere ds op found.0 tests.0; too_large = found_too_large (step_at ds op) tests.1 }
 
--- a step that makes lawful weights is not refused for them
+-- a step whose weights are all lawful is not refused for them
 step_not_too_large : (ds : List Dot) (op : Op) → ((x y : ℤ) → IsLawfulWeight (step_at ds op x y)) → list_any (λ d. is_too_large d.weight) (stepped ds op) ≡ false
 unfolding stepped
 step_not_too_large ds op lawful =
@@ -326,7 +326,7 @@ accepted-lawful ds op stays lawful = fault_of-inside ds op stays ∙ (λ t. cond
 pub leaves-refused : (ds : List Dot) (op : Op) → fault_of ds op ≡ Some OutOfField → list_any (leaves op) ds ≡ true
 leaves-refused ds op refused = some_where_out _ _ (from_pixels ds op (Some OutOfField) (λ f same. cc) refused).1
 
--- a step that is not refused makes a picture
+-- a step that is not refused makes a lawful picture
 pub IsPicture-stepped : (ds : List Dot) (op : Op) → fault_of ds op ≡ None → IsPicture (stepped ds op)
 unfolding stepped
 IsPicture-stepped ds op none = lawful_picture_of (step_at ds op) (λ x y in_field. IsLawfulWeight-from_false _ (not_too_large-accepted ds op none x y in_field))

@@ -1,4 +1,4 @@
--- When a picture leaves the field as its columns and rows are stretched, as a shift and a scale do: its least box tells.
+-- When a picture leaves the field as its columns and rows are stretched, as a shift and a scale do: its least box decides.
 use Rattle.std.proofs.Common.{◌≡◌, ◌&&◌, Bool, true, false, not, ℕ, ◌+◌, ◌*◌, ◌≤◌, mul-le-mul_right, ℤ, pos, negsuc, ◌+ℤ◌, ◌*ℤ◌, ◌≤ℤ◌, List, [], ◌∷◌, refl, subst, sym, w32, to_z, of_z, arith}
 use Rattle.std.proofs.lemmas.Bool.{and_from, and_parts, or_parts, not-false, not_from_true, true_from_ne_false}
 use Rattle.std.proofs.lemmas.Int.{ints}
@@ -55,7 +55,7 @@ PixelsStayInside-none_leaves columns rows (d ∷ ds) none =
 some_leaves : (columns rows : Stretch) (ds : List Dot) → ¬ PixelsStayInside columns rows ds → list_any (leaves_by columns rows) ds ≡ true
 some_leaves columns rows ds outside = true_from_ne_false _ (λ none. outside (PixelsStayInside-none_leaves columns rows ds none))
 
--- a shift stretches by 1, a scale without an offset
+-- a shift stretches by factor 1, and a scale has offset 0
 pub stays_in_field-shift : (ds : List Dot) (dx dy : ℤ) → PixelsStayInside (record { factor = pos 1; offset = dx }) (record { factor = pos 1; offset = dy }) ds → IsForWeights ds (Shift dx dy)
 stays_in_field-shift ds dx dy inside = record {
   turns = record { none = refl };
@@ -74,7 +74,7 @@ stays_in_field-scale ds s inside = record {
 pub leaves-scale : (ds : List Dot) (s : Factors) → (PixelsStayInside (record { factor = s.x; offset = pos 0 }) (record { factor = s.y; offset = pos 0 }) ds → ⊥) → list_any (leaves (Scale s)) ds ≡ true
 leaves-scale ds s outside = some_leaves (record { factor = s.x; offset = pos 0 }) (record { factor = s.y; offset = pos 0 }) ds outside
 
--- a product with a whole number keeps the order, or turns it round
+-- multiplying by an integer keeps the order of two numbers, or reverses it
 mul-le : (n : ℕ) (a b : ℤ) → a ≤ℤ b → (a *ℤ pos n) ≤ℤ (b *ℤ pos n)
 mul-le n a b le =
     let parts : up a + down b ≤ up b + down a = omega (arith, ints) in
@@ -87,7 +87,7 @@ mul-ge n a b le =
     let times : (up a + down b) * (n + 1) ≤ (up b + down a) * (n + 1) = mul-le-mul_right (n + 1) parts in
     omega (arith, ints)
 
--- so where two points stay in reach, those between them do
+-- so where two points stay in reach, so do those between them
 IsPointInReach-between : (f o a p b : ℤ) → a ≤ℤ p → p ≤ℤ b → IsPointInReach ((a *ℤ f) +ℤ o) → IsPointInReach ((b *ℤ f) +ℤ o) → IsPointInReach ((p *ℤ f) +ℤ o)
 IsPointInReach-between (pos n) o a p b after before first last =
     let above = mul-le n a p after in
@@ -105,7 +105,7 @@ PlaceStaysInside-between s a p b after before first last =
       end = IsPointInReach-between s.factor s.offset (a +ℤ pos 1) (p +ℤ pos 1) (b +ℤ pos 1) (omega (arith, ints)) (omega (arith, ints)) first.end last.end;
     }
 
--- what is true of each dot's column, or row, is true of a side of the least box
+-- what holds for the column, or row, of each dot holds for a side of the least box
 at_side : (P : ℤ → Type 0) (f : Dot → ℤ) (ds : List Dot) (side : ℤ) → All (λ d. P (f d)) ds → Any (λ d. f d ≡ side) ds → P side
 at_side P f ds side all at = subst P at.4 (All-contains (λ d. P (f d)) ds at.1 all (at.0, at.2, at.3))
 
@@ -116,7 +116,7 @@ pub record SidesStayInside (columns rows : Stretch) (b : Box4) : Type 0 where
   pub bottom : PlaceStaysInside rows b.min_y
   pub top : PlaceStaysInside rows b.max_y
 
--- a picture stays inside where they do
+-- where they do, the picture stays inside
 pub PixelsStayInside-from_sides : (columns rows : Stretch) (ds : List Dot) (b : Box4) → IsLeastBox ds b → SidesStayInside columns rows b → PixelsStayInside columns rows ds
 PixelsStayInside-from_sides columns rows ds b box sides =
     record {
@@ -138,7 +138,7 @@ pub record IsInRange (p : ℤ) : Type 0 where
   pub least : negsuc 4094 ≤ℤ p
   pub greatest : p ≤ℤ pos 4094
 
--- the sides of the least box of a picture are such
+-- the sides of the least box of a picture are columns and rows of the field
 pub record AreSidesInField (b : Box4) : Type 0 where
   pub left : IsInRange b.min_x
   pub right : IsInRange b.max_x
@@ -157,7 +157,7 @@ sides_in_field ds b picture box =
       top = at_side IsInRange (λ d. d.y) ds b.max_y rows box.top;
     }
 
--- so they are read back from 32 bits
+-- so the 32-bit integers of the code represent them exactly
 abbrev pub read_back : Box4 → Box4
 read_back b = record { min_x = to_z w32 (of_z w32 b.min_x); max_x = to_z w32 (of_z w32 b.max_x); min_y = to_z w32 (of_z w32 b.min_y); max_y = to_z w32 (of_z w32 b.max_y) }
 

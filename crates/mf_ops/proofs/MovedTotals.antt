@@ -37,7 +37,7 @@ total_of-turned ds q picture =
 abbrev is_in_axis : ℤ → Bool
 is_in_axis p = is_in_reach p && is_in_reach (p +ℤ pos 1)
 
--- whether it lies there before and after the axis was scaled by f and moved by d
+-- whether it lies there before and after the axis is scaled by f and moved by d
 abbrev stays : ℤ → ℤ → ℤ → Bool
 stays f d p = is_in_axis p && stays_inside f d p
 
@@ -122,7 +122,7 @@ opposite-opposite p = omega (arith, ints)
 neg-times : (a : ℤ) (n : ℕ) → neg_ℤ a *ℤ pos (suc n) ≡ a *ℤ negsuc n
 neg-times a n = grind (arith, ints)
 
--- so a column's ends change places
+-- so the ends of a column change places
 times-opposite_start : (n : ℕ) (p : ℤ) → stretched_to (times n) (opposite p) ≡ ((p +ℤ pos 1) *ℤ negsuc n) +ℤ pos 0
 times-opposite_start n p =
     let start : opposite p ≡ neg_ℤ (p +ℤ pos 1) = omega (arith, ints) in
@@ -163,7 +163,7 @@ scale_move (negsuc n) factor =
           (rw start ends.b_least, rw end ends.a_greatest);
     }
 
--- a pixel that is none of a picture's dots, all of which stay inside, has weight 0
+-- where all dots of a picture stay inside, a pixel that does not has weight 0
 weight_at-lost : (low : ℤ) (ds : List Dot) (across up : ℤ → Bool) → AreDotsFrom low ds → list_any (λ d. not (across d.x && up d.y)) ds ≡ false → (x y : ℤ) → ((is_in_axis x && across x) && (is_in_axis y && up y)) ≡ false → weight_at ds x y ≡ pos 0
 unfolding weight_at
 weight_at-lost low [] across up dots none x y lost = refl

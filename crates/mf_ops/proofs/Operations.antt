@@ -37,7 +37,7 @@ unfolding after_all
 push-accepted ds [] op accepted last = (last, tt)
 push-accepted ds (first ∷ ops) op accepted last = (accepted.0, push-accepted (stepped ds first) ops op accepted.1 last)
 
--- a list of operations is accepted where all but the last are, and the last is
+-- a list of operations is accepted where all but the last are accepted, and the last one is, too
 pub AreAccepted-front : (ops : List Op) (op : Op) → AreAccepted (ops ++ op ∷ []) → AreAccepted ops × (fault_of (picture_after ops) op ≡ None)
 unfolding picture_after
 AreAccepted-front ops op accepted = let parts = accepted-push [] ops op accepted.steps in (record { steps = parts.0 }, parts.1)

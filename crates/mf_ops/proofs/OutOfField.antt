@@ -1,4 +1,4 @@
--- When a shift or a scale takes a pixel out of the field, and that no other operation does.
+-- When a shift or a scale takes a pixel out of the field, and why no other operation does.
 use Rattle.std.proofs.Common.{◌≡◌, ◌≢◌, ◌&&◌, Bool, true, false, ℤ, pos, negsuc, ◌+ℤ◌, ◌-ℤ◌, ◌*ℤ◌, ◌≤ℤ◌, List, [], ◌∷◌, Some, refl, sym, ◌∙◌, inl, inr, arith}
 use Rattle.std.specs.Int.{int_max, int_min}
 use Rattle.std.specs.List.{list_any}
@@ -31,7 +31,7 @@ use Rattle.mf_ops.specs.declared.sign.Sign.TheVariants.{Plus, Minus}
 use Rattle.mf_ops.proofs.Faults.{leaves-refused, fault_of-leaves, contour_not_out, also_not_out, cull_not_out, quarter_not_out, clear_not_out}
 use Rattle.mf_ops.proofs.Places.{scale_source-covered, scale_source-only, HasPlace-first, HasPlace-last}
 
--- where the weight is not 0 a dot stands
+-- where the weight is not 0 there is a dot
 list_any-at : (test : Dot → Bool) (ds : List Dot) (x y : ℤ) → weight_at ds x y ≢ pos 0 → ((d : Dot) → IsAt d x y → test d ≡ true) → list_any test ds ≡ true
 unfolding weight_at
 list_any-at test [] x y nonzero passes = absurd (nonzero refl)
@@ -43,11 +43,11 @@ list_any-at test (d ∷ ds) x y nonzero passes =
     (λ elsewhere other. or_right (test d) (list_any test ds) (list_any-at test ds x y other passes))
     nonzero
 
--- an operation is refused where the dot of some pixel leaves
+-- an operation is refused where the dot of some pixel leaves the field
 refused_at : (ds : List Dot) (op : Op) (x y : ℤ) → TurnsLawfully op → weight_at ds x y ≢ pos 0 → ((d : Dot) → IsAt d x y → leaves op d ≡ true) → fault_of ds op ≡ Some OutOfField
 refused_at ds op x y turns nonzero leave = fault_of-leaves ds op turns (list_any-at (leaves op) ds x y nonzero leave)
 
--- a dot of a picture that leaves
+-- a dot of a picture that leaves the field
 record IsLeaving (ds : List Dot) (op : Op) (d : Dot) : Type 0 where
   pub nonzero : weight_at ds d.x d.y ≢ pos 0
   pub leaving : leaves op d ≡ true
@@ -108,7 +108,7 @@ stays-inside d p inside =
       end = record { least = omega (arith, ints); greatest = omega (arith, ints) };
     }
 
--- where column p stays, so do all columns of its part
+-- where column p stays inside, so do all columns of its part of the axis
 place_inside : (f p q : ℤ) → HasPlace f p q → stays_inside f (pos 0) p ≡ true → IsInside q
 place_inside f p q has stays =
     let ends = ends_in_reach f (pos 0) p stays in
@@ -116,7 +116,7 @@ place_inside f p q has stays =
     let end = ends.end in
     record { least = omega (arith, ints, clamps); greatest = omega (arith, ints, clamps) }
 
--- where it doesn't, some column of its part lies outside: the first or the last
+-- where it does not, the first or the last column of its part lies outside
 record HasOutside (f p : ℤ) : Type 0 where
   pub q : ℤ
   pub has : HasPlace f p q
@@ -168,7 +168,7 @@ shift-outside ds dx dy at =
 
 -- ---- scales
 
--- the pixel of which the part of a dot has the column and the row gets the dot's weight
+-- a pixel whose column and row lie in the parts of a dot's column and row gets the weight of that dot
 scaled_weight : (ds : List Dot) (s : Factors) (d : Dot) (x y : ℤ) → AreFactors s → HasPlace s.x d.x x → HasPlace s.y d.y y → weight_at ds d.x d.y ≢ pos 0 → step_at ds (Scale s) x y ≢ pos 0
 scaled_weight ds s d x y factors column row nonzero =
     rw (scale_source-only s.x d.x x factors.columns column, scale_source-only s.y d.y y factors.rows row) nonzero
@@ -237,9 +237,9 @@ unfolding ZeroOutside
 turn-inside ds q picture at =
     at.nonzero (turned_by-outside q (weight_at ds) (λ x y outside. weight_at-outside ds x y picture outside) at.x at.y at.outside)
 
--- ---- all others
+-- ---- all other operations
 
--- a cycle winds round no pixel outside the field
+-- the winding number is 0 outside the field
 pub contour-inside : (ds : List Dot) (ps : List Point) (w : ℤ) (check : Check) → IsPicture ds → ((x y : ℤ) → (IsInField x y → ⊥) → winding ps x y ≡ pos 0) → LiesOutside (step_at ds (Contour ps w check)) → ⊥
 unfolding contour
 contour-inside ds ps w check picture none at =
@@ -251,7 +251,7 @@ also-inside ds es Plus picture other at =
 also-inside ds es Minus picture other at =
     at.nonzero (omega (arith, ints, weight_at-outside ds at.x at.y picture at.outside, weight_at-outside es at.x at.y other at.outside))
 
--- a lawful cull leaves weight 0 as it is
+-- a lawful cull leaves weight 0 unchanged
 culled_zero : (c : CullRule) → IsLawfulCull c → culled c (pos 0) ≡ pos 0
 culled_zero (Keeping a b w) lawful = grind (arith, ints)
 culled_zero (Dropping a b w) lawful = grind (arith, ints)

@@ -1,4 +1,4 @@
--- Which column, or row, a scale takes to a part of the axis that has a given one.
+-- Which column, or row, a scale takes to the part of the axis that contains a given one.
 use Rattle.std.proofs.Common.{◌≡◌, ℕ, suc, ℤ, pos, negsuc, neg_ℤ, ◌+ℤ◌, ◌-ℤ◌, ◌*ℤ◌, ◌≤ℤ◌, ◌<ℤ◌, refl, ap, sym, ◌∙◌, true, int_lt, arith}
 use Rattle.std.specs.Int.{int_div_euclid, int_max, int_min}
 use Rattle.std.proofs.lemmas.Bool.{cond-true}
@@ -27,7 +27,7 @@ div-negative : (n : ℕ) (q : ℤ) → int_div_euclid q (negsuc n) ≡ neg_ℤ (
 div-negative n (pos a) = refl
 div-negative n (negsuc a) = refl
 
--- a negative factor takes p where the opposite factor takes the column on the other side of 0
+-- under a negative factor, p is the source where under the opposite factor the place opposite to p is
 source_is-negative : (n : ℕ) (q : ℤ) → scale_source (negsuc n) q ≡ opposite (source_of (by (pos (suc n))) q)
 unfolding scale_source
 source_is-negative n q = ap (λ d. d -ℤ pos 1) (div-negative n q) ∙ ap opposite (sym (source_of-by (pos (suc n)) q))
@@ -45,7 +45,7 @@ end-negative n p =
     let side : neg_ℤ (p +ℤ pos 1) ≡ opposite p = omega (arith, ints) in
     mul-neg (p +ℤ pos 1) (pos (suc n)) ∙ (λ t. side t *ℤ pos (suc n))
 
--- so the part of p is that of the one on the other side by the opposite factor
+-- so the part of p is the part of the opposite place under the opposite factor
 HasPlace-negative : (n : ℕ) (p q : ℤ) → HasPlace (pos (suc n)) (opposite p) q → HasPlace (negsuc n) p q
 HasPlace-negative n p q has =
     let start = start-negative n p in
@@ -88,7 +88,7 @@ opposite_factor n factor = let least = factor.least in record { least = omega (a
 pub opposite-opposite : (p : ℤ) → opposite (opposite p) ≡ p
 opposite-opposite p = omega (arith, ints)
 
--- the part of the source has the column
+-- the part of the source contains the column
 pub scale_source-covered : (f q : ℤ) → IsFactor f → HasPlace f (scale_source f q) q
 scale_source-covered (pos n) q factor =
     let stretch = positive_factor n factor in
@@ -99,7 +99,7 @@ scale_source-covered (negsuc n) q factor =
     let covered = covered-positive (pos (suc n)) q (opposite_factor n factor) in
     rw (source_is-negative n q) (HasPlace-negative n (opposite p) q (rw back covered))
 
--- and no other part does
+-- no other part contains it
 pub scale_source-only : (f p q : ℤ) → IsFactor f → HasPlace f p q → scale_source f q ≡ p
 scale_source-only (pos n) p q factor has =
     let stretch = positive_factor n factor in
@@ -117,7 +117,7 @@ scale_source-reflection q =
 product-next : (f p : ℤ) → (p +ℤ pos 1) *ℤ f ≡ (p *ℤ f) +ℤ f
 product-next f p = omega (arith, ints, stretched_to-next (by f) p)
 
--- the part of p is not empty: it has a first column, and a last
+-- the part of p is not empty: it has a first and a last column
 ends-apart : (f p : ℤ) → IsFactor f → (int_min (p *ℤ f) ((p +ℤ pos 1) *ℤ f) +ℤ pos 1) ≤ℤ int_max (p *ℤ f) ((p +ℤ pos 1) *ℤ f)
 ends-apart f p factor =
     let next = product-next f p in

@@ -1,4 +1,4 @@
--- Pictures that are scaled: a negative factor reflects, and the sizes of the factors stretch.
+-- Pictures that are scaled: a negative factor reflects, and the absolute values of the factors stretch.
 use Rattle.std.proofs.Common.{◌≡◌, ◌≢◌, ℕ, Bool, true, false, zero, suc, ℤ, pos, negsuc, neg_ℤ, nat_abs, ◌+ℤ◌, ◌-ℤ◌, ◌*ℤ◌, ◌≤ℤ◌, int_lt, List, get_or, refl, sym, subst, ◌∙◌, ap, arith}
 use Rattle.std.proofs.lemmas.Bool.{cond-true, cond-false}
 use Rattle.std.proofs.lemmas.Int.{ints, by_lt_z}
@@ -20,7 +20,7 @@ use mir.Syntax.{w32}
 use mir.Val.{to_z, of_z}
 use Rattle.mf_rows.proofs.StretchBounds.{holds_at_weight}
 
--- stretches by a factor, and by its size, with no offset
+-- the stretches by a factor and by its absolute value, with offset 0
 abbrev pub by_factor : ℤ → Stretch
 by_factor f = record { factor = f; offset = pos 0 }
 
@@ -39,7 +39,7 @@ factor_passed z f is_factor value =
     let passed : to_z w32 (of_z w32 z) ≡ z = omega (arith, ints) in
     passed ∙ value
 
--- what the code makes of a factor f: a, passed on, and the stretches by it and by its size
+-- what the code makes of a factor f: its value a, and the stretches by f and by its absolute value
 pub record AreMade (f a : ℤ) (signed sized : Stretch) : Type 0 where
   pub factor : IsFactor f
   pub passed : a ≡ f
@@ -67,7 +67,7 @@ int_div_euclid-negative : (q : ℤ) (n : ℕ) → int_div_euclid q (negsuc n) �
 int_div_euclid-negative (pos a) n = refl
 int_div_euclid-negative (negsuc a) n = refl
 
--- the part of an axis that has q comes from the other side where the factor is negative
+-- the source of q under a factor is the one under its absolute value, on the other side of 0 where the factor is negative
 scale_source-size : (f q : ℤ) → IsFactor f → scale_source f q ≡ on_side (int_lt f (pos 0)) (source_of (by_size f) q)
 unfolding scale_source source_of
 scale_source-size (pos zero) q is_factor = absurd (is_factor.nonzero refl)
@@ -83,7 +83,7 @@ scale_source-size (negsuc n) q is_factor =
     let same : q ≡ q -ℤ pos 0 = omega (arith, ints) in
     ap (λ source. source -ℤ pos 1) (int_div_euclid-negative q n) ∙ (λ t. opposite (int_div_euclid (same t) (pos (suc n))))
 
--- a place of the field comes from one of the field
+-- the source of a place of the field is in the field
 source_of-least : (f q : ℤ) → IsFactor f → negsuc 4094 ≤ℤ q → negsuc 4094 ≤ℤ source_of (by_size f) q
 source_of-least f q is_factor least =
     let stretch = IsStretch-size f is_factor in
@@ -127,7 +127,7 @@ product-opposite (pos zero) n = omega (arith, ints)
 product-opposite (pos (suc k)) n = refl
 product-opposite (negsuc k) n = refl
 
--- the ends of a column, or row, on the other side change places
+-- the ends of a column, or row, change places when it goes to the other side of 0
 PlaceStaysInside-size : (f p : ℤ) → PlaceStaysInside (by_factor f) (on_side (int_lt f (pos 0)) p) → PlaceStaysInside (by_size f) p
 PlaceStaysInside-size (pos n) p inside = subst (PlaceStaysInside (by_factor (pos n))) (cond-false _ (opposite p) p (not_negative n)) inside
 PlaceStaysInside-size (negsuc n) p inside =
@@ -139,7 +139,7 @@ PlaceStaysInside-size (negsuc n) p inside =
     λ t. (((λ u. end u *ℤ negsuc n) ∙ product-opposite p n) t) +ℤ pos 0 in
     record { start = subst IsPointInReach end_is inside.end; end = subst IsPointInReach start_is inside.start }
 
--- a dot of the reflected picture is one of the picture
+-- each dot of the reflected picture comes from a pixel of nonzero weight
 reflected_dots : (columns rows : Bool) (ds middle : List Dot) → IsPicture middle → HasWeights (reflected_at columns rows ds) middle → All (λ d. weight_at ds (on_side columns d.x) (on_side rows d.y) ≢ pos 0) middle
 unfolding reflected_at
 reflected_dots columns rows ds middle picture reflected k d lt =
@@ -147,7 +147,7 @@ reflected_dots columns rows ds middle picture reflected k d lt =
     let dot = dots_from-lawful start_of_field middle picture.dots k d lt in
     λ blank. dot.nonzero (sym (weight_at-dot start_of_field middle picture.dots k d lt) ∙ reflected.weights e.x e.y dot.in_field ∙ blank)
 
--- so the reflected picture stays in the field, too
+-- so the reflected picture stays in the field when it is stretched, where the picture does when it is scaled
 PixelsStayInside-reflected : (ds middle : List Dot) (s : Factors) → IsPicture middle → HasWeights (reflected_at (int_lt s.x (pos 0)) (int_lt s.y (pos 0)) ds) middle → PixelsStayInside (by_factor s.x) (by_factor s.y) ds → PixelsStayInside (by_size s.x) (by_size s.y) middle
 PixelsStayInside-reflected ds middle s picture reflected inside =
     let nonzero = reflected_dots _ _ ds middle picture reflected in

@@ -19,7 +19,7 @@ use Rattle.mf_ops.specs.Sides.{HasSide, AddWinding}
 use Rattle.mf_ops.specs.Step.{step_at}
 use Rattle.mf_ops.specs.declared.op.Op.TheVariants.{Contour}
 
--- corners for the edges that leave the first n vertices of a cycle
+-- the corners of the edges that leave the first n vertices of a cycle
 pub record AreSides (ps : List Point) (w : ℤ) (n : ℕ) (ks : List Corner) : Type 0 where
   pub few : length ks ≤ 2 * n
   pub corners : All IsCorner ks
@@ -33,7 +33,7 @@ added_by_all-append (k ∷ ks) ls x y = let rest = added_by_all-append ks ls x y
 int_le-not_lt : (a x : ℤ) → int_le a x ≡ not (int_lt x a)
 int_le-not_lt a x = grind (arith, ints)
 
--- what the ends of a vertical edge add, over truth values: whether the pixel lies left of the edge, and under each end
+-- what the ends of a vertical edge add, in truth values: whether the pixel is left of the edge, and whether it is below each end
 ends-crossing : (beyond under under' : Bool) (w : ℤ) → cond (not beyond && under) w (pos 0) +ℤ cond (not beyond && under') (neg_ℤ w) (pos 0) ≡ w *ℤ (cond beyond (pos 0) (pos 1) *ℤ (cond under' (pos 0) (pos 1) -ℤ cond under (pos 0) (pos 1)))
 ends-crossing beyond under under' w = grind (arith, ints)
 
@@ -41,7 +41,7 @@ ends-crossing beyond under under' w = grind (arith, ints)
 abbrev pub ends_of : ℤ → Edge → List Corner
 ends_of w e = record { x = e.from.x; y = e.from.y; weight = w } ∷ record { x = e.to.x; y = e.to.y; weight = neg_ℤ w } ∷ []
 
--- those of a vertical edge add the weight times its crossing
+-- the ends of a vertical edge add the weight times its crossing
 added_by_all-ends : (w x y : ℤ) (e : Edge) → e.to.x ≡ e.from.x → added_by_all (ends_of w e) x y ≡ w *ℤ crossing x y e
 unfolding crossing passed added_by_all added_by
 added_by_all-ends w x y e vertical =
@@ -60,7 +60,7 @@ lawful_ends w e least greatest from to =
     let second_lawful : IsCorner second = record { left = to.left; right = to.right; bottom = to.bottom; top = to.top; least = omega (arith, ints); greatest = omega (arith, ints) } in
     All-cons IsCorner first (second ∷ []) first_lawful (All-cons IsCorner second [] second_lawful (All-nil IsCorner))
 
--- so a vertical edge is a side by its ends
+-- so a vertical edge is a side with its two ends as corners
 pub HasSide-vertical : (w : ℤ) (e : Edge) (ks : List Corner) → negsuc 2 ≤ℤ w → w ≤ℤ pos 3 → IsInReach e.from → IsInReach e.to → e.to.x ≡ e.from.x → All IsCorner ks → HasSide w e ks (ks ++ ends_of w e)
 HasSide-vertical w e ks least greatest from to vertical corners = record {
   few = let two = length-append ks (ends_of w e) in omega (arith, two);
@@ -68,7 +68,7 @@ HasSide-vertical w e ks least greatest from to vertical corners = record {
   added = λ x y. added_by_all-append ks (ends_of w e) x y ∙ (λ t. added_by_all ks x y +ℤ added_by_all-ends w x y e vertical t);
 }
 
--- and a horizontal one needs no corners
+-- a horizontal edge needs no corners
 pub HasSide-horizontal : (w : ℤ) (e : Edge) (ks : List Corner) → IsRectilinear e → e.to.x ≢ e.from.x → All IsCorner ks → HasSide w e ks ks
 unfolding IsRectilinear across up
 HasSide-horizontal w e ks (inl horizontal) apart corners =
@@ -95,7 +95,7 @@ AreSides-more ps w n ks ls sides side = record {
       rw add-one (side.added x y ∙ (λ t. sides.added x y t +ℤ w *ℤ crossing x y e) ∙ sym (mul-add w (sum_below n (crossing_at ps x y)) (crossing x y e)));
 }
 
--- the sides of the whole cycle add nothing right of the field
+-- the sides of the complete cycle add nothing to the right of the field
 pub AreCorners-sides : (ps : List Point) (w : ℤ) (ks : List Corner) → IsRectilinearCycle ps → AreSides ps w (length ps) ks → AreCorners ks
 AreCorners-sides ps w ks cycle sides =
     let sized = cycle.reach.sized in
@@ -107,11 +107,11 @@ AreCorners-sides ps w ks cycle sides =
           sides.added (pos 4095) y ∙ ap (λ n. w *ℤ n) balanced ∙ omega (arith, ints);
     }
 
--- and add the weight times the winding number
+-- together they add the weight times the winding number
 pub AddWinding-sides : (ps : List Point) (w : ℤ) (ks : List Corner) → IsRectilinearCycle ps → AreSides ps w (length ps) ks → AddWinding ps w ks
 AddWinding-sides ps w ks cycle sides = record { added = λ x y. sides.added x y ∙ ap (λ n. w *ℤ n) (sym (winding-crossings ps x y cycle)) }
 
--- so a picture with the sides of a contour added has the weights of the step, where nothing is checked
+-- so a picture to which the sides of a contour were added has the weights of the step with the turning check off
 pub with_corners_at-contour : (ds : List Dot) (ps : List Point) (w : ℤ) (ks : List Corner) → AddWinding ps w ks → (x y : ℤ) → with_corners_at ds ks x y ≡ step_at ds (Contour ps w Off) x y
 unfolding with_corners_at contour
 with_corners_at-contour ds ps w ks adds x y = λ t. weight_at ds x y +ℤ adds.added x y t

@@ -11,7 +11,7 @@ use Rattle.mf_ops.specs.Step.{step_at}
 use Rattle.mf_ops.specs.declared.op.Op.TheVariants as ops
 use Rattle.mf_ops.specs.declared.quarter.Quarter.TheVariants.{Once, Twice, Thrice}
 
--- the other side of a column, or row, of the field is in the field
+-- the place opposite to a column, or row, of the field is in the field
 IsInField-opposite_x : (x y : ℤ) → IsInField x y → IsInField (opposite x) y
 IsInField-opposite_x x y in_field =
     let left = in_field.left in

@@ -1,7 +1,7 @@
--- The weights that a contour may be filled with (The METAFONTbook, chapter 13).
+-- The weights with which a contour may be filled (The METAFONTbook, chapter 13).
 use Rattle.std.specs.Prelude.{◌≢◌, ℤ, pos, negsuc, ◌≤ℤ◌}
 
--- -3, -2, -1, 1, 2 or 3
+-- the weight w is -3, -2, -1, 1, 2 or 3
 pub record IsContourWeight (w : ℤ) : Type 0 where
   pub least : negsuc 2 ≤ℤ w
   pub greatest : w ≤ℤ pos 3

@@ -3,26 +3,26 @@ use Rattle.std.specs.Prelude.{◌&&◌, Bool, ℤ, pos, ◌≤ℤ◌, int_le, if
 use Rattle.mf_ops.specs.declared.cull.CullRule.{CullRule}
 use Rattle.mf_ops.specs.declared.cull.CullRule.TheVariants.{Keeping, Dropping}
 
--- the weight v lies in the range from a to b, whose ends belong to it
+-- whether the weight v lies in the range from a to b, both inclusive
 abbrev pub is_within : ℤ → ℤ → ℤ → Bool
 is_within a b v = int_le a v && int_le v b
 
--- the weight that a pixel of weight v gets
+-- the weight that a cull gives to a pixel of weight v
 abbrev pub culled : CullRule → ℤ → ℤ
 culled (Keeping a b w) v = if is_within a b v then w else pos 0
 culled (Dropping a b w) v = if is_within a b v then pos 0 else w
 
--- the range from a to b has a weight, but not weight 0
+-- the range from a to b is not empty, and does not contain 0
 pub record IsRangeWithoutZero (a b : ℤ) : Type 0 where
   pub some : a ≤ℤ b
   pub not_zero : a ≤ℤ pos 0 → pos 0 ≤ℤ b → ⊥
 
--- the range from a to b has weight 0
+-- the range from a to b contains 0
 pub record IsRangeWithZero (a b : ℤ) : Type 0 where
   pub least : a ≤ℤ pos 0
   pub greatest : pos 0 ≤ℤ b
 
--- a cull is lawful where it keeps a range without 0, or drops one with 0
+-- a cull is lawful where it keeps a range without 0, or drops a range with 0
 abbrev pub IsLawfulCull : CullRule → Type 0
 IsLawfulCull (Keeping a b w) = IsRangeWithoutZero a b
 IsLawfulCull (Dropping a b w) = IsRangeWithZero a b

@@ -5,7 +5,7 @@ use Rattle.mf_ops.specs.Step.{stepped, fault_of}
 use Rattle.mf_ops.specs.declared.op.Op.{Op}
 use Rattle.mf_ops.specs.declared.op.Op.TheVariants.{Contour, Also, Cull, Shift, Scale, Quarter, Clear}
 
--- the picture after operations, in order, on the picture ds
+-- the picture that operations, performed in order, make of the picture ds
 unfoldable pub after_all : List Dot → List Op → List Dot
 after_all ds [] = ds
 after_all ds (op ∷ ops) = after_all (stepped ds op) ops
@@ -14,20 +14,20 @@ after_all ds (op ∷ ops) = after_all (stepped ds op) ops
 unfoldable pub picture_after : List Op → List Dot
 picture_after ops = after_all [] ops
 
--- its revision number: how many operations they are
+-- the revision number of a list of operations: its length
 unfoldable pub revision_after : List Op → ℕ
 revision_after ops = length ops
 
--- none of the operations, in order, is refused on the picture ds
+-- none of these operations, performed in order on the picture ds, is refused
 abbrev pub AreAcceptedOn : List Dot → List Op → Type 0
 AreAcceptedOn ds [] = Unit {0}
 AreAcceptedOn ds (op ∷ ops) = (fault_of ds op ≡ None) × AreAcceptedOn (stepped ds op) ops
 
--- none of a list of operations is refused
+-- none of these operations, performed in order on the blank picture, is refused
 pub record AreAccepted (ops : List Op) : Type 0 where
   pub steps : AreAcceptedOn [] ops
 
--- an operation that holds neither points nor pixels, so that a copy of it takes no memory
+-- the operation holds neither points nor pixels, so copying it allocates nothing
 abbrev pub HoldsNoList : Op → Type 0
 HoldsNoList (Contour ps w check) = ⊥
 HoldsNoList (Also es s) = es ≡ []

@@ -28,11 +28,11 @@ step_at ds (Scale s) x y = weight_at ds (scale_source s.x x) (scale_source s.y y
 step_at ds (Quarter q) x y = turned_by q (weight_at ds) x y
 step_at ds Clear x y = pos 0
 
--- the picture after an operation on the picture ds, be its weights lawful or not
+-- the picture after an operation on the picture ds, whether or not its weights are lawful
 unfoldable pub stepped : List Dot → Op → List Dot
 stepped ds op = picture_of (step_at ds op)
 
--- whether an operation takes a pixel out of the field; a turn takes the field to itself
+-- whether an operation takes a pixel out of the field; a turn maps the field to itself
 abbrev pub leaves : Op → Dot → Bool
 leaves (Contour ps w check) d = false
 leaves (Also es s) d = false
@@ -42,7 +42,7 @@ leaves (Scale s) d = not (stays_inside s.x (pos 0) d.x && stays_inside s.y (pos 
 leaves (Quarter q) d = false
 leaves Clear d = false
 
--- an operation that may take a pixel out of the field: a shift or a scale
+-- the operation may take a pixel out of the field: it is a shift or a scale
 abbrev pub MayLeave : Op → Type 0
 MayLeave (Contour ps w check) = ⊥
 MayLeave (Also es s) = ⊥
@@ -52,19 +52,19 @@ MayLeave (Scale s) = Unit {0}
 MayLeave (Quarter q) = ⊥
 MayLeave Clear = ⊥
 
--- an operation takes no pixel of the picture ds out of the field
+-- the operation takes no pixel of the picture ds out of the field
 pub record StaysInField (ds : List Dot) (op : Op) : Type 0 where
   pub none_leaves : list_any (leaves op) ds ≡ false
 
--- why a picture is refused for its weights, if it is
+-- the refusal of a picture for its weights, if there is one
 abbrev pub weight_fault : List Dot → Option OpFault
 weight_fault ds = if list_any (λ d. is_too_large d.weight) ds then Some WeightTooLarge else None
 
--- why an operation on the picture ds is refused for its pixels, if it is
+-- the refusal of an operation on the picture ds for its pixels, if there is one
 abbrev pub pixel_fault : List Dot → Op → Option OpFault
 pixel_fault ds op = if list_any (leaves op) ds then Some OutOfField else weight_fault (stepped ds op)
 
--- why an operation is refused for how its cycle turns, if it is: a contour under the turning check alone
+-- the refusal of an operation for the way its cycle turns, if there is one: only contours under the turning check are refused so
 abbrev pub turn_fault : Op → Option OpFault
 turn_fault (Contour ps w On) = option_map OpFault.Cycle (turning_fault ps)
 turn_fault (Contour ps w Off) = None
@@ -75,15 +75,15 @@ turn_fault (Scale s) = None
 turn_fault (Quarter q) = None
 turn_fault Clear = None
 
--- an operation is no contour, or one that its turning check lets pass
+-- the operation is not a contour, or its cycle passes its turning check
 pub record TurnsLawfully (op : Op) : Type 0 where
   pub none : turn_fault op ≡ None
 
--- why an operation on the picture ds is refused, if it is: how its cycle turns is looked at before any pixel
+-- the refusal of an operation on the picture ds, if there is one: how its cycle turns is decided before any pixel
 unfoldable pub fault_of : List Dot → Op → Option OpFault
 fault_of ds op = option_or (turn_fault op) (pixel_fault ds op)
 
--- at some pixel outside the field the weight f is not 0
+-- the weights f are not 0 at some pixel outside the field
 pub record LiesOutside (f : ℤ → ℤ → ℤ) : Type 0 where
   pub x : ℤ
   pub y : ℤ

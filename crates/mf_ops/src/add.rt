@@ -1,4 +1,4 @@
-//! Adding a picture to another, or subtracting it.
+//! Adds one picture to another, or subtracts it.
 ghost use Rattle.std.specs.Prelude.{◌≡◌, ◌≢◌, [], None, Some, IsOk, IfOk, IfErr, OnOk, OnErr};
 ghost use Rattle.mf_ops.specs.Step.{stepped, fault_of};
 ghost use Rattle.mf_ops.specs.declared.op.Op.TheVariants.{Also};
@@ -8,7 +8,8 @@ use crate::sign::Sign;
 use mf_rows::{Picture, WeightMap};
 use std::alloc::Global;
 
-/// The picture after another was added or subtracted. Where both are blank it takes no memory.
+/// Returns the picture after another one is added to it or subtracted from it. Where both are blank nothing is allocated, so that
+/// this cannot be refused.
 pub fn add(
     alloc: Global,
     picture: &Picture,
@@ -25,8 +26,8 @@ pub fn add(
     Ok(sum)
 }
 
-/// Adds another picture to a picture, or subtracts it from it. A refusal, which never comes for a blank one, leaves it as it
-/// was.
+/// Adds another picture to a picture, or subtracts it. A refusal leaves the picture as it was; adding or subtracting a blank
+/// picture is never refused.
 pub(crate) fn add_to(
     alloc: Global,
     picture: &mut Picture,
@@ -56,7 +57,8 @@ fn add_plus(alloc: Global, picture: &mut Picture, other: &Picture) -> Result<(),
     Ok(picture.add(alloc, other)?)
 }
 
-/// Subtracts another picture from a picture.
+/// Subtracts another picture from a picture. The other one is negated first and then added: this costs twice as much as a sum,
+/// but leaves one way of adding to keep right.
 fn add_minus(alloc: Global, picture: &mut Picture, other: &Picture) -> Result<(), OpFault>
     ensures step { OnOk result (picture.new ≡ stepped picture.old (Also other.now Sign.Minus)) }
     ensures unchanged { OnErr result (picture.new ≡ picture.old) }

@@ -1,4 +1,4 @@
-//! Culls: what becomes of the weights of a picture by a range of them.
+//! Culls: each pixel gets a new weight that depends on whether its old one lies in a given range.
 ghost use Rattle.std.specs.Prelude.{◌≡◌, ◌↔◌, ℤ, IsOk, IfOk};
 ghost use Rattle.mf_edges.specs.WeightMaps.{IsWeightMap, mapped_to};
 ghost use Rattle.mf_ops.specs.Cull.{IsLawfulCull, culled};
@@ -10,8 +10,8 @@ use std::error::Error;
 use std::fmt;
 use std::marker::Model;
 
-/// Refusal 8: a range of weights that the cull may not have. Its least weight is above its greatest, or 0 is in a
-/// range that is kept, or not in one that is dropped (METAFONT's "Bad culling amounts").
+/// The range of a cull is refused: its least weight is above its greatest, or it is to be kept and contains 0, or it is to be
+/// dropped and does not contain 0. METAFONT refuses such ranges with "Bad culling amounts".
 #[derive(Clone, Copy, Debug, PartialEq, Eq)]
 pub struct BadCull;
 
@@ -28,17 +28,17 @@ impl fmt::Display for BadCull {
 
 impl Error for BadCull {}
 
-/// What a cull makes of weights, by a range from a least to a greatest weight, both of which belong to it.
+/// What a cull makes of a weight. The two numbers are the least and the greatest weight of its range, both inclusive.
 #[derive(Clone, Copy, Debug, PartialEq, Eq)]
 pub(crate) enum CullRule {
-    /// Weights in the range become the weight, and all others 0.
+    /// Weights in the range become this weight, and all others become 0.
     Keeping(i32, i32, Weight),
-    /// Weights in the range become 0, and all others the weight.
+    /// Weights in the range become 0, and all others become this weight.
     Dropping(i32, i32, Weight),
 }
 
-/// A cull, METAFONT's `cull p keeping (a, b) withweight w` or `cull p dropping (a, b) withweight w` (The
-/// METAFONTbook, chapter 13). It leaves pixels of weight 0 at 0.
+/// A cull: METAFONT's `cull p keeping (a, b) withweight w` or `cull p dropping (a, b) withweight w` (The METAFONTbook, chapter
+/// 13). Pixels of weight 0 keep weight 0.
 #[derive(Clone, Copy, Debug, PartialEq, Eq)]
 pub struct Cull {
     rule: CullRule,
@@ -58,8 +58,8 @@ impl Model for Cull {
 }
 
 impl Cull {
-    /// The cull that keeps the weights in `low..=high`: these become the weight, and all others 0. Refused
-    /// with BadCull (8) where `low` is greater than `high`, and where 0 is in the range.
+    /// The cull that keeps the weights in `low..=high`: these become `weight`, and all others become 0. Refused with `BadCull`
+    /// where `low` is greater than `high`, and where the range contains 0.
     pub fn keeping(low: i32, high: i32, weight: Weight) -> Result<Cull, BadCull>
         ensures accepted { IsOk result ↔ IsLawfulCull (Keeping low high weight) }
         ensures value { IfOk result (λ cull. cull ≡ Keeping low high weight) }
@@ -72,8 +72,8 @@ impl Cull {
         })
     }
 
-    /// The cull that drops the weights in `low..=high`: these become 0, and all others the weight. Refused
-    /// with BadCull (8) where 0 is not in the range, which it never is where `low` is greater than `high`.
+    /// The cull that drops the weights in `low..=high`: these become 0, and all others become `weight`. Refused with `BadCull`
+    /// where the range does not contain 0; a range with `low` greater than `high` never does.
     pub fn dropping(low: i32, high: i32, weight: Weight) -> Result<Cull, BadCull>
         ensures accepted { IsOk result ↔ IsLawfulCull (Dropping low high weight) }
         ensures value { IfOk result (λ cull. cull ≡ Dropping low high weight) }
@@ -86,7 +86,7 @@ impl Cull {
         })
     }
 
-    /// What it makes of each weight.
+    /// The map from old to new weights that this cull applies to each pixel.
     pub(crate) fn weight_map(&self) -> WeightMap
         ensures lawful { IsWeightMap result }
         ensures value { (v : ℤ) → mapped_to result v ≡ culled self.now v }

@@ -1,4 +1,4 @@
-//! Filling a contour: the vertical edges of its cycle become corners, which are added to the picture.
+//! Filling a contour: the vertical edges of its cycle become corners, and these are added to the picture.
 ghost use Rattle.std.specs.Prelude.{◌≡◌, ◌≢◌, None, Some, Err, IfOk, IfErr, OnOk, OnErr, pos, negsuc, ◌*ℤ◌, ◌≤ℤ◌, All};
 ghost use Rattle.std.specs.Int.{int_signum};
 ghost use Rattle.mf_geom.specs.Path.{IsInReach, IsRectilinear};
@@ -18,7 +18,7 @@ use mf_geom::{Check, Cycle, CycleFault, OutOfMemory, Point};
 use mf_rows::{Corner, Picture};
 use std::alloc::Global;
 
-/// The picture after a contour with this weight was filled in.
+/// Returns the picture after a contour is filled into it with this weight.
 pub fn fill(
     alloc: Global,
     picture: &Picture,
@@ -37,7 +37,7 @@ pub fn fill(
     }
 }
 
-/// Fills a contour with this weight into a picture, which a refusal leaves as it was.
+/// Fills a contour into a picture with this weight. A refusal leaves the picture as it was.
 pub(crate) fn fill_in(
     alloc: Global,
     picture: &mut Picture,
@@ -57,7 +57,9 @@ pub(crate) fn fill_in(
     }
 }
 
-/// The weight with which a cycle is filled, once the turning check, if it is on, has let it pass.
+/// The weight with which a cycle is filled: the given one where the turning check is off, else the one that the check makes of
+/// it. How the cycle turns is decided here, before anything is allocated, so that `OutOfMemory` never comes instead of a refusal
+/// of the check.
 fn filling_weight(cycle: &Cycle, weight: Weight, check: Check) -> Result<i32, CycleFault>
     ensures value { IfOk result (λ filling. filling ≡ filling_weight check cycle.now weight) }
     ensures least { IfOk result (λ filling. negsuc 2 ≤ℤ filling) }
@@ -71,7 +73,7 @@ fn filling_weight(cycle: &Cycle, weight: Weight, check: Check) -> Result<i32, Cy
     }
 }
 
-/// The weight, negated where the cycle turns clockwise.
+/// The weight, negated where the cycle turns clockwise. Refused where the cycle turns straight back, or has turning number 0.
 fn turned_weight(cycle: &Cycle, weight: Weight) -> Result<i32, CycleFault>
     ensures value { IfOk result (λ turned. turned ≡ weight *ℤ int_signum (turning cycle.now)) }
     ensures least { IfOk result (λ turned. negsuc 2 ≤ℤ turned) }
@@ -86,7 +88,7 @@ fn turned_weight(cycle: &Cycle, weight: Weight) -> Result<i32, CycleFault>
     }
 }
 
-/// The weight, negated where the turning number is below 0, and 0 where that is 0.
+/// The weight, negated where the turning number is negative, and 0 where it is 0.
 fn with_sign_of(turning: i32, weight: Weight) -> i32
     ensures value { result ≡ weight *ℤ int_signum turning }
     ensures least { negsuc 2 ≤ℤ result }
@@ -95,7 +97,8 @@ fn with_sign_of(turning: i32, weight: Weight) -> i32
     weight.get() * turning.signum()
 }
 
-/// The picture with the weight times the winding number of the cycle added to each pixel, as by a contour that is not checked.
+/// Returns the picture with the weight times the winding number of the cycle added to each pixel, as by a contour with the
+/// turning check off.
 fn with_sides(
     alloc: Global,
     picture: &Picture,
@@ -113,7 +116,7 @@ fn with_sides(
     Ok(filled)
 }
 
-/// Adds to each pixel of a picture the weight times the winding number of the cycle, as a contour does that is not checked.
+/// Adds the weight times the winding number of the cycle to each pixel of a picture, as by a contour with the turning check off.
 /// A refusal leaves the picture as it was.
 fn add_sides(
     alloc: Global,
@@ -132,7 +135,7 @@ fn add_sides(
     Ok(picture.add_corners(alloc, corners)?)
 }
 
-/// Corners that add to each pixel the weight times the winding number of the cycle.
+/// The corners that add the weight times the winding number of the cycle to each pixel.
 fn corners_of(alloc: Global, cycle: &Cycle, weight: i32) -> Result<Vec<Corner>, OutOfMemory>
     requires least { negsuc 2 ≤ℤ weight }
     requires greatest { weight ≤ℤ pos 3 }
@@ -148,7 +151,7 @@ fn corners_of(alloc: Global, cycle: &Cycle, weight: i32) -> Result<Vec<Corner>, 
     Ok(corners)
 }
 
-/// Appends the corners of an edge: two where it is vertical, and none where it is horizontal.
+/// Appends the corners of an edge of the path: two where it is vertical, and none where it is horizontal.
 fn push_side(
     corners: &mut Vec<Corner>,
     from: Point,

@@ -1,4 +1,5 @@
-//! Laws of the definitions: each is the contract of a function that does nothing.
+//! Laws of the definitions. Each is the contract of a function that does nothing, because the toolchain proves a statement only
+//! where the contract of a function names it.
 ghost use Rattle.std.specs.Prelude.{◌≡◌, ◌≢◌, ◌↔◌, false, ℤ, pos, negsuc, neg_ℤ, ◌*ℤ◌, ◌-ℤ◌, ◌≤ℤ◌, ◌+◌, List, [], ◌∷◌, ◌++◌, Some, None};
 ghost use Rattle.std.specs.Int.{int_signum};
 ghost use Rattle.std.specs.Int.RustNames.{unsigned_abs};
@@ -30,8 +31,9 @@ ghost use Rattle.mf_ops.specs.declared.quarter.Quarter.{Quarter};
 
 use mf_geom::laws::nothing_outside_the_field;
 
-/// An operation whose cycle turns lawfully, if it has one, and that takes no pixel of a picture out of the field is refused
-/// exactly where the weight of some pixel of the field would pass 32767 in size.
+/// Take an operation that passes the turning check (as every operation but a contour does) and takes no pixel of the picture out
+/// of the field. It is refused exactly where the weight of some pixel of the field would exceed 32767 in absolute value, with
+/// `WeightTooLarge`.
 pub fn refused_where_too_large()
     ensures refused { (ds : List Dot) (op : Op) → TurnsLawfully op → StaysInField ds op → IsTooLargeSomewhere (step_at ds op) →
         fault_of ds op ≡ Some WeightTooLarge }
@@ -41,8 +43,9 @@ pub fn refused_where_too_large()
         TurnsLawfully op × StaysInField ds op × IsTooLargeSomewhere (step_at ds op) }
 {}
 
-/// A contour under the turning check is refused for its cycle exactly where that turns straight back, with the first such
-/// vertex, or else has turning number 0, be its pixels as they may. No other operation is refused for a cycle.
+/// A contour under the turning check is refused for its cycle exactly where the cycle turns straight back (with the first vertex
+/// at which it does) or, failing that, where its turning number is 0, whatever its pixels are. No other operation is refused for
+/// a cycle.
 pub fn refused_where_it_turns_back()
     ensures checked { (ds : List Dot) (ps : List Point) (w : ℤ) (fault : CycleFault) → IsRectilinearCycle ps →
         (fault_of ds (Contour ps w On) ≡ Some (OpFault.Cycle fault)) ↔ IsFault ps fault }
@@ -50,9 +53,9 @@ pub fn refused_where_it_turns_back()
     ensures lawful { (ds : List Dot) (op : Op) (fault : CycleFault) → TurnsLawfully op → fault_of ds op ≢ Some (OpFault.Cycle fault) }
 {}
 
-/// A shift or a scale is refused with OutOfField exactly where some pixel outside the field would have a weight
-/// other than 0. No other operation is refused so, or gives a pixel outside the field a weight: a contour, a picture
-/// that is added or subtracted, a lawful cull, a turn, a clear.
+/// A shift or a scale is refused with `OutOfField` exactly where some pixel outside the field would get a nonzero weight.
+/// Contours, sums and differences of pictures, lawful culls, turns and clears give no pixel outside the field a weight, and are
+/// never refused with `OutOfField`.
 pub fn refused_where_a_pixel_leaves()
     ensures shift { (ds : List Dot) (dx dy : ℤ) → IsPicture ds →
         (fault_of ds (Shift dx dy) ≡ Some OutOfField) ↔ LiesOutside (step_at ds (Shift dx dy)) }
@@ -72,8 +75,8 @@ pub fn refused_where_a_pixel_leaves()
     nothing_outside_the_field();
 }
 
-/// A clear, a turn of a picture and a cull with a lawful weight are never refused; a shift or a scale of a picture
-/// never is for its weights, and a contour or another picture never because a pixel leaves.
+/// A clear, a turn of a picture, and a cull with a lawful weight are never refused. A shift or a scale of a picture is never
+/// refused for its weights. A contour, or adding or subtracting a picture, is never refused because a pixel leaves the field.
 pub fn never_refused()
     ensures clear { (ds : List Dot) → fault_of ds Clear ≡ None }
     ensures turn { (ds : List Dot) (q : Quarter) → IsPicture ds → fault_of ds (ops.Quarter q) ≡ None }
@@ -85,22 +88,22 @@ pub fn never_refused()
     ensures also { (ds es : List Dot) (s : Sign) → fault_of ds (Also es s) ≢ Some OutOfField }
 {}
 
-/// Under a scale each column, or row, comes from exactly one: the part of the axis to which the scale takes that
-/// one has it.
+/// Under a scale each column, or row, comes from exactly one: it lies in the part of the axis to which the scale takes its
+/// source, and in no other part.
 pub fn one_source_under_a_scale()
     ensures covered { (f q : ℤ) → IsFactor f → HasPlace f (scale_source f q) q }
     ensures only { (f p q : ℤ) → IsFactor f → HasPlace f p q → scale_source f q ≡ p }
 {}
 
-/// Four turns by 90 degrees leave each weight in its place, and so do two reflections in one line.
+/// Four turns by 90 degrees leave each weight in its place, and so do two reflections in the same line.
 pub fn turns_and_reflections_return()
     ensures turns { (f : ℤ → ℤ → ℤ) (x y : ℤ) → turned (turned (turned (turned f))) x y ≡ f x y }
     ensures reflections { (q : ℤ) → scale_source (negsuc 0) (scale_source (negsuc 0) q) ≡ q }
     ensures reflection { (q : ℤ) → scale_source (negsuc 0) q ≡ neg_ℤ q -ℤ pos 1 }
 {}
 
-/// A shift, a turn and a reflection keep the total weight, and a scale multiplies it by the size of the product of
-/// its factors, where they are not refused.
+/// A shift, a turn and a reflection keep the total weight. A scale multiplies it by the absolute value of the product of its
+/// factors. For shifts and scales this holds where they are not refused.
 pub fn totals_after_moves()
     ensures shift { (ds : List Dot) (dx dy : ℤ) → IsPicture ds → fault_of ds (Shift dx dy) ≡ None →
         total_of (stepped ds (Shift dx dy)) ≡ total_of ds }
@@ -110,8 +113,8 @@ pub fn totals_after_moves()
         total_of (stepped ds (Scale s)) ≡ pos (unsigned_abs (s.x *ℤ s.y)) *ℤ total_of ds }
 {}
 
-/// The total weight of a blank picture after a contour is the contour's weight times its signed area, under the turning check
-/// also times the sign of its turning number.
+/// The total weight of a blank picture after a contour is filled in is the contour's weight times its signed area. Under the
+/// turning check it is also multiplied by the sign of the turning number.
 pub fn total_of_a_contour()
     ensures checked { (ps : List Point) (w : ℤ) → IsRectilinearCycle ps →
         total_of (stepped [] (Contour ps w On)) ≡ (w *ℤ int_signum (turning ps)) *ℤ area ps }
@@ -119,27 +122,27 @@ pub fn total_of_a_contour()
         total_of (stepped [] (Contour ps w Off)) ≡ w *ℤ area ps }
 {}
 
-/// The picture after an operation has exactly the weights of its step at each pixel of the field, and is a
-/// picture where the operation is not refused.
+/// The picture after an operation has exactly the weights of its step at each pixel of the field. It is a lawful picture where
+/// the operation is not refused.
 pub fn step_has_its_weights()
     ensures weights { (ds : List Dot) (op : Op) (x y : ℤ) → IsInField x y → weight_at (stepped ds op) x y ≡ step_at ds op x y }
     ensures lawful { (ds : List Dot) (op : Op) → fault_of ds op ≡ None → IsPicture (stepped ds op) }
 {}
 
-/// The lawful culls are those of a range of weights (from its least to its greatest) that leave pixels of
-/// weight 0 at 0 (The METAFONTbook, chapter 13), whatever other weight they give.
+/// The lawful culls are exactly those of a range of weights, from a least to a greatest, that leave pixels of weight 0 at 0 (The
+/// METAFONTbook, chapter 13), whatever nonzero weight they give to the others.
 pub fn lawful_culls_keep_zero()
     ensures keeping { (a b w : ℤ) → w ≢ pos 0 → IsLawfulCull (Keeping a b w) ↔ ((a ≤ℤ b) × (culled (Keeping a b w) (pos 0) ≡ pos 0)) }
     ensures dropping { (a b w : ℤ) → w ≢ pos 0 → IsLawfulCull (Dropping a b w) ↔ ((a ≤ℤ b) × (culled (Dropping a b w) (pos 0) ≡ pos 0)) }
 {}
 
-/// A picture subtracted from itself leaves the blank one.
+/// A picture subtracted from itself leaves the blank picture.
 pub fn subtracted_from_itself()
     ensures { (ds : List Dot) → stepped ds (Also ds Minus) ≡ [] }
 {}
 
-/// The picture of no operation is blank, and that of one operation more is the step from the picture before
-/// it; it is a picture where none of the operations is refused. The revision number counts them.
+/// The picture of no operations is blank, and the picture of one more operation is the step from the picture before it. It is a
+/// lawful picture where none of the operations is refused. The revision number counts the operations.
 pub fn picture_of_operations()
     ensures none { picture_after [] ≡ [] }
     ensures more { (ops : List Op) (op : Op) → picture_after (ops ++ op ∷ []) ≡ stepped (picture_after ops) op }
@@ -148,7 +151,8 @@ pub fn picture_of_operations()
     ensures next_revision { (ops : List Op) (op : Op) → revision_after (ops ++ op ∷ []) ≡ revision_after ops + 1 }
 {}
 
-/// A list of operations is accepted where all but the last are, and the last is not refused on their picture.
+/// A list of operations is accepted exactly where all but the last are accepted, and the last one is not refused on the picture
+/// that they make.
 pub fn accepted_one_by_one()
     ensures none { AreAccepted [] }
     ensures more { (ops : List Op) (op : Op) → AreAccepted (ops ++ op ∷ []) ↔ (AreAccepted ops × (fault_of (picture_after ops) op ≡ None)) }

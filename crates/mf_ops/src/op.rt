@@ -1,4 +1,4 @@
-//! Operations on pictures, and what they make of a picture.
+//! Operations on pictures, and what they do to a picture.
 ghost use Rattle.std.specs.Prelude.{◌≡◌, ◌≢◌, [], None, Some, Err, IsOk, IfOk, IfErr, OnOk, OnErr};
 ghost use Rattle.mf_geom.specs.declared.cycle.CycleFault.{CycleFault};
 ghost use Rattle.mf_ops.specs.Operations.{HoldsNoList};
@@ -24,23 +24,22 @@ use std::fmt;
 /// An operation that changes a picture.
 #[derive(Debug, Drop)]
 pub enum Op {
-    /// `addto p contour c withweight w` under a turning check: adds to each pixel the weight times the winding number of
-    /// the cycle round it, under `On` negated where the cycle turns clockwise (The METAFONTbook, chapter 13).
+    /// `addto p contour c withweight w` under a turning check: adds to each pixel the weight times the winding number of the
+    /// cycle around that pixel. Under `On` the weight is negated where the cycle turns clockwise (The METAFONTbook, chapter 13).
     Contour(Cycle, Weight, Check),
-    /// `addto p also q` and `addto p also -q`: adds to each pixel its weight in another picture, or that
-    /// weight negated. The other picture may be a copy of the changed one.
+    /// `addto p also q` and `addto p also -q`: adds to each pixel its weight in another picture, or subtracts that weight. The
+    /// other picture may be a copy of the one that is changed.
     Also(Picture, Sign),
-    /// `cull p keeping (a, b) withweight w` and `cull p dropping (a, b) withweight w`: gives each pixel the
-    /// weight or 0, by the range in which its weight lies.
+    /// `cull p keeping (a, b) withweight w` and `cull p dropping (a, b) withweight w`: gives each pixel either the weight of the
+    /// cull or 0, depending on whether its own weight lies in the range.
     Cull(Cull),
-    /// `p := p shifted (dx, dy)`: moves each pixel by `dx` columns to the right and `dy` rows upwards, which may be
-    /// any numbers.
+    /// `p := p shifted (dx, dy)`: moves each pixel by `dx` columns to the right and `dy` rows upwards. Both may be any `i32`.
     Shift(i32, i32),
-    /// `p := p xscaled sx`, `yscaled sy`, `scaled s`: stretches each pixel by whole factors. A negative factor
-    /// reflects: with -1 column x becomes column -x - 1.
+    /// `p := p xscaled sx`, `yscaled sy`, `scaled s`: stretches each pixel by whole factors. A negative factor also reflects: the
+    /// factor -1 takes column x to column -x - 1.
     Scale(Scale),
-    /// `p := p rotated d` for quarter turns counterclockwise round the point (0, 0): by 90 degrees the pixel
-    /// (x, y) becomes the pixel (-y - 1, x).
+    /// `p := p rotated d` for quarter turns counterclockwise about the point (0, 0): 90 degrees takes the pixel (x, y) to the
+    /// pixel (-y - 1, x).
     Quarter(Quarter),
     /// `p := nullpicture`: every weight becomes 0.
     Clear,
@@ -49,13 +48,14 @@ pub enum Op {
 /// Why an operation is refused.
 #[derive(Clone, Copy, Debug, PartialEq, Eq)]
 pub enum OpFault {
-    /// Refusals 5 and 6: under the turning check, the cycle of a contour turns straight back, or has turning number 0.
+    /// The turning check is on, and the cycle of a contour turns straight back (`Backtracks`) or has turning number 0
+    /// (`TurningZero`).
     Cycle(CycleFault),
-    /// Refusal 11: a pixel of nonzero weight would leave the field.
+    /// A pixel of nonzero weight would leave the field, columns and rows -4095..4094.
     OutOfField,
-    /// Refusal 12: a weight would pass 32767 in size.
+    /// A weight would exceed 32767 in absolute value.
     WeightTooLarge,
-    /// Refusal 14. It may come in the place of 12, never of 5, 6 or 11.
+    /// An allocation failed. This may come instead of `WeightTooLarge`, but never instead of `Cycle` or `OutOfField`.
     OutOfMemory,
 }
 
@@ -103,8 +103,8 @@ impl From<AddFault> for OpFault {
 }
 
 impl Op {
-    /// The same operation again. Refusal OutOfMemory (14), for a contour and for another picture that is not blank
-    /// alone: nothing was made then.
+    /// Returns a copy of the operation. Refused with `OutOfMemory` where an allocation fails. Only a contour, and adding or
+    /// subtracting a picture that is not blank, can be refused.
     pub fn copy(&self, alloc: Global) -> Result<Op, OutOfMemory>
         ensures value { IfOk result (λ copy. copy ≡ self.now) }
         ensures copied { HoldsNoList self.now → IsOk result }
@@ -123,11 +123,15 @@ impl Op {
     }
 }
 
-/// The picture after an operation; the given one is unchanged. Refusals of a contour under the turning check, Backtracks
-/// (5), with the first vertex at which its cycle turns straight back, else TurningZero (6); then OutOfField (11), exactly
-/// where a pixel of nonzero weight would leave the field, else WeightTooLarge (12), exactly where the weight of a pixel would
-/// pass 32767 in size, and OutOfMemory (14), which may come in the place of WeightTooLarge alone. A clear is never refused,
-/// nor is a cull of a blank picture, or a blank picture that is added to one or subtracted from it.
+/// Returns the picture after an operation; the given one is unchanged. The refusals, in this order:
+///
+/// - `Backtracks`, of a contour under the turning check, with the first vertex at which its cycle turns straight back;
+/// - `TurningZero`, of a contour under the turning check, where the turning number of its cycle is 0;
+/// - `OutOfField`, exactly where a pixel of nonzero weight would leave the field;
+/// - `WeightTooLarge`, exactly where the weight of some pixel would exceed 32767 in absolute value;
+/// - `OutOfMemory`, where an allocation fails. It may come instead of `WeightTooLarge`, but of none of the others.
+///
+/// A clear is never refused, nor is a cull of a blank picture, nor adding a blank picture to a blank one or subtracting it.
 #[tactic(auto, using(crate::proofs::Faults::contour_not_out, crate::proofs::Faults::also_not_out, crate::proofs::Faults::cull_not_out, crate::proofs::Faults::quarter_not_out, crate::proofs::Faults::clear_not_out, crate::proofs::Faults::also_turns, crate::proofs::Faults::cull_turns, crate::proofs::Faults::shift_turns, crate::proofs::Faults::scale_turns, crate::proofs::Faults::quarter_turns, crate::proofs::Faults::clear_turns))]
 pub fn after(alloc: Global, picture: &Picture, op: &Op) -> Result<Picture, OpFault>
     ensures step { IfOk result (λ new. new ≡ stepped picture.now op.now) }
@@ -150,8 +154,8 @@ pub fn after(alloc: Global, picture: &Picture, op: &Op) -> Result<Picture, OpFau
     }
 }
 
-/// Performs an operation on a picture: contours and other pictures are added to it in place. Refusals are those of
-/// `after`, and leave it as it was. A blank picture that is added or subtracted is never refused.
+/// Performs an operation on a picture. Contours and other pictures are added to it in place. The refusals are those of `after`,
+/// and leave the picture as it was. Adding or subtracting a blank picture is never refused.
 #[tactic(auto, using(crate::proofs::Faults::contour_not_out, crate::proofs::Faults::also_not_out, crate::proofs::Faults::also_turns))]
 pub fn apply(alloc: Global, picture: &mut Picture, op: &Op) -> Result<(), OpFault>
     ensures step { OnOk result (picture.new ≡ stepped picture.old op.now) }
@@ -184,7 +188,7 @@ fn after_cull(alloc: Global, picture: &Picture, cull: Cull) -> Result<Picture, O
     Ok(picture.map_weights(alloc, &cull.weight_map())?)
 }
 
-/// The picture after it was cleared.
+/// The picture after a clear: the blank one.
 fn after_clear(alloc: Global, picture: &Picture) -> Picture
     ensures step { result ≡ stepped picture.now ops.Clear }
     ensures accepted { fault_of picture.now ops.Clear ≡ None }

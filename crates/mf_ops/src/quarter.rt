@@ -1,11 +1,11 @@
-//! Turns by quarters of a circle.
+//! Turns by multiples of 90 degrees.
 ghost use Rattle.std.specs.Prelude.{◌≡◌, ◌↔◌, ◌⊎◌, IsOk, IfOk, pos};
 ghost use Rattle.mf_ops.specs.Moves.{degrees};
 
 use std::error::Error;
 use std::fmt;
 
-/// Refusal 10: an angle other than 90, 180 and 270 degrees.
+/// An angle other than 90, 180 and 270 degrees.
 #[derive(Clone, Copy, Debug, PartialEq, Eq)]
 pub struct BadTurn;
 
@@ -22,8 +22,8 @@ impl fmt::Display for BadTurn {
 
 impl Error for BadTurn {}
 
-/// Quarter turns counterclockwise round the point (0, 0): METAFONT's `rotated` (The METAFONTbook, chapter 15) for
-/// these angles.
+/// A turn by 90, 180 or 270 degrees counterclockwise about the point (0, 0): METAFONT's `rotated` (The METAFONTbook, chapter 15)
+/// for these angles.
 #[derive(Clone, Copy, Debug, PartialEq, Eq)]
 pub enum Quarter {
     /// By 90 degrees.
@@ -35,7 +35,7 @@ pub enum Quarter {
 }
 
 impl Quarter {
-    /// The turn by 90, 180 or 270 degrees. Any other angle is refused with BadTurn (10).
+    /// The turn by an angle of 90, 180 or 270 degrees. Any other angle is refused with `BadTurn`.
     pub fn new(angle: i32) -> Result<Quarter, BadTurn>
         ensures accepted { IsOk result ↔ ((angle ≡ pos 90) ⊎ (angle ≡ pos 180) ⊎ (angle ≡ pos 270)) }
         ensures value { IfOk result (λ quarter. degrees quarter ≡ angle) }

@@ -1,4 +1,4 @@
-//! Scales by two whole factors.
+//! Scales by two integer factors.
 ghost use Rattle.std.specs.Prelude.{◌≡◌, ◌↔◌, IsOk, IfOk, IsTrue};
 ghost use Rattle.mf_ops.specs.Moves.{AreFactors, IsFactor};
 
@@ -7,10 +7,10 @@ use std::error::Error;
 use std::fmt;
 use std::marker::Model;
 
-/// Greatest size of a factor: a greater one would take each pixel out of the field.
+/// The greatest absolute value of a factor. A greater one would take every pixel out of the field.
 const MAX_FACTOR: i32 = MAX_COORDINATE;
 
-/// Refusal 9: a factor that is 0 or not in -4095..4095.
+/// A factor that is 0, or not in -4095..4095.
 #[derive(Clone, Copy, Debug, PartialEq, Eq)]
 pub struct BadScale;
 
@@ -27,8 +27,8 @@ impl fmt::Display for BadScale {
 
 impl Error for BadScale {}
 
-/// The factors of a scale, METAFONT's `xscaled`, `yscaled` and `scaled` (The METAFONTbook, chapter 15) for whole
-/// numbers in -4095..4095 that are not 0. A negative factor reflects, too.
+/// The factors of a scale: METAFONT's `xscaled`, `yscaled` and `scaled` (The METAFONTbook, chapter 15) for nonzero integers in
+/// -4095..4095. A negative factor also reflects.
 #[derive(Clone, Copy, Debug, PartialEq, Eq)]
 pub struct Scale {
     x: i32,
@@ -48,8 +48,8 @@ impl Model for Scale {
 }
 
 impl Scale {
-    /// The scale by these factors, of columns and of rows. Refused with BadScale (9) where one of them is 0 or
-    /// not in -4095..4095.
+    /// The scale by these factors, `x` of columns and `y` of rows. Refused with `BadScale` where one of them is 0 or not in
+    /// -4095..4095.
     pub fn new(x: i32, y: i32) -> Result<Scale, BadScale>
         ensures accepted { IsOk result ↔ AreFactors (record { x = x; y = y }) }
         ensures value { IfOk result (λ scale. scale ≡ record { x = x; y = y }) }

@@ -1,4 +1,4 @@
-//! Signs of pictures that are added.
+//! The sign with which a picture is added to another.
 
 /// Whether a picture is added or subtracted: METAFONT's `also p` and `also -p`.
 #[derive(Clone, Copy, Debug, PartialEq, Eq)]

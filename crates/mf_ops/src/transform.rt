@@ -16,10 +16,10 @@ use mf_geom::{MAX_COORDINATE, OutOfMemory};
 use mf_rows::{Picture, Stretch};
 use std::alloc::Global;
 
-/// Greatest size of a coordinate, in the integers in which moved points are worked out.
+/// The greatest absolute value of a coordinate, as an `i64`: moved points are computed in 64 bits, so that nothing overflows.
 const REACH: i64 = MAX_COORDINATE as i64;
 
-/// The picture after a shift, by columns to the right and by rows upwards.
+/// Returns the picture shifted to the right by `right` columns and upwards by `up` rows.
 pub fn shift(alloc: Global, picture: &Picture, right: i32, up: i32) -> Result<Picture, OpFault>
     ensures step { IfOk result (λ new. new ≡ stepped picture.now (ops.Shift right up)) }
     ensures accepted { OnOk result (fault_of picture.now (ops.Shift right up) ≡ None) }
@@ -34,7 +34,7 @@ pub fn shift(alloc: Global, picture: &Picture, right: i32, up: i32) -> Result<Pi
     Ok(picture.stretch(alloc, &columns, &rows)?)
 }
 
-/// The picture after a scale: where a factor is negative, it is reflected first.
+/// Returns the picture scaled by two factors. Where a factor is negative, the picture is reflected first and then stretched.
 pub fn scale(alloc: Global, picture: &Picture, scale: Scale) -> Result<Picture, OpFault>
     ensures step { IfOk result (λ new. new ≡ stepped picture.now (ops.Scale scale)) }
     ensures accepted { OnOk result (fault_of picture.now (ops.Scale scale) ≡ None) }
@@ -49,7 +49,7 @@ pub fn scale(alloc: Global, picture: &Picture, scale: Scale) -> Result<Picture, 
     Ok(reflected.stretch(alloc, &stretch(x.abs(), 0), &stretch(y.abs(), 0))?)
 }
 
-/// The picture after a turn.
+/// Returns the picture turned counterclockwise by 90, 180 or 270 degrees about the point (0, 0).
 pub fn turn(alloc: Global, picture: &Picture, quarter: Quarter) -> Result<Picture, OpFault>
     ensures step { IfOk result (λ new. new ≡ stepped picture.now (ops.Quarter quarter)) }
     ensures accepted { OnOk result (fault_of picture.now (ops.Quarter quarter) ≡ None) }
@@ -62,7 +62,7 @@ pub fn turn(alloc: Global, picture: &Picture, quarter: Quarter) -> Result<Pictur
     }
 }
 
-/// The picture after a turn by 90 degrees.
+/// Returns the picture turned by 90 degrees.
 fn turn_once(alloc: Global, picture: &Picture) -> Result<Picture, OpFault>
     ensures step { IfOk result (λ new. new ≡ stepped picture.now (ops.Quarter Quarter.Once)) }
     ensures accepted { OnOk result (fault_of picture.now (ops.Quarter Quarter.Once) ≡ None) }
@@ -71,7 +71,7 @@ fn turn_once(alloc: Global, picture: &Picture) -> Result<Picture, OpFault>
     Ok(picture.turn(alloc)?)
 }
 
-/// The picture after a turn by 180 degrees.
+/// Returns the picture turned by 180 degrees: both reflections.
 fn turn_twice(alloc: Global, picture: &Picture) -> Result<Picture, OpFault>
     ensures step { IfOk result (λ new. new ≡ stepped picture.now (ops.Quarter Quarter.Twice)) }
     ensures accepted { OnOk result (fault_of picture.now (ops.Quarter Quarter.Twice) ≡ None) }
@@ -80,7 +80,7 @@ fn turn_twice(alloc: Global, picture: &Picture) -> Result<Picture, OpFault>
     Ok(reflect(alloc, picture, true, true)?)
 }
 
-/// The picture after a turn by 270 degrees: by 90 and then by 180.
+/// Returns the picture turned by 270 degrees: by 90 and then by 180.
 fn turn_thrice(alloc: Global, picture: &Picture) -> Result<Picture, OpFault>
     ensures step { IfOk result (λ new. new ≡ stepped picture.now (ops.Quarter Quarter.Thrice)) }
     ensures accepted { OnOk result (fault_of picture.now (ops.Quarter Quarter.Thrice) ≡ None) }
@@ -90,7 +90,7 @@ fn turn_thrice(alloc: Global, picture: &Picture) -> Result<Picture, OpFault>
     Ok(reflect(alloc, &turned, true, true)?)
 }
 
-/// The picture with its columns, its rows, or both on the other side of 0.
+/// Returns the picture reflected in the line between columns -1 and 0, in the line between rows -1 and 0, or in both.
 fn reflect(
     alloc: Global,
     picture: &Picture,
@@ -108,7 +108,8 @@ fn reflect(
     }
 }
 
-/// Whether all pixels of nonzero weight lie in the field after the columns and the rows were stretched.
+/// Whether all pixels of nonzero weight lie in the field after the columns and the rows are stretched. The least box decides:
+/// where the pixels at its sides stay in the field, all pixels do. Finding it allocates nothing.
 fn stays_inside(picture: &Picture, columns: &Stretch, rows: &Stretch) -> bool
     ensures { IsTrue result ↔ PixelsStayInside columns.now rows.now picture.now }
 {
@@ -123,7 +124,7 @@ fn stays_inside(picture: &Picture, columns: &Stretch, rows: &Stretch) -> bool
     }
 }
 
-/// Whether both ends of a column, or row, lie in reach after a stretch.
+/// Whether both ends of a column, or row, lie in -4095..4095 after a stretch.
 fn lies_inside(stretch: &Stretch, place: i32) -> bool
     requires least { negsuc 4094 ≤ℤ place }
     requires greatest { place ≤ℤ pos 4094 }
@@ -132,7 +133,7 @@ fn lies_inside(stretch: &Stretch, place: i32) -> bool
     is_in_reach(stretch, place) && is_in_reach(stretch, place + 1)
 }
 
-/// Whether a point lies in reach after a stretch.
+/// Whether a point lies in -4095..4095 after a stretch.
 fn is_in_reach(stretch: &Stretch, point: i32) -> bool
     requires least { negsuc 4094 ≤ℤ point }
     requires greatest { point ≤ℤ pos 4095 }
@@ -142,7 +143,7 @@ fn is_in_reach(stretch: &Stretch, point: i32) -> bool
     -REACH <= new && new <= REACH
 }
 
-/// The stretch by this factor and then by this offset.
+/// The stretch that multiplies by `factor` and then adds `offset`.
 fn stretch(factor: i32, offset: i32) -> Stretch
     ensures { result ≡ record { factor = factor; offset = offset } }
 {

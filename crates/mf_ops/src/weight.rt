@@ -1,11 +1,11 @@
-//! The weights that a contour may be filled with.
+//! The weights with which a contour may be filled.
 ghost use Rattle.std.specs.Prelude.{◌≡◌, ◌↔◌, IsOk, IfOk};
 
 use std::error::Error;
 use std::fmt;
 use std::marker::Model;
 
-/// Refusal 7: a weight other than -3, -2, -1, 1, 2 and 3.
+/// A weight other than -3, -2, -1, 1, 2 and 3.
 #[derive(Clone, Copy, Debug, PartialEq, Eq)]
 pub struct BadWeight;
 
@@ -44,7 +44,7 @@ impl Model for Weight {
 impl Weight {
     ghost use Rattle.mf_ops.specs.ContourWeight.{IsContourWeight};
 
-    /// The weight of this number; any other number is refused with BadWeight (7).
+    /// The weight with this number. Any number but -3, -2, -1, 1, 2 and 3 is refused with `BadWeight`.
     pub fn new(weight: i32) -> Result<Weight, BadWeight>
         ensures accepted { IsOk result ↔ IsContourWeight weight }
         ensures value { IfOk result (λ made. made ≡ weight) }
@@ -55,7 +55,7 @@ impl Weight {
         Ok(Weight { weight })
     }
 
-    /// The number.
+    /// The weight as a number: -3, -2, -1, 1, 2 or 3.
     pub fn get(&self) -> i32
         ensures value { result ≡ self.now }
         ensures lawful { IsContourWeight self.now }

@@ -1,4 +1,4 @@
-//! Tests of operations: weights and pictures whose values are known.
+//! Tests of operations, on pictures whose weights are known.
 
 mod assertions;
 mod contours;
@@ -31,7 +31,7 @@ const CLOCKWISE: Corners = &[(0, 0), (0, 2), (3, 2), (3, 0)];
 /// The whole field, counterclockwise.
 const FIELD: Corners = &[(-4095, -4095), (4095, -4095), (4095, 4095), (-4095, 4095)];
 
-/// The path through these corners, walked so many times.
+/// The path through these corners, walked `times` times.
 fn walk<R: Abort + AllocGlobal>(rt: &R, corners: Corners, times: usize) -> Vec<Point> {
     let mut points = Vec::new(rt.alloc());
     for _ in 0..times {
@@ -44,7 +44,7 @@ fn walk<R: Abort + AllocGlobal>(rt: &R, corners: Corners, times: usize) -> Vec<P
     points
 }
 
-/// The cycle of the path through these corners, walked so many times.
+/// The cycle of the path through these corners, walked `times` times.
 fn cycle<R: Abort + AllocGlobal>(rt: &R, corners: Corners, times: usize) -> Cycle {
     match Cycle::new(walk(rt, corners, times)) {
         Ok(cycle) => cycle,
@@ -52,27 +52,27 @@ fn cycle<R: Abort + AllocGlobal>(rt: &R, corners: Corners, times: usize) -> Cycl
     }
 }
 
-/// The contour of the path through these corners, walked so many times, with this weight, under the turning check.
+/// The contour of the path through these corners, walked `times` times, with the weight `number`, under the turning check.
 fn contour<R: Abort + AllocGlobal>(rt: &R, corners: Corners, times: usize, number: i32) -> Op {
     Op::Contour(cycle(rt, corners, times), weight(rt, number), Check::On)
 }
 
-/// The same, where the turning check is off.
+/// The same contour with the turning check off.
 fn unchecked<R: Abort + AllocGlobal>(rt: &R, corners: Corners, times: usize, number: i32) -> Op {
     Op::Contour(cycle(rt, corners, times), weight(rt, number), Check::Off)
 }
 
-/// The weight of this number.
+/// The weight with this number.
 fn weight(rt: &impl Abort, number: i32) -> Weight {
     Weight::new(number).expect(rt, "the number is a weight")
 }
 
-/// The cull that keeps the weights `low..=high`, with the weight of this number.
+/// The cull that keeps the weights `low..=high` and gives them the weight `number`.
 fn keeping(rt: &impl Abort, low: i32, high: i32, number: i32) -> Op {
     Op::Cull(Cull::keeping(low, high, weight(rt, number)).expect(rt, "0 is not kept"))
 }
 
-/// The cull that drops the weights `low..=high`, with the weight of this number.
+/// The cull that drops the weights `low..=high` and gives all others the weight `number`.
 fn dropping(rt: &impl Abort, low: i32, high: i32, number: i32) -> Op {
     Op::Cull(Cull::dropping(low, high, weight(rt, number)).expect(rt, "0 is dropped"))
 }
@@ -87,19 +87,19 @@ fn turn(rt: &impl Abort, angle: i32) -> Op {
     Op::Quarter(Quarter::new(angle).expect(rt, "the angle is lawful"))
 }
 
-/// The copy of a picture.
+/// A copy of a picture.
 fn copy_of<R: Abort + AllocGlobal>(rt: &R, picture: &Picture) -> Picture {
     picture
         .copy(rt.alloc())
         .expect(rt, "there is room for the copy")
 }
 
-/// The picture after an operation that is accepted.
+/// The picture after an operation, which must be accepted.
 fn accepted<R: Abort + AllocGlobal>(rt: &R, picture: &Picture, op: &Op) -> Picture {
     after(rt.alloc(), picture, op).expect(rt, "the operation is accepted")
 }
 
-/// An operation is refused with this fault, also on the picture itself, which stays as it was.
+/// Asserts that an operation is refused with this fault, also in place, where the picture stays as it was.
 fn assert_refused<R: Abort + AllocGlobal>(rt: &R, picture: &Picture, op: &Op, fault: OpFault) {
     let refused = after(rt.alloc(), picture, op).err();
     let mut same = copy_of(rt, picture);
@@ -108,18 +108,18 @@ fn assert_refused<R: Abort + AllocGlobal>(rt: &R, picture: &Picture, op: &Op, fa
     assert_equal(rt, &same, picture, "the picture itself is unchanged");
 }
 
-/// Two pictures are equal.
+/// Asserts that two pictures are equal.
 fn assert_equal(rt: &impl Abort, found: &Picture, expected: &Picture, case: &str) {
     assert_holds(rt, found.equal(expected), case);
 }
 
-/// A picture is blank, and has no box.
+/// Asserts that a picture is blank and has no box.
 fn assert_blank<R: Abort + AllocGlobal>(rt: &R, picture: &Picture) {
     assert_equal(rt, picture, &Picture::blank(rt.alloc()), "it is blank");
     assert_bounds(rt, picture, None);
 }
 
-/// The picture after these contours, each walked so many times and with its weight, were filled in one after another.
+/// The picture after these contours, each walked a number of times and with its weight, are filled in one after another.
 fn wound<R: Abort + AllocGlobal>(rt: &R, contours: &[(Corners, usize, i32)]) -> Picture {
     let mut picture = Picture::blank(rt.alloc());
     for (corners, times, number) in contours {
@@ -128,7 +128,7 @@ fn wound<R: Abort + AllocGlobal>(rt: &R, contours: &[(Corners, usize, i32)]) -> 
     picture
 }
 
-/// The picture after these contours, each with its weight, were filled in one after another.
+/// The picture after these contours, each with its weight, are filled in one after another.
 fn filled<R: Abort + AllocGlobal>(rt: &R, contours: &[(Corners, i32)]) -> Picture {
     let mut picture = Picture::blank(rt.alloc());
     for (corners, number) in contours {
@@ -142,14 +142,14 @@ fn run(y: i32, x: i32, len: u32, weight: i32) -> Run {
     Run { y, x, len, weight }
 }
 
-/// At these places, counted from 0, a picture has these runs.
+/// Asserts that a picture has these runs at these places, which are counted from 0.
 fn assert_some_runs(rt: &impl Abort, picture: &Picture, runs: &[(usize, Option<Run>)]) {
     for (k, run) in runs {
         assert_same(rt, picture.run(*k), *run, ("run", *k));
     }
 }
 
-/// A picture has exactly these runs.
+/// Asserts that a picture has exactly these runs.
 fn assert_runs(rt: &impl Abort, picture: &Picture, runs: &[Run]) {
     for (k, run) in runs.iter().enumerate() {
         assert_some_runs(rt, picture, &[(k, Some(*run))]);
@@ -157,19 +157,19 @@ fn assert_runs(rt: &impl Abort, picture: &Picture, runs: &[Run]) {
     assert_some_runs(rt, picture, &[(runs.len(), None)]);
 }
 
-/// These pixels of a picture have these weights.
+/// Asserts that these pixels of a picture, given as column, row and weight, have these weights.
 fn assert_weights(rt: &impl Abort, picture: &Picture, pixels: &[(i32, i32, i32)]) {
     for (x, y, weight) in pixels {
         assert_same(rt, picture.weight(*x, *y), *weight, ("weight at", *x, *y));
     }
 }
 
-/// The weights of a picture have this sum.
+/// Asserts that the weights of a picture have this sum.
 fn assert_total(rt: &impl Abort, picture: &Picture, total: i64) {
     assert_same(rt, picture.total(), total, "total");
 }
 
-/// A picture has this least box.
+/// Asserts that a picture has this least box.
 fn assert_bounds(rt: &impl Abort, picture: &Picture, bounds: Option<Box4>) {
     assert_same(rt, picture.bounds(), bounds, "bounds");
 }

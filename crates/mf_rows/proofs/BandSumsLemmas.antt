@@ -41,7 +41,7 @@ has_sum-left before rs ss after rows none all = record {
 
 -- ---- lists of bands that are split
 
--- bands split into those up to band n and those behind it
+-- bands are split into those up to band n and those after it
 pub record IsSplitAtBand (n : ℤ) (bs first rest : List (Arc Band Global)) : Type 0 where
   pub all : rows_of_bands bs ≡ rows_of_bands first ++ rows_of_bands rest
   pub up_to : AreUpTo n (rows_of_bands first)
@@ -49,7 +49,7 @@ pub record IsSplitAtBand (n : ℤ) (bs first rest : List (Arc Band Global)) : Ty
   pub no_longer : length rest ≤ length bs
   pub shorter : BeginUpTo n bs → length rest < length bs
 
--- where the first band has a number up to n, it is not behind band n
+-- where the first band has a number of at most n, it is not after band n
 fewer_behind : (n : ℤ) (k : ℕ) (bs : List (Arc Band Global)) → AreNumberedBehind n (drop k bs) → BeginUpTo n bs → length (drop k bs) < length bs
 fewer_behind n k [] behind begin = absurd begin
 fewer_behind n zero (b ∷ bs) behind begin =
@@ -77,7 +77,7 @@ rows_of_first k bs first first_is rows =
 -- ---- what is left
 
 module _ (whole_left whole_right sum rs ss : List EdgeRow) (so_far : IsRowSumSoFar whole_left whole_right sum rs ss) where
-  -- where one list has come to its end, the rows of the other follow
+  -- at the end of one list, the rows of the other follow
   rows_with_rest : (rs ≡ []) ⊎ (ss ≡ []) → AreRows ((sum ++ rs) ++ ss)
   rows_with_rest end =
       ⊎_elim (λ none. subst AreRows (sym (ap (λ rs. (sum ++ rs) ++ ss) none ∙ ap (λ rs. rs ++ ss) (append-nil sum))) (rows_behind whole_left whole_right sum rs ss so_far ss so_far.right))
@@ -99,7 +99,7 @@ rows_with_bands whole_left whole_right sum bs cs so_far end =
 
 -- ---- one step
 
--- the rows from the lower of two heights
+-- the rows from the lower of two heights on
 rows_from-both : (top y : ℤ) (rs : List EdgeRow) → AreRowsFrom top rs → AreBelow y rs → AreRowsFrom (int_min top (y -ℤ pos 1)) rs
 rows_from-both top y [] rows below = tt
 rows_from-both top y (r ∷ rs) rows below =

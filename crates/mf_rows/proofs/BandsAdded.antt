@@ -109,7 +109,7 @@ module _ (bs above rest cs : List (Arc Band Global)) (left : AreRows (rows_of_ba
 
 -- ---- the place of the bands that are reached
 
--- what stands behind the bands that are reached
+-- what comes after the bands that are reached
 pub drop_reached : (k m : ℕ) (bs reached below : List (Arc Band Global)) → k ≤ length bs → reached ≡ take m (drop k bs) → below ≡ drop m (drop k bs) → drop (k + length reached) bs ≡ below
 drop_reached k m bs reached below inside reached_is below_is =
     let rest : reached ++ below ≡ drop k bs = rw (reached_is, below_is) (take-append-drop m (drop k bs)) in

@@ -1,4 +1,4 @@
--- Bands of rows: over bands the lowest rows fall, so a row is found by halving.
+-- Bands of rows: from band to band the lowest rows fall, so a row is found by binary search.
 use Rattle.std.proofs.Common.{◌≡◌, ◌≢◌, ℕ, zero, suc, ◌+◌, ◌<◌, ◌≤◌, ℤ, pos, ◌-ℤ◌, ◌≤ℤ◌, ◌<ℤ◌, List, [], ◌∷◌, ◌++◌, Bool, true, false, length, take, drop, get_or, subst, sym, ap, ◌∙◌, arith}
 use Rattle.std.specs.List.{All, AllWithin}
 use Rattle.std.specs.List.Sorted.{IsPartitionedBy}
@@ -32,7 +32,7 @@ All-edge_rows P [] all = All-nil (λ row. P (edge_row row))
 All-edge_rows P (r ∷ rows) all =
     All-cons (λ row. P (edge_row row)) r rows (All-head P (edge_row r) (edge_rows rows) all) (All-edge_rows P rows (All-tail P (edge_row r) (edge_rows rows) all))
 
--- no row stands lower than the last, and none higher than the first
+-- no row is lower than the last, and none is higher than the first
 last_is_least : (top : ℤ) (rs : List EdgeRow) → AreRowsFrom top rs → All (λ r. last_height rs ≤ℤ r.y) rs
 last_is_least top [] rows = All-nil (λ r. last_height [] ≤ℤ r.y)
 last_is_least top (r ∷ []) rows = All-cons (λ s. r.y ≤ℤ s.y) r [] (omega (arith, ints)) (All-nil (λ s. r.y ≤ℤ s.y))
@@ -42,13 +42,13 @@ last_is_least top (r ∷ s ∷ rs) rows =
     let falls = rows.2.1 in
     All-cons (λ t. last_height (s ∷ rs) ≤ℤ t.y) r (s ∷ rs) (omega (arith, ints)) least
 
--- what holds of the heights of all rows holds of the last of them
+-- what holds of the heights of all rows holds of the last one
 at_last : (P : ℤ → Type 0) (rs : List EdgeRow) → 0 < length rs → All (λ r. P r.y) rs → P (last_height rs)
 at_last P [] some all = absurd (omega arith)
 at_last P (r ∷ []) some all = All-head (λ s. P s.y) r [] all
 at_last P (r ∷ s ∷ rs) some all = at_last P (s ∷ rs) (omega arith) (All-tail (λ t. P t.y) r (s ∷ rs) all)
 
--- the last element read is the last row
+-- the last element, as the code reads it, is the last row
 pub last_height_is : (rows : List Row) (k : ℕ) (row : Row) → length rows ≡ suc k → row ≡ get_or rows k row → last_height (edge_rows rows) ≡ row.y
 last_height_is [] k row long last = absurd (omega arith)
 last_height_is (r ∷ []) zero row long last = ap (λ s. s.y) (sym last)
@@ -76,7 +76,7 @@ All-bands P (b ∷ bs) all =
     All-cons (λ c. All P (rows_in (arc_value c))) b bs (All-front P (rows_in (arc_value b)) (rows_of_bands bs) all)
     (All-bands P bs (All-back P (rows_in (arc_value b)) (rows_of_bands bs) all))
 
--- over bands the lowest rows fall
+-- from band to band the lowest rows fall
 pub bands_fall : (top : ℤ) (bs : List (Arc Band Global)) → AreRowsFrom top (rows_of_bands bs) → Falls (λ b. bottom_of (arc_value b)) bs
 bands_fall top [] rows = tt
 bands_fall top (b ∷ bs) rows =
@@ -87,7 +87,7 @@ bands_fall top (b ∷ bs) rows =
       bands_fall top bs (rows_from-back top (rows_in (arc_value b)) (rows_of_bands bs) rows),
     )
 
--- rows above a row, by their bands' lowest ones
+-- bands whose lowest rows are above a row have all their rows above it
 above_from_bottoms : (top y : ℤ) (bs : List (Arc Band Global)) → AreRowsFrom top (rows_of_bands bs) → All (λ b. y <ℤ bottom_of (arc_value b)) bs → AreAbove y (rows_of_bands bs)
 above_from_bottoms top y [] rows above = All-nil (λ r. y <ℤ r.y)
 above_from_bottoms top y (b ∷ bs) rows above =
@@ -99,14 +99,14 @@ above_from_bottoms top y (b ∷ bs) rows above =
 
 -- ---- the places at which bands are split
 
--- whether a band stands wholly above row y
+-- whether a band is entirely above row y
 abbrev pub stands_above : ℤ → Arc Band Global → Bool
 stands_above y band = lt_z y (bottom_of (arc_value band))
 
 pub IsPartitionedBy-stands_above : (y : ℤ) (bs : List (Arc Band Global)) → AreRows (rows_of_bands bs) → IsPartitionedBy (stands_above y) bs
 IsPartitionedBy-stands_above y bs lawful = IsPartitionedBy-falls (λ b. bottom_of (arc_value b)) (stands_above y) (λ a b le above. grind (arith, ints)) bs (bands_fall (pos 4094) bs lawful.rows)
 
--- what the places say of the rows before them and of the bands behind them
+-- what the places say of the rows before them and of the bands from them on
 pub above_split : (y : ℤ) (n : ℕ) (bs : List (Arc Band Global)) → AreRows (rows_of_bands bs) → n ≤ length bs → AllWithin (λ b. stands_above y b ≡ true) bs 0 n → AreAbove y (rows_of_bands (take n bs))
 above_split y n bs lawful le passed =
     let front = rows_from-front (pos 4094) (rows_of_bands (take n bs)) (rows_of_bands (drop n bs)) (subst (AreRowsFrom (pos 4094)) (rows_of_bands-split n bs) lawful.rows) in
@@ -128,7 +128,7 @@ weight_between above rs below x y higher lower =
     let none_below = weight_in_rows-below below x y lower in
     omega (arith, ints)
 
--- row y can stand only in the first band that does not stand wholly above it
+-- only the first band that is not entirely above row y may have it
 pub same_row_in_band : (y : ℤ) (k : ℕ) (bs : List (Arc Band Global)) (b : Arc Band Global) → AreRows (rows_of_bands bs) → k < length bs → b ≡ get_or bs k b → AreAbove y (rows_of_bands (take k bs)) → All (λ c. bottom_of (arc_value c) ≤ℤ y) (drop k bs) → HasSameRow (rows_of_bands bs) y (rows_in (arc_value b))
 same_row_in_band y k bs b lawful inside read above others =
     let front = rows_of_bands (take k bs) in
@@ -145,7 +145,7 @@ same_row_in_band y k bs b lawful inside read above others =
       weights = λ x. ap (λ ss. weight_in_rows ss x y) all ∙ weight_between front rs back x y above below;
     }
 
--- the first row that does not stand above row y is it, or there is none
+-- the first row that is not above row y is row y, or there is no row y
 row_here : (y : ℤ) (above : List EdgeRow) (r : EdgeRow) (below : List EdgeRow) → AreRows (above ++ r ∷ below) → AreAbove y above → r.y ≡ y → HasRow (above ++ r ∷ below) y r.edges
 row_here y above r below lawful higher here =
     let from_here = rows_from-back (pos 4094) above (r ∷ below) lawful.rows in
@@ -172,7 +172,7 @@ no_row_here y above r below lawful higher behind =
           omega (arith, ints);
     }
 
--- whether a row stands above row y
+-- whether a row is above row y
 abbrev pub row_stands_above : ℤ → Row → Bool
 row_stands_above y row = lt_z y row.y
 
@@ -188,7 +188,7 @@ pub rows_others_split : (y : ℤ) (n : ℕ) (rows : List Row) → AllWithin (λ 
 rows_others_split y n rows failed =
     All-weaker (λ row. row_stands_above y row ≡ false) (λ row. row.y ≤ℤ y) (λ row not_above. grind (arith, ints)) (drop n rows) (All-drop_within (λ row. row_stands_above y row ≡ false) rows n failed)
 
--- the rows before a row, it, and the rows behind it
+-- the rows before a row, the row itself, and the rows after it
 rows-split : (n : ℕ) (rows : List Row) (row : Row) → n < length rows → row ≡ get_or rows n row → drop n rows ≡ row ∷ drop (n + 1) rows
 rows-split n rows row inside read = drop_more rows n row inside ∙ ap (λ r. r ∷ drop (n + 1) rows) (sym read)
 

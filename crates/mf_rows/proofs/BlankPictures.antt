@@ -16,7 +16,7 @@ use Rattle.mf_rows.specs.WeightMaps.{mapped_at}
 use Rattle.mf_rows.proofs.EdgeRowsLemmas.{picture_of_rows-none, weight_at-picture_of_rows}
 use Rattle.mf_rows.proofs.RowSumSteps.{no_row}
 
--- rows whose picture is blank are none
+-- where the picture of rows is blank, there are no rows
 no_rows : (rs : List EdgeRow) → AreRows rs → picture_of_rows rs ≡ [] → rs ≡ []
 unfolding weight_at
 no_rows [] rows blank = refl
@@ -24,7 +24,7 @@ no_rows (r ∷ rs) rows blank =
     let others = no_row (pos 4094) r.y (r ∷ rs) rows.rows (λ x. sym (weight_at-picture_of_rows (r ∷ rs) x r.y rows) ∙ ap (λ ds. weight_at ds x r.y) blank) in
     absurd (All-head (λ s. s.y ≢ r.y) r rs others refl)
 
--- and so are bands, since each has a row
+-- and there are no bands, since each has a row
 pub no_bands : (bands : List (Arc Band Global)) → AreRows (rows_of_bands bands) → picture_of_rows (rows_of_bands bands) ≡ [] → bands ≡ []
 no_bands [] rows blank = refl
 no_bands (band ∷ bands) rows blank =

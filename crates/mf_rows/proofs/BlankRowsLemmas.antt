@@ -1,4 +1,4 @@
--- Rows that are left out where they are blank.
+-- Rows, left out where they are blank.
 use Rattle.std.proofs.Common.{◌≡◌, ℤ, pos, negsuc, ◌+ℤ◌, ◌≤ℤ◌, List, [], ◌∷◌, refl, sym, arith}
 use Rattle.std.specs.List.{All}
 use Rattle.std.specs.Ordering.{int_eq}
@@ -10,7 +10,7 @@ use Rattle.mf_rows.specs.BlankRows.{unless_blank}
 use Rattle.mf_edges.specs.Edges.{weight_in, AreEdges}
 use Rattle.mf_rows.specs.EdgeRows.{EdgeRow, AreRowsFrom, weight_in_rows}
 
--- a row that is left out where it is blank has its weights
+-- leaving out a blank row changes no weight
 pub weight_in_rows-unless_blank : (y : ℤ) (es : List Edge) (x v : ℤ) → weight_in_rows (unless_blank (record { y = y; edges = es })) x v ≡ weight_in_rows (record { y = y; edges = es } ∷ []) x v
 unfolding weight_in_rows weight_in
 weight_in_rows-unless_blank y [] x v = sym (cond_both (int_eq y v) (pos 0) (pos 0) (λ w. w +ℤ pos 0 ≡ pos 0) (λ test. refl) (λ test. refl))

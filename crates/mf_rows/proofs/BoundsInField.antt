@@ -8,7 +8,7 @@ use Rattle.mf_rows.specs.declared.bounds.Box4.{Box4}
 use Rattle.mf_rows.specs.Dots.{Dot, IsDot, IsPicture, start_of_field}
 use Rattle.mf_rows.proofs.DotsLemmas.{dots_from-lawful}
 
--- the dot that stands at a side
+-- the dot at a side of the box
 dot_at_side : (f : Dot → ℤ) (ds : List Dot) (side : ℤ) → All IsDot ds → Any (λ d. f d ≡ side) ds → (d : Dot) × IsDot d × (f d ≡ side)
 dot_at_side f ds side dots at = (at.1, All-contains IsDot ds at.1 dots (at.0, at.2, at.3), at.4)
 

@@ -1,4 +1,4 @@
--- Rows that get their runs one after another.
+-- Rows that are built from their runs, one after another.
 use Rattle.std.proofs.Common.{◌≡◌, ◌≢◌, ◌+◌, ◌-◌, ◌<◌, ℤ, pos, negsuc, ◌≤ℤ◌, ◌<ℤ◌, List, [], ◌∷◌, ◌++◌, length, get_or, set, take, refl, sym, ap, ◌∙◌, subst, arith}
 use Rattle.std.proofs.lemmas.Int.{ints, by_lt_z}
 use Rattle.std.proofs.lemmas.List.{take_all, map_more, map_push, take_more_set, get_or_default, length-set}
@@ -29,12 +29,12 @@ above-last rs row rows =
 last_row : (rs : List EdgeRow) (row : EdgeRow) → AreRows (rs ++ row ∷ []) → IsEdgeRow row
 last_row rs row rows = (rows_from-back (pos 4094) rs (row ∷ []) rows.rows).0
 
--- the rows stand above any row below the last of them
+-- the rows are above any row below the last of them
 above_all : (rs : List EdgeRow) (row : EdgeRow) (y : ℤ) → AreRows (rs ++ row ∷ []) → y <ℤ row.y → AreAbove y (rs ++ row ∷ [])
 above_all rs row y rows below =
     All-push (λ r. y <ℤ r.y) rs row (All-weaker (λ r. row.y <ℤ r.y) (λ r. y <ℤ r.y) (λ r above. omega (arith, ints)) rs (above-last rs row rows)) below
 
--- a row below all others may stand behind them
+-- a row below all others may follow them
 rows-push : (rs : List EdgeRow) (row : EdgeRow) → AreRows rs → AreAbove row.y rs → IsEdgeRow row → AreRows (rs ++ row ∷ [])
 rows-push rs row rows above lawful = record {
   rows = rows_from-append (pos 4094) rs (row ∷ []) rows.rows (lawful, lawful.top, tt)
@@ -57,7 +57,7 @@ weight-in_others rs row x y elsewhere =
     let none = weight_in_rows-elsewhere row [] x y elsewhere in
     omega (arith, ints)
 
--- ---- runs behind rows
+-- ---- runs after rows
 
 -- a place in a row below, or to the right in the same row, is a later place
 place-row_below : (x y u v : ℤ) → x ≤ℤ pos 4094 → negsuc 4094 ≤ℤ u → v <ℤ y → place x y ≤ℤ place u v
@@ -68,7 +68,7 @@ place-same_row : (x y u v : ℤ) → v ≡ y → x ≤ℤ u → place x y ≤ℤ
 unfolding place
 place-same_row x y u v same le = omega (arith, ints)
 
--- where all pixels stand before a run, the last row ends before it
+-- where all pixels come before a run, the last row ends before it
 EndsBefore-from_pixels : (rs : List EdgeRow) (row : EdgeRow) (r : Run) → AreRows (rs ++ row ∷ []) → IsRun r → AreBefore (place r.x r.y) (picture_of_rows (rs ++ row ∷ [])) → EndsBefore row r
 EndsBefore-from_pixels rs row r rows run before =
     let ds = picture_of_rows (rs ++ row ∷ []) in
@@ -103,7 +103,7 @@ no_weight rs row r x y rows run ends inside later =
     weight-in_last rs row x y (above-last rs row rows) here.1
     ∙ weight_in-end row.edges r.x x (last_row rs row rows).edges (ends.columns (here.1 ∙ sym here.0)) here.2)
 
--- so all pixels stand before the run
+-- so all pixels come before the run
 pixels_before : (rs : List EdgeRow) (row : EdgeRow) (r : Run) → AreRows (rs ++ row ∷ []) → IsRun r → EndsBefore row r → AreBefore (place r.x r.y) (picture_of_rows (rs ++ row ∷ []))
 pixels_before rs row r rows run ends =
     let ds = picture_of_rows (rs ++ row ∷ []) in
@@ -119,7 +119,7 @@ pixels_before rs row r rows run ends =
 
 -- ---- the last of open rows
 
--- the last of the rows that get their runs
+-- the last of the rows that are being built
 pub record IsLast (rows : List OpenRow) (last : OpenRow) : Type 0 where
   pub some : 0 < length rows
   pub here : last ≡ get_or rows (length rows - 1) last
@@ -143,12 +143,12 @@ lawful-last rows last lawful is_last = subst AreRows (open_rows-last rows last i
 pub last_open_row : (rows : List OpenRow) (last : OpenRow) → AreRows (open_rows rows) → IsLast rows last → IsEdgeRow (open_row last)
 last_open_row rows last lawful is_last = last_row (front rows) (open_row last) (lawful-last rows last lawful is_last)
 
--- all pixels stand before a run where the last row ends before it
+-- all pixels come before a run where the last row ends before it
 pub before_from_last : (rows : List OpenRow) (last : OpenRow) (r : Run) → AreRows (open_rows rows) → IsRun r → IsLast rows last → EndsBefore (open_row last) r → AreBefore (place r.x r.y) (picture_of_rows (open_rows rows))
 before_from_last rows last r lawful run is_last ends =
     rw (open_rows-last rows last is_last) (pixels_before (front rows) (open_row last) r (lawful-last rows last lawful is_last) run ends)
 
--- and only there
+-- and only where it does
 pub last_ends_before : (rows : List OpenRow) (last : OpenRow) (r : Run) → AreRows (open_rows rows) → IsRun r → IsLast rows last → AreBefore (place r.x r.y) (picture_of_rows (open_rows rows)) → EndsBefore (open_row last) r
 last_ends_before rows last r lawful run is_last before =
     EndsBefore-from_pixels (front rows) (open_row last) r (lawful-last rows last lawful is_last) run
@@ -182,7 +182,7 @@ weight-off_pushed rs old new r x y above row has off =
     ∙ sym (weight-in_last rs old x y (subst (λ v. AreAbove v rs) (sym row) above) (row ∙ here)))
     (λ apart. weight-in_others rs new x y (λ same. apart (sym has.row ∙ same)) ∙ sym (weight-in_others rs old x y (λ same. apart (sym row ∙ same))))
 
--- the picture gets the run's pixels where its last row gets the run
+-- where the last row gets a run, the picture gets the run's pixels
 pushed : (ds : List Dot) (rs : List EdgeRow) (old new : EdgeRow) (r : Run) → IsPicture ds → Fits ds r → AreRows (rs ++ new ∷ []) → AreAbove r.y rs → old.y ≡ r.y → HasRun old r new → ((x y : ℤ) → weight_at ds x y ≡ weight_in_rows (rs ++ old ∷ []) x y) → picture_of_rows (rs ++ new ∷ []) ≡ ds ++ dots_of r
 pushed ds rs old new r picture fits rows above row has weights =
     sym (picture_of_rows-from_weights (ds ++ dots_of r) (rs ++ new ∷ []) (picture-push ds r picture fits) (record {
@@ -193,7 +193,7 @@ pushed ds rs old new r picture fits rows above row has weights =
 
 -- ---- pushing on open rows
 
--- the rows with another last one
+-- the rows with another last row
 open_rows-set_last : (rows : List OpenRow) (last new : OpenRow) → IsLast rows last → open_rows (set rows (length rows - 1) new) ≡ front rows ++ open_row new ∷ []
 open_rows-set_last rows last new is_last =
     ap open_rows (sym (take_all (length rows - 1 + 1) (set rows (length rows - 1) new) (omega (arith, is_last.some, length-set rows (length rows - 1) new))) ∙ take_more_set rows (length rows - 1) new (omega (arith, is_last.some)))
@@ -234,7 +234,7 @@ above_run (first ∷ others) r lawful fits not_there =
     let below : r.y <ℤ last.y = by_lt_z r.y last.y (λ below. below) (λ no_below. let up = ends.row in absurd (apart (omega (arith, ints)))) in
     subst (AreAbove r.y) (sym (open_rows-last rows last is_last)) (above_all (front rows) (open_row last) r.y (lawful-last rows last lawful is_last) below)
 
--- so it makes a row behind all rows
+-- so it makes a row that follows all rows
 pub rows-pushed_behind : (rows : List OpenRow) (new : OpenRow) (r : Run) → AreRows (open_rows rows) → Fits (picture_of_rows (open_rows rows)) r → (EndInRow rows r.y → ⊥) → HasRun (record { y = r.y; edges = [] }) r (open_row new) → AreRows (open_rows (rows ++ new ∷ []))
 rows-pushed_behind rows new r lawful fits not_there has =
     rw (map_push open_row rows new)

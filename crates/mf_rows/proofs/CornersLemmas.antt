@@ -1,4 +1,4 @@
--- Corners from the top downwards, and the edges and rows that they make.
+-- Corners from the top down, and the edges and rows that they make.
 use Rattle.std.proofs.Common.{◌≡◌, ◌&&◌, ℕ, suc, ◌+◌, ◌*◌, ◌<◌, ℤ, pos, negsuc, ◌+ℤ◌, ◌-ℤ◌, ◌≤ℤ◌, ◌<ℤ◌, int_le, int_lt, Bool, true, false, List, [], ◌∷◌, length, get_or, drop, to_z, of_z, w32, add-one, refl, sym, ◌∙◌, arith, if◌then◌else◌}
 use Rattle.std.specs.List.{All, sum_by}
 use Rattle.std.specs.List.Sorted.{IsPermutation, IsSortedBy}
@@ -85,7 +85,7 @@ falling_from_sorted ks corners sorted = falling_by_index (pos 4095) ks (first_be
     let step = sorted i d (omega arith) (omega arith) in
     not_above _ _ (rw add-one at step))
 
--- the first of the corners behind one stands no higher
+-- the first of the corners after a corner is no higher
 next_height_falls : (k : Corner) (ks : List Corner) → IsCorner k → AreFalling k.y ks → first_height_of ks ≤ℤ k.y
 next_height_falls k [] corner falling = corner.bottom
 next_height_falls k (l ∷ ks) corner falling = falling.0
@@ -106,7 +106,7 @@ lt_test a b lt = grind (arith, ints)
 ge_test : (a b : ℤ) → b ≤ℤ a → int_lt a b ≡ false
 ge_test a b ge = grind (arith, ints)
 
--- two tests in a row, the second with a known answer
+-- where the second of two tests is known to fail
 last_fails : (b t : Bool) (w : ℤ) → t ≡ false → (if b && t then w else pos 0) ≡ pos 0
 last_fails true t w fails = rw fails
 last_fails false t w fails = refl
@@ -138,8 +138,8 @@ added_above_first top (k ∷ ks) x y falling above = added_falling k.y (k ∷ ks
 
 -- ---- a sweep over the corners from the top
 
--- the corners before those left have been added: the rows down to the first of those left are there, and the edges
--- are those of the rows below it, as far as the corners left add nothing
+-- the corners before those that are left have been added: the rows down to the first corner that is left are made, and
+-- the edges are those of the rows below it, as long as the corners that are left add nothing
 pub record IsSwept (all left : List Corner) (es : List Edge) (rs : List EdgeRow) : Type 0 where
   pub corners : All IsCorner left
   pub falling : AreFalling (pos 4095) left
@@ -176,7 +176,7 @@ part_is_small : (b : Bool) (w : ℤ) → negsuc 2 ≤ℤ w → w ≤ℤ pos 3 �
 part_is_small true w least greatest = record { least = least; greatest = greatest }
 part_is_small false w least greatest = record { least = omega (arith, ints); greatest = omega (arith, ints) }
 
--- the next corner becomes an edge, and the rows above the one behind it are made
+-- the next corner becomes an edge, and the rows down to the corner after it are made
 module _ (all : List Corner) (k : Corner) (left : List Corner) (es fs : List Edge) (rs : List EdgeRow) (corners : AreCorners all) (swept : IsSwept all (k ∷ left) es rs) (sorted : AreEdgesFrom (negsuc 4094) fs) (added : HaveWeights (with_edge_in es k.x k.weight) fs) where
   corner : IsCorner k
   corner = All-head IsCorner k left swept.corners
@@ -197,7 +197,7 @@ module _ (all : List Corner) (k : Corner) (left : List Corner) (es fs : List Edg
       let part = part_is_small (int_le k.x x) k.weight corner.least corner.greatest in
       record { least = omega (arith, ints, swept.least x, weight_added x, part); greatest = omega (arith, ints, swept.greatest x, weight_added x, part) }
 
-  -- the edges of a level are closed, as nothing is added right of the field
+  -- the edges of a level have a sum of 0, as nothing is added to the right of the field
   pub level_edges : first_height_of left <ℤ k.y → AreEdges fs
   level_edges some = record {
     sorted = sorted;

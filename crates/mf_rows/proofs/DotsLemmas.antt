@@ -36,7 +36,7 @@ weight_at-elsewhere d ds x y elsewhere =
 pub not_at : (d : Dot) (x y : ℤ) → place d.x d.y ≢ place x y → IsAt d x y → ⊥
 not_at d x y apart here = apart (rw (here.column, here.row))
 
--- where no dot stands the weight is 0
+-- where there is no dot the weight is 0
 pub weight_at-none : (ds : List Dot) (x y : ℤ) → All (λ d. place d.x d.y ≢ place x y) ds → weight_at ds x y ≡ pos 0
 unfolding weight_at
 weight_at-none [] x y none = refl
@@ -44,7 +44,7 @@ weight_at-none (d ∷ ds) x y none =
     weight_at-elsewhere d ds x y (not_at d x y (All-head (λ d. place d.x d.y ≢ place x y) d ds none))
     ∙ weight_at-none ds x y (All-tail (λ d. place d.x d.y ≢ place x y) d ds none)
 
--- behind the last dot the weight is 0
+-- after the last dot the weight is 0
 pub weight_at-after : (ds : List Dot) (x y : ℤ) → AreBefore (place x y) ds → weight_at ds x y ≡ pos 0
 weight_at-after ds x y before =
     weight_at-none ds x y (All-weaker (λ d. place d.x d.y <ℤ place x y) (λ d. place d.x d.y ≢ place x y) (λ d lower same. omega (arith, ints)) ds before)
@@ -63,7 +63,7 @@ weight_at-before low (d ∷ ds) x y dots below =
     weight_at-elsewhere d ds x y (not_at d x y (λ same. omega (arith, ints)))
     ∙ weight_at-before (place d.x d.y +ℤ pos 1) ds x y dots.2 (omega (arith, ints))
 
--- each dot stands at or behind the first place
+-- each dot is at or after the first place
 pub dots_from-after : (low : ℤ) (ds : List Dot) → AreDotsFrom low ds → All (λ d. low ≤ℤ place d.x d.y) ds
 dots_from-after low [] dots = All-nil (λ d. low ≤ℤ place d.x d.y)
 dots_from-after low (d ∷ ds) dots =
@@ -75,7 +75,7 @@ pub dots_from-lawful : (low : ℤ) (ds : List Dot) → AreDotsFrom low ds → Al
 dots_from-lawful low [] dots = All-nil IsDot
 dots_from-lawful low (d ∷ ds) dots = All-cons IsDot d ds dots.0 (dots_from-lawful (place d.x d.y +ℤ pos 1) ds dots.2)
 
--- dots may stand behind others that end before a place
+-- dots may follow others that end before a place
 pub dots_from-append : (low middle : ℤ) (ds es : List Dot) → low ≤ℤ middle → AreDotsFrom low ds → AreBefore middle ds → AreDotsFrom middle es → AreDotsFrom low (ds ++ es)
 dots_from-append low middle [] es le front before back = dots_from-lower low middle es le back
 dots_from-append low middle (d ∷ ds) es le front before back =

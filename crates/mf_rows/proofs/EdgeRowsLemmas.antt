@@ -24,7 +24,7 @@ unfolding weight_in_rows
 weight_in_rows-append [] ss x y = omega (arith, ints)
 weight_in_rows-append (r ∷ rs) ss x y = omega (arith, ints, weight_in_rows-append rs ss x y)
 
--- the row itself, and any other
+-- the weights of the first row, and of any other
 pub weight_in_rows-here : (r : EdgeRow) (rs : List EdgeRow) (x y : ℤ) → r.y ≡ y → weight_in_rows (r ∷ rs) x y ≡ weight_in r.edges x +ℤ weight_in_rows rs x y
 unfolding weight_in_rows
 weight_in_rows-here r rs x y here = ap (λ w. w +ℤ weight_in_rows rs x y) (cond-true (int_eq r.y y) (weight_in r.edges x) (pos 0) ((Decides-int_eq r.y y).1 here))
@@ -35,7 +35,7 @@ weight_in_rows-elsewhere r rs x y elsewhere =
     let other = false_from_ne_true (int_eq r.y y) (λ test. elsewhere ((Decides-int_eq r.y y).0 test)) in
     omega (arith, ints, cond-false (int_eq r.y y) (weight_in r.edges x) (pos 0) other)
 
--- where no row stands the weight is 0
+-- where there is no row the weight is 0
 pub weight_in_rows-none : (rs : List EdgeRow) (x y : ℤ) → All (λ r. r.y ≢ y) rs → weight_in_rows rs x y ≡ pos 0
 unfolding weight_in_rows
 weight_in_rows-none [] x y none = refl
@@ -54,14 +54,14 @@ pub rows_from-higher : (top low : ℤ) (rs : List EdgeRow) → low ≤ℤ top �
 rows_from-higher top low [] le rows = tt
 rows_from-higher top low (r ∷ rs) le rows = let start : r.y ≤ℤ low = rows.1 in (rows.0, omega (arith, ints), rows.2)
 
--- all rows stand below any row above the first of them
+-- all rows are below any row that is above the first of them
 pub rows_from-below : (top y : ℤ) (rs : List EdgeRow) → AreRowsFrom top rs → top <ℤ y → AreBelow y rs
 rows_from-below top y [] rows above = All-nil (λ r. r.y <ℤ y)
 rows_from-below top y (r ∷ rs) rows above =
     let start : r.y ≤ℤ top = rows.1 in
     All-cons (λ r. r.y <ℤ y) r rs (omega (arith, ints)) (rows_from-below (r.y -ℤ pos 1) y rs rows.2 (omega (arith, ints)))
 
--- the first rows of lawful rows, and the rows behind them
+-- the first rows of lawful rows, and the rows after them, are lawful
 pub rows_from-front : (top : ℤ) (rs ss : List EdgeRow) → AreRowsFrom top (rs ++ ss) → AreRowsFrom top rs
 rows_from-front top [] ss rows = tt
 rows_from-front top (r ∷ rs) ss rows = (rows.0, rows.1, rows_from-front (r.y -ℤ pos 1) rs ss rows.2)
@@ -72,21 +72,21 @@ rows_from-back top (r ∷ rs) ss rows =
     let start : r.y ≤ℤ top = rows.1 in
     rows_from-higher top (r.y -ℤ pos 1) ss (omega (arith, ints)) (rows_from-back (r.y -ℤ pos 1) rs ss rows.2)
 
--- rows below a row may follow it
+-- lawful rows that are below a row may follow it
 rows_from-cut : (top y : ℤ) (rs : List EdgeRow) → AreRowsFrom top rs → AreBelow y rs → AreRowsFrom (y -ℤ pos 1) rs
 rows_from-cut top y [] rows below = tt
 rows_from-cut top y (r ∷ rs) rows below =
     let lower : r.y <ℤ y = All-head (λ r. r.y <ℤ y) r rs below in
     (rows.0, omega (arith, ints), rows.2)
 
--- rows that all stand above others
+-- lawful rows may follow others that are all above them
 pub rows_from-append : (top : ℤ) (rs ss : List EdgeRow) → AreRowsFrom top rs → AreRowsFrom top ss → All (λ r. AreBelow r.y ss) rs → AreRowsFrom top (rs ++ ss)
 rows_from-append top [] ss front back apart = back
 rows_from-append top (r ∷ rs) ss front back apart =
     let behind = rows_from-cut top r.y ss back (All-head (λ r. AreBelow r.y ss) r rs apart) in
     (front.0, front.1, rows_from-append (r.y -ℤ pos 1) rs ss front.2 behind (All-tail (λ r. AreBelow r.y ss) r rs apart))
 
--- and that they do
+-- and in lawful rows they are above them
 pub rows_from-apart : (top : ℤ) (rs ss : List EdgeRow) → AreRowsFrom top (rs ++ ss) → All (λ r. AreBelow r.y ss) rs
 rows_from-apart top [] ss rows = All-nil (λ r. AreBelow r.y ss)
 rows_from-apart top (r ∷ rs) ss rows =
@@ -137,7 +137,7 @@ by_field x y inside outside =
     (λ bottom. by_lt_z (pos 4094) y (λ off. outside (λ within. omega (arith, ints, within.top)))
     (λ top. inside (record { left = left; right = right; bottom = bottom; top = top })))))
 
--- and its weights are theirs, at every pair of numbers
+-- and its weights are those of the rows, at every pair of numbers
 pub weight_at-picture_of_rows : (rs : List EdgeRow) (x y : ℤ) → AreRows rs → weight_at (picture_of_rows rs) x y ≡ weight_in_rows rs x y
 unfolding picture_of_rows
 weight_at-picture_of_rows rs x y rows =

@@ -22,7 +22,7 @@ use Rattle.mf_rows.proofs.RunDots.{stretch-from, weight_at-stretch, weight_at-ap
 
 -- ---- what is left of a row
 
--- at its left end, all its edges
+-- at its left end, all its edges are left
 pub rest_of_edges : (es : List Edge) → AreEdges es → IsRestOfRow (negsuc 4094) (pos 0) es
 rest_of_edges es edges = record {
   sorted = edges.sorted;
@@ -34,7 +34,7 @@ pub rest_of_none : (low : ℤ) → IsRestOfRow low (pos 0) []
 unfolding weight_in
 rest_of_none low = record { sorted = tt; lawful = λ x. record { least = omega (arith, ints); greatest = omega (arith, ints) }; closed = refl }
 
--- the weight right of its first edge
+-- the weight to the right of its first edge is lawful
 pub rest_lawful : (low w : ℤ) (e : Edge) (es : List Edge) → IsRestOfRow low w (e ∷ es) → IsLawfulWeight (w +ℤ e.weight)
 rest_lawful low w e es rest =
     let here = rest.lawful e.x in
@@ -42,7 +42,7 @@ rest_lawful low w e es rest =
     let none = weight_in-before (e.x +ℤ pos 1) es e.x rest.sorted.2 (omega (arith, ints)) in
     record { least = omega (arith, ints, here.least); greatest = omega (arith, ints, here.greatest) }
 
--- behind its first edge
+-- what is left after its first edge
 pub rest_next : (low w : ℤ) (e : Edge) (es : List Edge) → IsRestOfRow low w (e ∷ es) → IsRestOfRow (e.x +ℤ pos 1) (w +ℤ e.weight) es
 rest_next low w e es rest = record {
   sorted = rest.sorted.2;
@@ -58,11 +58,11 @@ rest_next low w e es rest = record {
   closed = let own = weight_in-left e es (pos 4095) rest.sorted.0.right in omega (arith, ints, rest.closed);
 }
 
--- from the column of its first edge on
+-- what is left from the column of its first edge on
 pub rest_from : (low w : ℤ) (e : Edge) (es : List Edge) → IsRestOfRow low w (e ∷ es) → IsRestOfRow e.x w (e ∷ es)
 rest_from low w e es rest = record { sorted = (rest.sorted.0, omega (arith, ints), rest.sorted.2); lawful = rest.lawful; closed = rest.closed }
 
--- behind its last edge the weight is 0
+-- after its last edge the weight is 0
 pub rest_none : (low w : ℤ) → IsRestOfRow low w [] → w ≡ pos 0
 unfolding weight_in
 rest_none low w rest = omega (arith, ints, rest.closed)
@@ -85,7 +85,7 @@ pub some_of_runs : (low : ℤ) (rs : List Run) → AreRunsFrom low rs → All (�
 some_of_runs low [] runs = All-nil (λ r. 1 ≤ r.len)
 some_of_runs low (r ∷ rs) runs = All-cons (λ r. 1 ≤ r.len) r rs runs.0.some (some_of_runs (place (r.x +ℤ pos r.len) r.y) rs runs.2)
 
--- their dots are in reading order too
+-- their dots are in reading order, too
 pub dots_from-runs : (low : ℤ) (rs : List Run) → AreRunsFrom low rs → AreDotsFrom low (flat_map dots_of rs)
 unfolding dots_of
 dots_from-runs low [] runs = tt
@@ -106,11 +106,11 @@ dots_from-runs low (r ∷ rs) runs =
 abbrev run_between : ℤ → ℤ → ℤ → ℤ → Run
 run_between y x u w = record { y = y; x = x; len = unsigned_abs (u -ℤ x); weight = w }
 
--- it ends at the second
+-- that run ends at the second column
 between-ends : (y x u w : ℤ) → x ≤ℤ u → x +ℤ pos (unsigned_abs (u -ℤ x)) ≡ u
 between-ends y x u w le = omega (arith, ints)
 
--- between neighbouring edges it is lawful
+-- between neighbouring edges that run is lawful
 is_run_between : (y low w : ℤ) (e f : Edge) (es : List Edge) → negsuc 4094 ≤ℤ y → y ≤ℤ pos 4094 → IsRestOfRow low w (e ∷ f ∷ es) → (w +ℤ e.weight) ≢ pos 0 → IsRun (run_between y e.x f.x (w +ℤ e.weight))
 is_run_between y low w e f es bottom top rest nonzero =
     let behind = rest_next low w e (f ∷ es) rest in
@@ -148,7 +148,7 @@ runs_from-edges y low w (e ∷ f ∷ es) rs bottom top le rest later =
 
 -- ---- their weights
 
--- dots of another row say nothing of a pixel
+-- dots of another row do not affect a pixel
 weight_at-skip_stretch : (y x w : ℤ) (n : ℕ) (ds : List Dot) (u v : ℤ) → y ≢ v → weight_at (stretch y x w n ++ ds) u v ≡ weight_at ds u v
 unfolding stretch
 weight_at-skip_stretch y x w zero ds u v apart = refl
@@ -170,12 +170,12 @@ weight_at-off_row y w (e ∷ f ∷ es) rs u v apart =
     (λ blank. next)
     (λ weighty. weight_at-skip_stretch y e.x z own.len (flat_map dots_of (others ++ rs)) u v apart ∙ next)
 
--- left of the first run of its row a pixel has weight 0
+-- to the left of the first run of its row a pixel has weight 0
 weight_at-left_of : (x y u : ℤ) (rs : List Run) → AreRunsFrom (place x y) rs → u <ℤ x → weight_at (flat_map dots_of rs) u y ≡ pos 0
 unfolding place
 weight_at-left_of x y u rs runs lt = weight_at-before (place x y) (flat_map dots_of rs) u y (dots_from-runs (place x y) rs runs) (omega (arith, ints))
 
--- from their first edge on the runs of a row have its weights
+-- from its first edge on, a row has the weights of its runs
 weight_at-row : (y low w : ℤ) (e : Edge) (es : List Edge) (rs : List Run) (u : ℤ) → negsuc 4094 ≤ℤ y → y ≤ℤ pos 4094 → e.x ≤ℤ u → u ≤ℤ pos 4094 → IsRestOfRow low w (e ∷ es) → AreRunsFrom (place (pos 4095) y) rs → weight_at (flat_map dots_of (runs_of_edges y w (e ∷ es) ++ rs)) u y ≡ w +ℤ weight_in (e ∷ es) u
 unfolding runs_of_edges dots_of
 weight_at-row y low w e [] rs u bottom top left right rest later =
@@ -206,7 +206,7 @@ weight_at-row y low w e (f ∷ es) rs u bottom top left right rest later =
     (λ blank. omega (arith, ints))
     (λ weighty. weight_at-append_after (stretch y e.x z own.len) dots u y (before_stretch-end y e.x z own.len (place u y) (place-le (e.x +ℤ pos own.len) u y (omega (arith, ints)))) ∙ omega (arith, ints)))
 
--- over the whole row
+-- and so it has in all columns
 pub weight_at-whole_row : (y : ℤ) (es : List Edge) (rs : List Run) (u : ℤ) → negsuc 4094 ≤ℤ y → y ≤ℤ pos 4094 → u ≤ℤ pos 4094 → AreEdges es → AreRunsFrom (place (pos 4095) y) rs → weight_at (flat_map dots_of (runs_of_edges y (pos 0) es ++ rs)) u y ≡ weight_in es u
 unfolding runs_of_edges
 weight_at-whole_row y [] rs u bottom top right edges later =
@@ -228,13 +228,13 @@ maximal-cons : (r : Run) (rs : List Run) → StartsApart r rs → AreMaximal rs 
 maximal-cons r [] apart maximal = tt
 maximal-cons r (s ∷ rs) apart maximal = (apart, maximal)
 
--- behind a gap
+-- a run after a gap does not continue it
 apart-gap : (r : Run) (x : ℤ) (rs : List Run) → (r.x +ℤ pos r.len) <ℤ x → AreRunsFrom (place x r.y) rs → StartsApart r rs
 unfolding place
 apart-gap r x [] lt runs = tt
 apart-gap r x (s ∷ rs) lt runs = λ joined. let start : place x r.y ≤ℤ place s.x s.y = runs.1 in omega (arith, ints, joined.row, joined.column)
 
--- and in another row
+-- nor does a run in another row
 apart-row : (r : Run) (rs : List Run) → (r.x +ℤ pos r.len) ≤ℤ pos 4095 → AreRunsFrom (place (pos 4095) r.y) rs → StartsApart r rs
 unfolding place
 apart-row r [] le runs = tt

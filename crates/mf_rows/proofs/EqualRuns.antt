@@ -50,7 +50,7 @@ module _ {S T A : Type 0} (rest : S → List A) (others : T → List A) (eq : A 
   eq_decides s t ran =
       along ran.1 ran.2 ran.3 ran.4 s ran.5 t ran.6 ran.8 (subst (λ j. YieldsThen (YieldsFirst others) j ran.2 ran.4 ran.6) ran.7 ran.9) ran.10 ran.11
 
--- equal runs make equal pictures, and only these
+-- two pictures are equal exactly where their runs are
 pub same_from_runs : (b : Bool) (ds es : List Dot) (rs ss : List Run) → rs ≡ runs_of ds → ss ≡ runs_of es → Decides b (rs ≡ ss) → Decides b (ds ≡ es)
 same_from_runs b ds es rs ss left right runs =
     Decides-like b
@@ -58,6 +58,6 @@ same_from_runs b ds es rs ss left right runs =
     (λ same. left ∙ ap runs_of same ∙ sym right)
     runs
 
--- and so do equal weights
+-- and exactly where their weights are
 pub same_weights : (b : Bool) (ds es : List Dot) → IsPicture ds → IsPicture es → Decides b (ds ≡ es) → Decides b (HaveSameWeights ds es)
 same_weights b ds es left right pictures = Decides-like b (λ same. subst (HaveSameWeights ds) same (record { same = λ x y inside. refl })) (same_pictures ds es left right) pictures

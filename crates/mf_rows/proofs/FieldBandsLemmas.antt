@@ -1,4 +1,4 @@
--- Bands of the field: over bands their numbers rise, so the bands up to a number are found by halving.
+-- Bands of the field: from band to band their numbers rise, so the bands up to a number are found by binary search.
 use Rattle.std.proofs.Common.{◌≡◌, ◌≢◌, ℕ, ◌<◌, ◌≤◌, ℤ, pos, ◌+ℤ◌, ◌-ℤ◌, ◌≤ℤ◌, ◌<ℤ◌, List, [], ◌∷◌, Bool, true, false, length, take, drop, get_or, inl, inr, subst, arith, ◌∙◌}
 use Rattle.std.specs.Int.{int_max}
 use Rattle.std.specs.List.{All, AllWithin}
@@ -24,7 +24,7 @@ use Rattle.mf_rows.proofs.BandsLemmas.{at_bottom, bands_fall}
 pub rows_of_band : (band : Band) → All (λ r. IsOfBand band.number r.y) (rows_in band)
 rows_of_band band = All-map (λ r. IsOfBand band.number r.y) edge_row band.rows.items band.of_band
 
--- what the number of each band says of its rows holds of the rows of all
+-- what the number of each band implies of its rows holds of the rows of all bands
 All-rows_of_bands : (N P : ℤ → Type 0) → ((n y : ℤ) → N n → IsOfBand n y → P y) → (bs : List (Arc Band Global)) → All (λ (b : Arc Band Global). N (arc_value b).number) bs → All (λ r. P r.y) (rows_of_bands bs)
 All-rows_of_bands N P holds [] all = All-nil (λ r. P r.y)
 All-rows_of_bands N P holds (b ∷ bs) all =
@@ -51,7 +51,7 @@ above_end n band is = All-weaker (λ r. IsOfBand band.number r.y) (λ r. (lowest
 below_end : (n : ℤ) (band : Band) → band.number ≡ n → AreBelow (lowest_of n +ℤ pos 16) (rows_in band)
 below_end n band is = All-weaker (λ r. IsOfBand band.number r.y) (λ r. r.y <ℤ (lowest_of n +ℤ pos 16)) (λ r own. let own : IsOfBand n r.y = rw (← is) own in omega (arith, ints, own.top)) (rows_in band) (rows_of_band band)
 
--- and so do those of the sum of two bands of its number
+-- and so do the rows of the sum of two bands of its number
 pub sum_of_band : (n : ℤ) (left right : Band) (rows : List Row) → left.number ≡ n → right.number ≡ n → StayWithin (rows_in left) (rows_in right) (edge_rows rows) → AreOfBand n rows
 sum_of_band n left right rows of_left of_right within =
     between_ends n rows
@@ -60,11 +60,11 @@ sum_of_band n left right rows of_left of_right within =
 
 -- ---- the place at which bands are split
 
--- whether a band has a number up to n
+-- whether a band has a number of at most n
 abbrev pub is_up_to : ℤ → Arc Band Global → Bool
 is_up_to n band = le_z (arc_value band).number n
 
--- of two bands the higher one has no greater number
+-- of two bands, the higher one has no greater number
 higher_up_to : (n : ℤ) (a b : Arc Band Global) → bottom_of (arc_value a) ≤ℤ bottom_of (arc_value b) → is_up_to n a ≡ true → is_up_to n b ≡ true
 higher_up_to n a b le up_to =
     let lower = at_bottom (IsOfBand (arc_value a).number) (arc_value a) (rows_of_band (arc_value a)) in
@@ -74,7 +74,7 @@ higher_up_to n a b le up_to =
 pub IsPartitionedBy-is_up_to : (n : ℤ) (bs : List (Arc Band Global)) → AreRows (rows_of_bands bs) → IsPartitionedBy (is_up_to n) bs
 IsPartitionedBy-is_up_to n bs lawful = IsPartitionedBy-falls (λ b. bottom_of (arc_value b)) (is_up_to n) (higher_up_to n) bs (bands_fall (pos 4094) bs lawful.rows)
 
--- what the place says of the rows before it, and of the bands and rows behind it
+-- what the place says of the rows before it, and of the bands and rows from it on
 pub up_to_split : (n : ℤ) (k : ℕ) (bs : List (Arc Band Global)) → k ≤ length bs → AllWithin (λ b. is_up_to n b ≡ true) bs 0 k → AreUpTo n (rows_of_bands (take k bs))
 up_to_split n k bs le passed =
     All-rows_of_bands (λ m. le_z m n ≡ true) (λ y. (lowest_of n -ℤ pos 1) <ℤ y) (λ m y up_to of_band. grind (arith, ints)) (take k bs) (All-take_within (λ b. is_up_to n b ≡ true) bs k le passed)
@@ -93,7 +93,7 @@ begin_up_to : (n : ℤ) (bs : List (Arc Band Global)) (b : Arc Band Global) → 
 begin_up_to n [] b some read up_to = absurd (omega arith)
 begin_up_to n (a ∷ bs) b some read up_to = subst (λ (c : Arc Band Global). (arc_value c).number ≤ℤ n) read up_to
 
--- a step up to the number before the greater of two first ones reaches the other one
+-- a step up to the number before the greater of two first numbers reaches the band with the other number
 pub step_before_greater : (bs cs : List (Arc Band Global)) (b c : Arc Band Global) (n : ℤ) → 0 < length bs → b ≡ get_or bs 0 b → 0 < length cs → c ≡ get_or cs 0 c → (arc_value b).number ≢ (arc_value c).number → n ≡ int_max (arc_value b).number (arc_value c).number -ℤ pos 1 → IsStep bs cs n
 step_before_greater bs cs b c n some b_is more c_is apart n_is =
     record {

@@ -11,7 +11,7 @@ use Rattle.mf_rows.specs.Weights.{row_of, rows_of, picture_of}
 use Rattle.mf_rows.proofs.Totals.{total_of-append}
 use Rattle.mf_rows.proofs.WeightsLemmas.{picture_of-from_weights}
 
--- the first term may stand alone in front
+-- the first term may be taken out in front
 sum_below-first : (n : ℕ) (g : ℕ → ℤ) → g 0 +ℤ sum_below n (λ i. g (suc i)) ≡ sum_below (suc n) g
 unfolding sum_below
 sum_below-first zero g = omega (arith, ints)
@@ -33,7 +33,7 @@ total_of-row f y x (suc n) =
     (λ blank. let none = (Decides-int_eq (f x y) (pos 0)).0 blank in omega (arith, ints))
     (λ dotted. whole)
 
--- n rows down to the one above bottom, the top one first, add up from the lowest
+-- n rows, from the top down to the one above `bottom`, add up like the same rows from the lowest up
 total_of-rows : (f : ℤ → ℤ → ℤ) (bottom : ℤ) (n : ℕ) → total_of (rows_of f (bottom +ℤ pos n) n) ≡ sum_below n (λ j. total_of (row_of f (bottom +ℤ pos (suc j)) (negsuc 4094) 8190))
 unfolding rows_of total_of sum_below
 total_of-rows f bottom zero = refl
@@ -50,7 +50,7 @@ total_of-picture_of f =
     total_of-rows f (negsuc 4095) 8190
     ∙ (λ t. sum_below 8190 (λ j. (total_of-row f (negsuc 4095 +ℤ pos (suc j)) (negsuc 4094) 8190 ∙ ap (λ y. sum_below 8190 (λ i. f (negsuc 4094 +ℤ pos i) y)) (height j)) t))
 
--- a picture is that of its own weights
+-- a picture is the picture of its own weights
 pub total_of-picture : (ds : List Dot) → IsPicture ds → total_of ds ≡ sum_over_field (weight_at ds)
 total_of-picture ds picture =
     ap total_of (picture_of-from_weights ds (weight_at ds) picture (λ x y inside. refl)) ∙ total_of-picture_of (weight_at ds)

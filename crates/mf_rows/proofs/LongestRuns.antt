@@ -1,4 +1,4 @@
--- The runs of dots, told by the weights of their pixels and of their neighbours.
+-- The runs of dots, described by the weights of their pixels and of their neighbours.
 use Rattle.std.proofs.Common.{◌≡◌, ◌≢◌, ℕ, zero, suc, ◌<◌, ℤ, pos, ◌+ℤ◌, ◌-ℤ◌, ◌≤ℤ◌, List, [], ◌∷◌, drop, get_or, refl, sym, ◌∙◌, arith}
 use Rattle.std.specs.List.{All}
 use Rattle.std.proofs.lemmas.Bool.{false≢true, cond_both}
@@ -10,7 +10,7 @@ use Rattle.mf_rows.specs.Runs.{continues, run_from, with_dot, runs_of, IsFollowe
 use Rattle.mf_rows.proofs.DotsLemmas.{IsAt, weight_at-here, weight_at-elsewhere, weight_at-before, dots_from-lower}
 use Rattle.mf_rows.proofs.RunsLemmas.{continued, more_after, runs_of-first}
 
--- a run stays maximal behind a dot that does not continue it
+-- a run stays maximal after a dot that does not continue it
 kept : (d : Dot) (ds : List Dot) (r : Run) → AreDotsFrom (place d.x d.y +ℤ pos 1) ds → (IsFollowedBy (run_from d 0) r → ⊥) → IsMaximalRun ds r → IsMaximalRun (d ∷ ds) r
 unfolding run_from place
 kept d ds r dots apart maximal =
@@ -44,7 +44,7 @@ inside_longer d ds r joined maximal (suc i) lt =
     weight_at-elsewhere d ds x d.y (λ here. omega (arith, ints, here.column))
     ∙ rw (← column, joined.row, joined.weight) behind
 
--- behind the dot on its left end a maximal run is one longer
+-- with one more dot at its left end, a maximal run is one longer
 longer : (d : Dot) (ds : List Dot) (r : Run) → IsDot d → AreDotsFrom (place d.x d.y +ℤ pos 1) ds → IsFollowedBy (run_from d 0) r → IsMaximalRun ds r → IsMaximalRun (d ∷ ds) (run_from d r.len)
 unfolding run_from place
 longer d ds r dot dots joined maximal =
@@ -73,7 +73,7 @@ alone d ds dot dots apart =
       right = λ same. apart (sym (weight_at-elsewhere d ds (d.x +ℤ pos 1) d.y (λ here. omega (arith, ints, here.column))) ∙ same);
     }
 
--- the pixel behind a dot has its weight only where the next dot goes on its run
+-- the pixel to the right of a dot has its weight only where the next dot continues its run
 next_apart : (d e : Dot) (es : List Dot) (n : ℕ) → IsDot d → AreDotsFrom (place d.x d.y +ℤ pos 1) (e ∷ es) → (IsFollowedBy (run_from d 0) (run_from e n) → ⊥) → weight_at (e ∷ es) (d.x +ℤ pos 1) d.y ≢ d.weight
 unfolding run_from place
 next_apart d e es n dot dots apart = λ same.
@@ -98,7 +98,7 @@ starts_with_dot low d (r ∷ rs) le starts =
     (λ yes. All-cons P (run_from d r.len) rs le (All-tail P r rs starts))
     (λ no. All-cons P (run_from d 0) (r ∷ rs) le starts)
 
--- each run begins where a dot may stand
+-- each run begins at a place where a dot may be
 starts_after : (low : ℤ) (ds : List Dot) → AreDotsFrom low ds → All (λ r. low ≤ℤ place r.x r.y) (runs_of ds)
 unfolding runs_of
 starts_after low [] dots = All-nil (λ r. low ≤ℤ place r.x r.y)
@@ -106,7 +106,7 @@ starts_after low (d ∷ ds) dots =
     let start : low ≤ℤ place d.x d.y = dots.1 in
     starts_with_dot low d (runs_of ds) start (starts_after low ds (dots_from-lower low (place d.x d.y +ℤ pos 1) ds (omega (arith, ints)) dots.2))
 
--- the runs behind the first one are not continued by a dot before it
+-- the runs after the first one are not continued by a dot before it
 kept_later : (d e : Dot) (es : List Dot) (n : ℕ) → AreDotsFrom (place d.x d.y +ℤ pos 1) (e ∷ es) → All (IsMaximalRun (e ∷ es)) (runs_of (drop n es)) → All (IsMaximalRun (d ∷ e ∷ es)) (runs_of (drop n es))
 unfolding run_from place
 kept_later d e es n dots maximal = λ k s lt.
@@ -129,7 +129,7 @@ longest_with_dot d e es n dot dots maximal =
     let apart = λ (joined : IsFollowedBy (run_from d 0) r). false≢true (sym no ∙ (continued d r).1 joined) in
     All-cons P (run_from d 0) (r ∷ rs) (alone d (e ∷ es) dot dots (next_apart d e es n dot dots apart)) (All-cons P r rs (kept d (e ∷ es) r dots apart head) later))
 
--- each run of dots has a pixel, and is as long as it can be
+-- each run of dots has at least one pixel, and is as long as it can be
 pub longest_runs : (low : ℤ) (ds : List Dot) → AreDotsFrom low ds → All (IsMaximalRun ds) (runs_of ds)
 unfolding runs_of with_dot weight_at
 longest_runs low [] dots = All-nil (IsMaximalRun [])

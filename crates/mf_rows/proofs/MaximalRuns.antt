@@ -16,12 +16,12 @@ with_dot-alone d [] maximal = refl
 with_dot-alone d (r ∷ rs) maximal =
     cond-false (continues d r) (run_from d r.len ∷ rs) (run_from d 0 ∷ r ∷ rs) (false_from_ne_true (continues d r) (λ joined. maximal.0 ((continued d r).0 joined)))
 
--- a dot at the left end of a run
+-- a dot at the left end of a run lengthens it
 with_dot-longer : (d : Dot) (r : Run) (rs : List Run) → IsFollowedBy (run_from d 0) r → with_dot d (r ∷ rs) ≡ run_from d r.len ∷ rs
 unfolding with_dot
 with_dot-longer d r rs joined = cond-true (continues d r) (run_from d r.len ∷ rs) (run_from d 0 ∷ r ∷ rs) ((continued d r).1 joined)
 
--- a run that begins a column further right ends in the same column
+-- a run without its first column ends in the same column
 maximal-shifted : (y x w : ℤ) (n : ℕ) (rs : List Run) → AreMaximal (record { y = y; x = x; len = suc (suc n); weight = w } ∷ rs) → AreMaximal (record { y = y; x = x +ℤ pos 1; len = suc n; weight = w } ∷ rs)
 maximal-shifted y x w n [] maximal = tt
 maximal-shifted y x w n (r ∷ rs) maximal = (λ joined. maximal.0 (record { row = joined.row; column = omega (arith, ints, joined.column); weight = joined.weight }), maximal.1)

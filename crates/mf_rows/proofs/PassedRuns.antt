@@ -1,4 +1,4 @@
--- A picture's dots before those of its last runs.
+-- The dots of a picture before those of its last runs.
 use Rattle.std.proofs.Common.{◌≡◌, ◌<◌, ◌≤◌, length, true, List, [], ◌∷◌, ◌++◌, sym, ◌∙◌, subst, arith}
 use Rattle.std.specs.List.{All, flat_map}
 use Rattle.std.proofs.lemmas.Bool.{cond_both}
@@ -24,7 +24,7 @@ run_of_dot d dot = record {
   nonzero = dot.nonzero;
 }
 
--- a dot lengthens a run that it continues, whose end stays
+-- a dot lengthens a run that it continues, and the run ends where it did
 lengthened_run : (d : Dot) (r : Run) → IsDot d → IsRun r → continues d r ≡ true → IsRun (run_from d r.len)
 unfolding run_from
 lengthened_run d r dot run goes_on = record {
@@ -59,7 +59,7 @@ pub record ArePassed (ds : List Dot) (rs : List Run) (passed : List Dot) : Type 
 pub none_passed : (ds : List Dot) (rs : List Run) → IsPicture ds → rs ≡ runs_of ds → ArePassed ds rs []
 none_passed ds rs picture all = rw all (record { split = sym (dots_of-runs_of ds); runs = lawful_runs_of ds (dots_from-lawful start_of_field ds picture.dots) })
 
--- the first of the last runs is lawful, and passes in its turn
+-- the first of the last runs is lawful, and is passed next
 pub next_is_lawful : (ds : List Dot) (rs : List Run) (r : Run) (others : List Run) (passed : List Dot) → rs ≡ r ∷ others → ArePassed ds rs passed → IsRun r
 next_is_lawful ds rs r others passed first so_far = All-head IsRun r others (All-same IsRun (r ∷ others) rs (sym first) so_far.runs)
 

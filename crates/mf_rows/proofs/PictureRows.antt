@@ -50,7 +50,7 @@ weight_at-blank {rs = rs} {y = y} x rows row = weight_at-picture_of_rows rs x y 
 
 -- ---- the sum of two pictures
 
--- rows with the weights of two lists of rows together stand for the sum of their pictures
+-- rows with the weights of two lists of rows together represent the sum of their pictures
 pub weights_with_sum : (rs ss sum : List EdgeRow) → AreRows rs → AreRows ss → AreRows sum → HaveRowWeights (weight_in_all rs ss) sum → HasWeights (sum_at (picture_of_rows rs) (picture_of_rows ss)) (picture_of_rows sum)
 unfolding sum_at weight_in_all
 weights_with_sum rs ss sum left right rows has = record {
@@ -80,7 +80,7 @@ unlawful_with_corners ds ks {rs = rs} rows added unlawful =
     let same : with_corners_at ds ks x y ≡ sum_at ds (picture_of_rows rs) x y = omega (arith, ints, added.weights x y unlawful.in_field, weight_at-picture_of_rows rs x y rows) in
     record { x = x; y = y; in_field = unlawful.in_field; unlawful = λ lawful. unlawful.unlawful (subst IsLawfulWeight same lawful) }
 
--- ---- rows are changed, or change places
+-- ---- rows are changed, or move
 
 pub weights_mapped : (m : WeightMap) (rs mapped : List EdgeRow) → AreRows rs → AreRows mapped → HaveRowWeights (changed_in_rows (change.Weights m) rs) mapped → HasWeights (mapped_at m (picture_of_rows rs)) (picture_of_rows mapped)
 unfolding mapped_at changed_in_rows

@@ -4,12 +4,12 @@ use Rattle.std.proofs.lemmas.Int.{ints}
 use Rattle.mf_geom.specs.Field.{IsInField}
 use Rattle.mf_rows.specs.Dots.{place, start_of_field}
 
--- the next column stands at the next place
+-- the next column is at the next place
 pub place-next : (x y : ℤ) → place (x +ℤ pos 1) y ≡ place x y +ℤ pos 1
 unfolding place
 place-next x y = omega (arith, ints)
 
--- behind the last column of a row stands the first of the row below
+-- after the last column of a row comes the first of the row below
 pub place-below : (y : ℤ) → place (pos 4095) y ≡ place (negsuc 4094) (y -ℤ pos 1)
 unfolding place
 place-below y = omega (arith, ints)
@@ -28,7 +28,7 @@ pub start_of_field-le : (x y : ℤ) → IsInField x y → start_of_field ≤ℤ 
 unfolding place start_of_field
 start_of_field-le x y inside = omega (arith, ints)
 
--- and they are 8190 times 8190 in number
+-- and there are 8190 times 8190 of them
 pub place-lt : (x y : ℤ) → IsInField x y → place x y <ℤ (start_of_field +ℤ pos 67076100)
 unfolding place start_of_field
 place-lt x y inside = omega (arith, ints)

@@ -65,7 +65,7 @@ changed-none c lawful = record {
   weights = record { weights = λ x. sym (image_of_blank c x lawful) };
 }
 
--- the row and those below it have their weights at different heights, so each is changed by itself
+-- a row and those below it have their weights at different heights, so each is changed by itself
 changed_in_rows-cons : (c : RowChange) (r : EdgeRow) (rest : List EdgeRow) (image : List Edge) (x v : ℤ) → IsRowChange c → AreBelow r.y rest → AreChanged c r.edges image → weight_in_rows (unless_blank (record { y = r.y; edges = image })) x v +ℤ changed_in_rows c rest x v ≡ changed_in_rows c (r ∷ rest) x v
 unfolding changed_in_rows changed_in weight_in_rows
 changed_in_rows-cons c r rest image x v lawful below changed =
@@ -87,7 +87,7 @@ changed_in_rows-cons c r rest image x v lawful below changed =
 
 -- ---- the rows so far
 
--- rows have the weights of all rows after the change but those that are left, and stand above these
+-- the new rows have the weights of all rows after the change except for those that are left, and are above these
 pub record IsChangeSoFar (c : RowChange) (whole left changed : List EdgeRow) : Type 0 where
   pub to_come : AreRowsFrom (pos 4094) left
   pub allowed : RowsAllowChange c left
@@ -139,7 +139,7 @@ pub change_all : (c : RowChange) (whole changed : List EdgeRow) → IsRowChange 
 unfolding weight_in_rows changed_in_rows
 change_all c whole changed lawful so_far = record { weights = λ x y. let all = so_far.weights x y in omega (arith, ints, image_of_blank c x lawful) }
 
--- ---- columns that stay in their places
+-- ---- columns that stay in place
 
 once : (p f o : ℤ) → f ≡ pos 1 → (p *ℤ f) +ℤ o ≡ p +ℤ o
 once p f o one = rw one (omega (arith, ints))

@@ -1,4 +1,4 @@
--- Rows that change their places.
+-- Rows that move to other heights.
 use Rattle.std.proofs.Common.{◌≡◌, ℤ, pos, ◌-ℤ◌, ◌<ℤ◌, List, [], ◌∷◌, ◌++◌, length, refl, sym, ap, subst, ◌∙◌, append_assoc, arith}
 use Rattle.std.specs.List.{push}
 use Rattle.std.proofs.lemmas.Int.{ints}
@@ -13,7 +13,7 @@ use Rattle.mf_rows.specs.Sums.{HaveRowWeights}
 use Rattle.mf_rows.proofs.EdgeRowsLemmas.{weight_in_rows-append, weight_in_rows-here, weight_in_rows-elsewhere, rows_from-below, rows_from-front, rows_from-back, rows_from-append}
 use Rattle.mf_rows.proofs.RowSums.{by_same}
 
--- ---- rows on the other side
+-- ---- reflected rows
 
 -- a row at the opposite height
 abbrev pub opposite_row : EdgeRow → EdgeRow
@@ -28,7 +28,7 @@ pub mirror-append : (rs ss : List EdgeRow) → mirror (rs ++ ss) ≡ mirror ss +
 mirror-append [] ss = sym (append-nil (mirror ss))
 mirror-append (r ∷ rs) ss = ap (λ ts. ts ++ opposite_row r ∷ []) (mirror-append rs ss) ∙ append_assoc (mirror ss) (mirror rs) (opposite_row r ∷ [])
 
--- what stood below a row stands above it then
+-- what was below a row is above its reflection
 mirror-above : (y : ℤ) (rs : List EdgeRow) → AreBelow y rs → AreAbove (opposite y) (mirror rs)
 mirror-above y [] below = All-nil (λ r. opposite y <ℤ r.y)
 mirror-above y (r ∷ rs) below =
@@ -71,7 +71,7 @@ mirror_weights rs = record { weights = λ x y. weight_in_rows-mirror rs x y }
 
 -- ---- the rows so far
 
--- rows are the last of all on the other side, and the others are left
+-- the new rows are the reflections of the last of all rows, and the others are left
 pub record IsMirrorSoFar (whole left mirrored : List EdgeRow) : Type 0 where
   pub to_come : AreRowsFrom (pos 4094) left
   pub all : mirrored ++ mirror left ≡ mirror whole

@@ -23,7 +23,7 @@ place-below_row : (y v : ℤ) → v ≤ℤ (y -ℤ pos 1) → place (pos 4095) y
 unfolding place
 place-below_row y v le = omega (arith, ints)
 
--- the runs of rows below row y come behind it
+-- the runs of rows below row y come after it
 runs_from-rows : (y : ℤ) (rs : List EdgeRow) → AreRowsFrom (y -ℤ pos 1) rs → AreRunsFrom (place (pos 4095) y) (runs_of_rows rs)
 runs_from-rows y [] rows = tt
 runs_from-rows y (r ∷ rs) rows =
@@ -46,7 +46,7 @@ by_row u v same apart =
     (λ above. apart (λ joined. omega (arith, ints)))
     (λ no_above. same (omega (arith, ints))))
 
--- they have the weights of the rows
+-- the dots of the runs have the weights of the rows
 weight_at-rows : (top : ℤ) (rs : List EdgeRow) (x y : ℤ) → x ≤ℤ pos 4094 → AreRowsFrom top rs → weight_at (flat_map dots_of (runs_of_rows rs)) x y ≡ weight_in_rows rs x y
 unfolding weight_at weight_in_rows
 weight_at-rows top [] x y right rows = refl

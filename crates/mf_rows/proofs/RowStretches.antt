@@ -1,4 +1,4 @@
--- Rows that are stretched, each of which becomes a strip of rows.
+-- Rows that are stretched: each becomes a strip of rows.
 use Rattle.std.proofs.Common.{◌≡◌, ◌≢◌, ℕ, zero, suc, ◌+◌, ◌<◌, ℤ, pos, negsuc, ◌+ℤ◌, ◌-ℤ◌, ◌*ℤ◌, ◌≤ℤ◌, ◌<ℤ◌, List, [], ◌∷◌, ◌++◌, length, drop, get_or, refl, sym, ap, subst, ◌∙◌, append_assoc, append-nil, FitsSigned, to_z, of_z, w32, arith}
 use Rattle.std.specs.Int.RustNames.{unsigned_abs}
 use Rattle.std.specs.List.{All}
@@ -55,7 +55,7 @@ strip_place s y stretch bottom top inside offset =
 
 -- ---- the weights of a strip
 
--- its rows stand in their range of heights
+-- the rows of a strip are in its range of heights
 strip_heights : (bottom : ℤ) (es : List Edge) (n : ℕ) → All (λ t. (bottom ≤ℤ t.y) × (t.y <ℤ (bottom +ℤ pos n))) (strip bottom es n)
 unfolding strip
 strip_heights bottom es zero = All-nil (λ t. (bottom ≤ℤ t.y) × (t.y <ℤ (bottom +ℤ pos zero)))
@@ -88,7 +88,7 @@ strip_rows top bottom es (suc n) low high reach some edges = (
 
 -- ---- the rows so far
 
--- rows have the stretched weights of all rows but those that are left, and stand above the strips of these
+-- the new rows have the stretched weights of all rows except for those that are left, and are above the strips of these
 pub record IsStretchSoFar (s : Stretch) (whole left stretched : List EdgeRow) : Type 0 where
   pub to_come : AreRowsFrom (pos 4094) left
   pub inside : AllowStretch s left
@@ -111,7 +111,7 @@ pub stretch_next : {s : Stretch} {whole stretched : List EdgeRow} (rows : List R
 stretch_next {s = s} {whole = whole} {stretched = stretched} rows k row inside read so_far =
     subst (λ left. IsStretchSoFar s whole left stretched) (ap edge_rows (drop_more rows k row inside) ∙ ap (λ r. edge_row r ∷ edge_rows (drop (k + 1) rows)) (sym read)) so_far
 
--- the strip of a row has its weights where they come from, and those of the rows below it come from elsewhere
+-- the pixels of a row's strip come from that row, and those of the rows below it come from elsewhere
 stretched_in_rows-cons : (s : Stretch) (r : EdgeRow) (rest : List EdgeRow) (n : ℕ) (x v : ℤ) → IsStretch s → pos n ≡ s.factor → AreBelow r.y rest → weight_in_rows (strip (stretched_to s r.y) r.edges n) x v +ℤ stretched_in_rows s rest x v ≡ stretched_in_rows s (r ∷ rest) x v
 unfolding stretched_in_rows
 stretched_in_rows-cons s r rest n x v stretch size below =

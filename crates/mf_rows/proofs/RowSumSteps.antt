@@ -31,7 +31,7 @@ module _ (whole_left whole_right sum rs ss : List EdgeRow) (y : ℤ) (at : IsRow
         let right = weight_in_rows-append found_right others_right x c in
         rw (split_left.all, split_right.all) (omega (arith, ints))
 
-    -- no other row stands at the height
+    -- there is no other row at the height
     weight_in_all-first : (x : ℤ) → weight_in_all whole_left whole_right x y ≡ weight_in_all found_left found_right x y
     unfolding weight_in_all
     weight_in_all-first x =
@@ -69,7 +69,7 @@ module _ (whole_left whole_right sum rs ss : List EdgeRow) (y : ℤ) (at : IsRow
           omega (arith, ints);
     })
 
--- where nothing is left to be added, the rows that are left follow
+-- where nothing is left to add, the rows that are left follow
 pub sum_all_weights : (whole_left whole_right sum rs : List EdgeRow) → IsRowSumSoFar whole_left whole_right sum rs [] → HaveRowWeights (weight_in_all whole_left whole_right) (sum ++ rs)
 unfolding weight_in_all weight_in_rows
 sum_all_weights whole_left whole_right sum rs so_far = record {
@@ -91,7 +91,7 @@ no_edges low (e ∷ es) sorted blank =
     let none = weight_in-before (e.x +ℤ pos 1) es e.x sorted.2 (omega (arith, ints)) in
     absurd (sorted.0.nonzero (omega (arith, ints, blank e.x)))
 
--- where all weights of a row are 0, the row is not there
+-- where all weights of a row are 0, there is no such row
 pub no_row : (top y : ℤ) (rs : List EdgeRow) → AreRowsFrom top rs → ((x : ℤ) → weight_in_rows rs x y ≡ pos 0) → All (λ r. r.y ≢ y) rs
 no_row top y [] rows blank = All-nil (λ r. r.y ≢ y)
 no_row top y (r ∷ rs) rows blank =

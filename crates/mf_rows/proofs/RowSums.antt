@@ -18,7 +18,7 @@ use Rattle.mf_rows.proofs.EdgeRowsLemmas.{weight_in_rows-append, weight_in_rows-
 
 -- ---- what a sum has in one row
 
--- equal or apart
+-- two numbers are equal or not
 pub by_same : {P : Type 0} (c y : ℤ) → (c ≡ y → P) → (c ≢ y → P) → P
 by_same c y here elsewhere =
     by_lt_z c y (λ lower. elsewhere (λ is. omega (arith, ints)))
@@ -62,7 +62,7 @@ module _ (y : ℤ) (l r : EdgeRow) (left : IsRowAt y (l ∷ [])) (right : IsRowA
       let none_right = weight_in_rows-other y c x (r ∷ []) right apart in
       omega (arith, ints)
 
-  -- outside the field both have weight 0, so a column of an unlawful weight lies in it
+  -- outside the field both have weight 0, so a column with an unlawful weight lies in the field
   pub unlawful_in_row : IsUnlawfulColumn (weight_in_both l.edges r.edges) → IsUnlawfulInRow (weight_in_all (l ∷ []) (r ∷ [])) y
   unfolding weight_in_both
   unlawful_in_row column = by_field column.x y
@@ -112,14 +112,14 @@ module _ (y : ℤ) (l r : EdgeRow) (left : IsRowAt y (l ∷ [])) (right : IsRowA
         };
       }
 
--- a row that is added where none stands
+-- a row is added where there is none
 pub sum_of_right : (before : List EdgeRow) (y : ℤ) (ss : List EdgeRow) → IsRowAt y ss → HasRowSum before y [] ss (before ++ ss)
 unfolding weight_in_all weight_in_rows
 sum_of_right before y ss here = record { more = ss; all = refl; here = here; weights = record { weights = λ x c. omega (arith, ints) } }
 
 -- ---- the sum so far
 
--- a sum has the weights of two lists of rows above a height, and the others are those of what is left of the lists
+-- above a height the sum has the weights of two lists of rows, and what is left of the lists gives all others
 pub record IsRowSumSoFar (whole_left whole_right sum rs ss : List EdgeRow) : Type 0 where
   pub top : ℤ
   pub in_field : top ≤ℤ pos 4094
@@ -156,7 +156,7 @@ module _ (whole_left whole_right sum rs ss : List EdgeRow) (so_far : IsRowSumSoF
 
 -- ---- the rows above the next one that is added
 
--- a sum so far that ends above row y or at it
+-- a sum so far that ends at row y or above it
 pub record IsRowSumAbove (whole_left whole_right sum rs ss : List EdgeRow) (y : ℤ) : Type 0 where
   pub so_far : IsRowSumSoFar whole_left whole_right sum rs ss
   pub reach : y ≤ℤ so_far.top

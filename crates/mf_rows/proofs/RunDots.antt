@@ -1,4 +1,4 @@
--- The dots of a run, and dots with a run behind them.
+-- The dots of a run, and dots followed by a run.
 use Rattle.std.proofs.Common.{◌≡◌, ◌≢◌, ℕ, zero, suc, ◌+◌, ◌&&◌, if◌then◌else◌, ℤ, pos, ◌+ℤ◌, ◌≤ℤ◌, ◌<ℤ◌, List, [], ◌∷◌, ◌++◌, refl, ap, ◌∙◌, subst, add-one, arith}
 use Rattle.std.specs.Ordering.{int_eq}
 use Rattle.std.proofs.lemmas.Int.{ints, by_lt_z}
@@ -30,7 +30,7 @@ stretch-more y x w (suc n) =
     rw add-one (ap (λ others. record { y = y; x = x; weight = w } ∷ others)
     (rw add-one at (stretch-more y (x +ℤ pos 1) w n) ∙ rw shifted))
 
--- a picture with a run that fits behind it is a picture
+-- a picture followed by a run that fits is a picture
 pub picture-push : (ds : List Dot) (r : Run) → IsPicture ds → Fits ds r → IsPicture (ds ++ dots_of r)
 unfolding dots_of
 picture-push ds r picture fits =
@@ -62,7 +62,7 @@ weight_at-off_stretch y x w (suc n) u v off =
     weight_at-elsewhere (record { y = y; x = x; weight = w }) (stretch y (x +ℤ pos 1) w n) u v (λ here. off here.row (omega (arith, ints, here.column)) (omega (arith, ints, here.column)))
     ∙ weight_at-off_stretch y (x +ℤ pos 1) w n u v (λ row left right. off row (omega (arith, ints)) (omega (arith, ints)))
 
--- dots that all stand before a pixel say nothing of it
+-- dots that all come before a pixel do not affect it
 pub weight_at-append_after : (ds es : List Dot) (x y : ℤ) → AreBefore (place x y) ds → weight_at (ds ++ es) x y ≡ weight_at es x y
 weight_at-append_after [] es x y before = refl
 weight_at-append_after (d ∷ ds) es x y before =
@@ -70,7 +70,7 @@ weight_at-append_after (d ∷ ds) es x y before =
     weight_at-elsewhere d (ds ++ es) x y (not_at d x y (λ same. omega (arith, ints)))
     ∙ weight_at-append_after ds es x y (All-tail (λ d. place d.x d.y <ℤ place x y) d ds before)
 
--- nor do dots behind others, where they give a pixel weight 0
+-- nor do dots at the end that give the pixel weight 0
 pub weight_at-append_none : (ds es : List Dot) (x y : ℤ) → weight_at es x y ≡ pos 0 → weight_at (ds ++ es) x y ≡ weight_at ds x y
 unfolding weight_at
 weight_at-append_none [] es x y none = none

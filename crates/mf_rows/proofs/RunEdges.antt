@@ -1,4 +1,4 @@
--- The two edges of a run, behind the edges of its row.
+-- The two edges of a run, after the edges of its row.
 use Rattle.std.proofs.Common.{◌≡◌, ◌≢◌, ℕ, zero, suc, ◌-◌, ◌<◌, ℤ, pos, negsuc, ◌+ℤ◌, ◌-ℤ◌, ◌≤ℤ◌, ◌<ℤ◌, int_le, true, false, List, [], ◌∷◌, length, get_or, refl, sym, ap, ◌∙◌, subst, arith}
 use Rattle.std.proofs.lemmas.Bool.{cond-true, cond-false}
 use Rattle.std.proofs.lemmas.Int.{ints, by_lt_z}
@@ -26,14 +26,14 @@ EndAt-from_last low (e ∷ f ∷ es) (suc k) d x edges last le =
     let first : f.x ≤ℤ x = All-head (λ e. e.x ≤ℤ x) f es others in
     All-cons (λ e. e.x ≤ℤ x) e (f ∷ es) (omega (arith, ints)) others
 
--- the last of sorted edges says where they end
+-- the last of sorted edges says where the edges end
 pub last_decides_end : (es : List Edge) (last : Edge) (x : ℤ) → AreEdges es → 0 < length es → last ≡ get_or es (length es - 1) last → (last.x ≤ℤ x → EndAt x es) × (EndAt x es → last.x ≤ℤ x)
 last_decides_end es last x edges some is_last = (
   λ le. EndAt-from_last (negsuc 4094) es (length es - 1) last x edges.sorted (omega arith) (subst (λ e. e.x ≤ℤ x) is_last le),
   λ end. subst (λ e. e.x ≤ℤ x) (sym is_last) (end (length es - 1) last (omega arith)),
 )
 
--- the weights change at each edge, so they are constant only behind all edges
+-- the weights change at each edge, so they are constant only after all edges
 pub EndAt-from_constant : (low : ℤ) (es : List Edge) (x w : ℤ) → AreEdgesFrom low es → ((u : ℤ) → x ≤ℤ u → weight_in es u ≡ w) → EndAt x es
 EndAt-from_constant low [] x w edges constant = All-nil (λ e. e.x ≤ℤ x)
 EndAt-from_constant low (e ∷ es) x w edges constant =
@@ -59,7 +59,7 @@ pub no_edges : AreEdges []
 unfolding weight_in
 no_edges = record { sorted = tt; lawful = λ x. record { least = omega (arith, ints); greatest = omega (arith, ints) }; closed = refl }
 
--- behind all edges the weight stays as it is
+-- after all edges the weight stays as it is
 pub weight_in-constant : (es : List Edge) (x u : ℤ) → EndAt x es → x ≤ℤ u → weight_in es u ≡ weight_in es x
 unfolding weight_in
 weight_in-constant [] x u end le = refl
@@ -70,7 +70,7 @@ weight_in-constant (e ∷ es) x u end le =
     let others = weight_in-constant es x u (All-tail (λ e. e.x ≤ℤ x) e es end) le in
     omega (arith, ints)
 
--- behind all edges of a row the weight is 0
+-- after all edges of a row the weight is 0
 pub weight_in-end : (es : List Edge) (x u : ℤ) → AreEdges es → EndAt x es → x ≤ℤ u → weight_in es u ≡ pos 0
 weight_in-end es x u edges end le =
     by_lt_z u (pos 4095)
@@ -103,18 +103,18 @@ with_edge_in-before : (es : List Edge) (x w c : ℤ) → c <ℤ x → with_edge_
 unfolding with_edge_in
 with_edge_in-before es x w c before = omega (arith, ints, cond-false (int_le x c) w (pos 0) (gt_test x c before))
 
--- a column is left of a run, in it, or right of it
+-- a column is to the left of a run, in it, or to the right of it
 pub by_columns : {P : Type 0} (r : Run) (c : ℤ) → (c <ℤ r.x → P) → (r.x ≤ℤ c → c <ℤ (r.x +ℤ pos r.len) → P) → ((r.x +ℤ pos r.len) ≤ℤ c → P) → P
 by_columns r c left inside right = by_lt_z c r.x left (λ from. by_lt_z c (r.x +ℤ pos r.len) (inside from) right)
 
--- with the first edge of a run behind its edges, a row has the run's weight from there on
+-- with the first edge of a run after its edges, a row has the run's weight from there on
 weight-from_run : (es mid : List Edge) (r : Run) (c : ℤ) → AreEdges es → EndAt r.x es → HaveWeights (with_edge_in es r.x r.weight) mid → r.x ≤ℤ c → weight_in mid c ≡ r.weight
 weight-from_run es mid r c edges end first from =
     let none = weight_in-end es r.x c edges end from in
     let sum = with_edge_in-from es r.x r.weight c from in
     omega (arith, ints, first.weights c)
 
--- so its weights are lawful still
+-- so its weights are still lawful
 pub run_begun : (es mid : List Edge) (r : Run) → AreEdges es → EndAt r.x es → IsLawfulWeight r.weight → AreEdgesFrom (negsuc 4094) mid → HaveWeights (with_edge_in es r.x r.weight) mid → AreOpenEdges mid
 run_begun es mid r edges end lawful sorted first = record {
   sorted = sorted;
@@ -123,12 +123,12 @@ run_begun es mid r edges end lawful sorted first = record {
       (λ from. subst IsLawfulWeight (sym (weight-from_run es mid r c edges end first from)) lawful);
 }
 
--- the weights of edges to which a run is added
+-- the weights of edges after a run is added to them
 record HaveRun (es : List Edge) (r : Run) (new : List Edge) : Type 0 where
   pub inside : (c : ℤ) → r.x ≤ℤ c → c <ℤ (r.x +ℤ pos r.len) → weight_in new c ≡ r.weight
   pub outside : (c : ℤ) → (r.x ≤ℤ c → c <ℤ (r.x +ℤ pos r.len) → ⊥) → weight_in new c ≡ weight_in es c
 
--- the second edge of the run takes its weight away again
+-- the second edge of the run takes the run's weight away again
 run_ended : (es mid new : List Edge) (r : Run) → AreEdges es → EndAt r.x es → HaveWeights (with_edge_in es r.x r.weight) mid → HaveWeights (with_edge_in mid (r.x +ℤ pos r.len) (pos 0 -ℤ r.weight)) new → HaveRun es r new
 run_ended es mid new r edges end first second =
     let end_of_run = r.x +ℤ pos r.len in
@@ -144,7 +144,7 @@ run_ended es mid new r edges end first second =
           omega (arith, ints, second.weights c));
     }
 
--- and leaves lawful edges
+-- which leaves lawful edges
 lawful_run : (es new : List Edge) (r : Run) → AreEdges es → IsRun r → AreEdgesFrom (negsuc 4094) new → HaveRun es r new → AreEdges new
 lawful_run es new r edges run sorted have =
     let outside = λ (c : ℤ) (out : r.x ≤ℤ c → c <ℤ (r.x +ℤ pos r.len) → ⊥). subst IsLawfulWeight (sym (have.outside c out)) (edges.lawful c) in
@@ -157,7 +157,7 @@ lawful_run es new r edges run sorted have =
       closed = have.outside (pos 4095) (λ from to. omega (arith, ints, run.right)) ∙ edges.closed;
     }
 
--- so the run is added by two edges
+-- so two edges add the run
 pub run_added : (old new : EdgeRow) (mid : List Edge) (r : Run) → IsRun r → AreEdges old.edges → EndAt r.x old.edges → new.y ≡ r.y → AreEdgesFrom (negsuc 4094) new.edges → HaveWeights (with_edge_in old.edges r.x r.weight) mid → HaveWeights (with_edge_in mid (r.x +ℤ pos r.len) (pos 0 -ℤ r.weight)) new.edges → HasRun old r new
 run_added old new mid r run edges end row sorted first second =
     let have = run_ended old.edges mid new.edges r edges end first second in

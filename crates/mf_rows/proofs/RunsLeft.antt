@@ -1,4 +1,4 @@
--- How the runs that are still to come change as a walk goes on.
+-- How the runs that are still to come change as a walk moves on.
 use Rattle.std.proofs.Common.{◌≡◌, ◌≢◌, ◌<◌, ℤ, pos, negsuc, ◌+ℤ◌, ◌-ℤ◌, FitsSigned, to_z, of_z, w32, List, [], ◌∷◌, ◌++◌, length, get_or, refl, subst, arith}
 use Rattle.std.specs.Int.RustNames.{unsigned_abs}
 use Rattle.std.specs.Ordering.{int_eq}
@@ -15,15 +15,15 @@ use Rattle.mf_rows.specs.Walk.{run_up_to, runs_of_edges, runs_of_rows}
 use Rattle.mf_rows.proofs.EdgeRuns.{rest_of_edges, rest_none, rest_next, rest_lawful}
 use Rattle.mf_edges.proofs.EdgesLemmas.{edges_from-lower, weight_in-before}
 
--- behind the last edge of a row the weight is 0
+-- after the last edge of a row the weight is 0
 pub weight_none : (w : ℤ) (es : List Edge) → es ≡ [] → IsRestOfRow (negsuc 4094) w es → w ≡ pos 0
 weight_none w es none rest = rest_none (negsuc 4094) w (subst (IsRestOfRow (negsuc 4094) w) none rest)
 
--- where a row is over, the next one is lawful behind it
+-- where a row is finished, the next row is lawful after it
 pub rest_entered : (w : ℤ) (es : List Edge) (r : EdgeRow) (rs : List EdgeRow) → es ≡ [] → IsRestOfRow (negsuc 4094) w es → AreEdgeRows (r ∷ rs) → IsRestOfRow (negsuc 4094) w r.edges
 rest_entered w es r rs none rest rows = rw (weight_none w es none rest) (rest_of_edges r.edges (All-head IsEdgeRow r rs rows).edges)
 
--- and its runs are the next ones
+-- and the runs of that row are the next ones
 pub runs_entered : (y w : ℤ) (es : List Edge) (r : EdgeRow) (rs : List EdgeRow) → es ≡ [] → IsRestOfRow (negsuc 4094) w es → runs_of_edges r.y w r.edges ++ runs_of_rows rs ≡ runs_of_edges y w es ++ runs_of_rows (r ∷ rs)
 unfolding runs_of_edges
 runs_entered y w es r rs none rest = rw (none, weight_none w es none rest) refl
@@ -32,13 +32,13 @@ runs_entered y w es r rs none rest = rw (none, weight_none w es none rest) refl
 pub rest_taken : (w : ℤ) (e : Edge) (es fs : List Edge) → es ≡ e ∷ fs → IsRestOfRow (negsuc 4094) w es → IsRestOfRow (negsuc 4094) w (e ∷ fs)
 rest_taken w e es fs cases rest = subst (IsRestOfRow (negsuc 4094) w) cases rest
 
--- what is left behind it
+-- what is left of the row after that edge
 pub rest_behind : (w : ℤ) (e : Edge) (es : List Edge) → IsRestOfRow (negsuc 4094) w (e ∷ es) → IsRestOfRow (negsuc 4094) (w +ℤ e.weight) es
 rest_behind w e es rest =
     let next = rest_next (negsuc 4094) w e es rest in
     record { sorted = edges_from-lower (negsuc 4094) (e.x +ℤ pos 1) es (omega (arith, ints, rest.sorted.0.left)) next.sorted; lawful = next.lawful; closed = next.closed }
 
--- the weight right of the edge fits
+-- the weight to the right of the edge fits
 pub fits_taken : (w : ℤ) (e : Edge) (es : List Edge) → IsRestOfRow (negsuc 4094) w (e ∷ es) → FitsSigned w32 (to_z w32 (of_z w32 w) +ℤ to_z w32 (of_z w32 e.weight))
 fits_taken w e es rest =
     let before = rest.lawful (negsuc 4095) in
@@ -46,7 +46,7 @@ fits_taken w e es rest =
     let behind = rest_lawful (negsuc 4094) w e es rest in
     omega (arith, ints, before.least, before.greatest, behind.least, behind.greatest)
 
--- and is the sum
+-- and is the sum of the weight before it and the edge's
 pub weight_taken : (w : ℤ) (e : Edge) (es : List Edge) → IsRestOfRow (negsuc 4094) w (e ∷ es) → to_z w32 (of_z w32 (to_z w32 (of_z w32 w) +ℤ to_z w32 (of_z w32 e.weight))) ≡ w +ℤ e.weight
 weight_taken w e es rest =
     let before = rest.lawful (negsuc 4095) in
@@ -54,11 +54,11 @@ weight_taken w e es rest =
     let behind = rest_lawful (negsuc 4094) w e es rest in
     omega (arith, ints, before.least, before.greatest, behind.least, behind.greatest)
 
--- which is another weight
+-- which differs from the weight before it
 pub weight_changed : (w : ℤ) (e : Edge) (es : List Edge) → IsRestOfRow (negsuc 4094) w (e ∷ es) → (w +ℤ e.weight) ≢ w
 weight_changed w e es rest same = rest.sorted.0.nonzero (omega (arith, ints, same))
 
--- the column of the edge fits too
+-- the column of the edge fits, too
 pub column_taken : (w : ℤ) (e : Edge) (es : List Edge) → IsRestOfRow (negsuc 4094) w (e ∷ es) → to_z w32 (of_z w32 e.x) ≡ e.x
 column_taken w e es rest = omega (arith, ints, rest.sorted.0.left, rest.sorted.0.right)
 

@@ -9,7 +9,7 @@ use Rattle.mf_rows.specs.declared.run.Run.{Run}
 use Rattle.mf_rows.specs.Dots.{Dot}
 use Rattle.mf_rows.specs.Runs.{stretch, dots_of, continues, run_from, with_dot, runs_of, IsFollowedBy, AreMaximal}
 
--- a dot continues a run exactly where the run follows the dot's own
+-- a dot continues a run exactly where the run follows that of the dot alone
 pub continued : (d : Dot) (r : Run) → Decides (continues d r) (IsFollowedBy (run_from d 0) r)
 unfolding continues run_from
 continued d r =
@@ -19,7 +19,7 @@ continued d r =
 same_stretch : (y x w v u m : ℤ) (n : ℕ) → y ≡ v → x ≡ u → w ≡ m → stretch y x w n ≡ stretch v u m n
 same_stretch y x w v u m n row column weight = cc
 
--- a run with one more dot at its left end has that dot and its own
+-- a run with one more dot at its left end has that dot and its own dots
 lengthened : (d : Dot) (r : Run) → IsFollowedBy (run_from d 0) r → dots_of (run_from d r.len) ≡ d ∷ dots_of r
 unfolding run_from dots_of stretch
 lengthened d r followed = ap (λ others. d ∷ others) (same_stretch _ _ _ _ _ _ r.len followed.row followed.column followed.weight)
@@ -38,7 +38,7 @@ unfolding runs_of
 dots_of-runs_of [] = refl
 dots_of-runs_of (d ∷ ds) = dots_of-with_dot d (runs_of ds) ∙ ap (λ others. d ∷ others) (dots_of-runs_of ds)
 
--- a longer run ends where it ended, so the next does not follow it either
+-- a lengthened run ends where it did, so the next run does not follow it either
 maximal_lengthened : (d : Dot) (r : Run) (rs : List Run) → IsFollowedBy (run_from d 0) r → AreMaximal (r ∷ rs) → AreMaximal (run_from d r.len ∷ rs)
 unfolding run_from
 maximal_lengthened d r [] joined maximal = tt
@@ -59,7 +59,7 @@ unfolding runs_of
 maximal_runs_of [] = tt
 maximal_runs_of (d ∷ ds) = maximal_with_dot d (runs_of ds) (maximal_runs_of ds)
 
--- how many of the dots behind a dot belong to its run
+-- how many of the dots after a dot belong to its run
 unfoldable pub more_after : Dot → List Dot → ℕ
 more_after d [] = 0
 more_after d (e ∷ es) = if continues d (run_from e 0) then suc (more_after e es) else 0

@@ -1,4 +1,4 @@
--- What a stretch that stays inside the field needs of the rows and edges of a picture, and the picture that it gives.
+-- What a stretch that stays in the field requires of the rows and edges of a picture, and the picture that it makes.
 use Rattle.std.proofs.Common.{◌≡◌, ◌≢◌, ℤ, pos, negsuc, ◌+ℤ◌, ◌-ℤ◌, ◌≤ℤ◌, List, [], ◌∷◌, refl, sym, subst, ◌∙◌, arith}
 use Rattle.std.specs.List.{All}
 use Rattle.std.proofs.lemmas.Int.{ints}
@@ -34,7 +34,7 @@ holds_at_weight P (d ∷ ds) x y all nonzero =
 
 -- ---- rows
 
--- a row has its weights among rows, of which none stands higher than `top`
+-- a row gives these rows its weights, where none of them is higher than `top`
 record IsOneOf (top : ℤ) (rs : List EdgeRow) (r : EdgeRow) : Type 0 where
   row : IsEdgeRow r
   reach : r.y ≤ℤ top
@@ -66,7 +66,7 @@ first_weight low (e ∷ es) some edges use_at =
     let here = weight_in-left e es e.x (omega (arith, ints)) in
     use_at e.x (λ zero. edges.0.nonzero (omega (arith, ints)))
 
--- so a stretch keeps rows inside where it keeps the pixels of nonzero weight inside
+-- so a stretch keeps rows in the field where it keeps the pixels of nonzero weight there
 pub rows_stay : (s : Stretch) (rs : List EdgeRow) → AreRows rs → ((x y : ℤ) → weight_in_rows rs x y ≢ pos 0 → PlaceStaysInside s y) → AllowStretch s rs
 rows_stay s rs rows inside =
     All-weaker (IsOneOf (pos 4094) rs) (λ r. PlaceStaysInside s r.y)
@@ -106,7 +106,7 @@ jumps low (e ∷ es) edges =
           omega (arith, ints);
     }) es (jumps (e.x +ℤ pos 1) es edges.2))
 
--- so the pixel at the edge or the one left of it is not 0, and the edge is at an end of its stretch
+-- so the pixel at the edge or the one to its left is not 0, and the edge goes to an end of that pixel's stretched part
 edges_stay : (s : Stretch) (low : ℤ) (es : List Edge) → AreEdgesFrom low es → ((x : ℤ) → weight_in es x ≢ pos 0 → PlaceStaysInside s x) → All (λ e. IsPointInReach (stretched_to s e.x)) es
 edges_stay s low es edges inside =
     All-weaker (IsJump low es) (λ e. IsPointInReach (stretched_to s e.x))
@@ -132,7 +132,7 @@ module _ (columns rows : Stretch) (rs : List EdgeRow) (lawful : AreRows rs) wher
       columns_stay columns rs lawful (λ x y nonzero. holds_at_weight (λ a b. PlaceStaysInside columns a) (picture_of_rows rs) x y inside.across
       (λ zero. nonzero (sym (weight_at-picture_of_rows rs x y lawful) ∙ zero)))
 
-  -- rows keep their heights where their columns are stretched
+  -- rows keep their heights when their columns are stretched
   pub rows_allowed : (changed : List EdgeRow) → PixelsStayInside columns rows (picture_of_rows rs) → AreRows changed → HaveRowWeights (changed_in_rows (change.Columns columns) rs) changed → AllowStretch rows changed
   unfolding changed_in_rows
   rows_allowed changed inside lawful_changed has =

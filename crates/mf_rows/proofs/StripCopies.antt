@@ -1,4 +1,4 @@
--- Strips of rows of the same edges, which are pushed from the top.
+-- Strips of rows with the same edges, pushed from the top down.
 use Rattle.std.proofs.Common.{◌≡◌, ◌≢◌, ℕ, zero, suc, ℤ, pos, negsuc, ◌+ℤ◌, ◌-ℤ◌, ◌≤ℤ◌, ◌<ℤ◌, List, [], ◌∷◌, ◌++◌, refl, sym, ap, ◌∙◌, append_assoc, append-nil, to_z, of_z, w32, arith}
 use Rattle.std.specs.Int.RustNames.{unsigned_abs}
 use Rattle.std.proofs.lemmas.Int.{ints}
@@ -9,7 +9,7 @@ use Rattle.mf_rows.specs.RowMoves.{strip}
 use Rattle.mf_rows.specs.Strips.{HasStrip}
 use Rattle.mf_rows.proofs.StripsLemmas.{pushed_row}
 
--- behind old rows there are now the first `down` rows of a strip: with the others they are all
+-- the old rows are followed by the first `down` rows of a strip
 pub record AreCopiesSoFar (old : List EdgeRow) (es : List Edge) (bottom top down : ℤ) (new : List EdgeRow) : Type 0 where
   pub all : new ++ strip bottom es (unsigned_abs ((top -ℤ bottom) -ℤ down)) ≡ old ++ strip bottom es (unsigned_abs (top -ℤ bottom))
 
@@ -18,7 +18,7 @@ copies_none old es bottom top =
     let all : (top -ℤ bottom) -ℤ pos 0 ≡ top -ℤ bottom = omega (arith, ints) in
     record { all = rw all refl }
 
--- a number and the next one, as sizes
+-- a number and the next one, as naturals
 record AreSizes (larger smaller : ℤ) : Type 0 where
   next : unsigned_abs larger ≡ suc (unsigned_abs smaller)
   size : pos (unsigned_abs smaller) ≡ smaller
@@ -44,7 +44,7 @@ copies_all old es bottom top down new end so_far =
     let none : (top -ℤ bottom) -ℤ down ≡ pos 0 = omega (arith, ints) in
     sym (append-nil new) ∙ rw none at so_far.all
 
--- where the next row stands, as the code computes it
+-- the height of the next row, as the code computes it
 pub record NextPlace (bottom top down : ℤ) : Type 0 where
   pub more : to_z w32 (of_z w32 (down +ℤ pos 1)) ≡ down +ℤ pos 1
   pub row : to_z w32 (of_z w32 (to_z w32 (of_z w32 (top -ℤ pos 1)) -ℤ down)) ≡ top -ℤ (down +ℤ pos 1)
@@ -57,7 +57,7 @@ next_place bottom top down low high least greatest = record {
   least = omega (arith, ints);
 }
 
--- a strip of lawful edges that are some goes below rows
+-- a strip with edges goes below the rows that are there
 pub pushed_strip : (old rows : List EdgeRow) (es : List Edge) (n : ℕ) (bottom high top : ℤ) → HasStrip old es high top rows → high ≡ bottom +ℤ pos n → negsuc 4094 ≤ℤ bottom → high ≤ℤ top → top ≤ℤ pos 4095 → es ≢ [] → AreEdges es → HasStrip old es bottom top (rows ++ strip bottom es n)
 unfolding strip
 pushed_strip old rows es zero bottom high top have next low under in_reach some edges =

@@ -1,4 +1,4 @@
--- Rows that go below others, a strip of the same edges at a time.
+-- Rows that are put below others, a strip with the same edges at a time.
 use Rattle.std.proofs.Common.{◌≡◌, ◌≢◌, ℤ, pos, negsuc, ◌+ℤ◌, ◌≤ℤ◌, ◌<ℤ◌, List, [], ◌∷◌, ◌++◌, ◌⊎◌, inl, inr, refl, sym, ◌∙◌, arith}
 use Rattle.std.proofs.lemmas.Int.{ints, by_lt_z}
 use Rattle.std.proofs.lemmas.List.Elements.{All-cons, All-nil, All-push, All-weaker}
@@ -9,7 +9,7 @@ use Rattle.mf_rows.specs.EdgeRows.{EdgeRow, IsEdgeRow, weight_in_rows}
 use Rattle.mf_rows.specs.Strips.{ReachDownTo, HasStrip}
 use Rattle.mf_rows.proofs.EdgeRowsLemmas.{weight_in_rows-append, weight_in_rows-here, weight_in_rows-elsewhere, weight_in_rows-above, rows_from-append}
 
--- rows have no weight below the height to which they reach
+-- rows have no weight below the height down to which they reach
 pub below_reach : (bottom : ℤ) (rs : List EdgeRow) (x y : ℤ) → ReachDownTo bottom rs → y <ℤ bottom → weight_in_rows rs x y ≡ pos 0
 below_reach bottom rs x y down lt =
     weight_in_rows-above rs x y (All-weaker (λ r. bottom ≤ℤ r.y) (λ r. y <ℤ r.y) (λ r le. omega (arith, ints, le, lt)) rs down.reach)
@@ -44,7 +44,7 @@ module _ (old rs : List EdgeRow) (es : List Edge) (bottom high top : ℤ) (have 
         reach = All-push (λ r. bottom ≤ℤ r.y) rs bottom_row (reach_lower bottom high rs (omega (arith, ints, next)) have.rows).reach (omega (arith, ints));
       }
 
-  -- the new row has its weights, and adds none elsewhere
+  -- the new row has the strip's weights, and adds none elsewhere
   weight_at_bottom : (x : ℤ) → weight_in_rows (rs ++ bottom_row ∷ []) x bottom ≡ weight_in es x
   unfolding weight_in_rows
   weight_at_bottom x =

@@ -44,7 +44,7 @@ weight_size : (w : ℤ) → IsLawfulWeight w → unsigned_abs w ≤ 32767
 weight_size (pos n) lawful = omega (arith, ints, lawful.greatest)
 weight_size (negsuc n) lawful = omega (arith, ints, lawful.least)
 
--- the sum of a run's weights is far from the ends of an i64
+-- the sum of a run's weights is far within the range of an i64
 pub run_total_fits : (r : Run) → IsRun r → FitsSigned w64 (pos r.len *ℤ r.weight)
 run_total_fits r run = fits_signed_mul w64 (pos r.len) r.weight 8190 32767 (omega (arith, ints, run.left, run.right)) (weight_size r.weight run.lawful) (omega arith)
 
@@ -53,7 +53,7 @@ unfolding total_of
 total_of-append [] es = omega (arith, ints)
 total_of-append (d ∷ ds) es = omega (arith, ints, total_of-append ds es)
 
--- a sum of lawful weights, between -32767 and 32767 times their number
+-- a sum of n lawful weights is between -32767 and 32767 times n
 pub record IsSumOf (n : ℕ) (sum : ℤ) : Type 0 where
   pub least : pos 0 ≤ℤ (sum +ℤ pos (32767 * n))
   pub greatest : sum ≤ℤ pos (32767 * n)
@@ -86,7 +86,7 @@ total_more ds rs r others sum first so_far = record {
 pub total_all : (ds : List Dot) (rs : List Run) (sum : ℤ) → rs ≡ [] → IsTotalBefore ds rs sum → sum ≡ total_of ds
 total_all ds rs sum none so_far = so_far.value ∙ ap total_of (all_passed ds rs so_far.passed none so_far.passes)
 
--- the sum is far from the ends of an i64
+-- the sum is far within the range of an i64
 pub total_fits : (ds : List Dot) (rs : List Run) (sum : ℤ) → IsPicture ds → IsTotalBefore ds rs sum → FitsSigned w64 sum
 total_fits ds rs sum picture so_far =
     let bounds = sum_of_lawful so_far.passed (passed_are_lawful ds rs so_far.passed picture so_far.passes) in

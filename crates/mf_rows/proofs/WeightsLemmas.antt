@@ -1,4 +1,4 @@
--- Pictures are given by their weights.
+-- Pictures are determined by their weights.
 use Rattle.std.proofs.Common.{◌≡◌, ℕ, zero, suc, ℤ, pos, negsuc, ◌+ℤ◌, ◌-ℤ◌, ◌≤ℤ◌, ◌<ℤ◌, List, [], ◌∷◌, ◌++◌, refl, sym, ap, ◌∙◌, subst, arith}
 use Rattle.std.specs.List.{All}
 use Rattle.std.specs.Ordering.{int_eq}
@@ -18,14 +18,14 @@ use Rattle.mf_rows.proofs.PlacesLemmas.{AreColumns, first_column, next_columns, 
 same_dot : (d e : Dot) → d.y ≡ e.y → d.x ≡ e.x → d.weight ≡ e.weight → d ≡ e
 same_dot d e row column weight = λ i. record { y = row i; x = column i; weight = weight i }
 
--- a dot's weight is missing where all dots come later
+-- a picture lacks a dot's weight where all its dots come later
 first_missing : (low : ℤ) (d : Dot) (ds es : List Dot) → AreDotsFrom low (d ∷ ds) → AreDotsFrom (place d.x d.y +ℤ pos 1) es → weight_at (d ∷ ds) d.x d.y ≡ weight_at es d.x d.y → ⊥
 first_missing low d ds es dots later same =
     dots.0.nonzero
     (sym (weight_at-here d ds d.x d.y (record { column = refl; row = refl }))
     ∙ same ∙ weight_at-before (place d.x d.y +ℤ pos 1) es d.x d.y later (omega (arith, ints)))
 
--- behind a common first dot the weights are equal too
+-- after a common first dot the weights are equal, too
 same_tails : (d : Dot) (ds es : List Dot) → AreDotsFrom (place d.x d.y +ℤ pos 1) ds → AreDotsFrom (place d.x d.y +ℤ pos 1) es → HaveSameWeights (d ∷ ds) (d ∷ es) → HaveSameWeights ds es
 same_tails d ds es left right weights = record {
   same = λ x y inside.
@@ -63,7 +63,7 @@ same_pictures ds es left right weights = same_from start_of_field ds es left.dot
 
 -- ---- the picture of given weights is lawful
 
--- a row of weights may stand before dots of later places
+-- the dots of a row may come before dots at later places
 row_from : (f : ℤ → ℤ → ℤ) (y x : ℤ) (n : ℕ) (es : List Dot) → AreColumns x y n → ((u v : ℤ) → IsInField u v → IsLawfulWeight (f u v)) → AreDotsFrom (place (x +ℤ pos n) y) es → AreDotsFrom (place x y) (row_of f y x n ++ es)
 unfolding row_of
 row_from f y x zero es columns lawful later = subst (λ u. AreDotsFrom (place u y) es) (omega (arith, ints)) later

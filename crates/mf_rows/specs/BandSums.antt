@@ -18,35 +18,35 @@ lowest_of n = pos 4079 -ℤ (pos 16 *ℤ n)
 abbrev pub AreUpTo : ℤ → List EdgeRow → Type 0
 AreUpTo n rs = AreAbove (lowest_of n -ℤ pos 1) rs
 
--- rows that belong to bands behind band n
+-- rows that belong to bands after band n
 abbrev pub AreBehind : ℤ → List EdgeRow → Type 0
 AreBehind n rs = AreBelow (lowest_of n) rs
 
--- bands with numbers behind n
+-- bands with numbers greater than n
 abbrev pub AreNumberedBehind : ℤ → List (Arc Band Global) → Type 0
 AreNumberedBehind n bs = All (λ (b : Arc Band Global). n <ℤ (arc_value b).number) bs
 
--- the first band has a number up to n
+-- there is a first band, and its number is at most n
 abbrev pub BeginUpTo : ℤ → List (Arc Band Global) → Type 0
 BeginUpTo n [] = ⊥
 BeginUpTo n (b ∷ bs) = (arc_value b).number ≤ℤ n
 
--- the number up to which bands are added in one step, by the numbers of the first ones: theirs where it is the same, else the
--- one before the greater of them
+-- the number up to which bands are added in one step, from the numbers of the first ones: theirs where it is the same,
+-- else the one before the greater of them
 abbrev pub end_of : ℤ → ℤ → ℤ
 end_of m n = if int_eq m n then m else (int_max m n -ℤ pos 1)
 
--- a step ends as the first bands of two lists say
+-- a step ends at number n, as the first bands of two lists say
 abbrev pub EndsStep : List (Arc Band Global) → List (Arc Band Global) → ℤ → Type 0
 EndsStep [] cs n = ⊥
 EndsStep (b ∷ bs) [] n = ⊥
 EndsStep (b ∷ bs) (c ∷ cs) n = n ≡ end_of (arc_value b).number (arc_value c).number
 
--- the first band of one of two lists has a number up to n
+-- the first band of one of two lists has a number of at most n
 pub record IsStep (bs cs : List (Arc Band Global)) (n : ℤ) : Type 0 where
   pub reached : BeginUpTo n bs ⊎ BeginUpTo n cs
 
--- behind rows there are now rows with the weights of two lists of rows together, which reach no further than these
+-- rows were appended that have the weights of two lists of rows together and reach no further than these
 pub record HasSum (before rs ss after : List EdgeRow) : Type 0 where
   pub more : List EdgeRow
   pub all : after ≡ before ++ more

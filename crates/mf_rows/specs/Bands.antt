@@ -21,7 +21,7 @@ edge_rows rows = map edge_row rows
 abbrev pub rows_in : Band → List EdgeRow
 rows_in band = edge_rows band.rows.items
 
--- the height of the last of some rows, 0 where there are none
+-- the height of the last of these rows, 0 where there are none
 abbrev pub last_height : List EdgeRow → ℤ
 last_height [] = pos 0
 last_height (r ∷ []) = r.y
@@ -35,7 +35,7 @@ bottom_of band = last_height (rows_in band)
 abbrev pub rows_of_bands : List (Arc Band Global) → List EdgeRow
 rows_of_bands bands = flat_map (λ band. rows_in (arc_value band)) bands
 
--- these are lawful edges, which have the weights of row y
+-- row y has these edges, which are lawful
 pub record HasRow (rs : List EdgeRow) (y : ℤ) (es : List Edge) : Type 0 where
   pub edges : AreEdges es
   pub weights : (x : ℤ) → weight_in_rows rs x y ≡ weight_in es x
@@ -44,7 +44,7 @@ pub record HasRow (rs : List EdgeRow) (y : ℤ) (es : List Edge) : Type 0 where
 pub record HasNoRow (rs : List EdgeRow) (y : ℤ) : Type 0 where
   pub weights : (x : ℤ) → weight_in_rows rs x y ≡ pos 0
 
--- row y is the same in some rows as in all of them
+-- row y is the same in these rows as in all of them
 pub record HasSameRow (all : List EdgeRow) (y : ℤ) (rs : List EdgeRow) : Type 0 where
   pub lawful : AreRows rs
   pub weights : (x : ℤ) → weight_in_rows all x y ≡ weight_in_rows rs x y

@@ -8,15 +8,15 @@ use Rattle.mf_rows.specs.declared.run.Run.{Run}
 use Rattle.mf_edges.specs.Edges.{AreEdges, weight_in}
 use Rattle.mf_rows.specs.EdgeRows.{EdgeRow}
 
--- a row that gets its runs, as its edges
+-- a row that is being built, as its edges
 abbrev pub open_row : OpenRow → EdgeRow
 open_row r = record { y = r.y; edges = r.edges.items }
 
--- rows that get their runs, as their edges
+-- rows that are being built, as their edges
 abbrev pub open_rows : List OpenRow → List EdgeRow
 open_rows rows = map open_row rows
 
--- the last of the rows is row y
+-- there is a last row, and it is row y
 pub record EndInRow (rows : List OpenRow) (y : ℤ) : Type 0 where
   pub some : 0 < length rows
   pub last : HoldsAt (λ r. r.y ≡ y) rows (length rows - 1)
@@ -25,16 +25,16 @@ pub record EndInRow (rows : List OpenRow) (y : ℤ) : Type 0 where
 abbrev pub HasRoom : OpenRow → Type 0
 HasRoom r = vec_len r.edges + 2 ≤ vec_capacity r.edges
 
--- edges that stand at or left of column x
+-- edges at or to the left of column x
 abbrev pub EndAt : ℤ → List Edge → Type 0
 EndAt x es = All (λ e. e.x ≤ℤ x) es
 
--- a row ends before a run: the run is in a row below, or it is in this row and begins at or right of all edges
+-- a row ends before a run: the run is in a row below, or it is in this row and begins at or to the right of all edges
 pub record EndsBefore (last : EdgeRow) (r : Run) : Type 0 where
   pub row : r.y ≤ℤ last.y
   pub columns : last.y ≡ r.y → EndAt r.x last.edges
 
--- a row to which a run is added: its columns have its weight, and all others the weights that they had
+-- the new row has the run's weight in the run's columns, and the old weights in all others
 pub record HasRun (old : EdgeRow) (r : Run) (new : EdgeRow) : Type 0 where
   pub row : new.y ≡ r.y
   pub edges : AreEdges new.edges

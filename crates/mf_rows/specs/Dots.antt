@@ -1,5 +1,5 @@
--- Pictures as maps from pixels to weights (The METAFONTbook, chapter 13): the list of their pixels of
--- nonzero weight in reading order, rows from the top and columns rising.
+-- Pictures as maps from pixels to weights (The METAFONTbook, chapter 13): the list of the pixels of nonzero weight in
+-- reading order, rows from the top down and columns from left to right.
 use Rattle.std.specs.Prelude.{◌≢◌, ◌&&◌, ℤ, pos, negsuc, ◌+ℤ◌, ◌-ℤ◌, ◌*ℤ◌, ◌≤ℤ◌, List, [], ◌∷◌, if◌then◌else◌}
 use Rattle.std.specs.Ordering.{int_eq}
 use Rattle.mf_geom.specs.Field.{IsInField}
@@ -34,7 +34,7 @@ start_of_field = place (negsuc 4094) (pos 4094)
 pub record IsPicture (ds : List Dot) : Type 0 where
   pub dots : AreDotsFrom start_of_field ds
 
--- the weight of the pixel (x, y), 0 where no dot stands
+-- the weight of the pixel (x, y), 0 where there is no dot
 unfoldable pub weight_at : List Dot → ℤ → ℤ → ℤ
 weight_at [] x y = pos 0
 weight_at (d ∷ ds) x y = if int_eq d.x x && int_eq d.y y then d.weight else weight_at ds x y

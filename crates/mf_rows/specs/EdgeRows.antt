@@ -1,4 +1,4 @@
--- Rows of edges, and the picture that they stand for.
+-- Rows of edges, and the picture that they represent.
 use Rattle.std.specs.Prelude.{◌≢◌, ℤ, pos, negsuc, ◌+ℤ◌, ◌-ℤ◌, ◌≤ℤ◌, List, [], ◌∷◌, if◌then◌else◌}
 use Rattle.std.specs.Ordering.{int_eq}
 use Rattle.mf_edges.specs.declared.edge.Edge.{Edge}
@@ -18,7 +18,7 @@ pub record IsEdgeRow (r : EdgeRow) : Type 0 where
   pub some : r.edges ≢ []
   pub edges : AreEdges r.edges
 
--- rows from the top, none twice, the first of them row top or below
+-- rows from the top down, none twice, the first of them row `top` or below
 abbrev pub AreRowsFrom : ℤ → List EdgeRow → Type 0
 AreRowsFrom top [] = Unit {0}
 AreRowsFrom top (r ∷ rs) = IsEdgeRow r × (r.y ≤ℤ top) × AreRowsFrom (r.y -ℤ pos 1) rs
@@ -27,11 +27,11 @@ AreRowsFrom top (r ∷ rs) = IsEdgeRow r × (r.y ≤ℤ top) × AreRowsFrom (r.y
 pub record AreRows (rs : List EdgeRow) : Type 0 where
   pub rows : AreRowsFrom (pos 4094) rs
 
--- the weight of the pixel (x, y): the sum of the edges of its row at or left of its column
+-- the weight of the pixel (x, y): the sum of the edges of its row at or to the left of its column
 unfoldable pub weight_in_rows : List EdgeRow → ℤ → ℤ → ℤ
 weight_in_rows [] x y = pos 0
 weight_in_rows (r ∷ rs) x y = (if int_eq r.y y then weight_in r.edges x else pos 0) +ℤ weight_in_rows rs x y
 
--- the picture that rows of edges stand for
+-- the picture that rows of edges represent
 unfoldable pub picture_of_rows : List EdgeRow → List Dot
 picture_of_rows rs = picture_of (weight_in_rows rs)

@@ -1,4 +1,4 @@
--- The bands into which the rows of the field fall: 16 rows each, counted from 0 at the top.
+-- The bands of the field: 16 rows each, counted from 0 at the top.
 use Rattle.std.specs.Prelude.{ℤ, pos, ◌+ℤ◌, ◌*ℤ◌, ◌≤ℤ◌, All, List}
 use Rattle.std.proofs.Props.{props}
 use Rattle.mf_rows.specs.declared.row.Row.{Row}
@@ -12,6 +12,6 @@ pub record IsOfBand (n y : ℤ) : Type 0 where
 abbrev pub AreOfBand : ℤ → List Row → Type 0
 AreOfBand n rows = All (λ row. IsOfBand n row.y) rows
 
--- this has one proof at most
+-- this fact has at most one proof
 pub AreOfBand-prop : (n : ℤ) (rows : List Row) → IsProp (AreOfBand n rows)
 AreOfBand-prop n rows = hlevel props

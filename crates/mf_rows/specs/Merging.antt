@@ -1,4 +1,4 @@
--- What is left of two lists of rows, while their sum is made.
+-- What is left of two lists of rows while their sum is made.
 use Rattle.std.specs.Prelude.{◌≡◌, ℤ, pos, ◌-ℤ◌, List, [], ◌∷◌, ◌++◌, Option, Some, None}
 use Rattle.std.specs.Borrow.{Bor}
 use Rattle.mf_geom.specs.Field.{IsInField}
@@ -8,7 +8,7 @@ use Rattle.mf_edges.specs.LawfulWeights.{IsLawfulWeight}
 use Rattle.mf_rows.specs.EdgeRows.{EdgeRow, AreRowsFrom}
 use Rattle.mf_rows.specs.Sums.{HaveRowWeights, weight_in_all}
 
--- a list has row y alone, or no row
+-- a list has row y and no other row, or no row at all
 pub record IsRowAt (y : ℤ) (rs : List EdgeRow) : Type 0 where
   pub rows : AreRowsFrom y rs
   pub above : AreAbove (y -ℤ pos 1) rs
@@ -18,20 +18,20 @@ abbrev pub row_found : Option (Bor Row) → List EdgeRow
 row_found None = []
 row_found (Some r) = edge_row r.now ∷ []
 
--- row y is found, where there is one, and the others are left
+-- row y is found, where there is one, and the rows below it are left
 pub record IsSplitAtHeight (rs : List EdgeRow) (y : ℤ) (found others : List EdgeRow) : Type 0 where
   pub all : rs ≡ found ++ others
   pub here : IsRowAt y found
   pub left : AreRowsFrom (y -ℤ pos 1) others
 
--- behind rows there is now row y with the weights of two rows together, unless it is blank
+-- row y was appended, with the weights of two rows together, unless it is blank
 pub record HasRowSum (before : List EdgeRow) (y : ℤ) (rs ss after : List EdgeRow) : Type 0 where
   pub more : List EdgeRow
   pub all : after ≡ before ++ more
   pub here : IsRowAt y more
   pub weights : HaveRowWeights (weight_in_all rs ss) more
 
--- at some pixel of row y, which lies in the field, the weight f is not lawful
+-- at some pixel of row y that lies in the field, f gives a weight that is not lawful
 pub record IsUnlawfulInRow (f : ℤ → ℤ → ℤ) (y : ℤ) : Type 0 where
   pub x : ℤ
   pub in_field : IsInField x y

@@ -1,7 +1,7 @@
--- Where dots stand in reading order.
+-- Where dots are in reading order.
 use Rattle.std.specs.Prelude.{ℤ, ◌<ℤ◌, All, List}
 use Rattle.mf_rows.specs.Dots.{Dot, place}
 
--- each dot stands before a place
+-- each dot comes before a place
 abbrev pub AreBefore : ℤ → List Dot → Type 0
 AreBefore p ds = All (λ d. place d.x d.y <ℤ p) ds

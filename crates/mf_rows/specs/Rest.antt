@@ -1,4 +1,4 @@
--- What is left of a row behind some of its edges, and of a picture behind some of its rows.
+-- What is left of a row after some of its edges, and of a picture after some of its rows.
 use Rattle.std.specs.Prelude.{◌≡◌, ℤ, pos, ◌+ℤ◌, ◌++◌, All, List, [], ◌∷◌}
 use Rattle.std.specs.Coded.{Unit-prop}
 use Rattle.std.proofs.Props.{props}
@@ -9,7 +9,7 @@ use Rattle.mf_edges.specs.LawfulWeights.{IsLawfulWeight}
 use Rattle.mf_edges.specs.Edges.{weight_in, AreEdgesFrom, AreEdges}
 use Rattle.mf_rows.specs.EdgeRows.{EdgeRow, IsEdgeRow}
 
--- the edges of a row from column low on, where the weight left of them is w
+-- the edges of a row from column low on, where the weight to the left of them is w
 pub record IsRestOfRow (low w : ℤ) (es : List Edge) : Type 0 where
   pub sorted : AreEdgesFrom low es
   pub lawful : (x : ℤ) → IsLawfulWeight (w +ℤ weight_in es x)
@@ -23,7 +23,7 @@ rows_left r = edge_rows r.rows.now ++ rows_of_bands r.bands.now
 abbrev pub AreEdgeRows : List EdgeRow → Type 0
 AreEdgeRows rs = All IsEdgeRow rs
 
--- ---- each of these facts has one proof at most
+-- ---- each of these facts has at most one proof
 
 AreEdgesFrom-prop : (low : ℤ) (es : List Edge) → IsProp (AreEdgesFrom low es)
 AreEdgesFrom-prop low [] = Unit-prop

@@ -1,4 +1,4 @@
--- Rows that are changed each by itself, and rows that change places.
+-- Rows that are changed each by itself, and rows that move.
 use Rattle.std.specs.Prelude.{ℤ, All, List}
 use Rattle.mf_edges.specs.declared.row_change.RowChange.{RowChange}
 use Rattle.mf_edges.specs.declared.stretch.Stretch.{Stretch}
@@ -6,26 +6,26 @@ use Rattle.mf_rows.specs.EdgeRows.{EdgeRow, weight_in_rows}
 use Rattle.mf_edges.specs.Axes.{opposite, source_of, PlaceStaysInside}
 use Rattle.mf_edges.specs.RowChanges.{row_image, EdgesAllowChange}
 
--- what it needs of the edges of all rows
+-- all rows allow a change
 abbrev pub RowsAllowChange : RowChange → List EdgeRow → Type 0
 RowsAllowChange c rs = All (λ r. EdgesAllowChange c r.edges) rs
 
--- the weight of the pixel (x, y) after each row was changed
+-- the weight of the pixel (x, y) after each row is changed
 unfoldable pub changed_in_rows : RowChange → List EdgeRow → ℤ → ℤ → ℤ
 changed_in_rows c rs x y = row_image c (λ z. weight_in_rows rs z y) x
 
--- the weight of the pixel (x, y) after all rows changed sides
+-- the weight of the pixel (x, y) after all rows are reflected
 unfoldable pub mirrored_in_rows : List EdgeRow → ℤ → ℤ → ℤ
 mirrored_in_rows rs x y = weight_in_rows rs x (opposite y)
 
--- the weight of the pixel (x, y) after rows were stretched
+-- the weight of the pixel (x, y) after rows are stretched
 unfoldable pub stretched_in_rows : Stretch → List EdgeRow → ℤ → ℤ → ℤ
 stretched_in_rows s rs x y = weight_in_rows rs x (source_of s y)
 
--- rows that a stretch takes to rows of the field
+-- a stretch takes these rows to rows of the field
 abbrev pub AllowStretch : Stretch → List EdgeRow → Type 0
 AllowStretch s rs = All (λ r. PlaceStaysInside s r.y) rs
 
--- the weight of the pixel (x, y) after rows were turned by 90 degrees counterclockwise
+-- the weight of the pixel (x, y) after rows are turned by 90 degrees counterclockwise
 unfoldable pub turned_in_rows : List EdgeRow → ℤ → ℤ → ℤ
 turned_in_rows rs x y = weight_in_rows rs y (opposite x)

@@ -1,4 +1,4 @@
--- Runs: longest stretches of pixels of one nonzero weight in one row.
+-- Runs: maximal stretches of pixels of one nonzero weight in one row.
 use Rattle.std.specs.Prelude.{◌≡◌, ◌≢◌, ◌<◌, ◌≤◌, ℕ, zero, suc, ◌&&◌, Bool, ℤ, pos, ◌+ℤ◌, ◌-ℤ◌, List, [], ◌∷◌, if◌then◌else◌}
 use Rattle.std.specs.Ordering.{int_eq}
 use Rattle.mf_rows.specs.declared.run.Run.{Run}
@@ -13,15 +13,15 @@ stretch y x w (suc n) = record { y = y; x = x; weight = w } ∷ stretch y (x +�
 unfoldable pub dots_of : Run → List Dot
 dots_of r = stretch r.y r.x r.weight r.len
 
--- a dot continues a run to the left: same row, same weight, the column before
+-- a dot continues a run to the left: it has the same row and weight, and is in the column before the run
 unfoldable pub continues : Dot → Run → Bool
 continues d r = int_eq d.y r.y && (int_eq (d.x +ℤ pos 1) r.x && int_eq d.weight r.weight)
 
--- a run that begins at a dot, and goes on for n more columns
+-- a run that begins at a dot, and continues for n more columns
 unfoldable pub run_from : Dot → ℕ → Run
 run_from d n = record { y = d.y; x = d.x; len = suc n; weight = d.weight }
 
--- the runs with a dot before them: it lengthens the first run where it continues that, else it is one of its own
+-- the runs with a dot before them: it lengthens the first run where it continues that, and else is a run of its own
 unfoldable pub with_dot : Dot → List Run → List Run
 with_dot d [] = run_from d 0 ∷ []
 with_dot d (r ∷ rs) = if continues d r then run_from d r.len ∷ rs else (run_from d 0 ∷ r ∷ rs)
@@ -31,7 +31,7 @@ unfoldable pub runs_of : List Dot → List Run
 runs_of [] = []
 runs_of (d ∷ ds) = with_dot d (runs_of ds)
 
--- a run is followed by another that would continue it: same row, same weight, the column after its last
+-- a run is followed by another that would continue it: same row, same weight, from the column after its last
 pub record IsFollowedBy (r s : Run) : Type 0 where
   pub row : r.y ≡ s.y
   pub column : r.x +ℤ pos r.len ≡ s.x
@@ -43,7 +43,8 @@ AreMaximal [] = Unit {0}
 AreMaximal (r ∷ []) = Unit {0}
 AreMaximal (r ∷ s ∷ rs) = (IsFollowedBy r s → ⊥) × AreMaximal (s ∷ rs)
 
--- a run has a pixel, all its pixels have its weight, which is not 0, and neither neighbour in its row has
+-- a run has at least one pixel, all its pixels have its weight, which is not 0, and neither neighbour in its row has
+-- that weight
 pub record IsMaximalRun (ds : List Dot) (r : Run) : Type 0 where
   pub some : 1 ≤ r.len
   pub nonzero : r.weight ≢ pos 0

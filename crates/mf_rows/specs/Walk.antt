@@ -9,12 +9,13 @@ use Rattle.mf_edges.specs.Edges.{AreEdgesFrom}
 use Rattle.mf_rows.specs.EdgeRows.{EdgeRow}
 use Rattle.mf_rows.specs.Rest.{rows_left}
 
--- the run of row y from column x, where the weight is w, up to the first of these edges; none where w is 0
+-- the run of row y from column x, where the weight is w, up to the first of these edges; no run where w is 0
 abbrev pub run_up_to : ℤ → ℤ → ℤ → List Edge → List Run
 run_up_to y x w [] = []
 run_up_to y x w (e ∷ es) = if int_eq w (pos 0) then [] else (record { y = y; x = x; len = unsigned_abs (e.x -ℤ x); weight = w } ∷ [])
 
--- the runs of row y from these edges on, where the weight left of them is w: each begins at an edge and ends at the next
+-- the runs of row y from these edges on, where the weight to the left of them is w: each begins at an edge and ends at
+-- the next
 unfoldable pub runs_of_edges : ℤ → ℤ → List Edge → List Run
 runs_of_edges y w [] = []
 runs_of_edges y w (e ∷ es) = run_up_to y e.x (w +ℤ e.weight) es ++ runs_of_edges y (w +ℤ e.weight) es
@@ -27,7 +28,7 @@ runs_of_rows rs = flat_map (λ r. runs_of_edges r.y (pos 0) r.edges) rs
 abbrev pub runs_left : Walk → List Run
 runs_left r = runs_of_edges r.y r.weight r.edges.now ++ runs_of_rows (rows_left r.rows)
 
--- an edge at column x was taken from s, which left t: the run up to the next edge begins there, unless the weight is 0
+-- an edge at column x was taken from s, which left t: a run up to the next edge begins there, unless the weight is 0
 pub record IsEdgeTaken (s : Walk) (x : ℤ) (t : Walk) : Type 0 where
   pub left : runs_left s ≡ run_up_to t.y x t.weight t.edges.now ++ runs_left t
   pub column : negsuc 4094 ≤ℤ x

@@ -1,9 +1,9 @@
--- Pictures of which each weight is mapped by itself.
+-- Pictures after each weight is mapped by itself.
 use Rattle.std.specs.Prelude.{ℤ, List}
 use Rattle.mf_edges.specs.declared.weight_map.WeightMap.{WeightMap}
 use Rattle.mf_rows.specs.Dots.{Dot, weight_at}
 use Rattle.mf_edges.specs.WeightMaps.{mapped_to}
 
--- the weight of the pixel (x, y) of a picture of which each weight is mapped
+-- the weight of the pixel (x, y) after each weight of a picture is mapped
 unfoldable pub mapped_at : WeightMap → List Dot → ℤ → ℤ → ℤ
 mapped_at m ds x y = mapped_to m (weight_at ds x y)

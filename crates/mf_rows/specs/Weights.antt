@@ -9,7 +9,7 @@ unfoldable pub row_of : (ℤ → ℤ → ℤ) → ℤ → ℤ → ℕ → List D
 row_of f y x zero = []
 row_of f y x (suc n) = if int_eq (f x y) (pos 0) then row_of f y (x +ℤ pos 1) n else (record { y = y; x = x; weight = f x y } ∷ row_of f y (x +ℤ pos 1) n)
 
--- the same for the n rows from y downwards, over all columns of the field
+-- the pixels at which f is not 0, in the n rows from y downwards and all columns of the field
 unfoldable pub rows_of : (ℤ → ℤ → ℤ) → ℤ → ℕ → List Dot
 rows_of f y zero = []
 rows_of f y (suc n) = row_of f y (negsuc 4094) 8190 ++ rows_of f (y -ℤ pos 1) n

@@ -4,11 +4,11 @@ ghost use Rattle.mf_rows.specs.FieldBands.{AreOfBand, AreOfBand-prop};
 
 use crate::row::Row;
 
-/// Rows of one band of the field that are not blank, from the top. They are never written once the band
-/// is made, so pictures share it.
+/// The rows of one band of the field that are not blank, from the top down. They are never written once the band is
+/// made, so pictures share it.
 #[derive(Debug, Drop)]
 pub(crate) struct Band {
-    /// Which band of the field it is, counted from 0 at the top.
+    /// Which band of the field this is, counted from 0 at the top.
     pub(crate) number: i32,
     pub(crate) rows: Vec<Row>,
     ghost some: { 0 < length rows.items },

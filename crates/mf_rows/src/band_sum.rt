@@ -12,9 +12,10 @@ use mf_edges::AddFault;
 use std::alloc::Global;
 use std::sync::Arc;
 
-/// Adds bands to a list of bands, which keeps its bands above and below them as they are. Refused with WeightTooLarge
-/// where a weight would pass 32767 in size; a refusal leaves the list as it was. Where no band is added it takes no
-/// memory.
+/// Adds bands to a list of bands. The bands of the list above and below them stay as they are. The sum takes the place
+/// of the bands that are reached only when all of it is there, so a refusal has nothing to undo. Refused with
+/// `WeightTooLarge` where a weight would exceed 32767 in absolute value, and with `OutOfMemory` where an allocation
+/// fails; a refusal leaves the list as it was. Where no band is added, it allocates nothing.
 pub(crate) fn add_bands(
     alloc: Global,
     bands: &mut Vec<Arc<Band>>,
@@ -40,8 +41,9 @@ pub(crate) fn add_bands(
     Ok(())
 }
 
-/// The bands of two lists together; bands of the field that only one of them has are shared. Refused with
-/// WeightTooLarge where a weight would pass 32767 in size.
+/// The bands of the sum of two lists. Bands of the field that only one list has are shared. Refused with
+/// `WeightTooLarge` where a weight would exceed 32767 in absolute value, and with `OutOfMemory` where an allocation
+/// fails.
 pub(crate) fn sum_of_bands(
     alloc: Global,
     left: &[Arc<Band>],
@@ -66,8 +68,8 @@ pub(crate) fn sum_of_bands(
     Ok(sum)
 }
 
-/// The number up to which bands are added in one step: that of the first bands where both lists begin with
-/// it, else the number before the first one that both may have. None where a list is empty.
+/// The number up to which bands are added in one step: that of the first bands where it is the same in both lists, else
+/// the number before the first one that both may have. `None` where a list is empty.
 fn end_of_step(left: &[Arc<Band>], right: &[Arc<Band>]) -> Option<i32>
     ensures step { IfSome result (IsStep left.now right.now) }
     ensures end { IfSome result (EndsStep left.now right.now) }
@@ -80,7 +82,7 @@ fn end_of_step(left: &[Arc<Band>], right: &[Arc<Band>]) -> Option<i32>
     Some(left.max(right) - 1)
 }
 
-/// Adds the sum of some bands to a list of bands, which shares them where only one of the two has any.
+/// Appends the sum of some bands to a list of bands. Where only one of the two has any, they are shared.
 fn push_sum(
     alloc: Global,
     sum: &mut Vec<Arc<Band>>,
@@ -107,7 +109,7 @@ fn push_sum(
     }
 }
 
-/// Adds the sum of some bands, of any numbers, to a list of bands.
+/// Appends the sum of some bands, of any numbers, to a list of bands.
 fn push_sum_of_rows(
     alloc: Global,
     sum: &mut Vec<Arc<Band>>,
@@ -124,7 +126,7 @@ fn push_sum_of_rows(
     Ok(push_rows(alloc, sum, rows)?)
 }
 
-/// Adds the sum of two bands of one number to a list of bands.
+/// Appends the sum of two bands of one number to a list of bands.
 fn push_sum_of_both(
     alloc: Global,
     sum: &mut Vec<Arc<Band>>,

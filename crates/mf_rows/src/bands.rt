@@ -1,4 +1,4 @@
-//! Lists of bands: an operation makes the bands anew that it touches, and shares the others.
+//! Lists of bands: an operation makes new bands where it changes something, and shares the others.
 ghost use Rattle.std.specs.Prelude.{◌≡◌, [], ◌++◌, ◌≤◌, pos, negsuc, IsNone, IsOk, IfSome, IfOk, OnOk, ◌≤ℤ◌, length, take, drop, All};
 ghost use Rattle.std.specs.Arc.{arc_value};
 ghost use Rattle.mf_rows.specs.Bands.{bottom_of, edge_row, edge_rows, rows_in, rows_of_bands, HasRow, HasNoRow, HasSameRow, AreAbove};
@@ -14,11 +14,12 @@ use std::alloc::Global;
 use std::mem::replace;
 use std::sync::Arc;
 
-/// Rows of the field in a band. A change makes the bands anew that it touches and a copy of a picture copies the list of
-/// them, so few rows make changes cheap and many make copies cheap.
+/// The number of rows of the field in a band. A change makes new bands in place of those that it reaches, and a copy of
+/// a picture copies the list of its bands (at most 512): lower bands make changes cheaper, higher ones make copies
+/// cheaper.
 const BAND_HEIGHT: i32 = 16;
 
-/// The row y, where it is not blank.
+/// Row y, where it is not blank.
 pub(crate) fn find_row(bands: &[Arc<Band>], y: i32) -> Option<&Row>
     requires { AreRows (rows_of_bands bands.now) }
     ensures found { IfSome result (λ row. HasRow (rows_of_bands bands.now) y (edge_row row.now).edges) }
@@ -27,7 +28,7 @@ pub(crate) fn find_row(bands: &[Arc<Band>], y: i32) -> Option<&Row>
     find_row_in(&find_band(bands, y)?.rows, y)
 }
 
-/// The only band in which row y may stand.
+/// The only band that may have row y.
 fn find_band(bands: &[Arc<Band>], y: i32) -> Option<&Band>
     requires { AreRows (rows_of_bands bands.now) }
     ensures found { IfSome result (λ band. HasSameRow (rows_of_bands bands.now) y (rows_in band.now)) }
@@ -37,7 +38,7 @@ fn find_band(bands: &[Arc<Band>], y: i32) -> Option<&Band>
     Some(band)
 }
 
-/// The row y of these rows, where it is not blank.
+/// Row y of these rows, where it is not blank.
 fn find_row_in(rows: &[Row], y: i32) -> Option<&Row>
     requires { AreRows (edge_rows rows.now) }
     ensures found { IfSome result (λ row. HasRow (edge_rows rows.now) y (edge_row row.now).edges) }
@@ -47,7 +48,7 @@ fn find_row_in(rows: &[Row], y: i32) -> Option<&Row>
     if row.y == y { Some(row) } else { None }
 }
 
-/// How many of these rows, the first ones, stand above row y.
+/// The number of rows above row y, which are the first ones.
 pub(crate) fn count_rows_above(rows: &[Row], y: i32) -> usize
     requires { AreRows (edge_rows rows.now) }
     ensures within { result ≤ length rows.now }
@@ -57,7 +58,7 @@ pub(crate) fn count_rows_above(rows: &[Row], y: i32) -> usize
     rows.partition_point(|row| row.y > y)
 }
 
-/// How many bands, the first ones, stand wholly above row y.
+/// The number of bands that lie entirely above row y, which are the first ones.
 pub(crate) fn count_above(bands: &[Arc<Band>], y: i32) -> usize
     requires { AreRows (rows_of_bands bands.now) }
     ensures within { result ≤ length bands.now }
@@ -67,7 +68,7 @@ pub(crate) fn count_above(bands: &[Arc<Band>], y: i32) -> usize
     bands.partition_point(|band| band.bottom() > y)
 }
 
-/// How many bands, the first ones, have a number up to this one.
+/// The number of bands whose number is at most this one, which are the first ones.
 pub(crate) fn count_up_to(bands: &[Arc<Band>], number: i32) -> usize
     requires { AreRows (rows_of_bands bands.now) }
     ensures within { result ≤ length bands.now }
@@ -78,7 +79,7 @@ pub(crate) fn count_up_to(bands: &[Arc<Band>], number: i32) -> usize
     bands.partition_point(|band| band.number <= number)
 }
 
-/// The rows of bands, which are shared.
+/// The rows of bands, with shared edges.
 pub(crate) fn rows_of(alloc: Global, bands: &[Arc<Band>]) -> Result<Vec<Row>, OutOfMemory>
     ensures { IfOk result (λ rows. edge_rows rows.items ≡ rows_of_bands bands.now) }
 {
@@ -89,7 +90,7 @@ pub(crate) fn rows_of(alloc: Global, bands: &[Arc<Band>]) -> Result<Vec<Row>, Ou
     Ok(rows)
 }
 
-/// Adds rows to a list of rows, which share their edges with these.
+/// Appends rows to a list of rows. The edges are shared.
 pub(crate) fn push_shared_rows(rows: &mut Vec<Row>, others: &[Row]) -> Result<(), OutOfMemory>
     ensures { OnOk result (edge_rows rows.new.items ≡ edge_rows rows.old.items ++ edge_rows others.now) }
 {
@@ -100,7 +101,7 @@ pub(crate) fn push_shared_rows(rows: &mut Vec<Row>, others: &[Row]) -> Result<()
     Ok(())
 }
 
-/// Adds bands to a list of bands, which shares these. Where there are none it takes no memory.
+/// Appends bands to a list of bands. The bands are shared. Where there are none to append, it allocates nothing.
 pub(crate) fn push_shared(
     bands: &mut Vec<Arc<Band>>,
     others: &[Arc<Band>],
@@ -115,7 +116,7 @@ pub(crate) fn push_shared(
     Ok(())
 }
 
-/// Adds rows to a list of bands, in bands of their own.
+/// Appends rows to a list of bands, in new bands.
 pub(crate) fn push_rows(
     alloc: Global,
     bands: &mut Vec<Arc<Band>>,
@@ -138,7 +139,7 @@ pub(crate) fn push_rows(
     close_band(alloc, bands, number, open)
 }
 
-/// Adds rows of the band of this number to a list of bands; where there are no rows it adds none.
+/// Appends a band of this number with these rows to a list of bands; where there are no rows, it appends none.
 pub(crate) fn close_band(
     alloc: Global,
     bands: &mut Vec<Arc<Band>>,

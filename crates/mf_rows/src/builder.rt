@@ -18,15 +18,15 @@ use mf_geom::OutOfMemory;
 use std::alloc::Global;
 use std::marker::Model;
 
-/// A row that gets its runs one after another.
+/// A row that is being built from its runs, one after another.
 #[derive(Debug, Drop)]
 pub(crate) struct OpenRow {
     y: i32,
     edges: Vec<Edge>,
 }
 
-/// Builds a picture from its runs, rows from the top and columns rising: the order in which GF files have them (The
-/// METAFONTbook, Appendix G).
+/// Builds a picture from its runs: rows from the top down, columns from left to right. In this order GF files have them
+/// (The METAFONTbook, Appendix G).
 #[derive(Debug, Drop)]
 pub struct RowBuilder {
     alloc: Global,
@@ -50,7 +50,7 @@ impl Model for RowBuilder {
 impl RowBuilder {
     ghost use Rattle.mf_rows.specs.Dots.{IsPicture};
 
-    /// A builder with no run. It takes no memory.
+    /// A builder with no run. Allocates nothing.
     pub fn new(alloc: Global) -> RowBuilder
         ensures { result ≡ [] }
     {
@@ -60,8 +60,8 @@ impl RowBuilder {
         }
     }
 
-    /// Whether the run may be pushed: it has at least one pixel, lies in the field, has a weight in
-    /// -32767..32767 that is not 0, and comes wholly after the last pushed run.
+    /// Whether the run may be pushed: it has at least one pixel, lies in the field, has a weight in -32767..=32767 that
+    /// is not 0, and comes entirely after the last pushed run.
     pub fn fits(&self, run: &Run) -> bool
         ensures answer { IsTrue result ↔ Fits self.now run.now }
         ensures lawful { IsPicture self.now }
@@ -70,7 +70,8 @@ impl RowBuilder {
         run.is_lawful() && end_before(rows, run)
     }
 
-    /// Adds a run that fits. Refusal OutOfMemory (14) leaves the builder as it was.
+    /// Adds a run. Requires that it fits (`fits`). Refused with `OutOfMemory` where an allocation fails; the builder is
+    /// then as it was.
     pub fn push_run(&mut self, run: Run) -> Result<(), OutOfMemory>
         requires { Fits self.old run }
         ensures ok { OnOk result (self.new ≡ self.old ++ dots_of run) }
@@ -83,7 +84,8 @@ impl RowBuilder {
         Ok(())
     }
 
-    /// The picture of exactly the pushed runs. Refusal OutOfMemory (14), with which the builder is gone.
+    /// The picture of exactly the pushed runs. Refused with `OutOfMemory` where an allocation fails; the builder is
+    /// then gone.
     pub fn finish(self) -> Result<Picture, OutOfMemory>
         ensures value { IfOk result (λ picture. picture ≡ self) }
         ensures lawful { IfOk result IsPicture }
@@ -93,7 +95,7 @@ impl RowBuilder {
     }
 }
 
-/// Whether all pixels of rows stand before a run.
+/// Whether all pixels of the rows come before a run.
 fn end_before(rows: &[OpenRow], run: &Run) -> bool
     requires rows { AreRows (open_rows rows.now) }
     requires run { IsRun run.now }
@@ -105,7 +107,7 @@ fn end_before(rows: &[OpenRow], run: &Run) -> bool
     }
 }
 
-/// Whether the last of the rows is that of a run.
+/// Whether the last of the rows is the run's row.
 fn end_in_row(rows: &[OpenRow], run: &Run) -> bool
     ensures { IsTrue result ↔ EndInRow rows.now run.now.y }
 {
@@ -115,8 +117,8 @@ fn end_in_row(rows: &[OpenRow], run: &Run) -> bool
     }
 }
 
-/// Adds a run to the last of the rows. Want of memory, only where that row has no room for two more edges, leaves the
-/// rows as they were.
+/// Adds a run to the last of the rows. Refused with `OutOfMemory`, only where that row has no room for two more edges;
+/// the rows are then as they were.
 fn push_on_last(rows: &mut [OpenRow], run: Run) -> Result<(), OutOfMemory>
     requires rows { AreRows (open_rows rows.old) }
     requires last { EndInRow rows.old run.y }
@@ -130,7 +132,7 @@ fn push_on_last(rows: &mut [OpenRow], run: Run) -> Result<(), OutOfMemory>
     rows[last].push_run(run)
 }
 
-/// The rows, to which no more runs are added.
+/// The rows, finished: no more runs are added to them.
 fn closed_rows(alloc: Global, rows: Vec<OpenRow>) -> Result<Vec<Row>, OutOfMemory>
     ensures { IfOk result (λ closed. edge_rows closed.items ≡ open_rows rows.items) }
 {
@@ -142,7 +144,7 @@ fn closed_rows(alloc: Global, rows: Vec<OpenRow>) -> Result<Vec<Row>, OutOfMemor
 }
 
 impl OpenRow {
-    /// The row of a run, with no other run.
+    /// The row of a single run.
     fn with_run(alloc: Global, run: Run) -> Result<OpenRow, OutOfMemory>
         requires { IsRun run }
         ensures { IfOk result (λ row. HasRun (record { y = run.y; edges = [] }) run (open_row row)) }
@@ -155,8 +157,8 @@ impl OpenRow {
         Ok(row)
     }
 
-    /// Adds a run in this row, which comes after those that it has. Want of memory, only where there is no room for
-    /// two more edges, leaves the row as it was.
+    /// Adds a run to this row, after the runs that it has. Refused with `OutOfMemory`, only where there is no room for
+    /// two more edges; the row is then as it was.
     fn push_run(&mut self, run: Run) -> Result<(), OutOfMemory>
         requires run { IsRun run }
         requires row { self.old.y ≡ run.y }
@@ -171,7 +173,7 @@ impl OpenRow {
         add_edge(&mut self.edges, run.x + run.len as i32, -run.weight)
     }
 
-    /// The row, to which no more runs are added.
+    /// The row, finished: no more runs are added to it.
     fn close(self, alloc: Global) -> Result<Row, OutOfMemory>
         ensures { IfOk result (λ row. edge_row row ≡ open_row self) }
     {
@@ -186,7 +188,7 @@ impl OpenRow {
         run.y < self.y || (run.y == self.y && self.ends_at(run.x))
     }
 
-    /// Whether all edges stand at or left of column x.
+    /// Whether all edges are at or to the left of column x.
     fn ends_at(&self, x: i32) -> bool
         requires { AreEdges self.now.edges.items }
         ensures { IsTrue result ↔ EndAt x self.now.edges.items }

@@ -13,11 +13,11 @@ use mf_geom::OutOfMemory;
 use std::alloc::Global;
 use std::cmp::Reverse;
 
-/// A corner adds its weight to every pixel at or right of column `x` and below height `y`. A vertical
-/// side, from whose column on the weights of its rows change, is a corner at its upper end and one of the
-/// negated weight at its lower end (mf.web inserts the edges of a side row by row). `x` and `y` are a point
-/// of the plane, in pixels; where corners are added to a picture they are in -4095..4095, and weights in
-/// -3..3.
+/// A corner adds its weight to every pixel at or to the right of column `x` and below height `y`. A vertical side of a
+/// path changes the weights of its rows from its column on: it is a corner at its upper end and one of the negated
+/// weight at its lower end. So the rows between two heights of corners have the same edges, which are worked out once
+/// (mf.web inserts the edges of a side row by row). `x` and `y` are a point of the plane, in pixels; corners that are
+/// added to a picture have coordinates in -4095..=4095 and weights in -3..=3.
 #[derive(Clone, Copy, Debug, PartialEq, Eq)]
 pub struct Corner {
     pub x: i32,
@@ -25,7 +25,7 @@ pub struct Corner {
     pub weight: i32,
 }
 
-/// The rows in which each pixel of the field has what these corners add to it.
+/// The rows in which each pixel of the field has the weight that these corners add to it.
 pub(crate) fn rows_of_corners(alloc: Global, corners: Vec<Corner>) -> Result<Vec<Row>, OutOfMemory>
     requires { AreCorners corners.items }
     ensures rows { IfOk result (λ rows. AreRows (edge_rows rows.items)) }
@@ -43,7 +43,7 @@ pub(crate) fn rows_of_corners(alloc: Global, corners: Vec<Corner>) -> Result<Vec
     Ok(rows)
 }
 
-/// The height of the corner behind a place, and behind the last one the bottom of the field.
+/// The height of the corner after a place; after the last one, the bottom of the field.
 fn next_height(corners: &[Corner], place: usize) -> i32
     requires { place < length corners.now }
     ensures { result ≡ first_height_of (drop (place + 1) corners.now) }
@@ -54,8 +54,8 @@ fn next_height(corners: &[Corner], place: usize) -> i32
     }
 }
 
-/// Adds the rows from height `bottom` to height `top`, from the top, which all have these edges; where
-/// there are no edges it adds none.
+/// Appends the rows between the heights `top` and `bottom`, from the top down, all with these edges; where there are no
+/// edges, it appends none.
 fn push_strip(
     alloc: Global,
     rows: &mut Vec<Row>,

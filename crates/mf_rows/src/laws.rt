@@ -1,4 +1,5 @@
-//! Laws of the definitions: each is the contract of a function that does nothing.
+//! Laws of the definitions. Each is the contract of a function that does nothing: the toolchain proves a statement only
+//! where a function's contract names it.
 ghost use Rattle.std.specs.Prelude.{◌≡◌, ◌≢◌, ◌↔◌, ℤ, pos, ◌+ℤ◌, ◌≤ℤ◌, All, Contains, List, flat_map};
 ghost use Rattle.mf_geom.specs.Field.{IsInField, sum_over_field};
 ghost use Rattle.mf_edges.specs.Axes.{IsStretch, source_of, stretched_to};
@@ -13,13 +14,14 @@ ghost use Rattle.mf_rows.specs.Order.{IsRun};
 ghost use Rattle.mf_rows.specs.Runs.{dots_of, runs_of, AreMaximal, IsMaximalRun};
 ghost use Rattle.mf_rows.specs.Weights.{picture_of, HaveSameWeights};
 
-/// The runs of a picture are its dots, and none of them could be longer.
+/// The dots of the runs of a picture are its dots, and no run could be longer.
 pub fn runs_are_maximal()
     ensures covered { (ds : List Dot) → flat_map dots_of (runs_of ds) ≡ ds }
     ensures maximal { (ds : List Dot) → AreMaximal (runs_of ds) }
 {}
 
-/// Each run of a picture has a pixel, all its pixels have its weight, and neither neighbour in its row has.
+/// Each run of a picture has at least one pixel, all its pixels have its weight, and neither neighbour in its row has
+/// that weight.
 pub fn runs_are_as_long_as_can_be()
     ensures { (ds : List Dot) → IsPicture ds → All (IsMaximalRun ds) (runs_of ds) }
 {}
@@ -39,8 +41,8 @@ pub fn pictures_lie_in_the_field()
         IsInField b.min_x b.min_y × IsInField b.max_x b.max_y }
 {}
 
-/// Under a stretch each column, or row, q comes from exactly one: the stretch takes that one to a part of the axis that
-/// has q.
+/// Under a stretch each column, or row, q comes from exactly one: the one that the stretch takes to a part of the axis
+/// that has q.
 pub fn one_source_under_a_stretch()
     ensures { (s : Stretch) (p q : ℤ) → IsStretch s →
         (source_of s q ≡ p) ↔ ((stretched_to s p ≤ℤ q) × ((q +ℤ pos 1) ≤ℤ stretched_to s (p +ℤ pos 1))) }
@@ -51,8 +53,8 @@ pub fn same_weights_make_same_pictures()
     ensures { (ds es : List Dot) → IsPicture ds → IsPicture es → HaveSameWeights ds es → ds ≡ es }
 {}
 
-/// Rows of edges (mf.web, "edge structures") stand for a picture, in which each pixel has the sum of the edges
-/// of its row at or left of its column, and pixels of other rows have weight 0.
+/// Rows of edges (mf.web, "edge structures") represent a picture. The weight of a pixel is the sum of the edges of its
+/// row at or to the left of its column, and pixels of other rows have weight 0.
 pub fn weight_is_the_sum_of_edges()
     ensures lawful { (rs : List EdgeRow) → AreRows rs → IsPicture (picture_of_rows rs) }
     ensures edges { (rs : List EdgeRow) (x y : ℤ) → AreRows rs → weight_at (picture_of_rows rs) x y ≡ weight_in_rows rs x y }
@@ -60,8 +62,8 @@ pub fn weight_is_the_sum_of_edges()
     ensures other_rows { (rs : List EdgeRow) (x y : ℤ) → AreRows rs → All (λ r. r.y ≢ y) rs → weight_at (picture_of_rows rs) x y ≡ pos 0 }
 {}
 
-/// The total weight of a picture is the sum of its weights over all pixels of the field, as each pixel of
-/// weight 0 adds nothing.
+/// The total weight of a picture is the sum of its weights over all pixels of the field, since a pixel of weight 0 adds
+/// nothing.
 pub fn total_is_the_sum_over_the_field()
     ensures weights { (f : ℤ → ℤ → ℤ) → total_of (picture_of f) ≡ sum_over_field f }
     ensures picture { (ds : List Dot) → IsPicture ds → total_of ds ≡ sum_over_field (weight_at ds) }

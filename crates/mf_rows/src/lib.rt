@@ -1,4 +1,4 @@
-//! METAFONT pictures: a whole-number weight for every pixel, 0 for all but finitely many.
+//! METAFONT pictures: an integer weight for each pixel, 0 for all but finitely many.
 #![tactic(auto)]
 
 mod band;

@@ -20,11 +20,11 @@ use std::alloc::Global;
 use std::marker::Model;
 use std::sync::Arc;
 
-/// A picture: a weight in -32767..32767 for each pixel of the field, whose columns and rows are
-/// -4095..4094; pixels elsewhere have weight 0 (The METAFONTbook, chapter 13).
+/// A picture: a weight in -32767..=32767 for each pixel of the field, whose columns and rows are -4095..=4094; pixels
+/// elsewhere have weight 0 (The METAFONTbook, chapter 13).
 ///
-/// It keeps edges: in each row that is not blank, the columns at which the weight changes (mf.web, "edge
-/// structures"). Rows are never written once they are made, and pictures share them.
+/// It keeps edges: in each row that is not blank, the columns at which the weight changes (mf.web, "edge structures").
+/// Rows are never written once they are made, so pictures share them.
 #[derive(Debug, Drop)]
 pub struct Picture {
     bands: Vec<Arc<Band>>,
@@ -67,7 +67,8 @@ impl Picture {
         }
     }
 
-    /// An equal picture, which shares the rows of this one. Refusal OutOfMemory (14), never for a blank picture.
+    /// An equal picture, which shares the rows of this one. Refused with `OutOfMemory` where an allocation fails, never
+    /// for a blank picture.
     pub fn copy(&self, alloc: Global) -> Result<Picture, OutOfMemory>
         ensures value { IfOk result (λ copy. copy ≡ self.now) }
         ensures blank { self.now ≡ [] → IsOk result }
@@ -98,7 +99,8 @@ impl Picture {
         }
     }
 
-    /// The sum of all weights. METAFONT's `totalweight` is this number, scaled (mf.web: `total_weight`).
+    /// The sum of all weights. METAFONT's `totalweight` is this number, scaled (mf.web: `total_weight`). It walks the
+    /// runs, so its cost grows with the number of edges.
     pub fn total(&self) -> i64
         ensures value { result ≡ total_of self.now }
         ensures lawful { IsPicture self.now }
@@ -110,7 +112,8 @@ impl Picture {
         sum
     }
 
-    /// The least box of the pixels of nonzero weight, none where the picture is blank.
+    /// The least box of the pixels of nonzero weight, `None` where the picture is blank. It walks the runs, so its cost
+    /// grows with the number of edges.
     pub fn bounds(&self) -> Option<Box4>
         ensures blank { IsNone result ↔ (self.now ≡ []) }
         ensures least { IfSome result (IsLeastBox self.now) }
@@ -124,7 +127,7 @@ impl Picture {
         Some(bounds)
     }
 
-    /// The maximal runs of one nonzero weight, rows from the top and columns rising.
+    /// The maximal runs of one nonzero weight: rows from the top down, columns from left to right.
     pub fn runs(&self) -> Runs<'_>
         ensures runs { result ≡ runs_of self.now }
         ensures lawful { IsPicture self.now }
@@ -132,7 +135,7 @@ impl Picture {
         Runs::over(&self.bands)
     }
 
-    /// The k-th of the maximal runs that `runs` gives, counted from 0; none behind the last.
+    /// The k-th of the maximal runs that `runs` gives, counted from 0; `None` after the last.
     pub fn run(&self, k: usize) -> Option<Run>
         ensures value { result ≡ slice_get (runs_of self.now) k }
         ensures lawful { IsPicture self.now }
@@ -140,9 +143,10 @@ impl Picture {
         self.runs().nth(k)
     }
 
-    /// The picture whose weight at each pixel is the sum of those of this picture and of another, as `add` makes it;
-    /// both are unchanged. It shares the bands that only one of them has. Refusals WeightTooLarge (12), where a
-    /// weight would pass 32767 in size, and OutOfMemory (14), never where both are blank.
+    /// The sum of this picture and another, as `add` makes it: the weight of each pixel is the sum of both. Both are
+    /// unchanged. It shares the bands that only one of them has. Refused with `WeightTooLarge` where a weight would
+    /// exceed 32767 in absolute value, and with `OutOfMemory` where an allocation fails; never refused where both are
+    /// blank.
     pub fn plus(&self, alloc: Global, other: &Picture) -> Result<Picture, AddFault>
         ensures weights { IfOk result (HasWeights (sum_at self.now other.now)) }
         ensures blank { self.now ≡ [] → other.now ≡ [] → IsOk result }
@@ -156,8 +160,9 @@ impl Picture {
 
     /// Adds another picture to this one, as `addto .. also` does (The METAFONTbook, chapter 13; mf.web: `merge_edges`):
     /// the weight of each pixel is then the sum of both, and the other picture is unchanged. Bands that only one of
-    /// them has stay as they are, or are shared. Refusals WeightTooLarge (12), where a weight would pass 32767 in size,
-    /// and OutOfMemory (14), which leave it as it was. Adding a blank picture is never refused.
+    /// them has stay as they are, or are shared. Refused with `WeightTooLarge` where a weight would exceed 32767 in
+    /// absolute value, and with `OutOfMemory` where an allocation fails; a refusal leaves this picture as it was.
+    /// Adding a blank picture is never refused.
     pub fn add(&mut self, alloc: Global, other: &Picture) -> Result<(), AddFault>
         ensures weights { OnOk result (HasWeights (sum_at self.old other.now) self.new) }
         ensures blank { other.now ≡ [] → IsOk result }
@@ -168,9 +173,9 @@ impl Picture {
         add_bands(alloc, &mut self.bands, &other.bands)
     }
 
-    /// The picture in which each weight is mapped by itself, as `cull` does (The METAFONTbook, chapter 13; mf.web:
-    /// `cull_edges`); this one is unchanged. Weight 0 must stay 0, and weights in -32767..32767 must become such
-    /// weights. Refusal OutOfMemory (14), never for a blank picture.
+    /// The picture after each weight is mapped by itself, as `cull` does (The METAFONTbook, chapter 13; mf.web:
+    /// `cull_edges`); this one is unchanged. Requires a map under which 0 stays 0 and weights in -32767..=32767 become
+    /// such weights. Refused with `OutOfMemory` where an allocation fails, never for a blank picture.
     pub fn map_weights(&self, alloc: Global, map: &WeightMap) -> Result<Picture, OutOfMemory>
         requires { IsWeightMap map.now }
         ensures weights { IfOk result (HasWeights (mapped_at map.now self.now)) }
@@ -186,7 +191,7 @@ impl Picture {
     }
 
     /// The picture reflected in the line between columns -1 and 0: column x becomes column -x - 1 (mf.web:
-    /// `x_reflect_edges`). Refusal OutOfMemory (14).
+    /// `x_reflect_edges`). This one is unchanged. Refused with `OutOfMemory` where an allocation fails.
     pub fn mirror_columns(&self, alloc: Global) -> Result<Picture, OutOfMemory>
         ensures weights { IfOk result (HasWeights (columns_mirrored_at self.now)) }
         ensures lawful { IfOk result IsPicture }
@@ -196,8 +201,8 @@ impl Picture {
         Picture::from_rows(alloc, changed)
     }
 
-    /// The picture reflected in the line between rows -1 and 0: row y becomes row -y - 1 (mf.web:
-    /// `y_reflect_edges`). The rows are shared. Refusal OutOfMemory (14).
+    /// The picture reflected in the line between rows -1 and 0: row y becomes row -y - 1 (mf.web: `y_reflect_edges`).
+    /// This one is unchanged, and its rows are shared. Refused with `OutOfMemory` where an allocation fails.
     pub fn mirror_rows(&self, alloc: Global) -> Result<Picture, OutOfMemory>
         ensures weights { IfOk result (HasWeights (rows_mirrored_at self.now)) }
         ensures lawful { IfOk result IsPicture }
@@ -206,9 +211,10 @@ impl Picture {
         Picture::from_rows(alloc, mirrored_rows(alloc, &rows)?)
     }
 
-    /// The picture of which the columns and the rows are stretched, so that each pixel becomes a rectangle of
-    /// its weight (mf.web: `x_scale_edges`, `y_scale_edges`). The factors are in 1..=4095, and all of these rectangles must
-    /// lie in the field. Rows that come from one share their edges. Refusal OutOfMemory (14).
+    /// The picture after its columns and rows are stretched, so that each pixel becomes a rectangle of its weight
+    /// (mf.web: `x_scale_edges`, `y_scale_edges`). This one is unchanged. Rows that come from one row share their
+    /// edges. Requires factors in 1..=4095, and that all of these rectangles lie in the field. Refused with
+    /// `OutOfMemory` where an allocation fails.
     pub fn stretch(
         &self,
         alloc: Global,
@@ -226,8 +232,9 @@ impl Picture {
         Picture::from_rows(alloc, stretched_rows(alloc, &changed, rows)?)
     }
 
-    /// The picture turned by 90 degrees counterclockwise round the point (0, 0): the pixel (x, y) becomes the
-    /// pixel (-y - 1, x) (mf.web: `xy_swap_edges` and a reflection). Refusal OutOfMemory (14).
+    /// The picture turned by 90 degrees counterclockwise round the point (0, 0): the pixel (x, y) becomes the pixel (-y
+    /// - 1, x) (mf.web: `xy_swap_edges` and a reflection). This one is unchanged. Refused with `OutOfMemory` where an
+    /// allocation fails.
     pub fn turn(&self, alloc: Global) -> Result<Picture, OutOfMemory>
         ensures weights { IfOk result (HasWeights (turned_at self.now)) }
         ensures lawful { IfOk result IsPicture }
@@ -236,10 +243,10 @@ impl Picture {
         Picture::from_rows(alloc, turned_rows(alloc, &rows)?)
     }
 
-    /// The picture with corners added to it; the given one is unchanged. It shares the bands that no corner
-    /// reaches. There are at most 8192 corners, with coordinates in -4095..4095 and weights in -3..3, and
-    /// together they add nothing right of the field; what they add below it is left out. Refusals
-    /// WeightTooLarge (12), where a weight would pass 32767 in size, and OutOfMemory (14).
+    /// The picture with corners added to it; this one is unchanged. It shares the bands that no corner reaches.
+    /// Requires at most 8192 corners, with coordinates in -4095..=4095 and weights in -3..=3, which together add
+    /// nothing to the right of the field; what they add below the field is left out. Refused with `WeightTooLarge`
+    /// where a weight would exceed 32767 in absolute value, and with `OutOfMemory` where an allocation fails.
     pub fn with_corners(&self, alloc: Global, corners: Vec<Corner>) -> Result<Picture, AddFault>
         requires { AreCorners corners.items }
         ensures weights { IfOk result (HasWeights (with_corners_at self.now corners.items)) }
@@ -251,8 +258,8 @@ impl Picture {
         Ok(new)
     }
 
-    /// Adds corners to the picture, as `with_corners` does. Bands that no corner reaches stay as they are. Refusals
-    /// WeightTooLarge (12) and OutOfMemory (14), as there, which leave it as it was.
+    /// Adds corners to the picture, with the requirements of `with_corners`. Bands that no corner reaches stay as they
+    /// are. Refused with `WeightTooLarge` and `OutOfMemory`, as there; a refusal leaves the picture as it was.
     pub fn add_corners(&mut self, alloc: Global, corners: Vec<Corner>) -> Result<(), AddFault>
         requires { AreCorners corners.items }
         ensures weights { OnOk result (HasWeights (with_corners_at self.old corners.items) self.new) }
@@ -264,7 +271,7 @@ impl Picture {
         self.add(alloc, &added)
     }
 
-    /// Whether it is blank.
+    /// Whether the picture is blank.
     fn is_blank(&self) -> bool
         ensures { IsTrue result ↔ (self.now ≡ []) }
     {

@@ -1,4 +1,4 @@
-//! Changes of rows, each by itself.
+//! Changes that take each row by itself.
 ghost use Rattle.std.specs.Prelude.{◌≡◌, ◌++◌, ◌≢◌, [], IfOk, OnOk};
 ghost use Rattle.mf_rows.specs.Bands.{edge_row, edge_rows};
 ghost use Rattle.mf_rows.specs.BlankRows.{unless_blank};
@@ -14,8 +14,8 @@ use mf_edges::{Edge, RowChange, Stretch, changed_edges};
 use mf_geom::OutOfMemory;
 use std::alloc::Global;
 
-/// The rows after a change; rows that become blank go. Neighbours with the same edges share theirs
-/// afterwards.
+/// The rows after a change, without those that become blank. Neighbours with the same edges are worked out once, and
+/// share their edges afterwards.
 pub(crate) fn changed_rows(
     alloc: Global,
     rows: &[Row],
@@ -29,7 +29,7 @@ pub(crate) fn changed_rows(
 {
     let mut changed = Vec::new(alloc);
     changed.reserve(rows.len())?;
-    // The last edges, and a row with what they became; at first no edges, which stay none.
+    // The last edges, and a row with what they became; at first there are no edges, which stay none.
     let mut last: &[Edge] = &[];
     let mut image = Row::new(alloc, 0, Vec::new(alloc))?;
     for row in rows {
@@ -42,8 +42,7 @@ pub(crate) fn changed_rows(
     Ok(changed)
 }
 
-/// The rows of which the columns are stretched. Where the stretch leaves them in their places, these are the
-/// same rows.
+/// The rows after their columns are stretched. Where the stretch leaves all columns in place, these are the same rows.
 pub(crate) fn with_columns_stretched(
     alloc: Global,
     rows: Vec<Row>,
@@ -61,7 +60,7 @@ pub(crate) fn with_columns_stretched(
     changed_rows(alloc, &rows, &RowChange::Columns(*stretch))
 }
 
-/// Adds row y with the edges of another row, which are shared, to a list of rows, unless there are none.
+/// Appends row y with the edges of another row, which are shared, to a list of rows, unless there are no edges.
 pub(crate) fn push_unless_blank(rows: &mut Vec<Row>, row: &Row, y: i32) -> Result<(), OutOfMemory>
     ensures { OnOk result (edge_rows rows.new.items ≡ edge_rows rows.old.items ++ unless_blank (record { y = y; edges = (edge_row row.now).edges })) }
 {

@@ -1,4 +1,4 @@
-//! Rows that change their places.
+//! Rows that move to other heights.
 ghost use Rattle.std.specs.Prelude.{◌≡◌, IfOk, OnOk, pos, negsuc, ◌≤ℤ◌};
 ghost use Rattle.mf_rows.specs.Bands.{edge_row, edge_rows};
 ghost use Rattle.mf_rows.specs.EdgeRows.{AreRows};
@@ -12,7 +12,7 @@ use mf_edges::Stretch;
 use mf_geom::OutOfMemory;
 use std::alloc::Global;
 
-/// The rows on the other side, which share their edges with these.
+/// The reflected rows: row y becomes row -y - 1. They share their edges with the old ones.
 pub(crate) fn mirrored_rows(alloc: Global, rows: &[Row]) -> Result<Vec<Row>, OutOfMemory>
     requires { AreRows (edge_rows rows.now) }
     ensures rows { IfOk result (λ mirrored. AreRows (edge_rows mirrored.items)) }
@@ -26,7 +26,7 @@ pub(crate) fn mirrored_rows(alloc: Global, rows: &[Row]) -> Result<Vec<Row>, Out
     Ok(mirrored)
 }
 
-/// The rows after a stretch: each becomes as many rows as the factor says, which share its edges.
+/// The rows after a stretch. Each becomes as many rows as the factor says, which share its edges.
 pub(crate) fn stretched_rows(
     alloc: Global,
     rows: &[Row],
@@ -45,7 +45,7 @@ pub(crate) fn stretched_rows(
     Ok(stretched)
 }
 
-/// Adds the rows that a row becomes, from the top.
+/// Appends the rows that a row becomes, from the top down.
 fn push_stretched(rows: &mut Vec<Row>, row: &Row, stretch: &Stretch) -> Result<(), OutOfMemory>
     requires stretch { IsStretch stretch.now }
     requires bottom { negsuc 4094 ≤ℤ row.now.y }

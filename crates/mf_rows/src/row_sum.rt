@@ -13,11 +13,13 @@ use crate::row::Row;
 use mf_edges::{AddFault, Edge, MAX_WEIGHT, sum_of_edges, with_changes};
 use std::alloc::Global;
 
-/// Most edges of a row whose places in another are found by halving; with more of them the rows are merged.
+/// A row of at most this many edges is added to another by binary search, without looking at the weights between the
+/// other's edges, where the reaches of both leave room. With more edges, or with no room, the rows are merged and all
+/// weights are checked.
 const FEW_EDGES: usize = 8;
 
-/// The rows of two lists together; rows that only one of them has are shared. Refused with WeightTooLarge
-/// where a weight would pass 32767 in size.
+/// The rows of the sum of two lists. Rows that only one list has are shared. Refused with `WeightTooLarge` where a
+/// weight would exceed 32767 in absolute value, and with `OutOfMemory` where an allocation fails.
 pub(crate) fn sum_of_rows(alloc: Global, left: &[Row], right: &[Row]) -> Result<Vec<Row>, AddFault>
     requires left { AreRows (edge_rows left.now) }
     requires right { AreRows (edge_rows right.now) }
@@ -51,8 +53,8 @@ fn split_at_height(rows: &[Row], y: i32) -> (Option<&Row>, &[Row])
     }
 }
 
-/// Adds the sum of a row and of the row of this height that is added to it, where there is one, to a list of rows,
-/// unless it is blank.
+/// Appends the sum of a row and of the row of the same height, if there is one, to a list of rows, unless the sum is
+/// blank.
 fn push_sum(
     alloc: Global,
     sum: &mut Vec<Row>,
@@ -70,7 +72,7 @@ fn push_sum(
     }
 }
 
-/// Adds the sum of two rows of one height to a list of rows, unless it is blank.
+/// Appends the sum of two rows of the same height to a list of rows, unless it is blank.
 fn push_sum_of_both(
     alloc: Global,
     sum: &mut Vec<Row>,
@@ -89,8 +91,10 @@ fn push_sum_of_both(
     Ok(sum.push(Row::with_reach(alloc, right.y, edges, reach)?)?)
 }
 
-/// The edges of two rows together, and their reach, where it is known. Refused with WeightTooLarge where a weight
-/// would pass 32767 in size.
+/// The edges of the sum of two rows, and its reach, where that is known. Where few edges are added within the limit,
+/// the reach is the sum of both reaches, so it grows with each contour. Once there is no room left, all weights are
+/// checked, no reach is kept, and the next sum finds the least reach anew. Refused with `WeightTooLarge` where a weight
+/// would exceed 32767 in absolute value, and with `OutOfMemory` where an allocation fails.
 fn sum_of_both(alloc: Global, left: &Row, right: &Row) -> Result<(Vec<Edge>, Option<u16>), AddFault>
     requires left { AreEdges (edge_row left.now).edges }
     requires right { AreEdges (edge_row right.now).edges }

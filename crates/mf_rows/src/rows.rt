@@ -6,10 +6,10 @@ use crate::band::Band;
 use crate::row::Row;
 use std::sync::Arc;
 
-/// An iterator over the rows of bands, from the top.
+/// An iterator over the rows of bands, from the top down.
 #[derive(Drop)]
 pub(crate) struct Rows<'a> {
-    /// Rows of the current band that are still to come, and the bands below it.
+    /// The rows of the current band that are still to come, and the bands below it.
     rows: &'a [Row],
     bands: &'a [Arc<Band>],
 }

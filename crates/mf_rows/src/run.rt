@@ -9,9 +9,9 @@ ghost use Rattle.mf_rows.specs.Widening.{box_of_run, widened};
 use crate::bounds::Box4;
 use mf_edges::{FIELD_END, FIELD_START, is_lawful_weight};
 
-/// `len` pixels of row `y` from column `x` to the right, all of one weight. As an answer it is maximal:
-/// neither neighbour in its row has its weight. In a picture its pixels lie in the field, so `x` and `y` are
-/// in -4095..4094 and `len` in 1..8190, and `weight` is in -32767..32767 and not 0.
+/// A run: `len` pixels of row `y`, from column `x` to the right, all of one weight. A run that a picture gives is
+/// maximal: neither neighbour in its row has its weight. In a picture a run lies in the field, so `x` and `y` are in
+/// -4095..=4094, `len` is in 1..=8190, and `weight` is in -32767..=32767 and not 0.
 #[derive(Clone, Copy, Debug, PartialEq, Eq)]
 pub struct Run {
     pub y: i32,
@@ -21,7 +21,7 @@ pub struct Run {
 }
 
 impl Run {
-    /// Whether the run has a pixel, lies in the field, and has a lawful weight that is not 0.
+    /// Whether the run has at least one pixel, lies in the field, and has a lawful weight that is not 0.
     pub(crate) fn is_lawful(&self) -> bool
         ensures { IsTrue result ↔ IsRun self.now }
     {
@@ -70,14 +70,14 @@ impl Run {
         self.x + (self.len - 1) as i32
     }
 
-    /// Whether all its columns are columns of the field.
+    /// Whether all its columns lie in the field.
     fn lies_in_columns(&self) -> bool
         ensures { IsTrue result ↔ ((negsuc 4094 ≤ℤ self.now.x) × ((self.now.x +ℤ pos self.now.len) ≤ℤ pos 4095)) }
     {
         FIELD_START <= self.x && i64::from(self.x) + i64::from(self.len) <= i64::from(FIELD_END)
     }
 
-    /// Whether its row is a row of the field.
+    /// Whether its row lies in the field.
     fn lies_in_rows(&self) -> bool
         ensures { IsTrue result ↔ ((negsuc 4094 ≤ℤ self.now.y) × (self.now.y ≤ℤ pos 4094)) }
     {

@@ -8,8 +8,8 @@ use crate::walk::Walk;
 use std::marker::Model;
 use std::sync::Arc;
 
-/// An iterator over the maximal runs of a picture, rows from the top and columns rising. To callers it is the list of
-/// the runs that are still to come. It walks the edges once, and takes no memory.
+/// An iterator over the maximal runs of a picture: rows from the top down, columns from left to right. To callers it is
+/// the list of the runs that are still to come. It walks the edges once, and allocates nothing.
 #[derive(Drop)]
 pub struct Runs<'a> {
     walk: Walk<'a>,

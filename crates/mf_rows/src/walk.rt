@@ -10,12 +10,13 @@ use crate::run::Run;
 use mf_edges::Edge;
 use std::sync::Arc;
 
-/// A walk over the edges of a picture, once, which gives its maximal runs, rows from the top and columns rising.
+/// A walk over the edges of a picture, each passed once, which gives its maximal runs: rows from the top down, columns
+/// from left to right.
 #[derive(Drop)]
 pub(crate) struct Walk<'a> {
-    /// Rows that are still to come.
+    /// The rows that are still to come.
     rows: Rows<'a>,
-    /// Edges of row `y` that are still to come, and the weight left of them.
+    /// The edges of row `y` that are still to come, and the weight to the left of them.
     edges: &'a [Edge],
     y: i32,
     weight: i32,
@@ -40,7 +41,7 @@ impl<'a> Walk<'a> {
         }
     }
 
-    /// Goes on to the edge at which the next run begins, and gives its column.
+    /// Moves on to the edge at which the next run begins, and answers its column.
     fn next_start(&mut self) -> Option<i32>
         ensures start { IfSome result (λ x. IsEdgeTaken self.old x self.new) }
         ensures nonzero { IfSome result (λ _. self.new.weight ≢ pos 0) }
@@ -53,7 +54,7 @@ impl<'a> Walk<'a> {
         self.next_edge()
     }
 
-    /// Goes on to the next edge, and gives its column.
+    /// Moves on to the next edge, and answers its column.
     fn next_edge(&mut self) -> Option<i32>
         ensures edge { IfSome result (λ x. IsEdgeTaken self.old x self.new) }
         ensures changed { IfSome result (λ _. self.new.weight ≢ self.old.weight) }
@@ -66,7 +67,7 @@ impl<'a> Walk<'a> {
         Some(edge.x)
     }
 
-    /// Enters the next row where this one is over.
+    /// Enters the next row where no edge of this one is left.
     fn enter_row(&mut self)
         ensures left { runs_left self.new ≡ runs_left self.old }
         ensures over { self.new.edges.now ≡ [] → runs_left self.new ≡ [] }

@@ -1,4 +1,4 @@
-//! Tests with values worked out by hand, and tests against a slow form of pictures.
+//! Tests with values worked out by hand, and tests that compare pictures with a slow form of them.
 
 mod assertions;
 mod chance;
@@ -23,14 +23,14 @@ fn make_run(y: i32, x: i32, len: u32, weight: i32) -> Run {
     Run { y, x, len, weight }
 }
 
-/// A builder with these runs, each of which has to fit.
+/// A builder with these runs, each of which must fit.
 fn builder_of<R: Abort + AllocGlobal>(rt: &R, runs: &[Run]) -> RowBuilder {
     let mut builder = RowBuilder::new(rt.alloc());
     push_all(rt, &mut builder, runs);
     builder
 }
 
-/// Pushes runs, each of which has to fit.
+/// Pushes these runs, each of which must fit.
 fn push_all(rt: &impl Abort, builder: &mut RowBuilder, runs: &[Run]) {
     for run in runs {
         assert_holds(rt, builder.fits(run), ("fits", *run));
@@ -42,12 +42,12 @@ fn push_all(rt: &impl Abort, builder: &mut RowBuilder, runs: &[Run]) {
     }
 }
 
-/// The picture that was made, where there was room for it.
+/// The picture that was made; there must have been room for it.
 fn made(rt: &impl Abort, picture: Result<Picture, OutOfMemory>) -> Picture {
     picture.expect(rt, "there is room for the picture")
 }
 
-/// The picture of these runs, each of which has to fit.
+/// The picture of these runs, each of which must fit.
 fn picture_of<R: Abort + AllocGlobal>(rt: &R, runs: &[Run]) -> Picture {
     made(rt, builder_of(rt, runs).finish())
 }
@@ -62,36 +62,36 @@ fn block() -> [Run; 2] {
     [make_run(1, 0, 3, 1), make_run(0, 0, 3, 1)]
 }
 
-/// These pixels of a picture have these weights.
+/// Asserts that these pixels of a picture have these weights.
 fn assert_weights(rt: &impl Abort, picture: &Picture, pixels: &[(i32, i32, i32)]) {
     for (x, y, weight) in pixels {
         assert_same(rt, picture.weight(*x, *y), *weight, ("weight at", *x, *y));
     }
 }
 
-/// The weights of a picture have this sum.
+/// Asserts that the weights of a picture have this sum.
 fn assert_total(rt: &impl Abort, picture: &Picture, total: i64) {
     assert_same(rt, picture.total(), total, "total");
 }
 
-/// A picture has this least box.
+/// Asserts that a picture has this least box.
 fn assert_bounds(rt: &impl Abort, picture: &Picture, bounds: Option<Box4>) {
     assert_same(rt, picture.bounds(), bounds, "bounds");
 }
 
-/// At these places, counted from 0, a picture has these runs.
+/// Asserts that a picture has these runs at these indices, counted from 0.
 fn assert_some_runs(rt: &impl Abort, picture: &Picture, runs: &[(usize, Option<Run>)]) {
     for (k, run) in runs {
         assert_same(rt, picture.run(*k), *run, ("run", *k));
     }
 }
 
-/// A picture has exactly these runs.
+/// Asserts that a picture has exactly these runs.
 fn assert_runs<R: Abort + AllocGlobal>(rt: &R, picture: &Picture, runs: &[Run]) {
     assert_runs_in(rt, 0, picture, runs);
 }
 
-/// In this case a picture has exactly these runs.
+/// Asserts that a picture has exactly these runs, in this case of a test.
 fn assert_runs_in<R: Abort + AllocGlobal>(rt: &R, case: usize, picture: &Picture, runs: &[Run]) {
     for (k, run) in runs.iter().enumerate() {
         assert_same(rt, picture.run(k), Some(*run), ("run", k, "in case", case));
@@ -109,7 +109,7 @@ fn assert_runs_in<R: Abort + AllocGlobal>(rt: &R, case: usize, picture: &Picture
     assert_same(rt, all.as_slice(), runs, ("runs in case", case));
 }
 
-/// Two pictures are equal, or not, whichever of them is asked.
+/// Asserts that two pictures are equal, or that they are not, whichever of them is asked.
 fn assert_equality<C: Copy + Debug + Drop>(
     rt: &impl Abort,
     one: &Picture,

@@ -30,7 +30,7 @@ same_state t u pictures check characters =
     ∙ ap (λ k. record { pictures = u.pictures; check = k; characters = t.characters }) check
     ∙ ap (λ cs. record { pictures = u.pictures; check = u.check; characters = cs }) characters
 
--- states that draw alike, after the same state
+-- two states after one state are the same where their pictures are the same and nothing else has changed
 same_drawn : (s t u : State) → t.pictures ≡ u.pictures → KeepsRest s t → KeepsRest s u → t ≡ u
 same_drawn s t u pictures p q = same_state t u pictures (p.check ∙ sym q.check) (p.characters ∙ sym q.characters)
 
@@ -49,7 +49,7 @@ proof_once ds text other (inl p) (inr q) = absurd (q.fits p.too_large)
 proof_once ds text other (inr p) (inl q) = absurd (p.fits q.too_large)
 proof_once ds text other (inr p) (inr q) = one_grid_text ds text other p.printed q.printed
 
--- a shipping has one answer
+-- shipping a character has one answer
 ships_once : (limits : Limits) (shipped : List Character) (c : Character) (text other : List ℕ) (after later : List Character)
     → Ships limits shipped c text after → Ships limits shipped c other later → (text ≡ other) × (after ≡ later)
 ships_once limits shipped c text other after later (inl p) (inl q) = (p.printed ∙ sym q.printed, p.same ∙ sym q.same)
@@ -78,7 +78,7 @@ answers_once limits s t u (Ship source code dx width) text other p q =
     (same_text, same_state t u (p.1.pictures ∙ sym q.1.pictures) (p.1.check ∙ sym q.1.check) same_characters)
 answers_once limits s t u Publish text other p q = (p.0.0 ∙ sym q.0.0, same_drawn s t u (p.0.1 ∙ sym q.0.1) p.1 q.1)
 
--- and so has a line, whose command or refusal is one
+-- a line has one answer, since it has one command or one refusal
 pub one_answer : (limits : Limits) (s t u : State) (line text other : List ℕ) → Answers limits s line text t → Answers limits s line other u → (text ≡ other) × (t ≡ u)
 one_answer limits s t u line text other (inl p) (inl q) =
     answers_once limits s t u q.command text other

@@ -1,4 +1,4 @@
--- What a session stands for once a character is shipped, or refused.
+-- The state that a session represents once a character is shipped, or refused.
 use Rattle.std.proofs.Common.{◌≡◌, ◌<◌, ℕ, List, [], ◌∷◌, ◌++◌, codes, decimal, inl, inr, length, refl, sym, subst, ◌∙◌}
 use Rattle.mf_gf.specs.declared.file.GfFile.{GfFile}
 use Rattle.mf_gf.specs.Files.{Character, front, shipments}
@@ -17,7 +17,7 @@ pub record IsDrawnAlike (before after : Session) : Type 0 where
   pub pictures_are : pictures after.variables ≡ pictures before.variables
   pub check_is : after.check ≡ before.check
 
--- a session has answered a shipping
+-- a session has answered the shipping of a character
 pub record HasShipped (before : Session) (s : State) (c : Character) (text : List ℕ) (after : Session) : Type 0 where
   pub next : State
   pub answer : Ships (limits before) s.characters c text next.characters × KeepsDrawn s next
@@ -26,7 +26,7 @@ pub record HasShipped (before : Session) (s : State) (c : Character) (text : Lis
 kept : (s : State) → KeepsDrawn s s
 kept s = record { pictures = refl; check = refl }
 
--- a file that is as it was keeps what it kept
+-- a file that has not changed keeps what it kept
 pub keeps-same : (before after : GfFile) (comment : List ℕ) (characters : List Character) → IsSameFile before after → Keeps before comment characters → Keeps after comment characters
 keeps-same before after comment characters same keeps =
     record {

@@ -41,7 +41,7 @@ operates_some limits s name op =
 refused_proof : (ds : List Dot) → IsTooLarge ds → (text : List ℕ) × ProofAnswers ds text
 refused_proof ds large = (refused_line ProofTooLarge, inl (record { too_large = large; printed = refl }))
 
--- a grid text is too large, or there is one
+-- a picture has a grid text, or that text is too large
 proof_some : (ds : List Dot) → (text : List ℕ) × ProofAnswers ds text
 proof_some [] =
     let (text, grid) = some_grid_text [] in (text, inr (record { fits = λ large. least_box_of_some large.bounds large.least; printed = grid }))

@@ -1,4 +1,4 @@
--- Lines that give a command with no contour: they have no refusal, and memory is not wanting for them.
+-- Lines that give a command without a contour: they are not refused, not even with `OutOfMemory`.
 use Rattle.std.proofs.Common.{ℕ, List, sym, ◌∙◌, subst}
 use Rattle.mf_text.specs.declared.command.Command.{Command}
 use Rattle.mf_text.specs.declared.command.Command.TheVariants as command
@@ -10,7 +10,7 @@ use Rattle.mf_text.specs.Meaning.{IsCommandOf, TakesMemory}
 use Rattle.mf_text.proofs.LineReading.{same_line}
 use Rattle.mf_text.proofs.OneAnswer.{given_or_refused}
 
--- a command has no contour
+-- the command has no contour
 abbrev pub HasNoContour : Command → Type 0
 HasNoContour (command.Contour name cycle weight) = ⊥
 HasNoContour given = Unit {0}
@@ -35,7 +35,7 @@ wants_no_memory line given none p q =
     form_takes_none q.line.form given none
     (subst (λ (l : Line). IsCommandOf l.form given) (same_line p.line q.line (sym p.line_is.spelled ∙ q.line_is.spelled)) p.command_is) q.memory
 
--- a line that gives such a command is refused for nothing, nor for want of memory
+-- a line that gives such a command is not refused, not even with `OutOfMemory`
 pub is_not_refused : (line : List ℕ) (given : Command) (fault : TextFault) → HasNoContour given → Gives line given → IsRefused line fault → ⊥
 is_not_refused line given faults.OutOfMemory none p q = wants_no_memory line given none p q
 is_not_refused line given (faults.Cycle why) none p q = given_or_refused line given (faults.Cycle why) (λ is. cc) p q

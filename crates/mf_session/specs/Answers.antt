@@ -24,7 +24,7 @@ use Rattle.mf_session.specs.declared.refusal.Refusal.TheVariants.{Line, ProofToo
 abbrev pub Prints : State → List ℕ → List ℕ → State → Type 0
 Prints s line text t = (text ≡ line) × (t ≡ s)
 
--- what is drawn changes neither the turning check nor what was shipped
+-- drawing changes neither the turning check nor what was shipped
 pub record KeepsRest (s t : State) : Type 0 where
   pub check : t.check ≡ s.check
   pub characters : t.characters ≡ s.characters
@@ -33,7 +33,7 @@ pub record KeepsRest (s t : State) : Type 0 where
 abbrev pub Operates : Limits → State → Name → Op → List ℕ → State → Type 0
 Operates limits s name op text t = OperatesOn limits.max_ops s.pictures name op text t.pictures × KeepsRest s t
 
--- what is shipped changes neither the pictures nor the turning check
+-- shipping changes neither the pictures nor the turning check
 pub record KeepsDrawn (s t : State) : Type 0 where
   pub pictures : t.pictures ≡ s.pictures
   pub check : t.check ≡ s.check
@@ -42,12 +42,12 @@ pub record KeepsDrawn (s t : State) : Type 0 where
 abbrev pub total_line : List Dot → List ℕ
 total_line ds = codes "totalweight " ++ signed_decimal (total_of ds) ++ codes "\n"
 
--- the grid text is too large
+-- the grid text is too large, so the refusal is printed
 pub record IsRefusedProof (ds : List Dot) (text : List ℕ) : Type 0 where
   pub too_large : IsTooLarge ds
   pub printed : text ≡ refused_line ProofTooLarge
 
--- the grid text is not too large
+-- the grid text is not too large, so it is printed
 pub record IsProof (ds : List Dot) (text : List ℕ) : Type 0 where
   pub fits : IsTooLarge ds → ⊥
   pub printed : IsGridText ds text
@@ -73,7 +73,7 @@ AnswersTo limits s (Proof source) text t = ProofAnswers (source_picture s.pictur
 AnswersTo limits s (Ship source code dx width) text t = Ships limits s.characters (character code dx width (source_picture s.pictures source)) text t.characters × KeepsDrawn s t
 AnswersTo limits s Publish text t = PublishesAll s.pictures text t.pictures × KeepsRest s t
 
--- a line gives a command, which answers this
+-- a line gives a command, and answers what the command answers
 pub record IsPerformed (limits : Limits) (s : State) (line : List ℕ) (text : List ℕ) (t : State) : Type 0 where
   pub command : Command
   pub given : Gives line command

@@ -11,22 +11,23 @@ use Rattle.mf_session.specs.Pictures.{Pictures}
 use Rattle.mf_session.specs.Refusals.{refused_line}
 use Rattle.mf_session.specs.declared.refusal.Refusal.TheVariants.{Operation as RefusedOperation}
 
--- why an operation on a picture is refused, if it is: `currentpicture` accepts so many, and a register any number
+-- the refusal of an operation on a picture, if there is one: `currentpicture` accepts up to max_ops operations, a register any
+-- number
 abbrev pub refusal_of : ℕ → Pictures → Name → Op → Option Fault
 refusal_of max_ops s Current op = if rev s.accepted == max_ops then Some TooManyOperations else option_map Refused (fault_of (pic s.accepted) op)
 refusal_of max_ops s (Register letter) op = option_map Refused (fault_of (slice_index_or s.registers letter []) op)
 
--- a clear of a picture is accepted: of a register always, and of `currentpicture` while it accepts operations
+-- a clear of a picture is accepted: always for a register, and for `currentpicture` while it accepts operations
 abbrev pub IsClearable : ℕ → Pictures → Name → Type 0
 IsClearable max_ops s Current = rev s.accepted < max_ops
 IsClearable max_ops s (Register letter) = Unit {0}
 
--- the pictures after an operation on one
+-- the pictures after an operation on one of them
 abbrev pub operated : Pictures → Name → Op → Pictures
 operated s Current op = record s { accepted = s.accepted ++ entry (next s.published) (Operation op) ∷ [] }
 operated s (Register letter) op = record s { registers = slice_set s.registers letter (stepped (slice_index_or s.registers letter []) op) }
 
--- where there is no refusal, nothing is printed and the pictures are the new ones
+-- an operation that is not refused prints nothing and makes the new pictures; one that is refused prints why and changes nothing
 abbrev pub Becomes : Option Fault → Pictures → Pictures → List ℕ → Pictures → Type 0
 Becomes None s new text t = (text ≡ []) × (t ≡ new)
 Becomes (Some why) s new text t = (text ≡ refused_line (RefusedOperation why)) × (t ≡ s)
@@ -35,6 +36,6 @@ Becomes (Some why) s new text t = (text ≡ refused_line (RefusedOperation why))
 abbrev pub OperatesOn : ℕ → Pictures → Name → Op → List ℕ → Pictures → Type 0
 OperatesOn max_ops s name op text t = Becomes (refusal_of max_ops s name op) s (operated s name op) text t
 
--- all that was accepted is published, and its revision is printed
+-- everything that was accepted is published, and its revision is printed
 abbrev pub PublishesAll : Pictures → List ℕ → Pictures → Type 0
 PublishesAll s text t = (text ≡ codes "published " ++ decimal (rev s.accepted) ++ codes "\n") × (t ≡ record s { published = s.accepted })

@@ -1,4 +1,4 @@
--- The end of a script: its picture is closed, and its font file handed out.
+-- The end of a script: its picture is closed, and its font file is handed out.
 use Rattle.std.specs.Prelude.{◌≡◌, List, [], ◌∷◌, ◌++◌}
 use Rattle.mf_gf.specs.declared.file.GfFile.{GfFile}
 use Rattle.mf_gf.specs.Keeping.{Keeps, limit}
@@ -13,16 +13,16 @@ use Rattle.mf_session.specs.Pictures.{Pictures}
 use Rattle.mf_session.specs.Sessions.{StandsFor, limits, name}
 use Rattle.mf_session.specs.States.{State}
 
--- what `currentpicture` has accepted, and the end mark
+-- what `currentpicture` has accepted, followed by the end mark
 abbrev pub whole_list : Pictures → List Entry
 whole_list p = p.accepted ++ entry (next p.published) End ∷ []
 
--- the font file keeps the characters, and may be as long as it might
+-- the font file keeps the characters, and its limit is that of the session
 pub record IsFileOf (session : Session) (s : State) (file : GfFile) : Type 0 where
   pub keeps : Keeps file [] s.characters
   pub limit_is : limit file ≡ (limits session).max_bytes
 
--- all that was accepted is published, and the end mark
+-- everything that was accepted is published, and so is the end mark
 pub record HasEnded (session : Session) (s : State) (ended : Ended) (file : GfFile) : Type 0 where
   pub name_is : ended_name ended ≡ name session
   pub published : ended_published ended ≡ whole_list s.pictures
@@ -41,7 +41,7 @@ pub record IsKept (session : Session) (s : State) (same : Session) : Type 0 wher
   pub limits_are : limits same ≡ limits session
   pub stands : StandsFor same s
 
--- what comes back where memory was wanting
+-- what is handed back where an allocation fails
 abbrev pub IsHandedBack : Session → State → EndFault → Type 0
 IsHandedBack session s (Kept same) = IsKept session s same
 IsHandedBack session s (Halfway closing file) = IsHalfway session s closing file

@@ -1,4 +1,4 @@
--- The pictures of a script: the live picture `currentpicture`, and those of the registers.
+-- The pictures of a script: the live picture `currentpicture`, and those in the registers.
 use Rattle.std.specs.Prelude.{List, [], replicate, slice_index_or}
 use Rattle.mf_live.specs.Entries.{Entry, pic}
 use Rattle.mf_rows.specs.Dots.{Dot}
@@ -7,17 +7,17 @@ use Rattle.mf_text.specs.declared.command.Name.TheVariants.{Current, Register}
 use Rattle.mf_text.specs.declared.command.Source.{Source}
 use Rattle.mf_text.specs.declared.command.Source.TheVariants.{Null, Named}
 
--- what `currentpicture` has accepted, what of it is published, and the picture of each register from `a` on
+-- what `currentpicture` has accepted, what of that is published, and the picture of each register from `a` on
 pub record Pictures : Type 0 where
   pub accepted : List Entry
   pub published : List Entry
   pub registers : List (List Dot)
 
--- no operation, and all pictures blank
+-- no operation is accepted, and all pictures are blank
 abbrev pub blank_pictures : Pictures
 blank_pictures = record { accepted = []; published = []; registers = replicate 26 [] }
 
--- the picture of a name
+-- the picture with this name
 abbrev pub picture : Pictures → Name → List Dot
 picture s Current = pic s.accepted
 picture s (Register letter) = slice_index_or s.registers letter []

@@ -1,17 +1,17 @@
--- Refusals, as the transcript shows them.
+-- Refusals, as the transcript prints them.
 use Rattle.std.specs.Prelude.{ℕ, ◌++◌, List, codes}
 use Rattle.mf_live.specs.Names.{operation_text}
 use Rattle.mf_text.specs.Names.{text_fault_text}
 use Rattle.mf_session.specs.declared.refusal.Refusal.{Refusal}
 use Rattle.mf_session.specs.declared.refusal.Refusal.TheVariants.{Line, Operation, FileTooLong, ProofTooLarge}
 
--- the name of a refusal, and behind a space the place or the column where it has one
+-- the name of a refusal and, after a space, the place or the column where it has one
 abbrev pub refusal_text : Refusal → List ℕ
 refusal_text (Line fault) = text_fault_text fault
 refusal_text (Operation fault) = operation_text fault
 refusal_text FileTooLong = codes "FileTooLong"
 refusal_text ProofTooLarge = codes "ProofTooLarge"
 
--- the line that tells of a refusal
+-- the line that reports a refusal
 abbrev pub refused_line : Refusal → List ℕ
 refused_line refusal = codes "refused " ++ refusal_text refusal ++ codes "\n"

@@ -1,4 +1,4 @@
--- What a session stands for.
+-- The states that a session represents.
 use Rattle.std.specs.Prelude.{◌≡◌, ℕ, List, []}
 use Rattle.logbook.specs.Pages.{Book}
 use Rattle.mf_gf.specs.Keeping.{Keeps, limit}
@@ -8,7 +8,7 @@ use Rattle.mf_session.specs.Answers.{Answers, AnswersTo}
 use Rattle.mf_session.specs.States.{State, Limits}
 use Rattle.mf_session.specs.Variables as variables
 
--- a session has the pictures and the turning check of a state, and its font file keeps the characters
+-- a session has the pictures and the turning check of a state, and its font file keeps the state's characters
 pub record StandsFor (session : Session) (s : State) : Type 0 where
   pub pictures : s.pictures ≡ variables.pictures session.variables
   pub check : s.check ≡ session.check
@@ -18,17 +18,17 @@ pub record StandsFor (session : Session) (s : State) : Type 0 where
 abbrev pub name : Session → Book
 name session = variables.name session.variables
 
--- what it accepts at most
+-- its limits of operations and of bytes
 abbrev pub limits : Session → Limits
 limits session = record { max_ops = variables.max_ops session.variables; max_bytes = limit session.file }
 
--- a session, which stood for a state, has answered a command, and stands for the state after it
+-- a session that represented a state has answered a command, and represents the state after it
 pub record IsAnsweredTo (before : Session) (s : State) (command : Command) (text : List ℕ) (after : Session) : Type 0 where
   pub next : State
   pub answer : AnswersTo (limits before) s command text next
   pub stands : StandsFor after next
 
--- a session, which stood for a state, has answered a line, and stands for the state after it
+-- a session that represented a state has answered a line, and represents the state after it
 pub record IsAnswered (before : Session) (s : State) (line : List ℕ) (text : List ℕ) (after : Session) : Type 0 where
   pub next : State
   pub answer : Answers (limits before) s line text next

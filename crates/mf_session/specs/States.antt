@@ -15,11 +15,11 @@ pub record State : Type 0 where
 abbrev pub start : State
 start = record { pictures = blank_pictures; check = On; characters = [] }
 
--- how many operations `currentpicture` accepts, and how many bytes the font file may have
+-- the greatest number of operations that `currentpicture` accepts, and of bytes that the font file may have
 pub record Limits : Type 0 where
   pub max_ops : ℕ
   pub max_bytes : ℕ
 
--- no font file has more bytes than 2,147,483,647
+-- the limits with these numbers, where no font file may have more than 2,147,483,647 bytes
 abbrev pub limits_of : ℕ → ℕ → Limits
 limits_of max_ops max_bytes = record { max_ops = max_ops; max_bytes = min max_bytes 2147483647 }

@@ -4,14 +4,14 @@ use Rattle.std.specs.Str.Lines.{lines}
 use Rattle.mf_session.specs.Answers.{Answers}
 use Rattle.mf_session.specs.States.{State, Limits, start}
 
--- lines, performed one after another from a state on: what they print, and the state after them
+-- lines are performed one after another from a state: what they print, and the state after them
 abbrev pub Perform : Limits → State → List (List ℕ) → List ℕ → State → Type 0
 Perform limits s [] text t = (text ≡ []) × (t ≡ s)
 Perform limits s (line ∷ more) text t =
     (first : List ℕ) × (rest : List ℕ) × (next : State) × Answers limits s line first next × Perform limits next more rest t × (text ≡ first ++ rest)
 
--- the transcript of the bytes of a script; a line ends at a line feed, a carriage return directly before it is no part
--- of the line, and bytes after the last line feed are a line
+-- the transcript of the bytes of a script; a line ends at a line feed, a carriage return directly before that is not part of the
+-- line, and bytes after the last line feed are a line
 pub record IsTranscript (limits : Limits) (input text : List ℕ) : Type 0 where
   pub last : State
   pub performed : Perform limits start (lines input) text last

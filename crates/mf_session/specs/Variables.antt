@@ -1,11 +1,11 @@
--- What the picture variables of a session are.
+-- What contracts say about the picture variables of a session.
 use Rattle.std.specs.Prelude.{ℕ}
 use Rattle.logbook.specs.Pages.{Book}
 use Rattle.mf_live.specs.Writers as writers
 use Rattle.mf_session.specs.declared.variables.Variables.{Variables}
 use Rattle.mf_session.specs.Pictures.{Pictures}
 
--- the pictures: what `currentpicture` has accepted, what of it is published, and the registers
+-- the pictures: what `currentpicture` has accepted, what of that is published, and the registers
 abbrev pub pictures : Variables → Pictures
 pictures v = record { accepted = writers.accepted v.writer; published = writers.published v.writer; registers = v.registers }
 
@@ -13,6 +13,6 @@ pictures v = record { accepted = writers.accepted v.writer; published = writers.
 abbrev pub name : Variables → Book
 name v = writers.name v.writer
 
--- how many operations `currentpicture` accepts
+-- the greatest number of operations that `currentpicture` accepts
 abbrev pub max_ops : Variables → ℕ
 max_ops v = writers.limit v.writer

@@ -1,5 +1,5 @@
-//! Sessions of picture commands: a session performs lines on the live picture and its registers, answers what they
-//! print, and keeps the font file of the characters that they ship.
+//! Sessions of picture commands. A session performs lines on the live picture and its registers, answers with what they print,
+//! and keeps the font file of the characters that they ship.
 #![tactic(auto)]
 
 pub mod laws;

@@ -1,4 +1,4 @@
-//! Refusals, as the transcript shows them.
+//! Refusals, as the transcript prints them.
 ghost use Rattle.std.specs.Prelude.{◌≡◌, IfOk};
 ghost use Rattle.mf_session.specs.Refusals.{refused_line};
 
@@ -12,13 +12,14 @@ use std::fmt;
 /// Why a command is refused.
 #[derive(Clone, Copy, Debug, PartialEq, Eq)]
 pub enum Refusal {
-    /// Refusals 1 to 4, 7 to 10 and 16 to 18: the line gives no command.
+    /// The line gives no command: `LineTooLong`, `NotAscii`, `Syntax`, `TooFewPoints`, `TooManyPoints`, `PointOutOfRange`,
+    /// `NotRectilinear`, `BadWeight`, `BadCull`, `BadScale` or `BadTurn`.
     Line(TextFault),
-    /// Refusals 5, 6 and 11 to 13: the operation is refused.
+    /// The operation is refused: `TooManyOperations`, `Backtracks`, `TurningZero`, `OutOfField` or `WeightTooLarge`.
     Operation(Fault),
-    /// Refusal 20: the font file would have more bytes than it may.
+    /// The preamble and the characters would have more bytes than the font file may have.
     FileTooLong,
-    /// Refusal 23: the grid text would be wider or higher than 128 characters.
+    /// The box of the grid text would be more than 128 pixels wide or high.
     ProofTooLarge,
 }
 
@@ -40,7 +41,7 @@ impl fmt::Display for Refusal {
 
 impl Error for Refusal {}
 
-/// The line that tells of a refusal.
+/// The line that reports a refusal.
 pub fn refused(alloc: Global, refusal: Refusal) -> Result<Vec<u8>, OutOfMemory>
     ensures { IfOk result (λ text. text.items ≡ refused_line refusal) }
 {

@@ -10,7 +10,7 @@ use mf_rows::Picture;
 use std::alloc::Global;
 use std::marker::Model;
 
-/// How many registers there are.
+/// How many registers there are: one for each letter.
 const COUNT: usize = 26;
 
 /// The pictures of the registers.
@@ -32,7 +32,7 @@ impl Model for Registers {
 }
 
 impl Registers {
-    /// Registers of blank pictures.
+    /// Registers with blank pictures.
     pub fn blank(alloc: Global) -> Result<Registers, OutOfMemory>
         ensures { IfOk result (λ registers. registers ≡ replicate COUNT []) }
     {
@@ -43,7 +43,7 @@ impl Registers {
         Ok(Registers { pictures })
     }
 
-    /// The picture of a register, by its number from 0 for `a`.
+    /// The picture of a register, by its number: from 0 for `a` to 25 for `z`.
     pub fn picture(&self, letter: u8) -> &Picture
         requires { letter < COUNT }
         ensures { result.now ≡ slice_index_or self.now letter [] }
@@ -51,7 +51,7 @@ impl Registers {
         &self.pictures[letter as usize]
     }
 
-    /// Performs an operation on the picture of a register. Refusals are those of `mf_ops::apply`, and change nothing.
+    /// Performs an operation on the picture of a register. It is refused as `mf_ops::apply` refuses it, and then nothing changes.
     pub fn apply(&mut self, alloc: Global, letter: u8, op: &Op) -> Result<(), OpFault>
         requires { letter < COUNT }
         ensures step { OnOk result (self.new ≡ slice_set self.old letter (stepped (slice_index_or self.old letter []) op.now)) }

@@ -7,19 +7,19 @@ use mf_live::Closing;
 mod commands;
 mod steps;
 
-/// The state of a script that is being performed: the picture variables, the turning check, and the font file with the
-/// characters that were shipped. It is not `Drop`: end it by `finish` or by `discard`.
+/// The state of a script that is being performed: the picture variables, the turning check, and the font file with the characters
+/// that were shipped. It is not `Drop`, since ending it may mean waiting for looks: end it with `finish` or `discard`.
 pub struct Session {
     pub(crate) variables: Variables,
-    /// Under which contours are filled.
+    /// The turning check for the contours that are filled next.
     pub(crate) check: Check,
     pub(crate) file: GfFile,
 }
 
-/// What is handed back where memory was wanting to end a session.
+/// What is handed back where an allocation fails while a session ends.
 pub enum EndFault {
     /// The session, as it was.
     Kept(Session),
-    /// The end mark of `currentpicture` is set, and nothing was published; and the font file of what was shipped.
+    /// The picture, whose end mark is set and not published, and the font file of what was shipped. No call answers this.
     Halfway(Closing, GfFile),
 }

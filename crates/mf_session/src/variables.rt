@@ -7,8 +7,8 @@ use mf_rows::Picture;
 
 mod steps;
 
-/// The live picture `currentpicture`, by its writer, and the pictures of the registers. It is not `Drop`: end it by
-/// `discard`.
+/// The live picture `currentpicture`, held by its writer, and the pictures of the registers. It is not `Drop`, since ending it
+/// may mean waiting for looks: end it with `discard`.
 pub struct Variables {
     pub(crate) writer: Writer,
     pub(crate) registers: Registers,

@@ -37,7 +37,7 @@ module _ (ds : List Dot) (x : ℤ) (w : ℕ) where
       let last : w ≡ length (row_text ds y x w) + 0 = omega (arith, row_length ds y x w) in
       ap (λ k. get_or (line y) k 0) last ∙ get_or-append-add (row_text ds y x w) (codes "\n") 0 0
 
-  -- the byte i of line j
+  -- byte i of line j
   at_line : (y : ℤ) (n j i : ℕ) → j < n → i < w + 1 → get_or (rows_text ds x w y n) (j * (w + 1) + i) 0 ≡ get_or (line (y -ℤ pos j)) i 0
   unfolding rows_text
   at_line y zero j i row column = absurd (omega (arith, row))

@@ -22,7 +22,8 @@ extent-none x last over = omega (arith, ints)
 
 -- ---- a row
 
--- behind the old text stand the characters of row y from the first column up to the one before x, in front of the last
+-- the text so far is the old text and the characters of row y from the first column up to the one before x; those from x to the
+-- last are missing
 pub record IsRowSoFar (y first last : ℤ) (old : List ℕ) (all : List Run) (x : ℤ) (text : List ℕ) (rs : List Run) : Type 0 where
   pub left : first ≤ℤ x
   pub right : x ≤ℤ (last +ℤ pos 1)
@@ -80,7 +81,7 @@ row_text-same ds es y x (suc n) same =
     let others = row_text-same ds es y (x +ℤ pos 1) n (record { same = λ u v from. same.same u v (omega (arith, ints)) }) in
     rw (weight, others) refl
 
--- the lines of the rows of a box from the top down to the one above row y, in front of the others
+-- the text so far is the lines of a box from its top row down to the one above row y; those from y down are missing
 pub record IsBoxSoFar (ds : List Dot) (b : Box4) (y : ℤ) (text : List ℕ) (rs : List Run) : Type 0 where
   pub bottom : b.min_y ≤ℤ (y +ℤ pos 1)
   pub top : y ≤ℤ b.max_y

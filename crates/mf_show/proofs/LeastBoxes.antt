@@ -10,11 +10,11 @@ use Rattle.mf_rows.specs.Widening.{widened}
 use Rattle.mf_rows.proofs.BoundsInField.{bounds_in_field}
 use Rattle.mf_rows.proofs.RunBoxes.{least_box_of_both}
 
--- what all dots are is also that dot which some property finds
+-- what holds for all dots holds for the one that some property finds
 found : (P Q : Dot → Type 0) (ds : List Dot) (some : Any P ds) → All Q ds → Q some.1
 found P Q ds some all = All-contains Q ds some.1 all (some.0, some.2, some.3)
 
--- a box has columns and rows, all of them of the field
+-- a box is not empty, and its columns and rows are in the field
 pub record IsBoxOfField (b : Box4) : Type 0 where
   pub left : negsuc 4094 ≤ℤ b.min_x
   pub right : b.max_x ≤ℤ pos 4094
@@ -57,7 +57,7 @@ least_inside ds a b one other =
       top = omega (arith, ints, at_top.top, one.top.4);
     }
 
--- there is one least box at most
+-- a picture has at most one least box
 pub same_least_box : (ds : List Dot) (a b : Box4) → IsLeastBox ds a → IsLeastBox ds b → a ≡ b
 same_least_box ds a b one other =
     let here = least_inside ds a b one other in
@@ -68,7 +68,7 @@ same_least_box ds a b one other =
     let top : a.max_y ≡ b.max_y = omega (arith, ints, here.top, there.top) in
     λ i. record { min_x = left i; max_x = right i; min_y = bottom i; max_y = top i }
 
--- and none where no pixel has a weight
+-- the blank picture has no least box
 pub least_box_of_some : (b : Box4) → IsLeastBox [] b → ⊥
 least_box_of_some b box = omega (arith, box.left.2)
 
@@ -86,7 +86,7 @@ least_box_of_dot d =
       top = (0, d, omega arith, refl, refl);
     }
 
--- and there is one where some pixel has a weight
+-- a picture with a dot has a least box
 pub some_least_box : (d : Dot) (ds : List Dot) → (b : Box4) × IsLeastBox (d ∷ ds) b
 some_least_box d [] = (box_of_dot d, least_box_of_dot d)
 some_least_box d (e ∷ ds) =

@@ -25,7 +25,7 @@ weight_off r x y off = sym (weight_at-off_run [] r x y off)
 
 -- ---- the runs ahead
 
--- the dots behind a stretch begin behind its end
+-- the dots after a stretch start after its end
 dots_behind : (low y x w : ℤ) (n : ℕ) (es : List Dot) → AreDotsFrom low (stretch y x w (suc n) ++ es) → AreDotsFrom (place (x +ℤ pos (suc n)) y) es
 unfolding stretch
 dots_behind low y x w zero es dots = subst (λ p. AreDotsFrom p es) (sym (place-next x y)) dots.2
@@ -45,7 +45,7 @@ behind_first r rs ordered =
 order_behind : (r : Run) (rs : List Run) → AreInOrder (r ∷ rs) → AreInOrder rs
 order_behind r rs ordered = record { runs = All-tail IsRun r rs ordered.runs; low = place (r.x +ℤ pos r.len) r.y; dots = behind_first r rs ordered }
 
--- pixels behind the first run have the weights of the others
+-- pixels after the first run have the weights of the other runs
 same_behind : (r : Run) (rs : List Run) (p : ℤ) → place (r.x +ℤ pos r.len) r.y ≤ℤ p → AreSameFrom p (flat_map dots_of (r ∷ rs)) (flat_map dots_of rs)
 unfolding dots_of
 same_behind r rs p end = record {
@@ -54,7 +54,7 @@ same_behind r rs p end = record {
       sym (weight_at-append_after (stretch r.y r.x r.weight r.len) (flat_map dots_of rs) x y passed);
 }
 
--- a pixel that the first run reaches has the weight that this run gives to it
+-- a pixel that the first run does not end before has the weight that this run gives to it
 weight_reached : (r : Run) (rs : List Run) (x y : ℤ) → AreInOrder (r ∷ rs) → IsNotBefore x y r
     → weight_at (dots_of r) x y ≡ weight_at (flat_map dots_of (r ∷ rs)) x y
 weight_reached r rs x y ordered reached =
@@ -77,7 +77,7 @@ all_in_order ds rs picture all = record {
 
 -- ---- runs that are passed
 
--- of the runs that were ahead these are left, and nothing that they say of pixels from (x, y) on was lost
+-- these runs are left of those that were ahead, and the weights of the pixels from (x, y) on are the same
 pub record ArePassedTo (x y : ℤ) (all rs : List Run) : Type 0 where
   pub order : AreInOrder rs
   pub same : AreSameFrom (place x y) (flat_map dots_of all) (flat_map dots_of rs)
@@ -85,7 +85,7 @@ pub record ArePassedTo (x y : ℤ) (all rs : List Run) : Type 0 where
 pub none_passed : (x y : ℤ) (all : List Run) → AreInOrder all → ArePassedTo x y all all
 none_passed x y all ordered = record { order = ordered; same = same_all (place x y) (flat_map dots_of all) }
 
--- a run that was taken is the first one ahead
+-- the run that is already taken is the first one ahead
 taken_first : (o : Option Run) (r : Run) (rs : List Run) → o ≡ Some r → with_taken o rs ≡ r ∷ rs
 taken_first o r rs some = rw some refl
 
@@ -99,7 +99,7 @@ one_more x y all r rs end so_far = record {
   same = same_more (place x y) (flat_map dots_of all) (flat_map dots_of (r ∷ rs)) (flat_map dots_of rs) so_far.same (same_behind r rs (place x y) end);
 }
 
--- the run that an iterator gives is the first of those that it had left
+-- the run that an iterator returns is the first of those that it had left
 next_taken : (o : Option Run) (rs others : List Run) → MatchOption o ((rs ≡ []) × (others ≡ [])) (λ r. rs ≡ r ∷ others) → rs ≡ with_taken o others
 next_taken None rs others none = none.0
 next_taken (Some r) rs others first = first

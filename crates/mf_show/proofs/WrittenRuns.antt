@@ -10,7 +10,7 @@ use Rattle.mf_rows.specs.Runs.{runs_of}
 use Rattle.mf_rows.proofs.Totals.{total_none}
 use Rattle.mf_show.specs.RunText.{run_line, run_text}
 
--- a text says all runs of a picture but the last ones
+-- a text has the lines of all runs of a picture but the last ones, rs
 pub record AreWritten (ds : List Dot) (rs : List Run) (text : List ℕ) : Type 0 where
   pub runs : All IsRun rs
   pub lines : text ++ flat_map run_line rs ≡ flat_map run_line (runs_of ds)
@@ -31,7 +31,7 @@ one_more_written ds rs r others text new first line so_far = record {
 all_lines : (ds : List Dot) (rs : List Run) (text : List ℕ) → rs ≡ [] → AreWritten ds rs text → text ≡ flat_map run_line (runs_of ds)
 all_lines ds rs text none so_far = sym (append-nil text) ∙ ap (λ all. text ++ flat_map run_line all) (sym none) ∙ so_far.lines
 
--- a line has a character, so the text is empty only where there is no run
+-- a line is not empty, so the text is empty only where there is no run
 some_written : (rs : List Run) → flat_map run_line rs ≡ [] → rs ≡ []
 some_written [] empty = refl
 some_written (r ∷ rs) empty = absurd (omega (arith, simp length-append at (ap length empty)))

@@ -1,4 +1,4 @@
--- The grid text of a picture: one character for each pixel of its least box, rows from the top.
+-- The grid text of a picture: one character for each pixel of its least box, rows in order from the top.
 use Rattle.std.specs.Prelude.{◌≡◌, ◌<◌, ◌⊎◌, ℕ, zero, suc, ◌+◌, ℤ, pos, negsuc, ◌+ℤ◌, ◌-ℤ◌, int_lt, List, [], ◌∷◌, ◌++◌, codes, if◌then◌else◌}
 use Rattle.std.specs.Int.RustNames.{unsigned_abs}
 use Rattle.std.specs.Ordering.{int_eq}
@@ -6,7 +6,7 @@ use Rattle.mf_rows.specs.declared.bounds.Box4.{Box4}
 use Rattle.mf_rows.specs.Bounds.{IsLeastBox}
 use Rattle.mf_rows.specs.Dots.{Dot, weight_at}
 
--- the character of a weight: `.`, `1` to `9` and `+` above them, `a` to `i` and `-` below them
+-- the character of a weight: `.` for 0, `1` to `9` for themselves, `+` above 9, `a` to `i` for -1 to -9, and `-` below -9
 abbrev pub character : ℤ → ℕ
 character w =
     if int_eq w (pos 0) then 46
@@ -14,30 +14,30 @@ character w =
     else (if int_lt w (negsuc 8) then 45
     else (if int_lt (pos 0) w then 48 + unsigned_abs w else 96 + unsigned_abs w)))
 
--- how many columns, or rows, lie from the first to the last
+-- the number of columns, or rows, from the first to the last, both inclusive
 abbrev pub extent : ℤ → ℤ → ℕ
 extent first last = unsigned_abs ((last -ℤ first) +ℤ pos 1)
 
--- the characters of n pixels of row y from column x on
+-- the characters of n pixels of row y, from column x on
 unfoldable pub row_text : List Dot → ℤ → ℤ → ℕ → List ℕ
 row_text ds y x zero = []
 row_text ds y x (suc n) = character (weight_at ds x y) ∷ row_text ds y (x +ℤ pos 1) n
 
--- the lines of n rows from row y downwards, each of so many columns from column x on
+-- the lines of n rows from row y downwards, each with the given number of columns from column x on
 unfoldable pub rows_text : List Dot → ℤ → ℕ → ℤ → ℕ → List ℕ
 rows_text ds x columns y zero = []
 rows_text ds x columns y (suc n) = row_text ds y x columns ++ codes "\n" ++ rows_text ds x columns (y -ℤ pos 1) n
 
--- the text of a box
+-- the lines of all rows of a box
 abbrev pub box_text : List Dot → Box4 → List ℕ
 box_text ds b = rows_text ds b.min_x (extent b.min_x b.max_x) b.max_y (extent b.min_y b.max_y)
 
--- the grid text: that of the least box, where there is one
+-- the text is the grid text of a picture: that of its least box, or `blank` where it has none
 pub record IsGridText (ds : List Dot) (text : List ℕ) : Type 0 where
   pub blank : ds ≡ [] → text ≡ codes "blank\n"
   pub drawn : (b : Box4) → IsLeastBox ds b → text ≡ box_text ds b
 
--- the least box is wider or higher than 128 pixels
+-- the least box of a picture is wider or higher than 128 pixels
 pub record IsTooLarge (ds : List Dot) : Type 0 where
   pub bounds : Box4
   pub least : IsLeastBox ds bounds

@@ -1,11 +1,11 @@
--- The run text of a picture: its maximal runs, rows from the top and columns rising.
+-- The run text of a picture: its maximal runs of pixels, rows in order from the top and columns from the left.
 use Rattle.std.specs.Prelude.{ℕ, pos, ◌+ℤ◌, ◌-ℤ◌, List, [], ◌∷◌, ◌++◌, codes, flat_map}
 use Rattle.std.specs.Fmt.{signed_decimal}
 use Rattle.mf_rows.specs.declared.run.Run.{Run}
 use Rattle.mf_rows.specs.Dots.{Dot}
 use Rattle.mf_rows.specs.Runs.{runs_of}
 
--- the row, the first and the last column, and the weight of a run
+-- the line of a run: its row, its first and last column, and its weight
 abbrev pub run_line : Run → List ℕ
 run_line r =
     signed_decimal r.y ++ codes " " ++ signed_decimal r.x ++ codes " " ++ signed_decimal ((r.x +ℤ pos r.len) -ℤ pos 1) ++ codes " "
@@ -15,6 +15,6 @@ abbrev pub lines_of : List Run → List ℕ
 lines_of [] = codes "blank\n"
 lines_of (r ∷ rs) = flat_map run_line (r ∷ rs)
 
--- the run text
+-- the run text of a picture
 abbrev pub run_text : List Dot → List ℕ
 run_text ds = lines_of (runs_of ds)

@@ -1,14 +1,14 @@
-//! Why pictures have no grid text.
+//! Why a picture has no grid text.
 use mf_geom::OutOfMemory;
 use std::error::Error;
 use std::fmt;
 
-/// Why a picture has no grid text.
+/// The refusals of a grid text.
 #[derive(Clone, Copy, Debug, PartialEq, Eq)]
 pub enum GridFault {
-    /// Refusal 23: the least box is wider or higher than 128 pixels.
+    /// The least box is wider or higher than 128 pixels.
     ProofTooLarge,
-    /// Refusal 14. It never comes in the place of 23.
+    /// An allocation failed. This never comes instead of `ProofTooLarge`.
     OutOfMemory,
 }
 

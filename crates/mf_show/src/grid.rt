@@ -13,12 +13,13 @@ use mf_geom::OutOfMemory;
 use mf_rows::{Box4, Picture};
 use std::alloc::Global;
 
-/// Most columns and most rows of a grid.
+/// The greatest number of columns, and of rows, of a grid.
 const MAX_SIDE: u32 = 128;
 
-/// The grid text of a picture: a character for each pixel of its least box, rows from the top, each ended by a line
-/// feed: `.` for weight 0, `1` to `9`, `+` above, `a` to `i` for -1 to -9, `-` below; `blank` where no pixel has a
-/// weight. Refusals ProofTooLarge (23), exactly where the box is wider or higher than 128 pixels, and OutOfMemory (14).
+/// The grid text of a picture: a line for each row of its least box, from the top, with a character for the weight of each pixel.
+/// `.` is 0, `1` to `9` are themselves, `+` is any greater weight, `a` to `i` are -1 to -9, and `-` is any lesser weight. The
+/// text of the blank picture is the line `blank`. Each line ends with a line feed. Refused with `ProofTooLarge` exactly where the
+/// least box is wider or higher than 128 pixels, and with `OutOfMemory` where an allocation fails.
 pub fn proof_grid(alloc: Global, picture: &Picture) -> Result<Vec<u8>, GridFault>
     ensures text { IfOk result (λ text. IsGridText picture.now text.items) }
     ensures too_large { IsTooLarge picture.now ↔ (result ≡ Err GridFault.ProofTooLarge) }
@@ -41,7 +42,7 @@ fn blank(alloc: Global) -> Result<Vec<u8>, OutOfMemory>
     Ok(Vec::from_slice(alloc, b"blank\n")?)
 }
 
-/// How many columns, or rows, lie from the first to the last.
+/// The number of columns, or rows, from the first to the last, both inclusive.
 fn extent(first: i32, last: i32) -> u32
     requires least { negsuc 4094 ≤ℤ first }
     requires greatest { last ≤ℤ pos 4094 }
@@ -51,7 +52,7 @@ fn extent(first: i32, last: i32) -> u32
     (last - first) as u32 + 1
 }
 
-/// The text of the least box.
+/// The grid text of a picture whose least box is this one.
 fn drawn(alloc: Global, picture: &Picture, bounds: &Box4) -> Result<Vec<u8>, OutOfMemory>
     requires { IsLeastBox picture.now bounds.now }
     ensures { IfOk result (λ text. text.items ≡ box_text picture.now bounds.now) }
@@ -64,7 +65,7 @@ fn drawn(alloc: Global, picture: &Picture, bounds: &Box4) -> Result<Vec<u8>, Out
     Ok(text)
 }
 
-/// Appends the line of a row, from a first to a last column.
+/// Appends the line of a row, from the first to the last column.
 fn push_row(
     text: &mut Vec<u8>,
     weights: &mut Weights<'_>,
@@ -87,7 +88,7 @@ fn push_row(
     Ok(())
 }
 
-/// The character of a weight.
+/// The character that represents a weight.
 fn character(weight: i32) -> u8
     ensures { result ≡ character weight }
 {

@@ -1,17 +1,18 @@
-//! Laws of the texts of pictures: each is the contract of a function that does nothing.
+//! Laws of the texts of pictures. Each is the contract of a function that does nothing, because the toolchain proves a statement
+//! only where the contract of a function names it.
 ghost use Rattle.std.specs.Prelude.{◌≡◌, ◌<◌, ◌+◌, ◌*◌, ℕ, pos, ◌+ℤ◌, ◌-ℤ◌, List, get_or, length};
 ghost use Rattle.mf_rows.specs.declared.bounds.Box4.{Box4};
 ghost use Rattle.mf_rows.specs.Dots.{Dot, weight_at};
 ghost use Rattle.mf_show.specs.Grid.{IsGridText, box_text, character, extent};
 
-/// A picture has a grid text, and one only.
+/// Each picture has exactly one grid text.
 pub fn one_grid_text()
     ensures some { (ds : List Dot) → (text : List ℕ) × IsGridText ds text }
     ensures one { (ds : List Dot) (one other : List ℕ) → IsGridText ds one → IsGridText ds other → one ≡ other }
 {}
 
-/// The text of a box has a line for each of its rows, from the top: the character of each pixel's weight, columns rising,
-/// and a line feed.
+/// The text of a box has a line for each of its rows, from the top. A line has the character of the weight of each pixel, from
+/// the left, and a line feed.
 pub fn grid_has_each_pixel()
     ensures pixels { (ds : List Dot) (b : Box4) (i j : ℕ) → i < extent b.min_x b.max_x → j < extent b.min_y b.max_y →
         get_or (box_text ds b) (j * (extent b.min_x b.max_x + 1) + i) 0 ≡ character (weight_at ds (b.min_x +ℤ pos i) (b.max_y -ℤ pos j)) }

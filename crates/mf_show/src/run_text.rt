@@ -9,9 +9,9 @@ use mf_geom::OutOfMemory;
 use mf_rows::{Picture, Run};
 use std::alloc::Global;
 
-/// The run text of a picture: a line `y x1 x2 w` for each maximal run of one nonzero weight, rows from the top and
-/// columns rising, with the first and the last column and the weight; `blank` where there is none. Refusal
-/// OutOfMemory (14).
+/// The run text of a picture: a line `y x1 x2 w` for each maximal run of pixels of the same nonzero weight, with the row, the
+/// first and the last column and the weight. Rows are in order from the top, and runs of a row from the left. The text of the
+/// blank picture is the line `blank`. Each line ends with a line feed. Refused with `OutOfMemory` where an allocation fails.
 pub fn show_runs(alloc: Global, picture: &Picture) -> Result<Vec<u8>, OutOfMemory>
     ensures { IfOk result (λ text. text.items ≡ run_text picture.now) }
 {
@@ -36,7 +36,7 @@ fn push_line(text: &mut Vec<u8>, run: &Run) -> Result<(), OutOfMemory>
     push_number(text, run.weight, b"\n")
 }
 
-/// Appends a number and what stands behind it.
+/// Appends a number and the bytes that come after it.
 fn push_number(text: &mut Vec<u8>, number: i32, behind: &[u8]) -> Result<(), OutOfMemory>
     ensures { IfOk result (λ _. text.new.items ≡ text.old.items ++ signed_decimal number ++ behind.now) }
 {

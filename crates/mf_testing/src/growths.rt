@@ -1,32 +1,34 @@
-//! Where a test has growths refused.
+//! Marks the place in a test where its allocations are to be refused.
 //!
-//! Memory is ample where a test is run by itself. `tests/wanting_memory.py` runs each test of a module `growths` under a
-//! library that counts growths from `refuse_growths` to `grow_again`, and refuses the first of them, then the second, and so
-//! on, alone and with all later ones, until there are no more. It finds the two places by growths of sizes that nothing else
-//! asks for.
+//! A test that runs by itself has ample memory. `tests/wanting_memory.py` runs each test of a module `growths` with a library
+//! that counts the allocations from `refuse_growths` to `grow_again`. It refuses the first of them, then the second, and so on,
+//! each alone and then together with all later ones, until there are no more. The library recognises the two places by
+//! allocations of sizes that nothing else asks for.
 
 use std::alloc::{AllocError, Global};
 
-/// A growth of so many bytes says that growths are refused from here on, and one more byte that memory is ample again.
+/// Allocating this number of bytes says that allocations are refused from here on. Allocating one byte more says that memory is
+/// ample again.
 const REFUSED_FROM_HERE: usize = 33_554_467;
 
-/// Has growths refused from here on.
+/// From here on allocations are refused, where the test runs with the library.
 pub fn refuse_growths(alloc: Global) {
     ask(alloc, REFUSED_FROM_HERE);
 }
 
-/// As `refuse_growths`, for a call that asks for no memory where it is refused: a growth comes first, so that one is refused.
+/// Like `refuse_growths`, for a call that allocates nothing where it is refused. It allocates a byte itself, so that the library
+/// always has an allocation to refuse.
 pub fn refuse_all_growths(alloc: Global) {
     refuse_growths(alloc);
     ask(alloc, 1);
 }
 
-/// Memory is ample again.
+/// From here on memory is ample again.
 pub fn grow_again(alloc: Global) {
     ask(alloc, REFUSED_FROM_HERE + 1);
 }
 
-/// Asks for so many bytes, and gives them back.
+/// Allocates this number of bytes, and frees them.
 fn ask(alloc: Global, size: usize) {
     let asked: Result<Vec<u8>, AllocError> = Vec::with_capacity(alloc, size);
     drop(asked);

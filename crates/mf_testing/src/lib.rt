@@ -1,5 +1,5 @@
-//! What the tests of several crates share: scripts with their transcripts, and readers and writers that give and take
-//! pieces, and fail.
+//! What the tests of several crates share: scripts with their transcripts, readers and writers that work in pieces and fail, and
+//! the places where allocations are refused.
 #![tactic(auto)]
 
 mod growths;

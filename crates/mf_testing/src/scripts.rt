@@ -1,5 +1,5 @@
-//! Scripts and their transcripts: those that tests cut into lines and reads, and perform in sessions, so that each form of
-//! command and each refusal is among them. Others, which are only run, stand in `tests/scripts`.
+//! Scripts and their transcripts. Tests cut these into lines and reads, and perform them in sessions, so each form of command and
+//! each refusal is among them. Other scripts, which are only run, are in `tests/scripts`.
 
 mod contours;
 mod fonts;
@@ -11,8 +11,8 @@ pub use fonts::{RECT, RECT_FILE};
 /// A script and its transcript. Every line of both ends with a line feed.
 pub type Script = (&'static str, &'static str);
 
-/// Scripts with their transcripts, by subject. Their texts stand behind functions, so that what runs them is checked
-/// without them.
+/// The scripts with their transcripts, by subject. Functions return them, so that the prover checks what runs them without their
+/// texts.
 pub fn worked_scripts() -> [&'static [Script]; 3] {
     [contours::scripts(), pictures::scripts(), lines::scripts()]
 }

@@ -1,20 +1,20 @@
-//! Readers and writers for tests: they give and take pieces, and fail.
+//! Readers and writers for tests: they give and take bytes in pieces, and fail.
 use std::alloc::{AllocError, Global};
 use std::io::{self, ErrorKind, Read, Write};
 
-/// A reader of these bytes, which ends with a fault where it is told so.
+/// A reader of these bytes. After them it reports the end, or fails with an error where `fails` is set.
 #[derive(Drop)]
 pub struct Pieces<'a> {
     rest: &'a [u8],
-    /// Greatest number of bytes of the next read.
+    /// The greatest number of bytes in the next read.
     size: usize,
-    /// Greatest number of bytes of the reads behind it.
+    /// The greatest number of bytes in each read after that.
     later_size: usize,
     fails: bool,
 }
 
 impl<'a> Pieces<'a> {
-    /// Gives as many bytes in a read as are asked for.
+    /// Gives as many bytes in each read as are asked for.
     pub fn whole(bytes: &'a [u8]) -> Pieces<'a> {
         Pieces {
             rest: bytes,
@@ -24,7 +24,7 @@ impl<'a> Pieces<'a> {
         }
     }
 
-    /// Gives one byte in a read.
+    /// Gives one byte in each read.
     pub fn bytewise(bytes: &'a [u8]) -> Pieces<'a> {
         Pieces {
             rest: bytes,
@@ -34,7 +34,7 @@ impl<'a> Pieces<'a> {
         }
     }
 
-    /// Gives at most `first` bytes in its first read, which is at least 1.
+    /// Gives at most `first` bytes in its first read. `first` is at least 1.
     pub fn split(bytes: &'a [u8], first: usize) -> Pieces<'a> {
         Pieces {
             rest: bytes,
@@ -44,7 +44,7 @@ impl<'a> Pieces<'a> {
         }
     }
 
-    /// Answers an error behind these bytes.
+    /// Fails with an error after these bytes.
     pub fn failing(bytes: &'a [u8]) -> Pieces<'a> {
         Pieces {
             rest: bytes,
@@ -69,7 +69,7 @@ impl Read for Pieces<'_> {
     }
 }
 
-/// A reader that gives one line feed in a read, this many times.
+/// A reader that gives one line feed in each read, `left` times.
 #[derive(Drop)]
 pub struct LineFeeds {
     pub left: u32,
@@ -86,7 +86,7 @@ impl Read for LineFeeds {
     }
 }
 
-/// A reader that remembers how many reads there were, and how many bytes they asked for.
+/// A reader that counts its reads and remembers how many bytes they asked for.
 #[derive(Drop)]
 pub struct Remembers<I> {
     reader: I,
@@ -106,17 +106,17 @@ impl<I: Read> Remembers<I> {
         }
     }
 
-    /// Number of reads, those that were answered by an error among them.
+    /// The number of reads, including those that failed.
     pub fn reads(&self) -> u32 {
         self.reads
     }
 
-    /// Least number of bytes that a read asked for.
+    /// The least number of bytes that a read asked for.
     pub fn least(&self) -> usize {
         self.least
     }
 
-    /// Greatest number of bytes that a read asked for.
+    /// The greatest number of bytes that a read asked for.
     pub fn greatest(&self) -> usize {
         self.greatest
     }
@@ -131,14 +131,14 @@ impl<I: Read> Read for Remembers<I> {
     }
 }
 
-/// A writer that keeps what it took, and at last answers an error or takes no byte. Where memory is wanting it takes nothing
-/// and answers an error.
+/// A writer that keeps the bytes it took. Once it has no room left it fails with an error or takes no byte. Where an allocation
+/// fails it takes nothing and fails with an error.
 #[derive(Drop)]
 pub struct Sink {
     taken: Vec<u8>,
-    /// Number of bytes that it still takes.
+    /// The number of bytes that it still takes.
     room: usize,
-    /// Greatest number of bytes that it takes in a write.
+    /// The greatest number of bytes that it takes in one write.
     size: usize,
     fails: bool,
 }
@@ -154,14 +154,14 @@ impl Sink {
         }
     }
 
-    /// Takes all bytes, and so many of them without asking for memory.
+    /// Takes all bytes, and the first `count` of them without allocating.
     pub fn reserved(alloc: Global, count: usize) -> Result<Sink, AllocError> {
         let mut sink = Sink::new(alloc);
         sink.taken = Vec::with_capacity(alloc, count)?;
         Ok(sink)
     }
 
-    /// Takes all bytes, one in a write.
+    /// Takes all bytes, one in each write.
     pub fn bytewise(alloc: Global) -> Sink {
         Sink {
             taken: Vec::new(alloc),
@@ -171,7 +171,7 @@ impl Sink {
         }
     }
 
-    /// Takes `room` bytes, and then answers errors.
+    /// Takes `room` bytes, and then fails with errors.
     pub fn failing(alloc: Global, room: usize) -> Sink {
         Sink {
             taken: Vec::new(alloc),
@@ -181,12 +181,12 @@ impl Sink {
         }
     }
 
-    /// Takes no byte, and answers no error.
+    /// Takes no byte, and does not fail with an error.
     pub fn full(alloc: Global) -> Sink {
         Sink::full_after(alloc, 0)
     }
 
-    /// Takes `room` bytes, and then no byte, and answers no error.
+    /// Takes `room` bytes, and then no more, and does not fail with an error.
     pub fn full_after(alloc: Global, room: usize) -> Sink {
         Sink {
             taken: Vec::new(alloc),
@@ -196,7 +196,7 @@ impl Sink {
         }
     }
 
-    /// Takes at most so many bytes in a write.
+    /// Takes at most `size` bytes in one write.
     pub fn in_pieces(mut self, size: usize) -> Sink {
         self.size = size;
         self
@@ -224,42 +224,42 @@ impl Write for Sink {
     }
 }
 
-/// A writer that answers one error in place of a write, and would take all bytes after that.
+/// A writer that fails with one error instead of a write, and takes all bytes after that.
 #[derive(Drop)]
 pub struct FailsOnce {
     sink: Sink,
-    /// Number of bytes that it takes before its error.
+    /// The number of bytes that it takes before its error.
     room: usize,
     has_failed: bool,
-    calls_behind: u32,
+    calls_after: u32,
 }
 
 impl FailsOnce {
-    /// Takes `room` bytes, and then answers its error.
+    /// Takes `room` bytes, and then fails once.
     pub fn new(alloc: Global, room: usize) -> FailsOnce {
         FailsOnce {
             sink: Sink::new(alloc),
             room,
             has_failed: false,
-            calls_behind: 0,
+            calls_after: 0,
         }
     }
 
-    /// The bytes that it took, before its error and behind it.
+    /// The bytes that it took, before and after its error.
     pub fn taken(&self) -> &[u8] {
         self.sink.taken()
     }
 
-    /// Number of writes and flushes behind its error.
-    pub fn calls_behind(&self) -> u32 {
-        self.calls_behind
+    /// The number of writes and flushes after its error.
+    pub fn calls_after(&self) -> u32 {
+        self.calls_after
     }
 }
 
 impl Write for FailsOnce {
     fn write(&mut self, buf: &[u8]) -> io::Result<usize> {
         if self.has_failed {
-            self.calls_behind = self.calls_behind.saturating_add(1);
+            self.calls_after = self.calls_after.saturating_add(1);
             return self.sink.write(buf);
         }
         if self.room == 0 {
@@ -274,61 +274,61 @@ impl Write for FailsOnce {
 
     fn flush(&mut self) -> io::Result<()> {
         if self.has_failed {
-            self.calls_behind = self.calls_behind.saturating_add(1);
+            self.calls_after = self.calls_after.saturating_add(1);
         }
         Ok(())
     }
 }
 
-/// A writer that takes all bytes, and answers errors where it is flushed.
+/// A writer that takes all bytes, and fails with errors when it is flushed.
 #[derive(Drop)]
 pub struct FlushFails {
     sink: Sink,
-    /// Number of flushes that it answers well before its first error.
+    /// The number of flushes that succeed before its first error.
     good: u32,
-    /// Number of errors that it still answers.
+    /// The number of errors that are still to come.
     errors: u32,
     has_failed: bool,
-    calls_behind: u32,
+    calls_after: u32,
 }
 
 impl FlushFails {
-    /// Answers an error to one flush, behind so many others.
+    /// Fails in one flush, after `good` others.
     pub fn once(alloc: Global, good: u32) -> FlushFails {
         FlushFails {
             sink: Sink::new(alloc),
             good,
             errors: 1,
             has_failed: false,
-            calls_behind: 0,
+            calls_after: 0,
         }
     }
 
-    /// Answers an error to each flush behind so many.
+    /// Fails in each flush after the first `good` ones.
     pub fn for_ever(alloc: Global, good: u32) -> FlushFails {
         FlushFails {
             sink: Sink::new(alloc),
             good,
             errors: u32::MAX,
             has_failed: false,
-            calls_behind: 0,
+            calls_after: 0,
         }
     }
 
-    /// The bytes that it took, before its first error and behind it.
+    /// The bytes that it took, before and after its first error.
     pub fn taken(&self) -> &[u8] {
         self.sink.taken()
     }
 
-    /// Number of writes and flushes behind its first error.
-    pub fn calls_behind(&self) -> u32 {
-        self.calls_behind
+    /// The number of writes and flushes after its first error.
+    pub fn calls_after(&self) -> u32 {
+        self.calls_after
     }
 
-    /// Counts a call behind its first error.
+    /// Counts a call, if it comes after the first error.
     fn count_call(&mut self) {
         if self.has_failed {
-            self.calls_behind = self.calls_behind.saturating_add(1);
+            self.calls_after = self.calls_after.saturating_add(1);
         }
     }
 }

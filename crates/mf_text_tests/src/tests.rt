@@ -15,12 +15,12 @@ use std::alloc::Global;
 use std::fmt::Debug;
 use std::process::Abort;
 
-/// The line is refused with this fault.
+/// Asserts that the line is refused with this fault.
 pub(crate) fn assert_refused(rt: &impl Abort, alloc: Global, line: &str, fault: TextFault) {
     assert_bytes_refused(rt, alloc, line.as_bytes(), fault, line);
 }
 
-/// The bytes of a line are refused with this fault.
+/// Asserts that the bytes of a line are refused with this fault.
 pub(crate) fn assert_bytes_refused<C: Debug + Drop>(
     rt: &impl Abort,
     alloc: Global,
@@ -39,13 +39,13 @@ pub(crate) fn read(rt: &impl Abort, alloc: Global, line: &str) -> Command {
     }
 }
 
-/// The cull that keeps the weights from the least to the greatest, and makes them this one.
+/// The cull that keeps the weights `least..=greatest` and gives them the weight `weight`.
 pub(crate) fn keeping(rt: &impl Abort, least: i32, greatest: i32, weight: i32) -> Cull {
     let weight = Weight::new(weight).expect(rt, "the weight is lawful");
     Cull::keeping(least, greatest, weight).expect(rt, "the range may be kept")
 }
 
-/// The cull that drops the weights from the least to the greatest, and makes all others this one.
+/// The cull that drops the weights `least..=greatest` and gives all others the weight `weight`.
 pub(crate) fn dropping(rt: &impl Abort, least: i32, greatest: i32, weight: i32) -> Cull {
     let weight = Weight::new(weight).expect(rt, "the weight is lawful");
     Cull::dropping(least, greatest, weight).expect(rt, "the range may be dropped")

@@ -1,4 +1,4 @@
-//! Tests of scripts that are performed beside viewers in threads of their own.
+//! Tests of scripts that run beside viewers, each in a thread of its own.
 #![tactic(auto)]
 
 #[cfg(test)]

@@ -1,4 +1,4 @@
-//! Tests of scripts that are performed beside viewers in threads of their own.
+//! Tests of scripts that run beside viewers, each in a thread of its own.
 ghost use Rattle.std.specs.Prelude.{◌≤◌};
 
 mod assertions;
@@ -24,7 +24,7 @@ use std::process::Abort;
 use std::sync::{Arc, Wait};
 use std::thread::Threads;
 
-/// More operations on `currentpicture` and more bytes of a font file than any of these scripts has.
+/// Settings that allow more operations on `currentpicture`, and more bytes of a font file, than any of these scripts has.
 const AMPLE: Settings = Settings {
     max_ops: 1_000_000,
     max_bytes: 1_000_000,
@@ -39,7 +39,7 @@ const AMPLE: Settings = Settings {
 /// A rectangle of 3 by 2 pixels.
 const FILLED: &str = "addto currentpicture contour (0,0)--(3,0)--(3,2)--(0,2)--cycle\n";
 
-/// What two viewers print where it is not published.
+/// What this prints beside two viewers.
 const BOTH_SEE_SIX: &str = "viewer 0 revision 1 totalweight 6\n\
                             viewer 1 revision 1 totalweight 6\n";
 
@@ -47,12 +47,12 @@ const BOTH_SEE_SIX: &str = "viewer 0 revision 1 totalweight 6\n\
 const PUBLISHED: &str = "addto currentpicture contour (0,0)--(3,0)--(3,2)--(0,2)--cycle\n\
                          publish\n";
 
-/// What it prints beside two viewers.
+/// What this prints beside two viewers.
 const PUBLISHED_TEXT: &str = "published 1\n\
                               viewer 0 revision 1 totalweight 6\n\
                               viewer 1 revision 1 totalweight 6\n";
 
-/// What is seen before it is published, and after that.
+/// What a viewer sees before the rectangle is published, and after that.
 const BLANK: Glance = Glance {
     revision: 0,
     total: 0,
@@ -63,10 +63,11 @@ const SIX: Glance = Glance {
     total: 6,
 };
 
-/// The fault of a run, or none, and what it prints.
+/// How a run ends: its fault, or `None`, and what it has printed.
 type End<'a> = (Option<RunFault>, &'a [u8]);
 
-/// Performs the reader's script beside so many viewers, who look so many times each. No thread has the gate any more then.
+/// Performs the reader's script beside `viewers` viewers, who look `looks` times each. Asserts that no thread holds the gate any
+/// more when it returns.
 fn performed<R: Abort + Wait + Threads + AllocGlobal, I: Read, W: Write>(
     rt: &R,
     reader: &mut I,

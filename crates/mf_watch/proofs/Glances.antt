@@ -11,7 +11,7 @@ use Rattle.mf_rows.specs.Dots.{Dot, total_of}
 use Rattle.mf_watch.specs.declared.glance.Glance.{Glance}
 use Rattle.mf_watch.specs.Watchers.{AreGlances, HasSeen, IsGlance, NeverFall, glance_at}
 
--- what is seen of the picture of a list
+-- the glance at the picture of a list
 pub glance-of : (L : List Entry) (revision : ℕ) (picture : List Dot) → revision ≡ rev L → picture ≡ pic L → record { revision = revision; total = total_of picture } ≡ glance_at L
 glance-of L revision picture number shown = rw (number, shown) refl
 
@@ -19,11 +19,11 @@ glance-of L revision picture number shown = rw (number, shown) refl
 pub AreGlances-none : (whole : List Entry) → AreGlances whole 0 []
 AreGlances-none whole = record { counted = refl; each = All-nil (IsGlance whole); never_fall = tt }
 
--- what begins a list begins the list that it begins
+-- a glance at a whole prefix of S is one at a whole prefix of L, where S is a whole prefix of L
 IsGlance-more : (S L : List Entry) (g : Glance) → IsWholePrefix S L → IsGlance S g → IsGlance L g
 IsGlance-more S L g more seen = record { list = seen.list; events = seen.events; published = seen.published; prefix = whole-trans seen.list S L seen.prefix more; is = seen.is }
 
--- its revision is not greater
+-- the revision of a glance is no greater than that of the list
 revision-le : (L : List Entry) (g : Glance) → IsGlance L g → g.revision ≤ rev L
 revision-le L g seen = rw (ap (λ g. g.revision) seen.is) (rev-whole seen.list L seen.prefix)
 
@@ -33,7 +33,7 @@ NeverFall-push low (e ∷ es) g above below rising =
     let P : Glance → Type 0 = λ (x : Glance). x.revision ≤ g.revision in
     (rising.0, NeverFall-push e.revision es g (All-head P e es below) (All-tail P e es below) rising.1)
 
--- one look more, of a list that was published and begins with all that was seen
+-- one more look, at a published list of which everything that was seen is a whole prefix
 pub AreGlances-push : (S L : List Entry) (events : List Event) (looks : ℕ) (gs : List Glance) → IsPublished events L → IsWholePrefix S L
     → AreGlances S looks gs → AreGlances L (looks + 1) (gs ++ glance_at L ∷ [])
 AreGlances-push S L events looks gs published more glances =

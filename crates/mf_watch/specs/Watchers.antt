@@ -1,4 +1,4 @@
--- What viewers have seen.
+-- What viewers have seen, and the records that they keep of it.
 use Rattle.std.specs.Prelude.{◌≡◌, ◌⊎◌, ◌≤◌, ◌+◌, ℕ, All, List, Vec, [], ◌∷◌, ◌++◌, length, vec_capacity}
 use Rattle.std.specs.declared.alloc.Global.{Global}
 use Rattle.logbook.specs.Pages.{Book}
@@ -11,11 +11,11 @@ use Rattle.mf_rows.specs.Dots.{total_of}
 use Rattle.mf_watch.specs.declared.glance.Glance.{Glance}
 use Rattle.mf_watch.specs.declared.watcher.Watcher.{Watcher}
 
--- what is seen of a list
+-- the glance that a look at a list gives
 abbrev pub glance_at : List Entry → Glance
 glance_at L = record { revision = rev L; total = total_of (pic L) }
 
--- this was seen of a list that some events had published, and with which the other begins, whole
+-- the glance is at a list that some events had published, and that is a whole prefix of the other list
 pub record IsGlance (whole : List Entry) (g : Glance) : Type 0 where
   pub list : List Entry
   pub events : List Event
@@ -23,24 +23,24 @@ pub record IsGlance (whole : List Entry) (g : Glance) : Type 0 where
   pub prefix : IsWholePrefix list whole
   pub is : g ≡ glance_at list
 
--- the revisions never fall, from this number on
+-- the revisions never fall, from `low` on
 abbrev pub NeverFall : ℕ → List Glance → Type 0
 NeverFall low [] = Unit {0}
 NeverFall low (g ∷ gs) = (low ≤ g.revision) × NeverFall g.revision gs
 
--- the record of so many looks, each at a list with which this one begins, whole
+-- the record of this many looks, each at a whole prefix of this list
 pub record AreGlances (whole : List Entry) (looks : ℕ) (glances : List Glance) : Type 0 where
   pub counted : length glances ≡ looks
   pub each : All (IsGlance whole) glances
   pub never_fall : NeverFall 0 glances
 
--- so many looks and one more, the last one at the whole list
+-- the record of this many looks and one more, the last of them at the complete list
 pub record HasSeen (whole : List Entry) (looks : ℕ) (glances : List Glance) : Type 0 where
   pub are : AreGlances whole (looks + 1) glances
   pub earlier : List Glance
   pub last : glances ≡ earlier ++ glance_at whole ∷ []
 
--- what it looks with
+-- the viewer with which it looks
 abbrev pub viewer_of : Watcher → Viewer
 viewer_of w = w.viewer
 
@@ -52,19 +52,20 @@ record_of w = w.seen
 abbrev pub name : Watcher → Book
 name w = viewers.name (viewer_of w)
 
--- it has the record of so many looks, of lists with which what it has seen begins
+-- it has the record of this many looks, each at a whole prefix of what its viewer has seen
 abbrev pub IsRecord : ℕ → Watcher → Type 0
 IsRecord looks w = AreGlances (viewers.seen (viewer_of w)) looks (record_of w).items
 
--- there is room for the record of so many looks more
+-- it has room for the record of this many more looks
 abbrev pub HasRoom : ℕ → Watcher → Type 0
 HasRoom more w = length (record_of w).items + more ≤ vec_capacity (record_of w)
 
--- the last of these, if there is one, was seen of this list
+-- the last of these glances, if there is one, is at this list
 abbrev pub EndWith : List Entry → List Glance → Type 0
 EndWith list glances = (glances ≡ []) ⊎ ((earlier : List Glance) × (glances ≡ earlier ++ glance_at list ∷ []))
 
--- a viewer of this picture, with the record of so many looks, which ends with its last look, and room for more
+-- a viewer of this picture, with the record of this many looks, the last of which is its last answered look, and with room for
+-- more
 pub record IsWatcher (picture : Book) (looks more : ℕ) (w : Watcher) : Type 0 where
   pub name_is : name w ≡ picture
   pub record_is : IsRecord looks w

@@ -1,4 +1,4 @@
--- What threads of viewers owe.
+-- What the threads of viewers promise.
 use Rattle.std.specs.Prelude.{◌≡◌, ℕ, All, length}
 use Rattle.core.specs.declared.result.Result.{Result}
 use Rattle.core.specs.declared.thread.PromisedHandle.{PromisedHandle}
@@ -9,14 +9,14 @@ use Rattle.mf_watch.specs.declared.watching.OwedLooks.{OwedLooks}
 use Rattle.mf_watch.specs.declared.watching.Watching.{Watching}
 use Rattle.mf_watch.specs.Watchers.{name}
 
--- so many viewers look on
+-- how many viewers look on
 abbrev pub viewer_count : Watching → ℕ
 viewer_count watching = length watching.threads.items
 
--- the thread owes so many looks at this picture
+-- the thread promises this many looks at this picture
 abbrev pub Owes : Book → ℕ → PromisedHandle (Result Watcher NoLook) OwedLooks → Type 0
 Owes picture looks thread = (name thread.promise.watcher.value ≡ picture) × (thread.promise.looks ≡ looks)
 
--- each thread owes so many looks at this picture
+-- each thread promises this many looks at this picture
 abbrev pub AreStarted : Book → ℕ → Watching → Type 0
 AreStarted picture looks watching = All (Owes picture looks) watching.threads.items

@@ -1,4 +1,4 @@
-//! Why viewers are not started.
+//! Why viewers cannot be started.
 ghost use Rattle.std.specs.Prelude.{◌≡◌};
 ghost use Rattle.mf_watch.specs.declared.fault.StartFault.TheVariants.{OutOfMemory as NoMemory, NoPlace as NoPlaceLeft};
 
@@ -6,12 +6,12 @@ use mf_geom::OutOfMemory;
 use mf_live::NoPlace;
 use std::alloc::{AllocError, AllocFailed};
 
-/// Why viewers are not started.
+/// Why viewers cannot be started.
 #[derive(Clone, Copy, Debug, PartialEq, Eq)]
 pub enum StartFault {
-    /// Refusal 14.
+    /// An allocation failed.
     OutOfMemory,
-    /// Refusal 15: a place or a thread could not be had for a viewer, or the gate not be shared with it.
+    /// There was no place or no thread for a viewer, or the gate could not be shared with it.
     NoPlace,
 }
 

@@ -1,14 +1,14 @@
 //! What happens while a viewer holds a look.
 
-/// Is told of each look of the viewers that run in threads, while the look is held. It may wait: that stops no other
-/// viewer, and of the writer only what may wait for looks that are held, as a publish does. Who joins the threads waits
-/// for all of them.
+/// Learns of each look of the viewers that run in threads, while the look is held. It may wait. That stops no other viewer, and
+/// it delays the writer only in calls that may wait for held looks, as a publish does. Whoever joins the threads waits for all
+/// their gates.
 pub trait Gate: Send + Sync + Drop {
-    /// The viewer of this number holds its look of this number, both from 0.
+    /// The viewer `viewer` holds its look `look`. Both are counted from 0.
     fn hold(&self, viewer: u32, look: u32);
 }
 
-/// Does nothing.
+/// A gate that does nothing.
 #[derive(Drop)]
 pub struct OpenGate;
 

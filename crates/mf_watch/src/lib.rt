@@ -1,4 +1,4 @@
-//! Viewers of a live picture in threads of their own, which keep a record of what they see.
+//! Viewers of a live picture, each in a thread of its own, which keep a record of what they see.
 #![tactic(auto)]
 
 mod fault;

@@ -13,7 +13,7 @@ use mf_live::laws::last_sheet;
 use mf_live::{NoLook, Notice, SheetFault, Viewer};
 use std::alloc::Global;
 
-/// A viewer, and what it has seen in each of its looks.
+/// A viewer, and the record of what it has seen in each of its looks.
 #[derive(Drop)]
 pub struct Watcher {
     /// The viewer that looks.
@@ -23,7 +23,7 @@ pub struct Watcher {
 }
 
 impl Watcher {
-    /// A viewer with no record, and room for the record of so many looks.
+    /// A viewer with an empty record, which has room for this many looks.
     pub(crate) fn new(alloc: Global, viewer: Viewer, looks: usize) -> Result<Watcher, OutOfMemory>
         ensures { IfOk result (IsWatcher (viewers.name viewer) 0 looks) }
     {
@@ -33,7 +33,7 @@ impl Watcher {
         })
     }
 
-    /// Looks so many times, and tells the gate of each look while it is held. Refusal NoLook (26).
+    /// Looks `looks` times, and lets the gate know of each look while it is held. Refused with `NoLook` where a look is refused.
     pub(crate) fn watch<G: Gate>(self, number: u32, looks: u32, gate: &G) -> Result<Watcher, NoLook>
         requires { IsWatcher (name self) 0 (looks + 1) self }
         ensures watcher { IfOk result (IsWatcher (name self) looks 1) }
@@ -46,7 +46,7 @@ impl Watcher {
         Ok(watcher)
     }
 
-    /// Looks once.
+    /// Looks once, as look `look` of viewer `number`.
     fn look<G: Gate>(self, number: u32, look: u32, gate: &G) -> Result<Watcher, NoLook>
         requires { HasRoom 1 self }
         ensures watcher { IfOk result (λ after. (picture : Book) (looks more : ℕ) → IsWatcher picture looks (more + 1) self → IsWatcher picture (looks + 1) more after) }
@@ -68,9 +68,9 @@ impl Watcher {
         })
     }
 
-    /// Learns of the end, and looks once more, by a sheet. Refusals NoLook (26), where the look is not answered, and
-    /// OutOfMemory (14), after it; the record is as it was then. The caller owes room for one glance more, and a notice
-    /// of this picture with the end mark.
+    /// Learns of the end, and looks once more by taking a sheet. Requires room for one more glance, and a notice of this picture
+    /// with the end mark. Refused with `NoLook` where the look is not answered, and with `OutOfMemory` where an allocation fails
+    /// after it; the record then stays as it was.
     pub fn look_last(&mut self, alloc: Global, notice: Notice) -> Result<Glance, SheetFault>
         requires room { HasRoom 1 self.old }
         requires name { viewers.notice_name notice ≡ name self.old }
@@ -91,7 +91,7 @@ impl Watcher {
         Ok(glance)
     }
 
-    /// Ends it, and hands out its record.
+    /// Ends the viewer, and hands out its record.
     pub fn into_record(self) -> Vec<Glance>
         ensures { result ≡ record_of self }
     {

@@ -1,4 +1,4 @@
-//! Viewers in threads of their own.
+//! Viewers that look on, each in a thread of its own.
 ghost use Rattle.std.specs.Prelude.{◌≡◌, ◌⊎◌, ◌+◌, ◌≤◌, ◌<◌, ℕ, All, IfErr, IfOk, OnOk, length, vec_capacity};
 ghost use Rattle.logbook.specs.Pages.{Book};
 ghost use Rattle.mf_live.specs.Desks.{desk_name, left};
@@ -13,10 +13,10 @@ use std::snapshot::Snapshot;
 use std::sync::Arc;
 use std::thread::{Promise, PromisedHandle, Threads, spawn_with};
 
-/// What the thread of a viewer owes: so many looks.
+/// What the thread of a viewer promises: this many looks.
 #[derive(Drop)]
 pub(crate) struct OwedLooks {
-    /// The viewer as it was when the thread began.
+    /// The viewer as it was when the thread started.
     pub(crate) watcher: Snapshot<Watcher>,
     /// How often it looks.
     pub(crate) looks: u32,
@@ -29,19 +29,20 @@ impl Promise<Result<Watcher, NoLook>> for OwedLooks {
     ghost kept_by = { λ owed answer. MatchResult answer (IsWatcher (name owed.watcher.value) owed.looks 1) (λ _. 0 < owed.looks) };
 }
 
-/// The viewers of a run that look on in threads, and room for what the threads give back.
+/// Viewers that look on in threads, and room for what the threads give back. The room is allocated before the first thread
+/// starts, so that joining the threads cannot run out of memory.
 #[derive(Drop)]
 pub struct Watching {
-    /// The threads, by the number of their viewers.
+    /// The threads, in the order of their viewers' numbers.
     pub(crate) threads: Vec<PromisedHandle<Result<Watcher, NoLook>, OwedLooks>>,
-    /// Room for what they give back.
+    /// Room for what the threads give back.
     pub(crate) room: Vec<Watcher>,
     ghost empty: { length room.items ≡ 0 },
     ghost enough: { length threads.items ≤ vec_capacity room },
 }
 
-/// So many viewers, with room for the record of so many looks and one more. Refusals NoPlace (15), where the desk has not
-/// so many places left, and OutOfMemory (14).
+/// `viewers` viewers with empty records, each with room for `looks` looks and one more. Refused with `NoPlace` where the desk has
+/// fewer viewers left, and with `OutOfMemory` where an allocation fails.
 fn watchers(alloc: Global, desk: Desk, viewers: u32, looks: u32) -> Result<Vec<Watcher>, StartFault>
     ensures ready { IfOk result (λ watchers. All (IsWatcher (desk_name desk) 0 (looks + 1)) watchers.items) }
     ensures count { IfOk result (λ watchers. length watchers.items ≡ viewers) }
@@ -59,9 +60,10 @@ fn watchers(alloc: Global, desk: Desk, viewers: u32, looks: u32) -> Result<Vec<W
 impl Watching {
     ghost use Rattle.mf_watch.specs.Watching.{AreStarted, viewer_count};
 
-    /// Starts a thread for each of so many viewers of a desk, which looks so many times. The room for what they record
-    /// is got before. Refusals NoPlace (15), where a place or a thread cannot be had or the gate not shared, and
-    /// OutOfMemory (14): the threads that were started are joined. The caller owes that there are at most 64 viewers.
+    /// Starts a thread for each of `viewers` viewers of a desk, in which the viewer looks `looks` times. Requires at most 64
+    /// viewers. All memory for their records is allocated before the first thread starts, so only the start of a thread can fail
+    /// after that. Refused with `NoPlace` where there is no place or no thread for a viewer, or the gate cannot be shared with
+    /// it, and with `OutOfMemory` where an allocation fails. The threads that were started by then are joined.
     pub fn start<S: Threads, G: Gate + 'static>(
         rt: &S,
         alloc: Global,
@@ -89,7 +91,8 @@ impl Watching {
         Ok(watching)
     }
 
-    /// Starts a thread for a viewer. Refusal NoPlace (15), where it cannot be had or the gate not shared.
+    /// Starts a thread for a viewer. Refused with `NoPlace` where there is no thread for it, or the gate cannot be shared with
+    /// it.
     fn start_one<S: Threads, G: Gate + 'static>(
         &mut self,
         rt: &S,
@@ -133,7 +136,8 @@ impl Watching {
         }
     }
 
-    /// Joins all threads, and waits for their gates. Refusal NoLook (26), where a look was refused in one of them.
+    /// Joins all threads, and so waits for their gates. Refused with `NoLook` where a look was refused in one of them; all of
+    /// them are joined even then.
     pub fn join<S: Threads>(self, rt: &S) -> Result<Vec<Watcher>, NoLook>
         ensures watchers { IfOk result (λ watchers. (picture : Book) (looks : ℕ) → AreStarted picture looks self → All (IsWatcher picture looks 1) watchers.items) }
         ensures count { IfOk result (λ watchers. length watchers.items ≡ viewer_count self) }

@@ -1,4 +1,4 @@
--- What clap's answers say of the command line.
+-- What clap's answers say about the command line.
 use Rattle.std.proofs.Common.{◌≡◌, ◌∙◌, Some, List, ap, inl, inr, refl, subst, true}
 use Rattle.clap.specs.Faults.{is_simple_and_free}
 use Rattle.clap.specs.Kinds.{HasKind, IsAmong}
@@ -36,7 +36,7 @@ pub parser_given : (old new : Arg) (rule : Rule) (q : ValueParser) → rule_of o
 parser_given old new rule q is others given =
     ap rule_of others ∙ ap (λ p. record (rule_of old) { parser = p }) given ∙ ap (λ (r : Rule). record r { parser = Some q }) is
 
--- an error that is no want of memory comes of words that are no command line
+-- an error of clap that is not OutOfMemory means that the words are not a command line
 pub is_no_command_line : (words : List Text) (error : Error) → HasKind (fault_of mfpic words) error → words_fault (kind_of error) ≡ BadWords
     → IsCommandLine words → ⊥
 is_no_command_line words error (inl memory) bad none =

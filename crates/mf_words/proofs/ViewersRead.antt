@@ -1,4 +1,4 @@
--- What a parse gives of `--viewers`: a text that passed its parser, and the number that is read from it.
+-- What a parse gives for `--viewers`: a text that its parser accepted, and the number that is read from it.
 use Rattle.std.proofs.Common.{◌≡◌, ◌⊎◌, ◌∙◌, ◌<◌, ◌≤◌, ℕ, zero, suc, All, Bor, List, [], ◌∷◌, None, Ok, Option, Result, Some, ap, arith, bytes_eq, codes, false, inl, inr, length, map, option_map, pos, refl, slice_get, slice_index_or, subst, sym, true, unwrap_or}
 use Rattle.std.proofs.lemmas.List.Elements.{All-get_or}
 use Rattle.std.proofs.lemmas.Slice.Eq.{bytes_eq-Decides}
@@ -28,7 +28,7 @@ viewers = codes "viewers"
 abbrev at_most_16 : ValueParser
 at_most_16 = parser.Signed (pos 0) (pos 16)
 
--- a list whose values are two
+-- a list of two elements, known by their values
 two_of : {X Y : Type 0} (f : X → Y) (a b : Y) (xs : List X) → map f xs ≡ a ∷ b ∷ []
     → (x : X) × (y : X) × (xs ≡ x ∷ y ∷ []) × (f x ≡ a) × (f y ≡ b)
 two_of f a b [] e = cc
@@ -95,14 +95,14 @@ no_groups c m p same = (p.from.same_groups (simple_groups c (simple_of c same)))
 built_local : (c : Command) (m : ArgMatches) (p : IsParsedFrom c m) → app_of c ≡ mfpic → (out-Command p.built).has_globals ≡ false
 built_local c m p same = p.from.globals ∙ (plain_fields c (plain_of c same)).globals
 
--- the first value of an entry, as it is read, passed what all passed
+-- the first value of an entry has what all its values have
 head_of : (P : Bor Text → Type 0) (how : Reading) (vs : List (Bor Text)) (t : Text) → All P vs
     → option_map (λ s. read_as how s.now) (slice_get vs 0) ≡ Some t
     → (v : Bor Text) × (t ≡ read_as how v.now) × P v
 head_of P how [] t all e = cc
 head_of P how (v ∷ vs) t all e = (v, sym (ap (λ o. unwrap_or o t) e), All-get_or P (v ∷ vs) 0 v (omega arith) all)
 
--- the text that the number is read from passed the parser of `--viewers`
+-- the parser of `--viewers` accepted the text from which the number is read
 passed : (c : Command) (m : ArgMatches) (p : IsParsedFrom c m) (t : Text) → app_of c ≡ mfpic → one_text (found_of m) viewers ≡ Some t
     → (raw : Text) × (t ≡ without_minus raw) × IsSignedIn (pos 0) (pos 16) raw
 passed c m p t same text = go (matched_of (found_of m) viewers) refl text
@@ -151,7 +151,7 @@ passed c m p t same text = go (matched_of (found_of m) viewers) refl text
     go (Some x) e first =
         of_entry x (rw e at first) (entry_by_id (EntryPasses p.built) (found_of m).entries.items viewers x (p.parsed (built_local c m p same)).values e)
 
--- the number that `get_one` reads, and 0 where it reads none
+-- the number that `get_one` reads, and 0 where it reads none, is the number of viewers
 pub viewers_read : (E : Type 0) (G : Text → Result ℕ E → Type 0) (c : Command) (m : ArgMatches) (r : Option ℕ) → app_of c ≡ mfpic → IsParsedFrom c m
     → (one_text (found_of m) viewers ≡ None → r ≡ None) → ((t : Text) → one_text (found_of m) viewers ≡ Some t → ReadsOne G t r)
     → ((t : Text) (x : Result ℕ E) → G t x → ParsesUnsigned 32 10 t x)

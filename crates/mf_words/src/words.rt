@@ -1,4 +1,4 @@
-//! The words of the command line: what they ask for, as clap reads them.
+//! The words of the command line, and what they ask for, as clap reads them.
 ghost use Rattle.std.specs.Prelude.{◌≡◌, ◌≤◌, IfOk, IsErrOf, OnOk, map, option_map, string_bytes};
 ghost use Rattle.clap.specs.Words.{app_of, kind_of};
 ghost use Rattle.mf_words.specs.CommandLine.{IsCommandLine, file_in, mfpic, viewers_in, words_fault};
@@ -9,25 +9,25 @@ use clap::{Arg, Command, value_parser};
 use std::alloc::{AllocError, Global};
 use thiserror::Error;
 
-/// How the program is used.
+/// The usage text, which names the forms of the command line.
 pub const USAGE: &str = "usage: mfpic [--viewers 0..16] [--gf FILE]\n";
 
 /// What the words of the command line ask for.
 #[derive(Debug, Drop)]
 pub struct Words {
-    /// The N of `--viewers N`, and 0 where the words have none.
+    /// The N of `--viewers N`, in 0..16; 0 where the words have none.
     pub viewers: u32,
-    /// The FILE of `--gf FILE`, as the word stands.
+    /// The FILE of `--gf FILE`, exactly as the word gives it.
     pub gf: Option<String>,
 }
 
 /// Why the words of the command line are refused. Its message is its name.
 #[derive(Clone, Copy, Debug, PartialEq, Eq, Error)]
 pub enum WordsFault {
-    /// Refusal 27: the words are not those of the program.
+    /// The words are not a command line of the program.
     #[error("BadWords")]
     BadWords,
-    /// Refusal 14. It may come in the place of 27.
+    /// An allocation failed. This may come instead of `BadWords`.
     #[error("OutOfMemory")]
     OutOfMemory,
 }
@@ -51,8 +51,8 @@ impl From<clap::Error> for WordsFault {
     }
 }
 
-/// Reads the words of the command line, of which the first is the program's name. Refused with BadWords (27)
-/// where they are not `[--viewers 0..16] [--gf FILE]`, in either order, and OutOfMemory (14).
+/// Reads the words of the command line. The first word is the program's name, whatever it is. Refused with `BadWords` only where
+/// the rest is not `[--viewers 0..16] [--gf FILE]`, in either order, and with `OutOfMemory` where an allocation fails.
 pub fn read_words(alloc: Global, words: Vec<String>) -> Result<Words, WordsFault>
     ensures accepted { OnOk result (IsCommandLine (map string_bytes words.items)) }
     ensures refused { IsErrOf result WordsFault.BadWords → ¬ IsCommandLine (map string_bytes words.items) }
@@ -69,7 +69,7 @@ pub fn read_words(alloc: Global, words: Vec<String>) -> Result<Words, WordsFault
     Ok(Words { viewers, gf })
 }
 
-/// The command line of the program: `[--viewers 0..16] [--gf FILE]`, and no flag for help or a version.
+/// The command line of the program: `[--viewers 0..16] [--gf FILE]`, without flags for help or a version.
 fn command<'a>(alloc: Global) -> Result<Command<'a>, AllocError>
     ensures { IfOk result (λ made. app_of made ≡ mfpic) }
 {

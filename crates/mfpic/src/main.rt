@@ -1,4 +1,4 @@
-//! The program `mfpic`: reads a script of picture commands, writes its transcript, and the font file of what it ships.
+//! The program `mfpic`: reads a script of picture commands, and writes its transcript and the font file of what it ships.
 #![tactic(auto)]
 
 use mf_cli::ProgramFault;
@@ -9,7 +9,7 @@ use std::io::{self, BufWriter, ErrorKind};
 use std::process::ExitCode;
 use std::rt::Stdout;
 
-/// Number of bytes that a write to standard output is given, where there are so many.
+/// Size of the buffer for standard output, in bytes.
 const OUTPUT_SIZE: usize = 65_536;
 
 fn main(rt: HostRuntime) -> ExitCode {
@@ -32,14 +32,14 @@ fn main(rt: HostRuntime) -> ExitCode {
     ExitCode::from(status)
 }
 
-/// The words of the command line, and standard output, which is given the texts of many lines at once.
+/// The words of the command line, and standard output with a buffer, so that the texts of many lines are written at once.
 fn words_and_output(rt: &HostRuntime) -> io::Result<(Vec<String>, BufWriter<Stdout>)> {
     let words = words_of(rt)?;
     let output = BufWriter::with_capacity(rt.alloc(), OUTPUT_SIZE, rt.stdout())?;
     Ok((words, output))
 }
 
-/// The words of the command line. A word that is no UTF-8 is a fault.
+/// The words of the command line. A word that is not UTF-8 is a fault.
 fn words_of(rt: &HostRuntime) -> io::Result<Vec<String>> {
     let mut words = Vec::new(rt.alloc());
     for word in env::args(rt)? {

@@ -1,5 +1,5 @@
-//! Calls of sessions that were refused for want of memory, and are made again. Here memory is ample;
-//! `tests/wanting_memory.py` refuses each growth of these tests in turn.
+//! Calls of sessions that are made again after an allocation failed. A test that runs by itself has ample memory;
+//! `tests/wanting_memory.py` refuses each allocation of these tests in turn.
 
 mod pictures;
 
@@ -13,10 +13,10 @@ use std::alloc::Global;
 use std::process::Abort;
 use std::sync::Wait;
 
-/// How often a call is made: a growth is refused to one of all calls at most.
+/// How often a call is made. Twice is enough, since at most one allocation of a test is refused.
 const TRIES: u32 = 2;
 
-/// A session.
+/// Opens a session.
 fn opened<R: Abort + Wait>(rt: &R, alloc: Global) -> Session {
     for _ in 0..TRIES {
         if let Ok((session, _)) = Session::new(rt, alloc, 1, AMPLE.max_ops, AMPLE.max_bytes) {
@@ -26,7 +26,7 @@ fn opened<R: Abort + Wait>(rt: &R, alloc: Global) -> Session {
     panic!(rt; "no session is opened")
 }
 
-/// Performs a line, and says what it prints.
+/// Performs a line, and returns what it prints.
 fn performed<R: Abort + Wait>(rt: &R, alloc: Global, session: &mut Session, line: &str) -> Vec<u8> {
     for _ in 0..TRIES {
         if let Ok(text) = session.command(rt, alloc, line.as_bytes()) {
@@ -76,7 +76,7 @@ fn file_bytes(rt: &impl Abort, file: GfFile) -> GfBytes {
     panic!(rt; "the font file is not finished")
 }
 
-/// The lines of a script print its transcript, one after another.
+/// Asserts that the lines of a script print its transcript.
 fn assert_performs<R: Abort + Wait>(rt: &R, alloc: Global, script: &Script) {
     let (script, transcript) = *script;
     let mut session = opened(rt, alloc);
@@ -91,7 +91,7 @@ fn assert_performs<R: Abort + Wait>(rt: &R, alloc: Global, script: &Script) {
     assert_holds(rt, rest.is_empty(), script);
 }
 
-/// A script ends with this file, and tells of this many operations.
+/// Asserts that a script ends with this font file, and that the notice of its end has this revision.
 fn assert_ships<R: Abort + Wait>(rt: &R, alloc: Global, script: &str, revision: u32, bytes: &[u8]) {
     let mut session = opened(rt, alloc);
     for line in script.lines() {
@@ -110,7 +110,7 @@ fn perform_lines(rt: HostRuntime) {
     }
 }
 
-/// What is shipped goes into the file that the end hands out, and all that was accepted is told.
+/// What is shipped is in the font file that `finish` returns, and the notice tells of everything that was accepted.
 #[test]
 fn end_a_script(rt: HostRuntime) {
     assert_ships(&rt, rt.alloc(), RECT, 1, RECT_FILE);

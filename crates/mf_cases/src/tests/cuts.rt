@@ -1,4 +1,4 @@
-//! Lines that are cut at each byte: what their cuts print, and that a cut which is refused changes nothing.
+//! Lines that are cut off after each of their bytes: what these cuts print, and that a refused cut changes nothing.
 
 mod texts;
 
@@ -13,8 +13,8 @@ use std::process::Abort;
 use std::sync::Wait;
 use texts::{CutLine, cut_lines};
 
-/// What is looked at to see whether a cut has changed something: the pictures that the scripts change, and how many
-/// operations are accepted.
+/// Lines that show whether a cut has changed something. They print the pictures that the scripts change, and the number of
+/// accepted operations.
 const LOOKS: &str = "show currentpicture\n\
                      show a\n\
                      show b\n\
@@ -22,7 +22,7 @@ const LOOKS: &str = "show currentpicture\n\
                      show z\n\
                      publish\n";
 
-/// What is looked at in the place of `LOOKS` where its text is long.
+/// The lines that are used instead of `LOOKS` where these print a long text.
 const SHORT_LOOKS: &str = "show totalweight currentpicture\n\
                            show totalweight a\n\
                            show totalweight b\n\
@@ -30,17 +30,17 @@ const SHORT_LOOKS: &str = "show totalweight currentpicture\n\
                            show totalweight z\n\
                            publish\n";
 
-/// A text is long where it has more bytes.
+/// A text is long if it has more bytes than this.
 const LONG: usize = 1000;
 
-/// Puts a text behind the others.
+/// Appends a text to the others.
 fn append(rt: &impl Abort, texts: &mut Vec<u8>, text: &[u8]) {
     texts
         .extend_from_slice(text)
         .expect(rt, "there is room for the text");
 }
 
-/// Performs the lines of a script, and says what they print.
+/// Performs the lines of a script, and returns what they print.
 fn printed<R: Abort + Wait>(rt: &R, alloc: Global, session: &mut Session, script: &str) -> Vec<u8> {
     let mut all = Vec::new(alloc);
     for line in script.lines() {
@@ -50,7 +50,7 @@ fn printed<R: Abort + Wait>(rt: &R, alloc: Global, session: &mut Session, script
     all
 }
 
-/// Performs a line that is cut, and says what it prints.
+/// Performs a line that is cut off, and returns what it prints.
 fn perform_cut<R: Abort + Wait>(
     rt: &R,
     alloc: Global,
@@ -62,7 +62,8 @@ fn perform_cut<R: Abort + Wait>(
         .expect(rt, "there is room for the line")
 }
 
-/// Performs what is left of a line where it is cut at each byte. Says how many characters that ships.
+/// Performs all cuts of a line, from no byte to all bytes but the last. Asserts that the refused ones change nothing, and returns
+/// how many characters the others ship.
 fn perform_cuts<R: Abort + Wait>(rt: &R, alloc: Global, session: &mut Session, line: &str) -> u32 {
     let bytes = line.as_bytes();
     let mut shipped: u32 = 0;
@@ -83,7 +84,7 @@ fn perform_cuts<R: Abort + Wait>(rt: &R, alloc: Global, session: &mut Session, l
     shipped
 }
 
-/// A cut of a line of this script that is refused changes no picture, is no operation, and ships nothing.
+/// Asserts that a refused cut of a line of this script changes no picture, does not count as an operation, and ships nothing.
 fn assert_cuts_change_nothing<R: Abort + Wait>(rt: &R, alloc: Global, script: &str) {
     let (mut session, _) = opened(rt, alloc, AMPLE.max_ops);
     let mut shipped: u32 = 0;
@@ -106,7 +107,7 @@ fn refused_cuts_change_nothing(rt: HostRuntime) {
     }
 }
 
-/// A text is a refusal as `Syntax` with this column.
+/// Asserts that a text is the refusal `Syntax` with this column.
 fn assert_refused<C: Debug + Drop>(rt: &impl Abort, text: &[u8], column: &str, case: C) {
     let found = text
         .strip_prefix(b"refused Syntax ")
@@ -114,8 +115,8 @@ fn assert_refused<C: Debug + Drop>(rt: &impl Abort, text: &[u8], column: &str, c
     assert_same(rt, found, Some(column.as_bytes()), case);
 }
 
-/// Performs the cuts of a line, of which one is refused as `Syntax` with its column, or is of lawful form, as the columns
-/// say. Says what those of lawful form print.
+/// Performs the cuts of a line. Asserts that each is refused as `Syntax` with its column, unless its column is `-`: such a cut is
+/// itself a line of the grammar. Returns what the lines of the grammar print.
 fn lawful_texts<R: Abort + Wait>(
     rt: &R,
     alloc: Global,
@@ -139,7 +140,7 @@ fn lawful_texts<R: Abort + Wait>(
     texts
 }
 
-/// The cuts of a line, and what is printed behind them, are these.
+/// Asserts that the cuts of a line are refused or print what its entry says, and so do the lines that are performed after them.
 fn assert_cuts_print<R: Abort + Wait>(rt: &R, alloc: Global, cut_line: &CutLine) {
     let (line, columns, texts) = *cut_line;
     let (mut session, _) = opened(rt, alloc, AMPLE.max_ops);
@@ -154,7 +155,7 @@ fn assert_cuts_print<R: Abort + Wait>(rt: &R, alloc: Global, cut_line: &CutLine)
     assert_same(rt, all.as_slice(), texts.as_bytes(), line);
 }
 
-/// So it is with each of these lines.
+/// Asserts this of each of these lines.
 fn assert_all_cuts_print<R: Abort + Wait>(rt: &R, alloc: Global, cut_lines: &[CutLine]) {
     for cut_line in cut_lines {
         assert_cuts_print(rt, alloc, cut_line);
@@ -162,7 +163,7 @@ fn assert_all_cuts_print<R: Abort + Wait>(rt: &R, alloc: Global, cut_lines: &[Cu
 }
 
 #[test]
-fn cuts_print_what_is_left(rt: HostRuntime) {
+fn cuts_print_their_texts(rt: HostRuntime) {
     for lines in cut_lines().iter() {
         assert_all_cuts_print(&rt, rt.alloc(), lines);
     }

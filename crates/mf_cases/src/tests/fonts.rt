@@ -1,4 +1,4 @@
-//! The font files of what scripts ship. Those of scripts in `tests/scripts` stand beside them.
+//! The font files that scripts make. Those of the scripts in `tests/scripts` are in that folder.
 
 use super::{AMPLE, End, assert_ends};
 use crate::tests::assertions::{assert_holds, assert_same};
@@ -8,7 +8,7 @@ use mf_testing::{Pieces, RECT, Sink};
 use std::process::Abort;
 use std::sync::Wait;
 
-/// The script is run to its end and prints this.
+/// Runs the script to its end, and asserts that it prints this transcript.
 fn outcome_of<R: Abort + Wait + AllocGlobal>(
     rt: &R,
     settings: &Settings,
@@ -23,7 +23,7 @@ fn outcome_of<R: Abort + Wait + AllocGlobal>(
     outcome.expect(rt, "the script is run to its end")
 }
 
-/// A script, what it prints, and the file that it ships: its length, and bytes that it has at some places.
+/// A script, what it prints, and its font file: the length, and the bytes at some places.
 struct Shipment {
     script: &'static str,
     text: &'static str,
@@ -31,7 +31,7 @@ struct Shipment {
     parts: &'static [(usize, &'static [u8])],
 }
 
-/// A file has these bytes at these places.
+/// Asserts that a file has these bytes at these places.
 fn assert_parts(rt: &impl Abort, bytes: &[u8], parts: &[(usize, &[u8])]) {
     for (place, part) in parts {
         let rest = bytes.get(*place..).expect(rt, "the place is in the file");
@@ -39,7 +39,7 @@ fn assert_parts(rt: &impl Abort, bytes: &[u8], parts: &[(usize, &[u8])]) {
     }
 }
 
-/// The script is run to its end, prints its text and ships its file.
+/// Asserts that the script runs to its end, prints its text and makes its font file.
 fn assert_ships<R: Abort + Wait + AllocGlobal>(rt: &R, settings: &Settings, shipment: &Shipment) {
     let outcome = outcome_of(rt, settings, shipment.script, shipment.text);
     let gf = outcome.gf.expect(rt, "a character was shipped");
@@ -47,14 +47,14 @@ fn assert_ships<R: Abort + Wait + AllocGlobal>(rt: &R, settings: &Settings, ship
     assert_parts(rt, gf.bytes(), shipment.parts);
 }
 
-/// The script prints this, and ships nothing.
+/// Asserts that the script prints this transcript, and ships nothing.
 fn assert_ships_nothing<R: Abort + Wait + AllocGlobal>(rt: &R, script: &str, transcript: &str) {
     let outcome = outcome_of(rt, &AMPLE, script, transcript);
     assert_holds(rt, outcome.gf.is_none(), script);
 }
 
-/// The whole field, reflected and culled, is shipped: each of its 8,190 rows takes a byte to begin it and three to paint
-/// it, so the postamble stands behind 32,789 bytes.
+/// The whole field is reflected, culled and shipped. Each of its 8,190 rows takes one byte that starts it and three that paint
+/// it, so the postamble comes after 32,789 bytes.
 const WHOLE_FIELD: &Shipment = &Shipment {
     script: "addto a contour (-4095,-4095)--(4095,-4095)--(4095,4095)--(-4095,4095)--cycle\n\
              show totalweight a\n\
@@ -73,7 +73,8 @@ fn ship_the_whole_field(rt: HostRuntime) {
     assert_ships(&rt, &AMPLE, WHOLE_FIELD);
 }
 
-/// The whole field, whose first row is painted from its left edge, and each other row behind the byte that begins it.
+/// The whole field is shipped as it is. The first row is painted from its left end, and every other row after the byte that
+/// starts it.
 const WHOLE_FIELD_AS_IT_IS: &Shipment = &Shipment {
     script: "addto a contour (-4095,-4095)--(4095,-4095)--(4095,4095)--(-4095,4095)--cycle\n\
              shipout a code 1 dx 0 width 0\n",
@@ -103,7 +104,7 @@ fn ship_the_whole_field_as_it_is(rt: HostRuntime) {
     assert_ships(&rt, &AMPLE, WHOLE_FIELD_AS_IT_IS);
 }
 
-/// Numbers of the font, which stand in the postamble.
+/// Font words, which are in the postamble.
 const WITH_FONT_WORDS: &Settings = &Settings {
     font: FontWords {
         ds: 1,
@@ -140,7 +141,7 @@ fn ship_nothing(rt: HostRuntime) {
     );
 }
 
-/// How a script that ships the rectangle ends where a file has at most so many bytes.
+/// How a script that ships the rectangle ends, by the greatest number of bytes that the font file may have.
 const LIMITS: &[(u32, End<'_>)] = &[
     (0, (Some(RunFault::FileTooLong), b"")),
     (2, (Some(RunFault::FileTooLong), b"")),
@@ -161,8 +162,8 @@ fn assert_limits<R: Abort + Wait + AllocGlobal>(rt: &R, cases: &[(u32, End<'_>)]
     }
 }
 
-/// A character that finds no room is refused, and the script goes on; the end that finds none is a fault behind the
-/// whole transcript, and so is a file of less than three bytes before it.
+/// A character with no room in the file is refused, and the script goes on. An end with no room is a fault after the complete
+/// transcript, and a limit of less than three bytes is a fault before it.
 #[test]
 fn ship_within_limits(rt: HostRuntime) {
     assert_limits(&rt, LIMITS);

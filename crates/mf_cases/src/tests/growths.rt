@@ -1,5 +1,5 @@
-//! Sessions and runs whose growths are refused: nothing that can be seen has changed then, and with ample memory the
-//! same call does what it does where nothing was refused.
+//! Sessions and runs while allocations are refused. A call that fails changes nothing that can be seen, and the same call with
+//! ample memory does what it would have done at first.
 ghost use Rattle.mf_text.specs.Registers.{IsName};
 
 mod changes;
@@ -23,29 +23,29 @@ use std::alloc::Global;
 use std::process::Abort;
 use std::sync::Wait;
 
-/// All that can be seen of a session.
+/// Everything that can be seen of a session.
 #[derive(Clone, Copy)]
 struct State {
-    /// The run texts of `currentpicture`, `a` and `b`. The other registers are blank.
+    /// The run texts of `currentpicture`, `a` and `b`; the other registers are blank.
     current: &'static str,
     a: &'static str,
     b: &'static str,
-    /// How many operations its viewer is shown, and the total of their picture.
+    /// The number of operations that its viewer is shown, and the total weight of their picture.
     shown: (u32, i64),
-    /// The same where all that was accepted is published.
+    /// The same once everything that was accepted is published.
     accepted: (u32, i64),
-    /// The font file that its end hands out, or why there is none.
+    /// The font file, once finished, or why there is none.
     file: Result<&'static [u8], GfFault>,
 }
 
-/// Two operations are accepted, of which one is published; a register has a row, which is shipped.
+/// A script with two accepted operations, one of which is published. Register `a` has one row, which is shipped.
 const SCRIPT: &str = "addto currentpicture contour (0,0)--(3,0)--(3,2)--(0,2)--cycle\n\
                       publish\n\
                       addto a contour (1,0)--(3,0)--(3,1)--(1,1)--cycle withweight 2\n\
                       addto currentpicture also a\n\
                       shipout a code 7 dx 0 width 0\n";
 
-/// What is seen behind that script.
+/// What is seen after that script.
 const STATE: State = State {
     current: "1 0 2 1\n0 0 0 1\n0 1 2 3\n",
     a: "0 1 2 2\n",
@@ -64,9 +64,9 @@ const STATE: State = State {
     ),
 };
 
-/// A line that is performed while growths are refused.
+/// A line that is performed while allocations are refused.
 struct Trial {
-    /// Of so many operations and bytes, in a session that has performed these lines behind the others.
+    /// The limits of its session, and the lines that the session performs after `SCRIPT` and before this one.
     max_ops: u32,
     max_bytes: u32,
     before: &'static str,
@@ -87,8 +87,8 @@ const TRIAL: Trial = Trial {
     new: STATE,
 };
 
-/// A session that has performed the script and these lines, and its viewer.
-fn behind<R: Abort + Wait>(
+/// A session that has performed the script and then these lines, and its viewer.
+fn session_after<R: Abort + Wait>(
     rt: &R,
     alloc: Global,
     (max_ops, max_bytes): (u32, u32),
@@ -105,14 +105,14 @@ fn behind<R: Abort + Wait>(
     (session, seated(rt, &mut desk))
 }
 
-/// The viewer of a desk with one place.
+/// The only viewer of a desk with one place.
 fn seated(rt: &impl Abort, desk: &mut Desk) -> Viewer {
     let viewer = desk.viewer().expect(rt, "a place is left");
     assert_holds(rt, desk.viewer().is_err(), "one place");
     viewer
 }
 
-/// The run text of a picture, from its runs.
+/// The run text of a picture, made from its runs.
 fn run_text(rt: &impl Abort, alloc: Global, picture: &Picture) -> Vec<u8> {
     let mut text = Vec::new(alloc);
     for run in picture.runs() {
@@ -131,7 +131,7 @@ fn run_text(rt: &impl Abort, alloc: Global, picture: &Picture) -> Vec<u8> {
     text
 }
 
-/// A picture of the session has this run text, by its runs, and so does the line that shows it.
+/// Asserts that a picture of the session has this run text, both made from its runs and printed by the line that shows it.
 fn assert_picture<R: Abort + Wait>(
     rt: &R,
     alloc: Global,
@@ -148,7 +148,7 @@ fn assert_picture<R: Abort + Wait>(
     assert_same(rt, shown.as_slice(), text.as_bytes(), line);
 }
 
-/// The registers behind `b` are blank.
+/// Asserts that the registers after `b` are blank.
 fn assert_others_blank(rt: &impl Abort, session: &Session) {
     for letter in 2..26 {
         let first = session.picture(&Name::Register(letter)).run(0);
@@ -156,8 +156,8 @@ fn assert_others_blank(rt: &impl Abort, session: &Session) {
     }
 }
 
-/// This is seen of the session and by its viewer, who is handed back.
-fn assert_stands<R: Abort + Wait>(
+/// Asserts that the session and its viewer show this state. Returns the viewer.
+fn assert_state<R: Abort + Wait>(
     rt: &R,
     alloc: Global,
     (session, viewer): (&mut Session, Viewer),
@@ -179,7 +179,7 @@ fn assert_stands<R: Abort + Wait>(
     viewer
 }
 
-/// The file is finished as these bytes, or refused with this fault.
+/// Asserts that finishing the file gives these bytes, or is refused with this fault.
 fn assert_file(rt: &impl Abort, file: GfFile, finished: Result<&[u8], GfFault>) {
     match file.finish(AMPLE.font) {
         Ok(gf) => assert_same(rt, Ok(gf.bytes()), finished, "the font file"),
@@ -187,7 +187,8 @@ fn assert_file(rt: &impl Abort, file: GfFile, finished: Result<&[u8], GfFault>) 
     }
 }
 
-/// A script has ended so: all is told and shown, and its file is handed out.
+/// Asserts that a script has ended in this state: its notice tells of everything that was accepted, the viewer is shown it, and
+/// the font file is that of the state.
 fn assert_ended<R: Abort + Wait>(
     rt: &R,
     (ended, file): (Ended, GfFile),
@@ -203,7 +204,8 @@ fn assert_ended<R: Abort + Wait>(
     assert_file(rt, file, state.file);
 }
 
-/// The turning check of the session is on, its next publish tells and shows all that was accepted, and so it ends.
+/// Asserts that the turning check of the session is on, that its next publish tells of everything that was accepted and shows it,
+/// and that the session ends in this state.
 fn assert_ends<R: Abort + Wait>(
     rt: &R,
     alloc: Global,
@@ -226,7 +228,7 @@ fn assert_ends<R: Abort + Wait>(
     assert_ended(rt, finish(rt, session), viewer, state);
 }
 
-/// Performs a line while growths are refused.
+/// Performs a line while allocations are refused.
 fn command_refused<R: Wait>(
     rt: &R,
     alloc: Global,
@@ -239,20 +241,21 @@ fn command_refused<R: Wait>(
     answer
 }
 
-/// The line prints its text and makes its change; where memory was wanting, nothing has changed, and it does both later.
+/// Asserts that the line prints its text and makes its change. Where an allocation fails, nothing has changed, and the line does
+/// both when it is performed again.
 fn assert_performs<R: Abort + Wait + AllocGlobal>(rt: &R, trial: &Trial) {
     let (alloc, line) = (rt.alloc(), trial.line);
     let limits = (trial.max_ops, trial.max_bytes);
-    let (mut session, mut viewer) = behind(rt, alloc, limits, trial.before);
+    let (mut session, mut viewer) = session_after(rt, alloc, limits, trial.before);
     let answer = command_refused(rt, alloc, &mut session, line);
     let text = match answer {
         Ok(text) => text,
         Err(OutOfMemory) => {
-            viewer = assert_stands(rt, alloc, (&mut session, viewer), &trial.old);
+            viewer = assert_state(rt, alloc, (&mut session, viewer), &trial.old);
             perform(rt, alloc, &mut session, line)
         }
     };
     assert_same(rt, text.as_slice(), trial.text.as_bytes(), line);
-    let viewer = assert_stands(rt, alloc, (&mut session, viewer), &trial.new);
+    let viewer = assert_state(rt, alloc, (&mut session, viewer), &trial.new);
     assert_ends(rt, alloc, (session, viewer), &trial.new);
 }

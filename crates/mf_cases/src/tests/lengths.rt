@@ -8,7 +8,7 @@ use std::sync::Wait;
 
 pub(super) const LINE_TOO_LONG: &[u8] = b"refused LineTooLong\n";
 
-/// These parts, one after another.
+/// These parts, joined.
 fn joined(alloc: Global, parts: &[&[u8]]) -> Result<Vec<u8>, AllocError> {
     let mut all = Vec::new(alloc);
     for part in parts {
@@ -17,14 +17,14 @@ fn joined(alloc: Global, parts: &[&[u8]]) -> Result<Vec<u8>, AllocError> {
     Ok(all)
 }
 
-/// A line of this many spaces, and what ends it.
+/// A line of `count` spaces, and the bytes that end it.
 pub(super) fn long_line(alloc: Global, count: usize, end: &[u8]) -> Result<Vec<u8>, AllocError> {
     let mut line = vec![in alloc; b' '; count]?;
     line.extend_from_slice(end)?;
     Ok(line)
 }
 
-/// Lines of so many spaces, what ends them, and what they print.
+/// Lines: the number of their spaces, the bytes that end them, and what they print.
 const LONG_LINES: &[(usize, &[u8], &[u8])] = &[
     (65_536, b"", b""),
     (65_536, b"\n", b""),
@@ -36,7 +36,7 @@ const LONG_LINES: &[(usize, &[u8], &[u8])] = &[
     (65_537, b"\r\n", LINE_TOO_LONG),
     (65_537, b"\r", LINE_TOO_LONG),
     (200_000, b"\n", LINE_TOO_LONG),
-    // The length is looked at before the bytes.
+    // The length is checked before the bytes.
     (65_535, b"\xe9\n", b"refused NotAscii\n"),
     (65_536, b"\xe9\n", LINE_TOO_LONG),
 ];
@@ -53,7 +53,7 @@ fn long_lines(rt: HostRuntime) {
     assert_long_lines(&rt, LONG_LINES);
 }
 
-/// A line that fills the pixel (0, 0), walked so many times, with this weight.
+/// A line whose contour goes around the pixel (0, 0) `times` times, with this weight.
 fn many_times(alloc: Global, times: usize, weight: &[u8]) -> Result<Vec<u8>, AllocError> {
     let mut line = b"addto a contour ".to_vec(alloc)?;
     for _ in 0..times {
@@ -65,12 +65,12 @@ fn many_times(alloc: Global, times: usize, weight: &[u8]) -> Result<Vec<u8>, All
     Ok(line)
 }
 
-/// A line, so often, and behind that the picture.
+/// A script that performs a line `times` times and then shows the picture.
 fn shown_after(alloc: Global, line: &[u8], times: usize) -> Result<Vec<u8>, AllocError> {
     joined(alloc, &[&line.repeat(alloc, times)?, b"show a\n"])
 }
 
-/// A line that fills the pixel (0, 0) so many times prints this with the picture.
+/// Asserts that a contour that goes around the pixel (0, 0) `times` times, and then `show a`, print this text.
 fn assert_fills<R: Abort + Wait + AllocGlobal>(rt: &R, times: usize, text: &[u8]) {
     let line = many_times(rt.alloc(), times, b"1").expect(rt, "there is room for the line");
     let script = shown_after(rt.alloc(), &line, 1).expect(rt, "there is room for the script");
@@ -83,7 +83,7 @@ fn long_contours(rt: HostRuntime) {
     assert_fills(&rt, 1025, b"refused TooManyPoints\nblank\n");
 }
 
-/// A long contour fills a pixel ten times, and once more, which is refused.
+/// A script that fills a pixel with a long contour ten times and shows it, and then fills it once more, which is refused.
 fn heavy_contours(alloc: Global) -> Result<Vec<u8>, AllocError> {
     let heavy = many_times(alloc, 1024, b"-3")?;
     let (ten, one) = (

@@ -1,4 +1,4 @@
-//! How many operations `currentpicture` accepts.
+//! The limit on the operations that `currentpicture` accepts.
 
 use super::{AMPLE, assert_ends};
 use mf_desk::Settings;
@@ -6,7 +6,7 @@ use mf_testing::Pieces;
 use std::process::Abort;
 use std::sync::Wait;
 
-/// The script prints this where so many operations on `currentpicture` are accepted.
+/// Asserts that the script prints this transcript where `max_ops` operations on `currentpicture` are accepted.
 fn assert_prints_within<R: Abort + Wait + AllocGlobal>(
     rt: &R,
     max_ops: u32,
@@ -32,7 +32,7 @@ fn one_operation(rt: HostRuntime) {
     );
 }
 
-/// Refused operations use up nothing, and a line's own refusals come first.
+/// Refused operations do not count, and refusals that depend only on the line come first.
 #[test]
 fn refused_operations(rt: HostRuntime) {
     assert_prints_within(
@@ -56,8 +56,8 @@ fn refused_operations(rt: HostRuntime) {
     );
 }
 
-/// The points and the weight of a contour are looked at when its line is read, so before the limit; how its cycle turns is
-/// looked at after the limit.
+/// The points and the weight of a contour are checked when its line is read, before the limit; the turning check comes after the
+/// limit.
 #[test]
 fn refused_contours(rt: HostRuntime) {
     assert_prints_within(
@@ -120,8 +120,8 @@ fn registers_have_no_limit(rt: HostRuntime) {
     );
 }
 
-/// Where no operation on `currentpicture` is accepted, each of them is refused, behind the refusals of its line and
-/// before those of the operation; all else is performed.
+/// Where no operation on `currentpicture` is accepted, each one is refused. Refusals of its line come before that, and refusals
+/// of the operation itself would come after it. Everything else is performed.
 #[test]
 fn no_operation(rt: HostRuntime) {
     assert_prints_within(

@@ -1,12 +1,12 @@
-//! How lines end, at each place at which a read may end, and the bytes that lines may have.
+//! How lines end, wherever the script is cut into reads, and which bytes lines may have.
 
 use super::assert_prints;
 use mf_testing::Pieces;
 use std::process::Abort;
 use std::sync::Wait;
 
-/// Three lines, of which the second has no byte: ended by line feeds, the last by none, and by carriage returns and line
-/// feeds; and no line.
+/// Three lines, the second of which is empty: they end with line feeds, then the last one has none, then they end with carriage
+/// returns and line feeds. After these, a script of one empty line, and an empty script.
 const SCRIPTS: &[(&[u8], &[u8])] = &[
     (
         b"addto currentpicture contour (0,0)--(3,0)--(3,2)--(0,2)--cycle\n\
@@ -32,7 +32,7 @@ const SCRIPTS: &[(&[u8], &[u8])] = &[
 
 const NOT_ASCII: &[u8] = b"refused NotAscii\n";
 
-/// The script prints this in reads of one byte, in one read, and split at each place.
+/// Asserts that the script prints this transcript in reads of one byte, in one read, and in two reads, wherever it is split.
 fn assert_prints_however_cut<R: Abort + Wait + AllocGlobal>(
     rt: &R,
     script: &[u8],
@@ -49,7 +49,7 @@ fn assert_prints_however_cut<R: Abort + Wait + AllocGlobal>(
     }
 }
 
-/// Each of these scripts prints its text, however it is cut.
+/// Asserts that each of these scripts prints its text, however it is cut into reads.
 fn assert_all_print<R: Abort + Wait + AllocGlobal>(rt: &R, scripts: &[(&[u8], &[u8])]) {
     for (script, text) in scripts {
         assert_prints_however_cut(rt, script, text);
@@ -61,7 +61,7 @@ fn end_at_line_feeds(rt: HostRuntime) {
     assert_all_print(&rt, SCRIPTS);
 }
 
-/// A carriage return at the end of the script belongs to its line, and so does one in the middle of a line.
+/// Carriage returns that belong to a line: at the end of the script, before another carriage return, and in the middle of a line.
 const RETURNS: &[(&[u8], &[u8])] = &[
     (b"show a\r", NOT_ASCII),
     (b"\r", NOT_ASCII),
@@ -70,11 +70,11 @@ const RETURNS: &[(&[u8], &[u8])] = &[
 ];
 
 #[test]
-fn carriage_returns_are_no_text(rt: HostRuntime) {
+fn other_carriage_returns_are_refused(rt: HostRuntime) {
     assert_all_print(&rt, RETURNS);
 }
 
-/// A comment with this byte prints nothing, or is refused.
+/// Asserts that a comment with this byte prints nothing if the byte is allowed in a line, and is refused if it is not.
 fn assert_comment<R: Abort + Wait + AllocGlobal>(rt: &R, byte: u8) {
     let is_text = matches!(byte, b'\t' | b'\n' | b' '..=b'~');
     let text = if is_text { b"" } else { NOT_ASCII };
@@ -83,7 +83,7 @@ fn assert_comment<R: Abort + Wait + AllocGlobal>(rt: &R, byte: u8) {
 }
 
 #[test]
-fn other_bytes_are_no_text(rt: HostRuntime) {
+fn other_bytes_are_refused(rt: HostRuntime) {
     assert_prints_however_cut(&rt, b"% \xe9\n", NOT_ASCII);
     for byte in 0..=255 {
         assert_comment(&rt, byte);

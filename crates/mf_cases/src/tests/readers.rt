@@ -1,4 +1,4 @@
-//! How many bytes reads ask for, and how many reads there are.
+//! How many bytes each read asks for, and how many reads there are.
 
 use super::lengths::{LINE_TOO_LONG, long_line};
 use super::{AMPLE, End, assert_ends};
@@ -9,7 +9,7 @@ use std::io::Read;
 use std::process::Abort;
 use std::sync::Wait;
 
-/// The reader's script ends so, and each of its reads has asked for a byte at least, and for 65,536 bytes at most.
+/// Asserts that the reader's script ends in this way, and that each of its reads asked for at least one byte and at most 65,536.
 fn assert_asks<R: Abort + Wait + AllocGlobal, I: Read>(
     rt: &R,
     reader: &mut Remembers<I>,
@@ -22,7 +22,8 @@ fn assert_asks<R: Abort + Wait + AllocGlobal, I: Read>(
     assert_holds(rt, greatest <= 65_536, (case, "at most", greatest));
 }
 
-/// A script prints this, and its reads ask for lawful numbers of bytes, whether they get all of them or one.
+/// Asserts that a script prints this text, and that its reads ask for allowed numbers of bytes, whether a read gives them all or
+/// only one.
 fn assert_asks_for<R: Abort + Wait + AllocGlobal>(rt: &R, script: &[u8], text: &[u8], case: &str) {
     let end = (None, text);
     let mut whole = Remembers::new(Pieces::whole(script));
@@ -52,7 +53,7 @@ fn short_scripts(rt: HostRuntime) {
     }
 }
 
-/// Lines of so many spaces, and what they print. The last is cut by several reads.
+/// Lines: the number of their spaces, and what they print. The last one is read in several reads.
 const LONG: &[(usize, &[u8])] = &[
     (65_534, b""),
     (65_535, b""),
@@ -64,7 +65,8 @@ const LONG: &[(usize, &[u8])] = &[
     (200_000, LINE_TOO_LONG),
 ];
 
-/// A line of so many spaces, ended by these bytes, prints this.
+/// Asserts that a line of `count` spaces, ended by these bytes, prints this text, and that its reads ask for allowed numbers of
+/// bytes.
 fn assert_asks_for_spaces<R: Abort + Wait + AllocGlobal>(
     rt: &R,
     count: usize,
@@ -83,7 +85,7 @@ fn long_lines(rt: HostRuntime) {
     }
 }
 
-/// A line, and behind it as many others as make a script of several reads.
+/// A line that is repeated so often that the script takes several reads.
 #[test]
 fn long_scripts(rt: HostRuntime) {
     let script = b"show totalweight nullpicture;\n".repeat(rt.alloc(), 5_000);
@@ -93,9 +95,9 @@ fn long_scripts(rt: HostRuntime) {
     assert_asks_for(&rt, &script, &text, "a long script");
 }
 
-/// Behind 1,048,576 reads there is none, whatever it would give.
+/// After 1,048,576 reads there are no more, whatever the reader would give.
 #[test]
-fn reads_end_for_good(rt: HostRuntime) {
+fn there_are_at_most_1_048_576_reads(rt: HostRuntime) {
     let mut reader = Remembers::new(LineFeeds { left: u32::MAX });
     let end = (Some(RunFault::ReadFault), b"".as_slice());
     assert_asks(&rt, &mut reader, end, "line feeds");

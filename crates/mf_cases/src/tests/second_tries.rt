@@ -1,4 +1,4 @@
-//! A read or a write that was answered is not tried again, whatever a second one would answer.
+//! A read that reports the end, and a read or a write that fails, are not tried again, whatever a second try would do.
 
 use super::{AMPLE, assert_ends};
 use crate::tests::assertions::{assert_holds, assert_same};
@@ -13,11 +13,11 @@ const LINE: &str = "show totalweight currentpicture\n";
 
 const TEXT: &str = "totalweight 0\n";
 
-/// A reader that gives these bytes, then is interrupted or answers the end, and would give the others after that.
+/// A reader that gives the bytes of `before`, then is interrupted or reports the end, and would give those of `later` after that.
 #[derive(Drop)]
 struct Breaks<'a> {
     before: Pieces<'a>,
-    behind: Pieces<'a>,
+    later: Pieces<'a>,
     is_interrupted: bool,
     is_over: bool,
 }
@@ -25,7 +25,7 @@ struct Breaks<'a> {
 impl Read for Breaks<'_> {
     fn read(&mut self, buf: &mut [u8]) -> io::Result<usize> {
         if self.is_over {
-            return self.behind.read(buf);
+            return self.later.read(buf);
         }
         let count = self.before.read(buf)?;
         if count > 0 {
@@ -39,24 +39,24 @@ impl Read for Breaks<'_> {
     }
 }
 
-/// A reader that breaks between these two texts.
-fn broken<'a>(before: &'a str, behind: &'a str, is_interrupted: bool) -> Breaks<'a> {
+/// A reader that breaks off between these two texts.
+fn broken<'a>(before: &'a str, later: &'a str, is_interrupted: bool) -> Breaks<'a> {
     Breaks {
         before: Pieces::whole(before.as_bytes()),
-        behind: Pieces::whole(behind.as_bytes()),
+        later: Pieces::whole(later.as_bytes()),
         is_interrupted,
         is_over: false,
     }
 }
 
-/// A reader that is interrupted between these two texts ends the run, which prints this.
+/// Asserts that a run whose reader is interrupted between these two texts ends there, and prints this text.
 fn assert_interrupted<R: Abort + Wait + AllocGlobal>(
     rt: &R,
     before: &str,
-    behind: &str,
+    later: &str,
     text: &str,
 ) {
-    let mut reader = broken(before, behind, true);
+    let mut reader = broken(before, later, true);
     let end = (Some(RunFault::ReadFault), text.as_bytes());
     assert_ends(rt, &mut reader, &AMPLE, end, before);
 }
@@ -68,28 +68,29 @@ fn interrupted_read_is_a_fault(rt: HostRuntime) {
     assert_interrupted(&rt, LINE, LINE, TEXT);
 }
 
-/// A rectangle is filled, and the line behind it would print its total weight.
+/// A rectangle is filled, and the line after it would print its total weight.
 #[test]
 fn nothing_is_written_where_the_second_read_fails(rt: HostRuntime) {
     let rectangle = "addto currentpicture contour (0,0)--(3,0)--(3,2)--(0,2)--cycle\n";
     assert_interrupted(&rt, rectangle, LINE, "");
 }
 
-/// A reader that answers the end behind this text, and would give a line after that, ends the run, which prints this.
+/// Asserts that a run whose reader reports the end after this text, and would give a line after that, ends there without a fault,
+/// and prints this text.
 fn assert_ended<R: Abort + Wait + AllocGlobal>(rt: &R, before: &str, text: &str) {
     let mut reader = broken(before, LINE, false);
     assert_ends(rt, &mut reader, &AMPLE, (None, text.as_bytes()), before);
 }
 
-/// A terminal may give more behind the end.
+/// A terminal may give more after it has reported an end.
 #[test]
-fn nothing_is_read_behind_the_end(rt: HostRuntime) {
+fn nothing_is_read_after_the_end(rt: HostRuntime) {
     assert_ended(&rt, "", "");
     assert_ended(&rt, "show totalweight currentpicture", TEXT);
     assert_ended(&rt, LINE, TEXT);
 }
 
-/// A writer that is interrupted in its first write or in its first flush, and would take all bytes after that.
+/// A writer that is interrupted in its first write or its first flush, and would take all bytes after that.
 #[derive(Drop)]
 struct InterruptedOnce {
     in_write: bool,
@@ -115,7 +116,7 @@ impl Write for InterruptedOnce {
     }
 }
 
-/// A run whose writer is interrupted so is a fault, and the writer takes nothing.
+/// Asserts that a run whose writer is interrupted in this way ends with `WriteFault`, and that the writer takes nothing.
 fn assert_write_fault<R: Abort + Wait + AllocGlobal>(rt: &R, in_write: bool, in_flush: bool) {
     let alloc = rt.alloc();
     let mut writer = InterruptedOnce {

@@ -1,4 +1,4 @@
-//! Sessions that end: their notices, font files and last pictures.
+//! The ends of sessions: their notices, font files and last pictures.
 ghost use Rattle.std.specs.Prelude.{◌≡◌};
 ghost use Rattle.mf_live.specs.Viewers as viewers;
 
@@ -12,7 +12,7 @@ use std::alloc::Global;
 use std::process::Abort;
 use std::sync::Wait;
 
-/// A session ends that has performed these lines.
+/// Ends a session that has performed these lines.
 fn finished<R: Abort + Wait>(rt: &R, alloc: Global, script: &str) -> (Ended, GfFile) {
     let (mut session, _) = opened(rt, alloc, AMPLE.max_ops);
     for line in script.lines() {
@@ -21,7 +21,7 @@ fn finished<R: Abort + Wait>(rt: &R, alloc: Global, script: &str) -> (Ended, GfF
     finish(rt, session)
 }
 
-/// A look shows so many operations, and a picture of this total.
+/// Asserts that a look shows `revision` operations, and a picture with this total weight.
 pub(super) fn assert_shows<R: Abort>(rt: &R, viewer: Viewer, revision: u32, total: i64) -> Viewer
     ensures { viewers.name result ≡ viewers.name viewer }
 {
@@ -35,14 +35,14 @@ pub(super) fn assert_shows<R: Abort>(rt: &R, viewer: Viewer, revision: u32, tota
     }
 }
 
-/// The notice of the end tells of so many operations.
+/// Asserts that the notice of the end tells of `revision` operations.
 fn assert_tells<R: Abort + Wait>(rt: &R, alloc: Global, script: &str, revision: u32) {
     let (mut ended, _) = finished(rt, alloc, script);
     assert_same(rt, ended.notice().revision(), revision, script);
     ended.discard(rt);
 }
 
-/// Scripts, and how many operations each of them has.
+/// Scripts, and the number of operations that each has.
 const OPERATIONS: &[(&str, u32)] = &[
     ("", 0),
     ("publish\nshow currentpicture\n", 0),
@@ -55,7 +55,7 @@ const OPERATIONS: &[(&str, u32)] = &[
          publish\n",
         1,
     ),
-    // Operations on registers and refused ones are not counted, and neither is what is shipped.
+    // Operations on registers, refused operations and shippings are not counted.
     (
         "addto a contour (0,0)--(3,0)--(3,2)--(0,2)--cycle\n\
          addto currentpicture also a\n\
@@ -74,13 +74,14 @@ fn assert_all_tell<R: Abort + Wait>(rt: &R, alloc: Global, cases: &[(&str, u32)]
     }
 }
 
-/// The notice of the end tells of each operation that was accepted, published or not.
+/// The notice of the end tells of every operation that was accepted, published or not.
 #[test]
 fn tell_of_all_operations(rt: HostRuntime) {
     assert_all_tell(&rt, rt.alloc(), OPERATIONS);
 }
 
-/// The end hands out a file with so many characters, which is finished as these bytes, or refused with this fault.
+/// Asserts that the end hands out a font file with `count` characters, and that finishing it gives these bytes or is refused with
+/// this fault.
 fn assert_hands_out<R: Abort + Wait>(
     rt: &R,
     alloc: Global,
@@ -97,12 +98,12 @@ fn assert_hands_out<R: Abort + Wait>(
     }
 }
 
-/// The end hands out a file with no character.
+/// Asserts that the end hands out a font file with no character.
 fn assert_ships_nothing<R: Abort + Wait>(rt: &R, alloc: Global, script: &str) {
     assert_hands_out(rt, alloc, script, 0, Err(GfFault::NoCharacters));
 }
 
-/// What is shipped goes into the file that the end hands out.
+/// What is shipped is in the font file that the end hands out.
 #[test]
 fn hand_out_the_font_file(rt: HostRuntime) {
     let alloc = rt.alloc();
@@ -112,8 +113,8 @@ fn hand_out_the_font_file(rt: HostRuntime) {
     assert_ships_nothing(&rt, alloc, "shipout a code 256 dx 0 width 0\n");
 }
 
-/// A viewer that has looked at the blank picture, and learns of the end behind these lines, sees so many operations and
-/// a picture of this total. At most `max_ops` operations are accepted.
+/// Asserts that a viewer that has looked at the blank picture, and learns the notice of the end after these lines, sees
+/// `revision` operations and a picture with this total weight. At most `max_ops` operations are accepted.
 fn assert_ends_with<R: Abort + Wait + AllocGlobal>(
     rt: &R,
     max_ops: u32,
@@ -136,7 +137,7 @@ fn assert_ends_with<R: Abort + Wait + AllocGlobal>(
 
 const FILL: &str = "addto currentpicture contour (0,0)--(3,0)--(3,2)--(0,2)--cycle";
 
-/// Two lines, and what a viewer sees behind them: so many operations, and a picture of this total.
+/// Two lines, and what a viewer sees after them: the number of operations, and the total weight of the picture.
 type Ending = ((&'static str, &'static str), u32, i64);
 
 const ENDINGS: &[Ending] = &[
@@ -159,7 +160,7 @@ fn show_the_end_to_their_viewers(rt: HostRuntime) {
     assert_all_end_with(&rt, ENDINGS);
 }
 
-/// Where no operation is accepted, none is told of or shown.
+/// Where no operation is accepted, the notice tells of none, and the viewer is shown none.
 #[test]
 fn show_no_operation_where_none_is_accepted(rt: HostRuntime) {
     assert_ends_with(&rt, 0, (FILL, "publish"), 0, 0);

@@ -17,7 +17,7 @@ use std::alloc::Global;
 use std::process::Abort;
 use std::sync::Wait;
 
-/// A session of which so many operations on `currentpicture` are accepted, and its desk with one place.
+/// Opens a session that accepts at most `max_ops` operations on `currentpicture`, with a desk of one place.
 pub(crate) fn opened<R: Abort + Wait>(rt: &R, alloc: Global, max_ops: u32) -> (Session, Desk)
     ensures start { StandsFor result.0 start }
     ensures name { desk_name result.1 ≡ name result.0 }
@@ -25,7 +25,7 @@ pub(crate) fn opened<R: Abort + Wait>(rt: &R, alloc: Global, max_ops: u32) -> (S
     Session::new(rt, alloc, 1, max_ops, AMPLE.max_bytes).expect(rt, "there is room for a session")
 }
 
-/// Performs a line, and says what it prints.
+/// Performs a line, and returns what it prints.
 pub(crate) fn perform<R: Abort + Wait>(
     rt: &R,
     alloc: Global,
@@ -53,8 +53,8 @@ pub(crate) fn finish<R: Abort + Wait>(rt: &R, session: Session) -> (Ended, GfFil
     }
 }
 
-/// Whether a line that prints this is an operation on `currentpicture` which is accepted: it changes that picture, and prints
-/// no refusal.
+/// Whether a line that prints this text is an accepted operation on `currentpicture`: a line for that picture that prints no
+/// refusal.
 fn is_operation(line: &str, text: &[u8]) -> bool {
     let changes = line.starts_with("addto currentpicture ")
         || line.starts_with("cull currentpicture ")
@@ -62,7 +62,7 @@ fn is_operation(line: &str, text: &[u8]) -> bool {
     changes && text.is_empty()
 }
 
-/// The lines of a script print its transcript, one after another. Its end tells of the operations that were accepted.
+/// Asserts that the lines of a script print its transcript, and that the notice of its end tells of the accepted operations.
 fn assert_performs<R: Abort + Wait>(rt: &R, alloc: Global, script: &Script) {
     let (script, transcript) = *script;
     let (mut session, _) = opened(rt, alloc, AMPLE.max_ops);
@@ -91,7 +91,7 @@ fn perform_scripts(rt: HostRuntime) {
     }
 }
 
-/// The line prints this.
+/// Asserts that the line prints this text.
 fn assert_prints<R: Abort + Wait + AllocGlobal>(
     rt: &R,
     session: &mut Session,
@@ -102,14 +102,14 @@ fn assert_prints<R: Abort + Wait + AllocGlobal>(
     assert_same(rt, printed.as_slice(), text.as_bytes(), line);
 }
 
-/// The picture of this name has this total.
+/// Asserts that the picture with this name has this total weight.
 fn assert_total(rt: &impl Abort, session: &Session, name: Name, total: i64)
     requires { IsName name }
 {
     assert_same(rt, session.picture(&name).total(), total, name);
 }
 
-/// So do these lines.
+/// Asserts that these lines print their texts.
 fn assert_all_print<R: Abort + Wait + AllocGlobal>(
     rt: &R,
     session: &mut Session,
@@ -147,7 +147,7 @@ fn lend_pictures(rt: HostRuntime) {
     session.discard(&rt);
 }
 
-/// The viewer is shown so many operations, and a picture of this total.
+/// Asserts that the viewer is shown `revision` operations, and a picture with this total weight.
 fn assert_sees(rt: &impl Abort, viewer: Viewer, revision: u32, total: i64) {
     match viewer.look() {
         Ok(look) => {
@@ -159,7 +159,7 @@ fn assert_sees(rt: &impl Abort, viewer: Viewer, revision: u32, total: i64) {
     }
 }
 
-/// A viewer of the desk's picture.
+/// A viewer that the desk hands out.
 fn seated(rt: &impl Abort, desk: &mut Desk) -> Viewer {
     desk.viewer().expect(rt, "a place is left")
 }
@@ -176,7 +176,7 @@ const FILLING: &[(&str, &str)] = &[
     ),
 ];
 
-/// The desk of a session gives out viewers of its `currentpicture`.
+/// The desk of a session hands out viewers of its `currentpicture`.
 #[test]
 fn have_viewers(rt: HostRuntime) {
     let (mut session, mut desk) = opened(&rt, rt.alloc(), AMPLE.max_ops);

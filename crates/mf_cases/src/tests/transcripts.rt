@@ -1,11 +1,11 @@
-//! The scripts and their transcripts, however the script is cut into reads and however its lines end.
+//! The worked scripts and their transcripts, however the script is cut into reads and however its lines end.
 
 use super::assert_prints;
 use mf_testing::{Pieces, Script, worked_scripts};
 use std::process::Abort;
 use std::sync::Wait;
 
-/// This form of the script prints its transcript.
+/// Asserts that this form of the script prints its transcript.
 fn assert_performs<R: Abort + Wait + AllocGlobal>(rt: &R, reader: Pieces<'_>, script: &Script) {
     assert_prints(rt, reader, script.1.as_bytes(), script.0);
 }
@@ -17,7 +17,7 @@ fn byte_by_byte(rt: HostRuntime) {
     }
 }
 
-/// The last split is none: all is in one read.
+/// Asserts that the script prints its transcript in two reads. The last case is one read of all bytes.
 fn assert_performs_split<R: Abort + Wait + AllocGlobal>(rt: &R, script: &Script) {
     let bytes = script.0.as_bytes();
     let length = bytes.len();
@@ -33,7 +33,7 @@ fn in_two_pieces(rt: HostRuntime) {
     }
 }
 
-/// The script without its last line feed prints its transcript.
+/// Asserts that the script without its last line feed prints its transcript.
 fn assert_performs_unended<R: Abort + Wait + AllocGlobal>(rt: &R, script: &Script) {
     let unended = script.0.strip_suffix('\n').expect(rt, "the last line ends");
     assert_performs(rt, Pieces::whole(unended.as_bytes()), script);
@@ -46,7 +46,7 @@ fn without_the_last_line_feed(rt: HostRuntime) {
     }
 }
 
-/// The script whose lines end in carriage returns and line feeds prints its transcript.
+/// Asserts that the script prints its transcript when its lines end with carriage returns and line feeds.
 fn assert_performs_returned<R: Abort + Wait + AllocGlobal>(rt: &R, script: &Script) {
     let returned = script
         .0

@@ -1,9 +1,9 @@
-//! Assertions. An `assert_eq!` in a test costs the prover seconds, since it formats both sides, and a call of a function
-//! that holds one next to nothing. They stand in each crate of tests, since no library may end the program.
+//! Assertions. An `assert_eq!` in a test costs the prover seconds, because it formats both sides, while a call of a function that
+//! holds one costs next to nothing. Each crate of tests has its own copy of them, because no library may end the program.
 use std::fmt::Debug;
 use std::process::Abort;
 
-/// What was found is what was expected. `case` says of what: a text, or a tuple of texts and values.
+/// Asserts that what was found is what was expected. `case` says what it was found for: a text, or a tuple of texts and values.
 pub(crate) fn assert_same<T: PartialEq + Debug + Drop, C: Debug + Drop>(
     rt: &impl Abort,
     found: T,
@@ -16,7 +16,7 @@ pub(crate) fn assert_same<T: PartialEq + Debug + Drop, C: Debug + Drop>(
     );
 }
 
-/// What has to hold in this case holds.
+/// Asserts a condition in this case.
 pub(crate) fn assert_holds<C: Debug + Drop>(rt: &impl Abort, holds: bool, case: C) {
     assert!(rt; holds, "{case:?}");
 }

@@ -1,4 +1,4 @@
-//! The font file that the words ask for.
+//! The font file that `--gf` asks for.
 
 use super::{End, LINE, TEXT, assert_ends};
 use crate::tests::assertions::{assert_holds, assert_same};
@@ -12,7 +12,7 @@ use std::test::Fail;
 use std::thread::Threads;
 use std::{env, fs, process};
 
-/// A script that ships one pixel, its transcript, and its file.
+/// A script that ships one pixel, its transcript, and its font file.
 const PIXEL: &[u8] =
     b"addto a contour (0,0)--(1,0)--(1,1)--(0,1)--cycle\nshipout a code 65 dx 0 width 0\n";
 
@@ -26,17 +26,17 @@ const PIXEL_FILE: &[u8] = b"\xf7\x83\x00\
     \xf6\x41\x00\x00\x00\x00\x00\x00\x00\x00\x03\
     \xf9\x00\x00\x00\x0c\x83\xdf\xdf\xdf\xdf\xdf\xdf";
 
-/// What stands in a file before a script that does not touch it.
+/// The content of a file that a script does not touch.
 pub(crate) const KEPT: &[u8] = b"what was there";
 
-/// The path of a file of this test's own.
+/// The path of a file for this test alone.
 pub(crate) fn path_of(rt: &HostRuntime, name: &str) -> Result<PathBuf, Fail> {
     let alloc = rt.alloc();
     let own = format!(in alloc; "mfpic_{}_{name}.gf", process::id(rt.process()))?;
     Ok(env::temp_dir(rt)?.join(alloc, own.as_str())?)
 }
 
-/// Makes a file of these bytes, or replaces what was there.
+/// Writes a file with these bytes, or replaces what was there.
 pub(crate) fn put<R: Abort + Files>(rt: &R, path: &str, bytes: &[u8]) {
     fs::write(rt, path, bytes).expect(rt, "the file is written");
 }
@@ -46,18 +46,18 @@ pub(crate) fn remove<R: Abort + Files>(rt: &R, path: &str) {
     fs::remove_file(rt, path).expect(rt, "the file is removed");
 }
 
-/// The file has these bytes.
+/// Asserts that the file has these bytes.
 pub(crate) fn assert_file<R: Abort + Files + AllocGlobal>(rt: &R, path: &str, bytes: &[u8]) {
     let found = fs::read(rt, path).expect(rt, "the file is read");
     assert_same(rt, found.as_slice(), bytes, "the file");
 }
 
-/// There is no file.
+/// Asserts that there is no file.
 fn assert_no_file<R: Abort + Files + AllocGlobal>(rt: &R, path: &str) {
     assert_holds(rt, fs::read(rt, path).is_err(), "no file");
 }
 
-/// What was there is replaced, also where it was longer.
+/// A file that was there is replaced, even if it was longer.
 #[test]
 fn writes_the_font_file(rt: HostRuntime) -> Result<(), Fail> {
     let path = path_of(&rt, "pixel")?;
@@ -72,7 +72,7 @@ fn writes_the_font_file(rt: HostRuntime) -> Result<(), Fail> {
     Ok(())
 }
 
-/// The file holds what was shipped, whoever looks on.
+/// The file has what was shipped, also beside viewers.
 #[test]
 fn writes_the_font_file_beside_viewers(rt: HostRuntime) -> Result<(), Fail> {
     let path = path_of(&rt, "viewed")?;
@@ -85,7 +85,7 @@ fn writes_the_font_file_beside_viewers(rt: HostRuntime) -> Result<(), Fail> {
     Ok(())
 }
 
-/// With no character, and after a fault of the script, the file is not touched.
+/// A script that ships no character, or ends with a fault, does not touch the file.
 #[test]
 fn leaves_the_font_file(rt: HostRuntime) -> Result<(), Fail> {
     let path = path_of(&rt, "kept")?;
@@ -98,7 +98,7 @@ fn leaves_the_font_file(rt: HostRuntime) -> Result<(), Fail> {
     Ok(())
 }
 
-/// Scripts that end with no font file: the message comes behind the transcript, and behind the line of a viewer.
+/// Asserts that scripts without a font file end with a message, after their transcripts and the line of a viewer.
 fn assert_leaves<R: Abort + Wait + Threads + Files + AllocGlobal>(rt: &R, path: &str) {
     let nothing: &[u8] = b"mfpic: NoCharacters\n";
     let broken: &[u8] = b"mfpic: ReadFault\n";
@@ -115,7 +115,7 @@ fn assert_leaves<R: Abort + Wait + Threads + Files + AllocGlobal>(rt: &R, path: 
     assert_ends(rt, &beside, Pieces::whole(b""), end);
 }
 
-/// A file that cannot be made, and one that takes no byte: the transcript goes out before.
+/// A file that cannot be created, and one that takes no byte. The transcript is written before the fault.
 #[test]
 fn reports_a_fault_of_the_font_file(rt: HostRuntime) -> Result<(), Fail> {
     let folder = path_of(&rt, "none")?;

@@ -1,4 +1,4 @@
-//! The program and the reading of its words while growths are refused.
+//! The program, and the reading of its words, while allocations are refused.
 
 mod programs;
 mod words;

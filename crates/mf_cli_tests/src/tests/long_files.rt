@@ -1,5 +1,5 @@
-//! A font file that would be too long, though each of its characters is accepted. The test takes a second or two where
-//! it is built as the program is; as `rt try` builds it, it is not over after six minutes.
+//! A font file that would be too long, although each of its characters is accepted. The test takes a second or two when it is
+//! built as the program is. As `rt try` builds it, it is not done after six minutes.
 
 use super::font_files::{KEPT, assert_file, path_of, put, remove};
 use super::{End, assert_ends};
@@ -8,7 +8,8 @@ use mf_testing::Pieces;
 use std::alloc::{AllocError, Global};
 use std::test::Fail;
 
-/// How far a comb is shifted to stand behind itself, which is the number of pixels of both, and what is shipped then.
+/// How far the comb is shifted so that its copy continues it, which is the number of pixels of both together, and the line that
+/// ships them.
 const DOUBLINGS: [(u32, &str); 11] = [
     (2, ""),
     (4, ""),
@@ -28,11 +29,11 @@ const TEXT: &[u8] = b"[1]\n[2]\n[3]\n[4]\n[5]\n[6]\n";
 
 /// A script that ships combs: rows of single pixels with single gaps between them.
 ///
-/// A row of p pixels takes 2p bytes: one that begins it, p that paint a pixel, and p - 1 that pass a gap. Beside their
-/// rows the combs of at most 128 pixels, whose boxes end at column 255 or before, take 6 + 1 bytes, and the longer ones
-/// 25 + 1. So the characters take 71, 263, 538, 1,050, 2,074 and 26 + 4095 * 4096 = 16,773,146 bytes. With the preamble
-/// of 3 these are 16,777,145 bytes, 71 fewer than the file may have. The postamble takes 37 more, the six locators 66
-/// and the end 6 + 6, so that the file would have 16,777,260: 44 too many.
+/// A row of p pixels takes 2p bytes: one that starts it, p that paint a pixel, and p - 1 that skip a gap. Besides their rows,
+/// the combs of at most 128 pixels, whose boxes end at column 255 or before, take 6 + 1 bytes, and the longer ones 25 + 1. So the
+/// characters take 71, 263, 538, 1,050, 2,074 and 26 + 4095 * 4096 = 16,773,146 bytes. With the three bytes of the preamble
+/// these are 16,777,145 bytes, 71 fewer than the file may have. The postamble takes 37 more, the six locators 66 and the end
+/// 6 + 6, so the file would have 16,777,260 bytes: 44 too many.
 fn script_of_combs(alloc: Global) -> Result<String, AllocError> {
     let line = "addto a contour (0,0)--(1,0)--(1,1)--(0,1)--cycle\n";
     let mut script = String::from_str(alloc, line)?;
@@ -46,7 +47,7 @@ fn script_of_combs(alloc: Global) -> Result<String, AllocError> {
     Ok(script)
 }
 
-/// The fault comes behind all that is printed, also where no file was asked for, and the file that was there stays.
+/// The fault comes after everything that is printed, even if no font file was asked for, and a file that was there stays.
 #[test]
 fn reports_a_file_that_is_too_long(rt: HostRuntime) -> Result<(), Fail> {
     let script = script_of_combs(rt.alloc())?;

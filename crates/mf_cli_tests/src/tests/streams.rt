@@ -1,5 +1,5 @@
-//! Streams that fail: the status, the message, what went out before, and that nothing is read or written behind it. Each
-//! script has shipped a character, and the font file that was there stays as it was.
+//! Streams that fail: the exit status, the message, what was written before, and that nothing is read or written after it. Each
+//! script has shipped a character, and a font file that was there stays as it was.
 
 use super::font_files::{KEPT, assert_file, path_of, put, remove};
 use super::{End, USAGE, assert_ends, assert_ends_in, status_of};
@@ -13,21 +13,21 @@ use std::sync::Wait;
 use std::test::Fail;
 use std::thread::Threads;
 
-/// A script that ships a character, and prints lines before and behind it.
+/// A script that ships a character, and prints lines before and after that.
 const SCRIPT: &[u8] = b"addto currentpicture contour (0,0)--(3,0)--(3,2)--(0,2)--cycle\n\
                         show totalweight currentpicture\n\
                         show currentpicture\n\
                         shipout currentpicture code 65 dx 327680 width 0\n\
                         publish\n";
 
-/// The same, whose last line is not ended.
+/// The same script without its last line feed.
 const UNENDED: &[u8] = b"addto currentpicture contour (0,0)--(3,0)--(3,2)--(0,2)--cycle\n\
                          show totalweight currentpicture\n\
                          show currentpicture\n\
                          shipout currentpicture code 65 dx 327680 width 0\n\
                          publish";
 
-/// The texts of the lines of both before the last one, with that of the last one, and with the lines of two viewers.
+/// What both scripts print: before the last line, with the last line, and with the lines of two viewers.
 const ENDED: &[u8] = b"totalweight 6\n1 0 2 1\n0 0 2 1\n[65]\n";
 
 const TEXTS: &[u8] = b"totalweight 6\n1 0 2 1\n0 0 2 1\n[65]\npublished 1\n";
@@ -40,13 +40,13 @@ const WRITE_FAULT: &[u8] = b"mfpic: WriteFault\n";
 
 const READ_FAULT: &[u8] = b"mfpic: ReadFault\n";
 
-/// The words that ask for so many viewers and this font file.
+/// The words that ask for `viewers` viewers and this font file.
 fn asking<'a>(viewers: &'a str, path: &'a str) -> [&'a str; 5] {
     ["mfpic", "--viewers", viewers, "--gf", path]
 }
 
-/// A writer fails once, behind so many bytes, and would take all others after that: these went out, and nothing else is
-/// tried.
+/// Asserts that a run ends where a writer fails once after `room` bytes, though it would take all others after that: these bytes
+/// were written, and the writer is not called again.
 fn assert_fails_once<R: Abort + Wait + Threads + Files + AllocGlobal>(
     rt: &R,
     words: &[&str],
@@ -61,11 +61,11 @@ fn assert_fails_once<R: Abort + Wait + Threads + Files + AllocGlobal>(
     let end: End<'_> = (status, writer.taken(), errors.taken());
     let front = texts.get(..room).unwrap_or(b"");
     assert_same(rt, end, (STREAM_FAULT, front, WRITE_FAULT), room);
-    assert_same(rt, writer.calls_behind(), 0, ("calls behind", room));
+    assert_same(rt, writer.calls_after(), 0, ("calls behind", room));
 }
 
-/// A writer fails once in place of each byte of these texts, and the font file stays. The same script into a writer that
-/// takes all bytes replaces it.
+/// Asserts this for a writer that fails instead of each byte of these texts, and that the font file stays. The same script with a
+/// writer that takes all bytes replaces the file.
 fn assert_fails_anywhere<R: Abort + Wait + Threads + Files + AllocGlobal>(
     rt: &R,
     viewers: &str,
@@ -83,24 +83,24 @@ fn assert_fails_anywhere<R: Abort + Wait + Threads + Files + AllocGlobal>(
     remove(rt, path);
 }
 
-/// Within a text, before it and behind the last one.
+/// A writer that fails before a text, or within one.
 #[test]
-fn nothing_is_written_behind_a_fault_of_the_writer(rt: HostRuntime) -> Result<(), Fail> {
+fn nothing_is_written_after_a_fault_of_the_writer(rt: HostRuntime) -> Result<(), Fail> {
     let path = path_of(&rt, "writer")?;
     assert_fails_anywhere(&rt, "0", path.as_str(), TEXTS);
     Ok(())
 }
 
-/// Also within the lines of viewers and between them.
+/// A writer that fails before a text or the line of a viewer, or within one.
 #[test]
-fn nothing_is_written_behind_a_fault_beside_viewers(rt: HostRuntime) -> Result<(), Fail> {
+fn nothing_is_written_after_a_fault_beside_viewers(rt: HostRuntime) -> Result<(), Fail> {
     let path = path_of(&rt, "viewed_writer")?;
     assert_fails_anywhere(&rt, "2", path.as_str(), BESIDE_TWO);
     Ok(())
 }
 
-/// A number of viewers, a script, how many flushes go well before one fails, what went out then, and how many reads were
-/// made. A flush stands before each read, behind the text of a last line that is not ended, and behind the lines of viewers.
+/// The number of viewers, a script, the number of flushes before the one that fails, what was written by then, and the number of
+/// reads. There is a flush before each read, after the text of a last line that has no line feed, and after the lines of viewers.
 const FLUSHES: &[(&str, &[u8], u32, &[u8], u32)] = &[
     ("0", SCRIPT, 0, b"", 0),
     ("0", SCRIPT, 1, TEXTS, 1),
@@ -113,7 +113,7 @@ const FLUSHES: &[(&str, &[u8], u32, &[u8], u32)] = &[
     ("2", UNENDED, 3, BESIDE_TWO, 2),
 ];
 
-/// A writer takes all bytes, and one flush of it fails: nothing is read or written behind that.
+/// Asserts that a run whose writer takes all bytes and fails in one flush reads and writes nothing after that.
 fn assert_flush_fails<R: Abort + Wait + Threads + Files + AllocGlobal>(
     rt: &R,
     words: &[&str],
@@ -129,8 +129,8 @@ fn assert_flush_fails<R: Abort + Wait + Threads + Files + AllocGlobal>(
     let status = status_of(rt, words, &mut reader, &mut writer, &mut errors);
     let end: End<'_> = (status, writer.taken(), errors.taken());
     assert_same(rt, end, (STREAM_FAULT, texts, WRITE_FAULT), (script, good));
-    let behind = (reader.reads(), writer.calls_behind());
-    assert_same(rt, behind, (reads, 0), (script, good));
+    let later = (reader.reads(), writer.calls_after());
+    assert_same(rt, later, (reads, 0), (script, good));
 }
 
 #[test]
@@ -146,17 +146,16 @@ fn faults_of_flushes_are_reported(rt: HostRuntime) -> Result<(), Fail> {
     Ok(())
 }
 
-/// A writer that takes one byte in a write gets all of the texts.
+/// A writer that takes one byte in each write gets all texts.
 #[test]
-fn texts_go_out_in_pieces(rt: HostRuntime) {
+fn texts_are_written_in_pieces(rt: HostRuntime) {
     let writer = Sink::bytewise(rt.alloc());
     let words = ["mfpic", "--viewers", "2"];
     let end: End<'_> = (DONE, BESIDE_TWO, b"");
     assert_ends_in(&rt, &words, &mut Pieces::whole(SCRIPT), writer, end);
 }
 
-/// A reader that fails within the last line: the lines before it have been performed, no viewer has a line, and the font
-/// file stays.
+/// A reader fails within the last line. The lines before it have been performed, no viewer has a line, and the font file stays.
 #[test]
 fn a_piece_of_a_line_is_not_performed(rt: HostRuntime) -> Result<(), Fail> {
     let path = path_of(&rt, "reader")?;
@@ -171,7 +170,7 @@ fn a_piece_of_a_line_is_not_performed(rt: HostRuntime) -> Result<(), Fail> {
     Ok(())
 }
 
-/// A reader that gives these bytes in one read, and then a line feed in a read, so many times.
+/// A reader that gives the bytes of `first`, and then one line feed in each read.
 #[derive(Drop)]
 struct Prolonged<'a> {
     first: Pieces<'a>,
@@ -187,7 +186,8 @@ impl Read for Prolonged<'_> {
     }
 }
 
-/// A script of so many reads, of which the first ships a character, ends so, and leaves this font file.
+/// Asserts that a script of `reads` reads, the first of which gives the lines of `SCRIPT`, ends in this way and leaves this font
+/// file.
 fn assert_reads<R: Abort + Wait + Threads + Files + AllocGlobal>(
     rt: &R,
     path: &str,
@@ -210,7 +210,7 @@ fn assert_reads<R: Abort + Wait + Threads + Files + AllocGlobal>(
     assert_file(rt, path, file);
 }
 
-/// A script may have 1,048,576 reads, the one that answers the end among them. After one more the font file stays.
+/// A script may take 1,048,576 reads, including the one that reports its end. With one more the font file stays.
 #[test]
 fn a_script_of_too_many_reads_writes_no_font_file(rt: HostRuntime) -> Result<(), Fail> {
     let path = path_of(&rt, "reads")?;
@@ -223,7 +223,8 @@ fn a_script_of_too_many_reads_writes_no_font_file(rt: HostRuntime) -> Result<(),
     Ok(())
 }
 
-/// An error stream fails once in place of each byte of this message: the front of it went out, and nothing else is tried.
+/// Asserts that an error stream that fails once, instead of each byte of this message in turn, has taken the bytes before that
+/// and is not called again.
 fn assert_breaks_message<R: Abort + Wait + Threads + Files + AllocGlobal>(
     rt: &R,
     words: &[&str],
@@ -237,12 +238,12 @@ fn assert_breaks_message<R: Abort + Wait + Threads + Files + AllocGlobal>(
         let mut errors = FailsOnce::new(alloc, room);
         let found = status_of(rt, words, &mut reader, &mut writer, &mut errors);
         let front = message.get(..room).unwrap_or(b"");
-        let end = (found, errors.taken(), errors.calls_behind());
+        let end = (found, errors.taken(), errors.calls_after());
         assert_same(rt, end, (status, front, 0), room);
     }
 }
 
-/// An error stream that fails once within a message, and would take the rest, is left alone, and the status stays.
+/// An error stream that fails once within a message, and would take the rest, is not called again, and the exit status stays.
 #[test]
 fn messages_break_off(rt: HostRuntime) {
     let read: &[u8] = READ_FAULT;
@@ -250,9 +251,9 @@ fn messages_break_off(rt: HostRuntime) {
     assert_breaks_message(&rt, &["mfpic"], Pieces::failing(b""), STREAM_FAULT, read);
 }
 
-/// A message goes out whole to an error stream that takes one byte in a write.
+/// An error stream that takes one byte in each write gets the complete message.
 #[test]
-fn messages_go_out_in_pieces(rt: HostRuntime) {
+fn messages_are_written_in_pieces(rt: HostRuntime) {
     let alloc = rt.alloc();
     let mut errors = Sink::bytewise(alloc);
     let mut writer = Sink::new(alloc);

@@ -1,4 +1,4 @@
-//! Tests of the words: each form of the command line, and each way to refuse it.
+//! Tests of command lines: each form that is accepted, and each that is refused.
 use super::words_of;
 use crate::tests::assertions::{assert_holds, assert_same};
 use mf_cli::{Words, WordsFault, read_words};
@@ -6,7 +6,7 @@ use std::alloc::{AllocError, Global};
 use std::process::Abort;
 use std::test::Fail;
 
-/// The program's name, and the words behind it.
+/// The program's name, and these words after it.
 pub(super) fn command_line(alloc: Global, texts: &[&str]) -> Result<Vec<String>, AllocError> {
     let mut words = words_of(alloc, &["mfpic"])?;
     for text in texts {
@@ -15,12 +15,12 @@ pub(super) fn command_line(alloc: Global, texts: &[&str]) -> Result<Vec<String>,
     Ok(words)
 }
 
-/// What the words behind the program's name ask for.
+/// What the words after the program's name ask for.
 fn read(alloc: Global, texts: &[&str]) -> Result<Words, WordsFault> {
     read_words(alloc, command_line(alloc, texts)?)
 }
 
-/// The words ask for so many viewers and this FILE.
+/// Asserts that the words ask for `viewers` viewers and this FILE.
 pub(super) fn assert_words(
     rt: &impl Abort,
     words: &Words,
@@ -32,7 +32,7 @@ pub(super) fn assert_words(
     assert_same(rt, found, (viewers, file), case);
 }
 
-/// The words behind the program's name ask for so many viewers and this FILE.
+/// Asserts that the words after the program's name ask for `viewers` viewers and this FILE.
 pub(super) fn assert_reads<R: Abort + AllocGlobal>(
     rt: &R,
     texts: &[&str],
@@ -43,13 +43,13 @@ pub(super) fn assert_reads<R: Abort + AllocGlobal>(
     assert_words(rt, &words, viewers, file, texts);
 }
 
-/// The words behind the program's name are no command line.
+/// Asserts that the words after the program's name are refused.
 pub(super) fn assert_refused<R: Abort + AllocGlobal>(rt: &R, texts: &[&str]) {
     let fault = read(rt.alloc(), texts).err();
     assert_same(rt, fault, Some(WordsFault::BadWords), texts);
 }
 
-/// All words, of which the first is no argument, ask for nothing.
+/// Asserts that all these words, the first of which is the program's name, ask for nothing.
 fn assert_asks_for_nothing<R: Abort + AllocGlobal>(rt: &R, texts: &[&str]) {
     let alloc = rt.alloc();
     let words = words_of(alloc, texts).expect(rt, "there is room for the words");
@@ -64,7 +64,7 @@ fn needs_no_words(rt: HostRuntime) {
     assert_asks_for_nothing(&rt, &[]);
 }
 
-// The tables stand in constants, so that the tests are checked without them.
+// The tables are constants, so that the prover checks the tests without them.
 
 const NUMBERS: &[(&str, u32)] = &[
     ("0", 0),
@@ -82,7 +82,7 @@ const NUMBERS_IN_ONE_WORD: &[(&str, u32)] = &[
     ("--viewers=-0", 0),
 ];
 
-/// N is what a 64-bit number may be written as, from 0 to 16.
+/// N is a number from 0 to 16, in any spelling that is accepted for a 64-bit number.
 #[test]
 fn reads_the_number(rt: HostRuntime) {
     for (number, viewers) in NUMBERS {
@@ -116,7 +116,7 @@ const NO_NUMBERS: &[&str] = &[
 ];
 
 #[test]
-fn refuses_what_is_no_number_of_viewers(rt: HostRuntime) -> Result<(), Fail> {
+fn refuses_other_numbers_of_viewers(rt: HostRuntime) -> Result<(), Fail> {
     for number in NO_NUMBERS {
         assert_refused(&rt, &["--viewers", *number]);
         let word = ["--viewers=", *number].concat(rt.alloc())?;
@@ -161,9 +161,9 @@ const FILES_IN_ONE_WORD: &[(&str, &str)] = &[
     ("--gf=größe π.gf", "größe π.gf"),
 ];
 
-/// FILE is any text, and no word that begins with `-` unless it stands alone or behind `=`.
+/// FILE is any text. A word that starts with `-` is a FILE only if it is `-` itself, or if it comes after `=`.
 #[test]
-fn takes_the_file_as_it_stands(rt: HostRuntime) {
+fn takes_the_file_as_it_is(rt: HostRuntime) {
     for file in FILES {
         assert_reads(&rt, &["--gf", *file], 0, Some(*file));
     }
@@ -267,9 +267,9 @@ fn refuses_more_words(rt: HostRuntime) {
 
 const NAMES: &[&str] = &["", "--gf", "--gf=a", "--help", "-", "a/b/mfpic"];
 
-/// The first word is no argument, whatever it is.
+/// The first word is the program's name, whatever it is.
 #[test]
-fn passes_over_the_first_word(rt: HostRuntime) {
+fn ignores_the_first_word(rt: HostRuntime) {
     for name in NAMES {
         assert_asks_for_nothing(&rt, &[*name]);
     }

@@ -1,16 +1,17 @@
-//! Cycles with their turning number and area.
+//! Cycles with their turning numbers and areas.
 
 use super::{CLOCKWISE, Corners, EIGHT, PIXEL, REACH, RECTANGLE, cycle_of, walk};
 use crate::tests::assertions::assert_same;
 use mf_geom::{Cycle, CycleFault, Point};
 use std::process::Abort;
 
-/// What is known of a cycle: its points, its turning number or the fault in its place, and its area.
+/// All that a cycle says of itself: its points, its turning number or the fault instead of it, and its area.
 fn known(cycle: &Cycle) -> (&[Point], Result<i32, CycleFault>, i64) {
     (cycle.points(), cycle.turning(), cycle.area())
 }
 
-/// The path, walked so many times, makes a cycle, which keeps its points and has this turning number and area.
+/// Asserts that the path, walked `times` times, makes a cycle that keeps its points and has this turning number and
+/// area.
 fn assert_cycle<R: Abort + AllocGlobal>(
     rt: &R,
     corners: Corners,
@@ -23,8 +24,8 @@ fn assert_cycle<R: Abort + AllocGlobal>(
     assert_same(rt, known(&cycle), (&points, Ok(turning), area), corners);
 }
 
-/// Each of these paths makes a cycle, which keeps its points, has this area, and turns straight back: the first time at this
-/// place.
+/// Asserts that each of these paths makes a cycle that keeps its points, has this area, and first turns straight back
+/// at this vertex.
 fn assert_backtracks<R: Abort + AllocGlobal>(rt: &R, lists: &[(Corners, u32, i64)]) {
     for (corners, place, area) in lists {
         let cycle = cycle_of(rt, corners, 1);
@@ -34,7 +35,8 @@ fn assert_backtracks<R: Abort + AllocGlobal>(rt: &R, lists: &[(Corners, u32, i64
     }
 }
 
-/// The path, walked so many times, winds so often round these pixels: their coordinates, and the winding number.
+/// Asserts the winding numbers of the path, walked `times` times, round these pixels: each has its coordinates and then
+/// the winding number.
 fn assert_windings<R: Abort + AllocGlobal>(
     rt: &R,
     corners: Corners,
@@ -52,7 +54,7 @@ fn assert_windings<R: Abort + AllocGlobal>(
     }
 }
 
-/// The cycle through these points has exactly these edges.
+/// Asserts that the cycle through these points has exactly these edges.
 fn assert_edges<R: Abort + AllocGlobal>(
     rt: &R,
     corners: Corners,
@@ -68,7 +70,8 @@ fn assert_edges<R: Abort + AllocGlobal>(
     }
 }
 
-/// The cycle through the points of the path, walked so many times, has copies with all that it has.
+/// Asserts that a copy of the cycle through the points of the path, walked `times` times, says the same of itself as
+/// the cycle.
 fn assert_copied<R: Abort + AllocGlobal>(rt: &R, corners: Corners, times: usize) {
     let cycle = cycle_of(rt, corners, times);
     let copy = cycle
@@ -84,7 +87,7 @@ fn accepts_cycles(rt: HostRuntime) {
     assert_cycle(&rt, &[(-5, -3), (-2, -3), (-2, -1), (-5, -1)], 1, 1, 6);
     let l: Corners = &[(0, 0), (2, 0), (2, 1), (1, 1), (1, 2), (0, 2)];
     assert_cycle(&rt, l, 1, 1, 3);
-    // A straight vertex: within the list, at its start and at its end.
+    // A vertex at which the path goes straight on: within the list, at its start and at its end.
     assert_cycle(&rt, &[(0, 0), (1, 0), (3, 0), (3, 2), (0, 2)], 1, 1, 6);
     assert_cycle(&rt, &[(1, 0), (3, 0), (3, 2), (0, 2), (0, 0)], 1, 1, 6);
     assert_cycle(&rt, &[(3, 0), (3, 2), (0, 2), (0, 0), (1, 0)], 1, 1, 6);
@@ -113,12 +116,12 @@ fn accepts_a_figure_of_eight(rt: HostRuntime) {
 #[test]
 fn accepts_reversals(rt: HostRuntime) {
     let lists: [(Corners, u32, i64); 6] = [
-        // There and back, with no turn either.
+        // There and back, with no other turn.
         (&[(0, 0), (1, 0)], 0, 0),
         (&[(0, 0), (3, 0), (1, 0), (1, 1), (0, 1)], 1, 1),
         (&[(0, 0), (1, 0), (1, 3), (1, 1), (0, 1)], 2, 1),
         (&[(0, 0), (3, 0), (1, 0), (2, 0), (2, 1), (0, 1)], 1, 2),
-        // At the first vertex alone, and at the last one alone.
+        // At the first vertex only, and at the last one only.
         (&[(3, 0), (1, 0), (1, 1), (0, 1), (0, 0)], 0, 1),
         (&[(1, 0), (1, 1), (0, 1), (0, 0), (3, 0)], 4, 1),
     ];
@@ -161,7 +164,7 @@ fn winds_round_pixels(rt: HostRuntime) {
 
 #[test]
 fn gives_its_edges(rt: HostRuntime) {
-    // The last edge leads back.
+    // The last edge leads back to the first point.
     assert_edges(
         &rt,
         RECTANGLE,

@@ -1,4 +1,4 @@
-//! Copies of cycles whose growths are refused.
+//! Copies of cycles for which an allocation fails.
 
 use super::{RECTANGLE, cycle_of, walk};
 use crate::tests::assertions::assert_same;
@@ -6,7 +6,7 @@ use mf_geom::Cycle;
 use mf_testing::{grow_again, refuse_growths};
 use std::process::Abort;
 
-/// The cycle goes through the corners of the rectangle.
+/// Asserts that the cycle goes through the corners of the rectangle.
 fn assert_rectangle<R: Abort + AllocGlobal>(rt: &R, cycle: &Cycle) {
     let points = walk(rt, RECTANGLE, 1);
     assert_same(rt, cycle.points(), &points, "the points");

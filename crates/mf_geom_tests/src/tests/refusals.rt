@@ -1,11 +1,11 @@
-//! Lists of points that are refused with their first fault.
+//! Lists of points that are refused, each with its first fault.
 
 use super::{Corners, walk};
 use crate::tests::assertions::assert_same;
 use mf_geom::{Cycle, CycleFault};
 use std::process::Abort;
 
-/// The points of the path, walked so many times, are refused for this fault, and come back unchanged.
+/// Asserts that the points of the path, walked `times` times, are refused with this fault and given back unchanged.
 fn assert_refused<R: Abort + AllocGlobal>(
     rt: &R,
     corners: Corners,
@@ -21,14 +21,14 @@ fn assert_refused<R: Abort + AllocGlobal>(
     }
 }
 
-/// Each of these paths has a point out of range: the first one stands at this place.
+/// Asserts that each of these paths has a point out of range, the first of them at this index.
 fn assert_out_of_range<R: Abort + AllocGlobal>(rt: &R, lists: &[(Corners, u32)]) {
     for (corners, place) in lists {
         assert_refused(rt, corners, 1, CycleFault::PointOutOfRange(*place));
     }
 }
 
-/// Each of these paths has an edge that is not rectilinear: the first one stands at this place.
+/// Asserts that each of these paths has an edge that is not rectilinear, the first of them at this index.
 fn assert_not_rectilinear<R: Abort + AllocGlobal>(rt: &R, lists: &[(Corners, u32)]) {
     for (corners, place) in lists {
         assert_refused(rt, corners, 1, CycleFault::NotRectilinear(*place));
@@ -40,7 +40,7 @@ fn refuses_too_few_or_too_many_points(rt: HostRuntime) {
     assert_refused(&rt, &[], 1, CycleFault::TooFewPoints);
     assert_refused(&rt, &[(0, 0)], 1, CycleFault::TooFewPoints);
     assert_refused(&rt, &[(0, 0)], 4097, CycleFault::TooManyPoints);
-    // A point out of range comes after.
+    // The number of points is checked before their coordinates.
     assert_refused(&rt, &[(4096, 0)], 1, CycleFault::TooFewPoints);
     assert_refused(&rt, &[(4096, 0)], 4097, CycleFault::TooManyPoints);
 }
@@ -54,7 +54,7 @@ fn refuses_points_out_of_range(rt: HostRuntime) {
         (&[(0, -4096), (1, -4096), (1, 0), (0, 0)], 0),
         (&[(0, 0), (i32::MIN, 0), (0, 1)], 1),
         (&[(0, 0), (1, 0), (1, i32::MAX)], 2),
-        // An edge that is not rectilinear comes after.
+        // The coordinates are checked before the edges.
         (&[(0, 0), (1, 1), (4096, 1), (0, 1)], 2),
     ];
     assert_out_of_range(&rt, &lists);
@@ -66,10 +66,10 @@ fn refuses_edges_that_are_not_rectilinear(rt: HostRuntime) {
         (&[(0, 0), (1, 1), (0, 1)], 0),
         (&[(0, 0), (2, 0), (2, 1)], 2),
         (&[(0, 0), (1, 0), (2, 1), (3, 2), (0, 2)], 1),
-        // A repeated point, and the first point again at the end.
+        // A point is repeated, or the first point comes again at the end.
         (&[(0, 0), (3, 0), (3, 0), (3, 2), (0, 2)], 1),
         (&[(0, 0), (3, 0), (3, 2), (0, 2), (0, 0)], 4),
-        // A reversal before it is no fault of the list.
+        // A reversal is no fault of the list, so the edge after it is reported.
         (&[(0, 0), (3, 0), (1, 0), (1, 1), (0, 2)], 3),
     ];
     assert_not_rectilinear(&rt, &lists);

@@ -1,4 +1,4 @@
-//! How a file is made.
+//! How a file is made, up to its end.
 ghost use Rattle.std.specs.Prelude.{◌≡◌, ◌⊎◌, ◌<◌, ◌≤◌, ◌↔◌, ◌++◌, ◌∷◌, [], Err, IfErr, IfOk, OnErr, OnOk, List, ℕ, length, min};
 ghost use Rattle.mf_gf.specs.Boxes.{box_of};
 ghost use Rattle.mf_gf.specs.Spelling as spelling;
@@ -18,22 +18,22 @@ use mf_geom::OutOfMemory;
 use mf_rows::Picture;
 use std::alloc::Global;
 
-/// Most bytes of a file, so that each place is a number of four bytes with a sign.
+/// The greatest number of bytes in a file. With it each place is a signed number of four bytes.
 const MAX_BYTES: u32 = 2_147_483_647;
 
-/// Most bytes of a comment.
+/// The greatest number of bytes in a comment: its length is written in one byte.
 const MAX_COMMENT: usize = 255;
 
-/// Opcode of the preamble (gftype.web).
+/// pre, the command that begins the preamble (gftype.web).
 const PRE: u8 = 247;
 
-/// Bytes of the preamble beside the comment.
+/// The number of bytes in the preamble apart from the comment.
 const PREAMBLE: usize = 3;
 
 impl GfFile {
-    /// A file with this comment and no character, of at most so many bytes; more than 2,147,483,647 count as that.
-    /// Refusals FileTooLong (20), exactly where the preamble with the comment has more bytes, else CommentTooLong (22),
-    /// exactly where the comment has more than 255, and OutOfMemory (14).
+    /// A file with this comment and no characters, of at most `max_bytes` bytes. A greater `max_bytes` than 2,147,483,647 counts
+    /// as that number. Refused with `FileTooLong` exactly where the preamble with the comment has more bytes than that, else with
+    /// `CommentTooLong` exactly where the comment has more than 255 bytes, and with `OutOfMemory` where an allocation fails.
     pub fn new(alloc: Global, comment: &[u8], max_bytes: u32) -> Result<GfFile, GfFault>
         ensures kept { IfOk result (λ file. Keeps file comment.now []) }
         ensures limit { IfOk result (λ file. limit file ≡ min max_bytes 2147483647) }
@@ -58,18 +58,21 @@ impl GfFile {
         })
     }
 
-    /// How many characters were shipped, each counted, whatever its code.
+    /// The number of characters that were shipped. A code that was shipped again counts again.
     pub fn count(&self) -> u32
         ensures { (comment : List ℕ) (characters : List Character) → Keeps self.now comment characters → result ≡ length characters }
     {
         self.count
     }
 
-    /// Ships a character: its black pixels are the pixels of positive weight. `dx` is its escapement in 1/65536 pixel,
-    /// `width` its width in 1/1048576 of the design size. Its code may have been shipped before: p of the new character is then
-    /// the place of the last one of that code, and the locator of the code is from now on that of the new one. Refusals
-    /// FileTooLong (20), exactly where preamble and characters would have more bytes than the file may, and OutOfMemory (14). A
-    /// refusal leaves the file as it was.
+    /// Ships a character. Its black pixels are the pixels of positive weight in the picture. `dx` is its escapement in 1/65536
+    /// pixel, and `width` its width in 1/1048576 of the design size.
+    ///
+    /// The code may have been shipped before. Then p of the new character is the place of the last one with that code, and the
+    /// locator of the code becomes that of the new character.
+    ///
+    /// Refused with `FileTooLong` exactly where the preamble and the characters would have more bytes than the file may have, and
+    /// with `OutOfMemory` where an allocation fails. A refusal leaves the file as it was.
     pub fn ship(&mut self, code: u8, dx: i32, width: i32, picture: &Picture) -> Result<(), GfFault>
         ensures shipped { OnOk result ((comment : List ℕ) (characters : List Character) → Keeps self.old comment characters → Keeps self.new comment (characters ++ character code dx width picture.now ∷ [])) }
         ensures unchanged { OnErr result (IsSameFile self.old self.new) }
@@ -89,8 +92,9 @@ impl GfFile {
         Ok(self.append(locator, bounds, &spelled)?)
     }
 
-    /// The bytes of a character, if the file has room for them. `earlier` is the place of the last character of its code, if
-    /// there is one.
+    /// The bytes of a character, if the file has room for them. `earlier` is the place of the last earlier character with this
+    /// code, if there is one. They are spelled into a list of their own and then appended at once, so a refused character leaves
+    /// the file as it was.
     fn spelled(
         &self,
         code: u8,
@@ -109,7 +113,7 @@ impl GfFile {
         out.finish()
     }
 
-    /// Appends a character with these bytes. Want of memory changes nothing.
+    /// Appends a character with these bytes. Where an allocation fails, nothing changes.
     fn append(
         &mut self,
         locator: Locator,

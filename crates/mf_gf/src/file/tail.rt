@@ -1,4 +1,4 @@
-//! The end of a file: the postamble, the locators and what stands behind them.
+//! The end of a file: the postamble, the locators and what comes after them.
 ghost use Rattle.std.specs.Prelude.{◌≡◌, ◌⊎◌, ◌<◌, ◌≤◌, ◌↔◌, ◌+◌, ◌++◌, [], Err, IfErr, IfOk, List, ℕ, length};
 ghost use Rattle.mf_gf.specs.Files.{Character, ending, file_of, post};
 ghost use Rattle.mf_gf.specs.Keeping.{IsRefusedAs, IsSameFile, Keeps, limit, table_text};
@@ -11,22 +11,23 @@ use crate::fault::GfFault;
 use crate::finished::GfBytes;
 use crate::spelling::Spelling;
 
-/// post, which begins the postamble (gftype.web).
+/// post, the command that begins the postamble (gftype.web).
 const POST: u8 = 248;
 
-/// post_post, which ends it (gftype.web).
+/// post_post, the command that ends the postamble (gftype.web).
 const POST_POST: u8 = 249;
 
-/// The byte that fills the end of a file (gftype.web).
+/// The byte that pads the end of a file (gftype.web).
 const PADDING: u8 = 223;
 
-/// Bytes of the ending before its padding: the opcode, the place of the postamble and the number of GF (gftype.web).
+/// The number of bytes in the ending before its padding: the opcode, the place of the postamble and the identification byte
+/// (gftype.web).
 const ENDING: usize = 6;
 
 impl GfFile {
-    /// The whole file, whose postamble has these numbers. Refusals NoCharacters (21), exactly where no character was
-    /// shipped, else FileTooLong (20), exactly where the file would have more bytes than it may, and OutOfMemory (14).
-    /// A refusal hands the file back as it was.
+    /// Finishes the file. Its postamble has these numbers of the font. Refused with `NoCharacters` exactly where no character was
+    /// shipped, else with `FileTooLong` exactly where the file would have more bytes than it may have, and with `OutOfMemory`
+    /// where an allocation fails. A refusal hands the file back as it was.
     pub fn finish(self, words: FontWords) -> Result<GfBytes, (GfFile, GfFault)>
         ensures finished { IfOk result (λ bytes. (comment : List ℕ) (characters : List Character) → Keeps self comment characters → bytes ≡ file_of words comment characters) }
         ensures handed_back { IfErr result (λ refused. IsSameFile self refused.0) }
@@ -43,7 +44,7 @@ impl GfFile {
         }
     }
 
-    /// The bytes behind the characters.
+    /// The bytes that come after the characters.
     fn tail(&self, words: &FontWords, bounds: &CharacterBox) -> Result<Vec<u8>, GfFault>
         ensures bytes { IfOk result (λ tail. tail.items ≡ tail_of words.now bounds.now self.now.bytes.items (table_text self.now.locators)) }
         ensures too_long { (self.now.max_bytes < length (self.now.bytes.items ++ tail_of words.now bounds.now self.now.bytes.items (table_text self.now.locators))) ↔ (result ≡ Err GfFault.FileTooLong) }
@@ -57,7 +58,7 @@ impl GfFile {
         out.finish()
     }
 
-    /// The file with its tail.
+    /// The finished file: its characters and this tail.
     fn with_tail(mut self, tail: &[u8]) -> Result<GfBytes, (GfFile, GfFault)>
         requires within { length (self.bytes.items ++ tail.now) ≤ self.max_bytes }
         ensures finished { IfOk result (λ bytes. bytes ≡ self.bytes.items ++ tail.now) }
@@ -70,7 +71,7 @@ impl GfFile {
     }
 }
 
-/// The postamble, at this place.
+/// Appends the postamble, whose place in the file is `place`.
 fn put_post(out: &mut Spelling, words: &FontWords, bounds: &CharacterBox, place: u32)
     ensures held { (text : List ℕ) → Holds out.old text → Holds out.new (text ++ post words.now bounds.now place) }
     ensures room { out.new.room ≡ out.old.room }
@@ -88,7 +89,7 @@ fn put_post(out: &mut Spelling, words: &FontWords, bounds: &CharacterBox, place:
 }
 
 impl Spelling {
-    /// What ends a file whose postamble has this place and is followed by the bytes of this spelling.
+    /// Appends the ending of a file. `place` is the place of the postamble, and the spelling so far has the bytes from there on.
     fn put_end(&mut self, place: u32)
         ensures held { (text : List ℕ) → Holds self.old text → Holds self.new (text ++ ending place (place + length text)) }
         ensures room { self.new.room ≡ self.old.room }
@@ -97,8 +98,8 @@ impl Spelling {
         self.put_byte(POST_POST);
         self.put_unsigned(place);
         self.put_byte(GF_ID);
-        // At least four bytes, as the format wants, up to a multiple of 4: four, seven, six or five of them where `before`
-        // is 0, 1, 2 or 3 above one.
+        // At least four bytes, as the format requires, up to a multiple of 4: four where `before` is a multiple of 4, and seven,
+        // six or five where it is one, two or three more than that.
         let padding = [PADDING; 7];
         self.put(&padding[..7 - (before + 3) % 4]);
     }

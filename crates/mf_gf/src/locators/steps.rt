@@ -1,4 +1,4 @@
-//! How they are kept and spelled.
+//! How locators are kept and spelled.
 ghost use Rattle.std.specs.Prelude.{◌≡◌, ◌++◌, ◌∷◌, [], IfOk, List, None, ℕ, slice_index_or};
 ghost use Rattle.mf_gf.specs.Files.{Shipment, last_place, locator_if, locator_of};
 ghost use Rattle.mf_gf.specs.Keeping.{HasLasts, table_text};
@@ -11,7 +11,7 @@ use mf_geom::OutOfMemory;
 use std::alloc::Global;
 
 impl Locators {
-    /// No character of any code.
+    /// A table without locators, for a file in which no character was shipped.
     pub(crate) fn new(alloc: Global) -> Result<Locators, OutOfMemory>
         ensures { IfOk result (λ none. HasLasts none []) }
     {
@@ -27,21 +27,21 @@ impl Locators {
         self.by_code[usize::from(code)]
     }
 
-    /// The place of the last character of a code.
+    /// The place of the last character with a code, if there is one.
     pub(crate) fn last_place(&self, code: u8) -> Option<u32>
         ensures { (shipped : List Shipment) → HasLasts self.now shipped → result ≡ last_place code shipped }
     {
         self.last(code).map(|locator| locator.place)
     }
 
-    /// This is the locator of its code from now on.
+    /// Makes this the locator of its code.
     pub(crate) fn set(&mut self, locator: Locator)
         ensures { (s : Shipment) (shipped : List Shipment) → locator_of s ≡ locator → HasLasts self.old shipped → HasLasts self.new (s ∷ shipped) }
     {
         self.by_code[usize::from(locator.code)] = Some(locator);
     }
 
-    /// Spells them all, codes rising.
+    /// Spells all locators, codes rising.
     pub(crate) fn spell(&self, out: &mut Spelling)
         ensures held { (text : List ℕ) → Holds out.old text → Holds out.new (text ++ table_text self.now) }
         ensures room { out.new.room ≡ out.old.room }

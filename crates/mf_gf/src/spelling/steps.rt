@@ -1,4 +1,4 @@
-//! How bytes are written.
+//! How bytes are written, or only counted.
 ghost use Rattle.std.specs.Prelude.{◌≡◌, ◌↔◌, ◌⊎◌, ◌+◌, ◌<◌, ◌≤◌, ◌^◌, ◌++◌, ◌∷◌, Err, IfErr, IfOk, IsTrue, List, ℕ, [], false, length, pos};
 ghost use Rattle.byteorder.specs.Endian.{big_bytes};
 ghost use Rattle.mf_gf.specs.Numbers.{word};
@@ -10,7 +10,7 @@ use byteorder::{BigEndian, ByteOrder};
 use std::alloc::Global;
 
 impl Spelling {
-    /// No bytes.
+    /// A spelling without bytes, with room for `room` of them.
     pub(crate) fn new(alloc: Global, room: usize) -> Spelling
         requires { room ≤ 2 ^ 31 }
         ensures empty { Holds result [] }
@@ -24,14 +24,14 @@ impl Spelling {
         }
     }
 
-    /// Number of bytes, where they have room.
+    /// The number of bytes, where there is room for them.
     pub(crate) fn length(&self) -> usize
         ensures { result ≡ self.now.length }
     {
         self.length
     }
 
-    /// Counts more bytes. True where they are to be kept: they have room, and memory was not wanting before.
+    /// Counts more bytes. Returns whether to keep them: there is room for them, and no allocation failed before.
     fn count(&mut self, more: usize) -> bool
         requires { more ≤ 2 ^ 31 }
         ensures counted { self.old.length ≤ self.old.room → self.new.length ≡ self.old.length + more }
@@ -69,7 +69,7 @@ impl Spelling {
         }
     }
 
-    /// Appends a number of two bytes, the higher first.
+    /// Appends a number of two bytes, the higher byte first.
     pub(crate) fn put_half(&mut self, number: u16)
         ensures held { (text : List ℕ) → Holds self.old text → Holds self.new (text ++ big_bytes 2 number) }
         ensures room { self.new.room ≡ self.old.room }
@@ -79,7 +79,7 @@ impl Spelling {
         self.put(&field);
     }
 
-    /// Appends a signed number of four bytes in two's complement, the highest first.
+    /// Appends a signed number of four bytes in two's complement, the highest byte first.
     pub(crate) fn put_word(&mut self, number: i32)
         ensures held { (text : List ℕ) → Holds self.old text → Holds self.new (text ++ word number) }
         ensures room { self.new.room ≡ self.old.room }
@@ -89,7 +89,7 @@ impl Spelling {
         self.put(&field);
     }
 
-    /// Appends a number of four bytes, the highest first.
+    /// Appends an unsigned number of four bytes, the highest byte first.
     pub(crate) fn put_unsigned(&mut self, number: u32)
         ensures held { (text : List ℕ) → Holds self.old text → Holds self.new (text ++ word (pos number)) }
         ensures room { self.new.room ≡ self.old.room }
@@ -99,7 +99,8 @@ impl Spelling {
         self.put(&field);
     }
 
-    /// All the bytes. Refusals FileTooLong (20), exactly where they are more than the room, and OutOfMemory (14).
+    /// Returns all the bytes. Refused with `FileTooLong` exactly where there are more than the room allows, and with
+    /// `OutOfMemory` where an allocation failed.
     pub(crate) fn finish(self) -> Result<Vec<u8>, GfFault>
         ensures bytes { IfOk result (λ bytes. (text : List ℕ) → Holds self text → bytes.items ≡ text) }
         ensures too_long { (text : List ℕ) → Holds self text → (self.room < length text) ↔ (result ≡ Err GfFault.FileTooLong) }

@@ -1,4 +1,4 @@
-//! Codes that are shipped again.
+//! Codes that are shipped more than once.
 
 use super::files::{Part, assert_bytes, assert_parts};
 use super::{
@@ -9,7 +9,8 @@ use mf_gf::GfFile;
 use std::alloc::Global;
 use std::process::Abort;
 
-/// The bytes of a file of a rectangle that was shipped twice with one code: the second has boc, and names the first.
+/// The bytes of a file with a rectangle that is shipped twice with the same code. The second character has boc, and its p is the
+/// place of the first one.
 const TWICE: &[&[u8]] = &[
     b"\xf7\x83\x00",
     b"\x44\x41\x03\x03\x01\x01\x00\x03\x4a\x03\x45",
@@ -35,7 +36,7 @@ fn code_again(rt: HostRuntime) {
     assert_bytes(&rt, alloc, &finished(&rt, file), twice());
 }
 
-/// Where the third one stands, and that it names the second.
+/// The place of the third character, whose p is the place of the second one.
 const THIRD: &[Part] = &[
     (14, b"\x43\x00\x00\x00\x41\x00\x00\x00\x03", "the second"),
     (44, b"\x43\x00\x00\x00\x41\x00\x00\x00\x0e", "the third"),
@@ -61,7 +62,7 @@ fn code_a_third_time(rt: HostRuntime) {
     assert_parts(&rt, &finished(&rt, file), third());
 }
 
-/// The one locator of two characters has the numbers of the second.
+/// The only locator of two characters has the numbers of the second one.
 const LAST_NUMBERS: &[Part] = &[(
     81,
     b"\xf6\x41\x00\x00\x00\x00\x01\x00\x00\x00\x0e\xf9",
@@ -81,12 +82,12 @@ fn numbers_of_the_last(rt: HostRuntime) {
     assert_parts(&rt, &finished(&rt, file), last_numbers());
 }
 
-/// Thirty pixels from column -7 on in row 9, and one pixel.
+/// Thirty pixels of row 9, from column -7 on.
 const FAR: &[(i32, i32, u32)] = &[(9, -7, 30)];
 
 const UNIT: &[(i32, i32, u32)] = &[(0, 0, 1)];
 
-/// The box of the postamble is that of both characters of a code: columns -7 to 23, and rows 0 to 9.
+/// The box of the postamble is around both characters with a code: columns -7 to 23, and rows 0 to 9.
 const JOINED: &[Part] = &[
     (12, b"\x43\x00\x00\x00\x41\x00\x00\x00\x03", "the second"),
     (40, b"\xf8\x00\x00\x00\x28", "the postamble"),
@@ -110,7 +111,7 @@ fn box_of_both(rt: HostRuntime) {
     assert_parts(&rt, &finished(&rt, file), joined());
 }
 
-/// Ships so many characters with no black pixel, all with one code.
+/// Ships `count` characters without black pixels, all with the same code.
 fn ship_blanks(rt: &impl Abort, alloc: Global, file: &mut GfFile, code: u8, count: u32) {
     let blank = picture(rt, alloc, &[], 1);
     for _ in 0..count {
@@ -118,7 +119,7 @@ fn ship_blanks(rt: &impl Abort, alloc: Global, file: &mut GfFile, code: u8, coun
     }
 }
 
-/// Ships a character with no black pixel with each code, from 255 to 0.
+/// Ships a character without black pixels for each code, from 255 down to 0.
 fn ship_all_codes(rt: &impl Abort, alloc: Global, file: &mut GfFile) {
     let blank = picture(rt, alloc, &[], 1);
     for below in 0..=255 {
@@ -126,8 +127,8 @@ fn ship_all_codes(rt: &impl Abort, alloc: Global, file: &mut GfFile) {
     }
 }
 
-/// The first blank character has 7 bytes, each other one 26: so the third stands at 36, the last of 5,000 at 129,958, the
-/// postamble at 129,984, and the file has 130,044 bytes.
+/// The first blank character has 7 bytes, and each of the others has 26. So the third is at 36, the last of 5,000 at 129,958, and
+/// the postamble at 129,984; the file has 130,044 bytes.
 const MANY: &[Part] = &[
     (3, b"\x44\x07\x00\x00\x00\x00\x45", "the first"),
     (10, b"\x43\x00\x00\x00\x07\x00\x00\x00\x03", "the second"),
@@ -150,7 +151,7 @@ fn many() -> &'static [Part] {
     MANY
 }
 
-/// A file has so many characters, so many bytes, and these parts.
+/// Asserts that a file has this number of characters, this length and these parts.
 fn assert_file(rt: &impl Abort, file: GfFile, count: u32, length: usize, parts: &[Part]) {
     assert_count(rt, &file, count);
     let bytes = finished(rt, file);
@@ -166,7 +167,7 @@ fn one_code_many_times(rt: HostRuntime) {
     assert_file(&rt, file, 5000, 130_044, many());
 }
 
-/// Each code stands first at 3 + 7 (255 - code), and then at 1795 + 26 (255 - code).
+/// Each code is first at 3 + 7 (255 - code), and then again at 1795 + 26 (255 - code).
 const ALL: &[Part] = &[
     (3, b"\x44\xff", "the first of 255"),
     (1788, b"\x44\x00", "the first of 0"),

@@ -5,7 +5,7 @@ use crate::tests::assertions::assert_same;
 use std::alloc::Global;
 use std::process::Abort;
 
-/// A character, by the stretches of its black pixels (row, first column, length), and its bytes from boc to eoc.
+/// A character, given by the stretches of its black pixels (row, first column, length), and its bytes from boc to eoc.
 struct Case {
     about: &'static str,
     code: u8,
@@ -184,10 +184,10 @@ const CASES: &[Case] = &[
     },
 ];
 
-/// The bytes of the preamble, which has no comment.
+/// The number of bytes in the preamble, which has no comment.
 const PREAMBLE: usize = 3;
 
-/// A character has its bytes, and behind it stands the postamble.
+/// Asserts that a character has these bytes, and that the postamble comes after them.
 fn assert_character(rt: &impl Abort, alloc: Global, case: &Case) {
     let mut file = gf_file(rt, alloc);
     let black = picture(rt, alloc, case.black, 1);
@@ -205,7 +205,7 @@ fn assert_characters(rt: &impl Abort, alloc: Global, cases: &[Case]) {
     }
 }
 
-/// The cases stand behind a function, so that their test is checked without them.
+/// A function returns the cases, so that the prover checks their test without them.
 fn cases() -> &'static [Case] {
     CASES
 }
@@ -215,7 +215,7 @@ fn characters(rt: HostRuntime) {
     assert_characters(&rt, rt.alloc(), cases());
 }
 
-/// Runs: row, first column, length and weight.
+/// Runs of pixels: row, first column, length and weight.
 const RUNS: &[(i32, i32, u32, i32)] = &[
     (2, 0, 2, 1),
     (2, 2, 1, 7),
@@ -226,13 +226,13 @@ const RUNS: &[(i32, i32, u32, i32)] = &[
     (0, 6, 1, 2),
 ];
 
-/// Runs of positive weight that touch are one stretch; a negative weight is white.
+/// Runs of positive weight that touch are one stretch. A negative weight is white.
 #[test]
 fn weights(rt: HostRuntime) {
     let alloc = rt.alloc();
     let mut file = gf_file(&rt, alloc);
     ship(&rt, &mut file, 9, (0, 0), &weighted(&rt, alloc, RUNS));
-    // Columns 0 to 2 and 4 to 5 of row 2, then one blank row, then column 6 of row 0.
+    // Columns 0 to 2 and 4 to 5 of row 2, then a blank row, then column 6 of row 0.
     let bytes = b"\x44\x09\x07\x07\x02\x02\x00\x03\x01\x02\x47\x01\x06\x01\x45";
     assert_part(&rt, &finished(&rt, file), PREAMBLE, bytes, "weights");
 }

@@ -1,4 +1,4 @@
-//! The bytes of whole files.
+//! The bytes of complete files.
 
 use super::{
     MAX_BYTES, RECT, assert_count, assert_length, assert_part, finished, finished_with, gf_file,
@@ -12,9 +12,9 @@ use std::process::Abort;
 
 const UNIT: &[(i32, i32, u32)] = &[(0, 0, 1)];
 
-// The tables of bytes stand behind functions, so that the tests are checked without them.
+// Functions return the tables of bytes, so that the prover checks the tests without them.
 
-/// The bytes of a file are these parts, one behind another.
+/// Asserts that the bytes of a file are these parts, one after another.
 pub(crate) fn assert_bytes(rt: &impl Abort, alloc: Global, file: &GfBytes, parts: &[&[u8]]) {
     let expected = parts
         .concat(alloc)
@@ -22,7 +22,7 @@ pub(crate) fn assert_bytes(rt: &impl Abort, alloc: Global, file: &GfBytes, parts
     assert_same(rt, file.bytes(), expected.as_slice(), "the file");
 }
 
-/// The bytes of a file with one character, a rectangle.
+/// The bytes of a file with one character, the rectangle.
 const ONE: &[&[u8]] = &[
     b"\xf7\x83\x00",
     b"\x44\x41\x03\x03\x01\x01",
@@ -46,7 +46,7 @@ fn one_character(rt: HostRuntime) {
     assert_bytes(&rt, alloc, &finished(&rt, file), one());
 }
 
-/// The example of the page about GF files.
+/// A font with a comment and one character.
 fn font(alloc: Global, picture: &Picture) -> Result<GfBytes, GfFault> {
     let mut file = GfFile::new(alloc, b"a comment", 16_777_216)?;
     file.ship(65, 327_680, 0, picture)?;
@@ -63,7 +63,7 @@ fn font(alloc: Global, picture: &Picture) -> Result<GfBytes, GfFault> {
 fn example(rt: HostRuntime) {
     let alloc = rt.alloc();
     let font = font(alloc, &picture(&rt, alloc, RECT, 1)).expect(&rt, "the file fits");
-    // The comment has nine bytes, so the padding has seven where that of 72 bytes has four.
+    // The comment has nine bytes, so the padding has seven, where that of the file of 72 bytes has four.
     assert_length(&rt, &font, 84);
     assert_part(&rt, &font, 0, b"\xf7\x83\x09a comment\x44", "the comment");
     let end = b"\x83\xdf\xdf\xdf\xdf\xdf\xdf\xdf";
@@ -73,7 +73,7 @@ fn example(rt: HostRuntime) {
 /// Rows with gaps, and columns that are negative.
 const GAPS: &[(i32, i32, u32)] = &[(5, -300, 70), (4, -100, 1), (1, -300, 1)];
 
-/// The bytes of a file of those rows, with an escapement that is no whole number of pixels.
+/// The bytes of a file with the rows `GAPS`, whose escapement is not a whole number of pixels.
 const LONG: &[&[u8]] = &[
     b"\xf7\x83\x00",
     b"\x43\x00\x00\x00\x42\xff\xff\xff\xff",
@@ -102,17 +102,17 @@ fn long_fields(rt: HostRuntime) {
     assert_bytes(&rt, alloc, &finished(&rt, file), long());
 }
 
-/// Bytes of a file: the place of the first one, the bytes, and what they are.
+/// A part of a file: the place of its first byte, its bytes, and what they are.
 pub(crate) type Part = (usize, &'static [u8], &'static str);
 
-/// These bytes stand in a file.
+/// Asserts that a file has these parts.
 pub(crate) fn assert_parts(rt: &impl Abort, file: &GfBytes, parts: &[Part]) {
     for (first, bytes, case) in parts {
         assert_part(rt, file, *first, bytes, *case);
     }
 }
 
-/// Bytes of a file of two characters.
+/// Parts of a file of two characters.
 const TWO: &[Part] = &[
     (3, b"\x44\x42", "66"),
     (12, b"\x44\x41", "65"),
@@ -138,7 +138,7 @@ fn two() -> &'static [Part] {
     TWO
 }
 
-/// Locators stand in the order of codes, whatever the order shipped.
+/// Locators are in the order of their codes, whatever the order of shipping.
 #[test]
 fn two_characters(rt: HostRuntime) {
     let alloc = rt.alloc();
@@ -160,8 +160,8 @@ pub(crate) const WORDS: FontWords = FontWords {
     vppp: i32::MAX,
 };
 
-/// The bytes of a file with a comment, those numbers of the font, characters at corners of the field and one with no
-/// black pixel, whose box the postamble covers, too.
+/// The bytes of a file with a comment, the numbers `WORDS`, characters at corners of the field, and one character without black
+/// pixels, whose box the box of the postamble encloses, too.
 const CORNERS: &[&[u8]] = &[
     b"\xf7\x83\x09a comment",
     b"\x43\x00\x00\x00\x01\xff\xff\xff\xff",
@@ -182,12 +182,12 @@ pub(crate) fn corners() -> &'static [&'static [u8]] {
     CORNERS
 }
 
-/// Ships a character of one pixel, in this row and column.
+/// Ships a character with one pixel, at this row and column.
 fn ship_pixel(rt: &impl Abort, alloc: Global, file: &mut GfFile, code: u8, y: i32, x: i32) {
     ship(rt, file, code, (0, 0), &picture(rt, alloc, &[(y, x, 1)], 1));
 }
 
-/// That file, before it is finished.
+/// The file of `CORNERS`, before it is finished.
 pub(crate) fn corners_file(rt: &impl Abort, alloc: Global) -> GfFile {
     let mut file = GfFile::new(alloc, b"a comment", MAX_BYTES).expect(rt, "the comment fits");
     ship_pixel(rt, alloc, &mut file, 1, 4094, -4095);
@@ -203,7 +203,7 @@ fn comment_and_words(rt: HostRuntime) {
     assert_bytes(&rt, alloc, &finished_with(&rt, file, WORDS), corners());
 }
 
-/// The locator of a character with this escapement, which is the first and only one, begins with these bytes.
+/// Asserts that the locator of a character with this escapement, the only one of its file, starts with these bytes.
 fn assert_locator(rt: &impl Abort, alloc: Global, dx: i32, locator: &[u8]) {
     let mut file = gf_file(rt, alloc);
     ship(rt, &mut file, 1, (dx, -5), &picture(rt, alloc, UNIT, 1));
@@ -214,7 +214,7 @@ fn assert_locator(rt: &impl Abort, alloc: Global, dx: i32, locator: &[u8]) {
     assert_part(rt, &finished(rt, file), 49, &bytes, ("dx", dx));
 }
 
-/// Escapements of whole pixels up to 255 have a short locator.
+/// Escapements of a whole number of pixels up to 255 have a short locator.
 #[test]
 fn escapements(rt: HostRuntime) {
     let alloc = rt.alloc();
@@ -246,7 +246,7 @@ fn escapements(rt: HostRuntime) {
     );
 }
 
-/// The whole field, black.
+/// The picture in which the whole field is black.
 fn field(rt: &impl Abort, alloc: Global) -> Picture {
     let mut rows = Vec::new(alloc);
     for y in (-4095..4095).rev() {
@@ -262,7 +262,7 @@ fn whole_field(rt: HostRuntime) {
     let mut file = gf_file(&rt, alloc);
     ship(&rt, &mut file, 97, (0, 0), &field(&rt, alloc));
     let file = finished(&rt, file);
-    // Each of 8,190 rows takes a byte to begin it and three to paint it; boc and eoc take 25 and 1.
+    // Each of the 8,190 rows takes one byte to begin it and three to paint it. boc takes 25 bytes, and eoc one.
     assert_length(&rt, &file, 32_848);
     assert_part(&rt, &file, 32_789, b"\xf8", "the postamble");
     let rows = b"\x00\x41\x1f\xfe\x4a\x41\x1f\xfe";

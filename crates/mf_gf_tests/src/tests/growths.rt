@@ -1,5 +1,5 @@
-//! Calls whose growths are refused, one after another. A refused file is as it was, and the same call with ample memory has
-//! its value.
+//! Calls whose allocations are refused, one after another. Each test asserts that a refused call leaves the file as it was, and
+//! that the same call with ample memory then gives its value.
 
 use super::again::twice;
 use super::files::{Part, WORDS, assert_bytes, assert_parts, corners, corners_file, one};
@@ -15,7 +15,7 @@ use mf_testing::{grow_again, refuse_growths};
 use std::alloc::Global;
 use std::process::Abort;
 
-/// A comment of 255 bytes, no two alike.
+/// A comment of 255 bytes, all of them different.
 fn longest_comment(rt: &impl Abort, alloc: Global) -> Vec<u8> {
     let mut comment = Vec::new(alloc);
     for byte in 0..255 {
@@ -26,7 +26,7 @@ fn longest_comment(rt: &impl Abort, alloc: Global) -> Vec<u8> {
     comment
 }
 
-/// The file that was begun, or one that is begun with ample memory.
+/// The new file, or where it was refused, one that is made with ample memory.
 fn begun(rt: &impl Abort, alloc: Global, comment: &[u8], file: Result<GfFile, GfFault>) -> GfFile {
     match file {
         Ok(file) => file,
@@ -37,9 +37,9 @@ fn begun(rt: &impl Abort, alloc: Global, comment: &[u8], file: Result<GfFile, Gf
     }
 }
 
-/// What stands in a file behind the longest comment: a rectangle, whose place is 258, and the end. It has 323 bytes before the
-/// padding, which has five.
-const BEHIND_THE_COMMENT: &[Part] = &[
+/// The parts of a file that come after the longest comment: a rectangle, whose place is 258, and the end. The file has 323 bytes
+/// before the padding, which has five.
+const AFTER_THE_COMMENT: &[Part] = &[
     (
         258,
         b"\x44\x41\x03\x03\x01\x01\x00\x03\x4a\x03\x45",
@@ -64,8 +64,8 @@ const BEHIND_THE_COMMENT: &[Part] = &[
     ),
 ];
 
-fn behind_the_comment() -> &'static [Part] {
-    BEHIND_THE_COMMENT
+fn after_the_comment() -> &'static [Part] {
+    AFTER_THE_COMMENT
 }
 
 #[test]
@@ -82,7 +82,7 @@ fn a_file_with_the_longest_comment_is_begun(rt: HostRuntime) {
     assert_length(&rt, &file, 328);
     assert_part(&rt, &file, 0, b"\xf7\x83\xff", "the preamble");
     assert_part(&rt, &file, 3, &comment, "the comment");
-    assert_parts(&rt, &file, behind_the_comment());
+    assert_parts(&rt, &file, after_the_comment());
 }
 
 /// A character: its code, and its escapement with its width.
@@ -92,14 +92,14 @@ struct Character {
     escapement: (i32, i32),
 }
 
-/// The rectangle of the tables.
+/// The rectangle of the tables of bytes.
 const RECTANGLE: Character = Character {
     code: 65,
     escapement: (327_680, 0),
 };
 
-/// What a call answers that ships a character while growths are refused.
-fn shipped_in_want(
+/// What shipping a character returns while allocations are refused.
+fn shipped_while_refused(
     alloc: Global,
     file: &mut GfFile,
     character: Character,
@@ -112,9 +112,9 @@ fn shipped_in_want(
     shipped
 }
 
-/// Whether a character of a file that has room for it was shipped while growths are refused. Where it was not, so many
-/// characters stand in the file as before.
-fn is_shipped_in_want(
+/// Ships a character while allocations are refused, to a file that has room for it. Returns whether it was shipped, and asserts
+/// that the file has the same number of characters as before where it was not.
+fn is_shipped_while_refused(
     rt: &impl Abort,
     alloc: Global,
     file: &mut GfFile,
@@ -122,7 +122,7 @@ fn is_shipped_in_want(
     picture: &Picture,
 ) -> bool {
     let before = file.count();
-    let shipped = shipped_in_want(alloc, file, character, picture);
+    let shipped = shipped_while_refused(alloc, file, character, picture);
     if shipped.is_err() {
         assert_same(rt, shipped, Err(GfFault::OutOfMemory), "the character");
         assert_count(rt, file, before);
@@ -130,15 +130,15 @@ fn is_shipped_in_want(
     shipped.is_ok()
 }
 
-/// Ships a character while growths are refused, and where that was refused once more, with ample memory.
-fn ship_in_want(
+/// Ships a character while allocations are refused, and where that is refused, ships it again with ample memory.
+fn ship_while_refused(
     rt: &impl Abort,
     alloc: Global,
     file: &mut GfFile,
     character: Character,
     picture: &Picture,
 ) {
-    if !is_shipped_in_want(rt, alloc, file, character, picture) {
+    if !is_shipped_while_refused(rt, alloc, file, character, picture) {
         ship(rt, file, character.code, character.escapement, picture);
     }
 }
@@ -148,15 +148,15 @@ fn a_first_character_is_shipped(rt: HostRuntime) {
     let alloc = rt.alloc();
     let rect = picture(&rt, alloc, RECT, 1);
     let mut file = gf_file(&rt, alloc);
-    ship_in_want(&rt, alloc, &mut file, RECTANGLE, &rect);
+    ship_while_refused(&rt, alloc, &mut file, RECTANGLE, &rect);
     assert_count(&rt, &file, 1);
     assert_bytes(&rt, alloc, &finished(&rt, file), one());
 }
 
-/// Thirty pixels from column -7 on in row 9: their box is none of the rectangle.
+/// Thirty pixels of row 9, from column -7 on. Their box is not in that of the rectangle.
 const FAR: &[(i32, i32, u32)] = &[(9, -7, 30)];
 
-/// Those pixels, as a character of another code than that of the rectangle, and of the same.
+/// The pixels `FAR` as a character, with another code than the rectangle and with the same code.
 const OTHER: Character = Character {
     code: 66,
     escapement: (0, 0),
@@ -167,13 +167,13 @@ const SAME: Character = Character {
     escapement: (131_072, 1),
 };
 
-/// A first character that is refused leaves no box behind, no place of its code, and no character.
+/// A first character that is refused leaves neither its box, nor a place for its code, nor a character.
 #[test]
 fn a_first_character_is_left_out(rt: HostRuntime) {
     let alloc = rt.alloc();
     let far = picture(&rt, alloc, FAR, 1);
     let mut file = gf_file(&rt, alloc);
-    if !is_shipped_in_want(&rt, alloc, &mut file, SAME, &far) {
+    if !is_shipped_while_refused(&rt, alloc, &mut file, SAME, &far) {
         file = unfinished(&rt, file, GfFault::NoCharacters);
         ship_rectangle(&rt, alloc, &mut file);
         assert_bytes(&rt, alloc, &finished(&rt, file), one());
@@ -182,7 +182,7 @@ fn a_first_character_is_left_out(rt: HostRuntime) {
     }
 }
 
-/// The bytes of a file of the rectangle and those pixels, of another code.
+/// The bytes of a file of the rectangle and the pixels `FAR`, with different codes.
 const BOTH: &[&[u8]] = &[
     b"\xf7\x83\x00",
     b"\x44\x41\x03\x03\x01\x01\x00\x03\x4a\x03\x45",
@@ -199,7 +199,8 @@ fn both() -> &'static [&'static [u8]] {
     BOTH
 }
 
-/// The bytes of a file of the rectangle and those pixels, of the same code: the second has boc, and names the first.
+/// The bytes of a file of the rectangle and the pixels `FAR`, with the same code. The second character has boc, and its p is the
+/// place of the first one.
 const ONE_CODE: &[&[u8]] = &[
     b"\xf7\x83\x00",
     b"\x44\x41\x03\x03\x01\x01\x00\x03\x4a\x03\x45",
@@ -216,9 +217,9 @@ fn one_code() -> &'static [&'static [u8]] {
     ONE_CODE
 }
 
-/// Ships those pixels behind the rectangle while growths are refused, and at last with ample memory: the finished file has
-/// these bytes.
-fn assert_shipped_behind_the_rectangle(
+/// Ships the pixels `FAR` after the rectangle while allocations are refused, and again with ample memory where that is refused.
+/// Asserts that the finished file has these bytes.
+fn assert_shipped_after_the_rectangle(
     rt: &impl Abort,
     alloc: Global,
     character: Character,
@@ -226,14 +227,14 @@ fn assert_shipped_behind_the_rectangle(
 ) {
     let far = picture(rt, alloc, FAR, 1);
     let mut file = with_rectangle(rt, alloc, MAX_BYTES);
-    ship_in_want(rt, alloc, &mut file, character, &far);
+    ship_while_refused(rt, alloc, &mut file, character, &far);
     assert_count(rt, &file, 2);
     assert_bytes(rt, alloc, &finished(rt, file), bytes);
 }
 
-/// Ships those pixels behind the rectangle while growths are refused. Where that is refused, the file has the bytes of the
-/// rectangle alone, and else these.
-fn assert_left_out_behind_the_rectangle(
+/// Ships the pixels `FAR` after the rectangle while allocations are refused. Asserts that the finished file has the bytes of the
+/// rectangle alone where that is refused, and else these bytes.
+fn assert_left_out_after_the_rectangle(
     rt: &impl Abort,
     alloc: Global,
     character: Character,
@@ -241,56 +242,56 @@ fn assert_left_out_behind_the_rectangle(
 ) {
     let far = picture(rt, alloc, FAR, 1);
     let mut file = with_rectangle(rt, alloc, MAX_BYTES);
-    let shipped = is_shipped_in_want(rt, alloc, &mut file, character, &far);
+    let shipped = is_shipped_while_refused(rt, alloc, &mut file, character, &far);
     let expected = if shipped { bytes } else { one() };
     assert_bytes(rt, alloc, &finished(rt, file), expected);
 }
 
 #[test]
 fn a_second_character_is_shipped(rt: HostRuntime) {
-    assert_shipped_behind_the_rectangle(&rt, rt.alloc(), OTHER, both());
+    assert_shipped_after_the_rectangle(&rt, rt.alloc(), OTHER, both());
 }
 
 #[test]
 fn a_second_character_is_left_out(rt: HostRuntime) {
-    assert_left_out_behind_the_rectangle(&rt, rt.alloc(), OTHER, both());
+    assert_left_out_after_the_rectangle(&rt, rt.alloc(), OTHER, both());
 }
 
 #[test]
 fn a_code_is_shipped_again(rt: HostRuntime) {
-    assert_shipped_behind_the_rectangle(&rt, rt.alloc(), SAME, one_code());
+    assert_shipped_after_the_rectangle(&rt, rt.alloc(), SAME, one_code());
 }
 
 #[test]
 fn a_code_that_comes_again_is_left_out(rt: HostRuntime) {
-    assert_left_out_behind_the_rectangle(&rt, rt.alloc(), SAME, one_code());
+    assert_left_out_after_the_rectangle(&rt, rt.alloc(), SAME, one_code());
 }
 
-/// The same character again, as the table of another test has it.
+/// The same character again, which gives the table of another test.
 #[test]
 fn a_character_is_shipped_twice(rt: HostRuntime) {
     let alloc = rt.alloc();
     let rect = picture(&rt, alloc, RECT, 1);
     let mut file = with_rectangle(&rt, alloc, MAX_BYTES);
-    ship_in_want(&rt, alloc, &mut file, RECTANGLE, &rect);
+    ship_while_refused(&rt, alloc, &mut file, RECTANGLE, &rect);
     assert_count(&rt, &file, 2);
     assert_bytes(&rt, alloc, &finished(&rt, file), twice());
 }
 
-/// Want of memory never comes in the place of FileTooLong: bytes that find no memory are counted all the same.
+/// `OutOfMemory` never comes instead of `FileTooLong`: bytes for which an allocation fails are still counted.
 #[test]
 fn a_character_that_is_too_long_is_refused_for_that(rt: HostRuntime) {
     let alloc = rt.alloc();
     let long = long_rows(&rt, alloc);
     let mut file = with_rectangle(&rt, alloc, 72);
-    let shipped = shipped_in_want(alloc, &mut file, SAME, &long);
+    let shipped = shipped_while_refused(alloc, &mut file, SAME, &long);
     assert_same(&rt, shipped, Err(GfFault::FileTooLong), "the character");
     assert_count(&rt, &file, 1);
     assert_bytes(&rt, alloc, &finished(&rt, file), one());
 }
 
-/// What a call answers that finishes a file while growths are refused.
-fn finished_in_want(
+/// What finishing a file returns while allocations are refused.
+fn finished_while_refused(
     alloc: Global,
     file: GfFile,
     words: FontWords,
@@ -301,7 +302,8 @@ fn finished_in_want(
     finished
 }
 
-/// The finished file; where it was refused for want of memory, it has so many characters as before, and is finished again.
+/// The finished file. Where it was refused because an allocation failed, the file must have the same number of characters as
+/// before, and is finished again.
 fn finished_again(
     rt: &impl Abort,
     found: Result<GfBytes, (GfFile, GfFault)>,
@@ -322,17 +324,17 @@ fn finished_again(
 fn a_file_is_finished(rt: HostRuntime) {
     let alloc = rt.alloc();
     let file = corners_file(&rt, alloc);
-    let found = finished_in_want(alloc, file, WORDS);
+    let found = finished_while_refused(alloc, file, WORDS);
     let bytes = finished_again(&rt, found, 3, WORDS);
     assert_bytes(&rt, alloc, &bytes, corners());
 }
 
-/// A file whose end is refused takes a character more, as if it had not been finished.
+/// A file whose end is refused takes another character, as if nobody had tried to finish it.
 #[test]
-fn a_file_goes_on_where_it_is_not_finished(rt: HostRuntime) {
+fn a_file_goes_on_after_a_refused_end(rt: HostRuntime) {
     let alloc = rt.alloc();
     let file = with_rectangle(&rt, alloc, MAX_BYTES);
-    match finished_in_want(alloc, file, NO_WORDS) {
+    match finished_while_refused(alloc, file, NO_WORDS) {
         Ok(bytes) => assert_bytes(&rt, alloc, &bytes, one()),
         Err((mut file, fault)) => {
             assert_same(&rt, fault, GfFault::OutOfMemory, "the end");
@@ -342,12 +344,12 @@ fn a_file_goes_on_where_it_is_not_finished(rt: HostRuntime) {
     }
 }
 
-/// Want of memory never comes in the place of FileTooLong at the end, either.
+/// `OutOfMemory` never comes instead of `FileTooLong` at the end of a file, either.
 #[test]
 fn an_end_that_is_too_long_is_refused_for_that(rt: HostRuntime) {
     let alloc = rt.alloc();
     let file = with_rectangle(&rt, alloc, 71);
-    match finished_in_want(alloc, file, NO_WORDS) {
+    match finished_while_refused(alloc, file, NO_WORDS) {
         Ok(_) => panic!(rt; "the file is finished"),
         Err((file, fault)) => {
             assert_same(&rt, fault, GfFault::FileTooLong, "the end");

@@ -1,4 +1,4 @@
-//! Files and characters that are refused, and what is left then.
+//! Files and characters that are refused, and what is left after that.
 
 use super::{
     NO_WORDS, RECT, assert_count, assert_length, finished, part, picture, ship, ship_rectangle,
@@ -10,7 +10,7 @@ use mf_rows::Picture;
 use std::alloc::Global;
 use std::process::Abort;
 
-/// Comments of so many bytes in files of at most so many, and their refusals.
+/// The lengths of comments, the greatest lengths of their files, and their refusals.
 const COMMENTS: &[(usize, u32, Option<GfFault>)] = &[
     (0, 2, Some(GfFault::FileTooLong)),
     (0, 3, None),
@@ -19,7 +19,7 @@ const COMMENTS: &[(usize, u32, Option<GfFault>)] = &[
     (255, 10_000, None),
     (255, 257, Some(GfFault::FileTooLong)),
     (256, 10_000, Some(GfFault::CommentTooLong)),
-    // The length of the file comes first.
+    // The length of the file is checked first.
     (256, 258, Some(GfFault::FileTooLong)),
 ];
 
@@ -38,7 +38,7 @@ fn comments(rt: HostRuntime) {
     assert_comments(&rt, rt.alloc(), COMMENTS);
 }
 
-/// Ships a character, which is refused with this fault.
+/// Asserts that shipping a character is refused with this fault.
 fn assert_refused(
     rt: &impl Abort,
     file: &mut GfFile,
@@ -52,13 +52,13 @@ fn assert_refused(
     assert_same(rt, shipped, Err(fault), ("code", code));
 }
 
-/// Two files that can be finished have the same bytes.
+/// Asserts that two files can be finished and then have the same bytes.
 fn assert_same_files(rt: &impl Abort, file: GfFile, other: GfFile) {
     let (file, other) = (finished(rt, file), finished(rt, other));
     assert_same(rt, file.bytes(), other.bytes(), "the file");
 }
 
-/// A second character of a code takes 30 bytes where the first took 11, and is refused for its length alone.
+/// A second character with a code takes 30 bytes where the first one took 11, and is refused only for its length.
 #[test]
 fn code_that_was_shipped(rt: HostRuntime) {
     let alloc = rt.alloc();
@@ -72,7 +72,7 @@ fn code_that_was_shipped(rt: HostRuntime) {
     assert_count(&rt, &file, 2);
 }
 
-/// The file, whose end is refused with this fault.
+/// Asserts that finishing the file is refused with this fault, and returns the file.
 pub(crate) fn unfinished(rt: &impl Abort, file: GfFile, fault: GfFault) -> GfFile {
     match file.finish(NO_WORDS) {
         Ok(_) => panic!(rt; "the file is finished"),
@@ -92,7 +92,7 @@ fn no_characters(rt: HostRuntime) {
     assert_length(&rt, &finished(&rt, file), 72);
 }
 
-/// That no character was shipped comes before a file that is too long.
+/// `NoCharacters` comes before `FileTooLong`.
 #[test]
 fn no_characters_before_length(rt: HostRuntime) {
     let alloc = rt.alloc();
@@ -103,7 +103,7 @@ fn no_characters_before_length(rt: HostRuntime) {
     assert_refused(&rt, &mut file, 65, (0, 0), &rect, GfFault::FileTooLong);
 }
 
-/// Rows of a character of which each takes three bytes, so that all 30 do not fit behind 14 of 72.
+/// Rows of a character that take three bytes each, so that all 30 do not fit after the first 14 of 72 bytes.
 pub(crate) fn long_rows(rt: &impl Abort, alloc: Global) -> Picture {
     let mut rows = Vec::new(alloc);
     for y in (0..30).rev() {
@@ -113,7 +113,7 @@ pub(crate) fn long_rows(rt: &impl Abort, alloc: Global) -> Picture {
     picture(rt, alloc, &rows, 1)
 }
 
-/// A character that is too long for the file leaves nothing behind.
+/// A character that is too long for the file leaves nothing in it.
 #[test]
 fn too_long_character(rt: HostRuntime) {
     let alloc = rt.alloc();
@@ -124,8 +124,8 @@ fn too_long_character(rt: HostRuntime) {
     assert_same_files(&rt, file, with_rectangle(&rt, alloc, 72));
 }
 
-/// A second character of a code that is too long leaves nothing behind: the next one names the first, and the locator leads to
-/// that next one.
+/// A second character with a code that is too long leaves nothing in the file: the p of the next one is the place of the first,
+/// and the locator leads to that next one.
 #[test]
 fn too_long_second_character(rt: HostRuntime) {
     let alloc = rt.alloc();
@@ -165,7 +165,7 @@ fn lengths(rt: HostRuntime) {
     assert_length(&rt, &finished(&rt, file), 72);
 }
 
-/// A limit beyond the numbers of the format is one, too.
+/// A limit beyond the greatest number of the format is accepted.
 #[test]
 fn greatest_limit(rt: HostRuntime) {
     let alloc = rt.alloc();

@@ -1,4 +1,4 @@
-//! Files that are written.
+//! Files that are written to writers.
 
 use super::{MAX_BYTES, finished, gf_file, part, picture, ship, with_rectangle};
 use crate::tests::assertions::assert_same;
@@ -8,14 +8,14 @@ use std::alloc::Global;
 use std::io::{self, ErrorKind, Write};
 use std::process::Abort;
 
-/// The file is written into memory.
+/// Asserts that writing the file into memory gives its bytes.
 fn assert_written_to_memory(rt: &impl Abort, alloc: Global, file: &GfBytes) {
     let mut memory = Vec::new(alloc);
     assert_same(rt, file.write_to(&mut memory), Ok(()), "memory");
     assert_same(rt, memory.as_slice(), file.bytes(), "memory");
 }
 
-/// This writer takes so many bytes of the file, and no more.
+/// Asserts that this writer takes exactly `room` bytes of the file.
 fn assert_cut(rt: &impl Abort, file: &GfBytes, writer: Sink, room: usize) {
     let mut writer = writer;
     let fault = WriteFault(room as u128);
@@ -33,7 +33,8 @@ fn assert_cut(rt: &impl Abort, file: &GfBytes, writer: Sink, room: usize) {
     );
 }
 
-/// Writers that take at most so many bytes at once, and then answer an error or take no byte, take what they have room for.
+/// Asserts that writers which take at most `at_once` bytes in one write, and then fail with an error or take no byte, take
+/// exactly what they have room for.
 fn assert_cuts(rt: &impl Abort, alloc: Global, file: &GfBytes, at_once: usize) {
     for room in [0, 10, 71] {
         assert_cut(
@@ -63,7 +64,7 @@ fn written(rt: HostRuntime) {
     assert_cuts(&rt, alloc, &file, 1000);
 }
 
-/// A writer that takes at most so many bytes at once, and has room for the file, takes it whole.
+/// Asserts that a writer which takes at most `at_once` bytes in one write, and has room for the file, takes all of it.
 fn assert_whole(rt: &impl Abort, alloc: Global, file: &GfBytes, at_once: usize) {
     let mut writer = Sink::failing(alloc, file.bytes().len()).in_pieces(at_once);
     assert_same(rt, file.write_to(&mut writer), Ok(()), ("at once", at_once));
@@ -89,22 +90,22 @@ fn written_in_parts(rt: HostRuntime) {
 /// How a write fails.
 #[derive(Clone, Copy, Debug)]
 enum Failure {
-    /// It is answered by an error of this kind.
+    /// The writer fails with an error of this kind.
     Error(ErrorKind),
-    /// It takes no byte.
+    /// The writer takes no byte.
     NoByte,
 }
 
-/// A writer that fails in one write and takes all bytes in the others, before and behind it.
+/// A writer that fails in one write, and takes all bytes in the writes before and after it.
 #[derive(Drop)]
 struct FailingOnce {
     taken: Vec<u8>,
-    /// Greatest number of bytes that it takes in a write.
+    /// The greatest number of bytes that it takes in one write.
     size: usize,
-    /// Number of writes before the one that fails.
+    /// The number of writes before the one that fails.
     before: usize,
     failure: Failure,
-    /// Number of writes that were made.
+    /// The number of writes so far.
     writes: usize,
 }
 
@@ -128,7 +129,8 @@ impl Write for FailingOnce {
     }
 }
 
-/// A writer that fails after so many writes, each of at most so many bytes, has taken the bytes of these, and is asked no more.
+/// Asserts that a writer that fails after `before` writes, each of at most `size` bytes, has taken the bytes of these writes and
+/// is not asked again.
 fn assert_asked_no_more(
     rt: &impl Abort,
     alloc: Global,
@@ -152,7 +154,7 @@ fn assert_asked_no_more(
     assert_same(rt, writer.writes, before.saturating_add(1), "writes");
 }
 
-/// The file of a rectangle, of 72 bytes.
+/// The file of the rectangle, 72 bytes.
 fn rectangle_bytes(rt: &impl Abort, alloc: Global) -> GfBytes {
     finished(rt, with_rectangle(rt, alloc, MAX_BYTES))
 }
@@ -165,7 +167,7 @@ fn an_error_is_not_tried_again(rt: HostRuntime) {
     assert_asked_no_more(&rt, alloc, &file, (0, 72), failure);
 }
 
-/// Where std tries a write again.
+/// The standard library would try such a write again.
 #[test]
 fn a_write_that_was_interrupted_is_not_tried_again(rt: HostRuntime) {
     let alloc = rt.alloc();

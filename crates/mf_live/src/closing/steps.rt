@@ -12,10 +12,10 @@ use mf_geom::OutOfMemory;
 use std::sync::Wait;
 
 impl Writer {
-    /// Sets the end mark, after which nothing is accepted, and publishes all that was accepted. The end mark counts in no
-    /// revision, and is set where no more operations may be accepted, too. It may wait for looks that are held. Where
-    /// memory is wanting (OutOfMemory, 14), the writer comes back as it was (`Kept`): all memory is got before the end
-    /// mark is set.
+    /// Sets the end mark, after which nothing is accepted, and publishes everything that was accepted. The end mark does not
+    /// count in the revision, and can be set even where no more operations are accepted. It may wait for looks that are held.
+    /// Where an allocation fails, the writer comes back as it was (`Kept`), because everything is allocated before the end mark
+    /// is set.
     pub fn close<R: Wait>(self, rt: &R) -> Result<Ended, CloseFault>
         ensures name { IfOk result (λ ended. ended_name ended ≡ name self) }
         ensures published { IfOk result (λ ended. ended_published ended ≡ with_end self) }
@@ -39,8 +39,8 @@ impl Writer {
 }
 
 impl Closing {
-    /// Publishes the end mark, and what was accepted before it. It may wait for looks that are held. Where memory is
-    /// wanting (OutOfMemory, 14) it comes back as it was, and it may be tried again.
+    /// Publishes the end mark and what was accepted before it. It may wait for looks that are held. Where an allocation fails,
+    /// the picture comes back as it was, and the call can be made again.
     pub fn publish<R: Wait>(self, rt: &R) -> Result<Ended, Closing>
         ensures name { MatchResult result (λ ended. ended_name ended ≡ closing_name self) (λ closing. closing_name closing ≡ closing_name self) }
         ensures published { MatchResult result (λ ended. ended_published ended ≡ closing_accepted self) (λ closing. closing_published closing ≡ closing_published self) }
@@ -55,12 +55,13 @@ impl Closing {
         }
     }
 
-    /// Ends it. It may wait for looks that are held, and looks may be refused from then on.
+    /// Ends the picture without publishing its end mark. It may wait for looks that are held, and looks may be refused from then
+    /// on.
     pub fn discard<R: Wait>(self, rt: &R) {
         self.into_swap().take(rt);
     }
 
-    /// What viewers can look at, as it is.
+    /// What viewers can look at, unchanged.
     fn into_swap(self) -> Swap
         ensures { result ≡ self.holder.swap }
     {
@@ -70,8 +71,7 @@ impl Closing {
 }
 
 impl Ended {
-    /// A notice of the whole list, the end mark included: a look of a viewer that has learnt it shows the last
-    /// picture.
+    /// A notice of the complete list, with the end mark: a look of a viewer that has learnt it shows the last picture.
     pub fn notice(&mut self) -> Notice
         ensures same { (ended_name self.new ≡ ended_name self.old) × (ended_published self.new ≡ ended_published self.old) }
         ensures name { notice_name result ≡ ended_name self.old }
@@ -81,12 +81,12 @@ impl Ended {
         self.swap.published().notice.again()
     }
 
-    /// Ends it. It may wait for looks that are held, and looks may be refused from then on.
+    /// Ends the picture. It may wait for looks that are held, and looks may be refused from then on.
     pub fn discard<R: Wait>(self, rt: &R) {
         self.into_swap().take(rt);
     }
 
-    /// What viewers can look at, as it is.
+    /// What viewers can look at, unchanged.
     fn into_swap(self) -> Swap
         ensures { result ≡ self.swap }
     {

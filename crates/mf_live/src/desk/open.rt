@@ -16,9 +16,9 @@ use mf_geom::OutOfMemory;
 use std::alloc::Global;
 use std::sync::Wait;
 
-/// A blank picture of revision 0, its writer, and a desk with at most so many viewers. The writer accepts at most
-/// `max_ops` operations. Refusal OutOfMemory (14). The caller owes that the places are at most 64. It waits for
-/// nobody, since nobody looks yet.
+/// Opens a blank picture of revision 0: its writer, which accepts at most `max_ops` operations, and a desk with at most `places`
+/// viewers. Requires at most 64 places. Refused with `OutOfMemory` where an allocation fails. It takes `rt` because it publishes
+/// once, which is how the writer learns which picture it has; but it waits for nobody, since nobody looks yet.
 pub fn open_picture<R: Wait>(
     rt: &R,
     alloc: Global,
@@ -39,7 +39,7 @@ pub fn open_picture<R: Wait>(
     Ok((Writer { holder, max_ops }, Desk { viewers, known }))
 }
 
-/// Makes the viewers of a picture in which nothing has happened: as many as can be had.
+/// Makes viewers of a picture in which nothing has happened: up to `places` of them, as far as they can be had.
 fn seat_all(holder: &mut Holder, viewers: &mut Vec<Viewer>, places: u32)
     requires named { view holder.old.swap.desk.place ≡ knowing (holders.known holder.old) }
     requires empty { (holders.known holder.old).seen.log ≡ [] }
@@ -60,7 +60,7 @@ fn seat_all(holder: &mut Holder, viewers: &mut Vec<Viewer>, places: u32)
     }
 }
 
-/// A viewer of a picture in which nothing has happened, if it can be had.
+/// A viewer of a picture in which nothing has happened, if there can be one.
 fn seat_one(holder: &mut Holder) -> Option<Viewer>
     requires named { view holder.old.swap.desk.place ≡ knowing (holders.known holder.old) }
     requires empty { (holders.known holder.old).seen.log ≡ [] }

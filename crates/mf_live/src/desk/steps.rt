@@ -1,4 +1,4 @@
-//! Giving out viewers.
+//! Handing out viewers.
 ghost use Rattle.std.specs.Prelude.{◌≡◌, ◌+◌, [], IfOk, MatchResult};
 ghost use Rattle.mf_live.specs.Desks.{desk_name, left};
 ghost use Rattle.mf_live.specs.Viewers.{name, looked, learnt, seen};
@@ -7,7 +7,8 @@ use super::{Desk, NoPlace};
 use crate::viewer::Viewer;
 
 impl Desk {
-    /// A viewer that has seen nothing. Refusal NoPlace (15) where none is left: a viewer's place is given once.
+    /// A viewer that has seen nothing. Refused with `NoPlace` where none is left: each place is given once, and that of a dropped
+    /// viewer is not given again.
     pub fn viewer(&mut self) -> Result<Viewer, NoPlace>
         ensures name { desk_name self.new ≡ desk_name self.old }
         ensures left { MatchResult result (λ _. left self.new + 1 ≡ left self.old) (λ _. (left self.old ≡ 0) × (left self.new ≡ 0)) }

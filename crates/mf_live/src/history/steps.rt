@@ -44,7 +44,7 @@ impl Front {
         }
     }
 
-    /// Of it and another of the same history, the one with fewer events begins the other.
+    /// Of two known prefixes of the same history, the one with fewer events is a prefix of the other.
     pub(crate) fn meets(&self, other: &Front)
         requires { other.now.token.seen.book ≡ self.now.token.seen.book }
         ensures this { self.now.events ≤ other.now.events → IsPrefix self.now.token.seen.log other.now.token.seen.log }
@@ -55,7 +55,7 @@ impl Front {
     }
 }
 
-/// Writes events behind all that is known, unless others are there already.
+/// Writes events after everything that is known, unless others are there already. Answers whether it has.
 fn try_write<N: Happening>(head: &Head, front: &mut Front, count: u64) -> bool
     requires head { head.now ≡ head_of front.old.token.seen.book }
     requires count { count ≡ length N.more }
@@ -85,7 +85,8 @@ fn try_write<N: Happening>(head: &Head, front: &mut Front, count: u64) -> bool
     true
 }
 
-/// Writes events into a history. Only the writer of a picture does, so it need not wait.
+/// Writes events into a history. Only the writer of a picture writes there, so the first try succeeds; but no type says so, so
+/// the loop needs the right to wait.
 pub(crate) fn write<N: Happening, R: Wait>(rt: &R, head: &Head, front: &mut Front, count: u64)
     requires head { head.now ≡ head_of front.old.token.seen.book }
     requires count { count ≡ length N.more }

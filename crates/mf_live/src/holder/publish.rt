@@ -21,7 +21,7 @@ use mf_rows::Picture;
 use std::marker::Brand;
 use std::sync::Wait;
 
-/// Writes into the book what waits there for, and that it is published.
+/// Writes into the book, in one step, the events that wait and the publish itself.
 fn write_publish<N: Happening, R: Wait>(
     rt: &R,
     swap: &Swap,
@@ -38,12 +38,12 @@ fn write_publish<N: Happening, R: Wait>(
     ensures book { front.new.token.seen.book ≡ front.old.token.seen.book }
     ensures log { front.new.token.seen.log ≡ front.old.token.seen.log ++ publishing (view swap.now.desk.place) }
 {
-    // The events are picked by what is handed over: the writer's own view has them.
+    // `swap` is only there to choose the events: they are in the writer's own view.
     let _ = swap;
     write::<N, R>(rt, head, front, count);
 }
 
-/// Shows viewers this version from now on. It waits for those that still look at the one before the last.
+/// Shows viewers this version from now on. It waits for those that still look at the version before the last.
 pub(crate) fn show<R: Wait>(rt: &R, swap: &mut Swap, version: Version)
     requires book { book_of version ≡ book_of swap.old.desk.shown.value }
     requires begins { IsPrefix (events_of swap.old.desk.shown.value) (events_of version) }
@@ -66,7 +66,8 @@ pub(crate) fn show<R: Wait>(rt: &R, swap: &mut Swap, version: Version)
 }
 
 impl Holder {
-    /// Publishes all that was accepted, if anything waits. At `Err` nothing has changed.
+    /// Publishes everything that was accepted, if anything waits. After `Err` nothing has changed: the picture is copied first,
+    /// and nothing can fail after that.
     pub(crate) fn publish<R: Wait>(&mut self, rt: &R) -> Result<(), OutOfMemory>
         ensures name { name self.new ≡ name self.old }
         ensures accepted { accepted self.new ≡ accepted self.old }
@@ -81,7 +82,7 @@ impl Holder {
         Ok(())
     }
 
-    /// Publishes all that was accepted, of which this is the picture.
+    /// Publishes everything that was accepted. `picture` is the picture of that.
     pub(crate) fn publish_picture<R: Wait>(&mut self, rt: &R, picture: Picture)
         requires picture { picture ≡ pic (accepted self.old) }
         requires waits { 0 < self.old.unwritten }

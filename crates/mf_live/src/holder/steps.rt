@@ -1,4 +1,4 @@
-//! Opening a picture, and accepting what comes to it.
+//! Opening a picture, and accepting operations and the end mark.
 ghost use Rattle.std.specs.Prelude.{◌≡◌, ◌≢◌, ◌<◌, ◌^◌, [], ◌∷◌, ◌++◌, false, None, Some, Err, IfOk, IfErr, IsOk, OnOk, MatchResult};
 ghost use Rattle.left_right.specs.Sides.{view};
 ghost use Rattle.mf_geom.specs.declared.cycle.CycleFault.{CycleFault};
@@ -23,7 +23,7 @@ use std::alloc::Global;
 use std::marker::Brand;
 use std::sync::Wait;
 
-/// The blank picture of a history in which nothing has happened.
+/// The blank version of a history in which nothing has happened.
 fn blank(alloc: Global, front: &Front) -> Version
     requires { front.now.token.seen.log ≡ [] }
     ensures { token_of result ≡ front.now.token }
@@ -37,19 +37,19 @@ fn blank(alloc: Global, front: &Front) -> Version
     }
 }
 
-/// The writer has accepted an operation.
+/// Notes in the writer's view that it has accepted an operation.
 fn note_operation<N: Accepting>(swap: &mut Swap, op: &Op)
     requires { N.op ≡ op.now }
     ensures shown { swap.new.desk.shown ≡ swap.old.desk.shown }
     ensures view { view swap.new.desk.place ≡ with_event (view swap.old.desk.place) (Accept op.now) }
 {
-    // The operation is picked by what is handed over.
+    // `op` is only there to choose the operation that the writer's view gets.
     let _ = op;
     let _none = swap.tell::<Accepts<N>>();
 }
 
 impl Holder {
-    /// A blank picture, for so many readers.
+    /// Opens a blank picture for up to `readers` readers.
     pub(crate) fn open<R: Wait>(
         rt: &R,
         alloc: Global,
@@ -63,7 +63,7 @@ impl Holder {
         let (head, front) = open_history();
         let (first, second) = (blank(alloc, &front), blank(alloc, &front));
         let mut swap = Swap::new(alloc, first, second, readers)?;
-        // Shown once more, it tells the writer which picture it is.
+        // Only a publish can put into the writer's view which picture this is, so the blank picture is shown once more.
         show(rt, &mut swap, blank(alloc, &front));
         Ok(Holder {
             alloc,
@@ -75,7 +75,7 @@ impl Holder {
         })
     }
 
-    /// Accepts an operation, which changes the picture. A refusal changes nothing.
+    /// Accepts an operation, which changes the working picture. A refusal changes nothing.
     pub(crate) fn accept(&mut self, alloc: Global, op: &Op) -> Result<(), OpFault>
         requires open { is_closed (accepted self.old) ≡ false }
         requires few { rev (accepted self.old) < most }
@@ -108,7 +108,7 @@ impl Holder {
         self.unwritten += 1;
     }
 
-    /// What viewers go on looking at where nothing is accepted or published any more.
+    /// What viewers go on looking at once nothing is accepted or published any more.
     pub(crate) fn into_swap(self) -> Swap
         ensures { result ≡ self.swap }
     {

@@ -1,4 +1,4 @@
-//! What notices answer.
+//! What a notice says.
 ghost use Rattle.std.specs.Prelude.{◌≡◌};
 ghost use Rattle.mf_live.specs.Entries.{rev};
 ghost use Rattle.mf_live.specs.Viewers.{told};
@@ -6,7 +6,7 @@ ghost use Rattle.mf_live.specs.Viewers.{told};
 use super::Notice;
 
 impl Notice {
-    /// The number of operations that it tells of.
+    /// The revision that it says is published: a number of operations, in which the end mark does not count.
     pub fn revision(&self) -> u32
         ensures { result ≡ rev (told self.now) }
     {

@@ -10,14 +10,14 @@ use mf_rows::Picture;
 use std::alloc::Global;
 
 impl Sheet {
-    /// The picture.
+    /// The picture that the look showed.
     pub fn picture(&self) -> &Picture
         ensures { result.now ≡ sheet_picture self.now }
     {
         &self.picture
     }
 
-    /// The number of its operations.
+    /// Its revision: the number of its operations.
     pub fn revision(&self) -> u32
         ensures { result ≡ sheet_revision self.now }
     {
@@ -44,8 +44,8 @@ fn take_sheet(viewer: Viewer, alloc: Global) -> (Viewer, Result<Sheet, SheetFaul
 }
 
 impl Viewer {
-    /// Looks, and takes what is shown as a sheet. Refusals NoLook (26), after which the viewer has seen what it had
-    /// seen, and OutOfMemory (14), after which it has looked.
+    /// Looks, and keeps what is shown as a sheet. Refused with `NoLook` where the look is not answered: the viewer has then seen
+    /// what it had seen before. Refused with `OutOfMemory` where an allocation fails: the viewer has looked all the same.
     pub fn sheet(&mut self, alloc: Global) -> Result<Sheet, SheetFault>
         ensures name { name self.new ≡ name self.old }
         ensures taken { MatchResult result (λ sheet. IsTaken self.old self.new sheet) (λ fault. IsNotTaken self.old self.new fault) }

@@ -1,21 +1,21 @@
-//! The end of a picture, published while growths are refused.
+//! The end of a picture is published while allocations are refused.
 
 use super::{Closing, Ended, Viewer, assert_shows, assert_tells, ended, fill, half_closed, opened};
 use std::alloc::{AllocError, Global};
 use std::process::Abort;
 use std::sync::Wait;
 
-/// A growth of so many bytes says that growths are refused from here on, and one more byte that memory is ample again, as in
-/// `mf_testing`, which is no library of this crate.
+/// An allocation of this many bytes says that allocations are refused from here on, and one byte more that memory is ample again.
+/// `mf_testing` has the same signs, but it is not a library of this crate.
 const REFUSED_FROM_HERE: usize = 33_554_467;
 
-/// Asks for so many bytes, and gives them back.
+/// Asks for this many bytes, and gives them back.
 fn ask(alloc: Global, size: usize) {
     let asked: Result<Vec<u8>, AllocError> = Vec::with_capacity(alloc, size);
     drop(asked);
 }
 
-/// The end that was published, or that is published again with ample memory. Till then a look shows what was published before.
+/// The end as it was published, or as it is published again with ample memory. Until then a look shows what was published before.
 fn ended_again<R: Abort + Wait>(
     rt: &R,
     published: Result<Ended, Closing>,

@@ -14,7 +14,7 @@ use crate::version::Version;
 use crate::view::View;
 use left_right::reader::{Reader, Reading};
 
-/// Takes the copy that is shown.
+/// Enters the copy that is shown.
 fn enter(
     reader: Reader<Version, View, Lists>,
     missed: bool,
@@ -28,9 +28,9 @@ fn enter(
 }
 
 impl Viewer {
-    /// Looks at what is published. It waits for nobody and takes no memory. Refusal NoLook (26) hands the viewer
-    /// back, which has seen what it had seen. What the look shows was published, all of it and no more, by the events
-    /// that it knows of its picture, and begins, whole, with all that the viewer had looked at or learnt of.
+    /// Looks at what is published. It waits for nobody and allocates nothing. Refused with [`NoLook`], which hands the viewer
+    /// back: it has then seen what it had seen before. What the look shows was published, all of it and no more, by the events
+    /// that it knows of its picture. Everything that the viewer had looked at or learnt of is a whole prefix of it.
     pub fn look(self) -> Result<Look, (Viewer, NoLook)>
         ensures name { MatchResult result (λ look. look_name look ≡ name self) (λ refused. name refused.0 ≡ name self) }
         ensures extends { MatchResult result (λ look. Extends self (shown look)) (λ refused. SeesTheSame self refused.0) }
@@ -68,8 +68,7 @@ impl Viewer {
         Ok(Look { reading, known })
     }
 
-    /// Learns what a notice tells: the looks that follow include that. The caller owes that the notice is of the
-    /// picture of this viewer.
+    /// Learns a notice: the looks that follow include what it says is published. Requires a notice of this viewer's picture.
     pub fn learn(&mut self, notice: Notice)
         requires { notice_name notice ≡ name self.old }
         ensures name { name self.new ≡ name self.old }

@@ -18,11 +18,11 @@ use std::alloc::Global;
 use std::sync::Wait;
 
 impl Writer {
-    /// Accepts an operation: the working picture is then the one after it, and what is published stays. Refusals
-    /// TooManyOperations (13), exactly where as many operations as may be were accepted, else those of `mf_ops::after` on the
-    /// working picture: Backtracks (5) and TurningZero (6), of a contour under the turning check, OutOfField (11) and
-    /// WeightTooLarge (12), and OutOfMemory (14), which may come in the place of WeightTooLarge alone. A refusal changes
-    /// nothing and hands the operation back.
+    /// Accepts an operation: the working picture becomes the one after it, and what is published stays as it is. Refused with
+    /// `TooManyOperations` exactly where as many operations were accepted as may be. Otherwise it is refused as `mf_ops::after`
+    /// refuses it on the working picture: with `Backtracks` or `TurningZero`, for a contour under the turning check, with
+    /// `OutOfField`, with `WeightTooLarge`, or with `OutOfMemory`, which may hide `WeightTooLarge` but no other refusal. A
+    /// refusal changes nothing and hands the operation back.
     pub fn apply(&mut self, alloc: Global, op: Op) -> Result<(), (Op, Fault)>
         ensures name { name self.new ≡ name self.old }
         ensures published { published self.new ≡ published self.old }
@@ -45,29 +45,29 @@ impl Writer {
         }
     }
 
-    /// The picture of all operations that were accepted.
+    /// The working picture: that of all accepted operations, which viewers see from the next publish on.
     pub fn working(&self) -> &Picture
         ensures { result.now ≡ pic (accepted self.now) }
     {
         &self.holder.working
     }
 
-    /// The revision of that picture: how many operations were accepted.
+    /// Its revision: how many operations were accepted.
     pub fn revision(&self) -> u32
         ensures { result ≡ rev (accepted self.now) }
     {
         self.holder.revision
     }
 
-    /// How many operations were accepted and are not published.
+    /// How many accepted operations are not published yet.
     pub fn pending(&self) -> u32
         ensures { result ≡ rev (accepted self.now) - rev (published self.now) }
     {
         self.holder.revision - self.holder.swap.published().notice.number
     }
 
-    /// Publishes at once all operations that were accepted; where all of them are published already, it does nothing. It
-    /// may wait for looks that are held. Refusal OutOfMemory (14): nothing is published then, and it may be tried again.
+    /// Publishes all accepted operations at once; where all are published already, it does nothing. It may wait for looks that
+    /// are held. Refused with `OutOfMemory` where an allocation fails: nothing is published then, and the call can be made again.
     pub fn publish<R: Wait>(&mut self, rt: &R) -> Result<(), OutOfMemory>
         ensures name { name self.new ≡ name self.old }
         ensures accepted { accepted self.new ≡ accepted self.old }
@@ -87,12 +87,12 @@ impl Writer {
         self.holder.swap.published().notice.again()
     }
 
-    /// Ends it with no end mark. It may wait for looks that are held, and looks may be refused from then on.
+    /// Ends the picture without an end mark. It may wait for looks that are held, and looks may be refused from then on.
     pub fn discard<R: Wait>(self, rt: &R) {
         self.into_swap().take(rt);
     }
 
-    /// What viewers can look at, as it is.
+    /// What viewers can look at, unchanged. `discard` calls this first, so that a clause says that nothing is published there.
     fn into_swap(self) -> Swap
         ensures { result ≡ self.holder.swap }
     {

@@ -1,5 +1,5 @@
-//! Calls that were refused for want of memory, and are made again. Here memory is ample; `tests/wanting_memory.py` refuses
-//! each growth of this test in turn.
+//! Calls that are made again after an allocation failed. A test that runs by itself has ample memory; `tests/wanting_memory.py`
+//! refuses each allocation of this one in turn.
 
 use super::{RECT, assert_shows, assert_tells, assert_working, contour_through, points, seated};
 use crate::tests::assertions::assert_same;
@@ -11,10 +11,10 @@ use std::alloc::Global;
 use std::process::Abort;
 use std::sync::Wait;
 
-/// How often a call is made: a growth is refused to one of all calls at most.
+/// How often a call is made. Twice is enough, since at most one allocation of the test is refused.
 const TRIES: u32 = 2;
 
-/// A picture of at most 10 operations, and the desk of at most 2 viewers.
+/// The writer of a picture of at most 10 operations, and a desk of at most 2 viewers.
 fn opened<R: Abort + Wait>(rt: &R, alloc: Global) -> (Writer, Desk) {
     for _ in 0..TRIES {
         if let Ok(opened) = open_picture(rt, alloc, 2, 10) {
@@ -44,7 +44,7 @@ fn copied(rt: &impl Abort, alloc: Global, picture: &Picture) -> Picture {
     panic!(rt; "no picture is copied")
 }
 
-/// Applies an operation; where that is refused, the picture is as it was.
+/// Applies an operation. A refused one leaves the picture as it was.
 fn applied(rt: &impl Abort, alloc: Global, writer: &mut Writer, op: Op) {
     let mut op = op;
     for _ in 0..TRIES {
@@ -62,7 +62,7 @@ fn applied(rt: &impl Abort, alloc: Global, writer: &mut Writer, op: Op) {
     panic!(rt; "the operation is not accepted")
 }
 
-/// Publishes; where that is refused, the same is published as before.
+/// Publishes. After a refusal the same is published as before.
 fn published<R: Abort + Wait>(rt: &R, writer: &mut Writer) {
     for _ in 0..TRIES {
         let revision = writer.tell().revision();
@@ -74,7 +74,7 @@ fn published<R: Abort + Wait>(rt: &R, writer: &mut Writer) {
     panic!(rt; "nothing is published")
 }
 
-/// A sheet has so many operations, and a picture of this total.
+/// Asserts that a sheet has this many operations, and a picture of this total weight.
 fn assert_sheet(rt: &impl Abort, alloc: Global, viewer: &mut Viewer, revision: u32, total: i64) {
     for _ in 0..TRIES {
         match viewer.sheet(alloc) {

@@ -1,4 +1,4 @@
-//! Pictures that end.
+//! Pictures that are closed or discarded.
 
 use super::{
     RECT_RUNS, assert_sees, assert_shows, assert_tells, close, fill, opened, publish_rectangle,
@@ -9,9 +9,9 @@ use mf_live::{SheetFault, Viewer};
 use std::alloc::Global;
 use std::process::Abort;
 
-/// The rectangle is published by the end alone.
+/// Only the end publishes the rectangle.
 #[test]
-fn shows_the_end_to_a_viewer_that_comes_after_it(rt: HostRuntime) {
+fn shows_the_end_to_a_later_viewer(rt: HostRuntime) {
     let alloc = rt.alloc();
     let (mut writer, mut desk) = opened(&rt, alloc, 1, 10);
     fill(&rt, alloc, &mut writer);
@@ -25,7 +25,7 @@ fn shows_the_end_to_a_viewer_that_comes_after_it(rt: HostRuntime) {
     ended.discard(&rt);
 }
 
-/// To close a picture of which nothing was accepted takes no memory.
+/// Closing a picture of which nothing was accepted allocates nothing.
 #[test]
 fn shows_the_end_of_a_picture_that_nothing_changed(rt: HostRuntime) {
     let alloc = rt.alloc();
@@ -39,7 +39,7 @@ fn shows_the_end_of_a_picture_that_nothing_changed(rt: HostRuntime) {
     ended.discard(&rt);
 }
 
-/// The end publishes nothing more where all is published.
+/// The end publishes no more operations where all are published.
 #[test]
 fn shows_the_end_of_a_picture_that_is_published(rt: HostRuntime) {
     let alloc = rt.alloc();
@@ -54,7 +54,7 @@ fn shows_the_end_of_a_picture_that_is_published(rt: HostRuntime) {
     ended.discard(&rt);
 }
 
-/// A look is refused, and so is a sheet.
+/// Asserts that a look is refused, and a sheet too.
 fn assert_refused(rt: &impl Abort, alloc: Global, viewer: Viewer) {
     match viewer.look() {
         Ok(_) => panic!(rt; "a look is answered"),
@@ -66,8 +66,8 @@ fn assert_refused(rt: &impl Abort, alloc: Global, viewer: Viewer) {
     }
 }
 
-/// What was accepted and not published is never seen. A look may be refused after a discard, and is: the viewer has looked at
-/// nothing before.
+/// What was accepted but not published is never seen. A look may be refused after a discard, and this one is, since the viewer
+/// has looked at nothing before.
 #[test]
 fn looks_are_refused_after_a_discard(rt: HostRuntime) {
     let alloc = rt.alloc();

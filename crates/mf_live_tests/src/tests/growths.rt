@@ -1,5 +1,5 @@
-//! Calls whose growths are refused, one after another. Where a call was refused, the picture and what viewers see of it are as
-//! they were, and the same call with ample memory has its value.
+//! Calls whose allocations are refused, one after another. A call that failed leaves the picture, and what viewers see of it, as
+//! they were; the same call with ample memory does what it should.
 
 mod ending;
 mod opening;
@@ -18,10 +18,11 @@ use std::alloc::Global;
 use std::process::Abort;
 use std::sync::Wait;
 
-/// The rectangle, moved by a column and 13 rows: rows 14 and 15 are kept apart, so a change of both makes two lists of rows.
+/// The rectangle, moved by one column and 13 rows. Rows 14 and 15 are in different bands, so a change of both makes two lists of
+/// rows.
 const MOVED: &[Pixels] = &[(14, 1, 3, 1), (13, 1, 3, 1)];
 
-/// A picture of which the rectangle is published and seen, and its move there is accepted and waits.
+/// A picture whose rectangle is published and seen, and whose move by one column and 13 rows is accepted but pending.
 fn moved<R: Abort + Wait>(rt: &R, alloc: Global) -> (Writer, Viewer) {
     let (mut writer, mut desk) = opened(rt, alloc, 1, 10);
     let viewer = seated(rt, &mut desk);
@@ -31,14 +32,15 @@ fn moved<R: Abort + Wait>(rt: &R, alloc: Global) -> (Writer, Viewer) {
     (writer, assert_sees(rt, viewer, 1, RECT_RUNS))
 }
 
-/// So many operations wait to be published, of so many that were accepted, and the working picture has exactly these runs.
+/// Asserts that this many operations are pending, of this many that were accepted, and that the working picture has exactly these
+/// runs.
 fn assert_waiting(rt: &impl Abort, writer: &Writer, counts: (u32, u32), runs: &[Pixels]) {
     let found = (writer.pending(), writer.revision());
     assert_same(rt, found, counts, "operations that wait, and all");
     assert_runs(rt, writer.working(), runs, "the working picture");
 }
 
-/// So many operations are published, and a picture of exactly these runs is seen.
+/// Asserts that this many operations are published, and that a look shows a picture of exactly these runs.
 fn assert_published(
     rt: &impl Abort,
     writer: &mut Writer,

@@ -1,4 +1,4 @@
-//! What looks show, and what notices tell.
+//! What looks show, and what notices say.
 
 ghost use Rattle.std.specs.Prelude.{◌≤◌};
 
@@ -14,7 +14,7 @@ use std::process::Abort;
 use std::sync::Wait;
 use std::test::Fail;
 
-/// The example of docs/LIVE.md.
+/// Two operations that are published at once are shown at once.
 #[test]
 fn both_operations_are_shown_at_once(rt: HostRuntime) -> Result<(), Fail> {
     let alloc = rt.alloc();
@@ -55,7 +55,7 @@ fn shows_what_is_published(rt: HostRuntime) {
     writer.discard(&rt);
 }
 
-/// Of two pictures each shows its own viewers what its own writer publishes.
+/// Of two pictures, each shows its own viewers what its own writer publishes.
 #[test]
 fn each_desk_has_its_own_picture(rt: HostRuntime) {
     let alloc = rt.alloc();
@@ -70,9 +70,9 @@ fn each_desk_has_its_own_picture(rt: HostRuntime) {
     second.discard(&rt);
 }
 
-/// A picture that nobody can look at is written, published and closed all the same.
+/// A picture that nobody can look at is changed, published and closed all the same.
 #[test]
-fn has_no_place(rt: HostRuntime) {
+fn a_picture_may_have_no_viewers(rt: HostRuntime) {
     let alloc = rt.alloc();
     let (mut writer, mut desk) = opened(&rt, alloc, 0, 10);
     assert_no_place(&rt, &mut desk);
@@ -87,7 +87,7 @@ fn has_no_place(rt: HostRuntime) {
 }
 
 #[test]
-fn gives_no_place_of_a_dropped_viewer_again(rt: HostRuntime) {
+fn does_not_reuse_the_place_of_a_dropped_viewer(rt: HostRuntime) {
     let (writer, mut desk) = opened(&rt, rt.alloc(), 2, 10);
     drop(seated(&rt, &mut desk));
     drop(seated(&rt, &mut desk));
@@ -95,7 +95,7 @@ fn gives_no_place_of_a_dropped_viewer_again(rt: HostRuntime) {
     writer.discard(&rt);
 }
 
-/// The viewers of a desk that has so many places and no more.
+/// The viewers of a desk that has exactly this many places.
 fn all_seated(rt: &impl Abort, alloc: Global, desk: &mut Desk, places: u32) -> Vec<Viewer> {
     let mut viewers = Vec::new(alloc);
     for _ in 0..places {
@@ -107,7 +107,7 @@ fn all_seated(rt: &impl Abort, alloc: Global, desk: &mut Desk, places: u32) -> V
     viewers
 }
 
-/// All viewers see so many operations, and a picture of exactly these runs.
+/// Asserts that all viewers see this many operations, and a picture of exactly these runs.
 fn all_see(
     rt: &impl Abort,
     alloc: Global,
@@ -124,7 +124,7 @@ fn all_see(
     after
 }
 
-/// A picture of so many places has so many viewers, who all see the same before a publish and behind it.
+/// Asserts that a picture with this many places has as many viewers, and that they all see the same before and after a publish.
 fn assert_places<R: Abort + Wait>(rt: &R, alloc: Global, places: u32)
     requires { places ≤ 64 }
 {
@@ -149,7 +149,7 @@ fn has_64_places(rt: HostRuntime) {
     assert_places(&rt, rt.alloc(), 64);
 }
 
-/// The later notice counts, also where it is learnt first.
+/// The later notice counts, even where it is learnt first.
 #[test]
 fn learns_the_second_notice_before_the_first(rt: HostRuntime) {
     let alloc = rt.alloc();

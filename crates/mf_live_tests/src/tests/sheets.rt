@@ -1,4 +1,4 @@
-//! Sheets stay as they are.
+//! Sheets, which stay as they are.
 ghost use Rattle.std.specs.Prelude.{◌≡◌};
 ghost use Rattle.mf_live.specs.Viewers.{name};
 
@@ -12,7 +12,7 @@ use mf_rows::{Picture, RowBuilder};
 use std::alloc::Global;
 use std::process::Abort;
 
-/// A sheet.
+/// Takes a sheet.
 pub(crate) fn taken(rt: &impl Abort, alloc: Global, viewer: &mut Viewer) -> Sheet
     ensures { name viewer.new ≡ name viewer.old }
 {
@@ -42,7 +42,7 @@ fn sheets_stay(rt: HostRuntime) {
     writer.discard(&rt);
 }
 
-/// Adds a row of 1000 isolated pixels, at the even columns, whose weight is one more than the number of the row.
+/// Adds a row of 1000 isolated pixels, at the even columns. Their weight is the number of the row plus 1.
 fn push_row(rt: &impl Abort, builder: &mut RowBuilder, y: i32) {
     for across in 0..1000i32 {
         let pixel = (y, across.saturating_mul(2), 1, y.saturating_add(1));
@@ -50,7 +50,7 @@ fn push_row(rt: &impl Abort, builder: &mut RowBuilder, y: i32) {
     }
 }
 
-/// A picture of a million runs: 1000 of those rows.
+/// A picture of a million runs: 1000 such rows.
 fn million(rt: &impl Abort, alloc: Global) -> Picture {
     let mut builder = RowBuilder::new(alloc);
     for y in (0..1000).rev() {
@@ -59,7 +59,7 @@ fn million(rt: &impl Abort, alloc: Global) -> Picture {
     builder.finish().expect(rt, "there is room for the picture")
 }
 
-/// Some runs of that picture, by their number: the first and the second, the last of a row and the first of the next one, one
+/// Some runs of that picture with their numbers: the first and the second, the last of a row and the first of the next, one
 /// halfway, and the last.
 const SOME: &[(usize, Pixels)] = &[
     (0, (999, 0, 1, 1000)),
@@ -70,7 +70,7 @@ const SOME: &[(usize, Pixels)] = &[
     (999_999, (0, 1998, 1, 1)),
 ];
 
-/// A picture has these runs, and none behind a million.
+/// Asserts that a picture has these runs, and no run after the first million.
 fn assert_million(rt: &impl Abort, picture: &Picture, some: &[(usize, Pixels)]) {
     for (k, run) in some {
         assert_same(rt, picture.run(*k), Some(run_of(*run)), ("run", *k));
@@ -78,7 +78,7 @@ fn assert_million(rt: &impl Abort, picture: &Picture, some: &[(usize, Pixels)]) 
     assert_same(rt, picture.run(1_000_000), None, "behind the last run");
 }
 
-/// The weights of the rows add up to 500,500, and each has 1000 pixels.
+/// The weights of the rows add up to 500,500, and each row has 1000 pixels.
 #[test]
 fn sheets_have_a_million_runs(rt: HostRuntime) {
     let alloc = rt.alloc();

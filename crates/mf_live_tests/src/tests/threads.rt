@@ -1,4 +1,4 @@
-//! Looks beside a writer.
+//! Looks in threads beside a writer.
 
 use super::{UNIT, assert_shows, contour, opened, seated};
 use crate::tests::assertions::{assert_holds, assert_same};
@@ -14,7 +14,8 @@ const PUBLISHES: u32 = 1000;
 /// How often each viewer looks.
 const LOOKS: u32 = 20_000;
 
-/// Adds one to a pixel and publishes that, again and again: the total of revision r is then r.
+/// Adds 1 to a pixel and publishes that, again and again, so that the total of revision r is r. Answers whether nothing was
+/// refused.
 fn write<R: Abort + Wait>(rt: &R, alloc: Global, writer: &mut Writer) -> bool {
     let mut fine = true;
     for _ in 0..PUBLISHES {
@@ -24,8 +25,8 @@ fn write<R: Abort + Wait>(rt: &R, alloc: Global, writer: &mut Writer) -> bool {
     fine
 }
 
-/// The viewer after its looks, and how many of them went back, had a total that is not that of their revision, or were
-/// not answered.
+/// The viewer after its looks, and how many looks went wrong: they went back, had a total other than that of their revision, or
+/// were not answered.
 fn look(viewer: Viewer) -> (Viewer, u32) {
     let (mut viewer, mut last, mut wrong) = (viewer, 0, 0u32);
     for _ in 0..LOOKS {
@@ -45,8 +46,8 @@ fn look(viewer: Viewer) -> (Viewer, u32) {
     (viewer, wrong)
 }
 
-/// Whether the writer was refused nothing, and the two viewers that looked beside it, with how many of their looks were
-/// wrong.
+/// Runs the writer beside two viewers. Answers whether the writer was refused nothing, and the viewers with the number of their
+/// looks that went wrong.
 fn race<R: Abort + Threads + Wait + Sync>(
     rt: &R,
     alloc: Global,

@@ -11,13 +11,13 @@ use mf_ops::{Op, OpFault, Sign};
 use std::alloc::Global;
 use std::process::Abort;
 
-/// The working picture is added to itself, which is accepted.
+/// Adds the working picture to itself, which is accepted.
 fn double(rt: &impl Abort, alloc: Global, writer: &mut Writer) {
     let copy = copied(rt, alloc, writer);
     apply(rt, alloc, writer, Op::Also(copy, Sign::Plus));
 }
 
-/// No more operations are accepted.
+/// Asserts that no more operations are accepted.
 fn assert_full(rt: &impl Abort, alloc: Global, writer: &mut Writer) {
     let refused = writer.apply(alloc, Op::Clear);
     let too_many = matches!(&refused, Err((Op::Clear, Fault::TooManyOperations)));
@@ -25,7 +25,7 @@ fn assert_full(rt: &impl Abort, alloc: Global, writer: &mut Writer) {
 }
 
 #[test]
-fn accepts_so_many_operations(rt: HostRuntime) {
+fn accepts_operations_up_to_the_limit(rt: HostRuntime) {
     let alloc = rt.alloc();
     let (mut writer, _desk) = opened(&rt, alloc, 1, 2);
     fill(&rt, alloc, &mut writer);
@@ -68,7 +68,7 @@ fn publishes_nothing_three_times(rt: HostRuntime) {
     writer.discard(&rt);
 }
 
-/// A shift to the right by so many pixels would leave the field, and is handed back.
+/// Asserts that a shift to the right by this many pixels would leave the field, and is handed back.
 fn assert_leaves_the_field(rt: &impl Abort, alloc: Global, writer: &mut Writer, dx: i32) {
     match writer.apply(alloc, Op::Shift(dx, 0)) {
         Err((Op::Shift(back_dx, back_dy), Fault::Refused(OpFault::OutOfField))) => {
@@ -90,7 +90,7 @@ fn hands_back_what_leaves_the_field(rt: HostRuntime) {
     writer.discard(&rt);
 }
 
-/// The working picture, of this total, weighs too much to be added to itself: the copy is handed back.
+/// Asserts that the working picture, of this total weight, is too heavy to be added to itself: the copy is handed back.
 fn assert_weighs_too_much(rt: &impl Abort, alloc: Global, writer: &mut Writer, total: i64) {
     let copy = copied(rt, alloc, writer);
     match writer.apply(alloc, Op::Also(copy, Sign::Plus)) {
@@ -115,10 +115,10 @@ fn hands_back_what_weighs_too_much(rt: HostRuntime) {
     writer.discard(&rt);
 }
 
-/// An edge there and back, which winds round nothing.
+/// An edge there and back, which winds around nothing.
 const THERE_AND_BACK: &[(i32, i32)] = &[(0, 0), (1, 0)];
 
-/// A contour of two points is refused for this, and handed back.
+/// Asserts that a contour of two points is refused with this fault, and handed back.
 fn assert_refuses_a_contour(rt: &impl Abort, alloc: Global, writer: &mut Writer, fault: Fault) {
     let refused = writer.apply(alloc, contour(rt, alloc, THERE_AND_BACK, 1));
     let found = match &refused {
@@ -144,7 +144,7 @@ fn counts_contours_that_change_no_pixel(rt: HostRuntime) {
         );
         assert_working(&rt, &writer, pending, 0);
     }
-    // What is accepted at most comes before how a cycle turns.
+    // The limit of operations comes before the turning check.
     assert_refuses_a_contour(&rt, alloc, &mut writer, Fault::TooManyOperations);
     publish(&rt, &mut writer);
     assert_tells(&rt, &writer.tell(), 2);

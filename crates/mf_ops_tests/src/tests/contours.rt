@@ -10,19 +10,19 @@ use mf_ops::{OpFault, Weight};
 use mf_rows::{Picture, RowBuilder, Run};
 use std::process::Abort;
 
-/// These contours, each with its weight, fill exactly these runs.
+/// Asserts that these contours, each with its weight, fill exactly these runs.
 fn assert_filled<R: Abort + AllocGlobal>(rt: &R, contours: &[(Corners, i32)], runs: &[Run]) {
     assert_runs(rt, &filled(rt, contours), runs);
 }
 
-/// These numbers are weights of contours, and keep what they are.
+/// Asserts that these numbers are weights of contours, and keep their values.
 fn assert_are_weights(rt: &impl Abort, numbers: &[i32]) {
     for number in numbers {
         assert_same(rt, weight(rt, *number).get(), *number, "weight");
     }
 }
 
-/// These numbers are no weights of contours.
+/// Asserts that these numbers are refused as weights of contours.
 fn assert_are_no_weights(rt: &impl Abort, numbers: &[i32]) {
     for number in numbers {
         assert_holds(rt, Weight::new(*number).is_err(), ("refused", *number));
@@ -35,7 +35,7 @@ fn weights_of_contours(rt: HostRuntime) {
     assert_are_no_weights(&rt, &[0, 4, -4, 5, i32::MIN, i32::MAX]);
 }
 
-/// The picture of these runs, each of which has to fit.
+/// The picture with these runs. Each run must fit after the ones before it.
 pub(super) fn built<R: Abort + AllocGlobal>(rt: &R, runs: &[Run]) -> Picture {
     let mut builder = RowBuilder::new(rt.alloc());
     for run in runs {
@@ -49,7 +49,7 @@ pub(super) fn built<R: Abort + AllocGlobal>(rt: &R, runs: &[Run]) -> Picture {
     builder.finish().expect(rt, "there is room for the picture")
 }
 
-/// Both pictures have the same weights in and round the rectangle.
+/// Asserts that both pictures have the same weights in and around the rectangle.
 fn assert_same_weights(rt: &impl Abort, filled: &Picture, built: &Picture) {
     for y in -1..3 {
         for x in -1..4 {
@@ -58,7 +58,7 @@ fn assert_same_weights(rt: &impl Abort, filled: &Picture, built: &Picture) {
     }
 }
 
-/// These corners are filled with these runs, and with 6 pixels of weight 1.
+/// Asserts that filling the path through these corners gives these runs, with six pixels of weight 1.
 fn assert_fills<R: Abort + AllocGlobal>(rt: &R, corners: Corners, runs: &[Run]) {
     let filled = filled(rt, &[(corners, 1)]);
     assert_runs(rt, &filled, runs);
@@ -73,8 +73,8 @@ fn fills_a_rectangle(rt: HostRuntime) {
     assert_fills(&rt, CLOCKWISE, &runs);
 }
 
-/// These contours, each walked so many times and with its weight, fill a picture of this total, of which these pixels
-/// have these weights.
+/// Asserts that these contours, each walked a number of times and filled with its weight, make a picture with this total and with
+/// these weights of pixels.
 fn assert_wound<R: Abort + AllocGlobal>(
     rt: &R,
     contours: &[(Corners, usize, i32)],
@@ -94,7 +94,7 @@ fn winding_numbers_weigh(rt: HostRuntime) {
     assert_wound(&rt, &contours, 1012, &pixels);
 }
 
-/// A picture to which turns round the pixel of this weight are added, with which the pixel weighs so much.
+/// Adds `times` turns around the pixel (0, 0), filled with the weight `number`, and asserts that the pixel then has this weight.
 fn with_turns<R: Abort + AllocGlobal>(
     rt: &R,
     picture: &Picture,
@@ -107,14 +107,14 @@ fn with_turns<R: Abort + AllocGlobal>(
     sum
 }
 
-/// Turns round the pixel of this weight make a weight that is too large.
+/// Asserts that `times` turns around the pixel, filled with the weight `number`, would make its weight too large.
 fn assert_too_many<R: Abort + AllocGlobal>(rt: &R, picture: &Picture, times: usize, number: i32) {
     let op = contour(rt, PIXEL, times, number);
     assert_refused(rt, picture, &op, OpFault::WeightTooLarge);
 }
 
-/// Turns round the pixel of the weight `three`, and a last one of the weight `one`, make these weights, the last of which
-/// is the greatest.
+/// Asserts that turns around the pixel with weight `three`, and a last one with weight `one`, make these weights. The last is the
+/// greatest weight that a pixel may have, or the least.
 fn assert_limit<R: Abort + AllocGlobal>(
     rt: &R,
     three: i32,
@@ -123,11 +123,11 @@ fn assert_limit<R: Abort + AllocGlobal>(
 ) {
     let picture = wound(rt, &[(PIXEL, 1024, three); 9]);
     let full = with_turns(rt, &picture, 1024, three, tenfold);
-    // 33792 in size
+    // 33792 in absolute value
     assert_too_many(rt, &full, 1024, three);
     let more = with_turns(rt, &full, 682, three, nearly);
     let last = with_turns(rt, &more, 1, one, greatest);
-    // 32768 in size
+    // 32768 in absolute value
     assert_too_many(rt, &last, 1, one);
 }
 
@@ -137,7 +137,7 @@ fn weights_have_a_limit(rt: HostRuntime) {
     assert_limit(&rt, -3, -1, [-30720, -32766, -32767]);
 }
 
-/// Pixels where the whole field is filled.
+/// Pixels and their weights, after the whole field is filled.
 const FIELD_PIXELS: [(i32, i32, i32); 8] = [
     // The corners of the field.
     (-4095, -4095, 1),
@@ -193,8 +193,8 @@ fn fills_the_corners_of_the_field(rt: HostRuntime) {
 
 #[test]
 fn contours_touch(rt: HostRuntime) {
-    // The second begins in the column in which the first ends: with the same weight one run goes on, and
-    // with another there are two.
+    // The second contour starts in the column where the first one ends. With the same weight they make one run, and with another
+    // weight two.
     let row: Corners = &[(0, 0), (3, 0), (3, 1), (0, 1)];
     let beside: Corners = &[(3, 0), (5, 0), (5, 1), (3, 1)];
     assert_filled(&rt, &[(row, 1), (beside, 1)], &[run(0, 0, 5, 1)]);
@@ -217,7 +217,7 @@ fn contours_overlap(rt: HostRuntime) {
     assert_filled(&rt, &[(low, 1), (high, 2)], &runs);
 }
 
-/// These contours cancel.
+/// Asserts that these contours cancel.
 fn assert_cancel<R: Abort + AllocGlobal>(rt: &R, contours: &[(Corners, i32)]) {
     let nothing = filled(rt, contours);
     assert_runs(rt, &nothing, &[]);
@@ -233,7 +233,7 @@ fn contours_cancel(rt: HostRuntime) {
 
 #[test]
 fn contours_leave_the_rest(rt: HostRuntime) {
-    // The lower row, and of the upper one its ends.
+    // What is left is the lower row, and both ends of the upper one.
     let middle: Corners = &[(1, 1), (2, 1), (2, 2), (1, 2)];
     let rest = [run(1, 0, 1, 1), run(1, 2, 1, 1), run(0, 0, 3, 1)];
     assert_filled(&rt, &[(RECTANGLE, 1), (middle, -1)], &rest);
@@ -253,7 +253,7 @@ fn fills_across_a_border_of_bands(rt: HostRuntime) {
 
 #[test]
 fn a_cycle_winds_both_ways(rt: HostRuntime) {
-    // An eight that goes round its lower square twice counterclockwise and round its upper one once clockwise.
+    // An eight that goes around its lower square twice counterclockwise, and around its upper square once clockwise.
     let eight: Corners = &[
         (0, 0),
         (2, 0),

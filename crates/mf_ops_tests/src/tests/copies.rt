@@ -1,4 +1,4 @@
-//! Copies of operations, and operations on a picture itself.
+//! Copies of operations, and operations performed on a picture in place.
 
 use super::{
     CLOCKWISE, RECTANGLE, accepted, assert_equal, assert_total, contour, copy_of, dropping, filled,
@@ -8,27 +8,27 @@ use mf_ops::{Op, Sign, apply};
 use mf_rows::Picture;
 use std::process::Abort;
 
-/// The rectangle, of weight 2.
+/// The rectangle, with weight 2.
 fn rectangle<R: Abort + AllocGlobal>(rt: &R) -> Picture {
     filled(rt, &[(RECTANGLE, 2)])
 }
 
-/// The picture to which an operation was applied itself.
+/// A copy of the picture, after an operation is performed on it in place.
 fn changed<R: Abort + AllocGlobal>(rt: &R, picture: &Picture, op: &Op) -> Picture {
     let mut changed = copy_of(rt, picture);
     apply(rt.alloc(), &mut changed, op).expect(rt, "the operation is performed");
     changed
 }
 
-/// The copy of an operation makes the same of a picture, and so does the operation on the picture itself.
+/// Asserts that the copy of an operation makes the same picture as the operation, and so does performing it in place.
 fn assert_again<R: Abort + AllocGlobal>(rt: &R, picture: &Picture, op: &Op, new: &Picture) {
     let copy = op.copy(rt.alloc()).expect(rt, "there is room for the copy");
     assert_equal(rt, &accepted(rt, picture, &copy), new, "the copy");
     assert_equal(rt, &changed(rt, picture, op), new, "the picture itself");
 }
 
-/// An operation makes of the rectangle a picture of this total. So does its copy, and so does the operation on the
-/// rectangle itself.
+/// Asserts that an operation on the rectangle makes a picture with this total, that its copy makes the same picture, and so does
+/// performing it in place.
 fn assert_effect<R: Abort + AllocGlobal>(rt: &R, op: Op, total: i64) {
     let rectangle = rectangle(rt);
     let new = accepted(rt, &rectangle, &op);
@@ -39,7 +39,7 @@ fn assert_effect<R: Abort + AllocGlobal>(rt: &R, op: Op, total: i64) {
 #[test]
 fn additions_have_their_effect(rt: HostRuntime) {
     assert_effect(&rt, contour(&rt, RECTANGLE, 1, -1), 6);
-    // Clockwise, once negated and once not.
+    // Clockwise: negated where it is checked, and not negated where it is not.
     assert_effect(&rt, contour(&rt, CLOCKWISE, 1, 1), 18);
     assert_effect(&rt, unchecked(&rt, CLOCKWISE, 1, 1), 6);
     assert_effect(&rt, Op::Also(rectangle(&rt), Sign::Plus), 24);

@@ -9,7 +9,7 @@ use mf_ops::{BadCull, Cull, Op};
 use mf_rows::{Picture, Run};
 use std::process::Abort;
 
-/// The cull that keeps the weights `low..=high`, with the weight of this number, makes a picture of these runs.
+/// Asserts that the cull that keeps the weights `low..=high`, with the weight `number`, makes a picture with these runs.
 fn assert_kept<R: Abort + AllocGlobal>(
     rt: &R,
     picture: &Picture,
@@ -21,7 +21,7 @@ fn assert_kept<R: Abort + AllocGlobal>(
     assert_runs(rt, &culled, runs);
 }
 
-/// The cull that drops the weights `low..=high`, with the weight of this number, makes a picture of these runs.
+/// Asserts that the cull that drops the weights `low..=high`, with the weight `number`, makes a picture with these runs.
 fn assert_dropped<R: Abort + AllocGlobal>(
     rt: &R,
     picture: &Picture,
@@ -33,7 +33,7 @@ fn assert_dropped<R: Abort + AllocGlobal>(
     assert_runs(rt, &culled, runs);
 }
 
-/// Three bars over one another: weights 1, 2 and 3 side by side.
+/// Three bars that overlap, so that weights 1, 2 and 3 are side by side.
 fn bars<R: Abort + AllocGlobal>(rt: &R) -> Picture {
     let long: Corners = &[(0, 0), (3, 0), (3, 1), (0, 1)];
     let middle: Corners = &[(1, 0), (3, 0), (3, 1), (1, 1)];
@@ -87,7 +87,7 @@ fn rows_of_one_contour_are_culled_alike(rt: HostRuntime) {
     assert_kept(&rt, &picture, (-32767, -1), -2, &negative);
 }
 
-/// The range `low..=high` may be kept where it has a weight but not 0, and dropped where it has 0.
+/// Asserts that the range `low..=high` may be kept where it is not empty and does not contain 0, and dropped where it contains 0.
 fn assert_lawful(rt: &impl Abort, low: i32, high: i32) {
     let has_zero = (low..=high).contains(&0);
     let kept = Cull::keeping(low, high, weight(rt, 1));
@@ -97,7 +97,7 @@ fn assert_lawful(rt: &impl Abort, low: i32, high: i32) {
     assert_same(rt, dropped.is_ok(), has_zero, ("dropping", low, high));
 }
 
-/// None of these ranges may be kept.
+/// Asserts that none of these ranges may be kept.
 fn assert_not_kept(rt: &impl Abort, ranges: &[(i32, i32)]) {
     for (low, high) in ranges {
         let cull = Cull::keeping(*low, *high, weight(rt, 1));
@@ -105,7 +105,7 @@ fn assert_not_kept(rt: &impl Abort, ranges: &[(i32, i32)]) {
     }
 }
 
-/// None of these ranges may be dropped.
+/// Asserts that none of these ranges may be dropped.
 fn assert_not_dropped(rt: &impl Abort, ranges: &[(i32, i32)]) {
     for (low, high) in ranges {
         let cull = Cull::dropping(*low, *high, weight(rt, 1));

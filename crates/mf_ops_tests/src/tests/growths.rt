@@ -1,7 +1,7 @@
-//! Calls whose growths are refused, one after another. The operation and the picture are as they were then, and the
-//! same call with ample memory has its value.
+//! Calls whose allocations are refused, one after another. Each test asserts that a refused call leaves the operation and the
+//! picture as they were, and that the same call with ample memory then gives its value.
 
-/// A run of pixels, in a constant: tables that a test makes itself cost the prover seconds.
+/// A run of pixels as a constant: tables that a test makes itself cost the prover seconds.
 macro_rules! run_of {
     ($y:expr, $x:expr, $len:expr, $weight:expr) => {
         Run {
@@ -29,7 +29,7 @@ use mf_testing::{grow_again, refuse_growths};
 use plan::Plan;
 use std::process::Abort;
 
-/// Rows in three bands, two of them in one, of which one has two weights side by side.
+/// Rows in three bands. One band has two of them, and one of these rows has two weights side by side.
 const APART: &[Run] = &[
     run_of!(90, -3, 2, 5),
     run_of!(1, 0, 2, 1),
@@ -38,7 +38,7 @@ const APART: &[Run] = &[
     run_of!(-70, 0, 1, -2),
 ];
 
-/// The picture after an operation whose growths are refused.
+/// What `after` returns while allocations are refused.
 fn after_refused<R: Abort + AllocGlobal>(
     rt: &R,
     picture: &Picture,
@@ -50,7 +50,7 @@ fn after_refused<R: Abort + AllocGlobal>(
     answer
 }
 
-/// Performs an operation whose growths are refused on a picture itself.
+/// What `apply` returns while allocations are refused.
 fn apply_refused<R: Abort + AllocGlobal>(
     rt: &R,
     picture: &mut Picture,
@@ -62,12 +62,12 @@ fn apply_refused<R: Abort + AllocGlobal>(
     answer
 }
 
-/// An operation is refused for want of memory.
-fn assert_wanting(rt: &impl Abort, fault: OpFault, plan: Plan) {
+/// Asserts that an operation is refused because an allocation failed.
+fn assert_out_of_memory(rt: &impl Abort, fault: OpFault, plan: Plan) {
     assert_same(rt, fault, OpFault::OutOfMemory, plan);
 }
 
-/// An operation makes the picture of these runs of the rows.
+/// Asserts that an operation makes a picture with these runs out of the rows.
 fn assert_makes<R: Abort + AllocGlobal>(rt: &R, plan: Plan, runs: &[Run]) {
     let picture = built(rt, APART);
     let op = plan.op(rt, &picture);
@@ -77,7 +77,7 @@ fn assert_makes<R: Abort + AllocGlobal>(rt: &R, plan: Plan, runs: &[Run]) {
     let new = match answer {
         Ok(new) => new,
         Err(fault) => {
-            assert_wanting(rt, fault, plan);
+            assert_out_of_memory(rt, fault, plan);
             accepted(rt, &picture, &op)
         }
     };
@@ -86,14 +86,14 @@ fn assert_makes<R: Abort + AllocGlobal>(rt: &R, plan: Plan, runs: &[Run]) {
     plan.assert_is(rt, &op);
 }
 
-/// An operation, performed on the rows themselves, makes the picture of these runs of them.
+/// Asserts that an operation performed on the rows in place turns them into these runs.
 fn assert_applies<R: Abort + AllocGlobal>(rt: &R, plan: Plan, runs: &[Run]) {
     let mut picture = built(rt, APART);
     let op = plan.op(rt, &picture);
     let answer = apply_refused(rt, &mut picture, &op);
     plan.assert_is(rt, &op);
     if let Err(fault) = answer {
-        assert_wanting(rt, fault, plan);
+        assert_out_of_memory(rt, fault, plan);
         assert_runs(rt, &picture, APART);
         let again = apply(rt.alloc(), &mut picture, &op);
         assert_same(rt, again, Ok(()), plan);

@@ -9,12 +9,12 @@ use mf_ops::{BadScale, BadTurn, Op, OpFault, Quarter, Scale};
 use mf_rows::{Box4, Picture, Run};
 use std::process::Abort;
 
-/// The picture of one pixel of weight 1.
+/// The picture of the pixel (x, y) with weight 1.
 fn pixel<R: Abort + AllocGlobal>(rt: &R, (x, y): (i32, i32)) -> Picture {
     shifted(rt, &filled(rt, &[(PIXEL, 1)]), x, y)
 }
 
-/// A picture after a turn.
+/// A picture after a turn by this angle.
 fn turned<R: Abort + AllocGlobal>(rt: &R, picture: &Picture, angle: i32) -> Picture {
     accepted(rt, picture, &turn(rt, angle))
 }
@@ -24,12 +24,12 @@ fn shifted<R: Abort + AllocGlobal>(rt: &R, picture: &Picture, right: i32, up: i3
     accepted(rt, picture, &Op::Shift(right, up))
 }
 
-/// An operation makes of this pixel a picture of these runs.
+/// Asserts that an operation on this pixel makes a picture with these runs.
 fn assert_moves<R: Abort + AllocGlobal>(rt: &R, place: (i32, i32), op: Op, runs: &[Run]) {
     assert_runs(rt, &accepted(rt, &pixel(rt, place), &op), runs);
 }
 
-/// An operation takes this pixel out of the field, and its picture stays as it is.
+/// Asserts that an operation is refused because it takes this pixel out of the field.
 fn assert_leaves<R: Abort + AllocGlobal>(rt: &R, place: (i32, i32), op: Op) {
     assert_refused(rt, &pixel(rt, place), &op, OpFault::OutOfField);
 }
@@ -95,14 +95,14 @@ fn a_corner_goes_to_others(rt: HostRuntime) {
     assert_moves(&rt, corner, across, &[run(4094, -4095, 1, 1)]);
 }
 
-/// An operation leaves the blank picture blank.
+/// Asserts that an operation leaves the blank picture blank.
 fn assert_blank_stays<R: Abort + AllocGlobal>(rt: &R, op: Op) {
     let blank = Picture::blank(rt.alloc());
     let still = accepted(rt, &blank, &op);
     assert_equal(rt, &still, &blank, "the blank picture");
 }
 
-/// These shifts take the pixel (0, 0) out of the field, and leave the blank picture blank.
+/// Asserts that these shifts take the pixel (0, 0) out of the field, and leave the blank picture blank.
 fn assert_far<R: Abort + AllocGlobal>(rt: &R, shifts: &[(i32, i32)]) {
     for (right, up) in shifts {
         assert_leaves(rt, (0, 0), Op::Shift(*right, *up));
@@ -131,28 +131,28 @@ fn blank_stays_blank(rt: HostRuntime) {
     assert_blank_stays(&rt, turn(&rt, 270));
 }
 
-/// None of these are factors of scales.
+/// Asserts that none of these pairs are the factors of a scale.
 fn assert_bad_factors(rt: &impl Abort, factors: &[(i32, i32)]) {
     for (x, y) in factors {
         assert_same(rt, Scale::new(*x, *y), Err(BadScale), ("factors", *x, *y));
     }
 }
 
-/// All of these are factors of scales.
+/// Asserts that all of these pairs are the factors of a scale.
 fn assert_factors(rt: &impl Abort, factors: &[(i32, i32)]) {
     for (x, y) in factors {
         assert_holds(rt, Scale::new(*x, *y).is_ok(), ("factors", *x, *y));
     }
 }
 
-/// None of these are angles of turns.
+/// Asserts that none of these angles are turns.
 fn assert_bad_angles(rt: &impl Abort, angles: &[i32]) {
     for angle in angles {
         assert_same(rt, Quarter::new(*angle), Err(BadTurn), ("degrees", *angle));
     }
 }
 
-/// All of these are angles of turns.
+/// Asserts that all of these angles are turns.
 fn assert_angles(rt: &impl Abort, angles: &[i32]) {
     for angle in angles {
         assert_holds(rt, Quarter::new(*angle).is_ok(), ("degrees", *angle));
@@ -169,13 +169,13 @@ fn refuses_other_factors_and_angles(rt: HostRuntime) {
     assert_angles(&rt, &[90, 180, 270]);
 }
 
-/// An L: a column of three pixels, and one pixel more at the right of its foot.
+/// An L: a column of three pixels, and one more pixel to the right of its foot.
 fn standing<R: Abort + AllocGlobal>(rt: &R) -> Picture {
     let shape: Corners = &[(0, 0), (2, 0), (2, 1), (1, 1), (1, 3), (0, 3)];
     filled(rt, &[(shape, 2)])
 }
 
-/// The L is turned by an angle to these runs, and back.
+/// Asserts that the L, turned by an angle, has these runs, and is the L again when it is turned back.
 fn assert_turned<R: Abort + AllocGlobal>(rt: &R, angle: i32, runs: &[Run]) {
     let standing = standing(rt);
     let there = turned(rt, &standing, angle);
@@ -193,7 +193,7 @@ fn an_l_is_turned_all_the_way(rt: HostRuntime) {
     assert_turned(&rt, 270, &[run(-1, 0, 3, 2), run(-2, 0, 1, 2)]);
 }
 
-/// The first place of the stretch to which a factor takes a place.
+/// The first column, or row, of those that a factor makes of this one.
 fn stretched(place: i32, factor: i32) -> i32 {
     let (start, end) = (
         place.wrapping_mul(factor),
@@ -202,7 +202,7 @@ fn stretched(place: i32, factor: i32) -> i32 {
     start.min(end)
 }
 
-/// A scaled picture has the weights of the picture, each at the first pixel of those that its pixel becomes.
+/// Asserts that a scaled picture has the weight of each pixel at the first of the pixels that it becomes.
 fn assert_stretched(rt: &impl Abort, picture: &Picture, scaled: &Picture, (x, y): (i32, i32)) {
     for row in -2..5 {
         for column in -2..5 {
@@ -213,7 +213,7 @@ fn assert_stretched(rt: &impl Abort, picture: &Picture, scaled: &Picture, (x, y)
     }
 }
 
-/// A picture is scaled by these factors, and its total by their product.
+/// Asserts that scaling a picture by these factors multiplies its total by the absolute value of their product.
 fn assert_scaled<R: Abort + AllocGlobal>(rt: &R, picture: &Picture, factors: (i32, i32)) {
     let scaled = accepted(rt, picture, &scale(rt, factors.0, factors.1));
     let size = i64::from(factors.0.wrapping_mul(factors.1).wrapping_abs());
@@ -232,7 +232,7 @@ fn scales_multiply_the_total(rt: HostRuntime) {
     assert_scaled(&rt, &picture, (1, 5));
 }
 
-/// A picture has its weight at the pixel (0, 0) where a shift takes it, and is as before where it is shifted back.
+/// Asserts that a shift moves the weight of the pixel (0, 0) as far as it says, and that shifting back restores the picture.
 fn assert_shifted<R: Abort + AllocGlobal>(rt: &R, picture: &Picture, right: i32, up: i32) {
     let there = shifted(rt, picture, right, up);
     assert_weights(rt, &there, &[(right, up, picture.weight(0, 0))]);

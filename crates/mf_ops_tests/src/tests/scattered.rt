@@ -1,4 +1,4 @@
-//! Scattered pixels that move there and back.
+//! Pictures of scattered pixels, which are moved there and back.
 
 use super::{PIXEL, accepted, assert_total, assert_weights, filled, scale, turn};
 use crate::tests::assertions::assert_holds;
@@ -6,16 +6,16 @@ use mf_ops::{Op, Sign};
 use mf_rows::Picture;
 use std::process::Abort;
 
-/// Pictures of scattered pixels.
+/// The number of pictures of scattered pixels.
 const PICTURES: i32 = 10;
 
-/// The pixel (x, y), added or subtracted.
+/// The operation that adds or subtracts the pixel (x, y).
 fn signed_pixel<R: Abort + AllocGlobal>(rt: &R, x: i32, y: i32, sign: Sign) -> Op {
     let unit = filled(rt, &[(PIXEL, 1)]);
     Op::Also(accepted(rt, &unit, &Op::Shift(x, y)), sign)
 }
 
-/// Pixels in the square of side 7 round (0, 0), scattered by a seed, with weights of either sign.
+/// Pixels with weights of either sign, scattered by a seed over the square of side 7 around (0, 0).
 fn scattered<R: Abort + AllocGlobal>(rt: &R, seed: i32) -> Picture {
     let mut picture = Picture::blank(rt.alloc());
     let mut state = seed;
@@ -34,8 +34,8 @@ fn scattered<R: Abort + AllocGlobal>(rt: &R, seed: i32) -> Picture {
     picture
 }
 
-/// The scattered picture of this seed keeps its total on the way there, and is as before on the way back. Its pixel
-/// (2, 1) comes to the place (x, y).
+/// Asserts that the scattered picture of this seed keeps its total when it is moved, has the weight of its pixel (2, 1) at the
+/// pixel (x, y) then, and is restored when it is moved back.
 fn assert_one_moves_back<R: Abort + AllocGlobal>(
     rt: &R,
     seed: i32,
@@ -51,7 +51,7 @@ fn assert_one_moves_back<R: Abort + AllocGlobal>(
     assert_holds(rt, again.equal(&picture), ("back", seed));
 }
 
-/// So do all scattered pictures.
+/// Asserts the same of all scattered pictures.
 fn assert_moves_back<R: Abort + AllocGlobal>(rt: &R, there: Op, back: Op, place: (i32, i32)) {
     for seed in 0..PICTURES {
         assert_one_moves_back(rt, seed, &there, &back, place);

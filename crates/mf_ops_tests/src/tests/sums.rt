@@ -1,4 +1,4 @@
-//! Pictures added to pictures, and subtracted from them.
+//! Pictures that are added to pictures, and subtracted from them.
 
 use super::{
     Corners, PIXEL, RECTANGLE, accepted, assert_blank, assert_equal, assert_refused, assert_runs,
@@ -8,13 +8,12 @@ use mf_ops::{Op, OpFault, Sign};
 use mf_rows::{Picture, Run};
 use std::process::Abort;
 
-/// The picture to which a copy of another is added, or from which it is subtracted.
+/// The picture after a copy of another is added to it or subtracted from it.
 fn add<R: Abort + AllocGlobal>(rt: &R, picture: &Picture, other: &Picture, sign: Sign) -> Picture {
     accepted(rt, picture, &Op::Also(copy_of(rt, other), sign))
 }
 
-/// Another picture can neither be added to a picture nor subtracted from it, as the sign says, and the picture itself
-/// stays as it is.
+/// Asserts that another picture cannot be added to a picture, or subtracted from it, because a weight would be too large.
 fn assert_too_large<R: Abort + AllocGlobal>(
     rt: &R,
     picture: &Picture,
@@ -25,7 +24,7 @@ fn assert_too_large<R: Abort + AllocGlobal>(
     assert_refused(rt, picture, &op, OpFault::WeightTooLarge);
 }
 
-/// A picture added to itself so many times.
+/// The contour's picture, added to itself `times` times.
 fn doubled<R: Abort + AllocGlobal>(rt: &R, contour: (Corners, i32), times: u32) -> Picture {
     let mut picture = filled(rt, &[contour]);
     for _ in 0..times {
@@ -34,7 +33,7 @@ fn doubled<R: Abort + AllocGlobal>(rt: &R, contour: (Corners, i32), times: u32) 
     picture
 }
 
-/// A pixel of this weight, added to itself 13 times, has this total, and cannot be added to itself again.
+/// Asserts that a pixel of this weight, added to itself 13 times, has this total, and cannot be added to itself again.
 fn assert_doubled<R: Abort + AllocGlobal>(rt: &R, weight: i32, total: i64) {
     let picture = doubled(rt, (PIXEL, weight), 13);
     // 3 times 2 to the 13th
@@ -64,20 +63,20 @@ fn weights_are_doubled_up_to_the_limit(rt: HostRuntime) {
     assert_doubled(&rt, -3, -24576);
 }
 
-/// The rectangle and a pixel of the highest row.
+/// The rectangle, and a pixel in the highest row.
 fn rectangle_and_high<R: Abort + AllocGlobal>(rt: &R) -> Picture {
     let high: Corners = &[(0, 4094), (1, 4094), (1, 4095), (0, 4095)];
     filled(rt, &[(RECTANGLE, 1), (high, 3)])
 }
 
-/// A square that overlaps the rectangle, and a pixel of the lowest row.
+/// A square that overlaps the rectangle, and a pixel in the lowest row.
 fn square_and_deep<R: Abort + AllocGlobal>(rt: &R) -> Picture {
     let deep: Corners = &[(0, -4095), (1, -4095), (1, -4094), (0, -4094)];
     let square: Corners = &[(2, 1), (4, 1), (4, 3), (2, 3)];
     filled(rt, &[(square, 2), (deep, 1)])
 }
 
-/// These pictures have these runs, where the second is added or subtracted.
+/// Asserts that the sum, or the difference, of these two pictures has these runs.
 fn assert_sum<R: Abort + AllocGlobal>(rt: &R, sign: Sign, runs: &[Run]) {
     let sum = add(rt, &rectangle_and_high(rt), &square_and_deep(rt), sign);
     assert_runs(rt, &sum, runs);

@@ -1,4 +1,4 @@
-//! Contours under the turning check, and where it is off.
+//! Contours with the turning check on, and off.
 
 use super::{
     CLOCKWISE, Corners, PIXEL, RECTANGLE, accepted, assert_refused, assert_runs, assert_total,
@@ -9,21 +9,21 @@ use mf_ops::OpFault;
 use mf_rows::{Picture, Run};
 use std::process::Abort;
 
-/// Two squares that meet, one walked counterclockwise and the other clockwise: its turning number is 0.
+/// Two squares that meet in a point, one walked counterclockwise and the other clockwise: the turning number is 0.
 pub(super) const EIGHT: Corners = &[(0, 0), (1, 0), (1, 2), (2, 2), (2, 1), (0, 1)];
 
-/// The pixel (0, 0), with a spike of two edges to the right, which turns straight back at vertex 1.
+/// The pixel (0, 0) with a spike to the right, two pixels long. The path turns straight back at vertex 1.
 pub(super) const SPIKE: Corners = &[(0, 0), (3, 0), (1, 0), (1, 1), (0, 1)];
 
 /// An edge there and back.
 const THERE_AND_BACK: Corners = &[(0, 0), (1, 0)];
 
-/// What the turning check says of a cycle.
+/// The refusal of an operation for this fault of its cycle.
 fn refused(fault: CycleFault) -> OpFault {
     OpFault::Cycle(fault)
 }
 
-/// Where the check is off, this contour fills exactly these runs, of this total.
+/// Asserts that with the check off this contour fills exactly these runs, with this total.
 fn assert_unchecked<R: Abort + AllocGlobal>(
     rt: &R,
     corners: Corners,
@@ -53,8 +53,8 @@ fn unchecked_contours_are_not_negated(rt: HostRuntime) {
     assert_unchecked(&rt, RECTANGLE, 2, &twice, 12);
 }
 
-/// These contours are refused under the check with this fault, whatever their weight would make of a picture: of one with
-/// weights, and of one in which a pixel has the greatest weight.
+/// Asserts that with the check on this contour is refused with this fault, whatever it would make of the weights: on a picture
+/// with room for them, and on one in which a pixel has the greatest weight.
 fn assert_checked<R: Abort + AllocGlobal>(
     rt: &R,
     corners: Corners,
@@ -81,7 +81,7 @@ fn checked_contours_turn_lawfully(rt: HostRuntime) {
     assert_checked(&rt, SPIKE, 1, CycleFault::Backtracks(1));
     assert_checked(&rt, THERE_AND_BACK, 1, CycleFault::Backtracks(0));
     assert_checked(&rt, EIGHT, 1, CycleFault::TurningZero);
-    // It turns straight back, and its other turns make no whole one: that it turns back is told.
+    // The path turns straight back, and its other turns do not add up to a whole turn: turning back is reported first.
     let both: Corners = &[
         (0, 0),
         (2, 0),

@@ -20,7 +20,7 @@ impl Row {
         Row::with_reach(alloc, y, edges, None)
     }
 
-    /// Row y with these edges, whose reach is known or not.
+    /// Row y with these edges, and with a reach where one is known.
     pub(crate) fn with_reach(
         alloc: Global,
         y: i32,
@@ -37,7 +37,7 @@ impl Row {
         })
     }
 
-    /// Adds row y with the edges of this row, which are shared, to a list of rows.
+    /// Appends row y with the edges of this row, which are shared, to a list of rows.
     pub(crate) fn push_at(&self, rows: &mut Vec<Row>, y: i32) -> Result<(), OutOfMemory>
         ensures { OnOk result (edge_rows rows.new.items ≡ edge_rows rows.old.items ++ record { y = y; edges = (edge_row self.now).edges } ∷ []) }
     {
@@ -50,7 +50,7 @@ impl Row {
         Ok(())
     }
 
-    /// Adds the row at each height from `top - 1` down to `bottom`.
+    /// Appends the row at each height from `top - 1` down to `bottom`.
     pub(crate) fn push_copies(
         &self,
         rows: &mut Vec<Row>,
@@ -75,7 +75,7 @@ impl Row {
         &self.edges
     }
 
-    /// A size that none of its weights passes: the one that is known, or the least.
+    /// A reach of the row: the one that is known, or else the least.
     pub(crate) fn reach(&self) -> i32
         requires { AreEdges (edge_row self.now).edges }
         ensures stays { StaysInReach result (edge_row self.now).edges }

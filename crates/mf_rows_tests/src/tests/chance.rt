@@ -1,4 +1,4 @@
-//! Numbers by chance, which are the same in each run of the tests.
+//! Random numbers, which are the same in each run of the tests.
 ghost use Rattle.std.specs.Prelude.{◌<◌, ◌^◌, length};
 
 /// The factor and the summand of the generator.
@@ -6,7 +6,7 @@ const FACTOR: u32 = 1_664_525;
 
 const SUMMAND: u32 = 1_013_904_223;
 
-/// A linear congruential generator, of whose state the upper half is used.
+/// A linear congruential generator; only the upper half of its state is used.
 #[derive(Debug, Drop)]
 pub(crate) struct Chance {
     state: u32,

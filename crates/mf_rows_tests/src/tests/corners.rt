@@ -1,8 +1,8 @@
 //! Rectangles added to pictures by their corners.
 
 use super::rectangles::{
-    Rectangle, at_once, by_turns, corners_of, field, make_corner, make_rectangle, negated, try_all,
-    weight_of_all, with_all,
+    Rectangle, at_once, corners_of, field, make_corner, make_rectangle, negated, one_by_one,
+    try_all, weight_of_all, with_all,
 };
 use super::slow::{SlowPicture, both_forms};
 use super::{
@@ -55,11 +55,11 @@ fn fill_the_field(rt: HostRuntime) {
     assert_weights(&rt, &picture, &pixels);
 }
 
-/// Rectangles make the blank picture, added at once and one after another.
+/// Asserts that rectangles make the blank picture, both when added at once and when added one by one.
 fn assert_cancel<R: Abort + AllocGlobal>(rt: &R, case: usize, rectangles: &[Rectangle]) {
     let blank = SlowPicture::blank(rt.alloc());
     blank.assert_answers_of(rt, case, &at_once(rt, rectangles));
-    let picture = by_turns(rt, rectangles);
+    let picture = one_by_one(rt, rectangles);
     blank.assert_answers_of(rt, case, &picture);
     assert_bounds(rt, &picture, None);
     assert_some_runs(rt, &picture, &[(0, None)]);
@@ -89,8 +89,8 @@ fn cancel_to_the_blank_picture(rt: HostRuntime) {
     assert_cancel(&rt, 3, &in_bands);
 }
 
-/// A picture to which a rectangle is added, and from which it is taken away again, is equal to the picture, and with
-/// the rectangle it is not.
+/// Asserts that a picture to which a rectangle is added differs from the picture, and that it is equal again when the
+/// rectangle is taken away. Answers the last of these pictures.
 fn added_and_taken_away<R: Abort + AllocGlobal>(
     rt: &R,
     picture: &Picture,
@@ -103,7 +103,7 @@ fn added_and_taken_away<R: Abort + AllocGlobal>(
     again
 }
 
-/// A picture without a rectangle is blank, and with it is not.
+/// Asserts that a picture is not blank, but is blank when a rectangle is taken away from it.
 fn assert_blank_without<R: Abort + AllocGlobal>(rt: &R, picture: &Picture, rectangle: Rectangle) {
     let blank = Picture::blank(rt.alloc());
     assert_equality(rt, picture, &blank, false, "the first and none");
@@ -112,7 +112,7 @@ fn assert_blank_without<R: Abort + AllocGlobal>(rt: &R, picture: &Picture, recta
 }
 
 #[test]
-fn give_equal_pictures_back_where_they_are_taken_away(rt: HostRuntime) {
+fn give_an_equal_picture_back_when_taken_away(rt: HostRuntime) {
     let low = make_rectangle(0, 0, 3, 2, 1);
     let high = make_rectangle(-2, 3960, 7, 4040, 2);
     let first = at_once(&rt, &[low]);
@@ -125,8 +125,8 @@ fn give_equal_pictures_back_where_they_are_taken_away(rt: HostRuntime) {
 /// Columns at the sides of the rectangles below.
 const COLUMNS: [i32; 8] = [-6, -5, -1, 0, 4, 5, 7, 8];
 
-/// In each row, and above and below the field, a picture has the weights of these rectangles in these columns, and it
-/// has this total.
+/// Asserts that in each row, and in a row above and a row below the field, a picture has the weights of these
+/// rectangles in these columns, and that it has this total.
 fn assert_filled(rt: &impl Abort, picture: &Picture, rectangles: &[Rectangle], total: i64) {
     for y in -4096..4096 {
         for x in COLUMNS {
@@ -156,7 +156,7 @@ fn change_the_rows_that_they_reach(rt: HostRuntime) {
     assert_some_runs(&rt, &picture, &runs);
 }
 
-/// The weight of the pixel (x, y) of what was made, if it was not refused.
+/// The weight of the pixel (x, y) in a picture that was made, or the fault where it was refused.
 fn weight_of(made: &Result<Picture, AddFault>, x: i32, y: i32) -> Result<i32, AddFault> {
     match made {
         Ok(picture) => Ok(picture.weight(x, y)),
@@ -174,8 +174,8 @@ fn add_in_place<R: Abort + AllocGlobal>(
     picture.add_corners(rt.alloc(), corners)
 }
 
-/// A picture to which this weight is added at the pixel (1, y) has this weight there, or that is refused; and so
-/// where it is added in place. What is refused leaves the picture as it was, as its slow form tells.
+/// Asserts what comes of adding this weight at the pixel (1, y) to a picture, both to a copy and in place: the weight
+/// there afterwards, or a refusal. A refusal leaves the picture as it was, which is compared with its slow form.
 fn assert_added<R: Abort + AllocGlobal>(
     rt: &R,
     (picture, slow): &(Picture, SlowPicture),
@@ -200,7 +200,7 @@ fn assert_added<R: Abort + AllocGlobal>(
     slow.assert_answers_of(rt, 1, picture);
 }
 
-/// Weights that are added to pixels, by their rows, and what comes of it.
+/// Weights that are added to pixels, with the rows of these, and what must come of it.
 const ADDED: [(i32, i32, Result<i32, AddFault>); 6] = [
     (4031, 1, Ok(32767)),
     (4030, -1, Ok(-32767)),
@@ -210,7 +210,7 @@ const ADDED: [(i32, i32, Result<i32, AddFault>); 6] = [
     (4031, 3, Err(AddFault::WeightTooLarge)),
 ];
 
-/// Each of these is what comes of adding to a picture.
+/// Asserts all of these of a picture.
 fn assert_all_added<R: Abort + AllocGlobal>(rt: &R, forms: &(Picture, SlowPicture)) {
     for (y, weight, expected) in ADDED {
         assert_added(rt, forms, y, weight, expected);

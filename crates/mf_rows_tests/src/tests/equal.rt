@@ -8,10 +8,10 @@ use mf_rows::{OutOfMemory, Picture, Run};
 use std::alloc::Global;
 use std::process::Abort;
 
-/// Pictures by chance, each of which is compared with each.
+/// The number of random pictures, each of which is compared with each.
 const PICTURES: u32 = 40;
 
-/// The pictures of these runs are equal, or not, whichever of them is asked.
+/// Asserts that the pictures of these runs are equal, or that they are not, whichever of them is asked.
 fn assert_runs_equal<R: Abort + AllocGlobal>(
     rt: &R,
     case: usize,
@@ -24,29 +24,29 @@ fn assert_runs_equal<R: Abort + AllocGlobal>(
     assert_equality(rt, &one, &other, equal, ("pictures of runs", case));
 }
 
-/// The pictures of these runs are equal to none of these others.
+/// Asserts that the picture of these runs differs from the picture of each of these others.
 fn assert_all_differ<R: Abort + AllocGlobal>(rt: &R, runs: &[Run], others: &[[Run; 2]]) {
     for (case, other) in others.iter().enumerate() {
         assert_runs_equal(rt, case, runs, other, false);
     }
 }
 
-/// The picture of no run differs from that of each of these runs.
+/// Asserts that the picture of no run differs from that of each of these runs.
 fn assert_none_is_blank<R: Abort + AllocGlobal>(rt: &R, runs: &[Run]) {
     for (case, run) in runs.iter().enumerate() {
         assert_runs_equal(rt, case, &[], &[*run], false);
     }
 }
 
-/// The picture of runs differs from each of those of their first ones.
-fn assert_beginnings_differ<R: Abort + AllocGlobal>(rt: &R, runs: &[Run]) {
+/// Asserts that the picture of these runs differs from the pictures of their prefixes.
+fn assert_prefixes_differ<R: Abort + AllocGlobal>(rt: &R, runs: &[Run]) {
     for len in 0..runs.len() {
         assert_runs_equal(rt, len, runs, &runs[..len], false);
     }
     assert_runs_equal(rt, runs.len(), runs, runs, true);
 }
 
-/// The copy of a picture, which is gone then.
+/// The copy of a picture; the picture itself is gone then.
 fn copy_alone<R: Abort + AllocGlobal>(rt: &R, picture: Picture) -> Picture {
     let copy = copy_of(rt, &picture);
     assert_equality(rt, &picture, &picture, true, "the picture and itself");
@@ -83,7 +83,7 @@ fn runs_in_pieces_make_equal_pictures(rt: HostRuntime) {
 #[test]
 fn pictures_with_any_difference_are_not_equal(rt: HostRuntime) {
     let others = [
-        // a pixel more or less
+        // one pixel more or less
         [make_run(1, 0, 4, 1), make_run(0, 0, 3, 1)],
         [make_run(1, 0, 3, 1), make_run(0, 0, 2, 1)],
         [make_run(1, 1, 2, 1), make_run(0, 0, 3, 1)],
@@ -105,17 +105,17 @@ fn pictures_with_any_difference_are_not_equal(rt: HostRuntime) {
 }
 
 #[test]
-fn a_picture_and_its_beginning_are_not_equal(rt: HostRuntime) {
+fn a_picture_and_its_first_runs_are_not_equal(rt: HostRuntime) {
     let runs = [
         make_run(4094, -4095, 1, 1),
         make_run(4094, 4094, 1, 1),
         make_run(0, 0, 1, 1),
         make_run(-4095, 4094, 1, 1),
     ];
-    assert_beginnings_differ(&rt, &runs);
+    assert_prefixes_differ(&rt, &runs);
 }
 
-/// A picture is equal to the blank one.
+/// Asserts that a picture is equal to the blank one.
 fn assert_blank<R: Abort + AllocGlobal>(rt: &R, picture: &Picture, case: &str) {
     assert_equality(rt, &Picture::blank(rt.alloc()), picture, true, case);
 }
@@ -134,7 +134,7 @@ fn blank_pictures_are_equal(rt: HostRuntime) {
 }
 
 #[test]
-fn blank_pictures_are_equal_to_each_other_alone(rt: HostRuntime) {
+fn blank_pictures_equal_only_each_other(rt: HostRuntime) {
     let runs = [
         make_run(0, 0, 1, 1),
         make_run(4094, -4095, 1, -1),
@@ -146,7 +146,7 @@ fn blank_pictures_are_equal_to_each_other_alone(rt: HostRuntime) {
     assert_runs_equal(&rt, 3, &[], &opposite, false);
 }
 
-/// Adds up to two short runs by chance in a row.
+/// Adds up to two random short runs in a row.
 fn push_runs(chance: &mut Chance, runs: &mut Vec<Run>, y: i32) -> Result<(), OutOfMemory> {
     let mut x = 0i32;
     for _ in 0..chance.below(3) {
@@ -158,9 +158,8 @@ fn push_runs(chance: &mut Chance, runs: &mut Vec<Run>, y: i32) -> Result<(), Out
     Ok(())
 }
 
-/// Up to two short runs in each of two rows: so few that their pictures are often equal, also where the runs
-/// are others.
-fn few_runs_by_chance(alloc: Global, seed: u32) -> Result<Vec<Run>, OutOfMemory> {
+/// Up to two short runs in each of two rows: so few that their pictures are often equal, even where the runs differ.
+fn few_random_runs(alloc: Global, seed: u32) -> Result<Vec<Run>, OutOfMemory> {
     let mut chance = Chance::new(seed);
     let mut runs = Vec::new(alloc);
     push_runs(&mut chance, &mut runs, 1)?;
@@ -168,11 +167,11 @@ fn few_runs_by_chance(alloc: Global, seed: u32) -> Result<Vec<Run>, OutOfMemory>
     Ok(runs)
 }
 
-/// Pictures by chance, with their slow forms.
-fn pictures_by_chance<R: Abort + AllocGlobal>(rt: &R) -> Vec<(Picture, SlowPicture)> {
+/// Random pictures, with their slow forms.
+fn random_pictures<R: Abort + AllocGlobal>(rt: &R) -> Vec<(Picture, SlowPicture)> {
     let mut pictures = Vec::new(rt.alloc());
     for seed in 0..PICTURES {
-        let runs = few_runs_by_chance(rt.alloc(), seed).expect(rt, "there is room for runs");
+        let runs = few_random_runs(rt.alloc(), seed).expect(rt, "there is room for runs");
         pictures
             .push(both_forms(rt, &runs))
             .expect(rt, "there is room for the picture");
@@ -180,7 +179,8 @@ fn pictures_by_chance<R: Abort + AllocGlobal>(rt: &R) -> Vec<(Picture, SlowPictu
     pictures
 }
 
-/// A picture is equal to those of others whose slow forms have its pixels. Answers how many they are.
+/// Asserts that a picture is equal to exactly those of the others whose slow forms have its pixels. Answers how many
+/// these are.
 fn count_equal(
     rt: &impl Abort,
     case: usize,
@@ -201,7 +201,8 @@ fn count_equal(
     count
 }
 
-/// Each picture is equal to those whose slow forms have its pixels. Answers how many pairs are equal.
+/// Asserts that each picture is equal to exactly those whose slow forms have its pixels. Answers how many pairs are
+/// equal.
 fn count_equal_pairs(rt: &impl Abort, pictures: &[(Picture, SlowPicture)]) -> u32 {
     let mut equal_pairs = 0u32;
     for (case, one) in pictures.iter().enumerate() {
@@ -211,7 +212,7 @@ fn count_equal_pairs(rt: &impl Abort, pictures: &[(Picture, SlowPicture)]) -> u3
 }
 
 #[test]
-fn pictures_by_chance_are_equal_where_their_pixels_are(rt: HostRuntime) {
-    let equal_pairs = count_equal_pairs(&rt, &pictures_by_chance(&rt));
+fn random_pictures_are_equal_where_their_pixels_are(rt: HostRuntime) {
+    let equal_pairs = count_equal_pairs(&rt, &random_pictures(&rt));
     assert_holds(&rt, equal_pairs > PICTURES, "equal pairs by chance");
 }

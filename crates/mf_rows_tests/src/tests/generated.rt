@@ -1,4 +1,4 @@
-//! Pictures of runs by chance, compared with their slow forms.
+//! Pictures of random runs, compared with their slow forms.
 
 use super::chance::Chance;
 use super::slow::{SlowPicture, both_forms};
@@ -9,25 +9,25 @@ use mf_rows::{OutOfMemory, Picture, RowBuilder, Run};
 use std::alloc::Global;
 use std::process::Abort;
 
-/// Rows at the edges of the field, on both sides of borders of bands, and in the middle.
+/// Rows at the edges of the field, on both sides of borders between bands, and in the middle.
 pub(crate) const ROWS: [i32; 13] = [
     4094, 4093, 4031, 4030, 3967, 3966, 1, 0, -1, -4033, -4034, -4094, -4095,
 ];
 
-/// Columns at which rows begin: the first of the field, in its middle, and near the last.
+/// Columns at which rows begin: the first of the field, one in its middle, and one near the last.
 pub(crate) const STARTS: [i32; 3] = [-4095, -9, 4075];
 
-/// Weights of runs: few, so that touching runs often have equal or opposite weights.
+/// Weights of runs: only a few, so that touching runs often have equal or opposite weights.
 pub(crate) const WEIGHTS: [i32; 5] = [1, -1, 2, 32767, -32767];
 
-/// Weights of which no two together are too large.
+/// Weights of which no two add up to one that is too large.
 pub(crate) const SMALL_WEIGHTS: [i32; 5] = [1, -1, 2, -2, 3];
 
-/// Pictures for each of the starts.
+/// The number of pictures for each of the starts.
 const PICTURES: u32 = 12;
 
-/// The picture of runs by chance, and its slow form.
-pub(crate) fn forms_by_chance<R: Abort + AllocGlobal>(
+/// The picture of random runs, and its slow form.
+pub(crate) fn random_forms<R: Abort + AllocGlobal>(
     rt: &R,
     seed: u32,
     start: i32,
@@ -35,24 +35,24 @@ pub(crate) fn forms_by_chance<R: Abort + AllocGlobal>(
     forms_of_weights(rt, seed, start, &WEIGHTS)
 }
 
-/// The picture of runs by chance.
-pub(crate) fn picture_by_chance<R: Abort + AllocGlobal>(rt: &R, seed: u32, start: i32) -> Picture {
-    let (picture, _) = forms_by_chance(rt, seed, start);
+/// The picture of random runs.
+pub(crate) fn random_picture<R: Abort + AllocGlobal>(rt: &R, seed: u32, start: i32) -> Picture {
+    let (picture, _) = random_forms(rt, seed, start);
     picture
 }
 
-/// The picture of runs by chance of these weights, and its slow form.
+/// The picture of random runs with these weights, and its slow form.
 pub(crate) fn forms_of_weights<R: Abort + AllocGlobal>(
     rt: &R,
     seed: u32,
     start: i32,
     weights: &[i32; 5],
 ) -> (Picture, SlowPicture) {
-    let runs = runs_by_chance(rt.alloc(), seed, start, weights);
+    let runs = random_runs(rt.alloc(), seed, start, weights);
     both_forms(rt, &runs.expect(rt, "there is room for the runs"))
 }
 
-/// Adds runs by chance of these weights in a row, with gaps of up to two columns.
+/// Adds random runs with these weights in a row, with gaps of up to two columns.
 fn push_runs(
     chance: &mut Chance,
     runs: &mut Vec<Run>,
@@ -69,9 +69,9 @@ fn push_runs(
     Ok(())
 }
 
-/// Runs by chance of these weights in each of the rows. Some pass the right edge of the field. Other starts have other
-/// runs.
-fn runs_by_chance(
+/// Random runs with these weights in each of the rows. Some go beyond the right edge of the field. Other starts give
+/// other runs.
+fn random_runs(
     alloc: Global,
     seed: u32,
     start: i32,
@@ -85,19 +85,19 @@ fn runs_by_chance(
     Ok(runs)
 }
 
-/// Pictures of runs by chance, from this column on, answer as their slow forms.
+/// Asserts that pictures of random runs, from this column on, answer like their slow forms.
 fn assert_pictures_from<R: Abort + AllocGlobal>(rt: &R, start: i32) {
     for seed in 0..PICTURES {
-        let (picture, slow) = forms_by_chance(rt, seed, start);
+        let (picture, slow) = random_forms(rt, seed, start);
         assert_holds(rt, slow.bounds().is_some(), ("runs of case", seed));
         slow.assert_answers_of(rt, seed as usize, &picture);
     }
 }
 
-/// Copies of pictures by chance answer as the pictures, also when these are gone.
+/// Asserts that copies of random pictures answer like the pictures, even after these are gone.
 fn assert_copies<R: Abort + AllocGlobal>(rt: &R) {
     for seed in 0..PICTURES {
-        let (picture, slow) = forms_by_chance(rt, seed, -9);
+        let (picture, slow) = random_forms(rt, seed, -9);
         let copy = copy_of(rt, &picture);
         slow.assert_answers_of(rt, seed as usize, &copy);
         drop(picture);
@@ -105,7 +105,7 @@ fn assert_copies<R: Abort + AllocGlobal>(rt: &R) {
     }
 }
 
-/// The picture of this pixel alone answers as its slow form.
+/// Asserts that the picture of this pixel alone answers like its slow form.
 fn assert_pixel<R: Abort + AllocGlobal>(rt: &R, x: i32, y: i32, weight: i32) {
     let run = make_run(y, x, 1, weight);
     let (picture, slow) = both_forms(rt, &[run]);
@@ -115,19 +115,19 @@ fn assert_pixel<R: Abort + AllocGlobal>(rt: &R, x: i32, y: i32, weight: i32) {
 }
 
 #[test]
-fn answer_as_their_slow_forms(rt: HostRuntime) {
+fn answer_like_their_slow_forms(rt: HostRuntime) {
     for start in STARTS {
         assert_pictures_from(&rt, start);
     }
 }
 
 #[test]
-fn copies_answer_as_their_originals(rt: HostRuntime) {
+fn copies_answer_like_their_originals(rt: HostRuntime) {
     assert_copies(&rt);
 }
 
 #[test]
-fn blank_pictures_answer_as_their_slow_form(rt: HostRuntime) {
+fn blank_pictures_answer_like_their_slow_form(rt: HostRuntime) {
     let slow = SlowPicture::blank(rt.alloc());
     let blank = Picture::blank(rt.alloc());
     slow.assert_answers_of(&rt, 0, &blank);
@@ -137,7 +137,7 @@ fn blank_pictures_answer_as_their_slow_form(rt: HostRuntime) {
 }
 
 #[test]
-fn single_pixels_answer_as_their_slow_forms(rt: HostRuntime) {
+fn single_pixels_answer_like_their_slow_forms(rt: HostRuntime) {
     for (x, y) in [(-4095, 4094), (4094, 4094), (-4095, -4095), (4094, -4095)] {
         assert_pixel(&rt, x, y, 1);
         assert_pixel(&rt, x, y, -32767);

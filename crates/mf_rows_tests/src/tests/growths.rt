@@ -1,7 +1,7 @@
-//! Calls whose growths are refused, one after another. What a refused call was given is as it was, and the same call
-//! with ample memory has its value.
+//! Calls in which allocations fail, one after another. What a refused call was given must be as it was, and the same
+//! call with ample memory must have its value.
 
-/// A run of pixels, in a constant: tables that a test makes itself cost the prover seconds.
+/// A run of pixels, for constants: a table that a test makes itself costs the prover seconds.
 macro_rules! run_of {
     ($y:expr, $x:expr, $len:expr, $weight:expr) => {
         Run {
@@ -19,7 +19,8 @@ mod sums;
 
 use mf_rows::Run;
 
-/// Rows in three bands, two of them in one; one of these has two weights side by side, and the other the least weight.
+/// Rows in three bands, two of them in one band: one of these has two weights side by side, and the other has the least
+/// weight.
 const APART: &[Run] = &[
     run_of!(90, -3, 2, 5),
     run_of!(1, 0, 2, 1),

@@ -4,20 +4,20 @@ ghost use Rattle.mf_edges.specs.Axes.{IsStretch};
 ghost use Rattle.mf_rows.specs.Moves.{PixelsStayInside};
 
 use super::chance::Chance;
-use super::generated::{ROWS, STARTS, picture_by_chance};
+use super::generated::{ROWS, STARTS, random_picture};
 use super::slow::{SlowPicture, both_forms};
 use super::{assert_equality, assert_total, assert_weights, copy_of, made, make_run, picture_of};
 use mf_rows::{OutOfMemory, Picture, Run, Stretch};
 use std::alloc::Global;
 use std::process::Abort;
 
-/// Pictures for each of the starts.
+/// The number of pictures for each of the starts.
 const PICTURES: u32 = 6;
 
-/// The rows of generated runs are shorter than this.
+/// The rows of generated runs are shorter than this, in pixels.
 const REACH: i32 = 40;
 
-/// Columns and rows on each side of 0 in which pixels are stretched.
+/// The number of columns and rows on each side of 0 in which pixels are stretched.
 const SIDE: i32 = 8;
 
 /// How pixels are moved.
@@ -41,12 +41,13 @@ impl Move {
     }
 }
 
-/// The place on the other side of 0.
+/// The column, or row, on the other side of 0.
 fn opposite(place: i32) -> i32 {
     (-1i32).wrapping_sub(place)
 }
 
-/// A picture has the weights of another at the places where that has the pixels from (start, y) on, moved.
+/// Asserts that `moved` has the weights of a picture's pixels from (start, y) on at the places to which these are
+/// moved.
 fn assert_row_moved(
     rt: &impl Abort,
     (start, y): (i32, i32),
@@ -61,7 +62,7 @@ fn assert_row_moved(
     }
 }
 
-/// A picture has the total of another, and its weights at the places where that has its pixels, moved.
+/// Asserts that `moved` has the total of a picture, and its weights at the places to which its pixels are moved.
 fn assert_moved(rt: &impl Abort, start: i32, picture: &Picture, moved: &Picture, how: Move) {
     assert_total(rt, moved, picture.total());
     for y in ROWS {
@@ -69,17 +70,17 @@ fn assert_moved(rt: &impl Abort, start: i32, picture: &Picture, moved: &Picture,
     }
 }
 
-/// A picture of which the columns are mirrored.
+/// A picture with its columns reflected.
 fn columns_mirrored<R: Abort + AllocGlobal>(rt: &R, picture: &Picture) -> Picture {
     made(rt, picture.mirror_columns(rt.alloc()))
 }
 
-/// A picture of which the rows are mirrored.
+/// A picture with its rows reflected.
 fn rows_mirrored<R: Abort + AllocGlobal>(rt: &R, picture: &Picture) -> Picture {
     made(rt, picture.mirror_rows(rt.alloc()))
 }
 
-/// A picture turned so many times.
+/// A picture turned `times` times.
 fn turned<R: Abort + AllocGlobal>(rt: &R, picture: &Picture, times: u32) -> Picture {
     let mut turned = copy_of(rt, picture);
     for _ in 0..times {
@@ -88,7 +89,7 @@ fn turned<R: Abort + AllocGlobal>(rt: &R, picture: &Picture, times: u32) -> Pict
     turned
 }
 
-/// A picture is reflected, and is as before where it is reflected again.
+/// Asserts that a picture is reflected rightly, and that a second reflection undoes the first.
 fn assert_reflected<R: Abort + AllocGlobal>(rt: &R, start: i32, picture: &Picture) {
     let across = columns_mirrored(rt, picture);
     assert_moved(rt, start, picture, &across, Move::ColumnsMirrored);
@@ -100,7 +101,7 @@ fn assert_reflected<R: Abort + AllocGlobal>(rt: &R, start: i32, picture: &Pictur
     assert_equality(rt, &back, picture, true, "rows");
 }
 
-/// A picture is turned, and is as before after four turns.
+/// Asserts that a picture is turned rightly, and that four turns leave it as before.
 fn assert_turned<R: Abort + AllocGlobal>(rt: &R, start: i32, picture: &Picture) {
     let once = turned(rt, picture, 1);
     assert_moved(rt, start, picture, &once, Move::TurnedOnce);
@@ -110,35 +111,35 @@ fn assert_turned<R: Abort + AllocGlobal>(rt: &R, start: i32, picture: &Picture) 
     assert_equality(rt, &again, picture, true, "four turns");
 }
 
-/// Pictures by chance, from this column on, are reflected.
+/// Asserts this of the reflections of random pictures, from this column on.
 fn assert_all_reflected<R: Abort + AllocGlobal>(rt: &R, start: i32) {
     for seed in 0..PICTURES {
-        assert_reflected(rt, start, &picture_by_chance(rt, seed, start));
+        assert_reflected(rt, start, &random_picture(rt, seed, start));
     }
 }
 
-/// Pictures by chance, from this column on, are turned.
+/// Asserts this of the turns of random pictures, from this column on.
 fn assert_all_turned<R: Abort + AllocGlobal>(rt: &R, start: i32) {
     for seed in 0..PICTURES {
-        assert_turned(rt, start, &picture_by_chance(rt, seed, start));
+        assert_turned(rt, start, &random_picture(rt, seed, start));
     }
 }
 
 #[test]
-fn reflected_twice_is_as_before(rt: HostRuntime) {
+fn reflecting_twice_changes_nothing(rt: HostRuntime) {
     for start in STARTS {
         assert_all_reflected(&rt, start);
     }
 }
 
 #[test]
-fn turned_four_times_is_as_before(rt: HostRuntime) {
+fn turning_four_times_changes_nothing(rt: HostRuntime) {
     for start in STARTS {
         assert_all_turned(&rt, start);
     }
 }
 
-/// The picture of some runs is turned to that of others.
+/// Asserts that the picture of these runs is turned into that of the others.
 fn assert_turns_to<R: Abort + AllocGlobal>(rt: &R, runs: &[Run], others: &[Run], case: &str) {
     let turned = turned(rt, &picture_of(rt, runs), 1);
     assert_equality(rt, &turned, &picture_of(rt, others), true, case);
@@ -146,7 +147,7 @@ fn assert_turns_to<R: Abort + AllocGlobal>(rt: &R, runs: &[Run], others: &[Run],
 
 #[test]
 fn an_l_is_turned(rt: HostRuntime) {
-    // An L: a column of three pixels, and one pixel more at the right of its foot.
+    // An L: a column of three pixels, and one more pixel to the right of its foot.
     let standing = [
         make_run(2, 0, 1, 1),
         make_run(1, 0, 1, 1),
@@ -164,7 +165,7 @@ fn an_l_is_turned(rt: HostRuntime) {
     );
 }
 
-/// Adds up to two runs by chance in a row.
+/// Adds up to two random runs in a row.
 fn push_runs(chance: &mut Chance, runs: &mut Vec<Run>, y: i32) -> Result<(), OutOfMemory> {
     let mut x = -SIDE;
     for _ in 0..chance.below(3) {
@@ -176,7 +177,7 @@ fn push_runs(chance: &mut Chance, runs: &mut Vec<Run>, y: i32) -> Result<(), Out
     Ok(())
 }
 
-/// Runs by chance on all sides of the point (0, 0), and at a border of bands: up to two in each row.
+/// Random runs on all sides of the point (0, 0), and at a border between bands: up to two in each row.
 fn runs_near_the_middle(alloc: Global, seed: u32) -> Result<Vec<Run>, OutOfMemory> {
     let mut chance = Chance::new(seed);
     let mut runs = Vec::new(alloc);
@@ -186,7 +187,7 @@ fn runs_near_the_middle(alloc: Global, seed: u32) -> Result<Vec<Run>, OutOfMemor
     Ok(runs)
 }
 
-/// The first column, or row, of those that one becomes.
+/// The first of the columns, or rows, that one becomes.
 fn first_of(stretch: &Stretch, place: i32) -> i32 {
     place
         .wrapping_mul(stretch.factor)
@@ -228,7 +229,7 @@ fn slow_stretched(
     Ok(stretched)
 }
 
-/// Asserts that a stretch takes no place near 0 out of the field.
+/// Asserts that a stretch is small, so that it takes no place near 0 out of the field.
 fn assert_small(rt: &impl Abort, stretch: &Stretch)
     ensures factor_least { pos 1 ≤ℤ stretch.now.factor }
     ensures factor_greatest { stretch.now.factor ≤ℤ pos 3 }
@@ -265,7 +266,7 @@ fn stretch(factor: i32, offset: i32) -> Stretch {
     Stretch { factor, offset }
 }
 
-/// A stretched picture answers as its slow form.
+/// Asserts that a stretched picture answers like its slow form.
 fn assert_stretched<R: Abort + AllocGlobal>(
     rt: &R,
     seed: u32,
@@ -280,7 +281,7 @@ fn assert_stretched<R: Abort + AllocGlobal>(
         .assert_answers_of(rt, seed as usize, &stretched);
 }
 
-/// Pictures by chance are stretched.
+/// Asserts this of random pictures.
 fn assert_all_stretched<R: Abort + AllocGlobal>(rt: &R, columns: Stretch, rows: Stretch) {
     for seed in 0..PICTURES {
         let runs = runs_near_the_middle(rt.alloc(), seed).expect(rt, "there is room for the runs");

@@ -1,25 +1,25 @@
-//! Rectangles that are added together, against their slow form.
+//! Rectangles that are added together, compared with their slow form.
 
 use super::chance::Chance;
-use super::rectangles::{Rectangle, at_once, by_turns, make_rectangle, negated, weight_of_all};
+use super::rectangles::{Rectangle, at_once, make_rectangle, negated, one_by_one, weight_of_all};
 use super::slow::SlowPicture;
 use mf_rows::OutOfMemory;
 use std::alloc::Global;
 use std::process::Abort;
 
-/// The side of the areas of rectangles by chance, which is more than the 16 rows of a band, so that each area
-/// crosses a border of bands; and their lowest rows: inside the field, and at its edges.
+/// The side of the areas of random rectangles, and the lowest rows of the areas. The side is more than the 16 rows of a
+/// band, so that each area crosses a border between bands; the lowest rows are inside the field, and at its edges.
 const SIDE: u32 = 20;
 
 const BOTTOMS: [i32; 5] = [0, 4020, 3950, -4095, 4075];
 
-/// Weights of these rectangles, of which opposite ones cancel.
+/// Weights of these rectangles: opposite ones cancel.
 const WEIGHTS: [i32; 4] = [1, -1, 3, -3];
 
-/// Lists of rectangles by chance.
+/// The number of lists of random rectangles.
 const LISTS: u32 = 40;
 
-/// The slow form of rectangles together, all of which lie in the area of the first.
+/// The slow form of the sum of rectangles, all of which lie in the area of the first.
 fn slow_form_of(alloc: Global, rectangles: &[Rectangle]) -> Result<SlowPicture, OutOfMemory> {
     let mut slow = SlowPicture::blank(alloc);
     if let Some(area) = rectangles.first() {
@@ -32,14 +32,15 @@ fn slow_form_of(alloc: Global, rectangles: &[Rectangle]) -> Result<SlowPicture, 
     Ok(slow)
 }
 
-/// Rectangles make the picture of their slow form, added at once and one after another.
+/// Asserts that rectangles make the picture of their slow form, both when added at once and when added one after
+/// another.
 fn assert_sum<R: Abort + AllocGlobal>(rt: &R, case: usize, rectangles: &[Rectangle]) {
     let slow = slow_form_of(rt.alloc(), rectangles).expect(rt, "there is room for the pixels");
     slow.assert_answers_of(rt, case, &at_once(rt, rectangles));
-    slow.assert_answers_of(rt, case, &by_turns(rt, rectangles));
+    slow.assert_answers_of(rt, case, &one_by_one(rt, rectangles));
 }
 
-/// So do rectangles and a further one.
+/// Asserts the same of rectangles and one more.
 fn assert_sum_with<R: Abort + AllocGlobal>(
     rt: &R,
     case: usize,
@@ -54,7 +55,7 @@ fn assert_sum_with<R: Abort + AllocGlobal>(
     assert_sum(rt, case, &all);
 }
 
-/// Each of others makes the picture of the slow form with the first rectangles, and so where its weight is negated.
+/// Asserts the same of the first rectangles with each of the others, and with each of the others negated.
 fn assert_sums<R: Abort + AllocGlobal>(rt: &R, first: &[Rectangle], others: &[Rectangle]) {
     for (case, other) in others.iter().enumerate() {
         assert_sum_with(rt, case, first, *other);
@@ -62,8 +63,8 @@ fn assert_sums<R: Abort + AllocGlobal>(rt: &R, first: &[Rectangle], others: &[Re
     }
 }
 
-/// Rectangles by chance in an area, which is the first of them.
-fn rectangles_by_chance(alloc: Global, seed: u32) -> Result<Vec<Rectangle>, OutOfMemory> {
+/// Random rectangles in an area, which is the first of them.
+fn random_rectangles(alloc: Global, seed: u32) -> Result<Vec<Rectangle>, OutOfMemory> {
     let mut chance = Chance::new(seed);
     let bottom = chance.one_of(&BOTTOMS);
     let mut rectangles = Vec::new(alloc);
@@ -85,10 +86,10 @@ fn rectangles_by_chance(alloc: Global, seed: u32) -> Result<Vec<Rectangle>, OutO
     Ok(rectangles)
 }
 
-/// Lists of rectangles by chance make the pictures of their slow forms.
-fn assert_sums_by_chance<R: Abort + AllocGlobal>(rt: &R) {
+/// Asserts that lists of random rectangles make the pictures of their slow forms.
+fn assert_random_sums<R: Abort + AllocGlobal>(rt: &R) {
     for seed in 0..LISTS {
-        let rectangles = rectangles_by_chance(rt.alloc(), seed);
+        let rectangles = random_rectangles(rt.alloc(), seed);
         assert_sum(
             rt,
             seed as usize,
@@ -148,6 +149,6 @@ fn add_rectangles_at_the_edges_of_the_field(rt: HostRuntime) {
 }
 
 #[test]
-fn add_by_chance_as_the_slow_form(rt: HostRuntime) {
-    assert_sums_by_chance(&rt);
+fn add_random_rectangles_like_the_slow_form(rt: HostRuntime) {
+    assert_random_sums(&rt);
 }

@@ -6,7 +6,8 @@ use mf_rows::{AddFault, Corner, OutOfMemory, Picture};
 use std::alloc::Global;
 use std::process::Abort;
 
-/// A rectangle of pixels of one weight: columns `left` to before `right`, rows `bottom` to before `top`.
+/// A rectangle of pixels of one weight: columns `left` up to but not including `right`, rows `bottom` up to but not
+/// including `top`.
 #[derive(Clone, Copy, Debug)]
 pub(crate) struct Rectangle {
     pub(super) left: i32,
@@ -70,7 +71,7 @@ pub(crate) fn corners_of(
     Ok(corners)
 }
 
-/// Adds the corners of a rectangle to others.
+/// Adds the corners of a rectangle to a list.
 fn push_corners(
     rt: &impl Abort,
     corners: &mut Vec<Corner>,
@@ -126,7 +127,7 @@ pub(super) fn weight_of_all(rectangles: &[Rectangle], x: i32, y: i32) -> i32 {
     sum
 }
 
-/// A picture with rectangles added to it at once, which may be refused.
+/// A picture with rectangles added to it all at once, which may be refused.
 pub(super) fn try_all<R: Abort + AllocGlobal>(
     rt: &R,
     picture: &Picture,
@@ -135,7 +136,7 @@ pub(super) fn try_all<R: Abort + AllocGlobal>(
     picture.with_corners(rt.alloc(), corners_of(rt, rt.alloc(), rectangles)?)
 }
 
-/// A picture with rectangles added to it at once.
+/// A picture with rectangles added to it all at once; this must not be refused.
 pub(super) fn with_all<R: Abort + AllocGlobal>(
     rt: &R,
     picture: &Picture,
@@ -144,13 +145,13 @@ pub(super) fn with_all<R: Abort + AllocGlobal>(
     try_all(rt, picture, rectangles).expect(rt, "the rectangles are added")
 }
 
-/// Rectangles at once.
+/// The picture of rectangles that are added all at once.
 pub(super) fn at_once<R: Abort + AllocGlobal>(rt: &R, rectangles: &[Rectangle]) -> Picture {
     with_all(rt, &Picture::blank(rt.alloc()), rectangles)
 }
 
-/// Rectangles one after another.
-pub(super) fn by_turns<R: Abort + AllocGlobal>(rt: &R, rectangles: &[Rectangle]) -> Picture {
+/// The picture of rectangles that are added one by one.
+pub(super) fn one_by_one<R: Abort + AllocGlobal>(rt: &R, rectangles: &[Rectangle]) -> Picture {
     let mut picture = Picture::blank(rt.alloc());
     for rectangle in rectangles {
         picture = with_all(rt, &picture, &[*rectangle]);

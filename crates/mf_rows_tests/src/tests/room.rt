@@ -1,10 +1,10 @@
-//! Room that edges leave when they cancel.
+//! Room that edges leave behind when they cancel.
 
 use crate::tests::assertions::{assert_holds, assert_same};
 use mf_edges::{Edge, give_back_room};
 use std::process::Abort;
 
-/// Edges with room for so many.
+/// These edges, in a list with room for this many.
 fn edges_with_room<R: Abort + AllocGlobal>(rt: &R, room: usize, edges: &[Edge]) -> Vec<Edge> {
     let mut all = Vec::new(rt.alloc());
     all.reserve(room).expect(rt, "there is room");

@@ -8,7 +8,7 @@ use crate::tests::assertions::assert_same;
 use mf_rows::{Box4, Picture, RowBuilder, Run};
 use std::process::Abort;
 
-/// The weights of a picture in these rows, from the top, which begin at the pixel (x, y).
+/// Asserts the weights of a picture in these rows, from the top down, which begin at the pixel (x, y).
 fn assert_rows(rt: &impl Abort, picture: &Picture, (x, y): (i32, i32), rows: &[[i32; 5]]) {
     let mut row_y = y;
     for row in rows {
@@ -21,21 +21,21 @@ fn assert_rows(rt: &impl Abort, picture: &Picture, (x, y): (i32, i32), rows: &[[
     }
 }
 
-/// The picture of these runs has this least box and this total.
+/// Asserts that the picture of these runs has this least box and this total.
 fn assert_box<R: Abort + AllocGlobal>(rt: &R, runs: &[Run], bounds: Box4, total: i64) {
     let picture = picture_of(rt, runs);
     assert_bounds(rt, &picture, Some(bounds));
     assert_total(rt, &picture, total);
 }
 
-/// Each of these runs fits a builder, or none does.
+/// Asserts that each of these runs fits a builder, or that none does.
 pub(super) fn assert_fits(rt: &impl Abort, builder: &RowBuilder, runs: &[Run], fits: bool) {
     for run in runs {
         assert_same(rt, builder.fits(run), fits, ("fits", *run));
     }
 }
 
-/// Pixels in these columns and rows, which are outside the field, have weight 0.
+/// Asserts that pixels in these columns and rows, which are outside the field, have weight 0.
 fn assert_nothing_outside(rt: &impl Abort, picture: &Picture, far: &[i32]) {
     for place in far {
         let outside = [(*place, 0, 0), (0, *place, 0), (*place, *place, 0)];
@@ -44,7 +44,7 @@ fn assert_nothing_outside(rt: &impl Abort, picture: &Picture, far: &[i32]) {
 }
 
 #[test]
-fn weighs_each_pixel(rt: HostRuntime) {
+fn has_the_weight_of_each_pixel(rt: HostRuntime) {
     let picture = picture_of(&rt, &block());
     let rows = [
         [0, 0, 0, 0, 0],
@@ -164,7 +164,7 @@ fn reaches_the_corners_of_the_field(rt: HostRuntime) {
 }
 
 #[test]
-fn weighs_far_pixels(rt: HostRuntime) {
+fn has_weight_0_far_outside_the_field(rt: HostRuntime) {
     let picture = picture_of(&rt, &block());
     let far = [i32::MIN, -4096, 4095, 8190, i32::MAX];
     assert_nothing_outside(&rt, &picture, &far);

@@ -1,5 +1,5 @@
-//! The slow form of a picture: the list of its pixels. Its answers are worked out pixel by pixel, and tests
-//! compare those of pictures with them.
+//! The slow form of a picture: the list of its pixels. Its answers are worked out pixel by pixel, and tests compare
+//! those of pictures with them.
 
 use super::{assert_equality, assert_runs_in, made};
 use crate::tests::assertions::assert_same;
@@ -7,10 +7,10 @@ use mf_rows::{Box4, OutOfMemory, Picture, RowBuilder, Run};
 use std::alloc::Global;
 use std::process::Abort;
 
-/// No run is longer than a row of the field.
+/// The number of pixels of a row of the field; no run is longer.
 const ROW_LEN: u32 = 8190;
 
-/// How far from a pixel the weights of others are compared.
+/// How far away from a pixel the weights of other pixels are compared.
 const NEAR: [i32; 5] = [-2, -1, 0, 1, 2];
 
 /// Pixels whose weights are compared in every picture: in the middle of the field, at two of its corners, and
@@ -37,7 +37,7 @@ impl Pixel {
     }
 }
 
-/// The pixels of a picture, rows from the top and columns rising.
+/// The pixels of a picture: rows from the top down, columns from left to right.
 #[derive(Debug, Drop)]
 pub(crate) struct SlowPicture {
     pixels: Vec<Pixel>,
@@ -51,7 +51,7 @@ impl SlowPicture {
         }
     }
 
-    /// Adds the pixel (x, y), which stands behind the others, unless its weight is 0.
+    /// Adds the pixel (x, y), which comes after the others, unless its weight is 0.
     pub(crate) fn push_pixel(&mut self, x: i32, y: i32, weight: i32) -> Result<(), OutOfMemory> {
         if weight != 0 {
             self.pixels.push(Pixel { y, x, weight })?;
@@ -59,7 +59,7 @@ impl SlowPicture {
         Ok(())
     }
 
-    /// Adds the pixels of a run, which stand behind the others.
+    /// Adds the pixels of a run, which come after the others.
     pub(crate) fn push_run(&mut self, run: &Run) -> Result<(), OutOfMemory> {
         for column in 0..run.len.min(ROW_LEN) {
             self.push_pixel(run.x.wrapping_add(column as i32), run.y, run.weight)?;
@@ -137,7 +137,7 @@ impl SlowPicture {
         }
     }
 
-    /// A picture answers all calls as this one does.
+    /// Asserts that a picture answers all calls as this one does.
     pub(crate) fn assert_answers_of<R: Abort + AllocGlobal>(
         &self,
         rt: &R,
@@ -159,7 +159,7 @@ impl SlowPicture {
         assert_runs_in(rt, case, picture, &runs);
     }
 
-    /// A picture is equal to that of the pixels, and not to that of all but the last of them.
+    /// Asserts that a picture is equal to that of the pixels, and not to that of all but the last of them.
     fn assert_equality_of<R: Abort + AllocGlobal>(&self, rt: &R, case: usize, picture: &Picture) {
         let same = picture_of_pixels(rt, &self.pixels);
         assert_equality(rt, picture, &same, true, ("equality in case", case));
@@ -169,7 +169,7 @@ impl SlowPicture {
         }
     }
 
-    /// A picture has the weights of this one, at its pixels, at those near them and at some others.
+    /// Asserts that a picture has the weights of this one: at its pixels, near them, and at some others.
     fn assert_weights_of(&self, rt: &impl Abort, case: usize, picture: &Picture) {
         for (x, y) in FIXED {
             self.assert_weight_of(rt, case, picture, x, y);
@@ -179,7 +179,7 @@ impl SlowPicture {
         }
     }
 
-    /// A picture has the weights of this one near a pixel.
+    /// Asserts that a picture has the weights of this one near a pixel.
     fn assert_weights_near(&self, rt: &impl Abort, case: usize, picture: &Picture, pixel: &Pixel) {
         for up in NEAR {
             for right in NEAR {
@@ -189,7 +189,7 @@ impl SlowPicture {
         }
     }
 
-    /// A picture has the weight of this one at the pixel (x, y).
+    /// Asserts that a picture has the weight of this one at the pixel (x, y).
     fn assert_weight_of(&self, rt: &impl Abort, case: usize, picture: &Picture, x: i32, y: i32) {
         let weight = self.weight(x, y);
         assert_same(
@@ -210,7 +210,7 @@ fn picture_of_pixels<R: Abort + AllocGlobal>(rt: &R, pixels: &[Pixel]) -> Pictur
     made(rt, builder.finish())
 }
 
-/// Pushes a run on a builder if it fits, which is answered.
+/// Pushes a run on a builder if it fits. Answers whether it does.
 fn push_if_it_fits(rt: &impl Abort, builder: &mut RowBuilder, run: Run) -> bool {
     let fits = builder.fits(&run);
     if fits {
@@ -221,8 +221,7 @@ fn push_if_it_fits(rt: &impl Abort, builder: &mut RowBuilder, run: Run) -> bool 
     fits
 }
 
-/// The picture of those of these runs that lie in the field, which all come one after another, and its slow
-/// form.
+/// The picture of those of these runs that lie in the field, and its slow form. The runs must come in reading order.
 pub(crate) fn both_forms<R: Abort + AllocGlobal>(rt: &R, runs: &[Run]) -> (Picture, SlowPicture) {
     let mut builder = RowBuilder::new(rt.alloc());
     let mut slow = SlowPicture::blank(rt.alloc());

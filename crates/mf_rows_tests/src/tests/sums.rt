@@ -1,9 +1,9 @@
-//! Sums of pictures, and pictures of which each weight is mapped, compared pixel by pixel.
+//! Sums of pictures, and pictures whose weights are mapped, compared pixel by pixel.
 
 ghost use Rattle.std.specs.Prelude.{◌≡◌};
 ghost use Rattle.mf_edges.specs.WeightMaps.{IsWeightMap};
 
-use super::generated::{ROWS, SMALL_WEIGHTS, STARTS, WEIGHTS, forms_by_chance, forms_of_weights};
+use super::generated::{ROWS, SMALL_WEIGHTS, STARTS, WEIGHTS, forms_of_weights, random_forms};
 use super::slow::SlowPicture;
 use super::{assert_equality, assert_total, made};
 use crate::tests::assertions::assert_holds;
@@ -11,13 +11,13 @@ use mf_rows::{AddFault, Choice, OutOfMemory, Picture, WeightMap};
 use std::alloc::Global;
 use std::process::Abort;
 
-/// Pairs of pictures for each of the starts.
+/// The number of pairs of pictures for each of the starts.
 const PAIRS: u32 = 12;
 
-/// The rows of generated runs are shorter than this.
+/// The rows of generated runs are shorter than this, in pixels.
 const REACH: i32 = 40;
 
-/// The sum of two slow forms, none where a weight is too large.
+/// The sum of two slow forms, `None` where a weight is too large.
 fn slow_sum(
     alloc: Global,
     start: i32,
@@ -38,7 +38,7 @@ fn slow_sum(
     Ok(Some(sum))
 }
 
-/// Two pictures have the sum of their slow forms, or it is refused where these have none.
+/// Asserts that the sum of two pictures is that of their slow forms, or is refused where these have none.
 fn assert_sum<R: Abort + AllocGlobal>(
     rt: &R,
     case: usize,
@@ -53,8 +53,8 @@ fn assert_sum<R: Abort + AllocGlobal>(
     }
 }
 
-/// Two pictures by chance, whose rows begin at this column, have the sum of their slow forms, whichever of them is
-/// added to the other. Answers whether it is not refused.
+/// Asserts that two random pictures, whose rows begin at this column, have the sum of their slow forms, whichever of
+/// them is added to the other. Answers whether there is a sum.
 fn assert_pair<R: Abort + AllocGlobal>(rt: &R, start: i32, seed: u32) -> bool {
     // Nearly all sums of large weights are refused, so most pairs have small ones.
     let weights = if seed % 4 == 0 {
@@ -73,7 +73,7 @@ fn assert_pair<R: Abort + AllocGlobal>(rt: &R, start: i32, seed: u32) -> bool {
     slow.is_some()
 }
 
-/// The same of pairs by chance. Answers how many have a sum, and how many are refused one.
+/// Asserts this of random pairs. Answers how many have a sum, and how many are refused.
 fn count_sums<R: Abort + AllocGlobal>(rt: &R) -> (u32, u32) {
     let (mut sums, mut refusals) = (0u32, 0u32);
     for start in STARTS {
@@ -95,7 +95,7 @@ fn sums_are_those_of_their_slow_forms(rt: HostRuntime) {
     assert_holds(&rt, refusals > 0, "pairs whose sum is refused");
 }
 
-/// A picture and its negated one cancel.
+/// Asserts that a picture and its negated one cancel.
 fn assert_negated<R: Abort + AllocGlobal>(rt: &R, picture: &Picture, slow: &SlowPicture) {
     let negated = made(rt, picture.map_weights(rt.alloc(), &WeightMap::Negate));
     assert_total(rt, &negated, slow.total().wrapping_neg());
@@ -111,10 +111,10 @@ fn assert_negated<R: Abort + AllocGlobal>(rt: &R, picture: &Picture, slow: &Slow
     );
 }
 
-/// So do pictures by chance.
+/// Asserts that random pictures and their negated ones cancel.
 fn assert_all_negated<R: Abort + AllocGlobal>(rt: &R) {
     for seed in 0..PAIRS {
-        let (picture, slow) = forms_by_chance(rt, seed, -9);
+        let (picture, slow) = random_forms(rt, seed, -9);
         assert_negated(rt, &picture, &slow);
     }
 }
@@ -124,7 +124,7 @@ fn negated_pictures_cancel(rt: HostRuntime) {
     assert_all_negated(&rt);
 }
 
-/// The slow form of which each weight is chosen.
+/// The slow form after each of its weights is chosen.
 fn slow_chosen(
     alloc: Global,
     slow: &SlowPicture,
@@ -145,12 +145,12 @@ fn slow_chosen(
     Ok(chosen)
 }
 
-/// Pictures by chance get the weights of a choice.
+/// Asserts that random pictures get the weights of a choice.
 fn assert_chosen<R: Abort + AllocGlobal>(rt: &R, choice: Choice)
     requires { IsWeightMap (WeightMap.Choose choice) }
 {
     for seed in 0..PAIRS {
-        let (picture, slow) = forms_by_chance(rt, seed, -9);
+        let (picture, slow) = random_forms(rt, seed, -9);
         let chosen = slow_chosen(rt.alloc(), &slow, &choice).expect(
             rt,
             "there is room for the pixels",

@@ -21,7 +21,7 @@ use std::alloc::Global;
 use std::sync::Wait;
 
 impl Session {
-    /// Performs a command, and answers what it prints.
+    /// Performs a command, and answers with what it prints.
     pub(crate) fn perform<R: Wait>(
         &mut self,
         rt: &R,
@@ -75,7 +75,7 @@ impl Session {
         Vec::new(alloc)
     }
 
-    /// Ships a character. Its text is made before, since nothing may fail behind the shipping.
+    /// Ships a character. Its text is made first, since nothing may fail after the shipping.
     fn ship(
         &mut self,
         alloc: Global,
@@ -109,7 +109,7 @@ fn total(alloc: Global, picture: &Picture) -> Result<Vec<u8>, OutOfMemory>
     Ok(format!(in alloc; "totalweight {}\n", picture.total())?.into_bytes())
 }
 
-/// What `proof` prints: the grid text, or that it would be too large.
+/// What `proof` prints: the grid text, or the refusal of one that would be too large.
 fn proof(alloc: Global, picture: &Picture) -> Result<Vec<u8>, OutOfMemory>
     ensures { IfOk result (λ text. ProofAnswers picture.now text.items) }
 {

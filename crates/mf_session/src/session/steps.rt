@@ -23,11 +23,11 @@ use std::alloc::Global;
 use std::sync::Wait;
 
 impl Session {
-    /// A session in which nothing has happened, and the desk at which viewers of its `currentpicture` are given out:
-    /// at most so many. It accepts at most `max_ops` operations on `currentpicture`, and its font file, which has no
-    /// comment, has at most `max_bytes` bytes; more than 2,147,483,647 count as that. Refusals FileTooLong (20),
-    /// exactly where a file of three bytes is too long, and OutOfMemory (14). The caller owes that the places are at
-    /// most 64. It waits for nobody, since nobody looks yet.
+    /// Opens a session in which nothing has happened, and the desk for viewers of its `currentpicture`, with at most `places` of
+    /// them. The session accepts at most `max_ops` operations on `currentpicture`. Its font file has no comment and at most
+    /// `max_bytes` bytes; more than 2,147,483,647 count as that. Requires at most 64 places. Refused with `FileTooLong` exactly
+    /// where `max_bytes` is below 3, since the preamble alone has three bytes, and with `OutOfMemory` where an allocation fails.
+    /// It takes `rt` because opening a live picture publishes once, but it waits for nobody, since nobody looks yet.
     pub fn new<R: Wait>(
         rt: &R,
         alloc: Global,
@@ -53,8 +53,8 @@ impl Session {
         Ok((session, desk))
     }
 
-    /// The picture of this name: that of all operations that `currentpicture` has accepted, or that of a register.
-    /// The caller owes that a register's number is at most 25.
+    /// The picture with this name: for `currentpicture` that of all operations that it has accepted, published or not. Requires
+    /// the number of a register to be at most 25.
     pub fn picture(&self, name: &Name) -> &Picture
         requires { IsName name.now }
         ensures { (s : State) → StandsFor self.now s → result.now ≡ picture s.pictures name.now }
@@ -62,10 +62,11 @@ impl Session {
         self.variables.picture(name)
     }
 
-    /// Performs a line of a script, which is given without its end, and answers what it prints. A line that is refused
-    /// prints its refusal and changes nothing. `publish` may wait for looks that are held. Refusal OutOfMemory (14):
-    /// nothing has changed, and the line may be tried again. It never comes of a line with no command, of one that sets the
-    /// turning check, nor of a clear that is accepted: these take no memory.
+    /// Performs a line of a script, given without the line feed that ends it or a carriage return before that, and answers with
+    /// what it prints. A refused line prints its refusal and changes nothing. `publish` may wait for looks that are held. Refused
+    /// with `OutOfMemory` where an allocation fails: then nothing has changed, and the line can be performed again. That never
+    /// happens to a line with no command, to one that sets the turning check, or to a clear that is accepted: these allocate
+    /// nothing.
     pub fn command<R: Wait>(
         &mut self,
         rt: &R,
@@ -87,9 +88,10 @@ impl Session {
         }
     }
 
-    /// Ends the script: sets the end mark of `currentpicture`, publishes all that it has accepted, and hands out the font
-    /// file of the characters that were shipped. It may wait for looks that are held. Where memory is wanting, either the
-    /// session comes back as it was, or the end mark is set and can be published later.
+    /// Ends the script: sets the end mark of `currentpicture`, publishes everything that it has accepted, and hands out the font
+    /// file of the shipped characters. It may wait for looks that are held. Where an allocation fails, the session comes back as
+    /// it was (`Kept`). The clauses also allow `Halfway`, where the end mark is set and can be published later, but that never
+    /// happens.
     pub fn finish<R: Wait>(self, rt: &R) -> Result<(Ended, GfFile), EndFault>
         ensures ended { IfOk result (λ made. (s : State) → StandsFor self s → HasEnded self s made.0 made.1) }
         ensures handed_back { IfErr result (λ fault. (s : State) → StandsFor self s → IsHandedBack self s fault) }
@@ -122,12 +124,12 @@ impl Session {
         }
     }
 
-    /// Ends it. It may wait for looks that are held, and looks may be refused from then on.
+    /// Ends the session without an end mark. It may wait for looks that are held, and looks may be refused from then on.
     pub fn discard<R: Wait>(self, rt: &R) {
         self.into_writer().discard(rt);
     }
 
-    /// The writer of its `currentpicture`, as it is.
+    /// The writer of its `currentpicture`, unchanged.
     fn into_writer(self) -> Writer
         ensures { result ≡ self.variables.writer }
     {

@@ -1,4 +1,4 @@
-//! What is done with the picture variables of a script.
+//! What can be done with the picture variables of a script.
 ghost use Rattle.std.specs.Prelude.{◌≡◌, ◌≢◌, ◌<◌, ◌≤◌, IfOk, IsOk, OnErr};
 ghost use Rattle.mf_live.specs.Desks.{desk_name, left};
 ghost use Rattle.mf_live.specs.declared.fault.Fault.TheVariants as faults;
@@ -22,8 +22,8 @@ use std::alloc::Global;
 use std::sync::Wait;
 
 impl Variables {
-    /// Blank pictures, and the desk at which viewers of `currentpicture` are given out: at most so many. At most
-    /// `max_ops` operations on `currentpicture` are accepted.
+    /// Blank pictures, and the desk for viewers of `currentpicture`, with at most `places` of them. `currentpicture` accepts at
+    /// most `max_ops` operations.
     pub fn blank<R: Wait>(
         rt: &R,
         alloc: Global,
@@ -46,7 +46,7 @@ impl Variables {
         Ok((variables, desk))
     }
 
-    /// The picture of this name.
+    /// The picture with this name.
     pub fn picture(&self, name: &Name) -> &Picture
         requires { IsName name.now }
         ensures { result.now ≡ picture (pictures self.now) name.now }
@@ -68,7 +68,7 @@ impl Variables {
         }
     }
 
-    /// Adds or subtracts a picture, which may be the changed one.
+    /// Adds or subtracts a picture. It may be the one that is changed, and then has its value before the command.
     pub fn add(
         &mut self,
         alloc: Global,
@@ -87,7 +87,7 @@ impl Variables {
         self.operate(alloc, name, Op::Also(operand, sign))
     }
 
-    /// Changes a picture by an operation.
+    /// Changes a picture by an operation, and answers with what that prints.
     pub fn operate(&mut self, alloc: Global, name: Name, op: Op) -> Result<Vec<u8>, OutOfMemory>
         requires { IsName name }
         ensures answer { IfOk result (λ text. OperatesOn (max_ops self.old) (pictures self.old) name op text.items (pictures self.new)) }
@@ -136,7 +136,7 @@ impl Variables {
         }
     }
 
-    /// Publishes what `currentpicture` has become. Its text is made before, since nothing may fail behind the publish.
+    /// Publishes what `currentpicture` has become. The text is made first, since nothing may fail after the publish.
     pub fn publish<R: Wait>(&mut self, rt: &R, alloc: Global) -> Result<Vec<u8>, OutOfMemory>
         ensures answer { IfOk result (λ text. PublishesAll (pictures self.old) text.items (pictures self.new)) }
         ensures unchanged { OnErr result (pictures self.new ≡ pictures self.old) }
@@ -149,7 +149,7 @@ impl Variables {
         Ok(text)
     }
 
-    /// The writer of `currentpicture`, as it is.
+    /// The writer of `currentpicture`, unchanged.
     pub fn into_writer(self) -> Writer
         ensures { result ≡ self.writer }
     {
@@ -162,7 +162,7 @@ impl Variables {
     }
 }
 
-/// What an operation prints that is refused. Want of memory is not printed.
+/// What a refused operation prints. `OutOfMemory` is never printed.
 fn refused_operation(alloc: Global, fault: Fault) -> Result<Vec<u8>, OutOfMemory>
     ensures text { IfOk result (λ text. text.items ≡ refused_line (Refusal.Operation fault)) }
     ensures memory { IfOk result (λ _. fault ≢ faults.Refused OpFault.OutOfMemory) }

@@ -1,4 +1,4 @@
-//! The weights of pixels in reading order.
+//! The weights of the pixels of a picture, in reading order.
 ghost use Rattle.std.specs.Prelude.{◌≡◌, ◌↔◌, IsTrue, IfSome, pos, negsuc, ◌≤ℤ◌, ◌+ℤ◌};
 ghost use Rattle.mf_rows.specs.Dots.{IsPicture, place, weight_at};
 ghost use Rattle.mf_rows.specs.Order.{IsRun};
@@ -7,8 +7,8 @@ ghost use Rattle.mf_show.specs.RunsAhead.{runs_ahead, dots_ahead, AreInOrder, Ar
 
 use mf_rows::{Picture, Run, Runs};
 
-/// A walk over the weights of a picture, which passes each of its runs once. The first run that may reach the next
-/// pixel was taken already.
+/// A walk over the weights of a picture, which passes each of its runs once. `run` is the first run that may reach the next
+/// pixel; it is already taken from `runs`.
 #[derive(Drop)]
 pub(crate) struct Weights<'a> {
     run: Option<Run>,
@@ -16,7 +16,7 @@ pub(crate) struct Weights<'a> {
 }
 
 impl<'a> Weights<'a> {
-    /// The weights of a picture.
+    /// Starts a walk over the weights of a picture.
     pub(crate) fn over(picture: &'a Picture) -> Weights<'a>
         ensures runs { runs_ahead result ≡ runs_of picture.now }
         ensures lawful { IsPicture picture.now }
@@ -26,7 +26,8 @@ impl<'a> Weights<'a> {
         Weights { run, runs }
     }
 
-    /// The weight of a pixel. Those before it are passed: their weights are not known any more.
+    /// Returns the weight of a pixel. Pixels must be asked for in reading order: the runs before this one are passed and
+    /// forgotten.
     pub(crate) fn weight(&mut self, x: i32, y: i32) -> i32
         requires order { AreInOrder (runs_ahead self.old) }
         requires left { negsuc 4094 ≤ℤ x }
@@ -60,7 +61,7 @@ impl<'a> Weights<'a> {
     }
 }
 
-/// Whether a run ends before a pixel.
+/// Whether a run ends before a pixel, in reading order.
 fn is_before(run: &Run, x: i32, y: i32) -> bool
     requires run { IsRun run.now }
     requires left { negsuc 4094 ≤ℤ x }
@@ -73,7 +74,7 @@ fn is_before(run: &Run, x: i32, y: i32) -> bool
     run.y > y
 }
 
-/// The weight that a run gives to a pixel, where it does not end before it.
+/// The weight that a run gives to a pixel that it does not end before.
 fn weight_in(run: &Run, x: i32, y: i32) -> i32
     requires run { IsRun run.now }
     requires reach { IsNotBefore x y run.now }

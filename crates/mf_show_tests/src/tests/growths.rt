@@ -1,5 +1,5 @@
-//! Texts whose growths are refused, one after another. The picture is as it was then, and with ample memory it has
-//! its text.
+//! Texts whose allocations are refused, one after another. Each test asserts that the picture stays as it was, and that with
+//! ample memory it then has its text.
 
 use super::texts::built;
 use crate::tests::assertions::assert_same;
@@ -12,7 +12,7 @@ use std::process::Abort;
 /// Runs of a picture: row, first column, length and weight.
 type Runs = &'static [(i32, i32, u32, i32)];
 
-/// Rows with blank ones between them; one has two weights side by side.
+/// Rows with blank rows between them. One row has two weights side by side.
 const ROWS: Runs = &[
     (3, -2, 4, 12),
     (1, 0, 2, 1),
@@ -21,7 +21,7 @@ const ROWS: Runs = &[
     (-2, 4, 1, -32767),
 ];
 
-/// A picture has exactly these runs.
+/// Asserts that a picture has exactly these runs.
 fn assert_picture(rt: &impl Abort, picture: &Picture, runs: Runs) {
     for (k, (y, x, len, weight)) in runs.iter().enumerate() {
         let run = Run {
@@ -35,7 +35,7 @@ fn assert_picture(rt: &impl Abort, picture: &Picture, runs: Runs) {
     assert_same(rt, picture.run(runs.len()), None, "the last run");
 }
 
-/// The picture of these runs has this run text.
+/// Asserts that the picture of these runs has this run text.
 fn assert_shown(rt: &impl Abort, alloc: Global, runs: Runs, want: &str) {
     let picture = built(rt, alloc, runs);
     refuse_growths(alloc);
@@ -59,7 +59,7 @@ fn no_runs_are_shown(rt: HostRuntime) {
     assert_shown(&rt, rt.alloc(), &[], "blank\n");
 }
 
-/// The picture of these runs has this grid text.
+/// Asserts that the picture of these runs has this grid text.
 fn assert_drawn(rt: &impl Abort, alloc: Global, runs: Runs, want: &str) {
     let picture = built(rt, alloc, runs);
     refuse_growths(alloc);
@@ -87,9 +87,9 @@ fn no_grid_is_drawn(rt: HostRuntime) {
     assert_drawn(&rt, rt.alloc(), &[], "blank\n");
 }
 
-/// A run that is too long for a grid is refused as such, also where no memory is left.
+/// A run that is too long for a grid is refused with `ProofTooLarge`, also where every allocation is refused.
 #[test]
-fn a_grid_that_is_too_large_comes_before_want_of_memory(rt: HostRuntime) {
+fn a_grid_that_is_too_large_comes_before_out_of_memory(rt: HostRuntime) {
     let (alloc, long): (Global, Runs) = (rt.alloc(), &[(0, 0, 129, 1)]);
     let picture = built(&rt, alloc, long);
     refuse_all_growths(alloc);

@@ -23,7 +23,7 @@ const UNIT: &[Point] = &[
     Point { x: 0, y: 1 },
 ];
 
-/// The contour through these corners, of weight 1.
+/// The contour through these corners, with weight 1.
 fn contour(rt: &impl Abort, alloc: Global, corners: &[Point]) -> Op {
     let points = Vec::from_slice(alloc, corners).expect(rt, "there is room for the path");
     match (Cycle::new(points), Weight::new(1)) {
@@ -32,20 +32,20 @@ fn contour(rt: &impl Abort, alloc: Global, corners: &[Point]) -> Op {
     }
 }
 
-/// The picture after the contour through these corners was filled in with weight 1.
+/// The picture after the contour through these corners is filled with weight 1.
 fn filled(rt: &impl Abort, alloc: Global, corners: &[Point]) -> Picture {
     let contour = contour(rt, alloc, corners);
     after(alloc, &Picture::blank(alloc), &contour).expect(rt, "the contour is filled")
 }
 
-/// The pixel (0, 0) stretched to some columns and rows.
+/// The pixel (0, 0) stretched to this number of columns and rows.
 fn stretched(rt: &impl Abort, alloc: Global, columns: i32, rows: i32) -> Picture {
     let unit = filled(rt, alloc, UNIT);
     let scale = Scale::new(columns, rows).expect(rt, "the factors are lawful");
     after(alloc, &unit, &Op::Scale(scale)).expect(rt, "no pixel leaves the field")
 }
 
-/// Adds a run, which must fit behind the others.
+/// Adds a run, which must fit after the ones before it.
 fn push(rt: &impl Abort, builder: &mut RowBuilder, run: Run) {
     assert!(rt; builder.fits(&run), "{run:?}");
     builder
@@ -53,7 +53,7 @@ fn push(rt: &impl Abort, builder: &mut RowBuilder, run: Run) {
         .expect(rt, "there is room for the run");
 }
 
-/// The picture of these runs: row, first column, length and weight.
+/// The picture of these runs, given as row, first column, length and weight.
 pub(super) fn built(rt: &impl Abort, alloc: Global, runs: &[(i32, i32, u32, i32)]) -> Picture {
     let mut builder = RowBuilder::new(alloc);
     for (y, x, len, weight) in runs {
@@ -83,13 +83,13 @@ fn assert_too_large(rt: &impl Abort, alloc: Global, picture: &Picture) {
     assert_same(rt, fault, Some(GridFault::ProofTooLarge), picture);
 }
 
-/// A picture has this run text and this grid text.
+/// Asserts that a picture has this run text and this grid text.
 fn assert_texts(rt: &impl Abort, alloc: Global, picture: &Picture, runs: &str, grid: &str) {
     assert_runs(rt, alloc, picture, runs);
     assert_grid(rt, alloc, picture, grid);
 }
 
-/// The picture of these runs has this run text and this grid text.
+/// Asserts that the picture of these runs has this run text and this grid text.
 fn assert_run_texts(
     rt: &impl Abort,
     alloc: Global,
@@ -100,7 +100,7 @@ fn assert_run_texts(
     assert_texts(rt, alloc, &built(rt, alloc, runs), text, grid);
 }
 
-/// The picture of these runs has this run text, and is too large for a grid.
+/// Asserts that the picture of these runs has this run text, and is too large for a grid.
 fn assert_no_grid(rt: &impl Abort, alloc: Global, runs: &[(i32, i32, u32, i32)], text: &str) {
     let picture = built(rt, alloc, runs);
     assert_runs(rt, alloc, &picture, text);
@@ -131,7 +131,7 @@ fn texts_of_the_blank_picture(rt: HostRuntime) {
     assert_texts(&rt, alloc, &Picture::blank(alloc), "blank\n", "blank\n");
 }
 
-/// Weights, each with the grid of a pixel that has it.
+/// Weights, each with the grid text of one pixel of that weight.
 const WEIGHTS: &[(i32, &str)] = &[
     (1, "1\n"),
     (9, "9\n"),
@@ -146,7 +146,7 @@ const WEIGHTS: &[(i32, &str)] = &[
     (-32767, "-\n"),
 ];
 
-/// A pixel of each of these weights has its grid.
+/// Asserts that a pixel of each of these weights has its grid text.
 fn assert_pixels(rt: &impl Abort, alloc: Global, weights: &[(i32, &str)]) {
     for (weight, want) in weights {
         let pixel = built(rt, alloc, &[(0, 0, 1, *weight)]);
@@ -154,11 +154,11 @@ fn assert_pixels(rt: &impl Abort, alloc: Global, weights: &[(i32, &str)]) {
     }
 }
 
-/// A row in which each pixel has its column as its weight, from -11 to 11.
+/// A row in which the weight of each pixel is its column, from -11 to 11.
 fn rising(rt: &impl Abort, alloc: Global) -> Picture {
     let mut builder = RowBuilder::new(alloc);
     for weight in -11..12 {
-        // A run has a weight, so column 0 is left out.
+        // A run has a nonzero weight, so column 0 is left out.
         if weight != 0 {
             let run = Run {
                 y: -7,
@@ -210,7 +210,7 @@ fn texts_at_the_ends_of_the_field(rt: HostRuntime) {
     assert_no_grid(&rt, alloc, corners, text);
 }
 
-/// The grid of so many columns and rows of weight 1.
+/// The grid text of a rectangle of pixels of weight 1.
 fn ones(alloc: Global, columns: i32, rows: i32) -> Result<Vec<u8>, AllocError> {
     let mut grid = Vec::new(alloc);
     for _ in 0..rows {
@@ -222,7 +222,7 @@ fn ones(alloc: Global, columns: i32, rows: i32) -> Result<Vec<u8>, AllocError> {
     Ok(grid)
 }
 
-/// So many columns and rows of pixels have a grid.
+/// Asserts that a rectangle with this number of columns and rows has its grid text.
 fn assert_full(rt: &impl Abort, alloc: Global, columns: i32, rows: i32) {
     let want = ones(alloc, columns, rows).expect(rt, "there is room for the grid");
     let text = proof_grid(alloc, &stretched(rt, alloc, columns, rows)).expect(
@@ -237,7 +237,7 @@ fn assert_full(rt: &impl Abort, alloc: Global, columns: i32, rows: i32) {
     );
 }
 
-/// So many columns and rows of pixels are too large for a grid.
+/// Asserts that a rectangle with this number of columns and rows is too large for a grid.
 fn assert_overfull(rt: &impl Abort, alloc: Global, columns: i32, rows: i32) {
     assert_too_large(rt, alloc, &stretched(rt, alloc, columns, rows));
 }

@@ -1,4 +1,4 @@
-//! Contours, and those that are refused.
+//! Contours, accepted and refused.
 
 use super::Script;
 
@@ -7,7 +7,7 @@ pub(super) fn scripts() -> &'static [Script] {
 }
 
 const SCRIPTS: &[Script] = &[
-    // A contour: its total weight and runs.
+    // A contour, with its total weight and its runs.
     (
         "addto currentpicture contour (0,0)--(3,0)--(3,2)--(0,2)--cycle\n\
          show totalweight currentpicture\n\
@@ -16,7 +16,7 @@ const SCRIPTS: &[Script] = &[
          1 0 2 1\n\
          0 0 2 1\n",
     ),
-    // Contours that are refused change nothing.
+    // Contours that are refused for how their cycle turns change nothing.
     (
         "addto a contour (0,0)--(1,0)--(1,2)--(2,2)--(2,1)--(0,1)--cycle\n\
          show a\n",
@@ -31,7 +31,7 @@ const SCRIPTS: &[Script] = &[
          refused Backtracks 0\n\
          blank\n",
     ),
-    // Reversals at the first and at the last vertex.
+    // The path turns straight back at the first vertex, and at the last.
     (
         "addto a contour (0,0)--(1,0)--(1,1)--(2,1)--(2,0)--cycle\n\
          addto a contour (1,0)--(1,1)--(2,1)--(2,0)--(0,0)--cycle\n\
@@ -52,7 +52,7 @@ const SCRIPTS: &[Script] = &[
          refused BadWeight\n\
          blank\n",
     ),
-    // Repeated points: within the list, and the first point at its end.
+    // Repeated points: within the list, and the first point again at its end.
     (
         "addto a contour (0,0)--(1,0)--(1,0)--(1,1)--(0,1)--cycle\n\
          addto a contour (0,0)--(1,0)--(1,1)--(0,1)--(0,0)--cycle\n\
@@ -61,8 +61,8 @@ const SCRIPTS: &[Script] = &[
          refused NotRectilinear 4\n\
          blank\n",
     ),
-    // The points of a contour are looked at before its weight, and that before how the cycle turns; the weight of a cull
-    // before its range.
+    // The points of a contour are checked before its weight, and its weight before how the cycle turns. The weight of a cull is
+    // checked before its range.
     (
         "addto currentpicture contour (0,0)--(1,1)--cycle withweight 4\n\
          addto currentpicture contour (0,0)--(1,0)--cycle withweight 4\n\

@@ -1,10 +1,10 @@
-//! A script that ships a character, and its font file.
+//! A script that ships a character, and the font file that it makes.
 
-/// A rectangle of 3 by 2 pixels, shipped with an escapement of five pixels.
+/// A rectangle of 3 by 2 pixels, shipped with an escapement of 5 pixels.
 pub const RECT: &str = "addto currentpicture contour (0,0)--(3,0)--(3,2)--(0,2)--cycle\n\
                         shipout currentpicture code 65 dx 327680 width 0\n";
 
-/// Its file, of 72 bytes.
+/// The font file of `RECT`, 72 bytes.
 pub const RECT_FILE: &[u8] = b"\xf7\x83\x00\
     \x44\x41\x03\x03\x01\x01\
     \x00\x03\x4a\x03\x45\

@@ -1,4 +1,4 @@
-//! How lines are read, and lines that are no commands.
+//! How lines are read, and lines that are not commands.
 
 use super::Script;
 
@@ -13,7 +13,7 @@ const SCRIPTS: &[Script] = &[
         "show totalweight currentpicture ; % note\n",
         "totalweight 0\n",
     ),
-    // Tokens may touch, and a minus may stand apart from its number.
+    // Tokens need no blanks between them, and there may be blanks between a minus and its number.
     (
         "\taddto\ta contour ( - 0 , 00000 ) --(1,0)--(1,1)--(0,1)-- cycle withweight-2;% note\n\
          a:=a shifted(- 1 ,0)%x\n\
@@ -28,7 +28,7 @@ const SCRIPTS: &[Script] = &[
          show a\n",
         "-1 -1 -1 1\n",
     ),
-    // Lines that are no commands.
+    // Lines that are not commands.
     ("addto currentpicture contur\n", "refused Syntax 22\n"),
     ("show totalweight a!\n", "refused Syntax 19\n"),
     (
@@ -36,7 +36,7 @@ const SCRIPTS: &[Script] = &[
         "refused Syntax 31\n",
     ),
     ("show a ; show b\n", "refused Syntax 10\n"),
-    // Other bytes, also in a comment.
+    // Bytes that no line may have, also in a comment.
     (
         "show a % caf\u{e9}\nshow\u{a0}a\n",
         "refused NotAscii\nrefused NotAscii\n",

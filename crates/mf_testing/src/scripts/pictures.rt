@@ -1,4 +1,4 @@
-//! What is done to pictures, published and shipped.
+//! Operations on pictures, publishing and shipping.
 
 use super::Script;
 
@@ -37,7 +37,7 @@ const SCRIPTS: &[Script] = &[
         "refused WeightTooLarge\n\
          totalweight -24576\n",
     ),
-    // Each register has a picture of its own.
+    // Each register has its own picture.
     (
         "addto a contour (0,0)--(1,0)--(1,1)--(0,1)--cycle\n\
          addto z contour (0,0)--(1,0)--(1,1)--(0,1)--cycle withweight 2\n\
@@ -61,7 +61,7 @@ const SCRIPTS: &[Script] = &[
          0 0 0 2\n\
          0 0 0 1\n",
     ),
-    // The blank picture is added, subtracted and shipped. Its sums are operations, too.
+    // The blank picture is added, subtracted and shipped. Adding and subtracting it are operations, too.
     (
         "addto a contour (0,0)--(3,0)--(3,2)--(0,2)--cycle\n\
          show totalweight nullpicture\n\
@@ -85,7 +85,7 @@ const SCRIPTS: &[Script] = &[
          [3]\n\
          blank\n",
     ),
-    // Culls, and weights as characters.
+    // Culls, and weights as the characters of a grid.
     (
         "addto a contour (0,0)--(3,0)--(3,1)--(0,1)--cycle\n\
          addto a contour (1,0)--(3,0)--(3,1)--(1,1)--cycle\n\
@@ -196,7 +196,7 @@ const SCRIPTS: &[Script] = &[
         "published 1\n\
          published 1\n",
     ),
-    // Operations on registers and refused ones are not counted.
+    // Operations on registers and refused operations are not counted.
     (
         "publish\n\
          addto a contour (0,0)--(1,0)--(1,1)--(0,1)--cycle\n\
@@ -211,7 +211,7 @@ const SCRIPTS: &[Script] = &[
          refused OutOfField\n\
          published 3\n",
     ),
-    // A code may be shipped again, and a shipping is no operation.
+    // A code may be shipped again. Shipping is not an operation.
     (
         "addto currentpicture contour (0,0)--(3,0)--(3,2)--(0,2)--cycle\n\
          shipout currentpicture code 65 dx 327680 width 0\n\

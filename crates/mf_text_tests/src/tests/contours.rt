@@ -14,7 +14,7 @@ const RECTANGLE: &[Point] = &[
     Point { x: 0, y: 2 },
 ];
 
-/// A rectangle that reaches from the left end of the field to the right one.
+/// A rectangle across the field, from its left end to its right end.
 const WIDE: &[Point] = &[
     Point { x: -4095, y: 7 },
     Point { x: -4095, y: -8 },
@@ -44,7 +44,7 @@ const BACK: &[Point] = &[
 /// A path of two points, which turns straight back at both.
 const EDGE: &[Point] = &[Point { x: 0, y: 0 }, Point { x: 1, y: 0 }];
 
-/// The line is a contour of this name and weight through these points.
+/// Asserts that the line is a contour with this name and weight through these points.
 fn assert_contour(
     rt: &impl Abort,
     alloc: Global,
@@ -55,7 +55,7 @@ fn assert_contour(
     assert_is_contour(rt, &read(rt, alloc, line), line, expected, points);
 }
 
-/// The command of the line is a contour of this name and weight through these points.
+/// Asserts that the command of the line is a contour with this name and weight through these points.
 pub(super) fn assert_is_contour(
     rt: &impl Abort,
     command: &Command,
@@ -91,7 +91,7 @@ fn contours(rt: HostRuntime) {
     );
 }
 
-/// Whether a cycle passes the turning check does not matter when it is read.
+/// A contour is read whether its cycle passes the turning check or not.
 #[test]
 fn contours_are_read_unchecked(rt: HostRuntime) {
     let alloc = rt.alloc();

@@ -1,5 +1,5 @@
-//! Lines that are read while growths are refused, one after another. Only a line of a contour that is in the grammar
-//! may be refused for want of memory, and with ample memory it has its command or its own refusal.
+//! Lines that are read while allocations are refused, one after another. Only a contour in the grammar may be refused with
+//! `OutOfMemory`, and with ample memory it has its command or its own refusal.
 
 use super::contours::assert_is_contour;
 use super::lines::repeated;
@@ -11,14 +11,14 @@ use mf_text::{Command, Name, TextFault, read_command};
 use std::alloc::Global;
 use std::process::Abort;
 
-/// A point of a path, in a constant.
+/// A point of a path, written so that it can be in a constant.
 macro_rules! point_of {
     ($x:expr, $y:expr) => {
         Point { x: $x, y: $y }
     };
 }
 
-/// A comb, whose list of points grows four times.
+/// A comb. Its list of points allocates four times.
 const COMB: &[Point] = &[
     point_of!(0, 0),
     point_of!(13, 0),
@@ -40,7 +40,7 @@ const COMB: &[Point] = &[
     point_of!(0, 1),
 ];
 
-/// An L, whose list of points grows twice.
+/// An L. Its list of points allocates twice.
 const CORNER: &[Point] = &[
     point_of!(0, 0),
     point_of!(3, 0),
@@ -50,7 +50,7 @@ const CORNER: &[Point] = &[
     point_of!(0, 2),
 ];
 
-/// The answer of a line whose growths are refused.
+/// Reads a line while allocations are refused.
 fn read_refused(alloc: Global, line: &[u8]) -> Result<Command, TextFault> {
     refuse_growths(alloc);
     let answer = read_command(alloc, line);
@@ -58,7 +58,8 @@ fn read_refused(alloc: Global, line: &[u8]) -> Result<Command, TextFault> {
     answer
 }
 
-/// The line is the contour of this name and weight through these points, or memory was wanting for it.
+/// Asserts that the line is the contour with this name and weight through these points, or that an allocation failed; with ample
+/// memory it is that contour.
 fn assert_read(
     rt: &impl Abort,
     alloc: Global,
@@ -90,7 +91,8 @@ fn a_contour_with_a_weight_is_read(rt: HostRuntime) {
     assert_read(&rt, rt.alloc(), line, (Name::Current, -3), CORNER);
 }
 
-/// A line that is not in the grammar is refused for that and for nothing else, although points of its path were wanted.
+/// Asserts that a line that is not in the grammar is refused with `Syntax` and this column, and never with `OutOfMemory`, though
+/// reading the points of its path allocates.
 fn assert_column(rt: &impl Abort, alloc: Global, line: &[u8], column: u32) {
     let fault = TextFault::Syntax(column);
     let found = read_refused(alloc, line).err();
@@ -110,14 +112,14 @@ fn a_weight_without_a_number_is_refused_for_its_form(rt: HostRuntime) {
     assert_column(&rt, rt.alloc(), line, 68);
 }
 
-/// Its points and its weight would be refused, too.
+/// The points and the weight would be refused, too.
 #[test]
 fn a_second_number_is_refused_for_its_form(rt: HostRuntime) {
     let line = b"addto a contour (0,0)--(4096,0)--(4096,1)--(0,1)--(7,7)--cycle withweight 4 4";
     assert_column(&rt, rt.alloc(), line, 77);
 }
 
-/// The line of a contour of 4,097 points, one more than a cycle has, with this end.
+/// The line of a contour of 4,097 points, one more than a cycle may have, with this end.
 fn too_many_points(rt: &impl Abort, alloc: Global, end: &[u8]) -> Vec<u8> {
     repeated(alloc, b"addto a contour ", b"(0,0)--", 4097, end).expect(
         rt,
@@ -131,7 +133,8 @@ fn too_many_points_without_an_end_are_refused_for_their_form(rt: HostRuntime) {
     assert_column(&rt, rt.alloc(), &line, 28_701);
 }
 
-/// A contour in the grammar is refused for this fault of its values, in the place of which want of memory may come.
+/// Asserts that a contour in the grammar is refused with this fault of its values, or with `OutOfMemory`; with ample memory it is
+/// refused with this fault.
 fn assert_fault(rt: &impl Abort, alloc: Global, line: &[u8], fault: TextFault) {
     let found = read_refused(alloc, line).err();
     if found != Some(TextFault::OutOfMemory) {
@@ -140,7 +143,7 @@ fn assert_fault(rt: &impl Abort, alloc: Global, line: &[u8], fault: TextFault) {
     assert_bytes_refused(rt, alloc, line, fault, ("with memory", fault));
 }
 
-/// The same for a fault of its points.
+/// Asserts the same for a fault of the points.
 fn assert_no_cycle(rt: &impl Abort, alloc: Global, line: &[u8], fault: CycleFault) {
     assert_fault(rt, alloc, line, TextFault::Cycle(fault));
 }
@@ -175,7 +178,7 @@ fn a_weight_is_refused(rt: HostRuntime) {
     assert_fault(&rt, rt.alloc(), line, TextFault::BadWeight);
 }
 
-/// The answer of a line where no memory is left.
+/// Reads a line while all allocations are refused.
 fn read_without_memory(alloc: Global, line: &[u8]) -> Result<Command, TextFault> {
     refuse_all_growths(alloc);
     let answer = read_command(alloc, line);
@@ -183,7 +186,7 @@ fn read_without_memory(alloc: Global, line: &[u8]) -> Result<Command, TextFault>
     answer
 }
 
-/// Lines that are refused before memory is wanted for a path: by their bytes, or since they are no contours.
+/// Lines that are refused without allocating: because of their bytes, or because they are not contours.
 const REFUSED: &[(&[u8], TextFault)] = &[
     (
         b"addto a contour (0,0)--(1,0)--cycle % \xe9",
@@ -196,7 +199,7 @@ const REFUSED: &[(&[u8], TextFault)] = &[
     (b"a := a rotated 45", TextFault::BadTurn),
 ];
 
-/// Each of these lines is refused with its fault where no memory is left.
+/// Asserts that each of these lines is refused with its fault while all allocations are refused.
 fn assert_refused_first(rt: &impl Abort, alloc: Global, lines: &[(&[u8], TextFault)]) {
     for (line, fault) in lines {
         let found = read_without_memory(alloc, line).err();
@@ -205,13 +208,13 @@ fn assert_refused_first(rt: &impl Abort, alloc: Global, lines: &[(&[u8], TextFau
 }
 
 #[test]
-fn refusals_of_other_lines_come_before_want_of_memory(rt: HostRuntime) {
+fn refusals_of_other_lines_come_before_out_of_memory(rt: HostRuntime) {
     assert_refused_first(&rt, rt.alloc(), REFUSED);
 }
 
-/// A command that is no contour takes no memory.
+/// Reading a command that is not a contour allocates nothing.
 #[test]
-fn a_shift_takes_no_memory(rt: HostRuntime) {
+fn reading_a_shift_allocates_nothing(rt: HostRuntime) {
     let answer = read_without_memory(rt.alloc(), b"b := b shifted (3,-4)");
     let parts = match answer {
         Ok(Command::Shift(name, right, up)) => Some((name, right, up)),

@@ -1,4 +1,4 @@
-//! The bytes of lines.
+//! The bytes and the lengths of lines.
 
 use super::{assert_bytes_refused, assert_refused, read};
 use crate::tests::assertions::assert_holds;
@@ -7,7 +7,7 @@ use mf_text::{Command, TextFault, read_command};
 use std::alloc::{AllocError, Global};
 use std::process::Abort;
 
-/// These lines have no command.
+/// Asserts that these lines have no command.
 fn assert_blank(rt: &impl Abort, alloc: Global, lines: &[&str]) {
     for line in lines {
         let command = read(rt, alloc, line);
@@ -20,7 +20,7 @@ fn lines_without_a_command(rt: HostRuntime) {
     assert_blank(&rt, rt.alloc(), &["", ";", "  % note", "\t ; % ;", "%"]);
 }
 
-/// These bytes, so many times the piece, and the end.
+/// The bytes `begin`, then `count` times `piece`, and then `end`.
 pub(super) fn repeated(
     alloc: Global,
     begin: &[u8],
@@ -36,12 +36,12 @@ pub(super) fn repeated(
     Ok(line)
 }
 
-/// As many spaces as a line has bytes at most, and then the end.
+/// As many spaces as a line may have bytes, and then these bytes.
 fn spaces(rt: &impl Abort, alloc: Global, end: &[u8]) -> Vec<u8> {
     repeated(alloc, b"", b" ", 65_536, end).expect(rt, "there is room for the line")
 }
 
-/// As many spaces as a line has bytes at most have no command.
+/// Asserts that a line of the greatest length, all spaces, has no command.
 fn assert_longest(rt: &impl Abort, alloc: Global) {
     let longest = read_command(alloc, &spaces(rt, alloc, b""));
     assert_holds(
@@ -51,7 +51,7 @@ fn assert_longest(rt: &impl Abort, alloc: Global) {
     );
 }
 
-/// With this end behind the spaces, the line is too long.
+/// Asserts that the line is too long with these bytes after the spaces.
 fn assert_too_long(rt: &impl Abort, alloc: Global, end: &[u8]) {
     assert_bytes_refused(
         rt,
@@ -70,7 +70,7 @@ fn lengths(rt: HostRuntime) {
     assert_too_long(&rt, alloc, b"\xe9");
 }
 
-/// Lines with a byte that is neither a tab nor a printed character.
+/// Lines with a byte that is neither a tab nor a printable ASCII character.
 const OTHERS: &[&[u8]] = &[
     b"% \xe9",
     b"show a\r",
@@ -94,7 +94,7 @@ fn other_bytes(rt: HostRuntime) {
     assert_refused(&rt, alloc, "show ~", TextFault::Syntax(6));
 }
 
-/// A contour of so many points with this end is refused with this fault.
+/// Asserts that a contour of `points` points, with this end, is refused with this fault.
 fn assert_points_refused(
     rt: &impl Abort,
     alloc: Global,
@@ -120,7 +120,7 @@ fn many_points(rt: HostRuntime) {
     assert_points_refused(&rt, alloc, 9_359, "cycle", too_many);
     // A fault of the grammar at the end comes before those of the points.
     assert_points_refused(&rt, alloc, 9_359, "cycle!", TextFault::Syntax(65_535));
-    // Those come before one of the weight.
+    // The faults of the points come before that of the weight.
     assert_points_refused(&rt, alloc, 4_097, "cycle withweight 4", too_many);
     let repeats = TextFault::Cycle(CycleFault::NotRectilinear(0));
     assert_points_refused(&rt, alloc, 4_096, "cycle withweight 4", repeats);

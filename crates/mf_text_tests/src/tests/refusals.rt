@@ -1,4 +1,4 @@
-//! Refusals of values.
+//! Lines of the grammar whose values are refused.
 
 use super::assert_refused;
 use mf_geom::CycleFault;
@@ -24,7 +24,7 @@ const REFUSED: &[(&str, TextFault)] = &[
         "addto a contour (0,0)--(1,0)--(1,1)--(0,1)--cycle withweight 4",
         TextFault::BadWeight,
     ),
-    // What the points are refused for comes before the weight.
+    // Refusals of the points come before that of the weight.
     (
         "addto a contour (0,0)--cycle withweight 4",
         TextFault::Cycle(CycleFault::TooFewPoints),
@@ -37,7 +37,7 @@ const REFUSED: &[(&str, TextFault)] = &[
         "addto a contour (0,0)--(1,1)--(0,1)--cycle withweight 4",
         TextFault::Cycle(CycleFault::NotRectilinear(0)),
     ),
-    // What the turning check would refuse shows when the contour is filled, so the weight comes first.
+    // The turning check comes when the contour is filled, so the refusal of the weight comes first.
     (
         "addto a contour (0,0)--(1,0)--cycle withweight 4",
         TextFault::BadWeight,
@@ -62,7 +62,7 @@ const REFUSED: &[(&str, TextFault)] = &[
     ("a := a rotated 360", TextFault::BadTurn),
 ];
 
-/// Each of these lines is refused with its fault.
+/// Asserts that each of these lines is refused with its fault.
 fn assert_all_refused(rt: &impl Abort, alloc: Global, lines: &[(&str, TextFault)]) {
     for (line, fault) in lines {
         assert_refused(rt, alloc, line, *fault);

@@ -1,4 +1,4 @@
-//! Where lines go wrong.
+//! Lines that are not in the grammar, and the columns of their refusals.
 
 use super::{assert_refused, keeping};
 use crate::tests::assertions::{assert_holds, assert_same};
@@ -8,7 +8,7 @@ use mf_text::{Command, Name, Source, TextFault, read_command};
 use std::alloc::Global;
 use std::process::Abort;
 
-/// Lines that are in no grammar, each with the column at which that shows.
+/// Lines that are not in the grammar, each with the column at which it goes wrong.
 const LINES: &[(&str, u32)] = &[
     ("addto currentpicture contur", 22),
     ("show", 5),
@@ -93,7 +93,7 @@ const LINES: &[(&str, u32)] = &[
     ("show turningcheck", 6),
 ];
 
-/// Each of these lines goes wrong at its column.
+/// Asserts that each of these lines goes wrong at its column.
 fn assert_columns(rt: &impl Abort, alloc: Global, lines: &[(&str, u32)]) {
     for (line, column) in lines {
         assert_refused(rt, alloc, line, TextFault::Syntax(*column));
@@ -105,10 +105,11 @@ fn columns(rt: HostRuntime) {
     assert_columns(&rt, rt.alloc(), LINES);
 }
 
-/// Columns count from 1, so this says that the form of a cut line is lawful: it has the answer of `is_answer_of`.
+/// Says that a cut is itself a line of the grammar, and has the answer that `is_answer_of` expects. Columns count from 1, so this
+/// is not a column.
 const WHOLE: u32 = 0;
 
-/// Lines of the grammar, each with the column at which it goes wrong where only its first 0, 1, 2, .. bytes are there.
+/// Lines of the grammar, each with the columns at which its first 0, 1, 2, .. bytes go wrong.
 const CUTS: &[(&str, &[u32])] = &[
     (
         "a := a shifted (1,-2)",
@@ -166,7 +167,7 @@ fn register(number: u8) -> Source {
     Source::Named(Name::Register(number))
 }
 
-/// Whether this is the answer of a cut line of lawful form.
+/// Whether this is the answer that is expected of a cut in the grammar.
 fn is_answer_of(rt: &impl Abort, cut: &[u8], answer: &Result<Command, TextFault>) -> bool {
     let a = Name::Register(0);
     match answer {
@@ -204,7 +205,7 @@ fn is_answer_of(rt: &impl Abort, cut: &[u8], answer: &Result<Command, TextFault>
     }
 }
 
-/// The line goes wrong at these columns where only its first 0, 1, 2, .. bytes are there.
+/// Asserts that the first 0, 1, 2, .. bytes of the line go wrong at these columns.
 fn assert_cuts(rt: &impl Abort, alloc: Global, line: &str, columns: &[u32]) {
     assert_same(rt, columns.len(), line.len(), line);
     for (end, column) in columns.iter().enumerate() {
@@ -224,7 +225,7 @@ fn assert_cuts(rt: &impl Abort, alloc: Global, line: &str, columns: &[u32]) {
     }
 }
 
-/// Each of these lines goes wrong at its columns where it is cut.
+/// Asserts that the cuts of each of these lines go wrong at their columns.
 fn assert_all_cuts(rt: &impl Abort, alloc: Global, lines: &[(&str, &[u32])]) {
     for (line, columns) in lines {
         assert_cuts(rt, alloc, line, columns);

@@ -1,4 +1,4 @@
-//! Commands.
+//! Commands and their values.
 
 use super::{dropping, keeping, read};
 use crate::tests::assertions::{assert_holds, assert_same};
@@ -53,7 +53,7 @@ fn moves(rt: HostRuntime) {
     assert_turns(&rt, alloc, "a := a rotated90", (A, Quarter::Once));
 }
 
-/// Lines that set the turning check, each with what it becomes.
+/// Lines that set the turning check, each with its new value.
 const CHECKS: &[(&str, Check)] = &[
     ("turningcheck := 1", Check::On),
     ("turningcheck := 2", Check::On),
@@ -124,7 +124,7 @@ fn culls(rt: HostRuntime) {
     );
 }
 
-/// Lines that ship a picture, with its source, code, dx and width.
+/// Lines that ship a picture, each with its source, code, dx and width.
 const SHIPMENTS: &[(&str, (Source, u8, i32, i32))] = &[
     (
         "shipout currentpicture code 65 dx 327680 width 0",
@@ -207,8 +207,8 @@ fn sums(rt: HostRuntime) {
     );
 }
 
-/// What a command of one picture does, and the picture.
-fn deed(command: &Command) -> Option<(&'static str, Source)> {
+/// The name of what a command with a single picture does, and the picture.
+fn action(command: &Command) -> Option<(&'static str, Source)> {
     match command {
         Command::Clear(name) => Some(("clear", Source::Named(*name))),
         Command::Total(source) => Some(("total", *source)),
@@ -220,7 +220,7 @@ fn deed(command: &Command) -> Option<(&'static str, Source)> {
 
 fn assert_does(rt: &impl Abort, alloc: Global, line: &str, expected: (&'static str, Source)) {
     let command = read(rt, alloc, line);
-    assert_same(rt, deed(&command), Some(expected), line);
+    assert_same(rt, action(&command), Some(expected), line);
 }
 
 fn assert_publishes(rt: &impl Abort, alloc: Global, line: &str) {

@@ -1,4 +1,4 @@
-//! Looks behind the end of a script, and behind a fault that has ended its picture.
+//! Looks after the end of a script, and after a fault that has ended its picture.
 
 use super::flags::{Count, Flag, ReadsAfter, TURNS, TellsOfEnd};
 use super::outcomes::{assert_saw, outcome_of, shared};
@@ -9,19 +9,19 @@ use mf_testing::{Pieces, Sink};
 use std::sync::Arc;
 use std::thread::yield_now;
 
-/// A while, in turns in which other threads may run.
+/// Waits a while, and lets other threads run.
 fn linger(turns: u32) {
     for _ in 0..turns {
         yield_now();
     }
 }
 
-/// The first look is held from before the first read until a while behind the end of the script.
+/// A gate that holds the first look from before the first read until a while after the end of the script.
 #[derive(Drop)]
 struct OutlastsTheScript {
     held: Flag,
     ended: Flag,
-    /// Set where the script has ended while the look was held.
+    /// Set if the script ended while the look was held.
     seen: Flag,
 }
 
@@ -38,10 +38,10 @@ impl Gate for OutlastsTheScript {
     }
 }
 
-/// The threads go on looking when the script has ended, and its picture is closed while they do: the second look shows
-/// what was not published.
+/// The threads go on looking when the script has ended, and its picture is closed while they do. The second look shows what the
+/// script had not published.
 #[test]
-fn looks_behind_the_end_show_the_last_picture(rt: HostRuntime) {
+fn looks_after_the_end_show_the_last_picture(rt: HostRuntime) {
     let outlasts = OutlastsTheScript {
         held: Flag::new(),
         ended: Flag::new(),
@@ -61,7 +61,7 @@ fn looks_behind_the_end_show_the_last_picture(rt: HostRuntime) {
     assert_saw(&rt, &outcome, 0, &[BLANK, SIX, SIX]);
 }
 
-/// Counts looks, of which the first lasts until the script has met a fault, and each one after that a while.
+/// A gate that counts looks. The first one lasts until the script has met a fault, and each one after that a while.
 #[derive(Drop)]
 struct OutlastsAFault {
     looks: Count,
@@ -79,13 +79,13 @@ impl Gate for OutlastsAFault {
     }
 }
 
-/// More looks than there are until the picture has ended.
+/// More looks than a viewer can make before the picture has ended.
 const MANY: u32 = 10_000;
 
-/// A fault of the script ends its picture before the threads are joined, so a look is refused, and its thread ends. The
-/// answer is the fault of the script.
+/// A fault of the script ends its picture before the threads are joined, so a look is refused and its thread ends. `perform`
+/// returns the fault of the script.
 #[test]
-fn threads_end_behind_a_fault(rt: HostRuntime) {
+fn threads_end_after_a_fault(rt: HostRuntime) {
     let outlasts = OutlastsAFault {
         looks: Count::new(),
         held: Flag::new(),

@@ -1,14 +1,14 @@
-//! Flags and counts that threads wait for, and streams that wait for them and set them.
+//! Flags and counts that threads wait for, and readers and writers that wait for flags and set them.
 
 use mf_testing::{Pieces, Sink};
 use std::io::{self, ErrorKind, Read, Write};
 use std::sync::atomic::{AtomicBool, AtomicU64, Ordering};
 use std::thread::yield_now;
 
-/// How often a flag is looked at before it is given up.
+/// How often a thread checks a flag before it gives up.
 pub(crate) const TURNS: u32 = 50_000_000;
 
-/// A flag that one thread sets, and others wait for.
+/// A flag that one thread sets and others wait for.
 #[derive(Drop)]
 pub(crate) struct Flag {
     is_set: AtomicBool,
@@ -29,7 +29,7 @@ impl Flag {
         self.is_set.load(Ordering::SeqCst)
     }
 
-    /// Whether it is set within so many turns.
+    /// Whether it is set before it has been checked `turns` times.
     pub(crate) fn is_set_within(&self, turns: u32) -> bool {
         for _ in 0..turns {
             if self.is_set() {
@@ -41,7 +41,7 @@ impl Flag {
     }
 }
 
-/// A count that threads add to, and wait for.
+/// A count that threads add to and wait for.
 #[derive(Drop)]
 pub(crate) struct Count {
     count: AtomicU64,
@@ -54,7 +54,7 @@ impl Count {
         }
     }
 
-    /// Adds one. Answers the count before.
+    /// Adds one, and returns the count before that.
     pub(crate) fn add_one(&self) -> u64 {
         self.count.fetch_add(1, Ordering::SeqCst)
     }
@@ -63,7 +63,7 @@ impl Count {
         self.count.load(Ordering::SeqCst)
     }
 
-    /// Whether it comes to so many before it is given up.
+    /// Whether it reaches `count` before the thread gives up.
     pub(crate) fn comes_to(&self, count: u64) -> bool {
         for _ in 0..TURNS {
             if self.get() >= count {
@@ -75,7 +75,7 @@ impl Count {
     }
 }
 
-/// A reader that gives nothing before a flag is set.
+/// A reader that waits until a flag is set before it gives anything.
 #[derive(Drop)]
 pub(crate) struct ReadsAfter<'f, 'a> {
     pub(crate) flag: &'f Flag,
@@ -91,7 +91,7 @@ impl Read for ReadsAfter<'_, '_> {
     }
 }
 
-/// A reader that sets a flag where it answers the end or an error.
+/// A reader that sets a flag when it reports the end or fails.
 #[derive(Drop)]
 pub(crate) struct TellsOfEnd<'a, I> {
     pub(crate) flag: &'a Flag,
@@ -108,7 +108,7 @@ impl<I: Read> Read for TellsOfEnd<'_, I> {
     }
 }
 
-/// A writer that sets a flag when it has taken this text in a write.
+/// A writer that sets a flag when it has taken this text at the start of a write.
 #[derive(Drop)]
 pub(crate) struct Tells<'a> {
     pub(crate) flag: &'a Flag,

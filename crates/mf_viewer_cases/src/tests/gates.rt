@@ -8,24 +8,24 @@ use mf_desk::{Gate, Glance};
 use mf_testing::Pieces;
 use std::process::Abort;
 
-/// A rectangle of 3 by 2 pixels, whose total is printed before it is published.
+/// A rectangle of 3 by 2 pixels. Its total weight is printed before it is published.
 const SHOWN: &[u8] = b"addto currentpicture contour (0,0)--(3,0)--(3,2)--(0,2)--cycle\n\
                        show totalweight currentpicture\n\
                        publish\n";
 
-/// A rectangle of 3 by 2 pixels, which is published, given weight 2, and published again.
+/// A rectangle of 3 by 2 pixels that is published, given weight 2, and published again.
 const PUBLISHED_TWICE: &[u8] = b"addto currentpicture contour (0,0)--(3,0)--(3,2)--(0,2)--cycle\n\
                                  publish\n\
                                  cull currentpicture keeping (1,1) withweight 2\n\
                                  publish\n";
 
-/// Tells that viewer 0 holds a look.
+/// A gate that sets a flag when viewer 0 holds a look.
 #[derive(Drop)]
-struct TellsOfLook {
+struct SetsFlag {
     held: Flag,
 }
 
-impl Gate for TellsOfLook {
+impl Gate for SetsFlag {
     fn hold(&self, viewer: u32, _look: u32) {
         if viewer == 0 {
             self.held.set();
@@ -35,7 +35,7 @@ impl Gate for TellsOfLook {
 
 #[test]
 fn looks_before_the_first_read(rt: HostRuntime) {
-    let gate = shared(&rt, TellsOfLook { held: Flag::new() });
+    let gate = shared(&rt, SetsFlag { held: Flag::new() });
     let mut reader = ReadsAfter {
         flag: &gate.held,
         pieces: Pieces::whole(PUBLISHED.as_bytes()),
@@ -45,7 +45,7 @@ fn looks_before_the_first_read(rt: HostRuntime) {
     assert_saw(&rt, &outcome, 0, &[BLANK, SIX]);
 }
 
-/// Each look waits for a while for what the script prints.
+/// A gate at which each look waits a while for the script to print something.
 #[derive(Drop)]
 struct WaitsAWhile {
     printed: Flag,
@@ -57,16 +57,16 @@ impl Gate for WaitsAWhile {
     }
 }
 
-/// A viewer has looked 100,000 times beside the script and once behind it, and the last look of either shows the
-/// rectangle.
+/// Asserts that a viewer has looked 100,000 times beside the script and once after its end, and that the last look beside it and
+/// the one after it show the rectangle.
 fn assert_saw_six(rt: &impl Abort, seen: &[Glance]) {
     let last = (seen.get(99_999).copied(), seen.last().copied());
     assert_same(rt, last, (Some(SIX), Some(SIX)), "last looks");
     assert_same(rt, seen.len(), 100_001, "looks");
 }
 
-/// The last look beside the script shows what was published before it, and a publish comes through among looks that
-/// follow each other.
+/// The last look beside the script shows what was published before it, and a publish succeeds even while looks follow each other
+/// without a pause.
 #[test]
 fn looks_show_what_was_published(rt: HostRuntime) {
     let waits = WaitsAWhile {
@@ -88,12 +88,12 @@ fn looks_show_what_was_published(rt: HostRuntime) {
     }
 }
 
-/// A look is held until the script has printed something.
+/// A gate that holds a look until the script has printed something.
 #[derive(Drop)]
 struct WaitsForText {
     held: Flag,
     printed: Flag,
-    /// Set where the text came while the look was held.
+    /// Set if the text came while the look was held.
     seen: Flag,
 }
 
@@ -106,7 +106,7 @@ impl Gate for WaitsForText {
     }
 }
 
-/// Only a publish waits for a look: lines before it are performed while one is held.
+/// Only a publish waits for a look. The lines before it are performed while a look is held.
 #[test]
 fn lines_are_performed_while_a_look_is_held(rt: HostRuntime) {
     let waits = WaitsForText {
@@ -132,12 +132,12 @@ fn lines_are_performed_while_a_look_is_held(rt: HostRuntime) {
     assert_saw(&rt, &outcome, 0, &[BLANK, SIX]);
 }
 
-/// A look is held for a while, and no longer than until the script has published twice.
+/// A gate that holds a look for a while, and at most until the script has published twice.
 #[derive(Drop)]
 struct HoldsOn {
     held: Flag,
     published: Flag,
-    /// Set where the second publish came through while the look was held.
+    /// Set if the second publish succeeded while the look was held.
     seen: Flag,
 }
 
@@ -150,7 +150,7 @@ impl Gate for HoldsOn {
     }
 }
 
-/// Of two publishes beside a look that is held, the second waits until it is left.
+/// Of two publishes beside a look that is held, the second waits until the look is left.
 #[test]
 fn second_publish_waits_for_a_held_look(rt: HostRuntime) {
     let holds = HoldsOn {
@@ -176,20 +176,21 @@ fn second_publish_waits_for_a_held_look(rt: HostRuntime) {
     assert_holds(&rt, waited, "the second publish waited");
 }
 
-/// What the published rectangle prints beside four viewers.
+/// What the script that publishes the rectangle prints beside four viewers.
 const FOUR_SEE_SIX: &[u8] = b"published 1\n\
                               viewer 0 revision 1 totalweight 6\n\
                               viewer 1 revision 1 totalweight 6\n\
                               viewer 2 revision 1 totalweight 6\n\
                               viewer 3 revision 1 totalweight 6\n";
 
-/// Viewer k holds its look k until the script has printed, which is read when all of four viewers do.
+/// A gate at which viewer k holds its look k until the script has printed something. The script is read once all four viewers
+/// hold theirs.
 #[derive(Drop)]
 struct TakesTurns {
     looked: Count,
     held: Flag,
     printed: Flag,
-    /// Set where a look was given up.
+    /// Set if a look gave up waiting.
     missed: Flag,
 }
 
@@ -209,7 +210,7 @@ impl Gate for TakesTurns {
 
 /// Viewer k has looked k + 1 times before the publish, so no two records are the same.
 #[test]
-fn records_stand_in_the_order_of_the_viewers(rt: HostRuntime) {
+fn records_are_in_the_order_of_the_viewers(rt: HostRuntime) {
     let turns = TakesTurns {
         looked: Count::new(),
         held: Flag::new(),

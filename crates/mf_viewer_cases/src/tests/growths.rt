@@ -1,4 +1,4 @@
-//! Scripts that are performed beside viewers while growths are refused, the starts of threads among them.
+//! Scripts that run beside viewers while allocations are refused, including those that start threads.
 ghost use Rattle.std.specs.Prelude.{◌≤◌};
 
 use super::{AMPLE, BLANK, SIX};
@@ -9,19 +9,19 @@ use std::process::Abort;
 use std::sync::{Arc, Wait};
 use std::thread::Threads;
 
-/// A script, and what comes of it beside viewers.
+/// A script, and what it does beside viewers.
 #[derive(Drop)]
 struct Case {
     script: &'static str,
-    /// What its lines print that print something, and then the line of each viewer.
+    /// The texts of the lines that print something, and then the line of each viewer.
     texts: &'static [&'static str],
-    /// What each viewer sees last.
+    /// The last look of each viewer.
     last: Glance,
-    /// Its font file, if it ships.
+    /// Its font file, if it ships something.
     file: Option<&'static [u8]>,
 }
 
-/// Two contours that are published, and a cull that is not. The last line is not ended.
+/// Two contours that are published, and a cull that is not. The last line has no line feed.
 const DRAWN: &str = "addto currentpicture contour (0,0)--(3,0)--(3,2)--(0,2)--cycle\n\
                      publish\n\
                      show totalweight currentpicture\n\
@@ -51,7 +51,7 @@ const DRAWN_BESIDE_FOUR: &Case = &Case {
     file: None,
 };
 
-const DRAWN_BESIDE_NOBODY: &Case = &Case {
+const DRAWN_WITHOUT_VIEWERS: &Case = &Case {
     script: DRAWN,
     texts: &[
         "published 1\n",
@@ -89,7 +89,7 @@ const EMPTY_BESIDE_FOUR: &Case = &Case {
     file: None,
 };
 
-/// How many of these texts the bytes are, if each of them is there whole, and no more.
+/// The number of first texts that the bytes consist of, or `None` if they are not a number of complete texts.
 fn count_of_texts(texts: &[&str], bytes: &[u8]) -> Option<usize> {
     let mut rest = bytes;
     let mut count = 0usize;
@@ -103,7 +103,7 @@ fn count_of_texts(texts: &[&str], bytes: &[u8]) -> Option<usize> {
     if rest.is_empty() { Some(count) } else { None }
 }
 
-/// So many viewers have looked twice, and once more, and the font file is that of the case.
+/// Asserts that `viewers` viewers have looked twice and once more at the end, and that the font file is that of the case.
 fn assert_outcome(rt: &impl Abort, outcome: &Outcome, viewers: u32, case: &Case) {
     assert_same(rt, outcome.seen.len(), viewers as usize, "viewers");
     for seen in &outcome.seen {
@@ -114,7 +114,7 @@ fn assert_outcome(rt: &impl Abort, outcome: &Outcome, viewers: u32, case: &Case)
     assert_same(rt, file, case.file, "the font file");
 }
 
-/// What a script leaves that was performed while memory was wanting.
+/// What a script leaves that was performed while allocations were refused.
 #[derive(Drop)]
 struct Left<'a> {
     result: Result<Outcome, RunFault>,
@@ -122,8 +122,9 @@ struct Left<'a> {
     taken: &'a [u8],
 }
 
-/// The outcome is whole, with all texts; or memory was wanting, behind the whole texts of the first lines and viewers; or
-/// a viewer had no place or no thread, and nothing was read or written. No look is refused, since it takes no memory.
+/// Asserts one of three answers: the outcome with all texts; `OutOfMemory` after the complete texts of the first lines and
+/// viewers; or `NoPlace`, where a viewer had no place or no thread and nothing was read or written. No look is refused, since a
+/// look does not allocate.
 fn assert_answer(rt: &impl Abort, left: &Left<'_>, viewers: u32, case: &Case) {
     let count = count_of_texts(case.texts, left.taken);
     match &left.result {
@@ -142,13 +143,13 @@ fn assert_answer(rt: &impl Abort, left: &Left<'_>, viewers: u32, case: &Case) {
     }
 }
 
-/// A reader of the script, whose first read ends within the first line.
+/// A reader of the script. Its first read ends within the first line.
 fn reader_of(case: &Case) -> Remembers<Pieces<'static>> {
     Remembers::new(Pieces::split(case.script.as_bytes(), 20))
 }
 
-/// So many viewers look on twice while the script is performed and growths are refused. The threads have ended whatever the
-/// answer is, and with ample memory the script is performed to its end.
+/// Performs the script beside `viewers` viewers, who look twice each, while allocations are refused. Asserts that the threads
+/// have ended whatever the answer is, and that with ample memory the script is performed to its end.
 fn assert_performs<R: Abort + Wait + Threads + AllocGlobal>(rt: &R, viewers: u32, case: &Case)
     requires { viewers ≤ 64 }
 {
@@ -178,7 +179,7 @@ fn assert_performs<R: Abort + Wait + Threads + AllocGlobal>(rt: &R, viewers: u32
     assert_performs_again(rt, viewers, case, &gate);
 }
 
-/// With ample memory the script is performed to its end beside so many viewers at this gate.
+/// Asserts that with ample memory the script is performed to its end beside `viewers` viewers at this gate.
 fn assert_performs_again<R: Abort + Wait + Threads + AllocGlobal>(
     rt: &R,
     viewers: u32,
@@ -213,8 +214,8 @@ fn pictures_are_drawn_beside_four_viewers(rt: HostRuntime) {
 }
 
 #[test]
-fn pictures_are_drawn_beside_nobody(rt: HostRuntime) {
-    assert_performs(&rt, 0, DRAWN_BESIDE_NOBODY);
+fn pictures_are_drawn_without_viewers(rt: HostRuntime) {
+    assert_performs(&rt, 0, DRAWN_WITHOUT_VIEWERS);
 }
 
 #[test]

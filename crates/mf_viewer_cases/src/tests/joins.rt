@@ -1,4 +1,4 @@
-//! The threads of viewers have ended when `perform` answers, also where it answers a fault.
+//! The threads of viewers have ended when `perform` returns, also when it returns a fault.
 
 use super::AMPLE;
 use super::flags::{Flag, ReadsAfter};
@@ -10,7 +10,7 @@ use std::process::Abort;
 use std::sync::{Arc, Wait};
 use std::thread::{Threads, yield_now};
 
-/// Tells that a look is held, and that it ends after a while.
+/// A gate that holds a look for a while, and sets flags at its start and at its end.
 #[derive(Drop)]
 struct LeavesLate {
     held: Flag,
@@ -27,8 +27,8 @@ impl Gate for LeavesLate {
     }
 }
 
-/// A fault that comes while a look is held is answered after the look, and after its thread, which has the gate too. The
-/// writer has taken this text.
+/// Asserts that a fault that comes while a look is held is returned only when the look has been left and its thread, which shares
+/// the gate, has ended. The writer has taken this text.
 fn assert_ends_late<R: Abort + Wait + Threads + AllocGlobal>(
     rt: &R,
     pieces: Pieces<'_>,
@@ -76,7 +76,7 @@ fn write_fault_waits_for_a_held_look(rt: HostRuntime) {
     assert_ends_late(&rt, pieces, writer, RunFault::WriteFault(5), b"total");
 }
 
-/// Threads that have hardly begun when the fault comes are joined too: none has the gate any more.
+/// Asserts that threads that have hardly started when the fault comes are joined, too: none holds the gate any more.
 fn assert_joins_all<R: Abort + Wait + Threads + AllocGlobal, W: Write>(
     rt: &R,
     writer: &mut W,

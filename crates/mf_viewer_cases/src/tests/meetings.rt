@@ -11,12 +11,12 @@ use std::process::Abort;
 use std::sync::Wait;
 use std::thread::Threads;
 
-/// In each look each of so many viewers waits until all others hold theirs.
+/// A gate at which each viewer waits, in each look, until all others hold theirs.
 #[derive(Drop)]
 struct Meeting {
     viewers: u64,
     held: Count,
-    /// Set where one has not met all others.
+    /// Set if a viewer has not met all others.
     missed: Flag,
 }
 
@@ -30,7 +30,7 @@ impl Gate for Meeting {
     }
 }
 
-/// So many viewers all meet in their first look, and again in their second.
+/// Asserts that `viewers` viewers all meet in their first look, and again in their second.
 fn assert_meet<R: Abort + Wait + Threads + AllocGlobal>(rt: &R, viewers: u32)
     requires { viewers ≤ 64 }
 {

@@ -1,4 +1,4 @@
-//! The numbers that a gate is told.
+//! The numbers of looks that a gate is called with.
 ghost use Rattle.std.specs.Prelude.{◌≤◌};
 
 use super::flags::{Count, Flag};
@@ -12,16 +12,16 @@ use std::process::Abort;
 use std::sync::Wait;
 use std::thread::Threads;
 
-/// Counts the looks of each viewer.
+/// A gate that counts the looks of each viewer.
 #[derive(Drop)]
 struct CountsLooks {
     looks: Vec<Count>,
-    /// Set where a look is not the next one of its viewer, or is of no viewer.
+    /// Set if a look is not the next one of its viewer, or its viewer does not exist.
     strayed: Flag,
 }
 
 impl CountsLooks {
-    /// Counts those of so many viewers.
+    /// Counts the looks of `viewers` viewers.
     fn of(alloc: Global, viewers: u32) -> Result<CountsLooks, AllocError> {
         let mut looks = Vec::new(alloc);
         for _ in 0..viewers {
@@ -43,8 +43,8 @@ impl Gate for CountsLooks {
     }
 }
 
-/// The gate is told of each look of so many viewers once, in the order of the looks of each, and of no other.
-fn assert_told_once<R: Abort + Wait + Threads + AllocGlobal>(rt: &R, viewers: u32, looks: u32)
+/// Asserts that the gate is called once for each look of each viewer, in the order of that viewer's looks, and for no other look.
+fn assert_called_once<R: Abort + Wait + Threads + AllocGlobal>(rt: &R, viewers: u32, looks: u32)
     requires { viewers ≤ 64 }
 {
     let alloc = rt.alloc();
@@ -71,17 +71,17 @@ fn assert_told_once<R: Abort + Wait + Threads + AllocGlobal>(rt: &R, viewers: u3
 
 /// The last of these looks has the number 200,000.
 #[test]
-fn each_of_200_001_looks_is_told_once(rt: HostRuntime) {
-    assert_told_once(&rt, 2, 200_001);
+fn gate_is_called_once_for_each_of_200_001_looks(rt: HostRuntime) {
+    assert_called_once(&rt, 2, 200_001);
 }
 
 #[test]
-fn each_look_of_64_viewers_is_told_once(rt: HostRuntime) {
-    assert_told_once(&rt, 64, 3);
+fn gate_is_called_once_for_each_look_of_64_viewers(rt: HostRuntime) {
+    assert_called_once(&rt, 64, 3);
 }
 
-/// The gate is not told of the look behind the end of the script.
+/// The gate is not called for the last look, which comes after the end of the script.
 #[test]
-fn last_look_is_not_told(rt: HostRuntime) {
-    assert_told_once(&rt, 2, 0);
+fn gate_is_not_called_for_the_last_look(rt: HostRuntime) {
+    assert_called_once(&rt, 2, 0);
 }

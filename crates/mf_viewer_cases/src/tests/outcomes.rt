@@ -1,4 +1,4 @@
-//! Scripts that are performed beside viewers at gates, and what these have seen.
+//! Scripts that are performed beside viewers at gates, and what the viewers have seen.
 ghost use Rattle.std.specs.Prelude.{◌≤◌};
 
 use super::AMPLE;
@@ -11,13 +11,13 @@ use std::process::Abort;
 use std::sync::{Arc, Wait};
 use std::thread::Threads;
 
-/// A gate that may be shared.
+/// A gate that threads can share.
 pub(super) fn shared<R: Abort + AllocGlobal, G: Gate + Drop>(rt: &R, gate: G) -> Arc<G> {
     Arc::new(rt.alloc(), gate).expect(rt, "there is room for a gate")
 }
 
-/// The reader's script is performed to its end beside so many viewers, who look so many times each, and prints this. No
-/// thread has the gate any more then.
+/// Performs the reader's script to its end beside `viewers` viewers, who look `looks` times each. Asserts that it prints this
+/// transcript, and that no thread holds the gate any more when it returns.
 pub(super) fn outcome_of<R: Abort + Wait + Threads + AllocGlobal, I: Read, G: Gate + 'static>(
     rt: &R,
     gate: &Arc<G>,
@@ -36,7 +36,7 @@ pub(super) fn outcome_of<R: Abort + Wait + Threads + AllocGlobal, I: Read, G: Ga
     result.expect(rt, "the script is performed to its end")
 }
 
-/// As `outcome_of`, and sets the flag when it has printed this text.
+/// Like `outcome_of`, but also sets the flag `told.0` when the text `told.1` is printed.
 pub(super) fn outcome_telling<R: Abort + Wait + Threads + AllocGlobal, I: Read, G: Gate + 'static>(
     rt: &R,
     gate: &Arc<G>,
@@ -61,7 +61,7 @@ pub(super) fn outcome_telling<R: Abort + Wait + Threads + AllocGlobal, I: Read, 
     result.expect(rt, "the script is performed to its end")
 }
 
-/// The viewer of this number has seen this.
+/// Asserts that the viewer with this number has this record.
 pub(super) fn assert_saw(rt: &impl Abort, outcome: &Outcome, viewer: usize, seen: &[Glance]) {
     let found = outcome.seen.get(viewer).map(|seen| seen.as_slice());
     assert_same(rt, found, Some(seen), viewer);

@@ -1,4 +1,4 @@
-//! Readers that fail where viewers look on, and how much is read.
+//! Readers that fail while there are viewers, and how much is read.
 
 use super::{AMPLE, BOTH_SEE_SIX, End, FILLED, PUBLISHED, performed};
 use crate::tests::assertions::{assert_holds, assert_same};
@@ -9,7 +9,7 @@ use std::process::Abort;
 use std::sync::Wait;
 use std::thread::Threads;
 
-/// The reader's script ends so beside two viewers, within so many reads.
+/// Asserts that the reader's script ends in this way beside two viewers, after `reads` reads.
 fn assert_reads<R: Abort + Wait + Threads + AllocGlobal, I: Read + Drop>(
     rt: &R,
     reader: I,
@@ -24,8 +24,8 @@ fn assert_reads<R: Abort + Wait + Threads + AllocGlobal, I: Read + Drop>(
     assert_holds(rt, reader.greatest() <= 65_536, reader.greatest());
 }
 
-/// A reader that gives this script at once and then fails is not asked again. The lines that were ended print this, and no
-/// viewer has a line.
+/// Asserts that a reader that gives this script at once and then fails is not asked again, and that the lines that end with line
+/// feeds print this text. No viewer has a line.
 fn assert_read_fault<R: Abort + Wait + Threads + AllocGlobal>(rt: &R, script: &str, text: &str) {
     let reads = if script.is_empty() { 1 } else { 2 };
     let end = (Some(RunFault::ReadFault), text.as_bytes());
@@ -48,20 +48,20 @@ fn reader_fails_within_the_second_line(rt: HostRuntime) {
 }
 
 #[test]
-fn reader_fails_behind_what_is_not_published(rt: HostRuntime) {
+fn reader_fails_after_an_unpublished_line(rt: HostRuntime) {
     assert_read_fault(&rt, FILLED, "");
 }
 
 #[test]
-fn reader_fails_behind_a_publish(rt: HostRuntime) {
+fn reader_fails_after_a_publish(rt: HostRuntime) {
     assert_read_fault(&rt, PUBLISHED, "published 1\n");
 }
 
-/// What two viewers print where nothing is drawn.
+/// The lines of two viewers where nothing is drawn.
 const BOTH_SEE_NOTHING: &[u8] = b"viewer 0 revision 0 totalweight 0\n\
                                   viewer 1 revision 0 totalweight 0\n";
 
-/// The last read that there may be answers the end.
+/// The last read that is allowed reports the end.
 #[test]
 fn end_comes_with_read_1_048_576(rt: HostRuntime) {
     let reader = LineFeeds { left: 1_048_575 };
@@ -74,7 +74,7 @@ fn end_does_not_come_with_read_1_048_576(rt: HostRuntime) {
     assert_reads(&rt, reader, 1_048_576, (Some(RunFault::ReadFault), b""));
 }
 
-/// A rectangle behind a comment of 200,000 bytes, which takes more than three reads of 65,536 bytes.
+/// A rectangle after 200,000 bytes of comments, which take more than three reads of 65,536 bytes.
 #[test]
 fn no_read_asks_for_more_than_65_536_bytes(rt: HostRuntime) {
     let alloc = rt.alloc();

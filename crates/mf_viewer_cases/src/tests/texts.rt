@@ -1,8 +1,8 @@
 //! The text of each line goes to the writer before the next line is performed.
 //!
-//! A look is held from before the first read until a text has gone out. The line behind it is the second publish beside
-//! that look, which waits for it: if the text were kept back until that line is performed, or until the next read, both
-//! would wait for each other until the gate gives up.
+//! A look is held from before the first read until a text has gone out. The next line is the second publish beside that look, so
+//! it waits for the look to be left. If the text were kept back until that line is performed, or until the next read, the look
+//! and the publish would wait for each other until the gate gives up.
 
 use super::flags::{Flag, ReadsAfter, TURNS};
 use super::outcomes::{outcome_telling, shared};
@@ -14,12 +14,12 @@ use std::process::Abort;
 use std::sync::Wait;
 use std::thread::Threads;
 
-/// A look is held until a text has gone out.
+/// A gate that holds a look until a text has gone out.
 #[derive(Drop)]
 struct WaitsForText {
     held: Flag,
     printed: Flag,
-    /// Set where the text went out while the look was held.
+    /// Set if the text went out while the look was held.
     seen: Flag,
 }
 
@@ -32,7 +32,7 @@ impl Gate for WaitsForText {
     }
 }
 
-/// A rectangle of 3 by 2 pixels, which is published and given weight 2; then this line, and a second publish.
+/// A script that fills a rectangle of 3 by 2 pixels, publishes it and gives it weight 2, then has this line, and publishes again.
 fn script_with(alloc: Global, line: &str) -> Result<String, AllocError> {
     format!(in alloc;
         "addto currentpicture contour (0,0)--(3,0)--(3,2)--(0,2)--cycle\n\
@@ -43,12 +43,12 @@ fn script_with(alloc: Global, line: &str) -> Result<String, AllocError> {
     )
 }
 
-/// What it prints, where the line prints this.
+/// The transcript of this script, where the line prints this text.
 fn transcript_with(alloc: Global, text: &str) -> Result<String, AllocError> {
     format!(in alloc; "published 1\n{text}published 2\nviewer 0 revision 2 totalweight 12\n")
 }
 
-/// The line prints this text, which goes out before the publish behind it is performed. All lines come in one read.
+/// Asserts that the line prints this text, and that the text goes out before the next publish. All lines come in one read.
 fn assert_goes_out<R: Abort + Wait + Threads + AllocGlobal>(rt: &R, line: &str, text: &str) {
     let alloc = rt.alloc();
     let script = script_with(alloc, line).expect(rt, "there is room for a script");

@@ -1,4 +1,4 @@
-//! Viewers beside a script: what they see, and the lines that they print behind its transcript.
+//! Viewers beside a script: what they see, and their lines after its transcript.
 ghost use Rattle.std.specs.Prelude.{◌≤◌};
 
 use super::lines::{blank_lines, line};
@@ -11,7 +11,7 @@ use std::process::Abort;
 use std::sync::Wait;
 use std::thread::Threads;
 
-/// The script, performed beside so many viewers, prints this.
+/// Performs the script beside `viewers` viewers, who look `looks` times each, and asserts that it prints this text.
 fn outcome_beside<R: Abort + Wait + Threads + AllocGlobal>(
     rt: &R,
     viewers: u32,
@@ -28,7 +28,7 @@ fn outcome_beside<R: Abort + Wait + Threads + AllocGlobal>(
     result.expect(rt, "the script is performed to its end")
 }
 
-/// So many viewers have seen this, each.
+/// Asserts that there are `viewers` viewers, and that each has this record.
 fn assert_all_saw(rt: &impl Abort, outcome: &Outcome, viewers: usize, expected: &[Glance]) {
     assert_same(rt, outcome.seen.len(), viewers, "viewers");
     for seen in &outcome.seen {
@@ -36,12 +36,12 @@ fn assert_all_saw(rt: &impl Abort, outcome: &Outcome, viewers: usize, expected: 
     }
 }
 
-/// Nothing was shipped.
+/// Asserts that nothing was shipped.
 fn assert_no_font_file(rt: &impl Abort, outcome: &Outcome) {
     assert_holds(rt, outcome.gf.is_none(), "nothing was shipped");
 }
 
-/// Two viewers who do not look beside the script see the rectangle, and nothing was shipped.
+/// Asserts that two viewers who do not look beside the script see the rectangle at its end, and that nothing was shipped.
 fn assert_both_see_six<R: Abort + Wait + Threads + AllocGlobal>(rt: &R, script: &str, text: &str) {
     let outcome = outcome_beside(rt, 2, 0, script, text);
     assert_no_font_file(rt, &outcome);
@@ -49,16 +49,17 @@ fn assert_both_see_six<R: Abort + Wait + Threads + AllocGlobal>(rt: &R, script: 
 }
 
 #[test]
-fn see_what_was_published_where_they_look_at_the_end_alone(rt: HostRuntime) {
+fn see_what_was_published_when_they_look_only_at_the_end(rt: HostRuntime) {
     assert_both_see_six(&rt, PUBLISHED, PUBLISHED_TEXT);
 }
 
 #[test]
-fn see_what_was_not_published_where_they_look_at_the_end_alone(rt: HostRuntime) {
+fn see_what_was_not_published_when_they_look_only_at_the_end(rt: HostRuntime) {
     assert_both_see_six(&rt, FILLED, BOTH_SEE_SIX);
 }
 
-/// Two viewers look once beside the script, at what was there before the rectangle or at the rectangle, and once behind it.
+/// Asserts that two viewers looked once beside the script, at the blank picture or at the rectangle, and once after its end, at
+/// the rectangle.
 fn assert_saw_whole_pictures(rt: &impl Abort, outcome: &Outcome) {
     assert_same(rt, outcome.seen.len(), 2, "viewers");
     for seen in &outcome.seen {
@@ -80,7 +81,7 @@ fn see_what_was_not_published_or_nothing(rt: HostRuntime) {
     assert_saw_whole_pictures(&rt, &outcome);
 }
 
-/// What two viewers print where nothing is drawn.
+/// The lines of two viewers where nothing is drawn.
 const BOTH_SEE_NOTHING: &str = "viewer 0 revision 0 totalweight 0\n\
                                 viewer 1 revision 0 totalweight 0\n";
 
@@ -104,7 +105,7 @@ fn may_be_none(rt: HostRuntime) {
     assert_all_saw(&rt, &outcome, 0, &[]);
 }
 
-/// The script prints this beside two viewers, and ships this file.
+/// Asserts that the script prints this text beside two viewers, and makes this font file.
 fn assert_ships<R: Abort + Wait + Threads + AllocGlobal>(
     rt: &R,
     script: &str,
@@ -116,7 +117,7 @@ fn assert_ships<R: Abort + Wait + Threads + AllocGlobal>(
     assert_same(rt, gf.bytes(), file, script);
 }
 
-/// What is printed where the rectangle is shipped.
+/// What is printed when the rectangle is shipped.
 const RECT_TEXT: &str = "[65]\n\
                          viewer 0 revision 1 totalweight 6\n\
                          viewer 1 revision 1 totalweight 6\n";
@@ -126,8 +127,8 @@ fn leave_the_font_file_as_it_is(rt: HostRuntime) {
     assert_ships(&rt, RECT, RECT_TEXT, RECT_FILE);
 }
 
-/// A record of 20,000 looks and one more shows whole publishes of two pixels each, never goes back, and ends with the
-/// 300th.
+/// Asserts that a record of 20,000 looks and the last one shows only complete publishes, of two operations each, never goes back,
+/// and ends with the 300th publish.
 fn assert_saw_whole_publishes(rt: &impl Abort, seen: &[Glance]) {
     assert_same(rt, seen.len(), 20_001, "looks");
     let mut last = 0;
@@ -139,7 +140,7 @@ fn assert_saw_whole_publishes(rt: &impl Abort, seen: &[Glance]) {
     assert_same(rt, last, 600, "the last revision");
 }
 
-/// Each look of four viewers shows all of a publish or nothing of it, and none goes back.
+/// Asserts that each look of four viewers shows all of a publish or nothing of it, and that no look goes back.
 fn assert_whole_publishes<R: Abort + Wait + Threads + AllocGlobal>(rt: &R, script: &str) {
     let mut reader = Pieces::bytewise(script.as_bytes());
     let mut writer = Sink::new(rt.alloc());
@@ -153,7 +154,7 @@ fn assert_whole_publishes<R: Abort + Wait + Threads + AllocGlobal>(rt: &R, scrip
     }
 }
 
-/// Fills a pixel twice, and publishes that.
+/// Fills a pixel twice, and publishes both.
 const TWICE: &str = "addto currentpicture contour (0,0)--(1,0)--(1,1)--(0,1)--cycle\n\
                      addto currentpicture contour (0,0)--(1,0)--(1,1)--(0,1)--cycle\n\
                      publish\n";
@@ -166,23 +167,23 @@ fn see_whole_publishes(rt: HostRuntime) {
     assert_whole_publishes(&rt, &script);
 }
 
-/// What is seen last of the scripts that change `currentpicture`, in their order: the number of their operations, and
-/// the total that they leave.
+/// What viewers see last of the scripts that change `currentpicture`, in the order of the scripts: the number of operations, and
+/// the total weight.
 const SEEN_LAST: &[(u32, i64)] = &[
-    // Contours: a rectangle and a pixel.
+    // Contours: a rectangle, and a pixel.
     (1, 6),
     (1, 1),
-    // Sums: doubled and taken away, 2 - 1, and the blank picture.
+    // Sums: a picture that is doubled and subtracted, 2 - 1, and the blank picture.
     (3, 0),
     (2, 1),
     (2, 0),
-    // What is published, and what is shipped.
+    // Scripts that publish, and scripts that ship.
     (1, 1),
     (3, 0),
     (1, 6),
 ];
 
-/// What a record of five looks and one more shows last. Its revisions never fall.
+/// What a record of five looks and the last one shows last. Asserts that its revisions never decrease.
 fn last_of(rt: &impl Abort, seen: &[Glance], script: &str) -> Glance {
     assert_same(rt, seen.len(), 6, script);
     let mut last = BLANK;
@@ -193,7 +194,7 @@ fn last_of(rt: &impl Abort, seen: &[Glance], script: &str) -> Glance {
     last
 }
 
-/// What three viewers of a script see last, which is the same for all, and which the line of each tells.
+/// What three viewers of a script see last. Asserts that it is the same for all, and that the line of each says it.
 fn seen_last<R: Abort + Wait + Threads + AllocGlobal>(
     rt: &R,
     script: &Script,
@@ -218,7 +219,7 @@ fn seen_last<R: Abort + Wait + Threads + AllocGlobal>(
     Ok(last)
 }
 
-/// What is seen last of the scripts that change `currentpicture`.
+/// What viewers see last of the scripts that change `currentpicture`.
 fn all_seen_last<R: Abort + Wait + Threads + AllocGlobal>(
     rt: &R,
 ) -> Result<Vec<(u32, i64)>, AllocError> {
@@ -232,7 +233,7 @@ fn all_seen_last<R: Abort + Wait + Threads + AllocGlobal>(
     Ok(all)
 }
 
-/// The line of each viewer tells what it has seen last, which is the same for all.
+/// The line of each viewer says what it has seen last, which is the same for all.
 #[test]
 fn print_what_they_see_last(rt: HostRuntime) {
     let all = all_seen_last(&rt).expect(&rt, "there is room for the lines");

@@ -1,4 +1,4 @@
-//! Writers that fail where viewers look on, and font files that are too long.
+//! Writers that fail while there are viewers, and font files that are too long.
 
 use super::{AMPLE, End, PUBLISHED, PUBLISHED_TEXT, performed};
 use crate::tests::assertions::{assert_holds, assert_same};
@@ -10,7 +10,7 @@ use std::process::Abort;
 use std::sync::Wait;
 use std::thread::Threads;
 
-/// The rectangle is published beside two viewers, into this writer, and that ends with this fault, or none.
+/// Asserts that publishing the rectangle beside two viewers, into this writer, ends with this fault, or with none.
 fn assert_publishes<R: Abort + Wait + Threads + AllocGlobal, W: Write>(
     rt: &R,
     writer: &mut W,
@@ -22,32 +22,33 @@ fn assert_publishes<R: Abort + Wait + Threads + AllocGlobal, W: Write>(
     assert_same(rt, result.err(), fault, case);
 }
 
-/// What was taken is a front of the transcript and the lines of viewers, of so many bytes.
+/// Asserts that the bytes that were taken are the first `count` bytes of the transcript and the lines of the viewers.
 fn assert_front(rt: &impl Abort, taken: &[u8], count: usize) {
     assert_same(rt, taken.len(), count, "bytes");
     assert_holds(rt, PUBLISHED_TEXT.as_bytes().starts_with(taken), count);
 }
 
-/// A write fails once behind so many bytes, and would take the rest if it were tried again; and a write takes no byte there.
+/// Asserts that a run ends where a write fails once after `room` bytes, though it would take the rest if it were tried again, and
+/// where a write takes no byte after them.
 fn assert_write_fault<R: Abort + Wait + Threads + AllocGlobal>(rt: &R, room: usize) {
     let fault = Some(RunFault::WriteFault(room as u128));
     let mut writer = FailsOnce::new(rt.alloc(), room);
     assert_publishes(rt, &mut writer, fault, room);
     assert_front(rt, writer.taken(), room);
-    assert_same(rt, writer.calls_behind(), 0, room);
+    assert_same(rt, writer.calls_after(), 0, room);
     let mut writer = Sink::full_after(rt.alloc(), room);
     assert_publishes(rt, &mut writer, fault, room);
     assert_front(rt, writer.taken(), room);
 }
 
-/// So it is behind each of these numbers of bytes.
+/// Asserts this for each of these numbers of bytes.
 fn assert_write_faults<R: Abort + Wait + Threads + AllocGlobal>(rt: &R, rooms: Range<usize>) {
     for room in rooms {
         assert_write_fault(rt, room);
     }
 }
 
-/// Its text has 12 bytes.
+/// The text of the line has 12 bytes.
 #[test]
 fn write_fails_once_in_the_text_of_a_line(rt: HostRuntime) {
     assert_write_faults(&rt, 0..12);
@@ -71,7 +72,8 @@ fn writer_has_just_enough_room(rt: HostRuntime) {
     assert_front(&rt, writer.taken(), 80);
 }
 
-/// The flush behind so many others fails once, when so many bytes were taken in so many reads.
+/// Asserts that a run ends where a flush fails once after `good` others, when the writer has taken `count` bytes, after `reads`
+/// reads.
 fn assert_flush_fault<R: Abort + Wait + Threads + AllocGlobal>(
     rt: &R,
     script: &str,
@@ -85,12 +87,7 @@ fn assert_flush_fault<R: Abort + Wait + Threads + AllocGlobal>(
     let fault = RunFault::WriteFault(count as u128);
     assert_same(rt, result.err(), Some(fault), good);
     assert_front(rt, writer.taken(), count);
-    assert_same(
-        rt,
-        (writer.calls_behind(), reader.reads()),
-        (0, reads),
-        good,
-    );
+    assert_same(rt, (writer.calls_after(), reader.reads()), (0, reads), good);
 }
 
 #[test]
@@ -103,19 +100,19 @@ fn flush_fails_once_before_the_second_read(rt: HostRuntime) {
     assert_flush_fault(&rt, PUBLISHED, 1, 12, 1);
 }
 
-/// No line feed ends the last line, so its text comes when the second read has answered the end.
+/// The last line has no line feed, so its text comes after the second read, which reports the end.
 #[test]
-fn flush_fails_once_behind_the_text_of_an_unended_line(rt: HostRuntime) {
+fn flush_fails_once_after_the_text_of_an_unended_line(rt: HostRuntime) {
     assert_flush_fault(&rt, PUBLISHED.trim_end(), 2, 12, 2);
 }
 
 #[test]
-fn flush_fails_once_behind_the_lines_of_the_viewers(rt: HostRuntime) {
+fn flush_fails_once_after_the_lines_of_the_viewers(rt: HostRuntime) {
     assert_flush_fault(&rt, PUBLISHED, 2, 80, 2);
 }
 
-/// A writer keeps bytes back, and what it hands them on to has so much room: the fault counts so many bytes that went out.
-fn assert_hands_on<R: Abort + Wait + Threads + AllocGlobal>(rt: &R, room: usize, count: u128) {
+/// Asserts that a run into a buffered writer over a sink with room for `room` bytes ends with a fault that counts `count` bytes.
+fn assert_buffered<R: Abort + Wait + Threads + AllocGlobal>(rt: &R, room: usize, count: u128) {
     let alloc = rt.alloc();
     let mut writer = BufWriter::new(alloc, Sink::failing(alloc, room)).expect(
         rt,
@@ -125,22 +122,22 @@ fn assert_hands_on<R: Abort + Wait + Threads + AllocGlobal>(rt: &R, room: usize,
     assert_front(rt, writer.get_ref().taken(), room);
 }
 
-/// What is kept back goes out before the second read, which finds the end.
+/// The buffer is flushed before the second read, which reports the end.
 #[test]
-fn text_that_is_kept_back_finds_no_room(rt: HostRuntime) {
-    assert_hands_on(&rt, 5, 12);
+fn buffered_text_finds_no_room(rt: HostRuntime) {
+    assert_buffered(&rt, 5, 12);
 }
 
-/// And behind the lines of the viewers.
+/// The buffer is also flushed after the lines of the viewers.
 #[test]
-fn lines_that_are_kept_back_find_no_room(rt: HostRuntime) {
-    assert_hands_on(&rt, 12, 80);
-    assert_hands_on(&rt, 20, 80);
-    assert_hands_on(&rt, 79, 80);
+fn buffered_lines_find_no_room(rt: HostRuntime) {
+    assert_buffered(&rt, 12, 80);
+    assert_buffered(&rt, 20, 80);
+    assert_buffered(&rt, 79, 80);
 }
 
 #[test]
-fn all_that_is_kept_back_is_handed_on(rt: HostRuntime) {
+fn everything_buffered_is_handed_on(rt: HostRuntime) {
     let alloc = rt.alloc();
     let mut writer = BufWriter::new(alloc, Sink::failing(alloc, 80)).expect(
         &rt,
@@ -150,7 +147,8 @@ fn all_that_is_kept_back_is_handed_on(rt: HostRuntime) {
     assert_front(&rt, writer.get_ref().taken(), 80);
 }
 
-/// A script that ships the rectangle ends so beside two viewers where a file has at most so many bytes.
+/// Asserts that a script that ships the rectangle beside two viewers ends in this way where the font file may have `max_bytes`
+/// bytes.
 fn assert_ships_within<R: Abort + Wait + Threads + AllocGlobal>(
     rt: &R,
     max_bytes: u32,
@@ -165,12 +163,12 @@ fn assert_ships_within<R: Abort + Wait + Threads + AllocGlobal>(
     assert_same(rt, (result.err(), writer.taken()), end, max_bytes);
 }
 
-/// What is printed where the rectangle is shipped.
+/// What is printed when the rectangle is shipped.
 const SHIPPED_TEXT: &str = "[65]\n\
                             viewer 0 revision 1 totalweight 6\n\
                             viewer 1 revision 1 totalweight 6\n";
 
-/// And where that is refused.
+/// What is printed when that is refused.
 const REFUSED_TEXT: &str = "refused FileTooLong\n\
                             viewer 0 revision 1 totalweight 6\n\
                             viewer 1 revision 1 totalweight 6\n";
@@ -180,7 +178,7 @@ fn character_has_no_room_in_the_font_file(rt: HostRuntime) {
     assert_ships_within(&rt, 3, None, REFUSED_TEXT);
 }
 
-/// Where the end of the file has no room all lines are there.
+/// Where only the end of the file has no room, all lines are printed.
 #[test]
 fn end_has_no_room_in_the_font_file(rt: HostRuntime) {
     assert_ships_within(&rt, 71, Some(RunFault::FileTooLong), SHIPPED_TEXT);
@@ -191,7 +189,7 @@ fn font_file_has_just_enough_room(rt: HostRuntime) {
     assert_ships_within(&rt, 72, None, SHIPPED_TEXT);
 }
 
-/// Nothing is read or written where no file is short enough.
+/// Nothing is read or written where the limit is too small for any file.
 #[test]
 fn no_font_file_is_short_enough(rt: HostRuntime) {
     let settings = Settings {

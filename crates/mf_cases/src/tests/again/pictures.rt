@@ -1,4 +1,4 @@
-//! Pictures that are built and changed, in calls that were refused for want of memory and are made again.
+//! Pictures that are built and changed by calls that are made again after an allocation failed.
 
 use super::TRIES;
 use crate::tests::assertions::{assert_holds, assert_same};
@@ -16,7 +16,7 @@ const CORNERS: [Point; 4] = [
     Point { x: 0, y: 2 },
 ];
 
-/// A run of pixels, in a constant: tables that a test makes itself cost the prover seconds.
+/// A run of pixels, written so that it can be in a constant: a table that a test makes itself costs the prover seconds.
 macro_rules! run_of {
     ($y:expr, $x:expr, $len:expr, $weight:expr) => {
         Run {
@@ -31,14 +31,14 @@ macro_rules! run_of {
 /// The runs of the rectangle.
 const BLOCK: &[Run] = &[run_of!(1, 0, 3, 1), run_of!(0, 0, 3, 1)];
 
-/// Two rows far apart, one of which has two weights side by side.
+/// Two rows far apart. One of them has two weights side by side.
 const APART: &[Run] = &[
     run_of!(1, 0, 2, 1),
     run_of!(1, 2, 1, 3),
     run_of!(-70, 0, 1, -2),
 ];
 
-/// The path through the corners.
+/// The cycle through the corners.
 fn rectangle(rt: &impl Abort, alloc: Global) -> Cycle {
     for _ in 0..TRIES {
         if let Ok(points) = CORNERS.to_vec(alloc) {
@@ -51,12 +51,12 @@ fn rectangle(rt: &impl Abort, alloc: Global) -> Cycle {
     panic!(rt; "there is no room for the path")
 }
 
-/// The cycle goes through the corners.
+/// Asserts that the cycle goes through the corners.
 fn assert_cycle(rt: &impl Abort, cycle: &Cycle) {
     assert_same(rt, cycle.points(), CORNERS.as_slice(), "a cycle");
 }
 
-/// The picture has exactly these runs.
+/// Asserts that the picture has exactly these runs.
 fn assert_runs(rt: &impl Abort, picture: &Picture, runs: &[Run]) {
     for (k, run) in runs.iter().enumerate() {
         assert_same(rt, picture.run(k), Some(*run), ("run", k, runs));
@@ -64,7 +64,7 @@ fn assert_runs(rt: &impl Abort, picture: &Picture, runs: &[Run]) {
     assert_same(rt, picture.run(runs.len()), None, ("behind", runs));
 }
 
-/// The operation goes through the corners, or adds the pixels of the rectangle, where it does one of these.
+/// Asserts that a contour goes through the corners, and that a picture that is added or subtracted is the rectangle.
 fn assert_op(rt: &impl Abort, op: &Op) {
     match op {
         Op::Contour(cycle, _, _) => assert_cycle(rt, cycle),
@@ -73,7 +73,7 @@ fn assert_op(rt: &impl Abort, op: &Op) {
     }
 }
 
-/// A copy of the cycle; where that is refused, the cycle is as it was.
+/// A copy of the cycle, which stays as it was even where the copy is refused.
 fn copied_cycle(rt: &impl Abort, alloc: Global, cycle: &Cycle) -> Cycle {
     for _ in 0..TRIES {
         let copy = cycle.copy(alloc);
@@ -85,7 +85,7 @@ fn copied_cycle(rt: &impl Abort, alloc: Global, cycle: &Cycle) -> Cycle {
     panic!(rt; "no cycle is copied")
 }
 
-/// A copy of an operation; where that is refused, the operation is as it was.
+/// A copy of an operation, which stays as it was even where the copy is refused.
 fn copied_op(rt: &impl Abort, alloc: Global, op: &Op) -> Op {
     for _ in 0..TRIES {
         let copy = op.copy(alloc);
@@ -97,7 +97,7 @@ fn copied_op(rt: &impl Abort, alloc: Global, op: &Op) -> Op {
     panic!(rt; "no operation is copied")
 }
 
-/// Pushes a run; where that is refused, the run fits as before.
+/// Pushes a run. After a refusal it must still fit.
 fn push(rt: &impl Abort, builder: &mut RowBuilder, run: Run) {
     for _ in 0..TRIES {
         assert!(rt; builder.fits(&run), "the run does not fit");
@@ -108,7 +108,7 @@ fn push(rt: &impl Abort, builder: &mut RowBuilder, run: Run) {
     panic!(rt; "the run is not pushed")
 }
 
-/// The picture of these runs. A builder whose picture is refused is gone, so another one gets the runs then.
+/// The picture with these runs. A builder whose picture is refused is gone, so the runs are then pushed to another one.
 fn built(rt: &impl Abort, alloc: Global, runs: &[Run]) -> Picture {
     for _ in 0..TRIES {
         let mut builder = RowBuilder::new(alloc);
@@ -122,7 +122,8 @@ fn built(rt: &impl Abort, alloc: Global, runs: &[Run]) -> Picture {
     panic!(rt; "no picture is built")
 }
 
-/// The picture after an operation; where that is refused, the picture with its runs and the operation are as they were.
+/// The picture after an operation. The picture itself, which has these runs, and the operation stay as they were, even where the
+/// operation is refused.
 fn changed(rt: &impl Abort, alloc: Global, picture: &Picture, op: &Op, runs: &[Run]) -> Picture {
     for _ in 0..TRIES {
         let answer = after(alloc, picture, op);
@@ -136,12 +137,12 @@ fn changed(rt: &impl Abort, alloc: Global, picture: &Picture, op: &Op, runs: &[R
     panic!(rt; "the picture is not changed")
 }
 
-/// Each of two pictures is the other.
+/// Asserts that two pictures are equal, compared in both directions.
 fn assert_equal(rt: &impl Abort, one: &Picture, other: &Picture) {
     assert_holds(rt, one.equal(other) && other.equal(one), "equal pictures");
 }
 
-/// An operation and its copy make these runs of the two rows.
+/// Asserts that an operation, and its copy, change the two rows to these runs.
 fn assert_makes(rt: &impl Abort, alloc: Global, op: &Op, runs: &[Run]) {
     let picture = built(rt, alloc, APART);
     let copy = copied_op(rt, alloc, op);
@@ -151,30 +152,30 @@ fn assert_makes(rt: &impl Abort, alloc: Global, op: &Op, runs: &[Run]) {
     assert_equal(rt, &new, &same);
 }
 
-/// Fills the rectangle.
+/// The contour of this cycle, with this weight.
 fn filling(rt: &impl Abort, cycle: Cycle, weight: i32) -> Op {
     let weight = Weight::new(weight).expect(rt, "it is a weight");
     Op::Contour(cycle, weight, Check::On)
 }
 
-/// Gives weight -1 to pixels whose weight is in the range.
+/// The cull that gives weight -1 to the pixels whose weight is in the range.
 fn keeping(rt: &impl Abort, low: i32, high: i32) -> Op {
     let minus = Weight::new(-1).expect(rt, "-1 is a weight");
     Op::Cull(Cull::keeping(low, high, minus).expect(rt, "0 is not kept"))
 }
 
-/// Gives weight -1 to pixels whose weight is not in the range.
+/// The cull that gives weight -1 to the pixels whose weight is not in the range.
 fn dropping(rt: &impl Abort, low: i32, high: i32) -> Op {
     let minus = Weight::new(-1).expect(rt, "-1 is a weight");
     Op::Cull(Cull::dropping(low, high, minus).expect(rt, "0 is dropped"))
 }
 
-/// Stretches by these factors.
+/// The scale with these factors.
 fn stretching(rt: &impl Abort, x: i32, y: i32) -> Op {
     Op::Scale(Scale::new(x, y).expect(rt, "both are factors"))
 }
 
-/// A filled rectangle, and a copy of its cycle, make the picture of its runs.
+/// Asserts that filling a copy of the rectangle's cycle makes the picture with its runs.
 fn assert_fills(rt: &impl Abort, alloc: Global) {
     let cycle = copied_cycle(rt, alloc, &rectangle(rt, alloc));
     let blank = Picture::blank(alloc);
@@ -189,7 +190,7 @@ fn fill_a_rectangle(rt: HostRuntime) {
     assert_fills(&rt, rt.alloc());
 }
 
-/// The two rows behind a filling of weight 2, and when the rectangle is added or subtracted.
+/// The two rows after the rectangle is filled in with weight 2, after its picture is added, and after it is subtracted.
 const FILLED: &[Run] = &[
     run_of!(1, 0, 2, 3),
     run_of!(1, 2, 1, 5),
@@ -210,13 +211,13 @@ const REST: &[Run] = &[
     run_of!(-70, 0, 1, -2),
 ];
 
-/// The rectangle, added or subtracted, makes these runs of the two rows.
+/// Asserts that adding or subtracting the rectangle changes the two rows to these runs.
 fn assert_adds(rt: &impl Abort, alloc: Global, sign: Sign, runs: &[Run]) {
     let op = Op::Also(built(rt, alloc, BLOCK), sign);
     assert_makes(rt, alloc, &op, runs);
 }
 
-/// What is filled, added and subtracted.
+/// A contour that is filled in, and a picture that is added and subtracted.
 #[test]
 fn add_to_a_picture(rt: HostRuntime) {
     let alloc = rt.alloc();
@@ -226,7 +227,7 @@ fn add_to_a_picture(rt: HostRuntime) {
     assert_adds(&rt, alloc, Sign::Minus, REST);
 }
 
-/// The two rows when they are culled, shifted and stretched.
+/// The two rows after two culls, a shift and two scales.
 const KEPT: &[Run] = &[run_of!(1, 0, 2, -1)];
 
 const NOT_DROPPED: &[Run] = &[run_of!(1, 2, 1, -1)];
@@ -259,7 +260,7 @@ fn change_a_picture(rt: HostRuntime) {
     assert_makes(&rt, alloc, &stretching(&rt, -2, -1), REFLECTED);
 }
 
-/// The two rows when they are turned: the pixels of a row stand in a column then, but after two quarters.
+/// The two rows after one, two and three quarter turns. After one or three, the pixels of a row are in one column.
 const ONCE: &[Run] = &[
     run_of!(2, -2, 1, 3),
     run_of!(1, -2, 1, 1),

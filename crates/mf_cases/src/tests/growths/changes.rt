@@ -201,7 +201,7 @@ const ACROSS: &Trial = &Trial {
 };
 
 #[test]
-fn live_picture_is_scaled_across(rt: HostRuntime) {
+fn live_picture_is_scaled_horizontally(rt: HostRuntime) {
     assert_performs(&rt, ACROSS);
 }
 
@@ -215,7 +215,7 @@ const ACROSS_IN_REGISTER: &Trial = &Trial {
 };
 
 #[test]
-fn register_is_reflected_across(rt: HostRuntime) {
+fn register_is_reflected_horizontally(rt: HostRuntime) {
     assert_performs(&rt, ACROSS_IN_REGISTER);
 }
 
@@ -230,7 +230,7 @@ const UPWARDS: &Trial = &Trial {
 };
 
 #[test]
-fn live_picture_is_reflected_upwards(rt: HostRuntime) {
+fn live_picture_is_reflected_vertically(rt: HostRuntime) {
     assert_performs(&rt, UPWARDS);
 }
 
@@ -244,7 +244,7 @@ const UPWARDS_IN_REGISTER: &Trial = &Trial {
 };
 
 #[test]
-fn register_is_scaled_upwards(rt: HostRuntime) {
+fn register_is_scaled_vertically(rt: HostRuntime) {
     assert_performs(&rt, UPWARDS_IN_REGISTER);
 }
 
@@ -259,7 +259,7 @@ const QUARTER: &Trial = &Trial {
 };
 
 #[test]
-fn live_picture_is_turned_by_a_quarter(rt: HostRuntime) {
+fn live_picture_is_turned_by_90_degrees(rt: HostRuntime) {
     assert_performs(&rt, QUARTER);
 }
 
@@ -274,7 +274,7 @@ const HALF: &Trial = &Trial {
 };
 
 #[test]
-fn live_picture_is_turned_by_a_half(rt: HostRuntime) {
+fn live_picture_is_turned_by_180_degrees(rt: HostRuntime) {
     assert_performs(&rt, HALF);
 }
 
@@ -288,6 +288,6 @@ const THREE_QUARTERS: &Trial = &Trial {
 };
 
 #[test]
-fn register_is_turned_by_three_quarters(rt: HostRuntime) {
+fn register_is_turned_by_270_degrees(rt: HostRuntime) {
     assert_performs(&rt, THREE_QUARTERS);
 }

@@ -1,7 +1,7 @@
-//! How sessions begin and end, and lines that take no memory.
+//! How sessions start and end, and lines that allocate nothing.
 
 use super::{
-    AMPLE, SCRIPT, STATE, State, assert_ended, assert_ends, assert_stands, behind, seated,
+    AMPLE, SCRIPT, STATE, State, assert_ended, assert_ends, assert_state, seated, session_after,
 };
 use crate::tests::assertions::assert_same;
 use crate::tests::sessions::{finish, perform};
@@ -13,10 +13,10 @@ use std::alloc::Global;
 use std::process::Abort;
 use std::sync::Wait;
 
-/// The limits of a session that meets none.
+/// The limits of a session that does not reach them.
 const LIMITS: (u32, u32) = (AMPLE.max_ops, AMPLE.max_bytes);
 
-/// What is seen of a session in which nothing has happened.
+/// The state of a session in which nothing has happened.
 const BLANK: State = State {
     current: "blank\n",
     a: "blank\n",
@@ -26,7 +26,7 @@ const BLANK: State = State {
     file: Err(GfFault::NoCharacters),
 };
 
-/// Opens a session with one place while growths are refused.
+/// Opens a session with one place while allocations are refused.
 fn opened_refused<R: Wait>(rt: &R, alloc: Global) -> Result<(Session, Desk), GfFault> {
     refuse_growths(alloc);
     let made = Session::new(rt, alloc, 1, LIMITS.0, LIMITS.1);
@@ -34,7 +34,7 @@ fn opened_refused<R: Wait>(rt: &R, alloc: Global) -> Result<(Session, Desk), GfF
     made
 }
 
-/// A session that was opened so, or with ample memory where that was refused.
+/// A session that is opened in this way, or with ample memory where that was refused.
 fn opened<R: Abort + Wait>(rt: &R, alloc: Global) -> (Session, Desk) {
     match opened_refused(rt, alloc) {
         Ok(made) => made,
@@ -46,25 +46,25 @@ fn opened<R: Abort + Wait>(rt: &R, alloc: Global) -> (Session, Desk) {
     }
 }
 
-/// Nothing has happened in a session, which performs the script then.
-fn assert_begins<R: Abort + Wait>(rt: &R, alloc: Global, (session, desk): (Session, Desk)) {
+/// Asserts that nothing has happened in a session, and that it then performs the script.
+fn assert_starts<R: Abort + Wait>(rt: &R, alloc: Global, (session, desk): (Session, Desk)) {
     let (mut session, mut desk) = (session, desk);
     let viewer = seated(rt, &mut desk);
-    let viewer = assert_stands(rt, alloc, (&mut session, viewer), &BLANK);
+    let viewer = assert_state(rt, alloc, (&mut session, viewer), &BLANK);
     for line in SCRIPT.lines() {
         perform(rt, alloc, &mut session, line);
     }
-    let viewer = assert_stands(rt, alloc, (&mut session, viewer), &STATE);
+    let viewer = assert_state(rt, alloc, (&mut session, viewer), &STATE);
     assert_ends(rt, alloc, (session, viewer), &STATE);
 }
 
 #[test]
-fn session_begins(rt: HostRuntime) {
+fn session_starts(rt: HostRuntime) {
     let made = opened(&rt, rt.alloc());
-    assert_begins(&rt, rt.alloc(), made);
+    assert_starts(&rt, rt.alloc(), made);
 }
 
-/// Ends a script while growths are refused, or hands its session back.
+/// Ends a script while allocations are refused. Hands the session back where that fails.
 fn finish_refused<R: Abort + Wait>(
     rt: &R,
     alloc: Global,
@@ -83,7 +83,7 @@ fn finish_refused<R: Abort + Wait>(
     }
 }
 
-/// The session that is handed back, where it is, stands as before.
+/// Asserts that a session that is handed back is in the same state as before, and returns it.
 fn handed_back<R: Abort + Wait>(
     rt: &R,
     alloc: Global,
@@ -91,13 +91,14 @@ fn handed_back<R: Abort + Wait>(
     state: &State,
 ) -> (Session, Viewer) {
     let mut session = session;
-    let viewer = assert_stands(rt, alloc, (&mut session, viewer), state);
+    let viewer = assert_state(rt, alloc, (&mut session, viewer), state);
     (session, viewer)
 }
 
-/// The script and these lines end; where that was refused, nothing has changed, and they end with ample memory.
+/// Asserts that a session ends after the script and these lines. Where that is refused, nothing has changed, and it ends with
+/// ample memory.
 fn assert_finishes<R: Abort + Wait>(rt: &R, alloc: Global, before: &str, state: &State) {
-    let (session, viewer) = behind(rt, alloc, LIMITS, before);
+    let (session, viewer) = session_after(rt, alloc, LIMITS, before);
     match finish_refused(rt, alloc, session) {
         Ok(made) => assert_ended(rt, made, viewer, state),
         Err(session) => {
@@ -107,13 +108,13 @@ fn assert_finishes<R: Abort + Wait>(rt: &R, alloc: Global, before: &str, state: 
     }
 }
 
-/// An operation waits to be published.
+/// One operation is pending.
 #[test]
 fn script_ends(rt: HostRuntime) {
     assert_finishes(&rt, rt.alloc(), "", &STATE);
 }
 
-/// All is published but the end.
+/// Everything but the end is published.
 const PUBLISHED: State = State {
     shown: (2, 10),
     ..STATE
@@ -124,9 +125,9 @@ fn published_script_ends(rt: HostRuntime) {
     assert_finishes(&rt, rt.alloc(), "publish", &PUBLISHED);
 }
 
-/// A session whose end is refused goes on: it publishes, and ends later.
+/// Asserts that a session whose end is refused goes on: it publishes, and ends later.
 fn assert_goes_on<R: Abort + Wait>(rt: &R, alloc: Global) {
-    let (session, viewer) = behind(rt, alloc, LIMITS, "");
+    let (session, viewer) = session_after(rt, alloc, LIMITS, "");
     match finish_refused(rt, alloc, session) {
         Ok(made) => assert_ended(rt, made, viewer, &STATE),
         Err(session) => {
@@ -137,12 +138,12 @@ fn assert_goes_on<R: Abort + Wait>(rt: &R, alloc: Global) {
 }
 
 #[test]
-fn session_goes_on_whose_end_is_refused(rt: HostRuntime) {
+fn session_goes_on_after_a_refused_end(rt: HostRuntime) {
     assert_goes_on(&rt, rt.alloc());
 }
 
-/// Lines that take no memory: with no command, of the turning check, and clears that are accepted.
-const TAKING_NOTHING: &[&str] = &[
+/// Lines that allocate nothing: lines with no command, lines that set the turning check, and clears that are accepted.
+const NOT_ALLOCATING: &[&str] = &[
     "",
     "; % note",
     "turningcheck := 0",
@@ -151,7 +152,7 @@ const TAKING_NOTHING: &[&str] = &[
     "turningcheck := 1",
 ];
 
-/// What is seen behind them.
+/// The state after these lines.
 const CLEARED: State = State {
     current: "blank\n",
     a: "blank\n",
@@ -159,7 +160,7 @@ const CLEARED: State = State {
     ..STATE
 };
 
-/// How many of these lines are performed, and print nothing.
+/// Performs these lines, and returns how many of them succeed and print nothing.
 fn performed<R: Wait>(rt: &R, alloc: Global, session: &mut Session, lines: &[&str]) -> usize {
     let mut count: usize = 0;
     for line in lines {
@@ -172,22 +173,23 @@ fn performed<R: Wait>(rt: &R, alloc: Global, session: &mut Session, lines: &[&st
     count
 }
 
-/// Those lines are performed where memory is wanting, as a line shows that takes some before them.
-fn assert_take_nothing<R: Abort + Wait>(rt: &R, alloc: Global) {
-    let (mut session, viewer) = behind(rt, alloc, LIMITS, "");
+/// Asserts that these lines succeed where allocations are refused. A line before them allocates, so that there is an allocation
+/// to refuse.
+fn assert_allocate_nothing<R: Abort + Wait>(rt: &R, alloc: Global) {
+    let (mut session, viewer) = session_after(rt, alloc, LIMITS, "");
     refuse_growths(alloc);
     let shown = session.command(rt, alloc, b"show a");
-    let count = performed(rt, alloc, &mut session, TAKING_NOTHING);
+    let count = performed(rt, alloc, &mut session, NOT_ALLOCATING);
     grow_again(alloc);
-    assert_same(rt, count, TAKING_NOTHING.len(), "lines that take no memory");
+    assert_same(rt, count, NOT_ALLOCATING.len(), "lines that take no memory");
     if let Ok(text) = shown {
         assert_same(rt, text.as_slice(), STATE.a.as_bytes(), "show a");
     }
-    let viewer = assert_stands(rt, alloc, (&mut session, viewer), &CLEARED);
+    let viewer = assert_state(rt, alloc, (&mut session, viewer), &CLEARED);
     assert_ends(rt, alloc, (session, viewer), &CLEARED);
 }
 
 #[test]
-fn lines_that_take_no_memory_are_performed(rt: HostRuntime) {
-    assert_take_nothing(&rt, rt.alloc());
+fn lines_that_allocate_nothing_are_performed(rt: HostRuntime) {
+    assert_allocate_nothing(&rt, rt.alloc());
 }

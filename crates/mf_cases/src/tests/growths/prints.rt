@@ -1,4 +1,4 @@
-//! Lines that print texts of pictures, publish and ship.
+//! Lines that print pictures, publish and ship.
 
 use super::{STATE, State, TRIAL, Trial, assert_performs};
 
@@ -74,7 +74,7 @@ fn publish_shows_what_was_accepted(rt: HostRuntime) {
     assert_performs(&rt, PUBLISH);
 }
 
-/// Nothing waits to be published.
+/// Nothing is pending.
 const AGAIN: &Trial = &Trial {
     before: "publish",
     line: "publish",
@@ -85,7 +85,7 @@ const AGAIN: &Trial = &Trial {
 };
 
 #[test]
-fn publish_is_told_again(rt: HostRuntime) {
+fn publish_of_nothing_prints_again(rt: HostRuntime) {
     assert_performs(&rt, AGAIN);
 }
 

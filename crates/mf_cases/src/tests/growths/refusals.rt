@@ -1,4 +1,4 @@
-//! Lines that are refused for what they say: their refusals take memory to be printed.
+//! Lines that are refused. Printing the refusal allocates.
 
 use super::{STATE, State, TRIAL, Trial, assert_performs};
 use mf_gf::GfFault;
@@ -208,7 +208,7 @@ fn grid_may_not_be_too_large(rt: HostRuntime) {
     assert_performs(&rt, WIDE);
 }
 
-/// As many operations are accepted as may be.
+/// The session has accepted as many operations as its limit allows.
 const LIMITED: &Trial = &Trial {
     max_ops: 2,
     line: "currentpicture := nullpicture",
@@ -221,7 +221,8 @@ fn clear_is_refused_for_the_limit(rt: HostRuntime) {
     assert_performs(&rt, LIMITED);
 }
 
-/// The preamble and the first character have 12 bytes, and this one 11; the file that is finished has more than both.
+/// The preamble and the first character take 12 bytes, and this character would take 11 more. Even without it, the finished file
+/// is longer than 22 bytes.
 const LONG_FILE: &Trial = &Trial {
     max_bytes: 22,
     line: "shipout currentpicture code 65 dx 0 width 0",

@@ -1,4 +1,4 @@
-//! Runs of whole scripts: what is written where memory is wanting is the texts of the first lines, whole.
+//! Runs of scripts. Where an allocation fails, the texts of the first lines have been written, and nothing else.
 
 use super::AMPLE;
 use crate::tests::assertions::{assert_holds, assert_same};
@@ -14,7 +14,7 @@ type Lines = &'static [(&'static str, &'static str)];
 /// More bytes than any of these scripts has or prints.
 const ROOM: usize = 1000;
 
-/// Lines of each form, and a file of one character.
+/// Lines of various forms, which ship one character.
 const COMMANDS: Lines = &[
     (
         "addto currentpicture contour (0,0)--(3,0)--(3,2)--(0,2)--cycle\n",
@@ -38,7 +38,7 @@ const COMMANDS: Lines = &[
     ("publish % note", "published 2\n"),
 ];
 
-/// Lines that print, of which the last has no line feed, and ship nothing.
+/// Lines that ship nothing. The last one prints, and has no line feed.
 const SHOWS: Lines = &[
     ("show a\n", "blank\n"),
     ("addto a contour (0,0)--(1,0)--(1,1)--(0,1)--cycle\n", ""),
@@ -59,7 +59,7 @@ fn joined(rt: &impl Abort, alloc: Global, lines: Lines) -> (Vec<u8>, Vec<u8>) {
     (script, texts)
 }
 
-/// Whether these bytes are what the first lines print, each whole.
+/// Whether these bytes are the complete texts of the first lines, of any number of them.
 fn are_first_texts(bytes: &[u8], lines: Lines) -> bool {
     let mut rest = bytes;
     for (_, text) in lines {
@@ -74,7 +74,7 @@ fn are_first_texts(bytes: &[u8], lines: Lines) -> bool {
     rest.is_empty()
 }
 
-/// Runs a script into a sink that needs no memory while growths are refused.
+/// Runs a script while allocations are refused, into a sink that does not allocate.
 fn run_refused<R: Wait>(
     rt: &R,
     alloc: Global,
@@ -87,7 +87,7 @@ fn run_refused<R: Wait>(
     answer
 }
 
-/// A run has ended well: it has written all texts, and made this file or none. Nobody has looked on.
+/// Asserts that a run has written all texts, has made this font file or none, and had no viewers.
 fn assert_outcome(
     rt: &impl Abort,
     outcome: &Outcome,
@@ -108,7 +108,7 @@ fn sink(rt: &impl Abort, alloc: Global) -> Sink {
     Sink::reserved(alloc, ROOM).expect(rt, "there is room for the sink")
 }
 
-/// A reader that gives one byte in a read, or all in one.
+/// A reader that gives one byte in each read, or all bytes in one.
 fn reader(script: &[u8], is_bytewise: bool) -> Pieces<'_> {
     if is_bytewise {
         Pieces::bytewise(script)
@@ -117,8 +117,8 @@ fn reader(script: &[u8], is_bytewise: bool) -> Pieces<'_> {
     }
 }
 
-/// The script of these lines is run to its end; where memory is wanting, the texts of its first lines are
-/// written, whole, and with ample memory it is run to its end.
+/// Asserts that the script of these lines runs to its end. Where an allocation fails, the texts of the first lines have been
+/// written, each complete, and with ample memory the script runs to its end.
 fn assert_runs<R: Abort + Wait + AllocGlobal>(
     rt: &R,
     lines: Lines,
@@ -150,7 +150,7 @@ fn script_is_read_at_once(rt: HostRuntime) {
     assert_runs(&rt, COMMANDS, false, Some(RECT_FILE));
 }
 
-/// Lines are kept while their pieces are read.
+/// The pieces of a line are kept until it has been read to its end.
 #[test]
 fn script_is_read_byte_by_byte(rt: HostRuntime) {
     assert_runs(&rt, COMMANDS, true, Some(RECT_FILE));

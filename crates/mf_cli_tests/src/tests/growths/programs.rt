@@ -1,4 +1,4 @@
-//! Runs of the program while growths are refused, the starts of threads among them. Its streams take no memory.
+//! Runs of the program while allocations are refused, including those that start threads. Its streams do not allocate.
 
 use crate::tests::assertions::{assert_holds, assert_same};
 use crate::tests::font_files::{KEPT, assert_file, path_of, put, remove};
@@ -11,8 +11,8 @@ use std::sync::Wait;
 use std::test::Fail;
 use std::thread::Threads;
 
-/// A script whose lines take memory for pictures, texts and a character, and its last line also for its bytes, since it is
-/// not ended.
+/// A script whose lines allocate for pictures, texts and a character. The last line also allocates for its bytes, because it has
+/// no line feed.
 const SCRIPT: &[u8] = b"addto currentpicture contour (0,0)--(3,0)--(3,2)--(0,2)--cycle\n\
                         addto a also currentpicture\n\
                         a := a shifted (0,5)\n\
@@ -23,7 +23,7 @@ const SCRIPT: &[u8] = b"addto currentpicture contour (0,0)--(3,0)--(3,2)--(0,2)-
                         cull currentpicture keeping (1,1) withweight 2\n\
                         show totalweight currentpicture";
 
-/// What its lines print that print something, and what two viewers see at its end.
+/// The texts of the lines that print something, and the lines of two viewers.
 const TEXTS: &[&str] = &[
     "6 0 2 1\n5 0 2 1\n",
     "111\n111\n",
@@ -34,14 +34,14 @@ const TEXTS: &[&str] = &[
     "viewer 1 revision 2 totalweight 12\n",
 ];
 
-/// All of these, alone and beside two viewers.
+/// What the script writes without viewers, and beside two viewers.
 const ALONE: &str = "6 0 2 1\n5 0 2 1\n111\n111\n[65]\npublished 1\ntotalweight 12\n";
 
 const BESIDE_TWO: &str = "6 0 2 1\n5 0 2 1\n111\n111\n[65]\npublished 1\ntotalweight 12\n\
                           viewer 0 revision 2 totalweight 12\n\
                           viewer 1 revision 2 totalweight 12\n";
 
-/// What a run left: its status, how often it read, what it wrote, and its message.
+/// What a run left: its exit status, the number of its reads, what it wrote, and its message.
 #[derive(Drop)]
 struct Left {
     status: u8,
@@ -51,14 +51,14 @@ struct Left {
 }
 
 impl Left {
-    /// The status, what was written, and the message.
+    /// The exit status, what was written, and the message.
     fn end(&self) -> End<'_> {
         (self.status, self.writer.taken(), self.errors.taken())
     }
 }
 
-/// What the script leaves with these words, where growths are refused once they stand there.
-fn performed_in_want<R: Abort + Wait + Threads + Files + AllocGlobal>(
+/// What the script leaves with these words. Allocations are refused once the list of words is made.
+fn performed_while_refused<R: Abort + Wait + Threads + Files + AllocGlobal>(
     rt: &R,
     texts: &[&str],
 ) -> Left {
@@ -78,7 +78,7 @@ fn performed_in_want<R: Abort + Wait + Threads + Files + AllocGlobal>(
     }
 }
 
-/// Whether bytes are some of the texts, from the first, and each of them whole.
+/// Whether the bytes are the complete texts of the first lines, of any number of them.
 fn are_first(texts: &[&str], bytes: &[u8]) -> bool {
     let mut rest = bytes;
     for text in texts {
@@ -93,65 +93,65 @@ fn are_first(texts: &[&str], bytes: &[u8]) -> bool {
     rest.is_empty()
 }
 
-/// Memory was wanting, and the texts of the first lines went out, whole.
-fn assert_wants(rt: &impl Abort, left: &Left) {
+/// Asserts that the run ended with `OutOfMemory`, and that it wrote the complete texts of the first lines.
+fn assert_out_of_memory(rt: &impl Abort, left: &Left) {
     let written = left.writer.taken();
     let end: End<'_> = (WANTING, written, b"mfpic: OutOfMemory\n");
     assert_same(rt, left.end(), end, "memory was wanting");
     assert_holds(rt, are_first(TEXTS, written), "whole texts");
 }
 
-/// A viewer had no place or no thread, and nothing was read or written.
+/// Asserts that a viewer had no place or no thread, and that nothing was read or written.
 fn assert_has_no_place(rt: &impl Abort, left: &Left) {
     let end: End<'_> = (WANTING, b"", b"mfpic: NoPlace\n");
     assert_same(rt, left.end(), end, "a viewer had no place");
     assert_same(rt, left.reads, 0, "reads");
 }
 
-/// Nobody looks on: the run is done with all texts, or memory was wanting.
+/// Without viewers, the run is done with all texts, or ends with `OutOfMemory`.
 #[test]
 fn a_script_is_performed(rt: HostRuntime) {
     let words = ["mfpic"];
-    let left = performed_in_want(&rt, &words);
+    let left = performed_while_refused(&rt, &words);
     let end: End<'_> = (DONE, ALONE.as_bytes(), b"");
     if left.status == DONE {
         assert_same(&rt, left.end(), end, "the run is done");
     } else {
-        assert_wants(&rt, &left);
+        assert_out_of_memory(&rt, &left);
     }
     assert_ends(&rt, &words, Pieces::whole(SCRIPT), end);
 }
 
-/// Two viewers look on: the run is done with all texts, or memory was wanting, or a place. No look is refused, since it
-/// takes no memory.
+/// Beside two viewers, the run is done with all texts, or ends with `OutOfMemory` or `NoPlace`. No look is refused, since a look
+/// does not allocate.
 #[test]
 fn a_script_is_performed_beside_viewers(rt: HostRuntime) {
     let words = ["mfpic", "--viewers", "2"];
-    let left = performed_in_want(&rt, &words);
+    let left = performed_while_refused(&rt, &words);
     let end: End<'_> = (DONE, BESIDE_TWO.as_bytes(), b"");
     if left.status == DONE {
         assert_same(&rt, left.end(), end, "the run is done");
     } else if left.errors.taken() == b"mfpic: NoPlace\n".as_slice() {
         assert_has_no_place(&rt, &left);
     } else {
-        assert_wants(&rt, &left);
+        assert_out_of_memory(&rt, &left);
     }
     assert_ends(&rt, &words, Pieces::whole(SCRIPT), end);
 }
 
-/// A font file is asked for: it is replaced where the run is done, and stays as it was where memory was wanting.
+/// A font file is replaced if the run is done, and stays as it was if the run ends with `OutOfMemory`.
 #[test]
 fn a_font_file_is_written(rt: HostRuntime) -> Result<(), Fail> {
     let path = path_of(&rt, "wanting")?;
     let words = ["mfpic", "--gf", path.as_str()];
     put(&rt, path.as_str(), KEPT);
-    let left = performed_in_want(&rt, &words);
+    let left = performed_while_refused(&rt, &words);
     let end: End<'_> = (DONE, ALONE.as_bytes(), b"");
     if left.status == DONE {
         assert_same(&rt, left.end(), end, "the run is done");
         assert_file(&rt, path.as_str(), RECT_FILE);
     } else {
-        assert_wants(&rt, &left);
+        assert_out_of_memory(&rt, &left);
         assert_file(&rt, path.as_str(), KEPT);
     }
     assert_ends(&rt, &words, Pieces::whole(SCRIPT), end);
@@ -160,11 +160,11 @@ fn a_font_file_is_written(rt: HostRuntime) -> Result<(), Fail> {
     Ok(())
 }
 
-/// Words that are refused, or that memory is wanting for: nothing is read or written.
+/// Words that are refused, or that cannot be read because an allocation fails: nothing is read or written.
 #[test]
 fn words_are_refused(rt: HostRuntime) {
     let words = ["mfpic", "--viewers", "17"];
-    let left = performed_in_want(&rt, &words);
+    let left = performed_while_refused(&rt, &words);
     let end: End<'_> = (BAD_WORDS, b"", USAGE);
     if left.status == BAD_WORDS {
         assert_same(&rt, left.end(), end, "the words are refused");

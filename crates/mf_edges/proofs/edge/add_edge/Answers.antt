@@ -9,7 +9,7 @@ use Rattle.mf_edges.specs.Sums.{HaveWeights, with_edge_in}
 use Rattle.mf_edges.proofs.AddedEdges.{found_column, inserted_sorted, inserted_weights, none_there, nothing_added}
 use Rattle.mf_edges.proofs.edge.add_edge.Goals as goal
 
--- the closure gives an edge's column, and the slice is the edges
+-- the closure answers an edge's column, and the slice holds the edges
 pub returns-in-Ok-clause-weights : goal.returns-in-Ok-clause-weights
 returns-in-Ok-clause-weights c =
     let x : to_z w32 (of_z w32 c.args.x) ≡ c.args.x = omega (arith, ints) in

@@ -18,7 +18,7 @@ returns-then-changed-eq0-clause-weights c =
     let cancel : edge.weight +ℤ c.args.weight ≡ pos 0 = omega (arith, ints, small, c.requires.weight, c.if-changed-eq0.true) in
     rw c.remove.ensures.items (removed_weights c.args.edges.now.items c.args.at edge c.args.weight _ (search rules) c.index-edge.ensures refl cancel)
 
--- the changed edge is written in bits, and read back
+-- the changed edge is written as bits, and read back
 pub returns-else-changed-eq0-clause-sorted : goal.returns-else-changed-eq0-clause-sorted
 returns-else-changed-eq0-clause-sorted c =
     let edge = c.index-edge.result.now in

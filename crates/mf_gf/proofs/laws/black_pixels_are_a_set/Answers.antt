@@ -10,7 +10,7 @@ use Rattle.mf_rows.proofs.DotsLemmas.{dots_from-lower, weight_at-before}
 use Rattle.mf_gf.specs.Pixels.{black}
 use Rattle.mf_gf.proofs.laws.black_pixels_are_a_set.Goals as goal
 
--- a dot with weight 1 in place of its own
+-- a dot with weight 1 instead of its own
 abbrev blackened : Dot → Dot
 blackened d = record { y = d.y; x = d.x; weight = pos 1 }
 
@@ -40,7 +40,7 @@ ones-black (d ∷ ds) =
     (λ yes. All-cons One (blackened d) (black ds) refl (ones-black ds))
     (λ no. ones-black ds)
 
--- behind a dot no other stands at its pixel
+-- after a dot there is no other one at the same pixel
 none_behind : (low : ℤ) (d : Dot) (ds : List Dot) (x y : ℤ) → AreDotsFrom low (d ∷ ds) → (int_eq d.x x && int_eq d.y y) ≡ true → weight_at (black ds) x y ≡ pos 0
 none_behind low d ds x y dots at =
     let parts = and_parts (int_eq d.x x) (int_eq d.y y) at in

@@ -19,7 +19,7 @@ any_later P d ds some = (suc some.0, some.1, omega (arith, some.2), some.3, some
 within_pixel : (d : Dot) → IsWithin (box_of_pixel d) d
 within_pixel d = record { left = omega (arith, ints); right = omega (arith, ints); bottom = omega (arith, ints); top = omega (arith, ints) }
 
--- the box of a pixel
+-- the box of one pixel is the least one, where all others lie in it
 least_of_pixel : (d : Dot) (ds : List Dot) → All (IsWithin (box_of_pixel d)) ds → IsLeastBox (d ∷ ds) (box_of_pixel d)
 least_of_pixel d ds others = record {
   within = All-cons (IsWithin (box_of_pixel d)) d ds (within_pixel d) others;
@@ -35,14 +35,14 @@ within_first a b d inside = record { left = omega (arith, ints, clamps, inside.l
 within_second : (a b : CharacterBox) (d : Dot) → IsWithin b d → IsWithin (joined a b) d
 within_second a b d inside = record { left = omega (arith, ints, clamps, inside.left); right = omega (arith, ints, clamps, inside.right); bottom = omega (arith, ints, clamps, inside.bottom); top = omega (arith, ints, clamps, inside.top) }
 
--- the lesser, or the greater, of two numbers is one of them
+-- the minimum, or the maximum, of two numbers is one of them
 either_min : (P : ℤ → Type 0) (x y : ℤ) → P x → P y → P (int_min x y)
 either_min P x y first second = cond_both (int_lt y x) y x P (λ _. second) (λ _. first)
 
 either_max : (P : ℤ → Type 0) (x y : ℤ) → P x → P y → P (int_max x y)
 either_max P x y first second = cond_both (int_lt y x) x y P (λ _. first) (λ _. second)
 
--- the box with one more pixel
+-- the box is least also with one more pixel
 least_of_more : (d : Dot) (ds : List Dot) (b : CharacterBox) → IsLeastBox ds b → IsLeastBox (d ∷ ds) (joined (box_of_pixel d) b)
 least_of_more d ds b others =
     let a = box_of_pixel d in

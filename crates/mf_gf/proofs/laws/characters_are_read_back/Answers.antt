@@ -13,7 +13,7 @@ use Rattle.mf_gf.proofs.PostFound.{locators_found}
 use Rattle.mf_gf.proofs.Shipped.{file-begins}
 use Rattle.mf_gf.proofs.laws.characters_are_read_back.Goals as goal
 
--- a code with a character, and its last one
+-- a code that has a last character, and that character
 some_last : (last : Option Shipment) → is_some last ≡ true → (s : Shipment) × (last ≡ Some s)
 some_last None some = absurd (cc)
 some_last (Some s) some = (s, refl)

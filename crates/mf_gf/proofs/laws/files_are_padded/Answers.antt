@@ -7,7 +7,7 @@ use Rattle.mf_gf.proofs.laws.files_are_padded.Goals as goal
 length-ending : (place before : ℕ) → length (ending place before) ≡ 6 + padding (before + 6)
 length-ending place before = let pad = length-replicate {A = ℕ} (padding (before + 6)) 223 in omega (arith, pad)
 
--- a text with the ending that its length asks for
+-- a text with the ending that its length requires is padded
 padded : (text : List ℕ) (place : ℕ) → IsPadded (text ++ ending place (length text))
 padded text place =
     let before = length text in

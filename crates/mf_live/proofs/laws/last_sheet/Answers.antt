@@ -10,7 +10,7 @@ use Rattle.mf_live.specs.Viewers.{Extends, IsPublished, learnt, looked, looked_e
 use Rattle.mf_live.proofs.Looking.{shown-last}
 use Rattle.mf_live.proofs.laws.last_sheet.Goals as goal
 
--- what was looked at last, where it begins with a closed list
+-- what was looked at last, where it has a closed list as a whole prefix
 looked_last : (before after : Viewer) (told : List Entry) → ((L : List Entry) → Extends before L → IsWholePrefix told L) → is_closed told ≡ true → HasLooked before after → looked after ≡ told
 looked_last before after told includes closed look = shown-last told (looked after) (includes (looked after) look.extends) look.ends closed
 

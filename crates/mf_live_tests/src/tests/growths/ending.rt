@@ -1,4 +1,4 @@
-//! Pictures that are closed. To close a picture of which nothing was accepted takes no memory.
+//! Pictures that are closed. Closing a picture of which nothing was accepted allocates nothing.
 
 use super::{assert_published, assert_waiting};
 use crate::tests::{
@@ -10,7 +10,7 @@ use std::alloc::Global;
 use std::process::Abort;
 use std::sync::Wait;
 
-/// The end is published once more, with ample memory.
+/// Publishes the end once more, with ample memory.
 fn published_again<R: Abort + Wait>(rt: &R, closing: Closing) -> Ended {
     match closing.publish(rt) {
         Ok(ended) => ended,
@@ -21,8 +21,8 @@ fn published_again<R: Abort + Wait>(rt: &R, closing: Closing) -> Ended {
     }
 }
 
-/// Closes the picture of the rectangle while growths are refused, and where that was refused once more. Till then so many
-/// operations are published, as before, and viewers see these runs; the end has one operation.
+/// Closes the picture of the rectangle while allocations are refused, and closes it again where that failed. Until then as many
+/// operations are published as before, and viewers see these runs; the end has one operation.
 fn assert_closed<R: Abort + Wait>(
     rt: &R,
     alloc: Global,
@@ -53,7 +53,7 @@ fn assert_closed<R: Abort + Wait>(
 }
 
 #[test]
-fn a_picture_is_closed_whose_rectangle_waits(rt: HostRuntime) {
+fn closes_a_picture_whose_rectangle_is_pending(rt: HostRuntime) {
     let alloc = rt.alloc();
     let (mut writer, mut desk) = opened(&rt, alloc, 1, 10);
     let viewer = assert_sees(&rt, seated(&rt, &mut desk), 0, &[]);
@@ -62,7 +62,7 @@ fn a_picture_is_closed_whose_rectangle_waits(rt: HostRuntime) {
 }
 
 #[test]
-fn a_picture_is_closed_whose_rectangle_is_published(rt: HostRuntime) {
+fn closes_a_picture_whose_rectangle_is_published(rt: HostRuntime) {
     let alloc = rt.alloc();
     let (mut writer, mut desk) = opened(&rt, alloc, 1, 10);
     let viewer = assert_sees(&rt, seated(&rt, &mut desk), 0, &[]);

@@ -12,7 +12,7 @@ use std::alloc::Global;
 use std::process::Abort;
 use std::sync::Wait;
 
-/// The picture that was opened for three viewers, or one that is opened with ample memory.
+/// The picture that was opened for three viewers or, where that failed, one that is opened with ample memory.
 fn opened_again<R: Abort + Wait>(
     rt: &R,
     alloc: Global,
@@ -27,7 +27,7 @@ fn opened_again<R: Abort + Wait>(
     }
 }
 
-/// Three viewers are given, who see what is published, and no fourth.
+/// Asserts that the desk hands out three viewers, who see what is published, and no fourth.
 fn assert_three_places<R: Abort + Wait>(
     rt: &R,
     alloc: Global,
@@ -44,7 +44,7 @@ fn assert_three_places<R: Abort + Wait>(
 }
 
 #[test]
-fn a_picture_of_three_places_is_opened(rt: HostRuntime) {
+fn opens_a_picture_with_three_places(rt: HostRuntime) {
     let alloc = rt.alloc();
     refuse_growths(alloc);
     let found = open_picture(&rt, alloc, 3, 10);

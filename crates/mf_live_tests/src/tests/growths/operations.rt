@@ -10,15 +10,15 @@ use std::alloc::Global;
 use std::process::Abort;
 use std::sync::Wait;
 
-/// What a call answers that applies an operation while growths are refused.
-fn applied_in_want(alloc: Global, writer: &mut Writer, op: Op) -> Result<(), (Op, Fault)> {
+/// Applies an operation while allocations are refused.
+fn applied_while_refused(alloc: Global, writer: &mut Writer, op: Op) -> Result<(), (Op, Fault)> {
     refuse_growths(alloc);
     let applied = writer.apply(alloc, op);
     grow_again(alloc);
     applied
 }
 
-/// Whether two operations are the same, in each part.
+/// Whether two operations are the same in each part.
 fn is_same(one: &Op, other: &Op) -> bool {
     match (one, other) {
         (Op::Contour(one, weight, check), Op::Contour(other, other_weight, other_check)) => {
@@ -37,7 +37,7 @@ fn is_same(one: &Op, other: &Op) -> bool {
     }
 }
 
-/// This operation was handed back for want of memory, and the moved rectangle is as it was.
+/// Asserts that this operation was handed back because an allocation failed, and that the moved rectangle is as it was.
 fn assert_handed_back(rt: &impl Abort, writer: &Writer, back: &Op, same: &Op, fault: Fault) {
     let wanting = Fault::Refused(OpFault::OutOfMemory);
     assert_same(rt, fault, wanting, "the operation");
@@ -45,12 +45,12 @@ fn assert_handed_back(rt: &impl Abort, writer: &Writer, back: &Op, same: &Op, fa
     assert_waiting(rt, writer, (1, 2), MOVED);
 }
 
-/// Applies an operation to the moved rectangle while growths are refused, and where it was refused once more. It comes back
-/// then as this same one, and viewers see nothing of it; at last the picture has exactly these runs, and viewers see them once
-/// they are published.
+/// Applies an operation to the moved rectangle while allocations are refused, and applies it again where that failed: it has come
+/// back as `same`, and viewers see nothing of it. Finally the picture has exactly these runs, and viewers see them once they are
+/// published.
 fn assert_accepted<R: Abort + Wait>(rt: &R, alloc: Global, op: Op, same: &Op, runs: &[Pixels]) {
     let (mut writer, viewer) = moved(rt, alloc);
-    let applied = applied_in_want(alloc, &mut writer, op);
+    let applied = applied_while_refused(alloc, &mut writer, op);
     let viewer = assert_sees(rt, viewer, 1, RECT_RUNS);
     if let Err((back, fault)) = applied {
         assert_handed_back(rt, &writer, &back, same, fault);
@@ -63,7 +63,7 @@ fn assert_accepted<R: Abort + Wait>(rt: &R, alloc: Global, op: Op, same: &Op, ru
     writer.discard(rt);
 }
 
-/// Two columns of four rows, of which the lower two are rows of the moved rectangle.
+/// A rectangle of two columns and four rows. Its lower two rows are rows of the moved rectangle.
 const TALL: &[(i32, i32)] = &[(3, 13), (5, 13), (5, 17), (3, 17)];
 
 const FILLED: &[Pixels] = &[
@@ -119,7 +119,7 @@ fn a_picture_is_added(rt: HostRuntime) {
     assert_accepted(&rt, alloc, op, &same, ADDED);
 }
 
-/// The cull that gives the weight 3 to the pixels of weight 1.
+/// The cull that gives weight 3 to the pixels of weight 1.
 fn cull(rt: &impl Abort) -> Op {
     let weight = Weight::new(3).expect(rt, "the weight is lawful");
     Op::Cull(Cull::keeping(1, 1, weight).expect(rt, "the cull is lawful"))
@@ -140,7 +140,7 @@ fn a_shift_is_accepted(rt: HostRuntime) {
     assert_accepted(&rt, rt.alloc(), op, &same, SHIFTED);
 }
 
-/// The scale that doubles columns and reflects rows.
+/// The scale that doubles the columns and reflects the rows.
 fn scale(rt: &impl Abort) -> Op {
     Op::Scale(Scale::new(2, -1).expect(rt, "the factors are lawful"))
 }
@@ -160,10 +160,10 @@ fn a_quarter_turn_is_accepted(rt: HostRuntime) {
     assert_accepted(&rt, rt.alloc(), op, &same, TURNED);
 }
 
-/// A picture that is too heavy for a pixel of the moved rectangle, in the last of its rows.
+/// A picture that is too heavy for a pixel in the last row of the moved rectangle.
 const HEAVY: &[Pixels] = &[(20, 0, 2, 5), (14, 1, 1, 1), (13, 2, 1, 32767)];
 
-/// The fault of an operation that is refused, and the operation, which is this same one; the moved rectangle is as it was.
+/// The operation that comes back as `same` when it is refused, and its fault. The moved rectangle is as it was.
 fn refused(
     rt: &impl Abort,
     writer: &Writer,
@@ -180,7 +180,7 @@ fn refused(
     }
 }
 
-/// Want of memory may come in the place of a weight that is too large, and never the other way round.
+/// `OutOfMemory` may come instead of `WeightTooLarge`, and never the other way round.
 #[test]
 fn a_sum_that_weighs_too_much_is_refused(rt: HostRuntime) {
     let alloc = rt.alloc();
@@ -188,7 +188,7 @@ fn a_sum_that_weighs_too_much_is_refused(rt: HostRuntime) {
     let same = also(&rt, alloc, HEAVY, Sign::Plus);
     let op = also(&rt, alloc, HEAVY, Sign::Plus);
     let (mut writer, viewer) = moved(&rt, alloc);
-    let applied = applied_in_want(alloc, &mut writer, op);
+    let applied = applied_while_refused(alloc, &mut writer, op);
     let (back, fault) = refused(&rt, &writer, applied, &same);
     if fault != Fault::Refused(OpFault::OutOfMemory) {
         assert_same(&rt, fault, too_large, "the sum");

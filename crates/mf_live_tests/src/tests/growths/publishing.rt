@@ -11,8 +11,8 @@ use std::alloc::Global;
 use std::process::Abort;
 use std::sync::Wait;
 
-/// Publishes the move of the rectangle while growths are refused, and where that was refused once more. Till then as many
-/// operations as before are published and wait, and viewers see these runs.
+/// Publishes the move of the rectangle while allocations are refused, and publishes it again where that failed. Until then as
+/// many operations are published and pending as before, and viewers see these runs.
 fn assert_move_is_published<R: Abort + Wait>(
     rt: &R,
     alloc: Global,
@@ -44,7 +44,7 @@ fn an_operation_is_published(rt: HostRuntime) {
     writer.discard(&rt);
 }
 
-/// Of several operations viewers see none, and then all.
+/// Viewers see none of several operations, and then all of them.
 #[test]
 fn several_operations_are_published_at_once(rt: HostRuntime) {
     let alloc = rt.alloc();

@@ -11,14 +11,14 @@ use mf_testing::{grow_again, refuse_growths};
 use std::alloc::Global;
 use std::process::Abort;
 
-/// A sheet has this revision and exactly these runs.
+/// Asserts that a sheet has this revision and exactly these runs.
 fn assert_sheet(rt: &impl Abort, sheet: &Sheet, revision: u32, runs: &[Pixels]) {
     assert_same(rt, sheet.revision(), revision, "the revision of a sheet");
     assert_runs(rt, sheet.picture(), runs, "the runs of a sheet");
 }
 
-/// Takes a sheet while growths are refused, and where that was refused once more, after a look: both have this revision and
-/// exactly these runs.
+/// Takes a sheet while allocations are refused, and takes it again, after a look, where that failed. The look and each sheet have
+/// this revision and exactly these runs.
 fn assert_taken(
     rt: &impl Abort,
     alloc: Global,

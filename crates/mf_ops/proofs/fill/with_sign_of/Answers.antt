@@ -3,7 +3,7 @@ use Rattle.std.proofs.lemmas.Int.{ints}
 use Rattle.std.specs.Int.{int_signum}
 use Rattle.mf_ops.proofs.fill.with_sign_of.Goals as goal
 
--- a sign keeps a weight in its bounds
+-- multiplying a weight by a sign keeps it in its bounds
 signed_bounds : (w sign : ℤ) → negsuc 2 ≤ℤ w → w ≤ℤ pos 3 → negsuc 0 ≤ℤ sign → sign ≤ℤ pos 1 → (negsuc 2 ≤ℤ (w *ℤ sign)) × ((w *ℤ sign) ≤ℤ pos 3)
 signed_bounds w (pos zero) least greatest low high = (omega (arith, ints), omega (arith, ints))
 signed_bounds w (pos (suc zero)) least greatest low high = (omega (arith, ints), omega (arith, ints))

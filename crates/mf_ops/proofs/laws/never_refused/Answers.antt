@@ -17,7 +17,7 @@ use Rattle.mf_ops.proofs.laws.never_refused.Goals as goal
 zero_is_lawful : IsLawfulWeight (pos 0)
 zero_is_lawful = record { least = omega (arith, ints); greatest = omega (arith, ints) }
 
--- a move brings a pixel the weight that another had
+-- a move gives each pixel the weight that some pixel had
 lawful_at : (ds : List Dot) → IsPicture ds → (x y : ℤ) → IsLawfulWeight (weight_at ds x y)
 lawful_at ds picture x y = lawful_weight_at ds x y (dots_from-lawful start_of_field ds picture.dots)
 

@@ -29,7 +29,7 @@ not_left x passes = (λ test. record { least = grind (arith, ints); greatest = g
 left : (x : ℤ) → int_le (negsuc 4094) x ≡ false → IsTrue (int_le (negsuc 4094) x) ↔ IsPointInReach x
 left x fails = (λ test. absurd (both_ways _ fails test), λ point. grind (arith, ints))
 
--- the code reads the point back, and computes with it in 64 bits
+-- the code reads the point as an integer, and computes with it in 64 bits
 module _ (s : Stretch) (p x y z : ℤ) (least : negsuc 4094 ≤ℤ p) (greatest : p ≤ℤ pos 4095)
     (factor : FitsSigned w32 s.factor) (offset : FitsSigned w32 s.offset)
     (x_is : x ≡ to_z w32 (of_z w32 p)) (y_is : y ≡ to_z w32 (of_z w32 s.factor)) (z_is : z ≡ to_z w32 (of_z w32 s.offset)) where

@@ -1,4 +1,4 @@
-//! Contours that are filled, and pictures that are added.
+//! Contours that are filled, and pictures that are added, while allocations are refused.
 
 use super::plan::Plan;
 use super::{APART, assert_applies, assert_makes};
@@ -7,7 +7,7 @@ use mf_geom::Check;
 use mf_ops::Sign;
 use mf_rows::Run;
 
-/// The rows with weight 2 in the rectangle.
+/// The rows after the rectangle is filled with weight 2.
 const FILLED: &[Run] = &[
     run_of!(90, -3, 2, 5),
     run_of!(1, 0, 2, 3),
@@ -18,7 +18,7 @@ const FILLED: &[Run] = &[
     run_of!(-70, 0, 1, -2),
 ];
 
-/// The rows with weight -2 in the rectangle.
+/// The rows after the rectangle is filled with weight -2.
 const HOLLOWED: &[Run] = &[
     run_of!(90, -3, 2, 5),
     run_of!(1, 0, 2, -1),
@@ -54,7 +54,7 @@ fn a_contour_is_filled_into_the_picture_itself(rt: HostRuntime) {
     assert_applies(&rt, Plan::Contour(CLOCKWISE, 2, Check::On), FILLED);
 }
 
-/// Stairs of two steps, whose list of corners grows twice.
+/// A staircase of two steps, whose list of corners grows twice.
 const STAIRS: Corners = &[(0, 0), (4, 0), (4, 1), (3, 1), (3, 2), (0, 2)];
 
 #[test]
@@ -70,7 +70,7 @@ fn stairs_are_filled(rt: HostRuntime) {
     assert_makes(&rt, Plan::Contour(STAIRS, -1, Check::On), WITH_STAIRS);
 }
 
-/// A picture that is added to the rows: above them, below them, and in their bands, where one row cancels.
+/// A picture that is added to the rows. Its rows lie above them, below them, and in the same bands, where one row cancels.
 const OTHER: &[Run] = &[
     run_of!(200, 0, 1, 1),
     run_of!(1, 1, 2, -3),
@@ -121,7 +121,7 @@ fn a_picture_is_subtracted_from_the_picture_itself(rt: HostRuntime) {
     assert_applies(&rt, Plan::Also(OTHER, Sign::Minus), DIFFERENCE);
 }
 
-/// The rows with twice their weights.
+/// The rows with their weights doubled.
 const DOUBLED: &[Run] = &[
     run_of!(90, -3, 2, 10),
     run_of!(1, 0, 2, 2),

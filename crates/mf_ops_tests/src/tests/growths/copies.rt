@@ -1,4 +1,4 @@
-//! Copies of operations.
+//! Copies of operations, while allocations are refused.
 
 use super::APART;
 use super::plan::Plan;
@@ -9,7 +9,7 @@ use mf_rows::Picture;
 use mf_testing::{grow_again, refuse_growths};
 use std::process::Abort;
 
-/// An operation is copied. Where that is refused, it is as it was.
+/// Copies an operation while allocations are refused, and asserts that it stays as it was, and that its copy is equal.
 fn assert_copied<R: Abort + AllocGlobal>(rt: &R, plan: Plan) {
     let op = plan.op(rt, &Picture::blank(rt.alloc()));
     refuse_growths(rt.alloc());

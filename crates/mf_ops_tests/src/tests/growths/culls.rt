@@ -1,13 +1,13 @@
-//! Culls.
+//! Culls, while allocations are refused.
 
 use super::plan::Plan;
 use super::{assert_applies, assert_makes};
 use mf_rows::Run;
 
-/// The rows when weights from 1 to 3 are kept, with weight -2.
+/// The rows after weights from 1 to 3 are kept, with weight -2.
 const KEPT: &[Run] = &[run_of!(1, 0, 3, -2)];
 
-/// The rows when weights from -2 to 3 are dropped, and all others become 3.
+/// The rows after weights from -2 to 3 are dropped: all others become 3.
 const NOT_DROPPED: &[Run] = &[run_of!(90, -3, 2, 3), run_of!(0, -1, 3, 3)];
 
 #[test]

@@ -1,4 +1,4 @@
-//! Operations that are refused for something else, and the only one that is never refused.
+//! Operations that are refused for another reason than memory, and the only operation that is never refused.
 
 use super::plan::Plan;
 use super::{APART, after_refused, apply_refused};
@@ -12,24 +12,24 @@ use mf_rows::{Picture, Run};
 use mf_testing::{grow_again, refuse_all_growths};
 use std::process::Abort;
 
-/// Two rows, of which the lower one has nearly the greatest and nearly the least weight.
+/// Two rows. The lower one has weights close to the greatest and to the least one.
 const HEAVY: &[Run] = &[
     run_of!(1, 0, 2, 1),
     run_of!(0, 0, 1, 32766),
     run_of!(0, 2, 1, -32766),
 ];
 
-/// A picture that takes a weight of the lower row above the greatest one where it is added.
+/// A picture which, when added, makes a weight of the lower row greater than the greatest.
 const LEFT: &[Run] = &[run_of!(1, 1, 1, 5), run_of!(0, 0, 1, 2)];
 
-/// Want of memory may come in the place of WeightTooLarge, and nothing else.
+/// Asserts that the fault is `WeightTooLarge`, or `OutOfMemory`, which may come instead of it.
 fn assert_too_large(rt: &impl Abort, fault: Option<OpFault>, plan: Plan) {
     if fault != Some(OpFault::OutOfMemory) {
         assert_same(rt, fault, Some(OpFault::WeightTooLarge), plan);
     }
 }
 
-/// An operation that would make a weight of the heavy rows too large is refused.
+/// Asserts that an operation that would make a weight of the heavy rows too large is refused.
 fn assert_stops<R: Abort + AllocGlobal>(rt: &R, plan: Plan) {
     let picture = built(rt, HEAVY);
     let op = plan.op(rt, &picture);
@@ -41,7 +41,7 @@ fn assert_stops<R: Abort + AllocGlobal>(rt: &R, plan: Plan) {
     assert_runs(rt, &picture, HEAVY);
 }
 
-/// The same where the operation is performed on the heavy rows themselves.
+/// The same, where the operation is performed on the heavy rows in place.
 fn assert_stops_itself<R: Abort + AllocGlobal>(rt: &R, plan: Plan) {
     let mut picture = built(rt, HEAVY);
     let op = plan.op(rt, &picture);
@@ -72,7 +72,7 @@ fn a_sum_with_the_picture_itself_stops_at_the_greatest_weight(rt: HostRuntime) {
     assert_stops_itself(&rt, Plan::AlsoItself(HEAVY, Sign::Plus));
 }
 
-/// A picture that takes a weight of the lower row below the least one where it is subtracted.
+/// A picture which, when subtracted, makes a weight of the lower row less than the least.
 const RIGHT: &[Run] = &[run_of!(1, 1, 1, 5), run_of!(0, 2, 1, 2)];
 
 #[test]
@@ -80,7 +80,7 @@ fn a_difference_stops_at_the_least_weight(rt: HostRuntime) {
     assert_stops(&rt, Plan::Also(RIGHT, Sign::Minus));
 }
 
-/// What an operation makes of the rows where no memory is left.
+/// What `after` returns where every allocation is refused.
 fn after_without_memory<R: Abort + AllocGlobal>(
     rt: &R,
     picture: &Picture,
@@ -92,7 +92,7 @@ fn after_without_memory<R: Abort + AllocGlobal>(
     answer
 }
 
-/// An operation on the rows is refused with this fault, also where no memory is left.
+/// Asserts that an operation on the rows is refused with this fault, also where every allocation is refused.
 fn assert_refused_first<R: Abort + AllocGlobal>(rt: &R, plan: Plan, fault: OpFault) {
     let picture = built(rt, APART);
     let op = plan.op(rt, &picture);
@@ -104,29 +104,29 @@ fn assert_refused_first<R: Abort + AllocGlobal>(rt: &R, plan: Plan, fault: OpFau
 }
 
 #[test]
-fn backtracks_comes_before_want_of_memory(rt: HostRuntime) {
+fn backtracks_comes_before_out_of_memory(rt: HostRuntime) {
     let fault = OpFault::Cycle(CycleFault::Backtracks(1));
     assert_refused_first(&rt, Plan::Contour(SPIKE, 3, Check::On), fault);
 }
 
 #[test]
-fn turning_zero_comes_before_want_of_memory(rt: HostRuntime) {
+fn turning_zero_comes_before_out_of_memory(rt: HostRuntime) {
     let fault = OpFault::Cycle(CycleFault::TurningZero);
     assert_refused_first(&rt, Plan::Contour(EIGHT, 3, Check::On), fault);
 }
 
 #[test]
-fn a_shift_out_of_the_field_comes_before_want_of_memory(rt: HostRuntime) {
+fn a_shift_out_of_the_field_comes_before_out_of_memory(rt: HostRuntime) {
     assert_refused_first(&rt, Plan::Shift(4093, 0), OpFault::OutOfField);
 }
 
 #[test]
-fn a_scale_out_of_the_field_comes_before_want_of_memory(rt: HostRuntime) {
+fn a_scale_out_of_the_field_comes_before_out_of_memory(rt: HostRuntime) {
     assert_refused_first(&rt, Plan::Scale(-1, -46), OpFault::OutOfField);
 }
 
 #[test]
-fn a_clear_takes_no_memory(rt: HostRuntime) {
+fn a_clear_allocates_nothing(rt: HostRuntime) {
     let picture = built(&rt, APART);
     let cleared = after_without_memory(&rt, &picture, &Op::Clear);
     assert_runs(&rt, &cleared.expect(&rt, "a clear is never refused"), &[]);

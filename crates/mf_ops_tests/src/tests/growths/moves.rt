@@ -1,10 +1,10 @@
-//! Shifts, scales and turns.
+//! Shifts, scales and turns, while allocations are refused.
 
 use super::plan::Plan;
 use super::{assert_applies, assert_makes};
 use mf_rows::Run;
 
-/// The rows when they are shifted by two columns to the right and a row down.
+/// The rows shifted by two columns to the right and one row down.
 const SHIFTED: &[Run] = &[
     run_of!(89, -1, 2, 5),
     run_of!(0, 2, 2, 1),
@@ -23,7 +23,7 @@ fn a_picture_itself_is_shifted(rt: HostRuntime) {
     assert_applies(&rt, Plan::Shift(2, -1), SHIFTED);
 }
 
-/// Rows that keep their columns share them.
+/// Rows that keep their columns are shared with the old picture.
 #[test]
 fn a_picture_is_shifted_upwards(rt: HostRuntime) {
     const RAISED: &[Run] = &[
@@ -94,7 +94,7 @@ fn columns_and_rows_are_reflected(rt: HostRuntime) {
     assert_makes(&rt, Plan::Scale(-1, -2), REFLECTED);
 }
 
-/// The rows when they are turned by 90 degrees.
+/// The rows turned by 90 degrees.
 const TURNED: &[Run] = &[
     run_of!(2, -2, 1, 3),
     run_of!(1, -2, 1, 1),

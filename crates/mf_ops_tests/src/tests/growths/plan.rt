@@ -1,4 +1,4 @@
-//! Operations in constants.
+//! Operations as constants.
 
 use crate::tests::assertions::assert_same;
 use crate::tests::contours::built;
@@ -10,12 +10,12 @@ use mf_ops::{Op, Sign};
 use mf_rows::{Picture, Run};
 use std::process::Abort;
 
-/// An operation by its parts: corners, runs and numbers.
+/// An operation, given by its parts: corners, runs and numbers.
 #[derive(Clone, Copy, Debug)]
 pub(super) enum Plan {
     Contour(Corners, i32, Check),
     Also(&'static [Run], Sign),
-    /// A copy of the picture that is changed, which has these runs, is added or subtracted.
+    /// A copy of the changed picture itself, which has these runs, is added or subtracted.
     AlsoItself(&'static [Run], Sign),
     Keeping(i32, i32, i32),
     Dropping(i32, i32, i32),
@@ -27,7 +27,7 @@ pub(super) enum Plan {
 }
 
 impl Plan {
-    /// The operation, which changes this picture.
+    /// The operation of this plan, for a change of this picture.
     pub(super) fn op<R: Abort + AllocGlobal>(self, rt: &R, picture: &Picture) -> Op {
         match self {
             Plan::Contour(corners, number, check) => {
@@ -44,7 +44,7 @@ impl Plan {
         }
     }
 
-    /// An operation has exactly these parts.
+    /// Asserts that an operation has exactly these parts.
     pub(super) fn assert_is<R: Abort + AllocGlobal>(self, rt: &R, op: &Op) {
         match self {
             Plan::Contour(corners, number, check) => {
@@ -65,7 +65,7 @@ impl Plan {
     }
 }
 
-/// An operation is the contour through these corners, with this weight and under this check.
+/// Asserts that an operation is the contour through these corners, with this weight and this check.
 fn assert_contour<R: Abort + AllocGlobal>(
     rt: &R,
     op: &Op,
@@ -81,7 +81,7 @@ fn assert_contour<R: Abort + AllocGlobal>(
     assert_same(rt, (weight.get(), *own), (number, check), corners);
 }
 
-/// An operation adds or subtracts the picture of these runs.
+/// Asserts that an operation adds or subtracts the picture with these runs.
 fn assert_also(rt: &impl Abort, op: &Op, runs: &[Run], sign: Sign) {
     let Op::Also(picture, own) = op else {
         panic!(rt; "no picture is added: {op:?}");
@@ -90,7 +90,7 @@ fn assert_also(rt: &impl Abort, op: &Op, runs: &[Run], sign: Sign) {
     assert_same(rt, *own, sign, runs);
 }
 
-/// Two operations without a cycle and without a picture are the same.
+/// Asserts that two operations that hold neither a cycle nor a picture are the same.
 fn assert_same_numbers(rt: &impl Abort, op: &Op, expected: &Op) {
     match (op, expected) {
         (Op::Cull(cull), Op::Cull(other)) => assert_same(rt, *cull, *other, "the cull"),

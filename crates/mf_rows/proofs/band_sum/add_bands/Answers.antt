@@ -65,7 +65,7 @@ returns-in_err-sum-clause-too_large c =
     let p = err_from_is_err_and c.from_residual.result c.from_residual.ensures.1 in
     rw (p.1, p.2) (λ fault. unlawful_where_added c.args.bands.now.items _ _ c.args.added.now c.requires.bands c.requires.added c.in-Some-Some.first.now c.in-Some-Some.ensures.item.3.0 c.in-Some-Some.ensures.item.1 (split whole) c.in-Some-Some.last.now c.in-Some-Some.ensures'.item.1 _ _ (split_rest rest) (c.in_err-sum.ensures.too_large fault))
 
--- the list afterwards: the sum in the place of the bands that were reached
+-- the list afterwards has the sum instead of the bands that were reached
 spliced : (c : After-drop-branch) → c.splice.new.self.items ≡ c.split_at.result.0.now ++ (c.in_ok-sum.sum.items ++ c.split_at-2.result.1.now)
 spliced c =
     let bands = c.args.bands.now.items in

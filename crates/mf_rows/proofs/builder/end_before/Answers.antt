@@ -21,7 +21,7 @@ returns-in-Some c =
       λ before. c.ends_before.ensures.1 (last_ends_before rows last run c.requires.rows c.requires.run is_last before),
     )
 
--- no row, no pixel
+-- where there is no row there is no pixel
 pub returns-in-None : goal.returns-in-None
 returns-in-None c =
     let run = c.args.run.now in

@@ -4,7 +4,7 @@ use Rattle.mf_edges.specs.RowChanges.{AreChanged}
 use Rattle.mf_rows.proofs.RowChangesLemmas.{IsChangeSoFar}
 use Rattle.mf_rows.proofs.row_change.changed_rows.Given as goal
 
--- the rows so far are changed, and the image has the last edges changed
+-- the rows so far are changed, and the image is the change of the last edges
 abbrev pub invariant-loop-row : goal.invariant-loop-row
 invariant-loop-row l = record {
   so_far : IsChangeSoFar l.change (edge_rows l.rows) (edge_rows (drop l.row-index l.rows)) (edge_rows l.changed.items);

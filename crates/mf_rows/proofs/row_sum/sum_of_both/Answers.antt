@@ -37,7 +37,7 @@ returns-then-reach-le-MAX_WEIGHT-clause-weights c = rw (c.edges-then-reach-le-MA
 pub returns-clause-weights : goal.returns-clause-weights
 returns-clause-weights c = rw (c.edges-2.ensures, c.edges-3.ensures) at c.in_ok-sum_of_edges.ensures.weights
 
--- neither reach passes 32767 in size
+-- neither reach exceeds 32767
 sum_fits : (a b : ℤ) (es fs : List Edge) → StaysInReach a es → StaysInReach b fs → FitsSigned w32 (to_z w32 (of_z w32 a) +ℤ to_z w32 (of_z w32 b))
 sum_fits a b es fs left right =
     omega (arith, ints, left.most, left.least (pos 0), left.greatest (pos 0), right.most, right.least (pos 0), right.greatest (pos 0))

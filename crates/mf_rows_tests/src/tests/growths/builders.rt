@@ -1,4 +1,4 @@
-//! Builders.
+//! Builders of pictures in which allocations fail.
 
 use super::APART;
 use crate::tests::runs::assert_fits;
@@ -7,19 +7,19 @@ use mf_rows::{OutOfMemory, RowBuilder, Run};
 use mf_testing::{grow_again, refuse_growths};
 use std::process::Abort;
 
-/// A run that is pushed behind others while growths are refused.
+/// A run that is pushed after others while allocations fail.
 struct Push {
     before: &'static [Run],
     run: Run,
     behind: &'static [Run],
-    /// Runs that fit behind those before, and runs that do not.
+    /// Runs that fit after those before, and runs that do not.
     fitting: &'static [Run],
     others: &'static [Run],
     /// The runs of the picture of them all.
     all: &'static [Run],
 }
 
-/// The first run: it asks for the edges of its row, and for the list of rows.
+/// The first run: it allocates the edges of its row, and the list of rows.
 const FIRST: Push = Push {
     before: &[],
     run: run_of!(5, 0, 2, 1),
@@ -37,7 +37,7 @@ const FIRST: Push = Push {
     ],
 };
 
-/// The run of a fifth row: it asks for the edges of its row, and a list of four rows grows.
+/// The run of a fifth row: it allocates the edges of its row, and a list of four rows grows.
 const FIFTH_ROW: Push = Push {
     before: &[
         run_of!(5, 0, 1, 1),
@@ -84,7 +84,7 @@ const THIRD_IN_ROW: Push = Push {
     ],
 };
 
-/// The same where the third run touches the second: one edge changes, and only the other one is new.
+/// A third run that touches the second: one edge changes, and only the other one is new.
 const TOUCHING: Push = Push {
     before: &[run_of!(0, 0, 2, 7), run_of!(0, 4, 2, 7)],
     run: run_of!(0, 6, 3, -7),
@@ -102,7 +102,7 @@ const TOUCHING: Push = Push {
     ],
 };
 
-/// Pushes a run, which has to fit, while growths are refused.
+/// Pushes a run, which must fit, while allocations fail.
 fn push_refused<R: Abort + AllocGlobal>(
     rt: &R,
     builder: &mut RowBuilder,
@@ -115,14 +115,14 @@ fn push_refused<R: Abort + AllocGlobal>(
     pushed
 }
 
-/// The same runs fit a builder as before the push.
+/// Asserts that the same runs fit a builder as before the push.
 fn assert_fits_as_before(rt: &impl Abort, builder: &RowBuilder, push: &Push) {
     assert_fits(rt, builder, push.fitting, true);
     assert_fits(rt, builder, push.others, false);
 }
 
-/// A builder that refused the run is as it was: the same runs fit, and with the run and those behind it it makes the
-/// picture of them all.
+/// Asserts that a builder that refused the run is as it was: the same runs fit, and with the run and those after it it
+/// makes the picture of them all.
 fn assert_pushed<R: Abort + AllocGlobal>(rt: &R, push: &Push) {
     let mut builder = builder_of(rt, push.before);
     assert_fits_as_before(rt, &builder, push);
@@ -134,8 +134,8 @@ fn assert_pushed<R: Abort + AllocGlobal>(rt: &R, push: &Push) {
     assert_runs(rt, &made(rt, builder.finish()), push.all);
 }
 
-/// A builder makes the picture without the run where it refused it. An edge of the run that stayed alone would be in
-/// no run, and shows in the weight of its pixels.
+/// Asserts that a builder that refused the run makes the picture without it. If one edge of the run stayed alone, it
+/// would be in no run, but would show in the weight of the run's pixels.
 fn assert_left_out<R: Abort + AllocGlobal>(rt: &R, push: &Push) {
     let mut builder = builder_of(rt, push.before);
     let (runs, weight) = match push_refused(rt, &mut builder, push.run) {
@@ -184,8 +184,8 @@ const MANY_ROWS: &[Run] = &[
     run_of!(-4095, 4094, 1, 1),
 ];
 
-/// The runs are finished while growths are refused. A builder that is refused is gone, and another one with the same
-/// runs makes the picture.
+/// Asserts that the runs make their picture when a builder is finished while allocations fail. A builder that is
+/// refused is gone, and then another one with the same runs makes the picture.
 fn assert_finished<R: Abort + AllocGlobal>(rt: &R, runs: &[Run]) {
     let builder = builder_of(rt, runs);
     refuse_growths(rt.alloc());

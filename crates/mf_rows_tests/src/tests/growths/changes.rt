@@ -1,4 +1,4 @@
-//! Copies of pictures, and pictures that are made from one.
+//! Copies of pictures, and pictures that are made from one, in which allocations fail.
 
 use super::APART;
 use crate::tests::moves::assert_stays_inside;
@@ -21,7 +21,7 @@ enum Derived {
 }
 
 impl Derived {
-    /// It is made from this picture.
+    /// Makes it from this picture.
     fn of(self, alloc: Global, picture: &Picture) -> Result<Picture, OutOfMemory> {
         match self {
             Derived::Copy => picture.copy(alloc),
@@ -45,7 +45,7 @@ fn chosen(alloc: Global, picture: &Picture) -> Result<Picture, OutOfMemory> {
     picture.map_weights(alloc, &WeightMap::Choose(choice))
 }
 
-/// What is made from the rows while growths are refused has these runs, and the rows stay as they are.
+/// Asserts that what is made from the rows while allocations fail has these runs, and that the rows stay as they are.
 fn assert_makes<R: Abort + AllocGlobal>(rt: &R, what: Derived, runs: &[Run]) {
     let picture = picture_of(rt, APART);
     refuse_growths(rt.alloc());
@@ -120,7 +120,7 @@ fn a_picture_is_turned(rt: HostRuntime) {
     assert_makes(&rt, Derived::Turned, TURNED);
 }
 
-/// The rows, stretched while growths are refused, have these runs, and stay as they are.
+/// Asserts that the rows, stretched while allocations fail, have these runs, and that they stay as they are.
 fn assert_stretches<R: Abort + AllocGlobal>(
     rt: &R,
     columns: &Stretch,

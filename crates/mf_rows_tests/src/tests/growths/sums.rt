@@ -1,4 +1,4 @@
-//! Sums of pictures, and rectangles that are added to them.
+//! Sums of pictures, and rectangles that are added to them, in which allocations fail.
 
 use super::APART;
 use crate::tests::assertions::{assert_holds, assert_same};
@@ -8,7 +8,7 @@ use mf_rows::{AddFault, Run};
 use mf_testing::{grow_again, refuse_growths};
 use std::process::Abort;
 
-/// A picture that is added to the rows: above them, below them, and in their bands, where one row cancels.
+/// A picture that is added to the rows: above them, below them, and in their bands, where it cancels one row.
 const ADDED: &[Run] = &[
     run_of!(200, 0, 1, 1),
     run_of!(1, 1, 2, -3),
@@ -27,11 +27,11 @@ const SUM: &[Run] = &[
     run_of!(-300, 7, 2, 9),
 ];
 
-/// A picture with which a weight of the rows is too large, in the lower of two rows.
+/// A picture whose sum with the rows has a weight that is too large, in the lower of two rows.
 const TOO_MUCH: &[Run] = &[run_of!(1, 0, 1, 1), run_of!(0, 1, 1, -1)];
 
-/// A refusal of a sum is want of memory.
-fn assert_wanting<T>(rt: &impl Abort, answer: &Result<T, AddFault>) {
+/// Asserts that a sum is refused only with `OutOfMemory`.
+fn assert_out_of_memory<T>(rt: &impl Abort, answer: &Result<T, AddFault>) {
     if let Err(fault) = answer {
         assert_same(rt, *fault, AddFault::OutOfMemory, "the refusal");
     }
@@ -43,7 +43,7 @@ fn a_sum_is_made(rt: HostRuntime) {
     refuse_growths(rt.alloc());
     let sum = picture.plus(rt.alloc(), &other);
     grow_again(rt.alloc());
-    assert_wanting(&rt, &sum);
+    assert_out_of_memory(&rt, &sum);
     assert_runs(&rt, &picture, APART);
     assert_runs(&rt, &other, ADDED);
     let sum = sum.or_else(|_| picture.plus(rt.alloc(), &other));
@@ -56,7 +56,7 @@ fn a_picture_is_added(rt: HostRuntime) {
     refuse_growths(rt.alloc());
     let added = picture.add(rt.alloc(), &other);
     grow_again(rt.alloc());
-    assert_wanting(&rt, &added);
+    assert_out_of_memory(&rt, &added);
     if added.is_err() {
         assert_runs(&rt, &picture, APART);
         let added = picture.add(rt.alloc(), &other);
@@ -66,7 +66,7 @@ fn a_picture_is_added(rt: HostRuntime) {
     assert_runs(&rt, &other, ADDED);
 }
 
-/// Want of memory may come in the place of a weight that is too large.
+/// `OutOfMemory` may come instead of `WeightTooLarge`.
 #[test]
 fn a_picture_with_too_much_is_not_added(rt: HostRuntime) {
     let (mut picture, other) = (picture_of(&rt, APART), picture_of(&rt, TOO_MUCH));
@@ -83,7 +83,7 @@ fn a_picture_with_too_much_is_not_added(rt: HostRuntime) {
     assert_runs(&rt, &other, TOO_MUCH);
 }
 
-/// A rectangle that covers the rows 0 and 1 and one above them, and reaches a column to the left of row 1.
+/// A rectangle that covers rows 0 and 1 and one row above them, and reaches a column to the left of row 1.
 const RECTANGLE: Rectangle = Rectangle {
     left: -1,
     bottom: 0,
@@ -109,7 +109,7 @@ fn corners_are_added(rt: HostRuntime) {
     refuse_growths(rt.alloc());
     let added = picture.add_corners(rt.alloc(), corners);
     grow_again(rt.alloc());
-    assert_wanting(&rt, &added);
+    assert_out_of_memory(&rt, &added);
     if added.is_err() {
         assert_runs(&rt, &picture, APART);
         let corners = corners_of(&rt, rt.alloc(), &[RECTANGLE]).expect(&rt, "there is room");
@@ -126,7 +126,7 @@ fn a_picture_with_corners_is_made(rt: HostRuntime) {
     refuse_growths(rt.alloc());
     let new = picture.with_corners(rt.alloc(), corners);
     grow_again(rt.alloc());
-    assert_wanting(&rt, &new);
+    assert_out_of_memory(&rt, &new);
     assert_runs(&rt, &picture, APART);
     let new = new.or_else(|_| try_all(&rt, &picture, &[RECTANGLE]));
     let new = new.expect(&rt, "there is room for the rectangle");

@@ -68,7 +68,7 @@ const LINES: &[CutLine] = &[
         "- 2 1 1 5 5 7 7 8 8 8 8 8 8 8 16 16 18 19 20 21 22",
         "0 0 2 1\nblank\npublished 0\n",
     ),
-    // Clears, and what is done to a picture as a whole.
+    // Clears and transforms.
     (
         "a := nullpicture",
         "- 2 2 3 5 5 6 6 6 6 6 6 6 6 6 6",

@@ -7,7 +7,7 @@ pub(super) fn lines() -> &'static [CutLine] {
 }
 
 const LINES: &[CutLine] = &[
-    // Texts of pictures.
+    // Lines that print pictures.
     (
         "show currentpicture",
         "- 2 1 1 5 5 - 6 6 6 6 6 6 6 6 6 6 6 6",
@@ -63,7 +63,7 @@ const LINES: &[CutLine] = &[
         "- 2 1 1 5 5 - 6 6 6 6 6 6 6 6 6 17 17",
         "blank\ntotalweight 0\n0 0 2 1\nblank\npublished 0\n",
     ),
-    // What is shipped and published.
+    // Lines that ship and publish.
     (
         "shipout currentpicture code 65 dx 327680 width 0",
         "- 2 1 1 1 1 1 8 8 10 9 9 9 9 9 9 9 9 9 9 9 9 23 23 24 24 24 28 28 30 31 31 32 34 34 \
@@ -98,6 +98,6 @@ const LINES: &[CutLine] = &[
         "- 2 1 1 1 1 1",
         "published 0\n0 0 2 1\nblank\npublished 0\n",
     ),
-    // No command.
+    // Lines with no command.
     (";% ;", "- - - -", "0 0 2 1\nblank\npublished 0\n"),
 ];

@@ -4,13 +4,13 @@ use Rattle.std.proofs.Math.Seq.{take-append-add}
 use Rattle.std.proofs.lemmas.List.{take_min}
 use Rattle.mf_desk.proofs.line_buffer.LineBuffer.extend.Goals as goal
 
--- as many bytes more as have room
+-- as many more bytes as there is room for
 kept_more : (n : ℕ) (xs ys : List ℕ) → length xs ≤ n → xs ++ take (min (n - length xs) (length ys)) ys ≡ take n (xs ++ ys)
 kept_more n xs ys fits =
     let room : length xs + (n - length xs) ≡ n = omega arith in
     ap (λ front. xs ++ front) (take_min (n - length xs) ys) ∙ sym (take-append-add xs ys (n - length xs)) ∙ ap (λ m. take m (xs ++ ys)) room
 
--- what a call adds that goes well
+-- what a successful call adds
 added : {T E : Type 0} (r : Result T E) (old more new kept : List ℕ) → new ≡ (if is_ok r then more else old) → more ≡ kept → OnOk r (new ≡ kept)
 added (Ok done) old more new kept is more_is = is ∙ more_is
 added (Err fault) old more new kept is more_is = tt

@@ -8,7 +8,7 @@ use Rattle.mf_desk.proofs.progress.Progress.finish.Goals as goal
 pub returns-then-is_empty-clause-done : goal.returns-then-is_empty-clause-done
 returns-then-is_empty-clause-done g c = λ held read after. IsThrough-none held _ read c.args.self.now after (sym c.if-is_empty.ensures)
 
--- what holds in any case
+-- a fact that holds whatever the result is
 always : {T E : Type 0} {P : Type 0} (r : Result T E) → P → OnOk r P
 always (Ok done) holds = holds
 always (Err fault) holds = tt

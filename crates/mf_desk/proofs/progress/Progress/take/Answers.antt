@@ -7,7 +7,7 @@ use Rattle.mf_desk.specs.Progress.{IsAfter}
 use Rattle.mf_session.specs.Sessions.{limits}
 use Rattle.mf_desk.proofs.progress.Progress.take.Goals as goal
 
--- the bytes before a line feed, it, and the rest
+-- the bytes before a line feed, the line feed, and the rest
 around : (rest : List ℕ) (at : ℕ) → at < length rest → (get_or rest at 0 == 10) ≡ true → rest ≡ take at rest ++ 10 ∷ drop (at + 1) rest
 around rest at within is =
     sym (take-append-drop at rest) ∙ ap (λ more. take at rest ++ more) (drop_more rest at 0 within ∙ ap (λ b. b ∷ drop (at + 1) rest) (eqb-true _ 10 is))

@@ -6,7 +6,7 @@ use Rattle.mf_gf.specs.Tails.{tail_of}
 use Rattle.mf_gf.proofs.TailTexts.{tail_held, too_long_behind}
 use Rattle.mf_gf.proofs.file.GfFile.tail.Goals as goal
 
--- what the spelling holds at its end
+-- what the spelling holds after the ending
 held : (c : goal.After-finish) → Holds c.put_end.new.self (tail_of c.args.words.now c.args.bounds.now c.args.self.now.bytes.items (table_text c.args.self.now.locators))
 held c =
     tail_held _ _ _ _ c.args.self.now.bytes.items _ (c.len-place.ensures ∙ c.args.self.now.bytes.ok.0)

@@ -10,7 +10,7 @@ overflow_add-stretch-in-Some c =
     let first = first_is_run _ _ _ c.loop-self.invariant in
     omega (arith, ints, next.left, next.right, first.left, first.right)
 
--- the columns and rows of lawful runs fit
+-- the columns and rows of lawful runs fit into 32 bits
 pub loop-self-preserved : goal.loop-self-preserved
 loop-self-preserved c =
     let next = next_is_run _ _ _ _ _ c.in-Some.is c.loop-self.invariant in

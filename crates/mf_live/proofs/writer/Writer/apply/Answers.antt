@@ -9,7 +9,7 @@ use Rattle.mf_live.specs.Writers.{published}
 use Rattle.mf_live.proofs.Ending.{open-push, revision-push}
 use Rattle.mf_live.proofs.writer.Writer.apply.Goals as goal
 
--- a picture that has room for an operation stays open and within its limit, accepted or not
+-- a picture that has room for an operation stays open and within its limit, whether the operation is accepted or not
 stays : (old new : Holder) (n : ℕ) (op : Op) (limit : ℕ) (r : Result (Unit {0}) OpFault) → MatchResult r (λ _. accepted new ≡ accepted old ++ entry n (Operation op) ∷ []) (λ _. accepted new ≡ accepted old) → is_closed (accepted old) ≡ false → old.revision < limit → (is_closed (accepted new) ≡ false) × (new.revision ≤ limit)
 stays old new n op limit (Ok done) more is_open room = (open-push old new n op more is_open, omega (arith, revision-push old new n op more))
 stays old new n op limit (Err fault) same is_open room = (ap is_closed same ∙ is_open, omega (arith, new.numbered, old.numbered, ap rev same))

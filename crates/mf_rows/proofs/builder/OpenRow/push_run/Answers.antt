@@ -53,7 +53,7 @@ first_passed es mid r run first =
     let weight_is : to_z w32 (of_z w32 r.weight) ≡ r.weight = omega (arith, ints) in
     rw (x_is, weight_is) at first
 
--- and those of its second edge
+-- the numbers of its second edge, passed as i32
 second_passed : (mid new : List Edge) (r : Run) → IsRun r → HaveWeights (with_edge_in mid (to_z w32 (of_z w32 (to_z w32 (of_z w32 r.x) +ℤ to_z w32 r.len))) (to_z w32 (of_z w32 (pos 0 -ℤ to_z w32 (of_z w32 r.weight))))) new → HaveWeights (with_edge_in mid (r.x +ℤ pos r.len) (pos 0 -ℤ r.weight)) new
 second_passed mid new r run second =
     let end_is : to_z w32 (of_z w32 (to_z w32 (of_z w32 r.x) +ℤ to_z w32 r.len)) ≡ r.x +ℤ pos r.len = omega (arith, ints, run.left, run.right) in

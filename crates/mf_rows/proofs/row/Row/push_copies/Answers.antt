@@ -14,7 +14,7 @@ loop-down-init c = record {
 pub overflow_sub-top-in-loop-down : goal.overflow_sub-top-in-loop-down
 overflow_sub-top-in-loop-down c = omega (arith, ints, c.loop-down.invariant.greatest, c.loop-down.invariant.least, c.requires)
 
--- the next row stands below those that are there, and shares its edges with them
+-- the next row is below those that are there, and shares its edges with them
 pub loop-down-preserved : goal.loop-down-preserved
 loop-down-preserved c =
     let edges = (edge_row c.args.self.now).edges in

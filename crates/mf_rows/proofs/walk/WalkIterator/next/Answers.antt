@@ -5,7 +5,7 @@ use Rattle.mf_rows.specs.Walk.{runs_left}
 use Rattle.mf_rows.proofs.RunsLeft.{weight_none, run_found}
 use Rattle.mf_rows.proofs.walk.WalkIterator.next.Goals as goal
 
--- where a run begins its row goes on
+-- where a run begins, its row has a further edge
 pub returns-in_err-end-clause-steps : goal.returns-in_err-end-clause-steps
 returns-in_err-end-clause-steps c =
     let over = nil_from_length c.next_start.new.self.edges.now (omega (arith, c.in_err-end.ensures.item.3)) in
