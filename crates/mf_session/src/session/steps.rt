@@ -2,6 +2,7 @@
 ghost use Rattle.std.specs.Prelude.{◌≡◌, ◌⊎◌, ◌<◌, ◌≤◌, ◌↔◌, [], Err, IfErr, IfOk, IsOk, OnErr};
 ghost use Rattle.mf_geom.specs.declared.check.Check.{Check};
 ghost use Rattle.mf_live.specs.Desks.{desk_name, left};
+ghost use Rattle.mf_live.specs.Entries.{rev};
 ghost use Rattle.mf_text.specs.Lines.{Gives};
 ghost use Rattle.mf_text.specs.Registers.{IsName};
 ghost use Rattle.mf_text.specs.declared.command.Command.TheVariants as commands;
@@ -60,6 +61,14 @@ impl Session {
         ensures { (s : State) → StandsFor self.now s → result.now ≡ picture s.pictures name.now }
     {
         self.variables.picture(name)
+    }
+
+    /// The revision of `currentpicture`: how many operations it has accepted, published or not. After a line that publishes, it
+    /// is the revision that viewers see.
+    pub fn revision(&self) -> u32
+        ensures { (s : State) → StandsFor self.now s → result ≡ rev s.pictures.accepted }
+    {
+        self.variables.revision()
     }
 
     /// Performs a line of a script, given without the line feed that ends it or a carriage return before that, and answers with

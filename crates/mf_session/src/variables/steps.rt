@@ -1,6 +1,7 @@
 //! What can be done with the picture variables of a script.
 ghost use Rattle.std.specs.Prelude.{◌≡◌, ◌≢◌, ◌<◌, ◌≤◌, IfOk, IsOk, OnErr};
 ghost use Rattle.mf_live.specs.Desks.{desk_name, left};
+ghost use Rattle.mf_live.specs.Entries.{rev};
 ghost use Rattle.mf_live.specs.declared.fault.Fault.TheVariants as faults;
 ghost use Rattle.mf_ops.specs.declared.op.Op.TheVariants as ops;
 ghost use Rattle.mf_text.specs.Registers.{IsName, IsSource};
@@ -55,6 +56,13 @@ impl Variables {
             Name::Current => self.writer.working(),
             Name::Register(letter) => self.registers.picture(*letter),
         }
+    }
+
+    /// The revision of `currentpicture`: how many operations it has accepted.
+    pub fn revision(&self) -> u32
+        ensures { result ≡ rev (pictures self.now).accepted }
+    {
+        self.writer.revision()
     }
 
     /// The picture that a command reads.
