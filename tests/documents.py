@@ -4,8 +4,8 @@
     tests/documents.py [DOCUMENT..]
     tests/documents.py --self-test
 
-The documents are README.md, bench/README.md and all of docs/. Where some are named, these alone are checked. The program
-must have been built (crates/mfpic/out/mfpic). The first word after the three backquotes of a fenced block says what is checked:
+The documents are README.md, bench/README.md and all of docs/. Where some are named, these alone are checked. The programs
+must have been built (`PROGRAMS`). The first word after the three backquotes of a fenced block says what is checked:
 
     console               lines that begin with `$ ` are commands of bash, and the lines below each are all that it prints
     console needs=NAME    run only where the program NAME is on the path; a NAME with a dot is a file that kpsewhich finds
@@ -47,6 +47,7 @@ from collections.abc import Callable, Iterable, Iterator, Mapping
 
 ROOT = pathlib.Path(__file__).resolve().parent.parent
 PROGRAM = "crates/mfpic/out/mfpic"
+PROGRAMS = (PROGRAM, "crates/mfview/out/mfview")
 README, LANGUAGE = "README.md", "docs/user/LANGUAGE.md"
 # Lines that README.md may have, and seconds that a command may take.
 MAX_LINES, LIMIT = 150, 60
@@ -370,13 +371,14 @@ class Sandbox:
 
     def place(self) -> pathlib.Path:
         if not self.folder.exists():
-            for path in sorted({*self.repository.folders, str(pathlib.PurePosixPath(PROGRAM).parent)}):
+            for path in sorted({*self.repository.folders, *(str(pathlib.PurePosixPath(it).parent) for it in PROGRAMS)}):
                 (self.folder / path).mkdir(parents=True, exist_ok=True)
             for path in sorted(self.repository.files):
                 shutil.copy(self.repository.root / path, self.folder / path, follow_symlinks=False)
-            # The program is the newest file, so `mfpic` does not build it.
-            shutil.copy(self.repository.root / PROGRAM, self.folder / PROGRAM)
-            os.utime(self.folder / PROGRAM)
+            # The programs are the newest files, so `mfpic` and `mfview` do not build them.
+            for program in PROGRAMS:
+                shutil.copy(self.repository.root / program, self.folder / program)
+                os.utime(self.folder / program)
         return self.folder
 
     def save(self, name: str, lines: list[str]) -> None:
@@ -600,7 +602,7 @@ SOUND = {
     "crates/mf_kind/src/lib.rt": SOURCE_FILE,
     "crates/mf_other/src/only.rt": "",
     "mfpic": "#!/bin/bash\nexec crates/mfpic/out/mfpic\n",
-    PROGRAM: PRETENDED,
+    **dict.fromkeys(PROGRAMS, PRETENDED),
 }
 
 
@@ -702,7 +704,7 @@ def found_in(files: Mapping[str, str | None]) -> tuple[int, list[str]]:
             if text is not None:
                 (root / path).parent.mkdir(parents=True, exist_ok=True)
                 (root / path).write_text(text, encoding="utf-8")
-        for path in ("mfpic", PROGRAM):
+        for path in ("mfpic", *PROGRAMS):
             (root / path).chmod(0o755)
         return tally(findings(open_repository(root, limit=1), []), lambda fault: None)
 
@@ -756,9 +758,10 @@ def main() -> int:
         print("".join(f"{line}\n" for line in wrong), end="")
         print(f"{len(trials) - len(wrong)} passed, {len(wrong)} failed")
         return int(bool(wrong))
-    if not os.access(ROOT / PROGRAM, os.X_OK):
-        print(f"{PROGRAM} is missing: `./mfpic < /dev/null` builds it", file=sys.stderr)
-        return 1
+    for program in PROGRAMS:
+        if not os.access(ROOT / program, os.X_OK):
+            print(f"{program} is missing: `./{pathlib.PurePosixPath(program).name} < /dev/null` builds it", file=sys.stderr)
+            return 1
     repository = open_repository(ROOT)
     named = [os.path.relpath(pathlib.Path(word).resolve(), ROOT) for word in words]
     if unknown := sorted(set(named) - set(repository.documents())):

@@ -1,10 +1,11 @@
 #!/usr/bin/env python3
-"""Proves and builds the program mfpic, except what is already proved and built.
+"""Proves and builds a program of the repository, except what is already proved and built.
 
-    tools/build.py
+    tools/build.py [PROGRAM]
 
-Each library of the program is proved as soon as the libraries that it uses are. Several are proved at a time where processors are
-free, because part of each proof keeps only one processor busy. A line is printed for each crate when it is proved.
+PROGRAM is mfpic, which it is by default, or mfview. Each library of the program is proved as soon as the libraries that it uses
+are. Several are proved at a time where processors are free, because part of each proof keeps only one processor busy. A line is
+printed for each crate when it is proved.
 """
 
 import concurrent.futures
@@ -16,7 +17,7 @@ from collections.abc import Iterator
 
 from prover import Failure, Prover
 
-PROGRAM = "mfpic"
+PROGRAMS = ("mfpic", "mfview")
 FIRST_TIME = "8 to 16 minutes on four processors, and 0.7 GB of disk"
 # The memory of a job, in bytes: the most that any job was seen to take.
 JOB_MEMORY = 2_000_000_000
@@ -57,25 +58,29 @@ def share_of(jobs: int, crates: int) -> int:
     return min(jobs, jobs // crates + 1)
 
 
-def build(prover: Prover) -> None:
-    """Proves the libraries of the program, and then the program."""
-    libraries, begun = prover.below(PROGRAM), time.monotonic()
+def build(prover: Prover, program: str) -> None:
+    """Proves the libraries of a program, and then the program."""
+    libraries, begun = prover.below(program), time.monotonic()
 
     def tell(name: str, number: int) -> None:
         minutes = (time.monotonic() - begun) / 60
-        print(f"mfpic: {name} is proved, {number} of {len(libraries) + 1}, {minutes:.1f} minutes", file=sys.stderr)
+        print(f"{program}: {name} is proved, {number} of {len(libraries) + 1}, {minutes:.1f} minutes", file=sys.stderr)
 
     for number, name in enumerate(prove_in_order(prover, libraries), 1):
         tell(name, number)
-    prover.link(PROGRAM, count_jobs())
-    tell(PROGRAM, len(libraries) + 1)
+    prover.link(program, count_jobs())
+    tell(program, len(libraries) + 1)
 
 
 def main() -> int:
     """Says what it does, and what the toolchain said if a crate is not proved."""
-    print(f"mfpic: proving and building the program; the first time takes {FIRST_TIME}", file=sys.stderr)
+    program = sys.argv[1] if len(sys.argv) > 1 else PROGRAMS[0]
+    if program not in PROGRAMS:
+        print(f"{program} is not a program of the repository: {' or '.join(PROGRAMS)}", file=sys.stderr)
+        return 2
+    print(f"{program}: proving and building the program; the first time takes {FIRST_TIME}", file=sys.stderr)
     try:
-        build(Prover())
+        build(Prover(), program)
     except Failure as failure:
         print(failure, file=sys.stderr)
         return 1

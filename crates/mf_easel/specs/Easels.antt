@@ -1,0 +1,63 @@
+-- What easels look at and draw.
+use Rattle.std.specs.Prelude.{◌≡◌, ℕ, List, ◌++◌, Option}
+use Rattle.logbook.specs.Pages.{Book}
+use Rattle.mf_live.specs.Entries.{Entry, pic, rev}
+use Rattle.mf_live.specs.Sheets.{HasLearnt, HasLooked, HasLookedAt}
+use Rattle.mf_live.specs.Viewers as viewers
+use Rattle.mf_live.specs.declared.viewer.Viewer.{Viewer}
+use Rattle.mf_easel.specs.Screens.{over}
+use Rattle.mf_easel.specs.declared.easel.Easel.{Easel}
+use Rattle.mf_easel.specs.declared.fault.EaselFault.{EaselFault}
+use Rattle.mf_easel.specs.declared.fault.EaselFault.TheVariants.{NoLook, OutOfMemory, WriteFault}
+use Rattle.mf_frame.specs.Canvases.{Size}
+use Rattle.mf_frame.specs.Frames.{frame_text}
+use Rattle.mf_frame.specs.declared.tile.Style.{Style}
+
+-- the viewer that looks
+abbrev pub viewer_of : Easel → Viewer
+viewer_of easel = easel.viewer
+
+-- which picture it looks at
+abbrev pub name : Easel → Book
+name easel = viewers.name (viewer_of easel)
+
+-- the list of its last look that was answered
+abbrev pub looked : Easel → List Entry
+looked easel = viewers.looked (viewer_of easel)
+
+-- how large its frames are
+abbrev pub canvas_of : Easel → Size
+canvas_of easel = easel.canvas
+
+-- how they are drawn
+abbrev pub style_of : Easel → Style
+style_of easel = easel.style
+
+-- the revision of the frame that it drew last, if there is one
+abbrev pub drawn_of : Easel → Option ℕ
+drawn_of easel = easel.drawn
+
+-- it draws frames of the same size and style
+pub record HasSameManner (before after : Easel) : Type 0 where
+  pub canvas : canvas_of after ≡ canvas_of before
+  pub style : style_of after ≡ style_of before
+
+-- the text that draws the picture of a list on an easel: over the frame before, if there is one
+abbrev pub drawing_of : Easel → List Entry → List ℕ
+drawing_of easel L = over (style_of easel) (canvas_of easel) (drawn_of easel) ++ frame_text (style_of easel) (canvas_of easel) (rev L) (pic L)
+
+-- where nothing is drawn, the viewer has not looked, or something failed after it had
+abbrev pub IsNotDrawn : Viewer → Viewer → EaselFault → Type 0
+IsNotDrawn before after NoLook = viewers.SeesTheSame before after
+IsNotDrawn before after OutOfMemory = HasLooked before after
+IsNotDrawn before after WriteFault = HasLooked before after
+
+-- the viewer has looked at the complete list, of which everything that it had seen before is a whole prefix
+abbrev pub HasLookedLast : Viewer → List Entry → Viewer → Type 0
+HasLookedLast before whole after = viewers.Extends before whole × HasLookedAt whole after
+
+-- where the last picture is not drawn, the viewer has only learnt of the complete list, or something failed after it had looked
+abbrev pub IsLastNotDrawn : Viewer → List Entry → Viewer → EaselFault → Type 0
+IsLastNotDrawn before whole after NoLook = HasLearnt before whole after
+IsLastNotDrawn before whole after OutOfMemory = HasLookedLast before whole after
+IsLastNotDrawn before whole after WriteFault = HasLookedLast before whole after

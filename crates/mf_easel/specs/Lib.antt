@@ -1,0 +1,3 @@
+pub mod Easels
+pub mod Faults
+pub mod Screens

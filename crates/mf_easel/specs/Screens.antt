@@ -1,0 +1,46 @@
+-- What goes to the screen of an easel.
+use Rattle.std.specs.Prelude.{◌≡◌, ◌==◌, ◌<◌, Bool, false, ℕ, List, [], ◌∷◌, ◌++◌, ◌-◌, Option, None, Some, IfSome, codes, decimal, take, if◌then◌else◌}
+use Rattle.std.specs.Io.KnownBytes.{Appends}
+use Rattle.mf_easel.specs.declared.fault.EaselFault.{EaselFault}
+use Rattle.mf_easel.specs.declared.fault.EaselFault.TheVariants.{NoLook, OutOfMemory, WriteFault}
+use Rattle.mf_frame.specs.Canvases.{Size}
+use Rattle.mf_frame.specs.declared.tile.Style.{Style}
+use Rattle.mf_frame.specs.declared.tile.Style.TheVariants.{Colored, Plain}
+
+-- the control sequence that moves the cursor up this many lines
+abbrev pub up : ℕ → List ℕ
+up n = 27 ∷ codes "[" ++ decimal n ++ codes "A"
+
+-- what comes before a frame: in the style `Colored` the cursor moves up to the first line of the frame that was drawn last
+abbrev pub over : Style → Size → Option ℕ → List ℕ
+over Plain canvas drawn = []
+over Colored canvas None = []
+over Colored canvas (Some before) = up (canvas.rows - 1)
+
+-- whether the frame that was drawn last has this revision
+abbrev pub is_drawn : Option ℕ → ℕ → Bool
+is_drawn None revision = false
+is_drawn (Some before) revision = before == revision
+
+-- the revision that is drawn of a look: none where it is the one that was drawn last
+abbrev pub newly_drawn : Option ℕ → ℕ → Option ℕ
+newly_drawn drawn revision = if is_drawn drawn revision then None else Some revision
+
+-- a revision is above the one that was drawn last
+abbrev pub IsAbove : Option ℕ → ℕ → Type 0
+IsAbove drawn revision = IfSome drawn (λ before. before < revision)
+
+-- the screen has got the text of a frame, or is as it was where none was drawn
+abbrev pub Gets : {W : Type 0} → (W → Option (List ℕ)) → W → W → List ℕ → Option ℕ → Type 0
+Gets contents before after text None = after ≡ before
+Gets contents before after text (Some revision) = Appends (contents before) (contents after) text
+
+-- the screen has got a front of a text: maybe nothing, maybe all of it
+abbrev pub GetsFront : Option (List ℕ) → Option (List ℕ) → List ℕ → Type 0
+GetsFront held holds text = (sent : ℕ) × Appends held holds (take sent text)
+
+-- after a fault the screen is as it was, or after `WriteFault` has got a front of the text
+abbrev pub GetsNoMore : {W : Type 0} → (W → Option (List ℕ)) → W → W → List ℕ → EaselFault → Type 0
+GetsNoMore contents before after text OutOfMemory = after ≡ before
+GetsNoMore contents before after text NoLook = after ≡ before
+GetsNoMore contents before after text WriteFault = GetsFront (contents before) (contents after) text

@@ -1,0 +1,147 @@
+//! Looking and drawing.
+ghost use Rattle.std.specs.Prelude.{◌≡◌, ◌⊎◌, ◌++◌, None, Some, true, IfErr, IfOk, IfSome, MatchResult, OnOk};
+ghost use Rattle.mf_frame.specs.Frames.{frame_text};
+ghost use Rattle.mf_live.specs.Entries.{is_closed, pic, rev};
+ghost use Rattle.mf_live.specs.Sheets.{HasLooked, sheet_picture, sheet_revision};
+ghost use Rattle.mf_live.specs.Viewers as viewers;
+ghost use Rattle.mf_easel.specs.Easels.{HasLookedLast, HasSameManner, IsLastNotDrawn, IsNotDrawn, canvas_of, drawn_of, drawing_of, looked, name, style_of, viewer_of};
+ghost use Rattle.mf_easel.specs.Screens.{Gets, GetsNoMore, IsAbove, newly_drawn, over};
+
+use super::Easel;
+use crate::fault::EaselFault;
+use crate::screen::send;
+use itoa::Buffer;
+use mf_frame::{Canvas, Style, draw};
+use mf_geom::OutOfMemory;
+use mf_live::laws::last_sheet;
+use mf_live::{Notice, Sheet, Viewer};
+use std::alloc::Global;
+use std::io::Write;
+
+impl Easel {
+    /// An easel for this viewer, which has drawn nothing.
+    pub fn new(viewer: Viewer, canvas: Canvas, style: Style) -> Easel
+        ensures name { name result ≡ viewers.name viewer }
+        ensures viewer { viewer_of result ≡ viewer }
+        ensures canvas { canvas_of result ≡ canvas }
+        ensures style { style_of result ≡ style }
+        ensures drawn { drawn_of result ≡ None }
+    {
+        Easel {
+            viewer,
+            canvas,
+            style,
+            drawn: None,
+        }
+    }
+
+    /// Looks, and draws the picture of the look unless its revision is the one drawn last. The look ends before anything is
+    /// drawn, so that a slow screen never makes a publish wait. Answers the revision that was drawn, or `None`, and then nothing
+    /// went out. In the style `Colored` a frame after the first is drawn over the one before it.
+    ///
+    /// Refused with `NoLook` where the look is not answered, with `OutOfMemory` where an allocation fails, and with `WriteFault`
+    /// where the screen fails; part of the frame may then have gone out. The revision drawn last stays as it was, so that a later
+    /// look draws it again.
+    #[tactic(auto, using(crate::proofs::Rising::sheet_rises))]
+    pub fn look<W: Write>(
+        &mut self,
+        alloc: Global,
+        screen: &mut W,
+    ) -> Result<Option<u32>, EaselFault>
+        ensures name { name self.new ≡ name self.old }
+        ensures manner { HasSameManner self.old self.new }
+        ensures looked { OnOk result (HasLooked (viewer_of self.old) (viewer_of self.new)) }
+        ensures missed { IfErr result (IsNotDrawn (viewer_of self.old) (viewer_of self.new)) }
+        ensures answer { IfOk result (λ shown. shown ≡ newly_drawn (drawn_of self.old) (rev (looked self.new))) }
+        ensures drawn { MatchResult result (λ _. drawn_of self.new ≡ Some (rev (looked self.new))) (λ _. drawn_of self.new ≡ drawn_of self.old) }
+        ensures screen { IfOk result (λ shown. Gets W.contents screen.old screen.new (drawing_of self.old (looked self.new)) shown) }
+        ensures cut { IfErr result (λ fault. GetsNoMore W.contents screen.old screen.new (drawing_of self.old (looked self.new)) fault) }
+        ensures rising { IfOk result (λ shown. IfSome shown (IsAbove (drawn_of self.old))) }
+    {
+        let sheet = self.viewer.sheet(alloc)?;
+        self.show(alloc, screen, &sheet)
+    }
+
+    /// Learns of the end, looks once more, and draws the last picture as `look` does, with the same refusals. Requires a notice of
+    /// this picture with the end mark.
+    #[tactic(auto, using(crate::proofs::Rising::last_sheet_rises))]
+    pub fn look_last<W: Write>(
+        &mut self,
+        alloc: Global,
+        screen: &mut W,
+        notice: Notice,
+    ) -> Result<Option<u32>, EaselFault>
+        requires name { viewers.notice_name notice ≡ name self.old }
+        requires closed { is_closed (viewers.told notice) ≡ true }
+        ensures name { name self.new ≡ name self.old }
+        ensures manner { HasSameManner self.old self.new }
+        ensures looked { OnOk result (HasLookedLast (viewer_of self.old) (viewers.told notice) (viewer_of self.new)) }
+        ensures missed { IfErr result (IsLastNotDrawn (viewer_of self.old) (viewers.told notice) (viewer_of self.new)) }
+        ensures answer { IfOk result (λ shown. shown ≡ newly_drawn (drawn_of self.old) (rev (viewers.told notice))) }
+        ensures drawn { MatchResult result (λ _. drawn_of self.new ≡ Some (rev (viewers.told notice))) (λ _. drawn_of self.new ≡ drawn_of self.old) }
+        ensures screen { IfOk result (λ shown. Gets W.contents screen.old screen.new (drawing_of self.old (viewers.told notice)) shown) }
+        ensures cut { IfErr result (λ fault. GetsNoMore W.contents screen.old screen.new (drawing_of self.old (viewers.told notice)) fault) }
+        ensures rising { IfOk result (λ shown. IfSome shown (IsAbove (drawn_of self.old))) }
+    {
+        let sheet = last_sheet(&mut self.viewer, alloc, notice)?;
+        self.show(alloc, screen, &sheet)
+    }
+
+    /// Draws a sheet of the last look, unless its revision is the one drawn last.
+    fn show<W: Write>(
+        &mut self,
+        alloc: Global,
+        screen: &mut W,
+        sheet: &Sheet,
+    ) -> Result<Option<u32>, EaselFault>
+        requires picture { sheet_picture sheet.now ≡ pic (looked self.old) }
+        requires revision { sheet_revision sheet.now ≡ rev (looked self.old) }
+        ensures viewer { viewer_of self.new ≡ viewer_of self.old }
+        ensures manner { HasSameManner self.old self.new }
+        ensures answer { IfOk result (λ shown. shown ≡ newly_drawn (drawn_of self.old) (rev (looked self.old))) }
+        ensures drawn { MatchResult result (λ _. drawn_of self.new ≡ Some (rev (looked self.old))) (λ _. drawn_of self.new ≡ drawn_of self.old) }
+        ensures screen { IfOk result (λ shown. Gets W.contents screen.old screen.new (drawing_of self.old (looked self.old)) shown) }
+        ensures cut { IfErr result (λ fault. GetsNoMore W.contents screen.old screen.new (drawing_of self.old (looked self.old)) fault) }
+        ensures rising { IfOk result (λ shown. IfSome shown (IsAbove (drawn_of self.old))) }
+        ensures fault { IfErr result (λ fault. (fault ≡ EaselFault.OutOfMemory) ⊎ (fault ≡ EaselFault.WriteFault)) }
+    {
+        let revision = sheet.revision();
+        if self.drawn == Some(revision) {
+            return Ok(None);
+        }
+        let text = self.next_text(alloc, sheet)?;
+        send(screen, &text)?;
+        self.drawn = Some(revision);
+        Ok(Some(revision))
+    }
+
+    /// The text that draws a sheet: over the frame before, if there is one.
+    fn next_text(&self, alloc: Global, sheet: &Sheet) -> Result<Vec<u8>, OutOfMemory>
+        ensures { IfOk result (λ text. text.items ≡ over (style_of self.now) (canvas_of self.now) (drawn_of self.now) ++ frame_text (style_of self.now) (canvas_of self.now) (sheet_revision sheet.now) (sheet_picture sheet.now)) }
+    {
+        let mut text = self.over(alloc)?;
+        let frame = draw(
+            alloc,
+            sheet.picture(),
+            sheet.revision(),
+            self.canvas,
+            self.style,
+        )?;
+        text.extend_from_slice(&frame)?;
+        Ok(text)
+    }
+
+    /// What moves the cursor up to the first line of the frame before.
+    fn over(&self, alloc: Global) -> Result<Vec<u8>, OutOfMemory>
+        ensures { IfOk result (λ text. text.items ≡ over (style_of self.now) (canvas_of self.now) (drawn_of self.now)) }
+    {
+        let mut text = Vec::new(alloc);
+        if let (Style::Colored, Some(_)) = (self.style, self.drawn) {
+            let mut buffer = Buffer::new();
+            text.extend_from_slice(b"\x1b[")?;
+            text.extend_from_slice(buffer.format(self.canvas.lines()).as_bytes())?;
+            text.extend_from_slice(b"A")?;
+        }
+        Ok(text)
+    }
+}

@@ -1,0 +1,93 @@
+-- Quotients that are rounded down: which cell a pixel is in.
+use Rattle.std.proofs.Common.{◌≡◌, ◌+◌, ◌*◌, ◌≤◌, mul-le-mul_right, ℤ, pos, negsuc, ◌+ℤ◌, ◌*ℤ◌, ◌≤ℤ◌, ◌<ℤ◌, arith}
+use Rattle.std.specs.Int.{int_div_euclid}
+use Rattle.std.proofs.lemmas.Int.{ints, by_lt_z}
+use Rattle.mf_geom.proofs.Products.{mul-add}
+use Rattle.mf_frame.specs.Cells.{cell_of}
+use Rattle.mf_frame.specs.Windows.{line_of}
+use borrow.Author.Differences.{up, down}
+
+-- multiplying by a positive factor keeps the order
+mul-le : (a b f : ℤ) → pos 1 ≤ℤ f → a ≤ℤ b → (a *ℤ f) ≤ℤ (b *ℤ f)
+mul-le a b (pos n) positive le =
+    let parts : up a + down b ≤ up b + down a = omega (arith, ints) in
+    let times : (up a + down b) * n ≤ (up b + down a) * n = mul-le-mul_right n parts in
+    omega (arith, ints)
+mul-le a b (negsuc n) positive le = absurd (omega (arith, ints))
+
+mul-next : (a f : ℤ) → (a +ℤ pos 1) *ℤ f ≡ (a *ℤ f) +ℤ f
+mul-next a f = omega (arith, ints, mul-add f a (pos 1))
+
+-- the dividend is between the quotient times the divisor and the next multiple
+quotient-within : (d f : ℤ) → pos 1 ≤ℤ f → ((int_div_euclid d f *ℤ f) ≤ℤ d) × (d <ℤ ((int_div_euclid d f *ℤ f) +ℤ f))
+quotient-within (pos a) (pos n) positive = (omega (arith, ints), omega (arith, ints))
+quotient-within (negsuc a) (pos n) positive = (omega (arith, ints), omega (arith, ints))
+quotient-within d (negsuc n) positive = absurd (omega (arith, ints))
+
+-- a pixel is at or after the first pixel of its cell, and before that of the next
+pub cell-within : (s p : ℤ) → pos 1 ≤ℤ s → ((cell_of s p *ℤ s) ≤ℤ p) × (p <ℤ ((cell_of s p *ℤ s) +ℤ s))
+unfolding cell_of
+cell-within s p positive = quotient-within p s positive
+
+-- the cell of a pixel that is at or after the first pixel of a cell is that cell or a later one
+pub cell-from : (s c p : ℤ) → pos 1 ≤ℤ s → (c *ℤ s) ≤ℤ p → c ≤ℤ cell_of s p
+cell-from s c p positive le =
+    by_lt_z (cell_of s p) c
+    (λ lt.
+    let within = cell-within s p positive in
+    let product = mul-le (cell_of s p +ℤ pos 1) c s positive (omega (arith, ints)) in
+    let next = mul-next (cell_of s p) s in
+    absurd (omega (arith, ints)))
+    (λ ge. ge)
+
+-- the cell of a pixel before the first pixel of the next cell is that cell or an earlier one
+pub cell-to : (s c p : ℤ) → pos 1 ≤ℤ s → p <ℤ ((c *ℤ s) +ℤ s) → cell_of s p ≤ℤ c
+cell-to s c p positive lt =
+    by_lt_z c (cell_of s p)
+    (λ after.
+    let within = cell-within s p positive in
+    let product = mul-le (c +ℤ pos 1) (cell_of s p) s positive (omega (arith, ints)) in
+    let next = mul-next c s in
+    absurd (omega (arith, ints)))
+    (λ ge. ge)
+
+-- cells are in the order of their pixels
+pub cell-le : (s p q : ℤ) → pos 1 ≤ℤ s → p ≤ℤ q → cell_of s p ≤ℤ cell_of s q
+cell-le s p q positive le = let within = cell-within s p positive in cell-from s (cell_of s p) q positive (omega (arith, ints))
+
+-- the next pixel is in the same cell or the next
+pub cell-next : (s p : ℤ) → pos 1 ≤ℤ s → cell_of s (p +ℤ pos 1) ≤ℤ (cell_of s p +ℤ pos 1)
+cell-next s p positive =
+    let within = cell-within s p positive in
+    let next = mul-next (cell_of s p) s in
+    cell-to s (cell_of s p +ℤ pos 1) (p +ℤ pos 1) positive (omega (arith, ints))
+
+-- a cell is no further from the axis than its pixels
+pub record IsCellInField (c : ℤ) : Type 0 where
+  pub least : negsuc 4094 ≤ℤ c
+  pub greatest : c ≤ℤ pos 4094
+
+field_product : (s : ℤ) → pos 1 ≤ℤ s → ((negsuc 4094 *ℤ s) ≤ℤ negsuc 4094) × (pos 4094 ≤ℤ (pos 4094 *ℤ s))
+field_product s positive = (omega (arith, ints), omega (arith, ints))
+
+pub cell_in_field : (s p : ℤ) → pos 1 ≤ℤ s → negsuc 4094 ≤ℤ p → p ≤ℤ pos 4094 → IsCellInField (cell_of s p)
+cell_in_field s p positive least greatest =
+    let products = field_product s positive in
+    record {
+      least = cell-from s (negsuc 4094) p positive (omega (arith, ints, products.0));
+      greatest = cell-to s (pos 4094) p positive (omega (arith, ints, products.1));
+    }
+
+-- at the greatest scale the field is two cells wide
+pub cell_at_greatest : (p : ℤ) → negsuc 4094 ≤ℤ p → p ≤ℤ pos 4094 → (negsuc 0 ≤ℤ cell_of (pos 4095) p) × (cell_of (pos 4095) p ≤ℤ pos 0)
+cell_at_greatest p least greatest =
+    (cell-from (pos 4095) (negsuc 0) p (omega (arith, ints)) (omega (arith, ints)), cell-to (pos 4095) (pos 0) p (omega (arith, ints)) (omega (arith, ints)))
+
+-- line k shows the rows 2 * k and 2 * k + 1
+pub line-within : (j : ℤ) → ((pos 2 *ℤ line_of j) ≤ℤ j) × (j <ℤ ((pos 2 *ℤ line_of j) +ℤ pos 2))
+unfolding line_of
+line-within j = let within = quotient-within j (pos 2) (omega (arith, ints)) in (omega (arith, ints, within.0), omega (arith, ints, within.1))
+
+-- lines are in the order of their rows
+pub line-le : (i j : ℤ) → i ≤ℤ j → line_of i ≤ℤ line_of j
+line-le i j le = let first = line-within i in let last = line-within j in omega (arith, ints, first.0, last.1)

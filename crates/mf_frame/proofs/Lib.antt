@@ -1,0 +1,6 @@
+pub mod Floors
+pub mod Darkness
+pub mod FrameLines
+pub mod LeastBoxes
+pub mod Painting
+pub mod Windows

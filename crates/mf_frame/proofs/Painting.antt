@@ -1,0 +1,238 @@
+-- Runs painted on the cells of a window.
+use Rattle.std.proofs.Common.{◌≡◌, ◌≢◌, ◌≤◌, ◌<◌, ℕ, zero, suc, ◌+◌, ◌*◌, ℤ, pos, ◌+ℤ◌, ◌-ℤ◌, ◌*ℤ◌, ◌≤ℤ◌, ◌<ℤ◌, List, [], ◌∷◌, ◌++◌, length, get_or, set, refl, sym, ap, ◌∙◌, subst, arith, mul-le-mul_right, get_or-set_other, get_or-set_same}
+use native.Mathlib.Nat.{suc-mul}
+use Rattle.std.specs.Int.RustNames.{unsigned_abs}
+use Rattle.std.specs.List.{flat_map}
+use Rattle.std.specs.Prelude.{replicate}
+use Rattle.std.proofs.lemmas.Int.{ints, by_lt_z}
+use Rattle.std.proofs.lemmas.List.{length-replicate, get_or-replicate}
+use Rattle.std.proofs.lemmas.List.Elements.{All-head, All-tail}
+use Rattle.mf_rows.specs.declared.run.Run.{Run}
+use Rattle.mf_rows.specs.Dots.{Dot, IsPicture}
+use Rattle.mf_rows.specs.Order.{IsRun}
+use Rattle.mf_rows.specs.Runs.{dots_of, runs_of, stretch}
+use Rattle.mf_rows.proofs.PassedRuns.{ArePassed, next_is_lawful, none_passed, one_more_passed, all_passed}
+use Rattle.mf_frame.specs.declared.shade.Shade.{Shade}
+use Rattle.mf_frame.specs.declared.shade.Shade.TheVariants.{Blank}
+use Rattle.mf_frame.specs.declared.window.Window.{Window}
+use Rattle.mf_frame.specs.Cells.{cell_of, cell_shade, darker, shade_of, place_in, shade_in, IsCellOf, AreCells, AreDarkened, ArePainted, IsRunInWindow, AreInWindow}
+use Rattle.mf_frame.specs.Windows.{IsWindow}
+use Rattle.mf_frame.proofs.Darkness.{IsInCell, by_place, darker-blank, shade-append, shade-none, stretch-inside, stretch-outside}
+use Rattle.mf_frame.proofs.Floors.{cell-le}
+
+-- ---- a stretch of places
+
+-- the places from start on up to this one are darkened
+pub record AreDarkenedTo (start end : ℕ) (shade : Shade) (old : List Shade) (place : ℕ) (new : List Shade) : Type 0 where
+  pub from : start ≤ place
+  pub to : place ≤ end
+  pub so_far : AreDarkened start place shade old new
+
+pub darkened_none : (start end : ℕ) (shade : Shade) (old : List Shade) → start ≤ end → AreDarkenedTo start end shade old start old
+darkened_none start end shade old order = record {
+  from = omega arith;
+  to = order;
+  so_far = record {
+    count = refl;
+    inside = λ k from to. absurd (omega arith);
+    before = λ k below. refl;
+    after = λ k above. refl;
+  };
+}
+
+pub darkened_more : (start end : ℕ) (shade : Shade) (old : List Shade) (place : ℕ) (shades new : List Shade) → place < end → end ≤ length old
+    → new ≡ set shades place (darker (get_or shades place Blank) shade) → length new ≡ length shades
+    → AreDarkenedTo start end shade old place shades → AreDarkenedTo start end shade old (place + 1) new
+darkened_more start end shade old place shades new more room written kept so_far =
+    let done = so_far.so_far in
+    let within : place < length shades = omega (arith, done.count) in
+    let other : (k : ℕ) → k ≢ place → get_or new k Blank ≡ get_or shades k Blank = λ k apart. rw written (get_or-set_other shades place k (darker (get_or shades place Blank) shade) Blank apart) in
+    let here : get_or new place Blank ≡ darker (get_or shades place Blank) shade = rw written (get_or-set_same shades place (darker (get_or shades place Blank) shade) Blank within) in
+    record {
+      from = omega (arith, so_far.from);
+      to = omega arith;
+      so_far = record {
+        count = kept ∙ done.count;
+        inside = λ k from to. by_place k place
+            (λ below. other k (omega arith) ∙ done.inside k from below)
+            (λ same. rw same (here ∙ ap (λ s. darker s shade) (done.after place (omega arith))))
+            (λ above. absurd (omega arith));
+        before = λ k below. other k (omega (arith, so_far.from)) ∙ done.before k below;
+        after = λ k above. other k (omega arith) ∙ done.after k (omega arith);
+      };
+    }
+
+pub darkened_all : (start end : ℕ) (shade : Shade) (old : List Shade) (place : ℕ) (new : List Shade) → end ≤ place
+    → AreDarkenedTo start end shade old place new → AreDarkened start end shade old new
+darkened_all start end shade old place new over so_far =
+    let same : place ≡ end = omega (arith, so_far.to) in
+    subst (λ p. AreDarkened start p shade old new) same so_far.so_far
+
+-- ---- a run
+
+-- the places of a row are before those of a higher row
+row-apart : (a b c : ℕ) → a < b → a * c + c ≤ b * c
+row-apart a b c less = let product : suc a * c ≤ b * c = mul-le-mul_right c (omega arith) in omega (arith, suc-mul a c)
+
+pub place-inside : (w : Window) (i j : ℤ) → IsCellOf w i j → place_in w i j < 2 * w.lines * w.columns
+place-inside w i j cell =
+    let apart = row-apart (unsigned_abs (j -ℤ (pos 2 *ℤ w.line))) (2 * w.lines) w.columns (omega (arith, ints, cell.bottom, cell.top)) in
+    omega (arith, ints, cell.left, cell.right)
+
+-- where a run is among the places of a window
+abbrev pub run_start : Window → Run → ℕ
+run_start w r = place_in w (cell_of w.scale r.x) (cell_of w.scale r.y)
+
+abbrev pub run_end : Window → Run → ℕ
+run_end w r = place_in w (cell_of w.scale ((r.x +ℤ pos r.len) -ℤ pos 1)) (cell_of w.scale r.y) + 1
+
+-- the run gives no shade to a cell that it does not reach
+unreached : (w : Window) (r : Run) (old new : List Shade) (i j : ℤ) → get_or new (place_in w i j) Blank ≡ get_or old (place_in w i j) Blank
+    → cell_shade w.scale (dots_of r) i j ≡ Blank → shade_in w new i j ≡ darker (shade_in w old i j) (cell_shade w.scale (dots_of r) i j)
+unfolding shade_in
+unreached w r old new i j kept blank = rw blank (kept ∙ sym (darker-blank (get_or old (place_in w i j) Blank)))
+
+-- a run reaches no cell that none of its columns and rows is in
+outside_run : (w : Window) (r : Run) (i j : ℤ) → pos 1 ≤ℤ w.scale
+    → ((u : ℤ) → r.x ≤ℤ u → u <ℤ (r.x +ℤ pos r.len) → IsInCell w.scale u r.y i j → ⊥) → cell_shade w.scale (dots_of r) i j ≡ Blank
+unfolding dots_of
+outside_run w r i j positive outside = stretch-outside w.scale r.y r.x r.weight r.len i j positive outside
+
+inside_run : (s : ℤ) (y x m : ℤ) (n : ℕ) (i j : ℤ) → pos 1 ≤ℤ s → 1 ≤ n → cell_of s y ≡ j → cell_of s x ≤ℤ i → i ≤ℤ cell_of s ((x +ℤ pos n) -ℤ pos 1)
+    → cell_shade s (stretch y x m n) i j ≡ shade_of m
+inside_run s y x m zero i j positive some row left right = absurd (omega arith)
+inside_run s y x m (suc n) i j positive some row left right =
+    let last : (x +ℤ pos (suc n)) -ℤ pos 1 ≡ x +ℤ pos n = omega (arith, ints) in
+    stretch-inside s y x m n i j positive row left (rw last at right)
+
+within_run : (w : Window) (r : Run) (i j : ℤ) → pos 1 ≤ℤ w.scale → IsRun r → cell_of w.scale r.y ≡ j → cell_of w.scale r.x ≤ℤ i
+    → i ≤ℤ cell_of w.scale ((r.x +ℤ pos r.len) -ℤ pos 1) → cell_shade w.scale (dots_of r) i j ≡ shade_of r.weight
+unfolding dots_of
+within_run w r i j positive run row left right = inside_run w.scale r.y r.x r.weight r.len i j positive run.some row left right
+
+-- a cell in the run's row
+in_row : (w : Window) (r : Run) (old new : List Shade) (i : ℤ) → IsWindow w → IsRunInWindow w r → IsCellOf w i (cell_of w.scale r.y)
+    → AreDarkened (run_start w r) (run_end w r) (shade_of r.weight) old new
+    → get_or new (place_in w i (cell_of w.scale r.y)) Blank ≡ darker (get_or old (place_in w i (cell_of w.scale r.y)) Blank) (cell_shade w.scale (dots_of r) i (cell_of w.scale r.y))
+unfolding shade_in
+in_row w r old new i window within cell dark =
+    let row = cell_of w.scale r.y in
+    let first = cell_of w.scale r.x in
+    let last = cell_of w.scale ((r.x +ℤ pos r.len) -ℤ pos 1) in
+    let p = place_in w i row in
+    let positive = window.scale.least in
+    by_lt_z i first
+    (λ left.
+    let before : p < run_start w r = omega (arith, ints, cell.left, within.first.left) in
+    unreached w r old new i row (dark.before p before) (outside_run w r i row positive (λ u from to here. let le = cell-le w.scale r.x u positive from in omega (arith, ints, here.column))))
+    (λ from. by_lt_z last i
+    (λ right.
+    let after : run_end w r ≤ p = omega (arith, ints, cell.left, within.last.left) in
+    unreached w r old new i row (dark.after p after)
+    (outside_run w r i row positive (λ u start to here. let le = cell-le w.scale u ((r.x +ℤ pos r.len) -ℤ pos 1) positive (omega (arith, ints)) in omega (arith, ints, here.column))))
+    (λ to.
+    let above : run_start w r ≤ p = omega (arith, ints, cell.left, within.first.left) in
+    let below : p < run_end w r = omega (arith, ints, cell.left, within.last.left) in
+    rw (within_run w r i row positive within.run refl from to) (dark.inside p above below)))
+
+-- a cell is left of the run, right of it, above it, below it, or in it
+painted_cell : (w : Window) (r : Run) (old new : List Shade) (i j : ℤ) → IsWindow w → IsRunInWindow w r → IsCellOf w i j
+    → AreDarkened (run_start w r) (run_end w r) (shade_of r.weight) old new → shade_in w new i j ≡ darker (shade_in w old i j) (cell_shade w.scale (dots_of r) i j)
+unfolding shade_in
+painted_cell w r old new i j window within cell dark =
+    let row = cell_of w.scale r.y in
+    let a = unsigned_abs (j -ℤ (pos 2 *ℤ w.line)) in
+    let b = unsigned_abs (row -ℤ (pos 2 *ℤ w.line)) in
+    let positive = window.scale.least in
+    by_lt_z j row
+    (λ below.
+    let apart = row-apart a b w.columns (omega (arith, ints, cell.bottom, within.first.bottom)) in
+    let before : place_in w i j < run_start w r = omega (arith, ints, cell.left, cell.right) in
+    unreached w r old new i j (dark.before (place_in w i j) before) (outside_run w r i j positive (λ u from to here. omega (arith, ints, here.row))))
+    (λ from_row. by_lt_z row j
+    (λ above.
+    let apart = row-apart b a w.columns (omega (arith, ints, cell.bottom, within.first.bottom)) in
+    let after : run_end w r ≤ place_in w i j = omega (arith, ints, within.last.left, within.last.right) in
+    unreached w r old new i j (dark.after (place_in w i j) after) (outside_run w r i j positive (λ u from to here. omega (arith, ints, here.row))))
+    (λ to_row.
+    let same : j ≡ row = omega (arith, ints) in
+    rw same (in_row w r old new i window within (rw same at cell) dark)))
+
+pub painted : (w : Window) (r : Run) (old new : List Shade) → IsWindow w → IsRunInWindow w r
+    → AreDarkened (run_start w r) (run_end w r) (shade_of r.weight) old new → ArePainted w r old new
+painted w r old new window within dark = record { count = dark.count; cells = λ i j cell. painted_cell w r old new i j window within cell dark }
+
+-- ---- all runs
+
+-- the cells have the shades of all dots but those of the last runs, rs
+pub record ArePaintedBefore (w : Window) (ds : List Dot) (rs : List Run) (shades : List Shade) : Type 0 where
+  pub passed : List Dot
+  pub passes : ArePassed ds rs passed
+  pub cells : AreCells w passed shades
+
+pub painted_none : (w : Window) (ds : List Dot) (rs : List Run) (shades : List Shade) (n : ℕ) → IsPicture ds → rs ≡ runs_of ds → shades ≡ replicate n Blank
+    → n ≡ 2 * w.lines * w.columns → ArePaintedBefore w ds rs shades
+unfolding shade_in
+painted_none w ds rs shades n picture all blank count = record {
+  passed = [];
+  passes = none_passed ds rs picture all;
+  cells = record {
+    count = rw blank (length-replicate n Blank ∙ count);
+    cells = λ i j cell. rw (blank, shade-none w.scale i j) (get_or-replicate n (place_in w i j) Blank Blank (rw count (place-inside w i j cell)));
+  };
+}
+
+pub painted_more : (w : Window) (ds : List Dot) (rs : List Run) (r : Run) (others : List Run) (old new : List Shade) → rs ≡ r ∷ others → ArePainted w r old new
+    → ArePaintedBefore w ds rs old → ArePaintedBefore w ds others new
+painted_more w ds rs r others old new first painted so_far = record {
+  passed = so_far.passed ++ dots_of r;
+  passes = one_more_passed ds rs r others so_far.passed first so_far.passes;
+  cells = record {
+    count = painted.count ∙ so_far.cells.count;
+    cells = λ i j cell. painted.cells i j cell ∙ ap (λ s. darker s (cell_shade w.scale (dots_of r) i j)) (so_far.cells.cells i j cell)
+        ∙ sym (shade-append w.scale so_far.passed (dots_of r) i j);
+  };
+}
+
+pub painted_all : (w : Window) (ds : List Dot) (rs : List Run) (shades : List Shade) → rs ≡ [] → ArePaintedBefore w ds rs shades → AreCells w ds shades
+painted_all w ds rs shades none so_far = subst (λ dots. AreCells w dots shades) (all_passed ds rs so_far.passed none so_far.passes) so_far.cells
+
+-- ---- the next run lies in the window
+
+in_window_first : (w : Window) (y x m : ℤ) (n : ℕ) (es : List Dot) → AreInWindow w (stretch y x m (suc n) ++ es) → IsCellOf w (cell_of w.scale x) (cell_of w.scale y)
+unfolding stretch
+in_window_first w y x m n es all = All-head (λ d. IsCellOf w (cell_of w.scale d.x) (cell_of w.scale d.y)) (record { y = y; x = x; weight = m }) (stretch y (x +ℤ pos 1) m n ++ es) all
+
+in_window_last : (w : Window) (y x m : ℤ) (n : ℕ) (es : List Dot) → AreInWindow w (stretch y x m (suc n) ++ es) → IsCellOf w (cell_of w.scale (x +ℤ pos n)) (cell_of w.scale y)
+unfolding stretch
+in_window_last w y x m zero es all =
+    let same : x +ℤ pos 0 ≡ x = omega (arith, ints) in
+    rw same (in_window_first w y x m zero es all)
+in_window_last w y x m (suc n) es all =
+    let same : x +ℤ pos (suc n) ≡ (x +ℤ pos 1) +ℤ pos n = omega (arith, ints) in
+    rw same (in_window_last w y (x +ℤ pos 1) m n es (All-tail (λ d. IsCellOf w (cell_of w.scale d.x) (cell_of w.scale d.y)) (record { y = y; x = x; weight = m }) (stretch y (x +ℤ pos 1) m (suc n) ++ es) all))
+
+in_window_after : (w : Window) (ds es : List Dot) → AreInWindow w (ds ++ es) → AreInWindow w es
+in_window_after w [] es all = all
+in_window_after w (d ∷ ds) es all = in_window_after w ds es (All-tail (λ d. IsCellOf w (cell_of w.scale d.x) (cell_of w.scale d.y)) d (ds ++ es) all)
+
+run_in_window : (w : Window) (y x m : ℤ) (n : ℕ) (es : List Dot) → 1 ≤ n → AreInWindow w (stretch y x m n ++ es)
+    → IsCellOf w (cell_of w.scale x) (cell_of w.scale y) × IsCellOf w (cell_of w.scale ((x +ℤ pos n) -ℤ pos 1)) (cell_of w.scale y)
+run_in_window w y x m zero es some all = absurd (omega arith)
+run_in_window w y x m (suc n) es some all =
+    let same : (x +ℤ pos (suc n)) -ℤ pos 1 ≡ x +ℤ pos n = omega (arith, ints) in
+    (in_window_first w y x m n es all, rw same (in_window_last w y x m n es all))
+
+pub next_in_window : (w : Window) (ds : List Dot) (rs : List Run) (r : Run) (others : List Run) (shades : List Shade) → AreInWindow w ds → rs ≡ r ∷ others
+    → ArePaintedBefore w ds rs shades → IsRunInWindow w r
+unfolding dots_of
+next_in_window w ds rs r others shades all first so_far =
+    let run = next_is_lawful ds rs r others so_far.passed first so_far.passes in
+    let left : AreInWindow w (flat_map dots_of rs) = in_window_after w so_far.passed (flat_map dots_of rs) (subst (AreInWindow w) so_far.passes.split all) in
+    let ends = run_in_window w r.y r.x r.weight r.len (flat_map dots_of others) run.some (subst (λ runs. AreInWindow w (flat_map dots_of runs)) first left) in
+    record { run = run; first = ends.0; last = ends.1 }
+
+pub start_before_end : (w : Window) (r : Run) → IsWindow w → IsRunInWindow w r → run_start w r ≤ run_end w r
+start_before_end w r window within =
+    let le = cell-le w.scale r.x ((r.x +ℤ pos r.len) -ℤ pos 1) window.scale.least (omega (arith, ints, within.run.some)) in
+    omega (arith, ints, le, within.first.left)

@@ -1,0 +1,251 @@
+-- Windows of boxes, and their scales.
+use Rattle.std.proofs.Common.{◌≡◌, ◌≤◌, ℕ, zero, suc, ◌-◌, Bool, true, false, ℤ, pos, negsuc, ◌+ℤ◌, ◌-ℤ◌, ◌≤ℤ◌, ◌<ℤ◌, refl, sym, ◌∙◌, to_z, of_z, w32, arith}
+use Rattle.std.specs.Int.RustNames.{unsigned_abs}
+use Rattle.std.specs.Prelude.{nat_le}
+use Rattle.std.proofs.lemmas.Bool.{cond-true, cond-false, and_parts, and_from, leb-true, le-leb}
+use Rattle.std.proofs.lemmas.Int.{ints, by_lt_z}
+use Rattle.mf_rows.specs.declared.bounds.Box4.{Box4}
+use Rattle.mf_frame.specs.declared.window.Window.{Window}
+use Rattle.mf_frame.specs.Canvases.{Size, IsSize}
+use Rattle.mf_frame.specs.Cells.{cell_of}
+use Rattle.mf_frame.specs.Windows.{line_of, extent, window_at, fits_on, first_fitting, scale_of, IsBoxOfField, IsScale, IsWindow}
+use Rattle.mf_frame.proofs.Floors.{IsCellInField, cell-le, cell_in_field, cell_at_greatest, line-within, line-le}
+
+line_in_field : (j : ℤ) → IsCellInField j → IsCellInField (line_of j)
+line_in_field j field =
+    let within = line-within j in
+    record { least = omega (arith, ints, within.1, field.least); greatest = omega (arith, ints, within.0, field.greatest) }
+
+-- the columns and lines of a box of the field
+pub record IsWindowOfField (b : Box4) (s : ℤ) : Type 0 where
+  pub first_column : IsCellInField (cell_of s b.min_x)
+  pub last_column : IsCellInField (cell_of s b.max_x)
+  pub columns : cell_of s b.min_x ≤ℤ cell_of s b.max_x
+  pub first_row : IsCellInField (cell_of s b.min_y)
+  pub last_row : IsCellInField (cell_of s b.max_y)
+  pub first_line : IsCellInField (line_of (cell_of s b.min_y))
+  pub last_line : IsCellInField (line_of (cell_of s b.max_y))
+  pub lines : line_of (cell_of s b.min_y) ≤ℤ line_of (cell_of s b.max_y)
+
+pub window_of_field : (b : Box4) (s : ℤ) → IsBoxOfField b → pos 1 ≤ℤ s → IsWindowOfField b s
+window_of_field b s box positive =
+    let first_row = cell_in_field s b.min_y positive box.bottom (omega (arith, ints, box.rows, box.top)) in
+    let last_row = cell_in_field s b.max_y positive (omega (arith, ints, box.rows, box.bottom)) box.top in
+    record {
+      first_column = cell_in_field s b.min_x positive box.left (omega (arith, ints, box.columns, box.right));
+      last_column = cell_in_field s b.max_x positive (omega (arith, ints, box.columns, box.left)) box.right;
+      columns = cell-le s b.min_x b.max_x positive box.columns;
+      first_row = first_row;
+      last_row = last_row;
+      first_line = line_in_field (cell_of s b.min_y) first_row;
+      last_line = line_in_field (cell_of s b.max_y) last_row;
+      lines = line-le (cell_of s b.min_y) (cell_of s b.max_y) (cell-le s b.min_y b.max_y positive box.rows);
+    }
+
+-- what the code computes of a window
+pub record AreWindowValues (b : Box4) (s column last line highest : ℤ) : Type 0 where
+  pub field : IsWindowOfField b s
+  pub left : column ≡ cell_of s b.min_x
+  pub right : last ≡ cell_of s b.max_x
+  pub bottom : line ≡ line_of (cell_of s b.min_y)
+  pub top : highest ≡ line_of (cell_of s b.max_y)
+
+-- a number of the field stays itself as a value of 32 bits
+stays : (p : ℤ) → negsuc 4094 ≤ℤ p → p ≤ℤ pos 4095 → to_z w32 (of_z w32 p) ≡ p
+stays p least greatest = omega (arith, ints)
+
+pub cell_value : (s p r : ℤ) → IsScale s → negsuc 4094 ≤ℤ p → p ≤ℤ pos 4094 → r ≡ cell_of (to_z w32 (of_z w32 s)) (to_z w32 (of_z w32 p)) → r ≡ cell_of s p
+cell_value s p r scale least greatest computed =
+    let factor = stays s (omega (arith, ints, scale.least)) scale.greatest in
+    let pixel = stays p least (omega (arith, ints)) in
+    rw (factor, pixel) at computed
+
+line_value : (j c l : ℤ) → IsCellInField j → c ≡ j → l ≡ line_of (to_z w32 (of_z w32 c)) → l ≡ line_of j
+line_value j c l field same computed =
+    let row = stays j field.least (omega (arith, ints, field.greatest)) in
+    rw (same, row) at computed
+
+pub window_values : (b : Box4) (s left right low high bottom top : ℤ) → IsBoxOfField b → IsScale s
+    → left ≡ cell_of (to_z w32 (of_z w32 s)) (to_z w32 (of_z w32 b.min_x)) → right ≡ cell_of (to_z w32 (of_z w32 s)) (to_z w32 (of_z w32 b.max_x))
+    → low ≡ cell_of (to_z w32 (of_z w32 s)) (to_z w32 (of_z w32 b.min_y)) → high ≡ cell_of (to_z w32 (of_z w32 s)) (to_z w32 (of_z w32 b.max_y))
+    → bottom ≡ line_of (to_z w32 (of_z w32 low)) → top ≡ line_of (to_z w32 (of_z w32 high)) → AreWindowValues b s left right bottom top
+window_values b s left right low high bottom top box scale at_left at_right at_low at_high at_bottom at_top =
+    let field = window_of_field b s box scale.least in
+    let first_row = cell_value s b.min_y low scale box.bottom (omega (arith, ints, box.rows, box.top)) at_low in
+    let last_row = cell_value s b.max_y high scale (omega (arith, ints, box.rows, box.bottom)) box.top at_high in
+    record {
+      field = field;
+      left = cell_value s b.min_x left scale box.left (omega (arith, ints, box.columns, box.right)) at_left;
+      right = cell_value s b.max_x right scale (omega (arith, ints, box.columns, box.left)) box.right at_right;
+      bottom = line_value (cell_of s b.min_y) low bottom field.first_row first_row at_bottom;
+      top = line_value (cell_of s b.max_y) high top field.last_row last_row at_top;
+    }
+
+pub same_window : (b : Box4) (s column last line highest : ℤ) (columns lines : ℕ) → IsScale s → AreWindowValues b s column last line highest
+    → columns ≡ extent (to_z w32 (of_z w32 column)) (to_z w32 (of_z w32 last)) → lines ≡ extent (to_z w32 (of_z w32 line)) (to_z w32 (of_z w32 highest))
+    → (record { scale = to_z w32 (of_z w32 s); column = to_z w32 (of_z w32 column); columns = columns; line = to_z w32 (of_z w32 line); lines = lines }) ≡ window_at b s
+unfolding window_at
+same_window b s column last line highest columns lines scale v wide high =
+    let factor = stays s (omega (arith, ints, scale.least)) scale.greatest in
+    let left : to_z w32 (of_z w32 column) ≡ cell_of s b.min_x = omega (arith, ints, v.left, v.field.first_column.least, v.field.first_column.greatest) in
+    let right : to_z w32 (of_z w32 last) ≡ cell_of s b.max_x = omega (arith, ints, v.right, v.field.last_column.least, v.field.last_column.greatest) in
+    let bottom : to_z w32 (of_z w32 line) ≡ line_of (cell_of s b.min_y) = omega (arith, ints, v.bottom, v.field.first_line.least, v.field.first_line.greatest) in
+    let top : to_z w32 (of_z w32 highest) ≡ line_of (cell_of s b.max_y) = omega (arith, ints, v.top, v.field.last_line.least, v.field.last_line.greatest) in
+    let width = rw (left, right) at wide in
+    let height = rw (bottom, top) at high in
+    λ i. record { scale = factor i; column = left i; columns = width i; line = bottom i; lines = height i }
+
+-- ---- the scale
+
+by_test : {P : Type 0} (b : Bool) → (b ≡ true → P) → (b ≡ false → P) → P
+by_test true passed failed = passed refl
+by_test false passed failed = failed refl
+
+-- a window fits exactly where it has few enough columns and lines
+pub record IsFitting (canvas : Size) (w : Window) : Type 0 where
+  pub columns : w.columns ≤ canvas.columns
+  pub lines : w.lines ≤ canvas.rows - 3
+
+pub fitting_parts : (canvas : Size) (w : Window) → fits_on canvas w ≡ true → IsFitting canvas w
+fitting_parts canvas w test =
+    let parts = and_parts (nat_le w.columns canvas.columns) (nat_le w.lines (canvas.rows - 3)) test in
+    record { columns = leb-true w.columns canvas.columns parts.0; lines = leb-true w.lines (canvas.rows - 3) parts.1 }
+
+fitting_from : (canvas : Size) (w : Window) → IsFitting canvas w → fits_on canvas w ≡ true
+fitting_from canvas w fitting =
+    and_from (nat_le w.columns canvas.columns) (nat_le w.lines (canvas.rows - 3)) (le-leb w.columns canvas.columns fitting.columns) (le-leb w.lines (canvas.rows - 3) fitting.lines)
+
+-- at the greatest scale each window fits
+fits_at_greatest : (canvas : Size) (b : Box4) → IsSize canvas → IsBoxOfField b → fits_on canvas (window_at b (pos 4095)) ≡ true
+unfolding window_at
+fits_at_greatest canvas b size box =
+    let left = cell_at_greatest b.min_x box.left (omega (arith, ints, box.columns, box.right)) in
+    let right = cell_at_greatest b.max_x (omega (arith, ints, box.columns, box.left)) box.right in
+    let low = cell_at_greatest b.min_y box.bottom (omega (arith, ints, box.rows, box.top)) in
+    let high = cell_at_greatest b.max_y (omega (arith, ints, box.rows, box.bottom)) box.top in
+    let bottom = line-within (cell_of (pos 4095) b.min_y) in
+    let top = line-within (cell_of (pos 4095) b.max_y) in
+    fitting_from canvas (window_at b (pos 4095)) (record {
+      columns = omega (arith, ints, left.0, right.1, size.enough.wide);
+      lines = omega (arith, ints, low.0, high.1, bottom.1, top.0, size.enough.high);
+    })
+
+pub first-found : (canvas : Size) (b : Box4) (s : ℤ) (n : ℕ) → fits_on canvas (window_at b s) ≡ true → first_fitting canvas b s (suc n) ≡ s
+unfolding first_fitting
+first-found canvas b s n fits = cond-true _ s (first_fitting canvas b (s +ℤ pos 1) n) fits
+
+pub first-next : (canvas : Size) (b : Box4) (s : ℤ) (n : ℕ) → fits_on canvas (window_at b s) ≡ false
+    → first_fitting canvas b s (suc n) ≡ first_fitting canvas b (s +ℤ pos 1) n
+unfolding first_fitting
+first-next canvas b s n fails = cond-false _ s (first_fitting canvas b (s +ℤ pos 1) n) fails
+
+first-fits : (canvas : Size) (b : Box4) (s : ℤ) (n : ℕ) → IsSize canvas → IsBoxOfField b → s +ℤ pos n ≡ pos 4095
+    → fits_on canvas (window_at b (first_fitting canvas b s n)) ≡ true
+unfolding first_fitting
+first-fits canvas b s zero size box last =
+    let same : s ≡ pos 4095 = omega (arith, ints) in
+    rw same (fits_at_greatest canvas b size box)
+first-fits canvas b s (suc n) size box last =
+    by_test (fits_on canvas (window_at b s))
+    (λ yes. rw (first-found canvas b s n yes) yes)
+    (λ no. rw (first-next canvas b s n no) (first-fits canvas b (s +ℤ pos 1) n size box (omega (arith, ints))))
+
+first-from : (canvas : Size) (b : Box4) (s : ℤ) (n : ℕ) → s ≤ℤ first_fitting canvas b s n
+unfolding first_fitting
+first-from canvas b s zero = omega (arith, ints)
+first-from canvas b s (suc n) =
+    by_test (fits_on canvas (window_at b s))
+    (λ yes. omega (arith, ints, first-found canvas b s n yes))
+    (λ no. omega (arith, ints, first-next canvas b s n no, first-from canvas b (s +ℤ pos 1) n))
+
+first-to : (canvas : Size) (b : Box4) (s : ℤ) (n : ℕ) → first_fitting canvas b s n ≤ℤ (s +ℤ pos n)
+unfolding first_fitting
+first-to canvas b s zero = omega (arith, ints)
+first-to canvas b s (suc n) =
+    by_test (fits_on canvas (window_at b s))
+    (λ yes. omega (arith, ints, first-found canvas b s n yes))
+    (λ no. omega (arith, ints, first-next canvas b s n no, first-to canvas b (s +ℤ pos 1) n))
+
+first-least : (canvas : Size) (b : Box4) (s : ℤ) (n : ℕ) (t : ℤ) → s ≤ℤ t → t <ℤ first_fitting canvas b s n → fits_on canvas (window_at b t) ≡ false
+unfolding first_fitting
+first-least canvas b s zero t from to = absurd (omega (arith, ints))
+first-least canvas b s (suc n) t from to =
+    by_test (fits_on canvas (window_at b s))
+    (λ yes. absurd (omega (arith, ints, first-found canvas b s n yes)))
+    (λ no.
+    let next = rw (first-next canvas b s n no) at to in
+    by_lt_z s t
+    (λ after. first-least canvas b (s +ℤ pos 1) n t (omega (arith, ints)) next)
+    (λ here. let same : t ≡ s = omega (arith, ints) in rw same no))
+
+pub scale-fits : (canvas : Size) (b : Box4) → IsSize canvas → IsBoxOfField b → fits_on canvas (window_at b (scale_of canvas b)) ≡ true
+unfolding scale_of
+scale-fits canvas b size box = first-fits canvas b (pos 1) 4094 size box (omega (arith, ints))
+
+pub scale-least : (canvas : Size) (b : Box4) (s : ℤ) → pos 1 ≤ℤ s → s <ℤ scale_of canvas b → fits_on canvas (window_at b s) ≡ false
+unfolding scale_of
+scale-least canvas b s = first-least canvas b (pos 1) 4094 s
+
+pub is_scale : (canvas : Size) (b : Box4) → IsScale (scale_of canvas b)
+unfolding scale_of
+is_scale canvas b = record { least = first-from canvas b (pos 1) 4094; greatest = omega (arith, ints, first-to canvas b (pos 1) 4094) }
+
+-- the window of a box at its scale
+pub lawful_window : (canvas : Size) (b : Box4) → IsSize canvas → IsBoxOfField b → IsWindow (window_at b (scale_of canvas b))
+unfolding window_at
+lawful_window canvas b size box =
+    let scale = is_scale canvas b in
+    let field = window_of_field b (scale_of canvas b) box scale.least in
+    let fitting = fitting_parts canvas (window_at b (scale_of canvas b)) (scale-fits canvas b size box) in
+    record {
+      scale = scale;
+      columns = omega (arith, fitting.columns, size.columns);
+      lines = omega (arith, fitting.lines, size.rows);
+      left = field.first_column.least;
+      right = field.first_column.greatest;
+      bottom = field.first_line.least;
+      top = field.first_line.greatest;
+    }
+
+-- the scales before this one are those at which the window does not fit
+pub record IsScaleFrom (canvas : Size) (b : Box4) (s : ℤ) : Type 0 where
+  pub least : pos 1 ≤ℤ s
+  pub greatest : s ≤ℤ pos 4095
+  pub first : first_fitting canvas b s (unsigned_abs (pos 4095 -ℤ s)) ≡ scale_of canvas b
+
+pub scale_none : (canvas : Size) (b : Box4) → IsScaleFrom canvas b (pos 1)
+unfolding scale_of
+scale_none canvas b = record { least = omega (arith, ints); greatest = omega (arith, ints); first = refl }
+
+more_scales : (s : ℤ) → s <ℤ pos 4095 → unsigned_abs (pos 4095 -ℤ s) ≡ suc (unsigned_abs (pos 4095 -ℤ (s +ℤ pos 1)))
+more_scales s more = omega (arith, ints)
+
+pub scale_more : (canvas : Size) (b : Box4) (s : ℤ) → s <ℤ pos 4095 → fits_on canvas (window_at b s) ≡ false → IsScaleFrom canvas b s
+    → IsScaleFrom canvas b (s +ℤ pos 1)
+scale_more canvas b s more fails so_far = record {
+  least = omega (arith, ints, so_far.least);
+  greatest = omega (arith, ints);
+  first = sym (first-next canvas b s (unsigned_abs (pos 4095 -ℤ (s +ℤ pos 1))) fails) ∙ rw (← more_scales s more) so_far.first;
+}
+
+pub scale_found : (canvas : Size) (b : Box4) (s : ℤ) → s <ℤ pos 4095 → fits_on canvas (window_at b s) ≡ true → IsScaleFrom canvas b s → s ≡ scale_of canvas b
+scale_found canvas b s more fits so_far =
+    sym (first-found canvas b s (unsigned_abs (pos 4095 -ℤ (s +ℤ pos 1))) fits) ∙ rw (← more_scales s more) so_far.first
+
+pub scale_last : (canvas : Size) (b : Box4) (s : ℤ) → s ≡ pos 4095 → IsScaleFrom canvas b s → pos 4095 ≡ scale_of canvas b
+unfolding first_fitting
+scale_last canvas b s last so_far = rw last at so_far.first
+
+pub few_lines : (canvas : Size) (b : Box4) → IsSize canvas → IsBoxOfField b → (window_at b (scale_of canvas b)).lines ≤ canvas.rows - 3
+few_lines canvas b size box = (fitting_parts canvas (window_at b (scale_of canvas b)) (scale-fits canvas b size box)).lines
+
+-- the cell that the code finds
+pub found_cell : (s p r : ℤ) → IsScale s → negsuc 4094 ≤ℤ p → p ≤ℤ pos 4094 → r ≡ cell_of (to_z w32 (of_z w32 s)) (to_z w32 (of_z w32 p))
+    → to_z w32 (of_z w32 r) ≡ cell_of s p
+found_cell s p r scale least greatest computed =
+    let value = cell_value s p r scale least greatest computed in
+    let field = cell_in_field s p scale.least least greatest in
+    rw value (stays (cell_of s p) field.least (omega (arith, ints, field.greatest)))
+
+pub stays_scale : (s : ℤ) → IsScale s → to_z w32 (of_z w32 s) ≡ s
+stays_scale s scale = stays s (omega (arith, ints, scale.least)) scale.greatest

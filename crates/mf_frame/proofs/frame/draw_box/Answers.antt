@@ -1,0 +1,29 @@
+use Rattle.std.proofs.Common.{◌≡◌, to_z, of_z, w64, refl, arith}
+use Rattle.std.proofs.lemmas.Int.{ints}
+use Rattle.mf_rows.specs.Dots.{total_of}
+use Rattle.mf_frame.specs.Frames.{box_frame}
+use Rattle.mf_frame.proofs.FrameLines.{drawn_lines}
+use Rattle.mf_frame.proofs.LeastBoxes.{all_in_window, least_box_of_field}
+use Rattle.mf_frame.proofs.Windows.{is_scale, stays_scale}
+use Rattle.mf_frame.proofs.frame.draw_box.Goals as goal
+
+pub fitting-window-requires : goal.fitting-window-requires
+fitting-window-requires c = least_box_of_field _ _ c.total-total.ensures.lawful c.requires
+
+pub cells_of-requires-clause-dots : goal.cells_of-requires-clause-dots
+cells_of-requires-clause-dots c =
+    let field = least_box_of_field _ _ c.total-total.ensures.lawful c.requires in
+    rw c.fitting-window.ensures.value (all_in_window _ _ _ (is_scale c.args.canvas c.args.bounds.now).least c.requires field)
+
+pub push_measures-requires : goal.push_measures-requires
+push_measures-requires c = least_box_of_field _ _ c.total-total.ensures.lawful c.requires
+
+pub returns : goal.returns
+unfolding box_frame
+returns c =
+    let w = c.fitting-window.result in
+    let lines = drawn_lines c.args.style _ _ _ c.in_ok-shades.ensures in
+    let scale = stays_scale w.scale c.fitting-window.ensures.lawful.scale in
+    let total : to_z w64 (of_z w64 c.total-total.result) ≡ total_of c.args.picture.now = omega (arith, ints, c.total-total.ensures.value) in
+    rw (← c.fitting-window.ensures.value, c.in_ok-push_measures.ensures, c.in_ok-push_heading.ensures, c.in_ok-push_lines.ensures, c.in_ok-push_padding.ensures, c.new-text.ensures.items, c.deref.ensures.value, total, lines, scale)
+    refl

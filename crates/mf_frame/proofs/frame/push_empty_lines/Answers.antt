@@ -1,0 +1,11 @@
+use Rattle.mf_frame.proofs.FrameLines.{empty_all, empty_more, empty_none}
+use Rattle.mf_frame.proofs.frame.push_empty_lines.Goals as goal
+
+pub loop-init : goal.loop-init
+loop-init c = empty_none _ _
+
+pub loop-preserved : goal.loop-preserved
+loop-preserved c = empty_more _ _ _ _ _ c.loop-test.true c.in_ok-push_number_end.ensures c.loop.invariant
+
+pub returns : goal.returns
+returns c = empty_all _ _ _ _ c.loop-test.false c.loop.invariant

@@ -1,0 +1,6 @@
+use Rattle.mf_frame.specs.Cells.{shade_in}
+use Rattle.mf_frame.proofs.FrameLines.{AreLinesSoFar}
+use Rattle.mf_frame.proofs.frame.push_lines.Given as goal
+
+abbrev pub invariant-loop-above : goal.invariant-loop-above
+invariant-loop-above l = AreLinesSoFar l.style (shade_in l.window l.shades) l.window l.initial.text.items l.above l.text.items

@@ -1,0 +1,102 @@
+-- Cells of a picture, and their shades. The cell (i, j) at scale s is the square of the pixels whose columns are s * i to
+-- s * i + s - 1, and whose rows are s * j to s * j + s - 1.
+use Rattle.std.specs.Prelude.{◌≡◌, ◌<◌, ◌≤◌, ℕ, ◌+◌, ◌*◌, ◌&&◌, Bool, true, false, ℤ, pos, ◌+ℤ◌, ◌-ℤ◌, ◌*ℤ◌, ◌≤ℤ◌, ◌<ℤ◌, int_lt, nat_lt, List, [], ◌∷◌, length, get_or, if◌then◌else◌}
+use Rattle.std.specs.Int.{int_div_euclid}
+use Rattle.std.specs.Int.RustNames.{unsigned_abs}
+use Rattle.std.specs.List.{All}
+use Rattle.std.specs.Ordering.{int_eq}
+use Rattle.mf_rows.specs.declared.run.Run.{Run}
+use Rattle.mf_rows.specs.Dots.{Dot, weight_at}
+use Rattle.mf_rows.specs.Order.{IsRun}
+use Rattle.mf_rows.specs.Runs.{dots_of}
+use Rattle.mf_frame.specs.declared.shade.Shade.{Shade}
+use Rattle.mf_frame.specs.declared.window.Window.{Window}
+use Rattle.mf_frame.specs.declared.shade.Shade.TheVariants.{Blank, Negative, One, Two, More}
+
+-- the column, or row, of the cells of pixel column, or row, p at scale s
+unfoldable pub cell_of : ℤ → ℤ → ℤ
+cell_of s p = int_div_euclid p s
+
+-- the shade of a weight
+abbrev pub shade_of : ℤ → Shade
+shade_of w =
+    if int_eq w (pos 0) then Blank
+    else (if int_lt w (pos 0) then Negative
+    else (if int_eq w (pos 1) then One
+    else (if int_eq w (pos 2) then Two else More)))
+
+-- how dark a shade is
+abbrev pub depth : Shade → ℕ
+depth Blank = 0
+depth Negative = 1
+depth One = 2
+depth Two = 3
+depth More = 4
+
+-- a shade is dark: it is that of a positive weight
+abbrev pub is_dark : Shade → Bool
+is_dark Blank = false
+is_dark Negative = false
+is_dark One = true
+is_dark Two = true
+is_dark More = true
+
+-- the darker one of two shades
+abbrev pub darker : Shade → Shade → Shade
+darker a b = if nat_lt (depth a) (depth b) then b else a
+
+-- the darkest shade of the pixels of the cell (i, j) at scale s
+unfoldable pub cell_shade : ℤ → List Dot → ℤ → ℤ → Shade
+cell_shade s [] i j = Blank
+cell_shade s (d ∷ ds) i j =
+    if int_eq (cell_of s d.x) i && int_eq (cell_of s d.y) j then darker (shade_of d.weight) (cell_shade s ds i j) else cell_shade s ds i j
+
+-- where the cell (i, j) of a window is in the list of its cells, row by row from the lowest
+abbrev pub place_in : Window → ℤ → ℤ → ℕ
+place_in w i j = unsigned_abs (j -ℤ (pos 2 *ℤ w.line)) * w.columns + unsigned_abs (i -ℤ w.column)
+
+-- the shade of the cell (i, j) of a window whose cells have these shades
+unfoldable pub shade_in : Window → List Shade → ℤ → ℤ → Shade
+shade_in w shades i j = get_or shades (place_in w i j) Blank
+
+-- the cell (i, j) is in a window
+pub record IsCellOf (w : Window) (i j : ℤ) : Type 0 where
+  pub left : w.column ≤ℤ i
+  pub right : i <ℤ (w.column +ℤ pos w.columns)
+  pub bottom : (pos 2 *ℤ w.line) ≤ℤ j
+  pub top : j <ℤ ((pos 2 *ℤ w.line) +ℤ pos (2 * w.lines))
+
+-- the shades are those of the cells of a window
+pub record AreCells (w : Window) (ds : List Dot) (shades : List Shade) : Type 0 where
+  pub count : length shades ≡ 2 * w.lines * w.columns
+  pub cells : (i j : ℤ) → IsCellOf w i j → shade_in w shades i j ≡ cell_shade w.scale ds i j
+
+-- the shades are as before, but those of the places from .. to - 1 are at least as dark as this shade
+pub record AreDarkened (start end : ℕ) (shade : Shade) (old new : List Shade) : Type 0 where
+  pub count : length new ≡ length old
+  pub inside : (k : ℕ) → start ≤ k → k < end → get_or new k Blank ≡ darker (get_or old k Blank) shade
+  pub before : (k : ℕ) → k < start → get_or new k Blank ≡ get_or old k Blank
+  pub after : (k : ℕ) → end ≤ k → get_or new k Blank ≡ get_or old k Blank
+
+-- the cells of a window are as before, but those of a run are at least as dark as its shade
+pub record ArePainted (w : Window) (r : Run) (old new : List Shade) : Type 0 where
+  pub count : length new ≡ length old
+  pub cells : (i j : ℤ) → IsCellOf w i j → shade_in w new i j ≡ darker (shade_in w old i j) (cell_shade w.scale (dots_of r) i j)
+
+-- a run lies in a window
+pub record IsRunInWindow (w : Window) (r : Run) : Type 0 where
+  pub run : IsRun r
+  pub first : IsCellOf w (cell_of w.scale r.x) (cell_of w.scale r.y)
+  pub last : IsCellOf w (cell_of w.scale ((r.x +ℤ pos r.len) -ℤ pos 1)) (cell_of w.scale r.y)
+
+-- the cells of all dots lie in a window
+abbrev pub AreInWindow : Window → List Dot → Type 0
+AreInWindow w ds = All (λ d. IsCellOf w (cell_of w.scale d.x) (cell_of w.scale d.y)) ds
+
+-- a pixel of the cell (i, j) at scale s has positive weight
+pub record HasPositivePixel (s : ℤ) (ds : List Dot) (i j : ℤ) : Type 0 where
+  pub x : ℤ
+  pub y : ℤ
+  pub column : cell_of s x ≡ i
+  pub row : cell_of s y ≡ j
+  pub positive : pos 0 <ℤ weight_at ds x y

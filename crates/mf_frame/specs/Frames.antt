@@ -1,0 +1,79 @@
+-- Frames: what a picture looks like on a canvas.
+use Rattle.std.specs.Prelude.{ℕ, zero, suc, ◌-◌, ℤ, pos, ◌+ℤ◌, ◌*ℤ◌, List, [], ◌++◌, codes, Option, None, Some}
+use Rattle.std.specs.Fmt.{decimal, signed_decimal}
+use Rattle.mf_rows.specs.declared.bounds.Box4.{Box4}
+use Rattle.mf_rows.specs.Dots.{Dot, total_of}
+use Rattle.mf_frame.specs.declared.shade.Shade.{Shade}
+use Rattle.mf_frame.specs.declared.tile.Style.{Style}
+use Rattle.mf_frame.specs.declared.tile.Style.TheVariants.{Colored, Plain}
+use Rattle.mf_frame.specs.declared.window.Window.{Window}
+use Rattle.mf_frame.specs.Boxes.{box_of}
+use Rattle.mf_frame.specs.Canvases.{Size}
+use Rattle.mf_frame.specs.Cells.{cell_shade}
+use Rattle.mf_frame.specs.Tiles.{tile, tile_end, number_end}
+use Rattle.mf_frame.specs.Windows.{scale_of, window_at}
+
+-- the tile of column i in line k, where f has the shades of cells: those of rows 2 * k + 1 and 2 * k
+abbrev pub tile_at : Style → (ℤ → ℤ → Shade) → ℤ → ℤ → List ℕ
+tile_at style f k i = tile style (f i ((pos 2 *ℤ k) +ℤ pos 1)) (f i (pos 2 *ℤ k)) i k
+
+-- n tiles of line k from column i on
+unfoldable pub tiles : Style → (ℤ → ℤ → Shade) → ℤ → ℤ → ℕ → List ℕ
+tiles style f k i zero = []
+tiles style f k i (suc n) = tile_at style f k i ++ tiles style f k (i +ℤ pos 1) n
+
+-- line k of a window
+abbrev pub window_line : Style → (ℤ → ℤ → Shade) → Window → ℤ → List ℕ
+window_line style f w k = tiles style f k w.column w.columns ++ tile_end style
+
+-- the n lowest lines of a window, from the highest of them downwards
+unfoldable pub lowest_lines : Style → (ℤ → ℤ → Shade) → Window → ℕ → List ℕ
+lowest_lines style f w zero = []
+lowest_lines style f w (suc n) = window_line style f w (w.line +ℤ pos n) ++ lowest_lines style f w n
+
+-- all lines of a window
+abbrev pub window_lines : Style → (ℤ → ℤ → Shade) → Window → List ℕ
+window_lines style f w = lowest_lines style f w w.lines
+
+-- n empty lines
+unfoldable pub empty_lines : Style → ℕ → List ℕ
+empty_lines style zero = []
+empty_lines style (suc n) = number_end style ++ empty_lines style n
+
+-- the empty lines above n lines of a picture: none in a plain frame, and as many as make a colored one as high as its canvas
+abbrev pub padding : Style → Size → ℕ → List ℕ
+padding Plain canvas n = []
+padding Colored canvas n = empty_lines Colored ((canvas.rows - 3) - n)
+
+-- the line with the revision and the total weight
+abbrev pub heading : Style → ℕ → ℤ → List ℕ
+heading style revision total =
+    codes "revision " ++ decimal revision ++ codes "  totalweight " ++ signed_decimal total ++ number_end style
+
+-- two numbers, the ends of a range
+abbrev pub range : ℤ → ℤ → List ℕ
+range first last = signed_decimal first ++ codes ".." ++ signed_decimal last
+
+-- the line with a box and its scale
+abbrev pub measures : Style → Box4 → ℤ → List ℕ
+measures style b s =
+    codes "columns " ++ range b.min_x b.max_x ++ codes "  rows " ++ range b.min_y b.max_y ++ codes "  scale " ++ signed_decimal s ++ number_end style
+
+-- the frame of a picture with this least box and window
+unfoldable pub box_frame : Style → Size → ℕ → List Dot → Box4 → Window → List ℕ
+box_frame style canvas revision ds b w =
+    padding style canvas w.lines ++ window_lines style (cell_shade w.scale ds) w ++ heading style revision (total_of ds) ++ measures style b w.scale
+
+-- the frame of the blank picture
+unfoldable pub blank_frame : Style → Size → ℕ → List Dot → List ℕ
+blank_frame style canvas revision ds =
+    padding style canvas 0 ++ heading style revision (total_of ds) ++ codes "blank  scale 1" ++ number_end style
+
+-- the frame of a picture with this least box
+abbrev pub frame_of : Style → Size → ℕ → List Dot → Option Box4 → List ℕ
+frame_of style canvas revision ds None = blank_frame style canvas revision ds
+frame_of style canvas revision ds (Some b) = box_frame style canvas revision ds b (window_at b (scale_of canvas b))
+
+-- the frame of a picture
+unfoldable pub frame_text : Style → Size → ℕ → List Dot → List ℕ
+frame_text style canvas revision ds = frame_of style canvas revision ds (box_of ds)

@@ -1,0 +1,102 @@
+-- Tiles: the characters of a frame, each of which shows two cells, one above the other.
+use Rattle.std.specs.Prelude.{ℕ, ◌&&◌, ◌||◌, Bool, true, false, ℤ, pos, List, [], ◌∷◌, ◌++◌, codes, if◌then◌else◌}
+use Rattle.std.specs.Ordering.{int_eq}
+use Rattle.mf_frame.specs.declared.shade.Shade.{Shade}
+use Rattle.mf_frame.specs.declared.shade.Shade.TheVariants.{Blank, Negative, One, Two, More}
+use Rattle.mf_frame.specs.declared.tile.Style.{Style}
+use Rattle.mf_frame.specs.declared.tile.Style.TheVariants.{Colored, Plain}
+use Rattle.mf_frame.specs.Cells.{is_dark}
+
+-- the UTF-8 bytes of the characters ▀, ▄, █, ░, ▏ and ▁
+abbrev pub upper_half : List ℕ
+upper_half = 226 ∷ 150 ∷ 128 ∷ []
+
+abbrev pub lower_half : List ℕ
+lower_half = 226 ∷ 150 ∷ 132 ∷ []
+
+abbrev pub full_block : List ℕ
+full_block = 226 ∷ 150 ∷ 136 ∷ []
+
+abbrev pub light_shade : List ℕ
+light_shade = 226 ∷ 150 ∷ 145 ∷ []
+
+abbrev pub left_border : List ℕ
+left_border = 226 ∷ 150 ∷ 143 ∷ []
+
+abbrev pub lower_border : List ℕ
+lower_border = 226 ∷ 150 ∷ 129 ∷ []
+
+-- the escape character, which begins each control sequence (ECMA-48)
+abbrev pub escape : List ℕ
+escape = 27 ∷ []
+
+abbrev pub is_blank : Shade → Bool
+is_blank Blank = true
+is_blank Negative = false
+is_blank One = false
+is_blank Two = false
+is_blank More = false
+
+abbrev pub is_negative : Shade → Bool
+is_negative Blank = false
+is_negative Negative = true
+is_negative One = false
+is_negative Two = false
+is_negative More = false
+
+-- a tile is next to an axis: that of y is the left border of column 0, that of x the lower border of line 0
+abbrev pub is_at_axis : ℤ → ℤ → Bool
+is_at_axis column line = int_eq column (pos 0) || int_eq line (pos 0)
+
+-- what marks the axis in a tile without dark cells
+abbrev pub axis_mark : ℤ → ℤ → List ℕ
+axis_mark column line =
+    if int_eq column (pos 0) then left_border
+    else (if int_eq line (pos 0) then lower_border else codes " ")
+
+-- a tile without dark cells and colors: that one is negative, or else the axis
+abbrev pub light_tile : Shade → Shade → ℤ → ℤ → List ℕ
+light_tile upper lower column line = if is_negative upper || is_negative lower then light_shade else axis_mark column line
+
+-- a tile without colors: its dark halves, or else what a light tile shows
+abbrev pub plain_tile : Shade → Shade → ℤ → ℤ → List ℕ
+plain_tile upper lower column line =
+    if is_dark upper then (if is_dark lower then full_block else upper_half)
+    else (if is_dark lower then lower_half else light_tile upper lower column line)
+
+-- the number of the color of a shade, among the 256 colors of a terminal
+abbrev pub color_of : Shade → List ℕ
+color_of Blank = codes "255"
+color_of Negative = codes "208"
+color_of One = codes "238"
+color_of Two = codes "25"
+color_of More = codes "16"
+
+-- what sets the color of a character and that of its background
+abbrev pub colors : List ℕ → List ℕ → List ℕ
+colors front back = escape ++ codes "[38;5;" ++ front ++ codes ";48;5;" ++ back ++ codes "m"
+
+-- a tile in colors: its upper half in the front, its lower half behind, or the axis where both are blank
+abbrev pub colored_tile : Shade → Shade → ℤ → ℤ → List ℕ
+colored_tile upper lower column line =
+    if (is_blank upper && is_blank lower) && is_at_axis column line then colors (codes "250") (codes "255") ++ axis_mark column line
+    else (colors (color_of upper) (color_of lower) ++ upper_half)
+
+-- a tile of a style
+abbrev pub tile : Style → Shade → Shade → ℤ → ℤ → List ℕ
+tile Plain upper lower column line = plain_tile upper lower column line
+tile Colored upper lower column line = colored_tile upper lower column line
+
+-- what erases the rest of a line and ends it
+abbrev pub cleared_end : List ℕ
+cleared_end = escape ++ codes "[K\n"
+
+-- the end of a line of numbers
+abbrev pub number_end : Style → List ℕ
+number_end Plain = codes "\n"
+number_end Colored = cleared_end
+
+-- the end of a line of tiles
+abbrev pub tile_end : Style → List ℕ
+tile_end Plain = codes "\n"
+tile_end Colored = escape ++ codes "[0m" ++ cleared_end

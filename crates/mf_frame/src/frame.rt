@@ -1,0 +1,199 @@
+//! Frames.
+ghost use Rattle.std.specs.Prelude.{◌≡◌, ◌≤◌, ◌<◌, ◌-◌, ◌*◌, ◌++◌, pos, ◌+ℤ◌, length, IfOk};
+ghost use Rattle.mf_rows.specs.Bounds.{IsLeastBox};
+ghost use Rattle.mf_frame.specs.Cells.{shade_in};
+ghost use Rattle.mf_frame.specs.Frames.{blank_frame, box_frame, empty_lines, frame_text, heading, measures, padding, range, window_line, window_lines};
+ghost use Rattle.mf_frame.specs.declared.tile.Style.TheVariants.{Colored};
+ghost use Rattle.mf_frame.specs.Windows.{IsBoxOfField, IsWindow, scale_of, window_at};
+
+use crate::canvas::Canvas;
+use crate::cells::cells_of;
+use crate::shade::Shade;
+use crate::tile::{Style, push, push_number_end, push_tile, push_tile_end};
+use crate::window::Window;
+use itoa::Buffer;
+use mf_geom::OutOfMemory;
+use mf_rows::{Box4, Picture};
+use std::alloc::Global;
+
+/// A picture as a frame of characters. Each line of a picture shows two rows of cells by half blocks. A cell is one pixel, or
+/// where the picture is larger than the canvas the least square of pixels, `scale` wide, with which it fits; it has the shade
+/// of its darkest pixel: blank, negative, or weight 1, 2 or more. Borders of cells lie on the axes, which are marked where
+/// nothing else is. Below come a line `revision R  totalweight T`, and a line `columns X1..X2  rows Y1..Y2  scale S` with the
+/// least box of the picture in pixels, or `blank  scale 1`. Refused with `OutOfMemory` where an allocation fails.
+pub fn draw(
+    alloc: Global,
+    picture: &Picture,
+    revision: u32,
+    canvas: Canvas,
+    style: Style,
+) -> Result<Vec<u8>, OutOfMemory>
+    ensures text { IfOk result (λ text. text.items ≡ frame_text style canvas revision picture.now) }
+{
+    match picture.bounds() {
+        Some(bounds) => draw_box(alloc, picture, revision, canvas, style, &bounds),
+        None => draw_blank(alloc, picture, revision, canvas, style),
+    }
+}
+
+/// The frame of a picture whose least box is this one.
+fn draw_box(
+    alloc: Global,
+    picture: &Picture,
+    revision: u32,
+    canvas: Canvas,
+    style: Style,
+    bounds: &Box4,
+) -> Result<Vec<u8>, OutOfMemory>
+    requires { IsLeastBox picture.now bounds.now }
+    ensures { IfOk result (λ text. text.items ≡ box_frame style canvas revision picture.now bounds.now (window_at bounds.now (scale_of canvas bounds.now))) }
+{
+    let total = picture.total();
+    let window = Window::fitting(bounds, canvas);
+    let shades = cells_of(alloc, picture, &window)?;
+    let mut text = Vec::new(alloc);
+    push_padding(&mut text, style, canvas, window.lines)?;
+    push_lines(&mut text, style, &shades, &window)?;
+    push_heading(&mut text, style, revision, total)?;
+    push_measures(&mut text, style, bounds, window.scale)?;
+    Ok(text)
+}
+
+/// The frame of the blank picture.
+fn draw_blank(
+    alloc: Global,
+    picture: &Picture,
+    revision: u32,
+    canvas: Canvas,
+    style: Style,
+) -> Result<Vec<u8>, OutOfMemory>
+    ensures { IfOk result (λ text. text.items ≡ blank_frame style canvas revision picture.now) }
+{
+    let total = picture.total();
+    let mut text = Vec::new(alloc);
+    push_padding(&mut text, style, canvas, 0)?;
+    push_heading(&mut text, style, revision, total)?;
+    push(&mut text, b"blank  scale 1")?;
+    push_number_end(&mut text, style)?;
+    Ok(text)
+}
+
+/// Appends the empty lines above this number of lines of a picture.
+fn push_padding(
+    text: &mut Vec<u8>,
+    style: Style,
+    canvas: Canvas,
+    lines: u32,
+) -> Result<(), OutOfMemory>
+    requires { lines ≤ canvas.rows - 3 }
+    ensures { IfOk result (λ _. text.new.items ≡ text.old.items ++ padding style canvas lines) }
+{
+    match style {
+        Style::Plain => Ok(()),
+        Style::Colored => push_empty_lines(text, canvas.picture_lines() - lines),
+    }
+}
+
+/// Appends this number of empty lines of a colored frame.
+fn push_empty_lines(text: &mut Vec<u8>, count: u32) -> Result<(), OutOfMemory>
+    ensures { IfOk result (λ _. text.new.items ≡ text.old.items ++ empty_lines Colored count) }
+{
+    for _ in 0..count {
+        push_number_end(text, Style::Colored)?;
+    }
+    Ok(())
+}
+
+/// Appends the lines of a window whose cells have these shades, from the highest.
+fn push_lines(
+    text: &mut Vec<u8>,
+    style: Style,
+    shades: &[Shade],
+    window: &Window,
+) -> Result<(), OutOfMemory>
+    requires window { IsWindow window.now }
+    requires count { length shades.now ≡ 2 * window.now.lines * window.now.columns }
+    ensures { IfOk result (λ _. text.new.items ≡ text.old.items ++ window_lines style (shade_in window.now shades.now) window.now) }
+{
+    for above in (0..window.lines).rev() {
+        push_line(text, style, shades, window, above)?;
+    }
+    Ok(())
+}
+
+/// Appends the line this far above the lowest.
+fn push_line(
+    text: &mut Vec<u8>,
+    style: Style,
+    shades: &[Shade],
+    window: &Window,
+    above: u32,
+) -> Result<(), OutOfMemory>
+    requires window { IsWindow window.now }
+    requires count { length shades.now ≡ 2 * window.now.lines * window.now.columns }
+    requires above { above < window.now.lines }
+    ensures { IfOk result (λ _. text.new.items ≡ text.old.items ++ window_line style (shade_in window.now shades.now) window.now (window.now.line +ℤ pos above)) }
+{
+    let columns = window.columns as usize;
+    let lower = 2 * above as usize * columns;
+    let upper = lower + columns;
+    let line = window.line + above as i32;
+    for place in 0..columns {
+        let column = window.column + place as i32;
+        push_tile(
+            text,
+            style,
+            shades[upper + place],
+            shades[lower + place],
+            column,
+            line,
+        )?;
+    }
+    push_tile_end(text, style)
+}
+
+/// Appends the line with the revision and the total weight.
+fn push_heading(
+    text: &mut Vec<u8>,
+    style: Style,
+    revision: u32,
+    total: i64,
+) -> Result<(), OutOfMemory>
+    ensures { IfOk result (λ _. text.new.items ≡ text.old.items ++ heading style revision total) }
+{
+    let mut buffer = Buffer::new();
+    push(text, b"revision ")?;
+    push(text, buffer.format(revision).as_bytes())?;
+    push(text, b"  totalweight ")?;
+    push(text, buffer.format(total).as_bytes())?;
+    push_number_end(text, style)
+}
+
+/// Appends the line with a box and its scale.
+fn push_measures(
+    text: &mut Vec<u8>,
+    style: Style,
+    bounds: &Box4,
+    scale: i32,
+) -> Result<(), OutOfMemory>
+    requires { IsBoxOfField bounds.now }
+    ensures { IfOk result (λ _. text.new.items ≡ text.old.items ++ measures style bounds.now scale) }
+{
+    push_range(text, b"columns ", bounds.min_x, bounds.max_x)?;
+    push_range(text, b"  rows ", bounds.min_y, bounds.max_y)?;
+    let mut buffer = Buffer::new();
+    push(text, b"  scale ")?;
+    push(text, buffer.format(scale).as_bytes())?;
+    push_number_end(text, style)
+}
+
+/// Appends a name and the two ends of a range.
+fn push_range(text: &mut Vec<u8>, name: &[u8], first: i32, last: i32) -> Result<(), OutOfMemory>
+    ensures { IfOk result (λ _. text.new.items ≡ text.old.items ++ name.now ++ range first last) }
+{
+    let mut buffer = Buffer::new();
+    push(text, name)?;
+    push(text, buffer.format(first).as_bytes())?;
+    push(text, b"..")?;
+    push(text, buffer.format(last).as_bytes())
+}

@@ -1,0 +1,13 @@
+//! Laws of frames. Each is the contract of a function that does nothing, because the toolchain proves a statement only where the
+//! contract of a function names it.
+ghost use Rattle.std.specs.Prelude.{◌<ℤ◌, ◌≤ℤ◌, ℤ, pos, IsTrue, IsFalse};
+ghost use Rattle.mf_rows.specs.declared.bounds.Box4.{Box4};
+ghost use Rattle.mf_frame.specs.Canvases.{IsSize, Size};
+ghost use Rattle.mf_frame.specs.Windows.{IsBoxOfField, fits_on, scale_of, window_at};
+
+/// The window of a box fits at its scale, and at no lesser one.
+pub fn scale_is_least()
+    ensures fits { (canvas : Size) (b : Box4) → IsSize canvas → IsBoxOfField b → IsTrue (fits_on canvas (window_at b (scale_of canvas b))) }
+    ensures least { (canvas : Size) (b : Box4) (s : ℤ) → pos 1 ≤ℤ s → s <ℤ scale_of canvas b → IsFalse (fits_on canvas (window_at b s)) }
+    ensures positive { (canvas : Size) (b : Box4) → pos 1 ≤ℤ scale_of canvas b }
+{}

@@ -1,0 +1,3 @@
+pub mod ImageBoxes
+pub mod PathTexts
+pub mod PixelBytes

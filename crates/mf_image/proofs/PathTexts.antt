@@ -1,0 +1,138 @@
+-- The weights of runs, and the texts of their paths.
+use Rattle.std.proofs.Common.{◌≡◌, ◌<◌, codes, length, ℕ, suc, ℤ, pos, negsuc, ◌+ℤ◌, ◌≤ℤ◌, List, [], ◌∷◌, ◌++◌, refl, sym, ap, ◌∙◌, append_assoc, arith}
+use Rattle.std.specs.Int.{int_max, int_min}
+use Rattle.std.specs.List.{All, flat_map, fold}
+use Rattle.std.proofs.lemmas.Int.{ints, int_max_is, int_min_is}
+use Rattle.std.proofs.lemmas.List.{append-nil}
+use Rattle.std.proofs.lemmas.List.Elements.{All-head, All-rest, All-same}
+use Rattle.mf_rows.specs.declared.run.Run.{Run}
+use Rattle.mf_rows.specs.Dots.{Dot, IsPicture}
+use Rattle.mf_rows.specs.Order.{IsRun}
+use Rattle.mf_rows.specs.Runs.{runs_of}
+use Rattle.mf_rows.proofs.Totals.{total_none}
+use Rattle.mf_show.specs.Grid.{extent}
+use Rattle.std.specs.Fmt.{signed_decimal}
+use Rattle.mf_image.specs.Svg.{color, greatest_weight, least_weight, path, paths, paths_from, rectangle_of, weights_of}
+
+-- ---- the span of weights
+
+-- the least and the greatest weight of the first runs; with those of the others, rs, they are the least and the greatest of all
+pub record AreSpanned (ds : List Dot) (rs : List Run) (least greatest : ℤ) : Type 0 where
+  pub runs : All IsRun rs
+  pub below : fold int_min least (weights_of rs) ≡ least_weight (runs_of ds)
+  pub above : fold int_max greatest (weights_of rs) ≡ greatest_weight (runs_of ds)
+  pub low : negsuc 32766 ≤ℤ least
+  pub down : least ≤ℤ pos 0
+  pub up : pos 0 ≤ℤ greatest
+  pub high : greatest ≤ℤ pos 32767
+
+pub none_spanned : (ds : List Dot) (rs : List Run) → IsPicture ds → rs ≡ runs_of ds → AreSpanned ds rs (pos 0) (pos 0)
+none_spanned ds rs picture all = record {
+  runs = (total_none ds rs picture all).passes.runs;
+  below = rw all refl;
+  above = rw all refl;
+  low = omega (arith, ints);
+  down = omega (arith, ints);
+  up = omega (arith, ints);
+  high = omega (arith, ints);
+}
+
+pub first_is_lawful : (ds : List Dot) (rs : List Run) (r : Run) (others : List Run) (least greatest : ℤ) → rs ≡ r ∷ others → AreSpanned ds rs least greatest
+    → IsRun r
+first_is_lawful ds rs r others least greatest first so_far = All-head IsRun r others (All-same IsRun (r ∷ others) rs (sym first) so_far.runs)
+
+pub one_more_spanned : (ds : List Dot) (rs : List Run) (r : Run) (others : List Run) (least greatest low high : ℤ) → rs ≡ r ∷ others
+    → low ≡ int_min least r.weight → high ≡ int_max greatest r.weight → AreSpanned ds rs least greatest → AreSpanned ds others low high
+one_more_spanned ds rs r others least greatest low high first lesser greater so_far =
+    let run = first_is_lawful ds rs r others least greatest first so_far in
+    record {
+      runs = All-rest IsRun r others rs first so_far.runs;
+      below = ap (λ w. fold int_min w (weights_of others)) lesser ∙ ap (λ all. fold int_min least (weights_of all)) (sym first) ∙ so_far.below;
+      above = ap (λ w. fold int_max w (weights_of others)) greater ∙ ap (λ all. fold int_max greatest (weights_of all)) (sym first) ∙ so_far.above;
+      low = omega (arith, ints, lesser, int_min_is least r.weight, run.lawful.least, so_far.low);
+      down = omega (arith, ints, lesser, int_min_is least r.weight, so_far.down);
+      up = omega (arith, ints, greater, int_max_is greatest r.weight, so_far.up);
+      high = omega (arith, ints, greater, int_max_is greatest r.weight, run.lawful.greatest, so_far.high);
+    }
+
+pub all_spanned : (ds : List Dot) (rs : List Run) (least greatest : ℤ) → rs ≡ [] → AreSpanned ds rs least greatest
+    → (least ≡ least_weight (runs_of ds)) × (greatest ≡ greatest_weight (runs_of ds))
+all_spanned ds rs least greatest none so_far =
+    (ap (λ all. fold int_min least (weights_of all)) (sym none) ∙ so_far.below, ap (λ all. fold int_max greatest (weights_of all)) (sym none) ∙ so_far.above)
+
+-- ---- the rectangles of a weight
+
+-- a text has the rectangles of all runs but the last ones, rs
+pub record AreDrawn (w : ℤ) (ds : List Dot) (old : List ℕ) (rs : List Run) (text : List ℕ) : Type 0 where
+  pub runs : All IsRun rs
+  pub lines : text ++ flat_map (rectangle_of w) rs ≡ old ++ flat_map (rectangle_of w) (runs_of ds)
+
+pub none_drawn : (w : ℤ) (ds : List Dot) (old : List ℕ) (rs : List Run) → IsPicture ds → rs ≡ runs_of ds → AreDrawn w ds old rs old
+none_drawn w ds old rs picture all = record { runs = (total_none ds rs picture all).passes.runs; lines = rw all refl }
+
+pub next_is_lawful : (w : ℤ) (ds : List Dot) (old : List ℕ) (rs : List Run) (r : Run) (others : List Run) (text : List ℕ) → rs ≡ r ∷ others
+    → AreDrawn w ds old rs text → IsRun r
+next_is_lawful w ds old rs r others text first so_far = All-head IsRun r others (All-same IsRun (r ∷ others) rs (sym first) so_far.runs)
+
+pub one_more_drawn : (w : ℤ) (ds : List Dot) (old : List ℕ) (rs : List Run) (r : Run) (others : List Run) (text new : List ℕ) → rs ≡ r ∷ others
+    → new ≡ text ++ rectangle_of w r → AreDrawn w ds old rs text → AreDrawn w ds old others new
+one_more_drawn w ds old rs r others text new first line so_far = record {
+  runs = All-rest IsRun r others rs first so_far.runs;
+  lines =
+      rw line (append_assoc text (rectangle_of w r) (flat_map (rectangle_of w) others))
+      ∙ ap (λ all. text ++ flat_map (rectangle_of w) all) (sym first) ∙ so_far.lines;
+}
+
+pub all_drawn : (w : ℤ) (ds : List Dot) (old : List ℕ) (rs : List Run) (text : List ℕ) → rs ≡ [] → AreDrawn w ds old rs text
+    → text ≡ old ++ flat_map (rectangle_of w) (runs_of ds)
+all_drawn w ds old rs text none so_far = sym (append-nil text) ∙ ap (λ all. text ++ flat_map (rectangle_of w) all) (sym none) ∙ so_far.lines
+
+-- ---- the paths
+
+extent-next : (w last : ℤ) → w ≤ℤ last → extent w last ≡ suc (extent (w +ℤ pos 1) last)
+extent-next w last le = omega (arith, ints)
+
+extent-none : (w last : ℤ) → w ≡ last +ℤ pos 1 → extent w last ≡ 0
+extent-none w last over = omega (arith, ints)
+
+-- the text so far is the old one and the paths of the weights from the least to the one before w
+pub record ArePathsSoFar (rs : List Run) (least greatest : ℤ) (old : List ℕ) (w : ℤ) (text : List ℕ) : Type 0 where
+  pub left : least ≤ℤ w
+  pub right : w ≤ℤ (greatest +ℤ pos 1)
+  pub paths : text ++ paths_from rs w (extent w greatest) ≡ old ++ paths_from rs least (extent least greatest)
+
+pub no_paths : (rs : List Run) (least greatest : ℤ) (old : List ℕ) → least ≤ℤ greatest → ArePathsSoFar rs least greatest old least old
+no_paths rs least greatest old order = record { left = omega (arith, ints); right = omega (arith, ints); paths = refl }
+
+paths_from-next : (rs : List Run) (w : ℤ) (n : ℕ) → paths_from rs w (suc n) ≡ path w (flat_map (rectangle_of w) rs) ++ paths_from rs (w +ℤ pos 1) n
+unfolding paths_from
+paths_from-next rs w n = refl
+
+pub one_more_path : (rs : List Run) (least greatest : ℤ) (old : List ℕ) (w : ℤ) (text new : List ℕ) → w ≤ℤ greatest
+    → new ≡ text ++ path w (flat_map (rectangle_of w) rs) → ArePathsSoFar rs least greatest old w text → ArePathsSoFar rs least greatest old (w +ℤ pos 1) new
+one_more_path rs least greatest old w text new within pushed so_far =
+    let rest = paths_from rs (w +ℤ pos 1) (extent (w +ℤ pos 1) greatest) in
+    let next : paths_from rs w (extent w greatest) ≡ path w (flat_map (rectangle_of w) rs) ++ rest =
+    ap (paths_from rs w) (extent-next w greatest within) ∙ paths_from-next rs w (extent (w +ℤ pos 1) greatest) in
+    record {
+      left = omega (arith, ints, so_far.left);
+      right = omega (arith, ints);
+      paths = rw pushed (append_assoc text (path w (flat_map (rectangle_of w) rs)) rest) ∙ ap (λ more. text ++ more) (sym next) ∙ so_far.paths;
+    }
+
+pub all_paths : (rs : List Run) (least greatest : ℤ) (old : List ℕ) (w : ℤ) (text : List ℕ) → w ≡ greatest +ℤ pos 1 → least ≡ least_weight rs
+    → greatest ≡ greatest_weight rs → ArePathsSoFar rs least greatest old w text → text ≡ old ++ paths rs
+unfolding paths_from paths
+all_paths rs least greatest old w text over low high so_far =
+    sym (append-nil text) ∙ ap (λ n. text ++ paths_from rs w n) (sym (extent-none w greatest over)) ∙ so_far.paths
+    ∙ rw (low, high) refl
+
+-- ---- a path
+
+pub path_of_some : (w : ℤ) (bs : List ℕ) → 0 < length bs
+    → path w bs ≡ codes "<path id=\"weight" ++ signed_decimal w ++ codes "\" fill=\"" ++ color w ++ codes "\" d=\"\n" ++ bs ++ codes "\"/>\n"
+path_of_some w [] some = absurd (omega (arith, some))
+path_of_some w (b ∷ bs) some = refl
+
+pub path_of_none : (w : ℤ) (bs : List ℕ) → bs ≡ [] → path w bs ≡ []
+path_of_none w bs none = rw none refl

@@ -1,0 +1,19 @@
+use Rattle.std.proofs.Common.{◌≡◌, to_z, of_z, w32, arith}
+use Rattle.std.proofs.lemmas.Int.{ints}
+use Rattle.std.proofs.lemmas.List.{append_assoc}
+use Rattle.std.proofs.lemmas.Result.{IfOk-equal}
+use Rattle.mf_show.specs.Grid.{extent}
+use Rattle.mf_image.proofs.ImageBoxes.{is_within, signed}
+use Rattle.mf_image.proofs.pgm_image.push_head.Goals as goal
+
+pub returns : goal.returns
+returns c =
+    let b = c.args.bounds.now in
+    let left : to_z w32 (of_z w32 b.min_x) ≡ b.min_x = omega (arith, ints) in
+    let top : to_z w32 (of_z w32 b.max_y) ≡ b.max_y = omega (arith, ints) in
+    let columns : c.extent-columns.result ≡ extent b.min_x b.max_x = omega (arith, ints, c.extent-columns.ensures) in
+    let rows : c.extent-rows.result ≡ extent b.min_y b.max_y = omega (arith, ints, c.extent-rows.ensures) in
+    let width = signed _ (is_within b.min_x b.max_x c.requires.left c.requires.right c.requires.columns) in
+    let height = signed _ (is_within b.min_y b.max_y c.requires.bottom c.requires.top c.requires.rows) in
+    IfOk-equal _ _ _ _ c.push_number-4.ensures
+    (rw (c.in_ok-push_number-3.ensures, c.in_ok-push_number-2.ensures, c.in_ok-push_number.ensures, c.in_ok-extend_from_slice.ensures.items, left, top, columns, rows, width, height) (simp append_assoc))

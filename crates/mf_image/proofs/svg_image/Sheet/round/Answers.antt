@@ -1,0 +1,38 @@
+use Rattle.std.proofs.Common.{◌≡◌, pos, ◌+ℤ◌, ◌-ℤ◌, ◌+◌, to_z, of_z, w32, neg_ℤ, arith}
+use Rattle.std.proofs.lemmas.Int.{ints}
+use Rattle.mf_show.specs.Grid.{extent}
+use Rattle.mf_image.proofs.ImageBoxes.{is_within, side}
+use Rattle.mf_image.proofs.svg_image.Sheet.round.Goals as goal
+
+pub returns-clause-sheet : goal.returns-clause-sheet
+returns-clause-sheet c =
+    let b = c.args.bounds.now in
+    let columns : c.extent.result ≡ extent b.min_x b.max_x = omega (arith, ints, c.extent.ensures) in
+    let rows : c.extent-2.result ≡ extent b.min_y b.max_y = omega (arith, ints, c.extent-2.ensures) in
+    let left : to_z w32 (of_z w32 (to_z w32 (of_z w32 b.min_x) -ℤ pos 1)) ≡ b.min_x -ℤ pos 1 = omega (arith, ints) in
+    let top : to_z w32 (of_z w32 (pos 0 -ℤ to_z w32 (of_z w32 (to_z w32 (of_z w32 b.max_y) +ℤ pos 2)))) ≡ neg_ℤ (b.max_y +ℤ pos 2) = omega (arith, ints) in
+    let width : to_z w32 (of_z w32 (to_z w32 c.extent.result +ℤ pos 2)) ≡ pos (extent b.min_x b.max_x + 2) =
+    rw columns (side _ (is_within b.min_x b.max_x c.requires.left c.requires.right c.requires.columns)) in
+    let height : to_z w32 (of_z w32 (to_z w32 c.extent-2.result +ℤ pos 2)) ≡ pos (extent b.min_y b.max_y + 2) =
+    rw rows (side _ (is_within b.min_y b.max_y c.requires.bottom c.requires.top c.requires.rows)) in
+    λ i. record { left = left i; top = top i; width = width i; height = height i }
+
+pub returns-clause-small : goal.returns-clause-small
+returns-clause-small c =
+    let b = c.args.bounds.now in
+    let columns : c.extent.result ≡ extent b.min_x b.max_x = omega (arith, ints, c.extent.ensures) in
+    let rows : c.extent-2.result ≡ extent b.min_y b.max_y = omega (arith, ints, c.extent-2.ensures) in
+    let narrow = is_within b.min_x b.max_x c.requires.left c.requires.right c.requires.columns in
+    let low = is_within b.min_y b.max_y c.requires.bottom c.requires.top c.requires.rows in
+    let width : to_z w32 (of_z w32 (to_z w32 c.extent.result +ℤ pos 2)) ≡ pos (extent b.min_x b.max_x + 2) = rw columns (side _ narrow) in
+    let height : to_z w32 (of_z w32 (to_z w32 c.extent-2.result +ℤ pos 2)) ≡ pos (extent b.min_y b.max_y + 2) = rw rows (side _ low) in
+    record {
+      left = omega (arith, ints);
+      right = omega (arith, ints);
+      top = omega (arith, ints);
+      bottom = omega (arith, ints);
+      narrow = omega (arith, ints, width, narrow);
+      wide = omega (arith, ints, width, narrow);
+      low = omega (arith, ints, height, low);
+      high = omega (arith, ints, height, low);
+    }

@@ -1,0 +1,8 @@
+use Rattle.std.proofs.lemmas.List.{append_assoc}
+use Rattle.mf_image.specs.Svg.{image, svg_text}
+use Rattle.mf_image.proofs.svg_image.drawn.Goals as goal
+
+pub returns : goal.returns
+unfolding image svg_text
+returns c =
+    rw (c.in_ok-extend_from_slice-3.ensures.items, c.in_ok-push_axes.ensures, c.in_ok-push_cover-2.ensures, c.in_ok-extend_from_slice-2.ensures.items, c.in_ok-push_paths.ensures, c.in_ok-extend_from_slice.ensures.items, c.in_ok-push_cover.ensures, c.in_ok-push_opening.ensures, c.new-text.ensures.items, c.round-sheet.ensures.sheet, c.requires.is) (simp append_assoc)

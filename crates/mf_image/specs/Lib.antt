@@ -1,0 +1,4 @@
+pub mod Boxes
+pub mod Names
+pub mod Pgm
+pub mod Svg

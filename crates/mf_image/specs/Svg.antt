@@ -1,0 +1,104 @@
+-- The SVG image of a picture (Scalable Vector Graphics 1.1): for each weight a path of rectangles, one for each maximal run.
+-- Pixel (x, y) is the unit square with (x, -(y + 1)) at its upper left corner, since y points down in SVG.
+use Rattle.std.specs.Prelude.{ℕ, ◌+◌, zero, suc, ℤ, pos, negsuc, neg_ℤ, ◌≤ℤ◌, ◌+ℤ◌, ◌-ℤ◌, int_lt, List, [], ◌∷◌, ◌++◌, codes, flat_map, fold, map, if◌then◌else◌}
+use Rattle.std.specs.Int.{int_max, int_min}
+use Rattle.std.specs.Fmt.{signed_decimal}
+use Rattle.std.specs.Ordering.{int_eq}
+use Rattle.mf_rows.specs.declared.bounds.Box4.{Box4}
+use Rattle.mf_rows.specs.declared.run.Run.{Run}
+use Rattle.mf_rows.specs.Dots.{Dot}
+use Rattle.mf_rows.specs.Runs.{runs_of}
+use Rattle.mf_show.specs.Grid.{extent}
+use Rattle.mf_image.specs.declared.svg_image.Sheet.{Sheet}
+use Rattle.mf_image.specs.Boxes.{image_box}
+
+-- the rectangle of a run: a line of a path
+unfoldable pub rectangle : Run → List ℕ
+rectangle r =
+    codes "M" ++ signed_decimal r.x ++ codes " " ++ signed_decimal (neg_ℤ (r.y +ℤ pos 1)) ++ codes "h" ++ signed_decimal (pos r.len) ++ codes "v1h-"
+    ++ signed_decimal (pos r.len) ++ codes "z\n"
+
+-- the rectangle of a run that has this weight, and nothing for another run
+abbrev pub rectangle_of : ℤ → Run → List ℕ
+rectangle_of w r = if int_eq r.weight w then rectangle r else []
+
+-- the color of a weight: orange for negative ones, dark gray for 1, blue for 2, and black for 3 and more
+abbrev pub color : ℤ → List ℕ
+color w =
+    if int_lt w (pos 0) then codes "#f80"
+    else (if int_lt w (pos 2) then codes "#444"
+    else (if int_lt w (pos 3) then codes "#05a" else codes "#000"))
+
+-- the path of a weight with these rectangles, or nothing where there is none
+abbrev pub path : ℤ → List ℕ → List ℕ
+path w [] = []
+path w (b ∷ bs) = codes "<path id=\"weight" ++ signed_decimal w ++ codes "\" fill=\"" ++ color w ++ codes "\" d=\"\n" ++ (b ∷ bs) ++ codes "\"/>\n"
+
+-- the paths of n weights from w on: each has the rectangles of the runs of its weight
+unfoldable pub paths_from : List Run → ℤ → ℕ → List ℕ
+paths_from rs w zero = []
+paths_from rs w (suc n) = path w (flat_map (rectangle_of w) rs) ++ paths_from rs (w +ℤ pos 1) n
+
+-- the weights of runs
+abbrev pub weights_of : List Run → List ℤ
+weights_of rs = map (λ r. r.weight) rs
+
+-- the least weight of a picture with these runs, and the greatest one; pixels outside the runs have weight 0
+abbrev pub least_weight : List Run → ℤ
+least_weight rs = fold int_min (pos 0) (weights_of rs)
+
+abbrev pub greatest_weight : List Run → ℤ
+greatest_weight rs = fold int_max (pos 0) (weights_of rs)
+
+-- the paths of all weights, the least first
+unfoldable pub paths : List Run → List ℕ
+paths rs = paths_from rs (least_weight rs) (extent (least_weight rs) (greatest_weight rs))
+
+-- the sheet of a box: the box with a margin of one pixel
+abbrev pub sheet_of : Box4 → Sheet
+sheet_of b = record {
+  left = b.min_x -ℤ pos 1;
+  top = neg_ℤ (b.max_y +ℤ pos 2);
+  width = pos (extent b.min_x b.max_x + 2);
+  height = pos (extent b.min_y b.max_y + 2);
+}
+
+-- the first two lines: the size of the image, and the pattern of the grid
+unfoldable pub opening : Sheet → List ℕ
+opening s =
+    codes "<svg xmlns=\"http://www.w3.org/2000/svg\" viewBox=\"" ++ signed_decimal s.left ++ codes " " ++ signed_decimal s.top ++ codes " "
+    ++ signed_decimal s.width ++ codes " " ++ signed_decimal s.height
+    ++ codes "\">\n<pattern id=\"grid\" width=\"1\" height=\"1\" patternUnits=\"userSpaceOnUse\"><path d=\"M0 0h1M0 0v1\" stroke=\"#999\" stroke-width=\".06\"/></pattern>\n"
+
+-- a rectangle over the whole sheet that is filled with this
+unfoldable pub cover : Sheet → List ℕ → List ℕ
+cover s fill =
+    codes "<rect x=\"" ++ signed_decimal s.left ++ codes "\" y=\"" ++ signed_decimal s.top ++ codes "\" width=\"" ++ signed_decimal s.width
+    ++ codes "\" height=\"" ++ signed_decimal s.height ++ codes "\" fill=\"" ++ fill ++ codes "\"/>\n"
+
+-- the axes, x = 0 and y = 0, where they meet the sheet
+unfoldable pub axes : Sheet → List ℕ
+axes s =
+    codes "<path d=\"M0 " ++ signed_decimal s.top ++ codes "v" ++ signed_decimal s.height ++ codes "M" ++ signed_decimal s.left ++ codes " 0h"
+    ++ signed_decimal s.width ++ codes "\" stroke=\"#c00\" stroke-width=\".12\"/>\n"
+
+-- the sides of a sheet are small numbers
+pub record IsSmall (s : Sheet) : Type 0 where
+  pub left : negsuc 9999 ≤ℤ s.left
+  pub right : s.left ≤ℤ pos 10000
+  pub top : negsuc 9999 ≤ℤ s.top
+  pub bottom : s.top ≤ℤ pos 10000
+  pub narrow : pos 0 ≤ℤ s.width
+  pub wide : s.width ≤ℤ pos 10000
+  pub low : pos 0 ≤ℤ s.height
+  pub high : s.height ≤ℤ pos 10000
+
+-- the image of runs on a sheet: paper, the paths, and over them the grid and the axes
+unfoldable pub image : Sheet → List Run → List ℕ
+image s rs =
+    opening s ++ cover s (codes "#fff") ++ codes "<g shape-rendering=\"crispEdges\">\n" ++ paths rs ++ codes "</g>\n" ++ cover s (codes "url(#grid)") ++ axes s
+    ++ codes "</svg>\n"
+
+-- the SVG image of a picture
+unfoldable pub svg_text : List Dot → List ℕ
+svg_text ds = image (sheet_of (image_box ds)) (runs_of ds)

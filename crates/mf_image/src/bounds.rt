@@ -1,0 +1,44 @@
+//! The box of an image.
+ghost use Rattle.std.specs.Prelude.{◌≡◌, ◌↔◌, ◌≤ℤ◌, IfSome, IsNone, pos, negsuc};
+ghost use Rattle.mf_show.specs.Grid.{extent};
+ghost use Rattle.mf_image.specs.Boxes.{IsImageBox, IsTooLarge};
+
+use mf_rows::{Box4, Picture};
+
+/// The greatest number of columns, and of rows, of an image.
+pub const MAX_SIDE: u32 = 4096;
+
+/// The box of the image of the blank picture: the pixel at the origin.
+const ORIGIN: Box4 = Box4 {
+    min_x: 0,
+    max_x: 0,
+    min_y: 0,
+    max_y: 0,
+};
+
+/// The box of a picture's image: the least box or, where the picture is blank, that of the pixel at the origin. `None` where it is
+/// wider or higher than an image may be.
+pub(crate) fn image_box(picture: &Picture) -> Option<Box4>
+    ensures bounds { IfSome result (IsImageBox picture.now) }
+    ensures too_large { IsTooLarge picture.now ↔ IsNone result }
+{
+    let Some(bounds) = picture.bounds() else {
+        return Some(ORIGIN);
+    };
+    let columns = extent(bounds.min_x, bounds.max_x);
+    let rows = extent(bounds.min_y, bounds.max_y);
+    if columns > MAX_SIDE || rows > MAX_SIDE {
+        return None;
+    }
+    Some(bounds)
+}
+
+/// The number of columns, or rows, from the first to the last, both inclusive.
+pub(crate) fn extent(first: i32, last: i32) -> u32
+    requires least { negsuc 4094 ≤ℤ first }
+    requires greatest { last ≤ℤ pos 4094 }
+    requires order { first ≤ℤ last }
+    ensures { result ≡ extent first last }
+{
+    (last - first) as u32 + 1
+}

@@ -1,0 +1,13 @@
+//! Images of pictures, as files have them: SVG and PGM.
+#![tactic(auto)]
+
+mod bounds;
+mod fault;
+mod number;
+mod pgm_image;
+mod svg_image;
+
+pub use bounds::MAX_SIDE;
+pub use fault::ImageFault;
+pub use pgm_image::pgm;
+pub use svg_image::svg;

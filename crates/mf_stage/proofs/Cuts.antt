@@ -1,0 +1,87 @@
+-- The lines of a script are its first line and the lines of the rest.
+use Rattle.std.proofs.Common.{◌≡◌, ◌≢◌, ◌⊎◌, ◌-◌, ◌<◌, ℕ, true, false, cond, eqb, List, [], ◌∷◌, ◌++◌, get_or, length, take, inl, inr, refl, sym, ap, ◌∙◌, ⊎_elim, append-nil, length-append, take_all, arith}
+use Rattle.std.proofs.BufReadLemmas.{take_through-append, drop_through-append}
+use Rattle.std.proofs.lemmas.Bool.{eqb-true, eqb-false, ne_eqb, eq-eqb, cases_Bool, cond-false, cond-true}
+use Rattle.std.proofs.lemmas.List.{get_or_push, take-append-le}
+use Rattle.std.proofs.lemmas.List.Elements.{All-cons, All-get_or, All-head, All-nil, All-tail}
+use Rattle.std.specs.Io.BufRead.{drop_through, take_through}
+use Rattle.std.specs.Prelude.{All, ◌==◌}
+use Rattle.std.specs.List.{slice_split, onto_first}
+use Rattle.std.specs.Str.Lines.{lines, lines_of_parts, strip_carriage_return}
+use Rattle.mf_stage.specs.Lines.{without_ending}
+
+abbrev is_other : ℕ → Type 0
+is_other b = b ≢ 10
+
+abbrev parts_of : List ℕ → List (List ℕ)
+parts_of = slice_split (λ b. b == 10)
+
+-- there is always a first part
+parts_first : (bs : List ℕ) → (x : List ℕ) × (more : List (List ℕ)) × (parts_of bs ≡ x ∷ more)
+parts_first [] = ([], [], refl)
+parts_first (b ∷ bs) =
+    let (x, more, is) = parts_first bs in
+    elim (b == 10) as (λ v. (y : List ℕ) × (others : List (List ℕ)) × (cond v ([] ∷ parts_of bs) (onto_first b (parts_of bs)) ≡ y ∷ others)) [
+      | true ↦ ([], parts_of bs, refl)
+      | false ↦ (b ∷ x, more, ap (onto_first b) is)
+    ]
+
+-- bytes without a line feed go to the front of the first part
+parts-front : (front rest first : List ℕ) (more : List (List ℕ)) → All is_other front → parts_of rest ≡ first ∷ more → parts_of (front ++ rest) ≡ (front ++ first) ∷ more
+parts-front [] rest first more unbroken is = is
+parts-front (b ∷ front) rest first more unbroken is =
+    let all = parts_of (front ++ rest) in
+    ap (λ v. cond v ([] ∷ all) (onto_first b all)) (ne_eqb b 10 (All-head is_other b front unbroken))
+    ∙ ap (onto_first b) (parts-front front rest first more (All-tail is_other b front unbroken) is)
+
+-- bytes have a first line feed or none
+cut : (bs : List ℕ) → ((front : List ℕ) × (rest : List ℕ) × (bs ≡ front ++ 10 ∷ rest) × All is_other front) ⊎ All is_other bs
+cut [] = inr (All-nil is_other)
+cut (b ∷ bs) = ⊎_elim
+    (λ feed. inl ([], bs, ap (λ c. c ∷ bs) (eqb-true b 10 feed), All-nil is_other))
+    (λ other. ⊎_elim
+      (λ later. inl (b ∷ later.0, later.1, ap (λ l. b ∷ l) later.2, All-cons is_other b later.0 (eqb-false b 10 other) later.3))
+      (λ none. inr (All-cons is_other b bs (eqb-false b 10 other) none))
+      (cut bs))
+    (cases_Bool (eqb b 10))
+
+-- the ending of a line that a line feed ends
+ended : (front : List ℕ) → without_ending (front ++ 10 ∷ []) ≡ strip_carriage_return front
+ended front =
+    let line = front ++ 10 ∷ [] in
+    let last : length line - 1 ≡ length front = omega (arith, length-append front (10 ∷ [])) in
+    let is_feed : get_or line (length line - 1) 0 ≡ 10 = get_or_push front 10 0 (length line - 1) (sym last) in
+    let before : take (length line - 1) line ≡ front = ap (λ n. take n line) last ∙ take-append-le (length front) front (10 ∷ []) (omega arith) ∙ take_all (length front) front (omega arith) in
+    cond-true _ _ _ (eq-eqb (get_or line (length line - 1) 0) 10 is_feed) ∙ ap strip_carriage_return before
+
+-- a line that the end of the script ends has no ending
+unended : (line : List ℕ) → 0 < length line → All is_other line → without_ending line ≡ line
+unended line some unbroken =
+    let other = All-get_or is_other line (length line - 1) 0 (omega arith) unbroken in
+    cond-false _ _ _ (ne_eqb (get_or line (length line - 1) 0) 10 other)
+
+lines-feed : (front rest : List ℕ) → All is_other front → lines (front ++ 10 ∷ rest) ≡ strip_carriage_return front ∷ lines rest
+lines-feed front rest unbroken =
+    let (first, more, is) = parts_first rest in
+    ap lines_of_parts (parts-front front (10 ∷ rest) [] (parts_of rest) unbroken refl ∙ ap (λ l. l ∷ parts_of rest) (append-nil front))
+    ∙ rw is refl
+
+lines-whole : (line : List ℕ) → 0 < length line → All is_other line → lines line ≡ line ∷ []
+lines-whole line some unbroken =
+    ap (λ l. lines l) (sym (append-nil line)) ∙ ap lines_of_parts (parts-front line [] [] [] unbroken refl ∙ ap (λ l. l ∷ []) (append-nil line))
+    ∙ cond-false _ _ _ (ne_eqb (length line) 0 (λ none. omega (arith, some, none)))
+
+-- the first line, and then the lines of what is left
+pub next_lines : (input : List ℕ) → 0 < length input → lines input ≡ without_ending (take_through 10 input) ∷ lines (drop_through 10 input)
+next_lines input some = ⊎_elim
+    (λ feed.
+    let front = feed.0 in
+    let rest = feed.1 in
+    let read : take_through 10 input ≡ front ++ 10 ∷ [] = ap (take_through 10) feed.2 ∙ take_through-append 10 front (10 ∷ rest) feed.3 in
+    let left : drop_through 10 input ≡ rest = ap (drop_through 10) feed.2 ∙ drop_through-append 10 front (10 ∷ rest) feed.3 in
+    ap lines feed.2 ∙ lines-feed front rest feed.3 ∙ sym (ap (λ l. without_ending l ∷ lines (drop_through 10 input)) read ∙ ap (λ l. without_ending (front ++ 10 ∷ []) ∷ lines l) left ∙ ap (λ l. l ∷ lines rest) (ended front)))
+    (λ none.
+    let read : take_through 10 input ≡ input = sym (ap (take_through 10) (append-nil input)) ∙ take_through-append 10 input [] none ∙ append-nil input in
+    let left : drop_through 10 input ≡ [] = sym (ap (drop_through 10) (append-nil input)) ∙ drop_through-append 10 input [] none in
+    lines-whole input some none ∙ sym (ap (λ l. without_ending l ∷ lines (drop_through 10 input)) read ∙ ap (λ l. without_ending input ∷ lines l) left ∙ ap (λ l. l ∷ []) (unended input some none)))
+    (cut input)

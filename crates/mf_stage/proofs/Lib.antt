@@ -1,0 +1,6 @@
+mod Commands
+mod Cuts
+mod Lines
+mod Paths
+mod Performed
+mod Scripts

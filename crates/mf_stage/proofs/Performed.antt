@@ -1,0 +1,57 @@
+-- What a line makes.
+use Rattle.std.proofs.Common.{◌≡◌, ◌↔◌, Bool, true, false, ℕ, List, Option, None, Some, inl, inr, refl, sym, ap, subst, ◌∙◌}
+use Rattle.std.specs.Io.KnownBytes.{Appends}
+use Rattle.mf_live.specs.Entries.{Entry, pic, rev}
+use Rattle.mf_rows.specs.Dots.{Dot}
+use Rattle.mf_session.specs.Answers.{Answers, AnswersTo}
+use Rattle.mf_session.specs.Sessions.{IsAnswered}
+use Rattle.mf_session.specs.States.{Limits, State}
+use Rattle.mf_stage.specs.Plates.{IsPlate}
+use Rattle.mf_stage.specs.Publications.{IsPlateWhere, IsPublication}
+use Rattle.mf_stage.specs.Scripts.{IsPerformed}
+use Rattle.mf_stage.specs.Stages.{plates_of, session_of}
+use Rattle.mf_stage.specs.declared.plate.Plate.{Plate}
+use Rattle.mf_stage.specs.declared.plate.Plates.{Plates}
+use Rattle.mf_stage.specs.declared.stage.Publication.{Publication}
+use Rattle.mf_stage.specs.declared.stage.Stage.{Stage}
+use Rattle.mf_stage.proofs.Commands.{false_is_true}
+use Rattle.mf_text.proofs.OneAnswer.{gives_one, given_or_refused}
+use Rattle.mf_text.specs.Lines.{Gives}
+use Rattle.mf_text.specs.declared.command.Command.TheVariants.{Publish}
+
+-- the plate of a picture is that of the list that it is the picture of
+pub plate_where : (wanted : Option Plates) (plates : Plates) (shown : List Entry) (revision : ℕ) (ds : List Dot) (made : Plate) → wanted ≡ Some plates → revision ≡ rev shown → ds ≡ pic shown
+    → IsPlate plates revision ds made → IsPlateWhere wanted shown (Some made)
+plate_where wanted plates shown revision ds made is number picture plate =
+    subst (λ w. IsPlateWhere w shown (Some made)) (sym is)
+    (made, refl, subst (λ n. IsPlate plates n (pic shown) made) number (subst (λ e. IsPlate plates revision e made) picture plate))
+
+-- after a line that publishes, everything that was accepted is published
+published-all : (limits : Limits) (s : State) (line text : List ℕ) (t : State) → Answers limits s line text t → Gives line Publish → t.pictures.published ≡ t.pictures.accepted
+published-all limits s line text t (inl performed) given =
+    let answer = subst (λ command. AnswersTo limits s command text t) (gives_one line performed.command Publish performed.given given) performed.answer in
+    let pictures = answer.0.1 in
+    ap (λ p. p.published) pictures ∙ sym (ap (λ p. p.accepted) pictures)
+published-all limits s line text t (inr refused) given = absurd (given_or_refused line Publish refused.fault refused.told given refused.refused)
+
+module _ (before after : Stage) (s : State) (line text : List ℕ) (held holds : Option (List ℕ)) (publishes : Bool) (means : (publishes ≡ true) ↔ Gives line Publish)
+    (answered : IsAnswered (session_of before) s line text (session_of after)) (out : Appends held holds text) where
+  -- nothing is made of a line that does not publish
+  pub performed-quietly : publishes ≡ false → IsPerformed before s line None after held holds
+  performed-quietly quiet =
+      record { text = text; next = answered.next; answer = answered.answer; stands = answered.stands; out = out; made_is = λ given. false_is_true (sym quiet ∙ means.1 given) }
+
+  -- the publication of what was published is made of one that does
+  pub performed-published : (made : Publication) → publishes ≡ true → plates_of after ≡ plates_of before → IsPublication (plates_of after) answered.next.pictures.accepted made
+      → IsPerformed before s line (Some made) after held holds
+  performed-published made publishing same publication =
+      let given = means.0 publishing in
+      let all = published-all _ s line text answered.next answered.answer given in
+      record {
+        text = text;
+        next = answered.next;
+        answer = answered.answer;
+        stands = answered.stands;
+        out = out;
+        made_is = (given, subst (λ shown. IsPublication (plates_of before) shown made) (sym all) (subst (λ p. IsPublication p answered.next.pictures.accepted made) same publication));
+      }

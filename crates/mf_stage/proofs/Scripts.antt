@@ -1,0 +1,95 @@
+-- The lines of a script that have been performed, and those that are left.
+use Rattle.std.proofs.Common.{◌≡◌, ◌++◌, ◌∷◌, [], ℕ, List, Option, None, Some, IfSome, refl, sym, ap, subst, ◌∙◌, append-nil, append_assoc}
+use Rattle.std.proofs.KnownBytes.{Appends-nil, Appends-trans}
+use Rattle.std.specs.Io.BufRead.{drop_through}
+use Rattle.std.specs.Io.Buffered.{reader_buffer, reader_capacity, reader_inner, reader_remaining}
+use Rattle.std.specs.Io.KnownBytes.{IsAtEnd, prepend_known}
+use Rattle.std.specs.declared.io.buffered.BufReader.{BufReader}
+use Rattle.std.specs.Str.Lines.{lines}
+use Rattle.mf_session.proofs.Performing.{Perform-append}
+use Rattle.mf_session.specs.States.{State}
+use Rattle.mf_session.specs.Transcript.{Perform}
+use Rattle.mf_stage.proofs.Cuts.{next_lines}
+use Rattle.mf_stage.specs.Lines.{Reads, without_ending}
+use Rattle.mf_stage.specs.Scripts.{HasPerformed, IsPerformed}
+use Rattle.mf_stage.specs.Stages.{StandsFor, limits}
+use Rattle.mf_stage.specs.declared.stage.Publication.{Publication}
+use Rattle.mf_stage.specs.declared.stage.Stage.{Stage}
+
+-- of a script the first lines have been performed, and these bytes are left
+pub record HasBegun (before : Stage) (s : State) (input rest : List ℕ) (now : Stage) (held holds : Option (List ℕ)) : Type 0 where
+  pub done : List (List ℕ)
+  pub ahead : lines input ≡ done ++ lines rest
+  pub performed : HasPerformed before s done now held holds
+
+-- where the bytes of the script are known, so are those that are left
+abbrev pub IsUnderWay : Stage → Option (List ℕ) → Option (List ℕ) → Stage → Option (List ℕ) → Option (List ℕ) → Type 0
+IsUnderWay before None left now held holds = Unit {0}
+IsUnderWay before (Some input) left now held holds = (s : State) → StandsFor before s → (rest : List ℕ) × (left ≡ Some rest) × HasBegun before s input rest now held holds
+
+-- the buffer of a reader is empty at first
+pub remaining-start : {T A : Type 0} (remaining : T → Option (List ℕ)) (script : BufReader T A) (reader : T) → reader_inner script ≡ reader → reader_buffer script ≡ [] → reader_capacity script ≡ 8192
+    → reader_remaining remaining script ≡ remaining reader
+remaining-start remaining script reader inner empty capacity = rw (capacity, empty, inner) (nothing_before (remaining reader))
+  where
+    nothing_before : (known : Option (List ℕ)) → prepend_known [] known ≡ known
+    nothing_before None = refl
+    nothing_before (Some bytes) = refl
+
+-- no line has been performed
+pub under_way-start : (stage : Stage) (input held : Option (List ℕ)) → IsUnderWay stage input input stage held held
+under_way-start stage None held = tt
+under_way-start stage (Some input) held = λ s stands.
+    (input, refl, record { done = []; ahead = refl; performed = record { text = []; last = s; performed = (refl, refl); stands = stands; out = Appends-nil held } })
+
+-- one line is performed
+pub performed-one : (before after : Stage) (s : State) (line : List ℕ) (made : Option Publication) (held holds : Option (List ℕ)) → IsPerformed before s line made after held holds
+    → HasPerformed before s (line ∷ []) after held holds
+performed-one before after s line made held holds one =
+    record { text = one.text; last = one.next; performed = (one.text, [], one.next, one.answer, (refl, refl), sym (append-nil one.text)); stands = one.stands; out = one.out }
+
+-- some lines are performed, and then others
+performed-more : (before now later : Stage) (s : State) (done more : List (List ℕ)) (held holds last : Option (List ℕ)) → limits now ≡ limits before → (first : HasPerformed before s done now held holds)
+    → HasPerformed now first.last more later holds last → HasPerformed before s (done ++ more) later held last
+performed-more before now later s done more held holds last same first second =
+    record {
+      text = first.text ++ second.text;
+      last = second.last;
+      performed = Perform-append (limits before) s first.last second.last done more first.text second.text first.performed
+          (subst (λ l. Perform l first.last more second.text second.last) same second.performed);
+      stands = second.stands;
+      out = Appends-trans held holds last first.text second.text first.out second.out;
+    }
+
+-- the next line is read and performed
+pub under_way-next : (before now later : Stage) (input left remaining held holds last : Option (List ℕ)) (line : List ℕ) → limits now ≡ limits before → IsUnderWay before input left now held holds
+    → ((rest : List ℕ) → left ≡ Some rest → Reads rest line remaining) → ((s : State) → StandsFor now s → HasPerformed now s (without_ending line ∷ []) later holds last)
+    → IsUnderWay before input remaining later held last
+under_way-next before now later None left remaining held holds last line same under_way reads performs = tt
+under_way-next before now later (Some input) left remaining held holds last line same under_way reads performs = λ s stands.
+    let (rest, is, begun) = under_way s stands in
+    let read = reads rest is in
+    let done = begun.done in
+    let others = lines (drop_through 10 rest) in
+    let next : lines rest ≡ without_ending line ∷ others = next_lines rest read.some ∙ ap (λ l. without_ending l ∷ others) (sym read.line_is) in (
+      drop_through 10 rest,
+      read.left_is,
+      record {
+        done = done ++ without_ending line ∷ [];
+        ahead = begun.ahead ∙ ap (λ ls. done ++ ls) next ∙ sym (append_assoc done (without_ending line ∷ []) others);
+        performed = performed-more before now later s done (without_ending line ∷ []) held holds last same begun.performed (performs begun.performed.last begun.performed.stands);
+      },
+    )
+
+-- nothing is left
+pub under_way-end : (before now : Stage) (input left held holds : Option (List ℕ)) → IsAtEnd left → IsUnderWay before input left now held holds
+    → IfSome input (λ bytes. (s : State) → StandsFor before s → HasPerformed before s (lines bytes) now held holds)
+under_way-end before now None left held holds at_end under_way = tt
+under_way-end before now (Some input) left held holds at_end under_way = λ s stands.
+    let (rest, is, begun) = under_way s stands in
+    let nothing : rest ≡ [] = subst IsAtEnd is at_end in
+    subst (λ ls. HasPerformed before s ls now held holds) (sym (begun.ahead ∙ ap (λ bytes. begun.done ++ lines bytes) nothing ∙ append-nil begun.done)) begun.performed
+
+-- what holds of known bytes
+pub known_is : (P : List ℕ → Type 0) (left : Option (List ℕ)) (rest : List ℕ) → left ≡ Some rest → IfSome left P → P rest
+known_is P left rest is known = subst (λ l. IfSome l P) is known

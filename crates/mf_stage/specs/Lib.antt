@@ -1,0 +1,5 @@
+pub mod Lines
+pub mod Plates
+pub mod Publications
+pub mod Scripts
+pub mod Stages

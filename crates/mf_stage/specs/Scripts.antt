@@ -1,0 +1,27 @@
+-- What a stage does with the lines of a script.
+use Rattle.std.specs.Prelude.{ℕ, List, Option}
+use Rattle.std.specs.Io.KnownBytes.{Appends}
+use Rattle.mf_session.specs.Answers.{Answers}
+use Rattle.mf_session.specs.States.{State}
+use Rattle.mf_session.specs.Transcript.{Perform}
+use Rattle.mf_stage.specs.Publications.{Announces}
+use Rattle.mf_stage.specs.Stages.{StandsFor, limits, plates_of}
+use Rattle.mf_stage.specs.declared.stage.Publication.{Publication}
+use Rattle.mf_stage.specs.declared.stage.Stage.{Stage}
+
+-- a stage that represented a state has performed a line and written its text, and this was made of what is published after it
+pub record IsPerformed (before : Stage) (s : State) (line : List ℕ) (made : Option Publication) (after : Stage) (held holds : Option (List ℕ)) : Type 0 where
+  pub text : List ℕ
+  pub next : State
+  pub answer : Answers (limits before) s line text next
+  pub stands : StandsFor after next
+  pub out : Appends held holds text
+  pub made_is : Announces (plates_of before) line next.pictures.published made
+
+-- a stage that represented a state has performed lines and written their texts
+pub record HasPerformed (before : Stage) (s : State) (done : List (List ℕ)) (after : Stage) (held holds : Option (List ℕ)) : Type 0 where
+  pub text : List ℕ
+  pub last : State
+  pub performed : Perform (limits before) s done text last
+  pub stands : StandsFor after last
+  pub out : Appends held holds text

@@ -1,0 +1,16 @@
+//! The writer's side of a performance that is watched: a script is performed line by line, its transcript is written, and each
+//! published picture becomes a plate, which is an image file.
+#![tactic(auto)]
+
+mod fault;
+mod line;
+mod pace;
+mod plate;
+mod settings;
+mod stage;
+
+pub use fault::StageFault;
+pub use pace::Pace;
+pub use plate::{Image, Plate, Plates};
+pub use settings::Settings;
+pub use stage::{Publication, Stage};

@@ -1,0 +1,8 @@
+//! What happens after each publish of a script.
+
+/// Learns of each publish of a script, on the writer's side, after its plate was written. It may wait: the next line is read
+/// after it.
+pub trait Pace {
+    /// This revision was published.
+    fn published(&self, revision: u32);
+}

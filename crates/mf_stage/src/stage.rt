@@ -1,0 +1,273 @@
+//! A stage: a session that performs a script, and what is made of each publish.
+ghost use Rattle.std.specs.Io.KnownBytes.{Appends};
+ghost use Rattle.std.specs.Prelude.{◌≡◌, ◌⊎◌, ◌<◌, ◌↔◌, ◌∷◌, [], Err, IfErr, IfOk, IfSome, IsOk, None, OnOk};
+ghost use Rattle.mf_live.specs.Desks.{desk_name};
+ghost use Rattle.mf_session.specs.Endings.{HasEnded};
+ghost use Rattle.mf_session.specs.States.{State, start};
+ghost use Rattle.mf_stage.specs.Publications.{IsPlateWhere, IsPublication};
+ghost use Rattle.mf_stage.specs.Scripts.{HasPerformed, IsPerformed};
+ghost use Rattle.mf_stage.specs.Stages.{StandsFor, limits, limits_set, name, plates_of, session_of};
+ghost use Rattle.std.specs.Str.Lines.{lines};
+
+use crate::fault::StageFault;
+use crate::line::{next_line, publishes, without_ending};
+use crate::pace::Pace;
+use crate::plate::{Plate, Plates};
+use crate::settings::Settings;
+use mf_gf::{GfFault, GfFile};
+use mf_live::{Desk, Ended};
+use mf_session::Session;
+use mf_text::Name;
+use std::alloc::Global;
+use std::io::{self, BufRead, BufReader, Read, Write};
+use std::rt::Files;
+use std::sync::Wait;
+
+/// A session that performs a script, with the folder for its plates if they are asked for. It is not `Drop`, because its
+/// session is not: end it with `finish` or `discard`.
+pub struct Stage {
+    session: Session,
+    plates: Option<Plates>,
+}
+
+/// What has been published, for those who look at it: its revision, and its plate where plates are asked for.
+#[derive(Drop)]
+pub struct Publication {
+    pub revision: u32,
+    pub plate: Option<Plate>,
+}
+
+impl Stage {
+    /// A stage on which nothing was performed, and the desk with one place for a viewer. With `plates`, each publish of the
+    /// script writes a plate. Refused with `FileTooLong` exactly where `max_bytes` is below 3, and with `OutOfMemory` where an
+    /// allocation fails.
+    pub fn new<S: Wait>(
+        rt: &S,
+        alloc: Global,
+        settings: &Settings,
+        plates: Option<Plates>,
+    ) -> Result<(Stage, Desk), StageFault>
+        ensures start { IfOk result (λ made. StandsFor made.0 start) }
+        ensures limits { IfOk result (λ made. limits made.0 ≡ limits_set settings.now) }
+        ensures name { IfOk result (λ made. desk_name made.1 ≡ name made.0) }
+        ensures plates { IfOk result (λ made. plates_of made.0 ≡ plates) }
+        ensures too_long { (settings.now.max_bytes < 3) ↔ (result ≡ Err StageFault.FileTooLong) }
+        ensures fault { IfErr result (λ fault. (fault ≡ StageFault.FileTooLong) ⊎ (fault ≡ StageFault.OutOfMemory)) }
+    {
+        match Session::new(rt, alloc, 1, settings.max_ops, settings.max_bytes) {
+            Ok((session, desk)) => Ok((Stage { session, plates }, desk)),
+            Err(GfFault::FileTooLong) => Err(StageFault::FileTooLong),
+            Err(_) => Err(StageFault::OutOfMemory),
+        }
+    }
+
+    /// Performs a script to its end, line by line: writes the text of each line and flushes it, writes the plate of what the line
+    /// has published, if it has, and lets the pace know, all before the next line is read. A line ends at a line feed; a carriage
+    /// return before that is no part of it, and bytes after the last line feed are a line. A publish that shows nothing new writes
+    /// its plate again.
+    ///
+    /// Refused with `OutOfMemory`, `ReadFault`, `WriteFault`, `ImageTooLarge` or `PlateFault`. What was written by then stays; the
+    /// caller discards the stage.
+    pub fn perform<S: Wait + Files, R: Read + Drop, W: Write, P: Pace>(
+        &mut self,
+        rt: &S,
+        alloc: Global,
+        reader: R,
+        transcript: &mut W,
+        pace: &P,
+    ) -> Result<(), StageFault>
+        ensures transcript { OnOk result (IfSome (R.remaining reader) (λ input. (s : State) → StandsFor self.old s
+            → HasPerformed self.old s (lines input) self.new (W.contents transcript.old) (W.contents transcript.new))) }
+        ensures limits { limits self.new ≡ limits self.old }
+        ensures name { name self.new ≡ name self.old }
+        ensures plates { plates_of self.new ≡ plates_of self.old }
+    {
+        match BufReader::new(alloc, reader) {
+            Ok(mut script) => self.perform_lines(rt, alloc, &mut script, transcript, pace),
+            Err(_) => Err(StageFault::OutOfMemory),
+        }
+    }
+
+    /// Performs the lines of a script to its end.
+    fn perform_lines<S: Wait + Files, B: BufRead, W: Write, P: Pace>(
+        &mut self,
+        rt: &S,
+        alloc: Global,
+        script: &mut B,
+        transcript: &mut W,
+        pace: &P,
+    ) -> Result<(), StageFault>
+        ensures transcript { OnOk result (IfSome (B.remaining script.old) (λ input. (s : State) → StandsFor self.old s
+            → HasPerformed self.old s (lines input) self.new (W.contents transcript.old) (W.contents transcript.new))) }
+        ensures limits { limits self.new ≡ limits self.old }
+        ensures name { name self.new ≡ name self.old }
+        ensures plates { plates_of self.new ≡ plates_of self.old }
+    {
+        'lines: for _ in 0..u64::MAX {
+            let Some(line) = next_line(alloc, script)? else {
+                return Ok(());
+            };
+            self.perform_line(rt, alloc, without_ending(&line), transcript, pace)?;
+        }
+        Err(StageFault::ReadFault)
+    }
+
+    /// Performs a line, and writes the plate of what it has published, if it has. Then it lets the pace know.
+    fn perform_line<S: Wait + Files, W: Write, P: Pace>(
+        &mut self,
+        rt: &S,
+        alloc: Global,
+        line: &[u8],
+        transcript: &mut W,
+        pace: &P,
+    ) -> Result<(), StageFault>
+        ensures performed { OnOk result ((s : State) → StandsFor self.old s → HasPerformed self.old s (line.now ∷ []) self.new (W.contents transcript.old) (W.contents transcript.new)) }
+        ensures limits { limits self.new ≡ limits self.old }
+        ensures name { name self.new ≡ name self.old }
+        ensures plates { plates_of self.new ≡ plates_of self.old }
+    {
+        let made = self.answer(rt, alloc, line, transcript)?;
+        announce(rt, made, pace)?;
+        Ok(())
+    }
+
+    /// Performs a line, writes its text and flushes it. Answers with what the line has published, if it has.
+    pub fn answer<S: Wait, W: Write>(
+        &mut self,
+        rt: &S,
+        alloc: Global,
+        line: &[u8],
+        transcript: &mut W,
+    ) -> Result<Option<Publication>, StageFault>
+        ensures performed { IfOk result (λ made. (s : State) → StandsFor self.old s → IsPerformed self.old s line.now made self.new (W.contents transcript.old) (W.contents transcript.new)) }
+        ensures limits { limits self.new ≡ limits self.old }
+        ensures name { name self.new ≡ name self.old }
+        ensures plates { plates_of self.new ≡ plates_of self.old }
+    {
+        let publishes = publishes(alloc, line)?;
+        let text = self.session.command(rt, alloc, line)?;
+        write_text(transcript, text.as_slice())?;
+        if publishes {
+            Ok(Some(self.publication(alloc)?))
+        } else {
+            Ok(None)
+        }
+    }
+
+    /// The publication of everything that `currentpicture` has accepted.
+    fn publication(&self, alloc: Global) -> Result<Publication, StageFault>
+        ensures { IfOk result (λ made. (s : State) → StandsFor self.now s → IsPublication (plates_of self.now) s.pictures.accepted made) }
+    {
+        let revision = self.session.revision();
+        let plate = self.plate(alloc)?;
+        Ok(Publication { revision, plate })
+    }
+
+    /// The plate of `currentpicture`, if plates are asked for.
+    fn plate(&self, alloc: Global) -> Result<Option<Plate>, StageFault>
+        ensures { IfOk result (λ made. (s : State) → StandsFor self.now s → IsPlateWhere (plates_of self.now) s.pictures.accepted made) }
+    {
+        let Some(plates) = &self.plates else {
+            return Ok(None);
+        };
+        let revision = self.session.revision();
+        let picture = self.session.picture(&Name::Current);
+        Ok(Some(plates.plate(alloc, revision, picture)?))
+    }
+
+    /// Ends the script: writes the plate of the last revision, again if it was written before, and closes the picture. Answers with
+    /// the closed picture, and the font file of the shipped characters. Refused with `OutOfMemory`, `ImageTooLarge` or
+    /// `PlateFault`; then the picture is not closed, and looks may be refused.
+    pub fn finish<S: Wait + Files>(
+        self,
+        rt: &S,
+        alloc: Global,
+    ) -> Result<(Ended, GfFile), StageFault>
+        ensures ended { IfOk result (λ made. (s : State) → StandsFor self s → HasEnded (session_of self) s made.0 made.1) }
+    {
+        match self.write_last(rt, alloc) {
+            Ok(()) => self.close(rt),
+            Err(fault) => {
+                self.discard(rt);
+                Err(fault)
+            }
+        }
+    }
+
+    /// Writes the plate of the last revision, if plates are asked for.
+    fn write_last<S: Files>(&self, rt: &S, alloc: Global) -> Result<(), StageFault> {
+        let last = self.publication(alloc)?;
+        last.write(rt)
+    }
+
+    /// Closes the picture.
+    fn close<S: Wait>(self, rt: &S) -> Result<(Ended, GfFile), StageFault>
+        ensures ended { IfOk result (λ made. (s : State) → StandsFor self s → HasEnded (session_of self) s made.0 made.1) }
+        ensures fault { IfErr result (λ fault. fault ≡ StageFault.OutOfMemory) }
+    {
+        let Stage { session, plates: _ } = self;
+        match session.finish(rt) {
+            Ok(made) => Ok(made),
+            Err(fault) => {
+                fault.discard(rt);
+                Err(StageFault::OutOfMemory)
+            }
+        }
+    }
+
+    /// Ends the stage without an end mark. It may wait for looks that are held, and looks may be refused from then on.
+    pub fn discard<S: Wait>(self, rt: &S) {
+        let Stage { session, plates: _ } = self;
+        session.discard(rt);
+    }
+}
+
+impl Publication {
+    /// Writes the plate, if there is one. Refused with `PlateFault`, which has the revision.
+    fn write<S: Files>(&self, rt: &S) -> Result<(), StageFault>
+        ensures { IfErr result (λ fault. fault ≡ StageFault.PlateFault self.now.revision) }
+    {
+        let Some(plate) = &self.plate else {
+            return Ok(());
+        };
+        match plate.write(rt) {
+            Ok(()) => Ok(()),
+            Err(_) => Err(StageFault::PlateFault(self.revision)),
+        }
+    }
+}
+
+/// Writes the plate of a publication, if there is one, and then lets the pace know of it. Refused with `PlateFault`.
+fn announce<S: Files, P: Pace>(
+    rt: &S,
+    made: Option<Publication>,
+    pace: &P,
+) -> Result<(), StageFault>
+    ensures { made ≡ None → IsOk result }
+{
+    let Some(publication) = made else {
+        return Ok(());
+    };
+    publication.write(rt)?;
+    pace.published(publication.revision);
+    Ok(())
+}
+
+/// Writes a text and flushes it. Refused with `WriteFault`.
+fn write_text<W: Write>(transcript: &mut W, text: &[u8]) -> Result<(), StageFault>
+    ensures text { OnOk result (Appends (W.contents transcript.old) (W.contents transcript.new) text.now) }
+    ensures fault { IfErr result (λ fault. fault ≡ StageFault.WriteFault) }
+{
+    match write_and_flush(transcript, text) {
+        Ok(()) => Ok(()),
+        Err(_) => Err(StageFault::WriteFault),
+    }
+}
+
+/// Writes bytes and flushes them.
+fn write_and_flush<W: Write>(out: &mut W, bytes: &[u8]) -> io::Result<()>
+    ensures { OnOk result (Appends (W.contents out.old) (W.contents out.new) bytes.now) }
+{
+    out.write_all(bytes)?;
+    out.flush()
+}

@@ -1,0 +1,133 @@
+//! The words of the command line, and what they ask for.
+ghost use Rattle.std.specs.Prelude.{◌≡◌, IfOk, IsErrOf, OnOk, map, string_bytes};
+ghost use Rattle.clap.specs.Words.{found_of, kind_of, rows_of};
+ghost use Rattle.mf_view_words.specs.Faults.{words_fault};
+ghost use Rattle.mf_view_words.specs.Requests.{AreWords, IsCommandLine, IsInRange, IsRequest, IsRequestIn, IsWordsInRange};
+ghost use Rattle.mf_view_words.specs.Values.{IsReadable};
+ghost use Rattle.mf_view_words.specs.declared.words.WordsFault.TheVariants.{OutOfMemory as NoMemory};
+
+use crate::matched::{file, flag, matched, number};
+use clap::ArgMatches;
+use clap::error::ErrorKind;
+use std::alloc::{AllocError, Global};
+use thiserror::Error;
+
+/// How the words ask for a script to be performed and drawn.
+#[derive(Debug, Drop)]
+pub struct Words {
+    /// The columns of characters to draw in, in 1..1000; 80 where the words do not say.
+    pub columns: u32,
+    /// The rows of characters to draw in, in 1..1000; 24 where the words do not say.
+    pub rows: u32,
+    /// The pause after each publish in milliseconds, in 0..60000; 0 where the words do not say.
+    pub pause: u32,
+    /// Whether one frame is written after another, without control codes.
+    pub frames: bool,
+    /// The file of the transcript, exactly as the word gives it.
+    pub transcript: Option<String>,
+    /// The folder of the plates, exactly as the word gives it.
+    pub plates: Option<String>,
+    /// Whether each plate is also written as a PGM image. Only where there is a folder of plates.
+    pub pgm: bool,
+    /// The font file, exactly as the word gives it.
+    pub gf: Option<String>,
+    /// The design size of the font in whole points, in 0..2047; 0 where the words do not say.
+    pub design_size: u32,
+    /// The resolution of the font in dots per inch, in 0..100000; 0 where the words do not say.
+    pub resolution: u32,
+}
+
+/// What the words of the command line ask for.
+#[derive(Debug, Drop)]
+pub enum Request {
+    /// To perform the script and draw it.
+    Show(Words),
+    /// To write the help text.
+    Help,
+    /// To write the version text.
+    Version,
+}
+
+/// Why the words of the command line are refused. Its message is its name.
+#[derive(Clone, Copy, Debug, PartialEq, Eq, Error)]
+pub enum WordsFault {
+    /// The words are not a command line of the program.
+    #[error("BadWords")]
+    BadWords,
+    /// An allocation failed. This may come instead of `BadWords`.
+    #[error("OutOfMemory")]
+    OutOfMemory,
+}
+
+impl From<AllocError> for WordsFault {
+    ghost from_gives = { λ _ fault. fault ≡ NoMemory };
+
+    fn from(_fault: AllocError) -> WordsFault {
+        WordsFault::OutOfMemory
+    }
+}
+
+impl From<clap::Error> for WordsFault {
+    ghost from_gives = { λ error fault. fault ≡ words_fault (kind_of error) };
+
+    fn from(error: clap::Error) -> WordsFault {
+        match error.kind() {
+            ErrorKind::OutOfMemory => WordsFault::OutOfMemory,
+            _ => WordsFault::BadWords,
+        }
+    }
+}
+
+/// Reads the words of the command line. The first word is the program's name, whatever it is. `--help` comes before `--version`,
+/// and both before everything else. Refused with `BadWords` only where the rest has a word that is not an option, an option twice
+/// or without its value, a number out of its range, or `--pgm` without `--plates`; and with `OutOfMemory` where an allocation fails.
+pub fn read_words(alloc: Global, words: Vec<String>) -> Result<Request, WordsFault>
+    ensures accepted { OnOk result (IsCommandLine (map string_bytes words.items)) }
+    ensures refused { IsErrOf result WordsFault.BadWords → ¬ IsCommandLine (map string_bytes words.items) }
+    ensures value { IfOk result (IsRequest (map string_bytes words.items)) }
+    ensures range { IfOk result IsInRange }
+{
+    let matches = matched(alloc, words.as_slice())?;
+    let asked = words_in(alloc, &matches)?;
+    if asked.pgm && asked.plates.is_none() {
+        return Err(WordsFault::BadWords);
+    }
+    Ok(request_for(&matches, asked))
+}
+
+/// The request of words whose values are these.
+fn request_for(matches: &ArgMatches<'_>, asked: Words) -> Request
+    requires readable { IsReadable (rows_of (found_of matches.now)) }
+    requires values { AreWords (rows_of (found_of matches.now)) asked }
+    requires bounded { IsWordsInRange asked }
+    ensures value { IsRequestIn (rows_of (found_of matches.now)) result }
+    ensures range { IsInRange result }
+{
+    if flag(matches, "asks-help") {
+        return Request::Help;
+    }
+    if flag(matches, "asks-version") {
+        return Request::Version;
+    }
+    Request::Show(asked)
+}
+
+/// The values that the words give, or the defaults.
+fn words_in(alloc: Global, matches: &ArgMatches<'_>) -> Result<Words, AllocError>
+    requires readable { IsReadable (rows_of (found_of matches.now)) }
+    ensures values { IfOk result (AreWords (rows_of (found_of matches.now))) }
+    ensures range { IfOk result IsWordsInRange }
+{
+    Ok(Words {
+        columns: number(matches, "columns", 80),
+        rows: number(matches, "rows", 24),
+        pause: number(matches, "pause", 0),
+        frames: flag(matches, "frames"),
+        transcript: file(alloc, matches, "transcript")?,
+        plates: file(alloc, matches, "plates")?,
+        pgm: flag(matches, "pgm"),
+        gf: file(alloc, matches, "gf")?,
+        design_size: number(matches, "design-size", 0),
+        resolution: number(matches, "resolution", 0),
+    })
+}
