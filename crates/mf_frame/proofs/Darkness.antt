@@ -64,7 +64,7 @@ darker-below : (a b : Shade) (n : ℕ) → depth a ≤ n → depth b ≤ n → d
 darker-below a b n first second = cond_both (nat_lt (depth a) (depth b)) b a (λ s. depth s ≤ n) (λ _. second) (λ _. first)
 
 -- the darker shade of two is at least as dark as both
-darker-above : (a b : Shade) → (depth a ≤ depth (darker a b)) × (depth b ≤ depth (darker a b))
+pub darker-above : (a b : Shade) → (depth a ≤ depth (darker a b)) × (depth b ≤ depth (darker a b))
 darker-above a b =
     cond_both (nat_lt (depth a) (depth b)) b a (λ s. (depth a ≤ depth s) × (depth b ≤ depth s))
     (λ yes. let less = (Decides-ltb (depth a) (depth b)).0 yes in (omega arith, omega arith))
@@ -91,7 +91,7 @@ pub record IsInCell (s : ℤ) (x y i j : ℤ) : Type 0 where
   pub column : cell_of s x ≡ i
   pub row : cell_of s y ≡ j
 
-in_cell_test : (s x y i j : ℤ) → (int_eq (cell_of s x) i && int_eq (cell_of s y) j) ≡ true → IsInCell s x y i j
+pub in_cell_test : (s x y i j : ℤ) → (int_eq (cell_of s x) i && int_eq (cell_of s y) j) ≡ true → IsInCell s x y i j
 in_cell_test s x y i j test =
     let parts = and_parts (int_eq (cell_of s x) i) (int_eq (cell_of s y) j) test in
     record { column = (Decides-int_eq (cell_of s x) i).0 parts.0; row = (Decides-int_eq (cell_of s y) j).0 parts.1 }
@@ -114,7 +114,7 @@ unfolding cell_shade
 shade-none s i j = refl
 
 -- a shade of a dot and others, by whether the dot is in the cell
-by_dot : (s : ℤ) (d : Dot) (ds : List Dot) (i j : ℤ) (P : Shade → Type 0) → P (darker (shade_of d.weight) (cell_shade s ds i j)) → P (cell_shade s ds i j)
+pub by_dot : (s : ℤ) (d : Dot) (ds : List Dot) (i j : ℤ) (P : Shade → Type 0) → P (darker (shade_of d.weight) (cell_shade s ds i j)) → P (cell_shade s ds i j)
     → P (cell_shade s (d ∷ ds) i j)
 unfolding cell_shade
 by_dot s d ds i j P here elsewhere =

@@ -1,4 +1,5 @@
 pub mod Floors
+pub mod DarkCells
 pub mod Darkness
 pub mod FrameLines
 pub mod LeastBoxes

@@ -97,7 +97,7 @@ same_window b s column last line highest columns lines scale v wide high =
 
 -- ---- the scale
 
-by_test : {P : Type 0} (b : Bool) → (b ≡ true → P) → (b ≡ false → P) → P
+pub by_test : {P : Type 0} (b : Bool) → (b ≡ true → P) → (b ≡ false → P) → P
 by_test true passed failed = passed refl
 by_test false passed failed = failed refl
 

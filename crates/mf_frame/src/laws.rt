@@ -1,9 +1,16 @@
 //! Laws of frames. Each is the contract of a function that does nothing, because the toolchain proves a statement only where the
 //! contract of a function names it.
-ghost use Rattle.std.specs.Prelude.{◌<ℤ◌, ◌≤ℤ◌, ℤ, pos, IsTrue, IsFalse};
+ghost use Rattle.std.specs.Prelude.{◌↔◌, ◌<ℤ◌, ◌≤ℤ◌, ℤ, pos, IsTrue, IsFalse, List};
+ghost use Rattle.mf_rows.specs.Dots.{Dot, IsPicture};
 ghost use Rattle.mf_rows.specs.declared.bounds.Box4.{Box4};
 ghost use Rattle.mf_frame.specs.Canvases.{IsSize, Size};
+ghost use Rattle.mf_frame.specs.Cells.{HasPositivePixel, cell_shade, is_dark};
 ghost use Rattle.mf_frame.specs.Windows.{IsBoxOfField, fits_on, scale_of, window_at};
+
+/// A cell is dark exactly where one of its pixels has positive weight.
+pub fn dark_where_positive()
+    ensures { (s : ℤ) (ds : List Dot) (i j : ℤ) → IsPicture ds → IsTrue (is_dark (cell_shade s ds i j)) ↔ HasPositivePixel s ds i j }
+{}
 
 /// The window of a box fits at its scale, and at no lesser one.
 pub fn scale_is_least()

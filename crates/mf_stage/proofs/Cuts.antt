@@ -40,9 +40,9 @@ cut [] = inr (All-nil is_other)
 cut (b ∷ bs) = ⊎_elim
     (λ feed. inl ([], bs, ap (λ c. c ∷ bs) (eqb-true b 10 feed), All-nil is_other))
     (λ other. ⊎_elim
-      (λ later. inl (b ∷ later.0, later.1, ap (λ l. b ∷ l) later.2, All-cons is_other b later.0 (eqb-false b 10 other) later.3))
-      (λ none. inr (All-cons is_other b bs (eqb-false b 10 other) none))
-      (cut bs))
+    (λ later. inl (b ∷ later.0, later.1, ap (λ l. b ∷ l) later.2, All-cons is_other b later.0 (eqb-false b 10 other) later.3))
+    (λ none. inr (All-cons is_other b bs (eqb-false b 10 other) none))
+    (cut bs))
     (cases_Bool (eqb b 10))
 
 -- the ending of a line that a line feed ends

@@ -148,7 +148,8 @@ impl Stage {
         let text = self.session.command(rt, alloc, line)?;
         write_text(transcript, text.as_slice())?;
         if publishes {
-            Ok(Some(self.publication(alloc)?))
+            let publication = self.publication(alloc)?;
+            Ok(Some(publication))
         } else {
             Ok(None)
         }

@@ -13,4 +13,4 @@ returns-then-publishes-clause-performed g c = λ s stands.
     let answered = c.in_ok-text.ensures.answer s stands in
     let out = subst (Appends held holds) c.as_slice.ensures.value c.in_ok-write_text.ensures.text in
     performed-published before after s c.args.line.now c.in_ok-text.text.items held holds c.in_ok-publishes.publishes c.in_ok-publishes.ensures answered out
-    c.in_ok-publication.field-0 c.if-publishes.true refl (c.in_ok-publication.ensures answered.next answered.stands)
+    c.in_ok-publication.publication c.if-publishes.true refl (c.in_ok-publication.ensures answered.next answered.stands)
