@@ -1,5 +1,5 @@
 -- Dark cells have pixels of positive weight.
-use Rattle.std.proofs.Common.{◌≡◌, ◌≢◌, ◌⊎◌, inl, inr, ⊎_elim, ℕ, ◌≤◌, ◌&&◌, if◌then◌else◌, Bool, true, false, ℤ, pos, ◌+ℤ◌, ◌≤ℤ◌, ◌<ℤ◌, int_lt, List, [], ◌∷◌, refl, sym, ap, ◌∙◌, subst, arith}
+use Rattle.std.proofs.Common.{◌≡◌, ◌⊎◌, inl, inr, ⊎_elim, ◌≤◌, ◌&&◌, if◌then◌else◌, true, ℤ, pos, ◌+ℤ◌, ◌<ℤ◌, int_lt, List, [], ◌∷◌, refl, sym, ap, ◌∙◌, arith}
 use Rattle.std.specs.Bool.{nat_lt}
 use Rattle.std.specs.Ordering.{int_eq}
 use Rattle.std.proofs.lemmas.Bool.{false≢true, cond-false, cond_both, and_from, and_parts}
@@ -44,11 +44,11 @@ positive_from_dark w =
     by_lt_z (pos 0) w
     (λ positive dark. positive)
     (λ least. cond_both (int_eq w (pos 0)) Blank (if int_lt w (pos 0) then Negative else (if int_eq w (pos 1) then One else (if int_eq w (pos 2) then Two else More)))
-        (λ s. is_dark s ≡ true → pos 0 <ℤ w)
+    (λ s. is_dark s ≡ true → pos 0 <ℤ w)
     (λ zero dark. absurd (false≢true dark))
     (λ nonzero. cond_both (int_lt w (pos 0)) Negative (if int_eq w (pos 1) then One else (if int_eq w (pos 2) then Two else More)) (λ s. is_dark s ≡ true → pos 0 <ℤ w)
-        (λ negative dark. absurd (false≢true dark))
-        (λ most dark. absurd (false≢true (sym nonzero ∙ (Decides-int_eq w (pos 0)).1 (omega (arith, ints, most)))))))
+    (λ negative dark. absurd (false≢true dark))
+    (λ most dark. absurd (false≢true (sym nonzero ∙ (Decides-int_eq w (pos 0)).1 (omega (arith, ints, most)))))))
 
 dark_from_positive : (w : ℤ) → pos 0 <ℤ w → is_dark (shade_of w) ≡ true
 dark_from_positive w positive =
@@ -56,10 +56,10 @@ dark_from_positive w positive =
     (λ s. is_dark s ≡ true)
     (λ zero. let same = (Decides-int_eq w (pos 0)).0 zero in absurd (omega (arith, ints)))
     (λ nonzero. cond_both (int_lt w (pos 0)) Negative (if int_eq w (pos 1) then One else (if int_eq w (pos 2) then Two else More)) (λ s. is_dark s ≡ true)
-        (λ negative. absurd (omega (arith, ints, negative)))
-        (λ most. cond_both (int_eq w (pos 1)) One (if int_eq w (pos 2) then Two else More) (λ s. is_dark s ≡ true)
-            (λ _. refl)
-            (λ _. cond_both (int_eq w (pos 2)) Two More (λ s. is_dark s ≡ true) (λ _. refl) (λ _. refl))))
+    (λ negative. absurd (omega (arith, ints, negative)))
+    (λ most. cond_both (int_eq w (pos 1)) One (if int_eq w (pos 2) then Two else More) (λ s. is_dark s ≡ true)
+    (λ _. refl)
+    (λ _. cond_both (int_eq w (pos 2)) Two More (λ s. is_dark s ≡ true) (λ _. refl) (λ _. refl))))
 
 -- ---- cells
 
@@ -71,9 +71,9 @@ in_cell_passes s x y i j here =
 lifted : (s low : ℤ) (d : Dot) (ds : List Dot) (i j : ℤ) → AreDotsFrom low (d ∷ ds) → HasPositivePixel s ds i j → HasPositivePixel s (d ∷ ds) i j
 lifted s low d ds i j dots pixel =
     let elsewhere : IsAt d pixel.x pixel.y → ⊥ = λ here.
-        let there : place pixel.x pixel.y ≡ place d.x d.y = rw (here.column, here.row) refl in
-        let none = weight_at-before (place d.x d.y +ℤ pos 1) ds pixel.x pixel.y dots.2 (omega (arith, ints, there)) in
-        omega (arith, ints, none, pixel.positive) in
+    let there : place pixel.x pixel.y ≡ place d.x d.y = rw (here.column, here.row) refl in
+    let none = weight_at-before (place d.x d.y +ℤ pos 1) ds pixel.x pixel.y dots.2 (omega (arith, ints, there)) in
+    omega (arith, ints, none, pixel.positive) in
     record {
       x = pixel.x;
       y = pixel.y;
