@@ -1,0 +1,131 @@
+-- What looks add to what an easel has drawn.
+use Rattle.std.proofs.Common.{◌≡◌, ◌≤◌, ◌+◌, ◌∙◌, ◌++◌, ℕ, List, [], ◌∷◌, Option, None, Some, IfSome, All, length, ap, arith, refl, sym, subst}
+use Rattle.std.specs.Io.KnownBytes.{Appends}
+use Rattle.std.proofs.KnownBytes.{Appends-nil, Appends-trans}
+use Rattle.std.proofs.lemmas.List.{append-nil}
+use Rattle.std.proofs.lemmas.List.Elements.{All-cons, All-head, All-nil, All-weaker}
+use Rattle.mf_easel.specs.Easels.{HasLookedLast, HasSameManner, canvas_of, drawing_of, drawn_of, looked, style_of, viewer_of}
+use Rattle.mf_easel.specs.Screens.{Gets, IsAbove, newly_drawn, over}
+use Rattle.mf_frame.specs.Canvases.{Size}
+use Rattle.mf_frame.specs.Frames.{frame_text}
+use Rattle.mf_frame.specs.declared.tile.Style.{Style}
+use Rattle.mf_easel.specs.declared.easel.Easel.{Easel}
+use Rattle.mf_ops.specs.Operations.{picture_after, revision_after}
+use Rattle.mf_ops.specs.declared.op.Op.{Op}
+use Rattle.mf_live.specs.Entries.{Entry, operations, pic, rev}
+use Rattle.mf_live.specs.Prefixes.{IsWholePrefix}
+use Rattle.mf_live.specs.Sheets.{HasLooked}
+use Rattle.mf_live.proofs.EntryLists.{operations-append, rev-append}
+use Rattle.mf_live.proofs.WholePrefixes.{whole-self, whole-trans}
+use Rattle.mf_view.specs.Drawings.{HasDrawn, IsSeenOf, Rise, ShowsLast, drawing, frames, last_revision}
+
+-- nothing is drawn where the revision is that of the frame before
+newly-none : (drawn : Option ℕ) (revision : ℕ) → newly_drawn drawn revision ≡ None → drawn ≡ Some revision
+newly-none None revision none = cc
+newly-none (Some before) revision none = grind arith
+
+-- the revision that is drawn is that of the look
+newly-some : (drawn : Option ℕ) (revision shown : ℕ) → newly_drawn drawn revision ≡ Some shown → shown ≡ revision
+newly-some None revision shown some = grind arith
+newly-some (Some before) revision shown some = grind arith
+
+-- what is seen of a list is seen of a longer one
+seen-more : (S L : List Entry) (lists : List (List Entry)) → IsWholePrefix S L → All (IsSeenOf S) lists → All (IsSeenOf L) lists
+seen-more S L lists more seen = All-weaker (IsSeenOf S) (IsSeenOf L) (λ A part. whole-trans A S L part more) lists seen
+
+-- what was drawn is the same text in the same manner
+in-manner : (held holds : Option (List ℕ)) (before after : Easel) (lists : List (List Entry)) → HasSameManner before after
+    → Appends held holds (frames (style_of before) (canvas_of before) lists) → Appends held holds (frames (style_of after) (canvas_of after) lists)
+in-manner held holds before after lists manner text =
+    subst (λ style. Appends held holds (frames style (canvas_of after) lists)) (sym manner.style)
+    (subst (λ canvas. Appends held holds (frames (style_of before) canvas lists)) (sym manner.canvas) text)
+
+-- what a look draws goes after what was drawn
+drawn-after : (held then holds : Option (List ℕ)) (style : Style) (canvas : Size) (drawn : Option ℕ) (lists : List (List Entry)) (L : List Entry)
+    → Appends held then (frames style canvas lists) → drawn ≡ last_revision lists → Appends then holds (over style canvas drawn ++ frame_text style canvas (rev L) (pic L))
+    → Appends held holds (frames style canvas (L ∷ lists))
+drawn-after held then holds style canvas drawn lists L was last gets =
+    Appends-trans held then holds (frames style canvas lists) (drawing style canvas lists L) was
+    (subst (λ d. Appends then holds (over style canvas d ++ frame_text style canvas (rev L) (pic L))) last gets)
+
+-- a look draws its own list after what was drawn, or what was drawn last has its revision
+pub drawn-look : {W : Type 0} (contents : W → Option (List ℕ)) (held : Option (List ℕ)) (s t : W) (before after : Easel) (shown : Option ℕ)
+    → HasLooked (viewer_of before) (viewer_of after) → HasSameManner before after → shown ≡ newly_drawn (drawn_of before) (rev (looked after))
+    → drawn_of after ≡ Some (rev (looked after)) → Gets contents s t (drawing_of before (looked after)) shown → IfSome shown (IsAbove (drawn_of before))
+    → HasDrawn before held (contents s) → HasDrawn after held (contents t)
+drawn-look contents held s t before after None look manner answer drawn same rising was = record {
+  lists = was.lists;
+  text = rw same (in-manner held (contents s) before after was.lists manner was.text);
+  rise = was.rise;
+  seen = seen-more (looked before) (looked after) was.lists look.extends.looked was.seen;
+  last = drawn ∙ (sym (newly-none (drawn_of before) (rev (looked after)) (sym answer)) ∙ was.last);
+}
+drawn-look contents held s t before after (Some shown) look manner answer drawn gets rising was =
+    let revision = newly-some (drawn_of before) (rev (looked after)) shown (sym answer) in
+    record {
+      lists = looked after ∷ was.lists;
+      text = in-manner held (contents t) before after (looked after ∷ was.lists) manner
+        (drawn-after held (contents s) (contents t) (style_of before) (canvas_of before) (drawn_of before) was.lists (looked after) was.text was.last gets);
+      rise = (subst (λ n. IsAbove (last_revision was.lists) n) revision (subst (λ d. IsAbove d shown) was.last rising), was.rise);
+      seen = All-cons (IsSeenOf (looked after)) (looked after) was.lists (whole-self (looked after)) (seen-more (looked before) (looked after) was.lists look.extends.looked was.seen);
+      last = drawn;
+    }
+
+no-operation : (ops : List Op) → length ops ≡ 0 → ops ≡ []
+no-operation [] none = refl
+no-operation (op ∷ ops) none = cc
+
+-- a whole prefix with the revision of the list has its picture
+same-picture : (L whole : List Entry) → IsWholePrefix L whole → rev L ≡ rev whole → pic L ≡ pic whole
+unfolding revision_after
+same-picture L whole part same =
+    let sum : rev whole ≡ rev L + rev part.rest = ap rev part.whole ∙ rev-append L part.rest in
+    let none : length (operations part.rest) ≡ 0 = omega arith in
+    let rest : operations part.rest ≡ [] = no-operation (operations part.rest) none in
+    sym (ap pic part.whole ∙ (ap picture_after (operations-append L part.rest) ∙ ap picture_after (ap (λ ops. operations L ++ ops) rest ∙ append-nil (operations L))))
+
+-- the last picture was drawn before
+shown-before : (easel : Easel) (whole : List Entry) (held holds : Option (List ℕ)) (lists : List (List Entry))
+    → Appends held holds (frames (style_of easel) (canvas_of easel) lists) → Rise lists → All (IsSeenOf whole) lists → last_revision lists ≡ Some (rev whole)
+    → ShowsLast (style_of easel) (canvas_of easel) whole held holds
+shown-before easel whole held holds [] text rise seen last = cc
+shown-before easel whole held holds (L ∷ earlier) text rise seen last =
+    let revision : rev L ≡ rev whole = cc in
+    record {
+      last = L;
+      earlier = earlier;
+      text = text;
+      rise = rise;
+      seen = seen;
+      revision = revision;
+      picture = same-picture L whole (All-head (IsSeenOf whole) L earlier seen) revision;
+    }
+
+-- the last look leaves the last picture on the screen
+pub shown-last : {W : Type 0} (contents : W → Option (List ℕ)) (held : Option (List ℕ)) (s t : W) (before after : Easel) (whole : List Entry) (shown : Option ℕ)
+    → HasLookedLast (viewer_of before) whole (viewer_of after) → shown ≡ newly_drawn (drawn_of before) (rev whole)
+    → Gets contents s t (drawing_of before whole) shown → IfSome shown (IsAbove (drawn_of before))
+    → HasDrawn before held (contents s) → ShowsLast (style_of before) (canvas_of before) whole held (contents t)
+shown-last contents held s t before after whole None look answer same rising was =
+    let again = sym was.last ∙ newly-none (drawn_of before) (rev whole) (sym answer) in
+    let seen = seen-more (looked before) whole was.lists look.0.looked was.seen in
+    rw same (shown-before before whole held (contents s) was.lists was.text was.rise seen again)
+shown-last contents held s t before after whole (Some shown) look answer gets rising was =
+    let revision = newly-some (drawn_of before) (rev whole) shown (sym answer) in
+    record {
+      last = whole;
+      earlier = was.lists;
+      text = drawn-after held (contents s) (contents t) (style_of before) (canvas_of before) (drawn_of before) was.lists whole was.text was.last gets;
+      rise = (subst (λ n. IsAbove (last_revision was.lists) n) revision (subst (λ d. IsAbove d shown) was.last rising), was.rise);
+      seen = All-cons (IsSeenOf whole) whole was.lists (whole-self whole) (seen-more (looked before) whole was.lists look.0.looked was.seen);
+      revision = refl;
+      picture = refl;
+    }
+
+-- an easel that has drawn nothing
+pub drawn-nothing : (easel : Easel) (held : Option (List ℕ)) → drawn_of easel ≡ None → HasDrawn easel held held
+drawn-nothing easel held nothing =
+    record { lists = []; text = Appends-nil held; rise = tt; seen = All-nil (IsSeenOf (looked easel)); last = nothing }
+
+pub same-manner : (a b c : Easel) → HasSameManner a b → HasSameManner b c → HasSameManner a c
+same-manner a b c first then = record { canvas = then.canvas ∙ first.canvas; style = then.style ∙ first.style }

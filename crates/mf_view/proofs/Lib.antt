@@ -1,0 +1,4 @@
+mod Drawn
+mod FontFiles
+mod Messages
+mod Shown

@@ -1,0 +1,19 @@
+use Rattle.mf_session.specs.States.{start}
+use Rattle.mf_view.proofs.Drawn.{drawn-nothing, same-manner}
+use Rattle.mf_view.proofs.Shown.{drawn-both, shown-end, shown-whole, stands-after}
+use Rattle.mf_view.proofs.performance.show.Goals as goal
+
+pub conclude-requires-clause-stands : goal.conclude-requires-clause-stands
+conclude-requires-clause-stands g c =
+    stands-after c.args.stage c.perform_beside-drawn.new.stage c.perform_beside-drawn.result.performed c.requires.start c.perform_beside-drawn.ensures.stands
+
+pub returns : goal.returns
+returns g c =
+    let manner = same-manner _ _ _ c.draw-first.ensures.manner c.perform_beside-drawn.ensures.manner in
+    let blank = drawn-nothing c.args.easel (g.W.Write.contents c.args.screen.now) c.requires.blank in
+    let drawn = drawn-both _ _ _ _ _ _ _ _ _ c.draw-first.ensures.drawn c.perform_beside-drawn.ensures.drawn blank in
+    shown-whole _ _ _ _ _ _ c.args.stage c.perform_beside-drawn.new.stage _ c.perform_beside-drawn.result.performed c.conclude.result c.requires.limits c.requires.start
+    c.perform_beside-drawn.ensures.transcript
+    c.conclude.ensures.script
+    c.conclude.ensures.file
+    (shown-end _ _ c.perform_beside-drawn.new.stage _ _ _ c.and-drawn.result c.conclude.result manner (rw c.and-drawn.ensures drawn) c.conclude.ensures.shown)

@@ -1,0 +1,52 @@
+-- What an easel has drawn on a screen.
+use Rattle.std.specs.Prelude.{◌≡◌, ℕ, All, List, [], ◌∷◌, ◌++◌, None, Option, Some}
+use Rattle.std.specs.Io.KnownBytes.{Appends}
+use Rattle.mf_easel.specs.Easels.{canvas_of, drawn_of, looked, style_of}
+use Rattle.mf_easel.specs.Screens.{IsAbove, over}
+use Rattle.mf_easel.specs.declared.easel.Easel.{Easel}
+use Rattle.mf_frame.specs.Canvases.{Size}
+use Rattle.mf_frame.specs.Frames.{frame_text}
+use Rattle.mf_frame.specs.declared.tile.Style.{Style}
+use Rattle.mf_live.specs.Entries.{Entry, pic, rev}
+use Rattle.mf_live.specs.Prefixes.{IsWholePrefix}
+
+-- the revision of the last of these lists, which are given from the last to the first
+abbrev pub last_revision : List (List Entry) → Option ℕ
+last_revision [] = None
+last_revision (L ∷ earlier) = Some (rev L)
+
+-- the frame of the picture of a list, drawn over that of the last of the earlier lists
+abbrev pub drawing : Style → Size → List (List Entry) → List Entry → List ℕ
+drawing style canvas earlier L = over style canvas (last_revision earlier) ++ frame_text style canvas (rev L) (pic L)
+
+-- the frames of the pictures of these lists, each drawn over the one before it
+abbrev pub frames : Style → Size → List (List Entry) → List ℕ
+frames style canvas [] = []
+frames style canvas (L ∷ earlier) = frames style canvas earlier ++ drawing style canvas earlier L
+
+-- the revision of each of these lists is above that of the one before it
+abbrev pub Rise : List (List Entry) → Type 0
+Rise [] = Unit {0}
+Rise (L ∷ earlier) = IsAbove (last_revision earlier) (rev L) × Rise earlier
+
+-- this is a whole prefix of the list
+abbrev pub IsSeenOf : List Entry → List Entry → Type 0
+IsSeenOf whole L = IsWholePrefix L whole
+
+-- an easel has drawn frames of what its viewer has seen, of rising revisions, and nothing else went to its screen
+pub record HasDrawn (easel : Easel) (held holds : Option (List ℕ)) : Type 0 where
+  pub lists : List (List Entry)
+  pub text : Appends held holds (frames (style_of easel) (canvas_of easel) lists)
+  pub rise : Rise lists
+  pub seen : All (IsSeenOf (looked easel)) lists
+  pub last : drawn_of easel ≡ last_revision lists
+
+-- a screen has got frames of whole prefixes of a list, of rising revisions, and the last is that of the picture of the list
+pub record ShowsLast (style : Style) (canvas : Size) (whole : List Entry) (held holds : Option (List ℕ)) : Type 0 where
+  pub last : List Entry
+  pub earlier : List (List Entry)
+  pub text : Appends held holds (frames style canvas (last ∷ earlier))
+  pub rise : Rise (last ∷ earlier)
+  pub seen : All (IsSeenOf whole) (last ∷ earlier)
+  pub revision : rev last ≡ rev whole
+  pub picture : pic last ≡ pic whole

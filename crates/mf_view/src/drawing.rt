@@ -1,0 +1,75 @@
+//! The viewer's side of a performance: looking and drawing until the script has ended.
+ghost use Rattle.std.specs.Prelude.{◌≡◌, true, IfOk, List, Option, OnOk, ℕ};
+ghost use Rattle.mf_easel.specs.Easels.{HasSameManner, canvas_of, name, style_of};
+ghost use Rattle.mf_live.specs.Entries.{is_closed};
+ghost use Rattle.mf_live.specs.Viewers.{notice_name, told};
+ghost use Rattle.mf_view.specs.Drawings.{HasDrawn, ShowsLast};
+
+use crate::pace::Rest;
+use mf_easel::{Easel, EaselFault};
+use mf_live::Notice;
+use std::alloc::Global;
+use std::io::Write;
+use std::sync::Wait;
+use std::sync::atomic::{AtomicBool, Ordering};
+
+/// Looks and draws, and rests between two looks, until the script has ended.
+pub fn draw_on<S: Wait, W: Write, P: Rest>(
+    rt: &S,
+    alloc: Global,
+    easel: &mut Easel,
+    screen: &mut W,
+    pace: &P,
+    ended: &AtomicBool,
+) -> Result<(), EaselFault>
+    ensures name { name easel.new ≡ name easel.old }
+    ensures manner { HasSameManner easel.old easel.new }
+    ensures drawn { OnOk result ((held : Option (List ℕ)) → HasDrawn easel.old held (W.contents screen.old) → HasDrawn easel.new held (W.contents screen.new)) }
+{
+    for _ in rt.forever() {
+        draw(alloc, easel, screen, pace)?;
+        if ended.load(Ordering::SeqCst) {
+            return Ok(());
+        }
+        pace.rest();
+    }
+    unreachable!()
+}
+
+/// Looks once, and draws what is new.
+pub fn draw<W: Write, P: Rest>(
+    alloc: Global,
+    easel: &mut Easel,
+    screen: &mut W,
+    pace: &P,
+) -> Result<(), EaselFault>
+    ensures name { name easel.new ≡ name easel.old }
+    ensures manner { HasSameManner easel.old easel.new }
+    ensures drawn { OnOk result ((held : Option (List ℕ)) → HasDrawn easel.old held (W.contents screen.old) → HasDrawn easel.new held (W.contents screen.new)) }
+{
+    match easel.look(alloc, screen) {
+        Ok(Some(revision)) => {
+            pace.drawn(revision);
+            Ok(())
+        }
+        Ok(None) => Ok(()),
+        Err(fault) => Err(fault),
+    }
+}
+
+/// Learns of the end, and draws the last picture if it was not drawn yet.
+pub fn draw_last<W: Write>(
+    alloc: Global,
+    easel: &mut Easel,
+    screen: &mut W,
+    notice: Notice,
+) -> Result<(), EaselFault>
+    requires name { notice_name notice ≡ name easel.old }
+    requires closed { is_closed (told notice) ≡ true }
+    ensures shown { OnOk result ((held : Option (List ℕ)) → HasDrawn easel.old held (W.contents screen.old) → ShowsLast (style_of easel.old) (canvas_of easel.old) (told notice) held (W.contents screen.new)) }
+{
+    match easel.look_last(alloc, screen, notice) {
+        Ok(_) => Ok(()),
+        Err(fault) => Err(fault),
+    }
+}

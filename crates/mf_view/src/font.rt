@@ -1,0 +1,76 @@
+//! The font file: its numbers, its bytes, and how it is written.
+ghost use Rattle.std.specs.Prelude.{◌≡◌, ◌⊎◌, ◌≤◌, ◌<◌, ◌+◌, ◌*◌, ◌↔◌, [], Err, IfErr, IfOk, IfSome, List, None, ℕ, pos};
+ghost use Rattle.mf_gf.specs.Files.{Character};
+ghost use Rattle.mf_gf.specs.Keeping.{Keeps, limit};
+ghost use Rattle.mf_view.specs.Fonts.{IsLongFile, font_file, font_words, nearest, pixels_per_point};
+
+use crate::fault::ProgramFault;
+use mf_gf::{FontWords, GfBytes, GfFault, GfFile};
+use std::fs;
+use std::rt::Files;
+
+/// Units of the design size in a point (gftype.web).
+const UNITS_PER_POINT: u32 = 1_048_576;
+
+/// The numbers of a font with this design size in points and this resolution in dots per inch. A point is 1/72.27 inch. There is
+/// no checksum. Requires at most 2,047 points and 100,000 dots.
+pub fn font_words(design_size: u32, resolution: u32) -> FontWords
+    requires points { design_size ≤ 2047 }
+    requires dots { resolution ≤ 100000 }
+    ensures { result ≡ font_words design_size resolution }
+{
+    let pixels = pixels_per_point(resolution);
+    FontWords {
+        ds: (design_size * UNITS_PER_POINT) as i32,
+        cs: 0,
+        hppp: pixels,
+        vppp: pixels,
+    }
+}
+
+/// The pixels in a point at this resolution, in 1/65536, rounded to the nearest integer.
+fn pixels_per_point(resolution: u32) -> i32
+    requires { resolution ≤ 100000 }
+    ensures { result ≡ pos (pixels_per_point resolution) }
+{
+    ((resolution as u64 * 13_107_200 + 7_227) / 14_454) as i32
+}
+
+/// The nearest integer is at most half away from the quotient.
+pub fn nearest_is_at_most_half_away()
+    ensures above { (n d : ℕ) → 0 < d → 2 * n ≤ 2 * (nearest n d * d) + d }
+    ensures below { (n d : ℕ) → 0 < d → 2 * (nearest n d * d) ≤ 2 * n + d }
+{}
+
+/// The font file of the shipped characters, if there are any. Refused with `FileTooLong` where it would have more bytes than it
+/// may have, and with `OutOfMemory` where an allocation fails.
+pub fn finished(file: GfFile, font: FontWords) -> Result<Option<GfBytes>, ProgramFault>
+    ensures some { IfOk result (λ gf. (characters : List Character) → Keeps file [] characters → gf ≡ font_file font characters) }
+    ensures too_long { (characters : List Character) → Keeps file [] characters → IsLongFile (limit file) font characters ↔ (result ≡ Err ProgramFault.FileTooLong) }
+    ensures fault { IfErr result (λ fault. (fault ≡ ProgramFault.FileTooLong) ⊎ (fault ≡ ProgramFault.OutOfMemory)) }
+{
+    match file.finish(font) {
+        Ok(bytes) => Ok(Some(bytes)),
+        Err((_, GfFault::NoCharacters)) => Ok(None),
+        Err((_, GfFault::FileTooLong)) => Err(ProgramFault::FileTooLong),
+        Err(_) => Err(ProgramFault::OutOfMemory),
+    }
+}
+
+/// Writes a font file, and replaces what was there. Refused with `NoCharacters` where there is none, and with `WriteFault` where
+/// it cannot be created or not be written to its end.
+pub fn write_font<S: Files>(rt: &S, path: &str, file: Option<GfBytes>) -> Result<(), ProgramFault>
+    ensures none { file ≡ None → result ≡ Err ProgramFault.NoCharacters }
+    ensures fault { IfSome file (λ _. IfErr result (λ fault. fault ≡ ProgramFault.WriteFault)) }
+{
+    let Some(file) = file else {
+        return Err(ProgramFault::NoCharacters);
+    };
+    let Ok(mut out) = fs::create(rt, path) else {
+        return Err(ProgramFault::WriteFault);
+    };
+    match file.write_to(&mut out) {
+        Ok(()) => Ok(()),
+        Err(_) => Err(ProgramFault::WriteFault),
+    }
+}

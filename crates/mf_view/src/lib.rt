@@ -1,0 +1,17 @@
+//! The program `mfview` apart from its `main`: a script is performed while its picture is drawn, with the words of its command
+//! line, its statuses and its messages.
+#![tactic(auto)]
+
+mod drawing;
+mod fault;
+mod font;
+mod pace;
+mod performance;
+pub mod program;
+
+pub use fault::ProgramFault;
+pub use font::font_words;
+pub use mf_stage::Pace;
+pub use mf_view_words::{Request, Words, WordsFault, read_words};
+pub use pace::{Rest, Timed};
+pub use performance::{Showing, perform};

@@ -1,0 +1,245 @@
+//! The performance of a script beside the viewer that draws its picture.
+ghost use Rattle.std.specs.Prelude.{◌≡◌, Err, IfErr, IfOk, IfSome, IsErr, List, None, OnOk, Option, ℕ};
+ghost use Rattle.std.specs.Str.Lines.{lines};
+ghost use denote.Param.Send.{IsSync, IsSend};
+ghost use Rattle.mf_easel.specs.Easels as easels;
+ghost use Rattle.mf_live.specs.Writers.{ended_name, ended_published};
+ghost use Rattle.mf_session.specs.Endings.{HasEnded, IsFileOf, whole_list};
+ghost use Rattle.mf_session.specs.States.{State, start};
+ghost use Rattle.mf_stage.specs.Stages as stages;
+ghost use Rattle.mf_stage.specs.Stages.{StandsFor, limits};
+ghost use Rattle.mf_stage.specs.Scripts.{HasPerformed};
+ghost use Rattle.mf_view.specs.Faults.{fault_of_stage};
+ghost use Rattle.mf_view.specs.Drawings.{HasDrawn, ShowsLast};
+ghost use Rattle.mf_view.specs.Performances.{IsShown, script_limits};
+
+use crate::drawing::{draw, draw_last, draw_on};
+use crate::fault::ProgramFault;
+use crate::pace::Rest;
+use mf_easel::{Easel, EaselFault};
+use mf_frame::{Canvas, Style};
+use mf_gf::GfFile;
+use mf_live::Ended;
+use mf_stage::{Pace, Plates, Settings, Stage, StageFault};
+use std::alloc::Global;
+use std::io::{Read, Write};
+use std::rt::Files;
+use std::sync::Wait;
+use std::sync::atomic::{AtomicBool, Ordering};
+use std::thread::{Threads, join_mut};
+
+/// The limits of a script.
+const SETTINGS: Settings = Settings {
+    max_ops: 1_000_000,
+    max_bytes: 16_777_216,
+};
+
+/// How a performance is shown.
+#[derive(Drop)]
+pub struct Showing {
+    /// How large the frames are.
+    pub canvas: Canvas,
+    /// How they are drawn.
+    pub style: Style,
+    /// Where the plates go, if there are any.
+    pub plates: Option<Plates>,
+}
+
+/// What the two sides of a performance have come to.
+struct Sides {
+    drawn: Result<(), EaselFault>,
+    performed: Result<(), StageFault>,
+}
+
+/// Performs the script that `reader` gives, line by line, while a viewer draws its picture on `screen` in a thread of its own.
+/// Writes the transcript to `transcript`, and the plates where `showing` asks for them. The blank picture is drawn before the
+/// script is read, and the last picture after it has ended, unless that is the one drawn last. Answers with the font file of the
+/// shipped characters. A fault of the screen ends the drawing, and not the script.
+///
+/// Refused with the fault of the script or of its end, else of the drawing, else of the last look; with `NoPlace` where there is
+/// no place for the viewer. After each fault the thread is joined, and what was written stays.
+pub fn perform<
+    S: Wait + Threads + Files + Sync,
+    R: Read,
+    W: Write + Send,
+    T: Write,
+    P: Pace + Rest + Sync,
+>(
+    rt: &S,
+    alloc: Global,
+    reader: &mut R,
+    screen: &mut W,
+    transcript: &mut T,
+    pace: &P,
+    showing: Showing,
+) -> Result<GfFile, ProgramFault>
+    ensures { IfOk result (λ file. IfSome (R.remaining reader.old) (IsShown showing.style showing.canvas file (W.contents screen.old) (W.contents screen.new) (T.contents transcript.old) (T.contents transcript.new))) }
+{
+    let Showing {
+        canvas,
+        style,
+        plates,
+    } = showing;
+    let (stage, mut desk) = Stage::new(rt, alloc, &SETTINGS, plates)?;
+    match desk.viewer() {
+        Ok(viewer) => {
+            let easel = Easel::new(viewer, canvas, style);
+            show(
+                rt, alloc, stage, easel, reader, screen, transcript, pace,
+            )
+        }
+        Err(_) => {
+            stage.discard(rt);
+            Err(ProgramFault::NoPlace)
+        }
+    }
+}
+
+/// Performs the script on a stage on which nothing was performed, while an easel that has drawn nothing draws its picture.
+fn show<
+    S: Wait + Threads + Files + Sync,
+    R: Read,
+    W: Write + Send,
+    T: Write,
+    P: Pace + Rest + Sync,
+>(
+    rt: &S,
+    alloc: Global,
+    stage: Stage,
+    easel: Easel,
+    reader: &mut R,
+    screen: &mut W,
+    transcript: &mut T,
+    pace: &P,
+) -> Result<GfFile, ProgramFault>
+    requires name { easels.name easel ≡ stages.name stage }
+    requires start { StandsFor stage start }
+    requires limits { limits stage ≡ script_limits }
+    requires blank { easels.drawn_of easel ≡ None }
+    ensures { IfOk result (λ file. IfSome (R.remaining reader.old) (IsShown (easels.style_of easel) (easels.canvas_of easel) file (W.contents screen.old) (W.contents screen.new) (T.contents transcript.old) (T.contents transcript.new))) }
+{
+    let mut stage = stage;
+    let mut easel = easel;
+    let first = draw(alloc, &mut easel, screen, pace);
+    let Sides { drawn, performed } = perform_beside(
+        rt, alloc, &mut stage, &mut easel, reader, screen, transcript, pace,
+    );
+    let drawn = first.and(drawn);
+    conclude(rt, alloc, stage, easel, screen, performed, drawn)
+}
+
+/// Ends a performance whose two sides have come to this. A fault of the script comes before one of the drawing.
+fn conclude<S: Wait + Files, W: Write>(
+    rt: &S,
+    alloc: Global,
+    stage: Stage,
+    easel: Easel,
+    screen: &mut W,
+    performed: Result<(), StageFault>,
+    drawn: Result<(), EaselFault>,
+) -> Result<GfFile, ProgramFault>
+    requires name { easels.name easel ≡ stages.name stage }
+    requires stands { OnOk performed ((s : State) × StandsFor stage s) }
+    ensures script { IfErr performed (λ fault. result ≡ Err (fault_of_stage fault)) }
+    ensures drawing { IfErr drawn (λ _. IsErr result) }
+    ensures file { IfOk result (λ file. (s : State) → StandsFor stage s → IsFileOf (stages.session_of stage) s file) }
+    ensures shown { OnOk result ((s : State) (held : Option (List ℕ)) → StandsFor stage s → OnOk drawn (HasDrawn easel held (W.contents screen.old))
+        → ShowsLast (easels.style_of easel) (easels.canvas_of easel) (whole_list s.pictures) held (W.contents screen.new)) }
+{
+    match performed {
+        Ok(()) => end(rt, alloc, stage, easel, screen, drawn),
+        Err(fault) => {
+            stage.discard(rt);
+            Err(fault.into())
+        }
+    }
+}
+
+/// Performs the script while the easel looks and draws in a thread of its own.
+fn perform_beside<
+    S: Wait + Threads + Files + Sync,
+    R: Read,
+    W: Write + Send,
+    T: Write,
+    P: Pace + Rest + Sync,
+>(
+    rt: &S,
+    alloc: Global,
+    stage: &mut Stage,
+    easel: &mut Easel,
+    reader: &mut R,
+    screen: &mut W,
+    transcript: &mut T,
+    pace: &P,
+) -> Sides
+    ensures stage_name { stages.name stage.new ≡ stages.name stage.old }
+    ensures easel_name { easels.name easel.new ≡ easels.name easel.old }
+    ensures manner { easels.HasSameManner easel.old easel.new }
+    ensures drawn { OnOk result.drawn ((held : Option (List ℕ)) → HasDrawn easel.old held (W.contents screen.old) → HasDrawn easel.new held (W.contents screen.new)) }
+    ensures stands { OnOk result.performed ((s : State) → StandsFor stage.old s → (t : State) × StandsFor stage.new t) }
+    ensures transcript { OnOk result.performed (IfSome (R.remaining reader.old) (λ input. (s : State) → StandsFor stage.old s → HasPerformed stage.old s (lines input) stage.new (T.contents transcript.old) (T.contents transcript.new))) }
+{
+    let ended = AtomicBool::new(false);
+    let (drawn, performed) = join_mut(
+        rt,
+        &mut || -> Result<(), EaselFault>
+            requires { IsSync S.row × IsSync P.row × IsSend W.row }
+            ensures { (easels.name easel.exit.now ≡ easels.name easel.entry.now) × easels.HasSameManner easel.entry.now easel.exit.now × OnOk result ((held : Option (List ℕ)) → HasDrawn easel.entry.now held (W.contents screen.entry.now) → HasDrawn easel.exit.now held (W.contents screen.exit.now)) }
+        { draw_on(rt, alloc, easel, screen, pace, &ended) },
+        &mut || -> Result<(), StageFault>
+            ensures { (stages.name stage.exit.now ≡ stages.name stage.entry.now)
+                × OnOk result ((s : State) → StandsFor stage.entry.now s → (t : State) × StandsFor stage.exit.now t)
+                × OnOk result (IfSome (R.remaining reader.entry.now) (λ input. (s : State) → StandsFor stage.entry.now s → HasPerformed stage.entry.now s (lines input) stage.exit.now (T.contents transcript.entry.now) (T.contents transcript.exit.now))) }
+        {
+            let performed = stage.perform(rt, alloc, &mut *reader, transcript, pace);
+            ended.store(true, Ordering::SeqCst);
+            performed
+        },
+    );
+    Sides { drawn, performed }
+}
+
+/// Ends a script that was performed, draws its last picture, and hands out its font file.
+fn end<S: Wait + Files, W: Write>(
+    rt: &S,
+    alloc: Global,
+    stage: Stage,
+    easel: Easel,
+    screen: &mut W,
+    drawn: Result<(), EaselFault>,
+) -> Result<GfFile, ProgramFault>
+    requires name { easels.name easel ≡ stages.name stage }
+    requires stands { (s : State) × StandsFor stage s }
+    ensures drawing { IfErr drawn (λ _. IsErr result) }
+    ensures file { IfOk result (λ file. (s : State) → StandsFor stage s → IsFileOf (stages.session_of stage) s file) }
+    ensures shown { OnOk result ((s : State) (held : Option (List ℕ)) → StandsFor stage s → OnOk drawn (HasDrawn easel held (W.contents screen.old))
+        → ShowsLast (easels.style_of easel) (easels.canvas_of easel) (whole_list s.pictures) held (W.contents screen.new)) }
+{
+    let (mut ended, file) = stage.finish(rt, alloc)?;
+    let shown = show_last(alloc, easel, screen, &mut ended, drawn);
+    ended.discard(rt);
+    match shown {
+        Ok(()) => Ok(file),
+        Err(fault) => Err(fault.into()),
+    }
+}
+
+/// Draws the last picture of a script that has ended, unless the drawing had failed before.
+fn show_last<W: Write>(
+    alloc: Global,
+    easel: Easel,
+    screen: &mut W,
+    ended: &mut Ended,
+    drawn: Result<(), EaselFault>,
+) -> Result<(), EaselFault>
+    requires name { easels.name easel ≡ ended_name ended.old }
+    ensures drawing { IfErr drawn (λ fault. result ≡ Err fault) }
+    ensures shown { OnOk result ((held : Option (List ℕ)) → OnOk drawn (HasDrawn easel held (W.contents screen.old))
+        → ShowsLast (easels.style_of easel) (easels.canvas_of easel) (ended_published ended.old) held (W.contents screen.new)) }
+{
+    let mut easel = easel;
+    match drawn {
+        Ok(()) => draw_last(alloc, &mut easel, screen, ended.notice()),
+        Err(fault) => Err(fault),
+    }
+}

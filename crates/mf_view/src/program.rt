@@ -1,0 +1,264 @@
+//! The program that `main` calls: from its words and streams to its exit status.
+ghost use Rattle.std.specs.Io.KnownBytes.{Appends};
+ghost use Rattle.std.specs.Prelude.{◌≡◌, ◌++◌, ◌⊎◌, IfOk, OnOk, codes, decimal, map, option_map, string_bytes, true};
+ghost use Rattle.mf_view.specs.Endings.{EndsWell, IsShownInto, IsWatched, size_in, style_in};
+ghost use Rattle.mf_view.specs.Messages.{GetsMessage, message_of, usage};
+ghost use Rattle.mf_view.specs.Statuses.{status_of};
+ghost use Rattle.mf_view_words.specs.Requests.{IsCommandLine, IsWordsInRange};
+
+use crate::fault::ProgramFault;
+use crate::font::{finished, font_words, write_font};
+use crate::pace::{Rest, Timed};
+use crate::performance::{Showing, perform};
+use itoa::Buffer;
+use mf_frame::{Canvas, Style, TooSmall};
+use mf_gf::{GfFile, write_counted};
+use mf_stage::{Pace, Plates};
+use mf_view_words::{HELP, Request, USAGE, VERSION, Words, WordsFault, read_words};
+use std::alloc::Global;
+use std::fs;
+use std::io::{Read, Write};
+use std::rt::Files;
+use std::sync::Wait;
+use std::thread::Threads;
+use std::time::Clock;
+
+/// Exit status after a run that reached the end of its script and showed its last picture, or wrote a text that was asked for.
+pub const DONE: u8 = 0;
+
+/// Exit status where the words are not those of a command line.
+pub const BAD_WORDS: u8 = 2;
+
+/// Exit status where a stream or a file failed, or cannot be made.
+pub const STREAM_FAULT: u8 = 3;
+
+/// Exit status where memory, the viewer's place or a look was missing.
+pub const WANTING: u8 = 4;
+
+/// Exit status where the terminal is too small.
+pub const TOO_SMALL: u8 = 5;
+
+/// Performs the script that `reader` gives as the words ask for it, and draws its picture on `screen`. The transcript goes to
+/// `errors` unless the words name a file for it, and so does a message where something went wrong. Then it writes the font file
+/// where the words ask for one. Answers with the exit status. `words` are those of the command line, and the first is the
+/// program's name. A fault of `errors` while a message is written changes no status.
+pub fn program<
+    S: Wait + Threads + Files + Clock + Sync,
+    R: Read,
+    W: Write + Send,
+    E: Write,
+>(
+    rt: &S,
+    alloc: Global,
+    words: Vec<String>,
+    reader: &mut R,
+    screen: &mut W,
+    errors: &mut E,
+) -> u8
+    ensures statuses { (result ≡ DONE) ⊎ (result ≡ BAD_WORDS) ⊎ (result ≡ STREAM_FAULT) ⊎ (result ≡ WANTING) ⊎ (result ≡ TOO_SMALL) }
+    ensures bad_words { result ≡ BAD_WORDS → IsCommandLine (map string_bytes words.items) → ⊥ }
+    ensures refused { (IsCommandLine (map string_bytes words.items) → ⊥) → (result ≡ BAD_WORDS) ⊎ (result ≡ WANTING) }
+    ensures unread { (IsCommandLine (map string_bytes words.items) → ⊥) → reader.new ≡ reader.old }
+    ensures unwritten { (IsCommandLine (map string_bytes words.items) → ⊥) → screen.new ≡ screen.old }
+    ensures usage { result ≡ BAD_WORDS → GetsMessage (E.contents errors.old) (E.contents errors.new) usage }
+    ensures done { result ≡ DONE → EndsWell (map string_bytes words.items) (R.remaining reader.old) (W.contents screen.old) (W.contents screen.new) (E.contents errors.old) (E.contents errors.new) }
+{
+    let request = match read_words(alloc, words) {
+        Ok(request) => request,
+        Err(WordsFault::BadWords) => return refuse_words(errors),
+        Err(WordsFault::OutOfMemory) => return report(errors, ProgramFault::OutOfMemory),
+    };
+    match request {
+        Request::Show(words) => match watch(rt, alloc, reader, screen, errors, words) {
+            Ok(()) => DONE,
+            Err(fault) => report(errors, fault),
+        },
+        Request::Help => answer(screen, errors, HELP),
+        Request::Version => answer(screen, errors, VERSION),
+    }
+}
+
+/// Performs and draws the script as the words ask for it, and writes the font file where they ask for one.
+fn watch<S: Wait + Threads + Files + Clock + Sync, R: Read, W: Write + Send, E: Write>(
+    rt: &S,
+    alloc: Global,
+    reader: &mut R,
+    screen: &mut W,
+    errors: &mut E,
+    words: Words,
+) -> Result<(), ProgramFault>
+    requires { IsWordsInRange words }
+    ensures { OnOk result (IsWatched words (R.remaining reader.old) (W.contents screen.old) (W.contents screen.new) (E.contents errors.old) (E.contents errors.new)) }
+{
+    let Words {
+        columns,
+        rows,
+        pause,
+        frames,
+        transcript,
+        plates,
+        pgm,
+        gf,
+        design_size,
+        resolution,
+    } = words;
+    let showing = showing(columns, rows, frames, plates, pgm)?;
+    let pace = Timed { clock: rt, pause };
+    let file = perform_into(
+        rt, alloc, reader, screen, errors, &pace, showing, transcript,
+    )?;
+    let bytes = finished(file, font_words(design_size, resolution))?;
+    match gf {
+        Some(path) => write_font(rt, path.as_str(), bytes),
+        None => Ok(()),
+    }
+}
+
+/// How the words ask for a script to be shown. Refused with `TooSmall` where the terminal is too small.
+fn showing(
+    columns: u32,
+    rows: u32,
+    frames: bool,
+    plates: Option<String>,
+    pgm: bool,
+) -> Result<Showing, TooSmall>
+    ensures { IfOk result (λ made. (made.style ≡ style_in frames) × (made.canvas ≡ size_in columns rows)) }
+{
+    let canvas = Canvas::new(columns, rows)?;
+    Ok(Showing {
+        canvas,
+        style: style(frames),
+        plates: plates.map(|folder| Plates { folder, pgm }),
+    })
+}
+
+/// The style of the frames, which follow one another where `frames` is set.
+fn style(frames: bool) -> Style
+    ensures { result ≡ style_in frames }
+{
+    if frames {
+        Style::Plain
+    } else {
+        Style::Colored
+    }
+}
+
+/// Performs and draws the script, with the transcript in a file where a path is given, and else in the stream of messages.
+fn perform_into<
+    S: Wait + Threads + Files + Sync,
+    R: Read,
+    W: Write + Send,
+    E: Write,
+    P: Pace + Rest + Sync,
+>(
+    rt: &S,
+    alloc: Global,
+    reader: &mut R,
+    screen: &mut W,
+    errors: &mut E,
+    pace: &P,
+    showing: Showing,
+    transcript: Option<String>,
+) -> Result<GfFile, ProgramFault>
+    ensures { IfOk result (IsShownInto (option_map string_bytes transcript) showing.style showing.canvas (R.remaining reader.old) (W.contents screen.old) (W.contents screen.new) (E.contents errors.old) (E.contents errors.new)) }
+{
+    let Some(path) = transcript else {
+        return perform(rt, alloc, reader, screen, errors, pace, showing);
+    };
+    let Ok(mut file) = fs::create(rt, path.as_str()) else {
+        return Err(ProgramFault::WriteFault);
+    };
+    perform(rt, alloc, reader, screen, &mut file, pace, showing)
+}
+
+/// Writes a text that was asked for to the screen.
+fn answer<W: Write, E: Write>(screen: &mut W, errors: &mut E, text: &str) -> u8
+    ensures statuses { (result ≡ DONE) ⊎ (result ≡ STREAM_FAULT) }
+    ensures done { result ≡ DONE → (errors.new ≡ errors.old) × Appends (W.contents screen.old) (W.contents screen.new) text.now }
+{
+    if write_piece(screen, text) {
+        return DONE;
+    }
+    report(errors, ProgramFault::WriteFault)
+}
+
+/// Refuses the words of the command line: writes how to use the program, as far as `errors` takes it, and answers with the
+/// status.
+pub fn refuse_words<E: Write>(errors: &mut E) -> u8
+    ensures status { result ≡ BAD_WORDS }
+    ensures message { GetsMessage (E.contents errors.old) (E.contents errors.new) usage }
+{
+    write_text(errors, USAGE);
+    BAD_WORDS
+}
+
+/// Reports a fault by its name, as far as `errors` takes it, and answers with the status.
+pub fn report<E: Write>(errors: &mut E, fault: ProgramFault) -> u8
+    ensures status { result ≡ status_of fault }
+    ensures message { GetsMessage (E.contents errors.old) (E.contents errors.new) (message_of fault) }
+{
+    write_message(errors, fault);
+    status_of(fault)
+}
+
+/// The exit status after a fault.
+fn status_of(fault: ProgramFault) -> u8
+    ensures { result ≡ status_of fault }
+{
+    match fault {
+        ProgramFault::OutOfMemory | ProgramFault::NoPlace | ProgramFault::NoLook => WANTING,
+        ProgramFault::TooSmall => TOO_SMALL,
+        ProgramFault::FileTooLong | ProgramFault::ReadFault | ProgramFault::WriteFault => STREAM_FAULT,
+        ProgramFault::ImageTooLarge(_) | ProgramFault::PlateFault(_) => STREAM_FAULT,
+        ProgramFault::NoCharacters => STREAM_FAULT,
+    }
+}
+
+/// Writes the message of a fault, as far as `errors` takes it.
+fn write_message<E: Write>(errors: &mut E, fault: ProgramFault)
+    ensures { GetsMessage (E.contents errors.old) (E.contents errors.new) (message_of fault) }
+{
+    match fault {
+        ProgramFault::OutOfMemory => write_text(errors, "mfview: OutOfMemory\n"),
+        ProgramFault::NoPlace => write_text(errors, "mfview: NoPlace\n"),
+        ProgramFault::NoLook => write_text(errors, "mfview: NoLook\n"),
+        ProgramFault::TooSmall => write_text(errors, "mfview: TooSmall\n"),
+        ProgramFault::FileTooLong => write_text(errors, "mfview: FileTooLong\n"),
+        ProgramFault::ReadFault => write_text(errors, "mfview: ReadFault\n"),
+        ProgramFault::WriteFault => write_text(errors, "mfview: WriteFault\n"),
+        ProgramFault::ImageTooLarge(revision) =>
+            write_numbered(errors, "mfview: ImageTooLarge ", revision),
+        ProgramFault::PlateFault(revision) =>
+            write_numbered(errors, "mfview: PlateFault ", revision),
+        ProgramFault::NoCharacters => write_text(errors, "mfview: NoCharacters\n"),
+    }
+}
+
+/// Writes a text, as far as `errors` takes it.
+fn write_text<E: Write>(errors: &mut E, text: &str)
+    ensures { GetsMessage (E.contents errors.old) (E.contents errors.new) text.now }
+{
+    write_piece(errors, text);
+}
+
+/// Writes a text, a number and a line feed, as far as `errors` takes them. It allocates nothing, so that each fault can be told.
+fn write_numbered<E: Write>(errors: &mut E, text: &str, number: u32)
+    ensures { GetsMessage (E.contents errors.old) (E.contents errors.new) (text.now ++ decimal number ++ codes "\n") }
+{
+    let mut buffer = Buffer::new();
+    if !write_piece(errors, text) {
+        return;
+    }
+    if !write_piece(errors, buffer.format(number)) {
+        return;
+    }
+    write_piece(errors, "\n");
+}
+
+/// Writes a piece of a message, as far as `errors` takes it. Whether it took all.
+fn write_piece<E: Write>(errors: &mut E, piece: &str) -> bool
+    ensures all { result ≡ true → Appends (E.contents errors.old) (E.contents errors.new) piece.now }
+    ensures front { GetsMessage (E.contents errors.old) (E.contents errors.new) piece.now }
+{
+    write_counted(errors, piece.as_bytes()).is_ok()
+}
