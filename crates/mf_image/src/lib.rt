@@ -3,6 +3,7 @@
 
 mod bounds;
 mod fault;
+pub mod laws;
 mod number;
 mod pgm_image;
 mod svg_image;

@@ -78,6 +78,7 @@ impl Stage {
     ) -> Result<(), StageFault>
         ensures transcript { OnOk result (IfSome (R.remaining reader) (λ input. (s : State) → StandsFor self.old s
             → HasPerformed self.old s (lines input) self.new (W.contents transcript.old) (W.contents transcript.new))) }
+        ensures stands { OnOk result ((s : State) → StandsFor self.old s → (t : State) × StandsFor self.new t) }
         ensures limits { limits self.new ≡ limits self.old }
         ensures name { name self.new ≡ name self.old }
         ensures plates { plates_of self.new ≡ plates_of self.old }
@@ -99,6 +100,7 @@ impl Stage {
     ) -> Result<(), StageFault>
         ensures transcript { OnOk result (IfSome (B.remaining script.old) (λ input. (s : State) → StandsFor self.old s
             → HasPerformed self.old s (lines input) self.new (W.contents transcript.old) (W.contents transcript.new))) }
+        ensures stands { OnOk result ((s : State) → StandsFor self.old s → (t : State) × StandsFor self.new t) }
         ensures limits { limits self.new ≡ limits self.old }
         ensures name { name self.new ≡ name self.old }
         ensures plates { plates_of self.new ≡ plates_of self.old }

@@ -65,7 +65,7 @@ drawn-look contents held s t before after (Some shown) look manner answer drawn 
     record {
       lists = looked after ∷ was.lists;
       text = in-manner held (contents t) before after (looked after ∷ was.lists) manner
-        (drawn-after held (contents s) (contents t) (style_of before) (canvas_of before) (drawn_of before) was.lists (looked after) was.text was.last gets);
+          (drawn-after held (contents s) (contents t) (style_of before) (canvas_of before) (drawn_of before) was.lists (looked after) was.text was.last gets);
       rise = (subst (λ n. IsAbove (last_revision was.lists) n) revision (subst (λ d. IsAbove d shown) was.last rising), was.rise);
       seen = All-cons (IsSeenOf (looked after)) (looked after) was.lists (whole-self (looked after)) (seen-more (looked before) (looked after) was.lists look.extends.looked was.seen);
       last = drawn;

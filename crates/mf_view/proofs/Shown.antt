@@ -14,7 +14,7 @@ use Rattle.mf_session.specs.Transcript.{Perform}
 use Rattle.mf_stage.specs.Scripts.{HasPerformed}
 use Rattle.mf_stage.specs.Stages.{StandsFor, limits, session_of}
 use Rattle.mf_stage.specs.declared.stage.Stage.{Stage}
-use Rattle.mf_stage.specs.declared.stage.StageFault.{StageFault}
+use Rattle.mf_stage.specs.declared.fault.StageFault.{StageFault}
 use Rattle.mf_view.specs.Drawings.{HasDrawn, ShowsLast}
 use Rattle.mf_view.specs.Faults.{fault_of_stage}
 use Rattle.mf_view.specs.Endings.{IsShownInto}

@@ -1,8 +1,8 @@
 -- What faults of the parts are to the program.
 use Rattle.mf_easel.specs.declared.fault.EaselFault.{EaselFault}
 use Rattle.mf_easel.specs.declared.fault.EaselFault.TheVariants as easels
-use Rattle.mf_stage.specs.declared.stage.StageFault.{StageFault}
-use Rattle.mf_stage.specs.declared.stage.StageFault.TheVariants as stages
+use Rattle.mf_stage.specs.declared.fault.StageFault.{StageFault}
+use Rattle.mf_stage.specs.declared.fault.StageFault.TheVariants as stages
 use Rattle.mf_view.specs.declared.fault.ProgramFault.{ProgramFault}
 use Rattle.mf_view.specs.declared.fault.ProgramFault.TheVariants as faults
 

@@ -84,9 +84,7 @@ pub fn perform<
     match desk.viewer() {
         Ok(viewer) => {
             let easel = Easel::new(viewer, canvas, style);
-            show(
-                rt, alloc, stage, easel, reader, screen, transcript, pace,
-            )
+            show(rt, alloc, stage, easel, reader, screen, transcript, pace)
         }
         Err(_) => {
             stage.discard(rt);

@@ -42,12 +42,7 @@ pub const TOO_SMALL: u8 = 5;
 /// `errors` unless the words name a file for it, and so does a message where something went wrong. Then it writes the font file
 /// where the words ask for one. Answers with the exit status. `words` are those of the command line, and the first is the
 /// program's name. A fault of `errors` while a message is written changes no status.
-pub fn program<
-    S: Wait + Threads + Files + Clock + Sync,
-    R: Read,
-    W: Write + Send,
-    E: Write,
->(
+pub fn program<S: Wait + Threads + Files + Clock + Sync, R: Read, W: Write + Send, E: Write>(
     rt: &S,
     alloc: Global,
     words: Vec<String>,
@@ -136,11 +131,7 @@ fn showing(
 fn style(frames: bool) -> Style
     ensures { result ≡ style_in frames }
 {
-    if frames {
-        Style::Plain
-    } else {
-        Style::Colored
-    }
+    if frames { Style::Plain } else { Style::Colored }
 }
 
 /// Performs and draws the script, with the transcript in a file where a path is given, and else in the stream of messages.
@@ -208,7 +199,8 @@ fn status_of(fault: ProgramFault) -> u8
     match fault {
         ProgramFault::OutOfMemory | ProgramFault::NoPlace | ProgramFault::NoLook => WANTING,
         ProgramFault::TooSmall => TOO_SMALL,
-        ProgramFault::FileTooLong | ProgramFault::ReadFault | ProgramFault::WriteFault => STREAM_FAULT,
+        ProgramFault::FileTooLong | ProgramFault::ReadFault | ProgramFault::WriteFault =>
+            STREAM_FAULT,
         ProgramFault::ImageTooLarge(_) | ProgramFault::PlateFault(_) => STREAM_FAULT,
         ProgramFault::NoCharacters => STREAM_FAULT,
     }
@@ -226,10 +218,16 @@ fn write_message<E: Write>(errors: &mut E, fault: ProgramFault)
         ProgramFault::FileTooLong => write_text(errors, "mfview: FileTooLong\n"),
         ProgramFault::ReadFault => write_text(errors, "mfview: ReadFault\n"),
         ProgramFault::WriteFault => write_text(errors, "mfview: WriteFault\n"),
-        ProgramFault::ImageTooLarge(revision) =>
-            write_numbered(errors, "mfview: ImageTooLarge ", revision),
-        ProgramFault::PlateFault(revision) =>
-            write_numbered(errors, "mfview: PlateFault ", revision),
+        ProgramFault::ImageTooLarge(revision) => write_numbered(
+            errors,
+            "mfview: ImageTooLarge ",
+            revision,
+        ),
+        ProgramFault::PlateFault(revision) => write_numbered(
+            errors,
+            "mfview: PlateFault ",
+            revision,
+        ),
         ProgramFault::NoCharacters => write_text(errors, "mfview: NoCharacters\n"),
     }
 }

@@ -5,11 +5,11 @@ use Rattle.mf_stage.specs.Scripts.{HasPerformed}
 use Rattle.mf_stage.proofs.stage.Stage.perform_lines.Goals as goal
 
 pub lines-init : goal.lines-init
-lines-init g c = (refl, refl, refl, under_way-start _ _ _)
+lines-init g c = (refl, refl, refl, under_way-start _ _ _, λ s stands. (s, stands))
 
 pub lines-preserved : goal.lines-preserved
 lines-preserved g c =
-    let (limits_are, name_is, plates_are, under_way) = c.lines.invariant in
+    let (limits_are, name_is, plates_are, under_way, represents) = c.lines.invariant in
     let line = c.in-Some.line.items in
     let remaining = g.B.Read.remaining c.next_line.new.script in
     let held = g.W.Write.contents c.lines.transcript in
@@ -23,4 +23,5 @@ lines-preserved g c =
       under_way-next c.args.self.now c.lines.self c.perform_line.new.self _ (g.B.Read.remaining c.lines.script) remaining (g.W.Write.contents c.args.transcript.now) held holds line limits_are under_way
           (λ rest is. known_is (λ input. Reads input line remaining) _ rest is read)
           (λ s stands. subst (λ l. HasPerformed c.lines.self s (l ∷ []) c.perform_line.new.self held holds) bare (done.performed s stands)),
+      λ s stands. let (now, represented) = represents s stands in let next = done.performed now represented in (next.last, next.stands),
     )

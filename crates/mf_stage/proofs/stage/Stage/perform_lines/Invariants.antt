@@ -1,5 +1,6 @@
 use Rattle.std.proofs.Common.{◌≡◌}
-use Rattle.mf_stage.specs.Stages.{limits, name, plates_of}
+use Rattle.mf_session.specs.States.{State}
+use Rattle.mf_stage.specs.Stages.{StandsFor, limits, name, plates_of}
 use Rattle.mf_stage.proofs.Scripts.{IsUnderWay}
 use Rattle.mf_stage.proofs.stage.Stage.perform_lines.Given as goal
 
@@ -9,3 +10,4 @@ invariant-lines g l =
     × (name l.self ≡ name l.initial.self)
     × (plates_of l.self ≡ plates_of l.initial.self)
     × IsUnderWay l.initial.self (g.B.Read.remaining l.initial.script) (g.B.Read.remaining l.script) l.self (g.W.Write.contents l.initial.transcript) (g.W.Write.contents l.transcript)
+    × ((s : State) → StandsFor l.initial.self s → (t : State) × StandsFor l.self t)

@@ -1,0 +1,6 @@
+//! Tests of frames.
+
+mod assertions;
+mod canvases;
+mod frames;
+mod growths;

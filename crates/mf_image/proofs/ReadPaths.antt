@@ -1,0 +1,171 @@
+-- An SVG image, read back.
+use Rattle.std.proofs.Common.{◌≡◌, inl, inr, int_lt, length, ℕ, zero, suc, true, false, ℤ, pos, ◌+ℤ◌, ◌≤ℤ◌, List, [], ◌∷◌, ◌++◌, codes, refl, sym, ap, ◌∙◌, subst, append_assoc, arith}
+use Rattle.std.specs.Fmt.{signed_decimal}
+use Rattle.std.specs.List.{All, flat_map}
+use Rattle.std.specs.Ordering.{int_eq}
+use Rattle.std.proofs.lemmas.Bool.{cases_Bool, cond_both, cond-true, cond-false}
+use Rattle.std.proofs.lemmas.Bool.Decides.{Decides-int_eq}
+use Rattle.std.proofs.lemmas.Int.{ints, fold-int_min_bounds, fold-int_max_bounds}
+use Rattle.std.proofs.lemmas.List.{append-nil}
+use Rattle.std.proofs.lemmas.List.Elements.{All-head, All-tail}
+use Rattle.mf_rows.specs.declared.bounds.Box4.{Box4}
+use Rattle.mf_rows.specs.declared.run.Run.{Run}
+use Rattle.mf_rows.specs.Dots.{Dot, IsPicture, start_of_field, weight_at}
+use Rattle.mf_rows.specs.Order.{IsRun}
+use Rattle.mf_rows.specs.Runs.{stretch, dots_of, runs_of}
+use Rattle.mf_rows.proofs.RunsLemmas.{dots_of-runs_of}
+use Rattle.mf_rows.proofs.Totals.{total_none}
+use Rattle.mf_show.specs.Grid.{extent}
+use Rattle.mf_show.proofs.LeastBoxes.{some_least_box}
+use Rattle.mf_image.specs.declared.svg_image.Sheet.{Sheet}
+use Rattle.mf_image.specs.Boxes.{IsBoxOfField, image_box}
+use Rattle.mf_image.specs.Reading.{after, number, read, read_svg}
+use Rattle.mf_image.specs.Svg.{axes, color, cover, opening, greatest_weight, image, least_weight, path, paths, paths_from, rectangle, rectangle_of, sheet_of, svg_text, weights_of}
+use Rattle.mf_image.proofs.ImageBoxes.{box_of_blank, box_of_picture}
+use Rattle.mf_image.proofs.ReadTexts.{IsEnd, IsPassed, IsSmall, IsSmallSheet, axes_read, cover_read, end_after, number_passed, number_read, opening_read, rectangle_read}
+use Rattle.mf_image.proofs.ReadWeights.{dots_with, dots_with-append, dots_with-other, dots_with-same, found, gathered, weight_of_runs}
+
+-- ---- the rectangles of a path
+
+rectangle_of_read : (w : ℤ) (r : Run) (rest : List ℕ) → IsRun r → read true w (rectangle_of w r ++ rest) ≡ dots_with w (dots_of r) ++ read true w rest
+unfolding dots_of
+rectangle_of_read w r rest run =
+    elim (cases_Bool (int_eq r.weight w)) [
+      | inl matches ↦
+          (let same : r.weight ≡ w = (Decides-int_eq r.weight w).0 matches in
+          let dots : dots_with w (stretch r.y r.x r.weight r.len) ≡ stretch r.y r.x w r.len = rw same (dots_with-same w r.y r.x r.len) in
+          ap (λ text. read true w (text ++ rest)) (cond-true (int_eq r.weight w) (rectangle r) [] matches) ∙ rectangle_read w r rest run
+          ∙ ap (λ ds. ds ++ read true w rest) (sym dots))
+      | inr differs ↦
+          (let dots = dots_with-other w r.weight r.y r.x r.len differs in
+          ap (λ text. read true w (text ++ rest)) (cond-false (int_eq r.weight w) (rectangle r) [] differs) ∙ ap (λ ds. ds ++ read true w rest) (sym dots))
+    ]
+
+rectangles_read : (w : ℤ) (rs : List Run) (rest : List ℕ) → All IsRun rs
+    → read true w (flat_map (rectangle_of w) rs ++ rest) ≡ dots_with w (flat_map dots_of rs) ++ read true w rest
+unfolding dots_with
+rectangles_read w [] rest runs = refl
+rectangles_read w (r ∷ rs) rest runs =
+    let others = flat_map (rectangle_of w) rs in
+    ap (read true w) (append_assoc (rectangle_of w r) others rest)
+    ∙ rectangle_of_read w r (others ++ rest) (All-head IsRun r rs runs)
+    ∙ ap (λ ds. dots_with w (dots_of r) ++ ds) (rectangles_read w rs rest (All-tail IsRun r rs runs))
+    ∙ sym (append_assoc (dots_with w (dots_of r)) (dots_with w (flat_map dots_of rs)) (read true w rest))
+    ∙ ap (λ ds. ds ++ read true w rest) (sym (dots_with-append w (dots_of r) (flat_map dots_of rs)))
+
+-- a weight that a run has is small
+some_weight : (w : ℤ) (rs : List Run) (b : ℕ) (bs : List ℕ) → All IsRun rs → flat_map (rectangle_of w) rs ≡ b ∷ bs → IsSmall w
+some_weight w [] b bs runs some = absurd (omega (arith, ap length some))
+some_weight w (r ∷ rs) b bs runs some =
+    elim (cases_Bool (int_eq r.weight w)) [
+      | inl matches ↦
+          (let same : r.weight ≡ w = (Decides-int_eq r.weight w).0 matches in
+          let lawful = (All-head IsRun r rs runs).lawful in
+          record { least = omega (arith, ints, lawful.least); greatest = omega (arith, ints, lawful.greatest) })
+      | inr differs ↦
+          some_weight w rs b bs (All-tail IsRun r rs runs)
+          (ap (λ text. text ++ flat_map (rectangle_of w) rs) (sym (cond-false (int_eq r.weight w) (rectangle r) [] differs)) ∙ some)
+    ]
+
+-- ---- a path
+
+color_passed : (v w : ℤ) → IsPassed v (color w)
+unfolding read
+color_passed v w =
+    cond_both (int_lt w (pos 0)) (codes "#f80") _ (IsPassed v) (λ _ rest. refl)
+    (λ _. cond_both (int_lt w (pos 2)) (codes "#444") _ (IsPassed v) (λ _ rest. refl)
+    (λ _. cond_both (int_lt w (pos 3)) (codes "#05a") (codes "#000") (IsPassed v) (λ _ rest. refl) (λ _ rest. refl)))
+
+-- the path of a weight draws its rectangles, whatever path came before it
+path_read : (w v : ℤ) (text : List ℕ) (dots : List Dot) (rest : List ℕ) (later : List Dot)
+    → ((b : ℕ) (bs : List ℕ) → text ≡ b ∷ bs → IsSmall w)
+    → ((more : List ℕ) → read true w (text ++ more) ≡ dots ++ read true w more)
+    → ((u : ℤ) → read true u rest ≡ later)
+    → read true v (path w text ++ rest) ≡ dots ++ later
+unfolding read after
+path_read w v [] dots rest later small drawn others =
+    let none : dots ≡ [] = sym (append-nil dots) ∙ sym (drawn []) in
+    others v ∙ ap (λ ds. ds ++ later) (sym none)
+path_read w v (b ∷ bs) dots rest later small drawn others =
+    let weight = small b bs refl in
+    let t1 = codes "\" d=\"\n" in
+    let t2 = color w ++ t1 in
+    let t3 = codes "\" fill=\"" ++ t2 in
+    let e1 : IsEnd w t1 = λ rest. refl in
+    let e2 : IsEnd w t2 = end_after w (color w) t1 (color_passed w w) e1 in
+    let e3 : IsEnd w t3 = end_after w (codes "\" fill=\"") t2 (λ rest. refl) e2 in
+    let e4 : IsEnd w (signed_decimal w ++ t3) = end_after w (signed_decimal w) t3 (number_passed w w weight) e3 in
+    let body = (b ∷ bs) ++ (codes "\"/>\n" ++ rest) in
+    let line = (signed_decimal w ++ t3) ++ body in
+    let text : path w (b ∷ bs) ++ rest ≡ codes "<path id=\"weight" ++ line = simp append_assoc in
+    let named : number line ≡ w =
+    ap number (append_assoc (signed_decimal w) t3 body) ∙ number_read w 34 ((codes " fill=\"" ++ t2) ++ body) weight refl in
+    let first : read true v (codes "<path id=\"weight" ++ line) ≡ read false (number line) line = refl in
+    let end : read true w (codes "\"/>\n" ++ rest) ≡ read true w rest = refl in
+    ap (read true v) text ∙ first ∙ ap (λ u. read false u line) named ∙ e4 body ∙ drawn (codes "\"/>\n" ++ rest) ∙ ap (λ ds. dots ++ ds) (end ∙ others w)
+
+-- the paths of n weights from w on draw the dots of these weights
+paths_read : (rs : List Run) (w : ℤ) (n : ℕ) (v : ℤ) (rest : List ℕ) → All IsRun rs → ((u : ℤ) → read true u rest ≡ [])
+    → read true v (paths_from rs w n ++ rest) ≡ gathered (flat_map dots_of rs) w n
+unfolding paths_from gathered
+paths_read rs w zero v rest runs none = none v
+paths_read rs w (suc n) v rest runs none =
+    let text = flat_map (rectangle_of w) rs in
+    let others = paths_from rs (w +ℤ pos 1) n in
+    ap (read true v) (append_assoc (path w text) others rest)
+    ∙ path_read w v text (dots_with w (flat_map dots_of rs)) (others ++ rest) (gathered (flat_map dots_of rs) (w +ℤ pos 1) n)
+    (λ b bs some. some_weight w rs b bs runs some) (λ more. rectangles_read w rs more runs)
+    (λ u. paths_read rs (w +ℤ pos 1) n u rest runs none)
+
+-- ---- the image
+
+-- nothing after the paths draws
+tail_read : (s : Sheet) (u : ℤ) → IsSmallSheet s → read true u (codes "</g>\n" ++ (cover s (codes "url(#grid)") ++ (axes s ++ codes "</svg>\n"))) ≡ []
+unfolding read after
+tail_read s u small =
+    cover_read u s (codes "url(#grid)") (axes s ++ codes "</svg>\n") small (λ rest. refl) ∙ axes_read u s (codes "</svg>\n") small
+
+image_read : (s : Sheet) (rs : List Run) → IsSmallSheet s → All IsRun rs
+    → read_svg (image s rs) ≡ gathered (flat_map dots_of rs) (least_weight rs) (extent (least_weight rs) (greatest_weight rs))
+unfolding image paths read after
+image_read s rs small runs =
+    let tail = codes "</g>\n" ++ (cover s (codes "url(#grid)") ++ (axes s ++ codes "</svg>\n")) in
+    let ink = paths rs ++ tail in
+    let group = codes "<g shape-rendering=\"crispEdges\">\n" ++ ink in
+    let text : image s rs ≡ opening s ++ (cover s (codes "#fff") ++ group) = simp append_assoc in
+    let begun : read true (pos 0) group ≡ read true (pos 0) ink = refl in
+    ap (read true (pos 0)) text ∙ opening_read (pos 0) s (cover s (codes "#fff") ++ group) small
+    ∙ cover_read (pos 0) s (codes "#fff") group small (λ rest. refl) ∙ begun
+    ∙ paths_read rs (least_weight rs) (extent (least_weight rs) (greatest_weight rs)) (pos 0) tail runs (λ u. tail_read s u small)
+
+small_sheet : (b : Box4) → IsBoxOfField b → IsSmallSheet (sheet_of b)
+small_sheet b field = record {
+  left = record { least = omega (arith, ints, field.left); greatest = omega (arith, ints, field.columns, field.right) };
+  top = record { least = omega (arith, ints, field.top); greatest = omega (arith, ints, field.rows, field.bottom) };
+  width = record { least = omega (arith, ints); greatest = omega (arith, ints, field.left, field.right, field.columns) };
+  height = record { least = omega (arith, ints); greatest = omega (arith, ints, field.bottom, field.top, field.rows) };
+}
+
+-- the box of an image lies in the field
+box_is_of_field : (ds : List Dot) → IsPicture ds → IsBoxOfField (image_box ds)
+unfolding image_box
+box_is_of_field [] picture = (box_of_blank [] refl).field
+box_is_of_field (d ∷ ds) picture =
+    let (b, least) = some_least_box d ds in
+    let box = box_of_picture (d ∷ ds) b picture least in
+    subst IsBoxOfField box.is box.field
+
+pub svg_read : (ds : List Dot) (x y : ℤ) → IsPicture ds → weight_at (read_svg (svg_text ds)) x y ≡ weight_at ds x y
+unfolding svg_text
+svg_read ds x y picture =
+    let rs = runs_of ds in
+    let runs = (total_none ds rs picture refl).passes.runs in
+    let same : flat_map dots_of rs ≡ ds = dots_of-runs_of ds in
+    let low = least_weight rs in
+    let high = greatest_weight rs in
+    let (low_none, low_all) = fold-int_min_bounds (pos 0) (weights_of rs) low refl in
+    let (high_none, high_all) = fold-int_max_bounds (pos 0) (weights_of rs) high refl in
+    let least : low ≤ℤ weight_at ds x y = subst (λ es. low ≤ℤ weight_at es x y) same (weight_of_runs (λ w. low ≤ℤ w) rs x y low_none low_all) in
+    let greatest : weight_at ds x y ≤ℤ high = subst (λ es. weight_at es x y ≤ℤ high) same (weight_of_runs (λ w. w ≤ℤ high) rs x y high_none high_all) in
+    ap (λ es. weight_at es x y) (image_read (sheet_of (image_box ds)) rs (small_sheet (image_box ds) (box_is_of_field ds picture)) runs ∙ ap (λ es. gathered es low (extent low high)) same)
+    ∙ found start_of_field ds low (extent low high) x y picture.dots least (omega (arith, ints))

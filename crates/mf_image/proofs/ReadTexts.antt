@@ -1,0 +1,253 @@
+-- The texts of paths, read back.
+use Rattle.std.proofs.Common.{◌≡◌, ◌≢◌, ℕ, suc, ◌+◌, ◌-◌, ◌*◌, ◌/◌, ◌%◌, ◌^◌, ◌<◌, ◌==◌, true, false, ℤ, pos, negsuc, neg_ℤ, ◌+ℤ◌, ◌≤ℤ◌, List, [], ◌∷◌, ◌++◌, codes, decimal, refl, sym, ap, ◌∙◌, append_assoc, arith}
+use Rattle.std.specs.Char.{is_ascii_digit}
+use Rattle.std.specs.Fmt.{signed_decimal}
+use Rattle.std.specs.Int.RustNames.{unsigned_abs}
+use Rattle.std.proofs.lemmas.Bool.Decides.{nat_tests}
+use Rattle.std.proofs.lemmas.Fmt.{decimal_by_steps}
+use Rattle.std.proofs.lemmas.Int.{ints}
+use Rattle.mf_rows.specs.declared.run.Run.{Run}
+use Rattle.mf_rows.specs.Order.{IsRun}
+use Rattle.mf_rows.specs.Runs.{stretch}
+use Rattle.mf_image.specs.declared.svg_image.Sheet.{Sheet}
+use Rattle.mf_image.specs.Reading.{after, after_first, continued, number, read}
+use Rattle.mf_image.specs.Svg.{axes, cover, opening, rectangle}
+
+-- ---- digits
+
+digit_is : (d : ℕ) → d < 10 → is_ascii_digit (48 + d) ≡ true
+digit_is d below = grind (arith, nat_tests)
+
+other_byte : (b c : ℕ) → b ≢ c → (b == c) ≡ false
+other_byte b c apart = grind (arith, nat_tests)
+
+-- a function of texts passes a digit at the front
+abbrev pub PassesDigits : {A : Type 0} → (List ℕ → A) → Type 0
+PassesDigits f = (d : ℕ) (bs : List ℕ) → d < 10 → f ((48 + d) ∷ bs) ≡ f bs
+
+pass_decimal : {A : Type 0} (f : List ℕ → A) → PassesDigits f → (n : ℕ) (bs : List ℕ) → n < 2 ^ 64 → f (decimal n ++ bs) ≡ f bs
+pass_decimal f digit n bs small =
+    decimal_by_steps (λ k ds. (rest : List ℕ) → f (ds ++ rest) ≡ f rest) (λ d below rest. digit d rest below)
+    (λ k ds more front rest. ap f (append_assoc ds ((48 + k % 10) ∷ []) rest) ∙ front ((48 + k % 10) ∷ rest) ∙ digit (k % 10) rest (omega arith))
+    n small bs
+
+-- the numbers of an image are small
+pub record IsSmall (z : ℤ) : Type 0 where
+  pub least : negsuc 40000 ≤ℤ z
+  pub greatest : z ≤ℤ pos 40000
+
+pass_number : {A : Type 0} (f : List ℕ → A) → PassesDigits f → ((bs : List ℕ) → f (45 ∷ bs) ≡ f bs) → (z : ℤ) (bs : List ℕ) → IsSmall z
+    → f (signed_decimal z ++ bs) ≡ f bs
+pass_number f digit sign (pos n) bs small = pass_decimal f digit n bs (omega (arith, ints, small.greatest))
+pass_number f digit sign (negsuc n) bs small = sign (decimal (suc n) ++ bs) ∙ pass_decimal f digit (suc n) bs (omega (arith, ints, small.least))
+
+-- ---- a number is read back
+
+continued-digit : (n d : ℕ) (bs : List ℕ) → d < 10 → continued n ((48 + d) ∷ bs) ≡ continued (10 * n + d) bs
+unfolding continued
+continued-digit n d bs below = let value : 10 * n + ((48 + d) - 48) ≡ 10 * n + d = omega arith in rw (digit_is d below) (ap (λ k. continued k bs) value)
+
+continued-decimal : (n : ℕ) (bs : List ℕ) → n < 2 ^ 64 → continued 0 (decimal n ++ bs) ≡ continued n bs
+continued-decimal n bs small =
+    decimal_by_steps (λ k ds. (rest : List ℕ) → continued 0 (ds ++ rest) ≡ continued k rest) (λ d below rest. let value : 10 * 0 + d ≡ d = omega arith in continued-digit 0 d rest below ∙ ap (λ m. continued m rest) value)
+    (λ k ds more front rest.
+    let value : 10 * (k / 10) + k % 10 ≡ k = omega arith in
+    ap (continued 0) (append_assoc ds ((48 + k % 10) ∷ []) rest) ∙ front ((48 + k % 10) ∷ rest) ∙ continued-digit (k / 10) (k % 10) rest (omega arith)
+    ∙ ap (λ m. continued m rest) value)
+    n small bs
+
+number-decimal : (n : ℕ) (bs : List ℕ) → n < 2 ^ 64 → number (decimal n ++ bs) ≡ pos (continued 0 (decimal n ++ bs))
+unfolding number
+number-decimal n bs small =
+    decimal_by_steps (λ k ds. (rest : List ℕ) → number (ds ++ rest) ≡ pos (continued 0 (ds ++ rest)))
+    (λ d below rest. rw (other_byte (48 + d) 45 (λ same. omega arith)) refl)
+    (λ k ds more front rest.
+    let shift = append_assoc ds ((48 + k % 10) ∷ []) rest in
+    ap number shift ∙ front ((48 + k % 10) ∷ rest) ∙ ap (λ t. pos (continued 0 t)) (sym shift))
+    n small bs
+
+continued-end : (n c : ℕ) (bs : List ℕ) → is_ascii_digit c ≡ false → continued n (c ∷ bs) ≡ n
+unfolding continued
+continued-end n c bs other = rw other refl
+
+pub number_read : (z : ℤ) (c : ℕ) (bs : List ℕ) → IsSmall z → is_ascii_digit c ≡ false → number (signed_decimal z ++ c ∷ bs) ≡ z
+unfolding number
+number_read (pos n) c bs small other =
+    number-decimal n (c ∷ bs) (omega (arith, ints, small.greatest))
+    ∙ ap (λ k. pos k) (continued-decimal n (c ∷ bs) (omega (arith, ints, small.greatest)) ∙ continued-end n c bs other)
+number_read (negsuc n) c bs small other =
+    ap (λ k. neg_ℤ (pos k)) (continued-decimal (suc n) (c ∷ bs) (omega (arith, ints, small.least)) ∙ continued-end (suc n) c bs other)
+
+first_passes_digits : (c : ℕ) → ((d : ℕ) → d < 10 → (48 + d) ≢ c) → PassesDigits (after_first c)
+unfolding after_first
+first_passes_digits c apart d bs below = rw (other_byte (48 + d) c (apart d below)) refl
+
+-- ---- the middle of a line
+
+read_passes_digits : (w : ℤ) → PassesDigits (read false w)
+unfolding read
+read_passes_digits w d bs below = rw (other_byte (48 + d) 10 (λ same. omega arith)) refl
+
+-- a text is passed in the middle of a line
+abbrev pub IsPassed : ℤ → List ℕ → Type 0
+IsPassed w t = (rest : List ℕ) → read false w (t ++ rest) ≡ read false w rest
+
+-- a text ends a line, after which no line of it draws
+abbrev pub IsEnd : ℤ → List ℕ → Type 0
+IsEnd w t = (rest : List ℕ) → read false w (t ++ rest) ≡ read true w rest
+
+pub number_passed : (w z : ℤ) → IsSmall z → IsPassed w (signed_decimal z)
+unfolding read
+number_passed w z small rest = pass_number (read false w) (read_passes_digits w) (λ bs. refl) z rest small
+
+pub end_after : (w : ℤ) (s t : List ℕ) → IsPassed w s → IsEnd w t → IsEnd w (s ++ t)
+end_after w s t passed end rest = ap (read false w) (append_assoc s t rest) ∙ passed (t ++ rest) ∙ end rest
+
+-- ---- the lines before and after the paths
+
+-- the numbers of a sheet are small
+pub record IsSmallSheet (s : Sheet) : Type 0 where
+  pub left : IsSmall s.left
+  pub top : IsSmall s.top
+  pub width : IsSmall s.width
+  pub height : IsSmall s.height
+
+pub opening_read : (w : ℤ) (s : Sheet) (rest : List ℕ) → IsSmallSheet s → read true w (opening s ++ rest) ≡ read true w rest
+unfolding opening read after
+opening_read w s rest small =
+    let t8 = codes "\">\n<pattern id=\"grid\" width=\"1\" height=\"1\" patternUnits=\"userSpaceOnUse\"><path d=\"M0 0h1M0 0v1\" stroke=\"#999\" stroke-width=\".06\"/></pattern>\n" in
+    let t7 = signed_decimal s.height ++ t8 in
+    let t6 = codes " " ++ t7 in
+    let t5 = signed_decimal s.width ++ t6 in
+    let t4 = codes " " ++ t5 in
+    let t3 = signed_decimal s.top ++ t4 in
+    let t2 = codes " " ++ t3 in
+    let t1 = signed_decimal s.left ++ t2 in
+    let e8 : IsEnd w t8 = λ rest. refl in
+    let e7 : IsEnd w t7 = end_after w (signed_decimal s.height) t8 (number_passed w s.height small.height) e8 in
+    let e6 : IsEnd w t6 = end_after w (codes " ") t7 (λ rest. refl) e7 in
+    let e5 : IsEnd w t5 = end_after w (signed_decimal s.width) t6 (number_passed w s.width small.width) e6 in
+    let e4 : IsEnd w t4 = end_after w (codes " ") t5 (λ rest. refl) e5 in
+    let e3 : IsEnd w t3 = end_after w (signed_decimal s.top) t4 (number_passed w s.top small.top) e4 in
+    let e2 : IsEnd w t2 = end_after w (codes " ") t3 (λ rest. refl) e3 in
+    let e1 : IsEnd w t1 = end_after w (signed_decimal s.left) t2 (number_passed w s.left small.left) e2 in
+    let text : opening s ++ rest ≡ codes "<svg xmlns=\"http://www.w3.org/2000/svg\" viewBox=\"" ++ (t1 ++ rest) = simp append_assoc in
+    let first : read true w (codes "<svg xmlns=\"http://www.w3.org/2000/svg\" viewBox=\"" ++ (t1 ++ rest)) ≡ read false w (t1 ++ rest) = refl in
+    ap (read true w) text ∙ first ∙ e1 rest
+
+pub cover_read : (w : ℤ) (s : Sheet) (fill rest : List ℕ) → IsSmallSheet s → IsPassed w fill → read true w (cover s fill ++ rest) ≡ read true w rest
+unfolding cover read after
+cover_read w s fill rest small filled =
+    let t10 = codes "\"/>\n" in
+    let t9 = fill ++ t10 in
+    let t8 = codes "\" fill=\"" ++ t9 in
+    let t7 = signed_decimal s.height ++ t8 in
+    let t6 = codes "\" height=\"" ++ t7 in
+    let t5 = signed_decimal s.width ++ t6 in
+    let t4 = codes "\" width=\"" ++ t5 in
+    let t3 = signed_decimal s.top ++ t4 in
+    let t2 = codes "\" y=\"" ++ t3 in
+    let t1 = signed_decimal s.left ++ t2 in
+    let e10 : IsEnd w t10 = λ rest. refl in
+    let e9 : IsEnd w t9 = end_after w (fill) t10 filled e10 in
+    let e8 : IsEnd w t8 = end_after w (codes "\" fill=\"") t9 (λ rest. refl) e9 in
+    let e7 : IsEnd w t7 = end_after w (signed_decimal s.height) t8 (number_passed w s.height small.height) e8 in
+    let e6 : IsEnd w t6 = end_after w (codes "\" height=\"") t7 (λ rest. refl) e7 in
+    let e5 : IsEnd w t5 = end_after w (signed_decimal s.width) t6 (number_passed w s.width small.width) e6 in
+    let e4 : IsEnd w t4 = end_after w (codes "\" width=\"") t5 (λ rest. refl) e5 in
+    let e3 : IsEnd w t3 = end_after w (signed_decimal s.top) t4 (number_passed w s.top small.top) e4 in
+    let e2 : IsEnd w t2 = end_after w (codes "\" y=\"") t3 (λ rest. refl) e3 in
+    let e1 : IsEnd w t1 = end_after w (signed_decimal s.left) t2 (number_passed w s.left small.left) e2 in
+    let text : cover s fill ++ rest ≡ codes "<rect x=\"" ++ (t1 ++ rest) = simp append_assoc in
+    let first : read true w (codes "<rect x=\"" ++ (t1 ++ rest)) ≡ read false w (t1 ++ rest) = refl in
+    ap (read true w) text ∙ first ∙ e1 rest
+
+pub axes_read : (w : ℤ) (s : Sheet) (rest : List ℕ) → IsSmallSheet s → read true w (axes s ++ rest) ≡ read true w rest
+unfolding axes read after
+axes_read w s rest small =
+    let t8 = codes "\" stroke=\"#c00\" stroke-width=\".12\"/>\n" in
+    let t7 = signed_decimal s.width ++ t8 in
+    let t6 = codes " 0h" ++ t7 in
+    let t5 = signed_decimal s.left ++ t6 in
+    let t4 = codes "M" ++ t5 in
+    let t3 = signed_decimal s.height ++ t4 in
+    let t2 = codes "v" ++ t3 in
+    let t1 = signed_decimal s.top ++ t2 in
+    let e8 : IsEnd w t8 = λ rest. refl in
+    let e7 : IsEnd w t7 = end_after w (signed_decimal s.width) t8 (number_passed w s.width small.width) e8 in
+    let e6 : IsEnd w t6 = end_after w (codes " 0h") t7 (λ rest. refl) e7 in
+    let e5 : IsEnd w t5 = end_after w (signed_decimal s.left) t6 (number_passed w s.left small.left) e6 in
+    let e4 : IsEnd w t4 = end_after w (codes "M") t5 (λ rest. refl) e5 in
+    let e3 : IsEnd w t3 = end_after w (signed_decimal s.height) t4 (number_passed w s.height small.height) e4 in
+    let e2 : IsEnd w t2 = end_after w (codes "v") t3 (λ rest. refl) e3 in
+    let e1 : IsEnd w t1 = end_after w (signed_decimal s.top) t2 (number_passed w s.top small.top) e2 in
+    let text : axes s ++ rest ≡ codes "<path d=\"M0 " ++ (t1 ++ rest) = simp append_assoc in
+    let first : read true w (codes "<path d=\"M0 " ++ (t1 ++ rest)) ≡ read false w (t1 ++ rest) = refl in
+    ap (read true w) text ∙ first ∙ e1 rest
+
+-- ---- a rectangle
+
+-- the line of a rectangle after its `M`
+abbrev sides : ℤ → ℤ → ℕ → List ℕ
+sides x top n =
+    signed_decimal x ++ (codes " " ++ (signed_decimal top ++ (codes "h" ++ (signed_decimal (pos n) ++ (codes "v1h-" ++ (signed_decimal (pos n) ++ codes "z\n"))))))
+
+-- what its width is, and what comes after it
+abbrev width_on : ℕ → List ℕ → List ℕ
+width_on n rest = signed_decimal (pos n) ++ 118 ∷ (49 ∷ 104 ∷ 45 ∷ (signed_decimal (pos n) ++ (codes "z\n" ++ rest)))
+
+sides_on : (x top : ℤ) (n : ℕ) (rest : List ℕ) → sides x top n ++ rest ≡ signed_decimal x ++ 32 ∷ (signed_decimal top ++ 104 ∷ width_on n rest)
+sides_on x top n rest = simp append_assoc
+
+sides_passed : (w x top : ℤ) (n : ℕ) → IsSmall x → IsSmall top → IsSmall (pos n) → IsEnd w (sides x top n)
+unfolding read
+sides_passed w x top n column row width =
+    let t8 = codes "z\n" in
+    let t7 = signed_decimal (pos n) ++ t8 in
+    let t6 = codes "v1h-" ++ t7 in
+    let t5 = signed_decimal (pos n) ++ t6 in
+    let t4 = codes "h" ++ t5 in
+    let t3 = signed_decimal top ++ t4 in
+    let t2 = codes " " ++ t3 in
+    let t1 = signed_decimal x ++ t2 in
+    let e8 : IsEnd w t8 = λ rest. refl in
+    let e7 : IsEnd w t7 = end_after w (signed_decimal (pos n)) t8 (number_passed w (pos n) width) e8 in
+    let e6 : IsEnd w t6 = end_after w (codes "v1h-") t7 (λ rest. refl) e7 in
+    let e5 : IsEnd w t5 = end_after w (signed_decimal (pos n)) t6 (number_passed w (pos n) width) e6 in
+    let e4 : IsEnd w t4 = end_after w (codes "h") t5 (λ rest. refl) e5 in
+    let e3 : IsEnd w t3 = end_after w (signed_decimal top) t4 (number_passed w top row) e4 in
+    let e2 : IsEnd w t2 = end_after w (codes " ") t3 (λ rest. refl) e3 in
+    let e1 : IsEnd w t1 = end_after w (signed_decimal x) t2 (number_passed w x column) e2 in
+    e1
+
+top_found : (x top : ℤ) (n : ℕ) (rest : List ℕ) → IsSmall x → after_first 32 (sides x top n ++ rest) ≡ signed_decimal top ++ 104 ∷ width_on n rest
+unfolding after_first
+top_found x top n rest column =
+    ap (after_first 32) (sides_on x top n rest)
+    ∙ pass_number (after_first 32) (first_passes_digits 32 (λ d below same. omega arith)) (λ bs. refl) x (32 ∷ (signed_decimal top ++ 104 ∷ width_on n rest)) column
+
+width_found : (x top : ℤ) (n : ℕ) (rest : List ℕ) → IsSmall x → IsSmall top → after_first 104 (sides x top n ++ rest) ≡ width_on n rest
+unfolding after_first
+width_found x top n rest column row =
+    let digits = first_passes_digits 104 (λ d below same. omega arith) in
+    ap (after_first 104) (sides_on x top n rest)
+    ∙ pass_number (after_first 104) digits (λ bs. refl) x (32 ∷ (signed_decimal top ++ 104 ∷ width_on n rest)) column
+    ∙ pass_number (after_first 104) digits (λ bs. refl) top (104 ∷ width_on n rest) row
+
+-- the line of a run draws its pixels, with the weight of the path
+pub rectangle_read : (w : ℤ) (r : Run) (rest : List ℕ) → IsRun r → read true w (rectangle r ++ rest) ≡ stretch r.y r.x w r.len ++ read true w rest
+unfolding rectangle read after
+rectangle_read w r rest run =
+    let top = neg_ℤ (r.y +ℤ pos 1) in
+    let column : IsSmall r.x = record { least = omega (arith, ints, run.left); greatest = omega (arith, ints, run.right, run.some) } in
+    let row : IsSmall top = record { least = omega (arith, ints, run.top); greatest = omega (arith, ints, run.bottom) } in
+    let width : IsSmall (pos r.len) = record { least = omega (arith, ints); greatest = omega (arith, ints, run.left, run.right) } in
+    let text = sides r.x top r.len ++ rest in
+    let x : number text ≡ r.x = ap number (sides_on r.x top r.len rest) ∙ number_read r.x 32 _ column refl in
+    let edge : number (after_first 32 text) ≡ top = ap number (top_found r.x top r.len rest column) ∙ number_read top 104 _ row refl in
+    let y : neg_ℤ (number (after_first 32 text) +ℤ pos 1) ≡ r.y = ap (λ z. neg_ℤ (z +ℤ pos 1)) edge ∙ omega (arith, ints) in
+    let len : unsigned_abs (number (after_first 104 text)) ≡ r.len =
+    ap (λ t. unsigned_abs (number t)) (width_found r.x top r.len rest column row) ∙ ap unsigned_abs (number_read (pos r.len) 118 _ width refl) in
+    let line : rectangle r ++ rest ≡ codes "M" ++ text = simp append_assoc in
+    let first : read true w (codes "M" ++ text) ≡ stretch (neg_ℤ (number (after_first 32 text) +ℤ pos 1)) (number text) w (unsigned_abs (number (after_first 104 text))) ++ read false w text = refl in
+    ap (read true w) line ∙ first ∙ rw (x, y, len) (ap (λ others. stretch r.y r.x w r.len ++ others) (sides_passed w r.x top r.len column row width rest))

@@ -1,0 +1,28 @@
+//! Laws of images. Each is the contract of a function that does nothing, because the toolchain proves a statement only where the
+//! contract of a function names it.
+ghost use Rattle.std.specs.Prelude.{◌≡◌, ◌<◌, ◌+◌, ◌*◌, ℕ, ℤ, pos, negsuc, ◌≤ℤ◌, ◌+ℤ◌, ◌-ℤ◌, List, get_or, length};
+ghost use Rattle.mf_rows.specs.Dots.{Dot, IsPicture, weight_at};
+ghost use Rattle.mf_show.specs.Grid.{extent};
+ghost use Rattle.mf_image.specs.Boxes.{image_box};
+ghost use Rattle.mf_image.specs.Pgm.{level, pgm_bytes, pgm_head};
+ghost use Rattle.mf_image.specs.Reading.{read_svg, weight_of_level};
+ghost use Rattle.mf_image.specs.Svg.{svg_text};
+
+/// After its head, a PGM image has the byte of the weight of each pixel of its box, rows in order from the top and columns from the
+/// left, and nothing else.
+pub fn pgm_has_each_pixel()
+    ensures pixels { (ds : List Dot) (i j : ℕ) → let b = image_box ds in i < extent b.min_x b.max_x → j < extent b.min_y b.max_y →
+        get_or (pgm_bytes ds) (length (pgm_head b) + (j * extent b.min_x b.max_x + i)) 0 ≡ level (weight_at ds (b.min_x +ℤ pos i) (b.max_y -ℤ pos j)) }
+    ensures whole { (ds : List Dot) → let b = image_box ds in length (pgm_bytes ds) ≡ length (pgm_head b) + extent b.min_y b.max_y * extent b.min_x b.max_x }
+{}
+
+/// The byte of a weight in -54..=42 gives the weight back.
+pub fn levels_are_read_back()
+    ensures { (w : ℤ) → negsuc 53 ≤ℤ w → w ≤ℤ pos 42 → weight_of_level (level w) ≡ w }
+{}
+
+/// An image is read back: a reader of its text, which passes all lines but those that begin a path and those of rectangles, finds
+/// the weight of each pixel.
+pub fn svg_is_read_back()
+    ensures { (ds : List Dot) (x y : ℤ) → IsPicture ds → weight_at (read_svg (svg_text ds)) x y ≡ weight_at ds x y }
+{}

@@ -1,0 +1,5 @@
+//! Tests of `mf_image`.
+#![tactic(auto)]
+
+#[cfg(test)]
+mod tests;

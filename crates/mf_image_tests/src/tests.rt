@@ -1,0 +1,5 @@
+//! Tests of the images of pictures.
+
+mod assertions;
+mod growths;
+mod images;
