@@ -1,5 +1,5 @@
 #!/bin/bash
-# Tests the exit statuses and messages of the program where it fails: words that it does not know, a word that is not UTF-8, a
+# Tests the exit statuses and messages of the programs where they fail: words that it does not know, a word that is not UTF-8, a
 # folder as its script, an output that is full or closed, a font file without a character, and one that cannot be created. After
 # a fault of the words or of the script, a font file that was there before is there as it was.
 set -u
@@ -8,8 +8,9 @@ cd "$(dirname "$0")/.."
 folder=$(mktemp -d)
 trap 'rm -r "$folder"' EXIT
 
-# Builds the program first, so that its messages are the only ones.
+# Builds the programs first, so that their messages are the only ones.
 ./mfpic < /dev/null || exit
+./mfview --version > /dev/null || exit
 
 fails() {
     echo "$@" >&2
@@ -58,4 +59,19 @@ keeps_font examples/rectangle.transcript 3 'mfpic: NoCharacters' './mfpic --gf "
 keeps_font examples/font.transcript 3 'mfpic: WriteFault' './mfpic --gf "$FONT/font.gf" < examples/font.mfp'
 keeps_font examples/font.transcript 3 'mfpic: WriteFault' './mfpic --gf "${FONT%/*}/none/font.gf" < examples/font.mfp'
 keeps_font examples/font.transcript 3 'mfpic: WriteFault' './mfpic --gf / < examples/font.mfp'
+
+usage='usage: mfview [OPTION..] < SCRIPT (mfview --help lists the options)'
+ends_with 0 '' ./mfview --help
+ends_with 2 "$usage" ./mfview more
+ends_with 2 "$usage" ./mfview --pgm
+ends_with 2 "$usage" ./mfview $'\xff'
+ends_with 3 'mfview: ReadFault' bash -c './mfview < /'
+ends_with 3 'mfview: WriteFault' bash -c './mfview --transcript /dev/null < examples/tee.mfp > /dev/full'
+ends_with 3 'mfview: WriteFault' bash -c './mfview --transcript /none/told < examples/tee.mfp'
+ends_with 3 'mfview: PlateFault 1' bash -c './mfview --transcript /dev/null --plates /none < examples/tee.mfp'
+ends_with 3 'mfview: NoCharacters' bash -c './mfview --transcript /dev/null --gf /dev/null < examples/tee.mfp'
+ends_with 5 'mfview: TooSmall' ./mfview --columns 47
+ends_with 5 'mfview: TooSmall' ./mfview --rows 5
+ends_with 0 '' bash -c './mfview --frames --transcript /dev/null --gf "$FONT" < examples/font.mfp'
+cmp "$FONT" examples/font.gf || fails 'another font file'
 echo "$count passed, 0 failed"

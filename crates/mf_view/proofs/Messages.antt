@@ -1,5 +1,5 @@
 -- Messages, as far as a writer took them.
-use Rattle.std.proofs.Common.{◌≡◌, ◌++◌, ◌∙◌, ℕ, List, [], Option, Result, Ok, Err, IfErr, OnOk, ap, append_assoc, drop, take, sym}
+use Rattle.std.proofs.Common.{◌++◌, ◌∙◌, ℕ, List, [], Option, Result, Ok, Err, IfErr, OnOk, ap, append_assoc, drop, take, sym}
 use Rattle.std.proofs.KnownBytes.{Appends-trans}
 use Rattle.std.proofs.lemmas.List.{append-nil, take-append-drop}
 use Rattle.std.specs.Io.KnownBytes.{Appends}

@@ -1,4 +1,3 @@
-use Rattle.mf_session.specs.States.{start}
 use Rattle.mf_view.proofs.Drawn.{drawn-nothing, same-manner}
 use Rattle.mf_view.proofs.Shown.{drawn-both, shown-end, shown-whole, stands-after}
 use Rattle.mf_view.proofs.performance.show.Goals as goal

@@ -1,0 +1,7 @@
+//! Tests of scripts that are performed while their picture is drawn.
+
+mod assertions;
+mod fonts;
+mod frames;
+mod paces;
+mod streams;
