@@ -6,7 +6,7 @@
 PROGRAM is by default crates/mfview/out/mfview. Each script is performed with `--frames` and without, in a terminal of some size,
 and with a folder of plates unless a picture is too large for an image. Then
 
-- the transcript and the font file must be those of the models;
+- the transcript and the font file must be those of the models, the font's design size and resolution included;
 - the frames must be frames of published pictures whose revisions rise, and the last one that of the last picture;
 - there must be an image for each published revision, and for no other, that reads back as its picture.
 
@@ -29,7 +29,10 @@ from random_scripts import answer, spelled
 ROOT = pathlib.Path(__file__).resolve().parent.parent
 # Sizes of terminals: the least one, the usual one, and a wide one.
 SIZES = [(48, 6), (80, 24), (200, 50)]
+# Design sizes in points and resolutions in dots per inch.
+FONTS = [(0, 0), (10, 300), (2047, 100_000)]
 PUBLISH = "publish"
+PADDING = 223
 
 
 @dataclasses.dataclass
@@ -64,6 +67,14 @@ def performed(chance: Chance) -> Performance:
     return made
 
 
+def with_words(font: bytes, points: int, dots: int) -> bytes:
+    """A font file with this design size in points and this resolution in dots per inch, in place of zeros."""
+    place = int.from_bytes(font.rstrip(bytes([PADDING]))[-5:-1], "big")
+    pixels = round(dots * 65536 * 100 / 7227)
+    words = b"".join(word.to_bytes(4, "big") for word in (points << 20, 0, pixels, pixels))
+    return font[: place + 5] + words + font[place + 21 :]
+
+
 def difference_of_frames(shown: str, made: Performance, size: tuple[int, int], is_plain: bool) -> str | None:
     """How what was drawn differs from frames of the pictures that were seen, of which some may have been missed."""
     seen, rest, ended = {0: {}} | made.published, shown, False
@@ -90,18 +101,21 @@ def difference_of_plates(folder: pathlib.Path, made: Performance) -> str | None:
     return None
 
 
-def difference(program: str, made: Performance, size: tuple[int, int], is_plain: bool) -> str | None:
+def difference(
+    program: str, made: Performance, size: tuple[int, int], is_plain: bool, words_of_font: tuple[int, int]
+) -> str | None:
     """How the program differs from the models on a script."""
     with tempfile.TemporaryDirectory() as folder:
         plates, font = pathlib.Path(folder) / "plates", pathlib.Path(folder) / "font.gf"
         plates.mkdir()
         words = [program, "--columns", str(size[0]), "--rows", str(size[1]), *["--frames"] * is_plain]
-        words += ["--gf", str(font)] if made.font else []
+        points, dots = map(str, words_of_font)
+        words += ["--gf", str(font), "--design-size", points, "--resolution", dots] if made.font else []
         words += ["--plates", str(plates), "--pgm"] if made.has_images() else []
         ran = subprocess.run(words, input=made.script, capture_output=True, timeout=600, check=False)
         if ran.returncode or ran.stderr.decode() != made.transcript:
             return f"it ended with status {ran.returncode}, and told {ran.stderr!r}, not {made.transcript!r}"
-        if made.font and font.read_bytes() != made.font:
+        if made.font and font.read_bytes() != with_words(made.font, *words_of_font):
             return "it wrote another font file"
         if made.has_images() and (found := difference_of_plates(plates, made)):
             return found
@@ -117,7 +131,7 @@ def main() -> int:
     for number in range(scripts):
         made = performed(chance)
         size, is_plain = SIZES[number % len(SIZES)], number % 2 == 0
-        if found := difference(program, made, size, is_plain):
+        if found := difference(program, made, size, is_plain, FONTS[number // 2 % len(FONTS)]):
             wrong += 1
             print(f"script {number}, {size[0]} columns and {size[1]} rows: {found}\n{made.script!r}", flush=True)
     print(f"{scripts - wrong} passed, {wrong} failed")
