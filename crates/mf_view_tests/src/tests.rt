@@ -3,5 +3,6 @@
 mod assertions;
 mod fonts;
 mod frames;
+mod growths;
 mod paces;
 mod streams;

@@ -1,0 +1,92 @@
+//! Calls whose allocations are refused, one after another: a look that is drawn, and a line that publishes with a plate.
+use super::assertions::assert_same;
+use mf_easel::{Easel, EaselFault};
+use mf_frame::{Canvas, Style};
+use mf_live::Desk;
+use mf_stage::{Plates, Settings, Stage, StageFault};
+use mf_testing::{Sink, grow_again, refuse_growths};
+use std::alloc::Global;
+use std::process::Abort;
+use std::sync::Wait;
+
+const SETTINGS: Settings = Settings {
+    max_ops: 10,
+    max_bytes: 1000,
+};
+
+/// Two pixels, in the columns 1 and 2 of row 1.
+const CONTOUR: &[u8] = b"addto currentpicture contour (1,1)--(3,1)--(3,2)--(1,2)--cycle";
+
+const FRAME: &str = "▀▀\nrevision 1  totalweight 2\ncolumns 1..2  rows 1..1  scale 1\n";
+
+/// A stage whose picture has two pixels.
+fn drawn<R: Abort + Wait>(rt: &R, alloc: Global, plates: Option<Plates>) -> (Stage, Desk) {
+    let made = Stage::new(rt, alloc, &SETTINGS, plates);
+    let (mut stage, desk) = made.expect(rt, "there is room for a stage");
+    answer(rt, alloc, &mut stage, CONTOUR);
+    (stage, desk)
+}
+
+/// Performs a line that prints what is not looked at.
+fn answer<R: Abort + Wait>(rt: &R, alloc: Global, stage: &mut Stage, line: &[u8]) {
+    let mut transcript = Sink::new(alloc);
+    let answered = stage.answer(rt, alloc, line, &mut transcript);
+    assert_same(rt, answered.is_ok(), true, "answered");
+}
+
+/// A look that runs out of memory draws nothing, and the next one draws the frame.
+#[test]
+fn a_look_is_drawn(rt: HostRuntime) {
+    let alloc = rt.alloc();
+    let (mut stage, mut desk) = drawn(&rt, alloc, None);
+    answer(&rt, alloc, &mut stage, b"publish");
+    let viewer = desk.viewer().expect(&rt, "there is a place");
+    let canvas = Canvas::new(48, 6).expect(&rt, "the terminal is large enough");
+    let mut easel = Easel::new(viewer, canvas, Style::Plain);
+    let mut screen = Sink::reserved(alloc, 1000).expect(&rt, "there is room for a frame");
+    refuse_growths(alloc);
+    let looked = easel.look(alloc, &mut screen);
+    grow_again(alloc);
+    let looked = match looked {
+        Ok(looked) => looked,
+        Err(fault) => {
+            assert_same(&rt, fault, EaselFault::OutOfMemory, "the refusal");
+            assert_same(&rt, screen.taken().len(), 0, "nothing is drawn");
+            easel
+                .look(alloc, &mut screen)
+                .expect(&rt, "there is room to look")
+        }
+    };
+    assert_same(&rt, looked, Some(1), "the revision");
+    assert_same(&rt, screen.taken(), FRAME.as_bytes(), "the frame");
+    stage.discard(&rt);
+}
+
+/// A line that runs out of memory prints its text or nothing, and ends the script; with ample memory its plate has its path.
+#[test]
+fn a_publish_has_a_plate(rt: HostRuntime) {
+    let alloc = rt.alloc();
+    let folder = String::from_str(alloc, "plates").expect(&rt, "there is room for a name");
+    let (mut stage, _) = drawn(&rt, alloc, Some(Plates { folder, pgm: true }));
+    let mut transcript = Sink::reserved(alloc, 1000).expect(&rt, "there is room for a text");
+    refuse_growths(alloc);
+    let answered = stage.answer(&rt, alloc, b"publish", &mut transcript);
+    grow_again(alloc);
+    match answered {
+        Ok(Some(made)) => {
+            assert_same(&rt, made.revision, 1, "the revision");
+            let path = made.plate.map(|plate| plate.svg.path);
+            let name = path.expect(&rt, "there is a plate");
+            assert_same(&rt, name.as_str(), "plates/0000001.svg", "the path");
+            assert_same(
+                &rt,
+                transcript.taken(),
+                b"published 1\n".as_slice(),
+                "the text",
+            );
+        }
+        Ok(None) => assert_same(&rt, false, true, "something is published"),
+        Err(fault) => assert_same(&rt, fault, StageFault::OutOfMemory, "the refusal"),
+    }
+    stage.discard(&rt);
+}
