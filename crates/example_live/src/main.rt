@@ -2,7 +2,7 @@
 #![tactic(auto)]
 
 ghost use Rattle.std.specs.Prelude.{◌≡◌};
-ghost use Rattle.mf_live.specs.Viewers.{name};
+ghost use Rattle.mf_live.specs.Viewers.{identity};
 ghost use Rattle.mf_live.specs.Writers as writers;
 
 use anyhow::{Result, bail};
@@ -56,7 +56,7 @@ fn main(rt: HostRuntime) -> Result<()> {
 
 /// Draws three rows.
 fn draw<R: Wait>(rt: &R, alloc: Global, writer: &mut Writer) -> Result<()>
-    ensures { writers.name writer.new ≡ writers.name writer.old }
+    ensures { writers.identity writer.new ≡ writers.identity writer.old }
 {
     draw_row(rt, alloc, writer)?;
     draw_row(rt, alloc, writer)?;
@@ -65,7 +65,7 @@ fn draw<R: Wait>(rt: &R, alloc: Global, writer: &mut Writer) -> Result<()>
 
 /// Shifts the picture up by one row, draws three pixels in the row below, and publishes both operations at once.
 fn draw_row<R: Wait>(rt: &R, alloc: Global, writer: &mut Writer) -> Result<()>
-    ensures { writers.name writer.new ≡ writers.name writer.old }
+    ensures { writers.identity writer.new ≡ writers.identity writer.old }
 {
     let row = Op::Contour(three_pixels(alloc)?, Weight::new(1)?, Check::On);
     writer
@@ -88,7 +88,7 @@ fn three_pixels(alloc: Global) -> Result<Cycle> {
 
 /// Looks 1000 times, and counts the looks that show the picture after a shift and before the row that goes with it.
 fn watch(alloc: Global, viewer: &mut Viewer) -> Result<u32>
-    ensures { name viewer.new ≡ name viewer.old }
+    ensures { identity viewer.new ≡ identity viewer.old }
 {
     let mut halves = 0u32;
     for _ in 0..1000 {

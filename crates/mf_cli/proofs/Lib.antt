@@ -1,2 +1,1 @@
 mod Messages
-mod Outputs

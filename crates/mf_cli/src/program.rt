@@ -4,13 +4,15 @@ ghost use Rattle.std.specs.Prelude.{◌≡◌, ◌<◌, ◌≤◌, ◌⊎◌, �
 ghost use Rattle.mf_words.specs.CommandLine.{IsCommandLine, file_in, viewers_in};
 ghost use Rattle.mf_cli.specs.Faults.{EndsBadly, ReportsFault};
 ghost use Rattle.mf_cli.specs.Messages.{GetsMessage, message_of, usage};
-ghost use Rattle.mf_cli.specs.Output.{EndsWell, settings};
+ghost use Rattle.mf_cli.specs.Output.{EndsWell, looks, settings};
 ghost use Rattle.mf_cli.specs.Statuses.{status_of};
-ghost use Rattle.mf_desk.specs.Performances.{IsPerformance, StopsEarly};
+ghost use Rattle.mf_desk.specs.Performances.{IsPerformance, Tells};
+ghost use Rattle.mf_desk.specs.Streams.{Passes, streams};
 
 use crate::fault::ProgramFault;
+use mf_base::write_counted;
 use mf_desk::{OpenGate, Outcome, RunFault, Settings};
-use mf_gf::{FontWords, GfBytes, write_counted};
+use mf_gf::{FontWords, GfBytes};
 use mf_words::{USAGE, Words, WordsFault, read_words};
 use std::alloc::Global;
 use std::fs;
@@ -63,11 +65,14 @@ pub fn program<S: Wait + Threads + Files, R: Read, W: Write, E: Write>(
     ensures refused { (IsCommandLine (map string_bytes words.items) → ⊥) → (result ≡ BAD_WORDS) ⊎ (result ≡ WANTING) }
     ensures unread { (IsCommandLine (map string_bytes words.items) → ⊥) → reader.new ≡ reader.old }
     ensures unwritten { (IsCommandLine (map string_bytes words.items) → ⊥) → writer.new ≡ writer.old }
-    ensures wanting { (IsCommandLine (map string_bytes words.items) → ⊥) → result ≡ WANTING → GetsMessage (E.contents errors.old) (E.contents errors.new) (message_of (ProgramFault.Run RunFault.OutOfMemory)) }
+    ensures wanting { (IsCommandLine (map string_bytes words.items) → ⊥) → result ≡ WANTING
+        → GetsMessage (E.contents errors.old) (E.contents errors.new) (message_of (ProgramFault.Run RunFault.OutOfMemory)) }
     ensures quiet { result ≡ DONE → errors.new ≡ errors.old }
     ensures usage { result ≡ BAD_WORDS → GetsMessage (E.contents errors.old) (E.contents errors.new) usage }
-    ensures done { result ≡ DONE → EndsWell (viewers_in (map string_bytes words.items)) (file_in (map string_bytes words.items)) (R.remaining reader.old) (R.remaining reader.new) (W.contents writer.old) (W.contents writer.new) }
-    ensures fault { (result ≡ STREAM_FAULT) ⊎ (result ≡ WANTING) → ReportsFault (viewers_in (map string_bytes words.items)) (file_in (map string_bytes words.items)) result (R.remaining reader.old) (R.remaining reader.new) (W.contents writer.old) (W.contents writer.new) (E.contents errors.old) (E.contents errors.new) }
+    ensures done { result ≡ DONE → EndsWell (viewers_in (map string_bytes words.items)) (file_in (map string_bytes words.items))
+        (streams (R.remaining reader.old) (R.remaining reader.new) (W.contents writer.old) (W.contents writer.new)) }
+    ensures fault { (result ≡ STREAM_FAULT) ⊎ (result ≡ WANTING) → ReportsFault (map string_bytes words.items) result (GetsMessage (E.contents errors.old) (E.contents errors.new))
+        (streams (R.remaining reader.old) (R.remaining reader.new) (W.contents writer.old) (W.contents writer.new)) }
 {
     let words = match read_words(alloc, words) {
         Ok(words) => words,
@@ -89,8 +94,10 @@ fn perform<S: Wait + Threads + Files, R: Read, W: Write>(
     words: &Words,
 ) -> Result<(), ProgramFault>
     requires { words.now.viewers ≤ 16 }
-    ensures done { OnOk result (EndsWell words.now.viewers (option_map string_bytes words.now.gf) (R.remaining reader.old) (R.remaining reader.new) (W.contents writer.old) (W.contents writer.new)) }
-    ensures fault { IfErr result (λ fault. EndsBadly words.now.viewers (option_map string_bytes words.now.gf) fault (R.remaining reader.old) (R.remaining reader.new) (W.contents writer.old) (W.contents writer.new)) }
+    ensures done { OnOk result (EndsWell words.now.viewers (option_map string_bytes words.now.gf)
+        (streams (R.remaining reader.old) (R.remaining reader.new) (W.contents writer.old) (W.contents writer.new))) }
+    ensures fault { IfErr result (λ fault. EndsBadly words.now.viewers (option_map string_bytes words.now.gf) fault
+        (streams (R.remaining reader.old) (R.remaining reader.new) (W.contents writer.old) (W.contents writer.new))) }
 {
     let Outcome { gf, .. } = run_script(rt, alloc, reader, writer, words.viewers)?;
     let Some(path) = &words.gf else {
@@ -111,8 +118,10 @@ fn run_script<S: Wait + Threads, R: Read, W: Write>(
     viewers: u32,
 ) -> Result<Outcome, RunFault>
     requires { viewers ≤ 16 }
-    ensures performance { IfOk result (λ outcome. IfSome (R.remaining reader.old) (IsPerformance settings viewers 16 outcome (W.contents writer.old) (W.contents writer.new))) }
-    ensures fault { IfErr result (λ fault. StopsEarly settings viewers fault (R.remaining reader.old) (R.remaining reader.new) (W.contents writer.old) (W.contents writer.new)) }
+    ensures performance { IfOk result
+        (λ outcome. IfSome (R.remaining reader.old) (IsPerformance settings viewers looks outcome (W.contents writer.old) (W.contents writer.new))) }
+    ensures fault { IfErr result (λ fault. Passes (streams (R.remaining reader.old) (R.remaining reader.new) (W.contents writer.old) (W.contents writer.new))
+        (Tells settings viewers fault)) }
     ensures end { OnOk result (IsAtEnd (R.remaining reader.new)) }
 {
     if viewers == 0 {
@@ -136,7 +145,8 @@ fn write_file<S: Files>(rt: &S, path: &str, file: &GfBytes) -> Result<(), RunFau
 /// Writes the bytes of a font file. Refused with `WriteFault`, whose number counts the bytes that went out: never all of them.
 fn write_bytes<W: Write>(out: &mut W, file: &GfBytes) -> Result<(), RunFault>
     ensures all { OnOk result (Appends (W.contents out.old) (W.contents out.new) file.now) }
-    ensures front { IfErr result (λ fault. (count : ℕ) × (fault ≡ RunFault.WriteFault count) × (count < length file.now) × Appends (W.contents out.old) (W.contents out.new) (take count file.now)) }
+    ensures front { IfErr result (λ fault. (count : ℕ) × (fault ≡ RunFault.WriteFault count) × (count < length file.now)
+        × Appends (W.contents out.old) (W.contents out.new) (take count file.now)) }
 {
     match file.write_to(out) {
         Ok(()) => Ok(()),

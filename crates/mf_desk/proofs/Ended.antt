@@ -64,7 +64,8 @@ parts-other (b ∷ bs) c other =
       | false ↦ ap (onto_first b) rest ∙ onto_first-onto_last b (parts_of bs) c
     ]
 
-ended_of_parts-new : (x : List ℕ) (more : List (List ℕ)) → ended_of_parts ((x ∷ more) ++ [] ∷ []) ≡ ended_of_parts (x ∷ more) ++ strip_carriage_return (last_part (x ∷ more)) ∷ []
+ended_of_parts-new : (x : List ℕ) (more : List (List ℕ))
+    → ended_of_parts ((x ∷ more) ++ [] ∷ []) ≡ ended_of_parts (x ∷ more) ++ strip_carriage_return (last_part (x ∷ more)) ∷ []
 unfolding ended_of_parts last_part
 ended_of_parts-new x [] = refl
 ended_of_parts-new x (y ∷ more) = ap (λ ls. strip_carriage_return x ∷ ls) (ended_of_parts-new y more)
@@ -122,14 +123,16 @@ pub ended_lines-unbroken : (read bytes : List ℕ) → All (λ b. b ≢ 10) byte
 ended_lines-unbroken read [] unbroken = ap ended_lines (append-nil read)
 ended_lines-unbroken read (b ∷ more) unbroken =
     let other = ne_eqb b 10 (All-head (λ x. x ≢ 10) b more unbroken) in
-    ap ended_lines (sym (append_assoc read (b ∷ []) more)) ∙ ended_lines-unbroken (read ++ b ∷ []) more (All-tail (λ x. x ≢ 10) b more unbroken) ∙ ended_lines-other read b other
+    ap ended_lines (sym (append_assoc read (b ∷ []) more)) ∙ ended_lines-unbroken (read ++ b ∷ []) more (All-tail (λ x. x ≢ 10) b more unbroken)
+    ∙ ended_lines-other read b other
 
 -- they go after the other bytes of the unended line
 pub unended-unbroken : (read bytes : List ℕ) → All (λ b. b ≢ 10) bytes → unended (read ++ bytes) ≡ unended read ++ bytes
 unended-unbroken read [] unbroken = ap unended (append-nil read) ∙ sym (append-nil (unended read))
 unended-unbroken read (b ∷ more) unbroken =
     let other = ne_eqb b 10 (All-head (λ x. x ≢ 10) b more unbroken) in
-    ap unended (sym (append_assoc read (b ∷ []) more)) ∙ unended-unbroken (read ++ b ∷ []) more (All-tail (λ x. x ≢ 10) b more unbroken) ∙ ap (λ line. line ++ more) (unended-other read b other)
+    ap unended (sym (append_assoc read (b ∷ []) more)) ∙ unended-unbroken (read ++ b ∷ []) more (All-tail (λ x. x ≢ 10) b more unbroken)
+    ∙ ap (λ line. line ++ more) (unended-other read b other)
     ∙ append_assoc (unended read) (b ∷ []) more
 
 pub lines-ended : (read : List ℕ) → lines read ≡ ended_lines read ++ last_line (unended read)
@@ -145,7 +148,8 @@ ended_lines-front read (b ∷ more) =
     let line = strip_carriage_return (unended read) in
     ⊎_elim
     (λ yes.
-    let ended : ended_lines (read ++ b ∷ []) ≡ ended_lines read ++ line ∷ [] = ap (λ c. ended_lines (read ++ c ∷ [])) (eqb-true b 10 yes) ∙ ended_lines-line_feed read in
+    let ended : ended_lines (read ++ b ∷ []) ≡ ended_lines read ++ line ∷ [] =
+    ap (λ c. ended_lines (read ++ c ∷ [])) (eqb-true b 10 yes) ∙ ended_lines-line_feed read in
     (line ∷ others, goes_on ∙ ap (λ ls. ls ++ others) ended ∙ append_assoc (ended_lines read) (line ∷ []) others))
     (λ no. (others, goes_on ∙ ap (λ ls. ls ++ others) (ended_lines-other read b no)))
     (cases_Bool (eqb b 10))

@@ -1,10 +1,7 @@
 mod Ended
-mod Flushes
-mod FontFiles
-mod KnownTexts
 mod LongLines
-mod Performances
-mod Runs
+pub mod Performances
+mod ScriptEnds
 mod Showing
 mod Stages
 mod ViewerLines

@@ -22,11 +22,13 @@ refused-too_long xs ys NotAscii long longer refused = absurd (omega (arith, refu
 refused-too_long xs ys (Syntax column) long longer refused = absurd (omega (arith, refused.text.short))
 
 -- so all lines that are too long have the same answer
-Answers-too_long : (limits : Limits) (s t : State) (xs ys text : List ℕ) → 65536 < length xs → 65536 < length ys → Answers limits s xs text t → Answers limits s ys text t
+Answers-too_long : (limits : Limits) (s t : State) (xs ys text : List ℕ) → 65536 < length xs → 65536 < length ys
+    → Answers limits s xs text t → Answers limits s ys text t
 Answers-too_long limits s t xs ys text long longer answer =
     ⊎_elim
     (λ (done : IsPerformed limits s xs text t). absurd (omega (arith, done.given.line_is.text.short)))
-    (λ (no : IsRefusedLine s xs text t). inr (record { fault = no.fault; told = no.told; refused = refused-too_long xs ys no.fault long longer no.refused; answer = no.answer }))
+    (λ (no : IsRefusedLine s xs text t). inr
+    (record { fault = no.fault; told = no.told; refused = refused-too_long xs ys no.fault long longer no.refused; answer = no.answer }))
     answer
 
 -- of a line that grows, as many bytes are kept as of the complete line
@@ -54,7 +56,8 @@ Answers-kept limits s t line text answer =
     (λ fits. subst (λ kept. Answers limits s kept text t) (take_all 65538 line fits) answer)
     (cases_lt 65538 (length line))
 
-pub Answers-stripped : (limits : Limits) (s t : State) (line text : List ℕ) → Answers limits s (strip_carriage_return (take 65538 line)) text t → Answers limits s (strip_carriage_return line) text t
+pub Answers-stripped : (limits : Limits) (s t : State) (line text : List ℕ)
+    → Answers limits s (strip_carriage_return (take 65538 line)) text t → Answers limits s (strip_carriage_return line) text t
 Answers-stripped limits s t line text answer =
     ⊎_elim
     (λ longer.

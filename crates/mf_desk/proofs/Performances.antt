@@ -1,112 +1,154 @@
--- What a run beside viewers answers, whether its script has ended or not.
-use Rattle.std.proofs.Common.{◌≡◌, ◌<◌, ◌+◌, ℕ, List, [], ◌++◌, All, Err, IfErr, Option, Result, length, inl, inr, refl, sym, ap, subst, ◌∙◌, append_assoc, length-append, arith}
+-- What a run answers, whether its script has ended or not.
+use Rattle.std.proofs.Common.{◌≡◌, ◌⊎◌, ◌<◌, ◌+◌, ℕ, List, [], ◌++◌, All, Err, IfErr, Option, Result, length, ⊎_elim, inl, inr, refl, sym, ap, subst, ◌∙◌, append_assoc, length-append, arith}
 use Rattle.std.specs.Io.KnownBytes.{Appends, Consumes, IsAtEnd}
 use Rattle.std.proofs.KnownBytes.{Appends-nil, Appends-trans, Consumes-nil}
 use Rattle.std.proofs.Math.Nat.{min-le_left}
-use Rattle.mf_live.specs.Writers.{ended_published}
+use Rattle.mf_gf.specs.Files.{Character, IsLongFile, file_if_any}
+use Rattle.mf_gf.specs.Keeping.{Keeps, limit}
+use Rattle.mf_gf.specs.declared.file.GfFile.{GfFile}
+use Rattle.mf_live.specs.Writers.{ended_published_list}
 use Rattle.mf_desk.specs.declared.ended_run.EndedRun.{EndedRun}
 use Rattle.mf_desk.specs.declared.fault.RunFault.{RunFault}
 use Rattle.mf_desk.specs.declared.fault.RunFault.TheVariants.{OutOfMemory, NoPlace, FileTooLong, ReadFault, WriteFault, NoLook}
 use Rattle.mf_desk.specs.declared.outcome.Outcome.{Outcome}
 use Rattle.mf_desk.specs.declared.settings.Settings.{Settings}
 use Rattle.mf_desk.specs.EndedRuns.{IsOver, StopsShowing, glance}
-use Rattle.mf_desk.specs.Fault.{BreaksScript}
-use Rattle.mf_desk.specs.Performances.{IsLongerText, IsPerformance, StopsEarly, viewer_lines}
-use Rattle.mf_desk.specs.Runs.{IsLongFile, font_file, limits_set}
+use Rattle.mf_desk.specs.Fault.{Breaks}
+use Rattle.mf_desk.specs.Performances.{IsCompleteText, IsPerformance, IsShownText, Tells, limits_set, viewer_lines}
+use Rattle.mf_desk.specs.Streams.{Gets, Passes, Streams, streams}
 use Rattle.mf_session.specs.States.{Limits}
 use Rattle.mf_watch.specs.Watchers.{HasSeen, glance_at}
-use Rattle.mf_desk.proofs.KnownTexts.{StartsWith-front}
 use Rattle.mf_desk.proofs.Stages.{CutsShort-nothing}
 
 module _ (settings : Settings) (viewers : ℕ) where
   -- a fault of the script, its reader or its writer ends the run
-  pub StopsEarly-script : (l : Limits) (fault : RunFault) (unread left held holds : Option (List ℕ)) → l ≡ limits_set settings
-      → BreaksScript l fault unread left held holds → StopsEarly settings viewers fault unread left held holds
-  StopsEarly-script l OutOfMemory unread left held holds same (read, consumed, (written, out, breaks)) = (read, consumed, (written, out, inl (rw (← same) breaks)))
-  StopsEarly-script l NoPlace unread left held holds same (read, consumed, (written, out, breaks)) = absurd breaks
-  StopsEarly-script l FileTooLong unread left held holds same (read, consumed, (written, out, breaks)) = absurd breaks
-  StopsEarly-script l ReadFault unread left held holds same (read, consumed, (written, out, breaks)) = (read, consumed, (written, out, rw (← same) breaks))
-  StopsEarly-script l (WriteFault count) unread left held holds same (read, consumed, (written, out, breaks)) =
-      (read, consumed, (written, out, record { text = breaks.text; uncut = inl (rw (← same) breaks.first); begins = breaks.begins; counted = breaks.counted }))
-  StopsEarly-script l NoLook unread left held holds same (read, consumed, (written, out, breaks)) = absurd breaks
+  pub Tells-script : (l : Limits) (fault : RunFault) (s : Streams) → l ≡ limits_set settings → Passes s (Breaks l fault)
+      → Passes s (Tells settings viewers fault)
+  Tells-script l OutOfMemory s same (read, consumed, (written, out, breaks)) = (read, consumed, (written, out, inl (rw (← same) breaks)))
+  Tells-script l NoPlace s same (read, consumed, (written, out, breaks)) = absurd breaks
+  Tells-script l FileTooLong s same (read, consumed, (written, out, breaks)) = absurd breaks
+  Tells-script l ReadFault s same (read, consumed, (written, out, breaks)) = (read, consumed, (written, out, rw (← same) breaks))
+  Tells-script l (WriteFault count) s same (read, consumed, (written, out, (counted, (rest, first)))) =
+      (read, consumed, (written, out, (counted, (rest, inl (rw (← same) first)))))
+  Tells-script l NoLook s same (read, consumed, (written, out, breaks)) = absurd breaks
 
   -- nothing was read or written
-  pub StopsEarly-nothing : (unread held : Option (List ℕ)) → StopsEarly settings viewers OutOfMemory unread unread held held
-  StopsEarly-nothing unread held =
-      StopsEarly-script (limits_set settings) OutOfMemory unread unread held held refl ([], Consumes-nil unread, CutsShort-nothing (limits_set settings) unread held)
+  pub Tells-nothing : (unread held : Option (List ℕ)) → Passes (streams unread unread held held) (Tells settings viewers OutOfMemory)
+  Tells-nothing unread held =
+      Tells-script (limits_set settings) OutOfMemory (streams unread unread held held) refl
+      ([], Consumes-nil unread, CutsShort-nothing (limits_set settings) unread held)
 
-  pub StopsEarly-no_room : (unread held : Option (List ℕ)) → settings.max_bytes < 3 → StopsEarly settings viewers FileTooLong unread unread held held
-  StopsEarly-no_room unread held few =
-      ([], Consumes-nil unread, ([], Appends-nil held, inl (record { small = omega (arith, min-le_left settings.max_bytes 2147483647); unread = refl; nothing = refl })))
+  pub Tells-no_room : (unread held : Option (List ℕ)) → settings.max_bytes < 3 → Passes (streams unread unread held held) (Tells settings viewers FileTooLong)
+  Tells-no_room unread held few = (
+    [],
+    Consumes-nil unread,
+    ([], Appends-nil held, inl (record { small = omega (arith, min-le_left settings.max_bytes 2147483647); unread = refl; nothing = refl })),
+  )
 
-  pub StopsEarly-no_place : (unread held : Option (List ℕ)) → 0 < viewers → StopsEarly settings viewers NoPlace unread unread held held
-  StopsEarly-no_place unread held some = ([], Consumes-nil unread, ([], Appends-nil held, (some, refl, refl)))
+  pub Tells-no_place : (unread held : Option (List ℕ)) → 0 < viewers → Passes (streams unread unread held held) (Tells settings viewers NoPlace)
+  Tells-no_place unread held some = ([], Consumes-nil unread, ([], Appends-nil held, (some, refl, refl)))
 
   module _ (held holds later : Option (List ℕ)) (read : List ℕ) (run : EndedRun) (over : IsOver (limits_set settings) held read run holds) where
     -- the transcript, and the lines of the first viewers
-    longer : (n : ℕ) → IsLongerText (limits_set settings) read over.last n (over.text ++ viewer_lines n (glance run))
-    longer n = record { transcript = over.text; performed = over.performed; is = ap (λ L. over.text ++ viewer_lines n (glance_at L)) over.published }
+    abbrev complete : (n : ℕ) (lines : List ℕ) → lines ≡ viewer_lines n (glance run) → IsCompleteText (limits_set settings) n read (over.text ++ lines)
+    complete n lines is =
+        record {
+          transcript = over.text;
+          last = over.last;
+          performed = over.performed;
+          is = ap (λ more. over.text ++ more) (is ∙ ap (λ L. viewer_lines n (glance_at L)) over.published);
+        }
 
     out-more : (text : List ℕ) → Appends holds later text → Appends held later (over.text ++ text)
     out-more text out = Appends-trans held holds later over.text text over.out out
 
+    kept : (file : GfFile) → file ≡ run.file → Keeps file [] over.last.characters
+    kept file same = subst (λ f. Keeps f [] over.last.characters) (sym same) over.file
+
     module _ (unread left : Option (List ℕ)) (consumed : Consumes unread left read) (all_read : IsAtEnd left) where
       -- a fault comes where the last looks and their lines are due
-      pub StopsEarly-showing : (fault : RunFault) → StopsShowing run viewers fault holds later → StopsEarly settings viewers fault unread left held later
-      StopsEarly-showing OutOfMemory some =
-          (read, consumed, (over.text ++ viewer_lines some.shown (glance run), out-more _ some.out, inr (all_read, record { last = over.last; shown = some.shown; few = some.few; performed = longer some.shown })))
-      StopsEarly-showing NoLook (some, fewer) =
-          (read, consumed, (over.text ++ viewer_lines some.shown (glance run), out-more _ some.out, (all_read, (record { last = over.last; shown = some.shown; few = some.few; performed = longer some.shown }, fewer))))
-      StopsEarly-showing (WriteFault count) part =
-          let text = over.text ++ viewer_lines part.shown (glance run) in (
+      pub Tells-showing : (fault : RunFault) → Gets holds later (StopsShowing run viewers fault)
+          → Passes (streams unread left held later) (Tells settings viewers fault)
+      Tells-showing OutOfMemory (written, out, some) = (
+        read,
+        consumed,
+        (
+          over.text ++ written,
+          out-more written out,
+          inr (all_read, record { shown = some.shown; few = some.few; complete = complete some.shown written some.is }),
+        ),
+      )
+      Tells-showing NoLook (written, out, (some, fewer)) = (
+        read,
+        consumed,
+        (
+          over.text ++ written,
+          out-more written out,
+          (all_read, (record { shown = some.shown; few = some.few; complete = complete some.shown written some.is }, fewer)),
+        ),
+      )
+      Tells-showing (WriteFault count) (written, out, (counted, (rest, some))) =
+          let shown : IsShownText (limits_set settings) viewers read (over.text ++ (written ++ rest)) =
+          record { shown = some.shown; few = some.few; complete = complete some.shown (written ++ rest) some.is } in (
             read,
             consumed,
             (
-              over.text ++ part.front,
-              out-more part.front part.out,
-              record {
-                text = text;
-                uncut = inr (all_read, record { last = over.last; shown = part.shown; few = part.few; performed = longer part.shown });
-                begins = StartsWith-front text (over.text ++ part.front) part.rest (ap (λ more. over.text ++ more) part.lines_are ∙ sym (append_assoc over.text part.front part.rest));
-                counted = length-append over.text part.front ∙ sym (part.counted ∙ ap (λ n. n + length part.front) over.counted);
-              },
+              over.text ++ written,
+              out-more written out,
+              (
+                length-append over.text written ∙ sym (counted ∙ ap (λ n. n + length written) over.counted),
+                (rest, inr (all_read, rw (append_assoc over.text written rest) shown)),
+              ),
             ),
           )
-      StopsEarly-showing NoPlace stops = absurd stops
-      StopsEarly-showing FileTooLong stops = absurd stops
-      StopsEarly-showing ReadFault stops = absurd stops
+      Tells-showing NoPlace (written, out, stops) = absurd stops
+      Tells-showing FileTooLong (written, out, stops) = absurd stops
+      Tells-showing ReadFault (written, out, stops) = absurd stops
 
       module _ (out : Appends holds later (viewer_lines viewers (glance run))) where
-        -- the font file is too long
-        pub StopsEarly-long : IsLongFile (limits_set settings).max_bytes settings.font over.last.characters → StopsEarly settings viewers FileTooLong unread left held later
-        StopsEarly-long long = (read, consumed, (over.text ++ viewer_lines viewers (glance run), out-more _ out, inr (all_read, record { last = over.last; performed = longer viewers; too_long = long })))
-
-        -- an allocation for the font file fails
-        pub StopsEarly-wanting : StopsEarly settings viewers OutOfMemory unread left held later
-        StopsEarly-wanting =
-            (read, consumed, (over.text ++ viewer_lines viewers (glance run), out-more _ out, inr (all_read, record { last = over.last; shown = viewers; few = omega arith; performed = longer viewers })))
+        -- the font file is not made
+        pub Tells-unfinished : (file : GfFile) (fault : RunFault) → file ≡ run.file
+            → (fault ≡ FileTooLong → (characters : List Character) → Keeps file [] characters → IsLongFile (limit file) settings.font [] characters)
+            → (fault ≡ FileTooLong) ⊎ (fault ≡ OutOfMemory) → Passes (streams unread left held later) (Tells settings viewers fault)
+        Tells-unfinished file fault same too_long =
+            ⊎_elim
+            (λ long.
+            let is_long =
+            subst (λ n. IsLongFile n settings.font [] over.last.characters) (ap limit same ∙ over.limit_is)
+            (too_long long over.last.characters (kept file same)) in
+            rw long (read, consumed, (over.text ++ viewer_lines viewers (glance run), out-more _ out, inr (all_read, record { complete = complete viewers _ refl; too_long = is_long }))))
+            (λ wanting.
+            let shown : IsShownText (limits_set settings) viewers read (over.text ++ viewer_lines viewers (glance run)) = record {
+              shown = viewers;
+              few = omega arith;
+              complete = complete viewers _ refl;
+            } in
+            rw wanting (read, consumed, (over.text ++ viewer_lines viewers (glance run), out-more _ out, inr (all_read, shown))))
 
     -- the run ends well
-    pub IsPerformance-over : (looks : ℕ) (outcome : Outcome) → Appends holds later (viewer_lines viewers (glance run))
-        → (IsLongFile (limits_set settings).max_bytes settings.font over.last.characters → ⊥) → outcome.gf ≡ font_file settings.font over.last.characters
-        → length outcome.seen.items ≡ viewers → All (λ v. HasSeen (ended_published run.ended) looks v.items) outcome.seen.items → IsPerformance settings viewers looks outcome held later read
-    IsPerformance-over looks outcome out fits font count seen = record {
-      text = over.text ++ viewer_lines viewers (glance run);
-      last = over.last;
-      performed = longer viewers;
-      out = out-more _ out;
-      fits = fits;
-      font = font;
-      count = count;
-      seen = subst (λ L. All (λ v. HasSeen L looks v.items) outcome.seen.items) over.published seen;
-    }
+    pub IsPerformance-over : (looks : ℕ) (outcome : Outcome) (file : GfFile) → file ≡ run.file
+        → ((characters : List Character) → Keeps file [] characters
+        → (IsLongFile (limit file) settings.font [] characters → ⊥) × (outcome.gf ≡ file_if_any settings.font [] characters))
+        → Appends holds later (viewer_lines viewers (glance run)) → length outcome.seen.items ≡ viewers
+        → All (λ v. HasSeen (ended_published_list run.ended) looks v.items) outcome.seen.items → IsPerformance settings viewers looks outcome held later read
+    IsPerformance-over looks outcome file same finished out count seen =
+        let (fits, font) = finished over.last.characters (kept file same) in
+        record {
+          text = over.text ++ viewer_lines viewers (glance run);
+          complete = complete viewers _ refl;
+          out = out-more _ out;
+          fits = subst (λ n. IsLongFile n settings.font [] over.last.characters → ⊥) (ap limit same ∙ over.limit_is) fits;
+          font = font;
+          count = count;
+          seen = subst (λ L. All (λ v. HasSeen L looks v.items) outcome.seen.items) over.published seen;
+        }
 
 -- neither the script nor the last looks are refused with `NoPlace`
-pub elsewhere-script : (r : Result Outcome RunFault) (l : Limits) (unread left held holds : Option (List ℕ))
-    → IfErr r (λ fault. BreaksScript l fault unread left held holds) → r ≡ Err NoPlace → ⊥
-elsewhere-script r l unread left held holds breaks is =
-    let (read, consumed, (written, out, none)) = subst (λ s. IfErr s (λ fault. BreaksScript l fault unread left held holds)) is breaks in none
+pub elsewhere-script : (r : Result Outcome RunFault) (l : Limits) (s : Streams) → IfErr r (λ fault. Passes s (Breaks l fault)) → r ≡ Err NoPlace → ⊥
+elsewhere-script r l s breaks is =
+    let (read, consumed, (written, out, none)) = subst (λ e. IfErr e (λ fault. Passes s (Breaks l fault))) is breaks in none
 
 pub elsewhere-showing : (r : Result Outcome RunFault) (run : EndedRun) (viewers : ℕ) (held holds : Option (List ℕ))
-    → IfErr r (λ fault. StopsShowing run viewers fault held holds) → r ≡ Err NoPlace → ⊥
-elsewhere-showing r run viewers held holds stops is = subst (λ s. IfErr s (λ fault. StopsShowing run viewers fault held holds)) is stops
+    → IfErr r (λ fault. Gets held holds (StopsShowing run viewers fault)) → r ≡ Err NoPlace → ⊥
+elsewhere-showing r run viewers held holds stops is =
+    let (written, out, none) = subst (λ e. IfErr e (λ fault. Gets held holds (StopsShowing run viewers fault))) is stops in none

@@ -5,4 +5,4 @@ pub mod ViewerFaults
 pub mod Performances
 pub mod Performer
 pub mod Progress
-pub mod Runs
+pub mod Streams

@@ -3,6 +3,7 @@ use Rattle.std.specs.Prelude.{ℕ, List, Option, ◌≡◌, length, take}
 use Rattle.std.specs.Io.KnownBytes.{Appends, Consumes}
 use Rattle.std.specs.Str.Lines.{lines}
 use Rattle.mf_desk.specs.Ended.{ended_lines, unended}
+use Rattle.mf_desk.specs.Streams.{Streams}
 use Rattle.mf_session.specs.Sessions.{StandsFor, limits}
 use Rattle.mf_session.specs.States.{State, start}
 use Rattle.mf_session.specs.Transcript.{Perform}
@@ -31,5 +32,5 @@ pub record IsThrough (held : Option (List ℕ)) (read : List ℕ) (performer : P
   pub counted : performer.written ≡ length text
 
 -- everything that the reader had was read and performed
-abbrev pub ReadsThrough : Option (List ℕ) → Option (List ℕ) → Option (List ℕ) → Performer → Option (List ℕ) → Type 0
-ReadsThrough unread left held performer holds = (read : List ℕ) × Consumes unread left read × IsThrough held read performer holds
+abbrev pub ReadsThrough : Streams → Performer → Type 0
+ReadsThrough s performer = (read : List ℕ) × Consumes s.unread s.left read × IsThrough s.held read performer s.holds

@@ -2,7 +2,7 @@
 ghost use Rattle.std.specs.Prelude.{◌≡◌};
 ghost use Rattle.mf_desk.specs.declared.fault.RunFault.TheVariants.{OutOfMemory as NoMemory};
 
-use mf_geom::OutOfMemory;
+use mf_base::OutOfMemory;
 use mf_live::SheetFault;
 use mf_watch::StartFault;
 use std::alloc::{AllocError, AllocFailed};

@@ -1,9 +1,9 @@
 //! A run beside viewers in threads.
 ghost use Rattle.std.specs.Io.KnownBytes.{IsAtEnd};
 ghost use Rattle.std.specs.Prelude.{◌≡◌, ◌≢◌, ◌⊎◌, ◌<◌, ◌≤◌, ◌^◌, ℕ, [], Err, IfErr, IfOk, IfSome, List, OnOk, Option, length};
-ghost use Rattle.mf_desk.specs.Performances.{IsPerformance, StopsEarly};
+ghost use Rattle.mf_desk.specs.Performances.{IsPerformance, Tells, limits_set};
 ghost use Rattle.mf_desk.specs.Progress.{IsAfter};
-ghost use Rattle.mf_desk.specs.Runs.{limits_set};
+ghost use Rattle.mf_desk.specs.Streams.{Passes, streams};
 ghost use Rattle.mf_session.specs.Sessions.{limits, name};
 ghost use Rattle.mf_watch.specs.Watching.{AreStarted, viewer_count};
 
@@ -42,9 +42,11 @@ pub fn perform<S: Wait + Threads, R: Read, W: Write, G: Gate + 'static>(
     ensures too_small { settings.now.max_bytes < 3 → (result ≡ Err RunFault.FileTooLong) ⊎ (result ≡ Err RunFault.OutOfMemory) }
     ensures untouched { settings.now.max_bytes < 3 → (reader.new ≡ reader.old) × (writer.new ≡ writer.old) }
     ensures no_place { result ≡ Err RunFault.NoPlace → (reader.new ≡ reader.old) × (writer.new ≡ writer.old) }
-    ensures performance { IfOk result (λ outcome. IfSome (R.remaining reader.old) (IsPerformance settings.now viewers looks outcome (W.contents writer.old) (W.contents writer.new))) }
+    ensures performance { IfOk result
+        (λ outcome. IfSome (R.remaining reader.old) (IsPerformance settings.now viewers looks outcome (W.contents writer.old) (W.contents writer.new))) }
     ensures end { OnOk result (IsAtEnd (R.remaining reader.new)) }
-    ensures fault { IfErr result (λ fault. StopsEarly settings.now viewers fault (R.remaining reader.old) (R.remaining reader.new) (W.contents writer.old) (W.contents writer.new)) }
+    ensures fault { IfErr result (λ fault. Passes (streams (R.remaining reader.old) (R.remaining reader.new) (W.contents writer.old) (W.contents writer.new))
+        (Tells settings.now viewers fault)) }
 {
     let mut memory = vec![in alloc; 0u8; CHUNK_SIZE]?;
     let (progress, desk) = Progress::new(rt, alloc, settings, viewers)?;
@@ -89,7 +91,8 @@ fn perform_watched<S: Wait + Threads, R: Read, W: Write>(
     ensures performance { IfOk result (λ outcome. (looks : ℕ) → AreStarted (name progress.performer.session) looks watching
         → IfSome (R.remaining reader.old) (IsPerformance settings.now (viewer_count watching) looks outcome (W.contents writer.old) (W.contents writer.new))) }
     ensures end { OnOk result (IsAtEnd (R.remaining reader.new)) }
-    ensures fault { IfErr result (λ fault. StopsEarly settings.now (viewer_count watching) fault (R.remaining reader.old) (R.remaining reader.new) (W.contents writer.old) (W.contents writer.new)) }
+    ensures fault { IfErr result (λ fault. Passes (streams (R.remaining reader.old) (R.remaining reader.new) (W.contents writer.old) (W.contents writer.new))
+        (Tells settings.now (viewer_count watching) fault)) }
     ensures places { result ≢ Err RunFault.NoPlace }
 {
     let completed = progress.complete(rt, alloc, reader, writer, chunk);

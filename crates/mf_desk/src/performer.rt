@@ -1,16 +1,19 @@
 //! Performing lines one after another, and writing what each prints before the next is performed.
 ghost use Rattle.std.specs.Prelude.{◌≡◌, ◌⊎◌, ◌+◌, ◌<◌, ◌≤◌, ◌^◌, ◌↔◌, Err, IfErr, IfOk, OnOk};
-ghost use Rattle.mf_live.specs.Desks.{desk_name};
+ghost use Rattle.mf_live.specs.Desks.{desk_identity};
 ghost use Rattle.mf_desk.specs.EndedRuns.{IsEndOf};
-ghost use Rattle.mf_desk.specs.Performer.{BreaksOff, IsWritten};
-ghost use Rattle.mf_desk.specs.Runs.{limits_set};
+ghost use Rattle.mf_desk.specs.Fault.{BreaksOff};
+ghost use Rattle.mf_desk.specs.Performances.{limits_set};
+ghost use Rattle.mf_desk.specs.Performer.{IsAnswer, IsWritten};
+ghost use Rattle.mf_desk.specs.Streams.{Gets};
 ghost use Rattle.mf_session.specs.Sessions.{StandsFor, limits, name};
 ghost use Rattle.mf_session.specs.States.{State, start};
 
 use crate::ended_run::EndedRun;
 use crate::fault::RunFault;
 use crate::settings::Settings;
-use mf_gf::{GfFault, write_counted};
+use mf_base::write_counted;
+use mf_gf::GfFault;
 use mf_live::Desk;
 use mf_session::Session;
 use std::alloc::Global;
@@ -36,7 +39,7 @@ impl Performer {
         requires { viewers ≤ 64 }
         ensures start { IfOk result (λ made. StandsFor made.0.session start) }
         ensures limits { IfOk result (λ made. limits made.0.session ≡ limits_set settings.now) }
-        ensures name { IfOk result (λ made. desk_name made.1 ≡ name made.0.session) }
+        ensures name { IfOk result (λ made. desk_identity made.1 ≡ name made.0.session) }
         ensures written { IfOk result (λ made. made.0.written ≡ 0) }
         ensures too_long { (settings.now.max_bytes < 3) ↔ (result ≡ Err RunFault.FileTooLong) }
         ensures fault { IfErr result (λ fault. (fault ≡ RunFault.FileTooLong) ⊎ (fault ≡ RunFault.OutOfMemory)) }
@@ -64,11 +67,13 @@ impl Performer {
         line: &[u8],
     ) -> Result<(), RunFault>
         requires { self.old.written + 2 ^ 64 ≤ 2 ^ 127 }
-        ensures written { OnOk result ((s : State) → StandsFor self.old.session s → IsWritten self.old s self.new line.now (W.contents writer.old) (W.contents writer.new)) }
+        ensures written { OnOk result ((s : State) → StandsFor self.old.session s
+            → IsWritten self.old s self.new line.now (W.contents writer.old) (W.contents writer.new)) }
         ensures at_most { OnOk result (self.new.written ≤ self.old.written + 2 ^ 64) }
         ensures limits { limits self.new.session ≡ limits self.old.session }
         ensures name { name self.new.session ≡ name self.old.session }
-        ensures fault { IfErr result (λ fault. (s : State) → StandsFor self.old.session s → BreaksOff fault self.old s line.now (W.contents writer.old) (W.contents writer.new)) }
+        ensures fault { IfErr result (λ fault. (s : State) → StandsFor self.old.session s
+            → Gets (W.contents writer.old) (W.contents writer.new) (BreaksOff (IsAnswer (limits self.old.session) s line.now) self.old.written fault)) }
     {
         let text = self.session.command(rt, alloc, line)?;
         match write_counted(writer, text.as_slice()) {

@@ -1,22 +1,24 @@
 //! A run in progress: the lines that have been performed, and the bytes of the unended line.
 ghost use Rattle.std.specs.Io.KnownBytes.{IsAtEnd};
 ghost use Rattle.std.specs.Prelude.{◌≡◌, ◌≢◌, ◌⊎◌, ◌+◌, ◌*◌, ◌<◌, ◌≤◌, ◌^◌, ◌↔◌, ◌++◌, ◌∷◌, All, Err, Option, List, ℕ, [], IfErr, IfOk, OnOk, length};
-ghost use Rattle.mf_live.specs.Desks.{desk_name};
-ghost use Rattle.mf_live.specs.Writers.{ended_name};
+ghost use Rattle.mf_live.specs.Desks.{desk_identity};
+ghost use Rattle.mf_live.specs.Writers.{ended_identity};
 ghost use Rattle.mf_desk.specs.EndedRuns.{EndsWith};
-ghost use Rattle.mf_desk.specs.Fault.{BreaksScript, CutsShort};
+ghost use Rattle.mf_desk.specs.Fault.{Breaks};
+ghost use Rattle.mf_desk.specs.Performances.{limits_set};
 ghost use Rattle.mf_desk.specs.Progress.{IsAfter, IsThrough, ReadsThrough};
-ghost use Rattle.mf_desk.specs.Runs.{limits_set};
+ghost use Rattle.mf_desk.specs.Streams.{Gets, Passes, passage, streams};
 ghost use Rattle.mf_session.specs.Sessions.{limits, name};
 
 use crate::ended_run::EndedRun;
 use crate::fault::RunFault;
-use crate::line_buffer::{LineBuffer, before_line_feed};
+use crate::line_buffer::LineBuffer;
 use crate::output::flush;
 use crate::performer::Performer;
 use crate::settings::Settings;
 use memchr::memchr;
 use mf_live::Desk;
+use mf_session::before_line_feed;
 use std::alloc::Global;
 use std::io::{Read, Write};
 use std::sync::Wait;
@@ -42,7 +44,7 @@ impl Progress {
         requires { viewers ≤ 64 }
         ensures start { IfOk result (λ made. (held : Option (List ℕ)) → IsAfter held [] made.0 held) }
         ensures limits { IfOk result (λ made. limits made.0.performer.session ≡ limits_set settings.now) }
-        ensures name { IfOk result (λ made. desk_name made.1 ≡ name made.0.performer.session) }
+        ensures name { IfOk result (λ made. desk_identity made.1 ≡ name made.0.performer.session) }
         ensures written { IfOk result (λ made. made.0.performer.written ≡ 0) }
         ensures too_long { (settings.now.max_bytes < 3) ↔ (result ≡ Err RunFault.FileTooLong) }
         ensures fault { IfErr result (λ fault. (fault ≡ RunFault.FileTooLong) ⊎ (fault ≡ RunFault.OutOfMemory)) }
@@ -66,11 +68,13 @@ impl Progress {
         requires unwritten { self.performer.written ≡ 0 }
         requires some { 0 < length chunk.old }
         requires few { length chunk.old ≤ 2 ^ 16 }
-        ensures over { IfOk result (λ run. EndsWith (limits self.performer.session) (R.remaining reader.old) (R.remaining reader.new) (W.contents writer.old) run (W.contents writer.new)) }
-        ensures name { IfOk result (λ run. ended_name run.ended ≡ name self.performer.session) }
+        ensures over { IfOk result (λ run. EndsWith (limits self.performer.session)
+            (streams (R.remaining reader.old) (R.remaining reader.new) (W.contents writer.old) (W.contents writer.new)) run) }
+        ensures name { IfOk result (λ run. ended_identity run.ended ≡ name self.performer.session) }
         ensures short { IfOk result (λ run. run.written ≤ 2 ^ 101) }
         ensures end { OnOk result (IsAtEnd (R.remaining reader.new)) }
-        ensures fault { IfErr result (λ fault. BreaksScript (limits self.performer.session) fault (R.remaining reader.old) (R.remaining reader.new) (W.contents writer.old) (W.contents writer.new)) }
+        ensures fault { IfErr result (λ fault. Passes (streams (R.remaining reader.old) (R.remaining reader.new) (W.contents writer.old) (W.contents writer.new))
+            (Breaks (limits self.performer.session) fault)) }
     {
         let mut progress = self;
         match progress.read_all(rt, alloc, reader, writer, chunk) {
@@ -99,12 +103,14 @@ impl Progress {
         requires unwritten { self.old.performer.written ≡ 0 }
         requires some { 0 < length chunk.old }
         requires few { length chunk.old ≤ 2 ^ 16 }
-        ensures through { OnOk result (ReadsThrough (R.remaining reader.old) (R.remaining reader.new) (W.contents writer.old) self.new.performer (W.contents writer.new)) }
+        ensures through { OnOk result
+            (ReadsThrough (streams (R.remaining reader.old) (R.remaining reader.new) (W.contents writer.old) (W.contents writer.new)) self.new.performer) }
         ensures short { OnOk result (self.new.performer.written ≤ 2 ^ 101) }
         ensures limits { limits self.new.performer.session ≡ limits self.old.performer.session }
         ensures name { name self.new.performer.session ≡ name self.old.performer.session }
         ensures end { OnOk result (IsAtEnd (R.remaining reader.new)) }
-        ensures fault { IfErr result (λ fault. BreaksScript (limits self.old.performer.session) fault (R.remaining reader.old) (R.remaining reader.new) (W.contents writer.old) (W.contents writer.new)) }
+        ensures fault { IfErr result (λ fault. Passes (streams (R.remaining reader.old) (R.remaining reader.new) (W.contents writer.old) (W.contents writer.new))
+            (Breaks (limits self.old.performer.session) fault)) }
     {
         'reads: for _ in 0..MAX_READS {
             flush(writer, self.performer.written)?;
@@ -133,7 +139,7 @@ impl Progress {
         ensures limits { limits self.new.performer.session ≡ limits self.old.performer.session }
         ensures name { name self.new.performer.session ≡ name self.old.performer.session }
         ensures fault { IfErr result (λ fault. (held left : Option (List ℕ)) (read : List ℕ) → IsAfter held read self.old (W.contents writer.old)
-            → CutsShort (limits self.old.performer.session) fault left (read ++ bytes.now) held (W.contents writer.new)) }
+            → Gets held (W.contents writer.new) (λ written. Breaks (limits self.old.performer.session) fault (passage left (read ++ bytes.now) written))) }
     {
         let mut rest = bytes;
         'lines: while let Some(place) = memchr(b'\n', rest) {
@@ -160,7 +166,8 @@ impl Progress {
         ensures limits { limits self.new.performer.session ≡ limits self.old.performer.session }
         ensures name { name self.new.performer.session ≡ name self.old.performer.session }
         ensures fault { IfErr result (λ fault. (held left : Option (List ℕ)) (read more : List ℕ) → IsAfter held read self.old (W.contents writer.old)
-            → CutsShort (limits self.old.performer.session) fault left (read ++ bytes.now ++ 10 ∷ more) held (W.contents writer.new)) }
+            → Gets held (W.contents writer.new) (λ written. Breaks (limits self.old.performer.session) fault
+            (passage left (read ++ bytes.now ++ 10 ∷ more) written))) }
     {
         if self.line.is_empty() {
             let line = before_line_feed(bytes);
@@ -184,7 +191,7 @@ impl Progress {
         ensures limits { limits self.new.performer.session ≡ limits self.old.performer.session }
         ensures name { name self.new.performer.session ≡ name self.old.performer.session }
         ensures fault { IfErr result (λ fault. (held left : Option (List ℕ)) (read : List ℕ) → IsAtEnd left → IsAfter held read self.old (W.contents writer.old)
-            → CutsShort (limits self.old.performer.session) fault left read held (W.contents writer.new)) }
+            → Gets held (W.contents writer.new) (λ written. Breaks (limits self.old.performer.session) fault (passage left read written))) }
     {
         if self.line.is_empty() {
             return Ok(());
@@ -208,7 +215,7 @@ impl Progress {
         ensures limits { limits self.new.performer.session ≡ limits self.old.performer.session }
         ensures name { name self.new.performer.session ≡ name self.old.performer.session }
         ensures fault { IfErr result (λ fault. (held left : Option (List ℕ)) (read more : List ℕ) → IsAfter held read self.old (W.contents writer.old)
-            → CutsShort (limits self.old.performer.session) fault left (read ++ 10 ∷ more) held (W.contents writer.new)) }
+            → Gets held (W.contents writer.new) (λ written. Breaks (limits self.old.performer.session) fault (passage left (read ++ 10 ∷ more) written))) }
     {
         self.performer
             .perform(rt, alloc, writer, self.line.at_line_feed())?;
@@ -223,7 +230,7 @@ impl Progress {
             → IsAfter held (read ++ bytes.now) self.new holds) }
         ensures same { self.new.performer ≡ self.old.performer }
         ensures fault { IfErr result (λ fault. (held left : Option (List ℕ)) (read more : List ℕ) (holds : Option (List ℕ)) → IsAfter held read self.old holds
-            → CutsShort (limits self.old.performer.session) fault left (read ++ more) held holds) }
+            → Gets held holds (λ written. Breaks (limits self.old.performer.session) fault (passage left (read ++ more) written))) }
     {
         self.line.extend(bytes)?;
         Ok(())

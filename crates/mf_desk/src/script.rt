@@ -1,10 +1,10 @@
 //! A run without viewers: reads a script to its end, writes its transcript, and makes the font file of what it ships.
 ghost use Rattle.std.specs.Io.KnownBytes.{IsAtEnd};
-ghost use Rattle.std.specs.Prelude.{◌≡◌, ◌⊎◌, ◌<◌, ◌↔◌, [], Err, IfErr, IfOk, IfSome, OnOk, List};
-ghost use Rattle.mf_gf.specs.Files.{Character};
+ghost use Rattle.std.specs.Prelude.{◌≡◌, ◌⊎◌, ◌<◌, ◌↔◌, ℕ, [], Err, IfErr, IfOk, IfSome, OnOk, List};
+ghost use Rattle.mf_gf.specs.Files.{Character, IsLongFile, file_if_any};
 ghost use Rattle.mf_gf.specs.Keeping.{Keeps, limit};
-ghost use Rattle.mf_desk.specs.Fault.{EndsEarly};
-ghost use Rattle.mf_desk.specs.Runs.{IsLongFile, IsRun, font_file};
+ghost use Rattle.mf_desk.specs.Performances.{IsPerformance, Tells};
+ghost use Rattle.mf_desk.specs.Streams.{Passes, streams};
 
 use crate::fault::RunFault;
 use crate::outcome::Outcome;
@@ -30,9 +30,11 @@ pub fn run<S: Wait, R: Read, W: Write>(
     writer: &mut W,
     settings: &Settings,
 ) -> Result<Outcome, RunFault>
-    ensures transcript { IfOk result (λ outcome. IfSome (R.remaining reader.old) (IsRun settings.now outcome (W.contents writer.old) (W.contents writer.new))) }
+    ensures transcript { IfOk result (λ outcome. (looks : ℕ)
+        → IfSome (R.remaining reader.old) (IsPerformance settings.now 0 looks outcome (W.contents writer.old) (W.contents writer.new))) }
     ensures end { OnOk result (IsAtEnd (R.remaining reader.new)) }
-    ensures fault { IfErr result (λ fault. EndsEarly settings.now fault (R.remaining reader.old) (R.remaining reader.new) (W.contents writer.old) (W.contents writer.new)) }
+    ensures fault { IfErr result (λ fault. Passes (streams (R.remaining reader.old) (R.remaining reader.new) (W.contents writer.old) (W.contents writer.new))
+        (Tells settings.now 0 fault)) }
     ensures too_small { settings.now.max_bytes < 3 → (result ≡ Err RunFault.FileTooLong) ⊎ (result ≡ Err RunFault.OutOfMemory) }
     ensures untouched { settings.now.max_bytes < 3 → (reader.new ≡ reader.old) × (writer.new ≡ writer.old) }
 {
@@ -49,14 +51,14 @@ pub fn run<S: Wait, R: Read, W: Write>(
 /// The font file of the shipped characters, if there are any. Refused with `FileTooLong` where it would have more bytes than it
 /// may have, and with `OutOfMemory` where an allocation fails.
 pub fn finished(file: GfFile, font: FontWords) -> Result<Option<GfBytes>, RunFault>
-    ensures some { IfOk result (λ gf. (characters : List Character) → Keeps file [] characters → gf ≡ font_file font characters) }
-    ensures too_long { (characters : List Character) → Keeps file [] characters → IsLongFile (limit file) font characters ↔ (result ≡ Err RunFault.FileTooLong) }
+    ensures some { IfOk result (λ gf. (characters : List Character) → Keeps file [] characters → gf ≡ file_if_any font [] characters) }
+    ensures too_long { (characters : List Character) → Keeps file [] characters
+        → IsLongFile (limit file) font [] characters ↔ (result ≡ Err RunFault.FileTooLong) }
     ensures fault { IfErr result (λ fault. (fault ≡ RunFault.FileTooLong) ⊎ (fault ≡ RunFault.OutOfMemory)) }
 {
-    match file.finish(font) {
-        Ok(bytes) => Ok(Some(bytes)),
-        Err((_, GfFault::NoCharacters)) => Ok(None),
-        Err((_, GfFault::FileTooLong)) => Err(RunFault::FileTooLong),
+    match file.finish_if_any(font) {
+        Ok(bytes) => Ok(bytes),
+        Err(GfFault::FileTooLong) => Err(RunFault::FileTooLong),
         Err(_) => Err(RunFault::OutOfMemory),
     }
 }

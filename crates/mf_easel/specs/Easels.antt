@@ -19,11 +19,11 @@ viewer_of easel = easel.viewer
 
 -- which picture it looks at
 abbrev pub name : Easel → Book
-name easel = viewers.name (viewer_of easel)
+name easel = viewers.identity (viewer_of easel)
 
 -- the list of its last look that was answered
-abbrev pub looked : Easel → List Entry
-looked easel = viewers.looked (viewer_of easel)
+abbrev pub looked_at_list : Easel → List Entry
+looked_at_list easel = viewers.looked_at_list (viewer_of easel)
 
 -- how large its frames are
 abbrev pub canvas_of : Easel → Size

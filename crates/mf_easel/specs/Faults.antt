@@ -1,6 +1,6 @@
 -- The refusals of easels.
 use Rattle.std.specs.Prelude.{ℕ, List, codes}
-use Rattle.mf_geom.specs.Names.{memory_text}
+use Rattle.mf_base.specs.Names.{memory_text}
 use Rattle.mf_live.specs.declared.sheet.SheetFault.{SheetFault}
 use Rattle.mf_live.specs.declared.sheet.SheetFault.TheVariants as sheets
 use Rattle.mf_easel.specs.declared.fault.EaselFault.{EaselFault}

@@ -2,7 +2,7 @@
 ghost use Rattle.std.specs.Prelude.{◌≤◌};
 ghost use Rattle.core.specs.Option.{unwrap_or};
 ghost use Rattle.mf_live.specs.Entries.{rev};
-ghost use Rattle.mf_live.specs.Viewers.{looked};
+ghost use Rattle.mf_live.specs.Viewers.{looked_at_list};
 
 use mf_frame::{Canvas, Style};
 use mf_live::Viewer;
@@ -20,5 +20,5 @@ pub struct Easel {
     pub(crate) style: Style,
     /// The revision of the frame that was drawn last.
     pub(crate) drawn: Option<u32>,
-    ghost seen: { unwrap_or drawn 0 ≤ rev (looked viewer) },
+    ghost seen: { unwrap_or drawn 0 ≤ rev (looked_at_list viewer) },
 }

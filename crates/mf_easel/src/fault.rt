@@ -2,7 +2,7 @@
 ghost use Rattle.std.specs.Prelude.{◌≡◌};
 ghost use Rattle.mf_easel.specs.declared.fault.EaselFault.TheVariants.{OutOfMemory as NoMemory};
 
-use mf_geom::OutOfMemory;
+use mf_base::OutOfMemory;
 use mf_live::SheetFault;
 use std::alloc::AllocError;
 use std::error::Error;

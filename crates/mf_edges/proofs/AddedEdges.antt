@@ -8,6 +8,7 @@ use Rattle.std.proofs.lemmas.Cmp.{by_ranked, int_ranked, int_cmp_total}
 use Rattle.std.proofs.lemmas.Int.{ints}
 use Rattle.std.proofs.lemmas.List.{get_or_default}
 use Rattle.std.proofs.lemmas.List.Sorted.{searchable_from_sorted}
+use Rattle.mf_geom.specs.Coordinates.{least_coordinate, greatest_coordinate}
 use Rattle.mf_edges.specs.declared.edge.Edge.{Edge}
 use Rattle.mf_edges.specs.Edges.{weight_in, IsEdge, AreEdgesFrom, AreOpenEdges}
 use Rattle.mf_edges.specs.Sums.{HaveWeights, with_edge_in}
@@ -23,7 +24,8 @@ weight_in-remove [] at d x lt = absurd (omega (arith, lt))
 weight_in-remove (e ∷ es) zero d x lt = omega (arith, ints)
 weight_in-remove (e ∷ es) (suc at) d x lt = omega (arith, ints, weight_in-remove es at d x (omega arith))
 
-weight_in-set : (es : List Edge) (at : ℕ) (e d : Edge) (x : ℤ) → at < length es → weight_in (set es at e) x +ℤ part_at (get_or es at d) x ≡ part_at e x +ℤ weight_in es x
+weight_in-set : (es : List Edge) (at : ℕ) (e d : Edge) (x : ℤ) → at < length es
+    → weight_in (set es at e) x +ℤ part_at (get_or es at d) x ≡ part_at e x +ℤ weight_in es x
 unfolding weight_in
 weight_in-set [] at e d x lt = absurd (omega (arith, lt))
 weight_in-set (f ∷ es) zero e d x lt = omega (arith, ints)
@@ -37,7 +39,8 @@ weight_in-insert (f ∷ es) (suc at) e x = omega (arith, ints, weight_in-insert 
 
 -- ---- order
 
-pub edges_from-at : (low : ℤ) (es : List Edge) (at : ℕ) (d : Edge) → AreEdgesFrom low es → at < length es → IsEdge (get_or es at d) × (low ≤ℤ (get_or es at d).x)
+pub edges_from-at : (low : ℤ) (es : List Edge) (at : ℕ) (d : Edge) → AreEdgesFrom low es → at < length es
+    → IsEdge (get_or es at d) × (low ≤ℤ (get_or es at d).x)
 edges_from-at low [] at d from lt = absurd (omega (arith, lt))
 edges_from-at low (e ∷ es) zero d from lt = (from.0, from.1)
 edges_from-at low (e ∷ es) (suc at) d from lt =
@@ -50,24 +53,32 @@ edges_from-remove low [] (suc at) from = from
 edges_from-remove low (e ∷ es) zero from = edges_from-lower low (e.x +ℤ pos 1) es (omega (arith, ints, from.1)) from.2
 edges_from-remove low (e ∷ es) (suc at) from = (from.0, from.1, edges_from-remove (e.x +ℤ pos 1) es at from.2)
 
-edges_from-set : (low : ℤ) (es : List Edge) (at : ℕ) (e d : Edge) → AreEdgesFrom low es → at < length es → IsEdge e → e.x ≡ (get_or es at d).x → AreEdgesFrom low (set es at e)
+edges_from-set : (low : ℤ) (es : List Edge) (at : ℕ) (e d : Edge) → AreEdgesFrom low es → at < length es → IsEdge e
+    → e.x ≡ (get_or es at d).x → AreEdgesFrom low (set es at e)
 edges_from-set low [] at e d from lt edge same = absurd (omega (arith, lt))
 edges_from-set low (f ∷ es) zero e d from lt edge same = (edge, rw same from.1, rw same from.2)
 edges_from-set low (f ∷ es) (suc at) e d from lt edge same = (from.0, from.1, edges_from-set (f.x +ℤ pos 1) es at e d from.2 (omega arith) edge same)
 
-edges_from-insert : (low : ℤ) (es : List Edge) (at : ℕ) (e : Edge) → AreEdgesFrom low es → at ≤ length es → IsEdge e → low ≤ℤ e.x → ((k : ℕ) → k < at → (get_or es k e).x <ℤ e.x) → ((k : ℕ) → at ≤ k → k < length es → e.x <ℤ (get_or es k e).x) → AreEdgesFrom low (insert es at e)
+edges_from-insert : (low : ℤ) (es : List Edge) (at : ℕ) (e : Edge) → AreEdgesFrom low es → at ≤ length es → IsEdge e
+    → low ≤ℤ e.x → ((k : ℕ) → k < at → (get_or es k e).x <ℤ e.x) → ((k : ℕ) → at ≤ k → k < length es → e.x <ℤ (get_or es k e).x)
+    → AreEdgesFrom low (insert es at e)
 edges_from-insert low [] zero e from le edge right before behind = (edge, right, tt)
 edges_from-insert low [] (suc at) e from le edge right before behind = absurd (omega (arith, le))
 edges_from-insert low (f ∷ es) zero e from le edge right before behind =
     let after = behind 0 (omega arith) (omega arith) in
     (edge, right, (from.0, omega (arith, ints, after), from.2))
 edges_from-insert low (f ∷ es) (suc at) e from le edge right before behind =
-    let first = before 0 (omega arith) in
-    (from.0, from.1, edges_from-insert (f.x +ℤ pos 1) es at e from.2 (omega arith) edge (omega (arith, ints, first)) (λ k lt. before (suc k) (omega arith)) (λ k ge lt. behind (suc k) (omega arith) (omega arith)))
+    let first = before 0 (omega arith) in (
+      from.0,
+      from.1,
+      edges_from-insert (f.x +ℤ pos 1) es at e from.2 (omega arith) edge (omega (arith, ints, first))
+          (λ k lt. before (suc k) (omega arith)) (λ k ge lt. behind (suc k) (omega arith) (omega arith)),
+    )
 
 -- ---- the weight of an edge is the difference between the weights at its column and before it
 
-step_at_edge : (low : ℤ) (es : List Edge) (at : ℕ) (d : Edge) → AreEdgesFrom low es → at < length es → weight_in es (get_or es at d).x ≡ weight_in es ((get_or es at d).x -ℤ pos 1) +ℤ (get_or es at d).weight
+step_at_edge : (low : ℤ) (es : List Edge) (at : ℕ) (d : Edge) → AreEdgesFrom low es → at < length es
+    → weight_in es (get_or es at d).x ≡ weight_in es ((get_or es at d).x -ℤ pos 1) +ℤ (get_or es at d).weight
 step_at_edge low [] at d from lt = absurd (omega (arith, lt))
 step_at_edge low (e ∷ es) zero d from lt =
     let after : e.x <ℤ (e.x +ℤ pos 1) = omega (arith, ints) in
@@ -78,7 +89,8 @@ step_at_edge low (e ∷ es) (suc at) d from lt =
     omega (arith, ints, step_at_edge (e.x +ℤ pos 1) es at d from.2 (omega arith), weight_in-left e es here.x (omega (arith, ints, right)), weight_in-left e es (here.x -ℤ pos 1) (omega (arith, ints, right)))
 
 -- so the weight fits, and a lawful weight may be added to it
-pub edge_is_small : (es : List Edge) (at : ℕ) (d : Edge) → AreOpenEdges es → at < length es → d ≡ get_or es at d → record { least : negsuc 65533 ≤ℤ d.weight; greatest : d.weight ≤ℤ pos 65534 }
+pub edge_is_small : (es : List Edge) (at : ℕ) (d : Edge) → AreOpenEdges es → at < length es → d ≡ get_or es at d
+    → record { least : negsuc 65533 ≤ℤ d.weight; greatest : d.weight ≤ℤ pos 65534 }
 edge_is_small es at d edges lt read =
     let here = get_or es at d in
     let step = step_at_edge _ es at d edges.sorted lt in
@@ -118,12 +130,12 @@ module _ (es : List Edge) (at : ℕ) (edge : Edge) (w s : ℤ) (lt : at < length
         omega (arith, ints, rest, parts_add (int_le edge.x x) edge.weight w s sum_is);
   }
 
-  pub changed_sorted : AreOpenEdges es → s ≢ pos 0 → AreEdgesFrom (negsuc 4094) (set es at record { x = edge.x; weight = s })
+  pub changed_sorted : AreOpenEdges es → s ≢ pos 0 → AreEdgesFrom least_coordinate (set es at record { x = edge.x; weight = s })
   changed_sorted edges nonzero =
       let here = rw (same_edge edge) at (edges_from-at _ es at edge edges.sorted lt).0 in
       edges_from-set _ es at _ edge edges.sorted lt record { left = here.left; right = here.right; nonzero = nonzero } (ap (λ e. e.x) read)
 
-pub removed_sorted : (es : List Edge) (at : ℕ) → AreOpenEdges es → AreEdgesFrom (negsuc 4094) (remove es at)
+pub removed_sorted : (es : List Edge) (at : ℕ) → AreOpenEdges es → AreEdgesFrom least_coordinate (remove es at)
 removed_sorted es at edges = edges_from-remove _ es at edges.sorted
 
 pub inserted_weights : (es : List Edge) (at : ℕ) (x w : ℤ) → HaveWeights (with_edge_in es x w) (insert es at record { x = x; weight = w })
@@ -153,7 +165,9 @@ pub found_column : (es : List Edge) (x : ℤ) (at : ℕ) (d : Edge) → IsBinary
 found_column es x at d found = int_ranked _ x _ (sym (found d))
 
 -- where there is no edge at a column, the edges are on both sides of it
-pub inserted_sorted : (es : List Edge) (x w : ℤ) (at : ℕ) → AreOpenEdges es → at ≤ length es → negsuc 4094 ≤ℤ x → x ≤ℤ pos 4095 → w ≢ pos 0 → IsBinarySearchResult (λ e. int_cmp e.x x) es (Err at) → AreEdgesFrom (negsuc 4094) (insert es at record { x = x; weight = w })
+pub inserted_sorted : (es : List Edge) (x w : ℤ) (at : ℕ) → AreOpenEdges es → at ≤ length es → least_coordinate ≤ℤ x
+    → x ≤ℤ greatest_coordinate → w ≢ pos 0 → IsBinarySearchResult (λ e. int_cmp e.x x) es (Err at)
+    → AreEdgesFrom least_coordinate (insert es at record { x = x; weight = w })
 inserted_sorted es x w at edges le left right nonzero parted =
     let sides = parted (searchable_from_sorted int_cmp_total (λ (e : Edge). e.x) es x (columns_sorted es edges)) in
     let e : Edge = record { x = x; weight = w } in

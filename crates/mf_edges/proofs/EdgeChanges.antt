@@ -3,12 +3,13 @@ use Rattle.std.proofs.Common.{◌≡◌, ◌≤◌, ℤ, pos, negsuc, neg_ℤ, �
 use Rattle.std.specs.List.{All}
 use Rattle.std.proofs.lemmas.Int.{ints, by_lt_z, to_z-of_z, unsigned_abs-mul, fits_signed_from_abs}
 use Rattle.std.proofs.lemmas.List.Elements.{All-nil, All-head, All-tail, All-push}
+use Rattle.mf_geom.specs.Coordinates.{least_coordinate, greatest_coordinate, IsCoordinate}
 use Rattle.mf_edges.specs.declared.edge.Edge.{Edge}
 use Rattle.mf_edges.specs.declared.row_change.RowChange.TheVariants.{Mirror, Columns}
 use Rattle.mf_edges.specs.declared.stretch.Stretch.{Stretch}
 use Rattle.mf_edges.specs.LawfulWeights.{IsLawfulWeight}
 use Rattle.mf_edges.specs.Edges.{weight_in, IsEdge, AreEdgesFrom, AreEdges}
-use Rattle.mf_edges.specs.Axes.{opposite, stretched_to, source_of, IsPointInReach, IsStretch}
+use Rattle.mf_edges.specs.Axes.{opposite, stretched_to, source_of, IsStretch}
 use Rattle.mf_edges.specs.RowChanges.{changed_in, AreChanged}
 use Rattle.mf_edges.proofs.EdgesLemmas.{weight_in-left, weight_in-right, weight_in-before, weight_in-append, edges_from-append}
 use Rattle.mf_edges.proofs.Sources.{stretched_to-lt, source_of-reached, source_of-from}
@@ -24,7 +25,8 @@ edge_behind low (d ∷ before) e behind edges =
     (next.0, omega (arith, ints, next.1))
 
 -- an edge changes the weight at its column by its own weight
-weight_changes : (low : ℤ) (before : List Edge) (e : Edge) (behind : List Edge) → AreEdgesFrom low (before ++ e ∷ behind) → weight_in (before ++ e ∷ behind) e.x ≡ weight_in (before ++ e ∷ behind) (e.x -ℤ pos 1) +ℤ e.weight
+weight_changes : (low : ℤ) (before : List Edge) (e : Edge) (behind : List Edge)
+    → AreEdgesFrom low (before ++ e ∷ behind) → weight_in (before ++ e ∷ behind) e.x ≡ weight_in (before ++ e ∷ behind) (e.x -ℤ pos 1) +ℤ e.weight
 weight_changes low [] e behind edges =
     let here = weight_in-left e behind e.x (omega (arith, ints)) in
     let none_here = weight_in-before (e.x +ℤ pos 1) behind e.x edges.2 (omega (arith, ints)) in
@@ -61,11 +63,11 @@ flipped-edge e edge = record {
   nonzero = λ none. edge.nonzero (omega (arith, ints));
 }
 
-flipped-sorted : (low : ℤ) (es : List Edge) → AreEdgesFrom low es → AreEdgesFrom (negsuc 4094) (all_flipped es)
+flipped-sorted : (low : ℤ) (es : List Edge) → AreEdgesFrom low es → AreEdgesFrom least_coordinate (all_flipped es)
 flipped-sorted low [] edges = tt
 flipped-sorted low (e ∷ es) edges =
     let edge = flipped-edge e edges.0 in
-    edges_from-append (negsuc 4094) (neg_ℤ e.x) (all_flipped es) (flipped e ∷ []) edge.left
+    edges_from-append least_coordinate (neg_ℤ e.x) (all_flipped es) (flipped e ∷ []) edge.left
     (flipped-sorted (e.x +ℤ pos 1) es edges.2)
     (flipped-before (e.x +ℤ pos 1) (neg_ℤ e.x) es edges.2 (omega (arith, ints)))
     (edge, omega (arith, ints), tt)
@@ -85,14 +87,15 @@ flipped-weight e x =
     let own = weight_in-right e [] (opposite x) (omega (arith, ints)) in
     omega (arith, ints))
 
-flipped-weights : (low : ℤ) (es : List Edge) (x : ℤ) → AreEdgesFrom low es → weight_in (all_flipped es) x +ℤ weight_in es (pos 4095) ≡ weight_in es (opposite x)
+flipped-weights : (low : ℤ) (es : List Edge) (x : ℤ) → AreEdgesFrom low es
+    → weight_in (all_flipped es) x +ℤ weight_in es greatest_coordinate ≡ weight_in es (opposite x)
 unfolding weight_in
 flipped-weights low [] x edges = refl
 flipped-weights low (e ∷ es) x edges =
     let others = flipped-weights (e.x +ℤ pos 1) es x edges.2 in
     let parts = weight_in-append (all_flipped es) (flipped e ∷ []) x in
     let own = flipped-weight e x in
-    let all = weight_in-left e es (pos 4095) edges.0.right in
+    let all = weight_in-left e es greatest_coordinate edges.0.right in
     let whole = weight_in-append (e ∷ []) es (opposite x) in
     omega (arith, ints)
 
@@ -110,12 +113,12 @@ module _ (es before left : List Edge) (e : Edge) (new : List Edge) (last : left 
   here = so_far.all ∙ (ap (λ t. t ++ so_far.passed) last ∙ append_assoc before (e ∷ []) so_far.passed)
 
   pub last_edge : AreEdges es → IsEdge e
-  last_edge edges = (edge_behind (negsuc 4094) before e so_far.passed (subst (AreEdgesFrom (negsuc 4094)) here edges.sorted)).0
+  last_edge edges = (edge_behind least_coordinate before e so_far.passed (subst (AreEdgesFrom least_coordinate) here edges.sorted)).0
 
   -- its weight is the difference of two lawful weights
   pub last_weight : AreEdges es → (negsuc 65534 ≤ℤ e.weight) × (e.weight ≤ℤ pos 65535)
   last_weight edges =
-      let change = weight_changes (negsuc 4094) before e so_far.passed (subst (AreEdgesFrom (negsuc 4094)) here edges.sorted) in
+      let change = weight_changes least_coordinate before e so_far.passed (subst (AreEdgesFrom least_coordinate) here edges.sorted) in
       let old : IsLawfulWeight (weight_in (before ++ e ∷ so_far.passed) (e.x -ℤ pos 1)) = rw here at (edges.lawful (e.x -ℤ pos 1)) in
       let new : IsLawfulWeight (weight_in (before ++ e ∷ so_far.passed) e.x) = rw here at (edges.lawful e.x) in
       (omega (arith, ints), omega (arith, ints))
@@ -127,12 +130,12 @@ module _ (es before left : List Edge) (e : Edge) (new : List Edge) (last : left 
 mirrored_of : (es : List Edge) → AreEdges es → AreChanged Mirror es (all_flipped es)
 unfolding changed_in
 mirrored_of es row =
-    let weights : (x : ℤ) → weight_in (all_flipped es) x ≡ weight_in es (opposite x) = λ x. let sum = flipped-weights (negsuc 4094) es x row.sorted in omega (arith, ints, row.closed) in
+    let weights : (x : ℤ) → weight_in (all_flipped es) x ≡ weight_in es (opposite x) = λ x. let sum = flipped-weights least_coordinate es x row.sorted in omega (arith, ints, row.closed) in
     record {
       edges = record {
-        sorted = flipped-sorted (negsuc 4094) es row.sorted;
+        sorted = flipped-sorted least_coordinate es row.sorted;
         lawful = λ x. rw (weights x) (row.lawful (opposite x));
-        closed = weights (pos 4095) ∙ weight_in-before (negsuc 4094) es (opposite (pos 4095)) row.sorted (omega (arith, ints));
+        closed = weights greatest_coordinate ∙ weight_in-before least_coordinate es (opposite greatest_coordinate) row.sorted (omega (arith, ints));
       };
       weights = record { weights = weights };
     }
@@ -153,56 +156,61 @@ stretched-weights s (e ∷ es) x stretch =
     let others = stretched-weights s es x stretch in
     by_lt_z x (stretched_to s e.x)
     (λ right.
-    let own_right : source_of s x <ℤ e.x = by_lt_z (source_of s x) e.x (λ lt. lt) (λ le. let reached = source_of-reached s e.x x stretch le in absurd (omega (arith, ints))) in
+    let own_right : source_of s x <ℤ e.x =
+    by_lt_z (source_of s x) e.x (λ lt. lt) (λ le. let reached = source_of-reached s e.x x stretch le in absurd (omega (arith, ints))) in
     weight_in-right (stretched_edge s e) (map (stretched_edge s) es) x right ∙ (others ∙ sym (weight_in-right e es (source_of s x) own_right)))
     (λ left.
     weight_in-left (stretched_edge s e) (map (stretched_edge s) es) x left
     ∙ (ap (λ w. e.weight +ℤ w) others ∙ sym (weight_in-left e es (source_of s x) (source_of-from s e.x x stretch left))))
 
 -- the points at or to the right of a column are, when stretched, at or to the right of another
-stretched-sorted : (s : Stretch) (low new : ℤ) (es : List Edge) → IsStretch s → ((x : ℤ) → low ≤ℤ x → IsPointInReach (stretched_to s x) → new ≤ℤ stretched_to s x) → AreEdgesFrom low es → All (λ e. IsPointInReach (stretched_to s e.x)) es → AreEdgesFrom new (map (stretched_edge s) es)
+stretched-sorted : (s : Stretch) (low new : ℤ) (es : List Edge) → IsStretch s
+    → ((x : ℤ) → low ≤ℤ x → IsCoordinate (stretched_to s x) → new ≤ℤ stretched_to s x) → AreEdgesFrom low es
+    → All (λ e. IsCoordinate (stretched_to s e.x)) es → AreEdgesFrom new (map (stretched_edge s) es)
 stretched-sorted s low new [] stretch right edges inside = tt
 stretched-sorted s low new (e ∷ es) stretch right edges inside =
-    let reach = All-head (λ e. IsPointInReach (stretched_to s e.x)) e es inside in (
+    let reach = All-head (λ e. IsCoordinate (stretched_to s e.x)) e es inside in (
       record { left = reach.least; right = reach.greatest; nonzero = edges.0.nonzero },
       right e.x edges.1 reach,
       stretched-sorted s (e.x +ℤ pos 1) (stretched_to s e.x +ℤ pos 1) es stretch
           (λ x behind reached. let after = stretched_to-lt s e.x x stretch (omega (arith, ints)) in omega (arith, ints))
-          edges.2 (All-tail (λ e. IsPointInReach (stretched_to s e.x)) e es inside),
+          edges.2 (All-tail (λ e. IsCoordinate (stretched_to s e.x)) e es inside),
     )
 
 -- to the right of the field both rows have the sum of all their edges
-stretched-closed : (s : Stretch) (low : ℤ) (es : List Edge) → AreEdgesFrom low es → All (λ e. IsPointInReach (stretched_to s e.x)) es → weight_in (map (stretched_edge s) es) (pos 4095) ≡ weight_in es (pos 4095)
+stretched-closed : (s : Stretch) (low : ℤ) (es : List Edge) → AreEdgesFrom low es
+    → All (λ e. IsCoordinate (stretched_to s e.x)) es → weight_in (map (stretched_edge s) es) greatest_coordinate ≡ weight_in es greatest_coordinate
 unfolding weight_in
 stretched-closed s low [] edges inside = refl
 stretched-closed s low (e ∷ es) edges inside =
-    let reach = All-head (λ e. IsPointInReach (stretched_to s e.x)) e es inside in
-    weight_in-left (stretched_edge s e) (map (stretched_edge s) es) (pos 4095) reach.greatest
-    ∙ (ap (λ w. e.weight +ℤ w) (stretched-closed s (e.x +ℤ pos 1) es edges.2 (All-tail (λ e. IsPointInReach (stretched_to s e.x)) e es inside))
-    ∙ sym (weight_in-left e es (pos 4095) edges.0.right))
+    let reach = All-head (λ e. IsCoordinate (stretched_to s e.x)) e es inside in
+    weight_in-left (stretched_edge s e) (map (stretched_edge s) es) greatest_coordinate reach.greatest
+    ∙ (ap (λ w. e.weight +ℤ w) (stretched-closed s (e.x +ℤ pos 1) es edges.2 (All-tail (λ e. IsCoordinate (stretched_to s e.x)) e es inside))
+    ∙ sym (weight_in-left e es greatest_coordinate edges.0.right))
 
-pub stretched_of : (s : Stretch) (es : List Edge) → AreEdges es → IsStretch s → All (λ e. IsPointInReach (stretched_to s e.x)) es → AreChanged (Columns s) es (map (stretched_edge s) es)
+pub stretched_of : (s : Stretch) (es : List Edge) → AreEdges es → IsStretch s
+    → All (λ e. IsCoordinate (stretched_to s e.x)) es → AreChanged (Columns s) es (map (stretched_edge s) es)
 unfolding changed_in
 stretched_of s es row stretch inside = record {
   edges = record {
-    sorted = stretched-sorted s (negsuc 4094) (negsuc 4094) es stretch (λ x right reach. reach.least) row.sorted inside;
+    sorted = stretched-sorted s least_coordinate least_coordinate es stretch (λ x right reach. reach.least) row.sorted inside;
     lawful = λ x. rw (stretched-weights s es x stretch) (row.lawful (source_of s x));
-    closed = stretched-closed s (negsuc 4094) es row.sorted inside ∙ row.closed;
+    closed = stretched-closed s least_coordinate es row.sorted inside ∙ row.closed;
   };
   weights = record { weights = λ x. stretched-weights s es x stretch };
 }
 
 -- ---- the numbers that the code computes
 
-size : (z : ℤ) → negsuc 4094 ≤ℤ z → z ≤ℤ pos 4095 → unsigned_abs z ≤ 4095
+size : (z : ℤ) → least_coordinate ≤ℤ z → z ≤ℤ greatest_coordinate → unsigned_abs z ≤ 4095
 size z least greatest = omega (arith, ints)
 
-offset_is-small : (p o : ℤ) → unsigned_abs p ≤ 16769025 → IsPointInReach (p +ℤ o) → to_z w32 (of_z w32 o) ≡ o
+offset_is-small : (p o : ℤ) → unsigned_abs p ≤ 16769025 → IsCoordinate (p +ℤ o) → to_z w32 (of_z w32 o) ≡ o
 offset_is-small p o small reach =
     let bounds : (negsuc 16769024 ≤ℤ p) × (p ≤ℤ pos 16769025) = (omega (arith, ints), omega (arith, ints)) in
     omega (arith, ints)
 
-reach_fits : (x : ℤ) → IsPointInReach x → FitsSigned w32 x
+reach_fits : (x : ℤ) → IsCoordinate x → FitsSigned w32 x
 reach_fits x reach = omega (arith, ints)
 
 module _ (s : Stretch) (e : Edge) (stretch : IsStretch s) (edge : IsEdge e) where
@@ -218,16 +226,18 @@ module _ (s : Stretch) (e : Edge) (stretch : IsStretch s) (edge : IsEdge e) wher
   pub product_fits : FitsSigned w32 (to_z w32 (of_z w32 e.x) *ℤ to_z w32 (of_z w32 s.factor))
   product_fits = rw (x_is, factor_is) (fits_signed_from_abs w32 (e.x *ℤ s.factor) (omega (arith, product_size)))
 
-  module _ (reach : IsPointInReach (stretched_to s e.x)) where
+  module _ (reach : IsCoordinate (stretched_to s e.x)) where
     -- the product is small, and so is the sum, so the offset is small, too
     sum_is : to_z w32 (of_z w32 (to_z w32 (of_z w32 e.x) *ℤ to_z w32 (of_z w32 s.factor))) +ℤ to_z w32 (of_z w32 s.offset) ≡ stretched_to s e.x
     sum_is =
-        let product_is : to_z w32 (of_z w32 (e.x *ℤ s.factor)) ≡ e.x *ℤ s.factor = to_z-of_z w32 _ (fits_signed_from_abs w32 (e.x *ℤ s.factor) (omega (arith, product_size))) in
+        let product_is : to_z w32 (of_z w32 (e.x *ℤ s.factor)) ≡ e.x *ℤ s.factor =
+        to_z-of_z w32 _ (fits_signed_from_abs w32 (e.x *ℤ s.factor) (omega (arith, product_size))) in
         let offset_is : to_z w32 (of_z w32 s.offset) ≡ s.offset = offset_is-small (e.x *ℤ s.factor) s.offset product_size reach in
         rw (x_is, factor_is, product_is, offset_is) refl
 
     pub sum_fits : FitsSigned w32 (to_z w32 (of_z w32 (to_z w32 (of_z w32 e.x) *ℤ to_z w32 (of_z w32 s.factor))) +ℤ to_z w32 (of_z w32 s.offset))
     sum_fits = rw sum_is (reach_fits (stretched_to s e.x) reach)
 
-    pub point_is : to_z w32 (of_z w32 (to_z w32 (of_z w32 (to_z w32 (of_z w32 e.x) *ℤ to_z w32 (of_z w32 s.factor))) +ℤ to_z w32 (of_z w32 s.offset))) ≡ stretched_to s e.x
+    pub point_is : to_z w32 (of_z w32 (to_z w32 (of_z w32 (to_z w32 (of_z w32 e.x) *ℤ to_z w32 (of_z w32 s.factor))) +ℤ to_z w32 (of_z w32 s.offset)))
+        ≡ stretched_to s e.x
     point_is = rw sum_is (to_z-of_z w32 (stretched_to s e.x) (reach_fits (stretched_to s e.x) reach))

@@ -1,9 +1,10 @@
 -- A row of edges after each weight is mapped, edge by edge.
-use Rattle.std.proofs.Common.{◌≡◌, ℕ, ◌+◌, ◌<◌, ℤ, pos, negsuc, ◌+ℤ◌, ◌-ℤ◌, ◌≤ℤ◌, ◌<ℤ◌, List, [], ◌∷◌, ◌++◌, length, drop, get_or, refl, subst, sym, ap, ◌∙◌, arith}
+use Rattle.std.proofs.Common.{◌≡◌, ℕ, ◌+◌, ◌<◌, ℤ, pos, ◌+ℤ◌, ◌-ℤ◌, ◌≤ℤ◌, ◌<ℤ◌, List, [], ◌∷◌, ◌++◌, length, drop, get_or, refl, subst, sym, ap, ◌∙◌, arith}
 use Rattle.std.specs.List.{All}
 use Rattle.std.proofs.lemmas.Int.{ints, by_lt_z}
 use Rattle.std.proofs.lemmas.List.{drop_more}
 use Rattle.std.proofs.lemmas.List.Elements.{All-nil}
+use Rattle.mf_geom.specs.Coordinates.{least_coordinate, greatest_coordinate}
 use Rattle.mf_edges.specs.declared.edge.Edge.{Edge}
 use Rattle.mf_edges.specs.declared.row_change.RowChange.TheVariants.{Weights}
 use Rattle.mf_edges.specs.declared.weight_map.WeightMap.{WeightMap}
@@ -20,7 +21,7 @@ use Rattle.mf_edges.proofs.EdgeSums.{with_edge_in-before, with_edge_in-behind, w
 pub record IsMappedSoFar (m : WeightMap) (es mapped rest : List Edge) (weight image : ℤ) : Type 0 where
   pub low : ℤ
   pub left : AreEdgesFrom low rest
-  pub sorted : AreEdgesFrom (negsuc 4094) mapped
+  pub sorted : AreEdgesFrom least_coordinate mapped
   pub before : All (λ e. e.x <ℤ low) mapped
   pub weights : (x : ℤ) → x <ℤ low → weight_in mapped x ≡ mapped_to m (weight_in es x)
   pub sum : (x : ℤ) → low ≤ℤ x → weight_in es x ≡ weight +ℤ weight_in rest x
@@ -31,29 +32,32 @@ pub record IsMappedSoFar (m : WeightMap) (es mapped rest : List Edge) (weight im
 pub mapped_none : (m : WeightMap) (es : List Edge) → AreEdges es → IsWeightMap m → IsMappedSoFar m es [] es (pos 0) (pos 0)
 unfolding weight_in
 mapped_none m es row map = record {
-  low = negsuc 4094;
+  low = least_coordinate;
   left = row.sorted;
   sorted = tt;
-  before = All-nil (λ e. e.x <ℤ negsuc 4094);
-  weights = λ x before. sym (ap (mapped_to m) (weight_in-before (negsuc 4094) es x row.sorted before) ∙ map.zero);
+  before = All-nil (λ e. e.x <ℤ least_coordinate);
+  weights = λ x before. sym (ap (mapped_to m) (weight_in-before least_coordinate es x row.sorted before) ∙ map.zero);
   sum = λ x behind. omega (arith, ints);
   running = λ x behind. refl;
   lawful = zero_lawful;
   image_is = sym map.zero;
 }
 
-pub mapped_read : (m : WeightMap) (es mapped : List Edge) (i : ℕ) (d : Edge) (weight image : ℤ) → i < length es → IsMappedSoFar m es mapped (drop i es) weight image → IsMappedSoFar m es mapped (get_or es i d ∷ drop (i + 1) es) weight image
+pub mapped_read : (m : WeightMap) (es mapped : List Edge) (i : ℕ) (d : Edge) (weight image : ℤ) → i < length es
+    → IsMappedSoFar m es mapped (drop i es) weight image → IsMappedSoFar m es mapped (get_or es i d ∷ drop (i + 1) es) weight image
 mapped_read m es mapped i d weight image inside so_far = subst (λ rest. IsMappedSoFar m es mapped rest weight image) (drop_more es i d inside) so_far
 
 -- where the rest adds nothing, the new edges have the mapped weight of the row
-mapped_where_none : (m : WeightMap) (es mapped rest : List Edge) (weight image : ℤ) → IsMappedSoFar m es mapped rest weight image → (x : ℤ) → weight_in rest x ≡ pos 0 → weight_in mapped x ≡ mapped_to m (weight_in es x)
+mapped_where_none : (m : WeightMap) (es mapped rest : List Edge) (weight image : ℤ)
+    → IsMappedSoFar m es mapped rest weight image → (x : ℤ) → weight_in rest x ≡ pos 0 → weight_in mapped x ≡ mapped_to m (weight_in es x)
 mapped_where_none m es mapped rest weight image so_far x none =
     by_lt_z x so_far.low (so_far.weights x) (λ behind.
     let sum = so_far.sum x behind in
     let weight_is : weight ≡ weight_in es x = omega (arith, ints) in
     so_far.running x behind ∙ (so_far.image_is ∙ ap (mapped_to m) weight_is))
 
-module _ (m : WeightMap) (es mapped : List Edge) (e : Edge) (rest : List Edge) (weight image : ℤ) (so_far : IsMappedSoFar m es mapped (e ∷ rest) weight image) where
+module _ (m : WeightMap) (es mapped : List Edge) (e : Edge) (rest : List Edge) (weight image : ℤ)
+    (so_far : IsMappedSoFar m es mapped (e ∷ rest) weight image) where
   reach : IsColumnFrom so_far.low e.x
   reach = record { from = so_far.left.1; left = so_far.left.0.left; right = so_far.left.0.right }
 
@@ -76,8 +80,10 @@ module _ (m : WeightMap) (es mapped : List Edge) (e : Edge) (rest : List Edge) (
 
     weights_before : (x : ℤ) → x <ℤ e.x → weight_in (mapped ++ unless_zero (record { x = e.x; weight = next -ℤ image })) x ≡ mapped_to m (weight_in es x)
     weights_before x before =
-        let none : weight_in (e ∷ rest) x ≡ pos 0 = weight_in-right e rest x before ∙ weight_in-before (e.x +ℤ pos 1) rest x so_far.left.2 (omega (arith, ints)) in
-        weight_in-push mapped e.x (next -ℤ image) x ∙ (with_edge_in-before mapped e.x (next -ℤ image) x before ∙ mapped_where_none m es mapped (e ∷ rest) weight image so_far x none)
+        let none : weight_in (e ∷ rest) x ≡ pos 0 =
+        weight_in-right e rest x before ∙ weight_in-before (e.x +ℤ pos 1) rest x so_far.left.2 (omega (arith, ints)) in
+        weight_in-push mapped e.x (next -ℤ image) x
+        ∙ (with_edge_in-before mapped e.x (next -ℤ image) x before ∙ mapped_where_none m es mapped (e ∷ rest) weight image so_far x none)
 
     weights_here : (x : ℤ) → x ≡ e.x → weight_in (mapped ++ unless_zero (record { x = e.x; weight = next -ℤ image })) x ≡ mapped_to m (weight_in es x)
     weights_here x here = rw here (running_more e.x (omega (arith, ints)) ∙ (next_is ∙ ap (mapped_to m) (sym weight_here)))
@@ -98,7 +104,8 @@ module _ (m : WeightMap) (es mapped : List Edge) (e : Edge) (rest : List Edge) (
       image_is = next_is;
     }
 
-pub mapped_all : (m : WeightMap) (es mapped : List Edge) (weight image : ℤ) → AreEdges es → IsWeightMap m → IsMappedSoFar m es mapped [] weight image → AreChanged (Weights m) es mapped
+pub mapped_all : (m : WeightMap) (es mapped : List Edge) (weight image : ℤ) → AreEdges es → IsWeightMap m
+    → IsMappedSoFar m es mapped [] weight image → AreChanged (Weights m) es mapped
 unfolding weight_in changed_in
 mapped_all m es mapped weight image row map so_far =
     let weights : (x : ℤ) → weight_in mapped x ≡ mapped_to m (weight_in es x) = λ x. mapped_where_none m es mapped [] weight image so_far x refl in
@@ -106,7 +113,7 @@ mapped_all m es mapped weight image row map so_far =
       edges = record {
         sorted = so_far.sorted;
         lawful = λ x. rw (weights x) (map.lawful (weight_in es x) (row.lawful x));
-        closed = weights (pos 4095) ∙ (ap (mapped_to m) row.closed ∙ map.zero);
+        closed = weights greatest_coordinate ∙ (ap (mapped_to m) row.closed ∙ map.zero);
       };
       weights = record { weights = weights };
     }

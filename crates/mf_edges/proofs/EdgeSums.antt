@@ -1,19 +1,20 @@
 -- The sum of two rows of edges, column by column.
-use Rattle.std.proofs.Common.{◌≡◌, ◌≢◌, ◌<◌, ◌+◌, ◌⊎◌, Bool, true, false, cond, ℕ, ℤ, length, get_or, take, drop, FitsSigned, to_z, of_z, w32, pos, negsuc, ◌+ℤ◌, ◌-ℤ◌, ◌≤ℤ◌, ◌<ℤ◌, List, [], ◌∷◌, ◌++◌, refl, ap, sym, subst, ◌∙◌, ⊎_elim, inl, inr, arith}
+use Rattle.std.proofs.Common.{◌≡◌, ◌≢◌, ◌⊎◌, Bool, true, false, cond, ℤ, pos, ◌+ℤ◌, ◌-ℤ◌, ◌≤ℤ◌, ◌<ℤ◌, List, [], ◌∷◌, ◌++◌, refl, ap, sym, subst, ◌∙◌, ⊎_elim, arith}
 use Rattle.std.specs.List.{All}
 use Rattle.std.specs.Int.RustNames.{int_le}
 use Rattle.std.specs.Ordering.{int_eq}
 use Rattle.std.proofs.lemmas.Bool.{cond-true, cond-false, cond_both}
 use Rattle.std.proofs.lemmas.Bool.Decides.{Decides-int_eq, not_from_Decides}
 use Rattle.std.proofs.lemmas.Int.{ints, by_lt_z}
-use Rattle.std.proofs.lemmas.List.{append-nil, append_assoc, drop_more, take_more}
+use Rattle.std.proofs.lemmas.List.{append-nil}
 use Rattle.std.proofs.lemmas.List.Elements.{All-head, All-tail, All-cons, All-nil, All-weaker, All-push}
+use Rattle.mf_geom.specs.Coordinates.{least_coordinate, greatest_coordinate}
 use Rattle.mf_edges.specs.declared.edge.Edge.{Edge}
 use Rattle.mf_edges.specs.LawfulWeights.{IsLawfulWeight}
 use Rattle.mf_edges.specs.Edges.{weight_in, AreEdgesFrom, AreEdges}
 use Rattle.mf_edges.specs.Merging.{IsChange, IsDifference, AreChanges, AreEdgesLeft, BeginAt, BeginFrom, IsSplitAt, unless_zero}
-use Rattle.mf_edges.specs.Sums.{HaveWeights, IsUnlawfulColumn, with_edge_in, weight_in_both}
-use Rattle.mf_edges.specs.SumsSoFar.{IsSumSoFar, ArePassed, AreStopped}
+use Rattle.mf_edges.specs.Sums.{with_edge_in, weight_in_both}
+use Rattle.mf_edges.specs.SumsSoFar.{IsSumSoFar}
 use Rattle.mf_edges.proofs.EdgesLemmas.{weight_in-append, weight_in-left, weight_in-right, weight_in-before, edges_from-append}
 
 -- ---- one edge more
@@ -73,11 +74,11 @@ split_behind es x left apart = record {
 
 -- ---- the first column
 
--- a column in reach, at or to the right of column low
+-- a column at which an edge may be, at or to the right of column low
 pub record IsColumnFrom (low x : ℤ) : Type 0 where
   pub from : low ≤ℤ x
-  pub left : negsuc 4094 ≤ℤ x
-  pub right : x ≤ℤ pos 4095
+  pub left : least_coordinate ≤ℤ x
+  pub right : x ≤ℤ greatest_coordinate
 
 begins_in_reach : (low x : ℤ) (es : List Edge) → AreEdgesFrom low es → BeginAt x es → IsColumnFrom low x
 begins_in_reach low x [] sorted at = absurd at
@@ -108,7 +109,8 @@ changes_of_edges es edges = record {
 }
 
 -- where edges change a change, each edge is the difference of two changes
-differences_from : (low weight : ℤ) (es : List Edge) → AreEdgesFrom low es → ((x : ℤ) → IsChange (weight +ℤ weight_in es x)) → All (λ e. IsDifference e.weight) es
+differences_from : (low weight : ℤ) (es : List Edge) → AreEdgesFrom low es
+    → ((x : ℤ) → IsChange (weight +ℤ weight_in es x)) → All (λ e. IsDifference e.weight) es
 differences_from low weight [] sorted changes = All-nil (λ e. IsDifference e.weight)
 differences_from low weight (e ∷ es) sorted changes =
     let before = weight_in-right e es (e.x -ℤ pos 1) (omega (arith, ints)) in
@@ -123,10 +125,10 @@ differences_from low weight (e ∷ es) sorted changes =
     (λ lt. let none = weight_in-before (e.x +ℤ pos 1) es x sorted.2 (omega (arith, ints)) in subst IsChange (omega (arith, ints)) new)
     (λ le. let whole = weight_in-left e es x le in subst IsChange (omega (arith, ints)) (changes x))))
 
-pub changes_left : (es : List Edge) → AreChanges es → AreEdgesLeft (negsuc 4094) es
+pub changes_left : (es : List Edge) → AreChanges es → AreEdgesLeft least_coordinate es
 changes_left es changes = record {
   sorted = changes.sorted;
-  differences = differences_from (negsuc 4094) (pos 0) es changes.sorted (λ x. subst IsChange (omega (arith, ints)) (changes.changes x));
+  differences = differences_from least_coordinate (pos 0) es changes.sorted (λ x. subst IsChange (omega (arith, ints)) (changes.changes x));
 }
 
 -- ---- the sum so far
@@ -134,10 +136,10 @@ changes_left es changes = record {
 pub sum_none : (es fs : List Edge) → AreEdges es → AreChanges fs → IsSumSoFar es fs [] es fs (pos 0)
 unfolding weight_in
 sum_none es fs left right = record {
-  low = negsuc 4094;
+  low = least_coordinate;
   reach = omega (arith, ints);
   edges = record { sorted = tt; lawful = λ x. zero_lawful };
-  before = All-nil (λ e. e.x <ℤ negsuc 4094);
+  before = All-nil (λ e. e.x <ℤ least_coordinate);
   left = changes_left es (changes_of_edges es left);
   right = changes_left fs right;
   running = λ x le. refl;
@@ -147,7 +149,8 @@ sum_none es fs left right = record {
 }
 
 -- one more edge at the end of the sum, unless its weight is 0
-pub by_push : (P : List Edge → Type 0) (sum : List Edge) (x w : ℤ) → (w ≡ pos 0 → P sum) → (w ≢ pos 0 → P (sum ++ record { x = x; weight = w } ∷ [])) → P (sum ++ unless_zero (record { x = x; weight = w }))
+pub by_push : (P : List Edge → Type 0) (sum : List Edge) (x w : ℤ) → (w ≡ pos 0 → P sum)
+    → (w ≢ pos 0 → P (sum ++ record { x = x; weight = w } ∷ [])) → P (sum ++ unless_zero (record { x = x; weight = w }))
 by_push P sum x w none some =
     cond_both (int_eq w (pos 0)) [] (record { x = x; weight = w } ∷ []) (λ es. P (sum ++ es))
     (λ test. rw (append-nil sum) (none ((Decides-int_eq w (pos 0)).0 test)))
@@ -160,23 +163,27 @@ weight_in-push sum x w c =
     (λ zero. rw zero (sym (with_edge_in-none sum x c)))
     (λ _. weight_in-append sum (record { x = x; weight = w } ∷ []) c ∙ omega (arith, ints))
 
-pub sorted_push : (sum : List Edge) (low x w : ℤ) → AreEdgesFrom (negsuc 4094) sum → All (λ e. e.x <ℤ low) sum → IsColumnFrom low x → AreEdgesFrom (negsuc 4094) (sum ++ unless_zero (record { x = x; weight = w }))
+pub sorted_push : (sum : List Edge) (low x w : ℤ) → AreEdgesFrom least_coordinate sum → All (λ e. e.x <ℤ low) sum
+    → IsColumnFrom low x → AreEdgesFrom least_coordinate (sum ++ unless_zero (record { x = x; weight = w }))
 sorted_push sum low x w sorted before reach =
-    by_push (AreEdgesFrom (negsuc 4094)) sum x w (λ _. sorted) (λ nonzero.
-    edges_from-append (negsuc 4094) x sum (record { x = x; weight = w } ∷ []) reach.left sorted
+    by_push (AreEdgesFrom least_coordinate) sum x w (λ _. sorted) (λ nonzero.
+    edges_from-append least_coordinate x sum (record { x = x; weight = w } ∷ []) reach.left sorted
     (All-weaker (λ e. e.x <ℤ low) (λ e. e.x <ℤ x) (λ e lt. omega (arith, ints)) sum before)
     (record { left = reach.left; right = reach.right; nonzero = nonzero }, omega (arith, ints), tt))
 
-pub before_push : (sum : List Edge) (low x w : ℤ) → All (λ e. e.x <ℤ low) sum → low ≤ℤ x → All (λ e. e.x <ℤ (x +ℤ pos 1)) (sum ++ unless_zero (record { x = x; weight = w }))
+pub before_push : (sum : List Edge) (low x w : ℤ) → All (λ e. e.x <ℤ low) sum → low ≤ℤ x
+    → All (λ e. e.x <ℤ (x +ℤ pos 1)) (sum ++ unless_zero (record { x = x; weight = w }))
 before_push sum low x w before le =
     let old = All-weaker (λ e. e.x <ℤ low) (λ e. e.x <ℤ (x +ℤ pos 1)) (λ e lt. omega (arith, ints)) sum before in
-    by_push (All (λ e. e.x <ℤ (x +ℤ pos 1))) sum x w (λ _. old) (λ _. All-push (λ e. e.x <ℤ (x +ℤ pos 1)) sum (record { x = x; weight = w }) old (omega (arith, ints)))
+    by_push (All (λ e. e.x <ℤ (x +ℤ pos 1))) sum x w (λ _. old)
+    (λ _. All-push (λ e. e.x <ℤ (x +ℤ pos 1)) sum (record { x = x; weight = w }) old (omega (arith, ints)))
 
 cond-sum : (test : Bool) (v w : ℤ) → cond test (v +ℤ w) (pos 0) ≡ cond test v (pos 0) +ℤ cond test w (pos 0)
 cond-sum true v w = refl
 cond-sum false v w = refl
 
-module _ (whole_left whole_right sum es fs : List Edge) (weight : ℤ) (so_far : IsSumSoFar whole_left whole_right sum es fs weight) (x : ℤ) (first : IsFirstColumn es fs x) where
+module _ (whole_left whole_right sum es fs : List Edge) (weight : ℤ)
+    (so_far : IsSumSoFar whole_left whole_right sum es fs weight) (x : ℤ) (first : IsFirstColumn es fs x) where
   pub reach : IsColumnFrom so_far.low x
   reach = first_in_reach so_far.low x es fs so_far.left so_far.right first
 
@@ -198,7 +205,8 @@ module _ (whole_left whole_right sum es fs : List Edge) (weight : ℤ) (so_far :
         let more = weight_in-push sum x (v +ℤ w) c ∙ with_edge_in-behind sum x (v +ℤ w) c le in
         omega (arith, ints)
 
-    weights_more : (c : ℤ) → weight_in (sum ++ unless_zero (record { x = x; weight = v +ℤ w })) c +ℤ weight_in_both others_left others_right c ≡ weight_in_both whole_left whole_right c
+    weights_more : (c : ℤ) → weight_in (sum ++ unless_zero (record { x = x; weight = v +ℤ w })) c +ℤ weight_in_both others_left others_right c
+        ≡ weight_in_both whole_left whole_right c
     unfolding weight_in_both with_edge_in
     weights_more c =
         let old = so_far.weights c in
@@ -208,14 +216,16 @@ module _ (whole_left whole_right sum es fs : List Edge) (weight : ℤ) (so_far :
         let both = cond-sum (int_le x c) v w in
         omega (arith, ints)
 
-    later_more : (c : ℤ) → (x +ℤ pos 1) ≤ℤ c → weight_in whole_right c -ℤ weight_in others_right c ≡ weight_in whole_right (pos 4095) -ℤ weight_in others_right (pos 4095)
+    later_more : (c : ℤ) → (x +ℤ pos 1) ≤ℤ c
+        → weight_in whole_right c -ℤ weight_in others_right c ≡ weight_in whole_right greatest_coordinate -ℤ weight_in others_right greatest_coordinate
     later_more c le =
         let old = so_far.later c (omega (arith, ints, reach.from)) in
         let here = split_right.weights.weights c ∙ with_edge_in-behind others_right x w c (omega (arith, ints)) in
-        let last = split_right.weights.weights (pos 4095) ∙ with_edge_in-behind others_right x w (pos 4095) reach.right in
+        let last = split_right.weights.weights greatest_coordinate ∙ with_edge_in-behind others_right x w greatest_coordinate reach.right in
         omega (arith, ints)
 
-    pub sum_more : IsLawfulWeight (weight +ℤ (v +ℤ w)) → IsSumSoFar whole_left whole_right (sum ++ unless_zero (record { x = x; weight = v +ℤ w })) others_left others_right (weight +ℤ (v +ℤ w))
+    pub sum_more : IsLawfulWeight (weight +ℤ (v +ℤ w))
+        → IsSumSoFar whole_left whole_right (sum ++ unless_zero (record { x = x; weight = v +ℤ w })) others_left others_right (weight +ℤ (v +ℤ w))
     sum_more lawful = record {
       low = x +ℤ pos 1;
       reach = omega (arith, ints, reach.left);

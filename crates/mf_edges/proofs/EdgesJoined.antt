@@ -1,21 +1,16 @@
 -- Edges that join the sum of two rows: those of one row as they are, a change, and the rest at the end.
-use Rattle.std.proofs.Common.{◌≡◌, ◌≢◌, ◌<◌, ◌+◌, ◌⊎◌, Bool, true, false, cond, ℕ, ℤ, length, get_or, take, drop, FitsSigned, to_z, of_z, w32, pos, negsuc, ◌+ℤ◌, ◌-ℤ◌, ◌≤ℤ◌, ◌<ℤ◌, List, [], ◌∷◌, ◌++◌, refl, ap, sym, subst, ◌∙◌, ⊎_elim, inl, inr, arith}
-use Rattle.std.specs.List.{All}
-use Rattle.std.specs.Int.RustNames.{int_le}
-use Rattle.std.specs.Ordering.{int_eq}
-use Rattle.std.proofs.lemmas.Bool.{cond-true, cond-false, cond_both}
-use Rattle.std.proofs.lemmas.Bool.Decides.{Decides-int_eq, not_from_Decides}
+use Rattle.std.proofs.Common.{◌≡◌, ◌≢◌, ◌<◌, ◌+◌, ℕ, ℤ, length, get_or, take, drop, FitsSigned, to_z, of_z, w32, pos, ◌+ℤ◌, ◌≤ℤ◌, ◌<ℤ◌, List, [], ◌∷◌, ◌++◌, refl, ap, sym, subst, ◌∙◌, inl, inr, arith}
 use Rattle.std.proofs.lemmas.Int.{ints, by_lt_z}
-use Rattle.std.proofs.lemmas.List.{append-nil, append_assoc, drop_more, take_more}
-use Rattle.std.proofs.lemmas.List.Elements.{All-head, All-tail, All-cons, All-nil, All-weaker, All-push}
+use Rattle.std.proofs.lemmas.List.{append_assoc, drop_more, take_more}
+use Rattle.mf_geom.specs.Coordinates.{least_coordinate, greatest_coordinate}
 use Rattle.mf_edges.specs.declared.edge.Edge.{Edge}
 use Rattle.mf_edges.specs.LawfulWeights.{IsLawfulWeight}
-use Rattle.mf_edges.specs.Edges.{weight_in, AreEdgesFrom, AreEdges}
-use Rattle.mf_edges.specs.Merging.{IsChange, IsDifference, AreChanges, AreEdgesLeft, BeginAt, BeginFrom, IsSplitAt, unless_zero}
-use Rattle.mf_edges.specs.Sums.{HaveWeights, IsUnlawfulColumn, with_edge_in, weight_in_both}
+use Rattle.mf_edges.specs.Edges.{weight_in, AreEdges}
+use Rattle.mf_edges.specs.Merging.{IsDifference, AreChanges, AreEdgesLeft, BeginAt, BeginFrom, IsSplitAt, unless_zero}
+use Rattle.mf_edges.specs.Sums.{HaveWeights, IsUnlawfulColumn, weight_in_both}
 use Rattle.mf_edges.specs.SumsSoFar.{IsSumSoFar, ArePassed, AreStopped}
-use Rattle.mf_edges.proofs.EdgesLemmas.{weight_in-append, weight_in-left, weight_in-right, weight_in-before, edges_from-append}
-use Rattle.mf_edges.proofs.EdgeSums.{split_first, split_behind, IsFirstColumn, by_push, reach, sum_at_column, sum_more}
+use Rattle.mf_edges.proofs.EdgesLemmas.{weight_in-append, weight_in-before, edges_from-append}
+use Rattle.mf_edges.proofs.EdgeSums.{split_first, split_behind, IsFirstColumn, by_push, sum_at_column, sum_more}
 
 -- ---- edges that join as they are
 
@@ -34,7 +29,8 @@ begin_not_at : (x y : ℤ) (es : List Edge) → y <ℤ x → BeginFrom x es → 
 begin_not_at x y [] lt from at = at
 begin_not_at x y (e ∷ es) lt from at = omega (arith, ints)
 
-module _ (whole_left whole_right sum : List Edge) (e : Edge) (others fs : List Edge) (weight x : ℤ) (so_far : IsSumSoFar whole_left whole_right sum (e ∷ others) fs weight) (lt : e.x <ℤ x) (from : BeginFrom x fs) where
+module _ (whole_left whole_right sum : List Edge) (e : Edge) (others fs : List Edge) (weight x : ℤ)
+    (so_far : IsSumSoFar whole_left whole_right sum (e ∷ others) fs weight) (lt : e.x <ℤ x) (from : BeginFrom x fs) where
   here : IsFirstColumn (e ∷ others) fs e.x
   here = record { left = omega (arith, ints); right = begin_earlier x e.x fs (omega (arith, ints)) from; reached = inl refl }
 
@@ -42,7 +38,8 @@ module _ (whole_left whole_right sum : List Edge) (e : Edge) (others fs : List E
   split_left = split_first e others e.x (left_from so_far.low e.x (e ∷ others) so_far.left (omega (arith, ints))) refl
 
   split_right : IsSplitAt fs e.x (pos 0) fs
-  split_right = split_behind fs e.x (left_from so_far.low e.x fs so_far.right (begin_earlier x e.x fs (omega (arith, ints)) from)) (begin_not_at x e.x fs lt from)
+  split_right =
+      split_behind fs e.x (left_from so_far.low e.x fs so_far.right (begin_earlier x e.x fs (omega (arith, ints)) from)) (begin_not_at x e.x fs lt from)
 
   pub kept_at_column : weight_in_both whole_left whole_right e.x ≡ weight +ℤ e.weight
   kept_at_column =
@@ -55,17 +52,21 @@ module _ (whole_left whole_right sum : List Edge) (e : Edge) (others fs : List E
       rw (no_more, unless_zero-some e so_far.left.sorted.0.nonzero) at
       (sum_more whole_left whole_right sum (e ∷ others) fs weight so_far e.x here others fs e.weight (pos 0) split_left split_right (rw no_more lawful))
 
-module _ (es : List Edge) (x weight : ℤ) (i : ℕ) (d : Edge) (now : ℤ) (inside : i < length es) (passed : ArePassed es x weight i now) (lt : (get_or es i d).x <ℤ x) where
+module _ (es : List Edge) (x weight : ℤ) (i : ℕ) (d : Edge) (now : ℤ) (inside : i < length es)
+    (passed : ArePassed es x weight i now) (lt : (get_or es i d).x <ℤ x) where
   so_far_at : (whole_left whole_right sum fs : List Edge) → BeginFrom x fs → IsSumSoFar whole_left whole_right sum es fs weight
       → IsSumSoFar whole_left whole_right (sum ++ take i es) (get_or es i d ∷ drop (i + 1) es) fs now
   so_far_at whole_left whole_right sum fs from so_far =
-      subst (λ rest. IsSumSoFar whole_left whole_right (sum ++ take i es) rest fs now) (drop_more es i d inside) (passed.goes_on whole_left whole_right sum fs from so_far)
+      subst (λ rest. IsSumSoFar whole_left whole_right (sum ++ take i es) rest fs now) (drop_more es i d inside)
+      (passed.goes_on whole_left whole_right sum fs from so_far)
 
   pub passed_more : IsLawfulWeight (now +ℤ (get_or es i d).weight) → ArePassed es x weight (i + 1) (now +ℤ (get_or es i d).weight)
   passed_more lawful = record {
     lawful = lawful;
     goes_on = λ whole_left whole_right sum fs from so_far.
-        let more = kept_more whole_left whole_right (sum ++ take i es) (get_or es i d) (drop (i + 1) es) fs now x (so_far_at whole_left whole_right sum fs from so_far) lt from lawful in
+        let more =
+        kept_more whole_left whole_right (sum ++ take i es) (get_or es i d) (drop (i + 1) es) fs now x
+        (so_far_at whole_left whole_right sum fs from so_far) lt from lawful in
         subst (λ s. IsSumSoFar whole_left whole_right s (drop (i + 1) es) fs (now +ℤ (get_or es i d).weight))
         (append_assoc sum (take i es) (get_or es i d ∷ []) ∙ ap (λ s. sum ++ s) (sym (take_more es i d inside))) more;
   }
@@ -73,12 +74,15 @@ module _ (es : List Edge) (x weight : ℤ) (i : ℕ) (d : Edge) (now : ℤ) (ins
   pub passed_stops : (IsLawfulWeight (now +ℤ (get_or es i d).weight) → ⊥) → AreStopped es x weight
   passed_stops unlawful = record {
     stops = λ whole_left whole_right sum fs from so_far.
-        let at = kept_at_column whole_left whole_right (sum ++ take i es) (get_or es i d) (drop (i + 1) es) fs now x (so_far_at whole_left whole_right sum fs from so_far) lt from in
+        let at =
+        kept_at_column whole_left whole_right (sum ++ take i es) (get_or es i d) (drop (i + 1) es) fs now x
+        (so_far_at whole_left whole_right sum fs from so_far) lt from in
         record { x = (get_or es i d).x; unlawful = λ lawful. unlawful (subst IsLawfulWeight at lawful) };
   }
 
 pub passed_before_change : (whole_left whole_right sum es changes : List Edge) (f : Edge) (fs : List Edge) (weight : ℤ) (count : ℕ) (now : ℤ) → changes ≡ f ∷ fs
-    → IsSumSoFar whole_left whole_right sum es changes weight → ArePassed es f.x weight count now → IsSumSoFar whole_left whole_right (sum ++ take count es) (drop count es) (f ∷ fs) now
+    → IsSumSoFar whole_left whole_right sum es changes weight → ArePassed es f.x weight count now
+    → IsSumSoFar whole_left whole_right (sum ++ take count es) (drop count es) (f ∷ fs) now
 passed_before_change whole_left whole_right sum es changes f fs weight count now is so_far passed =
     passed.goes_on whole_left whole_right sum (f ∷ fs) (omega (arith, ints)) (subst (λ fs. IsSumSoFar whole_left whole_right sum es fs weight) is so_far)
 
@@ -109,7 +113,8 @@ module _ (v w : ℤ) (left : IsDifference v) (right : IsDifference w) where
     pub total_is : to_z w32 (of_z w32 (weight +ℤ (v +ℤ w))) ≡ weight +ℤ (v +ℤ w)
     total_is = omega (arith, ints, left.least, left.greatest, right.least, right.greatest, lawful.least, lawful.greatest)
 
-module _ (whole_left whole_right sum es : List Edge) (f : Edge) (fs : List Edge) (weight : ℤ) (so_far : IsSumSoFar whole_left whole_right sum es (f ∷ fs) weight) (from : BeginFrom f.x es) where
+module _ (whole_left whole_right sum es : List Edge) (f : Edge) (fs : List Edge) (weight : ℤ)
+    (so_far : IsSumSoFar whole_left whole_right sum es (f ∷ fs) weight) (from : BeginFrom f.x es) where
   change_first : IsFirstColumn es (f ∷ fs) f.x
   change_first = record { left = from; right = omega (arith, ints); reached = inr refl }
 
@@ -123,12 +128,14 @@ module _ (whole_left whole_right sum es : List Edge) (f : Edge) (fs : List Edge)
     pub change_at_column : weight_in_both whole_left whole_right f.x ≡ weight +ℤ (v +ℤ f.weight)
     change_at_column = sum_at_column whole_left whole_right sum es (f ∷ fs) weight so_far f.x change_first others fs v f.weight split change_split
 
-    pub change_more : IsLawfulWeight (weight +ℤ (v +ℤ f.weight)) → IsSumSoFar whole_left whole_right (sum ++ unless_zero (record { x = f.x; weight = v +ℤ f.weight })) others fs (weight +ℤ (v +ℤ f.weight))
+    pub change_more : IsLawfulWeight (weight +ℤ (v +ℤ f.weight))
+        → IsSumSoFar whole_left whole_right (sum ++ unless_zero (record { x = f.x; weight = v +ℤ f.weight })) others fs (weight +ℤ (v +ℤ f.weight))
     change_more = sum_more whole_left whole_right sum es (f ∷ fs) weight so_far f.x change_first others fs v f.weight split change_split
 
 -- ---- the complete sum
 
-module _ (whole_left whole_right sum es : List Edge) (weight : ℤ) (left : AreEdges whole_left) (right : AreChanges whole_right) (so_far : IsSumSoFar whole_left whole_right sum es [] weight) where
+module _ (whole_left whole_right sum es : List Edge) (weight : ℤ) (left : AreEdges whole_left)
+    (right : AreChanges whole_right) (so_far : IsSumSoFar whole_left whole_right sum es [] weight) where
   weight_at_end : (x : ℤ) → weight_in (sum ++ es) x ≡ weight_in_both whole_left whole_right x
   unfolding weight_in_both weight_in
   weight_at_end x = let all = so_far.weights x in let both = weight_in-append sum es x in omega (arith, ints)
@@ -152,7 +159,7 @@ module _ (whole_left whole_right sum es : List Edge) (weight : ℤ) (left : AreE
   pub sum_all : AreEdges (sum ++ es)
   unfolding weight_in_both
   sum_all = record {
-    sorted = edges_from-append (negsuc 4094) so_far.low sum es so_far.reach so_far.edges.sorted so_far.before so_far.left.sorted;
+    sorted = edges_from-append least_coordinate so_far.low sum es so_far.reach so_far.edges.sorted so_far.before so_far.left.sorted;
     lawful = λ x. by_lt_z x so_far.low (lawful_before x) (lawful_behind x);
-    closed = let all = weight_at_end (pos 4095) in omega (arith, ints, left.closed, right.closed);
+    closed = let all = weight_at_end greatest_coordinate in omega (arith, ints, left.closed, right.closed);
   }

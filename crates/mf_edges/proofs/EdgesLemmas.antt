@@ -1,9 +1,10 @@
 -- The weights of edges.
-use Rattle.std.proofs.Common.{◌≡◌, ℤ, pos, negsuc, ◌+ℤ◌, ◌≤ℤ◌, ◌<ℤ◌, int_le, true, false, List, [], ◌∷◌, ◌++◌, refl, sym, ap, ◌∙◌, arith}
+use Rattle.std.proofs.Common.{◌≡◌, ℤ, pos, ◌+ℤ◌, ◌≤ℤ◌, ◌<ℤ◌, int_le, true, false, List, [], ◌∷◌, ◌++◌, refl, sym, ap, ◌∙◌, arith}
 use Rattle.std.specs.List.{All}
 use Rattle.std.proofs.lemmas.Bool.{cond-true, cond-false}
 use Rattle.std.proofs.lemmas.Int.{ints, by_lt_z}
 use Rattle.std.proofs.lemmas.List.Elements.{All-head, All-tail}
+use Rattle.mf_geom.specs.Coordinates.{least_coordinate, greatest_coordinate, last_in_field}
 use Rattle.mf_edges.specs.declared.edge.Edge.{Edge}
 use Rattle.mf_edges.specs.Edges.{weight_in, AreEdgesFrom, AreEdges}
 
@@ -36,31 +37,32 @@ weight_in-before low (e ∷ es) x edges before =
     weight_in-right e es x (omega (arith, ints)) ∙ weight_in-before (e.x +ℤ pos 1) es x edges.2 (omega (arith, ints))
 
 -- to the right of the field the weight is that of column 4095
-pub weight_in-behind : (low : ℤ) (es : List Edge) (x : ℤ) → AreEdgesFrom low es → pos 4095 ≤ℤ x → weight_in es x ≡ weight_in es (pos 4095)
+pub weight_in-behind : (low : ℤ) (es : List Edge) (x : ℤ) → AreEdgesFrom low es → greatest_coordinate ≤ℤ x → weight_in es x ≡ weight_in es greatest_coordinate
 unfolding weight_in
 weight_in-behind low [] x edges behind = refl
 weight_in-behind low (e ∷ es) x edges behind =
     let last = edges.0.right in
     weight_in-left e es x (omega (arith, ints))
     ∙ ap (λ w. e.weight +ℤ w) (weight_in-behind (e.x +ℤ pos 1) es x edges.2 behind)
-    ∙ sym (weight_in-left e es (pos 4095) last)
+    ∙ sym (weight_in-left e es greatest_coordinate last)
 
 pub edges_from-lower : (low high : ℤ) (es : List Edge) → low ≤ℤ high → AreEdgesFrom high es → AreEdgesFrom low es
 edges_from-lower low high [] le edges = tt
 edges_from-lower low high (e ∷ es) le edges = let start : high ≤ℤ e.x = edges.1 in (edges.0, omega (arith, ints), edges.2)
 
 -- edges may follow others that end before a column
-pub edges_from-append : (low middle : ℤ) (es fs : List Edge) → low ≤ℤ middle → AreEdgesFrom low es → All (λ e. e.x <ℤ middle) es → AreEdgesFrom middle fs → AreEdgesFrom low (es ++ fs)
+pub edges_from-append : (low middle : ℤ) (es fs : List Edge) → low ≤ℤ middle → AreEdgesFrom low es
+    → All (λ e. e.x <ℤ middle) es → AreEdgesFrom middle fs → AreEdgesFrom low (es ++ fs)
 edges_from-append low middle [] fs le front before back = edges_from-lower low middle fs le back
 edges_from-append low middle (e ∷ es) fs le front before back =
     let lower : e.x <ℤ middle = All-head (λ e. e.x <ℤ middle) e es before in
     (front.0, front.1, edges_from-append (e.x +ℤ pos 1) middle es fs (omega (arith, ints)) front.2 (All-tail (λ e. e.x <ℤ middle) e es before) back)
 
 -- outside the columns of the field a row has weight 0
-pub weight_in-outside : (es : List Edge) (x : ℤ) → AreEdges es → (negsuc 4094 ≤ℤ x → x ≤ℤ pos 4094 → ⊥) → weight_in es x ≡ pos 0
+pub weight_in-outside : (es : List Edge) (x : ℤ) → AreEdges es → (least_coordinate ≤ℤ x → x ≤ℤ last_in_field → ⊥) → weight_in es x ≡ pos 0
 weight_in-outside es x edges outside =
-    by_lt_z x (negsuc 4094)
-    (λ left. weight_in-before (negsuc 4094) es x edges.sorted left)
-    (λ no_left. by_lt_z (pos 4094) x
-    (λ right. weight_in-behind (negsuc 4094) es x edges.sorted (omega (arith, ints)) ∙ edges.closed)
+    by_lt_z x least_coordinate
+    (λ left. weight_in-before least_coordinate es x edges.sorted left)
+    (λ no_left. by_lt_z last_in_field x
+    (λ right. weight_in-behind least_coordinate es x edges.sorted (omega (arith, ints)) ∙ edges.closed)
     (λ no_right. absurd (outside no_left no_right)))

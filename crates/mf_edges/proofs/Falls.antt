@@ -11,7 +11,8 @@ Falls f [] = Unit {0}
 Falls f (x ∷ xs) = All (λ y. f y <ℤ f x) xs × Falls f xs
 
 -- a test that each greater height passes, too, is passed by the first elements of such a list
-pub IsPartitionedBy-falls : {X : Type 0} (f : X → ℤ) (p : X → Bool) → ((a b : X) → f a ≤ℤ f b → p a ≡ true → p b ≡ true) → (xs : List X) → Falls f xs → IsPartitionedBy p xs
+pub IsPartitionedBy-falls : {X : Type 0} (f : X → ℤ) (p : X → Bool) → ((a b : X) → f a ≤ℤ f b → p a ≡ true → p b ≡ true)
+    → (xs : List X) → Falls f xs → IsPartitionedBy p xs
 IsPartitionedBy-falls f p up [] falls i j d le lt e = absurd (omega arith)
 IsPartitionedBy-falls f p up (x ∷ xs) falls zero zero d le lt e = e
 IsPartitionedBy-falls f p up (x ∷ xs) falls zero (suc j) d le lt e =

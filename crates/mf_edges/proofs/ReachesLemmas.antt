@@ -1,24 +1,15 @@
 -- The reach of a row, edge by edge.
-use Rattle.std.proofs.Common.{◌≡◌, ◌<◌, ◌≤◌, ◌+◌, cond, nat_abs, Bool, true, false, ℕ, zero, suc, ℤ, get_or, take, drop, length, int_le, int_lt, T, Fits, w16, FitsSigned, to_z, of_z, w32, neg_ℤ, pos, negsuc, ◌+ℤ◌, ◌≤ℤ◌, ◌<ℤ◌, List, [], ◌∷◌, ◌++◌, refl, sym, ap, subst, ◌∙◌, append-nil, append_assoc, arith}
-use Rattle.std.specs.List.{All, AllWithin}
-use Rattle.std.specs.List.Sorted.{IsPartitionedBy}
+use Rattle.std.proofs.Common.{◌≡◌, ◌<◌, ◌+◌, cond, nat_abs, Bool, true, false, ℕ, ℤ, get_or, drop, length, FitsSigned, to_z, of_z, w32, neg_ℤ, pos, negsuc, ◌+ℤ◌, ◌≤ℤ◌, ◌<ℤ◌, List, [], ◌∷◌, refl, sym, ap, subst, ◌∙◌, arith}
 use Rattle.std.specs.Ordering.{int_cmp, is_lt, ord_max}
 use Rattle.std.proofs.lemmas.Cmp.{by_ranked, int_ranked}
 use Rattle.std.proofs.lemmas.Int.{ints, by_lt_z}
 use Rattle.std.proofs.lemmas.List.{drop_more}
-use Rattle.std.proofs.lemmas.List.Elements.{All-nil, All-cons, All-head, All-tail, All-weaker}
-use lib.Signed.{non_neg}
+use Rattle.mf_geom.specs.Coordinates.{least_coordinate}
 use Rattle.mf_edges.specs.declared.edge.Edge.{Edge}
-use Rattle.mf_edges.specs.LawfulWeights.{IsLawfulWeight}
+use Rattle.mf_edges.specs.LawfulWeights.{least_weight, greatest_weight}
 use Rattle.mf_edges.specs.Edges.{weight_in, AreEdgesFrom, AreEdges}
-use Rattle.mf_edges.specs.Merging.{AreEdgesLeft, BeginFrom, IsDifference, IsSplitAt, unless_zero}
-use Rattle.mf_edges.specs.Reaches.{AddInReach, IsAttained, StaysInReach}
-use Rattle.mf_edges.specs.Sums.{HaveWeights, weight_in_both}
-use Rattle.mf_edges.specs.SumsSoFar.{IsSumSoFar}
-use Rattle.mf_edges.proofs.Falls.{Falls, IsPartitionedBy-falls, All-take_within, All-drop_within}
-use Rattle.mf_edges.proofs.EdgesLemmas.{weight_in-left, weight_in-right, weight_in-before, edges_from-lower}
-use Rattle.mf_edges.proofs.EdgeSums.{changes_of_edges, sum_none}
-use Rattle.mf_edges.proofs.EdgesJoined.{kept_at_column, kept_more, left_of_change, change_at_column, change_more}
+use Rattle.mf_edges.specs.Reaches.{IsAttained, StaysInReach}
+use Rattle.mf_edges.proofs.EdgesLemmas.{weight_in-left, weight_in-right, weight_in-before}
 
 -- a weight does not exceed a reach in absolute value
 pub record IsInReach (reach w : ℤ) : Type 0 where
@@ -34,19 +25,23 @@ pub record IsReachBefore (es rest : List Edge) (w reach : ℤ) : Type 0 where
   pub before : (x : ℤ) → x <ℤ low → IsInReach reach (weight_in es x)
   pub behind : (x : ℤ) → low ≤ℤ x → weight_in es x ≡ w +ℤ weight_in rest x
   pub now : IsInReach reach w
-  pub most : reach ≤ℤ pos 32767
+  pub most : reach ≤ℤ greatest_weight
 
 pub reach_none : (es : List Edge) → AreEdges es → IsReachBefore es es (pos 0) (pos 0)
 reach_none es edges = record {
-  low = negsuc 4094;
+  low = least_coordinate;
   sorted = edges.sorted;
-  before = λ x left. let none = weight_in-before (negsuc 4094) es x edges.sorted left in record { least = omega (arith, ints); greatest = omega (arith, ints) };
+  before = λ x left. let none = weight_in-before least_coordinate es x edges.sorted left in record {
+    least = omega (arith, ints);
+    greatest = omega (arith, ints);
+  };
   behind = λ x right. omega (arith, ints);
   now = record { least = omega (arith, ints); greatest = omega (arith, ints) };
   most = omega (arith, ints);
 }
 
-pub reach_read : (es : List Edge) (i : ℕ) (d : Edge) (w reach : ℤ) → i < length es → IsReachBefore es (drop i es) w reach → IsReachBefore es (get_or es i d ∷ drop (i + 1) es) w reach
+pub reach_read : (es : List Edge) (i : ℕ) (d : Edge) (w reach : ℤ) → i < length es
+    → IsReachBefore es (drop i es) w reach → IsReachBefore es (get_or es i d ∷ drop (i + 1) es) w reach
 reach_read es i d w reach inside before = subst (λ rest. IsReachBefore es rest w reach) (drop_more es i d inside) before
 
 -- to the left of its first edge the rest of a row adds nothing
@@ -70,10 +65,10 @@ weight_behind es e rest w reach so_far =
 
 -- the weight before an edge and the weight after it are lawful
 pub record IsNextWeight (w change : ℤ) : Type 0 where
-  pub least : negsuc 32766 ≤ℤ w
-  pub greatest : w ≤ℤ pos 32767
-  pub next_least : negsuc 32766 ≤ℤ (w +ℤ change)
-  pub next_greatest : (w +ℤ change) ≤ℤ pos 32767
+  pub least : least_weight ≤ℤ w
+  pub greatest : w ≤ℤ greatest_weight
+  pub next_least : least_weight ≤ℤ (w +ℤ change)
+  pub next_greatest : (w +ℤ change) ≤ℤ greatest_weight
 
 pub next_weight : (es : List Edge) (e : Edge) (rest : List Edge) (w reach : ℤ) → AreEdges es → IsReachBefore es (e ∷ rest) w reach → IsNextWeight w e.weight
 next_weight es e rest w reach edges so_far =
@@ -118,7 +113,7 @@ negated_fits w change next =
 pub record IsSizeOf (w size : ℤ) : Type 0 where
   pub least : pos 0 ≤ℤ (w +ℤ size)
   pub greatest : w ≤ℤ size
-  pub most : size ≤ℤ pos 32767
+  pub most : size ≤ℤ greatest_weight
 
 pub size_is : (w change size : ℤ) → IsNextWeight w change → size ≡ pos (nat_abs (w +ℤ change)) → IsSizeOf (w +ℤ change) size
 size_is w change size next is =
@@ -153,7 +148,8 @@ ord_max_is a b most below_a below_b =
     let is : ord_max int_cmp a b ≡ b = ap (λ o. cond (is_lt o) a b) greater in
     record { left = omega (arith, ints, over); right = omega (arith, ints); most = omega (arith, ints) })
 
-pub reach_more : (es : List Edge) (e : Edge) (rest : List Edge) (w reach more : ℤ) → IsReachBefore es (e ∷ rest) w reach → reach ≤ℤ more → pos 0 ≤ℤ ((w +ℤ e.weight) +ℤ more) → (w +ℤ e.weight) ≤ℤ more → more ≤ℤ pos 32767 → IsReachBefore es rest (w +ℤ e.weight) more
+pub reach_more : (es : List Edge) (e : Edge) (rest : List Edge) (w reach more : ℤ) → IsReachBefore es (e ∷ rest) w reach
+    → reach ≤ℤ more → pos 0 ≤ℤ ((w +ℤ e.weight) +ℤ more) → (w +ℤ e.weight) ≤ℤ more → more ≤ℤ greatest_weight → IsReachBefore es rest (w +ℤ e.weight) more
 reach_more es e rest w reach more so_far wider least greatest most = record {
   low = e.x +ℤ pos 1;
   sorted = so_far.sorted.2;
@@ -179,15 +175,17 @@ reach_more es e rest w reach more so_far wider least greatest most = record {
 }
 
 -- the greater of a reach and the absolute value of the next weight is the next reach
-pub reach_grows : (es : List Edge) (e : Edge) (rest : List Edge) (w reach size next : ℤ) → AreEdges es → IsReachBefore es (e ∷ rest) w reach → size ≡ pos (nat_abs (w +ℤ e.weight)) → next ≡ ord_max int_cmp reach size → IsReachBefore es rest (w +ℤ e.weight) next × (to_z w32 (of_z w32 next) ≡ next)
+pub reach_grows : (es : List Edge) (e : Edge) (rest : List Edge) (w reach size next : ℤ) → AreEdges es
+    → IsReachBefore es (e ∷ rest) w reach → size ≡ pos (nat_abs (w +ℤ e.weight)) → next ≡ ord_max int_cmp reach size
+    → IsReachBefore es rest (w +ℤ e.weight) next × (to_z w32 (of_z w32 next) ≡ next)
 reach_grows es e rest w reach size next edges so_far size_of next_of =
     let small = next_weight es e rest w reach edges so_far in
     let sized = size_is w e.weight size small size_of in
     let most = so_far.most in
-    let greater = ord_max_is reach size (pos 32767) most sized.most in
+    let greater = ord_max_is reach size greatest_weight most sized.most in
     let left : reach ≤ℤ next = omega (arith, ints, greater.left, next_of) in
     let right : size ≤ℤ next = omega (arith, ints, greater.right, next_of) in
-    let bound : next ≤ℤ pos 32767 = omega (arith, ints, greater.most, next_of) in
+    let bound : next ≤ℤ greatest_weight = omega (arith, ints, greater.most, next_of) in
     let least = sized.least in
     let greatest = sized.greatest in
     (reach_more es e rest w reach next so_far left (omega (arith, ints)) (omega (arith, ints)) bound, omega (arith, ints))
@@ -204,13 +202,17 @@ reach_all es w reach so_far =
 -- ---- the reach is attained
 
 pub attained_none : (es : List Edge) → AreEdges es → IsAttained (pos 0) es
-attained_none es edges = record { x = negsuc 4095; here = ap (λ w. pos (nat_abs w)) (weight_in-before (negsuc 4094) es (negsuc 4095) edges.sorted (omega (arith, ints))) }
+attained_none es edges = record {
+  x = negsuc 4095;
+  here = ap (λ w. pos (nat_abs w)) (weight_in-before least_coordinate es (negsuc 4095) edges.sorted (omega (arith, ints)));
+}
 
 one_of : (P : ℤ → Type 0) (t : Bool) (a b : ℤ) → P a → P b → P (cond t a b)
 one_of P true a b first second = first
 one_of P false a b first second = second
 
-pub attained_more : (es : List Edge) (e : Edge) (rest : List Edge) (w reach size next : ℤ) → IsReachBefore es (e ∷ rest) w reach → IsAttained reach es → size ≡ pos (nat_abs (w +ℤ e.weight)) → next ≡ ord_max int_cmp reach size → IsAttained next es
+pub attained_more : (es : List Edge) (e : Edge) (rest : List Edge) (w reach size next : ℤ)
+    → IsReachBefore es (e ∷ rest) w reach → IsAttained reach es → size ≡ pos (nat_abs (w +ℤ e.weight)) → next ≡ ord_max int_cmp reach size → IsAttained next es
 attained_more es e rest w reach size next so_far attained size_of next_of =
     let here : IsAttained size es = record { x = e.x; here = ap (λ v. pos (nat_abs v)) (weight_behind es e rest w reach so_far) ∙ sym size_of } in
     subst (λ r. IsAttained r es) (sym next_of) (one_of (λ r. IsAttained r es) (is_lt (int_cmp size reach)) reach size attained here)

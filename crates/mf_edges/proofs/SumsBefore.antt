@@ -15,7 +15,8 @@ pub record IsSumBefore (es : List Edge) (x : ℤ) (rest : List Edge) (w : ℤ) :
   pub sum : (column : ℤ) → low ≤ℤ (column +ℤ pos 1) → weight_in es column ≡ w +ℤ weight_in rest column
   pub here : weight_in es x ≡ w +ℤ weight_in rest x
 
-pub sum_before_more : (es : List Edge) (x : ℤ) (e : Edge) (rest : List Edge) (w : ℤ) → IsSumBefore es x (e ∷ rest) w → e.x ≤ℤ x → IsSumBefore es x rest (w +ℤ e.weight)
+pub sum_before_more : (es : List Edge) (x : ℤ) (e : Edge) (rest : List Edge) (w : ℤ) → IsSumBefore es x (e ∷ rest) w
+    → e.x ≤ℤ x → IsSumBefore es x rest (w +ℤ e.weight)
 sum_before_more es x e rest w before le =
     let low = before.sorted.1 in
     record {
@@ -52,5 +53,6 @@ pub sum_before_none : (es : List Edge) (x : ℤ) (w : ℤ) → IsSumBefore es x 
 unfolding weight_in
 sum_before_none es x w before = let all = before.here in omega (arith, ints)
 
-pub sum_before_read : (es : List Edge) (x : ℤ) (i : ℕ) (d : Edge) (w : ℤ) → i < length es → IsSumBefore es x (drop i es) w → IsSumBefore es x (get_or es i d ∷ drop (i + 1) es) w
+pub sum_before_read : (es : List Edge) (x : ℤ) (i : ℕ) (d : Edge) (w : ℤ) → i < length es
+    → IsSumBefore es x (drop i es) w → IsSumBefore es x (get_or es i d ∷ drop (i + 1) es) w
 sum_before_read es x i d w inside before = subst (λ rest. IsSumBefore es x rest w) (drop_more es i d inside) before

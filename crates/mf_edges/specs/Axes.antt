@@ -1,16 +1,17 @@
 -- Where reflections and stretches of an axis take its points, and where its columns, or rows, come from.
-use Rattle.std.specs.Prelude.{ℤ, pos, negsuc, neg_ℤ, ◌+ℤ◌, ◌-ℤ◌, ◌*ℤ◌, ◌≤ℤ◌}
+use Rattle.std.specs.Prelude.{ℤ, pos, neg_ℤ, ◌+ℤ◌, ◌-ℤ◌, ◌*ℤ◌, ◌≤ℤ◌}
 use Rattle.std.specs.Int.{int_div_euclid}
+use Rattle.mf_geom.specs.Coordinates.{IsCoordinate, greatest_coordinate}
 use Rattle.mf_edges.specs.declared.stretch.Stretch.{Stretch}
 
 -- the column, or row, that is the reflection of p in 0: its pixels lie between -p - 1 and -p
 abbrev pub opposite : ℤ → ℤ
 opposite p = neg_ℤ p -ℤ pos 1
 
--- a stretch has a factor in 1..4095
+-- a stretch has a factor from 1 to the greatest coordinate
 pub record IsStretch (s : Stretch) : Type 0 where
   pub least : pos 1 ≤ℤ s.factor
-  pub greatest : s.factor ≤ℤ pos 4095
+  pub greatest : s.factor ≤ℤ greatest_coordinate
 
 -- where a stretch takes the point x of an axis
 abbrev pub stretched_to : Stretch → ℤ → ℤ
@@ -20,12 +21,7 @@ stretched_to s x = (x *ℤ s.factor) +ℤ s.offset
 unfoldable pub source_of : Stretch → ℤ → ℤ
 source_of s q = int_div_euclid (q -ℤ s.offset) s.factor
 
--- a point is in -4095..4095
-pub record IsPointInReach (x : ℤ) : Type 0 where
-  pub least : negsuc 4094 ≤ℤ x
-  pub greatest : x ≤ℤ pos 4095
-
--- a stretch takes the column, or row, p to a part of the field: both ends of that stay in reach
+-- a stretch takes the column, or row, p to a part of the field: both ends of that have coordinates in range
 pub record PlaceStaysInside (s : Stretch) (p : ℤ) : Type 0 where
-  pub start : IsPointInReach (stretched_to s p)
-  pub end : IsPointInReach (stretched_to s (p +ℤ pos 1))
+  pub start : IsCoordinate (stretched_to s p)
+  pub end : IsCoordinate (stretched_to s (p +ℤ pos 1))

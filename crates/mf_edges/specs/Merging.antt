@@ -1,6 +1,7 @@
 -- What is left of the edges of two rows while their sum is made.
 use Rattle.std.specs.Prelude.{◌≡◌, ◌<◌, ◌≤◌, ℤ, pos, negsuc, ◌+ℤ◌, ◌≤ℤ◌, All, List, [], ◌∷◌, length, if◌then◌else◌}
 use Rattle.std.specs.Ordering.{int_eq}
+use Rattle.mf_geom.specs.Coordinates.{least_coordinate, greatest_coordinate}
 use Rattle.mf_edges.specs.declared.edge.Edge.{Edge}
 use Rattle.mf_edges.specs.Edges.{AreEdgesFrom, weight_in}
 use Rattle.mf_edges.specs.Sums.{HaveWeights, with_edge_in}
@@ -17,9 +18,9 @@ pub record IsDifference (w : ℤ) : Type 0 where
 
 -- the edges of changes of weights: sorted, with a sum of 0, and with differences of two lawful weights between them
 pub record AreChanges (es : List Edge) : Type 0 where
-  pub sorted : AreEdgesFrom (negsuc 4094) es
+  pub sorted : AreEdgesFrom least_coordinate es
   pub changes : (x : ℤ) → IsChange (weight_in es x)
-  pub closed : weight_in es (pos 4095) ≡ pos 0
+  pub closed : weight_in es greatest_coordinate ≡ pos 0
 
 -- edges that are still to be added: sorted, the first of them at or to the right of column low, each the difference of
 -- two changes

@@ -2,7 +2,7 @@
 use Rattle.std.specs.Prelude.{ℕ, List, codes}
 use Rattle.mf_edges.specs.declared.fault.AddFault.{AddFault}
 use Rattle.mf_edges.specs.declared.fault.AddFault.TheVariants.{WeightTooLarge, OutOfMemory}
-use Rattle.mf_geom.specs.Names.{memory_text}
+use Rattle.mf_base.specs.Names.{memory_text}
 
 -- the name of the refusal of a sum
 abbrev pub add_fault_text : AddFault → List ℕ

@@ -3,12 +3,13 @@ use Rattle.std.specs.Prelude.{◌≡◌, ℕ, ℤ, pos, ◌+ℤ◌, ◌≤ℤ◌
 use Rattle.std.proofs.Math.IntN.{nat_abs}
 use Rattle.std.specs.Coded.{Unit-prop}
 use Rattle.std.proofs.Props.{props}
+use Rattle.mf_edges.specs.LawfulWeights.{greatest_weight}
 use Rattle.mf_edges.specs.declared.edge.Edge.{Edge}
 use Rattle.mf_edges.specs.Edges.{weight_in}
 
 -- no weight of a row exceeds a reach in absolute value, and the reach is at most 32767
 pub record StaysInReach (reach : ℤ) (es : List Edge) : Type 0 where
-  pub most : reach ≤ℤ pos 32767
+  pub most : reach ≤ℤ greatest_weight
   pub least : (x : ℤ) → pos 0 ≤ℤ (weight_in es x +ℤ reach)
   pub greatest : (x : ℤ) → weight_in es x ≤ℤ reach
 
@@ -28,7 +29,7 @@ pub record AddInReach (es fs : List Edge) : Type 0 where
   pub right_reach : ℤ
   pub left : StaysInReach left_reach es
   pub right : StaysInReach right_reach fs
-  pub room : (left_reach +ℤ right_reach) ≤ℤ pos 32767
+  pub room : (left_reach +ℤ right_reach) ≤ℤ greatest_weight
 
 -- ---- each of these facts has at most one proof
 

@@ -1,10 +1,11 @@
 -- The edges of a row after a change that depends on that row alone.
 use Rattle.std.specs.Prelude.{ℤ, All, List}
+use Rattle.mf_geom.specs.Coordinates.{IsCoordinate}
 use Rattle.mf_edges.specs.declared.edge.Edge.{Edge}
 use Rattle.mf_edges.specs.declared.row_change.RowChange.{RowChange}
 use Rattle.mf_edges.specs.declared.row_change.RowChange.TheVariants as change
 use Rattle.mf_edges.specs.Edges.{AreEdges, weight_in}
-use Rattle.mf_edges.specs.Axes.{opposite, source_of, stretched_to, IsStretch, IsPointInReach}
+use Rattle.mf_edges.specs.Axes.{opposite, source_of, stretched_to, IsStretch}
 use Rattle.mf_edges.specs.Sums.{HaveWeights}
 use Rattle.mf_edges.specs.WeightMaps.{mapped_to, IsWeightMap}
 
@@ -24,7 +25,7 @@ IsRowChange (change.Columns s) = IsStretch s
 abbrev pub EdgesAllowChange : RowChange → List Edge → Type 0
 EdgesAllowChange (change.Weights m) es = Unit {0}
 EdgesAllowChange change.Mirror es = Unit {0}
-EdgesAllowChange (change.Columns s) es = All (λ e. IsPointInReach (stretched_to s e.x)) es
+EdgesAllowChange (change.Columns s) es = All (λ e. IsCoordinate (stretched_to s e.x)) es
 
 -- the weight at column x of a row after a change
 unfoldable pub changed_in : RowChange → List Edge → ℤ → ℤ

@@ -1,5 +1,6 @@
 -- The sum of two rows of edges while it is made.
-use Rattle.std.specs.Prelude.{◌≡◌, ℕ, ℤ, pos, negsuc, ◌+ℤ◌, ◌-ℤ◌, ◌≤ℤ◌, ◌<ℤ◌, All, List, ◌++◌, take, drop}
+use Rattle.std.specs.Prelude.{◌≡◌, ℕ, ℤ, ◌+ℤ◌, ◌-ℤ◌, ◌≤ℤ◌, ◌<ℤ◌, All, List, ◌++◌, take, drop}
+use Rattle.mf_geom.specs.Coordinates.{least_coordinate, greatest_coordinate}
 use Rattle.mf_edges.specs.declared.edge.Edge.{Edge}
 use Rattle.mf_edges.specs.LawfulWeights.{IsLawfulWeight}
 use Rattle.mf_edges.specs.Edges.{AreOpenEdges, weight_in}
@@ -11,7 +12,7 @@ use Rattle.mf_edges.specs.Sums.{IsUnlawfulColumn, weight_in_both}
 -- everywhere
 pub record IsSumSoFar (whole_left whole_right sum es fs : List Edge) (weight : ℤ) : Type 0 where
   pub low : ℤ
-  pub reach : negsuc 4094 ≤ℤ low
+  pub reach : least_coordinate ≤ℤ low
   pub edges : AreOpenEdges sum
   pub before : All (λ e. e.x <ℤ low) sum
   pub left : AreEdgesLeft low es
@@ -19,7 +20,7 @@ pub record IsSumSoFar (whole_left whole_right sum es fs : List Edge) (weight : �
   pub running : (x : ℤ) → low ≤ℤ x → weight_in sum x ≡ weight
   pub lawful : IsLawfulWeight weight
   pub weights : (x : ℤ) → weight_in sum x +ℤ weight_in_both es fs x ≡ weight_in_both whole_left whole_right x
-  pub later : (x : ℤ) → low ≤ℤ x → weight_in whole_right x -ℤ weight_in fs x ≡ weight_in whole_right (pos 4095) -ℤ weight_in fs (pos 4095)
+  pub later : (x : ℤ) → low ≤ℤ x → weight_in whole_right x -ℤ weight_in fs x ≡ weight_in whole_right greatest_coordinate -ℤ weight_in fs greatest_coordinate
 
 -- the first `count` edges of a row join a sum as they are, before the next change, which is at or to the right of
 -- column x

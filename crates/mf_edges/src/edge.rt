@@ -1,14 +1,15 @@
 //! The edges of a row, and the weights between them.
-ghost use Rattle.std.specs.Prelude.{◌≡◌, ◌≢◌, ◌<◌, ◌≤◌, ◌+◌, ◌/◌, ◌++◌, All, IsOk, OnOk, OnErr, pos, negsuc, ◌≤ℤ◌};
+ghost use Rattle.std.specs.Prelude.{◌≡◌, ◌≢◌, ◌<◌, ◌≤◌, ◌+◌, ◌/◌, ◌++◌, All, IsOk, OnOk, OnErr, pos, ◌≤ℤ◌};
 ghost use Rattle.std.specs.List.{HoldsAt};
 ghost use Rattle.std.specs.Vec.{vec_len, vec_capacity};
+ghost use Rattle.mf_geom.specs.Coordinates.{least_coordinate, greatest_coordinate};
 ghost use Rattle.mf_edges.specs.LawfulWeights.{IsLawfulWeight};
 ghost use Rattle.mf_edges.specs.Edges.{AreEdges, AreEdgesFrom, AreOpenEdges, weight_in};
 ghost use Rattle.mf_edges.specs.Merging.{unless_zero};
 ghost use Rattle.mf_edges.specs.Reaches.{IsAttained, StaysInReach};
 ghost use Rattle.mf_edges.specs.Sums.{HaveWeights, with_edge_in};
 
-use mf_geom::OutOfMemory;
+use mf_base::OutOfMemory;
 
 /// An edge of a row: the weights of the row's pixels at and to the right of its column are greater by its weight
 /// (mf.web, "edge structures").
@@ -61,10 +62,10 @@ pub fn reach_of(edges: &[Edge]) -> i32
 /// next call requires that they do not.
 pub fn add_edge(edges: &mut Vec<Edge>, x: i32, weight: i32) -> Result<(), OutOfMemory>
     requires edges { AreOpenEdges edges.old.items }
-    requires left { negsuc 4094 ≤ℤ x }
-    requires right { x ≤ℤ pos 4095 }
+    requires left { least_coordinate ≤ℤ x }
+    requires right { x ≤ℤ greatest_coordinate }
     requires weight { IsLawfulWeight weight }
-    ensures sorted { AreEdgesFrom (negsuc 4094) edges.new.items }
+    ensures sorted { AreEdgesFrom least_coordinate edges.new.items }
     ensures weights { OnOk result (HaveWeights (with_edge_in edges.old.items x weight) edges.new.items) }
     ensures unchanged { OnErr result (edges.new.items ≡ edges.old.items) }
     ensures succeeds { vec_len edges.old < vec_capacity edges.old → IsOk result }
@@ -89,7 +90,7 @@ fn change_edge(edges: &mut Vec<Edge>, at: usize, weight: i32)
     requires edges { AreOpenEdges edges.old.items }
     requires weight { IsLawfulWeight weight }
     requires in_range { at < vec_len edges.old }
-    ensures sorted { AreEdgesFrom (negsuc 4094) edges.new.items }
+    ensures sorted { AreEdgesFrom least_coordinate edges.new.items }
     ensures weights { HoldsAt (λ edge. HaveWeights (with_edge_in edges.old.items edge.x weight) edges.new.items) edges.old.items at }
     ensures capacity { vec_capacity edges.new ≡ vec_capacity edges.old }
     ensures len { vec_len edges.new ≤ vec_len edges.old }

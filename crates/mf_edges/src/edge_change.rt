@@ -1,7 +1,8 @@
 //! The edges of a row after its weights are mapped, or its columns reflected or stretched.
-ghost use Rattle.std.specs.Prelude.{◌≡◌, IfOk, All};
+ghost use Rattle.std.specs.Prelude.{IfOk, All};
+ghost use Rattle.mf_geom.specs.Coordinates.{IsCoordinate};
 ghost use Rattle.mf_edges.specs.Edges.{AreEdges};
-ghost use Rattle.mf_edges.specs.Axes.{IsStretch, IsPointInReach, stretched_to};
+ghost use Rattle.mf_edges.specs.Axes.{IsStretch, stretched_to};
 ghost use Rattle.mf_edges.specs.RowChanges.{AreChanged};
 ghost use Rattle.mf_edges.specs.WeightMaps.{IsWeightMap};
 ghost use Rattle.mf_edges.specs.declared.row_change.RowChange.TheVariants.{Weights, Mirror, Columns};
@@ -9,7 +10,7 @@ ghost use Rattle.mf_edges.specs.declared.row_change.RowChange.TheVariants.{Weigh
 use crate::edge::{Edge, give_back_room, push_unless_zero};
 use crate::stretch::Stretch;
 use crate::weight_map::WeightMap;
-use mf_geom::OutOfMemory;
+use mf_base::OutOfMemory;
 use std::alloc::Global;
 
 /// The edges of a row after each of its weights is mapped.
@@ -66,7 +67,7 @@ pub(crate) fn stretched_edges(
 ) -> Result<Vec<Edge>, OutOfMemory>
     requires edges { AreEdges edges.now }
     requires stretch { IsStretch stretch.now }
-    requires allowed { All (λ edge. IsPointInReach (stretched_to stretch.now edge.x)) edges.now }
+    requires allowed { All (λ edge. IsCoordinate (stretched_to stretch.now edge.x)) edges.now }
     ensures { IfOk result (λ stretched. AreChanged (Columns stretch.now) edges.now stretched.items) }
 {
     let mut stretched = Vec::new(alloc);

@@ -1,5 +1,6 @@
 //! The sum of two rows of edges.
-ghost use Rattle.std.specs.Prelude.{◌≡◌, ◌≢◌, ◌≤◌, negsuc, ◌<ℤ◌, IfOk, IfErr, All, drop, length, take};
+ghost use Rattle.std.specs.Prelude.{◌≡◌, ◌≢◌, ◌≤◌, ◌<ℤ◌, IfOk, IfErr, All, drop, length, take};
+ghost use Rattle.mf_geom.specs.Coordinates.{least_coordinate};
 ghost use Rattle.mf_edges.specs.LawfulWeights.{IsLawfulWeight};
 ghost use Rattle.mf_edges.specs.Edges.{AreEdges, AreEdgesFrom};
 ghost use Rattle.mf_edges.specs.Merging.{AreChanges, AreEdgesLeft, BeginFrom, IsDifference, IsSplitAt};
@@ -10,7 +11,7 @@ ghost use Rattle.mf_edges.specs.Sums.{weight_in_both, HaveWeights, IsUnlawfulCol
 use crate::edge::{Edge, give_back_room, push_unless_zero};
 use crate::fault::AddFault;
 use crate::field::is_lawful_weight;
-use mf_geom::OutOfMemory;
+use mf_base::OutOfMemory;
 use std::alloc::Global;
 
 /// The edges of the sum of a row and of what is added to it. The edges of the row up to the next change are copied at
@@ -87,7 +88,7 @@ pub fn with_changes(alloc: Global, left: &[Edge], right: &[Edge]) -> Result<Vec<
 
 /// The number of edges to the left of column x, which are the first ones.
 fn count_left_of(edges: &[Edge], x: i32) -> usize
-    requires { AreEdgesFrom (negsuc 4094) edges.now }
+    requires { AreEdgesFrom least_coordinate edges.now }
     ensures within { result ≤ length edges.now }
     ensures left { All (λ edge. edge.x <ℤ x) (take result edges.now) }
     ensures others { BeginFrom x (drop result edges.now) }

@@ -1,6 +1,6 @@
 //! Why weights cannot be added.
 
-use mf_geom::OutOfMemory;
+use mf_base::OutOfMemory;
 use std::alloc::{AllocError, AllocFailed};
 use std::error::Error;
 use std::fmt;

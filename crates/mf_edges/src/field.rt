@@ -2,11 +2,13 @@
 ghost use Rattle.std.specs.Prelude.{◌↔◌, IsTrue};
 ghost use Rattle.mf_edges.specs.LawfulWeights.{IsLawfulWeight};
 
-/// The first column and the lowest row of the field, in pixels (mf.web bounds coordinates by 4095).
-pub const FIELD_START: i32 = -4095;
+use mf_geom::MAX_COORDINATE;
+
+/// The first column and the lowest row of the field, in pixels.
+pub const FIELD_START: i32 = -MAX_COORDINATE;
 
 /// One past the last column and the highest row of the field, in pixels.
-pub const FIELD_END: i32 = 4095;
+pub const FIELD_END: i32 = MAX_COORDINATE;
 
 /// The greatest absolute value of a pixel's weight. This limit is the project's own: METAFONT has none.
 pub const MAX_WEIGHT: i32 = 32767;

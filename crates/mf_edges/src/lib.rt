@@ -14,7 +14,6 @@ pub use edge::{Edge, add_edge, give_back_room, push_unless_zero, reach_of, weigh
 pub use edge_sum::{sum_of_edges, with_changes};
 pub use fault::AddFault;
 pub use field::{FIELD_END, FIELD_START, MAX_WEIGHT, is_lawful_weight};
-pub use mf_geom::OutOfMemory;
 pub use row_change::{RowChange, changed_edges};
 pub use stretch::Stretch;
 pub use weight_map::{Choice, WeightMap};

@@ -7,7 +7,7 @@ use crate::edge::Edge;
 use crate::edge_change::{mapped_edges, mirrored_edges, stretched_edges};
 use crate::stretch::Stretch;
 use crate::weight_map::WeightMap;
-use mf_geom::OutOfMemory;
+use mf_base::OutOfMemory;
 use std::alloc::Global;
 
 /// A change of each row of a picture, which depends on that row alone.

@@ -43,10 +43,12 @@ positive_from_dark : (w : ℤ) → is_dark (shade_of w) ≡ true → pos 0 <ℤ 
 positive_from_dark w =
     by_lt_z (pos 0) w
     (λ positive dark. positive)
-    (λ least. cond_both (int_eq w (pos 0)) Blank (if int_lt w (pos 0) then Negative else (if int_eq w (pos 1) then One else (if int_eq w (pos 2) then Two else More)))
+    (λ least. cond_both (int_eq w (pos 0)) Blank
+    (if int_lt w (pos 0) then Negative else (if int_eq w (pos 1) then One else (if int_eq w (pos 2) then Two else More)))
     (λ s. is_dark s ≡ true → pos 0 <ℤ w)
     (λ zero dark. absurd (false≢true dark))
-    (λ nonzero. cond_both (int_lt w (pos 0)) Negative (if int_eq w (pos 1) then One else (if int_eq w (pos 2) then Two else More)) (λ s. is_dark s ≡ true → pos 0 <ℤ w)
+    (λ nonzero. cond_both (int_lt w (pos 0)) Negative (if int_eq w (pos 1) then One else (if int_eq w (pos 2) then Two else More))
+    (λ s. is_dark s ≡ true → pos 0 <ℤ w)
     (λ negative dark. absurd (false≢true dark))
     (λ most dark. absurd (false≢true (sym nonzero ∙ (Decides-int_eq w (pos 0)).1 (omega (arith, ints, most)))))))
 

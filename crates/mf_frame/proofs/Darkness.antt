@@ -80,8 +80,10 @@ darker-assoc a b c =
     let inner_left = darker-above a b in
     let outer_right = darker-above a right in
     let inner_right = darker-above b c in
-    let x_below : x ≤ y = darker-below left c y (darker-below a b y outer_right.0 (omega (arith, inner_right.0, outer_right.1))) (omega (arith, inner_right.1, outer_right.1)) in
-    let y_below : y ≤ x = darker-below a right x (omega (arith, inner_left.0, outer_left.0)) (darker-below b c x (omega (arith, inner_left.1, outer_left.0)) outer_left.1) in
+    let x_below : x ≤ y =
+    darker-below left c y (darker-below a b y outer_right.0 (omega (arith, inner_right.0, outer_right.1))) (omega (arith, inner_right.1, outer_right.1)) in
+    let y_below : y ≤ x =
+    darker-below a right x (omega (arith, inner_left.0, outer_left.0)) (darker-below b c x (omega (arith, inner_left.1, outer_left.0)) outer_left.1) in
     same_depth _ _ (omega (arith, x_below, y_below))
 
 -- ---- the shade of a cell
@@ -101,7 +103,8 @@ pub shade-here : (s : ℤ) (d : Dot) (ds : List Dot) (i j : ℤ) → IsInCell s 
 unfolding cell_shade
 shade-here s d ds i j here =
     cond-true _ (darker (shade_of d.weight) (cell_shade s ds i j)) (cell_shade s ds i j)
-    (and_from (int_eq (cell_of s d.x) i) (int_eq (cell_of s d.y) j) ((Decides-int_eq (cell_of s d.x) i).1 here.column) ((Decides-int_eq (cell_of s d.y) j).1 here.row))
+    (and_from (int_eq (cell_of s d.x) i) (int_eq (cell_of s d.y) j) ((Decides-int_eq (cell_of s d.x) i).1 here.column)
+    ((Decides-int_eq (cell_of s d.y) j).1 here.row))
 
 pub shade-elsewhere : (s : ℤ) (d : Dot) (ds : List Dot) (i j : ℤ) → (IsInCell s d.x d.y i j → ⊥) → cell_shade s (d ∷ ds) i j ≡ cell_shade s ds i j
 unfolding cell_shade
@@ -131,7 +134,8 @@ unfolding cell_shade
 shade-append s [] es i j = sym (blank-darker (cell_shade s es i j))
 shade-append s (d ∷ ds) es i j =
     let others = shade-append s ds es i j in
-    cond_same (int_eq (cell_of s d.x) i && int_eq (cell_of s d.y) j) (shade_of d.weight) (cell_shade s (ds ++ es) i j) (cell_shade s ds i j) (cell_shade s es i j) others
+    cond_same (int_eq (cell_of s d.x) i && int_eq (cell_of s d.y) j) (shade_of d.weight) (cell_shade s (ds ++ es) i j)
+    (cell_shade s ds i j) (cell_shade s es i j) others
 
 -- ---- the cells of a stretch of dots
 

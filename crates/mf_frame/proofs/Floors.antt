@@ -2,6 +2,7 @@
 use Rattle.std.proofs.Common.{◌≡◌, ◌+◌, ◌*◌, ◌≤◌, mul-le-mul_right, ℤ, pos, negsuc, ◌+ℤ◌, ◌*ℤ◌, ◌≤ℤ◌, ◌<ℤ◌, arith}
 use Rattle.std.specs.Int.{int_div_euclid}
 use Rattle.std.proofs.lemmas.Int.{ints, by_lt_z}
+use Rattle.mf_geom.specs.Coordinates.{least_coordinate, greatest_coordinate, last_in_field}
 use Rattle.mf_geom.proofs.Products.{mul-add}
 use Rattle.mf_frame.specs.Cells.{cell_of}
 use Rattle.mf_frame.specs.Windows.{line_of}
@@ -64,24 +65,27 @@ cell-next s p positive =
 
 -- a cell is no further from the axis than its pixels
 pub record IsCellInField (c : ℤ) : Type 0 where
-  pub least : negsuc 4094 ≤ℤ c
-  pub greatest : c ≤ℤ pos 4094
+  pub least : least_coordinate ≤ℤ c
+  pub greatest : c ≤ℤ last_in_field
 
-field_product : (s : ℤ) → pos 1 ≤ℤ s → ((negsuc 4094 *ℤ s) ≤ℤ negsuc 4094) × (pos 4094 ≤ℤ (pos 4094 *ℤ s))
+field_product : (s : ℤ) → pos 1 ≤ℤ s → ((least_coordinate *ℤ s) ≤ℤ least_coordinate) × (last_in_field ≤ℤ (last_in_field *ℤ s))
 field_product s positive = (omega (arith, ints), omega (arith, ints))
 
-pub cell_in_field : (s p : ℤ) → pos 1 ≤ℤ s → negsuc 4094 ≤ℤ p → p ≤ℤ pos 4094 → IsCellInField (cell_of s p)
+pub cell_in_field : (s p : ℤ) → pos 1 ≤ℤ s → least_coordinate ≤ℤ p → p ≤ℤ last_in_field → IsCellInField (cell_of s p)
 cell_in_field s p positive least greatest =
     let products = field_product s positive in
     record {
-      least = cell-from s (negsuc 4094) p positive (omega (arith, ints, products.0));
-      greatest = cell-to s (pos 4094) p positive (omega (arith, ints, products.1));
+      least = cell-from s least_coordinate p positive (omega (arith, ints, products.0));
+      greatest = cell-to s last_in_field p positive (omega (arith, ints, products.1));
     }
 
 -- at the greatest scale the field is two cells wide
-pub cell_at_greatest : (p : ℤ) → negsuc 4094 ≤ℤ p → p ≤ℤ pos 4094 → (negsuc 0 ≤ℤ cell_of (pos 4095) p) × (cell_of (pos 4095) p ≤ℤ pos 0)
-cell_at_greatest p least greatest =
-    (cell-from (pos 4095) (negsuc 0) p (omega (arith, ints)) (omega (arith, ints)), cell-to (pos 4095) (pos 0) p (omega (arith, ints)) (omega (arith, ints)))
+pub cell_at_greatest : (p : ℤ) → least_coordinate ≤ℤ p → p ≤ℤ last_in_field
+    → (negsuc 0 ≤ℤ cell_of greatest_coordinate p) × (cell_of greatest_coordinate p ≤ℤ pos 0)
+cell_at_greatest p least greatest = (
+  cell-from greatest_coordinate (negsuc 0) p (omega (arith, ints)) (omega (arith, ints)),
+  cell-to greatest_coordinate (pos 0) p (omega (arith, ints)) (omega (arith, ints)),
+)
 
 -- line k shows the rows 2 * k and 2 * k + 1
 pub line-within : (j : ℤ) → ((pos 2 *ℤ line_of j) ≤ℤ j) × (j <ℤ ((pos 2 *ℤ line_of j) +ℤ pos 2))

@@ -62,7 +62,8 @@ unfolding tiles
 tiles-next style f k i n = refl
 
 pub tiles_more : (style : Style) (f : ℤ → ℤ → Shade) (k first : ℤ) (columns : ℕ) (old : List ℕ) (n : ℕ) (text new : List ℕ) → n < columns
-    → new ≡ text ++ tile_at style f k (first +ℤ pos n) → AreTilesSoFar style f k first columns old n text → AreTilesSoFar style f k first columns old (n + 1) new
+    → new ≡ text ++ tile_at style f k (first +ℤ pos n) → AreTilesSoFar style f k first columns old n text
+    → AreTilesSoFar style f k first columns old (n + 1) new
 tiles_more style f k first columns old n text new more written so_far =
     let left : columns - n ≡ suc (columns - (n + 1)) = omega arith in
     let next : (first +ℤ pos n) +ℤ pos 1 ≡ first +ℤ pos (n + 1) = omega (arith, ints) in
@@ -83,7 +84,8 @@ tiles_all style f k first columns old n text over so_far =
     sym (append-nil text) ∙ rw none at so_far.line
 
 -- the two cells that the code shows in a tile are those of the tile
-pub tile_here : (style : Style) (w : Window) (shades : List Shade) (above place : ℕ) (column line : ℤ) → column ≡ w.column +ℤ pos place → line ≡ w.line +ℤ pos above
+pub tile_here : (style : Style) (w : Window) (shades : List Shade) (above place : ℕ) (column line : ℤ)
+    → column ≡ w.column +ℤ pos place → line ≡ w.line +ℤ pos above
     → tile style (get_or shades (2 * above * w.columns + w.columns + place) Blank) (get_or shades (2 * above * w.columns + place) Blank) column line
     ≡ tile_at style (shade_in w shades) (w.line +ℤ pos above) (w.column +ℤ pos place)
 unfolding shade_in
@@ -106,7 +108,8 @@ pub record AreLinesSoFar (style : Style) (f : ℤ → ℤ → Shade) (w : Window
 pub lines_none : (style : Style) (f : ℤ → ℤ → Shade) (w : Window) (old : List ℕ) → AreLinesSoFar style f w old w.lines old
 lines_none style f w old = record { to = omega arith; lines = refl }
 
-lowest-next : (style : Style) (f : ℤ → ℤ → Shade) (w : Window) (n : ℕ) → lowest_lines style f w (suc n) ≡ window_line style f w (w.line +ℤ pos n) ++ lowest_lines style f w n
+lowest-next : (style : Style) (f : ℤ → ℤ → Shade) (w : Window) (n : ℕ)
+    → lowest_lines style f w (suc n) ≡ window_line style f w (w.line +ℤ pos n) ++ lowest_lines style f w n
 unfolding lowest_lines
 lowest-next style f w n = refl
 

@@ -1,7 +1,7 @@
 pub mod Floors
 pub mod DarkCells
 pub mod Darkness
+pub mod DotsInWindow
 pub mod FrameLines
-pub mod LeastBoxes
 pub mod Painting
 pub mod Windows

@@ -46,8 +46,10 @@ pub darkened_more : (start end : ℕ) (shade : Shade) (old : List Shade) (place 
 darkened_more start end shade old place shades new more room written kept so_far =
     let done = so_far.so_far in
     let within : place < length shades = omega (arith, done.count) in
-    let other : (k : ℕ) → k ≢ place → get_or new k Blank ≡ get_or shades k Blank = λ k apart. rw written (get_or-set_other shades place k (darker (get_or shades place Blank) shade) Blank apart) in
-    let here : get_or new place Blank ≡ darker (get_or shades place Blank) shade = rw written (get_or-set_same shades place (darker (get_or shades place Blank) shade) Blank within) in
+    let other : (k : ℕ) → k ≢ place → get_or new k Blank ≡ get_or shades k Blank =
+    λ k apart. rw written (get_or-set_other shades place k (darker (get_or shades place Blank) shade) Blank apart) in
+    let here : get_or new place Blank ≡ darker (get_or shades place Blank) shade =
+    rw written (get_or-set_same shades place (darker (get_or shades place Blank) shade) Blank within) in
     record {
       from = omega (arith, so_far.from);
       to = omega arith;
@@ -113,7 +115,8 @@ within_run w r i j positive run row left right = inside_run w.scale r.y r.x r.we
 -- a cell in the run's row
 in_row : (w : Window) (r : Run) (old new : List Shade) (i : ℤ) → IsWindow w → IsRunInWindow w r → IsCellOf w i (cell_of w.scale r.y)
     → AreDarkened (run_start w r) (run_end w r) (shade_of r.weight) old new
-    → get_or new (place_in w i (cell_of w.scale r.y)) Blank ≡ darker (get_or old (place_in w i (cell_of w.scale r.y)) Blank) (cell_shade w.scale (dots_of r) i (cell_of w.scale r.y))
+    → get_or new (place_in w i (cell_of w.scale r.y)) Blank
+    ≡ darker (get_or old (place_in w i (cell_of w.scale r.y)) Blank) (cell_shade w.scale (dots_of r) i (cell_of w.scale r.y))
 unfolding shade_in
 in_row w r old new i window within cell dark =
     let row = cell_of w.scale r.y in
@@ -124,12 +127,14 @@ in_row w r old new i window within cell dark =
     by_lt_z i first
     (λ left.
     let before : p < run_start w r = omega (arith, ints, cell.left, within.first.left) in
-    unreached w r old new i row (dark.before p before) (outside_run w r i row positive (λ u from to here. let le = cell-le w.scale r.x u positive from in omega (arith, ints, here.column))))
+    unreached w r old new i row (dark.before p before)
+    (outside_run w r i row positive (λ u from to here. let le = cell-le w.scale r.x u positive from in omega (arith, ints, here.column))))
     (λ from. by_lt_z last i
     (λ right.
     let after : run_end w r ≤ p = omega (arith, ints, cell.left, within.last.left) in
     unreached w r old new i row (dark.after p after)
-    (outside_run w r i row positive (λ u start to here. let le = cell-le w.scale u ((r.x +ℤ pos r.len) -ℤ pos 1) positive (omega (arith, ints)) in omega (arith, ints, here.column))))
+    (outside_run w r i row positive
+    (λ u start to here. let le = cell-le w.scale u ((r.x +ℤ pos r.len) -ℤ pos 1) positive (omega (arith, ints)) in omega (arith, ints, here.column))))
     (λ to.
     let above : run_start w r ≤ p = omega (arith, ints, cell.left, within.first.left) in
     let below : p < run_end w r = omega (arith, ints, cell.left, within.last.left) in
@@ -137,7 +142,8 @@ in_row w r old new i window within cell dark =
 
 -- a cell is left of the run, right of it, above it, below it, or in it
 painted_cell : (w : Window) (r : Run) (old new : List Shade) (i j : ℤ) → IsWindow w → IsRunInWindow w r → IsCellOf w i j
-    → AreDarkened (run_start w r) (run_end w r) (shade_of r.weight) old new → shade_in w new i j ≡ darker (shade_in w old i j) (cell_shade w.scale (dots_of r) i j)
+    → AreDarkened (run_start w r) (run_end w r) (shade_of r.weight) old new
+    → shade_in w new i j ≡ darker (shade_in w old i j) (cell_shade w.scale (dots_of r) i j)
 unfolding shade_in
 painted_cell w r old new i j window within cell dark =
     let row = cell_of w.scale r.y in
@@ -199,18 +205,22 @@ painted_all w ds rs shades none so_far = subst (λ dots. AreCells w dots shades)
 
 -- ---- the next run lies in the window
 
-in_window_first : (w : Window) (y x m : ℤ) (n : ℕ) (es : List Dot) → AreInWindow w (stretch y x m (suc n) ++ es) → IsCellOf w (cell_of w.scale x) (cell_of w.scale y)
+in_window_first : (w : Window) (y x m : ℤ) (n : ℕ) (es : List Dot) → AreInWindow w (stretch y x m (suc n) ++ es)
+    → IsCellOf w (cell_of w.scale x) (cell_of w.scale y)
 unfolding stretch
-in_window_first w y x m n es all = All-head (λ d. IsCellOf w (cell_of w.scale d.x) (cell_of w.scale d.y)) (record { y = y; x = x; weight = m }) (stretch y (x +ℤ pos 1) m n ++ es) all
+in_window_first w y x m n es all =
+    All-head (λ d. IsCellOf w (cell_of w.scale d.x) (cell_of w.scale d.y)) (record { y = y; x = x; weight = m }) (stretch y (x +ℤ pos 1) m n ++ es) all
 
-in_window_last : (w : Window) (y x m : ℤ) (n : ℕ) (es : List Dot) → AreInWindow w (stretch y x m (suc n) ++ es) → IsCellOf w (cell_of w.scale (x +ℤ pos n)) (cell_of w.scale y)
+in_window_last : (w : Window) (y x m : ℤ) (n : ℕ) (es : List Dot) → AreInWindow w (stretch y x m (suc n) ++ es)
+    → IsCellOf w (cell_of w.scale (x +ℤ pos n)) (cell_of w.scale y)
 unfolding stretch
 in_window_last w y x m zero es all =
     let same : x +ℤ pos 0 ≡ x = omega (arith, ints) in
     rw same (in_window_first w y x m zero es all)
 in_window_last w y x m (suc n) es all =
     let same : x +ℤ pos (suc n) ≡ (x +ℤ pos 1) +ℤ pos n = omega (arith, ints) in
-    rw same (in_window_last w y (x +ℤ pos 1) m n es (All-tail (λ d. IsCellOf w (cell_of w.scale d.x) (cell_of w.scale d.y)) (record { y = y; x = x; weight = m }) (stretch y (x +ℤ pos 1) m (suc n) ++ es) all))
+    rw same (in_window_last w y (x +ℤ pos 1) m n es (All-tail (λ d. IsCellOf w (cell_of w.scale d.x) (cell_of w.scale d.y))
+    (record { y = y; x = x; weight = m }) (stretch y (x +ℤ pos 1) m (suc n) ++ es) all))
 
 in_window_after : (w : Window) (ds es : List Dot) → AreInWindow w (ds ++ es) → AreInWindow w es
 in_window_after w [] es all = all

@@ -1,14 +1,17 @@
 -- Windows of boxes, and their scales.
-use Rattle.std.proofs.Common.{◌≡◌, ◌≤◌, ℕ, zero, suc, ◌-◌, Bool, true, false, ℤ, pos, negsuc, ◌+ℤ◌, ◌-ℤ◌, ◌≤ℤ◌, ◌<ℤ◌, refl, sym, ◌∙◌, to_z, of_z, w32, arith}
+use Rattle.std.proofs.Common.{◌≡◌, ◌≤◌, ℕ, zero, suc, ◌-◌, Bool, true, false, ℤ, pos, ◌+ℤ◌, ◌-ℤ◌, ◌≤ℤ◌, ◌<ℤ◌, refl, sym, ◌∙◌, to_z, of_z, w32, arith}
 use Rattle.std.specs.Int.RustNames.{unsigned_abs}
 use Rattle.std.specs.Prelude.{nat_le}
 use Rattle.std.proofs.lemmas.Bool.{cond-true, cond-false, and_parts, and_from, leb-true, le-leb}
 use Rattle.std.proofs.lemmas.Int.{ints, by_lt_z}
+use Rattle.mf_geom.specs.Coordinates.{least_coordinate, greatest_coordinate, last_in_field}
 use Rattle.mf_rows.specs.declared.bounds.Box4.{Box4}
+use Rattle.mf_show.specs.Boxes.{IsBoxOfField}
+use Rattle.mf_show.specs.Grid.{extent}
 use Rattle.mf_frame.specs.declared.window.Window.{Window}
 use Rattle.mf_frame.specs.Canvases.{Size, IsSize}
 use Rattle.mf_frame.specs.Cells.{cell_of}
-use Rattle.mf_frame.specs.Windows.{line_of, extent, window_at, fits_on, first_fitting, scale_of, IsBoxOfField, IsScale, IsWindow}
+use Rattle.mf_frame.specs.Windows.{line_of, window_at, fits_on, first_fitting, scale_of, IsScale, IsWindow}
 use Rattle.mf_frame.proofs.Floors.{IsCellInField, cell-le, cell_in_field, cell_at_greatest, line-within, line-le}
 
 line_in_field : (j : ℤ) → IsCellInField j → IsCellInField (line_of j)
@@ -51,10 +54,11 @@ pub record AreWindowValues (b : Box4) (s column last line highest : ℤ) : Type 
   pub top : highest ≡ line_of (cell_of s b.max_y)
 
 -- a number of the field stays itself as a value of 32 bits
-stays : (p : ℤ) → negsuc 4094 ≤ℤ p → p ≤ℤ pos 4095 → to_z w32 (of_z w32 p) ≡ p
+stays : (p : ℤ) → least_coordinate ≤ℤ p → p ≤ℤ greatest_coordinate → to_z w32 (of_z w32 p) ≡ p
 stays p least greatest = omega (arith, ints)
 
-pub cell_value : (s p r : ℤ) → IsScale s → negsuc 4094 ≤ℤ p → p ≤ℤ pos 4094 → r ≡ cell_of (to_z w32 (of_z w32 s)) (to_z w32 (of_z w32 p)) → r ≡ cell_of s p
+pub cell_value : (s p r : ℤ) → IsScale s → least_coordinate ≤ℤ p → p ≤ℤ last_in_field
+    → r ≡ cell_of (to_z w32 (of_z w32 s)) (to_z w32 (of_z w32 p)) → r ≡ cell_of s p
 cell_value s p r scale least greatest computed =
     let factor = stays s (omega (arith, ints, scale.least)) scale.greatest in
     let pixel = stays p least (omega (arith, ints)) in
@@ -83,13 +87,15 @@ window_values b s left right low high bottom top box scale at_left at_right at_l
 
 pub same_window : (b : Box4) (s column last line highest : ℤ) (columns lines : ℕ) → IsScale s → AreWindowValues b s column last line highest
     → columns ≡ extent (to_z w32 (of_z w32 column)) (to_z w32 (of_z w32 last)) → lines ≡ extent (to_z w32 (of_z w32 line)) (to_z w32 (of_z w32 highest))
-    → (record { scale = to_z w32 (of_z w32 s); column = to_z w32 (of_z w32 column); columns = columns; line = to_z w32 (of_z w32 line); lines = lines }) ≡ window_at b s
+    → (record { scale = to_z w32 (of_z w32 s); column = to_z w32 (of_z w32 column); columns = columns; line = to_z w32 (of_z w32 line); lines = lines })
+    ≡ window_at b s
 unfolding window_at
 same_window b s column last line highest columns lines scale v wide high =
     let factor = stays s (omega (arith, ints, scale.least)) scale.greatest in
     let left : to_z w32 (of_z w32 column) ≡ cell_of s b.min_x = omega (arith, ints, v.left, v.field.first_column.least, v.field.first_column.greatest) in
     let right : to_z w32 (of_z w32 last) ≡ cell_of s b.max_x = omega (arith, ints, v.right, v.field.last_column.least, v.field.last_column.greatest) in
-    let bottom : to_z w32 (of_z w32 line) ≡ line_of (cell_of s b.min_y) = omega (arith, ints, v.bottom, v.field.first_line.least, v.field.first_line.greatest) in
+    let bottom : to_z w32 (of_z w32 line) ≡ line_of (cell_of s b.min_y) =
+    omega (arith, ints, v.bottom, v.field.first_line.least, v.field.first_line.greatest) in
     let top : to_z w32 (of_z w32 highest) ≡ line_of (cell_of s b.max_y) = omega (arith, ints, v.top, v.field.last_line.least, v.field.last_line.greatest) in
     let width = rw (left, right) at wide in
     let height = rw (bottom, top) at high in
@@ -113,19 +119,20 @@ fitting_parts canvas w test =
 
 fitting_from : (canvas : Size) (w : Window) → IsFitting canvas w → fits_on canvas w ≡ true
 fitting_from canvas w fitting =
-    and_from (nat_le w.columns canvas.columns) (nat_le w.lines (canvas.rows - 3)) (le-leb w.columns canvas.columns fitting.columns) (le-leb w.lines (canvas.rows - 3) fitting.lines)
+    and_from (nat_le w.columns canvas.columns) (nat_le w.lines (canvas.rows - 3))
+    (le-leb w.columns canvas.columns fitting.columns) (le-leb w.lines (canvas.rows - 3) fitting.lines)
 
 -- at the greatest scale each window fits
-fits_at_greatest : (canvas : Size) (b : Box4) → IsSize canvas → IsBoxOfField b → fits_on canvas (window_at b (pos 4095)) ≡ true
+fits_at_greatest : (canvas : Size) (b : Box4) → IsSize canvas → IsBoxOfField b → fits_on canvas (window_at b greatest_coordinate) ≡ true
 unfolding window_at
 fits_at_greatest canvas b size box =
     let left = cell_at_greatest b.min_x box.left (omega (arith, ints, box.columns, box.right)) in
     let right = cell_at_greatest b.max_x (omega (arith, ints, box.columns, box.left)) box.right in
     let low = cell_at_greatest b.min_y box.bottom (omega (arith, ints, box.rows, box.top)) in
     let high = cell_at_greatest b.max_y (omega (arith, ints, box.rows, box.bottom)) box.top in
-    let bottom = line-within (cell_of (pos 4095) b.min_y) in
-    let top = line-within (cell_of (pos 4095) b.max_y) in
-    fitting_from canvas (window_at b (pos 4095)) (record {
+    let bottom = line-within (cell_of greatest_coordinate b.min_y) in
+    let top = line-within (cell_of greatest_coordinate b.max_y) in
+    fitting_from canvas (window_at b greatest_coordinate) (record {
       columns = omega (arith, ints, left.0, right.1, size.enough.wide);
       lines = omega (arith, ints, low.0, high.1, bottom.1, top.0, size.enough.high);
     })
@@ -139,11 +146,11 @@ pub first-next : (canvas : Size) (b : Box4) (s : ℤ) (n : ℕ) → fits_on canv
 unfolding first_fitting
 first-next canvas b s n fails = cond-false _ s (first_fitting canvas b (s +ℤ pos 1) n) fails
 
-first-fits : (canvas : Size) (b : Box4) (s : ℤ) (n : ℕ) → IsSize canvas → IsBoxOfField b → s +ℤ pos n ≡ pos 4095
+first-fits : (canvas : Size) (b : Box4) (s : ℤ) (n : ℕ) → IsSize canvas → IsBoxOfField b → s +ℤ pos n ≡ greatest_coordinate
     → fits_on canvas (window_at b (first_fitting canvas b s n)) ≡ true
 unfolding first_fitting
 first-fits canvas b s zero size box last =
-    let same : s ≡ pos 4095 = omega (arith, ints) in
+    let same : s ≡ greatest_coordinate = omega (arith, ints) in
     rw same (fits_at_greatest canvas b size box)
 first-fits canvas b s (suc n) size box last =
     by_test (fits_on canvas (window_at b s))
@@ -210,29 +217,30 @@ lawful_window canvas b size box =
 -- the scales before this one are those at which the window does not fit
 pub record IsScaleFrom (canvas : Size) (b : Box4) (s : ℤ) : Type 0 where
   pub least : pos 1 ≤ℤ s
-  pub greatest : s ≤ℤ pos 4095
-  pub first : first_fitting canvas b s (unsigned_abs (pos 4095 -ℤ s)) ≡ scale_of canvas b
+  pub greatest : s ≤ℤ greatest_coordinate
+  pub first : first_fitting canvas b s (unsigned_abs (greatest_coordinate -ℤ s)) ≡ scale_of canvas b
 
 pub scale_none : (canvas : Size) (b : Box4) → IsScaleFrom canvas b (pos 1)
 unfolding scale_of
 scale_none canvas b = record { least = omega (arith, ints); greatest = omega (arith, ints); first = refl }
 
-more_scales : (s : ℤ) → s <ℤ pos 4095 → unsigned_abs (pos 4095 -ℤ s) ≡ suc (unsigned_abs (pos 4095 -ℤ (s +ℤ pos 1)))
+more_scales : (s : ℤ) → s <ℤ greatest_coordinate → unsigned_abs (greatest_coordinate -ℤ s) ≡ suc (unsigned_abs (greatest_coordinate -ℤ (s +ℤ pos 1)))
 more_scales s more = omega (arith, ints)
 
-pub scale_more : (canvas : Size) (b : Box4) (s : ℤ) → s <ℤ pos 4095 → fits_on canvas (window_at b s) ≡ false → IsScaleFrom canvas b s
+pub scale_more : (canvas : Size) (b : Box4) (s : ℤ) → s <ℤ greatest_coordinate → fits_on canvas (window_at b s) ≡ false → IsScaleFrom canvas b s
     → IsScaleFrom canvas b (s +ℤ pos 1)
 scale_more canvas b s more fails so_far = record {
   least = omega (arith, ints, so_far.least);
   greatest = omega (arith, ints);
-  first = sym (first-next canvas b s (unsigned_abs (pos 4095 -ℤ (s +ℤ pos 1))) fails) ∙ rw (← more_scales s more) so_far.first;
+  first = sym (first-next canvas b s (unsigned_abs (greatest_coordinate -ℤ (s +ℤ pos 1))) fails) ∙ rw (← more_scales s more) so_far.first;
 }
 
-pub scale_found : (canvas : Size) (b : Box4) (s : ℤ) → s <ℤ pos 4095 → fits_on canvas (window_at b s) ≡ true → IsScaleFrom canvas b s → s ≡ scale_of canvas b
+pub scale_found : (canvas : Size) (b : Box4) (s : ℤ) → s <ℤ greatest_coordinate → fits_on canvas (window_at b s) ≡ true
+    → IsScaleFrom canvas b s → s ≡ scale_of canvas b
 scale_found canvas b s more fits so_far =
-    sym (first-found canvas b s (unsigned_abs (pos 4095 -ℤ (s +ℤ pos 1))) fits) ∙ rw (← more_scales s more) so_far.first
+    sym (first-found canvas b s (unsigned_abs (greatest_coordinate -ℤ (s +ℤ pos 1))) fits) ∙ rw (← more_scales s more) so_far.first
 
-pub scale_last : (canvas : Size) (b : Box4) (s : ℤ) → s ≡ pos 4095 → IsScaleFrom canvas b s → pos 4095 ≡ scale_of canvas b
+pub scale_last : (canvas : Size) (b : Box4) (s : ℤ) → s ≡ greatest_coordinate → IsScaleFrom canvas b s → greatest_coordinate ≡ scale_of canvas b
 unfolding first_fitting
 scale_last canvas b s last so_far = rw last at so_far.first
 
@@ -240,7 +248,7 @@ pub few_lines : (canvas : Size) (b : Box4) → IsSize canvas → IsBoxOfField b 
 few_lines canvas b size box = (fitting_parts canvas (window_at b (scale_of canvas b)) (scale-fits canvas b size box)).lines
 
 -- the cell that the code finds
-pub found_cell : (s p r : ℤ) → IsScale s → negsuc 4094 ≤ℤ p → p ≤ℤ pos 4094 → r ≡ cell_of (to_z w32 (of_z w32 s)) (to_z w32 (of_z w32 p))
+pub found_cell : (s p r : ℤ) → IsScale s → least_coordinate ≤ℤ p → p ≤ℤ last_in_field → r ≡ cell_of (to_z w32 (of_z w32 s)) (to_z w32 (of_z w32 p))
     → to_z w32 (of_z w32 r) ≡ cell_of s p
 found_cell s p r scale least greatest computed =
     let value = cell_value s p r scale least greatest computed in

@@ -3,11 +3,11 @@ use Rattle.std.specs.Prelude.{ℕ, zero, suc, ◌-◌, ℤ, pos, ◌+ℤ◌, ◌
 use Rattle.std.specs.Fmt.{decimal, signed_decimal}
 use Rattle.mf_rows.specs.declared.bounds.Box4.{Box4}
 use Rattle.mf_rows.specs.Dots.{Dot, total_of}
+use Rattle.mf_show.specs.Boxes.{box_of}
 use Rattle.mf_frame.specs.declared.shade.Shade.{Shade}
 use Rattle.mf_frame.specs.declared.tile.Style.{Style}
 use Rattle.mf_frame.specs.declared.tile.Style.TheVariants.{Colored, Plain}
 use Rattle.mf_frame.specs.declared.window.Window.{Window}
-use Rattle.mf_frame.specs.Boxes.{box_of}
 use Rattle.mf_frame.specs.Canvases.{Size}
 use Rattle.mf_frame.specs.Cells.{cell_shade}
 use Rattle.mf_frame.specs.Tiles.{tile, tile_end, number_end}

@@ -1,4 +1,3 @@
-pub mod Boxes
 pub mod Canvases
 pub mod Cells
 pub mod Frames

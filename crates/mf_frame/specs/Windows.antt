@@ -1,8 +1,9 @@
 -- The window of cells that a frame shows, and its scale.
-use Rattle.std.specs.Prelude.{◌≤◌, ◌≤ℤ◌, ℕ, zero, suc, ◌-◌, ◌&&◌, Bool, ℤ, pos, negsuc, ◌+ℤ◌, ◌-ℤ◌, nat_le, if◌then◌else◌}
+use Rattle.std.specs.Prelude.{◌≤◌, ◌≤ℤ◌, ℕ, zero, suc, ◌-◌, ◌&&◌, Bool, ℤ, pos, ◌+ℤ◌, nat_le, if◌then◌else◌}
 use Rattle.std.specs.Int.{int_div_euclid}
-use Rattle.std.specs.Int.RustNames.{unsigned_abs}
+use Rattle.mf_geom.specs.Coordinates.{least_coordinate, greatest_coordinate, last_in_field}
 use Rattle.mf_rows.specs.declared.bounds.Box4.{Box4}
+use Rattle.mf_show.specs.Grid.{extent}
 use Rattle.mf_frame.specs.declared.window.Window.{Window}
 use Rattle.mf_frame.specs.Canvases.{Size}
 use Rattle.mf_frame.specs.Cells.{cell_of}
@@ -10,10 +11,6 @@ use Rattle.mf_frame.specs.Cells.{cell_of}
 -- the line of text that shows the cells of row j: line k shows the rows 2 * k and 2 * k + 1
 unfoldable pub line_of : ℤ → ℤ
 line_of j = int_div_euclid j (pos 2)
-
--- how many columns, or lines, there are from the first to the last
-abbrev pub extent : ℤ → ℤ → ℕ
-extent first last = unsigned_abs ((last -ℤ first) +ℤ pos 1)
 
 -- the window of a box at scale s: its columns of cells and the lines that show its rows of cells
 unfoldable pub window_at : Box4 → ℤ → Window
@@ -38,26 +35,17 @@ first_fitting canvas b s (suc n) = if fits_on canvas (window_at b s) then s else
 unfoldable pub scale_of : Size → Box4 → ℤ
 scale_of canvas b = first_fitting canvas b (pos 1) 4094
 
--- a box is not empty, and its columns and rows are in the field
-pub record IsBoxOfField (b : Box4) : Type 0 where
-  pub left : negsuc 4094 ≤ℤ b.min_x
-  pub right : b.max_x ≤ℤ pos 4094
-  pub bottom : negsuc 4094 ≤ℤ b.min_y
-  pub top : b.max_y ≤ℤ pos 4094
-  pub columns : b.min_x ≤ℤ b.max_x
-  pub rows : b.min_y ≤ℤ b.max_y
-
 -- a scale is in 1..4095
 pub record IsScale (s : ℤ) : Type 0 where
   pub least : pos 1 ≤ℤ s
-  pub greatest : s ≤ℤ pos 4095
+  pub greatest : s ≤ℤ greatest_coordinate
 
 -- a window is no larger than a canvas may be, and lies where the field can be
 pub record IsWindow (w : Window) : Type 0 where
   pub scale : IsScale w.scale
   pub columns : w.columns ≤ 1000
   pub lines : w.lines ≤ 997
-  pub left : negsuc 4094 ≤ℤ w.column
-  pub right : w.column ≤ℤ pos 4094
-  pub bottom : negsuc 4094 ≤ℤ w.line
-  pub top : w.line ≤ℤ pos 4094
+  pub left : least_coordinate ≤ℤ w.column
+  pub right : w.column ≤ℤ last_in_field
+  pub bottom : least_coordinate ≤ℤ w.line
+  pub top : w.line ≤ℤ last_in_field

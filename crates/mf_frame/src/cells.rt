@@ -5,7 +5,7 @@ ghost use Rattle.mf_frame.specs.Windows.{IsWindow};
 
 use crate::shade::Shade;
 use crate::window::{Window, cell_of};
-use mf_geom::OutOfMemory;
+use mf_base::OutOfMemory;
 use mf_rows::{Picture, Run};
 use std::alloc::Global;
 

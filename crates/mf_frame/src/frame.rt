@@ -1,10 +1,11 @@
 //! Frames.
 ghost use Rattle.std.specs.Prelude.{◌≡◌, ◌≤◌, ◌<◌, ◌-◌, ◌*◌, ◌++◌, pos, ◌+ℤ◌, length, IfOk};
 ghost use Rattle.mf_rows.specs.Bounds.{IsLeastBox};
+ghost use Rattle.mf_show.specs.Boxes.{IsBoxOfField};
 ghost use Rattle.mf_frame.specs.Cells.{shade_in};
 ghost use Rattle.mf_frame.specs.Frames.{blank_frame, box_frame, empty_lines, frame_text, heading, measures, padding, range, window_line, window_lines};
 ghost use Rattle.mf_frame.specs.declared.tile.Style.TheVariants.{Colored};
-ghost use Rattle.mf_frame.specs.Windows.{IsBoxOfField, IsWindow, scale_of, window_at};
+ghost use Rattle.mf_frame.specs.Windows.{IsWindow, scale_of, window_at};
 
 use crate::canvas::Canvas;
 use crate::cells::cells_of;
@@ -12,7 +13,7 @@ use crate::shade::Shade;
 use crate::tile::{Style, push, push_number_end, push_tile, push_tile_end};
 use crate::window::Window;
 use itoa::Buffer;
-use mf_geom::OutOfMemory;
+use mf_base::OutOfMemory;
 use mf_rows::{Box4, Picture};
 use std::alloc::Global;
 
@@ -132,7 +133,8 @@ fn push_line(
     requires window { IsWindow window.now }
     requires count { length shades.now ≡ 2 * window.now.lines * window.now.columns }
     requires above { above < window.now.lines }
-    ensures { IfOk result (λ _. text.new.items ≡ text.old.items ++ window_line style (shade_in window.now shades.now) window.now (window.now.line +ℤ pos above)) }
+    ensures { IfOk result
+        (λ _. text.new.items ≡ text.old.items ++ window_line style (shade_in window.now shades.now) window.now (window.now.line +ℤ pos above)) }
 {
     let columns = window.columns as usize;
     let lower = 2 * above as usize * columns;

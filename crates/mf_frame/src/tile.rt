@@ -3,7 +3,7 @@ ghost use Rattle.std.specs.Prelude.{◌≡◌, ◌++◌, ◌&&◌, IfOk};
 ghost use Rattle.mf_frame.specs.Tiles.{axis_mark, color_of, colored_tile, colors, is_blank, light_tile, number_end, plain_tile, tile, tile_end};
 
 use crate::shade::Shade;
-use mf_geom::OutOfMemory;
+use mf_base::OutOfMemory;
 
 /// How a frame is drawn.
 #[derive(Clone, Copy, Debug, PartialEq, Eq)]

@@ -1,10 +1,12 @@
 //! The window of cells that a frame shows.
-ghost use Rattle.std.specs.Prelude.{◌≡◌, ◌&&◌, ◌≤◌, ◌-◌, ◌≤ℤ◌, nat_le, pos, negsuc};
+ghost use Rattle.std.specs.Prelude.{◌≡◌, ◌&&◌, ◌≤◌, ◌-◌, nat_le};
+ghost use Rattle.mf_show.specs.Boxes.{IsBoxOfField};
 ghost use Rattle.mf_frame.specs.Cells.{cell_of};
-ghost use Rattle.mf_frame.specs.Windows.{IsBoxOfField, IsScale, IsWindow, extent, line_of, scale_of, window_at};
+ghost use Rattle.mf_frame.specs.Windows.{IsScale, IsWindow, line_of, scale_of, window_at};
 
 use crate::canvas::Canvas;
 use mf_rows::Box4;
+use mf_show::extent;
 
 /// The scale at which each picture fits: the field is then two cells wide and two lines high.
 const MAX_SCALE: i32 = 4095;
@@ -83,14 +85,4 @@ fn line_of(row: i32) -> i32
     ensures { result ≡ line_of row }
 {
     row.div_euclid(2)
-}
-
-/// How many columns, or lines, there are from the first to the last.
-fn extent(first: i32, last: i32) -> u32
-    requires least { negsuc 4094 ≤ℤ first }
-    requires greatest { last ≤ℤ pos 4094 }
-    requires order { first ≤ℤ last }
-    ensures { result ≡ extent first last }
-{
-    (last - first) as u32 + 1
 }

@@ -1,14 +1,15 @@
 -- The area of a rectilinear cycle is the sum of its winding numbers over the field.
-use Rattle.std.proofs.Common.{◌≡◌, ℕ, zero, suc, ◌-◌, ◌<◌, ◌≤◌, ℤ, pos, negsuc, ◌+ℤ◌, ◌-ℤ◌, ◌*ℤ◌, ◌≤ℤ◌, nat_abs, int_div, List, length, sym, ◌∙◌, ap, inl, inr, arith}
+use Rattle.std.proofs.Common.{◌≡◌, ℕ, zero, suc, ◌-◌, ◌<◌, ◌≤◌, ℤ, pos, ◌+ℤ◌, ◌-ℤ◌, ◌*ℤ◌, ◌≤ℤ◌, nat_abs, int_div, List, length, sym, ◌∙◌, ap, inl, inr, arith}
 use Rattle.std.proofs.lemmas.Int.{ints}
 use Rattle.std.proofs.lemmas.Bool.{cases_lt}
+use Rattle.mf_geom.specs.Coordinates.{least_coordinate, greatest_coordinate, field_size}
 use Rattle.mf_geom.specs.declared.check.Check.{Check}
 use Rattle.mf_geom.specs.declared.point.Point.{Point}
 use Rattle.mf_geom.specs.Area.{shoelace_at, area}
 use Rattle.mf_geom.specs.Crossing.{passed, crossing, crossing_at}
 use Rattle.mf_geom.specs.Field.{sum_over_field}
 use Rattle.mf_geom.specs.Lawful.{IsRectilinearCycle}
-use Rattle.mf_geom.specs.Path.{Edge, point_at, next_place, edge_at, across, up, IsInReach, IsRectilinear}
+use Rattle.mf_geom.specs.Path.{Segment, point_at, next_place, segment_at, across, up, IsInRange, IsRectilinear}
 use Rattle.mf_geom.specs.Sum.{sum_below}
 use Rattle.mf_geom.specs.Winding.{winding, filling_weight, contour}
 use Rattle.mf_geom.proofs.Crossings.{passed-reached, passed-beyond, winding-crossings}
@@ -32,42 +33,45 @@ sum_below-passed n a p from to =
     let further : p ≡ a +ℤ pos k = omega (arith, ints) in
     (λ t. sum_below n (λ i. passed (a +ℤ pos i) (further t))) ∙ sum_below-passed_after n k a ∙ omega (arith, ints)
 
-pub sum_below-passed_in_field : (p : ℤ) → negsuc 4094 ≤ℤ p → p ≤ℤ pos 4095 → sum_below 8190 (λ i. passed (negsuc 4094 +ℤ pos i) p) ≡ pos 4095 -ℤ p
-sum_below-passed_in_field p = sum_below-passed 8190 (negsuc 4094) p
+pub sum_below-passed_in_field : (p : ℤ) → least_coordinate ≤ℤ p → p ≤ℤ greatest_coordinate
+    → sum_below field_size (λ i. passed (least_coordinate +ℤ pos i) p) ≡ greatest_coordinate -ℤ p
+sum_below-passed_in_field p = sum_below-passed field_size least_coordinate p
 
--- what an edge adds to the sum of the winding numbers: the area between it and the right side of the field, positive
--- where the edge leads down
-abbrev strip : Edge → ℤ
-strip e = (pos 4095 -ℤ e.from.x) *ℤ (e.from.y -ℤ e.to.y)
+-- what a segment adds to the sum of the winding numbers: the area between it and the right side of the field, positive
+-- where the segment leads down
+abbrev strip : Segment → ℤ
+strip e = (greatest_coordinate -ℤ e.from.x) *ℤ (e.from.y -ℤ e.to.y)
 
-sum_over_field-crossing : (e : Edge) → IsInReach e.from → IsInReach e.to → sum_over_field (λ x y. crossing x y e) ≡ strip e
+sum_over_field-crossing : (e : Segment) → IsInRange e.from → IsInRange e.to → sum_over_field (λ x y. crossing x y e) ≡ strip e
 unfolding crossing
 sum_over_field-crossing e from to =
-    let columns = sum_below-passed_in_field e.from.x from.left from.right in
-    let rows_from = sum_below-passed_in_field e.from.y from.bottom from.top in
-    let rows_to = sum_below-passed_in_field e.to.y to.bottom to.top in
-    let passed_at : ℤ → ℕ → ℤ = λ p j. passed (negsuc 4094 +ℤ pos j) p in
-    let rows = sum_below-sub 8190 (passed_at e.to.y) (passed_at e.from.y) in
-    let height : sum_below 8190 (passed_at e.to.y) -ℤ sum_below 8190 (passed_at e.from.y) ≡ e.from.y -ℤ e.to.y = omega (arith, ints) in
+    let columns = sum_below-passed_in_field e.from.x from.x.least from.x.greatest in
+    let rows_from = sum_below-passed_in_field e.from.y from.y.least from.y.greatest in
+    let rows_to = sum_below-passed_in_field e.to.y to.y.least to.y.greatest in
+    let passed_at : ℤ → ℕ → ℤ = λ p j. passed (least_coordinate +ℤ pos j) p in
+    let rows = sum_below-sub field_size (passed_at e.to.y) (passed_at e.from.y) in
+    let height : sum_below field_size (passed_at e.to.y) -ℤ sum_below field_size (passed_at e.from.y) ≡ e.from.y -ℤ e.to.y = omega (arith, ints) in
     sum_over_field-product (λ x. passed x e.from.x) (λ y. passed y e.to.y -ℤ passed y e.from.y)
     ∙ (λ t. columns t *ℤ (rows ∙ height) t)
 
--- what remains of an edge's part of the shoelace sum, as a value at each of its ends
+-- what remains of a segment's part of the shoelace sum, as a value at each of its ends
 abbrev remainder : Point → ℤ
 remainder p = pos 8190 *ℤ p.y -ℤ p.x *ℤ p.y
 
-shoelace-level : (x x' y : ℤ) → x *ℤ y -ℤ x' *ℤ y ≡ pos 2 *ℤ ((pos 4095 -ℤ x) *ℤ (y -ℤ y)) +ℤ ((pos 8190 *ℤ y -ℤ x' *ℤ y) -ℤ (pos 8190 *ℤ y -ℤ x *ℤ y))
-shoelace-level x x' y = let flat = mul-self (pos 4095 -ℤ x) y in omega (arith, ints)
+shoelace-level : (x x' y : ℤ)
+    → x *ℤ y -ℤ x' *ℤ y ≡ pos 2 *ℤ ((greatest_coordinate -ℤ x) *ℤ (y -ℤ y)) +ℤ ((pos 8190 *ℤ y -ℤ x' *ℤ y) -ℤ (pos 8190 *ℤ y -ℤ x *ℤ y))
+shoelace-level x x' y = let flat = mul-self (greatest_coordinate -ℤ x) y in omega (arith, ints)
 
-shoelace-upright : (x y y' : ℤ) → x *ℤ y' -ℤ x *ℤ y ≡ pos 2 *ℤ ((pos 4095 -ℤ x) *ℤ (y -ℤ y')) +ℤ ((pos 8190 *ℤ y' -ℤ x *ℤ y') -ℤ (pos 8190 *ℤ y -ℤ x *ℤ y))
+shoelace-upright : (x y y' : ℤ)
+    → x *ℤ y' -ℤ x *ℤ y ≡ pos 2 *ℤ ((greatest_coordinate -ℤ x) *ℤ (y -ℤ y')) +ℤ ((pos 8190 *ℤ y' -ℤ x *ℤ y') -ℤ (pos 8190 *ℤ y -ℤ x *ℤ y))
 shoelace-upright x y y' =
-    let apart = mul-sub (pos 4095 -ℤ x) y y' in
-    let from = sub-mul (pos 4095) x y in
-    let to = sub-mul (pos 4095) x y' in
+    let apart = mul-sub (greatest_coordinate -ℤ x) y y' in
+    let from = sub-mul greatest_coordinate x y in
+    let to = sub-mul greatest_coordinate x y' in
     omega (arith, ints)
 
--- an edge's part of the shoelace sum is twice its strip plus a difference between its ends
-shoelace-strip : (e : Edge) → IsRectilinear e → e.from.x *ℤ e.to.y -ℤ e.to.x *ℤ e.from.y ≡ pos 2 *ℤ strip e +ℤ (remainder e.to -ℤ remainder e.from)
+-- a segment's part of the shoelace sum is twice its strip plus a difference between its ends
+shoelace-strip : (e : Segment) → IsRectilinear e → e.from.x *ℤ e.to.y -ℤ e.to.x *ℤ e.from.y ≡ pos 2 *ℤ strip e +ℤ (remainder e.to -ℤ remainder e.from)
 unfolding IsRectilinear across up
 shoelace-strip e (inl level) =
     let same_height : e.to.y ≡ e.from.y = let rise = level.1 in omega (arith, ints) in
@@ -77,32 +81,34 @@ shoelace-strip e (inr upright) =
     rw same_column (shoelace-upright e.from.x e.from.y e.to.y)
 
 -- round a cycle, the differences add up to 0
-shoelace-strips : (ps : List Point) → IsRectilinearCycle ps → sum_below (length ps) (shoelace_at ps) ≡ pos 2 *ℤ sum_below (length ps) (λ i. strip (edge_at ps i))
-unfolding shoelace_at edge_at
+shoelace-strips : (ps : List Point) → IsRectilinearCycle ps
+    → sum_below (length ps) (shoelace_at ps) ≡ pos 2 *ℤ sum_below (length ps) (λ i. strip (segment_at ps i))
+unfolding shoelace_at segment_at
 shoelace-strips ps cycle =
-    sum_below-mul_and_differences ps (pos 2) (shoelace_at ps) (λ i. strip (edge_at ps i)) (λ i. remainder (point_at ps i))
-    (λ i below. shoelace-strip (edge_at ps i) (cycle.rectilinear i below))
+    sum_below-mul_and_differences ps (pos 2) (shoelace_at ps) (λ i. strip (segment_at ps i)) (λ i. remainder (point_at ps i))
+    (λ i below. shoelace-strip (segment_at ps i) (cycle.rectilinear i below))
 
-area-strips : (ps : List Point) → IsRectilinearCycle ps → area ps ≡ sum_below (length ps) (λ i. strip (edge_at ps i))
+area-strips : (ps : List Point) → IsRectilinearCycle ps → area ps ≡ sum_below (length ps) (λ i. strip (segment_at ps i))
 unfolding area
 area-strips ps cycle =
-    ap (λ s. int_div s (pos 2)) (shoelace-strips ps cycle) ∙ int_div-mul 2 (sum_below (length ps) (λ i. strip (edge_at ps i))) (omega arith)
+    ap (λ s. int_div s (pos 2)) (shoelace-strips ps cycle) ∙ int_div-mul 2 (sum_below (length ps) (λ i. strip (segment_at ps i))) (omega arith)
 
 pub shoelace-area : (ps : List Point) → IsRectilinearCycle ps → sum_below (length ps) (shoelace_at ps) ≡ pos 2 *ℤ area ps
 shoelace-area ps cycle = shoelace-strips ps cycle ∙ ap (λ n. pos 2 *ℤ n) (sym (area-strips ps cycle))
 
 pub sum_over_field-winding : (ps : List Point) → IsRectilinearCycle ps → sum_over_field (winding ps) ≡ area ps
-unfolding crossing_at edge_at
+unfolding crossing_at segment_at
 sum_over_field-winding ps cycle =
-    let in_reach = cycle.reach.in_reach in
+    let in_range = cycle.range.in_range in
     (λ t. sum_over_field (λ x y. winding-crossings ps x y cycle t))
     ∙ sum_over_field-sum (length ps) (λ x y. crossing_at ps x y)
-    ∙ sum_below-same (length ps) (λ i. sum_over_field (λ x y. crossing_at ps x y i)) (λ i. strip (edge_at ps i))
-    (λ i below. sum_over_field-crossing (edge_at ps i) (in_reach i below) (in_reach (next_place ps i) (next_place-below ps i below)))
+    ∙ sum_below-same (length ps) (λ i. sum_over_field (λ x y. crossing_at ps x y i)) (λ i. strip (segment_at ps i))
+    (λ i below. sum_over_field-crossing (segment_at ps i) (in_range i below) (in_range (next_place ps i) (next_place-below ps i below)))
     ∙ sym (area-strips ps cycle)
 
 -- the weight is a factor of the sum, and the other factor is the sum of the winding numbers, the area
-pub sum_over_field-contour : (ps : List Point) (w : ℤ) (check : Check) → IsRectilinearCycle ps → sum_over_field (contour ps w check) ≡ filling_weight check ps w *ℤ area ps
+pub sum_over_field-contour : (ps : List Point) (w : ℤ) (check : Check) → IsRectilinearCycle ps
+    → sum_over_field (contour ps w check) ≡ filling_weight check ps w *ℤ area ps
 unfolding contour
 sum_over_field-contour ps w check cycle =
     let weight = filling_weight check ps w in

@@ -3,7 +3,7 @@
 use Rattle.std.proofs.Common.{◌≡◌, ℕ, ◌<◌, Bool, ℤ, pos, ◌+ℤ◌, ◌-ℤ◌, ◌*ℤ◌, int_lt, int_div, ◌<ℤ◌, ◌≤ℤ◌, if◌then◌else◌, List, length, ◌∙◌, ap, inl, inr, arith}
 use Rattle.std.proofs.lemmas.Int.{ints}
 use Rattle.mf_geom.specs.declared.point.Point.{Point}
-use Rattle.mf_geom.specs.Path.{Edge, point_at, next_place, edge_at, across, up, IsRectilinear}
+use Rattle.mf_geom.specs.Path.{Segment, point_at, next_place, segment_at, across, up, IsRectilinear}
 use Rattle.mf_geom.specs.Crossing.{passed, crossing, crossing_at}
 use Rattle.mf_geom.specs.Lawful.{IsRectilinearCycle}
 use Rattle.mf_geom.specs.Sum.{sum_below}
@@ -26,15 +26,18 @@ corner right above = if right then (if above then right_up else right_down) else
 abbrev reached : Bool → ℤ
 reached beyond = if beyond then pos 0 else pos 1
 
-quarter-upright : (right above above' : Bool) → quarter (corner right above) (corner right above') ≡ pos 4 *ℤ (reached right *ℤ (reached above' -ℤ reached above)) +ℤ (quarters_to (corner right above') -ℤ quarters_to (corner right above))
+quarter-upright : (right above above' : Bool) → quarter (corner right above) (corner right above')
+    ≡ pos 4 *ℤ (reached right *ℤ (reached above' -ℤ reached above)) +ℤ (quarters_to (corner right above') -ℤ quarters_to (corner right above))
 quarter-upright right above above' = grind (arith, ints)
 
-quarter-level : (right right' above : Bool) → quarter (corner right above) (corner right' above) ≡ pos 4 *ℤ (reached right *ℤ (reached above -ℤ reached above)) +ℤ (quarters_to (corner right' above) -ℤ quarters_to (corner right above))
+quarter-level : (right right' above : Bool) → quarter (corner right above) (corner right' above)
+    ≡ pos 4 *ℤ (reached right *ℤ (reached above -ℤ reached above)) +ℤ (quarters_to (corner right' above) -ℤ quarters_to (corner right above))
 quarter-level right right' above = grind (arith, ints)
 
--- an edge that is parallel to an axis leads to the same quadrant or to a neighbouring one, so its quarter turns are the
+-- a segment that is parallel to an axis leads to the same quadrant or to a neighbouring one, so its quarter turns are the
 -- difference of the two quadrants, except for the jump at the ray
-quarter_along-crossing : (x y : ℤ) (e : Edge) → IsRectilinear e → quarter_along x y e ≡ pos 4 *ℤ crossing x y e +ℤ (quarters_to (quadrant x y e.to) -ℤ quarters_to (quadrant x y e.from))
+quarter_along-crossing : (x y : ℤ) (e : Segment) → IsRectilinear e
+    → quarter_along x y e ≡ pos 4 *ℤ crossing x y e +ℤ (quarters_to (quadrant x y e.to) -ℤ quarters_to (quadrant x y e.from))
 unfolding quarter_along crossing passed quadrant IsRectilinear across up
 quarter_along-crossing x y e (inl level) =
     let same_height : e.to.y ≡ e.from.y = let rise = level.1 in omega (arith, ints) in
@@ -44,11 +47,12 @@ quarter_along-crossing x y e (inr upright) =
     rw same_column (quarter-upright (int_lt x e.from.x) (int_lt y e.from.y) (int_lt y e.to.y))
 
 -- round a cycle, the differences of the quadrants add up to 0
-pub quarters-crossings : (ps : List Point) (x y : ℤ) → IsRectilinearCycle ps → sum_below (length ps) (quarter_at ps x y) ≡ pos 4 *ℤ sum_below (length ps) (crossing_at ps x y)
-unfolding quarter_at crossing_at edge_at
+pub quarters-crossings : (ps : List Point) (x y : ℤ) → IsRectilinearCycle ps
+    → sum_below (length ps) (quarter_at ps x y) ≡ pos 4 *ℤ sum_below (length ps) (crossing_at ps x y)
+unfolding quarter_at crossing_at segment_at
 quarters-crossings ps x y cycle =
     sum_below-mul_and_differences ps (pos 4) (quarter_at ps x y) (crossing_at ps x y) (λ i. quarters_to (quadrant x y (point_at ps i)))
-    (λ i below. quarter_along-crossing x y (edge_at ps i) (cycle.rectilinear i below))
+    (λ i below. quarter_along-crossing x y (segment_at ps i) (cycle.rectilinear i below))
 
 -- the winding number counts the crossings
 pub winding-crossings : (ps : List Point) (x y : ℤ) → IsRectilinearCycle ps → winding ps x y ≡ sum_below (length ps) (crossing_at ps x y)
@@ -65,8 +69,9 @@ unfolding passed
 passed-beyond x a beyond = grind (arith, ints)
 
 -- a cycle that lies on one side of the pixel's column crosses the ray upwards as often as downwards
-pub crossings-beside : (ps : List Point) (x y side : ℤ) → ((i : ℕ) → i < length ps → passed x (point_at ps i).x ≡ side) → sum_below (length ps) (crossing_at ps x y) ≡ pos 0
-unfolding crossing_at crossing edge_at
+pub crossings-beside : (ps : List Point) (x y side : ℤ) → ((i : ℕ) → i < length ps → passed x (point_at ps i).x ≡ side)
+    → sum_below (length ps) (crossing_at ps x y) ≡ pos 0
+unfolding crossing_at crossing segment_at
 crossings-beside ps x y side same_side =
     let place : ℕ → ℤ = λ i. passed y (point_at ps i).y in
     let steps : ℕ → ℤ = λ i. place (next_place ps i) -ℤ place i in
@@ -76,8 +81,9 @@ crossings-beside ps x y side same_side =
     ∙ omega (arith, ints)
 
 -- a cycle that lies on one side of the pixel's row never crosses the ray
-pub crossings-over : (ps : List Point) (x y side : ℤ) → ((i : ℕ) → i < length ps → passed y (point_at ps i).y ≡ side) → sum_below (length ps) (crossing_at ps x y) ≡ pos 0
-unfolding crossing_at crossing edge_at
+pub crossings-over : (ps : List Point) (x y side : ℤ) → ((i : ℕ) → i < length ps → passed y (point_at ps i).y ≡ side)
+    → sum_below (length ps) (crossing_at ps x y) ≡ pos 0
+unfolding crossing_at crossing segment_at
 crossings-over ps x y side same_side =
     sum_below-same (length ps) (crossing_at ps x y) (λ i. pos 0) (λ i below.
     let from = same_side i below in

@@ -1,4 +1,4 @@
--- The first fault of a list of points is the one that `fault_of` computes.
+-- The first fault of a list of points is the one that `cycle_fault_of` computes.
 use Rattle.std.proofs.Common.{◌≡◌, ◌⊎◌, ℕ, zero, suc, ◌<◌, Bool, true, false, pos, List, length, None, Some, refl, arith, inl, inr, ◌∙◌}
 use Rattle.std.proofs.lemmas.Int.{ints}
 use Rattle.std.specs.Ordering.{int_eq}
@@ -7,9 +7,9 @@ use Rattle.std.proofs.lemmas.Bool.Decides.{nat_tests}
 use Rattle.mf_geom.specs.declared.point.Point.{Point}
 use Rattle.mf_geom.specs.declared.cycle.CycleFault.{CycleFault}
 use Rattle.mf_geom.specs.declared.cycle.CycleFault.TheVariants.{TooFewPoints, TooManyPoints, PointOutOfRange, NotRectilinear, Backtracks, TurningZero}
-use Rattle.mf_geom.specs.Faults.{first_place, fault_from_reach, fault_from_edges, fault_from_turning, turning_fault, is_out_of_reach, is_not_rectilinear, is_reversal, form_fault, fault_of}
-use Rattle.mf_geom.specs.Lawful.{HasLawfulLength, StaysInReach, IsRectilinearCycle, NeverReverses, PassesCheck, IsFault, IsFirst}
-use Rattle.mf_geom.specs.Path.{Edge, point_at, edge_at, arriving, across, IsInReach, IsRectilinear, IsReversal}
+use Rattle.mf_geom.specs.Faults.{first_place, fault_from_points, fault_from_segments, fault_from_turning, turning_fault, is_out_of_range, is_not_rectilinear, is_reversal, form_fault, cycle_fault_of}
+use Rattle.mf_geom.specs.Lawful.{HasLawfulLength, StaysInRange, IsRectilinearCycle, NeverReverses, PassesCheck, IsFault, IsFirst, most_points}
+use Rattle.mf_geom.specs.Path.{Segment, point_at, segment_at, arriving, across, IsInRange, IsRectilinear, IsReversal}
 use Rattle.mf_geom.specs.Turning.{turning}
 
 pub first_place-none : (n : ℕ) (test : ℕ → Bool) → ((i : ℕ) → i < n → test i ≡ false) → first_place n test ≡ None
@@ -33,23 +33,26 @@ first_place-some (suc n) test i below here before =
           rw (front, passes, last) refl
     ]
 
-pub is_out_of_reach-false : (p : Point) → IsInReach p → is_out_of_reach p ≡ false
-unfolding is_out_of_reach
-is_out_of_reach-false p reach = grind (arith, ints)
+pub is_out_of_range-false : (p : Point) → IsInRange p → is_out_of_range p ≡ false
+unfolding is_out_of_range
+is_out_of_range-false p range = let x = range.x in let y = range.y in grind (arith, ints)
 
-IsInReach-from_false : (p : Point) → is_out_of_reach p ≡ false → IsInReach p
-unfolding is_out_of_reach
-IsInReach-from_false p passes = record { left = grind (arith, ints); right = grind (arith, ints); bottom = grind (arith, ints); top = grind (arith, ints) }
+IsInRange-from_false : (p : Point) → is_out_of_range p ≡ false → IsInRange p
+unfolding is_out_of_range
+IsInRange-from_false p passes = record {
+  x = record { least = grind (arith, ints); greatest = grind (arith, ints) };
+  y = record { least = grind (arith, ints); greatest = grind (arith, ints) };
+}
 
-pub is_out_of_reach-true : (p : Point) → ¬ IsInReach p → is_out_of_reach p ≡ true
-is_out_of_reach-true p beyond = true_from_ne_false _ (λ passes. beyond (IsInReach-from_false p passes))
+pub is_out_of_range-true : (p : Point) → ¬ IsInRange p → is_out_of_range p ≡ true
+is_out_of_range-true p beyond = true_from_ne_false _ (λ passes. beyond (IsInRange-from_false p passes))
 
-pub is_not_rectilinear-false : (e : Edge) → IsRectilinear e → is_not_rectilinear e ≡ false
+pub is_not_rectilinear-false : (e : Segment) → IsRectilinear e → is_not_rectilinear e ≡ false
 unfolding is_not_rectilinear IsRectilinear
 is_not_rectilinear-false e (inl level) = grind (arith, ints)
 is_not_rectilinear-false e (inr upright) = grind (arith, ints)
 
-IsRectilinear-from_false : (e : Edge) → is_not_rectilinear e ≡ false → IsRectilinear e
+IsRectilinear-from_false : (e : Segment) → is_not_rectilinear e ≡ false → IsRectilinear e
 unfolding is_not_rectilinear IsRectilinear
 IsRectilinear-from_false e passes =
     elim (cases_Bool (int_eq (across e) (pos 0))) [
@@ -57,74 +60,89 @@ IsRectilinear-from_false e passes =
       | inr level ↦ inl (grind (arith, ints), grind (arith, ints))
     ]
 
-pub is_not_rectilinear-true : (e : Edge) → ¬ IsRectilinear e → is_not_rectilinear e ≡ true
+pub is_not_rectilinear-true : (e : Segment) → ¬ IsRectilinear e → is_not_rectilinear e ≡ true
 is_not_rectilinear-true e slanted = true_from_ne_false _ (λ passes. slanted (IsRectilinear-from_false e passes))
 
-pub is_reversal-true : (a b : Edge) → IsReversal a b → is_reversal a b ≡ true
+pub is_reversal-true : (a b : Segment) → IsReversal a b → is_reversal a b ≡ true
 unfolding is_reversal
 is_reversal-true a b back = grind (arith, ints)
 
-IsReversal-from_true : (a b : Edge) → is_reversal a b ≡ true → IsReversal a b
+IsReversal-from_true : (a b : Segment) → is_reversal a b ≡ true → IsReversal a b
 unfolding is_reversal
 IsReversal-from_true a b passes = record { opposite = grind (arith, ints) }
 
-pub is_reversal-false : (a b : Edge) → ¬ IsReversal a b → is_reversal a b ≡ false
+pub is_reversal-false : (a b : Segment) → ¬ IsReversal a b → is_reversal a b ≡ false
 is_reversal-false a b onward = false_from_ne_true _ (λ passes. onward (IsReversal-from_true a b passes))
 
 -- what is left to check once the length is lawful
-form_fault-sized : (ps : List Point) → HasLawfulLength ps → form_fault ps ≡ fault_from_reach ps
+form_fault-sized : (ps : List Point) → HasLawfulLength ps → form_fault ps ≡ fault_from_points ps
 unfolding form_fault
 form_fault-sized ps sized = grind (arith, nat_tests)
 
-form_fault-reach : (ps : List Point) → StaysInReach ps → form_fault ps ≡ fault_from_edges ps
-form_fault-reach ps reach =
-    let none = first_place-none (length ps) (λ i. is_out_of_reach (point_at ps i)) (λ i below. is_out_of_reach-false (point_at ps i) (reach.in_reach i below)) in
-    form_fault-sized ps reach.sized ∙ rw none refl
+form_fault-range : (ps : List Point) → StaysInRange ps → form_fault ps ≡ fault_from_segments ps
+form_fault-range ps range =
+    let none =
+    first_place-none (length ps) (λ i. is_out_of_range (point_at ps i)) (λ i below. is_out_of_range-false (point_at ps i) (range.in_range i below)) in
+    form_fault-sized ps range.sized ∙ rw none refl
 
 pub form_fault-none : (ps : List Point) → IsRectilinearCycle ps → form_fault ps ≡ None
 form_fault-none ps cycle =
-    let none = first_place-none (length ps) (λ i. is_not_rectilinear (edge_at ps i)) (λ i below. is_not_rectilinear-false (edge_at ps i) (cycle.rectilinear i below)) in
-    form_fault-reach ps cycle.reach ∙ rw none refl
+    let none =
+    first_place-none (length ps) (λ i. is_not_rectilinear (segment_at ps i))
+    (λ i below. is_not_rectilinear-false (segment_at ps i) (cycle.rectilinear i below)) in
+    form_fault-range ps cycle.range ∙ rw none refl
 
-pub fault_of-rectilinear : (ps : List Point) → IsRectilinearCycle ps → fault_of ps ≡ turning_fault ps
-fault_of-rectilinear ps cycle = let none = form_fault-none ps cycle in rw none refl
+pub cycle_fault_of-rectilinear : (ps : List Point) → IsRectilinearCycle ps → cycle_fault_of ps ≡ turning_fault ps
+cycle_fault_of-rectilinear ps cycle = let none = form_fault-none ps cycle in rw none refl
 
-fault_of-onward : (ps : List Point) → NeverReverses ps → fault_of ps ≡ fault_from_turning ps
-fault_of-onward ps never =
-    let none = first_place-none (length ps) (λ i. is_reversal (arriving ps i) (edge_at ps i)) (λ i below. is_reversal-false (arriving ps i) (edge_at ps i) (never.onward i below)) in
-    fault_of-rectilinear ps never.rectilinear ∙ rw none refl
+cycle_fault_of-onward : (ps : List Point) → NeverReverses ps → cycle_fault_of ps ≡ fault_from_turning ps
+cycle_fault_of-onward ps never =
+    let none =
+    first_place-none (length ps) (λ i. is_reversal (arriving ps i) (segment_at ps i))
+    (λ i below. is_reversal-false (arriving ps i) (segment_at ps i) (never.onward i below)) in
+    cycle_fault_of-rectilinear ps never.rectilinear ∙ rw none refl
 
-pub fault_of-cycle : (ps : List Point) → PassesCheck ps → fault_of ps ≡ None
-fault_of-cycle ps cycle = let turns = cycle.turns in fault_of-onward ps cycle.onward ∙ grind (arith, ints)
+pub cycle_fault_of-cycle : (ps : List Point) → PassesCheck ps → cycle_fault_of ps ≡ None
+cycle_fault_of-cycle ps cycle = let turns = cycle.turns in cycle_fault_of-onward ps cycle.onward ∙ grind (arith, ints)
 
 form_fault-few : (ps : List Point) → length ps < 2 → form_fault ps ≡ Some TooFewPoints
 unfolding form_fault
 form_fault-few ps few = grind (arith, nat_tests)
 
-form_fault-many : (ps : List Point) → 4096 < length ps → form_fault ps ≡ Some TooManyPoints
+form_fault-many : (ps : List Point) → most_points < length ps → form_fault ps ≡ Some TooManyPoints
 unfolding form_fault
 form_fault-many ps many = grind (arith, nat_tests)
 
-form_fault-point : (ps : List Point) (i : ℕ) → HasLawfulLength ps → IsFirst (length ps) (λ k. ¬ IsInReach (point_at ps k)) i → form_fault ps ≡ Some (PointOutOfRange i)
+form_fault-point : (ps : List Point) (i : ℕ) → HasLawfulLength ps → IsFirst (length ps) (λ k. ¬ IsInRange (point_at ps k)) i
+    → form_fault ps ≡ Some (PointOutOfRange i)
 form_fault-point ps i sized first =
-    let found = first_place-some (length ps) (λ k. is_out_of_reach (point_at ps k)) i first.below (is_out_of_reach-true _ first.here) (λ k before. false_from_ne_true _ (λ beyond. first.none_before k before (λ reach. both_ways _ (is_out_of_reach-false _ reach) beyond))) in
+    let found =
+    first_place-some (length ps) (λ k. is_out_of_range (point_at ps k)) i first.below
+    (is_out_of_range-true _ first.here)
+    (λ k before. false_from_ne_true _ (λ beyond. first.none_before k before (λ range. both_ways _ (is_out_of_range-false _ range) beyond))) in
     form_fault-sized ps sized ∙ rw found refl
 
-form_fault-edge : (ps : List Point) (i : ℕ) → StaysInReach ps → IsFirst (length ps) (λ k. ¬ IsRectilinear (edge_at ps k)) i → form_fault ps ≡ Some (NotRectilinear i)
-form_fault-edge ps i reach first =
-    let found = first_place-some (length ps) (λ k. is_not_rectilinear (edge_at ps k)) i first.below (is_not_rectilinear-true _ first.here) (λ k before. false_from_ne_true _ (λ slanted. first.none_before k before (λ straight. both_ways _ (is_not_rectilinear-false _ straight) slanted))) in
-    form_fault-reach ps reach ∙ rw found refl
+form_fault-segment : (ps : List Point) (i : ℕ) → StaysInRange ps → IsFirst (length ps) (λ k. ¬ IsRectilinear (segment_at ps k)) i
+    → form_fault ps ≡ Some (NotRectilinear i)
+form_fault-segment ps i range first =
+    let found =
+    first_place-some (length ps) (λ k. is_not_rectilinear (segment_at ps k)) i first.below
+    (is_not_rectilinear-true _ first.here)
+    (λ k before. false_from_ne_true _ (λ slanted. first.none_before k before (λ straight. both_ways _ (is_not_rectilinear-false _ straight) slanted))) in
+    form_fault-range ps range ∙ rw found refl
 
-pub fault_of-fault : (ps : List Point) (fault : CycleFault) → IsFault ps fault → fault_of ps ≡ Some fault
+pub cycle_fault_of-fault : (ps : List Point) (fault : CycleFault) → IsFault ps fault → cycle_fault_of ps ≡ Some fault
 unfolding IsFault
-fault_of-fault ps TooFewPoints few = let first = form_fault-few ps few in rw first refl
-fault_of-fault ps TooManyPoints many = let first = form_fault-many ps many in rw first refl
-fault_of-fault ps (PointOutOfRange i) (sized, at) = let first = form_fault-point ps i sized at in rw first refl
-fault_of-fault ps (NotRectilinear i) (reach, at) = let first = form_fault-edge ps i reach at in rw first refl
-fault_of-fault ps (Backtracks i) (cycle, first) =
-    let found = first_place-some (length ps) (λ k. is_reversal (arriving ps k) (edge_at ps k)) i first.below (is_reversal-true _ _ first.here) (λ k before. is_reversal-false _ _ (first.none_before k before)) in
-    fault_of-rectilinear ps cycle ∙ rw found refl
-fault_of-fault ps TurningZero (never, zero_turns) = fault_of-onward ps never ∙ rw zero_turns refl
+cycle_fault_of-fault ps TooFewPoints few = let first = form_fault-few ps few in rw first refl
+cycle_fault_of-fault ps TooManyPoints many = let first = form_fault-many ps many in rw first refl
+cycle_fault_of-fault ps (PointOutOfRange i) (sized, at) = let first = form_fault-point ps i sized at in rw first refl
+cycle_fault_of-fault ps (NotRectilinear i) (range, at) = let first = form_fault-segment ps i range at in rw first refl
+cycle_fault_of-fault ps (Backtracks i) (cycle, first) =
+    let found =
+    first_place-some (length ps) (λ k. is_reversal (arriving ps k) (segment_at ps k)) i first.below
+    (is_reversal-true _ _ first.here) (λ k before. is_reversal-false _ _ (first.none_before k before)) in
+    cycle_fault_of-rectilinear ps cycle ∙ rw found refl
+cycle_fault_of-fault ps TurningZero (never, zero_turns) = cycle_fault_of-onward ps never ∙ rw zero_turns refl
 
 -- the test answers true at a first index below n
 record Found (n : ℕ) (test : ℕ → Bool) : Type 0 where
@@ -169,30 +187,38 @@ judged-turning ps never =
 judged-vertices : (ps : List Point) → IsRectilinearCycle ps → PassesCheck ps ⊎ IsFaulty ps
 unfolding IsFault
 judged-vertices ps cycle =
-    elim (search (length ps) (λ i. is_reversal (arriving ps i) (edge_at ps i))) [
+    elim (search (length ps) (λ i. is_reversal (arriving ps i) (segment_at ps i))) [
       | inl onward ↦ judged-turning ps (record { rectilinear = cycle; onward = λ i below back. both_ways _ (onward i below) (is_reversal-true _ _ back) })
       | inr found ↦ inr (record { fault = Backtracks found.place; is = (cycle, record { below = found.below; here = IsReversal-from_true _ _ found.here; none_before = λ k before back. both_ways _ (found.before k before) (is_reversal-true _ _ back) }) })
     ]
 
-judged-edges : (ps : List Point) → StaysInReach ps → IsRectilinearCycle ps ⊎ IsMisformed ps
+judged-segments : (ps : List Point) → StaysInRange ps → IsRectilinearCycle ps ⊎ IsMisformed ps
 unfolding IsFault
-judged-edges ps reach =
-    elim (search (length ps) (λ i. is_not_rectilinear (edge_at ps i))) [
-      | inl straight ↦ inl (record { reach = reach; rectilinear = λ i below. IsRectilinear-from_false _ (straight i below) })
+judged-segments ps range =
+    elim (search (length ps) (λ i. is_not_rectilinear (segment_at ps i))) [
+      | inl straight ↦ inl (record { range = range; rectilinear = λ i below. IsRectilinear-from_false _ (straight i below) })
       | inr found ↦
-          let at : IsFirst (length ps) (λ k. ¬ IsRectilinear (edge_at ps k)) found.place =
-          record { below = found.below; here = λ straight. both_ways _ (is_not_rectilinear-false _ straight) found.here; none_before = λ k before slanted. slanted (IsRectilinear-from_false _ (found.before k before)) } in
-          inr (record { faulty = record { fault = NotRectilinear found.place; is = (reach, at) }; found = form_fault-edge ps found.place reach at })
+          let at : IsFirst (length ps) (λ k. ¬ IsRectilinear (segment_at ps k)) found.place =
+          record {
+            below = found.below;
+            here = λ straight. both_ways _ (is_not_rectilinear-false _ straight) found.here;
+            none_before = λ k before slanted. slanted (IsRectilinear-from_false _ (found.before k before));
+          } in
+          inr (record { faulty = record { fault = NotRectilinear found.place; is = (range, at) }; found = form_fault-segment ps found.place range at })
     ]
 
 judged-points : (ps : List Point) → HasLawfulLength ps → IsRectilinearCycle ps ⊎ IsMisformed ps
 unfolding IsFault
 judged-points ps sized =
-    elim (search (length ps) (λ i. is_out_of_reach (point_at ps i))) [
-      | inl inside ↦ judged-edges ps (record { sized = sized; in_reach = λ i below. IsInReach-from_false _ (inside i below) })
+    elim (search (length ps) (λ i. is_out_of_range (point_at ps i))) [
+      | inl inside ↦ judged-segments ps (record { sized = sized; in_range = λ i below. IsInRange-from_false _ (inside i below) })
       | inr found ↦
-          let at : IsFirst (length ps) (λ k. ¬ IsInReach (point_at ps k)) found.place =
-          record { below = found.below; here = λ inside. both_ways _ (is_out_of_reach-false _ inside) found.here; none_before = λ k before beyond. beyond (IsInReach-from_false _ (found.before k before)) } in
+          let at : IsFirst (length ps) (λ k. ¬ IsInRange (point_at ps k)) found.place =
+          record {
+            below = found.below;
+            here = λ inside. both_ways _ (is_out_of_range-false _ inside) found.here;
+            none_before = λ k before beyond. beyond (IsInRange-from_false _ (found.before k before));
+          } in
           inr (record { faulty = record { fault = PointOutOfRange found.place; is = (sized, at) }; found = form_fault-point ps found.place sized at })
     ]
 
@@ -203,7 +229,7 @@ judged-form ps =
     elim (cases_lt (length ps) 2) [
       | inl few ↦ inr (record { faulty = record { fault = TooFewPoints; is = few }; found = form_fault-few ps few })
       | inr least ↦
-          elim (cases_lt 4096 (length ps)) [
+          elim (cases_lt most_points (length ps)) [
             | inl many ↦ inr (record { faulty = record { fault = TooManyPoints; is = many }; found = form_fault-many ps many })
             | inr greatest ↦ judged-points ps (record { least = omega arith; greatest = omega arith })
           ]
@@ -224,16 +250,16 @@ cycle-form_fault ps none =
       | inr misformed ↦ absurd (let some = misformed.found in grind (arith))
     ]
 
-pub cycle-fault_of : (ps : List Point) → fault_of ps ≡ None → PassesCheck ps
-cycle-fault_of ps none =
+pub cycle-cycle_fault_of : (ps : List Point) → cycle_fault_of ps ≡ None → PassesCheck ps
+cycle-cycle_fault_of ps none =
     elim (judged ps) [
       | inl cycle ↦ cycle
-      | inr faulty ↦ absurd (let some = fault_of-fault ps faulty.fault faulty.is in grind (arith))
+      | inr faulty ↦ absurd (let some = cycle_fault_of-fault ps faulty.fault faulty.is in grind (arith))
     ]
 
-pub fault-fault_of : (ps : List Point) (fault : CycleFault) → fault_of ps ≡ Some fault → IsFault ps fault
-fault-fault_of ps fault some =
+pub fault-cycle_fault_of : (ps : List Point) (fault : CycleFault) → cycle_fault_of ps ≡ Some fault → IsFault ps fault
+fault-cycle_fault_of ps fault some =
     elim (judged ps) [
-      | inl cycle ↦ absurd (let none = fault_of-cycle ps cycle in grind (arith))
-      | inr faulty ↦ let same : fault ≡ faulty.fault = (let other = fault_of-fault ps faulty.fault faulty.is in grind (arith)) in rw same faulty.is
+      | inl cycle ↦ absurd (let none = cycle_fault_of-cycle ps cycle in grind (arith))
+      | inr faulty ↦ let same : fault ≡ faulty.fault = (let other = cycle_fault_of-fault ps faulty.fault faulty.is in grind (arith)) in rw same faulty.is
     ]

@@ -1,4 +1,4 @@
--- The turns of a path, from the headings of its edges.
+-- The turns of a path, from the headings of its segments.
 use Rattle.std.proofs.Common.{◌≡◌, ◌≢◌, ◌⊎◌, ℕ, zero, suc, ◌*◌, ◌<◌, Bool, ℤ, pos, negsuc, ◌+ℤ◌, ◌-ℤ◌, ◌*ℤ◌, neg_ℤ, int_lt, int_div, ◌<ℤ◌, if◌then◌else◌, List, length, refl, sym, ◌∙◌, ap, inl, inr, arith}
 use Rattle.std.specs.Int.{int_signum}
 use Rattle.std.proofs.lemmas.Int.{ints}
@@ -6,7 +6,7 @@ use Rattle.std.proofs.lemmas.Bool.Decides.{nat_tests}
 use native.Mathlib.Nat.{mul-pos}
 use Rattle.mf_geom.specs.declared.point.Point.{Point}
 use Rattle.mf_geom.specs.Lawful.{NeverReverses}
-use Rattle.mf_geom.specs.Path.{Edge, next_place, previous_place, edge_at, arriving, across, up, IsRectilinear, IsReversal}
+use Rattle.mf_geom.specs.Path.{Segment, next_place, previous_place, segment_at, arriving, across, up, IsRectilinear, IsReversal}
 use Rattle.mf_geom.specs.Sum.{sum_below}
 use Rattle.mf_geom.specs.Turning.{turn, turn_at, turning}
 use Rattle.mf_geom.proofs.Products.{int_div-mul}
@@ -34,15 +34,15 @@ signum-product (negsuc m) (negsuc n) a_apart b_apart = let positive = suc-mul-su
 signum-neg : (a : ℤ) → int_signum (neg_ℤ a) ≡ neg_ℤ (int_signum a)
 signum-neg a = grind (arith, ints)
 
--- the heading of an edge that leads right or left, in quarter turns from the right
+-- the heading of a segment that leads right or left, in quarter turns from the right
 abbrev level_heading : Bool → ℤ
 level_heading rightwards = if rightwards then pos 0 else pos 2
 
--- the heading of an edge that leads up or down
+-- the heading of a segment that leads up or down
 abbrev upright_heading : Bool → ℤ
 upright_heading upwards = if upwards then pos 1 else pos 3
 
--- the heading of an edge that leads a to the right and b up, where it is rectilinear
+-- the heading of a segment that leads a to the right and b up, where it is rectilinear
 abbrev heading : ℤ → ℤ → ℤ
 heading a b = if int_lt (pos 0) a then pos 0 else (if int_lt a (pos 0) then pos 2 else upright_heading (int_lt (pos 0) b))
 
@@ -75,7 +75,8 @@ same_side : (a b : ℤ) → a ≢ pos 0 → b ≢ pos 0 → ((a *ℤ b) <ℤ pos
 same_side a b a_apart b_apart onward opposite =
     onward (negative-from_signum (a *ℤ b) (signum-product a b a_apart b_apart ∙ opposite))
 
-cross-level : (a c : ℤ) → a ≢ pos 0 → c ≢ pos 0 → ((a *ℤ c +ℤ pos 0 *ℤ pos 0) <ℤ pos 0 → ⊥) → int_signum (a *ℤ pos 0 -ℤ pos 0 *ℤ c) ≡ bend (heading c (pos 0) -ℤ heading a (pos 0))
+cross-level : (a c : ℤ) → a ≢ pos 0 → c ≢ pos 0 → ((a *ℤ c +ℤ pos 0 *ℤ pos 0) <ℤ pos 0 → ⊥)
+    → int_signum (a *ℤ pos 0 -ℤ pos 0 *ℤ c) ≡ bend (heading c (pos 0) -ℤ heading a (pos 0))
 cross-level a c a_apart c_apart onward =
     let flat : a *ℤ pos 0 -ℤ pos 0 *ℤ c ≡ pos 0 = omega (arith, ints) in
     rw (flat, heading-level a (pos 0) a_apart, heading-level c (pos 0) c_apart)
@@ -91,14 +92,17 @@ cross-upright-level b c b_apart c_apart =
     let product : pos 0 *ℤ pos 0 -ℤ b *ℤ c ≡ neg_ℤ (b *ℤ c) = omega (arith, ints) in
     rw (product, signum-neg (b *ℤ c), signum-product b c b_apart c_apart, heading-level c (pos 0) c_apart) (bend-upright-level _ _)
 
-cross-upright : (b d : ℤ) → b ≢ pos 0 → d ≢ pos 0 → ((pos 0 *ℤ pos 0 +ℤ b *ℤ d) <ℤ pos 0 → ⊥) → int_signum (pos 0 *ℤ d -ℤ b *ℤ pos 0) ≡ bend (heading (pos 0) d -ℤ heading (pos 0) b)
+cross-upright : (b d : ℤ) → b ≢ pos 0 → d ≢ pos 0 → ((pos 0 *ℤ pos 0 +ℤ b *ℤ d) <ℤ pos 0 → ⊥)
+    → int_signum (pos 0 *ℤ d -ℤ b *ℤ pos 0) ≡ bend (heading (pos 0) d -ℤ heading (pos 0) b)
 cross-upright b d b_apart d_apart onward =
     let flat : pos 0 *ℤ d -ℤ b *ℤ pos 0 ≡ pos 0 = omega (arith, ints) in
     rw flat (bend-upright _ _ (same_side b d b_apart d_apart (λ less. onward (omega (arith, ints)))))
 
--- the turn from one rectilinear edge to the next is the difference of their headings, except for the jump between right
+-- the turn from one rectilinear segment to the next is the difference of their headings, except for the jump between right
 -- and down
-cross-bend : (a b c d : ℤ) → ((a ≢ pos 0) × (b ≡ pos 0)) ⊎ ((a ≡ pos 0) × (b ≢ pos 0)) → ((c ≢ pos 0) × (d ≡ pos 0)) ⊎ ((c ≡ pos 0) × (d ≢ pos 0)) → ((a *ℤ c +ℤ b *ℤ d) <ℤ pos 0 → ⊥) → int_signum (a *ℤ d -ℤ b *ℤ c) ≡ bend (heading c d -ℤ heading a b)
+cross-bend : (a b c d : ℤ) → ((a ≢ pos 0) × (b ≡ pos 0)) ⊎ ((a ≡ pos 0) × (b ≢ pos 0))
+    → ((c ≢ pos 0) × (d ≡ pos 0)) ⊎ ((c ≡ pos 0) × (d ≢ pos 0)) → ((a *ℤ c +ℤ b *ℤ d) <ℤ pos 0 → ⊥)
+    → int_signum (a *ℤ d -ℤ b *ℤ c) ≡ bend (heading c d -ℤ heading a b)
 cross-bend a b c d (inl from) (inl to) onward =
     rw (from.1, to.1) (cross-level a c from.0 to.0 (λ less. onward (rw (from.1, to.1) less)))
 cross-bend a b c d (inl from) (inr to) onward = rw (from.1, to.0) (cross-level-upright a d from.0 to.1)
@@ -106,11 +110,11 @@ cross-bend a b c d (inr from) (inl to) onward = rw (from.0, to.1) (cross-upright
 cross-bend a b c d (inr from) (inr to) onward =
     rw (from.0, to.0) (cross-upright b d from.1 to.1 (λ less. onward (rw (from.0, to.0) less)))
 
--- the heading of an edge
-abbrev heading_of : Edge → ℤ
+-- the heading of a segment
+abbrev heading_of : Segment → ℤ
 heading_of e = heading (across e) (up e)
 
-turn-bend : (e f : Edge) → IsRectilinear e → IsRectilinear f → (IsReversal e f → ⊥) → turn e f ≡ bend (heading_of f -ℤ heading_of e)
+turn-bend : (e f : Segment) → IsRectilinear e → IsRectilinear f → (IsReversal e f → ⊥) → turn e f ≡ bend (heading_of f -ℤ heading_of e)
 unfolding turn IsRectilinear
 turn-bend e f from to onward =
     cross-bend (across e) (up e) (across f) (up f) from to (λ opposite. onward record { opposite = opposite })
@@ -119,8 +123,9 @@ previous_place-next_place : (ps : List Point) (i : ℕ) → i < length ps → pr
 unfolding previous_place next_place
 previous_place-next_place ps i below = grind (arith, nat_tests)
 
--- the turn at the end of an edge
-turn_at-next_place : (ps : List Point) (i : ℕ) → NeverReverses ps → i < length ps → turn_at ps (next_place ps i) ≡ bend (heading_of (edge_at ps (next_place ps i)) -ℤ heading_of (edge_at ps i))
+-- the turn at the end of a segment
+turn_at-next_place : (ps : List Point) (i : ℕ) → NeverReverses ps → i < length ps
+    → turn_at ps (next_place ps i) ≡ bend (heading_of (segment_at ps (next_place ps i)) -ℤ heading_of (segment_at ps i))
 unfolding turn_at arriving
 turn_at-next_place ps i never below =
     let next = next_place ps i in
@@ -128,15 +133,15 @@ turn_at-next_place ps i never below =
     let here = previous_place-next_place ps i below in
     let rectilinear = never.rectilinear.rectilinear in
     let onward_next = never.onward next next_below in
-    let onward : IsReversal (edge_at ps i) (edge_at ps next) → ⊥ = rw here at onward_next in
-    ap (λ k. turn (edge_at ps k) (edge_at ps next)) here
-    ∙ turn-bend (edge_at ps i) (edge_at ps next) (rectilinear i below) (rectilinear next next_below) onward
+    let onward : IsReversal (segment_at ps i) (segment_at ps next) → ⊥ = rw here at onward_next in
+    ap (λ k. turn (segment_at ps k) (segment_at ps next)) here
+    ∙ turn-bend (segment_at ps i) (segment_at ps next) (rectilinear i below) (rectilinear next next_below) onward
 
 -- round a cycle the differences of the headings add up to 0
 pub turns-turning : (ps : List Point) → NeverReverses ps → sum_below (length ps) (turn_at ps) ≡ pos 4 *ℤ turning ps
 unfolding turning
 turns-turning ps never =
-    let headings : ℕ → ℤ = λ i. heading_of (edge_at ps i) in
+    let headings : ℕ → ℤ = λ i. heading_of (segment_at ps i) in
     let jumps : ℕ → ℤ = λ i. jump (headings (next_place ps i) -ℤ headings i) in
     let whole : sum_below (length ps) (turn_at ps) ≡ pos 4 *ℤ sum_below (length ps) jumps =
     sym (sum_below-next_place ps (turn_at ps))

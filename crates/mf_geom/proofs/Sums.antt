@@ -1,8 +1,9 @@
 -- Laws of sums of integers.
-use Rattle.std.proofs.Common.{◌≡◌, ℕ, zero, suc, ◌+◌, ◌<◌, ℤ, pos, negsuc, ◌+ℤ◌, ◌-ℤ◌, ◌*ℤ◌, List, length, refl, sym, ◌∙◌, ap, arith}
+use Rattle.std.proofs.Common.{◌≡◌, ℕ, zero, suc, ◌+◌, ◌<◌, ℤ, pos, ◌+ℤ◌, ◌-ℤ◌, ◌*ℤ◌, List, length, refl, sym, ◌∙◌, ap, arith}
 use lib.IntN.{+ℤ_idr, *ℤ_comm}
 use Rattle.std.proofs.lemmas.Int.{ints}
 use Rattle.std.proofs.lemmas.Bool.Decides.{nat_tests}
+use Rattle.mf_geom.specs.Coordinates.{least_coordinate, field_size}
 use Rattle.mf_geom.specs.declared.point.Point.{Point}
 use Rattle.mf_geom.specs.Path.{next_place}
 use Rattle.mf_geom.specs.Field.{sum_over_field}
@@ -64,7 +65,8 @@ unfolding next_place
 next_place-below ps i below = grind (arith, nat_tests)
 
 -- a function that takes each index to the next, and the last to the first, only reorders the sum
-sum_below-round : (n : ℕ) (next : ℕ → ℕ) (f : ℕ → ℤ) → ((i : ℕ) → i + 1 < n → next i ≡ i + 1) → ((i : ℕ) → i + 1 ≡ n → next i ≡ 0) → sum_below n (λ i. f (next i)) ≡ sum_below n f
+sum_below-round : (n : ℕ) (next : ℕ → ℕ) (f : ℕ → ℤ) → ((i : ℕ) → i + 1 < n → next i ≡ i + 1)
+    → ((i : ℕ) → i + 1 ≡ n → next i ≡ 0) → sum_below n (λ i. f (next i)) ≡ sum_below n f
 unfolding sum_below
 sum_below-round zero next f inner last = refl
 sum_below-round (suc n) next f inner last =
@@ -82,7 +84,8 @@ sum_below-differences ps f =
     sum_below-sub (length ps) (λ i. f (next_place ps i)) f ∙ omega (arith, ints)
 
 -- round a cycle, a sum of multiples stays the same when differences from each index to the next are added to its terms
-pub sum_below-mul_and_differences : (ps : List Point) (a : ℤ) (f g h : ℕ → ℤ) → ((i : ℕ) → i < length ps → f i ≡ a *ℤ g i +ℤ (h (next_place ps i) -ℤ h i)) → sum_below (length ps) f ≡ a *ℤ sum_below (length ps) g
+pub sum_below-mul_and_differences : (ps : List Point) (a : ℤ) (f g h : ℕ → ℤ)
+    → ((i : ℕ) → i < length ps → f i ≡ a *ℤ g i +ℤ (h (next_place ps i) -ℤ h i)) → sum_below (length ps) f ≡ a *ℤ sum_below (length ps) g
 sum_below-mul_and_differences ps a f g h parts =
     let multiples : ℕ → ℤ = λ i. a *ℤ g i in
     let differences : ℕ → ℤ = λ i. h (next_place ps i) -ℤ h i in
@@ -98,22 +101,23 @@ sum_below-mul_right n f a =
 pub sum_over_field-mul : (a : ℤ) (f : ℤ → ℤ → ℤ) → sum_over_field (λ x y. a *ℤ f x y) ≡ a *ℤ sum_over_field f
 unfolding sum_over_field
 sum_over_field-mul a f =
-    let at : ℕ → ℕ → ℤ = λ j i. f (negsuc 4094 +ℤ pos i) (negsuc 4094 +ℤ pos j) in
-    (λ t. sum_below 8190 (λ j. sum_below-mul 8190 a (at j) t)) ∙ sum_below-mul 8190 a (λ j. sum_below 8190 (at j))
+    let at : ℕ → ℕ → ℤ = λ j i. f (least_coordinate +ℤ pos i) (least_coordinate +ℤ pos j) in
+    (λ t. sum_below field_size (λ j. sum_below-mul field_size a (at j) t)) ∙ sum_below-mul field_size a (λ j. sum_below field_size (at j))
 
 -- the sum of products of a factor for the column and one for the row is the product of two sums
-pub sum_over_field-product : (f g : ℤ → ℤ) → sum_over_field (λ x y. f x *ℤ g y) ≡ sum_below 8190 (λ i. f (negsuc 4094 +ℤ pos i)) *ℤ sum_below 8190 (λ j. g (negsuc 4094 +ℤ pos j))
+pub sum_over_field-product : (f g : ℤ → ℤ) → sum_over_field (λ x y. f x *ℤ g y)
+    ≡ sum_below field_size (λ i. f (least_coordinate +ℤ pos i)) *ℤ sum_below field_size (λ j. g (least_coordinate +ℤ pos j))
 unfolding sum_over_field
 sum_over_field-product f g =
-    let column : ℕ → ℤ = λ i. f (negsuc 4094 +ℤ pos i) in
-    let row : ℕ → ℤ = λ j. g (negsuc 4094 +ℤ pos j) in
-    (λ t. sum_below 8190 (λ j. sum_below-mul_right 8190 column (row j) t))
-    ∙ sum_below-mul 8190 (sum_below 8190 column) row
+    let column : ℕ → ℤ = λ i. f (least_coordinate +ℤ pos i) in
+    let row : ℕ → ℤ = λ j. g (least_coordinate +ℤ pos j) in
+    (λ t. sum_below field_size (λ j. sum_below-mul_right field_size column (row j) t))
+    ∙ sum_below-mul field_size (sum_below field_size column) row
 
 -- the sum over the field of sums is the sum of the sums over the field
 pub sum_over_field-sum : (n : ℕ) (f : ℤ → ℤ → ℕ → ℤ) → sum_over_field (λ x y. sum_below n (f x y)) ≡ sum_below n (λ k. sum_over_field (λ x y. f x y k))
 unfolding sum_over_field
 sum_over_field-sum n f =
-    let at : ℕ → ℕ → ℕ → ℤ = λ j i k. f (negsuc 4094 +ℤ pos i) (negsuc 4094 +ℤ pos j) k in
-    (λ t. sum_below 8190 (λ j. sum_below-swap 8190 n (at j) t))
-    ∙ sum_below-swap 8190 n (λ j k. sum_below 8190 (λ i. at j i k))
+    let at : ℕ → ℕ → ℕ → ℤ = λ j i k. f (least_coordinate +ℤ pos i) (least_coordinate +ℤ pos j) k in
+    (λ t. sum_below field_size (λ j. sum_below-swap field_size n (at j) t))
+    ∙ sum_below-swap field_size n (λ j k. sum_below field_size (λ i. at j i k))

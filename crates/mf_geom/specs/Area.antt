@@ -4,7 +4,7 @@ use Rattle.mf_geom.specs.declared.point.Point.{Point}
 use Rattle.mf_geom.specs.Path.{point_at, next_place}
 use Rattle.mf_geom.specs.Sum.{sum_below}
 
--- what the edge from vertex i to the next contributes to the shoelace sum
+-- what the segment from vertex i to the next contributes to the shoelace sum
 unfoldable pub shoelace_at : List Point → ℕ → ℤ
 shoelace_at ps i = ((point_at ps i).x *ℤ (point_at ps (next_place ps i)).y) -ℤ ((point_at ps (next_place ps i)).x *ℤ (point_at ps i).y)
 

@@ -2,17 +2,17 @@
 -- cycle crosses the ray that leads left from the centre of the pixel.
 use Rattle.std.specs.Prelude.{ℕ, ℤ, pos, ◌-ℤ◌, ◌*ℤ◌, int_lt, List, if◌then◌else◌}
 use Rattle.mf_geom.specs.declared.point.Point.{Point}
-use Rattle.mf_geom.specs.Path.{Edge, edge_at}
+use Rattle.mf_geom.specs.Path.{Segment, segment_at}
 
 -- 1 where a is at most x, and 0 where it is greater
 unfoldable pub passed : ℤ → ℤ → ℤ
 passed x a = if int_lt x a then pos 0 else pos 1
 
--- how an edge that is parallel to an axis crosses the ray that leads left from the centre of the pixel
+-- how a segment that is parallel to an axis crosses the ray that leads left from the centre of the pixel
 -- (x, y): 1 downwards, -1 upwards, 0 not at all
-unfoldable pub crossing : ℤ → ℤ → Edge → ℤ
+unfoldable pub crossing : ℤ → ℤ → Segment → ℤ
 crossing x y e = passed x e.from.x *ℤ (passed y e.to.y -ℤ passed y e.from.y)
 
--- how the edge that leaves vertex i crosses that ray
+-- how the segment that leaves vertex i crosses that ray
 unfoldable pub crossing_at : List Point → ℤ → ℤ → ℕ → ℤ
-crossing_at ps x y i = crossing x y (edge_at ps i)
+crossing_at ps x y i = crossing x y (segment_at ps i)

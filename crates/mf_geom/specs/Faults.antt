@@ -1,11 +1,13 @@
 -- The fault of a list of points, as a function.
-use Rattle.std.specs.Prelude.{ℕ, zero, suc, Bool, not, ◌&&◌, ℤ, pos, negsuc, ◌+ℤ◌, ◌*ℤ◌, List, length, Option, None, Some, option_map, int_le, int_lt, nat_lt, if◌then◌else◌}
+use Rattle.std.specs.Prelude.{ℕ, zero, suc, Bool, not, ◌&&◌, pos, ◌+ℤ◌, ◌*ℤ◌, List, length, Option, None, Some, option_map, int_lt, nat_lt, if◌then◌else◌}
 use Rattle.std.specs.Option.{option_or}
 use Rattle.std.specs.Ordering.{int_eq}
+use Rattle.mf_geom.specs.Lawful.{fewest_points, most_points}
+use Rattle.mf_geom.specs.Coordinates.{is_coordinate}
 use Rattle.mf_geom.specs.declared.point.Point.{Point}
 use Rattle.mf_geom.specs.declared.cycle.CycleFault.{CycleFault}
 use Rattle.mf_geom.specs.declared.cycle.CycleFault.TheVariants.{TooFewPoints, TooManyPoints, PointOutOfRange, NotRectilinear, Backtracks, TurningZero}
-use Rattle.mf_geom.specs.Path.{Edge, point_at, edge_at, arriving, across, up}
+use Rattle.mf_geom.specs.Path.{Segment, point_at, segment_at, arriving, across, up}
 use Rattle.mf_geom.specs.Turning.{turning}
 
 -- the first index below n that passes the test
@@ -13,21 +15,17 @@ unfoldable pub first_place : ℕ → (ℕ → Bool) → Option ℕ
 first_place zero test = None
 first_place (suc n) test = option_or (first_place n test) (if test n then Some n else None)
 
--- whether a number is in -4095..4095
-abbrev pub is_coordinate : ℤ → Bool
-is_coordinate a = int_le (negsuc 4094) a && int_le a (pos 4095)
+-- whether a point is out of range
+unfoldable pub is_out_of_range : Point → Bool
+is_out_of_range p = not (is_coordinate p.x && is_coordinate p.y)
 
--- whether a point is out of reach
-unfoldable pub is_out_of_reach : Point → Bool
-is_out_of_reach p = not (is_coordinate p.x && is_coordinate p.y)
-
--- whether the ends of an edge differ in both coordinates or in none
-unfoldable pub is_not_rectilinear : Edge → Bool
+-- whether the ends of a segment differ in both coordinates or in none
+unfoldable pub is_not_rectilinear : Segment → Bool
 is_not_rectilinear e = if int_eq (across e) (pos 0) then int_eq (up e) (pos 0) else not (int_eq (up e) (pos 0))
 
--- whether the path turns straight back from the first edge to the second: for edges parallel to an axis that is where
+-- whether the path turns straight back from the first segment to the second: for segments parallel to an axis that is where
 -- their scalar product is negative
-unfoldable pub is_reversal : Edge → Edge → Bool
+unfoldable pub is_reversal : Segment → Segment → Bool
 is_reversal a b = int_lt ((across a *ℤ across b) +ℤ (up a *ℤ up b)) (pos 0)
 
 -- the fault that the turning number alone gives, if any
@@ -36,23 +34,23 @@ fault_from_turning ps = if int_eq (turning ps) (pos 0) then Some TurningZero els
 
 -- why a cycle fails the turning check, if it does: its vertices are checked before its turning number
 abbrev pub turning_fault : List Point → Option CycleFault
-turning_fault ps = option_or (option_map Backtracks (first_place (length ps) (λ i. is_reversal (arriving ps i) (edge_at ps i)))) (fault_from_turning ps)
+turning_fault ps = option_or (option_map Backtracks (first_place (length ps) (λ i. is_reversal (arriving ps i) (segment_at ps i)))) (fault_from_turning ps)
 
--- the fault that the edges of a list of points give, if any
-abbrev pub fault_from_edges : List Point → Option CycleFault
-fault_from_edges ps = option_map NotRectilinear (first_place (length ps) (λ i. is_not_rectilinear (edge_at ps i)))
+-- the fault that the segments of a list of points give, if any
+abbrev pub fault_from_segments : List Point → Option CycleFault
+fault_from_segments ps = option_map NotRectilinear (first_place (length ps) (λ i. is_not_rectilinear (segment_at ps i)))
 
--- the fault that the points or the edges of a list give, if any: the points are checked first
-abbrev pub fault_from_reach : List Point → Option CycleFault
-fault_from_reach ps = option_or (option_map PointOutOfRange (first_place (length ps) (λ i. is_out_of_reach (point_at ps i)))) (fault_from_edges ps)
+-- the fault that the points or the segments of a list give, if any: the points are checked first
+abbrev pub fault_from_points : List Point → Option CycleFault
+fault_from_points ps = option_or (option_map PointOutOfRange (first_place (length ps) (λ i. is_out_of_range (point_at ps i)))) (fault_from_segments ps)
 
 -- why a list of points is not a cycle, if it is not
 unfoldable pub form_fault : List Point → Option CycleFault
 form_fault ps =
-    if nat_lt (length ps) 2 then Some TooFewPoints
-    else (if nat_lt 4096 (length ps) then Some TooManyPoints
-    else fault_from_reach ps)
+    if nat_lt (length ps) fewest_points then Some TooFewPoints
+    else (if nat_lt most_points (length ps) then Some TooManyPoints
+    else fault_from_points ps)
 
 -- why a list of points is not a cycle that passes the turning check, if it is not
-abbrev pub fault_of : List Point → Option CycleFault
-fault_of ps = option_or (form_fault ps) (turning_fault ps)
+abbrev pub cycle_fault_of : List Point → Option CycleFault
+cycle_fault_of ps = option_or (form_fault ps) (turning_fault ps)

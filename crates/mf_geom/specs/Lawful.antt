@@ -3,28 +3,36 @@ use Rattle.std.specs.Prelude.{◌≡◌, ◌≢◌, ℕ, ◌<◌, ◌≤◌, pos
 use Rattle.mf_geom.specs.declared.point.Point.{Point}
 use Rattle.mf_geom.specs.declared.cycle.CycleFault.{CycleFault}
 use Rattle.mf_geom.specs.declared.cycle.CycleFault.TheVariants.{TooFewPoints, TooManyPoints, PointOutOfRange, NotRectilinear, Backtracks, TurningZero}
-use Rattle.mf_geom.specs.Path.{point_at, edge_at, arriving, IsInReach, IsRectilinear, IsReversal}
+use Rattle.mf_geom.specs.Path.{point_at, segment_at, arriving, IsInRange, IsRectilinear, IsReversal}
 use Rattle.mf_geom.specs.Turning.{turning}
 
--- the list has 2 to 4096 points
+-- the fewest points of a cycle
+abbrev pub fewest_points : ℕ
+fewest_points = 2
+
+-- the most points of a cycle
+abbrev pub most_points : ℕ
+most_points = 4096
+
+-- the list has neither too few nor too many points
 pub record HasLawfulLength (ps : List Point) : Type 0 where
-  pub least : 2 ≤ length ps
-  pub greatest : length ps ≤ 4096
+  pub least : fewest_points ≤ length ps
+  pub greatest : length ps ≤ most_points
 
--- the list has a lawful length, and each of its points is in reach
-pub record StaysInReach (ps : List Point) : Type 0 where
+-- the list has a lawful length, and each of its points is in range
+pub record StaysInRange (ps : List Point) : Type 0 where
   pub sized : HasLawfulLength ps
-  pub in_reach : (i : ℕ) → i < length ps → IsInReach (point_at ps i)
+  pub in_range : (i : ℕ) → i < length ps → IsInRange (point_at ps i)
 
--- the list is a cycle: its points are in reach, and each edge is rectilinear
+-- the list is a cycle: its points are in range, and each segment is rectilinear
 pub record IsRectilinearCycle (ps : List Point) : Type 0 where
-  pub reach : StaysInReach ps
-  pub rectilinear : (i : ℕ) → i < length ps → IsRectilinear (edge_at ps i)
+  pub range : StaysInRange ps
+  pub rectilinear : (i : ℕ) → i < length ps → IsRectilinear (segment_at ps i)
 
 -- the list is a cycle that turns straight back at no vertex
 pub record NeverReverses (ps : List Point) : Type 0 where
   pub rectilinear : IsRectilinearCycle ps
-  pub onward : (i : ℕ) → i < length ps → IsReversal (arriving ps i) (edge_at ps i) → ⊥
+  pub onward : (i : ℕ) → i < length ps → IsReversal (arriving ps i) (segment_at ps i) → ⊥
 
 -- the list is a cycle that passes the turning check: it never turns straight back, and its turning number is not 0
 pub record PassesCheck (ps : List Point) : Type 0 where
@@ -40,9 +48,9 @@ pub record IsFirst (n : ℕ) (P : ℕ → Type 0) (i : ℕ) : Type 0 where
 -- the list is refused with this fault: the first that applies, in the order of the cases, at the first index where it
 -- does; the last two are from the turning check, and a cycle may have them
 unfoldable pub IsFault : List Point → CycleFault → Type 0
-IsFault ps TooFewPoints = length ps < 2
-IsFault ps TooManyPoints = 4096 < length ps
-IsFault ps (PointOutOfRange i) = HasLawfulLength ps × IsFirst (length ps) (λ k. ¬ IsInReach (point_at ps k)) i
-IsFault ps (NotRectilinear i) = StaysInReach ps × IsFirst (length ps) (λ k. ¬ IsRectilinear (edge_at ps k)) i
-IsFault ps (Backtracks i) = IsRectilinearCycle ps × IsFirst (length ps) (λ k. IsReversal (arriving ps k) (edge_at ps k)) i
+IsFault ps TooFewPoints = length ps < fewest_points
+IsFault ps TooManyPoints = most_points < length ps
+IsFault ps (PointOutOfRange i) = HasLawfulLength ps × IsFirst (length ps) (λ k. ¬ IsInRange (point_at ps k)) i
+IsFault ps (NotRectilinear i) = StaysInRange ps × IsFirst (length ps) (λ k. ¬ IsRectilinear (segment_at ps k)) i
+IsFault ps (Backtracks i) = IsRectilinearCycle ps × IsFirst (length ps) (λ k. IsReversal (arriving ps k) (segment_at ps k)) i
 IsFault ps TurningZero = NeverReverses ps × (turning ps ≡ pos 0)

@@ -1,4 +1,5 @@
 pub mod Area
+pub mod Coordinates
 pub mod Crossing
 pub mod Faults
 pub mod Field

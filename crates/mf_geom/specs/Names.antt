@@ -11,7 +11,3 @@ fault_text (PointOutOfRange i) = codes "PointOutOfRange " ++ decimal i
 fault_text (NotRectilinear i) = codes "NotRectilinear " ++ decimal i
 fault_text (Backtracks i) = codes "Backtracks " ++ decimal i
 fault_text TurningZero = codes "TurningZero"
-
--- the name of the refusal for a failed allocation
-abbrev pub memory_text : List ℕ
-memory_text = codes "OutOfMemory"

@@ -5,7 +5,7 @@ use Rattle.std.specs.Int.{int_signum}
 use Rattle.mf_geom.specs.declared.check.Check.{Check}
 use Rattle.mf_geom.specs.declared.check.Check.TheVariants.{Off, On}
 use Rattle.mf_geom.specs.declared.point.Point.{Point}
-use Rattle.mf_geom.specs.Path.{Edge, edge_at}
+use Rattle.mf_geom.specs.Path.{Segment, segment_at}
 use Rattle.mf_geom.specs.Sum.{sum_below}
 use Rattle.mf_geom.specs.Turning.{turning}
 
@@ -21,7 +21,7 @@ unfoldable pub quadrant : ℤ → ℤ → Point → Quadrant
 quadrant x y p = if int_lt x p.x then (if int_lt y p.y then right_up else right_down) else (if int_lt y p.y then left_up else left_down)
 
 -- the quarter turns round the centre, positive counterclockwise, from one quadrant to the same or a neighbouring one
--- (an edge parallel to an axis leads to no other)
+-- (a segment parallel to an axis leads to no other)
 abbrev pub quarter : Quadrant → Quadrant → ℤ
 quarter right_up left_up = pos 1
 quarter left_up left_down = pos 1
@@ -33,15 +33,15 @@ quarter right_down left_down = negsuc 0
 quarter right_up right_down = negsuc 0
 quarter _ _ = pos 0
 
--- the quarter turns round the centre of the pixel (x, y) along an edge
-unfoldable pub quarter_along : ℤ → ℤ → Edge → ℤ
+-- the quarter turns round the centre of the pixel (x, y) along a segment
+unfoldable pub quarter_along : ℤ → ℤ → Segment → ℤ
 quarter_along x y e = quarter (quadrant x y e.from) (quadrant x y e.to)
 
--- the quarter turns along the edge that leaves vertex i
+-- the quarter turns along the segment that leaves vertex i
 unfoldable pub quarter_at : List Point → ℤ → ℤ → ℕ → ℤ
-quarter_at ps x y i = quarter_along x y (edge_at ps i)
+quarter_at ps x y i = quarter_along x y (segment_at ps i)
 
--- the winding number round the pixel (x, y): the quarter turns along all edges, divided by 4
+-- the winding number round the pixel (x, y): the quarter turns along all segments, divided by 4
 unfoldable pub winding : List Point → ℤ → ℤ → ℤ
 winding ps x y = int_div (sum_below (length ps) (quarter_at ps x y)) (pos 4)
 

@@ -1,17 +1,17 @@
 //! Cycles: closed rectilinear paths.
 ghost use Rattle.std.specs.Prelude.{◌≡◌, ◌↔◌, ◌<◌, pos, negsuc, ◌≤ℤ◌, length, IsOk, IfOk, IfErr};
 
-use crate::memory::OutOfMemory;
 use crate::point::Point;
-use crate::{edge, path, winding};
+use crate::{path, segment, winding};
+use mf_base::OutOfMemory;
 use std::alloc::Global;
 use std::error::Error;
 use std::fmt;
 use std::marker::Model;
 
 /// Why a list of points is not a cycle, or why a cycle fails the turning check. The number is the index, counted from
-/// 0, of the first point, edge or vertex at fault; edge i leads from point i to the next one, and the last edge leads
-/// back to point 0.
+/// 0, of the first point, segment or vertex at fault; segment i leads from point i to the next one, and the last segment
+/// leads back to point 0.
 #[derive(Clone, Copy, Debug, PartialEq, Eq)]
 pub enum CycleFault {
     /// The list has fewer than 2 points.
@@ -20,7 +20,7 @@ pub enum CycleFault {
     TooManyPoints,
     /// This point has a coordinate outside -4095..=4095 pixels.
     PointOutOfRange(u32),
-    /// The ends of this edge do not differ in exactly one coordinate.
+    /// The ends of this segment do not differ in exactly one coordinate.
     NotRectilinear(u32),
     /// From the turning check: the path turns straight back at this vertex.
     Backtracks(u32),
@@ -71,7 +71,7 @@ impl Model for Cycle {
 
 impl Cycle {
     ghost use Rattle.mf_geom.specs.Lawful.{IsFault, IsRectilinearCycle, NeverReverses};
-    ghost use Rattle.mf_geom.specs.Path.{edge_at};
+    ghost use Rattle.mf_geom.specs.Path.{segment_at};
     ghost use Rattle.mf_geom.specs.Turning.{turning};
     ghost use Rattle.mf_geom.specs.Area.{area};
     ghost use Rattle.mf_geom.specs.Winding.{winding};
@@ -109,15 +109,15 @@ impl Cycle {
         &self.points
     }
 
-    /// The ends of the edge that leaves vertex `place`: from, then to. The last edge leads back to the first point.
+    /// The ends of the segment that leaves vertex `place`: from, then to. The last segment leads back to the first point.
     /// Requires `place` to be below the number of points.
     pub fn edge(&self, place: usize) -> (Point, Point)
         requires within { place < length self.now }
-        ensures from { result.0 ≡ (edge_at self.now place).from }
-        ensures to { result.1 ≡ (edge_at self.now place).to }
+        ensures from { result.0 ≡ (segment_at self.now place).from }
+        ensures to { result.1 ≡ (segment_at self.now place).to }
         ensures lawful { IsRectilinearCycle self.now }
     {
-        edge::ends(&self.points, place)
+        segment::ends(&self.points, place)
     }
 
     /// The turning number: left turns less right turns, divided by 4 (mf.web, "turning number"). It is positive for a

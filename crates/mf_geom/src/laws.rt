@@ -7,7 +7,7 @@ ghost use Rattle.mf_geom.specs.Area.{shoelace_at, area};
 ghost use Rattle.mf_geom.specs.declared.check.Check.TheVariants.{Off, On};
 ghost use Rattle.mf_geom.specs.declared.cycle.CycleFault.{CycleFault};
 ghost use Rattle.mf_geom.specs.Crossing.{crossing_at};
-ghost use Rattle.mf_geom.specs.Faults.{fault_of, form_fault, turning_fault};
+ghost use Rattle.mf_geom.specs.Faults.{cycle_fault_of, form_fault, turning_fault};
 ghost use Rattle.mf_geom.specs.Field.{IsInField, sum_over_field};
 ghost use Rattle.mf_geom.specs.Lawful.{IsFault, IsRectilinearCycle, NeverReverses, PassesCheck};
 ghost use Rattle.mf_geom.specs.Sum.{sum_below};
@@ -55,10 +55,10 @@ pub fn area_is_whole()
 /// where it has none of the faults `TooFewPoints`, `TooManyPoints`, `PointOutOfRange` and `NotRectilinear`, and a cycle
 /// has no fault but those of the turning check.
 pub fn one_fault()
-    ensures refused { (ps : List Point) (fault : CycleFault) → IsFault ps fault ↔ fault_of ps ≡ Some fault }
-    ensures accepted { (ps : List Point) → PassesCheck ps ↔ fault_of ps ≡ None }
+    ensures refused { (ps : List Point) (fault : CycleFault) → IsFault ps fault ↔ cycle_fault_of ps ≡ Some fault }
+    ensures accepted { (ps : List Point) → PassesCheck ps ↔ cycle_fault_of ps ≡ None }
     ensures formed { (ps : List Point) → IsRectilinearCycle ps ↔ form_fault ps ≡ None }
-    ensures checked { (ps : List Point) → IsRectilinearCycle ps → fault_of ps ≡ turning_fault ps }
+    ensures checked { (ps : List Point) → IsRectilinearCycle ps → cycle_fault_of ps ≡ turning_fault ps }
 {}
 
 /// The winding number of a rectilinear cycle counts its crossings of the ray that leads left from the pixel's centre,

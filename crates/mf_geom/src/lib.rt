@@ -4,15 +4,13 @@
 
 mod check;
 mod cycle;
-mod edge;
 pub mod laws;
-mod memory;
 mod path;
 mod point;
+mod segment;
 mod winding;
 
 pub use check::Check;
 pub use cycle::{Cycle, CycleFault};
-pub use memory::OutOfMemory;
 pub use path::MAX_POINTS;
 pub use point::{MAX_COORDINATE, Point};

@@ -1,14 +1,15 @@
 //! Closed paths as slices of their points: why one is not a cycle, where it turns straight back, its turning number and
 //! its area.
-ghost use Rattle.std.specs.Prelude.{◌≡◌, ◌↔◌, ℕ, ◌<◌, ◌≤◌, pos, length, true, false, IfNone, IfSome, IsTrue};
+ghost use Rattle.std.specs.Prelude.{◌≡◌, ◌↔◌, ℕ, ◌<◌, ◌≤◌, length, true, false, IfNone, IfSome, IsTrue};
+ghost use Rattle.mf_geom.specs.declared.path.TheConstants.{MAX_POINTS};
 ghost use Rattle.mf_geom.specs.Area.{area};
-ghost use Rattle.mf_geom.specs.Lawful.{IsFault, IsFirst, IsRectilinearCycle, HasLawfulLength, StaysInReach};
-ghost use Rattle.mf_geom.specs.Path.{point_at, edge_at, arriving, IsInReach, IsRectilinear, IsReversal};
+ghost use Rattle.mf_geom.specs.Lawful.{IsFault, IsFirst, IsRectilinearCycle, HasLawfulLength, StaysInRange};
+ghost use Rattle.mf_geom.specs.Path.{point_at, segment_at, arriving, IsInRange, IsRectilinear, IsReversal};
 ghost use Rattle.mf_geom.specs.Turning.{turning};
 
 use crate::cycle::CycleFault;
-use crate::edge::{is_rectilinear, is_reversal, shoelace, turn};
 use crate::point::{MAX_COORDINATE, Point};
+use crate::segment::{is_rectilinear, is_reversal, shoelace, turn};
 
 /// The least number of points of a cycle (`CycleFault::TooFewPoints`).
 const MIN_POINTS: usize = 2;
@@ -29,7 +30,7 @@ pub fn form_fault(points: &[Point]) -> Option<CycleFault>
     if points.len() > MAX_POINTS {
         return Some(CycleFault::TooManyPoints);
     }
-    if let Some(place) = first_out_of_reach(points) {
+    if let Some(place) = first_out_of_range(points) {
         return Some(CycleFault::PointOutOfRange(place));
     }
     match first_not_rectilinear(points) {
@@ -40,7 +41,7 @@ pub fn form_fault(points: &[Point]) -> Option<CycleFault>
 
 /// The turning number of a closed path.
 pub fn turning(points: &[Point]) -> i32
-    requires { StaysInReach points.now }
+    requires { StaysInRange points.now }
     ensures { result ≡ turning points.now }
 {
     let mut quarter_turns = 0;
@@ -52,46 +53,46 @@ pub fn turning(points: &[Point]) -> i32
 
 /// The signed area of a closed path.
 pub fn area(points: &[Point]) -> i64
-    requires { StaysInReach points.now }
+    requires { StaysInRange points.now }
     ensures { result ≡ area points.now }
 {
     let mut doubled = 0;
-    for edge in 0..points.len() {
-        doubled += i64::from(shoelace(points, edge));
+    for segment in 0..points.len() {
+        doubled += i64::from(shoelace(points, segment));
     }
     doubled / 2
 }
 
-/// The index of the first point out of reach.
-fn first_out_of_reach(points: &[Point]) -> Option<u32>
+/// The index of the first point out of range.
+fn first_out_of_range(points: &[Point]) -> Option<u32>
     requires { HasLawfulLength points.now }
-    ensures none { IfNone result ((k : ℕ) → k < length points.now → IsInReach (point_at points.now k)) }
-    ensures some { IfSome result (IsFirst (length points.now) (λ k. ¬ IsInReach (point_at points.now k))) }
+    ensures none { IfNone result ((k : ℕ) → k < length points.now → IsInRange (point_at points.now k)) }
+    ensures some { IfSome result (IsFirst (length points.now) (λ k. ¬ IsInRange (point_at points.now k))) }
 {
-    first_place(points.len(), |place| !is_in_reach(points[place]))
+    first_place(points.len(), |place| !is_in_range(points[place]))
 }
 
-/// The index of the first edge that is not rectilinear.
+/// The index of the first segment that is not rectilinear.
 fn first_not_rectilinear(points: &[Point]) -> Option<u32>
-    requires { StaysInReach points.now }
-    ensures none { IfNone result ((k : ℕ) → k < length points.now → IsRectilinear (edge_at points.now k)) }
-    ensures some { IfSome result (IsFirst (length points.now) (λ k. ¬ IsRectilinear (edge_at points.now k))) }
+    requires { StaysInRange points.now }
+    ensures none { IfNone result ((k : ℕ) → k < length points.now → IsRectilinear (segment_at points.now k)) }
+    ensures some { IfSome result (IsFirst (length points.now) (λ k. ¬ IsRectilinear (segment_at points.now k))) }
 {
-    first_place(points.len(), |edge| !is_rectilinear(points, edge))
+    first_place(points.len(), |segment| !is_rectilinear(points, segment))
 }
 
 /// The first vertex at which the path turns straight back.
 pub fn first_reversal(points: &[Point]) -> Option<u32>
-    requires { StaysInReach points.now }
-    ensures none { IfNone result ((k : ℕ) → k < length points.now → IsReversal (arriving points.now k) (edge_at points.now k) → ⊥) }
-    ensures some { IfSome result (IsFirst (length points.now) (λ k. IsReversal (arriving points.now k) (edge_at points.now k))) }
+    requires { StaysInRange points.now }
+    ensures none { IfNone result ((k : ℕ) → k < length points.now → IsReversal (arriving points.now k) (segment_at points.now k) → ⊥) }
+    ensures some { IfSome result (IsFirst (length points.now) (λ k. IsReversal (arriving points.now k) (segment_at points.now k))) }
 {
     first_place(points.len(), |vertex| is_reversal(points, vertex))
 }
 
 /// The first index below `count` for which `at_fault` answers true.
 fn first_place<F: Fn(usize) -> bool>(count: usize, at_fault: F) -> Option<u32>
-    requires few { count ≤ 4096 }
+    requires few { count ≤ MAX_POINTS }
     requires callable { (k : ℕ) → k < count → F.pre at_fault k }
     ensures none { IfNone result ((k : ℕ) → k < count → F.post at_fault k false) }
     ensures some { IfSome result (λ i. (i < count) × F.post at_fault i true × ((k : ℕ) → k < i → F.post at_fault k false)) }
@@ -104,10 +105,10 @@ fn first_place<F: Fn(usize) -> bool>(count: usize, at_fault: F) -> Option<u32>
     None
 }
 
-/// Whether both coordinates of a point are in reach.
-fn is_in_reach(point: Point) -> bool
-    ensures { IsTrue result ↔ IsInReach point }
+/// Whether both coordinates of a point are in range.
+fn is_in_range(point: Point) -> bool
+    ensures { IsTrue result ↔ IsInRange point }
 {
-    let reach = -MAX_COORDINATE..=MAX_COORDINATE;
-    reach.contains(&point.x) && reach.contains(&point.y)
+    let range = -MAX_COORDINATE..=MAX_COORDINATE;
+    range.contains(&point.x) && range.contains(&point.y)
 }

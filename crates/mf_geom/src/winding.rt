@@ -1,11 +1,11 @@
 //! How often a closed path winds round a pixel.
 ghost use Rattle.std.specs.Prelude.{◌≡◌, ◌<◌, pos, negsuc, ◌≤ℤ◌, length};
 ghost use Rattle.mf_geom.specs.Crossing.{passed, crossing_at};
-ghost use Rattle.mf_geom.specs.Lawful.{IsRectilinearCycle, StaysInReach};
+ghost use Rattle.mf_geom.specs.Lawful.{IsRectilinearCycle, StaysInRange};
 ghost use Rattle.mf_geom.specs.Winding.{winding};
 
-use crate::edge::ends;
 use crate::point::Point;
+use crate::segment::ends;
 
 /// The winding number of a closed path round the pixel (x, y), counted at a ray from its centre (the law
 /// `winding_counts_crossings`).
@@ -16,22 +16,22 @@ pub fn winding(points: &[Point], x: i32, y: i32) -> i32
     ensures greatest { result ≤ℤ pos 4096 }
 {
     let mut crossings = 0;
-    for edge in 0..points.len() {
-        crossings += crossing(points, edge, x, y);
+    for segment in 0..points.len() {
+        crossings += crossing(points, segment, x, y);
     }
     crossings
 }
 
-/// How an edge crosses the ray that leads left from the centre of the pixel (x, y): 1 downwards,
+/// How a segment crosses the ray that leads left from the centre of the pixel (x, y): 1 downwards,
 /// -1 upwards, 0 not at all.
-fn crossing(points: &[Point], edge: usize, x: i32, y: i32) -> i32
-    requires reach { StaysInReach points.now }
-    requires within { edge < length points.now }
-    ensures value { result ≡ crossing_at points.now x y edge }
+fn crossing(points: &[Point], segment: usize, x: i32, y: i32) -> i32
+    requires range { StaysInRange points.now }
+    requires within { segment < length points.now }
+    ensures value { result ≡ crossing_at points.now x y segment }
     ensures least { negsuc 0 ≤ℤ result }
     ensures greatest { result ≤ℤ pos 1 }
 {
-    let (from, to) = ends(points, edge);
+    let (from, to) = ends(points, segment);
     if x < from.x {
         return 0;
     }

@@ -39,7 +39,8 @@ black-runs : (rs : List Run) → black (flat_map dots_of rs) ≡ flat_map dots_o
 unfolding black blacks dots_of
 black-runs [] = refl
 black-runs (r ∷ rs) =
-    cond_both (int_lt (pos 0) r.weight) (record { y = r.y; x = r.x; len = r.len; weight = pos 1 } ∷ blacks rs) (blacks rs) (λ all. black (dots_of r ++ flat_map dots_of rs) ≡ flat_map dots_of all)
+    cond_both (int_lt (pos 0) r.weight) (record { y = r.y; x = r.x; len = r.len; weight = pos 1 } ∷ blacks rs)
+    (blacks rs) (λ all. black (dots_of r ++ flat_map dots_of rs) ≡ flat_map dots_of all)
     (λ yes. black-stretch r.y r.x r.weight r.len (flat_map dots_of rs) yes ∙ ap (λ dots. stretch r.y r.x (pos 1) r.len ++ dots) (black-runs rs))
     (λ no. black-skip r.y r.x r.weight r.len (flat_map dots_of rs) no ∙ black-runs rs)
 
@@ -114,7 +115,8 @@ blacks_in_order ds picture = record {
 -- ---- the runs of an iterator, passed one after another
 
 -- a run of positive weight is the next black run
-pub black_taken : (rs others : List Run) (r : Run) → rs ≡ r ∷ others → int_lt (pos 0) r.weight ≡ true → blacks rs ≡ record { y = r.y; x = r.x; len = r.len; weight = pos 1 } ∷ blacks others
+pub black_taken : (rs others : List Run) (r : Run) → rs ≡ r ∷ others → int_lt (pos 0) r.weight ≡ true
+    → blacks rs ≡ record { y = r.y; x = r.x; len = r.len; weight = pos 1 } ∷ blacks others
 unfolding blacks
 black_taken rs others r first positive =
     ap blacks first ∙ cond-true (int_lt (pos 0) r.weight) (record { y = r.y; x = r.x; len = r.len; weight = pos 1 } ∷ blacks others) (blacks others) positive
@@ -123,7 +125,8 @@ black_taken rs others r first positive =
 pub other_passed : (rs others : List Run) (r : Run) → rs ≡ r ∷ others → int_lt (pos 0) r.weight ≡ false → blacks rs ≡ blacks others
 unfolding blacks
 other_passed rs others r first not_positive =
-    ap blacks first ∙ cond-false (int_lt (pos 0) r.weight) (record { y = r.y; x = r.x; len = r.len; weight = pos 1 } ∷ blacks others) (blacks others) not_positive
+    ap blacks first ∙ cond-false (int_lt (pos 0) r.weight) (record { y = r.y; x = r.x; len = r.len; weight = pos 1 } ∷ blacks others)
+    (blacks others) not_positive
 
 pub blacks-none : (rs : List Run) → rs ≡ [] → blacks rs ≡ []
 unfolding blacks

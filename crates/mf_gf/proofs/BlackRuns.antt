@@ -1,9 +1,10 @@
 -- The runs of a set of pixels, as stretches of black pixels that a pen can paint one after another.
-use Rattle.std.proofs.Common.{◌≡◌, ℤ, pos, negsuc, ◌+ℤ◌, ◌≤ℤ◌, List, [], ◌∷◌, sym, subst, subst₂, arith}
+use Rattle.std.proofs.Common.{◌≡◌, ℤ, pos, ◌+ℤ◌, ◌≤ℤ◌, List, [], ◌∷◌, sym, subst, subst₂, arith}
 use Rattle.std.specs.List.{All}
 use Rattle.std.proofs.lemmas.Bool.{cond_both}
 use Rattle.std.proofs.lemmas.Int.{ints}
 use Rattle.std.proofs.lemmas.List.Elements.{All-head, All-tail}
+use Rattle.mf_geom.specs.Coordinates.{least_coordinate, last_in_field}
 use Rattle.mf_rows.specs.declared.run.Run.{Run}
 use Rattle.mf_rows.specs.Dots.{Dot, IsDot, AreDotsFrom, place}
 use Rattle.mf_rows.specs.Runs.{continues, run_from, with_dot, runs_of, IsFollowedBy}
@@ -12,7 +13,8 @@ use Rattle.mf_rows.proofs.RunsLemmas.{continued}
 use Rattle.mf_gf.proofs.DrawnRows.{IsNext, AreNext}
 
 -- a dot of weight 1 at a place or after it is a stretch that the pen can go to
-next_dot : (left row column : ℤ) (d : Dot) → negsuc 4094 ≤ℤ left → left ≤ℤ column → row ≤ℤ pos 4094 → IsDot d → d.weight ≡ pos 1 → left ≤ℤ d.x → place column row ≤ℤ place d.x d.y → IsNext left row column (run_from d 0)
+next_dot : (left row column : ℤ) (d : Dot) → least_coordinate ≤ℤ left → left ≤ℤ column → row ≤ℤ last_in_field → IsDot d
+    → d.weight ≡ pos 1 → left ≤ℤ d.x → place column row ≤ℤ place d.x d.y → IsNext left row column (run_from d 0)
 unfolding run_from place
 next_dot left row column d field_left column_left field_top dot one start behind =
     let field = dot.in_field in
@@ -29,7 +31,8 @@ next_dot left row column d field_left column_left field_top dot one start behind
     }
 
 -- so is the run that this dot lengthens
-next_longer : (left row column : ℤ) (d : Dot) (r : Run) → IsNext left row column (run_from d 0) → IsFollowedBy (run_from d 0) r → IsNext left d.y (d.x +ℤ pos 1) r → IsNext left row column (run_from d r.len)
+next_longer : (left row column : ℤ) (d : Dot) (r : Run) → IsNext left row column (run_from d 0)
+    → IsFollowedBy (run_from d 0) r → IsNext left d.y (d.x +ℤ pos 1) r → IsNext left row column (run_from d r.len)
 unfolding run_from
 next_longer left row column d r first joined next = record {
   weight = first.weight;
@@ -43,7 +46,8 @@ next_longer left row column d r first joined next = record {
   behind = first.behind;
 }
 
-next_with_dot : (left row column : ℤ) (d : Dot) (rs : List Run) → IsNext left row column (run_from d 0) → AreNext left d.y (d.x +ℤ pos 1) rs → AreNext left row column (with_dot d rs)
+next_with_dot : (left row column : ℤ) (d : Dot) (rs : List Run) → IsNext left row column (run_from d 0)
+    → AreNext left d.y (d.x +ℤ pos 1) rs → AreNext left row column (with_dot d rs)
 unfolding with_dot run_from
 next_with_dot left row column d [] first others = (first, tt)
 next_with_dot left row column d (r ∷ rs) first others =
@@ -56,7 +60,8 @@ next_with_dot left row column d (r ∷ rs) first others =
     (λ no. (first, others))
 
 -- the pen can go from run to run, starting at a place before the first one
-pub next_runs : (left row column : ℤ) (ds : List Dot) → negsuc 4094 ≤ℤ left → left ≤ℤ column → row ≤ℤ pos 4094 → AreDotsFrom (place column row) ds → All (λ d. d.weight ≡ pos 1) ds → All (λ d. left ≤ℤ d.x) ds → AreNext left row column (runs_of ds)
+pub next_runs : (left row column : ℤ) (ds : List Dot) → least_coordinate ≤ℤ left → left ≤ℤ column → row ≤ℤ last_in_field
+    → AreDotsFrom (place column row) ds → All (λ d. d.weight ≡ pos 1) ds → All (λ d. left ≤ℤ d.x) ds → AreNext left row column (runs_of ds)
 unfolding runs_of
 next_runs left row column [] field_left column_left field_top dots ones starts = tt
 next_runs left row column (d ∷ ds) field_left column_left field_top dots ones starts =

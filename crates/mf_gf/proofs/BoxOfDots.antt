@@ -6,24 +6,24 @@ use Rattle.std.proofs.lemmas.Bool.{cond_both, cond-true, cond-false, and_parts, 
 use Rattle.std.proofs.lemmas.Bool.Decides.{Decides-int_eq}
 use Rattle.std.proofs.lemmas.Int.{ints, clamps}
 use Rattle.std.proofs.lemmas.List.Elements.{All-head, All-cons, All-nil, All-weaker}
+use Rattle.mf_geom.specs.Coordinates.{least_coordinate, last_in_field, IsCoordinate}
 use Rattle.byteorder.specs.Endian.{big_number, twos_complement}
 use Rattle.byteorder.specs.Numbers.{big_number-reads_back}
 use Rattle.mf_rows.specs.Dots.{Dot, IsDot, AreDotsFrom, place}
 use Rattle.mf_gf.specs.declared.boxes.CharacterBox.{CharacterBox}
-use Rattle.mf_gf.specs.Boxes.{box_of, box_of_pixel, joined}
+use Rattle.mf_gf.specs.Boxes.{box_of, box_of_pixel, join}
 use Rattle.mf_gf.specs.Numbers.{IsWord, word}
 use Rattle.mf_gf.specs.Painting as painting
-use Rattle.mf_gf.specs.Painting.{drawn_from, drawn_in, head_of}
-use Rattle.mf_gf.specs.Places.{IsInReach}
+use Rattle.mf_gf.specs.Painting.{pixels_from, pixels_in, head_of}
 use Rattle.mf_gf.proofs.BoxesInReach.{IsBoxInReach}
 use Rattle.mf_gf.specs.Spelling.{is_byte, is_short, short_begin, long_begin, begin}
 
 -- the left end and the top of a box are coordinates that the field allows
 pub record IsSmall (b : CharacterBox) : Type 0 where
-  pub left : negsuc 4094 ≤ℤ b.min_m
-  pub right : b.min_m ≤ℤ pos 4094
-  pub bottom : negsuc 4094 ≤ℤ b.max_n
-  pub top : b.max_n ≤ℤ pos 4094
+  pub left : least_coordinate ≤ℤ b.min_m
+  pub right : b.min_m ≤ℤ last_in_field
+  pub bottom : least_coordinate ≤ℤ b.max_n
+  pub top : b.max_n ≤ℤ last_in_field
 
 -- a pixel lies in the first column of a box or to the right of it, and in its top row or below
 pub record StandsIn (b : CharacterBox) (d : Dot) : Type 0 where
@@ -41,20 +41,29 @@ box_round_pixel d dot = record {
   dots = All-cons (StandsIn (box_of_pixel d)) d [] (record { column = omega (arith, ints); row = omega (arith, ints) }) (All-nil (StandsIn (box_of_pixel d)));
 }
 
-box_round_more : (b : CharacterBox) (d : Dot) (ds : List Dot) → IsDot d → IsBoxRound b ds → IsBoxRound (joined (box_of_pixel d) b) (d ∷ ds)
+box_round_more : (b : CharacterBox) (d : Dot) (ds : List Dot) → IsDot d → IsBoxRound b ds → IsBoxRound (join (box_of_pixel d) b) (d ∷ ds)
 box_round_more b d ds dot others =
-    let all = joined (box_of_pixel d) b in
+    let all = join (box_of_pixel d) b in
     let field = dot.in_field in
     let small = others.small in
     record {
-      small = record { left = omega (arith, ints, clamps, field, small); right = omega (arith, ints, clamps, field, small); bottom = omega (arith, ints, clamps, field, small); top = omega (arith, ints, clamps, field, small) };
+      small = record {
+        left = omega (arith, ints, clamps, field, small);
+        right = omega (arith, ints, clamps, field, small);
+        bottom = omega (arith, ints, clamps, field, small);
+        top = omega (arith, ints, clamps, field, small);
+      };
       dots = All-cons (StandsIn all) d ds (record { column = omega (arith, ints, clamps); row = omega (arith, ints, clamps) })
-          (All-weaker (StandsIn b) (StandsIn all) (λ e stands. record { column = omega (arith, ints, clamps, stands); row = omega (arith, ints, clamps, stands) }) ds others.dots);
+          (All-weaker (StandsIn b) (StandsIn all)
+          (λ e stands. record { column = omega (arith, ints, clamps, stands); row = omega (arith, ints, clamps, stands) }) ds others.dots);
     }
 
 pub box_round_dots : (low : ℤ) (ds : List Dot) → AreDotsFrom low ds → IsBoxRound (box_of ds) ds
 unfolding box_of
-box_round_dots low [] dots = record { small = record { left = omega (arith, ints); right = omega (arith, ints); bottom = omega (arith, ints); top = omega (arith, ints) }; dots = All-nil (StandsIn (box_of [])) }
+box_round_dots low [] dots = record {
+  small = record { left = omega (arith, ints); right = omega (arith, ints); bottom = omega (arith, ints); top = omega (arith, ints) };
+  dots = All-nil (StandsIn (box_of []));
+}
 box_round_dots low (d ∷ []) dots = box_round_pixel d dots.0
 box_round_dots low (d ∷ e ∷ ds) dots = box_round_more (box_of (e ∷ ds)) d (e ∷ ds) dots.0 (box_round_dots (place d.x d.y +ℤ pos 1) (e ∷ ds) dots.2)
 
@@ -78,7 +87,7 @@ word-reads_back (negsuc n) rest fits =
     ∙ omega (arith, ints)
 
 -- coordinates that the field allows are such numbers
-reach_fits : (z : ℤ) → IsInReach z → IsWord z
+reach_fits : (z : ℤ) → IsCoordinate z → IsWord z
 reach_fits z reach = record { least = omega (arith, ints, reach.least); greatest = omega (arith, ints, reach.greatest) }
 
 byte-reads_back : (z : ℤ) → is_byte z ≡ true → pos (unsigned_abs z) ≡ z
@@ -126,12 +135,12 @@ head-begin code p b rest fits p_fits reach =
     λ t. Some (record { code = code_is t; earlier = earlier_is t; box = record { min_m = left t; max_m = right t; min_n = bottom t; max_n = top t } }))
 
 -- so the commands after them start at the left end and the top of the box
-pub paint-begin : (code : ℕ) (p : ℤ) (b : CharacterBox) (rest : List ℕ) → IsBoxInReach b → painting.paint (begin code p b ++ rest) ≡ drawn_in b rest
+pub paint-begin : (code : ℕ) (p : ℤ) (b : CharacterBox) (rest : List ℕ) → IsBoxInReach b → painting.paint (begin code p b ++ rest) ≡ pixels_in b rest
 unfolding painting.paint
 paint-begin code p b rest reach =
-    cond_both (int_eq p (negsuc 0) && is_short b) (short_begin code b) (long_begin code p b) (λ bytes. painting.paint (bytes ++ rest) ≡ drawn_in b rest)
-    (λ short. let back = short-reads_back b (and_parts (int_eq p (negsuc 0)) (is_short b) short).1 in ap₂ (λ l t. drawn_from l t rest) back.left back.top)
+    cond_both (int_eq p (negsuc 0) && is_short b) (short_begin code b) (long_begin code p b) (λ bytes. painting.paint (bytes ++ rest) ≡ pixels_in b rest)
+    (λ short. let back = short-reads_back b (and_parts (int_eq p (negsuc 0)) (is_short b) short).1 in ap₂ (λ l t. pixels_from l t rest) back.left back.top)
     (λ long.
-    ap₂ (λ l t. drawn_from l t rest)
+    ap₂ (λ l t. pixels_from l t rest)
     (word-reads_back b.min_m (word b.max_m ++ word b.min_n ++ word b.max_n ++ rest) (reach_fits _ reach.columns.0))
     (word-reads_back b.max_n rest (reach_fits _ reach.rows.1)))

@@ -5,6 +5,7 @@ use Rattle.std.specs.Int.{int_max, int_min}
 use Rattle.std.specs.List.{flat_map}
 use Rattle.std.proofs.lemmas.Bool.{cond_both}
 use Rattle.std.proofs.lemmas.Int.{ints}
+use Rattle.mf_geom.specs.Coordinates.{IsCoordinate}
 use Rattle.mf_rows.specs.Dots.{Dot, IsDot, IsPicture, AreDotsFrom, place}
 use Rattle.mf_rows.specs.Runs.{dots_of, runs_of}
 use Rattle.mf_rows.proofs.RunsLemmas.{dots_of-runs_of}
@@ -12,18 +13,17 @@ use Rattle.mf_gf.specs.declared.boxes.CharacterBox.{CharacterBox}
 use Rattle.mf_gf.specs.declared.stretches.Stretches.{Stretches}
 use Rattle.mf_gf.specs.Ahead.{AreInOrder, blacks_ahead, stretches_left}
 use Rattle.mf_gf.specs.Boxes.{box_of, box_of_pixel}
-use Rattle.mf_gf.specs.Places.{IsInReach}
 use Rattle.mf_gf.proofs.SpelledRows.{picture_from}
 
 pub record IsBoxInReach (b : CharacterBox) : Type 0 where
-  pub columns : IsInReach b.min_m × IsInReach b.max_m
-  pub rows : IsInReach b.min_n × IsInReach b.max_n
+  pub columns : IsCoordinate b.min_m × IsCoordinate b.max_m
+  pub rows : IsCoordinate b.min_n × IsCoordinate b.max_n
 
-min_in_reach : (x y : ℤ) → IsInReach x → IsInReach y → IsInReach (int_min x y)
-min_in_reach x y first second = cond_both (int_lt y x) y x IsInReach (λ _. second) (λ _. first)
+min_in_reach : (x y : ℤ) → IsCoordinate x → IsCoordinate y → IsCoordinate (int_min x y)
+min_in_reach x y first second = cond_both (int_lt y x) y x IsCoordinate (λ _. second) (λ _. first)
 
-max_in_reach : (x y : ℤ) → IsInReach x → IsInReach y → IsInReach (int_max x y)
-max_in_reach x y first second = cond_both (int_lt y x) x y IsInReach (λ _. first) (λ _. second)
+max_in_reach : (x y : ℤ) → IsCoordinate x → IsCoordinate y → IsCoordinate (int_max x y)
+max_in_reach x y first second = cond_both (int_lt y x) x y IsCoordinate (λ _. first) (λ _. second)
 
 pixel_in_reach : (d : Dot) → IsDot d → IsBoxInReach (box_of_pixel d)
 pixel_in_reach d dot =
@@ -42,7 +42,7 @@ pixel_in_reach d dot =
 pub box_from : (low : ℤ) (ds : List Dot) → AreDotsFrom low ds → IsBoxInReach (box_of ds)
 unfolding box_of
 box_from low [] dots =
-    let zero : IsInReach (pos 0) = record { least = omega (arith, ints); greatest = omega (arith, ints) } in
+    let zero : IsCoordinate (pos 0) = record { least = omega (arith, ints); greatest = omega (arith, ints) } in
     record { columns = (zero, zero); rows = (zero, zero) }
 box_from low (d ∷ []) dots = pixel_in_reach d dots.0
 box_from low (d ∷ e ∷ ds) dots =
@@ -60,5 +60,6 @@ picture_ahead s ds order ahead =
     let same : dots ≡ ds = sym (dots_of-runs_of dots) ∙ ap (flat_map dots_of) ahead ∙ dots_of-runs_of ds in
     subst IsPicture same (picture_from order.low dots order.dots)
 
-pub bounds_in_reach : (s : Stretches) (ds : List Dot) (b : CharacterBox) → b ≡ box_of ds → AreInOrder (blacks_ahead s) → stretches_left s ≡ runs_of ds → IsBoxInReach b
+pub bounds_in_reach : (s : Stretches) (ds : List Dot) (b : CharacterBox) → b ≡ box_of ds → AreInOrder (blacks_ahead s)
+    → stretches_left s ≡ runs_of ds → IsBoxInReach b
 bounds_in_reach s ds b bounds order ahead = subst IsBoxInReach (sym bounds) (box_from _ ds (picture_ahead s ds order ahead).dots)

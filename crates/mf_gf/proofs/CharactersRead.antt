@@ -23,7 +23,8 @@ use Rattle.mf_gf.proofs.Shipped.{shipment_after}
 
 -- ---- one character
 
-pub head-spell : (code : ℕ) (p : ℤ) (ds : List Dot) (rest : List ℕ) → code < 256 → IsWord p → IsPixelSet ds → head_of (spell code p ds ++ rest) ≡ Some (record { code = pos code; earlier = p; box = box_of ds })
+pub head-spell : (code : ℕ) (p : ℤ) (ds : List Dot) (rest : List ℕ) → code < 256 → IsWord p → IsPixelSet ds
+    → head_of (spell code p ds ++ rest) ≡ Some (record { code = pos code; earlier = p; box = box_of ds })
 unfolding spell
 head-spell code p ds rest fits p_fits set =
     let b = box_of ds in
@@ -47,7 +48,8 @@ is_at file s p stands fits =
     record {
       head = ap head_of stands.there ∙ head-spell c.code p c.black stands.rest shippable.code fits shippable.black;
       count = length bytes;
-      painted = ap (λ it. paint (take (length bytes) it)) stands.there ∙ ap paint (take-append_seam bytes stands.rest) ∙ paint-spell c.code p c.black shippable.black;
+      painted = ap (λ it. paint (take (length bytes) it)) stands.there ∙ ap paint (take-append_seam bytes stands.rest)
+          ∙ paint-spell c.code p c.black shippable.black;
     }
 
 -- ---- all of them
@@ -62,14 +64,16 @@ stands_before bytes more s p stands = record {
   shippable = stands.shippable;
   before = let both = length-append bytes more in omega (arith, both, stands.before);
   rest = stands.rest ++ more;
-  there = drop-append-le s.place bytes more stands.before ∙ ap (λ it. it ++ more) stands.there ∙ append_assoc (spell s.character.code p s.character.black) stands.rest more;
+  there = drop-append-le s.place bytes more stands.before ∙ ap (λ it. it ++ more) stands.there
+      ∙ append_assoc (spell s.character.code p s.character.black) stands.rest more;
 }
 
 pub all_before : (bytes more : List ℕ) (shipped : List Shipment) → AllStand bytes shipped → AllStand (bytes ++ more) shipped
 all_before bytes more [] stand = tt
 all_before bytes more (s ∷ shipped) stand = (stands_before bytes more s _ stand.0, all_before bytes more shipped stand.1)
 
-one_stands : (f : FileSoFar) (c : Character) → IsShippable c → StandsAt (f.bytes ++ spell_after f c) (shipment_after f.bytes c) (pointer (last_place c.code f.shipped))
+one_stands : (f : FileSoFar) (c : Character) → IsShippable c
+    → StandsAt (f.bytes ++ spell_after f c) (shipment_after f.bytes c) (pointer (last_place c.code f.shipped))
 one_stands f c shippable = record {
   shippable = shippable;
   before = let both = length-append f.bytes (spell_after f c) in omega (arith, both);
@@ -77,11 +81,13 @@ one_stands f c shippable = record {
   there = drop-append_seam f.bytes (spell_after f c) ∙ sym (append-nil (spell_after f c));
 }
 
-stand_from : (f : FileSoFar) (cs : List Character) → All IsShippable cs → AllStand f.bytes f.shipped → AllStand (with_characters f cs).bytes (with_characters f cs).shipped
+stand_from : (f : FileSoFar) (cs : List Character) → All IsShippable cs → AllStand f.bytes f.shipped
+    → AllStand (with_characters f cs).bytes (with_characters f cs).shipped
 unfolding with_characters
 stand_from f [] shippable stand = stand
 stand_from f (c ∷ cs) shippable stand =
-    stand_from (with_character f c) cs (All-tail IsShippable c cs shippable) (one_stands f c (All-head IsShippable c cs shippable), all_before f.bytes (spell_after f c) f.shipped stand)
+    stand_from (with_character f c) cs (All-tail IsShippable c cs shippable)
+    (one_stands f c (All-head IsShippable c cs shippable), all_before f.bytes (spell_after f c) f.shipped stand)
 
 pub all_stand : (comment : List ℕ) (cs : List Character) → All IsShippable cs → AllStand (front comment cs) (shipments comment cs)
 all_stand comment cs shippable = stand_from _ cs shippable tt
@@ -91,7 +97,8 @@ pub record LastStands (bytes : List ℕ) (s : Shipment) : Type 0 where
   pub p : ℤ
   pub stands : StandsAt bytes s p
 
-pub last_stands : (bytes : List ℕ) (code : ℕ) (s : Shipment) (shipped : List Shipment) → AllStand bytes shipped → last_of code shipped ≡ Some s → LastStands bytes s
+pub last_stands : (bytes : List ℕ) (code : ℕ) (s : Shipment) (shipped : List Shipment) → AllStand bytes shipped
+    → last_of code shipped ≡ Some s → LastStands bytes s
 unfolding last_of
 last_stands bytes code s [] stand is = absurd (cc)
 last_stands bytes code s (t ∷ shipped) stand is =
@@ -100,7 +107,8 @@ last_stands bytes code s (t ∷ shipped) stand is =
     (λ no found. last_stands bytes code s shipped stand.1 found) is
 
 -- p is a signed number of four bytes
-pointer_fits : (bytes : List ℕ) (code : ℕ) (shipped : List Shipment) → length bytes < 2147483648 → AllStand bytes shipped → IsWord (pointer (last_place code shipped))
+pointer_fits : (bytes : List ℕ) (code : ℕ) (shipped : List Shipment) → length bytes < 2147483648
+    → AllStand bytes shipped → IsWord (pointer (last_place code shipped))
 unfolding last_of
 pointer_fits bytes code [] short stand = record { least = omega (arith, ints); greatest = omega (arith, ints) }
 pointer_fits bytes code (s ∷ shipped) short stand =
@@ -131,8 +139,14 @@ leads_back front file code (s ∷ shipped) short stand whole =
     (λ yes.
     let same = eqb-true own code yes in
     let p = pointer (last_place own shipped) in
-    let this = is_at file s p whole.0 (pointer_fits front own shipped short stand.1) in
-    (s.place, refl, p, this, subst (λ c. LeadsBack file (pointer (last_place c shipped)) (of_code code (map character_of shipped))) (sym same) (leads_back front file code shipped short stand.1 whole.1)))
+    let this = is_at file s p whole.0 (pointer_fits front own shipped short stand.1) in (
+      s.place,
+      refl,
+      p,
+      this,
+      subst (λ c. LeadsBack file (pointer (last_place c shipped)) (of_code code (map character_of shipped))) (sym same)
+          (leads_back front file code shipped short stand.1 whole.1),
+    ))
     (λ no. leads_back front file code shipped short stand.1 whole.1)
 
 -- c is the first of these characters
@@ -140,12 +154,14 @@ pub record BeginsWith (cs : List Character) (c : Character) : Type 0 where
   pub others : List Character
   pub all : cs ≡ c ∷ others
 
-pub last_is_first : (code : ℕ) (s : Shipment) (shipped : List Shipment) → last_of code shipped ≡ Some s → BeginsWith (of_code code (map character_of shipped)) s.character
+pub last_is_first : (code : ℕ) (s : Shipment) (shipped : List Shipment) → last_of code shipped ≡ Some s
+    → BeginsWith (of_code code (map character_of shipped)) s.character
 unfolding last_of
 last_is_first code s [] is = absurd (cc)
 last_is_first code s (t ∷ shipped) is =
     let others = of_code code (map character_of shipped) in
-    split (λ test. (if test then Some t else last_of code shipped) ≡ Some s → BeginsWith (if test then t.character ∷ others else others) s.character) (t.character.code == code)
+    split (λ test. (if test then Some t else last_of code shipped) ≡ Some s → BeginsWith (if test then t.character ∷ others else others) s.character)
+    (t.character.code == code)
     (λ yes found. let same : t ≡ s = cc in record { others = others; all = ap (λ (it : Shipment). it.character ∷ others) same })
     (λ no found. last_is_first code s shipped found) is
 
@@ -170,7 +186,8 @@ has_last code shipped = is_some (last_of code shipped)
 has_last-cons : (code : ℕ) (s : Shipment) (shipped : List Shipment) → has_last code (s ∷ shipped) ≡ ((s.character.code == code) || has_last code shipped)
 unfolding last_of
 has_last-cons code s shipped =
-    split (λ test. is_some (if test then Some s else last_of code shipped) ≡ (test || has_last code shipped)) (s.character.code == code) (λ yes. refl) (λ no. refl)
+    split (λ test. is_some (if test then Some s else last_of code shipped) ≡ (test || has_last code shipped))
+    (s.character.code == code) (λ yes. refl) (λ no. refl)
 
 or_swap : (a b c : Bool) → ((a || b) || c) ≡ (b || (a || c))
 or_swap true true c = refl
@@ -182,7 +199,8 @@ or_none : (a : Bool) → a ≡ (a || false)
 or_none true = refl
 or_none false = refl
 
-has_last-with : (code : ℕ) (f : FileSoFar) (cs : List Character) → has_last code (with_characters f cs).shipped ≡ (has_last code f.shipped || list_any (λ (c : Character). c.code == code) cs)
+has_last-with : (code : ℕ) (f : FileSoFar) (cs : List Character)
+    → has_last code (with_characters f cs).shipped ≡ (has_last code f.shipped || list_any (λ (c : Character). c.code == code) cs)
 unfolding with_characters
 has_last-with code f [] = or_none (has_last code f.shipped)
 has_last-with code f (c ∷ cs) =
@@ -190,6 +208,7 @@ has_last-with code f (c ∷ cs) =
     ∙ ap (λ test. test || list_any (λ (d : Character). d.code == code) cs) (has_last-cons code (shipment_after f.bytes c) f.shipped)
     ∙ or_swap (c.code == code) (has_last code f.shipped) (list_any (λ (d : Character). d.code == code) cs)
 
-pub has_last-shipped : (code : ℕ) (comment : List ℕ) (cs : List Character) → has_last code (shipments comment cs) ≡ list_any (λ (c : Character). c.code == code) cs
+pub has_last-shipped : (code : ℕ) (comment : List ℕ) (cs : List Character)
+    → has_last code (shipments comment cs) ≡ list_any (λ (c : Character). c.code == code) cs
 unfolding last_of
 has_last-shipped code comment cs = has_last-with code _ cs

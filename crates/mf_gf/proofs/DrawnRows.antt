@@ -1,27 +1,28 @@
 -- The pixels that stretches of black pixels, painted one after another, make black.
-use Rattle.std.proofs.Common.{◌≡◌, ℕ, ◌+◌, ◌-◌, ◌≤◌, nat_le, ◌==◌, ◌&&◌, true, false, if◌then◌else◌, ℤ, pos, negsuc, ◌+ℤ◌, ◌-ℤ◌, ◌≤ℤ◌, List, [], ◌∷◌, ◌++◌, Some, option_map, refl, sym, ap, ◌∙◌, append_assoc, arith}
+use Rattle.std.proofs.Common.{◌≡◌, ℕ, ◌+◌, ◌-◌, ◌≤◌, nat_le, ◌==◌, ◌&&◌, true, false, if◌then◌else◌, ℤ, pos, ◌+ℤ◌, ◌-ℤ◌, ◌≤ℤ◌, List, [], ◌∷◌, ◌++◌, Some, option_map, refl, sym, ap, ◌∙◌, append_assoc, arith}
 use Rattle.std.specs.List.{flat_map}
 use Rattle.std.specs.Ordering.{int_eq}
 use Rattle.std.proofs.lemmas.Bool.{cond_both, and_parts, leb-true, eqb-true, false≢true}
 use Rattle.std.proofs.lemmas.Bool.Decides.{Decides-int_eq}
 use Rattle.std.proofs.lemmas.Int.{ints}
+use Rattle.mf_geom.specs.Coordinates.{least_coordinate, greatest_coordinate, last_in_field}
 use Rattle.mf_rows.specs.declared.run.Run.{Run}
 use Rattle.mf_rows.specs.Dots.{Dot}
 use Rattle.mf_rows.specs.Runs.{dots_of}
-use Rattle.mf_gf.specs.Painting.{Stroke, Paint, Skip, NewRow, Pen, drawn, pen_at, drawn_from}
-use Rattle.mf_gf.specs.Spelling.{paint, skip, new_row, between, approach, rows}
+use Rattle.mf_gf.specs.Painting.{Stroke, Paint, Skip, NewRow, Pen, pixels_of_strokes, pen_at, pixels_from}
+use Rattle.mf_gf.specs.Spelling.{paint, skip, new_row, distance, approach, rows}
 use Rattle.mf_gf.proofs.ReadBack.{Spells, spells_none, spells_one, spells_both, strokes-spelled, writes_paint, writes_skip, writes_new_row}
 
 -- a stretch of black pixels to which a pen can go from a position in the same row or above it
 pub record IsNext (left row column : ℤ) (r : Run) : Type 0 where
   pub weight : r.weight ≡ pos 1
-  pub field_left : negsuc 4094 ≤ℤ left
+  pub field_left : least_coordinate ≤ℤ left
   pub column_left : left ≤ℤ column
   pub start : left ≤ℤ r.x
-  pub end : (r.x +ℤ pos r.len) ≤ℤ pos 4095
-  pub field_top : row ≤ℤ pos 4094
+  pub end : (r.x +ℤ pos r.len) ≤ℤ greatest_coordinate
+  pub field_top : row ≤ℤ last_in_field
   pub top : r.y ≤ℤ row
-  pub bottom : negsuc 4094 ≤ℤ r.y
+  pub bottom : least_coordinate ≤ℤ r.y
   pub behind : r.y ≡ row → column ≤ℤ r.x
 
 -- stretches of black pixels, to each of which a pen can go from the end of the one before it
@@ -38,68 +39,74 @@ black_at left row column = record { row = row; column = column; left = left; is_
 
 -- while it is black, the machine paints a run
 drawn_run : (left y x : ℤ) (r : Run) (others : List Stroke) → y ≡ r.y → x ≡ r.x → r.weight ≡ pos 1
-    → drawn (black_at left y x) (Paint r.len ∷ others) ≡ dots_of r ++ drawn (white_at left r.y (r.x +ℤ pos r.len)) others
-unfolding drawn dots_of
+    → pixels_of_strokes (black_at left y x) (Paint r.len ∷ others) ≡ dots_of r ++ pixels_of_strokes (white_at left r.y (r.x +ℤ pos r.len)) others
+unfolding pixels_of_strokes dots_of
 drawn_run left y x r others row column weight = rw (row, column, weight) refl
 
 -- bytes that take the pen from a position to the start of a run
 record Approaches (left row column : ℤ) (r : Run) (bytes : List ℕ) : Type 0 where
   commands : List Stroke
   spelled : Spells bytes commands
-  drawn : (others : List Stroke) → drawn (white_at left row column) (commands ++ Paint r.len ∷ others) ≡ dots_of r ++ drawn (white_at left r.y (r.x +ℤ pos r.len)) others
+  drawn : (others : List Stroke) → pixels_of_strokes (white_at left row column) (commands ++ Paint r.len ∷ others)
+      ≡ dots_of r ++ pixels_of_strokes (white_at left r.y (r.x +ℤ pos r.len)) others
 
-in_row : (left row column : ℤ) (r : Run) → IsNext left row column r → r.y ≡ row → Approaches left row column r (paint (between r.x column))
-unfolding drawn
+in_row : (left row column : ℤ) (r : Run) → IsNext left row column r → r.y ≡ row → Approaches left row column r (paint (distance r.x column))
+unfolding pixels_of_strokes
 in_row left row column r next same =
     let behind = next.behind same in
-    let n = between r.x column in
+    let n = distance r.x column in
     record {
       commands = Paint n ∷ [];
       spelled = spells_one (paint n) (Paint n) (writes_paint n (omega (arith, ints, next)));
       drawn = λ others. drawn_run left row (column +ℤ pos n) r others (sym same) (omega (arith, ints, behind)) next.weight;
     }
 
-in_next_row : (left row column : ℤ) (r : Run) → IsNext left row column r → between row r.y ≡ 1 → between r.x left ≤ 164 → Approaches left row column r (new_row (between r.x left))
-unfolding drawn
+in_next_row : (left row column : ℤ) (r : Run) → IsNext left row column r → distance row r.y ≡ 1
+    → distance r.x left ≤ 164 → Approaches left row column r (new_row (distance r.x left))
+unfolding pixels_of_strokes
 in_next_row left row column r next one few =
-    let n = between r.x left in
+    let n = distance r.x left in
     record {
       commands = NewRow n ∷ [];
       spelled = spells_one (new_row n) (NewRow n) (writes_new_row n few);
       drawn = λ others. drawn_run left (row -ℤ pos 1) (left +ℤ pos n) r others (omega (arith, ints, next, one)) (omega (arith, ints, next)) next.weight;
     }
 
-in_lower_row : (left row column : ℤ) (r : Run) → IsNext left row column r → (r.y ≡ row → ⊥) → Approaches left row column r (skip (between row r.y - 1) ++ paint (between r.x left))
-unfolding drawn
+in_lower_row : (left row column : ℤ) (r : Run) → IsNext left row column r → (r.y ≡ row → ⊥)
+    → Approaches left row column r (skip (distance row r.y - 1) ++ paint (distance r.x left))
+unfolding pixels_of_strokes
 in_lower_row left row column r next other =
-    let m = between row r.y - 1 in
-    let n = between r.x left in
+    let m = distance row r.y - 1 in
+    let n = distance r.x left in
     record {
       commands = Skip m ∷ Paint n ∷ [];
-      spelled = spells_both (skip m) (paint n) (Skip m ∷ []) (Paint n ∷ []) (spells_one (skip m) (Skip m) (writes_skip m (omega (arith, ints, next)))) (spells_one (paint n) (Paint n) (writes_paint n (omega (arith, ints, next))));
+      spelled = spells_both (skip m) (paint n) (Skip m ∷ []) (Paint n ∷ [])
+          (spells_one (skip m) (Skip m) (writes_skip m (omega (arith, ints, next))))
+          (spells_one (paint n) (Paint n) (writes_paint n (omega (arith, ints, next))));
       drawn = λ others. drawn_run left (row -ℤ pos (m + 1)) (left +ℤ pos n) r others (omega (arith, ints, next, other)) (omega (arith, ints, next)) next.weight;
     }
 
 approaches : (left row column : ℤ) (r : Run) → IsNext left row column r → Approaches left row column r (approach left row column r)
 approaches left row column r next =
-    let near = between row r.y == 1 && nat_le (between r.x left) 164 in
+    let near = distance row r.y == 1 && nat_le (distance r.x left) 164 in
     let Fits = Approaches left row column r in
-    let lower = skip (between row r.y - 1) ++ paint (between r.x left) in
-    cond_both (int_eq r.y row) (paint (between r.x column)) (if near then new_row (between r.x left) else lower) Fits
+    let lower = skip (distance row r.y - 1) ++ paint (distance r.x left) in
+    cond_both (int_eq r.y row) (paint (distance r.x column)) (if near then new_row (distance r.x left) else lower) Fits
     (λ yes. in_row left row column r next ((Decides-int_eq r.y row).0 yes))
     (λ no.
-    cond_both near (new_row (between r.x left)) lower Fits
-    (λ yes. let tests = and_parts (between row r.y == 1) (nat_le (between r.x left) 164) yes in in_next_row left row column r next (eqb-true (between row r.y) 1 tests.0) (leb-true (between r.x left) 164 tests.1))
+    cond_both near (new_row (distance r.x left)) lower Fits
+    (λ yes. let tests = and_parts (distance row r.y == 1) (nat_le (distance r.x left) 164) yes in in_next_row left row column r next
+    (eqb-true (distance row r.y) 1 tests.0) (leb-true (distance r.x left) 164 tests.1))
     (λ far. in_lower_row left row column r next (λ same. false≢true (sym no ∙ (Decides-int_eq r.y row).1 same))))
 
 -- bytes that make these pixels black, starting at a position
 record Draws (left row column : ℤ) (bytes : List ℕ) (ds : List Dot) : Type 0 where
   commands : List Stroke
   spelled : Spells bytes commands
-  drawn : drawn (white_at left row column) commands ≡ ds
+  drawn : pixels_of_strokes (white_at left row column) commands ≡ ds
 
 draws_rows : (left row column : ℤ) (rs : List Run) → AreNext left row column rs → Draws left row column (rows left row column rs) (flat_map dots_of rs)
-unfolding rows drawn
+unfolding rows pixels_of_strokes
 draws_rows left row column [] next = record { commands = []; spelled = spells_none; drawn = refl }
 draws_rows left row column (r ∷ rs) next =
     let first = approaches left row column r next.0 in
@@ -107,13 +114,15 @@ draws_rows left row column (r ∷ rs) next =
     let run = spells_one (paint r.len) (Paint r.len) (writes_paint r.len (omega (arith, ints, next.0))) in
     record {
       commands = first.commands ++ Paint r.len ∷ others.commands;
-      spelled = rw (append_assoc (approach left row column r) (paint r.len) (rows left r.y (r.x +ℤ pos r.len) rs)) (spells_both _ _ _ _ first.spelled (spells_both _ _ _ _ run others.spelled));
+      spelled = rw (append_assoc (approach left row column r) (paint r.len) (rows left r.y (r.x +ℤ pos r.len) rs))
+          (spells_both _ _ _ _ first.spelled (spells_both _ _ _ _ run others.spelled));
       drawn = first.drawn others.commands ∙ ap (λ more. dots_of r ++ more) others.drawn;
     }
 
 -- the same, starting at the top left corner of a box
-pub drawn_from-rows : (left top : ℤ) (rs : List Run) → AreNext left top left rs → drawn_from left top (rows left top left rs ++ 69 ∷ []) ≡ Some (flat_map dots_of rs)
-drawn_from-rows left top rs next =
+pub pixels_from-rows : (left top : ℤ) (rs : List Run) → AreNext left top left rs
+    → pixels_from left top (rows left top left rs ++ 69 ∷ []) ≡ Some (flat_map dots_of rs)
+pixels_from-rows left top rs next =
     let all = draws_rows left top left rs next in
-    ap (option_map (drawn (pen_at left top))) (strokes-spelled (rows left top left rs) all.commands all.spelled)
+    ap (option_map (pixels_of_strokes (pen_at left top))) (strokes-spelled (rows left top left rs) all.commands all.spelled)
     ∙ ap (λ ds. Some ds) all.drawn

@@ -75,7 +75,8 @@ lengthened all r s rs next so_far =
     let behind = order_behind r (s ∷ rs) ordered in
     let one = All-head IsBlack r (s ∷ rs) ordered.ones in
     let joined = dots_of-joined r s (one ∙ sym (All-head IsBlack s rs behind.ones)) next in
-    let dots : flat_map dots_of (with_more r s ∷ rs) ≡ flat_map dots_of (r ∷ s ∷ rs) = ap (λ first. first ++ flat_map dots_of rs) joined ∙ append_assoc (dots_of r) (dots_of s) (flat_map dots_of rs) in
+    let dots : flat_map dots_of (with_more r s ∷ rs) ≡ flat_map dots_of (r ∷ s ∷ rs) =
+    ap (λ first. first ++ flat_map dots_of rs) joined ∙ append_assoc (dots_of r) (dots_of s) (flat_map dots_of rs) in
     let run = lengthened_run r s (All-head IsRun r (s ∷ rs) ordered.runs) (All-head IsRun s rs behind.runs) next in
     record {
       order = record {
@@ -135,7 +136,9 @@ ended_before : (all : List Run) (r s : Run) (rs : List Run) → (IsNext r s → 
 unfolding dots_of
 ended_before all r s rs apart so_far =
     let behind = All-head IsRun s rs (order_behind r (s ∷ rs) so_far.order).runs in
-    let maximal = maximal_apart r s.y s.x s.weight s.len (flat_map dots_of rs) behind.some (λ followed. apart (record { row = sym followed.row; column = sym followed.column })) in
+    let maximal =
+    maximal_apart r s.y s.x s.weight s.len (flat_map dots_of rs) behind.some
+    (λ followed. apart (record { row = sym followed.row; column = sym followed.column })) in
     stretch_first all r (s ∷ rs) maximal so_far
 
 -- ---- a stretch before the next black run of an iterator

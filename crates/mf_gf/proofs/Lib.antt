@@ -7,7 +7,6 @@ mod CharactersRead
 mod DrawnRows
 mod Endings
 mod Escapements
-mod KnownTexts
 pub mod Lengthening
 mod LocatorTexts
 mod LocatorsRead

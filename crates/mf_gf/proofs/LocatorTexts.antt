@@ -17,7 +17,8 @@ no_code_held s text items held = subst (Holds s) (sym (append-nil text)) held
 
 -- after one more code
 pub next_code_held : (s : Spelling) (text : List ℕ) (items : List (Option Locator)) (code : ℕ) (d : Option Locator) → code < length items
-    → Holds s (text ++ flat_map locator_if (take code items) ++ locator_if (slice_index_or items code d)) → Holds s (text ++ flat_map locator_if (take (code + 1) items))
+    → Holds s (text ++ flat_map locator_if (take code items) ++ locator_if (slice_index_or items code d))
+    → Holds s (text ++ flat_map locator_if (take (code + 1) items))
 next_code_held s text items code d within held =
     let before = flat_map locator_if (take code items) in
     let last = slice_index_or items code d in
@@ -39,11 +40,14 @@ lasts_text shipped [] code (suc n) same lasts = absurd (omega (arith, same))
 lasts_text shipped (last ∷ items) code zero same lasts = absurd (omega (arith, same))
 lasts_text shipped (last ∷ items) code (suc n) same lasts =
     let first : last ≡ last_locator code shipped = lasts 0 (omega arith) ∙ ap (λ c. last_locator c shipped) (omega arith) in
-    let others = lasts_text shipped items (code + 1) n (omega (arith, same)) (λ i within. lasts (suc i) (omega (arith, within)) ∙ ap (λ c. last_locator c shipped) (omega arith)) in
+    let others =
+    lasts_text shipped items (code + 1) n (omega (arith, same))
+    (λ i within. lasts (suc i) (omega (arith, within)) ∙ ap (λ c. last_locator c shipped) (omega arith)) in
     ap₂ (λ one more. locator_if one ++ more) first others
 
 pub table_text-is : (table : Locators) (shipped : List Shipment) → HasLasts table shipped → table_text table ≡ locators_from 0 256 shipped
-table_text-is table shipped lasts = lasts_text shipped table.by_code.items 0 256 table.all (λ i within. lasts.last i within ∙ ap (λ c. last_locator c shipped) (omega arith))
+table_text-is table shipped lasts =
+    lasts_text shipped table.by_code.items 0 256 table.all (λ i within. lasts.last i within ∙ ap (λ c. last_locator c shipped) (omega arith))
 
 -- one more character is the last one with its code
 pub lasts-set : (items : List (Option Locator)) (s : Shipment) (shipped : List Shipment) → length items ≡ 256 → s.character.code < 256
@@ -54,5 +58,6 @@ lasts-set items s shipped same fits lasts code code_fits =
     let own = s.character.code in
     let changed = set items own (Some (locator_of s)) in
     cond_both (own == code) (Some s) (last_of code shipped) (λ last. slice_index_or changed code None ≡ option_map locator_of last)
-    (λ yes. ap (λ c. slice_index_or changed c None) (sym (eqb-true own code yes)) ∙ get_or-set_same items own (Some (locator_of s)) None (omega (arith, same, fits)))
+    (λ yes. ap (λ c. slice_index_or changed c None) (sym (eqb-true own code yes))
+    ∙ get_or-set_same items own (Some (locator_of s)) None (omega (arith, same, fits)))
     (λ no. get_or-set_other items own code (Some (locator_of s)) None (λ equal. false≢true (sym no ∙ eq-eqb own code (sym equal))) ∙ lasts code code_fits)

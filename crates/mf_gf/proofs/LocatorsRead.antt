@@ -32,7 +32,8 @@ abbrev read_as : Locator → List ℕ → Option Item
 read_as l rest = Some (record { locator = Some l; rest = rest })
 
 -- the bytes of char_loc0 and of char_loc are read back
-head_reads : (l : Locator) (rest : List ℕ) (short : Option ℕ) → IsReadable l → short_dx l.dx ≡ short → read_item (locator_head l.code l.dx short ++ (word l.width ++ (word (pos l.place) ++ rest))) ≡ read_as l rest
+head_reads : (l : Locator) (rest : List ℕ) (short : Option ℕ) → IsReadable l → short_dx l.dx ≡ short
+    → read_item (locator_head l.code l.dx short ++ (word l.width ++ (word (pos l.place) ++ rest))) ≡ read_as l rest
 unfolding read_item
 head_reads l rest (Some pixels) fits short =
     let dx = sym (short_dx-is l.dx pixels short).whole in
@@ -85,7 +86,8 @@ end_within (suc n) place before some = refl
 module _ (shipped : List Shipment) (fits : (code : ℕ) (s : Shipment) → last_of code shipped ≡ Some s → IsReadable (locator_of s)) (place before : ℕ) where
   one_read : (code n m : ℕ) (last : Option Shipment) → suc n < m → last_of code shipped ≡ last
       → ((k : ℕ) → n < k → locators_within k (locators_from (code + 1) n shipped ++ ending place before) ≡ Some (lasts_from (code + 1) n shipped))
-      → locators_within m (locator_if (option_map locator_of last) ++ locators_from (code + 1) n shipped ++ ending place before) ≡ Some (with_last last (lasts_from (code + 1) n shipped))
+      → locators_within m (locator_if (option_map locator_of last) ++ locators_from (code + 1) n shipped ++ ending place before)
+      ≡ Some (with_last last (lasts_from (code + 1) n shipped))
   one_read code n m None few is others = others m (omega (arith, few))
   one_read code n zero (Some s) few is others = absurd (omega (arith, few))
   one_read code n (suc m) (Some s) few is others =
@@ -125,12 +127,15 @@ one_last shipped code s is =
 
 later_too : (shipped : List Shipment) (code : ℕ) (others : List Locator) → All (IsLastFrom shipped (code + 1)) others → All (IsLastFrom shipped code) others
 later_too shipped code others =
-    All-weaker (IsLastFrom shipped (code + 1)) (IsLastFrom shipped code) (λ l from. record { least = omega (arith, from.least); shipment = from.shipment; is = from.is; last = from.last }) others
+    All-weaker (IsLastFrom shipped (code + 1)) (IsLastFrom shipped code)
+    (λ l from. record { least = omega (arith, from.least); shipment = from.shipment; is = from.is; last = from.last }) others
 
-with_one : (shipped : List Shipment) (code : ℕ) (last : Option Shipment) (others : List Locator) → last_of code shipped ≡ last → All (IsLastFrom shipped (code + 1)) others
+with_one : (shipped : List Shipment) (code : ℕ) (last : Option Shipment) (others : List Locator)
+    → last_of code shipped ≡ last → All (IsLastFrom shipped (code + 1)) others
     → All (IsLastFrom shipped code) (with_last last others)
 with_one shipped code None others is later = later_too shipped code others later
-with_one shipped code (Some s) others is later = All-cons (IsLastFrom shipped code) (locator_of s) others (one_last shipped code s is) (later_too shipped code others later)
+with_one shipped code (Some s) others is later =
+    All-cons (IsLastFrom shipped code) (locator_of s) others (one_last shipped code s is) (later_too shipped code others later)
 
 pub lasts_are_last : (shipped : List Shipment) (code n : ℕ) → All (IsLastFrom shipped code) (lasts_from code n shipped)
 unfolding lasts_from
@@ -141,37 +146,45 @@ lasts_are_last shipped code (suc n) = with_one shipped code (last_of code shippe
 abbrev IsBefore : Locator → Locator → Type 0
 IsBefore l later = l.code < later.code
 
-rise_on : (shipped : List Shipment) (code : ℕ) (last : Option Shipment) (others : List Locator) → last_of code shipped ≡ last → All (IsLastFrom shipped (code + 1)) others
+rise_on : (shipped : List Shipment) (code : ℕ) (last : Option Shipment) (others : List Locator)
+    → last_of code shipped ≡ last → All (IsLastFrom shipped (code + 1)) others
     → AllPairs IsBefore others → AllPairs IsBefore (with_last last others)
 rise_on shipped code None others is later pairs = pairs
 rise_on shipped code (Some s) others is later pairs =
     let same = last_of-code code s shipped is in
-    AllPairs-cons IsBefore (locator_of s) others (All-weaker (IsLastFrom shipped (code + 1)) (IsBefore (locator_of s)) (λ k from. omega (arith, same, from.least)) others later) pairs
+    AllPairs-cons IsBefore (locator_of s) others
+    (All-weaker (IsLastFrom shipped (code + 1)) (IsBefore (locator_of s)) (λ k from. omega (arith, same, from.least)) others later) pairs
 
 pub lasts_rise : (shipped : List Shipment) (code n : ℕ) → AllPairs IsBefore (lasts_from code n shipped)
 unfolding lasts_from
 lasts_rise shipped code zero = λ i j d before within. absurd (omega (arith, within))
-lasts_rise shipped code (suc n) = rise_on shipped code (last_of code shipped) (lasts_from (code + 1) n shipped) refl (lasts_are_last shipped (code + 1) n) (lasts_rise shipped (code + 1) n)
+lasts_rise shipped code (suc n) =
+    rise_on shipped code (last_of code shipped) (lasts_from (code + 1) n shipped) refl (lasts_are_last shipped (code + 1) n) (lasts_rise shipped (code + 1) n)
 
 -- where a code has a last character, it has a locator
 abbrev has_code : ℕ → Locator → Bool
 has_code code l = l.code == code
 
-found_here : (code : ℕ) (s : Shipment) (last : Option Shipment) (others : List Locator) → last ≡ Some s → s.character.code ≡ code → list_any (has_code code) (with_last last others) ≡ true
+found_here : (code : ℕ) (s : Shipment) (last : Option Shipment) (others : List Locator) → last ≡ Some s
+    → s.character.code ≡ code → list_any (has_code code) (with_last last others) ≡ true
 found_here code s None others is same = absurd (cc)
 found_here code s (Some t) others is same =
     let equal : t ≡ s = cc in
     ap (λ test. test || list_any (has_code code) others) (eq-eqb t.character.code code (ap (λ (it : Shipment). it.character.code) equal ∙ same))
 
-found_later : (code : ℕ) (last : Option Shipment) (others : List Locator) → list_any (has_code code) others ≡ true → list_any (has_code code) (with_last last others) ≡ true
+found_later : (code : ℕ) (last : Option Shipment) (others : List Locator) → list_any (has_code code) others ≡ true
+    → list_any (has_code code) (with_last last others) ≡ true
 found_later code None others later = later
 found_later code (Some t) others later = ap (λ test. (t.character.code == code) || test) later ∙ or_true (t.character.code == code)
 
-pub lasts_have : (shipped : List Shipment) (code : ℕ) (s : Shipment) (first n : ℕ) → last_of code shipped ≡ Some s → first ≤ code → code < first + n → list_any (has_code code) (lasts_from first n shipped) ≡ true
+pub lasts_have : (shipped : List Shipment) (code : ℕ) (s : Shipment) (first n : ℕ) → last_of code shipped ≡ Some s
+    → first ≤ code → code < first + n → list_any (has_code code) (lasts_from first n shipped) ≡ true
 unfolding lasts_from
 lasts_have shipped code s first zero is least most = absurd (omega (arith, least, most))
 lasts_have shipped code s first (suc n) is least most =
     ⊎_elim
-    (λ same. found_here code s (last_of first shipped) (lasts_from (first + 1) n shipped) (ap (λ c. last_of c shipped) same ∙ is) (last_of-code code s shipped is))
-    (λ further. found_later code (last_of first shipped) (lasts_from (first + 1) n shipped) (lasts_have shipped code s (first + 1) n is (omega (arith, further)) (omega (arith, most))))
+    (λ same. found_here code s (last_of first shipped) (lasts_from (first + 1) n shipped)
+    (ap (λ c. last_of c shipped) same ∙ is) (last_of-code code s shipped is))
+    (λ further. found_later code (last_of first shipped) (lasts_from (first + 1) n shipped)
+    (lasts_have shipped code s (first + 1) n is (omega (arith, further)) (omega (arith, most))))
     (eq-or-lt_of_le least)

@@ -12,7 +12,7 @@ use Rattle.mf_gf.specs.Spelling.{begin, rows, spell}
 use Rattle.mf_gf.proofs.BlackRuns.{next_runs}
 use Rattle.mf_gf.proofs.BoxesInReach.{box_from}
 use Rattle.mf_gf.proofs.BoxOfDots.{StandsIn, box_round_dots, dots_from_box, paint-begin}
-use Rattle.mf_gf.proofs.DrawnRows.{drawn_from-rows}
+use Rattle.mf_gf.proofs.DrawnRows.{pixels_from-rows}
 
 pub paint-spell : (code : ℕ) (p : ℤ) (ds : List Dot) → IsPixelSet ds → paint (spell code p ds) ≡ Some ds
 unfolding spell
@@ -22,8 +22,9 @@ paint-spell code p ds set =
     let round = box_round_dots start_of_field ds set.picture.dots in
     let small = round.small in
     let columns = All-weaker (StandsIn b) (λ d. b.min_m ≤ℤ d.x) (λ d stands. stands.column) ds round.dots in
-    let next = next_runs b.min_m b.max_n b.min_m ds small.left (≤ℤ_refl b.min_m) small.top (dots_from_box start_of_field b ds set.picture.dots round) set.ones columns in
+    let next =
+    next_runs b.min_m b.max_n b.min_m ds small.left (≤ℤ_refl b.min_m) small.top (dots_from_box start_of_field b ds set.picture.dots round) set.ones columns in
     ap paint (append_assoc (begin code p b) all (69 ∷ []))
     ∙ paint-begin code p b (all ++ 69 ∷ []) (box_from start_of_field ds set.picture.dots)
-    ∙ drawn_from-rows b.min_m b.max_n (runs_of ds) next
+    ∙ pixels_from-rows b.min_m b.max_n (runs_of ds) next
     ∙ ap (λ dots. Some dots) (dots_of-runs_of ds)

@@ -28,7 +28,8 @@ unfolding post_place_back
 four_back a b c d rest = refl
 
 -- before the padding come the place of post and the identification byte
-place_found : (before : List ℕ) (place count : ℕ) → place < 2147483648 → post_place (before ++ ((249 ∷ []) ++ word (pos place) ++ (131 ∷ []) ++ replicate count 223)) ≡ Some place
+place_found : (before : List ℕ) (place count : ℕ) → place < 2147483648
+    → post_place (before ++ ((249 ∷ []) ++ word (pos place) ++ (131 ∷ []) ++ replicate count 223)) ≡ Some place
 place_found before place count short =
     let named = (249 ∷ []) ++ word (pos place) ++ (131 ∷ []) in
     ap post_place_back (reverse-append before (named ++ replicate count 223))
@@ -61,10 +62,12 @@ locators_found words comment cs short fits =
     let locators = locators_from 0 256 (shipments comment cs) in
     let last = ending place (length (body words comment cs)) in
     let file = file_of words comment cs in
-    let whole : file ≡ characters ++ (behind ++ (locators ++ last)) = append_assoc (characters ++ behind) locators last ∙ append_assoc characters behind (locators ++ last) in
+    let whole : file ≡ characters ++ (behind ++ (locators ++ last)) =
+    append_assoc (characters ++ behind) locators last ∙ append_assoc characters behind (locators ++ last) in
     let seam : length (characters ++ behind) ≡ place + 37 = length-append characters behind in
     let after : drop (place + 37) file ≡ locators ++ last =
-    ap (drop (place + 37)) (append_assoc (characters ++ behind) locators last) ∙ ap (λ n. drop n ((characters ++ behind) ++ (locators ++ last))) (sym seam) ∙ drop-append_seam (characters ++ behind) (locators ++ last) in
+    ap (drop (place + 37)) (append_assoc (characters ++ behind) locators last)
+    ∙ ap (λ n. drop n ((characters ++ behind) ++ (locators ++ last))) (sym seam) ∙ drop-append_seam (characters ++ behind) (locators ++ last) in
     let there : post_place file ≡ Some place = place_found (body words comment cs) place (padding (length (body words comment cs) + 6)) short in
     let opcode : slice_index file place ≡ 248 = ap (λ bytes. slice_index bytes place) whole ∙ get_or-append_seam characters 248 _ 0 in
     ap (after_post file) there

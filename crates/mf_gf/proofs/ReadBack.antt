@@ -4,7 +4,7 @@ use Rattle.std.proofs.lemmas.Bool.{cond-true, cond_both, lt-leb, eqb-true}
 use Rattle.std.proofs.lemmas.Iterator.Adapters.{option_map_id}
 use Rattle.byteorder.specs.Endian.{big_bytes, big_number}
 use Rattle.byteorder.specs.Numbers.{big_number-reads_back}
-use Rattle.mf_gf.specs.Painting.{Stroke, Paint, Skip, NewRow, Read, with_bytes, read_stroke, ended, strokes_within, strokes}
+use Rattle.mf_gf.specs.Painting.{Stroke, Paint, Skip, NewRow, Read, with_bytes, read_stroke, strokes_at_end, strokes_within, strokes}
 use Rattle.mf_gf.specs.Spelling.{with_parameter, paint, skip, new_row}
 
 -- what is read where these bytes start with a command
@@ -62,7 +62,8 @@ writes_new_row n fits =
 -- these bytes are read as these commands, whatever comes after them
 pub record Spells (bytes : List ℕ) (commands : List Stroke) : Type 0 where
   pub few : length commands ≤ length bytes
-  pub read : (m n : ℕ) (rest : List ℕ) → m ≡ length commands + n → strokes_within m (bytes ++ rest) ≡ option_map (λ others. commands ++ others) (strokes_within n rest)
+  pub read : (m n : ℕ) (rest : List ℕ) → m ≡ length commands + n
+      → strokes_within m (bytes ++ rest) ≡ option_map (λ others. commands ++ others) (strokes_within n rest)
 
 pub spells_none : Spells [] []
 spells_none = record {
@@ -75,15 +76,17 @@ abbrev from_read : ℕ → Option Read → Option (List Stroke)
 from_read n next = elim next [
   | None ↦ None
   | Some read ↦ elim read.stroke [
-    | None ↦ ended read.rest
+    | None ↦ strokes_at_end read.rest
     | Some stroke ↦ option_map (λ strokes. stroke ∷ strokes) (strokes_within n read.rest)
   ]
 ]
 
-one_read : (m n : ℕ) (bytes rest : List ℕ) (stroke : Stroke) → m ≡ 1 + n → read_stroke bytes ≡ read_as stroke rest → strokes_within m bytes ≡ option_map (λ others. stroke ∷ others) (strokes_within n rest)
+one_read : (m n : ℕ) (bytes rest : List ℕ) (stroke : Stroke) → m ≡ 1 + n → read_stroke bytes ≡ read_as stroke rest
+    → strokes_within m bytes ≡ option_map (λ others. stroke ∷ others) (strokes_within n rest)
 unfolding strokes_within
 one_read zero n bytes rest stroke same read = absurd (omega arith)
-one_read (suc m) n bytes rest stroke same read = let less : m ≡ n = omega arith in ap (from_read m) read ∙ ap (λ fuel. option_map (λ others. stroke ∷ others) (strokes_within fuel rest)) less
+one_read (suc m) n bytes rest stroke same read =
+    let less : m ≡ n = omega arith in ap (from_read m) read ∙ ap (λ fuel. option_map (λ others. stroke ∷ others) (strokes_within fuel rest)) less
 
 pub spells_one : (bytes : List ℕ) (stroke : Stroke) → Writes bytes stroke → Spells bytes (stroke ∷ [])
 spells_one bytes stroke writes = record {
@@ -91,7 +94,8 @@ spells_one bytes stroke writes = record {
   read = λ m n rest same. one_read m n (bytes ++ rest) rest stroke same (writes.read rest);
 }
 
-all_of_both : (ss ts : List Stroke) (others : Option (List Stroke)) → option_map (λ more. ss ++ more) (option_map (λ more. ts ++ more) others) ≡ option_map (λ more. (ss ++ ts) ++ more) others
+all_of_both : (ss ts : List Stroke) (others : Option (List Stroke))
+    → option_map (λ more. ss ++ more) (option_map (λ more. ts ++ more) others) ≡ option_map (λ more. (ss ++ ts) ++ more) others
 all_of_both ss ts None = refl
 all_of_both ss ts (Some more) = ap (λ all. Some all) (sym (append_assoc ss ts more))
 

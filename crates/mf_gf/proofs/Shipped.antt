@@ -3,11 +3,11 @@ use Rattle.std.proofs.Common.{◌≡◌, ◌≤◌, ℕ, ℤ, List, [], ◌∷�
 use Rattle.mf_rows.specs.Dots.{Dot}
 use Rattle.mf_gf.specs.declared.file.FontWords.{FontWords}
 use Rattle.mf_gf.specs.declared.file.GfFile.{GfFile}
-use Rattle.mf_gf.specs.Boxes.{box_of, joined, widened}
+use Rattle.mf_gf.specs.Boxes.{box_of, join, widen}
 use Rattle.mf_gf.specs.Files.{Character, FileSoFar, Shipment, body, box_of_all, ending, file_of, file_so_far, front, last_place, locator_of, locators_from, post, shipments, spell_after, with_character, with_characters}
 use Rattle.mf_gf.specs.Keeping.{HasLasts, IsAppended, Keeps, bounds_of}
 use Rattle.mf_gf.specs.Spelling.{pointer, spell}
-use Rattle.mf_gf.proofs.BlackBoxes.{joined-assoc}
+use Rattle.mf_gf.proofs.BlackBoxes.{join-assoc}
 
 -- the bytes of a character are not empty
 pub spell_some : (code : ℕ) (p : ℤ) (ds : List Dot) → 1 ≤ length (spell code p ds)
@@ -22,7 +22,8 @@ with_characters-more f (b ∷ cs) c = with_characters-more (with_character f b) 
 file_so_far-more : (comment : List ℕ) (cs : List Character) (c : Character) → file_so_far comment (cs ++ c ∷ []) ≡ with_character (file_so_far comment cs) c
 file_so_far-more comment cs c = with_characters-more _ cs c
 
-pub front-more : (comment : List ℕ) (cs : List Character) (c : Character) → front comment (cs ++ c ∷ []) ≡ front comment cs ++ spell_after (file_so_far comment cs) c
+pub front-more : (comment : List ℕ) (cs : List Character) (c : Character)
+    → front comment (cs ++ c ∷ []) ≡ front comment cs ++ spell_after (file_so_far comment cs) c
 front-more comment cs c = ap (λ (f : FileSoFar). f.bytes) (file_so_far-more comment cs c)
 
 -- the bytes kept, with those of one more character, whose p is this earlier place
@@ -36,28 +37,30 @@ front-kept file comment cs c earlier keeps is =
 abbrev pub shipment_after : List ℕ → Character → Shipment
 shipment_after bytes c = record { character = c; place = length bytes }
 
-pub shipments-more : (comment : List ℕ) (cs : List Character) (c : Character) → shipments comment (cs ++ c ∷ []) ≡ shipment_after (front comment cs) c ∷ shipments comment cs
+pub shipments-more : (comment : List ℕ) (cs : List Character) (c : Character)
+    → shipments comment (cs ++ c ∷ []) ≡ shipment_after (front comment cs) c ∷ shipments comment cs
 shipments-more comment cs c = ap (λ (f : FileSoFar). f.shipped) (file_so_far-more comment cs c)
 
-pub box_of_all-more : (b : Character) (cs : List Character) (c : Character) → box_of_all (b ∷ cs ++ c ∷ []) ≡ joined (box_of_all (b ∷ cs)) (box_of c.black)
+pub box_of_all-more : (b : Character) (cs : List Character) (c : Character) → box_of_all (b ∷ cs ++ c ∷ []) ≡ join (box_of_all (b ∷ cs)) (box_of c.black)
 unfolding box_of_all
 box_of_all-more b [] c = refl
-box_of_all-more b (d ∷ cs) c = ap (joined (box_of b.black)) (box_of_all-more d cs c) ∙ joined-assoc (box_of b.black) (box_of_all (d ∷ cs)) (box_of c.black)
+box_of_all-more b (d ∷ cs) c = ap (join (box_of b.black)) (box_of_all-more d cs c) ∙ join-assoc (box_of b.black) (box_of_all (d ∷ cs)) (box_of c.black)
 
-bounds_of-more : (cs : List Character) (c : Character) → bounds_of (cs ++ c ∷ []) ≡ Some (widened (bounds_of cs) (box_of c.black))
+bounds_of-more : (cs : List Character) (c : Character) → bounds_of (cs ++ c ∷ []) ≡ Some (widen (bounds_of cs) (box_of c.black))
 unfolding box_of_all
 bounds_of-more [] c = refl
 bounds_of-more (b ∷ cs) c = ap (λ box. Some box) (box_of_all-more b cs c)
 
 pub keeps-more : (before after : GfFile) (comment : List ℕ) (cs : List Character) (c : Character)
-    → IsAppended before after (locator_of (shipment_after before.bytes.items c)) (box_of c.black) (spell_after (file_so_far comment cs) c) → Keeps before comment cs → Keeps after comment (cs ++ c ∷ [])
+    → IsAppended before after (locator_of (shipment_after before.bytes.items c)) (box_of c.black) (spell_after (file_so_far comment cs) c)
+    → Keeps before comment cs → Keeps after comment (cs ++ c ∷ [])
 keeps-more before after comment cs c appended keeps = record {
   bytes = appended.bytes ∙ ap (λ bytes. bytes ++ spell_after (file_so_far comment cs) c) keeps.bytes ∙ sym (front-more comment cs c);
   locators =
       subst (HasLasts after.locators) (ap (λ bytes. shipment_after bytes c ∷ shipments comment cs) keeps.bytes ∙ sym (shipments-more comment cs c))
       (appended.locators (shipment_after before.bytes.items c) (shipments comment cs) refl keeps.locators);
   count = let one_more = length-append cs (c ∷ []) in let counted = appended.count in let count = keeps.count in omega (arith, one_more, counted, count);
-  bounds = appended.bounds ∙ ap (λ bounds. Some (widened bounds (box_of c.black))) keeps.bounds ∙ sym (bounds_of-more cs c);
+  bounds = appended.bounds ∙ ap (λ bounds. Some (widen bounds (box_of c.black))) keeps.bounds ∙ sym (bounds_of-more cs c);
 }
 
 -- a file begins with its preamble and its characters

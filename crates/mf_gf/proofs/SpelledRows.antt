@@ -4,6 +4,7 @@ use Rattle.std.specs.List.{All}
 use Rattle.std.proofs.lemmas.Int.{ints}
 use Rattle.std.proofs.lemmas.List.{append-nil}
 use Rattle.std.proofs.lemmas.List.Elements.{All-head, All-same, All-rest}
+use Rattle.mf_geom.specs.Coordinates.{IsCoordinate}
 use Rattle.mf_rows.specs.declared.run.Run.{Run}
 use Rattle.mf_rows.specs.Dots.{Dot, IsPicture, AreDotsFrom}
 use Rattle.mf_rows.specs.Order.{IsRun}
@@ -13,7 +14,6 @@ use Rattle.mf_rows.proofs.Totals.{total_none}
 use Rattle.mf_gf.specs.declared.boxes.CharacterBox.{CharacterBox}
 use Rattle.mf_gf.specs.declared.spelling.Spelling.{Spelling}
 use Rattle.mf_gf.specs.Boxes.{box_of}
-use Rattle.mf_gf.specs.Places.{IsInReach}
 use Rattle.mf_gf.specs.Spelling.{approach, begin, paint, rows, spell}
 use Rattle.mf_gf.specs.Spellings.{Holds}
 use Rattle.mf_gf.proofs.Writing.{Writes, write_both, write_same}
@@ -34,10 +34,10 @@ pub record AreSpelled (before : Spelling) (left : ℤ) (text : List ℕ) (out : 
   pub rest : written ++ rows left row column rs ≡ text
   pub room : out.room ≡ before.room
   pub runs : All IsRun rs
-  pub row_in_reach : IsInReach row
-  pub column_in_reach : IsInReach column
+  pub row_in_reach : IsCoordinate row
+  pub column_in_reach : IsCoordinate column
 
-pub none_spelled : (before : Spelling) (left row column : ℤ) (rs : List Run) → All IsRun rs → IsInReach row → IsInReach column
+pub none_spelled : (before : Spelling) (left row column : ℤ) (rs : List Run) → All IsRun rs → IsCoordinate row → IsCoordinate column
     → AreSpelled before left (rows left row column rs) before row column rs
 none_spelled before left row column rs runs row_in_reach column_in_reach = record {
   written = [];
@@ -49,7 +49,8 @@ none_spelled before left row column rs runs row_in_reach column_in_reach = recor
   column_in_reach = column_in_reach;
 }
 
-rows-cons : (left row column : ℤ) (r : Run) (rs : List Run) → rows left row column (r ∷ rs) ≡ approach left row column r ++ paint r.len ++ rows left r.y (r.x +ℤ pos r.len) rs
+rows-cons : (left row column : ℤ) (r : Run) (rs : List Run)
+    → rows left row column (r ∷ rs) ≡ approach left row column r ++ paint r.len ++ rows left r.y (r.x +ℤ pos r.len) rs
 unfolding rows
 rows-cons left row column r rs = refl
 
@@ -61,15 +62,19 @@ module _ (before : Spelling) (left : ℤ) (text : List ℕ) (out : Spelling) (ro
   pub next_is_run : (r : Run) (others : List Run) → rs ≡ r ∷ others → AreSpelled before left text out row column rs → IsRun r
   next_is_run r others first so_far = All-head IsRun r others (All-same IsRun (r ∷ others) rs (sym first) so_far.runs)
 
-  pub one_more_spelled : (r : Run) (others : List Run) (gone painted : Spelling) → rs ≡ r ∷ others → Writes out gone (approach left row column r) → Writes gone painted (paint r.len)
-      → gone.room ≡ out.room → painted.room ≡ gone.room → AreSpelled before left text out row column rs → AreSpelled before left text painted r.y (r.x +ℤ pos r.len) others
+  pub one_more_spelled : (r : Run) (others : List Run) (gone painted : Spelling) → rs ≡ r ∷ others
+      → Writes out gone (approach left row column r) → Writes gone painted (paint r.len)
+      → gone.room ≡ out.room → painted.room ≡ gone.room → AreSpelled before left text out row column rs
+      → AreSpelled before left text painted r.y (r.x +ℤ pos r.len) others
   one_more_spelled r others gone painted first goes paints gone_room painted_room so_far =
       let run = next_is_run r others first so_far in
       let stroke = approach left row column r ++ paint r.len in
       record {
         written = so_far.written ++ stroke;
         writes = write_both _ _ _ _ _ so_far.writes (write_both _ _ _ _ _ goes paints);
-        rest = append_assoc so_far.written stroke (rows left r.y (r.x +ℤ pos r.len) others) ∙ ap (λ bytes. so_far.written ++ bytes) (sym (rows-cons left row column r others))
+        rest =
+            append_assoc so_far.written stroke (rows left r.y (r.x +ℤ pos r.len) others)
+            ∙ ap (λ bytes. so_far.written ++ bytes) (sym (rows-cons left row column r others))
             ∙ ap (λ rs. so_far.written ++ rows left row column rs) (sym first) ∙ so_far.rest;
         room = painted_room ∙ gone_room ∙ so_far.room;
         runs = All-rest IsRun r others rs first so_far.runs;
@@ -80,9 +85,11 @@ module _ (before : Spelling) (left : ℤ) (text : List ℕ) (out : Spelling) (ro
   pub all_spelled : rs ≡ [] → AreSpelled before left text out row column rs → Writes before out text
   all_spelled none so_far =
       write_same _ _ _ _
-      (sym (append-nil so_far.written) ∙ ap (λ bytes. so_far.written ++ bytes) (sym (rows-nil left row column)) ∙ ap (λ rs. so_far.written ++ rows left row column rs) (sym none) ∙ so_far.rest)
+      (sym (append-nil so_far.written) ∙ ap (λ bytes. so_far.written ++ bytes) (sym (rows-nil left row column))
+      ∙ ap (λ rs. so_far.written ++ rows left row column rs) (sym none) ∙ so_far.rest)
       so_far.writes
 
-pub spell-is : (code : ℕ) (p : ℤ) (ds : List Dot) (b : CharacterBox) (rs : List Run) → b ≡ box_of ds → rs ≡ runs_of ds → begin code p b ++ rows b.min_m b.max_n b.min_m rs ++ 69 ∷ [] ≡ spell code p ds
+pub spell-is : (code : ℕ) (p : ℤ) (ds : List Dot) (b : CharacterBox) (rs : List Run) → b ≡ box_of ds → rs ≡ runs_of ds
+    → begin code p b ++ rows b.min_m b.max_n b.min_m rs ++ 69 ∷ [] ≡ spell code p ds
 unfolding spell
 spell-is code p ds b rs bounds all = rw (bounds, all) refl

@@ -5,7 +5,7 @@ use Rattle.std.specs.Ordering.{int_eq}
 use Rattle.std.proofs.lemmas.Bool.{cond-true, cond-false, le-leb, lt-leb, leb-true, eq-eqb, ne_eqb, eqb-true, and_from, and_parts, false_from_ne_true}
 use Rattle.std.proofs.lemmas.Bool.Decides.{Decides-int_eq}
 use Rattle.mf_rows.specs.declared.run.Run.{Run}
-use Rattle.mf_gf.specs.Spelling.{approach, between, new_row, paint, skip, with_parameter}
+use Rattle.mf_gf.specs.Spelling.{approach, distance, new_row, paint, skip, with_parameter}
 
 pub paint_short : (n : ℕ) → n ≤ 63 → paint n ≡ n ∷ []
 unfolding paint
@@ -24,20 +24,23 @@ unfolding skip
 skip_some n some = cond-false _ (70 ∷ []) (with_parameter 71 n) (ne_eqb n 0 some)
 
 module _ (left row column : ℤ) (r : Run) where
-  approach_elsewhere : r.y ≢ row → approach left row column r ≡ (if between row r.y == 1 && nat_le (between r.x left) 164 then new_row (between r.x left) else skip (between row r.y - 1) ++ paint (between r.x left))
+  approach_elsewhere : r.y ≢ row → approach left row column r ≡ (if distance row r.y == 1 && nat_le
+      (distance r.x left) 164 then new_row (distance r.x left) else skip (distance row r.y - 1) ++ paint (distance r.x left))
   approach_elsewhere other = cond-false (int_eq r.y row) _ _ (false_from_ne_true (int_eq r.y row) (λ same. other ((Decides-int_eq r.y row).0 same)))
 
-  pub approach_next_row : r.y ≢ row → between row r.y ≡ 1 → between r.x left ≤ 164 → approach left row column r ≡ new_row (between r.x left)
+  pub approach_next_row : r.y ≢ row → distance row r.y ≡ 1 → distance r.x left ≤ 164 → approach left row column r ≡ new_row (distance r.x left)
   approach_next_row other next near =
       approach_elsewhere other
-      ∙ cond-true (between row r.y == 1 && nat_le (between r.x left) 164) _ _ (and_from _ _ (eq-eqb (between row r.y) 1 next) (le-leb (between r.x left) 164 near))
+      ∙ cond-true (distance row r.y == 1 && nat_le (distance r.x left) 164) _ _
+      (and_from _ _ (eq-eqb (distance row r.y) 1 next) (le-leb (distance r.x left) 164 near))
 
-  pub approach_by_skip : r.y ≢ row → (between row r.y ≡ 1 → 164 < between r.x left) → approach left row column r ≡ skip (between row r.y - 1) ++ paint (between r.x left)
+  pub approach_by_skip : r.y ≢ row → (distance row r.y ≡ 1 → 164 < distance r.x left)
+      → approach left row column r ≡ skip (distance row r.y - 1) ++ paint (distance r.x left)
   approach_by_skip other far =
       approach_elsewhere other
-      ∙ cond-false (between row r.y == 1 && nat_le (between r.x left) 164) _ _
+      ∙ cond-false (distance row r.y == 1 && nat_le (distance r.x left) 164) _ _
       (false_from_ne_true _ (λ test.
-      let parts = and_parts (between row r.y == 1) (nat_le (between r.x left) 164) test in
-      let lies_far = far (eqb-true (between row r.y) 1 parts.0) in
-      let lies_near = leb-true (between r.x left) 164 parts.1 in
+      let parts = and_parts (distance row r.y == 1) (nat_le (distance r.x left) 164) test in
+      let lies_far = far (eqb-true (distance row r.y) 1 parts.0) in
+      let lies_near = leb-true (distance r.x left) 164 parts.1 in
       omega arith))

@@ -22,7 +22,8 @@ tail_held s words b place bytes locators is =
     subst (λ (at : ℕ). Holds s (post words b at ++ locators ++ ending at (at + length (post words b at ++ locators)))) is
 
 -- there is no room for the tail exactly where there is none for the complete file
-pub too_long_behind : {P : Type 0} (room limit : ℕ) (before text : List ℕ) → room + length before ≡ limit → (room < length text) ↔ P → (limit < length (before ++ text)) ↔ P
+pub too_long_behind : {P : Type 0} (room limit : ℕ) (before text : List ℕ) → room + length before ≡ limit
+    → (room < length text) ↔ P → (limit < length (before ++ text)) ↔ P
 too_long_behind room limit before text is fits = (
   λ long. let both = length-append before text in fits.0 (omega arith),
   λ refused. let both = length-append before text in let long = fits.1 refused in omega arith,
@@ -30,7 +31,8 @@ too_long_behind room limit before text is fits = (
 
 -- a file, split after its characters
 split_front : (characters post locators : List ℕ) (last : ℕ → List ℕ)
-    → characters ++ post ++ locators ++ last (length (characters ++ post ++ locators)) ≡ characters ++ (post ++ locators ++ last (length characters + length (post ++ locators)))
+    → characters ++ post ++ locators ++ last (length (characters ++ post ++ locators))
+    ≡ characters ++ (post ++ locators ++ last (length characters + length (post ++ locators)))
 split_front characters post locators last =
     ap (λ all. all ++ last (length all)) (append_assoc characters post locators)
     ∙ append_assoc characters (post ++ locators) (last (length (characters ++ (post ++ locators))))
@@ -40,14 +42,16 @@ file_of-tail : (words : FontWords) (comment : List ℕ) (cs : List Character)
     → file_of words comment cs ≡ front comment cs ++ tail_of words (box_of_all cs) (front comment cs) (locators_from 0 256 (shipments comment cs))
 unfolding file_of tail_of
 file_of-tail words comment cs =
-    split_front (front comment cs) (post words (box_of_all cs) (length (front comment cs))) (locators_from 0 256 (shipments comment cs)) (ending (length (front comment cs)))
+    split_front (front comment cs) (post words (box_of_all cs) (length (front comment cs)))
+    (locators_from 0 256 (shipments comment cs)) (ending (length (front comment cs)))
 
 box_of_all-some : (cs : List Character) (b : CharacterBox) → bounds_of cs ≡ Some b → box_of_all cs ≡ b
 box_of_all-some [] b is = absurd (cc)
 box_of_all-some (c ∷ cs) b is = cc
 
 -- the complete file is what was kept of it, and its tail
-pub file_of-kept : (file : GfFile) (words : FontWords) (b : CharacterBox) (comment : List ℕ) (cs : List Character) → file.bounds ≡ Some b → Keeps file comment cs
+pub file_of-kept : (file : GfFile) (words : FontWords) (b : CharacterBox) (comment : List ℕ) (cs : List Character)
+    → file.bounds ≡ Some b → Keeps file comment cs
     → file_of words comment cs ≡ file.bytes.items ++ tail_of words b file.bytes.items (table_text file.locators)
 file_of-kept file words b comment cs some keeps =
     let locators = locators_from 0 256 (shipments comment cs) in
@@ -58,6 +62,7 @@ file_of-kept file words b comment cs some keeps =
     ∙ ap (λ text. file.bytes.items ++ tail_of words b file.bytes.items text) (sym (table_text-is file.locators (shipments comment cs) keeps.locators))
 
 -- a refusal with OutOfMemory is not one with FileTooLong
-pub wanting_only : (before : GfFile) (r : Result GfBytes (GfFile × GfFault)) → IfErr r (λ refused. IsSameFile before refused.0 × (refused.1 ≡ fault.OutOfMemory)) → IsRefusedAs fault.FileTooLong r → ⊥
+pub wanting_only : (before : GfFile) (r : Result GfBytes (GfFile × GfFault))
+    → IfErr r (λ refused. IsSameFile before refused.0 × (refused.1 ≡ fault.OutOfMemory)) → IsRefusedAs fault.FileTooLong r → ⊥
 wanting_only before (Ok bytes) is refused = refused
 wanting_only before (Err back) is refused = let same = is.1 in cc

@@ -10,7 +10,8 @@ use Rattle.mf_gf.specs.Spellings.{Holds}
 abbrev pub Writes : Spelling → Spelling → List ℕ → Type 0
 Writes before after bytes = (text : List ℕ) → Holds before text → Holds after (text ++ bytes)
 
-pub write_both : (before middle after : Spelling) (first second : List ℕ) → Writes before middle first → Writes middle after second → Writes before after (first ++ second)
+pub write_both : (before middle after : Spelling) (first second : List ℕ) → Writes before middle first
+    → Writes middle after second → Writes before after (first ++ second)
 write_both before middle after first second writes_first writes_second text held =
     subst (Holds after) (append_assoc text first second) (writes_second (text ++ first) (writes_first text held))
 

@@ -17,8 +17,8 @@ abbrev pub box_of_run : Run → CharacterBox
 box_of_run r = record { min_m = r.x; max_m = r.x +ℤ pos r.len; min_n = r.y; max_n = r.y }
 
 -- the least box around two boxes
-abbrev pub joined : CharacterBox → CharacterBox → CharacterBox
-joined a b = record {
+abbrev pub join : CharacterBox → CharacterBox → CharacterBox
+join a b = record {
   min_m = int_min a.min_m b.min_m;
   max_m = int_max a.max_m b.max_m;
   min_n = int_min a.min_n b.min_n;
@@ -26,15 +26,15 @@ joined a b = record {
 }
 
 -- the least box around an earlier box, if there is one, and another
-abbrev pub widened : Option CharacterBox → CharacterBox → CharacterBox
-widened None b = b
-widened (Some before) b = joined before b
+abbrev pub widen : Option CharacterBox → CharacterBox → CharacterBox
+widen None b = b
+widen (Some before) b = join before b
 
 -- the box of a set of pixels: the least one around them
 unfoldable pub box_of : List Dot → CharacterBox
 box_of [] = no_box
 box_of (d ∷ []) = box_of_pixel d
-box_of (d ∷ e ∷ ds) = joined (box_of_pixel d) (box_of (e ∷ ds))
+box_of (d ∷ e ∷ ds) = join (box_of_pixel d) (box_of (e ∷ ds))
 
 -- a pixel lies in a box, whose right end is one column after the last
 pub record IsWithin (b : CharacterBox) (d : Dot) : Type 0 where

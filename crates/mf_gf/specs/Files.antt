@@ -1,12 +1,12 @@
 -- GF files (The METAFONTbook, Appendix G).
-use Rattle.std.specs.Prelude.{◌≡◌, ◌≤◌, ◌+◌, ◌-◌, ◌*◌, ◌%◌, ◌==◌, ◌&&◌, ℕ, zero, suc, ℤ, pos, int_le, int_div, int_rem, List, [], ◌∷◌, ◌++◌, length, replicate, Option, None, Some, option_map, find, if◌then◌else◌}
+use Rattle.std.specs.Prelude.{◌≡◌, ◌<◌, ◌≤◌, ◌+◌, ◌-◌, ◌*◌, ◌%◌, ◌==◌, ◌&&◌, ℕ, zero, suc, ℤ, pos, int_le, int_div, int_rem, List, [], ◌∷◌, ◌++◌, length, replicate, Option, None, Some, option_map, find, if◌then◌else◌}
 use Rattle.std.specs.Int.RustNames.{unsigned_abs}
 use Rattle.std.specs.Ordering.{int_eq}
 use Rattle.mf_rows.specs.Dots.{Dot}
 use Rattle.mf_gf.specs.declared.boxes.CharacterBox.{CharacterBox}
 use Rattle.mf_gf.specs.declared.file.FontWords.{FontWords}
 use Rattle.mf_gf.specs.declared.locator.Locator.{Locator}
-use Rattle.mf_gf.specs.Boxes.{box_of, joined, no_box}
+use Rattle.mf_gf.specs.Boxes.{box_of, join, no_box}
 use Rattle.mf_gf.specs.Numbers.{word}
 use Rattle.mf_gf.specs.Spelling.{pointer, spell}
 
@@ -65,7 +65,9 @@ shipments comment characters = (file_so_far comment characters).shipped
 
 -- the number of pixels of an escapement, where it is a whole number of them in 0..255
 abbrev pub short_dx : ℤ → Option ℕ
-short_dx dx = if int_le (pos 0) dx && (int_eq (int_rem dx (pos 65536)) (pos 0) && int_le (int_div dx (pos 65536)) (pos 255)) then Some (unsigned_abs (int_div dx (pos 65536))) else None
+short_dx dx =
+    if int_le (pos 0) dx && (int_eq (int_rem dx (pos 65536)) (pos 0) && int_le (int_div dx (pos 65536)) (pos 255)) then Some
+    (unsigned_abs (int_div dx (pos 65536))) else None
 
 -- an escapement is a whole number of pixels in 0..255, each of them 65536 units
 pub record IsShortDx (dx : ℤ) (pixels : ℕ) : Type 0 where
@@ -98,7 +100,7 @@ locators_from code (suc n) shipped = locator_if (option_map locator_of (last_of 
 unfoldable pub box_of_all : List Character → CharacterBox
 box_of_all [] = no_box
 box_of_all (c ∷ []) = box_of c.black
-box_of_all (c ∷ d ∷ cs) = joined (box_of c.black) (box_of_all (d ∷ cs))
+box_of_all (c ∷ d ∷ cs) = join (box_of c.black) (box_of_all (d ∷ cs))
 
 -- the postamble: post, its own place, the numbers of the font, and the box of all characters
 abbrev pub post : FontWords → CharacterBox → ℕ → List ℕ
@@ -122,6 +124,16 @@ body words comment characters =
 -- the bytes of the finished file of these characters
 unfoldable pub file_of : FontWords → List ℕ → List Character → List ℕ
 file_of words comment characters = body words comment characters ++ ending (length (front comment characters)) (length (body words comment characters))
+
+-- the finished file of these characters, or none where there are none
+abbrev pub file_if_any : FontWords → List ℕ → List Character → Option (List ℕ)
+file_if_any words comment [] = None
+file_if_any words comment (c ∷ cs) = Some (file_of words comment (c ∷ cs))
+
+-- there are characters, and their file would have more bytes than it may have
+pub record IsLongFile (max_bytes : ℕ) (words : FontWords) (comment : List ℕ) (characters : List Character) : Type 0 where
+  pub some : characters ≡ [] → ⊥
+  pub too_long : max_bytes < length (file_of words comment characters)
 
 -- the length of a file is a multiple of 4, and it ends with the identification byte and four to seven bytes 223
 pub record IsPadded (file : List ℕ) : Type 0 where

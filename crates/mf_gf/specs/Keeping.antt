@@ -7,7 +7,7 @@ use Rattle.mf_gf.specs.declared.file.GfFile.{GfFile}
 use Rattle.mf_gf.specs.declared.finished.GfBytes.{GfBytes}
 use Rattle.mf_gf.specs.declared.locator.Locator.{Locator}
 use Rattle.mf_gf.specs.declared.locators.Locators.{Locators}
-use Rattle.mf_gf.specs.Boxes.{widened}
+use Rattle.mf_gf.specs.Boxes.{widen}
 use Rattle.mf_gf.specs.Files.{Character, Shipment, box_of_all, front, last_of, locator_if, locator_of, shipments}
 use Rattle.mf_gf.specs.Pixels.{black}
 
@@ -51,7 +51,7 @@ pub record IsAppended (before after : GfFile) (l : Locator) (b : CharacterBox) (
   pub bytes : after.bytes.items ≡ before.bytes.items ++ spelled
   pub locators : (s : Shipment) (shipped : List Shipment) → locator_of s ≡ l → HasLasts before.locators shipped → HasLasts after.locators (s ∷ shipped)
   pub count : after.count ≡ before.count + 1
-  pub bounds : after.bounds ≡ Some (widened before.bounds b)
+  pub bounds : after.bounds ≡ Some (widen before.bounds b)
 
 -- the file comes back with this refusal
 abbrev pub IsRefusedAs : GfFault → Result GfBytes (GfFile × GfFault) → Type 0

@@ -6,7 +6,6 @@ pub mod Names
 pub mod Numbers
 pub mod Painting
 pub mod Pixels
-pub mod Places
 pub mod Pointers
 pub mod Spelling
 pub mod Spellings

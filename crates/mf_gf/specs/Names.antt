@@ -1,6 +1,6 @@
 -- The names of refusals, as they appear in texts.
 use Rattle.std.specs.Prelude.{ℕ, List, codes}
-use Rattle.mf_geom.specs.Names.{memory_text}
+use Rattle.mf_base.specs.Names.{memory_text}
 use Rattle.mf_gf.specs.declared.fault.GfFault.{GfFault}
 use Rattle.mf_gf.specs.declared.fault.GfFault.TheVariants.{FileTooLong, NoCharacters, CommentTooLong, OutOfMemory}
 

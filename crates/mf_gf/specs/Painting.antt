@@ -36,8 +36,8 @@ read_stroke (b ∷ bytes) =
     else None)))))
 
 -- the end of a character, where no bytes come after it
-abbrev pub ended : List ℕ → Option (List Stroke)
-ended bytes = if length bytes == 0 then Some [] else None
+abbrev pub strokes_at_end : List ℕ → Option (List Stroke)
+strokes_at_end bytes = if length bytes == 0 then Some [] else None
 
 -- the commands up to the end of the character, which must be one of the first n commands and end the bytes
 unfoldable pub strokes_within : ℕ → List ℕ → Option (List Stroke)
@@ -45,7 +45,7 @@ strokes_within zero bytes = None
 strokes_within (suc n) bytes = elim (read_stroke bytes) [
   | None ↦ None
   | Some read ↦ elim read.stroke [
-    | None ↦ ended read.rest
+    | None ↦ strokes_at_end read.rest
     | Some stroke ↦ option_map (λ strokes. stroke ∷ strokes) (strokes_within n read.rest)
   ]
 ]
@@ -65,21 +65,21 @@ abbrev pub pen_at : ℤ → ℤ → Pen
 pen_at left top = record { row = top; column = left; left = left; is_black = false }
 
 -- the pixels that a command makes black
-abbrev pub painted : Pen → Stroke → List Dot
-painted pen (Paint k) = if pen.is_black then stretch pen.row pen.column (pos 1) k else []
-painted pen (Skip k) = []
-painted pen (NewRow k) = []
+abbrev pub pixels_of_stroke : Pen → Stroke → List Dot
+pixels_of_stroke pen (Paint k) = if pen.is_black then stretch pen.row pen.column (pos 1) k else []
+pixels_of_stroke pen (Skip k) = []
+pixels_of_stroke pen (NewRow k) = []
 
 -- the state of the machine after a command
-abbrev pub moved : Pen → Stroke → Pen
-moved pen (Paint k) = record pen { column = pen.column +ℤ pos k; is_black = not pen.is_black }
-moved pen (Skip k) = record pen { row = pen.row -ℤ pos (k + 1); column = pen.left; is_black = false }
-moved pen (NewRow k) = record pen { row = pen.row -ℤ pos 1; column = pen.left +ℤ pos k; is_black = true }
+abbrev pub pen_after : Pen → Stroke → Pen
+pen_after pen (Paint k) = record pen { column = pen.column +ℤ pos k; is_black = not pen.is_black }
+pen_after pen (Skip k) = record pen { row = pen.row -ℤ pos (k + 1); column = pen.left; is_black = false }
+pen_after pen (NewRow k) = record pen { row = pen.row -ℤ pos 1; column = pen.left +ℤ pos k; is_black = true }
 
 -- the pixels that commands make black, in the order in which they paint them
-unfoldable pub drawn : Pen → List Stroke → List Dot
-drawn pen [] = []
-drawn pen (stroke ∷ strokes) = painted pen stroke ++ drawn (moved pen stroke) strokes
+unfoldable pub pixels_of_strokes : Pen → List Stroke → List Dot
+pixels_of_strokes pen [] = []
+pixels_of_strokes pen (stroke ∷ strokes) = pixels_of_stroke pen stroke ++ pixels_of_strokes (pen_after pen stroke) strokes
 
 -- what a character says before its commands: its code, the place of the last earlier character with this code (-1 where there is
 -- none), and its box
@@ -117,15 +117,15 @@ head_of [] = None
 head_of (b ∷ bytes) = if b == 68 then Some (head_of_boc1 bytes) else (if b == 67 then Some (head_of_boc bytes) else None)
 
 -- the pixels that commands make black, when they start at the left end and the top of a box
-abbrev pub drawn_from : ℤ → ℤ → List ℕ → Option (List Dot)
-drawn_from left top bytes = option_map (drawn (pen_at left top)) (strokes bytes)
+abbrev pub pixels_from : ℤ → ℤ → List ℕ → Option (List Dot)
+pixels_from left top bytes = option_map (pixels_of_strokes (pen_at left top)) (strokes bytes)
 
-abbrev pub drawn_in : CharacterBox → List ℕ → Option (List Dot)
-drawn_in b bytes = drawn_from b.min_m b.max_n bytes
+abbrev pub pixels_in : CharacterBox → List ℕ → Option (List Dot)
+pixels_in b bytes = pixels_from b.min_m b.max_n bytes
 
 -- the pixels that a character makes black with the commands after its head
 unfoldable pub paint : List ℕ → Option (List Dot)
 paint [] = None
 paint (b ∷ bytes) =
-    if b == 68 then drawn_in (head_of_boc1 bytes).box (drop 5 bytes)
-    else (if b == 67 then drawn_in (head_of_boc bytes).box (drop 24 bytes) else None)
+    if b == 68 then pixels_in (head_of_boc1 bytes).box (drop 5 bytes)
+    else (if b == 67 then pixels_in (head_of_boc bytes).box (drop 24 bytes) else None)

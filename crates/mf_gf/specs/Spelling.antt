@@ -27,16 +27,16 @@ abbrev pub new_row : ℕ → List ℕ
 new_row n = (74 + n) ∷ []
 
 -- the distance between two columns, or rows
-abbrev pub between : ℤ → ℤ → ℕ
-between a b = unsigned_abs (a -ℤ b)
+abbrev pub distance : ℤ → ℤ → ℕ
+distance a b = unsigned_abs (a -ℤ b)
 
 -- from a position to the start of a stretch of black pixels: within the same row with white; to the next row with new_row, where
 -- the offset from the left end of the box allows it; else with a skip and white
 abbrev pub approach : ℤ → ℤ → ℤ → Run → List ℕ
 approach left row column r =
-    if int_eq r.y row then paint (between r.x column)
-    else (if between row r.y == 1 && nat_le (between r.x left) 164 then new_row (between r.x left)
-    else skip (between row r.y - 1) ++ paint (between r.x left))
+    if int_eq r.y row then paint (distance r.x column)
+    else (if distance row r.y == 1 && nat_le (distance r.x left) 164 then new_row (distance r.x left)
+    else skip (distance row r.y - 1) ++ paint (distance r.x left))
 
 -- stretches of black pixels, one after another, starting at a position
 unfoldable pub rows : ℤ → ℤ → ℤ → List Run → List ℕ

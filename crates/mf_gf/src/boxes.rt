@@ -1,6 +1,6 @@
 //! Boxes of characters.
 ghost use Rattle.std.specs.Prelude.{◌≡◌};
-ghost use Rattle.mf_gf.specs.Boxes.{box_of, box_of_run, joined, no_box, widened};
+ghost use Rattle.mf_gf.specs.Boxes.{box_of, box_of_run, join, no_box, widen};
 ghost use Rattle.mf_gf.specs.Pixels.{black};
 ghost use Rattle.mf_rows.specs.Dots.{IsPicture};
 ghost use Rattle.mf_rows.specs.Order.{IsRun};
@@ -45,8 +45,8 @@ impl CharacterBox {
     }
 
     /// The least box around two boxes.
-    fn joined(&self, other: &CharacterBox) -> CharacterBox
-        ensures { result ≡ joined self.now other.now }
+    fn join(&self, other: &CharacterBox) -> CharacterBox
+        ensures { result ≡ join self.now other.now }
     {
         CharacterBox {
             min_m: self.min_m.min(other.min_m),
@@ -57,11 +57,11 @@ impl CharacterBox {
     }
 
     /// The least box around an earlier box, if there is one, and another box.
-    pub(crate) fn widened(bounds: Option<CharacterBox>, other: CharacterBox) -> CharacterBox
-        ensures { result ≡ widened bounds other }
+    pub(crate) fn widen(bounds: Option<CharacterBox>, other: CharacterBox) -> CharacterBox
+        ensures { result ≡ widen bounds other }
     {
         match bounds {
-            Some(before) => before.joined(&other),
+            Some(before) => before.join(&other),
             None => other,
         }
     }
@@ -73,7 +73,7 @@ impl CharacterBox {
     {
         let mut bounds = None;
         for stretch in Stretches::over(picture) {
-            bounds = Some(CharacterBox::widened(bounds, CharacterBox::of_run(&stretch)));
+            bounds = Some(CharacterBox::widen(bounds, CharacterBox::of_run(&stretch)));
         }
         bounds.unwrap_or(CharacterBox::none())
     }

@@ -1,9 +1,9 @@
 //! The bytes of a character.
 ghost use Rattle.std.specs.Prelude.{◌≡◌, ◌&&◌, ◌-ℤ◌, ◌++◌, List, ℕ, true};
+ghost use Rattle.mf_geom.specs.Coordinates.{IsCoordinate};
 ghost use Rattle.mf_gf.specs.Boxes.{box_of};
 ghost use Rattle.mf_gf.specs.Numbers.{word};
 ghost use Rattle.mf_gf.specs.Pixels.{black};
-ghost use Rattle.mf_gf.specs.Places.{IsInReach};
 ghost use Rattle.mf_gf.specs.Spelling.{begin, is_byte, is_short, long_begin, pointer, short_begin, spell};
 ghost use Rattle.mf_gf.specs.Spellings.{Holds};
 
@@ -43,8 +43,8 @@ pub(crate) fn spell(
 
 /// Begins a character: with boc1 where it is the first of its code and its box allows it, else with boc.
 fn put_begin(out: &mut Spelling, code: u8, earlier: Option<u32>, bounds: &CharacterBox)
-    requires columns { IsInReach bounds.now.min_m × IsInReach bounds.now.max_m }
-    requires rows { IsInReach bounds.now.min_n × IsInReach bounds.now.max_n }
+    requires columns { IsCoordinate bounds.now.min_m × IsCoordinate bounds.now.max_m }
+    requires rows { IsCoordinate bounds.now.min_n × IsCoordinate bounds.now.max_n }
     ensures held { (text : List ℕ) → Holds out.old text → Holds out.new (text ++ begin code (pointer earlier) bounds.now) }
     ensures room { out.new.room ≡ out.old.room }
 {
@@ -57,8 +57,8 @@ fn put_begin(out: &mut Spelling, code: u8, earlier: Option<u32>, bounds: &Charac
 
 /// Begins a character with boc1, whose fields have one byte each.
 fn put_short_begin(out: &mut Spelling, code: u8, bounds: &CharacterBox)
-    requires columns { IsInReach bounds.now.min_m × IsInReach bounds.now.max_m }
-    requires rows { IsInReach bounds.now.min_n × IsInReach bounds.now.max_n }
+    requires columns { IsCoordinate bounds.now.min_m × IsCoordinate bounds.now.max_m }
+    requires rows { IsCoordinate bounds.now.min_n × IsCoordinate bounds.now.max_n }
     requires short { is_short bounds.now ≡ true }
     ensures held { (text : List ℕ) → Holds out.old text → Holds out.new (text ++ short_begin code bounds.now) }
     ensures room { out.new.room ≡ out.old.room }
@@ -100,8 +100,8 @@ fn put_pointer(out: &mut Spelling, earlier: Option<u32>)
 
 /// Whether a box fits into the one-byte fields of boc1.
 fn is_short(bounds: &CharacterBox) -> bool
-    requires columns { IsInReach bounds.now.min_m × IsInReach bounds.now.max_m }
-    requires rows { IsInReach bounds.now.min_n × IsInReach bounds.now.max_n }
+    requires columns { IsCoordinate bounds.now.min_m × IsCoordinate bounds.now.max_m }
+    requires rows { IsCoordinate bounds.now.min_n × IsCoordinate bounds.now.max_n }
     ensures { result ≡ is_short bounds.now }
 {
     is_short_side(bounds.min_m, bounds.max_m) && is_short_side(bounds.min_n, bounds.max_n)
@@ -109,8 +109,8 @@ fn is_short(bounds: &CharacterBox) -> bool
 
 /// Whether the extent and the greater end of a side of a box each fit into one byte.
 fn is_short_side(least: i32, greatest: i32) -> bool
-    requires least { IsInReach least }
-    requires greatest { IsInReach greatest }
+    requires least { IsCoordinate least }
+    requires greatest { IsCoordinate greatest }
     ensures { result ≡ (is_byte (greatest -ℤ least) && is_byte greatest) }
 {
     is_byte(greatest - least) && is_byte(greatest)

@@ -2,7 +2,7 @@
 ghost use Rattle.std.specs.Prelude.{◌≡◌};
 ghost use Rattle.mf_gf.specs.declared.fault.GfFault.TheVariants.{OutOfMemory as NoMemory};
 
-use mf_geom::OutOfMemory;
+use mf_base::OutOfMemory;
 use std::error::Error;
 use std::fmt;
 

@@ -5,7 +5,7 @@ use crate::boxes::CharacterBox;
 use crate::locators::Locators;
 use std::alloc::Global;
 
-mod steps;
+mod shipping;
 mod tail;
 
 /// The identification byte, which says that a file is a GF file (gftype.web).

@@ -3,7 +3,7 @@ ghost use Rattle.std.specs.Io.KnownBytes.{Appends};
 ghost use Rattle.std.specs.Prelude.{◌≡◌, ◌<◌, IfErr, OnOk, length, take};
 
 use crate::fault::WriteFault;
-use crate::output::write_counted;
+use mf_base::write_counted;
 use std::io::Write;
 use std::marker::Model;
 

@@ -1,7 +1,7 @@
 //! Laws of GF files. Each is the contract of a function that does nothing, because the toolchain proves a statement only where
 //! the contract of a function names it.
 ghost use Rattle.std.specs.Prelude.{◌≡◌, ◌↔◌, ◌<◌, ◌<ℤ◌, ◌∷◌, [], ◌++◌, length, ℕ, ℤ, pos, List, Some};
-ghost use Rattle.mf_gf.specs.Boxes.{IsLeastBox, box_of, joined};
+ghost use Rattle.mf_gf.specs.Boxes.{IsLeastBox, box_of, join};
 ghost use Rattle.mf_gf.specs.Files.{Character, IsPadded, IsShortDx, box_of_all, file_of, front, last_place, shipments, short_dx};
 ghost use Rattle.mf_gf.specs.declared.file.FontWords.{FontWords};
 ghost use Rattle.mf_gf.specs.Numbers.{IsWord};
@@ -45,9 +45,11 @@ pub fn short_escapements()
 /// joined with its own box.
 pub fn one_character_more()
     ensures begins { (words : FontWords) (comment : List ℕ) (cs : List Character) → (rest : List ℕ) × (file_of words comment cs ≡ front comment cs ++ rest) }
-    ensures bytes { (comment : List ℕ) (cs : List Character) (c : Character) → front comment (cs ++ c ∷ []) ≡ front comment cs ++ spell c.code (pointer (last_place c.code (shipments comment cs))) c.black }
-    ensures place { (comment : List ℕ) (cs : List Character) (c : Character) → shipments comment (cs ++ c ∷ []) ≡ record { character = c; place = length (front comment cs) } ∷ shipments comment cs }
-    ensures bounds { (b : Character) (cs : List Character) (c : Character) → box_of_all (b ∷ cs ++ c ∷ []) ≡ joined (box_of_all (b ∷ cs)) (box_of c.black) }
+    ensures bytes { (comment : List ℕ) (cs : List Character) (c : Character)
+        → front comment (cs ++ c ∷ []) ≡ front comment cs ++ spell c.code (pointer (last_place c.code (shipments comment cs))) c.black }
+    ensures place { (comment : List ℕ) (cs : List Character) (c : Character)
+        → shipments comment (cs ++ c ∷ []) ≡ record { character = c; place = length (front comment cs) } ∷ shipments comment cs }
+    ensures bounds { (b : Character) (cs : List Character) (c : Character) → box_of_all (b ∷ cs ++ c ∷ []) ≡ join (box_of_all (b ∷ cs)) (box_of c.black) }
 {}
 
 /// A reader of a finished file finds all of its characters. The codes of the locators rise; there is a locator for each code that

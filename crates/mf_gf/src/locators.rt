@@ -3,7 +3,7 @@ ghost use Rattle.std.specs.Prelude.{◌≡◌, length};
 
 use crate::locator::Locator;
 
-mod steps;
+mod entries;
 
 /// The number of codes.
 const CODES: usize = 256;

@@ -1,7 +1,7 @@
 //! The rows of a character: the commands that paint its stretches of black pixels.
 ghost use Rattle.std.specs.Prelude.{◌≡◌, ◌++◌, List, ℕ};
+ghost use Rattle.mf_geom.specs.Coordinates.{IsCoordinate};
 ghost use Rattle.mf_gf.specs.Ahead.{AreInOrder, blacks_ahead, stretches_left};
-ghost use Rattle.mf_gf.specs.Places.{IsInReach};
 ghost use Rattle.mf_gf.specs.Spelling.{approach, rows};
 ghost use Rattle.mf_gf.specs.Spellings.{Holds};
 ghost use Rattle.mf_rows.specs.Order.{IsRun};
@@ -24,9 +24,10 @@ struct Place {
 /// Spells stretches of black pixels one after another, starting from the left end of the top row of their box.
 pub(crate) fn spell_rows(out: &mut Spelling, stretches: Stretches<'_>, bounds: &CharacterBox)
     requires order { AreInOrder (blacks_ahead stretches) }
-    requires left { IsInReach bounds.now.min_m }
-    requires top { IsInReach bounds.now.max_n }
-    ensures held { (text : List ℕ) → Holds out.old text → Holds out.new (text ++ rows bounds.now.min_m bounds.now.max_n bounds.now.min_m (stretches_left stretches.entry)) }
+    requires left { IsCoordinate bounds.now.min_m }
+    requires top { IsCoordinate bounds.now.max_n }
+    ensures held { (text : List ℕ) → Holds out.old text
+        → Holds out.new (text ++ rows bounds.now.min_m bounds.now.max_n bounds.now.min_m (stretches_left stretches.entry)) }
     ensures room { out.new.room ≡ out.old.room }
 {
     let mut place = Place {
@@ -46,9 +47,9 @@ pub(crate) fn spell_rows(out: &mut Spelling, stretches: Stretches<'_>, bounds: &
 /// Goes from a position to the start of a stretch, where the next paint is black. `left` is the left end of the box.
 fn go_to(out: &mut Spelling, left: i32, from: Place, stretch: &Run)
     requires stretch { IsRun stretch.now }
-    requires left { IsInReach left }
-    requires row { IsInReach from.row }
-    requires column { IsInReach from.column }
+    requires left { IsCoordinate left }
+    requires row { IsCoordinate from.row }
+    requires column { IsCoordinate from.column }
     ensures held { (text : List ℕ) → Holds out.old text → Holds out.new (text ++ approach left from.row from.column stretch.now) }
     ensures room { out.new.room ≡ out.old.room }
 {

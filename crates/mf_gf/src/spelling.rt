@@ -1,7 +1,7 @@
 //! Bytes that are being written, up to a limit.
 ghost use Rattle.std.specs.Prelude.{◌≤◌, ◌^◌};
 
-mod steps;
+mod writing;
 
 /// Bytes that are being written, with room for at most `room` of them. Bytes for which there is no room, or for which an
 /// allocation fails, are only counted. So a file that is too long is refused as such, whether or not there is memory for it.

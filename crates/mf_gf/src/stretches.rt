@@ -30,7 +30,7 @@ impl<'a> Stretches<'a> {
     }
 
     /// Returns the stretch that starts with this run, lengthened by the runs that continue it. It passes those.
-    fn lengthened(&mut self, begun: Run) -> Run
+    fn lengthen(&mut self, begun: Run) -> Run
         requires order { AreInOrder (begun ∷ blacks_ahead self.old) }
         ensures order { AreInOrder (blacks_ahead self.new) }
         ensures stretch { runs_of (flat_map dots_of (begun ∷ blacks_ahead self.old)) ≡ result ∷ stretches_left self.new }
@@ -62,7 +62,7 @@ impl Iterator for Stretches<'_> {
     fn next(&mut self) -> Option<Run> {
         let begun = self.next?;
         self.next = next_black(&mut self.runs);
-        Some(self.lengthened(begun))
+        Some(self.lengthen(begun))
     }
 }
 

@@ -1,44 +1,23 @@
 -- The boxes of images.
-use Rattle.std.proofs.Common.{◌≡◌, ◌+◌, ◌+ℤ◌, to_z, of_z, w32, ℕ, ℤ, ◌<◌, ◌≤◌, ◌⊎◌, inl, inr, pos, negsuc, ◌≤ℤ◌, List, [], ◌∷◌, refl, sym, arith}
+use Rattle.std.proofs.Common.{◌≡◌, ◌+◌, ◌+ℤ◌, to_z, of_z, w32, ℕ, ℤ, ◌<◌, ◌≤◌, ◌⊎◌, inl, inr, pos, ◌≤ℤ◌, List, [], ◌∷◌, refl, sym, arith}
 use Rattle.std.proofs.lemmas.Int.{ints}
-use Rattle.std.proofs.lemmas.List.Elements.{All-nil, All-cons}
+use Rattle.mf_geom.specs.Coordinates.{least_coordinate, last_in_field}
 use Rattle.mf_rows.specs.declared.bounds.Box4.{Box4}
-use Rattle.mf_rows.specs.Bounds.{IsWithin, IsLeastBox}
+use Rattle.mf_rows.specs.Bounds.{IsLeastBox}
 use Rattle.mf_rows.specs.Dots.{Dot, IsPicture}
-use Rattle.mf_rows.proofs.RunBoxes.{least_box_of_both}
+use Rattle.mf_show.specs.Boxes.{box_of_dots}
 use Rattle.mf_show.specs.Grid.{extent}
-use Rattle.mf_show.proofs.LeastBoxes.{least_box_of_field, least_box_of_some, same_least_box}
-use Rattle.mf_image.specs.Boxes.{IsImageBox, IsTooLarge, box_of_dot, box_of_dots, image_box, origin}
-
-least_of_dot : (d : Dot) → IsLeastBox (d ∷ []) (box_of_dot d)
-least_of_dot d =
-    record {
-      within = All-cons (IsWithin (box_of_dot d)) d [] (record { left = omega (arith, ints); right = omega (arith, ints); bottom = omega (arith, ints); top = omega (arith, ints) }) (All-nil (IsWithin (box_of_dot d)));
-      left = (0, d, omega arith, refl, refl);
-      right = (0, d, omega arith, refl, refl);
-      bottom = (0, d, omega arith, refl, refl);
-      top = (0, d, omega arith, refl, refl);
-    }
-
--- the box of some dots is their least box
-pub least_of_dots : (d : Dot) (ds : List Dot) → IsLeastBox (d ∷ ds) (box_of_dots d ds)
-unfolding box_of_dots
-least_of_dots d [] = least_of_dot d
-least_of_dots d (e ∷ ds) = least_box_of_both (d ∷ []) (e ∷ ds) (box_of_dot d) (box_of_dots e ds) (least_of_dot d) (least_of_dots e ds)
+use Rattle.mf_show.proofs.LeastBoxes.{least_box_of_dots, least_box_of_field, least_box_of_some, same_least_box}
+use Rattle.mf_image.specs.Boxes.{IsImageBox, IsTooLarge, image_box, origin}
 
 least_is_image_box : (ds : List Dot) (b : Box4) → IsLeastBox ds b → b ≡ image_box ds
-unfolding image_box box_of_dots
+unfolding image_box
 least_is_image_box [] b least = absurd (least_box_of_some b least)
-least_is_image_box (d ∷ ds) b least = same_least_box (d ∷ ds) b (box_of_dots d ds) least (least_of_dots d ds)
+least_is_image_box (d ∷ ds) b least = same_least_box (d ∷ ds) b (box_of_dots d ds) least (least_box_of_dots d ds)
 
 -- the least box is that of the image
 pub box_of_picture : (ds : List Dot) (b : Box4) → IsPicture ds → IsLeastBox ds b → IsImageBox ds b
-box_of_picture ds b picture least =
-    let field = least_box_of_field ds b picture least in
-    record {
-      is = least_is_image_box ds b least;
-      field = record { left = field.left; right = field.right; bottom = field.bottom; top = field.top; columns = field.columns; rows = field.rows };
-    }
+box_of_picture ds b picture least = record { is = least_is_image_box ds b least; field = least_box_of_field ds b picture least }
 
 -- the image of the blank picture has the box of the origin, and is not too large
 pub box_of_blank : (ds : List Dot) → ds ≡ [] → IsImageBox ds origin
@@ -46,7 +25,14 @@ unfolding image_box
 box_of_blank ds blank =
     record {
       is = rw blank refl;
-      field = record { left = omega (arith, ints); right = omega (arith, ints); bottom = omega (arith, ints); top = omega (arith, ints); columns = omega (arith, ints); rows = omega (arith, ints) };
+      field = record {
+        left = omega (arith, ints);
+        right = omega (arith, ints);
+        bottom = omega (arith, ints);
+        top = omega (arith, ints);
+        columns = omega (arith, ints);
+        rows = omega (arith, ints);
+      };
     }
 
 large_origin : (4096 < extent origin.min_x origin.max_x) ⊎ (4096 < extent origin.min_y origin.max_y) → ⊥
@@ -71,7 +57,7 @@ is_large ds b columns rows is wide high (inr more) = inr (rw (← is, ← high) 
 
 -- ---- the sides of a sheet
 
-pub is_within : (first last : ℤ) → negsuc 4094 ≤ℤ first → last ≤ℤ pos 4094 → first ≤ℤ last → extent first last ≤ 8190
+pub is_within : (first last : ℤ) → least_coordinate ≤ℤ first → last ≤ℤ last_in_field → first ≤ℤ last → extent first last ≤ 8190
 is_within first last left right order = omega (arith, ints)
 
 pub side : (n : ℕ) → n ≤ 8190 → to_z w32 (of_z w32 (to_z w32 n +ℤ pos 2)) ≡ pos (n + 2)

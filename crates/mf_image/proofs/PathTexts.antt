@@ -1,5 +1,5 @@
 -- The weights of runs, and the texts of their paths.
-use Rattle.std.proofs.Common.{◌≡◌, ◌<◌, codes, length, ℕ, suc, ℤ, pos, negsuc, ◌+ℤ◌, ◌≤ℤ◌, List, [], ◌∷◌, ◌++◌, refl, sym, ap, ◌∙◌, append_assoc, arith}
+use Rattle.std.proofs.Common.{◌≡◌, ◌<◌, codes, length, ℕ, suc, ℤ, pos, ◌+ℤ◌, ◌≤ℤ◌, List, [], ◌∷◌, ◌++◌, refl, sym, ap, ◌∙◌, append_assoc, arith}
 use Rattle.std.specs.Int.{int_max, int_min}
 use Rattle.std.specs.List.{All, flat_map, fold}
 use Rattle.std.proofs.lemmas.Int.{ints, int_max_is, int_min_is}
@@ -11,20 +11,22 @@ use Rattle.mf_rows.specs.Order.{IsRun}
 use Rattle.mf_rows.specs.Runs.{runs_of}
 use Rattle.mf_rows.proofs.Totals.{total_none}
 use Rattle.mf_show.specs.Grid.{extent}
+use Rattle.mf_show.proofs.GridTexts.{extent-next, extent-none}
 use Rattle.std.specs.Fmt.{signed_decimal}
-use Rattle.mf_image.specs.Svg.{color, greatest_weight, least_weight, path, paths, paths_from, rectangle_of, weights_of}
+use Rattle.mf_edges.specs.LawfulWeights.{least_weight, greatest_weight}
+use Rattle.mf_image.specs.Svg.{color, greatest_weight_of, least_weight_of, path, paths, paths_from, rectangle_of, weights_of}
 
 -- ---- the span of weights
 
 -- the least and the greatest weight of the first runs; with those of the others, rs, they are the least and the greatest of all
 pub record AreSpanned (ds : List Dot) (rs : List Run) (least greatest : ℤ) : Type 0 where
   pub runs : All IsRun rs
-  pub below : fold int_min least (weights_of rs) ≡ least_weight (runs_of ds)
-  pub above : fold int_max greatest (weights_of rs) ≡ greatest_weight (runs_of ds)
-  pub low : negsuc 32766 ≤ℤ least
+  pub below : fold int_min least (weights_of rs) ≡ least_weight_of (runs_of ds)
+  pub above : fold int_max greatest (weights_of rs) ≡ greatest_weight_of (runs_of ds)
+  pub low : least_weight ≤ℤ least
   pub down : least ≤ℤ pos 0
   pub up : pos 0 ≤ℤ greatest
-  pub high : greatest ≤ℤ pos 32767
+  pub high : greatest ≤ℤ greatest_weight
 
 pub none_spanned : (ds : List Dot) (rs : List Run) → IsPicture ds → rs ≡ runs_of ds → AreSpanned ds rs (pos 0) (pos 0)
 none_spanned ds rs picture all = record {
@@ -56,7 +58,7 @@ one_more_spanned ds rs r others least greatest low high first lesser greater so_
     }
 
 pub all_spanned : (ds : List Dot) (rs : List Run) (least greatest : ℤ) → rs ≡ [] → AreSpanned ds rs least greatest
-    → (least ≡ least_weight (runs_of ds)) × (greatest ≡ greatest_weight (runs_of ds))
+    → (least ≡ least_weight_of (runs_of ds)) × (greatest ≡ greatest_weight_of (runs_of ds))
 all_spanned ds rs least greatest none so_far =
     (ap (λ all. fold int_min least (weights_of all)) (sym none) ∙ so_far.below, ap (λ all. fold int_max greatest (weights_of all)) (sym none) ∙ so_far.above)
 
@@ -89,12 +91,6 @@ all_drawn w ds old rs text none so_far = sym (append-nil text) ∙ ap (λ all. t
 
 -- ---- the paths
 
-extent-next : (w last : ℤ) → w ≤ℤ last → extent w last ≡ suc (extent (w +ℤ pos 1) last)
-extent-next w last le = omega (arith, ints)
-
-extent-none : (w last : ℤ) → w ≡ last +ℤ pos 1 → extent w last ≡ 0
-extent-none w last over = omega (arith, ints)
-
 -- the text so far is the old one and the paths of the weights from the least to the one before w
 pub record ArePathsSoFar (rs : List Run) (least greatest : ℤ) (old : List ℕ) (w : ℤ) (text : List ℕ) : Type 0 where
   pub left : least ≤ℤ w
@@ -120,8 +116,8 @@ one_more_path rs least greatest old w text new within pushed so_far =
       paths = rw pushed (append_assoc text (path w (flat_map (rectangle_of w) rs)) rest) ∙ ap (λ more. text ++ more) (sym next) ∙ so_far.paths;
     }
 
-pub all_paths : (rs : List Run) (least greatest : ℤ) (old : List ℕ) (w : ℤ) (text : List ℕ) → w ≡ greatest +ℤ pos 1 → least ≡ least_weight rs
-    → greatest ≡ greatest_weight rs → ArePathsSoFar rs least greatest old w text → text ≡ old ++ paths rs
+pub all_paths : (rs : List Run) (least greatest : ℤ) (old : List ℕ) (w : ℤ) (text : List ℕ) → w ≡ greatest +ℤ pos 1 → least ≡ least_weight_of rs
+    → greatest ≡ greatest_weight_of rs → ArePathsSoFar rs least greatest old w text → text ≡ old ++ paths rs
 unfolding paths_from paths
 all_paths rs least greatest old w text over low high so_far =
     sym (append-nil text) ∙ ap (λ n. text ++ paths_from rs w n) (sym (extent-none w greatest over)) ∙ so_far.paths

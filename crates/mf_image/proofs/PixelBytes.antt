@@ -4,15 +4,10 @@ use Rattle.std.proofs.lemmas.Int.{ints}
 use Rattle.std.proofs.lemmas.List.{append-nil}
 use Rattle.mf_rows.specs.declared.bounds.Box4.{Box4}
 use Rattle.mf_rows.specs.Dots.{Dot, weight_at}
+use Rattle.mf_show.specs.Boxes.{IsBoxOfField}
 use Rattle.mf_show.specs.Grid.{extent}
-use Rattle.mf_image.specs.Boxes.{IsBoxOfField}
+use Rattle.mf_show.proofs.GridTexts.{extent-lower, extent-next, extent-none}
 use Rattle.mf_image.specs.Pgm.{box_bytes, level, row_bytes, rows_bytes}
-
-extent-next : (x last : ℤ) → x ≤ℤ last → extent x last ≡ suc (extent (x +ℤ pos 1) last)
-extent-next x last le = omega (arith, ints)
-
-extent-none : (x last : ℤ) → x ≡ last +ℤ pos 1 → extent x last ≡ 0
-extent-none x last over = omega (arith, ints)
 
 -- ---- a row
 
@@ -66,9 +61,6 @@ rows_bytes-next : (ds : List Dot) (x y : ℤ) (columns n : ℕ)
     → rows_bytes ds x columns y (suc n) ≡ row_bytes ds y x columns ++ rows_bytes ds x columns (y -ℤ pos 1) n
 unfolding rows_bytes
 rows_bytes-next ds x y columns n = refl
-
-extent-lower : (first y : ℤ) → first ≤ℤ y → extent first y ≡ suc (extent first (y -ℤ pos 1))
-extent-lower first y le = omega (arith, ints)
 
 pub box_more : (ds : List Dot) (b : Box4) (head : List ℕ) (y : ℤ) (bytes new : List ℕ) → b.min_y ≤ℤ y
     → new ≡ bytes ++ row_bytes ds y b.min_x (extent b.min_x b.max_x) → IsBoxSoFar ds b head y bytes → IsBoxSoFar ds b head (y -ℤ pos 1) new

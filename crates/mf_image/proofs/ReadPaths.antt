@@ -15,13 +15,14 @@ use Rattle.mf_rows.specs.Order.{IsRun}
 use Rattle.mf_rows.specs.Runs.{stretch, dots_of, runs_of}
 use Rattle.mf_rows.proofs.RunsLemmas.{dots_of-runs_of}
 use Rattle.mf_rows.proofs.Totals.{total_none}
+use Rattle.mf_show.specs.Boxes.{IsBoxOfField, box_of_dots}
 use Rattle.mf_show.specs.Grid.{extent}
-use Rattle.mf_show.proofs.LeastBoxes.{some_least_box}
+use Rattle.mf_show.proofs.LeastBoxes.{least_box_of_dots, least_box_of_field}
 use Rattle.mf_image.specs.declared.svg_image.Sheet.{Sheet}
-use Rattle.mf_image.specs.Boxes.{IsBoxOfField, image_box}
+use Rattle.mf_image.specs.Boxes.{image_box}
 use Rattle.mf_image.specs.Reading.{after, number, read, read_svg}
-use Rattle.mf_image.specs.Svg.{axes, color, cover, opening, greatest_weight, image, least_weight, path, paths, paths_from, rectangle, rectangle_of, sheet_of, svg_text, weights_of}
-use Rattle.mf_image.proofs.ImageBoxes.{box_of_blank, box_of_picture}
+use Rattle.mf_image.specs.Svg.{axes, color, cover, opening, greatest_weight_of, image, least_weight_of, path, paths, paths_from, rectangle, rectangle_of, sheet_of, svg_text, weights_of}
+use Rattle.mf_image.proofs.ImageBoxes.{box_of_blank}
 use Rattle.mf_image.proofs.ReadTexts.{IsEnd, IsPassed, IsSmall, IsSmallSheet, axes_read, cover_read, end_after, number_passed, number_read, opening_read, rectangle_read}
 use Rattle.mf_image.proofs.ReadWeights.{dots_with, dots_with-append, dots_with-other, dots_with-same, found, gathered, weight_of_runs}
 
@@ -126,7 +127,7 @@ tail_read s u small =
     cover_read u s (codes "url(#grid)") (axes s ++ codes "</svg>\n") small (λ rest. refl) ∙ axes_read u s (codes "</svg>\n") small
 
 image_read : (s : Sheet) (rs : List Run) → IsSmallSheet s → All IsRun rs
-    → read_svg (image s rs) ≡ gathered (flat_map dots_of rs) (least_weight rs) (extent (least_weight rs) (greatest_weight rs))
+    → read_svg (image s rs) ≡ gathered (flat_map dots_of rs) (least_weight_of rs) (extent (least_weight_of rs) (greatest_weight_of rs))
 unfolding image paths read after
 image_read s rs small runs =
     let tail = codes "</g>\n" ++ (cover s (codes "url(#grid)") ++ (axes s ++ codes "</svg>\n")) in
@@ -136,7 +137,7 @@ image_read s rs small runs =
     let begun : read true (pos 0) group ≡ read true (pos 0) ink = refl in
     ap (read true (pos 0)) text ∙ opening_read (pos 0) s (cover s (codes "#fff") ++ group) small
     ∙ cover_read (pos 0) s (codes "#fff") group small (λ rest. refl) ∙ begun
-    ∙ paths_read rs (least_weight rs) (extent (least_weight rs) (greatest_weight rs)) (pos 0) tail runs (λ u. tail_read s u small)
+    ∙ paths_read rs (least_weight_of rs) (extent (least_weight_of rs) (greatest_weight_of rs)) (pos 0) tail runs (λ u. tail_read s u small)
 
 small_sheet : (b : Box4) → IsBoxOfField b → IsSmallSheet (sheet_of b)
 small_sheet b field = record {
@@ -150,10 +151,7 @@ small_sheet b field = record {
 box_is_of_field : (ds : List Dot) → IsPicture ds → IsBoxOfField (image_box ds)
 unfolding image_box
 box_is_of_field [] picture = (box_of_blank [] refl).field
-box_is_of_field (d ∷ ds) picture =
-    let (b, least) = some_least_box d ds in
-    let box = box_of_picture (d ∷ ds) b picture least in
-    subst IsBoxOfField box.is box.field
+box_is_of_field (d ∷ ds) picture = least_box_of_field (d ∷ ds) (box_of_dots d ds) picture (least_box_of_dots d ds)
 
 pub svg_read : (ds : List Dot) (x y : ℤ) → IsPicture ds → weight_at (read_svg (svg_text ds)) x y ≡ weight_at ds x y
 unfolding svg_text
@@ -161,11 +159,12 @@ svg_read ds x y picture =
     let rs = runs_of ds in
     let runs = (total_none ds rs picture refl).passes.runs in
     let same : flat_map dots_of rs ≡ ds = dots_of-runs_of ds in
-    let low = least_weight rs in
-    let high = greatest_weight rs in
+    let low = least_weight_of rs in
+    let high = greatest_weight_of rs in
     let (low_none, low_all) = fold-int_min_bounds (pos 0) (weights_of rs) low refl in
     let (high_none, high_all) = fold-int_max_bounds (pos 0) (weights_of rs) high refl in
     let least : low ≤ℤ weight_at ds x y = subst (λ es. low ≤ℤ weight_at es x y) same (weight_of_runs (λ w. low ≤ℤ w) rs x y low_none low_all) in
     let greatest : weight_at ds x y ≤ℤ high = subst (λ es. weight_at es x y ≤ℤ high) same (weight_of_runs (λ w. w ≤ℤ high) rs x y high_none high_all) in
-    ap (λ es. weight_at es x y) (image_read (sheet_of (image_box ds)) rs (small_sheet (image_box ds) (box_is_of_field ds picture)) runs ∙ ap (λ es. gathered es low (extent low high)) same)
+    ap (λ es. weight_at es x y) (image_read (sheet_of (image_box ds)) rs
+    (small_sheet (image_box ds) (box_is_of_field ds picture)) runs ∙ ap (λ es. gathered es low (extent low high)) same)
     ∙ found start_of_field ds low (extent low high) x y picture.dots least (omega (arith, ints))

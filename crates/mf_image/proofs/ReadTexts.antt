@@ -49,7 +49,8 @@ continued-digit n d bs below = let value : 10 * n + ((48 + d) - 48) ≡ 10 * n +
 
 continued-decimal : (n : ℕ) (bs : List ℕ) → n < 2 ^ 64 → continued 0 (decimal n ++ bs) ≡ continued n bs
 continued-decimal n bs small =
-    decimal_by_steps (λ k ds. (rest : List ℕ) → continued 0 (ds ++ rest) ≡ continued k rest) (λ d below rest. let value : 10 * 0 + d ≡ d = omega arith in continued-digit 0 d rest below ∙ ap (λ m. continued m rest) value)
+    decimal_by_steps (λ k ds. (rest : List ℕ) → continued 0 (ds ++ rest) ≡ continued k rest)
+    (λ d below rest. let value : 10 * 0 + d ≡ d = omega arith in continued-digit 0 d rest below ∙ ap (λ m. continued m rest) value)
     (λ k ds more front rest.
     let value : 10 * (k / 10) + k % 10 ≡ k = omega arith in
     ap (continued 0) (append_assoc ds ((48 + k % 10) ∷ []) rest) ∙ front ((48 + k % 10) ∷ rest) ∙ continued-digit (k / 10) (k % 10) rest (omega arith)
@@ -224,7 +225,8 @@ top_found : (x top : ℤ) (n : ℕ) (rest : List ℕ) → IsSmall x → after_fi
 unfolding after_first
 top_found x top n rest column =
     ap (after_first 32) (sides_on x top n rest)
-    ∙ pass_number (after_first 32) (first_passes_digits 32 (λ d below same. omega arith)) (λ bs. refl) x (32 ∷ (signed_decimal top ++ 104 ∷ width_on n rest)) column
+    ∙ pass_number (after_first 32) (first_passes_digits 32 (λ d below same. omega arith)) (λ bs. refl) x
+    (32 ∷ (signed_decimal top ++ 104 ∷ width_on n rest)) column
 
 width_found : (x top : ℤ) (n : ℕ) (rest : List ℕ) → IsSmall x → IsSmall top → after_first 104 (sides x top n ++ rest) ≡ width_on n rest
 unfolding after_first

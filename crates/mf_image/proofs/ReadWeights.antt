@@ -26,7 +26,8 @@ pub dots_with-append : (w : ℤ) (ds es : List Dot) → dots_with w (ds ++ es) �
 unfolding dots_with
 dots_with-append w [] es = refl
 dots_with-append w (d ∷ ds) es =
-    cond_both (int_eq d.weight w) (d ∷ dots_with w (ds ++ es)) (dots_with w (ds ++ es)) (λ all. all ≡ (if int_eq d.weight w then d ∷ dots_with w ds else dots_with w ds) ++ dots_with w es)
+    cond_both (int_eq d.weight w) (d ∷ dots_with w (ds ++ es)) (dots_with w (ds ++ es))
+    (λ all. all ≡ (if int_eq d.weight w then d ∷ dots_with w ds else dots_with w ds) ++ dots_with w es)
     (λ yes. rw yes (ap (λ others. d ∷ others) (dots_with-append w ds es)))
     (λ no. rw no (dots_with-append w ds es))
 
@@ -61,7 +62,8 @@ absent w [] es x y none = refl
 absent w (d ∷ ds) es x y none =
     let rest = absent w ds es x y (All-tail (λ d. d.weight ≡ w → IsAt d x y → ⊥) d ds none) in
     cond_both (int_eq d.weight w) (d ∷ dots_with w ds) (dots_with w ds) (λ all. weight_at (all ++ es) x y ≡ weight_at es x y)
-    (λ yes. weight_at-elsewhere d (dots_with w ds ++ es) x y (All-head (λ d. d.weight ≡ w → IsAt d x y → ⊥) d ds none ((Decides-int_eq d.weight w).0 yes)) ∙ rest)
+    (λ yes. weight_at-elsewhere d (dots_with w ds ++ es) x y (All-head (λ d. d.weight ≡ w → IsAt d x y → ⊥) d ds none ((Decides-int_eq d.weight w).0 yes))
+    ∙ rest)
     (λ no. rest)
 
 -- the pixel has weight w, so it has it among the dots of weight w
@@ -152,7 +154,8 @@ either : (P : ℤ → Type 0) (y x w : ℤ) (n : ℕ) (es : List Dot) (u v : ℤ
 unfolding stretch weight_at
 either P y x w zero es u v here others = others
 either P y x w (suc n) es u v here others =
-    cond_both (int_eq x u && int_eq y v) w (weight_at (stretch y (x +ℤ pos 1) w n ++ es) u v) P (λ _. here) (λ _. either P y (x +ℤ pos 1) w n es u v here others)
+    cond_both (int_eq x u && int_eq y v) w (weight_at (stretch y (x +ℤ pos 1) w n ++ es) u v) P (λ _. here)
+    (λ _. either P y (x +ℤ pos 1) w n es u v here others)
 
 -- what holds for 0 and for the weights of all runs holds for the weight of each pixel
 pub weight_of_runs : (P : ℤ → Type 0) (rs : List Run) (x y : ℤ) → P (pos 0) → All P (weights_of rs) → P (weight_at (flat_map dots_of rs) x y)

@@ -1,6 +1,6 @@
 -- The names of refusals, as they appear in texts.
 use Rattle.std.specs.Prelude.{ℕ, List, codes}
-use Rattle.mf_geom.specs.Names.{memory_text}
+use Rattle.mf_base.specs.Names.{memory_text}
 use Rattle.mf_image.specs.declared.fault.ImageFault.{ImageFault}
 use Rattle.mf_image.specs.declared.fault.ImageFault.TheVariants.{ImageTooLarge, OutOfMemory}
 

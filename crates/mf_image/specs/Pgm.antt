@@ -23,7 +23,8 @@ level w =
 -- what comes before the bytes of the pixels: the left column and the top row, and the numbers of columns and rows
 abbrev pub pgm_head : Box4 → List ℕ
 pgm_head b =
-    codes "P5\n# left " ++ signed_decimal b.min_x ++ codes " top " ++ signed_decimal b.max_y ++ codes "\n" ++ signed_decimal (pos (extent b.min_x b.max_x)) ++ codes " "
+    codes "P5\n# left " ++ signed_decimal b.min_x ++ codes " top " ++ signed_decimal b.max_y ++ codes "\n" ++ signed_decimal
+    (pos (extent b.min_x b.max_x)) ++ codes " "
     ++ signed_decimal (pos (extent b.min_y b.max_y)) ++ codes "\n255\n"
 
 -- the bytes of n pixels of row y, from column x on

@@ -44,15 +44,15 @@ abbrev pub weights_of : List Run → List ℤ
 weights_of rs = map (λ r. r.weight) rs
 
 -- the least weight of a picture with these runs, and the greatest one; pixels outside the runs have weight 0
-abbrev pub least_weight : List Run → ℤ
-least_weight rs = fold int_min (pos 0) (weights_of rs)
+abbrev pub least_weight_of : List Run → ℤ
+least_weight_of rs = fold int_min (pos 0) (weights_of rs)
 
-abbrev pub greatest_weight : List Run → ℤ
-greatest_weight rs = fold int_max (pos 0) (weights_of rs)
+abbrev pub greatest_weight_of : List Run → ℤ
+greatest_weight_of rs = fold int_max (pos 0) (weights_of rs)
 
 -- the paths of all weights, the least first
 unfoldable pub paths : List Run → List ℕ
-paths rs = paths_from rs (least_weight rs) (extent (least_weight rs) (greatest_weight rs))
+paths rs = paths_from rs (least_weight_of rs) (extent (least_weight_of rs) (greatest_weight_of rs))
 
 -- the sheet of a box: the box with a margin of one pixel
 abbrev pub sheet_of : Box4 → Sheet

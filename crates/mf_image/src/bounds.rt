@@ -1,9 +1,9 @@
 //! The box of an image.
-ghost use Rattle.std.specs.Prelude.{◌≡◌, ◌↔◌, ◌≤ℤ◌, IfSome, IsNone, pos, negsuc};
-ghost use Rattle.mf_show.specs.Grid.{extent};
+ghost use Rattle.std.specs.Prelude.{◌↔◌, IfSome, IsNone};
 ghost use Rattle.mf_image.specs.Boxes.{IsImageBox, IsTooLarge};
 
 use mf_rows::{Box4, Picture};
+use mf_show::extent;
 
 /// The greatest number of columns, and of rows, of an image.
 pub const MAX_SIDE: u32 = 4096;
@@ -31,14 +31,4 @@ pub(crate) fn image_box(picture: &Picture) -> Option<Box4>
         return None;
     }
     Some(bounds)
-}
-
-/// The number of columns, or rows, from the first to the last, both inclusive.
-pub(crate) fn extent(first: i32, last: i32) -> u32
-    requires least { negsuc 4094 ≤ℤ first }
-    requires greatest { last ≤ℤ pos 4094 }
-    requires order { first ≤ℤ last }
-    ensures { result ≡ extent first last }
-{
-    (last - first) as u32 + 1
 }

@@ -4,7 +4,6 @@
 mod bounds;
 mod fault;
 pub mod laws;
-mod number;
 mod pgm_image;
 mod svg_image;
 

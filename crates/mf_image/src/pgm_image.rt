@@ -1,14 +1,16 @@
 //! PGM images.
-ghost use Rattle.std.specs.Prelude.{◌≡◌, ◌↔◌, ◌≤ℤ◌, ◌++◌, Err, IfOk, pos, negsuc};
+ghost use Rattle.std.specs.Prelude.{◌≡◌, ◌↔◌, ◌≤ℤ◌, ◌++◌, Err, IfOk};
+ghost use Rattle.mf_geom.specs.Coordinates.{least_coordinate, last_in_field};
+ghost use Rattle.mf_show.specs.Boxes.{IsBoxOfField};
 ghost use Rattle.mf_show.specs.Grid.{extent};
-ghost use Rattle.mf_image.specs.Boxes.{IsBoxOfField, IsImageBox, IsTooLarge};
+ghost use Rattle.mf_image.specs.Boxes.{IsImageBox, IsTooLarge};
 ghost use Rattle.mf_image.specs.Pgm.{level, pgm_bytes, pgm_head, row_bytes};
 
-use crate::bounds::{extent, image_box};
+use crate::bounds::image_box;
 use crate::fault::ImageFault;
-use crate::number::push_number;
-use mf_geom::OutOfMemory;
+use mf_base::OutOfMemory;
 use mf_rows::{Box4, Picture};
+use mf_show::{extent, push_number};
 use std::alloc::Global;
 
 /// The PGM image of a picture (Netpbm's portable graymap, `P5`, at most 255): a byte for each pixel of its least box, rows in order
@@ -61,8 +63,8 @@ fn push_row(
     first: i32,
     last: i32,
 ) -> Result<(), OutOfMemory>
-    requires least { negsuc 4094 ≤ℤ first }
-    requires greatest { last ≤ℤ pos 4094 }
+    requires least { least_coordinate ≤ℤ first }
+    requires greatest { last ≤ℤ last_in_field }
     requires columns { first ≤ℤ last }
     ensures { IfOk result (λ _. bytes.new.items ≡ bytes.old.items ++ row_bytes picture.now y first (extent first last)) }
 {

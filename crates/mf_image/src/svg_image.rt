@@ -1,15 +1,17 @@
 //! SVG images.
-ghost use Rattle.std.specs.Prelude.{◌≡◌, ◌↔◌, ◌++◌, ◌<◌, ◌≤ℤ◌, Err, IfOk, flat_map, length, negsuc, pos};
+ghost use Rattle.std.specs.Prelude.{◌≡◌, ◌↔◌, ◌++◌, ◌<◌, ◌≤ℤ◌, Err, IfOk, flat_map, length, pos};
+ghost use Rattle.mf_edges.specs.LawfulWeights.{least_weight, greatest_weight};
 ghost use Rattle.mf_rows.specs.Order.{IsRun};
 ghost use Rattle.mf_rows.specs.Runs.{runs_of};
-ghost use Rattle.mf_image.specs.Boxes.{IsBoxOfField, IsImageBox, IsTooLarge};
-ghost use Rattle.mf_image.specs.Svg.{IsSmall, axes, color, cover, greatest_weight, least_weight, opening, path, paths, rectangle, rectangle_of, sheet_of, svg_text};
+ghost use Rattle.mf_show.specs.Boxes.{IsBoxOfField};
+ghost use Rattle.mf_image.specs.Boxes.{IsImageBox, IsTooLarge};
+ghost use Rattle.mf_image.specs.Svg.{IsSmall, axes, color, cover, greatest_weight_of, least_weight_of, opening, path, paths, rectangle, rectangle_of, sheet_of, svg_text};
 
-use crate::bounds::{extent, image_box};
+use crate::bounds::image_box;
 use crate::fault::ImageFault;
-use crate::number::push_number;
-use mf_geom::OutOfMemory;
+use mf_base::OutOfMemory;
 use mf_rows::{Box4, Picture, Run};
+use mf_show::{extent, push_number};
 use std::alloc::Global;
 
 /// What ends the line with the size of the image, and the pattern of the grid.
@@ -130,9 +132,9 @@ fn push_paths(alloc: Global, text: &mut Vec<u8>, picture: &Picture) -> Result<()
 
 /// The least and the greatest weight of a picture, that of blank pixels included.
 fn weights(picture: &Picture) -> (i32, i32)
-    ensures least { result.0 ≡ least_weight (runs_of picture.now) }
-    ensures greatest { result.1 ≡ greatest_weight (runs_of picture.now) }
-    ensures lawful { (negsuc 32766 ≤ℤ result.0) × (result.0 ≤ℤ pos 0) × (pos 0 ≤ℤ result.1) × (result.1 ≤ℤ pos 32767) }
+    ensures least { result.0 ≡ least_weight_of (runs_of picture.now) }
+    ensures greatest { result.1 ≡ greatest_weight_of (runs_of picture.now) }
+    ensures lawful { (least_weight ≤ℤ result.0) × (result.0 ≤ℤ pos 0) × (pos 0 ≤ℤ result.1) × (result.1 ≤ℤ greatest_weight) }
 {
     let mut least = 0i32;
     let mut greatest = 0i32;

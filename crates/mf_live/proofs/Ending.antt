@@ -3,14 +3,14 @@ use Rattle.std.proofs.Common.{◌≡◌, ◌∙◌, ◌+◌, ◌≤◌, ◌||◌
 use Rattle.mf_ops.specs.declared.op.Op.{Op}
 use Rattle.mf_live.specs.declared.holder.Holder.{Holder}
 use Rattle.mf_live.specs.Entries.{entry, Operation, End, rev, is_closed}
-use Rattle.mf_live.specs.Holders.{accepted, published, version}
+use Rattle.mf_live.specs.Holders.{accepted_list, published_list, version}
 use Rattle.mf_live.proofs.EntryLists.{rev-push, rev-whole, is_closed-append}
 use Rattle.mf_live.proofs.Histories.{lawful}
 
 -- no more is published than is accepted
-pub told-few : (h : Holder) → (version h).notice.number ≤ h.revision
-told-few h =
-    let whole : rev (published h) ≤ rev (accepted h) = rev-whole (published h) (accepted h) (lawful h).whole in
+pub published_list-few : (h : Holder) → (version h).notice.number ≤ h.revision
+published_list-few h =
+    let whole : rev (published_list h) ≤ rev (accepted_list h) = rev-whole (published_list h) (accepted_list h) (lawful h).whole in
     rw ((version h).notice.numbered, h.shown_is, h.numbered) whole
 
 or-false : (b : Bool) → b ≡ false → (b || false) ≡ false
@@ -23,14 +23,15 @@ or-true false = refl
 
 module _ (old new : Holder) (n : ℕ) where
   -- one more operation has the next number, and does not close the list
-  module _ (op : Op) (more : accepted new ≡ accepted old ++ entry n (Operation op) ∷ []) where
+  module _ (op : Op) (more : accepted_list new ≡ accepted_list old ++ entry n (Operation op) ∷ []) where
     pub revision-push : new.revision ≡ old.revision + 1
-    revision-push = new.numbered ∙ ap rev more ∙ rev-push (accepted old) n op ∙ ap (λ m. m + 1) (sym old.numbered)
+    revision-push = new.numbered ∙ ap rev more ∙ rev-push (accepted_list old) n op ∙ ap (λ m. m + 1) (sym old.numbered)
 
-    pub open-push : is_closed (accepted old) ≡ false → is_closed (accepted new) ≡ false
-    open-push is_open = ap is_closed more ∙ is_closed-append (accepted old) (entry n (Operation op) ∷ []) ∙ or-false (is_closed (accepted old)) is_open
+    pub open-push : is_closed (accepted_list old) ≡ false → is_closed (accepted_list new) ≡ false
+    open-push is_open =
+        ap is_closed more ∙ is_closed-append (accepted_list old) (entry n (Operation op) ∷ []) ∙ or-false (is_closed (accepted_list old)) is_open
 
   -- the end mark closes the list
-  module _ (more : accepted new ≡ accepted old ++ entry n End ∷ []) where
-    pub closed-end : is_closed (accepted new) ≡ true
-    closed-end = ap is_closed more ∙ is_closed-append (accepted old) (entry n End ∷ []) ∙ or-true (is_closed (accepted old))
+  module _ (more : accepted_list new ≡ accepted_list old ++ entry n End ∷ []) where
+    pub closed-end : is_closed (accepted_list new) ≡ true
+    closed-end = ap is_closed more ∙ is_closed-append (accepted_list old) (entry n End ∷ []) ∙ or-true (is_closed (accepted_list old))

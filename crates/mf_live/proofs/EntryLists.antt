@@ -2,7 +2,7 @@
 use Rattle.std.proofs.Common.{◌≡◌, ◌≤◌, ◌+◌, ◌||◌, ◌∙◌, Bool, true, false, ℕ, List, [], ◌∷◌, ◌++◌, length, None, refl, sym, ap, append_assoc, arith, length-append}
 use Rattle.std.proofs.lemmas.List.{append-nil}
 use Rattle.mf_ops.specs.Operations.{picture_after, revision_after}
-use Rattle.mf_ops.specs.Step.{stepped, fault_of}
+use Rattle.mf_ops.specs.Step.{next_picture, op_fault}
 use Rattle.mf_ops.specs.declared.op.Op.{Op}
 use Rattle.mf_ops.proofs.Operations.{picture_after-push, AreAccepted-push}
 use Rattle.mf_live.specs.Entries.{Change, Operation, End, Entry, entry, operation_of, operations, pic, rev, IsUnrefused, is_end, is_closed, ends_last}
@@ -15,7 +15,7 @@ operations-append (e ∷ xs) ys = rw (operations-append xs ys) (sym (append_asso
 operations-end : (L : List Entry) (n : ℕ) → operations (L ++ entry n End ∷ []) ≡ operations L
 operations-end L n = operations-append L (entry n End ∷ []) ∙ append-nil (operations L)
 
-pub pic-push : (L : List Entry) (n : ℕ) (op : Op) → pic (L ++ entry n (Operation op) ∷ []) ≡ stepped (pic L) op
+pub pic-push : (L : List Entry) (n : ℕ) (op : Op) → pic (L ++ entry n (Operation op) ∷ []) ≡ next_picture (pic L) op
 pic-push L n op = ap picture_after (operations-append L (entry n (Operation op) ∷ [])) ∙ picture_after-push (operations L) op
 
 pub rev-append : (xs ys : List Entry) → rev (xs ++ ys) ≡ rev xs + rev ys
@@ -37,7 +37,7 @@ rev-whole S L whole =
     let sum : rev L ≡ rev S + rev whole.rest = ap rev whole.whole ∙ rev-append S whole.rest in
     omega arith
 
-pub unrefused-push : (L : List Entry) (n : ℕ) (op : Op) → IsUnrefused L → fault_of (pic L) op ≡ None → IsUnrefused (L ++ entry n (Operation op) ∷ [])
+pub unrefused-push : (L : List Entry) (n : ℕ) (op : Op) → IsUnrefused L → op_fault (pic L) op ≡ None → IsUnrefused (L ++ entry n (Operation op) ∷ [])
 unrefused-push L n op unrefused allowed = rw (operations-append L (entry n (Operation op) ∷ [])) (AreAccepted-push (operations L) op unrefused allowed)
 
 pub unrefused-end : (L : List Entry) (n : ℕ) → IsUnrefused L → IsUnrefused (L ++ entry n End ∷ [])

@@ -8,7 +8,7 @@ use Rattle.mf_live.specs.declared.version.Version.{Version}
 use Rattle.mf_live.specs.declared.view.View.{View}
 use Rattle.mf_live.specs.Books.{most}
 use Rattle.mf_live.specs.Entries.{Entry}
-use Rattle.mf_live.specs.Holders.{events, accepted, published, version}
+use Rattle.mf_live.specs.Holders.{events, accepted_list, published_list, version}
 use Rattle.mf_live.specs.Rule.{events_of, history, shown_by, with_event}
 use Rattle.mf_live.specs.World.{World, IsLawful, Happen, May, start, after_event, world_after, accepted_of, published_of}
 use Rattle.mf_live.proofs.EntryLists.{length-rev}
@@ -18,8 +18,8 @@ pub lawful : (h : Holder) → IsLawful most (world_after start (events h))
 lawful h = lawful-after most (events h) h.lawful
 
 -- at most `most` operations and the end mark were accepted
-pub few_entries : (h : Holder) → length (accepted h) ≤ 4294967296
-few_entries h = omega (arith, length-rev (accepted h) (lawful h).ended, (lawful h).few)
+pub few_entries : (h : Holder) → length (accepted_list h) ≤ 4294967296
+few_entries h = omega (arith, length-rev (accepted_list h) (lawful h).ended, (lawful h).few)
 
 -- the shown version knows of at most two events for each entry
 pub few_events : (h : Holder) → length (events_of (version h)) ≤ 8589934592
@@ -29,20 +29,20 @@ pub few_unwritten : (h : Holder) → h.unwritten ≤ 4294967296
 few_unwritten h = omega (arith, h.since, few_entries h)
 
 -- where nothing waits, everything that was accepted is published
-pub none_waits : (h : Holder) → h.unwritten ≡ 0 → published h ≡ accepted h
+pub none_waits : (h : Holder) → h.unwritten ≡ 0 → published_list h ≡ accepted_list h
 none_waits h none =
     let written : (view h.swap.desk.place).unwritten ≡ [] = nil_from_length (view h.swap.desk.place).unwritten (omega (arith, h.counted, none)) in
     let log : events h ≡ events_of (version h) = ap (λ (more : List Event). events_of (version h) ++ more) written ∙ append-nil (events_of (version h)) in
     ap published_of log ∙ sym (version h).notice.whole ∙ sym (ap accepted_of log)
 
 -- where everything that was accepted is published, nothing waits
-pub some_wait : (h : Holder) → published h ≡ accepted h → h.unwritten ≡ 0
+pub some_wait : (h : Holder) → published_list h ≡ accepted_list h → h.unwritten ≡ 0
 some_wait h all = omega (arith, h.since, ap length h.shown_is, ap length all)
 
 -- the writer has one more event to write, by which the entry e is accepted
 pub record HasOneMore (h : Holder) (x : Version) (w : View) (e : Entry) : Type 0 where
-  pub accepted : accepted_of (history x w) ≡ accepted h ++ e ∷ []
-  pub published : published_of (history x w) ≡ published h
+  pub accepted : accepted_of (history x w) ≡ accepted_list h ++ e ∷ []
+  pub published : published_of (history x w) ≡ published_list h
   pub shown_is : shown_by x ≡ published_of (history x w)
   pub lawful : Happen most start (history x w)
   pub alive : (world_after start (history x w)).dropped ≡ false
@@ -53,15 +53,16 @@ abbrev with_entry : World → Entry → World
 with_entry w e = record w { accepted = w.accepted ++ e ∷ [] }
 
 pub one_more : (h : Holder) (x : Version) (w : View) (happens : Event) (e : Entry) → x ≡ version h → w ≡ with_event (view h.swap.desk.place) happens
-    → May most (world_after start (events h)) happens → after_event (world_after start (events h)) happens ≡ with_entry (world_after start (events h)) e → HasOneMore h x w e
+    → May most (world_after start (events h)) happens → after_event (world_after start (events h)) happens ≡ with_entry (world_after start (events h)) e
+    → HasOneMore h x w e
 one_more h x w happens e same more may accepts =
     let unwritten = (view h.swap.desk.place).unwritten in
     let log : history x w ≡ events h ++ happens ∷ [] =
     (λ i. history (same i) (more i)) ∙ sym (append_assoc (events_of (version h)) unwritten (happens ∷ [])) in
     let world : world_after start (history x w) ≡ with_entry (world_after start (events h)) e =
     ap (world_after start) log ∙ world_after-push start (events h) happens ∙ accepts in
-    let accepted_is : accepted_of (history x w) ≡ accepted h ++ e ∷ [] = ap (λ (u : World). u.accepted) world in
-    let published_is : published_of (history x w) ≡ published h = ap (λ (u : World). u.published) world in
+    let accepted_is : accepted_of (history x w) ≡ accepted_list h ++ e ∷ [] = ap (λ (u : World). u.accepted) world in
+    let published_is : published_of (history x w) ≡ published_list h = ap (λ (u : World). u.published) world in
     record {
       accepted = accepted_is;
       published = published_is;
@@ -69,5 +70,5 @@ one_more h x w happens e same more may accepts =
       lawful = rw log (Happen-push most start (events h) happens h.lawful may);
       alive = ap (λ (u : World). u.dropped) world ∙ h.alive;
       counted = omega (arith, h.counted, ap (λ (v : View). length v.unwritten) more, length-append unwritten (happens ∷ []));
-      since = omega (arith, h.since, ap (λ (y : Version). length (shown_by y)) same, ap length accepted_is, length-append (accepted h) (e ∷ []));
+      since = omega (arith, h.since, ap (λ (y : Version). length (shown_by y)) same, ap length accepted_is, length-append (accepted_list h) (e ∷ []));
     }

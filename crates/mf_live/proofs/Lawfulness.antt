@@ -21,7 +21,8 @@ last-label n e [] = refl
 last-label n e (f ∷ fs) = last-label (e.label + 1) f fs
 
 -- where the last label is one less than q, and q follows, the two differ
-ends_apart : (ns more : List ℕ) (n k q : ℕ) → length ns ≡ n → n ≡ suc k → get_or ns k 0 + 1 ≡ q → get_or (ns ++ q ∷ more) (n - 1) 0 ≢ get_or (ns ++ q ∷ more) n 0
+ends_apart : (ns more : List ℕ) (n k q : ℕ) → length ns ≡ n → n ≡ suc k → get_or ns k 0 + 1 ≡ q
+    → get_or (ns ++ q ∷ more) (n - 1) 0 ≢ get_or (ns ++ q ∷ more) n 0
 ends_apart ns more n k q long some last same =
     let place : n - 1 ≡ k = omega arith in
     let before = get_or-append ns (q ∷ more) 0 k (omega arith) in
@@ -34,11 +35,12 @@ pending-whole : (P rest : List Entry) → All (λ (e : Entry). e.label ≡ next 
 pending-whole [] rest labelled = whole-nil rest
 pending-whole (p ∷ ps) [] labelled = rw (append-nil (p ∷ ps)) (whole-self (p ∷ ps))
 pending-whole (p ∷ ps) (q ∷ qs) labelled =
-    let front = labels (p ∷ ps) in
+    let prefix = labels (p ∷ ps) in
     let long = length-labels (p ∷ ps) in
     let label = All-head (λ (e : Entry). e.label ≡ next (p ∷ ps)) q qs labelled in
-    let apart = ends_apart front (labels qs) (length (p ∷ ps)) (length ps) q.label long refl (last-label 0 p ps ∙ sym label) in
-    let cut : IsCutAmong (front ++ q.label ∷ labels qs) (length (p ∷ ps)) = inr (inr (omega arith, omega (arith, length-append front (q.label ∷ labels qs)), apart)) in
+    let apart = ends_apart prefix (labels qs) (length (p ∷ ps)) (length ps) q.label long refl (last-label 0 p ps ∙ sym label) in
+    let cut : IsCutAmong (prefix ++ q.label ∷ labels qs) (length (p ∷ ps)) =
+    inr (inr (omega arith, omega (arith, length-append prefix (q.label ∷ labels qs)), apart)) in
     record {
       rest = q ∷ qs;
       whole = refl;
@@ -64,7 +66,8 @@ notice-whole (n ∷ ns) zero P each = All-head (λ n. IsWholePrefix n P) n ns ea
 notice-whole (n ∷ ns) (suc k) P each = notice-whole ns k P (All-tail (λ n. IsWholePrefix n P) n ns each)
 
 -- when one viewer sees more, the others keep what they had seen
-put-whole : (seen : ℕ → List Entry) (i : ℕ) (L P : List Entry) → ((j : ℕ) → IsWholePrefix (seen j) P) → IsWholePrefix L P → (j : ℕ) → IsWholePrefix (put seen i L j) P
+put-whole : (seen : ℕ → List Entry) (i : ℕ) (L P : List Entry) → ((j : ℕ) → IsWholePrefix (seen j) P)
+    → IsWholePrefix L P → (j : ℕ) → IsWholePrefix (put seen i L j) P
 put-whole seen i L P each more j = cond_both (j == i) L (seen j) (λ S. IsWholePrefix S P) (λ _. more) (λ _. each j)
 
 rev-nil : rev [] ≡ 0
@@ -86,7 +89,8 @@ abbrev with_change : World → Change → List Entry
 with_change w c = w.accepted ++ entry (next w.published) c ∷ []
 
 -- the writer accepts one more change
-accepts : (max_ops : ℕ) (w : World) (c : Change) → IsLawful max_ops w → IsUnrefused (with_change w c) → rev (with_change w c) ≤ max_ops → is_closed w.accepted ≡ false → IsLawful max_ops (record w { accepted = with_change w c })
+accepts : (max_ops : ℕ) (w : World) (c : Change) → IsLawful max_ops w → IsUnrefused (with_change w c)
+    → rev (with_change w c) ≤ max_ops → is_closed w.accepted ≡ false → IsLawful max_ops (record w { accepted = with_change w c })
 accepts max_ops w c lawful unrefused few not_closed = record {
   unrefused = unrefused;
   few = few;
@@ -105,12 +109,15 @@ publishes_all max_ops w gone lawful = record {
   whole = whole-self w.accepted;
   pending = none_pending w.accepted;
   each_seen = λ i. whole-trans (w.seen i) w.published w.accepted (lawful.each_seen i) lawful.whole;
-  each_notice = All-weaker (λ n. IsWholePrefix n w.published) (λ n. IsWholePrefix n w.accepted) (λ n begins. whole-trans n w.published w.accepted begins lawful.whole) w.notices lawful.each_notice;
+  each_notice = All-weaker (λ n. IsWholePrefix n w.published) (λ n. IsWholePrefix n w.accepted)
+      (λ n prefix. whole-trans n w.published w.accepted prefix lawful.whole) w.notices lawful.each_notice;
   ended = lawful.ended;
 }
 
 -- the writer leaves the list as it is, whatever others have seen of it
-leaves_list : (max_ops : ℕ) (w : World) (seen : ℕ → List Entry) (notices : List (List Entry)) (gone : Bool) → IsLawful max_ops w → ((i : ℕ) → IsWholePrefix (seen i) w.published) → All (λ n. IsWholePrefix n w.published) notices → IsLawful max_ops (record w { seen = seen; notices = notices; dropped = gone })
+leaves_list : (max_ops : ℕ) (w : World) (seen : ℕ → List Entry) (notices : List (List Entry)) (gone : Bool)
+    → IsLawful max_ops w → ((i : ℕ) → IsWholePrefix (seen i) w.published)
+    → All (λ n. IsWholePrefix n w.published) notices → IsLawful max_ops (record w { seen = seen; notices = notices; dropped = gone })
 leaves_list max_ops w seen notices gone lawful each_seen each_notice = record {
   unrefused = lawful.unrefused;
   few = lawful.few;
@@ -122,8 +129,10 @@ leaves_list max_ops w seen notices gone lawful each_seen each_notice = record {
 }
 
 -- a viewer sees a whole prefix of what is published
-sees : (max_ops : ℕ) (w : World) (i : ℕ) (L : List Entry) → IsLawful max_ops w → IsWholePrefix L w.published → IsLawful max_ops (record w { seen = put w.seen i L })
-sees max_ops w i L lawful more = leaves_list max_ops w (put w.seen i L) w.notices w.dropped lawful (put-whole w.seen i L w.published lawful.each_seen more) lawful.each_notice
+sees : (max_ops : ℕ) (w : World) (i : ℕ) (L : List Entry) → IsLawful max_ops w → IsWholePrefix L w.published
+    → IsLawful max_ops (record w { seen = put w.seen i L })
+sees max_ops w i L lawful more =
+    leaves_list max_ops w (put w.seen i L) w.notices w.dropped lawful (put-whole w.seen i L w.published lawful.each_seen more) lawful.each_notice
 
 pub lawful_event : (max_ops : ℕ) (w : World) (e : Event) → IsLawful max_ops w → May max_ops w e → IsLawful max_ops (after_event w e)
 lawful_event max_ops w (Accept op) lawful may =

@@ -1,9 +1,9 @@
-pub mod Beginnings
 pub mod Blank
 pub mod Ending
 pub mod EntryLists
 pub mod Histories
 pub mod Lawfulness
+pub mod ListPrefixes
 pub mod Looking
 pub mod Publishing
 pub mod Seats

@@ -6,15 +6,15 @@ use Rattle.mf_live.specs.declared.event.Event.{Event}
 use Rattle.mf_live.specs.declared.event.Event.TheVariants.{Publish}
 use Rattle.mf_live.specs.declared.holder.Holder.{Holder}
 use Rattle.mf_live.specs.Books.{most}
-use Rattle.mf_live.specs.Holders.{events, accepted, version}
-use Rattle.mf_live.specs.Rule.{events_of, publishing}
+use Rattle.mf_live.specs.Holders.{events, accepted_list, version}
+use Rattle.mf_live.specs.Rule.{events_of, publish_events}
 use Rattle.mf_live.specs.World.{World, Happen, start, world_after, accepted_of, published_of}
 use Rattle.mf_live.proofs.Worlds.{world_after-push, Happen-push, Happen-rest}
 
 module _ (h : Holder) where
   -- what the writer writes into the book
   abbrev pub written : List Event
-  written = publishing (view h.swap.desk.place)
+  written = publish_events (view h.swap.desk.place)
 
   -- the history after that
   abbrev pub all_written : List Event
@@ -23,13 +23,13 @@ module _ (h : Holder) where
   is_pushed : all_written ≡ events h ++ Publish ∷ []
   is_pushed = sym (append_assoc (events_of (version h)) (view h.swap.desk.place).unwritten (Publish ∷ []))
 
-  world_is : world_after start all_written ≡ record (world_after start (events h)) { published = accepted h }
+  world_is : world_after start all_written ≡ record (world_after start (events h)) { published = accepted_list h }
   world_is = ap (world_after start) is_pushed ∙ world_after-push start (events h) Publish
 
-  pub accepted-publish : accepted_of all_written ≡ accepted h
+  pub accepted-publish : accepted_of all_written ≡ accepted_list h
   accepted-publish = ap (λ (w : World). w.accepted) world_is
 
-  pub published-publish : published_of all_written ≡ accepted h
+  pub published-publish : published_of all_written ≡ accepted_list h
   published-publish = ap (λ (w : World). w.published) world_is
 
   pub alive-publish : (world_after start all_written).dropped ≡ false
@@ -45,5 +45,5 @@ module _ (h : Holder) where
   length-written = omega (arith, h.counted, length-append (view h.swap.desk.place).unwritten (Publish ∷ []))
 
   -- where something waited, there are at most two events for each entry
-  pub length-publish : 0 < h.unwritten → length all_written ≤ 2 * length (accepted h)
+  pub length-publish : 0 < h.unwritten → length all_written ≤ 2 * length (accepted_list h)
   length-publish waits = omega (arith, h.since, h.short, length-written, length-append (events_of (version h)) written, waits)

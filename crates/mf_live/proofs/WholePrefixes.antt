@@ -22,10 +22,10 @@ cut_among-append ns more n inside (inr (inr between)) =
     let after = get_or-append ns more 0 n inside in
     inr (inr (between.0, omega (arith, length-append ns more), λ same. between.2 (sym before ∙ same ∙ after)))
 
-cut_among-front : (ns more : List ℕ) (n : ℕ) → n ≤ length ns → IsCutAmong (ns ++ more) n → IsCutAmong ns n
-cut_among-front ns more n inside (inl first) = inl first
-cut_among-front ns more n inside (inr (inl last)) = inr (inl (omega (arith, length-append ns more)))
-cut_among-front ns more n inside (inr (inr between)) = elim (cases_lt n (length ns)) [
+cut_among-prefix : (ns more : List ℕ) (n : ℕ) → n ≤ length ns → IsCutAmong (ns ++ more) n → IsCutAmong ns n
+cut_among-prefix ns more n inside (inl first) = inl first
+cut_among-prefix ns more n inside (inr (inl last)) = inr (inl (omega (arith, length-append ns more)))
+cut_among-prefix ns more n inside (inr (inr between)) = elim (cases_lt n (length ns)) [
   | inl below ↦
       let before = get_or-append ns more 0 (n - 1) (omega arith) in
       let after = get_or-append ns more 0 n below in
@@ -37,8 +37,8 @@ cut_among-front ns more n inside (inr (inr between)) = elim (cases_lt n (length 
 cut-append : (L more : List Entry) (n : ℕ) → n < length L → IsCut L n → IsCut (L ++ more) n
 cut-append L more n inside cut = rw (labels-append L more) (cut_among-append (labels L) (labels more) n (omega (arith, length-labels L)) cut)
 
-cut-front : (L more : List Entry) (n : ℕ) → n ≤ length L → IsCut (L ++ more) n → IsCut L n
-cut-front L more n inside cut = cut_among-front (labels L) (labels more) n (omega (arith, length-labels L)) (rw (labels-append L more) at cut)
+cut-prefix : (L more : List Entry) (n : ℕ) → n ≤ length L → IsCut (L ++ more) n → IsCut L n
+cut-prefix L more n inside cut = cut_among-prefix (labels L) (labels more) n (omega (arith, length-labels L)) (rw (labels-append L more) at cut)
 
 cut-end : (L : List Entry) (n : ℕ) → n ≡ length L → IsCut L n
 cut-end L n end = inr (inl (end ∙ sym (length-labels L)))
@@ -61,7 +61,7 @@ whole-same S L whole long =
 pub whole-trans : (A B C : List Entry) → IsWholePrefix A B → IsWholePrefix B C → IsWholePrefix A C
 whole-trans A B C first second = record {
   rest = first.rest ++ second.rest;
-  whole = second.whole ∙ ap (λ front. front ++ second.rest) first.whole ∙ append_assoc A first.rest second.rest;
+  whole = second.whole ∙ ap (λ prefix. prefix ++ second.rest) first.whole ∙ append_assoc A first.rest second.rest;
   cut = elim (cases_lt (length A) (length B)) [
     | inl shorter ↦ rw second.whole (cut-append B second.rest (length A) shorter first.cut)
     | inr long ↦ rw (whole-same A B first long) second.cut
@@ -71,14 +71,14 @@ whole-trans A B C first second = record {
 -- of two whole prefixes, the shorter is a whole prefix of the longer
 pub whole-shorter : (a b L : List Entry) → IsWholePrefix a L → IsWholePrefix b L → length a ≤ length b → IsWholePrefix a b
 whole-shorter a b L one other shorter =
-    let front : a ≡ take (length a) b =
+    let prefix : a ≡ take (length a) b =
     sym (take-append_seam a one.rest)
     ∙ ap (λ list. take (length a) list) (sym one.whole ∙ other.whole)
     ∙ take-append-le (length a) b other.rest shorter in
     record {
       rest = drop (length a) b;
-      whole = sym (ap (λ start. start ++ drop (length a) b) front ∙ take-append-drop (length a) b);
-      cut = cut-front b other.rest (length a) shorter (rw other.whole at one.cut);
+      whole = sym (ap (λ start. start ++ drop (length a) b) prefix ∙ take-append-drop (length a) b);
+      cut = cut-prefix b other.rest (length a) shorter (rw other.whole at one.cut);
     }
 
 -- the longer of two whole prefixes is a whole prefix

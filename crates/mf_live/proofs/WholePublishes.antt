@@ -6,7 +6,7 @@ use Rattle.std.proofs.lemmas.List.Elements.{filter-append}
 use Rattle.mf_live.specs.declared.event.Event.{Event}
 use Rattle.mf_live.specs.declared.event.Event.TheVariants.{Accept, Close, Publish, Discard}
 use Rattle.mf_live.specs.Entries.{Change, Operation, End, Entry, entry, next_after, next}
-use Rattle.mf_live.specs.Prefixes.{labels, IsCut, IsWholePrefix, labelled, HasWholePublishes}
+use Rattle.mf_live.specs.Prefixes.{labels, IsCut, IsWholePrefix, entries_labelled, HasWholePublishes}
 use Rattle.mf_live.specs.World.{World, start, after_event, world_after, published_of}
 use Rattle.mf_live.proofs.WholePrefixes.{labels-append, length-labels}
 
@@ -43,13 +43,13 @@ Rises-last m (e ∷ f ∷ L) n (suc i) last rises =
     let rest = Rises-last e.label (f ∷ L) n i (omega arith) rises.1 in
     ((rises.0, rest.0), rest.1)
 
-none_below : (m : ℕ) (L : List Entry) (n k : ℕ) → Rises m L n → k < m → labelled k L ≡ []
+none_below : (m : ℕ) (L : List Entry) (n k : ℕ) → Rises m L n → k < m → entries_labelled k L ≡ []
 none_below m [] n k rises below = refl
 none_below m (e ∷ L) n k rises below =
     let first : m ≤ e.label = rises.0 in
     rw (ne_eqb e.label k (λ same. omega arith)) (none_below e.label L n k rises.1 (omega arith))
 
-none_above : (m : ℕ) (L : List Entry) (n k : ℕ) → Rises m L n → n < k → labelled k L ≡ []
+none_above : (m : ℕ) (L : List Entry) (n k : ℕ) → Rises m L n → n < k → entries_labelled k L ≡ []
 none_above m [] n k rises above = refl
 none_above m (e ∷ L) n k rises above =
     let greatest : e.label ≤ n = Rises-bounds e.label L n rises.1 in
@@ -58,29 +58,30 @@ none_above m (e ∷ L) n k rises above =
 -- the prefix ends at a place where the labels on the two sides differ
 whole_at_change : (S : List Entry) (e : Entry) (rest : List Entry) (n k : ℕ) → 0 < length S → Rises 0 (S ++ e ∷ rest) n
     → get_or (labels (S ++ e ∷ rest)) (length S - 1) 0 ≢ get_or (labels (S ++ e ∷ rest)) (length S) 0
-    → (labelled k S ≡ []) ⊎ (labelled k S ≡ labelled k (S ++ e ∷ rest))
+    → (entries_labelled k S ≡ []) ⊎ (entries_labelled k S ≡ entries_labelled k (S ++ e ∷ rest))
 whole_at_change S e rest n k some rises differ =
     let more : List ℕ = labels (e ∷ rest) in
     let i : ℕ = length S - 1 in
     let last : ℕ = get_or (labels S) i 0 in
     let parts = Rises-parts 0 S e rest n rises in
-    let front : Rises 0 S last × (last ≤ e.label) = Rises-last 0 S e.label i (omega arith) parts.0 in
+    let prefix : Rises 0 S last × (last ≤ e.label) = Rises-last 0 S e.label i (omega arith) parts.0 in
     let change : get_or (labels S ++ more) i 0 ≢ get_or (labels S ++ more) (length S) 0 = rw labels-append at differ in
     let before : get_or (labels S ++ more) i 0 ≡ last = get_or_append_left (labels S) more 0 i (rw length-labels (omega arith)) in
     let after : get_or (labels S ++ more) (length S) 0 ≡ e.label = get_or_at (labels S) e.label (labels rest) 0 (length S) (length-labels S) in
     let less : last < e.label = omega arith in
     elim (cases_lt k e.label) [
       | inl below ↦
-          let none : labelled k (e ∷ rest) ≡ [] = none_below e.label (e ∷ rest) n k (omega arith, parts.1) below in
-          let same : labelled k (S ++ e ∷ rest) ≡ labelled k S ++ labelled k (e ∷ rest) = filter-append (λ (f : Entry). f.label == k) S (e ∷ rest) in
-          inr (sym (rw none at same ∙ append-nil (labelled k S)))
-      | inr above ↦ inl (none_above 0 S last k front.0 (omega arith))
+          let none : entries_labelled k (e ∷ rest) ≡ [] = none_below e.label (e ∷ rest) n k (omega arith, parts.1) below in
+          let same : entries_labelled k (S ++ e ∷ rest) ≡ entries_labelled k S ++ entries_labelled k (e ∷ rest) =
+          filter-append (λ (f : Entry). f.label == k) S (e ∷ rest) in
+          inr (sym (rw none at same ∙ append-nil (entries_labelled k S)))
+      | inr above ↦ inl (none_above 0 S last k prefix.0 (omega arith))
     ]
 
 at_cut : (S rest : List Entry) (n k : ℕ) → IsCut (S ++ rest) (length S) → Rises 0 (S ++ rest) n
-    → (labelled k S ≡ []) ⊎ (labelled k S ≡ labelled k (S ++ rest))
-at_cut S [] n k cut rises = inr (ap (labelled k) (sym (append-nil S)))
-at_cut S (e ∷ rest) n k (inl none) rises = inl (ap (labelled k) (nil_from_length S none))
+    → (entries_labelled k S ≡ []) ⊎ (entries_labelled k S ≡ entries_labelled k (S ++ rest))
+at_cut S [] n k cut rises = inr (ap (entries_labelled k) (sym (append-nil S)))
+at_cut S (e ∷ rest) n k (inl none) rises = inl (ap (entries_labelled k) (nil_from_length S none))
 at_cut S (e ∷ rest) n k (inr (inl all)) rises =
     let long = length-labels (S ++ e ∷ rest) ∙ length-append S (e ∷ rest) in
     absurd (omega arith)

@@ -17,12 +17,13 @@ pub Happen-append : (max_ops : ℕ) (w : World) (xs ys : List Event) → Happen 
 Happen-append max_ops w [] ys first second = second
 Happen-append max_ops w (x ∷ xs) ys first second = (first.0, Happen-append max_ops (after_event w x) xs ys first.1 second)
 
-pub Happen-push : (max_ops : ℕ) (w : World) (xs : List Event) (e : Event) → Happen max_ops w xs → May max_ops (world_after w xs) e → Happen max_ops w (xs ++ e ∷ [])
+pub Happen-push : (max_ops : ℕ) (w : World) (xs : List Event) (e : Event) → Happen max_ops w xs
+    → May max_ops (world_after w xs) e → Happen max_ops w (xs ++ e ∷ [])
 Happen-push max_ops w xs e first may = Happen-append max_ops w xs (e ∷ []) first (may, tt)
 
-pub Happen-front : (max_ops : ℕ) (w : World) (xs ys : List Event) → Happen max_ops w (xs ++ ys) → Happen max_ops w xs
-Happen-front max_ops w [] ys happen = tt
-Happen-front max_ops w (x ∷ xs) ys happen = (happen.0, Happen-front max_ops (after_event w x) xs ys happen.1)
+pub Happen-prefix : (max_ops : ℕ) (w : World) (xs ys : List Event) → Happen max_ops w (xs ++ ys) → Happen max_ops w xs
+Happen-prefix max_ops w [] ys happen = tt
+Happen-prefix max_ops w (x ∷ xs) ys happen = (happen.0, Happen-prefix max_ops (after_event w x) xs ys happen.1)
 
 pub Happen-rest : (max_ops : ℕ) (w : World) (xs ys : List Event) → Happen max_ops w (xs ++ ys) → Happen max_ops (world_after w xs) ys
 Happen-rest max_ops w [] ys happen = happen
@@ -54,5 +55,5 @@ published-on max_ops w (x ∷ xs) lawful happen =
 -- what is published is a whole prefix of what is published later
 pub published-grows : (max_ops : ℕ) (xs ys : List Event) → Happen max_ops start (xs ++ ys) → IsWholePrefix (published_of xs) (published_of (xs ++ ys))
 published-grows max_ops xs ys happen =
-    let lawful = lawful-after max_ops xs (Happen-front max_ops start xs ys happen) in
+    let lawful = lawful-after max_ops xs (Happen-prefix max_ops start xs ys happen) in
     rw (world_after-append start xs ys, published_of) (published-on max_ops (world_after start xs) ys lawful (Happen-rest max_ops start xs ys happen))

@@ -7,9 +7,9 @@ use prog.Atomic.{either}
 use Rattle.logbook.specs.Pages.{Cell, cell, View, keeps, no_nib, step, Goes, Moves}
 use Rattle.mf_live.specs.declared.event.Event.{Event}
 use Rattle.mf_live.specs.declared.event.Event.TheVariants.{Refuse}
-use Rattle.mf_live.specs.Books.{most, IsKept, Writes}
+use Rattle.mf_live.specs.Books.{most, IsLawfulBook, Writes}
 use Rattle.mf_live.specs.World.{Happen, start, world_after}
-use Rattle.mf_live.proofs.Beginnings.{prefix-same}
+use Rattle.mf_live.proofs.ListPrefixes.{prefix-same}
 use Rattle.mf_live.proofs.Worlds.{Happen-append}
 
 abbrev pub nothing_shown : List Event → List Event
@@ -33,13 +33,13 @@ module _ (seen more : List Event) (old count : ℕ) where
   told = Writes more (step 0 old (old + count) Refuse) view
 
   abbrev pub Steps : List Cell → List Event → Type 0
-  Steps = Goes IsKept nothing_shown any_move 0 view exchanged told
+  Steps = Goes IsLawfulBook nothing_shown any_move 0 view exchanged told
 
   -- the word is `old`, so the whole log was seen, and the events are added
   adds : old ≡ length seen → count ≡ length more → Happen most (world_after start seen) more
       → (log : List Event) → Happen most start log → IsPrefix seen log → (length log == old) ≡ true → Steps (counting (length log)) log
-  adds all counted may log lawful begins found =
-      let whole : seen ≡ log = prefix-same seen log begins (grind (arith, nat_tests)) in
+  adds all counted may log lawful prefix found =
+      let whole : seen ≡ log = prefix-same seen log prefix (grind (arith, nat_tests)) in
       let appended : seen ++ more ≡ log ++ more = ap (λ L. L ++ more) whole in
       let seen_lawful : Happen most start seen = subst (Happen most start) (sym whole) lawful in
       let both_lawful : Happen most start (log ++ more) = subst (Happen most start) appended (Happen-append most start seen more seen_lawful may) in
@@ -62,11 +62,11 @@ module _ (seen more : List Event) (old count : ℕ) where
 
   -- whatever the book has, the step adds the events to everything that was seen, or leaves the book as it is
   pub writes : old ≡ length seen → count ≡ length more → Happen most (world_after start seen) more
-      → Moves IsKept nothing_shown any_move 0 view exchanged told
-  writes all counted may cells log kept begins away =
+      → Moves IsLawfulBook nothing_shown any_move 0 view exchanged told
+  writes all counted may cells log kept prefix away =
       let P : List Cell → Type 0 = λ cs. (0 < length cs) × ((cell cs 0).1 ≡ true) × Steps cs log in
       subst P (sym kept.words) (omega arith, refl, by_test (length log == old) refl)
     where
       by_test : (b : Bool) → (length log == old) ≡ b → Steps (counting (length log)) log
-      by_test true found = adds all counted may log kept.lawful begins found
+      by_test true found = adds all counted may log kept.lawful prefix found
       by_test false found = leaves log kept.lawful found

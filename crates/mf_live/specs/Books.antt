@@ -4,13 +4,13 @@ use Rattle.logbook.specs.Pages.{Cell, Step, View, Book, Named}
 use Rattle.mf_live.specs.declared.event.Event.{Event}
 use Rattle.mf_live.specs.World.{Happen, start}
 
--- the greatest number of operations that any writer accepts
+-- the greatest number of operations that any writer accepts: `max_ops` is a number of four bytes
 abbrev pub most : ℕ
 most = 4294967295
 
 -- of the book's two words the first is the number of events and the second, which is not used, stays 0; and each event could
 -- happen in its turn
-pub record IsKept (cells : List Cell) (events : List Event) : Type 0 where
+pub record IsLawfulBook (cells : List Cell) (events : List Event) : Type 0 where
   pub words : cells ≡ (length events, true) ∷ (0, true) ∷ []
   pub lawful : Happen most start events
 

@@ -2,12 +2,12 @@
 use Rattle.std.specs.Prelude.{ℕ, length}
 use Rattle.logbook.specs.Pages.{Book}
 use Rattle.mf_live.specs.declared.desk.Desk.{Desk}
-use Rattle.mf_live.specs.Viewers.{notice_name}
+use Rattle.mf_live.specs.Viewers.{notice_identity}
 
 -- which picture its viewers look at
-abbrev pub desk_name : Desk → Book
-desk_name d = notice_name d.known
+abbrev pub desk_identity : Desk → Book
+desk_identity d = notice_identity d.known
 
 -- how many viewers are left
-abbrev pub left : Desk → ℕ
-left d = length d.viewers.items
+abbrev pub remaining_viewers : Desk → ℕ
+remaining_viewers d = length d.viewers.items

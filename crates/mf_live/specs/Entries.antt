@@ -65,3 +65,7 @@ next_after n (e ∷ es) = next_after (e.label + 1) es
 -- the label of what is accepted next, once this list is published
 abbrev pub next : List Entry → ℕ
 next L = next_after 0 L
+
+-- what is accepted once the end mark is set
+abbrev pub complete_list : List Entry → List Entry → List Entry
+complete_list accepted published = accepted ++ entry (next published) End ∷ []

@@ -3,11 +3,11 @@ use Rattle.std.specs.Prelude.{List}
 use Rattle.logbook.specs.Pages.{Book}
 use Rattle.left_right.specs.Sides.{view}
 use Rattle.mf_live.specs.declared.event.Event.{Event}
-use Rattle.mf_live.specs.declared.history.Token.{Token}
+use Rattle.mf_live.specs.declared.history.Knowledge.{Knowledge}
 use Rattle.mf_live.specs.declared.holder.Holder.{Holder}
 use Rattle.mf_live.specs.declared.version.Version.{Version}
 use Rattle.mf_live.specs.Entries.{Entry}
-use Rattle.mf_live.specs.Rule.{book_of, history, shown_by, token_of}
+use Rattle.mf_live.specs.Rule.{book_of, history, shown_by, knowledge_of}
 use Rattle.mf_live.specs.World.{accepted_of, published_of}
 
 -- the version that viewers can look at
@@ -15,23 +15,23 @@ abbrev pub version : Holder → Version
 version h = h.swap.desk.shown.value
 
 -- how much of the history that version knows
-abbrev pub known : Holder → Token
-known h = token_of (version h)
+abbrev pub knowledge : Holder → Knowledge
+knowledge h = knowledge_of (version h)
 
 -- which picture it is
-abbrev pub name : Holder → Book
-name h = book_of (version h)
+abbrev pub identity : Holder → Book
+identity h = book_of (version h)
 
 -- the events that have happened to it
 abbrev pub events : Holder → List Event
 events h = history (version h) (view h.swap.desk.place)
 
-abbrev pub accepted : Holder → List Entry
-accepted h = accepted_of (events h)
+abbrev pub accepted_list : Holder → List Entry
+accepted_list h = accepted_of (events h)
 
-abbrev pub published : Holder → List Entry
-published h = published_of (events h)
+abbrev pub published_list : Holder → List Entry
+published_list h = published_of (events h)
 
 -- the list that viewers can look at
-abbrev pub visible : Holder → List Entry
-visible h = shown_by (version h)
+abbrev pub visible_list : Holder → List Entry
+visible_list h = shown_by (version h)

@@ -1,6 +1,6 @@
 -- The names of refusals, as they are printed.
 use Rattle.std.specs.Prelude.{ℕ, List, codes}
-use Rattle.mf_geom.specs.Names.{memory_text}
+use Rattle.mf_base.specs.Names.{memory_text}
 use Rattle.mf_ops.specs.Names.{op_fault_text}
 use Rattle.mf_live.specs.declared.fault.Fault.{Fault}
 use Rattle.mf_live.specs.declared.fault.Fault.TheVariants.{TooManyOperations, Refused}

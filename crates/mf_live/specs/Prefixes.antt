@@ -25,9 +25,9 @@ abbrev pub longer : List Entry → List Entry → List Entry
 longer a b = if nat_lt (length a) (length b) then b else a
 
 -- the entries of one publish
-abbrev pub labelled : ℕ → List Entry → List Entry
-labelled n L = filter (λ (e : Entry). e.label == n) L
+abbrev pub entries_labelled : ℕ → List Entry → List Entry
+entries_labelled n L = filter (λ (e : Entry). e.label == n) L
 
 -- of each publish, S has nothing or all that L has
 pub record HasWholePublishes (S L : List Entry) : Type 0 where
-  pub nothing_or_all : (n : ℕ) → (labelled n S ≡ []) ⊎ (labelled n S ≡ labelled n L)
+  pub nothing_or_all : (n : ℕ) → (entries_labelled n S ≡ []) ⊎ (entries_labelled n S ≡ entries_labelled n L)

@@ -6,80 +6,80 @@ use lib.ListN.{get_elem?}
 use Rattle.logbook.specs.Pages.{Book}
 use Rattle.mf_live.specs.declared.event.Event.{Event}
 use Rattle.mf_live.specs.declared.event.Event.TheVariants.{Publish}
-use Rattle.mf_live.specs.declared.history.Token.{Token}
+use Rattle.mf_live.specs.declared.history.Knowledge.{Knowledge}
 use Rattle.mf_live.specs.declared.version.Version.{Version}
 use Rattle.mf_live.specs.declared.view.View.{View}
 use Rattle.mf_live.specs.Entries.{Entry}
 use Rattle.mf_live.specs.World.{published_of}
 
 -- what a version knows of the history of its picture
-abbrev pub token_of : Version → Token
-token_of x = x.notice.front.token
+abbrev pub knowledge_of : Version → Knowledge
+knowledge_of x = x.notice.prefix.knowledge
 
 -- which picture it is
 abbrev pub book_of : Version → Book
-book_of x = (token_of x).seen.book
+book_of x = (knowledge_of x).seen.book
 
 -- the events that it knows
 abbrev pub events_of : Version → List Event
-events_of x = (token_of x).seen.log
+events_of x = (knowledge_of x).seen.log
 
 -- the list that these have published, which the version shows
 abbrev pub shown_by : Version → List Entry
 shown_by x = published_of (events_of x)
 
--- the token is of the book b, and its events are a prefix of these
-pub record Begins (b : Book) (events : List Event) (t : Token) : Type 0 where
-  pub book : t.seen.book ≡ b
-  pub begins : IsPrefix t.seen.log events
+-- the knowledge is of the book b, and its events are a prefix of these
+pub record IsKnowledgeOf (b : Book) (events : List Event) (k : Knowledge) : Type 0 where
+  pub book : k.seen.book ≡ b
+  pub prefix : IsPrefix k.seen.log events
 
 -- once a seat knows which picture it is, what it knows of the history is a prefix of what the shown version knows
 abbrev pub Knows : Version → View → Type 0
-Knows x v = v.named ≡ true → Begins (book_of x) (events_of x) v.last × Begins (book_of x) (events_of x) v.now
+Knows x v = v.identified ≡ true → IsKnowledgeOf (book_of x) (events_of x) v.last × IsKnowledgeOf (book_of x) (events_of x) v.now
 
 -- the rule: it says that of each seat
-pub record Kept (x : Version) (views : List View) : Type 0 where
+pub record EachSeatKnows (x : Version) (views : List View) : Type 0 where
   pub each_seat : (seat : ℕ) (v : View) → get_elem? views seat ≡ some v → Knows x v
 
-abbrev pub no_token : Token
-no_token = record { seen = record { marker = record {}; book = record { number = 0; log_name = 0; cells_name = 0 }; names = []; log = [] } }
+abbrev pub no_knowledge : Knowledge
+no_knowledge = record { seen = record { marker = record {}; book = record { number = 0; log_name = 0; cells_name = 0 }; names = []; log = [] } }
 
 -- the view of a seat that does not know which picture it is
 abbrev pub newcomer : View
-newcomer = record { named = false; last = no_token; now = no_token; unwritten = [] }
+newcomer = record { identified = false; last = no_knowledge; now = no_knowledge; unwritten = [] }
 
 -- the view of a seat that knows this much of a picture's history
-abbrev pub knowing : Token → View
-knowing t = record { named = true; last = t; now = t; unwritten = [] }
+abbrev pub view_knowing : Knowledge → View
+view_knowing k = record { identified = true; last = k; now = k; unwritten = [] }
 
 -- what a seat has seen: what it saw at its last look or, where the copy that it entered last was not shown, what it had seen
 -- before
-abbrev pub kept_by : Bool → View → Token
+abbrev pub kept_by : Bool → View → Knowledge
 kept_by missed v = if missed then v.last else v.now
 
-abbrev pub last_of : View → Token
+abbrev pub last_of : View → Knowledge
 last_of v = v.last
 
-abbrev pub now_of : View → Token
+abbrev pub now_of : View → Knowledge
 now_of v = v.now
 
 -- the shown version y knows everything that the seat knew of the history; the seat then knows what y knows, and keeps what `keep`
 -- says
-pub record Looked (keep : View → Token) (v : View) (x y : Version) (w : View) : Type 0 where
+pub record IsLook (keep : View → Knowledge) (v : View) (x y : Version) (w : View) : Type 0 where
   pub knows : Knows y v
-  pub now : w ≡ record { named = v.named; last = keep v; now = token_of y; unwritten = v.unwritten }
+  pub now : w ≡ record { identified = v.identified; last = keep v; now = knowledge_of y; unwritten = v.unwritten }
 
 -- the writer knows what the version knows that it has just shown, and has nothing to write into the book
-abbrev pub Shown : View → Version → Version → View → Type 0
-Shown v x y w = w ≡ knowing (token_of y)
+abbrev pub IsShow : View → Version → Version → View → Type 0
+IsShow v x y w = w ≡ view_knowing (knowledge_of y)
 
 -- the writer's view with one more event to write into the book
 abbrev pub with_event : View → Event → View
-with_event v e = record { named = v.named; last = v.last; now = v.now; unwritten = v.unwritten ++ e ∷ [] }
+with_event v e = record { identified = v.identified; last = v.last; now = v.now; unwritten = v.unwritten ++ e ∷ [] }
 
 -- what the writer writes into the book at a publish
-abbrev pub publishing : View → List Event
-publishing v = v.unwritten ++ Publish ∷ []
+abbrev pub publish_events : View → List Event
+publish_events v = v.unwritten ++ Publish ∷ []
 
 -- the history of a picture: what its shown version knows, and what the writer has to write into the book
 abbrev pub history : Version → View → List Event

@@ -3,7 +3,7 @@ use Rattle.std.specs.Prelude.{◌≡◌, false, List, []}
 use Rattle.logbook.specs.Pages.{Book}
 use Rattle.left_right.specs.Sides.{view}
 use Rattle.mf_live.specs.declared.event.Event.{Event}
-use Rattle.mf_live.specs.declared.history.Token.{Token}
+use Rattle.mf_live.specs.declared.history.Knowledge.{Knowledge}
 use Rattle.mf_live.specs.declared.look.Look.{Look}
 use Rattle.mf_live.specs.declared.notice.Notice.{Notice}
 use Rattle.mf_live.specs.declared.viewer.Viewer.{Viewer}
@@ -14,36 +14,36 @@ use Rattle.mf_live.specs.Rule.{kept_by}
 use Rattle.mf_live.specs.World.{Happen, start, world_after, accepted_of, published_of}
 
 -- which picture a notice is of
-abbrev pub notice_name : Notice → Book
-notice_name n = n.front.token.seen.book
+abbrev pub notice_identity : Notice → Book
+notice_identity n = n.prefix.knowledge.seen.book
 
 -- the events of its picture that it knows
 abbrev pub notice_events : Notice → List Event
-notice_events n = n.front.token.seen.log
+notice_events n = n.prefix.knowledge.seen.log
 
 -- the list that a notice says is published
-abbrev pub told : Notice → List Entry
-told n = published_of (notice_events n)
+abbrev pub told_list : Notice → List Entry
+told_list n = published_of (notice_events n)
 
 -- which picture a viewer looks at
-abbrev pub name : Viewer → Book
-name v = notice_name v.known
+abbrev pub identity : Viewer → Book
+identity v = notice_identity v.known
 
 -- the events of its picture that a viewer knew in its last look that was answered
-abbrev pub looked_events : Viewer → List Event
-looked_events v = (kept_by v.missed (view v.reader.place)).seen.log
+abbrev pub looked_at_events : Viewer → List Event
+looked_at_events v = (kept_by v.missed (view v.reader.place)).seen.log
 
 -- the list of the last look that was answered
-abbrev pub looked : Viewer → List Entry
-looked v = published_of (looked_events v)
+abbrev pub looked_at_list : Viewer → List Entry
+looked_at_list v = published_of (looked_at_events v)
 
 -- the longest list that a viewer has learnt of
-abbrev pub learnt : Viewer → List Entry
-learnt v = told v.known
+abbrev pub learnt_list : Viewer → List Entry
+learnt_list v = told_list v.known
 
 -- what a viewer has looked at or learnt of
-abbrev pub seen : Viewer → List Entry
-seen v = longer (looked v) (learnt v)
+abbrev pub seen_list : Viewer → List Entry
+seen_list v = longer (looked_at_list v) (learnt_list v)
 
 -- these events may all happen, in this order; the writer is still there after them; and L is both what they have published and
 -- everything that they have accepted
@@ -55,32 +55,32 @@ pub record IsPublished (events : List Event) (L : List Entry) : Type 0 where
 
 -- everything that the viewer has looked at or learnt of is a whole prefix of L
 pub record Extends (v : Viewer) (L : List Entry) : Type 0 where
-  pub looked : IsWholePrefix (looked v) L
-  pub learnt : IsWholePrefix (learnt v) L
-  pub seen : IsWholePrefix (seen v) L
+  pub looked : IsWholePrefix (looked_at_list v) L
+  pub learnt : IsWholePrefix (learnt_list v) L
+  pub seen : IsWholePrefix (seen_list v) L
 
 -- a viewer has seen what it had seen before
 pub record SeesTheSame (before after : Viewer) : Type 0 where
-  pub looked : looked after ≡ looked before
-  pub learnt : learnt after ≡ learnt before
+  pub looked : looked_at_list after ≡ looked_at_list before
+  pub learnt : learnt_list after ≡ learnt_list before
 
-abbrev pub look_name : Look → Book
-look_name l = notice_name l.known
+abbrev pub look_identity : Look → Book
+look_identity l = notice_identity l.known
 
 -- the longest list that its viewer has learnt of
-abbrev pub look_learnt : Look → List Entry
-look_learnt l = told l.known
+abbrev pub look_learnt_list : Look → List Entry
+look_learnt_list l = told_list l.known
 
 -- the events of its picture that a look knows: all up to the publish that it shows
 abbrev pub look_events : Look → List Event
 look_events l = (view l.reading.place).now.seen.log
 
 -- the list that a look shows
-abbrev pub shown : Look → List Entry
-shown l = published_of (look_events l)
+abbrev pub shown_list : Look → List Entry
+shown_list l = published_of (look_events l)
 
--- a viewer of the picture with this token that has seen nothing
-pub record IsFresh (t : Token) (v : Viewer) : Type 0 where
-  pub name : name v ≡ t.seen.book
-  pub looked : looked v ≡ []
-  pub learnt : learnt v ≡ []
+-- a viewer of the picture with this knowledge that has seen nothing
+pub record IsFresh (k : Knowledge) (v : Viewer) : Type 0 where
+  pub identity : identity v ≡ k.seen.book
+  pub looked : looked_at_list v ≡ []
+  pub learnt : learnt_list v ≡ []

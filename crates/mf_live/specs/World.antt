@@ -1,6 +1,6 @@
 -- The world of one picture: what is accepted and published, what viewers have seen, and what may happen to it.
 use Rattle.std.specs.Prelude.{◌≡◌, ◌<◌, ◌≤◌, ◌++◌, ◌==◌, Bool, true, false, ℕ, zero, suc, List, [], ◌∷◌, All, length, None, if◌then◌else◌}
-use Rattle.mf_ops.specs.Step.{fault_of}
+use Rattle.mf_ops.specs.Step.{op_fault}
 use Rattle.mf_live.specs.declared.event.Event.{Event}
 use Rattle.mf_live.specs.declared.event.Event.TheVariants.{Accept, Refuse, Close, Publish, Discard, Look, Tell, Learn}
 use Rattle.mf_live.specs.Entries.{Operation, End, Entry, entry, pic, rev, next, is_closed, ends_last, IsUnrefused}
@@ -30,7 +30,7 @@ put seen i L j = if j == i then L else seen j
 
 -- when an event may happen, where at most max_ops operations may be accepted
 abbrev pub May : ℕ → World → Event → Type 0
-May max_ops w (Accept op) = (w.dropped ≡ false) × (is_closed w.accepted ≡ false) × (rev w.accepted < max_ops) × (fault_of (pic w.accepted) op ≡ None)
+May max_ops w (Accept op) = (w.dropped ≡ false) × (is_closed w.accepted ≡ false) × (rev w.accepted < max_ops) × (op_fault (pic w.accepted) op ≡ None)
 May max_ops w Refuse = Unit {0}
 May max_ops w Close = (w.dropped ≡ false) × (is_closed w.accepted ≡ false)
 May max_ops w Publish = w.dropped ≡ false

@@ -1,70 +1,66 @@
 -- What contracts say about writers and what they become at the end.
-use Rattle.std.specs.Prelude.{◌≡◌, ℕ, List, ◌∷◌, ◌++◌, []}
+use Rattle.std.specs.Prelude.{◌≡◌, ℕ, List}
 use Rattle.logbook.specs.Pages.{Book}
 use Rattle.mf_live.specs.declared.closing.Closing.{Closing}
 use Rattle.mf_live.specs.declared.closing.CloseFault.{CloseFault}
 use Rattle.mf_live.specs.declared.closing.CloseFault.TheVariants.{Kept, Halfway}
 use Rattle.mf_live.specs.declared.closing.Ended.{Ended}
 use Rattle.mf_live.specs.declared.writer.Writer.{Writer}
-use Rattle.mf_live.specs.Entries.{Entry, entry, next, End}
+use Rattle.mf_live.specs.Entries.{Entry, complete_list}
 use Rattle.mf_live.specs.Holders as holders
 use Rattle.mf_live.specs.Rule.{book_of, shown_by}
 
 -- which picture it is
-abbrev pub name : Writer → Book
-name w = holders.name w.holder
+abbrev pub identity : Writer → Book
+identity w = holders.identity w.holder
 
 -- what was accepted
-abbrev pub accepted : Writer → List Entry
-accepted w = holders.accepted w.holder
+abbrev pub accepted_list : Writer → List Entry
+accepted_list w = holders.accepted_list w.holder
 
 -- what of that is published
-abbrev pub published : Writer → List Entry
-published w = holders.published w.holder
+abbrev pub published_list : Writer → List Entry
+published_list w = holders.published_list w.holder
 
 -- what viewers can look at
-abbrev pub visible : Writer → List Entry
-visible w = holders.visible w.holder
+abbrev pub visible_list : Writer → List Entry
+visible_list w = holders.visible_list w.holder
 
 -- the greatest number of operations that it accepts
-abbrev pub limit : Writer → ℕ
-limit w = w.max_ops
+abbrev pub max_ops : Writer → ℕ
+max_ops w = w.max_ops
 
-abbrev pub closing_name : Closing → Book
-closing_name c = holders.name c.holder
+abbrev pub closing_identity : Closing → Book
+closing_identity c = holders.identity c.holder
 
-abbrev pub closing_accepted : Closing → List Entry
-closing_accepted c = holders.accepted c.holder
+abbrev pub closing_accepted_list : Closing → List Entry
+closing_accepted_list c = holders.accepted_list c.holder
 
-abbrev pub closing_published : Closing → List Entry
-closing_published c = holders.published c.holder
+abbrev pub closing_published_list : Closing → List Entry
+closing_published_list c = holders.published_list c.holder
 
-abbrev pub closing_visible : Closing → List Entry
-closing_visible c = holders.visible c.holder
+abbrev pub closing_visible_list : Closing → List Entry
+closing_visible_list c = holders.visible_list c.holder
 
-abbrev pub ended_name : Ended → Book
-ended_name e = book_of e.swap.desk.shown.value
+abbrev pub ended_identity : Ended → Book
+ended_identity e = book_of e.swap.desk.shown.value
 
 -- what viewers can look at
-abbrev pub ended_published : Ended → List Entry
-ended_published e = shown_by e.swap.desk.shown.value
-
--- what is accepted once the end mark is set
-abbrev pub with_end : Writer → List Entry
-with_end w = accepted w ++ entry (next (published w)) End ∷ []
+abbrev pub ended_published_list : Ended → List Entry
+ended_published_list e = shown_by e.swap.desk.shown.value
 
 -- the writer is as it was
 pub record IsSameWriter (before after : Writer) : Type 0 where
-  pub name : name after ≡ name before
-  pub accepted : accepted after ≡ accepted before
-  pub published : published after ≡ published before
-  pub max_ops : limit after ≡ limit before
+  pub identity : identity after ≡ identity before
+  pub accepted : accepted_list after ≡ accepted_list before
+  pub published : published_list after ≡ published_list before
+  pub max_ops : max_ops after ≡ max_ops before
 
 -- the end mark is set, and nothing was published
 pub record IsHalfway (before : Writer) (after : Closing) : Type 0 where
-  pub name : closing_name after ≡ name before
-  pub accepted : closing_accepted after ≡ with_end before
-  pub published : closing_published after ≡ published before
+  pub identity : closing_identity after ≡ identity before
+  pub accepted : closing_accepted_list after ≡ complete_list (accepted_list before) (published_list before)
+  pub published : closing_published_list after ≡ published_list before
 
 -- what is handed back where a picture could not be closed
 abbrev pub IsHandedBack : Writer → CloseFault → Type 0

@@ -1,6 +1,4 @@
 //! The book in which a picture's events are kept, and the steps that write into it.
-ghost use Rattle.std.specs.Prelude.{◌≡◌, List};
-ghost use Rattle.mf_live.specs.declared.event.Event.{Event};
 
 use crate::event::Event;
 use logbook::{Gain, Plain, Play, Rule, Word};
@@ -12,9 +10,9 @@ pub struct Law;
 impl Rule<Event, u64> for Law {
     ghost use Rattle.std.specs.Prelude.{[]};
     ghost use base.Fml.{ftrue};
-    ghost use Rattle.mf_live.specs.Books.{IsKept};
+    ghost use Rattle.mf_live.specs.Books.{IsLawfulBook};
 
-    ghost holds = { λ cells events. IsKept cells events };
+    ghost holds = { λ cells events. IsLawfulBook cells events };
 
     ghost first = { [] };
 

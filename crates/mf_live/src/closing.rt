@@ -1,20 +1,20 @@
 //! The end of a picture.
 ghost use Rattle.std.specs.Prelude.{◌≡◌, true};
 ghost use Rattle.mf_live.specs.Entries.{is_closed};
-ghost use Rattle.mf_live.specs.Holders.{accepted};
+ghost use Rattle.mf_live.specs.Holders.{accepted_list};
 ghost use Rattle.mf_live.specs.Rule.{shown_by};
 
 use crate::holder::Holder;
 use crate::rule::Swap;
 use crate::writer::Writer;
 
-mod steps;
+mod ending;
 
 /// A picture whose end mark is set but not published yet. It is not `Drop`, since ending it may mean waiting for looks: end it
 /// with `publish` or `discard`.
 pub struct Closing {
     pub(crate) holder: Holder,
-    ghost closed: { is_closed (accepted holder) ≡ true },
+    ghost closed: { is_closed (accepted_list holder) ≡ true },
 }
 
 /// A picture whose end mark is published: nothing changes it any more. Viewers can look at it until `discard` ends it. It is not

@@ -6,10 +6,10 @@ ghost use Rattle.mf_live.specs.FreshViewers.{are_fresh-prop};
 use crate::notice::Notice;
 use crate::viewer::Viewer;
 
-mod open;
-mod steps;
+mod handing_out;
+mod opening;
 
-pub use open::open_picture;
+pub use opening::open_picture;
 
 /// No viewer is left at the desk.
 #[derive(Clone, Copy, Debug, PartialEq, Eq)]
@@ -22,5 +22,5 @@ pub struct Desk {
     pub(crate) viewers: Vec<Viewer>,
     /// A notice from when the picture was opened and nothing was published. It says which picture this is.
     pub(crate) known: Notice,
-    ghost fresh: { All (IsFresh known.front.token) viewers.items } by { are_fresh-prop known.front.token viewers.items },
+    ghost fresh: { All (IsFresh known.prefix.knowledge) viewers.items } by { are_fresh-prop known.prefix.knowledge viewers.items },
 }

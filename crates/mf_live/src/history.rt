@@ -8,22 +8,22 @@ use crate::book::Law;
 use crate::event::Event;
 use logbook::Seen;
 
-mod steps;
+mod writing;
 
-pub(crate) use steps::{open_history, write};
+pub(crate) use writing::{open_history, write};
 
 /// A known prefix of a picture's history.
 #[derive(Drop)]
-pub struct Token {
+pub struct Knowledge {
     pub(crate) seen: Seen<Event, u64, Law>,
 }
 
 /// A known prefix of a picture's history, and how many events it has.
 #[derive(Drop)]
-pub struct Front {
+pub struct Prefix {
     pub(crate) events: u64,
-    pub(crate) token: Token,
-    ghost counted: { events ≡ length token.seen.log },
-    ghost lawful: { Happen most start token.seen.log } by { Happen-prop most start token.seen.log },
-    ghost alive: { (world_after start token.seen.log).dropped ≡ false },
+    pub(crate) knowledge: Knowledge,
+    ghost counted: { events ≡ length knowledge.seen.log },
+    ghost lawful: { Happen most start knowledge.seen.log } by { Happen-prop most start knowledge.seen.log },
+    ghost alive: { (world_after start knowledge.seen.log).dropped ≡ false },
 }

@@ -12,8 +12,8 @@ use crate::rule::Swap;
 use mf_rows::Picture;
 use std::alloc::Global;
 
-mod publish;
-mod steps;
+mod accepting;
+mod publishing;
 
 /// The two copies that viewers look at, and the picture of all accepted operations. The shown version knows all of the history
 /// that is in the book. It is not `Drop`: end it with `discard`.

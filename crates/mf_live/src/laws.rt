@@ -30,54 +30,61 @@ pub fn every_schedule(max_ops: u32)
 /// What was published earlier is a whole prefix of what is published later, and its revision is no greater. The same goes for the
 /// looks at it, so no look goes back.
 pub fn looks_never_go_back(max_ops: u32)
-    ensures prefix { (before between : List Event) → Happen max_ops start (before ++ between) → IsWholePrefix (published_of before) (published_of (before ++ between)) }
-    ensures revision { (before between : List Event) → Happen max_ops start (before ++ between) → rev (published_of before) ≤ rev (published_of (before ++ between)) }
+    ensures prefix { (before between : List Event) → Happen max_ops start (before ++ between)
+        → IsWholePrefix (published_of before) (published_of (before ++ between)) }
+    ensures revision { (before between : List Event) → Happen max_ops start (before ++ between)
+        → rev (published_of before) ≤ rev (published_of (before ++ between)) }
 {}
 
 /// A whole prefix of what is published has, of each publish, nothing or all of it. What was published earlier is such a prefix,
 /// and so is what a look shows.
 pub fn looks_show_whole_publishes(max_ops: u32)
     ensures whole { (shown : List Entry) (events : List Event) → IsWholePrefix shown (published_of events) → HasWholePublishes shown (published_of events) }
-    ensures earlier { (before after : List Event) → Happen max_ops start (before ++ after) → HasWholePublishes (published_of before) (published_of (before ++ after)) }
+    ensures earlier { (before after : List Event) → Happen max_ops start (before ++ after)
+        → HasWholePublishes (published_of before) (published_of (before ++ after)) }
 {}
 
 /// What viewers can look at is what is published, whatever the writer has done. So a refused call shows them nothing.
 pub fn published_is_visible(writer: &Writer)
-    ensures { writers.visible writer.now ≡ writers.published writer.now }
+    ensures { writers.visible_list writer.now ≡ writers.published_list writer.now }
 {}
 
 /// The same while the end mark is set but not published.
 pub fn published_is_visible_halfway(closing: &Closing)
-    ensures { writers.closing_visible closing.now ≡ writers.closing_published closing.now }
+    ensures { writers.closing_visible_list closing.now ≡ writers.closing_published_list closing.now }
 {}
 
 /// A look has, of each publish, nothing or all of it, whatever has happened to its picture since. It shows what the events that
 /// it knows have published.
 pub fn look_has_whole_publishes(look: &Look)
-    ensures { (since : List Event) → Happen most start (viewers.look_events look.now ++ since) → HasWholePublishes (viewers.shown look.now) (published_of (viewers.look_events look.now ++ since)) }
+    ensures { (since : List Event) → Happen most start (viewers.look_events look.now ++ since)
+        → HasWholePublishes (viewers.shown_list look.now) (published_of (viewers.look_events look.now ++ since)) }
 {}
 
 /// Take a look and a notice of one picture: the events that one of them knows are a prefix of those that the other knows, and the
 /// list of the one is a whole prefix of the list of the other. So a look at a picture that was closed shows nothing that its
 /// writer has not published: the notice of the end has all of that.
 pub fn one_history(look: &Look, notice: &Notice)
-    requires { viewers.notice_name notice.now ≡ viewers.look_name look.now }
-    ensures events { IsPrefix (viewers.notice_events notice.now) (viewers.look_events look.now) ⊎ IsPrefix (viewers.look_events look.now) (viewers.notice_events notice.now) }
-    ensures lists { IsWholePrefix (viewers.told notice.now) (viewers.shown look.now) ⊎ IsWholePrefix (viewers.shown look.now) (viewers.told notice.now) }
+    requires { viewers.notice_identity notice.now ≡ viewers.look_identity look.now }
+    ensures events { IsPrefix (viewers.notice_events notice.now) (viewers.look_events look.now)
+        ⊎ IsPrefix (viewers.look_events look.now) (viewers.notice_events notice.now) }
+    ensures lists { IsWholePrefix (viewers.told_list notice.now) (viewers.shown_list look.now)
+        ⊎ IsWholePrefix (viewers.shown_list look.now) (viewers.told_list notice.now) }
 {
-    look.reading.get().notice.front.meets(&notice.front);
+    look.reading.get().notice.prefix.meets(&notice.prefix);
 }
 
 /// A viewer that has learnt of the end sees the complete list. The events that its look knows have published it, and everything
 /// that the viewer had seen is a whole prefix of it. After `NoLook` the viewer has not looked, but has learnt of the end.
 pub fn last_look(viewer: Viewer, notice: Notice) -> Result<Look, (Viewer, NoLook)>
-    requires name { viewers.notice_name notice ≡ viewers.name viewer }
-    requires closed { is_closed (viewers.told notice) ≡ true }
-    ensures name { MatchResult result (λ look. viewers.look_name look ≡ viewers.name viewer) (λ refused. viewers.name refused.0 ≡ viewers.name viewer) }
-    ensures shown { IfOk result (λ look. viewers.shown look ≡ viewers.told notice) }
-    ensures published { IfOk result (λ look. viewers.IsPublished (viewers.look_events look) (viewers.told notice)) }
-    ensures extends { OnOk result (viewers.Extends viewer (viewers.told notice)) }
-    ensures learnt { IfErr result (λ refused. HasLearnt viewer (viewers.told notice) refused.0) }
+    requires identity { viewers.notice_identity notice ≡ viewers.identity viewer }
+    requires closed { is_closed (viewers.told_list notice) ≡ true }
+    ensures identity { MatchResult result (λ look. viewers.look_identity look ≡ viewers.identity viewer)
+        (λ refused. viewers.identity refused.0 ≡ viewers.identity viewer) }
+    ensures shown { IfOk result (λ look. viewers.shown_list look ≡ viewers.told_list notice) }
+    ensures published { IfOk result (λ look. viewers.IsPublished (viewers.look_events look) (viewers.told_list notice)) }
+    ensures extends { OnOk result (viewers.Extends viewer (viewers.told_list notice)) }
+    ensures learnt { IfErr result (λ refused. HasLearnt viewer (viewers.told_list notice) refused.0) }
 {
     let mut viewer = viewer;
     viewer.learn(notice);
@@ -88,14 +95,14 @@ pub fn last_look(viewer: Viewer, notice: Notice) -> Result<Look, (Viewer, NoLook
 /// prefix of the complete list. After `NoLook` the viewer has not looked, but has learnt of the end. After `OutOfMemory` it has
 /// looked at the complete list, and what it had seen before is a whole prefix of it then, too.
 pub fn last_sheet(viewer: &mut Viewer, alloc: Global, notice: Notice) -> Result<Sheet, SheetFault>
-    requires name { viewers.notice_name notice ≡ viewers.name viewer.old }
-    requires closed { is_closed (viewers.told notice) ≡ true }
-    ensures name { viewers.name viewer.new ≡ viewers.name viewer.old }
-    ensures picture { IfOk result (λ sheet. sheet_picture sheet ≡ pic (viewers.told notice)) }
-    ensures revision { IfOk result (λ sheet. sheet_revision sheet ≡ rev (viewers.told notice)) }
-    ensures extends { OnOk result (viewers.Extends viewer.old (viewers.told notice)) }
-    ensures looked { OnOk result (HasLookedAt (viewers.told notice) viewer.new) }
-    ensures not_taken { IfErr result (IsLastNotTaken viewer.old (viewers.told notice) viewer.new) }
+    requires identity { viewers.notice_identity notice ≡ viewers.identity viewer.old }
+    requires closed { is_closed (viewers.told_list notice) ≡ true }
+    ensures identity { viewers.identity viewer.new ≡ viewers.identity viewer.old }
+    ensures picture { IfOk result (λ sheet. sheet_picture sheet ≡ pic (viewers.told_list notice)) }
+    ensures revision { IfOk result (λ sheet. sheet_revision sheet ≡ rev (viewers.told_list notice)) }
+    ensures extends { OnOk result (viewers.Extends viewer.old (viewers.told_list notice)) }
+    ensures looked { OnOk result (HasLookedAt (viewers.told_list notice) viewer.new) }
+    ensures not_taken { IfErr result (IsLastNotTaken viewer.old (viewers.told_list notice) viewer.new) }
 {
     viewer.learn(notice);
     viewer.sheet(alloc)

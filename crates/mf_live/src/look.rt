@@ -1,7 +1,7 @@
 //! Looks.
 ghost use Rattle.std.specs.Prelude.{◌≡◌, ◌≤◌, true, length};
 ghost use Rattle.left_right.specs.Sides.{view};
-ghost use Rattle.mf_live.specs.Rule.{token_of};
+ghost use Rattle.mf_live.specs.Rule.{knowledge_of};
 ghost use Rattle.mf_live.specs.World.{published_of};
 
 use crate::notice::Notice;
@@ -10,7 +10,7 @@ use crate::version::Version;
 use crate::view::View;
 use left_right::reader::Reading;
 
-mod steps;
+mod showing;
 
 /// A look is not answered: everything was discarded at the writer's side, or the copy that the look entered is older than a
 /// notice that the viewer has learnt. The second does not happen, since a notice is made only once its publish has returned, but
@@ -23,10 +23,10 @@ pub struct NoLook;
 pub struct Look {
     pub(crate) reading: Reading<Version, View, Lists>,
     pub(crate) known: Notice,
-    ghost named: { (view reading.place).named ≡ true },
-    ghost book: { (view reading.place).now.seen.book ≡ known.front.token.seen.book },
-    ghost token: { (view reading.place).now ≡ token_of reading.part.value },
-    ghost enough: { length (published_of known.front.token.seen.log) ≤ length (published_of (view reading.place).now.seen.log) },
+    ghost identified: { (view reading.place).identified ≡ true },
+    ghost book: { (view reading.place).now.seen.book ≡ known.prefix.knowledge.seen.book },
+    ghost knowledge: { (view reading.place).now ≡ knowledge_of reading.part.value },
+    ghost enough: { length (published_of known.prefix.knowledge.seen.log) ≤ length (published_of (view reading.place).now.seen.log) },
 }
 
 impl Drop for Look {

@@ -3,15 +3,16 @@ ghost use Rattle.std.specs.Prelude.{◌≡◌};
 ghost use Rattle.mf_live.specs.Entries.{rev};
 ghost use Rattle.mf_live.specs.World.{accepted_of, published_of};
 
-use crate::history::Front;
+use crate::history::Prefix;
 
-mod steps;
+mod telling;
 
 /// A notice of what was published at one moment. Every later look of a viewer that has learnt it includes all of that.
 #[derive(Drop)]
 pub struct Notice {
-    pub(crate) front: Front,
+    pub(crate) prefix: Prefix,
     pub(crate) number: u32,
-    ghost whole: { accepted_of front.token.seen.log ≡ published_of front.token.seen.log },
-    ghost numbered: { number ≡ rev (published_of front.token.seen.log) },
+    // The type keeps this, since `tell` and `learn` of `left_right` cannot carry it.
+    ghost whole: { accepted_of prefix.knowledge.seen.log ≡ published_of prefix.knowledge.seen.log },
+    ghost numbered: { number ≡ rev (published_of prefix.knowledge.seen.log) },
 }

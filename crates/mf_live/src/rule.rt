@@ -10,9 +10,9 @@ use std::marker::{Brand, PhantomData};
 pub struct Lists;
 
 impl Protocol<Version, View> for Lists {
-    ghost use Rattle.mf_live.specs.Rule.{Kept, newcomer};
+    ghost use Rattle.mf_live.specs.Rule.{EachSeatKnows, newcomer};
 
-    ghost holds = { Kept };
+    ghost holds = { EachSeatKnows };
 
     ghost first = { newcomer };
 }
@@ -21,27 +21,27 @@ impl Protocol<Version, View> for Lists {
 pub struct Looks;
 
 impl Outcome<Version, View> for Looks {
-    ghost use Rattle.mf_live.specs.Rule.{Looked, now_of};
+    ghost use Rattle.mf_live.specs.Rule.{IsLook, now_of};
 
-    ghost then = { Looked now_of };
+    ghost then = { IsLook now_of };
 }
 
 /// A look where the copy that was entered last was not shown, because it was older than a notice.
 pub struct LooksAgain;
 
 impl Outcome<Version, View> for LooksAgain {
-    ghost use Rattle.mf_live.specs.Rule.{Looked, last_of};
+    ghost use Rattle.mf_live.specs.Rule.{IsLook, last_of};
 
-    ghost then = { Looked last_of };
+    ghost then = { IsLook last_of };
 }
 
 /// The writer shows a version. Opening a picture takes this step too: it is how the writer learns which picture it has.
 pub struct Shows;
 
 impl Outcome<Version, View> for Shows {
-    ghost use Rattle.mf_live.specs.Rule.{Shown};
+    ghost use Rattle.mf_live.specs.Rule.{IsShow};
 
-    ghost then = { Shown };
+    ghost then = { IsShow };
 }
 
 /// The writer hands out what it knows, and keeps it.

@@ -1,10 +1,10 @@
 //! Sheets: looks that are kept.
-use mf_geom::OutOfMemory;
+use mf_base::OutOfMemory;
 use mf_rows::Picture;
 use std::error::Error;
 use std::fmt;
 
-mod steps;
+mod taking;
 
 /// What a look has shown. It stays as it is, whatever is published later, and shares its rows with the live picture.
 #[derive(Drop)]

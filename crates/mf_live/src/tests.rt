@@ -24,8 +24,8 @@ const RECT: &[Point] = &[
 ];
 
 /// The writer of a picture, and its one viewer.
-fn opened<R: Abort + Wait>(rt: &R, alloc: Global) -> (Writer, Viewer)
-    ensures { viewers.name result.1 ≡ writers.name result.0 }
+fn open<R: Abort + Wait>(rt: &R, alloc: Global) -> (Writer, Viewer)
+    ensures { viewers.identity result.1 ≡ writers.identity result.0 }
 {
     let (writer, mut desk) = open_picture(rt, alloc, 1, 10).expect(rt, "there is room");
     let viewer = desk.viewer().expect(rt, "a place is left");
@@ -34,7 +34,7 @@ fn opened<R: Abort + Wait>(rt: &R, alloc: Global) -> (Writer, Viewer)
 
 /// Fills the rectangle.
 fn fill(rt: &impl Abort, alloc: Global, writer: &mut Writer)
-    ensures { writers.name writer.new ≡ writers.name writer.old }
+    ensures { writers.identity writer.new ≡ writers.identity writer.old }
 {
     let points = Vec::from_slice(alloc, RECT).expect(rt, "there is room for the path");
     let cycle = Cycle::new(points).expect(rt, "the path is a cycle");
@@ -46,7 +46,7 @@ fn fill(rt: &impl Abort, alloc: Global, writer: &mut Writer)
 
 /// Asserts that a look shows this many operations, and a picture of this total weight.
 fn assert_shows(rt: &impl Abort, viewer: Viewer, revision: u32, total: i64) -> Viewer
-    ensures { viewers.name result ≡ viewers.name viewer }
+    ensures { viewers.identity result ≡ viewers.identity viewer }
 {
     match viewer.look() {
         Ok(look) => {
@@ -59,8 +59,8 @@ fn assert_shows(rt: &impl Abort, viewer: Viewer, revision: u32, total: i64) -> V
 }
 
 /// A picture whose end mark is set but not published yet. No call answers one: `close` allocates before it sets the mark.
-fn half_closed(writer: Writer) -> Closing
-    ensures { writers.closing_name result ≡ writers.name writer }
+fn half_close(writer: Writer) -> Closing
+    ensures { writers.closing_identity result ≡ writers.identity writer }
 {
     let Writer {
         mut holder,
@@ -71,8 +71,8 @@ fn half_closed(writer: Writer) -> Closing
 }
 
 /// Publishes the end.
-fn ended<R: Abort + Wait>(rt: &R, closing: Closing) -> Ended
-    ensures { writers.ended_name result ≡ writers.closing_name closing }
+fn publish_end<R: Abort + Wait>(rt: &R, closing: Closing) -> Ended
+    ensures { writers.ended_identity result ≡ writers.closing_identity closing }
 {
     match closing.publish(rt) {
         Ok(ended) => ended,
@@ -85,14 +85,14 @@ fn ended<R: Abort + Wait>(rt: &R, closing: Closing) -> Ended
 
 /// Asserts that a notice of the end has this revision.
 fn assert_tells(rt: &impl Abort, ended: &mut Ended, revision: u32)
-    ensures { writers.ended_name ended.new ≡ writers.ended_name ended.old }
+    ensures { writers.ended_identity ended.new ≡ writers.ended_identity ended.old }
 {
     assert_eq!(rt; ended.notice().revision(), revision, "what is told");
 }
 
 /// Lets the viewer learn a notice of the end, which has this revision.
 fn learn_end(rt: &impl Abort, ended: &mut Ended, viewer: Viewer, revision: u32) -> Viewer
-    requires { viewers.name viewer ≡ writers.ended_name ended.old }
+    requires { viewers.identity viewer ≡ writers.ended_identity ended.old }
 {
     assert_tells(rt, ended, revision);
     let mut viewer = viewer;
@@ -103,19 +103,19 @@ fn learn_end(rt: &impl Abort, ended: &mut Ended, viewer: Viewer, revision: u32) 
 #[test]
 fn publishes_the_end_later(rt: HostRuntime) {
     let alloc = rt.alloc();
-    let (mut writer, viewer) = opened(&rt, alloc);
+    let (mut writer, viewer) = open(&rt, alloc);
     fill(&rt, alloc, &mut writer);
-    let closing = half_closed(writer);
+    let closing = half_close(writer);
     let viewer = assert_shows(&rt, viewer, 0, 0);
-    let mut ended = ended(&rt, closing);
+    let mut ended = publish_end(&rt, closing);
     let viewer = learn_end(&rt, &mut ended, viewer, 1);
     assert_shows(&rt, viewer, 1, 6);
     ended.discard(&rt);
 }
 
 /// A viewer whose last look was not answered, since the copy that it had entered was older than a notice.
-fn missed(viewer: Viewer) -> Viewer
-    ensures { viewers.name result ≡ viewers.name viewer }
+fn miss_look(viewer: Viewer) -> Viewer
+    ensures { viewers.identity result ≡ viewers.identity viewer }
 {
     let Viewer {
         reader,
@@ -132,11 +132,11 @@ fn missed(viewer: Viewer) -> Viewer
 #[test]
 fn looks_again_after_a_look_that_was_missed(rt: HostRuntime) {
     let alloc = rt.alloc();
-    let (mut writer, viewer) = opened(&rt, alloc);
+    let (mut writer, viewer) = open(&rt, alloc);
     let viewer = assert_shows(&rt, viewer, 0, 0);
     fill(&rt, alloc, &mut writer);
     writer.publish(&rt).expect(&rt, "there is room to publish");
-    let viewer = assert_shows(&rt, missed(viewer), 1, 6);
+    let viewer = assert_shows(&rt, miss_look(viewer), 1, 6);
     assert_shows(&rt, viewer, 1, 6);
     writer.discard(&rt);
 }

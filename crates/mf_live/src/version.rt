@@ -13,7 +13,7 @@ use std::alloc::AllocError;
 pub struct Version {
     pub(crate) picture: Picture,
     pub(crate) notice: Notice,
-    ghost pictured: { picture ≡ pic (published_of notice.front.token.seen.log) },
+    ghost pictured: { picture ≡ pic (published_of notice.prefix.knowledge.seen.log) },
 }
 
 /// A publish puts a complete version into a copy, so a copy has no operations to take over from the other: the queue of

@@ -8,7 +8,7 @@ use crate::version::Version;
 use crate::view::View;
 use left_right::reader::Reader;
 
-mod steps;
+mod looking;
 
 /// A place from which to look at a picture. It may go to any thread, and has one look at a time.
 #[derive(Drop)]
@@ -18,6 +18,7 @@ pub struct Viewer {
     pub(crate) known: Notice,
     /// Whether the copy that it entered last was not shown, because that copy was older than a notice.
     pub(crate) missed: bool,
-    ghost named: { (view reader.place).named ≡ true },
-    ghost book: { (view reader.place).now.seen.book ≡ known.front.token.seen.book },
+    ghost identified: { (view reader.place).identified ≡ true },
+    // Only the book ties a viewer to its picture: `left_right` says of which table a new reader is, but not once it has looked.
+    ghost book: { (view reader.place).now.seen.book ≡ known.prefix.knowledge.seen.book },
 }

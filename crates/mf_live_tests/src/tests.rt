@@ -1,6 +1,6 @@
 //! Tests of live pictures, most of them with two small contours.
 ghost use Rattle.std.specs.Prelude.{◌≡◌, ◌≤◌};
-ghost use Rattle.mf_live.specs.Desks.{desk_name};
+ghost use Rattle.mf_live.specs.Desks.{desk_identity};
 ghost use Rattle.mf_live.specs.Viewers as viewers;
 ghost use Rattle.mf_live.specs.Writers as writers;
 
@@ -50,7 +50,12 @@ pub(crate) fn contour(rt: &impl Abort, alloc: Global, corners: &[(i32, i32)], we
 }
 
 /// The same with the turning check off.
-pub(crate) fn unchecked(rt: &impl Abort, alloc: Global, corners: &[(i32, i32)], weight: i32) -> Op {
+pub(crate) fn unchecked_contour(
+    rt: &impl Abort,
+    alloc: Global,
+    corners: &[(i32, i32)],
+    weight: i32,
+) -> Op {
     let points = points(alloc, corners).expect(rt, "there is room for the path");
     contour_through(rt, points, weight, Check::Off)
 }
@@ -86,22 +91,22 @@ pub(crate) fn picture(rt: &impl Abort, alloc: Global, runs: &[Pixels]) -> Pictur
 }
 
 /// The writer of a picture of at most `max_ops` operations, and a desk of at most `places` viewers.
-pub(crate) fn opened<R: Abort + Wait>(
+pub(crate) fn open<R: Abort + Wait>(
     rt: &R,
     alloc: Global,
     places: u32,
     max_ops: u32,
 ) -> (Writer, Desk)
     requires { places ≤ 64 }
-    ensures { desk_name result.1 ≡ writers.name result.0 }
+    ensures { desk_identity result.1 ≡ writers.identity result.0 }
 {
     open_picture(rt, alloc, places, max_ops).expect(rt, "there is room for a picture")
 }
 
 /// Takes a viewer from a desk that has one left.
-pub(crate) fn seated(rt: &impl Abort, desk: &mut Desk) -> Viewer
-    ensures viewer { viewers.name result ≡ desk_name desk.old }
-    ensures desk { desk_name desk.new ≡ desk_name desk.old }
+pub(crate) fn take_viewer(rt: &impl Abort, desk: &mut Desk) -> Viewer
+    ensures viewer { viewers.identity result ≡ desk_identity desk.old }
+    ensures desk { desk_identity desk.new ≡ desk_identity desk.old }
 {
     desk.viewer().expect(rt, "a place is left")
 }
@@ -112,7 +117,7 @@ pub(crate) fn assert_no_place(rt: &impl Abort, desk: &mut Desk) {
 }
 
 /// A copy of the working picture.
-pub(crate) fn copied(rt: &impl Abort, alloc: Global, writer: &Writer) -> Picture {
+pub(crate) fn copy_working(rt: &impl Abort, alloc: Global, writer: &Writer) -> Picture {
     writer
         .working()
         .copy(alloc)
@@ -121,7 +126,7 @@ pub(crate) fn copied(rt: &impl Abort, alloc: Global, writer: &Writer) -> Picture
 
 /// Applies an operation, which is accepted.
 pub(crate) fn apply(rt: &impl Abort, alloc: Global, writer: &mut Writer, op: Op)
-    ensures { writers.name writer.new ≡ writers.name writer.old }
+    ensures { writers.identity writer.new ≡ writers.identity writer.old }
 {
     writer
         .apply(alloc, op)
@@ -130,21 +135,21 @@ pub(crate) fn apply(rt: &impl Abort, alloc: Global, writer: &mut Writer, op: Op)
 
 /// Publishes.
 pub(crate) fn publish<R: Abort + Wait>(rt: &R, writer: &mut Writer)
-    ensures { writers.name writer.new ≡ writers.name writer.old }
+    ensures { writers.identity writer.new ≡ writers.identity writer.old }
 {
     writer.publish(rt).expect(rt, "there is room to publish");
 }
 
 /// Fills the rectangle.
 pub(crate) fn fill(rt: &impl Abort, alloc: Global, writer: &mut Writer)
-    ensures { writers.name writer.new ≡ writers.name writer.old }
+    ensures { writers.identity writer.new ≡ writers.identity writer.old }
 {
     apply(rt, alloc, writer, contour(rt, alloc, RECT, 1));
 }
 
 /// Fills the rectangle, and publishes that.
 pub(crate) fn publish_rectangle<R: Abort + Wait>(rt: &R, alloc: Global, writer: &mut Writer)
-    ensures { writers.name writer.new ≡ writers.name writer.old }
+    ensures { writers.identity writer.new ≡ writers.identity writer.old }
 {
     fill(rt, alloc, writer);
     publish(rt, writer);
@@ -152,7 +157,7 @@ pub(crate) fn publish_rectangle<R: Abort + Wait>(rt: &R, alloc: Global, writer: 
 
 /// Closes the picture.
 pub(crate) fn close<R: Abort + Wait>(rt: &R, writer: Writer) -> Ended
-    ensures { writers.ended_name result ≡ writers.name writer }
+    ensures { writers.ended_identity result ≡ writers.identity writer }
 {
     match writer.close(rt) {
         Ok(ended) => ended,
@@ -189,7 +194,7 @@ pub(crate) fn assert_runs(rt: &impl Abort, picture: &Picture, runs: &[Pixels], c
 
 /// Asserts that a look shows this many operations, and a picture of exactly these runs.
 pub(crate) fn assert_sees(rt: &impl Abort, viewer: Viewer, revision: u32, runs: &[Pixels]) -> Viewer
-    ensures { viewers.name result ≡ viewers.name viewer }
+    ensures { viewers.identity result ≡ viewers.identity viewer }
 {
     match viewer.look() {
         Ok(look) => {
@@ -203,7 +208,7 @@ pub(crate) fn assert_sees(rt: &impl Abort, viewer: Viewer, revision: u32, runs: 
 
 /// Asserts that a look shows this many operations, and a picture of this total weight.
 pub(crate) fn assert_shows(rt: &impl Abort, viewer: Viewer, revision: u32, total: i64) -> Viewer
-    ensures { viewers.name result ≡ viewers.name viewer }
+    ensures { viewers.identity result ≡ viewers.identity viewer }
 {
     match viewer.look() {
         Ok(look) => {

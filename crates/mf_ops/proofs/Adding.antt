@@ -10,7 +10,7 @@ use Rattle.mf_edges.specs.WeightMaps.{mapped_to}
 use Rattle.mf_rows.specs.WeightMaps.{mapped_at}
 use Rattle.mf_rows.specs.Weights.{picture_of}
 use Rattle.mf_rows.proofs.WeightsLemmas.{picture_of-from_weights}
-use Rattle.mf_ops.specs.Cull.{culled}
+use Rattle.mf_ops.specs.Cull.{culled_weight}
 use Rattle.mf_ops.specs.Step.{step_at}
 use Rattle.mf_ops.specs.declared.cull.CullRule.{CullRule}
 use Rattle.mf_ops.specs.declared.op.Op.TheVariants.{Also, Cull}
@@ -21,19 +21,23 @@ unfolding sum_at
 sum_at-plus ds es x y = refl
 
 -- the sum of a picture and a negated one is the difference
-pub HasWeights-minus : (ds es negated new : List Dot) → HasWeights (mapped_at Negate es) negated → HasWeights (sum_at ds negated) new → HasWeights (step_at ds (Also es Minus)) new
+pub HasWeights-minus : (ds es negated new : List Dot) → HasWeights (mapped_at Negate es) negated → HasWeights (sum_at ds negated) new
+    → HasWeights (step_at ds (Also es Minus)) new
 unfolding sum_at mapped_at
-HasWeights-minus ds es negated new negates has = record { weights = λ x y in_field. omega (arith, ints, negates.weights x y in_field, has.weights x y in_field) }
+HasWeights-minus ds es negated new negates has =
+    record { weights = λ x y in_field. omega (arith, ints, negates.weights x y in_field, has.weights x y in_field) }
 
-pub IsUnlawfulSomewhere-minus : (ds es negated : List Dot) → HasWeights (mapped_at Negate es) negated → IsUnlawfulSomewhere (sum_at ds negated) → IsUnlawfulSomewhere (step_at ds (Also es Minus))
+pub IsUnlawfulSomewhere-minus : (ds es negated : List Dot) → HasWeights (mapped_at Negate es) negated
+    → IsUnlawfulSomewhere (sum_at ds negated) → IsUnlawfulSomewhere (step_at ds (Also es Minus))
 unfolding sum_at mapped_at
 IsUnlawfulSomewhere-minus ds es negated negates at =
     let same : step_at ds (Also es Minus) at.x at.y ≡ sum_at ds negated at.x at.y = omega (arith, ints, negates.weights at.x at.y at.in_field) in
     record { x = at.x; y = at.y; in_field = at.in_field; unlawful = λ lawful. at.unlawful (subst IsLawfulWeight same lawful) }
 
-pub mapped_at-culled : (ds : List Dot) (c : CullRule) (m : WeightMap) → ((v : ℤ) → mapped_to m v ≡ culled c v) → (x y : ℤ) → mapped_at m ds x y ≡ step_at ds (Cull c) x y
+pub mapped_at-culled_weight : (ds : List Dot) (c : CullRule) (m : WeightMap) → ((v : ℤ) → mapped_to m v ≡ culled_weight c v) → (x y : ℤ)
+    → mapped_at m ds x y ≡ step_at ds (Cull c) x y
 unfolding mapped_at
-mapped_at-culled ds c m same x y = same (weight_at ds x y)
+mapped_at-culled_weight ds c m same x y = same (weight_at ds x y)
 
 -- the blank picture has weight 0 everywhere
 pub IsPicture-blank : IsPicture []

@@ -1,11 +1,12 @@
 -- Sums over one axis of the field, and over the field, of weights that were moved.
-use Rattle.std.proofs.Common.{◌≡◌, ◌≢◌, ℕ, zero, suc, ◌+◌, ◌*◌, ◌<◌, inl, inr, Bool, true, false, ◌&&◌, ℤ, pos, negsuc, ◌+ℤ◌, ◌-ℤ◌, ◌*ℤ◌, ◌≤ℤ◌, ◌<ℤ◌, nat_abs, refl, sym, ◌∙◌, ap, arith}
+use Rattle.std.proofs.Common.{◌≡◌, ◌≢◌, ℕ, zero, suc, ◌+◌, ◌*◌, ◌<◌, inl, inr, Bool, true, false, ◌&&◌, ℤ, pos, ◌+ℤ◌, ◌-ℤ◌, ◌*ℤ◌, ◌≤ℤ◌, ◌<ℤ◌, nat_abs, refl, sym, ◌∙◌, ap, arith}
 use Rattle.std.specs.Bool.{Decides}
 use Rattle.std.specs.Ordering.{int_eq}
 use Rattle.std.proofs.Math.IntN.{*ℤ_comm, *ℤ-zero, zero-*ℤ}
 use Rattle.std.proofs.lemmas.Bool.{cases_eq, cases_Bool, and_left, and_right, both_ways}
 use Rattle.std.proofs.lemmas.Bool.Decides.{Decides-int_eq}
 use Rattle.std.proofs.lemmas.Int.{ints, by_lt_z}
+use Rattle.mf_geom.specs.Coordinates.{least_coordinate, greatest_coordinate, last_in_field}
 use Rattle.mf_geom.specs.Crossing.{passed}
 use Rattle.mf_geom.specs.Field.{sum_over_field}
 use Rattle.mf_geom.specs.Sum.{sum_below}
@@ -17,7 +18,7 @@ use borrow.Author.Differences.{up, down, product_is}
 
 -- the sum over the columns, or rows, of the field
 abbrev axis_sum : (ℤ → ℤ) → ℤ
-axis_sum g = sum_below 8190 (λ i. g (negsuc 4094 +ℤ pos i))
+axis_sum g = sum_below 8190 (λ i. g (least_coordinate +ℤ pos i))
 
 sum_below-none : (n : ℕ) (f : ℕ → ℤ) → ((i : ℕ) → i < n → f i ≡ pos 0) → sum_below n f ≡ pos 0
 sum_below-none n f none = sum_below-same n f (λ i. pos 0) none ∙ sum_below-zero n
@@ -50,22 +51,23 @@ sum_below-downwards (suc n) a b g ends =
     omega (arith, ints)
 
 axis_sum-same : (f g : ℤ → ℤ) → ((q : ℤ) → f q ≡ g q) → axis_sum f ≡ axis_sum g
-axis_sum-same f g same = λ t. sum_below 8190 (λ i. same (negsuc 4094 +ℤ pos i) t)
+axis_sum-same f g same = λ t. sum_below 8190 (λ i. same (least_coordinate +ℤ pos i) t)
 
 axis_sum-none : (g : ℤ → ℤ) → ((q : ℤ) → g q ≡ pos 0) → axis_sum g ≡ pos 0
 axis_sum-none g none = axis_sum-same g (λ q. pos 0) none ∙ sum_below-zero 8190
 
-axis_sum-alone : (g : ℤ → ℤ) (p : ℤ) → negsuc 4094 ≤ℤ p → p ≤ℤ pos 4094 → ((q : ℤ) → q ≢ p → g q ≡ pos 0) → axis_sum g ≡ g p
+axis_sum-alone : (g : ℤ → ℤ) (p : ℤ) → least_coordinate ≤ℤ p → p ≤ℤ last_in_field → ((q : ℤ) → q ≢ p → g q ≡ pos 0) → axis_sum g ≡ g p
 axis_sum-alone g p least greatest others =
-    let k = nat_abs (p -ℤ negsuc 4094) in
-    let at_k : negsuc 4094 +ℤ pos k ≡ p = omega (arith, ints) in
-    sum_below-alone 8190 k (λ i. g (negsuc 4094 +ℤ pos i)) (omega (arith, ints)) (λ i other. others (negsuc 4094 +ℤ pos i) (λ same. other (omega (arith, ints)))) ∙ ap g at_k
+    let k = nat_abs (p -ℤ least_coordinate) in
+    let at_k : least_coordinate +ℤ pos k ≡ p = omega (arith, ints) in
+    sum_below-alone 8190 k (λ i. g (least_coordinate +ℤ pos i)) (omega (arith, ints))
+    (λ i other. others (least_coordinate +ℤ pos i) (λ same. other (omega (arith, ints)))) ∙ ap g at_k
 
 axis_sum-swap : (f : ℤ → ℤ → ℤ) → axis_sum (λ q. axis_sum (f q)) ≡ axis_sum (λ p. axis_sum (λ q. f q p))
-axis_sum-swap f = sum_below-swap 8190 8190 (λ j i. f (negsuc 4094 +ℤ pos j) (negsuc 4094 +ℤ pos i))
+axis_sum-swap f = sum_below-swap 8190 8190 (λ j i. f (least_coordinate +ℤ pos j) (least_coordinate +ℤ pos i))
 
 axis_sum-mul : (a : ℤ) (g : ℤ → ℤ) → axis_sum (λ q. a *ℤ g q) ≡ a *ℤ axis_sum g
-axis_sum-mul a g = sum_below-mul 8190 a (λ i. g (negsuc 4094 +ℤ pos i))
+axis_sum-mul a g = sum_below-mul 8190 a (λ i. g (least_coordinate +ℤ pos i))
 
 sum_over_field-axes : (f : ℤ → ℤ → ℤ) → sum_over_field f ≡ axis_sum (λ y. axis_sum (λ x. f x y))
 unfolding sum_over_field
@@ -74,12 +76,12 @@ sum_over_field-axes f = refl
 -- the axis read from its other end
 axis_sum-opposite : (g : ℤ → ℤ) → axis_sum (λ q. g (opposite q)) ≡ axis_sum g
 axis_sum-opposite g =
-    let column : (i : ℕ) → opposite (negsuc 4094 +ℤ pos i) ≡ pos 4094 -ℤ pos i = λ i. omega (arith, ints) in
-    (λ t. sum_below 8190 (λ i. g (column i t))) ∙ sum_below-downwards 8190 (negsuc 4094) (pos 4094) g refl
+    let column : (i : ℕ) → opposite (least_coordinate +ℤ pos i) ≡ last_in_field -ℤ pos i = λ i. omega (arith, ints) in
+    (λ t. sum_below 8190 (λ i. g (column i t))) ∙ sum_below-downwards 8190 least_coordinate last_in_field g refl
 
 -- a turn by 90 degrees maps the field to itself
-pub sum_over_field-turned : (f : ℤ → ℤ → ℤ) → sum_over_field (λ x y. f y (opposite x)) ≡ sum_over_field f
-sum_over_field-turned f =
+pub sum_over_field-turn_once : (f : ℤ → ℤ → ℤ) → sum_over_field (λ x y. f y (opposite x)) ≡ sum_over_field f
+sum_over_field-turn_once f =
     sum_over_field-axes (λ x y. f y (opposite x))
     ∙ axis_sum-swap (λ y x. f y (opposite x))
     ∙ axis_sum-opposite (λ y. axis_sum (λ x. f x y))
@@ -92,8 +94,8 @@ pub record IsMove (n : ℕ) (source : ℤ → ℤ) (kept : ℤ → Bool) : Type 
   pub start : (q : ℤ) → first (source q) ≤ℤ q
   pub end : (q : ℤ) → q <ℤ (first (source q) +ℤ pos n)
   pub only : (p q : ℤ) → first p ≤ℤ q → q <ℤ (first p +ℤ pos n) → source q ≡ p
-  pub before : (p : ℤ) → kept p ≡ true → (negsuc 4094 ≤ℤ p) × (p ≤ℤ pos 4094)
-  pub after : (p : ℤ) → kept p ≡ true → (negsuc 4094 ≤ℤ first p) × ((first p +ℤ pos n) ≤ℤ pos 4095)
+  pub before : (p : ℤ) → kept p ≡ true → (least_coordinate ≤ℤ p) × (p ≤ℤ last_in_field)
+  pub after : (p : ℤ) → kept p ≡ true → (least_coordinate ≤ℤ first p) × ((first p +ℤ pos n) ≤ℤ greatest_coordinate)
 
 -- 1 at the n columns from s on, and 0 elsewhere
 abbrev among : ℕ → ℤ → ℤ → ℤ
@@ -120,11 +122,11 @@ among-outside n s q outside =
     let end = passed-reached q (s +ℤ pos n) behind in
     omega (arith, ints)))
 
-axis_sum-among : (n : ℕ) (s : ℤ) → negsuc 4094 ≤ℤ s → (s +ℤ pos n) ≤ℤ pos 4095 → axis_sum (among n s) ≡ pos n
+axis_sum-among : (n : ℕ) (s : ℤ) → least_coordinate ≤ℤ s → (s +ℤ pos n) ≤ℤ greatest_coordinate → axis_sum (among n s) ≡ pos n
 axis_sum-among n s start end =
     let from_start = sum_below-passed_in_field s start (omega (arith, ints)) in
     let from_end = sum_below-passed_in_field (s +ℤ pos n) (omega (arith, ints)) end in
-    sum_below-sub 8190 (λ i. passed (negsuc 4094 +ℤ pos i) s) (λ i. passed (negsuc 4094 +ℤ pos i) (s +ℤ pos n)) ∙ omega (arith, ints)
+    sum_below-sub 8190 (λ i. passed (least_coordinate +ℤ pos i) s) (λ i. passed (least_coordinate +ℤ pos i) (s +ℤ pos n)) ∙ omega (arith, ints)
 
 times_twice : (m n : ℕ) (a : ℤ) → pos n *ℤ (pos m *ℤ a) ≡ pos (m * n) *ℤ a
 times_twice m n a =
@@ -144,7 +146,8 @@ part-zero : (n : ℕ) (s : ℤ) (g : ℤ → ℤ) (q p : ℤ) → g p ≡ pos 0 
 part-zero n s g q p none = ap (λ a. a *ℤ among n s q) none ∙ zero-*ℤ (among n s q)
 
 -- only the source of column q adds anything at q
-from_source : (n : ℕ) (source : ℤ → ℤ) (kept : ℤ → Bool) (g : ℤ → ℤ) (q : ℤ) → (move : IsMove n source kept) → ((p : ℤ) → kept p ≡ false → g p ≡ pos 0) → axis_sum (λ p. part n (move.first p) g q p) ≡ g (source q)
+from_source : (n : ℕ) (source : ℤ → ℤ) (kept : ℤ → Bool) (g : ℤ → ℤ) (q : ℤ) → (move : IsMove n source kept)
+    → ((p : ℤ) → kept p ≡ false → g p ≡ pos 0) → axis_sum (λ p. part n (move.first p) g q p) ≡ g (source q)
 from_source n source kept g q move none =
     let p = source q in
     let parts : ℤ → ℤ = λ o. part n (move.first o) g q o in
@@ -166,7 +169,8 @@ from_source n source kept g q move none =
     ]
 
 -- column p adds n times its own value
-to_columns : (n : ℕ) (source : ℤ → ℤ) (kept : ℤ → Bool) (g : ℤ → ℤ) (p : ℤ) → (move : IsMove n source kept) → ((o : ℤ) → kept o ≡ false → g o ≡ pos 0) → axis_sum (λ q. part n (move.first p) g q p) ≡ pos n *ℤ g p
+to_columns : (n : ℕ) (source : ℤ → ℤ) (kept : ℤ → Bool) (g : ℤ → ℤ) (p : ℤ) → (move : IsMove n source kept)
+    → ((o : ℤ) → kept o ≡ false → g o ≡ pos 0) → axis_sum (λ q. part n (move.first p) g q p) ≡ pos n *ℤ g p
 to_columns n source kept g p move none =
     elim (cases_Bool (kept p)) [
       | inl is_kept ↦
@@ -182,7 +186,8 @@ to_columns n source kept g p move none =
 
 -- Where the columns that leave the field have value 0, a move multiplies the sum by the number of columns to which it takes each
 -- one. Both sums add the same parts, one grouped by source and the other by place.
-axis_sum-moved : (n : ℕ) (source : ℤ → ℤ) (kept : ℤ → Bool) (g : ℤ → ℤ) → IsMove n source kept → ((p : ℤ) → kept p ≡ false → g p ≡ pos 0) → axis_sum (λ q. g (source q)) ≡ pos n *ℤ axis_sum g
+axis_sum-moved : (n : ℕ) (source : ℤ → ℤ) (kept : ℤ → Bool) (g : ℤ → ℤ) → IsMove n source kept → ((p : ℤ) → kept p ≡ false → g p ≡ pos 0)
+    → axis_sum (λ q. g (source q)) ≡ pos n *ℤ axis_sum g
 axis_sum-moved n source kept g move none =
     let parts : ℤ → ℤ → ℤ = λ q p. part n (move.first p) g q p in
     axis_sum-same (λ q. g (source q)) (λ q. axis_sum (parts q)) (λ q. sym (from_source n source kept g q move none))
@@ -191,12 +196,16 @@ axis_sum-moved n source kept g move none =
     ∙ axis_sum-mul (pos n) g
 
 -- the same for the field: the rows move, and within each row the columns
-pub sum_over_field-moved : (m n : ℕ) (column row : ℤ → ℤ) (kept_column kept_row : ℤ → Bool) (f : ℤ → ℤ → ℤ) → IsMove m column kept_column → IsMove n row kept_row → ((x y : ℤ) → (kept_column x && kept_row y) ≡ false → f x y ≡ pos 0) → sum_over_field (λ x y. f (column x) (row y)) ≡ pos (m * n) *ℤ sum_over_field f
+pub sum_over_field-moved : (m n : ℕ) (column row : ℤ → ℤ) (kept_column kept_row : ℤ → Bool) (f : ℤ → ℤ → ℤ) → IsMove m column kept_column
+    → IsMove n row kept_row → ((x y : ℤ) → (kept_column x && kept_row y) ≡ false → f x y ≡ pos 0)
+    → sum_over_field (λ x y. f (column x) (row y)) ≡ pos (m * n) *ℤ sum_over_field f
 sum_over_field-moved m n column row kept_column kept_row f columns rows none =
     let moved_row : ℤ → ℤ = λ y. axis_sum (λ x. f (column x) y) in
     let whole_row : ℤ → ℤ = λ y. axis_sum (λ x. f x y) in
-    let blank : (y : ℤ) → kept_row y ≡ false → moved_row y ≡ pos 0 = λ y lost. axis_sum-none (λ x. f (column x) y) (λ x. none (column x) y (and_right (kept_column (column x)) (kept_row y) lost)) in
-    let times : (y : ℤ) → moved_row y ≡ pos m *ℤ whole_row y = λ y. axis_sum-moved m column kept_column (λ x. f x y) columns (λ x lost. none x y (and_left (kept_column x) (kept_row y) lost)) in
+    let blank : (y : ℤ) → kept_row y ≡ false → moved_row y ≡ pos 0 =
+    λ y lost. axis_sum-none (λ x. f (column x) y) (λ x. none (column x) y (and_right (kept_column (column x)) (kept_row y) lost)) in
+    let times : (y : ℤ) → moved_row y ≡ pos m *ℤ whole_row y =
+    λ y. axis_sum-moved m column kept_column (λ x. f x y) columns (λ x lost. none x y (and_left (kept_column x) (kept_row y) lost)) in
     sum_over_field-axes (λ x y. f (column x) (row y))
     ∙ axis_sum-moved n row kept_row moved_row rows blank
     ∙ ap (λ s. pos n *ℤ s) (axis_sum-same moved_row (λ y. pos m *ℤ whole_row y) times ∙ axis_sum-mul (pos m) whole_row)

@@ -1,5 +1,5 @@
 -- The picture after an operation, and when the operation is refused.
-use Rattle.std.proofs.Common.{◌≡◌, ◌≢◌, ◌⊎◌, inl, inr, Bool, true, false, cond, Option, None, Some, ℤ, pos, ◌+ℤ◌, List, [], ◌∷◌, refl, sym, ap, ◌∙◌, subst, arith}
+use Rattle.std.proofs.Common.{◌≡◌, ◌≢◌, ◌↔◌, ◌⊎◌, inl, inr, Bool, true, false, cond, Option, None, Some, ℤ, pos, ◌+ℤ◌, List, [], ◌∷◌, refl, sym, ap, ◌∙◌, subst, arith}
 use Rattle.std.proofs.lemmas.Int.{ints}
 use Rattle.std.proofs.lemmas.Bool.{cond_both, false_from_ne_true, or_from, true_from_ne_false, or_parts, both_ways}
 use Rattle.std.proofs.lemmas.List.Elements.{All-contains}
@@ -12,7 +12,7 @@ use Rattle.mf_geom.specs.declared.cycle.CycleFault.{CycleFault}
 use Rattle.mf_geom.specs.Faults.{turning_fault}
 use Rattle.mf_geom.specs.Lawful.{IsFault, IsRectilinearCycle, PassesCheck}
 use Rattle.mf_geom.specs.Winding.{filling_weight, contour}
-use Rattle.mf_geom.proofs.FirstFaults.{fault_of-cycle, fault_of-fault, fault_of-rectilinear}
+use Rattle.mf_geom.proofs.FirstFaults.{cycle_fault_of-cycle, cycle_fault_of-fault, cycle_fault_of-rectilinear}
 use Rattle.mf_geom.specs.Field.{IsInField}
 use Rattle.mf_edges.specs.declared.fault.AddFault.{AddFault}
 use Rattle.mf_edges.specs.declared.fault.AddFault.TheVariants as add
@@ -21,9 +21,9 @@ use Rattle.mf_rows.specs.Dots.{Dot, AreDotsFrom, IsPicture, weight_at, place}
 use Rattle.mf_rows.specs.Sums.{HasWeights, IsUnlawfulSomewhere}
 use Rattle.mf_rows.specs.Weights.{picture_of}
 use Rattle.mf_rows.proofs.WeightsLemmas.{IsDotOf, weight_at-picture_of, lawful_picture_of, picture_of-from_weights, picture_of-dots}
-use Rattle.mf_ops.specs.Faults.{op_fault}
-use Rattle.mf_ops.specs.Weights.{is_too_large, IsTooLargeSomewhere}
-use Rattle.mf_ops.specs.Step.{step_at, stepped, leaves, StaysInField, TurnsLawfully, weight_fault, pixel_fault, turn_fault, fault_of}
+use Rattle.mf_ops.specs.Faults.{sum_fault}
+use Rattle.mf_ops.specs.Sides.{FillsWith}
+use Rattle.mf_ops.specs.Step.{is_too_large, step_at, next_picture, leaves, StaysInField, TurnsLawfully, weight_fault, pixel_fault, turn_fault, op_fault}
 use Rattle.mf_ops.specs.Moves.{Factors}
 use Rattle.mf_ops.specs.declared.cull.CullRule.{CullRule}
 use Rattle.mf_ops.specs.declared.op.Op.{Op}
@@ -35,19 +35,13 @@ use Rattle.mf_ops.specs.declared.quarter.Quarter.{Quarter}
 use Rattle.mf_ops.specs.declared.sign.Sign.{Sign}
 use Rattle.mf_geom.specs.declared.point.Point.{Point}
 
-is_too_large-lawful : (w : ℤ) → IsLawfulWeight w → is_too_large w ≡ false
-is_too_large-lawful w lawful = grind (arith, ints)
-
-IsLawfulWeight-from_false : (w : ℤ) → is_too_large w ≡ false → IsLawfulWeight w
-IsLawfulWeight-from_false w passes = record { least = grind (arith, ints); greatest = grind (arith, ints) }
-
-is_too_large-unlawful : (w : ℤ) → ¬ IsLawfulWeight w → is_too_large w ≡ true
-is_too_large-unlawful w unlawful = true_from_ne_false _ (λ passes. unlawful (IsLawfulWeight-from_false w passes))
+is_too_large-false : (w : ℤ) → (is_too_large w ≡ false) ↔ IsLawfulWeight w
+is_too_large-false w = (λ passes. record { least = grind (arith, ints); greatest = grind (arith, ints) }, λ lawful. grind (arith, ints))
 
 none_too_large : (low : ℤ) (ds : List Dot) → AreDotsFrom low ds → list_any (λ d. is_too_large d.weight) ds ≡ false
 none_too_large low [] dots = refl
 none_too_large low (d ∷ ds) dots =
-    or_from _ _ (is_too_large-lawful d.weight dots.0.lawful) (none_too_large (place d.x d.y +ℤ pos 1) ds dots.2)
+    or_from _ _ ((is_too_large-false d.weight).1 dots.0.lawful) (none_too_large (place d.x d.y +ℤ pos 1) ds dots.2)
 
 -- where the weight of no dot is too large, that of no pixel is
 weight_at-not_too_large : (ds : List Dot) (x y : ℤ) → list_any (λ d. is_too_large d.weight) ds ≡ false → is_too_large (weight_at ds x y) ≡ false
@@ -57,10 +51,10 @@ weight_at-not_too_large (d ∷ ds) x y none =
     let parts = or_parts (is_too_large d.weight) (list_any (λ e. is_too_large e.weight) ds) none in
     cond_both _ d.weight (weight_at ds x y) (λ w. is_too_large w ≡ false) (λ here. parts.0) (λ elsewhere. weight_at-not_too_large ds x y parts.1)
 
-some_too_large : (f : ℤ → ℤ → ℤ) → IsTooLargeSomewhere f → list_any (λ d. is_too_large d.weight) (picture_of f) ≡ true
+some_too_large : (f : ℤ → ℤ → ℤ) → IsUnlawfulSomewhere f → list_any (λ d. is_too_large d.weight) (picture_of f) ≡ true
 some_too_large f at =
     let weight = weight_at-picture_of f at.x at.y at.in_field in
-    true_from_ne_false _ (λ none. both_ways (is_too_large (f at.x at.y)) (rw weight at (weight_at-not_too_large (picture_of f) at.x at.y none)) at.too_large)
+    true_from_ne_false _ (λ none. at.unlawful ((is_too_large-false (f at.x at.y)).0 (rw weight at (weight_at-not_too_large (picture_of f) at.x at.y none))))
 
 -- where a picture has the weights f, and g equals f, it has the weights g
 pub HasWeights-same : (f g : ℤ → ℤ → ℤ) (ds : List Dot) → ((x y : ℤ) → f x y ≡ g x y) → HasWeights f ds → HasWeights g ds
@@ -71,28 +65,28 @@ IsUnlawfulSomewhere-same f g same at =
     record { x = at.x; y = at.y; in_field = at.in_field; unlawful = λ lawful. at.unlawful (subst IsLawfulWeight (sym (same at.x at.y)) lawful) }
 
 -- a picture that has the weights of a step is the picture after that step
-pub stepped-from_weights : (ds : List Dot) (op : Op) (new : List Dot) → IsPicture new → HasWeights (step_at ds op) new → new ≡ stepped ds op
-unfolding stepped
-stepped-from_weights ds op new picture has = picture_of-from_weights new (step_at ds op) picture has.weights
+pub next_picture-from_weights : (ds : List Dot) (op : Op) (new : List Dot) → IsPicture new → HasWeights (step_at ds op) new → new ≡ next_picture ds op
+unfolding next_picture
+next_picture-from_weights ds op new picture has = picture_of-from_weights new (step_at ds op) picture has.weights
 
 -- ---- how the cycle turns
 
 -- a fault in how a cycle turns comes before all others
-pub fault_of-turn : (ds : List Dot) (op : Op) (fault : OpFault) → turn_fault op ≡ Some fault → fault_of ds op ≡ Some fault
-unfolding fault_of
-fault_of-turn ds op fault found = ap (λ (turn : Option OpFault). option_or turn (pixel_fault ds op)) found
+pub op_fault-turn : (ds : List Dot) (op : Op) (fault : OpFault) → turn_fault op ≡ Some fault → op_fault ds op ≡ Some fault
+unfolding op_fault
+op_fault-turn ds op fault found = ap (λ (turn : Option OpFault). option_or turn (pixel_fault ds op)) found
 
 -- the fault of a cycle, by its definition, is the one that the turning check finds
 pub turning_fault-is : (ps : List Point) (fault : CycleFault) → IsRectilinearCycle ps → IsFault ps fault → turning_fault ps ≡ Some fault
-turning_fault-is ps fault cycle is = sym (fault_of-rectilinear ps cycle) ∙ fault_of-fault ps fault is
+turning_fault-is ps fault cycle is = sym (cycle_fault_of-rectilinear ps cycle) ∙ cycle_fault_of-fault ps fault is
 
 pub turning_fault-none : (ps : List Point) → PassesCheck ps → turning_fault ps ≡ None
-turning_fault-none ps passes = sym (fault_of-rectilinear ps passes.onward.rectilinear) ∙ fault_of-cycle ps passes
+turning_fault-none ps passes = sym (cycle_fault_of-rectilinear ps passes.onward.rectilinear) ∙ cycle_fault_of-cycle ps passes
 
 -- where the turning check finds none, the pixels decide
-fault_of-pixels : (ds : List Dot) (op : Op) → TurnsLawfully op → fault_of ds op ≡ pixel_fault ds op
-unfolding fault_of
-fault_of-pixels ds op turns = ap (λ (turn : Option OpFault). option_or turn (pixel_fault ds op)) turns.none
+op_fault-pixels : (ds : List Dot) (op : Op) → TurnsLawfully op → op_fault ds op ≡ pixel_fault ds op
+unfolding op_fault
+op_fault-pixels ds op turns = ap (λ (turn : Option OpFault). option_or turn (pixel_fault ds op)) turns.none
 
 -- a cycle passes its turning check or has a fault
 TurnsOrFails : Op → Type 0
@@ -115,12 +109,13 @@ turns_or_fails (ops.Quarter q) = inl (record { none = refl })
 turns_or_fails Clear = inl (record { none = refl })
 
 -- a fault that is not one of the cycle is one of the pixels
-from_pixels : (ds : List Dot) (op : Op) (found : Option OpFault) → ((f : CycleFault) → Some (Cycle f) ≢ found) → fault_of ds op ≡ found → TurnsLawfully op × (pixel_fault ds op ≡ found)
+from_pixels : (ds : List Dot) (op : Op) (found : Option OpFault) → ((f : CycleFault) → Some (Cycle f) ≢ found) → op_fault ds op ≡ found
+    → TurnsLawfully op × (pixel_fault ds op ≡ found)
 unfolding TurnsOrFails
 from_pixels ds op found other is =
     elim (turns_or_fails op) [
-      | inl turns ↦ (turns, sym (fault_of-pixels ds op turns) ∙ is)
-      | inr fails ↦ absurd (other fails.0 (sym (fault_of-turn ds op (Cycle fails.0) fails.1) ∙ is))
+      | inl turns ↦ (turns, sym (op_fault-pixels ds op turns) ∙ is)
+      | inr fails ↦ absurd (other fails.0 (sym (op_fault-turn ds op (Cycle fails.0) fails.1) ∙ is))
     ]
 
 pixels_not_turning : (out large : Bool) (f : CycleFault) → cond out (Some OutOfField) (cond large (Some WeightTooLarge) None) ≢ Some (Cycle f)
@@ -129,50 +124,51 @@ pixels_not_turning false true f same = cc
 pixels_not_turning false false f same = cc
 
 -- an operation whose cycle passes the turning check is not refused for its cycle
-pub not_turning : (ds : List Dot) (op : Op) (f : CycleFault) → TurnsLawfully op → fault_of ds op ≢ Some (Cycle f)
-not_turning ds op f turns same = pixels_not_turning _ _ f (sym (fault_of-pixels ds op turns) ∙ same)
+pub not_turning : (ds : List Dot) (op : Op) (f : CycleFault) → TurnsLawfully op → op_fault ds op ≢ Some (Cycle f)
+not_turning ds op f turns same = pixels_not_turning _ _ f (sym (op_fault-pixels ds op turns) ∙ same)
 
-refused_from : (ds : List Dot) (ps : List Point) (w : ℤ) (fault : CycleFault) (found : Option CycleFault) → turning_fault ps ≡ found → fault_of ds (Contour ps w On) ≡ Some (Cycle fault) → turning_fault ps ≡ Some fault
+refused_from : (ds : List Dot) (ps : List Point) (w : ℤ) (fault : CycleFault) (found : Option CycleFault) → turning_fault ps ≡ found
+    → op_fault ds (Contour ps w On) ≡ Some (Cycle fault) → turning_fault ps ≡ Some fault
 refused_from ds ps w fault None is refused = absurd (not_turning ds (Contour ps w On) fault (record { none = ap (option_map Cycle) is }) refused)
 refused_from ds ps w fault (Some f) is refused =
-    let first = fault_of-turn ds (Contour ps w On) (Cycle f) (ap (option_map Cycle) is) in
+    let first = op_fault-turn ds (Contour ps w On) (Cycle f) (ap (option_map Cycle) is) in
     let same : f ≡ fault = cc in
     is ∙ ap Some same
 
 -- a contour that is refused for its cycle has a cycle with that fault
-pub turning_fault-refused : (ds : List Dot) (ps : List Point) (w : ℤ) (fault : CycleFault) → fault_of ds (Contour ps w On) ≡ Some (Cycle fault) → turning_fault ps ≡ Some fault
+pub turning_fault-refused : (ds : List Dot) (ps : List Point) (w : ℤ) (fault : CycleFault)
+    → op_fault ds (Contour ps w On) ≡ Some (Cycle fault) → turning_fault ps ≡ Some fault
 turning_fault-refused ds ps w fault refused = refused_from ds ps w fault (turning_fault ps) refl refused
 
-pub unchecked_turns : (ds : List Dot) (ps : List Point) (w : ℤ) (f : CycleFault) → fault_of ds (Contour ps w Off) ≢ Some (Cycle f)
-unchecked_turns ds ps w f = not_turning ds (Contour ps w Off) f (record { none = refl })
-
-pub also_turns : (ds es : List Dot) (s : Sign) (f : CycleFault) → fault_of ds (Also es s) ≢ Some (Cycle f)
+pub also_turns : (ds es : List Dot) (s : Sign) (f : CycleFault) → op_fault ds (Also es s) ≢ Some (Cycle f)
 also_turns ds es s f = not_turning ds (Also es s) f (record { none = refl })
 
-pub cull_turns : (ds : List Dot) (c : CullRule) (f : CycleFault) → fault_of ds (Cull c) ≢ Some (Cycle f)
+pub cull_turns : (ds : List Dot) (c : CullRule) (f : CycleFault) → op_fault ds (Cull c) ≢ Some (Cycle f)
 cull_turns ds c f = not_turning ds (Cull c) f (record { none = refl })
 
-pub shift_turns : (ds : List Dot) (dx dy : ℤ) (f : CycleFault) → fault_of ds (ops.Shift dx dy) ≢ Some (Cycle f)
+pub shift_turns : (ds : List Dot) (dx dy : ℤ) (f : CycleFault) → op_fault ds (ops.Shift dx dy) ≢ Some (Cycle f)
 shift_turns ds dx dy f = not_turning ds (ops.Shift dx dy) f (record { none = refl })
 
-pub scale_turns : (ds : List Dot) (s : Factors) (f : CycleFault) → fault_of ds (ops.Scale s) ≢ Some (Cycle f)
+pub scale_turns : (ds : List Dot) (s : Factors) (f : CycleFault) → op_fault ds (ops.Scale s) ≢ Some (Cycle f)
 scale_turns ds s f = not_turning ds (ops.Scale s) f (record { none = refl })
 
-pub quarter_turns : (ds : List Dot) (q : Quarter) (f : CycleFault) → fault_of ds (ops.Quarter q) ≢ Some (Cycle f)
+pub quarter_turns : (ds : List Dot) (q : Quarter) (f : CycleFault) → op_fault ds (ops.Quarter q) ≢ Some (Cycle f)
 quarter_turns ds q f = not_turning ds (ops.Quarter q) f (record { none = refl })
 
-pub clear_turns : (ds : List Dot) (f : CycleFault) → fault_of ds Clear ≢ Some (Cycle f)
+pub clear_turns : (ds : List Dot) (f : CycleFault) → op_fault ds Clear ≢ Some (Cycle f)
 clear_turns ds f = not_turning ds Clear f (record { none = refl })
 
--- a contour that passes its check makes the same picture as an unchecked one with the weight that the check gives it
-pub stepped-unchecked : (ds : List Dot) (ps : List Point) (w : ℤ) (check : Check) → stepped ds (Contour ps w check) ≡ stepped ds (Contour ps (filling_weight check ps w) Off)
-unfolding stepped contour
-stepped-unchecked ds ps w check = refl
-
-pub fault_of-unchecked : (ds : List Dot) (ps : List Point) (w : ℤ) (check : Check) → turn_fault (Contour ps w check) ≡ None → fault_of ds (Contour ps w check) ≡ fault_of ds (Contour ps (filling_weight check ps w) Off)
-unfolding stepped contour
-fault_of-unchecked ds ps w check turns =
-    fault_of-pixels ds (Contour ps w check) (record { none = turns }) ∙ sym (fault_of-pixels ds (Contour ps (filling_weight check ps w) Off) (record { none = refl }))
+-- a contour that passes its check is filled with the weight that the check gives it
+pub FillsWith-checked : (ps : List Point) (w : ℤ) (check : Check) → turn_fault (Contour ps w check) ≡ None
+    → FillsWith (Contour ps w check) ps (filling_weight check ps w)
+unfolding next_picture contour
+FillsWith-checked ps w check turns =
+    let op = Contour ps (filling_weight check ps w) Off in
+    record {
+      turns = λ ds fault. not_turning ds (Contour ps w check) fault (record { none = turns });
+      step = λ ds. refl;
+      fault = λ ds. op_fault-pixels ds (Contour ps w check) (record { none = turns }) ∙ sym (op_fault-pixels ds op (record { none = refl }));
+    }
 
 -- ---- faults of pixels
 
@@ -182,32 +178,36 @@ pub record IsForWeights (ds : List Dot) (op : Op) : Type 0 where
   pub stays : StaysInField ds op
 
 -- for such an operation the weights alone decide
-fault_of-inside : (ds : List Dot) (op : Op) → IsForWeights ds op → fault_of ds op ≡ weight_fault (stepped ds op)
-fault_of-inside ds op inside = fault_of-pixels ds op inside.turns ∙ (λ t. cond (inside.stays.none_leaves t) (Some OutOfField) (weight_fault (stepped ds op)))
+op_fault-inside : (ds : List Dot) (op : Op) → IsForWeights ds op → op_fault ds op ≡ weight_fault (next_picture ds op)
+op_fault-inside ds op inside =
+    op_fault-pixels ds op inside.turns ∙ (λ t. cond (inside.stays.none_leaves t) (Some OutOfField) (weight_fault (next_picture ds op)))
 
-pub fault_of-leaves : (ds : List Dot) (op : Op) → TurnsLawfully op → list_any (leaves op) ds ≡ true → fault_of ds op ≡ Some OutOfField
-fault_of-leaves ds op turns leaves_it = fault_of-pixels ds op turns ∙ (λ t. cond (leaves_it t) (Some OutOfField) (weight_fault (stepped ds op)))
+pub op_fault-leaves : (ds : List Dot) (op : Op) → TurnsLawfully op → list_any (leaves op) ds ≡ true → op_fault ds op ≡ Some OutOfField
+op_fault-leaves ds op turns leaves_it = op_fault-pixels ds op turns ∙ (λ t. cond (leaves_it t) (Some OutOfField) (weight_fault (next_picture ds op)))
 
 -- a step that has the weights of a picture is not refused
-pub fault_of-from_weights : (ds : List Dot) (op : Op) (new : List Dot) → IsForWeights ds op → IsPicture new → HasWeights (step_at ds op) new → fault_of ds op ≡ None
-fault_of-from_weights ds op new stays picture has =
-    let is = stepped-from_weights ds op new picture has in
+op_fault-from_weights : (ds : List Dot) (op : Op) (new : List Dot) → IsForWeights ds op → IsPicture new → HasWeights (step_at ds op) new → op_fault ds op ≡ None
+op_fault-from_weights ds op new stays picture has =
+    let is = next_picture-from_weights ds op new picture has in
     let none = none_too_large _ new picture.dots in
-    fault_of-inside ds op stays ∙ (λ t. weight_fault (sym is t)) ∙ (λ t. cond (none t) (Some WeightTooLarge) None)
+    op_fault-inside ds op stays ∙ (λ t. weight_fault (sym is t)) ∙ (λ t. cond (none t) (Some WeightTooLarge) None)
 
-pub fault_of-too_large : (ds : List Dot) (op : Op) → IsForWeights ds op → IsTooLargeSomewhere (step_at ds op) → fault_of ds op ≡ Some WeightTooLarge
-unfolding stepped
-fault_of-too_large ds op stays too_large = fault_of-inside ds op stays ∙ (λ t. cond (some_too_large (step_at ds op) too_large t) (Some WeightTooLarge) None)
+-- so it is the picture after the operation, which is not refused
+pub made-from_weights : (ds : List Dot) (op : Op) (new : List Dot) → IsForWeights ds op → IsPicture new → HasWeights (step_at ds op) new
+    → (new ≡ next_picture ds op) × (op_fault ds op ≡ None)
+made-from_weights ds op new stays picture has = (next_picture-from_weights ds op new picture has, op_fault-from_weights ds op new stays picture has)
 
 -- a step with an unlawful weight is refused
-pub fault_of-unlawful : (ds : List Dot) (op : Op) → IsForWeights ds op → IsUnlawfulSomewhere (step_at ds op) → fault_of ds op ≡ Some WeightTooLarge
-fault_of-unlawful ds op stays at =
-    fault_of-too_large ds op stays record { x = at.x; y = at.y; in_field = at.in_field; too_large = is_too_large-unlawful (step_at ds op at.x at.y) at.unlawful }
+pub op_fault-too_large : (ds : List Dot) (op : Op) → IsForWeights ds op → IsUnlawfulSomewhere (step_at ds op) → op_fault ds op ≡ Some WeightTooLarge
+unfolding next_picture
+op_fault-too_large ds op stays too_large = op_fault-inside ds op stays ∙ (λ t. cond (some_too_large (step_at ds op) too_large t) (Some WeightTooLarge) None)
 
 -- where a sum is refused, and not because an allocation fails, the step is refused for the same reason
-pub fault_of-op_fault : (ds : List Dot) (op : Op) (fault : AddFault) → IsForWeights ds op → (fault ≢ add.OutOfMemory → IsUnlawfulSomewhere (step_at ds op)) → op_fault fault ≢ OutOfMemory → fault_of ds op ≡ Some (op_fault fault)
-fault_of-op_fault ds op add.WeightTooLarge stays unlawful other = fault_of-unlawful ds op stays (unlawful (λ same. cc))
-fault_of-op_fault ds op add.OutOfMemory stays unlawful other = absurd (other refl)
+pub op_fault-sum_fault : (ds : List Dot) (op : Op) (fault : AddFault) → IsForWeights ds op
+    → (fault ≢ add.OutOfMemory → IsUnlawfulSomewhere (step_at ds op)) → sum_fault fault ≢ OutOfMemory
+    → op_fault ds op ≡ Some (sum_fault fault)
+op_fault-sum_fault ds op add.WeightTooLarge stays unlawful other = op_fault-too_large ds op stays (unlawful (λ same. cc))
+op_fault-sum_fault ds op add.OutOfMemory stays unlawful other = absurd (other refl)
 
 -- most operations take no pixel out of the field
 never : (ds : List Dot) → list_any (λ d. false) ds ≡ false
@@ -240,24 +240,24 @@ weight_fault-not_out : (large : Bool) → cond large (Some WeightTooLarge) None 
 weight_fault-not_out true same = cc
 weight_fault-not_out false same = cc
 
-pub not_out : (ds : List Dot) (op : Op) → IsForWeights ds op → fault_of ds op ≢ Some OutOfField
-not_out ds op stays out = weight_fault-not_out _ (sym (fault_of-inside ds op stays) ∙ out)
+pub not_out : (ds : List Dot) (op : Op) → IsForWeights ds op → op_fault ds op ≢ Some OutOfField
+not_out ds op stays out = weight_fault-not_out _ (sym (op_fault-inside ds op stays) ∙ out)
 
-pub contour_not_out : (ds : List Dot) (ps : List Point) (w : ℤ) (check : Check) → fault_of ds (Contour ps w check) ≢ Some OutOfField
+pub contour_not_out : (ds : List Dot) (ps : List Point) (w : ℤ) (check : Check) → op_fault ds (Contour ps w check) ≢ Some OutOfField
 contour_not_out ds ps w check out =
     let found = from_pixels ds (Contour ps w check) (Some OutOfField) (λ f same. cc) out in
     not_out ds (Contour ps w check) (contour_stays ds ps w check found.0) out
 
-pub also_not_out : (ds es : List Dot) (s : Sign) → fault_of ds (Also es s) ≢ Some OutOfField
+pub also_not_out : (ds es : List Dot) (s : Sign) → op_fault ds (Also es s) ≢ Some OutOfField
 also_not_out ds es s = not_out ds (Also es s) (also_stays ds es s)
 
-pub cull_not_out : (ds : List Dot) (c : CullRule) → fault_of ds (Cull c) ≢ Some OutOfField
+pub cull_not_out : (ds : List Dot) (c : CullRule) → op_fault ds (Cull c) ≢ Some OutOfField
 cull_not_out ds c = not_out ds (Cull c) (cull_stays ds c)
 
-pub quarter_not_out : (ds : List Dot) (q : Quarter) → fault_of ds (ops.Quarter q) ≢ Some OutOfField
+pub quarter_not_out : (ds : List Dot) (q : Quarter) → op_fault ds (ops.Quarter q) ≢ Some OutOfField
 quarter_not_out ds q = not_out ds (ops.Quarter q) (quarter_stays ds q)
 
-pub clear_not_out : (ds : List Dot) → fault_of ds Clear ≢ Some OutOfField
+pub clear_not_out : (ds : List Dot) → op_fault ds Clear ≢ Some OutOfField
 clear_not_out ds = not_out ds Clear (clear_stays ds)
 
 -- what each answer says about the two tests
@@ -266,7 +266,8 @@ none_where_lawful true large none = cc
 none_where_lawful false true none = cc
 none_where_lawful false false none = (refl, refl)
 
-some_where_too_large : (out large : Bool) → cond out (Some OutOfField) (cond large (Some WeightTooLarge) None) ≡ Some WeightTooLarge → (out ≡ false) × (large ≡ true)
+some_where_too_large : (out large : Bool) → cond out (Some OutOfField) (cond large (Some WeightTooLarge) None) ≡ Some WeightTooLarge
+    → (out ≡ false) × (large ≡ true)
 some_where_too_large true large some = cc
 some_where_too_large false true some = (refl, refl)
 some_where_too_large false false some = cc
@@ -277,56 +278,58 @@ some_where_out false true some = cc
 some_where_out false false some = cc
 
 -- an accepted operation passes the turning check, and its pixels have no fault
-pixels-accepted : (ds : List Dot) (op : Op) → fault_of ds op ≡ None → TurnsLawfully op × (pixel_fault ds op ≡ None)
+pixels-accepted : (ds : List Dot) (op : Op) → op_fault ds op ≡ None → TurnsLawfully op × (pixel_fault ds op ≡ None)
 pixels-accepted ds op none = from_pixels ds op None (λ f same. cc) none
 
-pub stays-accepted : (ds : List Dot) (op : Op) → fault_of ds op ≡ None → StaysInField ds op
+pub stays-accepted : (ds : List Dot) (op : Op) → op_fault ds op ≡ None → StaysInField ds op
 stays-accepted ds op none = record { none_leaves = (none_where_lawful _ _ (pixels-accepted ds op none).1).0 }
 
-pub not_too_large-accepted : (ds : List Dot) (op : Op) → fault_of ds op ≡ None → (x y : ℤ) → IsInField x y → is_too_large (step_at ds op x y) ≡ false
-unfolding stepped
-not_too_large-accepted ds op none x y in_field =
+-- so all weights of its step in the field are lawful
+pub lawful-accepted : (ds : List Dot) (op : Op) → op_fault ds op ≡ None → (x y : ℤ) → IsInField x y → IsLawfulWeight (step_at ds op x y)
+unfolding next_picture
+lawful-accepted ds op none x y in_field =
     let lawful = (none_where_lawful _ _ (pixels-accepted ds op none).1).1 in
     let weight = weight_at-picture_of (step_at ds op) x y in_field in
-    rw weight at (weight_at-not_too_large (picture_of (step_at ds op)) x y lawful)
+    (is_too_large-false _).0 (rw weight at (weight_at-not_too_large (picture_of (step_at ds op)) x y lawful))
 
 -- a dot whose weight is too large is a pixel of the field
-found_too_large : (f : ℤ → ℤ → ℤ) → list_any (λ d. is_too_large d.weight) (picture_of f) ≡ true → IsTooLargeSomewhere f
+found_too_large : (f : ℤ → ℤ → ℤ) → list_any (λ d. is_too_large d.weight) (picture_of f) ≡ true → IsUnlawfulSomewhere f
 found_too_large f some =
     let found = Any-from_list_any (λ d. is_too_large d.weight) (picture_of f) some in
     let d = found.1 in
     let dot = All-contains (IsDotOf f) (picture_of f) d (picture_of-dots f) (found.0, found.2, found.3) in
-    record { x = d.x; y = d.y; in_field = dot.in_field; too_large = rw dot.weight at found.4 }
+    record { x = d.x; y = d.y; in_field = dot.in_field; unlawful = λ lawful. both_ways _ ((is_too_large-false _).1 lawful) (rw dot.weight at found.4) }
 
 -- an operation refused with WeightTooLarge could be refused only for its weights, and some weight is too large
 pub record IsRefusedForWeights (ds : List Dot) (op : Op) : Type 0 where
   pub inside : IsForWeights ds op
-  pub too_large : IsTooLargeSomewhere (step_at ds op)
+  pub too_large : IsUnlawfulSomewhere (step_at ds op)
 
-pub too_large-refused : (ds : List Dot) (op : Op) → fault_of ds op ≡ Some WeightTooLarge → IsRefusedForWeights ds op
-unfolding stepped
+pub too_large-refused : (ds : List Dot) (op : Op) → op_fault ds op ≡ Some WeightTooLarge → IsRefusedForWeights ds op
+unfolding next_picture
 too_large-refused ds op refused =
     let found = from_pixels ds op (Some WeightTooLarge) (λ f same. cc) refused in
     let tests = some_where_too_large _ _ found.1 in
     record { inside = stays_everywhere ds op found.0 tests.0; too_large = found_too_large (step_at ds op) tests.1 }
 
 -- a step whose weights are all lawful is not refused for them
-step_not_too_large : (ds : List Dot) (op : Op) → ((x y : ℤ) → IsLawfulWeight (step_at ds op x y)) → list_any (λ d. is_too_large d.weight) (stepped ds op) ≡ false
-unfolding stepped
+step_not_too_large : (ds : List Dot) (op : Op) → ((x y : ℤ) → IsLawfulWeight (step_at ds op x y))
+    → list_any (λ d. is_too_large d.weight) (next_picture ds op) ≡ false
+unfolding next_picture
 step_not_too_large ds op lawful =
-    false_from_ne_true _ (λ some. let at = found_too_large (step_at ds op) some in both_ways _ (is_too_large-lawful _ (lawful at.x at.y)) at.too_large)
+    false_from_ne_true _ (λ some. let at = found_too_large (step_at ds op) some in at.unlawful (lawful at.x at.y))
 
-pub not_too_large-lawful : (ds : List Dot) (op : Op) → ((x y : ℤ) → IsLawfulWeight (step_at ds op x y)) → fault_of ds op ≢ Some WeightTooLarge
+pub not_too_large-lawful : (ds : List Dot) (op : Op) → ((x y : ℤ) → IsLawfulWeight (step_at ds op x y)) → op_fault ds op ≢ Some WeightTooLarge
 not_too_large-lawful ds op lawful refused =
-    let at = (too_large-refused ds op refused).too_large in both_ways _ (is_too_large-lawful _ (lawful at.x at.y)) at.too_large
+    let at = (too_large-refused ds op refused).too_large in at.unlawful (lawful at.x at.y)
 
-pub accepted-lawful : (ds : List Dot) (op : Op) → IsForWeights ds op → ((x y : ℤ) → IsLawfulWeight (step_at ds op x y)) → fault_of ds op ≡ None
-accepted-lawful ds op stays lawful = fault_of-inside ds op stays ∙ (λ t. cond (step_not_too_large ds op lawful t) (Some WeightTooLarge) None)
+pub accepted-lawful : (ds : List Dot) (op : Op) → IsForWeights ds op → ((x y : ℤ) → IsLawfulWeight (step_at ds op x y)) → op_fault ds op ≡ None
+accepted-lawful ds op stays lawful = op_fault-inside ds op stays ∙ (λ t. cond (step_not_too_large ds op lawful t) (Some WeightTooLarge) None)
 
-pub leaves-refused : (ds : List Dot) (op : Op) → fault_of ds op ≡ Some OutOfField → list_any (leaves op) ds ≡ true
+pub leaves-refused : (ds : List Dot) (op : Op) → op_fault ds op ≡ Some OutOfField → list_any (leaves op) ds ≡ true
 leaves-refused ds op refused = some_where_out _ _ (from_pixels ds op (Some OutOfField) (λ f same. cc) refused).1
 
 -- a step that is not refused makes a lawful picture
-pub IsPicture-stepped : (ds : List Dot) (op : Op) → fault_of ds op ≡ None → IsPicture (stepped ds op)
-unfolding stepped
-IsPicture-stepped ds op none = lawful_picture_of (step_at ds op) (λ x y in_field. IsLawfulWeight-from_false _ (not_too_large-accepted ds op none x y in_field))
+pub IsPicture-next_picture : (ds : List Dot) (op : Op) → op_fault ds op ≡ None → IsPicture (next_picture ds op)
+unfolding next_picture
+IsPicture-next_picture ds op none = lawful_picture_of (step_at ds op) (lawful-accepted ds op none)

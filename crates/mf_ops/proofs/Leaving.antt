@@ -1,78 +1,79 @@
 -- When a picture leaves the field as its columns and rows are stretched, as a shift and a scale do: its least box decides.
-use Rattle.std.proofs.Common.{◌≡◌, ◌&&◌, Bool, true, false, not, ℕ, ◌+◌, ◌*◌, ◌≤◌, mul-le-mul_right, ℤ, pos, negsuc, ◌+ℤ◌, ◌*ℤ◌, ◌≤ℤ◌, List, [], ◌∷◌, refl, subst, sym, w32, to_z, of_z, arith}
+use Rattle.std.proofs.Common.{◌≡◌, ◌↔◌, ◌&&◌, Bool, true, false, not, ℕ, ◌+◌, ◌*◌, ◌≤◌, mul-le-mul_right, ℤ, pos, negsuc, ◌+ℤ◌, ◌*ℤ◌, ◌≤ℤ◌, List, [], ◌∷◌, refl, subst, sym, w32, to_z, of_z, arith}
 use Rattle.std.proofs.lemmas.Bool.{and_from, and_parts, or_parts, not-false, not_from_true, true_from_ne_false}
 use Rattle.std.proofs.lemmas.Int.{ints}
 use Rattle.std.proofs.lemmas.List.Elements.{All-nil, All-cons, All-contains}
 use Rattle.std.proofs.lemmas.List.Folds.{list_any_none}
 use Rattle.std.specs.List.{All, Any, list_any}
+use Rattle.mf_geom.specs.Coordinates.{least_coordinate, last_in_field, IsCoordinate, is_coordinate}
 use borrow.Author.Differences.{up, down}
 use Rattle.mf_rows.proofs.DotsLemmas.{dots_from-lawful}
 use Rattle.mf_rows.specs.Bounds.{IsLeastBox}
 use Rattle.mf_rows.specs.declared.bounds.Box4.{Box4}
 use Rattle.mf_edges.specs.declared.stretch.Stretch.{Stretch}
 use Rattle.mf_rows.specs.Dots.{Dot, IsPicture, start_of_field}
-use Rattle.mf_edges.specs.Axes.{IsPointInReach, PlaceStaysInside}
+use Rattle.mf_edges.specs.Axes.{PlaceStaysInside, stretched_to}
 use Rattle.mf_rows.specs.Moves.{PixelsStayInside}
-use Rattle.mf_ops.specs.Moves.{Factors, is_in_reach, stays_inside}
+use Rattle.mf_ops.specs.Moves.{Factors, scale_by, shift_by, stays_inside}
 use Rattle.mf_ops.specs.Step.{leaves}
 use Rattle.mf_ops.proofs.Faults.{IsForWeights}
 use Rattle.mf_ops.specs.declared.op.Op.TheVariants.{Shift, Scale}
 
-is_in_reach-point : (x : ℤ) → IsPointInReach x → is_in_reach x ≡ true
-is_in_reach-point x point = grind (arith, ints)
+pub is_coordinate-true : (x : ℤ) → (is_coordinate x ≡ true) ↔ IsCoordinate x
+is_coordinate-true x = (λ passes. record { least = grind (arith, ints); greatest = grind (arith, ints) }, λ point. grind (arith, ints))
 
-IsPointInReach-from_test : (x : ℤ) → is_in_reach x ≡ true → IsPointInReach x
-IsPointInReach-from_test x passes = record { least = grind (arith, ints); greatest = grind (arith, ints) }
-
-stays_inside-place : (s : Stretch) (p : ℤ) → PlaceStaysInside s p → stays_inside s.factor s.offset p ≡ true
-stays_inside-place s p inside = and_from _ _ (is_in_reach-point _ inside.start) (is_in_reach-point _ inside.end)
-
-PlaceStaysInside-from_test : (s : Stretch) (p : ℤ) → stays_inside s.factor s.offset p ≡ true → PlaceStaysInside s p
-PlaceStaysInside-from_test s p passes =
-    let ends = and_parts _ _ passes in
-    record { start = IsPointInReach-from_test _ ends.0; end = IsPointInReach-from_test _ ends.1 }
+pub stays_inside-true : (s : Stretch) (p : ℤ) → (stays_inside s p ≡ true) ↔ PlaceStaysInside s p
+stays_inside-true s p =
+    let start = is_coordinate-true (stretched_to s p) in
+    let end = is_coordinate-true (stretched_to s (p +ℤ pos 1)) in (
+      λ passes. let ends = and_parts _ _ passes in record { start = start.0 ends.0; end = end.0 ends.1 },
+      λ inside. and_from _ _ (start.1 inside.start) (end.1 inside.end),
+    )
 
 -- whether a dot leaves the field where its column and its row are stretched
 abbrev leaves_by : Stretch → Stretch → Dot → Bool
-leaves_by columns rows d = not (stays_inside columns.factor columns.offset d.x && stays_inside rows.factor rows.offset d.y)
+leaves_by columns rows d = not (stays_inside columns d.x && stays_inside rows d.y)
 
 none_leaves : (columns rows : Stretch) (ds : List Dot) → PixelsStayInside columns rows ds → list_any (leaves_by columns rows) ds ≡ false
 none_leaves columns rows ds inside =
     list_any_none (leaves_by columns rows) ds
-    (λ k d lt. not_from_true _ (and_from _ _ (stays_inside-place columns _ (inside.across k d lt)) (stays_inside-place rows _ (inside.up k d lt))))
+    (λ k d lt. not_from_true _ (and_from _ _ ((stays_inside-true columns _).1 (inside.across k d lt)) ((stays_inside-true rows _).1 (inside.up k d lt))))
 
 PixelsStayInside-none_leaves : (columns rows : Stretch) (ds : List Dot) → list_any (leaves_by columns rows) ds ≡ false → PixelsStayInside columns rows ds
-PixelsStayInside-none_leaves columns rows [] none = record { across = All-nil (λ d. PlaceStaysInside columns d.x); up = All-nil (λ d. PlaceStaysInside rows d.y) }
+PixelsStayInside-none_leaves columns rows [] none = record {
+  across = All-nil (λ d. PlaceStaysInside columns d.x);
+  up = All-nil (λ d. PlaceStaysInside rows d.y);
+}
 PixelsStayInside-none_leaves columns rows (d ∷ ds) none =
     let parts = or_parts (leaves_by columns rows d) (list_any (leaves_by columns rows) ds) none in
     let tests = and_parts _ _ (not-false _ parts.0) in
     let rest = PixelsStayInside-none_leaves columns rows ds parts.1 in
     record {
-      across = All-cons (λ e. PlaceStaysInside columns e.x) d ds (PlaceStaysInside-from_test columns d.x tests.0) rest.across;
-      up = All-cons (λ e. PlaceStaysInside rows e.y) d ds (PlaceStaysInside-from_test rows d.y tests.1) rest.up;
+      across = All-cons (λ e. PlaceStaysInside columns e.x) d ds ((stays_inside-true columns d.x).0 tests.0) rest.across;
+      up = All-cons (λ e. PlaceStaysInside rows e.y) d ds ((stays_inside-true rows d.y).0 tests.1) rest.up;
     }
 
 some_leaves : (columns rows : Stretch) (ds : List Dot) → ¬ PixelsStayInside columns rows ds → list_any (leaves_by columns rows) ds ≡ true
 some_leaves columns rows ds outside = true_from_ne_false _ (λ none. outside (PixelsStayInside-none_leaves columns rows ds none))
 
 -- a shift stretches by factor 1, and a scale has offset 0
-pub stays_in_field-shift : (ds : List Dot) (dx dy : ℤ) → PixelsStayInside (record { factor = pos 1; offset = dx }) (record { factor = pos 1; offset = dy }) ds → IsForWeights ds (Shift dx dy)
+pub stays_in_field-shift : (ds : List Dot) (dx dy : ℤ) → PixelsStayInside (shift_by dx) (shift_by dy) ds → IsForWeights ds (Shift dx dy)
 stays_in_field-shift ds dx dy inside = record {
   turns = record { none = refl };
-  stays = record { none_leaves = none_leaves (record { factor = pos 1; offset = dx }) (record { factor = pos 1; offset = dy }) ds inside };
+  stays = record { none_leaves = none_leaves (shift_by dx) (shift_by dy) ds inside };
 }
 
-pub leaves-shift : (ds : List Dot) (dx dy : ℤ) → (PixelsStayInside (record { factor = pos 1; offset = dx }) (record { factor = pos 1; offset = dy }) ds → ⊥) → list_any (leaves (Shift dx dy)) ds ≡ true
-leaves-shift ds dx dy outside = some_leaves (record { factor = pos 1; offset = dx }) (record { factor = pos 1; offset = dy }) ds outside
+pub leaves-shift : (ds : List Dot) (dx dy : ℤ) → (PixelsStayInside (shift_by dx) (shift_by dy) ds → ⊥) → list_any (leaves (Shift dx dy)) ds ≡ true
+leaves-shift ds dx dy outside = some_leaves (shift_by dx) (shift_by dy) ds outside
 
-pub stays_in_field-scale : (ds : List Dot) (s : Factors) → PixelsStayInside (record { factor = s.x; offset = pos 0 }) (record { factor = s.y; offset = pos 0 }) ds → IsForWeights ds (Scale s)
+pub stays_in_field-scale : (ds : List Dot) (s : Factors) → PixelsStayInside (scale_by s.x) (scale_by s.y) ds → IsForWeights ds (Scale s)
 stays_in_field-scale ds s inside = record {
   turns = record { none = refl };
-  stays = record { none_leaves = none_leaves (record { factor = s.x; offset = pos 0 }) (record { factor = s.y; offset = pos 0 }) ds inside };
+  stays = record { none_leaves = none_leaves (scale_by s.x) (scale_by s.y) ds inside };
 }
 
-pub leaves-scale : (ds : List Dot) (s : Factors) → (PixelsStayInside (record { factor = s.x; offset = pos 0 }) (record { factor = s.y; offset = pos 0 }) ds → ⊥) → list_any (leaves (Scale s)) ds ≡ true
-leaves-scale ds s outside = some_leaves (record { factor = s.x; offset = pos 0 }) (record { factor = s.y; offset = pos 0 }) ds outside
+pub leaves-scale : (ds : List Dot) (s : Factors) → (PixelsStayInside (scale_by s.x) (scale_by s.y) ds → ⊥) → list_any (leaves (Scale s)) ds ≡ true
+leaves-scale ds s outside = some_leaves (scale_by s.x) (scale_by s.y) ds outside
 
 -- multiplying by an integer keeps the order of two numbers, or reverses it
 mul-le : (n : ℕ) (a b : ℤ) → a ≤ℤ b → (a *ℤ pos n) ≤ℤ (b *ℤ pos n)
@@ -88,7 +89,7 @@ mul-ge n a b le =
     omega (arith, ints)
 
 -- so where two points stay in reach, so do those between them
-IsPointInReach-between : (f o a p b : ℤ) → a ≤ℤ p → p ≤ℤ b → IsPointInReach ((a *ℤ f) +ℤ o) → IsPointInReach ((b *ℤ f) +ℤ o) → IsPointInReach ((p *ℤ f) +ℤ o)
+IsPointInReach-between : (f o a p b : ℤ) → a ≤ℤ p → p ≤ℤ b → IsCoordinate ((a *ℤ f) +ℤ o) → IsCoordinate ((b *ℤ f) +ℤ o) → IsCoordinate ((p *ℤ f) +ℤ o)
 IsPointInReach-between (pos n) o a p b after before first last =
     let above = mul-le n a p after in
     let below = mul-le n p b before in
@@ -117,14 +118,16 @@ pub record SidesStayInside (columns rows : Stretch) (b : Box4) : Type 0 where
   pub top : PlaceStaysInside rows b.max_y
 
 -- where they do, the picture stays inside
-pub PixelsStayInside-from_sides : (columns rows : Stretch) (ds : List Dot) (b : Box4) → IsLeastBox ds b → SidesStayInside columns rows b → PixelsStayInside columns rows ds
+pub PixelsStayInside-from_sides : (columns rows : Stretch) (ds : List Dot) (b : Box4) → IsLeastBox ds b → SidesStayInside columns rows b
+    → PixelsStayInside columns rows ds
 PixelsStayInside-from_sides columns rows ds b box sides =
     record {
       across = λ k d lt. let within = box.within k d lt in PlaceStaysInside-between columns b.min_x _ b.max_x within.left within.right sides.left sides.right;
       up = λ k d lt. let within = box.within k d lt in PlaceStaysInside-between rows b.min_y _ b.max_y within.bottom within.top sides.bottom sides.top;
     }
 
-pub sides_from_StayInside : (columns rows : Stretch) (ds : List Dot) (b : Box4) → IsLeastBox ds b → PixelsStayInside columns rows ds → SidesStayInside columns rows b
+pub sides_from_StayInside : (columns rows : Stretch) (ds : List Dot) (b : Box4) → IsLeastBox ds b → PixelsStayInside columns rows ds
+    → SidesStayInside columns rows b
 sides_from_StayInside columns rows ds b box inside =
     record {
       left = at_side (PlaceStaysInside columns) (λ d. d.x) ds b.min_x inside.across box.left;
@@ -135,8 +138,8 @@ sides_from_StayInside columns rows ds b box inside =
 
 -- a column or row of the field
 pub record IsInRange (p : ℤ) : Type 0 where
-  pub least : negsuc 4094 ≤ℤ p
-  pub greatest : p ≤ℤ pos 4094
+  pub least : least_coordinate ≤ℤ p
+  pub greatest : p ≤ℤ last_in_field
 
 -- the sides of the least box of a picture are columns and rows of the field
 pub record AreSidesInField (b : Box4) : Type 0 where
@@ -159,7 +162,12 @@ sides_in_field ds b picture box =
 
 -- so the 32-bit integers of the code represent them exactly
 abbrev pub read_back : Box4 → Box4
-read_back b = record { min_x = to_z w32 (of_z w32 b.min_x); max_x = to_z w32 (of_z w32 b.max_x); min_y = to_z w32 (of_z w32 b.min_y); max_y = to_z w32 (of_z w32 b.max_y) }
+read_back b = record {
+  min_x = to_z w32 (of_z w32 b.min_x);
+  max_x = to_z w32 (of_z w32 b.max_x);
+  min_y = to_z w32 (of_z w32 b.min_y);
+  max_y = to_z w32 (of_z w32 b.max_y);
+}
 
 read_back-place : (p : ℤ) → IsInRange p → to_z w32 (of_z w32 p) ≡ p
 read_back-place p place = omega (arith, ints, place.least, place.greatest)
@@ -167,7 +175,12 @@ read_back-place p place = omega (arith, ints, place.least, place.greatest)
 pub IsLeastBox-read_back : (ds : List Dot) (b : Box4) → IsPicture ds → IsLeastBox ds b → IsLeastBox ds (read_back b)
 IsLeastBox-read_back ds b picture box =
     let sides = sides_in_field ds b picture box in
-    let same : read_back b ≡ b = λ t. record { min_x = read_back-place b.min_x sides.left t; max_x = read_back-place b.max_x sides.right t; min_y = read_back-place b.min_y sides.bottom t; max_y = read_back-place b.max_y sides.top t } in
+    let same : read_back b ≡ b = λ t. record {
+      min_x = read_back-place b.min_x sides.left t;
+      max_x = read_back-place b.max_x sides.right t;
+      min_y = read_back-place b.min_y sides.bottom t;
+      max_y = read_back-place b.max_y sides.top t;
+    } in
     subst (IsLeastBox ds) (sym same) box
 
 pub sides_read_back : (ds : List Dot) (b : Box4) → IsPicture ds → IsLeastBox ds b → AreSidesInField (read_back b)

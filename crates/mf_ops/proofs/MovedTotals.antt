@@ -1,170 +1,126 @@
 -- The total weight of a picture that was shifted, scaled or turned.
-use Rattle.std.proofs.Common.{◌≡◌, ℕ, zero, suc, ◌*◌, Bool, true, false, not, ◌&&◌, None, ℤ, pos, negsuc, neg_ℤ, ◌+ℤ◌, ◌-ℤ◌, ◌*ℤ◌, ◌≤ℤ◌, ◌<ℤ◌, nat_abs, int_lt, List, [], ◌∷◌, refl, sym, ◌∙◌, ap, subst, arith}
-use Rattle.std.specs.Int.{int_div_euclid}
+use Rattle.std.proofs.Common.{◌≡◌, ℕ, zero, suc, ◌*◌, Bool, true, false, not, ◌&&◌, None, ℤ, pos, negsuc, neg_ℤ, ◌+ℤ◌, ◌-ℤ◌, ◌*ℤ◌, ◌≤ℤ◌, ◌<ℤ◌, nat_abs, List, [], ◌∷◌, refl, sym, ◌∙◌, ap, subst, arith}
 use Rattle.std.specs.Int.RustNames.{unsigned_abs}
 use Rattle.std.specs.List.{list_any}
 use Rattle.std.specs.Ordering.{int_eq}
-use Rattle.std.proofs.lemmas.Bool.{and_parts, and_from, both_ways, cond_both, cond-true, not-false, or_parts}
+use Rattle.std.proofs.lemmas.Bool.{and_parts, and_from, both_ways, cond_both, not-false, or_parts}
 use Rattle.std.proofs.lemmas.Bool.Decides.{Decides-int_eq}
-use Rattle.std.proofs.lemmas.Int.{ints, by_lt_z, unsigned_abs-mul}
+use Rattle.std.proofs.lemmas.Int.{ints, unsigned_abs-mul}
+use Rattle.mf_geom.specs.Coordinates.{least_coordinate, last_in_field, is_coordinate}
 use Rattle.mf_geom.specs.Field.{sum_over_field}
 use Rattle.mf_edges.specs.declared.stretch.Stretch.{Stretch}
 use Rattle.mf_rows.specs.Dots.{Dot, AreDotsFrom, IsPicture, place, start_of_field, total_of, weight_at}
-use Rattle.mf_edges.specs.Axes.{IsStretch, opposite, source_of, stretched_to}
+use Rattle.mf_edges.specs.Axes.{IsStretch, PlaceStaysInside, opposite, source_of, stretched_to}
 use Rattle.mf_rows.specs.Weights.{picture_of}
 use Rattle.mf_rows.proofs.FieldTotals.{total_of-picture_of, total_of-picture}
-use Rattle.mf_edges.proofs.Sources.{source_of-from, source_of-is, source_of-reached, stretched_to-next}
-use Rattle.mf_ops.specs.Moves.{AreFactors, Factors, IsFactor, is_in_reach, scale_source, stays_inside, turned, turned_by}
-use Rattle.mf_ops.specs.Step.{fault_of, step_at, stepped}
+use Rattle.mf_edges.proofs.Sources.{source_of-is, stretched_to-next}
+use Rattle.mf_ops.specs.Moves.{AreFactors, Factors, IsFactor, scale_by, scale_source, shift_by, stays_inside, turn_once, turn_by}
+use Rattle.mf_ops.specs.Step.{op_fault, step_at, next_picture}
 use Rattle.mf_ops.specs.declared.op.Op.TheVariants as ops
 use Rattle.mf_ops.specs.declared.op.Op.TheVariants.{Scale, Shift}
 use Rattle.mf_ops.specs.declared.quarter.Quarter.{Quarter}
 use Rattle.mf_ops.specs.declared.quarter.Quarter.TheVariants.{Once, Twice, Thrice}
-use Rattle.mf_ops.proofs.AxisSums.{IsMove, sum_over_field-moved, sum_over_field-turned}
+use Rattle.mf_ops.proofs.AxisSums.{IsMove, sum_over_field-moved, sum_over_field-turn_once}
 use Rattle.mf_ops.proofs.Faults.{stays-accepted}
+use Rattle.mf_ops.proofs.Leaving.{is_coordinate-true, stays_inside-true}
+use Rattle.mf_ops.proofs.Places.{mul-neg, opposite-opposite, scale_source-negative, scale_source-positive, source_of-end, source_of-start}
 
-sum_over_field-turned_by : (q : Quarter) (f : ℤ → ℤ → ℤ) → sum_over_field (turned_by q f) ≡ sum_over_field f
-sum_over_field-turned_by Once f = sum_over_field-turned f
-sum_over_field-turned_by Twice f = sum_over_field-turned (turned f) ∙ sum_over_field-turned f
-sum_over_field-turned_by Thrice f = sum_over_field-turned (turned (turned f)) ∙ sum_over_field-turned (turned f) ∙ sum_over_field-turned f
+sum_over_field-turn_by : (q : Quarter) (f : ℤ → ℤ → ℤ) → sum_over_field (turn_by q f) ≡ sum_over_field f
+sum_over_field-turn_by Once f = sum_over_field-turn_once f
+sum_over_field-turn_by Twice f = sum_over_field-turn_once (turn_once f) ∙ sum_over_field-turn_once f
+sum_over_field-turn_by Thrice f = sum_over_field-turn_once (turn_once (turn_once f)) ∙ sum_over_field-turn_once (turn_once f) ∙ sum_over_field-turn_once f
 
-pub total_of-turned : (ds : List Dot) (q : Quarter) → IsPicture ds → total_of (stepped ds (ops.Quarter q)) ≡ total_of ds
-unfolding stepped
-total_of-turned ds q picture =
-    total_of-picture_of (step_at ds (ops.Quarter q)) ∙ sum_over_field-turned_by q (weight_at ds) ∙ sym (total_of-picture ds picture)
+pub total_of-turn : (ds : List Dot) (q : Quarter) → IsPicture ds → total_of (next_picture ds (ops.Quarter q)) ≡ total_of ds
+unfolding next_picture
+total_of-turn ds q picture =
+    total_of-picture_of (step_at ds (ops.Quarter q)) ∙ sum_over_field-turn_by q (weight_at ds) ∙ sym (total_of-picture ds picture)
 
--- whether column, or row, p lies in the field: both of its ends are in reach
+-- whether column, or row, p lies in the field: both of its ends are coordinates
 abbrev is_in_axis : ℤ → Bool
-is_in_axis p = is_in_reach p && is_in_reach (p +ℤ pos 1)
+is_in_axis p = is_coordinate p && is_coordinate (p +ℤ pos 1)
 
--- whether it lies there before and after the axis is scaled by f and moved by d
-abbrev stays : ℤ → ℤ → ℤ → Bool
-stays f d p = is_in_axis p && stays_inside f d p
+-- whether it lies there before and after a stretch
+abbrev stays : Stretch → ℤ → Bool
+stays s p = is_in_axis p && stays_inside s p
 
-is_in_reach-true : (x : ℤ) → is_in_reach x ≡ true → (negsuc 4094 ≤ℤ x) × (x ≤ℤ pos 4095)
-is_in_reach-true x reached = (grind (arith, ints), grind (arith, ints))
-
-is_in_axis-true : (p : ℤ) → is_in_axis p ≡ true → (negsuc 4094 ≤ℤ p) × (p ≤ℤ pos 4094)
+is_in_axis-true : (p : ℤ) → is_in_axis p ≡ true → (least_coordinate ≤ℤ p) × (p ≤ℤ last_in_field)
 is_in_axis-true p inside =
-    let ends = and_parts (is_in_reach p) (is_in_reach (p +ℤ pos 1)) inside in
-    let right = is_in_reach-true (p +ℤ pos 1) ends.1 in
-    ((is_in_reach-true p ends.0).0, omega (arith, ints))
+    let ends = and_parts (is_coordinate p) (is_coordinate (p +ℤ pos 1)) inside in
+    let left = (is_coordinate-true p).0 ends.0 in
+    let right = (is_coordinate-true (p +ℤ pos 1)).0 ends.1 in
+    (left.least, omega (arith, ints, right.greatest))
 
-is_in_axis-from : (p : ℤ) → negsuc 4094 ≤ℤ p → p ≤ℤ pos 4094 → is_in_axis p ≡ true
+is_in_axis-from : (p : ℤ) → least_coordinate ≤ℤ p → p ≤ℤ last_in_field → is_in_axis p ≡ true
 is_in_axis-from p least greatest = grind (arith, ints)
 
-stays-before : (f d p : ℤ) → stays f d p ≡ true → (negsuc 4094 ≤ℤ p) × (p ≤ℤ pos 4094)
-stays-before f d p kept = is_in_axis-true p (and_parts (is_in_axis p) (stays_inside f d p) kept).0
+stays-before : (s : Stretch) (p : ℤ) → stays s p ≡ true → (least_coordinate ≤ℤ p) × (p ≤ℤ last_in_field)
+stays-before s p kept = is_in_axis-true p (and_parts (is_in_axis p) (stays_inside s p) kept).0
 
-record AreInReach (a b : ℤ) : Type 0 where
-  a_least : negsuc 4094 ≤ℤ a
-  a_greatest : a ≤ℤ pos 4095
-  b_least : negsuc 4094 ≤ℤ b
-  b_greatest : b ≤ℤ pos 4095
+stays-after : (s : Stretch) (p : ℤ) → stays s p ≡ true → PlaceStaysInside s p
+stays-after s p kept = (stays_inside-true s p).0 (and_parts (is_in_axis p) (stays_inside s p) kept).1
 
-stays-after : (f d p : ℤ) → stays f d p ≡ true → AreInReach ((p *ℤ f) +ℤ d) (((p +ℤ pos 1) *ℤ f) +ℤ d)
-stays-after f d p kept =
-    let inside = (and_parts (is_in_axis p) (stays_inside f d p) kept).1 in
-    let ends = and_parts (is_in_reach ((p *ℤ f) +ℤ d)) (is_in_reach (((p +ℤ pos 1) *ℤ f) +ℤ d)) inside in
-    let a = is_in_reach-true ((p *ℤ f) +ℤ d) ends.0 in
-    let b = is_in_reach-true (((p +ℤ pos 1) *ℤ f) +ℤ d) ends.1 in
-    record { a_least = a.0; a_greatest = a.1; b_least = b.0; b_greatest = b.1 }
-
-shift_move : (d : ℤ) → IsMove 1 (λ q. q -ℤ d) (stays (pos 1) d)
+shift_move : (d : ℤ) → IsMove 1 (λ q. q -ℤ d) (stays (shift_by d))
 shift_move d = record {
   first = λ p. p +ℤ d;
   start = λ q. omega (arith, ints);
   end = λ q. omega (arith, ints);
   only = λ p q start end. omega (arith, ints);
-  before = stays-before (pos 1) d;
-  after = λ p kept. let ends = stays-after (pos 1) d p kept in (omega (arith, ints), omega (arith, ints));
+  before = stays-before (shift_by d);
+  after = λ p kept. let ends = stays-after (shift_by d) p kept in (omega (arith, ints, ends.start.least), omega (arith, ints, ends.end.greatest));
 }
-
-source_of-start : (s : Stretch) (q : ℤ) → IsStretch s → stretched_to s (source_of s q) ≤ℤ q
-source_of-start s q stretch = source_of-reached s (source_of s q) q stretch (omega (arith, ints))
-
-source_of-end : (s : Stretch) (q : ℤ) → IsStretch s → q <ℤ (stretched_to s (source_of s q) +ℤ s.factor)
-source_of-end s q stretch =
-    let next = stretched_to-next s (source_of s q) in
-    by_lt_z q (stretched_to s (source_of s q) +ℤ s.factor)
-    (λ inside. inside)
-    (λ behind. let further = source_of-from s (source_of s q +ℤ pos 1) q stretch (rw next behind) in absurd (omega (arith, ints)))
 
 source_of-only : (s : Stretch) (p q : ℤ) → IsStretch s → stretched_to s p ≤ℤ q → q <ℤ (stretched_to s p +ℤ s.factor) → source_of s q ≡ p
 source_of-only s p q stretch start end = let next = stretched_to-next s p in source_of-is s p q stretch start (rw next end)
 
 -- a scale by n + 1
 abbrev times : ℕ → Stretch
-times n = record { factor = pos (suc n); offset = pos 0 }
-
-scale_source-times : (n : ℕ) (q : ℤ) → source_of (times n) q ≡ scale_source (pos (suc n)) q
-unfolding scale_source source_of
-scale_source-times n q =
-    let same : q -ℤ pos 0 ≡ q = omega (arith, ints) in
-    let quotient = int_div_euclid q (pos (suc n)) in
-    let positive : int_lt (pos 0) (pos (suc n)) ≡ true = grind (arith, ints) in
-    ap (λ r. int_div_euclid r (pos (suc n))) same ∙ sym (cond-true (int_lt (pos 0) (pos (suc n))) quotient (quotient -ℤ pos 1) positive)
-
-int_div_euclid-negative : (n : ℕ) (q : ℤ) → neg_ℤ (int_div_euclid q (pos (suc n))) ≡ int_div_euclid q (negsuc n)
-int_div_euclid-negative n (pos k) = refl
-int_div_euclid-negative n (negsuc k) = refl
-
--- a negative factor also reflects
-scale_source-opposite : (n : ℕ) (q : ℤ) → opposite (source_of (times n) q) ≡ scale_source (negsuc n) q
-unfolding scale_source source_of
-scale_source-opposite n q =
-    let same : q -ℤ pos 0 ≡ q = omega (arith, ints) in
-    (λ t. opposite (int_div_euclid (same t) (pos (suc n)))) ∙ ap (λ r. r -ℤ pos 1) (int_div_euclid-negative n q)
-
-opposite-opposite : (p : ℤ) → opposite (opposite p) ≡ p
-opposite-opposite p = omega (arith, ints)
-
-neg-times : (a : ℤ) (n : ℕ) → neg_ℤ a *ℤ pos (suc n) ≡ a *ℤ negsuc n
-neg-times a n = grind (arith, ints)
+times n = scale_by (pos (suc n))
 
 -- so the ends of a column change places
 times-opposite_start : (n : ℕ) (p : ℤ) → stretched_to (times n) (opposite p) ≡ ((p +ℤ pos 1) *ℤ negsuc n) +ℤ pos 0
 times-opposite_start n p =
     let start : opposite p ≡ neg_ℤ (p +ℤ pos 1) = omega (arith, ints) in
-    ap (stretched_to (times n)) start ∙ ap (λ a. a +ℤ pos 0) (neg-times (p +ℤ pos 1) n)
+    ap (stretched_to (times n)) start ∙ ap (λ a. a +ℤ pos 0) (sym (mul-neg (p +ℤ pos 1) (pos (suc n))))
 
 times-opposite_end : (n : ℕ) (p : ℤ) → stretched_to (times n) (opposite p) +ℤ pos (suc n) ≡ (p *ℤ negsuc n) +ℤ pos 0
 times-opposite_end n p =
     let end : opposite p +ℤ pos 1 ≡ neg_ℤ p = omega (arith, ints) in
-    sym (stretched_to-next (times n) (opposite p)) ∙ ap (stretched_to (times n)) end ∙ ap (λ a. a +ℤ pos 0) (neg-times p n)
+    sym (stretched_to-next (times n) (opposite p)) ∙ ap (stretched_to (times n)) end ∙ ap (λ a. a +ℤ pos 0) (sym (mul-neg p (pos (suc n))))
 
-scale_move : (f : ℤ) → IsFactor f → IsMove (nat_abs f) (scale_source f) (stays f (pos 0))
+scale_move : (f : ℤ) → IsFactor f → IsMove (nat_abs f) (scale_source f) (stays (scale_by f))
 scale_move (pos zero) factor = absurd (factor.nonzero refl)
 scale_move (pos (suc n)) factor =
     let stretch : IsStretch (times n) = record { least = omega (arith, ints); greatest = factor.greatest } in
-    subst (λ source. IsMove (suc n) source (stays (pos (suc n)) (pos 0))) (λ t q. scale_source-times n q t) record {
+    subst (λ source. IsMove (suc n) source (stays (times n))) (λ t q. sym (scale_source-positive (suc n) q) t) record {
       first = stretched_to (times n);
       start = λ q. source_of-start (times n) q stretch;
       end = λ q. source_of-end (times n) q stretch;
       only = λ p q. source_of-only (times n) p q stretch;
-      before = stays-before (pos (suc n)) (pos 0);
+      before = stays-before (times n);
       after = λ p kept.
-          let ends = stays-after (pos (suc n)) (pos 0) p kept in
+          let ends = stays-after (times n) p kept in
           let next = stretched_to-next (times n) p in
-          (ends.a_least, rw (← next) ends.b_greatest);
+          (ends.start.least, rw (← next) ends.end.greatest);
     }
 scale_move (negsuc n) factor =
     let stretch : IsStretch (times n) = record { least = omega (arith, ints); greatest = omega (arith, ints, factor.least) } in
-    subst (λ source. IsMove (suc n) source (stays (negsuc n) (pos 0))) (λ t q. scale_source-opposite n q t) record {
+    subst (λ source. IsMove (suc n) source (stays (scale_by (negsuc n)))) (λ t q. sym (scale_source-negative n q) t) record {
       first = λ p. stretched_to (times n) (opposite p);
       start = λ q. rw (opposite-opposite (source_of (times n) q)) (source_of-start (times n) q stretch);
       end = λ q. rw (opposite-opposite (source_of (times n) q)) (source_of-end (times n) q stretch);
       only = λ p q start end. ap opposite (source_of-only (times n) (opposite p) q stretch start end) ∙ opposite-opposite p;
-      before = stays-before (negsuc n) (pos 0);
+      before = stays-before (scale_by (negsuc n));
       after = λ p kept.
-          let ends = stays-after (negsuc n) (pos 0) p kept in
+          let ends = stays-after (scale_by (negsuc n)) p kept in
           let start = times-opposite_start n p in
           let end = times-opposite_end n p in
-          (rw start ends.b_least, rw end ends.a_greatest);
+          (rw start ends.end.least, rw end ends.start.greatest);
     }
 
 -- where all dots of a picture stay inside, a pixel that does not has weight 0
-weight_at-lost : (low : ℤ) (ds : List Dot) (across up : ℤ → Bool) → AreDotsFrom low ds → list_any (λ d. not (across d.x && up d.y)) ds ≡ false → (x y : ℤ) → ((is_in_axis x && across x) && (is_in_axis y && up y)) ≡ false → weight_at ds x y ≡ pos 0
+weight_at-lost : (low : ℤ) (ds : List Dot) (across up : ℤ → Bool) → AreDotsFrom low ds
+    → list_any (λ d. not (across d.x && up d.y)) ds ≡ false → (x y : ℤ) → ((is_in_axis x && across x) && (is_in_axis y && up y)) ≡ false
+    → weight_at ds x y ≡ pos 0
 unfolding weight_at
 weight_at-lost low [] across up dots none x y lost = refl
 weight_at-lost low (d ∷ ds) across up dots none x y lost =
@@ -179,23 +135,30 @@ weight_at-lost low (d ∷ ds) across up dots none x y lost =
     let same_y = (Decides-int_eq d.y y).0 at.1 in
     let column_kept = and_from (is_in_axis d.x) (across d.x) (is_in_axis-from d.x in_field.left in_field.right) stay.0 in
     let row_kept = and_from (is_in_axis d.y) (up d.y) (is_in_axis-from d.y in_field.bottom in_field.top) stay.1 in
-    absurd (both_ways (kept d.x d.y) ((λ t. kept (same_x t) (same_y t)) ∙ lost) (and_from (is_in_axis d.x && across d.x) (is_in_axis d.y && up d.y) column_kept row_kept)))
+    absurd (both_ways (kept d.x d.y) ((λ t. kept (same_x t) (same_y t)) ∙ lost)
+    (and_from (is_in_axis d.x && across d.x) (is_in_axis d.y && up d.y) column_kept row_kept)))
     (λ elsewhere. weight_at-lost (place d.x d.y +ℤ pos 1) ds across up dots.2 parts.1 x y lost)
 
-total_of-moved : (m n : ℕ) (column row : ℤ → ℤ) (across up : ℤ → Bool) (ds : List Dot) → IsMove m column (λ p. is_in_axis p && across p) → IsMove n row (λ p. is_in_axis p && up p) → IsPicture ds → list_any (λ d. not (across d.x && up d.y)) ds ≡ false → total_of (picture_of (λ x y. weight_at ds (column x) (row y))) ≡ pos (m * n) *ℤ total_of ds
+total_of-moved : (m n : ℕ) (column row : ℤ → ℤ) (across up : ℤ → Bool) (ds : List Dot) → IsMove m column (λ p. is_in_axis p && across p)
+    → IsMove n row (λ p. is_in_axis p && up p) → IsPicture ds → list_any (λ d. not (across d.x && up d.y)) ds ≡ false
+    → total_of (picture_of (λ x y. weight_at ds (column x) (row y))) ≡ pos (m * n) *ℤ total_of ds
 total_of-moved m n column row across up ds columns rows picture none =
     total_of-picture_of (λ x y. weight_at ds (column x) (row y))
-    ∙ sum_over_field-moved m n column row (λ p. is_in_axis p && across p) (λ p. is_in_axis p && up p) (weight_at ds) columns rows (weight_at-lost start_of_field ds across up picture.dots none)
+    ∙ sum_over_field-moved m n column row (λ p. is_in_axis p && across p) (λ p. is_in_axis p && up p)
+    (weight_at ds) columns rows (weight_at-lost start_of_field ds across up picture.dots none)
     ∙ ap (λ s. pos (m * n) *ℤ s) (sym (total_of-picture ds picture))
 
-pub total_of-shifted : (ds : List Dot) (dx dy : ℤ) → IsPicture ds → fault_of ds (Shift dx dy) ≡ None → total_of (stepped ds (Shift dx dy)) ≡ total_of ds
-unfolding stepped
+pub total_of-shifted : (ds : List Dot) (dx dy : ℤ) → IsPicture ds → op_fault ds (Shift dx dy) ≡ None → total_of (next_picture ds (Shift dx dy)) ≡ total_of ds
+unfolding next_picture
 total_of-shifted ds dx dy picture none =
-    total_of-moved 1 1 (λ q. q -ℤ dx) (λ q. q -ℤ dy) (stays_inside (pos 1) dx) (stays_inside (pos 1) dy) ds (shift_move dx) (shift_move dy) picture (stays-accepted ds (Shift dx dy) none).none_leaves
+    total_of-moved 1 1 (λ q. q -ℤ dx) (λ q. q -ℤ dy) (stays_inside (shift_by dx)) (stays_inside (shift_by dy)) ds
+    (shift_move dx) (shift_move dy) picture (stays-accepted ds (Shift dx dy) none).none_leaves
     ∙ omega (arith, ints)
 
-pub total_of-scaled : (ds : List Dot) (s : Factors) → IsPicture ds → AreFactors s → fault_of ds (Scale s) ≡ None → total_of (stepped ds (Scale s)) ≡ pos (unsigned_abs (s.x *ℤ s.y)) *ℤ total_of ds
-unfolding stepped
+pub total_of-scaled : (ds : List Dot) (s : Factors) → IsPicture ds → AreFactors s → op_fault ds (Scale s) ≡ None
+    → total_of (next_picture ds (Scale s)) ≡ pos (unsigned_abs (s.x *ℤ s.y)) *ℤ total_of ds
+unfolding next_picture
 total_of-scaled ds s picture factors none =
-    total_of-moved (nat_abs s.x) (nat_abs s.y) (scale_source s.x) (scale_source s.y) (stays_inside s.x (pos 0)) (stays_inside s.y (pos 0)) ds (scale_move s.x factors.columns) (scale_move s.y factors.rows) picture (stays-accepted ds (Scale s) none).none_leaves
+    total_of-moved (nat_abs s.x) (nat_abs s.y) (scale_source s.x) (scale_source s.y) (stays_inside (scale_by s.x))
+    (stays_inside (scale_by s.y)) ds (scale_move s.x factors.columns) (scale_move s.y factors.rows) picture (stays-accepted ds (Scale s) none).none_leaves
     ∙ ap (λ k. pos k *ℤ total_of ds) (sym (unsigned_abs-mul s.x s.y))

@@ -1,5 +1,5 @@
 -- When a shift or a scale takes a pixel out of the field, and why no other operation does.
-use Rattle.std.proofs.Common.{◌≡◌, ◌≢◌, ◌&&◌, Bool, true, false, ℤ, pos, negsuc, ◌+ℤ◌, ◌-ℤ◌, ◌*ℤ◌, ◌≤ℤ◌, List, [], ◌∷◌, Some, refl, sym, ◌∙◌, inl, inr, arith}
+use Rattle.std.proofs.Common.{◌≡◌, ◌≢◌, ◌&&◌, Bool, true, false, ℤ, pos, ◌+ℤ◌, ◌-ℤ◌, ◌*ℤ◌, ◌≤ℤ◌, List, [], ◌∷◌, Some, refl, sym, ◌∙◌, inl, inr, arith}
 use Rattle.std.specs.Int.{int_max, int_min}
 use Rattle.std.specs.List.{list_any}
 use Rattle.std.specs.Ordering.{int_eq}
@@ -8,16 +8,17 @@ use Rattle.std.proofs.lemmas.Bool.Decides.{Decides-int_eq}
 use Rattle.std.proofs.lemmas.Int.{ints, clamps, by_lt_z}
 use Rattle.std.proofs.lemmas.List.Elements.{All-contains}
 use Rattle.std.proofs.lemmas.List.Folds.{Any-from_list_any}
+use Rattle.mf_geom.specs.Coordinates.{least_coordinate, greatest_coordinate, last_in_field}
 use Rattle.mf_geom.specs.declared.check.Check.{Check}
 use Rattle.mf_geom.specs.declared.point.Point.{Point}
 use Rattle.mf_geom.specs.Field.{IsInField}
 use Rattle.mf_geom.specs.Winding.{contour, winding}
 use Rattle.mf_rows.specs.Dots.{Dot, IsDot, IsPicture, start_of_field, weight_at}
-use Rattle.mf_edges.specs.Axes.{opposite, IsPointInReach, PlaceStaysInside}
+use Rattle.mf_edges.specs.Axes.{opposite, PlaceStaysInside}
 use Rattle.mf_rows.proofs.DotsLemmas.{IsAt, weight_at-dot, dots_from-lawful, weight_at-outside}
-use Rattle.mf_ops.specs.Cull.{IsLawfulCull, culled}
-use Rattle.mf_ops.specs.Moves.{Factors, AreFactors, IsFactor, HasPlace, scale_source, is_in_reach, stays_inside, turned, turned_by}
-use Rattle.mf_ops.specs.Step.{step_at, leaves, fault_of, LiesOutside, MayLeave, TurnsLawfully}
+use Rattle.mf_ops.specs.Cull.{IsLawfulCull, culled_weight}
+use Rattle.mf_ops.specs.Moves.{Factors, AreFactors, IsFactor, HasPlace, scale_by, scale_source, shift_by, stays_inside, turn_once, turn_by}
+use Rattle.mf_ops.specs.Step.{step_at, leaves, op_fault, LiesOutside, MayLeave, TurnsLawfully}
 use Rattle.mf_ops.specs.declared.cull.CullRule.{CullRule}
 use Rattle.mf_ops.specs.declared.cull.CullRule.TheVariants.{Keeping, Dropping}
 use Rattle.mf_ops.specs.declared.op.Op.{Op}
@@ -28,7 +29,8 @@ use Rattle.mf_ops.specs.declared.quarter.Quarter.{Quarter}
 use Rattle.mf_ops.specs.declared.quarter.Quarter.TheVariants.{Once, Twice, Thrice}
 use Rattle.mf_ops.specs.declared.sign.Sign.{Sign}
 use Rattle.mf_ops.specs.declared.sign.Sign.TheVariants.{Plus, Minus}
-use Rattle.mf_ops.proofs.Faults.{leaves-refused, fault_of-leaves, contour_not_out, also_not_out, cull_not_out, quarter_not_out, clear_not_out}
+use Rattle.mf_ops.proofs.Faults.{leaves-refused, op_fault-leaves, contour_not_out, also_not_out, cull_not_out, quarter_not_out, clear_not_out}
+use Rattle.mf_ops.proofs.Leaving.{stays_inside-true}
 use Rattle.mf_ops.proofs.Places.{scale_source-covered, scale_source-only, HasPlace-first, HasPlace-last}
 
 -- where the weight is not 0 there is a dot
@@ -44,15 +46,16 @@ list_any-at test (d ∷ ds) x y nonzero passes =
     nonzero
 
 -- an operation is refused where the dot of some pixel leaves the field
-refused_at : (ds : List Dot) (op : Op) (x y : ℤ) → TurnsLawfully op → weight_at ds x y ≢ pos 0 → ((d : Dot) → IsAt d x y → leaves op d ≡ true) → fault_of ds op ≡ Some OutOfField
-refused_at ds op x y turns nonzero leave = fault_of-leaves ds op turns (list_any-at (leaves op) ds x y nonzero leave)
+refused_at : (ds : List Dot) (op : Op) (x y : ℤ) → TurnsLawfully op → weight_at ds x y ≢ pos 0
+    → ((d : Dot) → IsAt d x y → leaves op d ≡ true) → op_fault ds op ≡ Some OutOfField
+refused_at ds op x y turns nonzero leave = op_fault-leaves ds op turns (list_any-at (leaves op) ds x y nonzero leave)
 
 -- a dot of a picture that leaves the field
 record IsLeaving (ds : List Dot) (op : Op) (d : Dot) : Type 0 where
   pub nonzero : weight_at ds d.x d.y ≢ pos 0
   pub leaving : leaves op d ≡ true
 
-some_dot_leaves : (ds : List Dot) (op : Op) → IsPicture ds → fault_of ds op ≡ Some OutOfField → (d : Dot) × IsLeaving ds op d
+some_dot_leaves : (ds : List Dot) (op : Op) → IsPicture ds → op_fault ds op ≡ Some OutOfField → (d : Dot) × IsLeaving ds op d
 some_dot_leaves ds op picture refused =
     let found = Any-from_list_any (leaves op) ds (leaves-refused ds op refused) in
     let d = found.1 in
@@ -62,28 +65,10 @@ some_dot_leaves ds op picture refused =
 
 -- ---- axes
 
-reach-from_test : (x : ℤ) → is_in_reach x ≡ true → IsPointInReach x
-reach-from_test x test = record { least = grind (arith, ints); greatest = grind (arith, ints) }
-
-test-reach : (x : ℤ) → IsPointInReach x → is_in_reach x ≡ true
-test-reach x reach = grind (arith, ints)
-
--- both ends of column p stay in reach where the test says so
-ends_in_reach : (f d p : ℤ) → stays_inside f d p ≡ true → PlaceStaysInside (record { factor = f; offset = d }) p
-ends_in_reach f d p stays =
-    let tests = and_parts (is_in_reach ((p *ℤ f) +ℤ d)) (is_in_reach (((p +ℤ pos 1) *ℤ f) +ℤ d)) stays in
-    record { start = reach-from_test ((p *ℤ f) +ℤ d) tests.0; end = reach-from_test (((p +ℤ pos 1) *ℤ f) +ℤ d) tests.1 }
-
-stays-from_ends : (f d p : ℤ) → PlaceStaysInside (record { factor = f; offset = d }) p → stays_inside f d p ≡ true
-stays-from_ends f d p ends =
-    and_from (is_in_reach ((p *ℤ f) +ℤ d)) (is_in_reach (((p +ℤ pos 1) *ℤ f) +ℤ d))
-    (test-reach ((p *ℤ f) +ℤ d) ends.start)
-    (test-reach (((p +ℤ pos 1) *ℤ f) +ℤ d) ends.end)
-
 -- a column, or row, of the field
 record IsInside (q : ℤ) : Type 0 where
-  pub least : negsuc 4094 ≤ℤ q
-  pub greatest : q ≤ℤ pos 4094
+  pub least : least_coordinate ≤ℤ q
+  pub greatest : q ≤ℤ last_in_field
 
 in_field : (x y : ℤ) → IsInside x → IsInside y → IsInField x y
 in_field x y column row = record { left = column.least; right = column.greatest; bottom = row.least; top = row.greatest }
@@ -94,24 +79,24 @@ column_inside x y field = record { least = field.left; greatest = field.right }
 row_inside : (x y : ℤ) → IsInField x y → IsInside y
 row_inside x y field = record { least = field.bottom; greatest = field.top }
 
-shifted_inside : (d p : ℤ) → stays_inside (pos 1) d p ≡ true → IsInside (p +ℤ d)
+shifted_inside : (d p : ℤ) → stays_inside (shift_by d) p ≡ true → IsInside (p +ℤ d)
 shifted_inside d p stays =
-    let ends = ends_in_reach (pos 1) d p stays in
+    let ends = (stays_inside-true (shift_by d) p).0 stays in
     record { least = let least = ends.start.least in omega (arith, ints); greatest = let greatest = ends.end.greatest in omega (arith, ints) }
 
-stays-inside : (d p : ℤ) → IsInside (p +ℤ d) → stays_inside (pos 1) d p ≡ true
+stays-inside : (d p : ℤ) → IsInside (p +ℤ d) → stays_inside (shift_by d) p ≡ true
 stays-inside d p inside =
     let least = inside.least in
     let greatest = inside.greatest in
-    stays-from_ends (pos 1) d p record {
+    (stays_inside-true (shift_by d) p).1 record {
       start = record { least = omega (arith, ints); greatest = omega (arith, ints) };
       end = record { least = omega (arith, ints); greatest = omega (arith, ints) };
     }
 
 -- where column p stays inside, so do all columns of its part of the axis
-place_inside : (f p q : ℤ) → HasPlace f p q → stays_inside f (pos 0) p ≡ true → IsInside q
+place_inside : (f p q : ℤ) → HasPlace f p q → stays_inside (scale_by f) p ≡ true → IsInside q
 place_inside f p q has stays =
-    let ends = ends_in_reach f (pos 0) p stays in
+    let ends = (stays_inside-true (scale_by f) p).0 stays in
     let start = ends.start in
     let end = ends.end in
     record { least = omega (arith, ints, clamps); greatest = omega (arith, ints, clamps) }
@@ -122,25 +107,25 @@ record HasOutside (f p : ℤ) : Type 0 where
   pub has : HasPlace f p q
   pub outside : IsInside q → ⊥
 
-some_outside : (f p : ℤ) → IsFactor f → stays_inside f (pos 0) p ≡ false → HasOutside f p
+some_outside : (f p : ℤ) → IsFactor f → stays_inside (scale_by f) p ≡ false → HasOutside f p
 some_outside f p factor leaves =
     let low = int_min (p *ℤ f) ((p +ℤ pos 1) *ℤ f) in
     let high = int_max (p *ℤ f) ((p +ℤ pos 1) *ℤ f) in
-    by_lt_z low (negsuc 4094)
+    by_lt_z low least_coordinate
     (λ lt. record { q = low; has = HasPlace-first f p factor; outside = λ inside. let least = inside.least in omega (arith, ints) })
     (λ least.
-    by_lt_z (pos 4095) high
+    by_lt_z greatest_coordinate high
     (λ lt. record { q = high -ℤ pos 1; has = HasPlace-last f p factor; outside = λ inside. let greatest = inside.greatest in omega (arith, ints) })
     (λ greatest.
-    let ends : PlaceStaysInside (record { factor = f; offset = pos 0 }) p = record {
+    let ends : PlaceStaysInside (scale_by f) p = record {
       start = record { least = omega (arith, ints, clamps); greatest = omega (arith, ints, clamps) };
       end = record { least = omega (arith, ints, clamps); greatest = omega (arith, ints, clamps) };
     } in
-    absurd (both_ways (stays_inside f (pos 0) p) leaves (stays-from_ends f (pos 0) p ends))))
+    absurd (both_ways (stays_inside (scale_by f) p) leaves ((stays_inside-true (scale_by f) p).1 ends))))
 
 -- ---- shifts
 
-pub shift-refused : (ds : List Dot) (dx dy : ℤ) → IsPicture ds → fault_of ds (Shift dx dy) ≡ Some OutOfField → LiesOutside (step_at ds (Shift dx dy))
+pub shift-refused : (ds : List Dot) (dx dy : ℤ) → IsPicture ds → op_fault ds (Shift dx dy) ≡ Some OutOfField → LiesOutside (step_at ds (Shift dx dy))
 shift-refused ds dx dy picture refused =
     let found = some_dot_leaves ds (Shift dx dy) picture refused in
     let d = found.0 in
@@ -151,17 +136,17 @@ shift-refused ds dx dy picture refused =
       y = d.y +ℤ dy;
       outside = λ field.
           both_ways _ (not-true _ found.1.leaving)
-          (and_from (stays_inside (pos 1) dx d.x) (stays_inside (pos 1) dy d.y)
+          (and_from (stays_inside (shift_by dx) d.x) (stays_inside (shift_by dy) d.y)
           (stays-inside dx d.x (column_inside (d.x +ℤ dx) (d.y +ℤ dy) field))
           (stays-inside dy d.y (row_inside (d.x +ℤ dx) (d.y +ℤ dy) field)));
       nonzero = rw (back_x, back_y) found.1.nonzero;
     }
 
-pub shift-outside : (ds : List Dot) (dx dy : ℤ) → LiesOutside (step_at ds (Shift dx dy)) → fault_of ds (Shift dx dy) ≡ Some OutOfField
+pub shift-outside : (ds : List Dot) (dx dy : ℤ) → LiesOutside (step_at ds (Shift dx dy)) → op_fault ds (Shift dx dy) ≡ Some OutOfField
 shift-outside ds dx dy at =
     refused_at ds (Shift dx dy) (at.x -ℤ dx) (at.y -ℤ dy) (record { none = refl }) at.nonzero (λ d here.
-    not_from_false (stays_inside (pos 1) dx d.x && stays_inside (pos 1) dy d.y) (false_from_ne_true _ (λ stays.
-    let tests = and_parts (stays_inside (pos 1) dx d.x) (stays_inside (pos 1) dy d.y) stays in
+    not_from_false (stays_inside (shift_by dx) d.x && stays_inside (shift_by dy) d.y) (false_from_ne_true _ (λ stays.
+    let tests = and_parts (stays_inside (shift_by dx) d.x) (stays_inside (shift_by dy) d.y) stays in
     let place_x : d.x +ℤ dx ≡ at.x = let column = here.column in omega (arith, ints) in
     let place_y : d.y +ℤ dy ≡ at.y = let row = here.row in omega (arith, ints) in
     at.outside (in_field at.x at.y (rw place_x at (shifted_inside dx d.x tests.0)) (rw place_y at (shifted_inside dy d.y tests.1))))))
@@ -169,17 +154,18 @@ shift-outside ds dx dy at =
 -- ---- scales
 
 -- a pixel whose column and row lie in the parts of a dot's column and row gets the weight of that dot
-scaled_weight : (ds : List Dot) (s : Factors) (d : Dot) (x y : ℤ) → AreFactors s → HasPlace s.x d.x x → HasPlace s.y d.y y → weight_at ds d.x d.y ≢ pos 0 → step_at ds (Scale s) x y ≢ pos 0
+scaled_weight : (ds : List Dot) (s : Factors) (d : Dot) (x y : ℤ) → AreFactors s → HasPlace s.x d.x x → HasPlace s.y d.y y
+    → weight_at ds d.x d.y ≢ pos 0 → step_at ds (Scale s) x y ≢ pos 0
 scaled_weight ds s d x y factors column row nonzero =
     rw (scale_source-only s.x d.x x factors.columns column, scale_source-only s.y d.y y factors.rows row) nonzero
 
-pub scale-refused : (ds : List Dot) (s : Factors) → IsPicture ds → AreFactors s → fault_of ds (Scale s) ≡ Some OutOfField → LiesOutside (step_at ds (Scale s))
+pub scale-refused : (ds : List Dot) (s : Factors) → IsPicture ds → AreFactors s → op_fault ds (Scale s) ≡ Some OutOfField → LiesOutside (step_at ds (Scale s))
 scale-refused ds s picture factors refused =
     let found = some_dot_leaves ds (Scale s) picture refused in
     let d = found.0 in
     let first_x = int_min (d.x *ℤ s.x) ((d.x +ℤ pos 1) *ℤ s.x) in
     let first_y = int_min (d.y *ℤ s.y) ((d.y +ℤ pos 1) *ℤ s.y) in
-    elim (and_cases (stays_inside s.x (pos 0) d.x) (stays_inside s.y (pos 0) d.y) (not-true _ found.1.leaving)) [
+    elim (and_cases (stays_inside (scale_by s.x) d.x) (stays_inside (scale_by s.y) d.y) (not-true _ found.1.leaving)) [
       | inl across ↦
           let out = some_outside s.x d.x factors.columns across in
           record {
@@ -198,11 +184,11 @@ scale-refused ds s picture factors refused =
           }
     ]
 
-pub scale-outside : (ds : List Dot) (s : Factors) → AreFactors s → LiesOutside (step_at ds (Scale s)) → fault_of ds (Scale s) ≡ Some OutOfField
+pub scale-outside : (ds : List Dot) (s : Factors) → AreFactors s → LiesOutside (step_at ds (Scale s)) → op_fault ds (Scale s) ≡ Some OutOfField
 scale-outside ds s factors at =
     refused_at ds (Scale s) (scale_source s.x at.x) (scale_source s.y at.y) (record { none = refl }) at.nonzero (λ d here.
-    not_from_false (stays_inside s.x (pos 0) d.x && stays_inside s.y (pos 0) d.y) (false_from_ne_true _ (λ stays.
-    let tests = and_parts (stays_inside s.x (pos 0) d.x) (stays_inside s.y (pos 0) d.y) stays in
+    not_from_false (stays_inside (scale_by s.x) d.x && stays_inside (scale_by s.y) d.y) (false_from_ne_true _ (λ stays.
+    let tests = and_parts (stays_inside (scale_by s.x) d.x) (stays_inside (scale_by s.y) d.y) stays in
     let column : HasPlace s.x d.x at.x = rw here.column (scale_source-covered s.x at.x factors.columns) in
     let row : HasPlace s.y d.y at.y = rw here.row (scale_source-covered s.y at.y factors.rows) in
     at.outside (in_field at.x at.y (place_inside s.x d.x at.x column tests.0) (place_inside s.y d.y at.y row tests.1)))))
@@ -223,24 +209,25 @@ turned_in_field x y field = in_field x y (opposite_inside x (row_inside y (oppos
 ZeroOutside : (ℤ → ℤ → ℤ) → Type 0
 ZeroOutside f = (x y : ℤ) → (IsInField x y → ⊥) → f x y ≡ pos 0
 
-turned_outside : (f : ℤ → ℤ → ℤ) → ZeroOutside f → ZeroOutside (turned f)
+turned_outside : (f : ℤ → ℤ → ℤ) → ZeroOutside f → ZeroOutside (turn_once f)
 unfolding ZeroOutside
 turned_outside f zero x y outside = zero y (opposite x) (λ field. outside (turned_in_field x y field))
 
-turned_by-outside : (q : Quarter) (f : ℤ → ℤ → ℤ) → ZeroOutside f → ZeroOutside (turned_by q f)
-turned_by-outside Once f zero = turned_outside f zero
-turned_by-outside Twice f zero = turned_outside (turned f) (turned_outside f zero)
-turned_by-outside Thrice f zero = turned_outside (turned (turned f)) (turned_outside (turned f) (turned_outside f zero))
+turn_by-outside : (q : Quarter) (f : ℤ → ℤ → ℤ) → ZeroOutside f → ZeroOutside (turn_by q f)
+turn_by-outside Once f zero = turned_outside f zero
+turn_by-outside Twice f zero = turned_outside (turn_once f) (turned_outside f zero)
+turn_by-outside Thrice f zero = turned_outside (turn_once (turn_once f)) (turned_outside (turn_once f) (turned_outside f zero))
 
 pub turn-inside : (ds : List Dot) (q : Quarter) → IsPicture ds → LiesOutside (step_at ds (ops.Quarter q)) → ⊥
 unfolding ZeroOutside
 turn-inside ds q picture at =
-    at.nonzero (turned_by-outside q (weight_at ds) (λ x y outside. weight_at-outside ds x y picture outside) at.x at.y at.outside)
+    at.nonzero (turn_by-outside q (weight_at ds) (λ x y outside. weight_at-outside ds x y picture outside) at.x at.y at.outside)
 
 -- ---- all other operations
 
 -- the winding number is 0 outside the field
-pub contour-inside : (ds : List Dot) (ps : List Point) (w : ℤ) (check : Check) → IsPicture ds → ((x y : ℤ) → (IsInField x y → ⊥) → winding ps x y ≡ pos 0) → LiesOutside (step_at ds (Contour ps w check)) → ⊥
+pub contour-inside : (ds : List Dot) (ps : List Point) (w : ℤ) (check : Check) → IsPicture ds
+    → ((x y : ℤ) → (IsInField x y → ⊥) → winding ps x y ≡ pos 0) → LiesOutside (step_at ds (Contour ps w check)) → ⊥
 unfolding contour
 contour-inside ds ps w check picture none at =
     at.nonzero (rw (weight_at-outside ds at.x at.y picture at.outside, none at.x at.y at.outside) (omega (arith, ints)))
@@ -252,7 +239,7 @@ also-inside ds es Minus picture other at =
     at.nonzero (omega (arith, ints, weight_at-outside ds at.x at.y picture at.outside, weight_at-outside es at.x at.y other at.outside))
 
 -- a lawful cull leaves weight 0 unchanged
-culled_zero : (c : CullRule) → IsLawfulCull c → culled c (pos 0) ≡ pos 0
+culled_zero : (c : CullRule) → IsLawfulCull c → culled_weight c (pos 0) ≡ pos 0
 culled_zero (Keeping a b w) lawful = grind (arith, ints)
 culled_zero (Dropping a b w) lawful = grind (arith, ints)
 
@@ -263,7 +250,7 @@ pub clear-inside : (ds : List Dot) → LiesOutside (step_at ds Clear) → ⊥
 clear-inside ds at = at.nonzero refl
 
 -- so only a shift or a scale is refused with OutOfField
-pub may_leave-refused : (ds : List Dot) (op : Op) → fault_of ds op ≡ Some OutOfField → MayLeave op
+pub may_leave-refused : (ds : List Dot) (op : Op) → op_fault ds op ≡ Some OutOfField → MayLeave op
 may_leave-refused ds (Contour ps w check) refused = contour_not_out ds ps w check refused
 may_leave-refused ds (Also es s) refused = also_not_out ds es s refused
 may_leave-refused ds (Cull c) refused = cull_not_out ds c refused

@@ -1,38 +1,27 @@
 -- Which column, or row, a scale takes to the part of the axis that contains a given one.
-use Rattle.std.proofs.Common.{◌≡◌, ℕ, suc, ℤ, pos, negsuc, neg_ℤ, ◌+ℤ◌, ◌-ℤ◌, ◌*ℤ◌, ◌≤ℤ◌, ◌<ℤ◌, refl, ap, sym, ◌∙◌, true, int_lt, arith}
-use Rattle.std.specs.Int.{int_div_euclid, int_max, int_min}
-use Rattle.std.proofs.lemmas.Bool.{cond-true}
+use Rattle.std.proofs.Common.{◌≡◌, ℕ, suc, ℤ, pos, negsuc, neg_ℤ, ◌+ℤ◌, ◌-ℤ◌, ◌*ℤ◌, ◌≤ℤ◌, ◌<ℤ◌, refl, ap, ◌∙◌, false, int_lt, arith}
+use Rattle.std.specs.Int.{int_max, int_min}
+use Rattle.std.proofs.lemmas.Bool.{cond-false}
 use Rattle.std.proofs.lemmas.Int.{ints, clamps, by_lt_z}
 use Rattle.mf_edges.specs.declared.stretch.Stretch.{Stretch}
 use Rattle.mf_edges.specs.Axes.{IsStretch, stretched_to, source_of, opposite}
 use Rattle.mf_edges.proofs.Sources.{stretched_to-next, source_of-reached, source_of-from, source_of-is}
-use Rattle.mf_ops.specs.Moves.{IsFactor, HasPlace, scale_source}
+use Rattle.mf_ops.specs.Moves.{IsFactor, HasPlace, scale_by, scale_source}
 
--- a scale by a positive factor, as a stretch
-abbrev by : ℤ → Stretch
-by f = record { factor = f; offset = pos 0 }
+pub not_negative : (n : ℕ) → int_lt (pos n) (pos 0) ≡ false
+not_negative n = grind (arith, ints)
 
-source_of-by : (f q : ℤ) → source_of (by f) q ≡ int_div_euclid q f
-unfolding source_of
-source_of-by f q = ap (λ d. int_div_euclid d f) (omega (arith, ints))
-
-source_is-positive : (f q : ℤ) → IsStretch (by f) → scale_source f q ≡ source_of (by f) q
+-- a scale by a positive factor is a stretch
+pub scale_source-positive : (n : ℕ) (q : ℤ) → scale_source (pos n) q ≡ source_of (scale_by (pos n)) q
 unfolding scale_source
-source_is-positive f q stretch =
-    let least = stretch.least in
-    let test : int_lt (pos 0) f ≡ true = grind (arith, ints) in
-    cond-true _ _ _ test ∙ sym (source_of-by f q)
-
-div-negative : (n : ℕ) (q : ℤ) → int_div_euclid q (negsuc n) ≡ neg_ℤ (int_div_euclid q (pos (suc n)))
-div-negative n (pos a) = refl
-div-negative n (negsuc a) = refl
+scale_source-positive n q = cond-false _ (opposite (source_of (scale_by (pos n)) q)) (source_of (scale_by (pos n)) q) (not_negative n)
 
 -- under a negative factor, p is the source where under the opposite factor the place opposite to p is
-source_is-negative : (n : ℕ) (q : ℤ) → scale_source (negsuc n) q ≡ opposite (source_of (by (pos (suc n))) q)
+pub scale_source-negative : (n : ℕ) (q : ℤ) → scale_source (negsuc n) q ≡ opposite (source_of (scale_by (pos (suc n))) q)
 unfolding scale_source
-source_is-negative n q = ap (λ d. d -ℤ pos 1) (div-negative n q) ∙ ap opposite (sym (source_of-by (pos (suc n)) q))
+scale_source-negative n q = refl
 
-mul-neg : (a b : ℤ) → a *ℤ neg_ℤ b ≡ neg_ℤ a *ℤ b
+pub mul-neg : (a b : ℤ) → a *ℤ neg_ℤ b ≡ neg_ℤ a *ℤ b
 mul-neg a b = grind (arith, ints)
 
 start-negative : (n : ℕ) (p : ℤ) → p *ℤ negsuc n ≡ (opposite p +ℤ pos 1) *ℤ pos (suc n)
@@ -58,31 +47,38 @@ HasPlace-from_negative n p q has =
     let end = end-negative n p in
     record { start = omega (arith, ints, clamps); end = omega (arith, ints, clamps) }
 
-covered-positive : (f q : ℤ) → IsStretch (by f) → HasPlace f (source_of (by f) q) q
+-- the part of the source of q begins at q or before it, and ends behind it
+pub source_of-start : (s : Stretch) (q : ℤ) → IsStretch s → stretched_to s (source_of s q) ≤ℤ q
+source_of-start s q stretch = source_of-reached s (source_of s q) q stretch (omega (arith, ints))
+
+pub source_of-end : (s : Stretch) (q : ℤ) → IsStretch s → q <ℤ (stretched_to s (source_of s q) +ℤ s.factor)
+source_of-end s q stretch =
+    let next = stretched_to-next s (source_of s q) in
+    by_lt_z q (stretched_to s (source_of s q) +ℤ s.factor)
+    (λ inside. inside)
+    (λ behind. let further = source_of-from s (source_of s q +ℤ pos 1) q stretch (rw next behind) in absurd (omega (arith, ints)))
+
+covered-positive : (f q : ℤ) → IsStretch (scale_by f) → HasPlace f (source_of (scale_by f) q) q
 covered-positive f q stretch =
-    let p = source_of (by f) q in
     let least = stretch.least in
-    let start : stretched_to (by f) p ≤ℤ q = source_of-reached (by f) p q stretch (omega (arith, ints)) in
-    let behind : q <ℤ stretched_to (by f) (p +ℤ pos 1) =
-    by_lt_z q (stretched_to (by f) (p +ℤ pos 1))
-    (λ lt. lt)
-    (λ ge. let next = source_of-from (by f) (p +ℤ pos 1) q stretch ge in absurd (omega (arith, ints))) in
-    let next = stretched_to-next (by f) p in
+    let start = source_of-start (scale_by f) q stretch in
+    let end = source_of-end (scale_by f) q stretch in
+    let next = stretched_to-next (scale_by f) (source_of (scale_by f) q) in
     record { start = omega (arith, ints, clamps); end = omega (arith, ints, clamps) }
 
-only-positive : (f p q : ℤ) → IsStretch (by f) → HasPlace f p q → source_of (by f) q ≡ p
+only-positive : (f p q : ℤ) → IsStretch (scale_by f) → HasPlace f p q → source_of (scale_by f) q ≡ p
 only-positive f p q stretch has =
     let least = stretch.least in
-    let next = stretched_to-next (by f) p in
-    source_of-is (by f) p q stretch (omega (arith, ints, clamps)) (omega (arith, ints, clamps))
+    let next = stretched_to-next (scale_by f) p in
+    source_of-is (scale_by f) p q stretch (omega (arith, ints, clamps)) (omega (arith, ints, clamps))
 
-positive_factor : (n : ℕ) → IsFactor (pos n) → IsStretch (by (pos n))
+positive_factor : (n : ℕ) → IsFactor (pos n) → IsStretch (scale_by (pos n))
 positive_factor n factor =
     by_lt_z (pos 0) (pos n)
     (λ lt. record { least = omega (arith, ints); greatest = factor.greatest })
     (λ ge. absurd (factor.nonzero (omega (arith, ints))))
 
-opposite_factor : (n : ℕ) → IsFactor (negsuc n) → IsStretch (by (pos (suc n)))
+opposite_factor : (n : ℕ) → IsFactor (negsuc n) → IsStretch (scale_by (pos (suc n)))
 opposite_factor n factor = let least = factor.least in record { least = omega (arith, ints); greatest = omega (arith, ints) }
 
 pub opposite-opposite : (p : ℤ) → opposite (opposite p) ≡ p
@@ -90,23 +86,19 @@ opposite-opposite p = omega (arith, ints)
 
 -- the part of the source contains the column
 pub scale_source-covered : (f q : ℤ) → IsFactor f → HasPlace f (scale_source f q) q
-scale_source-covered (pos n) q factor =
-    let stretch = positive_factor n factor in
-    rw (source_is-positive (pos n) q stretch) (covered-positive (pos n) q stretch)
+scale_source-covered (pos n) q factor = rw (scale_source-positive n q) (covered-positive (pos n) q (positive_factor n factor))
 scale_source-covered (negsuc n) q factor =
-    let p = source_of (by (pos (suc n))) q in
+    let p = source_of (scale_by (pos (suc n))) q in
     let back = opposite-opposite p in
     let covered = covered-positive (pos (suc n)) q (opposite_factor n factor) in
-    rw (source_is-negative n q) (HasPlace-negative n (opposite p) q (rw back covered))
+    rw (scale_source-negative n q) (HasPlace-negative n (opposite p) q (rw back covered))
 
 -- no other part contains it
 pub scale_source-only : (f p q : ℤ) → IsFactor f → HasPlace f p q → scale_source f q ≡ p
-scale_source-only (pos n) p q factor has =
-    let stretch = positive_factor n factor in
-    source_is-positive (pos n) q stretch ∙ only-positive (pos n) p q stretch has
+scale_source-only (pos n) p q factor has = scale_source-positive n q ∙ only-positive (pos n) p q (positive_factor n factor) has
 scale_source-only (negsuc n) p q factor has =
     let only = only-positive (pos (suc n)) (opposite p) q (opposite_factor n factor) (HasPlace-from_negative n p q has) in
-    source_is-negative n q ∙ ap opposite only ∙ opposite-opposite p
+    scale_source-negative n q ∙ ap opposite only ∙ opposite-opposite p
 
 -- a reflection takes a column to the other side of 0
 pub scale_source-reflection : (q : ℤ) → scale_source (negsuc 0) q ≡ opposite q
@@ -115,7 +107,7 @@ scale_source-reflection q =
     scale_source-only (negsuc 0) (opposite q) q one record { start = omega (arith, ints, clamps); end = omega (arith, ints, clamps) }
 
 product-next : (f p : ℤ) → (p +ℤ pos 1) *ℤ f ≡ (p *ℤ f) +ℤ f
-product-next f p = omega (arith, ints, stretched_to-next (by f) p)
+product-next f p = omega (arith, ints, stretched_to-next (scale_by f) p)
 
 -- the part of p is not empty: it has a first and a last column
 ends-apart : (f p : ℤ) → IsFactor f → (int_min (p *ℤ f) ((p +ℤ pos 1) *ℤ f) +ℤ pos 1) ≤ℤ int_max (p *ℤ f) ((p +ℤ pos 1) *ℤ f)

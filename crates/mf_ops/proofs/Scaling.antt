@@ -1,31 +1,29 @@
 -- Pictures that are scaled: a negative factor reflects, and the absolute values of the factors stretch.
-use Rattle.std.proofs.Common.{◌≡◌, ◌≢◌, ℕ, Bool, true, false, zero, suc, ℤ, pos, negsuc, neg_ℤ, nat_abs, ◌+ℤ◌, ◌-ℤ◌, ◌*ℤ◌, ◌≤ℤ◌, int_lt, List, get_or, refl, sym, subst, ◌∙◌, ap, arith}
-use Rattle.std.proofs.lemmas.Bool.{cond-true, cond-false}
+use Rattle.std.proofs.Common.{◌≡◌, ◌≢◌, Bool, zero, suc, ℤ, pos, negsuc, neg_ℤ, nat_abs, ◌+ℤ◌, ◌*ℤ◌, ◌≤ℤ◌, int_lt, List, get_or, refl, sym, subst, ◌∙◌, ap, arith}
+use Rattle.std.proofs.lemmas.Bool.{cond-false}
 use Rattle.std.proofs.lemmas.Int.{ints, by_lt_z}
-use Rattle.std.specs.Int.{int_div_euclid}
 use Rattle.std.specs.List.{All}
+use Rattle.mf_geom.specs.Coordinates.{least_coordinate, greatest_coordinate, last_in_field, IsCoordinate}
 use Rattle.mf_geom.specs.Field.{IsInField}
 use Rattle.mf_edges.specs.declared.stretch.Stretch.{Stretch}
 use Rattle.mf_rows.specs.Dots.{Dot, IsPicture, start_of_field, weight_at}
-use Rattle.mf_edges.specs.Axes.{IsStretch, IsPointInReach, PlaceStaysInside, opposite, stretched_to, source_of}
+use Rattle.mf_edges.specs.Axes.{IsStretch, PlaceStaysInside, opposite, stretched_to, source_of}
 use Rattle.mf_rows.specs.Moves.{PixelsStayInside, stretched_at}
 use Rattle.mf_rows.specs.Sums.{HasWeights}
 use Rattle.mf_rows.proofs.DotsLemmas.{dots_from-lawful, weight_at-dot}
 use Rattle.mf_edges.proofs.Sources.{source_of-reached, source_of-from}
-use Rattle.mf_ops.specs.Moves.{Factors, AreFactors, IsFactor, scale_source}
-use Rattle.mf_ops.specs.Reflections.{on_side, reflected_at}
+use Rattle.mf_ops.specs.Moves.{Factors, AreFactors, IsFactor, scale_by, scale_source}
+use Rattle.mf_ops.specs.Reflections.{on_side, reflection_at}
 use Rattle.mf_ops.specs.Step.{step_at}
+use Rattle.mf_ops.proofs.Places.{mul-neg, not_negative}
 use Rattle.mf_ops.specs.declared.op.Op.TheVariants.{Scale}
 use mir.Syntax.{w32}
 use mir.Val.{to_z, of_z}
 use Rattle.mf_rows.proofs.StretchBounds.{holds_at_weight}
 
--- the stretches by a factor and by its absolute value, with offset 0
-abbrev pub by_factor : ℤ → Stretch
-by_factor f = record { factor = f; offset = pos 0 }
-
+-- the scale by the absolute value of a factor
 abbrev by_size : ℤ → Stretch
-by_size f = by_factor (pos (nat_abs f))
+by_size f = scale_by (pos (nat_abs f))
 
 IsStretch-size : (f : ℤ) → IsFactor f → IsStretch (by_size f)
 IsStretch-size (pos zero) is_factor = absurd (is_factor.nonzero refl)
@@ -43,60 +41,38 @@ factor_passed z f is_factor value =
 pub record AreMade (f a : ℤ) (signed sized : Stretch) : Type 0 where
   pub factor : IsFactor f
   pub passed : a ≡ f
-  pub signed_is : signed ≡ by_factor f
+  pub signed_is : signed ≡ scale_by f
   pub sized_is : sized ≡ by_size f
 
-pub stretches_made : (z f n : ℤ) (signed sized : Stretch) → IsFactor z → z ≡ f → signed ≡ by_factor (to_z w32 (of_z w32 z)) → n ≡ pos (nat_abs (to_z w32 (of_z w32 z))) → sized ≡ by_factor (to_z w32 (of_z w32 n)) → AreMade f (to_z w32 (of_z w32 z)) signed sized
+pub stretches_made : (z f n : ℤ) (signed sized : Stretch) → IsFactor z → z ≡ f → signed ≡ scale_by (to_z w32 (of_z w32 z))
+    → n ≡ pos (nat_abs (to_z w32 (of_z w32 z))) → sized ≡ scale_by (to_z w32 (of_z w32 n)) → AreMade f (to_z w32 (of_z w32 z)) signed sized
 stretches_made z f n signed sized is_factor value signed_made size sized_made =
     let factor = subst IsFactor value is_factor in
     let passed = factor_passed z f is_factor value in
     let is_size : n ≡ pos (nat_abs f) = size ∙ ap (λ a. pos (nat_abs a)) passed in
     let stretch = IsStretch-size f factor in
     let least : pos 1 ≤ℤ n = subst (λ a. pos 1 ≤ℤ a) (sym is_size) stretch.least in
-    let greatest : n ≤ℤ pos 4095 = subst (λ a. a ≤ℤ pos 4095) (sym is_size) stretch.greatest in
+    let greatest : n ≤ℤ greatest_coordinate = subst (λ a. a ≤ℤ greatest_coordinate) (sym is_size) stretch.greatest in
     let size_passed : to_z w32 (of_z w32 n) ≡ n = omega (arith, ints) in
-    record { factor = factor; passed = passed; signed_is = signed_made ∙ ap by_factor passed; sized_is = sized_made ∙ ap by_factor (size_passed ∙ is_size) }
+    record { factor = factor; passed = passed; signed_is = signed_made ∙ ap scale_by passed; sized_is = sized_made ∙ ap scale_by (size_passed ∙ is_size) }
 
 pub IsStretch-made : (f a : ℤ) (signed sized : Stretch) → AreMade f a signed sized → IsStretch sized
 IsStretch-made f a signed sized made = rw made.sized_is (IsStretch-size f made.factor)
 
-not_negative : (n : ℕ) → int_lt (pos n) (pos 0) ≡ false
-not_negative n = grind (arith, ints)
-
-int_div_euclid-negative : (q : ℤ) (n : ℕ) → int_div_euclid q (negsuc n) ≡ neg_ℤ (int_div_euclid q (pos (suc n)))
-int_div_euclid-negative (pos a) n = refl
-int_div_euclid-negative (negsuc a) n = refl
-
--- the source of q under a factor is the one under its absolute value, on the other side of 0 where the factor is negative
-scale_source-size : (f q : ℤ) → IsFactor f → scale_source f q ≡ on_side (int_lt f (pos 0)) (source_of (by_size f) q)
-unfolding scale_source source_of
-scale_source-size (pos zero) q is_factor = absurd (is_factor.nonzero refl)
-scale_source-size (pos (suc n)) q is_factor =
-    let positive : int_lt (pos 0) (pos (suc n)) ≡ true = grind (arith, ints) in
-    let same : q ≡ q -ℤ pos 0 = omega (arith, ints) in
-    let source = int_div_euclid q (pos (suc n)) in
-    let with_offset = int_div_euclid (q -ℤ pos 0) (pos (suc n)) in
-    cond-true _ source (source -ℤ pos 1) positive
-    ∙ (λ t. int_div_euclid (same t) (pos (suc n)))
-    ∙ sym (cond-false _ (opposite with_offset) with_offset (not_negative (suc n)))
-scale_source-size (negsuc n) q is_factor =
-    let same : q ≡ q -ℤ pos 0 = omega (arith, ints) in
-    ap (λ source. source -ℤ pos 1) (int_div_euclid-negative q n) ∙ (λ t. opposite (int_div_euclid (same t) (pos (suc n))))
-
 -- the source of a place of the field is in the field
-source_of-least : (f q : ℤ) → IsFactor f → negsuc 4094 ≤ℤ q → negsuc 4094 ≤ℤ source_of (by_size f) q
+source_of-least : (f q : ℤ) → IsFactor f → least_coordinate ≤ℤ q → least_coordinate ≤ℤ source_of (by_size f) q
 source_of-least f q is_factor least =
     let stretch = IsStretch-size f is_factor in
     let at_least = stretch.least in
-    source_of-from (by_size f) (negsuc 4094) q stretch (omega (arith, ints))
+    source_of-from (by_size f) least_coordinate q stretch (omega (arith, ints))
 
-source_of-greatest : (f q : ℤ) → IsFactor f → q ≤ℤ pos 4094 → source_of (by_size f) q ≤ℤ pos 4094
+source_of-greatest : (f q : ℤ) → IsFactor f → q ≤ℤ last_in_field → source_of (by_size f) q ≤ℤ last_in_field
 source_of-greatest f q is_factor greatest =
-    by_lt_z (pos 4094) (source_of (by_size f) q)
+    by_lt_z last_in_field (source_of (by_size f) q)
     (λ beyond.
     let stretch = IsStretch-size f is_factor in
     let at_least = stretch.least in
-    let reached = source_of-reached (by_size f) (pos 4095) q stretch (omega (arith, ints)) in
+    let reached = source_of-reached (by_size f) greatest_coordinate q stretch (omega (arith, ints)) in
     absurd (omega (arith, ints)))
     (λ within. within)
 
@@ -109,53 +85,60 @@ IsInField-sources s x y factors in_field = record {
 }
 
 -- the reflected picture, stretched, is the scaled one
-HasWeights-reflected : (ds middle new : List Dot) (s : Factors) → AreFactors s → HasWeights (reflected_at (int_lt s.x (pos 0)) (int_lt s.y (pos 0)) ds) middle → HasWeights (stretched_at (by_size s.x) (by_size s.y) middle) new → HasWeights (step_at ds (Scale s)) new
-unfolding reflected_at stretched_at
+HasWeights-reflected : (ds middle new : List Dot) (s : Factors) → AreFactors s
+    → HasWeights (reflection_at (int_lt s.x (pos 0)) (int_lt s.y (pos 0)) ds) middle
+    → HasWeights (stretched_at (by_size s.x) (by_size s.y) middle) new → HasWeights (step_at ds (Scale s)) new
+unfolding reflection_at stretched_at scale_source
 HasWeights-reflected ds middle new s factors reflected has = record {
   weights = λ x y in_field.
       has.weights x y in_field
-      ∙ reflected.weights (source_of (by_size s.x) x) (source_of (by_size s.y) y) (IsInField-sources s x y factors in_field)
-      ∙ (λ t. weight_at ds (sym (scale_source-size s.x x factors.columns) t) (sym (scale_source-size s.y y factors.rows) t));
+      ∙ reflected.weights (source_of (by_size s.x) x) (source_of (by_size s.y) y) (IsInField-sources s x y factors in_field);
 }
 
-pub HasWeights-scale : (ds middle new : List Dot) (s : Factors) (a b : ℤ) (columns rows sized_columns sized_rows : Stretch) → AreMade s.x a columns sized_columns → AreMade s.y b rows sized_rows → HasWeights (reflected_at (int_lt a (pos 0)) (int_lt b (pos 0)) ds) middle → HasWeights (stretched_at sized_columns sized_rows middle) new → HasWeights (step_at ds (Scale s)) new
+pub HasWeights-scale : (ds middle new : List Dot) (s : Factors) (a b : ℤ) (columns rows sized_columns sized_rows : Stretch)
+    → AreMade s.x a columns sized_columns → AreMade s.y b rows sized_rows
+    → HasWeights (reflection_at (int_lt a (pos 0)) (int_lt b (pos 0)) ds) middle
+    → HasWeights (stretched_at sized_columns sized_rows middle) new → HasWeights (step_at ds (Scale s)) new
 HasWeights-scale ds middle new s a b columns rows sized_columns sized_rows x y reflected stretched =
-    HasWeights-reflected ds middle new s (record { columns = x.factor; rows = y.factor }) (rw (x.passed, y.passed) at reflected) (rw (x.sized_is, y.sized_is) at stretched)
-
-product-opposite : (a : ℤ) (n : ℕ) → neg_ℤ a *ℤ negsuc n ≡ a *ℤ pos (suc n)
-product-opposite (pos zero) n = omega (arith, ints)
-product-opposite (pos (suc k)) n = refl
-product-opposite (negsuc k) n = refl
+    HasWeights-reflected ds middle new s (record { columns = x.factor; rows = y.factor })
+    (rw (x.passed, y.passed) at reflected) (rw (x.sized_is, y.sized_is) at stretched)
 
 -- the ends of a column, or row, change places when it goes to the other side of 0
-PlaceStaysInside-size : (f p : ℤ) → PlaceStaysInside (by_factor f) (on_side (int_lt f (pos 0)) p) → PlaceStaysInside (by_size f) p
-PlaceStaysInside-size (pos n) p inside = subst (PlaceStaysInside (by_factor (pos n))) (cond-false _ (opposite p) p (not_negative n)) inside
+PlaceStaysInside-size : (f p : ℤ) → PlaceStaysInside (scale_by f) (on_side (int_lt f (pos 0)) p) → PlaceStaysInside (by_size f) p
+PlaceStaysInside-size (pos n) p inside = subst (PlaceStaysInside (scale_by (pos n))) (cond-false _ (opposite p) p (not_negative n)) inside
 PlaceStaysInside-size (negsuc n) p inside =
     let start : opposite p ≡ neg_ℤ (p +ℤ pos 1) = omega (arith, ints) in
     let end : opposite p +ℤ pos 1 ≡ neg_ℤ p = omega (arith, ints) in
-    let start_is : stretched_to (by_factor (negsuc n)) (opposite p) ≡ stretched_to (by_size (negsuc n)) (p +ℤ pos 1) =
-    λ t. (((λ u. start u *ℤ negsuc n) ∙ product-opposite (p +ℤ pos 1) n) t) +ℤ pos 0 in
-    let end_is : stretched_to (by_factor (negsuc n)) (opposite p +ℤ pos 1) ≡ stretched_to (by_size (negsuc n)) p =
-    λ t. (((λ u. end u *ℤ negsuc n) ∙ product-opposite p n) t) +ℤ pos 0 in
-    record { start = subst IsPointInReach end_is inside.end; end = subst IsPointInReach start_is inside.start }
+    let start_is : stretched_to (scale_by (negsuc n)) (opposite p) ≡ stretched_to (by_size (negsuc n)) (p +ℤ pos 1) =
+    λ t. (((λ u. start u *ℤ negsuc n) ∙ sym (mul-neg (p +ℤ pos 1) (negsuc n))) t) +ℤ pos 0 in
+    let end_is : stretched_to (scale_by (negsuc n)) (opposite p +ℤ pos 1) ≡ stretched_to (by_size (negsuc n)) p =
+    λ t. (((λ u. end u *ℤ negsuc n) ∙ sym (mul-neg p (negsuc n))) t) +ℤ pos 0 in
+    record { start = subst IsCoordinate end_is inside.end; end = subst IsCoordinate start_is inside.start }
 
 -- each dot of the reflected picture comes from a pixel of nonzero weight
-reflected_dots : (columns rows : Bool) (ds middle : List Dot) → IsPicture middle → HasWeights (reflected_at columns rows ds) middle → All (λ d. weight_at ds (on_side columns d.x) (on_side rows d.y) ≢ pos 0) middle
-unfolding reflected_at
+reflected_dots : (columns rows : Bool) (ds middle : List Dot) → IsPicture middle → HasWeights (reflection_at columns rows ds) middle
+    → All (λ d. weight_at ds (on_side columns d.x) (on_side rows d.y) ≢ pos 0) middle
+unfolding reflection_at
 reflected_dots columns rows ds middle picture reflected k d lt =
     let e = get_or middle k d in
     let dot = dots_from-lawful start_of_field middle picture.dots k d lt in
     λ blank. dot.nonzero (sym (weight_at-dot start_of_field middle picture.dots k d lt) ∙ reflected.weights e.x e.y dot.in_field ∙ blank)
 
 -- so the reflected picture stays in the field when it is stretched, where the picture does when it is scaled
-PixelsStayInside-reflected : (ds middle : List Dot) (s : Factors) → IsPicture middle → HasWeights (reflected_at (int_lt s.x (pos 0)) (int_lt s.y (pos 0)) ds) middle → PixelsStayInside (by_factor s.x) (by_factor s.y) ds → PixelsStayInside (by_size s.x) (by_size s.y) middle
+PixelsStayInside-reflected : (ds middle : List Dot) (s : Factors) → IsPicture middle
+    → HasWeights (reflection_at (int_lt s.x (pos 0)) (int_lt s.y (pos 0)) ds) middle → PixelsStayInside (scale_by s.x) (scale_by s.y) ds
+    → PixelsStayInside (by_size s.x) (by_size s.y) middle
 PixelsStayInside-reflected ds middle s picture reflected inside =
     let nonzero = reflected_dots _ _ ds middle picture reflected in
     record {
-      across = λ k d lt. PlaceStaysInside-size s.x _ (holds_at_weight (λ x y. PlaceStaysInside (by_factor s.x) x) ds _ _ inside.across (nonzero k d lt));
-      up = λ k d lt. PlaceStaysInside-size s.y _ (holds_at_weight (λ x y. PlaceStaysInside (by_factor s.y) y) ds _ _ inside.up (nonzero k d lt));
+      across = λ k d lt. PlaceStaysInside-size s.x _ (holds_at_weight (λ x y. PlaceStaysInside (scale_by s.x) x) ds _ _ inside.across (nonzero k d lt));
+      up = λ k d lt. PlaceStaysInside-size s.y _ (holds_at_weight (λ x y. PlaceStaysInside (scale_by s.y) y) ds _ _ inside.up (nonzero k d lt));
     }
 
-pub PixelsStayInside-scale : (ds middle : List Dot) (s : Factors) (a b : ℤ) (columns rows sized_columns sized_rows : Stretch) → AreMade s.x a columns sized_columns → AreMade s.y b rows sized_rows → IsPicture middle → HasWeights (reflected_at (int_lt a (pos 0)) (int_lt b (pos 0)) ds) middle → PixelsStayInside columns rows ds → PixelsStayInside sized_columns sized_rows middle
+pub PixelsStayInside-scale : (ds middle : List Dot) (s : Factors) (a b : ℤ) (columns rows sized_columns sized_rows : Stretch)
+    → AreMade s.x a columns sized_columns → AreMade s.y b rows sized_rows → IsPicture middle
+    → HasWeights (reflection_at (int_lt a (pos 0)) (int_lt b (pos 0)) ds) middle → PixelsStayInside columns rows ds
+    → PixelsStayInside sized_columns sized_rows middle
 PixelsStayInside-scale ds middle s a b columns rows sized_columns sized_rows x y picture reflected inside =
-    rw (x.sized_is, y.sized_is) (PixelsStayInside-reflected ds middle s picture (rw (x.passed, y.passed) at reflected) (rw (x.signed_is, y.signed_is) at inside))
+    rw (x.sized_is, y.sized_is)
+    (PixelsStayInside-reflected ds middle s picture (rw (x.passed, y.passed) at reflected) (rw (x.signed_is, y.signed_is) at inside))

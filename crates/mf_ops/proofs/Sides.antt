@@ -2,11 +2,12 @@
 use Rattle.std.proofs.Common.{◌≡◌, ◌≢◌, ◌&&◌, Bool, not, cond, int_le, int_lt, ℕ, ◌+◌, ◌*◌, ◌<◌, ◌≤◌, ℤ, pos, negsuc, neg_ℤ, ◌+ℤ◌, ◌-ℤ◌, ◌*ℤ◌, ◌≤ℤ◌, List, [], ◌∷◌, ◌++◌, length, All, refl, sym, ap, ◌∙◌, inl, inr, arith, length-append, add-one}
 use Rattle.std.proofs.lemmas.Int.{ints}
 use Rattle.std.proofs.lemmas.List.Elements.{All-nil, All-cons, All-append}
+use Rattle.mf_geom.specs.Coordinates.{greatest_coordinate}
 use Rattle.mf_geom.specs.declared.check.Check.TheVariants.{Off}
 use Rattle.mf_geom.specs.declared.point.Point.{Point}
 use Rattle.mf_geom.specs.Crossing.{passed, crossing, crossing_at}
 use Rattle.mf_geom.specs.Lawful.{IsRectilinearCycle}
-use Rattle.mf_geom.specs.Path.{Edge, point_at, next_place, edge_at, across, up, IsInReach, IsRectilinear}
+use Rattle.mf_geom.specs.Path.{Segment, point_at, next_place, segment_at, across, up, IsInRange, IsRectilinear}
 use Rattle.mf_geom.specs.Sum.{sum_below}
 use Rattle.mf_geom.specs.Winding.{contour}
 use Rattle.mf_geom.proofs.Crossings.{winding-crossings, passed-reached, crossings-beside}
@@ -34,34 +35,51 @@ int_le-not_lt : (a x : ℤ) → int_le a x ≡ not (int_lt x a)
 int_le-not_lt a x = grind (arith, ints)
 
 -- what the ends of a vertical edge add, in truth values: whether the pixel is left of the edge, and whether it is below each end
-ends-crossing : (beyond under under' : Bool) (w : ℤ) → cond (not beyond && under) w (pos 0) +ℤ cond (not beyond && under') (neg_ℤ w) (pos 0) ≡ w *ℤ (cond beyond (pos 0) (pos 1) *ℤ (cond under' (pos 0) (pos 1) -ℤ cond under (pos 0) (pos 1)))
+ends-crossing : (beyond under under' : Bool) (w : ℤ)
+    → cond (not beyond && under) w (pos 0) +ℤ cond (not beyond && under') (neg_ℤ w) (pos 0)
+    ≡ w *ℤ (cond beyond (pos 0) (pos 1) *ℤ (cond under' (pos 0) (pos 1) -ℤ cond under (pos 0) (pos 1)))
 ends-crossing beyond under under' w = grind (arith, ints)
 
 -- the ends of an edge as corners, the second with the negated weight
-abbrev pub ends_of : ℤ → Edge → List Corner
+abbrev pub ends_of : ℤ → Segment → List Corner
 ends_of w e = record { x = e.from.x; y = e.from.y; weight = w } ∷ record { x = e.to.x; y = e.to.y; weight = neg_ℤ w } ∷ []
 
 -- the ends of a vertical edge add the weight times its crossing
-added_by_all-ends : (w x y : ℤ) (e : Edge) → e.to.x ≡ e.from.x → added_by_all (ends_of w e) x y ≡ w *ℤ crossing x y e
+added_by_all-ends : (w x y : ℤ) (e : Segment) → e.to.x ≡ e.from.x → added_by_all (ends_of w e) x y ≡ w *ℤ crossing x y e
 unfolding crossing passed added_by_all added_by
 added_by_all-ends w x y e vertical =
     let ends = ends-crossing (int_lt x e.from.x) (int_lt y e.from.y) (int_lt y e.to.y) w in
     rw (vertical, int_le-not_lt) (omega (arith, ints, ends))
 
-crossing-horizontal : (x y : ℤ) (e : Edge) → e.to.y ≡ e.from.y → crossing x y e ≡ pos 0
+crossing-horizontal : (x y : ℤ) (e : Segment) → e.to.y ≡ e.from.y → crossing x y e ≡ pos 0
 unfolding crossing
 crossing-horizontal x y e horizontal = rw (horizontal, mul-self (passed x e.from.x) (passed y e.from.y)) refl
 
-lawful_ends : (w : ℤ) (e : Edge) → negsuc 2 ≤ℤ w → w ≤ℤ pos 3 → IsInReach e.from → IsInReach e.to → All IsCorner (ends_of w e)
+lawful_ends : (w : ℤ) (e : Segment) → negsuc 2 ≤ℤ w → w ≤ℤ pos 3 → IsInRange e.from → IsInRange e.to → All IsCorner (ends_of w e)
 lawful_ends w e least greatest from to =
     let first : Corner = record { x = e.from.x; y = e.from.y; weight = w } in
     let second : Corner = record { x = e.to.x; y = e.to.y; weight = neg_ℤ w } in
-    let first_lawful : IsCorner first = record { left = from.left; right = from.right; bottom = from.bottom; top = from.top; least = least; greatest = greatest } in
-    let second_lawful : IsCorner second = record { left = to.left; right = to.right; bottom = to.bottom; top = to.top; least = omega (arith, ints); greatest = omega (arith, ints) } in
+    let first_lawful : IsCorner first = record {
+      left = from.x.least;
+      right = from.x.greatest;
+      bottom = from.y.least;
+      top = from.y.greatest;
+      least = least;
+      greatest = greatest;
+    } in
+    let second_lawful : IsCorner second = record {
+      left = to.x.least;
+      right = to.x.greatest;
+      bottom = to.y.least;
+      top = to.y.greatest;
+      least = omega (arith, ints);
+      greatest = omega (arith, ints);
+    } in
     All-cons IsCorner first (second ∷ []) first_lawful (All-cons IsCorner second [] second_lawful (All-nil IsCorner))
 
 -- so a vertical edge is a side with its two ends as corners
-pub HasSide-vertical : (w : ℤ) (e : Edge) (ks : List Corner) → negsuc 2 ≤ℤ w → w ≤ℤ pos 3 → IsInReach e.from → IsInReach e.to → e.to.x ≡ e.from.x → All IsCorner ks → HasSide w e ks (ks ++ ends_of w e)
+pub HasSide-vertical : (w : ℤ) (e : Segment) (ks : List Corner) → negsuc 2 ≤ℤ w → w ≤ℤ pos 3 → IsInRange e.from → IsInRange e.to
+    → e.to.x ≡ e.from.x → All IsCorner ks → HasSide w e ks (ks ++ ends_of w e)
 HasSide-vertical w e ks least greatest from to vertical corners = record {
   few = let two = length-append ks (ends_of w e) in omega (arith, two);
   corners = All-append IsCorner ks (ends_of w e) corners (lawful_ends w e least greatest from to);
@@ -69,7 +87,7 @@ HasSide-vertical w e ks least greatest from to vertical corners = record {
 }
 
 -- a horizontal edge needs no corners
-pub HasSide-horizontal : (w : ℤ) (e : Edge) (ks : List Corner) → IsRectilinear e → e.to.x ≢ e.from.x → All IsCorner ks → HasSide w e ks ks
+pub HasSide-horizontal : (w : ℤ) (e : Segment) (ks : List Corner) → IsRectilinear e → e.to.x ≢ e.from.x → All IsCorner ks → HasSide w e ks ks
 unfolding IsRectilinear across up
 HasSide-horizontal w e ks (inl horizontal) apart corners =
     let same_height : e.to.y ≡ e.from.y = let rise = horizontal.1 in omega (arith, ints) in
@@ -77,34 +95,36 @@ HasSide-horizontal w e ks (inl horizontal) apart corners =
 HasSide-horizontal w e ks (inr vertical) apart corners = absurd (apart (let run = vertical.0 in omega (arith, ints)))
 
 -- the ends of an edge are in reach
-pub IsInReach-ends : (ps : List Point) (n : ℕ) → IsRectilinearCycle ps → n < length ps → IsInReach (edge_at ps n).from × IsInReach (edge_at ps n).to
-unfolding edge_at
-IsInReach-ends ps n cycle below = (cycle.reach.in_reach n below, cycle.reach.in_reach (next_place ps n) (next_place-below ps n below))
+pub IsInRange-ends : (ps : List Point) (n : ℕ) → IsRectilinearCycle ps → n < length ps → IsInRange (segment_at ps n).from × IsInRange (segment_at ps n).to
+unfolding segment_at
+IsInRange-ends ps n cycle below = (cycle.range.in_range n below, cycle.range.in_range (next_place ps n) (next_place-below ps n below))
 
 pub AreSides-none : (ps : List Point) (w : ℤ) → AreSides ps w 0 []
 unfolding added_by_all sum_below
 AreSides-none ps w = record { few = omega arith; corners = All-nil IsCorner; added = λ x y. omega (arith, ints) }
 
-pub AreSides-more : (ps : List Point) (w : ℤ) (n : ℕ) (ks ls : List Corner) → AreSides ps w n ks → HasSide w (edge_at ps n) ks ls → AreSides ps w (n + 1) ls
+pub AreSides-more : (ps : List Point) (w : ℤ) (n : ℕ) (ks ls : List Corner) → AreSides ps w n ks → HasSide w (segment_at ps n) ks ls → AreSides ps w (n + 1) ls
 unfolding sum_below crossing_at
 AreSides-more ps w n ks ls sides side = record {
   few = omega (arith, sides.few, side.few);
   corners = side.corners;
   added = λ x y.
-      let e = edge_at ps n in
+      let e = segment_at ps n in
       rw add-one (side.added x y ∙ (λ t. sides.added x y t +ℤ w *ℤ crossing x y e) ∙ sym (mul-add w (sum_below n (crossing_at ps x y)) (crossing x y e)));
 }
 
 -- the sides of the complete cycle add nothing to the right of the field
 pub AreCorners-sides : (ps : List Point) (w : ℤ) (ks : List Corner) → IsRectilinearCycle ps → AreSides ps w (length ps) ks → AreCorners ks
 AreCorners-sides ps w ks cycle sides =
-    let sized = cycle.reach.sized in
+    let sized = cycle.range.sized in
     record {
       few = omega (arith, sides.few, sized.greatest);
       corners = sides.corners;
       closed = λ y.
-          let balanced = crossings-beside ps (pos 4095) y (pos 1) (λ i below. let point = cycle.reach.in_reach i below in passed-reached (pos 4095) (point_at ps i).x point.right) in
-          sides.added (pos 4095) y ∙ ap (λ n. w *ℤ n) balanced ∙ omega (arith, ints);
+          let balanced =
+          crossings-beside ps greatest_coordinate y (pos 1)
+          (λ i below. let point = cycle.range.in_range i below in passed-reached greatest_coordinate (point_at ps i).x point.x.greatest) in
+          sides.added greatest_coordinate y ∙ ap (λ n. w *ℤ n) balanced ∙ omega (arith, ints);
     }
 
 -- together they add the weight times the winding number
@@ -112,6 +132,7 @@ pub AddWinding-sides : (ps : List Point) (w : ℤ) (ks : List Corner) → IsRect
 AddWinding-sides ps w ks cycle sides = record { added = λ x y. sides.added x y ∙ ap (λ n. w *ℤ n) (sym (winding-crossings ps x y cycle)) }
 
 -- so a picture to which the sides of a contour were added has the weights of the step with the turning check off
-pub with_corners_at-contour : (ds : List Dot) (ps : List Point) (w : ℤ) (ks : List Corner) → AddWinding ps w ks → (x y : ℤ) → with_corners_at ds ks x y ≡ step_at ds (Contour ps w Off) x y
+pub with_corners_at-contour : (ds : List Dot) (ps : List Point) (w : ℤ) (ks : List Corner) → AddWinding ps w ks → (x y : ℤ)
+    → with_corners_at ds ks x y ≡ step_at ds (Contour ps w Off) x y
 unfolding with_corners_at contour
 with_corners_at-contour ds ps w ks adds x y = λ t. weight_at ds x y +ℤ adds.added x y t

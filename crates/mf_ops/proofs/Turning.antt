@@ -6,7 +6,7 @@ use Rattle.mf_rows.specs.Dots.{Dot}
 use Rattle.mf_edges.specs.Axes.{opposite}
 use Rattle.mf_rows.specs.Moves.{columns_mirrored_at, rows_mirrored_at, turned_at}
 use Rattle.mf_rows.specs.Sums.{HasWeights}
-use Rattle.mf_ops.specs.Reflections.{reflected_at}
+use Rattle.mf_ops.specs.Reflections.{reflection_at}
 use Rattle.mf_ops.specs.Step.{step_at}
 use Rattle.mf_ops.specs.declared.op.Op.TheVariants as ops
 use Rattle.mf_ops.specs.declared.quarter.Quarter.TheVariants.{Once, Twice, Thrice}
@@ -24,20 +24,21 @@ IsInField-opposite_y x y in_field =
     let top = in_field.top in
     record { left = in_field.left; right = in_field.right; bottom = omega (arith, ints); top = omega (arith, ints) }
 
-pub HasWeights-reflected_none : (ds new : List Dot) → new ≡ ds → HasWeights (reflected_at false false ds) new
-unfolding reflected_at
+pub HasWeights-reflected_none : (ds new : List Dot) → new ≡ ds → HasWeights (reflection_at false false ds) new
+unfolding reflection_at
 HasWeights-reflected_none ds new same = record { weights = λ x y in_field. rw same }
 
-pub HasWeights-reflected_columns : (ds new : List Dot) → HasWeights (columns_mirrored_at ds) new → HasWeights (reflected_at true false ds) new
-unfolding reflected_at columns_mirrored_at
+pub HasWeights-reflected_columns : (ds new : List Dot) → HasWeights (columns_mirrored_at ds) new → HasWeights (reflection_at true false ds) new
+unfolding reflection_at columns_mirrored_at
 HasWeights-reflected_columns ds new has = record { weights = has.weights }
 
-pub HasWeights-reflected_rows : (ds new : List Dot) → HasWeights (rows_mirrored_at ds) new → HasWeights (reflected_at false true ds) new
-unfolding reflected_at rows_mirrored_at
+pub HasWeights-reflected_rows : (ds new : List Dot) → HasWeights (rows_mirrored_at ds) new → HasWeights (reflection_at false true ds) new
+unfolding reflection_at rows_mirrored_at
 HasWeights-reflected_rows ds new has = record { weights = has.weights }
 
-pub HasWeights-reflected_both : (ds middle new : List Dot) → HasWeights (columns_mirrored_at ds) middle → HasWeights (rows_mirrored_at middle) new → HasWeights (reflected_at true true ds) new
-unfolding reflected_at columns_mirrored_at rows_mirrored_at
+pub HasWeights-reflected_both : (ds middle new : List Dot) → HasWeights (columns_mirrored_at ds) middle
+    → HasWeights (rows_mirrored_at middle) new → HasWeights (reflection_at true true ds) new
+unfolding reflection_at columns_mirrored_at rows_mirrored_at
 HasWeights-reflected_both ds middle new first has =
     record { weights = λ x y in_field. has.weights x y in_field ∙ first.weights x (opposite y) (IsInField-opposite_y x y in_field) }
 
@@ -45,11 +46,15 @@ pub HasWeights-once : (ds new : List Dot) → HasWeights (turned_at ds) new → 
 unfolding turned_at
 HasWeights-once ds new has = record { weights = has.weights }
 
-pub HasWeights-twice : (ds new : List Dot) → HasWeights (reflected_at true true ds) new → HasWeights (step_at ds (ops.Quarter Twice)) new
-unfolding reflected_at
+pub HasWeights-twice : (ds new : List Dot) → HasWeights (reflection_at true true ds) new → HasWeights (step_at ds (ops.Quarter Twice)) new
+unfolding reflection_at
 HasWeights-twice ds new has = record { weights = has.weights }
 
-pub HasWeights-thrice : (ds middle new : List Dot) → HasWeights (turned_at ds) middle → HasWeights (reflected_at true true middle) new → HasWeights (step_at ds (ops.Quarter Thrice)) new
-unfolding turned_at reflected_at
+pub HasWeights-thrice : (ds middle new : List Dot) → HasWeights (turned_at ds) middle → HasWeights (reflection_at true true middle) new
+    → HasWeights (step_at ds (ops.Quarter Thrice)) new
+unfolding turned_at reflection_at
 HasWeights-thrice ds middle new first has =
-    record { weights = λ x y in_field. has.weights x y in_field ∙ first.weights (opposite x) (opposite y) (IsInField-opposite_x x (opposite y) (IsInField-opposite_y x y in_field)) }
+    record {
+      weights = λ x y in_field. has.weights x y in_field ∙ first.weights (opposite x) (opposite y)
+          (IsInField-opposite_x x (opposite y) (IsInField-opposite_y x y in_field));
+    }

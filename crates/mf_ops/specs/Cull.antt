@@ -8,9 +8,9 @@ abbrev pub is_within : ℤ → ℤ → ℤ → Bool
 is_within a b v = int_le a v && int_le v b
 
 -- the weight that a cull gives to a pixel of weight v
-abbrev pub culled : CullRule → ℤ → ℤ
-culled (Keeping a b w) v = if is_within a b v then w else pos 0
-culled (Dropping a b w) v = if is_within a b v then pos 0 else w
+abbrev pub culled_weight : CullRule → ℤ → ℤ
+culled_weight (Keeping a b w) v = if is_within a b v then w else pos 0
+culled_weight (Dropping a b w) v = if is_within a b v then pos 0 else w
 
 -- the range from a to b is not empty, and does not contain 0
 pub record IsRangeWithoutZero (a b : ℤ) : Type 0 where

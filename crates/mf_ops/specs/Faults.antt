@@ -5,6 +5,6 @@ use Rattle.mf_ops.specs.declared.op.OpFault.{OpFault}
 use Rattle.mf_ops.specs.declared.op.OpFault.TheVariants as op
 
 -- the refusal of an operation that comes of this refusal of a sum
-abbrev pub op_fault : AddFault → OpFault
-op_fault add.WeightTooLarge = op.WeightTooLarge
-op_fault add.OutOfMemory = op.OutOfMemory
+abbrev pub sum_fault : AddFault → OpFault
+sum_fault add.WeightTooLarge = op.WeightTooLarge
+sum_fault add.OutOfMemory = op.OutOfMemory

@@ -7,4 +7,3 @@ pub mod Operations
 pub mod Reflections
 pub mod Sides
 pub mod Step
-pub mod Weights

@@ -1,6 +1,7 @@
 -- The names of refusals, as they appear in texts.
 use Rattle.std.specs.Prelude.{ℕ, List, codes}
-use Rattle.mf_geom.specs.Names.{fault_text, memory_text}
+use Rattle.mf_base.specs.Names.{memory_text}
+use Rattle.mf_geom.specs.Names.{fault_text}
 use Rattle.mf_ops.specs.declared.op.OpFault.{OpFault}
 use Rattle.mf_ops.specs.declared.op.OpFault.TheVariants.{Cycle, OutOfField, WeightTooLarge, OutOfMemory}
 

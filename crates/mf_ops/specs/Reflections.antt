@@ -8,5 +8,5 @@ abbrev pub on_side : Bool → ℤ → ℤ
 on_side changes p = if changes then opposite p else p
 
 -- the weight of the pixel (x, y) after the columns, the rows, or both change sides
-unfoldable pub reflected_at : Bool → Bool → List Dot → ℤ → ℤ → ℤ
-reflected_at columns rows ds x y = weight_at ds (on_side columns x) (on_side rows y)
+unfoldable pub reflection_at : Bool → Bool → List Dot → ℤ → ℤ → ℤ
+reflection_at columns rows ds x y = weight_at ds (on_side columns x) (on_side rows y)

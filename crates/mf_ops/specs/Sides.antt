@@ -1,15 +1,22 @@
--- The sides of a contour: the vertical edges of its cycle, as corners.
-use Rattle.std.specs.Prelude.{◌≡◌, ◌+◌, ◌≤◌, ℤ, ◌+ℤ◌, ◌*ℤ◌, All, List, length}
+-- Filling a contour: the weight with which its cycle is filled, and the sides of the cycle, its vertical edges, as corners.
+use Rattle.std.specs.Prelude.{◌≡◌, ◌≢◌, Some, ◌+◌, ◌≤◌, ℤ, ◌+ℤ◌, ◌*ℤ◌, All, List, length}
 use Rattle.mf_geom.specs.declared.point.Point.{Point}
 use Rattle.mf_geom.specs.Crossing.{crossing}
-use Rattle.mf_geom.specs.Path.{Edge}
+use Rattle.mf_geom.specs.Path.{Segment}
 use Rattle.mf_geom.specs.Winding.{winding}
 use Rattle.mf_rows.specs.declared.corner.Corner.{Corner}
+use Rattle.mf_geom.specs.declared.check.Check.TheVariants.{Off}
+use Rattle.mf_geom.specs.declared.cycle.CycleFault.{CycleFault}
 use Rattle.mf_rows.specs.Corners.{IsCorner, added_by_all}
+use Rattle.mf_rows.specs.Dots.{Dot}
+use Rattle.mf_ops.specs.Step.{next_picture, op_fault}
+use Rattle.mf_ops.specs.declared.op.Op.{Op}
+use Rattle.mf_ops.specs.declared.op.Op.TheVariants.{Contour}
+use Rattle.mf_ops.specs.declared.op.OpFault.TheVariants.{Cycle}
 
 -- the new corners are at most two more than the old ones, and add to each pixel also the weight w times the crossing of the edge
 -- e
-pub record HasSide (w : ℤ) (e : Edge) (old new : List Corner) : Type 0 where
+pub record HasSide (w : ℤ) (e : Segment) (old new : List Corner) : Type 0 where
   pub few : length new ≤ length old + 2
   pub corners : All IsCorner new
   pub added : (x y : ℤ) → added_by_all new x y ≡ added_by_all old x y +ℤ (w *ℤ crossing x y e)
@@ -17,3 +24,9 @@ pub record HasSide (w : ℤ) (e : Edge) (old new : List Corner) : Type 0 where
 -- these corners add to each pixel the weight w times the winding number of the cycle
 pub record AddWinding (ps : List Point) (w : ℤ) (ks : List Corner) : Type 0 where
   pub added : (x y : ℤ) → added_by_all ks x y ≡ w *ℤ winding ps x y
+
+-- the operation fills the cycle with the weight w, however the cycle turns
+pub record FillsWith (op : Op) (ps : List Point) (w : ℤ) : Type 0 where
+  pub turns : (ds : List Dot) (fault : CycleFault) → op_fault ds op ≢ Some (Cycle fault)
+  pub step : (ds : List Dot) → next_picture ds op ≡ next_picture ds (Contour ps w Off)
+  pub fault : (ds : List Dot) → op_fault ds op ≡ op_fault ds (Contour ps w Off)

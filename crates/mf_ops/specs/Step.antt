@@ -1,16 +1,16 @@
 -- What an operation makes of a picture, pixel by pixel.
-use Rattle.std.specs.Prelude.{◌≡◌, ◌≢◌, ◌&&◌, Bool, false, not, ℤ, pos, ◌+ℤ◌, ◌-ℤ◌, List, Option, None, Some, if◌then◌else◌}
+use Rattle.std.specs.Prelude.{◌≡◌, ◌≢◌, ◌&&◌, Bool, false, not, ℤ, pos, int_le, ◌+ℤ◌, ◌-ℤ◌, List, Option, None, Some, if◌then◌else◌}
 use Rattle.std.specs.List.{list_any}
 use Rattle.std.specs.Option.{option_map, option_or}
+use Rattle.mf_edges.specs.LawfulWeights.{least_weight, greatest_weight}
 use Rattle.mf_geom.specs.declared.check.Check.TheVariants.{Off, On}
 use Rattle.mf_geom.specs.Faults.{turning_fault}
 use Rattle.mf_geom.specs.Field.{IsInField}
 use Rattle.mf_geom.specs.Winding.{contour}
 use Rattle.mf_rows.specs.Dots.{Dot, weight_at}
 use Rattle.mf_rows.specs.Weights.{picture_of}
-use Rattle.mf_ops.specs.Cull.{culled}
-use Rattle.mf_ops.specs.Moves.{scale_source, turned_by, stays_inside}
-use Rattle.mf_ops.specs.Weights.{is_too_large}
+use Rattle.mf_ops.specs.Cull.{culled_weight}
+use Rattle.mf_ops.specs.Moves.{scale_by, scale_source, shift_by, stays_inside, turn_by}
 use Rattle.mf_ops.specs.declared.op.Op.{Op}
 use Rattle.mf_ops.specs.declared.op.Op.TheVariants.{Contour, Also, Cull, Shift, Scale, Quarter, Clear}
 use Rattle.mf_ops.specs.declared.op.OpFault.{OpFault}
@@ -22,23 +22,23 @@ abbrev pub step_at : List Dot → Op → ℤ → ℤ → ℤ
 step_at ds (Contour ps w check) x y = weight_at ds x y +ℤ contour ps w check x y
 step_at ds (Also es Plus) x y = weight_at ds x y +ℤ weight_at es x y
 step_at ds (Also es Minus) x y = weight_at ds x y -ℤ weight_at es x y
-step_at ds (Cull c) x y = culled c (weight_at ds x y)
+step_at ds (Cull c) x y = culled_weight c (weight_at ds x y)
 step_at ds (Shift dx dy) x y = weight_at ds (x -ℤ dx) (y -ℤ dy)
 step_at ds (Scale s) x y = weight_at ds (scale_source s.x x) (scale_source s.y y)
-step_at ds (Quarter q) x y = turned_by q (weight_at ds) x y
+step_at ds (Quarter q) x y = turn_by q (weight_at ds) x y
 step_at ds Clear x y = pos 0
 
 -- the picture after an operation on the picture ds, whether or not its weights are lawful
-unfoldable pub stepped : List Dot → Op → List Dot
-stepped ds op = picture_of (step_at ds op)
+unfoldable pub next_picture : List Dot → Op → List Dot
+next_picture ds op = picture_of (step_at ds op)
 
 -- whether an operation takes a pixel out of the field; a turn maps the field to itself
 abbrev pub leaves : Op → Dot → Bool
 leaves (Contour ps w check) d = false
 leaves (Also es s) d = false
 leaves (Cull c) d = false
-leaves (Shift dx dy) d = not (stays_inside (pos 1) dx d.x && stays_inside (pos 1) dy d.y)
-leaves (Scale s) d = not (stays_inside s.x (pos 0) d.x && stays_inside s.y (pos 0) d.y)
+leaves (Shift dx dy) d = not (stays_inside (shift_by dx) d.x && stays_inside (shift_by dy) d.y)
+leaves (Scale s) d = not (stays_inside (scale_by s.x) d.x && stays_inside (scale_by s.y) d.y)
 leaves (Quarter q) d = false
 leaves Clear d = false
 
@@ -56,13 +56,17 @@ MayLeave Clear = ⊥
 pub record StaysInField (ds : List Dot) (op : Op) : Type 0 where
   pub none_leaves : list_any (leaves op) ds ≡ false
 
+-- whether a weight exceeds 32767 in absolute value
+abbrev pub is_too_large : ℤ → Bool
+is_too_large w = not (int_le least_weight w && int_le w greatest_weight)
+
 -- the refusal of a picture for its weights, if there is one
 abbrev pub weight_fault : List Dot → Option OpFault
 weight_fault ds = if list_any (λ d. is_too_large d.weight) ds then Some WeightTooLarge else None
 
 -- the refusal of an operation on the picture ds for its pixels, if there is one
 abbrev pub pixel_fault : List Dot → Op → Option OpFault
-pixel_fault ds op = if list_any (leaves op) ds then Some OutOfField else weight_fault (stepped ds op)
+pixel_fault ds op = if list_any (leaves op) ds then Some OutOfField else weight_fault (next_picture ds op)
 
 -- the refusal of an operation for the way its cycle turns, if there is one: only contours under the turning check are refused so
 abbrev pub turn_fault : Op → Option OpFault
@@ -80,8 +84,8 @@ pub record TurnsLawfully (op : Op) : Type 0 where
   pub none : turn_fault op ≡ None
 
 -- the refusal of an operation on the picture ds, if there is one: how its cycle turns is decided before any pixel
-unfoldable pub fault_of : List Dot → Op → Option OpFault
-fault_of ds op = option_or (turn_fault op) (pixel_fault ds op)
+unfoldable pub op_fault : List Dot → Op → Option OpFault
+op_fault ds op = option_or (turn_fault op) (pixel_fault ds op)
 
 -- the weights f are not 0 at some pixel outside the field
 pub record LiesOutside (f : ℤ → ℤ → ℤ) : Type 0 where

@@ -1,75 +1,38 @@
 //! Filling a contour: the vertical edges of its cycle become corners, and these are added to the picture.
-ghost use Rattle.std.specs.Prelude.{◌≡◌, ◌≢◌, None, Some, Err, IfOk, IfErr, OnOk, OnErr, pos, negsuc, ◌*ℤ◌, ◌≤ℤ◌, All};
+ghost use Rattle.std.specs.Prelude.{◌≡◌, ◌≢◌, None, Some, IfOk, IfErr, OnOk, OnErr, pos, negsuc, ◌*ℤ◌, ◌≤ℤ◌, All, List};
 ghost use Rattle.std.specs.Int.{int_signum};
-ghost use Rattle.mf_geom.specs.Path.{IsInReach, IsRectilinear};
+ghost use Rattle.mf_geom.specs.Path.{IsInRange, IsRectilinear};
 ghost use Rattle.mf_geom.specs.Turning.{turning};
 ghost use Rattle.mf_geom.specs.Faults.{turning_fault};
-ghost use Rattle.mf_geom.specs.Winding.{filling_weight};
 ghost use Rattle.mf_geom.specs.declared.check.Check.TheVariants.{Off};
-ghost use Rattle.mf_geom.specs.declared.cycle.CycleFault.{CycleFault};
 ghost use Rattle.mf_rows.specs.Corners.{IsCorner, AreCorners};
-ghost use Rattle.mf_ops.specs.Sides.{HasSide, AddWinding};
-ghost use Rattle.mf_ops.specs.Step.{stepped, fault_of, turn_fault};
+ghost use Rattle.mf_rows.specs.Dots.{Dot};
+ghost use Rattle.mf_ops.specs.Sides.{HasSide, AddWinding, FillsWith};
+ghost use Rattle.mf_ops.specs.Step.{next_picture, op_fault};
 ghost use Rattle.mf_ops.specs.declared.op.Op.TheVariants.{Contour};
 
 use crate::op::OpFault;
 use crate::weight::Weight;
-use mf_geom::{Check, Cycle, CycleFault, OutOfMemory, Point};
+use mf_base::OutOfMemory;
+use mf_geom::{Check, Cycle, CycleFault, Point};
 use mf_rows::{Corner, Picture};
 use std::alloc::Global;
-
-/// Returns the picture after a contour is filled into it with this weight.
-pub fn fill(
-    alloc: Global,
-    picture: &Picture,
-    cycle: &Cycle,
-    weight: Weight,
-    check: Check,
-) -> Result<Picture, OpFault>
-    ensures step { IfOk result (λ new. new ≡ stepped picture.now (Contour cycle.now weight check)) }
-    ensures accepted { OnOk result (fault_of picture.now (Contour cycle.now weight check) ≡ None) }
-    ensures refused { IfErr result (λ fault. fault ≢ OpFault.OutOfMemory → fault_of picture.now (Contour cycle.now weight check) ≡ Some fault) }
-    ensures turning { (fault : CycleFault) → fault_of picture.now (Contour cycle.now weight check) ≡ Some (OpFault.Cycle fault) → result ≡ Err (OpFault.Cycle fault) }
-{
-    match filling_weight(cycle, weight, check) {
-        Ok(weight) => with_sides(alloc, picture, cycle, weight),
-        Err(fault) => Err(OpFault::Cycle(fault)),
-    }
-}
-
-/// Fills a contour into a picture with this weight. A refusal leaves the picture as it was.
-pub(crate) fn fill_in(
-    alloc: Global,
-    picture: &mut Picture,
-    cycle: &Cycle,
-    weight: Weight,
-    check: Check,
-) -> Result<(), OpFault>
-    ensures step { OnOk result (picture.new ≡ stepped picture.old (Contour cycle.now weight check)) }
-    ensures unchanged { OnErr result (picture.new ≡ picture.old) }
-    ensures accepted { OnOk result (fault_of picture.old (Contour cycle.now weight check) ≡ None) }
-    ensures refused { IfErr result (λ fault. fault ≢ OpFault.OutOfMemory → fault_of picture.old (Contour cycle.now weight check) ≡ Some fault) }
-    ensures turning { (fault : CycleFault) → fault_of picture.old (Contour cycle.now weight check) ≡ Some (OpFault.Cycle fault) → result ≡ Err (OpFault.Cycle fault) }
-{
-    match filling_weight(cycle, weight, check) {
-        Ok(weight) => add_sides(alloc, picture, cycle, weight),
-        Err(fault) => Err(OpFault::Cycle(fault)),
-    }
-}
 
 /// The weight with which a cycle is filled: the given one where the turning check is off, else the one that the check makes of
 /// it. How the cycle turns is decided here, before anything is allocated, so that `OutOfMemory` never comes instead of a refusal
 /// of the check.
-fn filling_weight(cycle: &Cycle, weight: Weight, check: Check) -> Result<i32, CycleFault>
-    ensures value { IfOk result (λ filling. filling ≡ filling_weight check cycle.now weight) }
+pub fn filling_weight(cycle: &Cycle, weight: Weight, check: Check) -> Result<i32, OpFault>
+    ensures fills { IfOk result (FillsWith (Contour cycle.now weight check) cycle.now) }
     ensures least { IfOk result (λ filling. negsuc 2 ≤ℤ filling) }
     ensures greatest { IfOk result (λ filling. filling ≤ℤ pos 3) }
-    ensures passes { OnOk result (turn_fault (Contour cycle.now weight check) ≡ None) }
-    ensures refused { IfErr result (λ fault. turn_fault (Contour cycle.now weight check) ≡ Some (OpFault.Cycle fault)) }
+    ensures refused { IfErr result (λ fault. (ds : List Dot) → op_fault ds (Contour cycle.now weight check) ≡ Some fault) }
 {
     match check {
         Check::Off => Ok(weight.get()),
-        Check::On => turned_weight(cycle, weight),
+        Check::On => match turned_weight(cycle, weight) {
+            Ok(turned) => Ok(turned),
+            Err(fault) => Err(OpFault::Cycle(fault)),
+        },
     }
 }
 
@@ -97,39 +60,15 @@ fn with_sign_of(turning: i32, weight: Weight) -> i32
     weight.get() * turning.signum()
 }
 
-/// Returns the picture with the weight times the winding number of the cycle added to each pixel, as by a contour with the
-/// turning check off.
-fn with_sides(
-    alloc: Global,
-    picture: &Picture,
-    cycle: &Cycle,
-    weight: i32,
-) -> Result<Picture, OpFault>
-    requires least { negsuc 2 ≤ℤ weight }
-    requires greatest { weight ≤ℤ pos 3 }
-    ensures step { IfOk result (λ new. new ≡ stepped picture.now (Contour cycle.now weight Off)) }
-    ensures accepted { OnOk result (fault_of picture.now (Contour cycle.now weight Off) ≡ None) }
-    ensures refused { IfErr result (λ fault. fault ≢ OpFault.OutOfMemory → fault_of picture.now (Contour cycle.now weight Off) ≡ Some fault) }
-{
-    let mut filled = picture.copy(alloc)?;
-    add_sides(alloc, &mut filled, cycle, weight)?;
-    Ok(filled)
-}
-
 /// Adds the weight times the winding number of the cycle to each pixel of a picture, as by a contour with the turning check off.
 /// A refusal leaves the picture as it was.
-fn add_sides(
-    alloc: Global,
-    picture: &mut Picture,
-    cycle: &Cycle,
-    weight: i32,
-) -> Result<(), OpFault>
+pub fn fill(alloc: Global, picture: &mut Picture, cycle: &Cycle, weight: i32) -> Result<(), OpFault>
     requires least { negsuc 2 ≤ℤ weight }
     requires greatest { weight ≤ℤ pos 3 }
-    ensures step { OnOk result (picture.new ≡ stepped picture.old (Contour cycle.now weight Off)) }
+    ensures step { OnOk result (picture.new ≡ next_picture picture.old (Contour cycle.now weight Off)) }
     ensures unchanged { OnErr result (picture.new ≡ picture.old) }
-    ensures accepted { OnOk result (fault_of picture.old (Contour cycle.now weight Off) ≡ None) }
-    ensures refused { IfErr result (λ fault. fault ≢ OpFault.OutOfMemory → fault_of picture.old (Contour cycle.now weight Off) ≡ Some fault) }
+    ensures accepted { OnOk result (op_fault picture.old (Contour cycle.now weight Off) ≡ None) }
+    ensures refused { IfErr result (λ fault. fault ≢ OpFault.OutOfMemory → op_fault picture.old (Contour cycle.now weight Off) ≡ Some fault) }
 {
     let corners = corners_of(alloc, cycle, weight)?;
     Ok(picture.add_corners(alloc, corners)?)
@@ -160,8 +99,8 @@ fn push_side(
 ) -> Result<(), OutOfMemory>
     requires corners { All IsCorner corners.old.items }
     requires edge { IsRectilinear (record { from = from; to = to }) }
-    requires from { IsInReach from }
-    requires to { IsInReach to }
+    requires from { IsInRange from }
+    requires to { IsInRange to }
     requires least { negsuc 2 ≤ℤ weight }
     requires greatest { weight ≤ℤ pos 3 }
     ensures { OnOk result (HasSide weight (record { from = from; to = to }) corners.old.items corners.new.items) }

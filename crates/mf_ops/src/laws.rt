@@ -1,6 +1,6 @@
 //! Laws of the definitions. Each is the contract of a function that does nothing, because the toolchain proves a statement only
 //! where the contract of a function names it.
-ghost use Rattle.std.specs.Prelude.{◌≡◌, ◌≢◌, ◌↔◌, false, ℤ, pos, negsuc, neg_ℤ, ◌*ℤ◌, ◌-ℤ◌, ◌≤ℤ◌, ◌+◌, List, [], ◌∷◌, ◌++◌, Some, None};
+ghost use Rattle.std.specs.Prelude.{◌≡◌, ◌≢◌, ◌↔◌, ℤ, pos, negsuc, neg_ℤ, ◌*ℤ◌, ◌-ℤ◌, ◌≤ℤ◌, ◌+◌, List, [], ◌∷◌, ◌++◌, Some, None};
 ghost use Rattle.std.specs.Int.{int_signum};
 ghost use Rattle.std.specs.Int.RustNames.{unsigned_abs};
 ghost use Rattle.mf_geom.specs.declared.check.Check.{Check};
@@ -13,11 +13,11 @@ ghost use Rattle.mf_geom.specs.Lawful.{IsFault, IsRectilinearCycle};
 ghost use Rattle.mf_geom.specs.Turning.{turning};
 ghost use Rattle.mf_edges.specs.LawfulWeights.{IsLawfulWeight};
 ghost use Rattle.mf_rows.specs.Dots.{Dot, IsPicture, total_of, weight_at};
-ghost use Rattle.mf_ops.specs.Cull.{IsLawfulCull, culled};
-ghost use Rattle.mf_ops.specs.Moves.{Factors, AreFactors, IsFactor, HasPlace, scale_source, turned};
+ghost use Rattle.mf_rows.specs.Sums.{IsUnlawfulSomewhere};
+ghost use Rattle.mf_ops.specs.Cull.{IsLawfulCull, culled_weight};
+ghost use Rattle.mf_ops.specs.Moves.{Factors, AreFactors, IsFactor, HasPlace, scale_source, turn_once};
 ghost use Rattle.mf_ops.specs.Operations.{AreAccepted, picture_after, revision_after};
-ghost use Rattle.mf_ops.specs.Step.{step_at, stepped, fault_of, StaysInField, TurnsLawfully, LiesOutside, MayLeave};
-ghost use Rattle.mf_ops.specs.Weights.{is_too_large, IsTooLargeSomewhere};
+ghost use Rattle.mf_ops.specs.Step.{step_at, next_picture, op_fault, StaysInField, TurnsLawfully, LiesOutside, MayLeave};
 ghost use Rattle.mf_ops.specs.declared.op.Op.{Op};
 ghost use Rattle.mf_ops.specs.declared.cull.CullRule.{CullRule};
 ghost use Rattle.mf_ops.specs.declared.cull.CullRule.TheVariants.{Keeping, Dropping};
@@ -35,12 +35,12 @@ use mf_geom::laws::nothing_outside_the_field;
 /// of the field. It is refused exactly where the weight of some pixel of the field would exceed 32767 in absolute value, with
 /// `WeightTooLarge`.
 pub fn refused_where_too_large()
-    ensures refused { (ds : List Dot) (op : Op) → TurnsLawfully op → StaysInField ds op → IsTooLargeSomewhere (step_at ds op) →
-        fault_of ds op ≡ Some WeightTooLarge }
-    ensures accepted { (ds : List Dot) (op : Op) → fault_of ds op ≡ None →
-        (x y : ℤ) → IsInField x y → is_too_large (step_at ds op x y) ≡ false }
-    ensures only { (ds : List Dot) (op : Op) → fault_of ds op ≡ Some WeightTooLarge →
-        TurnsLawfully op × StaysInField ds op × IsTooLargeSomewhere (step_at ds op) }
+    ensures refused { (ds : List Dot) (op : Op) → TurnsLawfully op → StaysInField ds op → IsUnlawfulSomewhere (step_at ds op) →
+        op_fault ds op ≡ Some WeightTooLarge }
+    ensures accepted { (ds : List Dot) (op : Op) → op_fault ds op ≡ None →
+        (x y : ℤ) → IsInField x y → IsLawfulWeight (step_at ds op x y) }
+    ensures only { (ds : List Dot) (op : Op) → op_fault ds op ≡ Some WeightTooLarge →
+        TurnsLawfully op × StaysInField ds op × IsUnlawfulSomewhere (step_at ds op) }
 {}
 
 /// A contour under the turning check is refused for its cycle exactly where the cycle turns straight back (with the first vertex
@@ -48,9 +48,9 @@ pub fn refused_where_too_large()
 /// a cycle.
 pub fn refused_where_it_turns_back()
     ensures checked { (ds : List Dot) (ps : List Point) (w : ℤ) (fault : CycleFault) → IsRectilinearCycle ps →
-        (fault_of ds (Contour ps w On) ≡ Some (OpFault.Cycle fault)) ↔ IsFault ps fault }
+        (op_fault ds (Contour ps w On) ≡ Some (OpFault.Cycle fault)) ↔ IsFault ps fault }
     ensures unchecked { (ds : List Dot) (ps : List Point) (w : ℤ) → TurnsLawfully (Contour ps w Off) }
-    ensures lawful { (ds : List Dot) (op : Op) (fault : CycleFault) → TurnsLawfully op → fault_of ds op ≢ Some (OpFault.Cycle fault) }
+    ensures lawful { (ds : List Dot) (op : Op) (fault : CycleFault) → TurnsLawfully op → op_fault ds op ≢ Some (OpFault.Cycle fault) }
 {}
 
 /// A shift or a scale is refused with `OutOfField` exactly where some pixel outside the field would get a nonzero weight.
@@ -58,9 +58,9 @@ pub fn refused_where_it_turns_back()
 /// never refused with `OutOfField`.
 pub fn refused_where_a_pixel_leaves()
     ensures shift { (ds : List Dot) (dx dy : ℤ) → IsPicture ds →
-        (fault_of ds (Shift dx dy) ≡ Some OutOfField) ↔ LiesOutside (step_at ds (Shift dx dy)) }
+        (op_fault ds (Shift dx dy) ≡ Some OutOfField) ↔ LiesOutside (step_at ds (Shift dx dy)) }
     ensures scale { (ds : List Dot) (s : Factors) → IsPicture ds → AreFactors s →
-        (fault_of ds (Scale s) ≡ Some OutOfField) ↔ LiesOutside (step_at ds (Scale s)) }
+        (op_fault ds (Scale s) ≡ Some OutOfField) ↔ LiesOutside (step_at ds (Scale s)) }
     ensures contour { (ds : List Dot) (ps : List Point) (w : ℤ) (check : Check) → IsPicture ds → IsRectilinearCycle ps →
         LiesOutside (step_at ds (Contour ps w check)) → ⊥ }
     ensures also { (ds es : List Dot) (s : Sign) → IsPicture ds → IsPicture es →
@@ -70,7 +70,7 @@ pub fn refused_where_a_pixel_leaves()
     ensures turn { (ds : List Dot) (q : Quarter) → IsPicture ds →
         LiesOutside (step_at ds (ops.Quarter q)) → ⊥ }
     ensures clear { (ds : List Dot) → LiesOutside (step_at ds Clear) → ⊥ }
-    ensures only { (ds : List Dot) (op : Op) → fault_of ds op ≡ Some OutOfField → MayLeave op }
+    ensures only { (ds : List Dot) (op : Op) → op_fault ds op ≡ Some OutOfField → MayLeave op }
 {
     nothing_outside_the_field();
 }
@@ -78,14 +78,14 @@ pub fn refused_where_a_pixel_leaves()
 /// A clear, a turn of a picture, and a cull with a lawful weight are never refused. A shift or a scale of a picture is never
 /// refused for its weights. A contour, or adding or subtracting a picture, is never refused because a pixel leaves the field.
 pub fn never_refused()
-    ensures clear { (ds : List Dot) → fault_of ds Clear ≡ None }
-    ensures turn { (ds : List Dot) (q : Quarter) → IsPicture ds → fault_of ds (ops.Quarter q) ≡ None }
-    ensures keeping { (ds : List Dot) (a b w : ℤ) → IsLawfulWeight w → fault_of ds (Cull (Keeping a b w)) ≡ None }
-    ensures dropping { (ds : List Dot) (a b w : ℤ) → IsLawfulWeight w → fault_of ds (Cull (Dropping a b w)) ≡ None }
-    ensures shift { (ds : List Dot) (dx dy : ℤ) → IsPicture ds → fault_of ds (Shift dx dy) ≢ Some WeightTooLarge }
-    ensures scale { (ds : List Dot) (s : Factors) → IsPicture ds → fault_of ds (Scale s) ≢ Some WeightTooLarge }
-    ensures contour { (ds : List Dot) (ps : List Point) (w : ℤ) (check : Check) → fault_of ds (Contour ps w check) ≢ Some OutOfField }
-    ensures also { (ds es : List Dot) (s : Sign) → fault_of ds (Also es s) ≢ Some OutOfField }
+    ensures clear { (ds : List Dot) → op_fault ds Clear ≡ None }
+    ensures turn { (ds : List Dot) (q : Quarter) → IsPicture ds → op_fault ds (ops.Quarter q) ≡ None }
+    ensures keeping { (ds : List Dot) (a b w : ℤ) → IsLawfulWeight w → op_fault ds (Cull (Keeping a b w)) ≡ None }
+    ensures dropping { (ds : List Dot) (a b w : ℤ) → IsLawfulWeight w → op_fault ds (Cull (Dropping a b w)) ≡ None }
+    ensures shift { (ds : List Dot) (dx dy : ℤ) → IsPicture ds → op_fault ds (Shift dx dy) ≢ Some WeightTooLarge }
+    ensures scale { (ds : List Dot) (s : Factors) → IsPicture ds → op_fault ds (Scale s) ≢ Some WeightTooLarge }
+    ensures contour { (ds : List Dot) (ps : List Point) (w : ℤ) (check : Check) → op_fault ds (Contour ps w check) ≢ Some OutOfField }
+    ensures also { (ds es : List Dot) (s : Sign) → op_fault ds (Also es s) ≢ Some OutOfField }
 {}
 
 /// Under a scale each column, or row, comes from exactly one: it lies in the part of the axis to which the scale takes its
@@ -97,7 +97,7 @@ pub fn one_source_under_a_scale()
 
 /// Four turns by 90 degrees leave each weight in its place, and so do two reflections in the same line.
 pub fn turns_and_reflections_return()
-    ensures turns { (f : ℤ → ℤ → ℤ) (x y : ℤ) → turned (turned (turned (turned f))) x y ≡ f x y }
+    ensures turns { (f : ℤ → ℤ → ℤ) (x y : ℤ) → turn_once (turn_once (turn_once (turn_once f))) x y ≡ f x y }
     ensures reflections { (q : ℤ) → scale_source (negsuc 0) (scale_source (negsuc 0) q) ≡ q }
     ensures reflection { (q : ℤ) → scale_source (negsuc 0) q ≡ neg_ℤ q -ℤ pos 1 }
 {}
@@ -105,47 +105,47 @@ pub fn turns_and_reflections_return()
 /// A shift, a turn and a reflection keep the total weight. A scale multiplies it by the absolute value of the product of its
 /// factors. For shifts and scales this holds where they are not refused.
 pub fn totals_after_moves()
-    ensures shift { (ds : List Dot) (dx dy : ℤ) → IsPicture ds → fault_of ds (Shift dx dy) ≡ None →
-        total_of (stepped ds (Shift dx dy)) ≡ total_of ds }
+    ensures shift { (ds : List Dot) (dx dy : ℤ) → IsPicture ds → op_fault ds (Shift dx dy) ≡ None →
+        total_of (next_picture ds (Shift dx dy)) ≡ total_of ds }
     ensures turn { (ds : List Dot) (q : Quarter) → IsPicture ds →
-        total_of (stepped ds (ops.Quarter q)) ≡ total_of ds }
-    ensures scale { (ds : List Dot) (s : Factors) → IsPicture ds → AreFactors s → fault_of ds (Scale s) ≡ None →
-        total_of (stepped ds (Scale s)) ≡ pos (unsigned_abs (s.x *ℤ s.y)) *ℤ total_of ds }
+        total_of (next_picture ds (ops.Quarter q)) ≡ total_of ds }
+    ensures scale { (ds : List Dot) (s : Factors) → IsPicture ds → AreFactors s → op_fault ds (Scale s) ≡ None →
+        total_of (next_picture ds (Scale s)) ≡ pos (unsigned_abs (s.x *ℤ s.y)) *ℤ total_of ds }
 {}
 
 /// The total weight of a blank picture after a contour is filled in is the contour's weight times its signed area. Under the
 /// turning check it is also multiplied by the sign of the turning number.
 pub fn total_of_a_contour()
     ensures checked { (ps : List Point) (w : ℤ) → IsRectilinearCycle ps →
-        total_of (stepped [] (Contour ps w On)) ≡ (w *ℤ int_signum (turning ps)) *ℤ area ps }
+        total_of (next_picture [] (Contour ps w On)) ≡ (w *ℤ int_signum (turning ps)) *ℤ area ps }
     ensures unchecked { (ps : List Point) (w : ℤ) → IsRectilinearCycle ps →
-        total_of (stepped [] (Contour ps w Off)) ≡ w *ℤ area ps }
+        total_of (next_picture [] (Contour ps w Off)) ≡ w *ℤ area ps }
 {}
 
 /// The picture after an operation has exactly the weights of its step at each pixel of the field. It is a lawful picture where
 /// the operation is not refused.
 pub fn step_has_its_weights()
-    ensures weights { (ds : List Dot) (op : Op) (x y : ℤ) → IsInField x y → weight_at (stepped ds op) x y ≡ step_at ds op x y }
-    ensures lawful { (ds : List Dot) (op : Op) → fault_of ds op ≡ None → IsPicture (stepped ds op) }
+    ensures weights { (ds : List Dot) (op : Op) (x y : ℤ) → IsInField x y → weight_at (next_picture ds op) x y ≡ step_at ds op x y }
+    ensures lawful { (ds : List Dot) (op : Op) → op_fault ds op ≡ None → IsPicture (next_picture ds op) }
 {}
 
 /// The lawful culls are exactly those of a range of weights, from a least to a greatest, that leave pixels of weight 0 at 0 (The
 /// METAFONTbook, chapter 13), whatever nonzero weight they give to the others.
 pub fn lawful_culls_keep_zero()
-    ensures keeping { (a b w : ℤ) → w ≢ pos 0 → IsLawfulCull (Keeping a b w) ↔ ((a ≤ℤ b) × (culled (Keeping a b w) (pos 0) ≡ pos 0)) }
-    ensures dropping { (a b w : ℤ) → w ≢ pos 0 → IsLawfulCull (Dropping a b w) ↔ ((a ≤ℤ b) × (culled (Dropping a b w) (pos 0) ≡ pos 0)) }
+    ensures keeping { (a b w : ℤ) → w ≢ pos 0 → IsLawfulCull (Keeping a b w) ↔ ((a ≤ℤ b) × (culled_weight (Keeping a b w) (pos 0) ≡ pos 0)) }
+    ensures dropping { (a b w : ℤ) → w ≢ pos 0 → IsLawfulCull (Dropping a b w) ↔ ((a ≤ℤ b) × (culled_weight (Dropping a b w) (pos 0) ≡ pos 0)) }
 {}
 
 /// A picture subtracted from itself leaves the blank picture.
 pub fn subtracted_from_itself()
-    ensures { (ds : List Dot) → stepped ds (Also ds Minus) ≡ [] }
+    ensures { (ds : List Dot) → next_picture ds (Also ds Minus) ≡ [] }
 {}
 
 /// The picture of no operations is blank, and the picture of one more operation is the step from the picture before it. It is a
 /// lawful picture where none of the operations is refused. The revision number counts the operations.
 pub fn picture_of_operations()
     ensures none { picture_after [] ≡ [] }
-    ensures more { (ops : List Op) (op : Op) → picture_after (ops ++ op ∷ []) ≡ stepped (picture_after ops) op }
+    ensures more { (ops : List Op) (op : Op) → picture_after (ops ++ op ∷ []) ≡ next_picture (picture_after ops) op }
     ensures lawful { (ops : List Op) → AreAccepted ops → IsPicture (picture_after ops) }
     ensures first_revision { revision_after [] ≡ 0 }
     ensures next_revision { (ops : List Op) (op : Op) → revision_after (ops ++ op ∷ []) ≡ revision_after ops + 1 }
@@ -155,5 +155,5 @@ pub fn picture_of_operations()
 /// that they make.
 pub fn accepted_one_by_one()
     ensures none { AreAccepted [] }
-    ensures more { (ops : List Op) (op : Op) → AreAccepted (ops ++ op ∷ []) ↔ (AreAccepted ops × (fault_of (picture_after ops) op ≡ None)) }
+    ensures more { (ops : List Op) (op : Op) → AreAccepted (ops ++ op ∷ []) ↔ (AreAccepted ops × (op_fault (picture_after ops) op ≡ None)) }
 {}

@@ -2,21 +2,23 @@
 ghost use Rattle.std.specs.Prelude.{◌≡◌, ◌≢◌, [], None, Some, Err, IsOk, IfOk, IfErr, OnOk, OnErr};
 ghost use Rattle.mf_geom.specs.declared.cycle.CycleFault.{CycleFault};
 ghost use Rattle.mf_ops.specs.Operations.{HoldsNoList};
-ghost use Rattle.mf_ops.specs.Step.{stepped, fault_of};
+ghost use Rattle.mf_ops.specs.Step.{next_picture, op_fault};
 ghost use Rattle.mf_ops.specs.declared.cull.CullRule.{CullRule};
 ghost use Rattle.mf_ops.specs.declared.op.Op.TheVariants as ops;
 ghost use Rattle.mf_ops.specs.declared.sign.Sign.{Sign};
 
-use crate::add::{add, add_to};
+use crate::add::add;
 use crate::cull::Cull;
-use crate::fill::{fill, fill_in};
+use crate::fill::{fill, filling_weight};
 use crate::quarter::Quarter;
 use crate::scale::Scale;
 use crate::sign::Sign;
 use crate::transform::{scale, shift, turn};
 use crate::weight::Weight;
-use mf_geom::{Check, Cycle, CycleFault, OutOfMemory};
-use mf_rows::{AddFault, Picture};
+use mf_base::OutOfMemory;
+use mf_edges::AddFault;
+use mf_geom::{Check, Cycle, CycleFault};
+use mf_rows::Picture;
 use std::alloc::Global;
 use std::error::Error;
 use std::fmt;
@@ -90,9 +92,9 @@ impl From<OutOfMemory> for OpFault {
 
 impl From<AddFault> for OpFault {
     ghost use Rattle.std.specs.Prelude.{◌≡◌};
-    ghost use Rattle.mf_ops.specs.Faults.{op_fault};
+    ghost use Rattle.mf_ops.specs.Faults.{sum_fault};
 
-    ghost from_gives = { λ add fault. fault ≡ op_fault add };
+    ghost from_gives = { λ add fault. fault ≡ sum_fault add };
 
     fn from(fault: AddFault) -> OpFault {
         match fault {
@@ -134,18 +136,27 @@ impl Op {
 /// A clear is never refused, nor is a cull of a blank picture, nor adding a blank picture to a blank one or subtracting it.
 #[tactic(auto, using(crate::proofs::Faults::contour_not_out, crate::proofs::Faults::also_not_out, crate::proofs::Faults::cull_not_out, crate::proofs::Faults::quarter_not_out, crate::proofs::Faults::clear_not_out, crate::proofs::Faults::also_turns, crate::proofs::Faults::cull_turns, crate::proofs::Faults::shift_turns, crate::proofs::Faults::scale_turns, crate::proofs::Faults::quarter_turns, crate::proofs::Faults::clear_turns))]
 pub fn after(alloc: Global, picture: &Picture, op: &Op) -> Result<Picture, OpFault>
-    ensures step { IfOk result (λ new. new ≡ stepped picture.now op.now) }
-    ensures accepted { OnOk result (fault_of picture.now op.now ≡ None) }
-    ensures refused { IfErr result (λ fault. fault ≢ OpFault.OutOfMemory → fault_of picture.now op.now ≡ Some fault) }
-    ensures turning { (fault : CycleFault) → fault_of picture.now op.now ≡ Some (OpFault.Cycle fault) → result ≡ Err (OpFault.Cycle fault) }
-    ensures out_of_field { fault_of picture.now op.now ≡ Some OpFault.OutOfField → result ≡ Err OpFault.OutOfField }
+    ensures step { IfOk result (λ new. new ≡ next_picture picture.now op.now) }
+    ensures accepted { OnOk result (op_fault picture.now op.now ≡ None) }
+    ensures refused { IfErr result (λ fault. fault ≢ OpFault.OutOfMemory → op_fault picture.now op.now ≡ Some fault) }
+    ensures turning { (fault : CycleFault) → op_fault picture.now op.now ≡ Some (OpFault.Cycle fault) → result ≡ Err (OpFault.Cycle fault) }
+    ensures out_of_field { op_fault picture.now op.now ≡ Some OpFault.OutOfField → result ≡ Err OpFault.OutOfField }
     ensures clears { op.now ≡ ops.Clear → IsOk result }
     ensures blank { (sign : Sign) → picture.now ≡ [] → op.now ≡ ops.Also [] sign → IsOk result }
     ensures culls_blank { (cull : CullRule) → picture.now ≡ [] → op.now ≡ ops.Cull cull → IsOk result }
 {
     match op {
-        Op::Contour(cycle, weight, check) => fill(alloc, picture, cycle, *weight, *check),
-        Op::Also(other, sign) => add(alloc, picture, other, *sign),
+        Op::Contour(cycle, weight, check) => {
+            let filling = filling_weight(cycle, *weight, *check)?;
+            let mut filled = picture.copy(alloc)?;
+            fill(alloc, &mut filled, cycle, filling)?;
+            Ok(filled)
+        }
+        Op::Also(other, sign) => {
+            let mut sum = picture.copy(alloc)?;
+            add(alloc, &mut sum, other, *sign)?;
+            Ok(sum)
+        }
         Op::Cull(cull) => after_cull(alloc, picture, *cull),
         Op::Shift(right, up) => shift(alloc, picture, *right, *up),
         Op::Scale(factors) => scale(alloc, picture, *factors),
@@ -158,19 +169,22 @@ pub fn after(alloc: Global, picture: &Picture, op: &Op) -> Result<Picture, OpFau
 /// and leave the picture as it was. Adding or subtracting a blank picture is never refused.
 #[tactic(auto, using(crate::proofs::Faults::contour_not_out, crate::proofs::Faults::also_not_out, crate::proofs::Faults::also_turns))]
 pub fn apply(alloc: Global, picture: &mut Picture, op: &Op) -> Result<(), OpFault>
-    ensures step { OnOk result (picture.new ≡ stepped picture.old op.now) }
+    ensures step { OnOk result (picture.new ≡ next_picture picture.old op.now) }
     ensures unchanged { OnErr result (picture.new ≡ picture.old) }
-    ensures accepted { OnOk result (fault_of picture.old op.now ≡ None) }
-    ensures refused { IfErr result (λ fault. fault ≢ OpFault.OutOfMemory → fault_of picture.old op.now ≡ Some fault) }
-    ensures turning { (fault : CycleFault) → fault_of picture.old op.now ≡ Some (OpFault.Cycle fault) → result ≡ Err (OpFault.Cycle fault) }
-    ensures out_of_field { fault_of picture.old op.now ≡ Some OpFault.OutOfField → result ≡ Err OpFault.OutOfField }
+    ensures accepted { OnOk result (op_fault picture.old op.now ≡ None) }
+    ensures refused { IfErr result (λ fault. fault ≢ OpFault.OutOfMemory → op_fault picture.old op.now ≡ Some fault) }
+    ensures turning { (fault : CycleFault) → op_fault picture.old op.now ≡ Some (OpFault.Cycle fault) → result ≡ Err (OpFault.Cycle fault) }
+    ensures out_of_field { op_fault picture.old op.now ≡ Some OpFault.OutOfField → result ≡ Err OpFault.OutOfField }
     ensures clears { op.now ≡ ops.Clear → IsOk result }
     ensures blank { (sign : Sign) → op.now ≡ ops.Also [] sign → IsOk result }
     ensures culls_blank { (cull : CullRule) → picture.old ≡ [] → op.now ≡ ops.Cull cull → IsOk result }
 {
     match op {
-        Op::Contour(cycle, weight, check) => fill_in(alloc, picture, cycle, *weight, *check),
-        Op::Also(other, sign) => add_to(alloc, picture, other, *sign),
+        Op::Contour(cycle, weight, check) => {
+            let weight = filling_weight(cycle, *weight, *check)?;
+            fill(alloc, picture, cycle, weight)
+        }
+        Op::Also(other, sign) => add(alloc, picture, other, *sign),
         Op::Cull(_) | Op::Shift(_, _) | Op::Scale(_) | Op::Quarter(_) | Op::Clear => {
             *picture = after(alloc, picture, op)?;
             Ok(())
@@ -180,8 +194,8 @@ pub fn apply(alloc: Global, picture: &mut Picture, op: &Op) -> Result<(), OpFaul
 
 /// The picture after a cull.
 fn after_cull(alloc: Global, picture: &Picture, cull: Cull) -> Result<Picture, OpFault>
-    ensures step { IfOk result (λ new. new ≡ stepped picture.now (ops.Cull cull)) }
-    ensures accepted { OnOk result (fault_of picture.now (ops.Cull cull) ≡ None) }
+    ensures step { IfOk result (λ new. new ≡ next_picture picture.now (ops.Cull cull)) }
+    ensures accepted { OnOk result (op_fault picture.now (ops.Cull cull) ≡ None) }
     ensures refused { IfErr result (λ fault. fault ≡ OpFault.OutOfMemory) }
     ensures blank { picture.now ≡ [] → IsOk result }
 {
@@ -190,8 +204,8 @@ fn after_cull(alloc: Global, picture: &Picture, cull: Cull) -> Result<Picture, O
 
 /// The picture after a clear: the blank one.
 fn after_clear(alloc: Global, picture: &Picture) -> Picture
-    ensures step { result ≡ stepped picture.now ops.Clear }
-    ensures accepted { fault_of picture.now ops.Clear ≡ None }
+    ensures step { result ≡ next_picture picture.now ops.Clear }
+    ensures accepted { op_fault picture.now ops.Clear ≡ None }
 {
     Picture::blank(alloc)
 }

@@ -1,19 +1,21 @@
 //! Shifts, scales and turns.
-ghost use Rattle.std.specs.Prelude.{◌≡◌, ◌≢◌, ◌↔◌, None, Some, Err, IfOk, IfErr, OnOk, IsTrue, pos, negsuc, ◌≤ℤ◌};
+ghost use Rattle.std.specs.Prelude.{◌≡◌, ◌≢◌, ◌↔◌, None, Some, Err, IfOk, IfErr, OnOk, IsTrue, ◌≤ℤ◌};
+ghost use Rattle.mf_geom.specs.Coordinates.{least_coordinate, greatest_coordinate, last_in_field, IsCoordinate};
 ghost use Rattle.mf_rows.specs.Dots.{IsPicture};
-ghost use Rattle.mf_edges.specs.Axes.{PlaceStaysInside, IsPointInReach, stretched_to};
+ghost use Rattle.mf_edges.specs.Axes.{PlaceStaysInside, stretched_to};
 ghost use Rattle.mf_rows.specs.Moves.{PixelsStayInside};
 ghost use Rattle.mf_rows.specs.Sums.{HasWeights};
-ghost use Rattle.mf_ops.specs.Moves.{IsFactor};
-ghost use Rattle.mf_ops.specs.Reflections.{reflected_at};
-ghost use Rattle.mf_ops.specs.Step.{stepped, fault_of};
+ghost use Rattle.mf_ops.specs.Reflections.{reflection_at};
+ghost use Rattle.mf_ops.specs.Step.{next_picture, op_fault};
 ghost use Rattle.mf_ops.specs.declared.op.Op.TheVariants as ops;
 
 use crate::op::OpFault;
 use crate::quarter::Quarter;
 use crate::scale::Scale;
-use mf_geom::{MAX_COORDINATE, OutOfMemory};
-use mf_rows::{Picture, Stretch};
+use mf_base::OutOfMemory;
+use mf_edges::Stretch;
+use mf_geom::MAX_COORDINATE;
+use mf_rows::Picture;
 use std::alloc::Global;
 
 /// The greatest absolute value of a coordinate, as an `i64`: moved points are computed in 64 bits, so that nothing overflows.
@@ -21,10 +23,10 @@ const REACH: i64 = MAX_COORDINATE as i64;
 
 /// Returns the picture shifted to the right by `right` columns and upwards by `up` rows.
 pub fn shift(alloc: Global, picture: &Picture, right: i32, up: i32) -> Result<Picture, OpFault>
-    ensures step { IfOk result (λ new. new ≡ stepped picture.now (ops.Shift right up)) }
-    ensures accepted { OnOk result (fault_of picture.now (ops.Shift right up) ≡ None) }
-    ensures refused { IfErr result (λ fault. fault ≢ OpFault.OutOfMemory → fault_of picture.now (ops.Shift right up) ≡ Some fault) }
-    ensures out_of_field { fault_of picture.now (ops.Shift right up) ≡ Some OpFault.OutOfField → result ≡ Err OpFault.OutOfField }
+    ensures step { IfOk result (λ new. new ≡ next_picture picture.now (ops.Shift right up)) }
+    ensures accepted { OnOk result (op_fault picture.now (ops.Shift right up) ≡ None) }
+    ensures refused { IfErr result (λ fault. fault ≢ OpFault.OutOfMemory → op_fault picture.now (ops.Shift right up) ≡ Some fault) }
+    ensures out_of_field { op_fault picture.now (ops.Shift right up) ≡ Some OpFault.OutOfField → result ≡ Err OpFault.OutOfField }
 {
     let columns = stretch(1, right);
     let rows = stretch(1, up);
@@ -36,10 +38,10 @@ pub fn shift(alloc: Global, picture: &Picture, right: i32, up: i32) -> Result<Pi
 
 /// Returns the picture scaled by two factors. Where a factor is negative, the picture is reflected first and then stretched.
 pub fn scale(alloc: Global, picture: &Picture, scale: Scale) -> Result<Picture, OpFault>
-    ensures step { IfOk result (λ new. new ≡ stepped picture.now (ops.Scale scale)) }
-    ensures accepted { OnOk result (fault_of picture.now (ops.Scale scale) ≡ None) }
-    ensures refused { IfErr result (λ fault. fault ≢ OpFault.OutOfMemory → fault_of picture.now (ops.Scale scale) ≡ Some fault) }
-    ensures out_of_field { fault_of picture.now (ops.Scale scale) ≡ Some OpFault.OutOfField → result ≡ Err OpFault.OutOfField }
+    ensures step { IfOk result (λ new. new ≡ next_picture picture.now (ops.Scale scale)) }
+    ensures accepted { OnOk result (op_fault picture.now (ops.Scale scale) ≡ None) }
+    ensures refused { IfErr result (λ fault. fault ≢ OpFault.OutOfMemory → op_fault picture.now (ops.Scale scale) ≡ Some fault) }
+    ensures out_of_field { op_fault picture.now (ops.Scale scale) ≡ Some OpFault.OutOfField → result ≡ Err OpFault.OutOfField }
 {
     let (x, y) = (scale.x(), scale.y());
     if !stays_inside(picture, &stretch(x, 0), &stretch(y, 0)) {
@@ -51,8 +53,8 @@ pub fn scale(alloc: Global, picture: &Picture, scale: Scale) -> Result<Picture, 
 
 /// Returns the picture turned counterclockwise by 90, 180 or 270 degrees about the point (0, 0).
 pub fn turn(alloc: Global, picture: &Picture, quarter: Quarter) -> Result<Picture, OpFault>
-    ensures step { IfOk result (λ new. new ≡ stepped picture.now (ops.Quarter quarter)) }
-    ensures accepted { OnOk result (fault_of picture.now (ops.Quarter quarter) ≡ None) }
+    ensures step { IfOk result (λ new. new ≡ next_picture picture.now (ops.Quarter quarter)) }
+    ensures accepted { OnOk result (op_fault picture.now (ops.Quarter quarter) ≡ None) }
     ensures refused { IfErr result (λ fault. fault ≡ OpFault.OutOfMemory) }
 {
     match quarter {
@@ -64,8 +66,8 @@ pub fn turn(alloc: Global, picture: &Picture, quarter: Quarter) -> Result<Pictur
 
 /// Returns the picture turned by 90 degrees.
 fn turn_once(alloc: Global, picture: &Picture) -> Result<Picture, OpFault>
-    ensures step { IfOk result (λ new. new ≡ stepped picture.now (ops.Quarter Quarter.Once)) }
-    ensures accepted { OnOk result (fault_of picture.now (ops.Quarter Quarter.Once) ≡ None) }
+    ensures step { IfOk result (λ new. new ≡ next_picture picture.now (ops.Quarter Quarter.Once)) }
+    ensures accepted { OnOk result (op_fault picture.now (ops.Quarter Quarter.Once) ≡ None) }
     ensures refused { IfErr result (λ fault. fault ≡ OpFault.OutOfMemory) }
 {
     Ok(picture.turn(alloc)?)
@@ -73,8 +75,8 @@ fn turn_once(alloc: Global, picture: &Picture) -> Result<Picture, OpFault>
 
 /// Returns the picture turned by 180 degrees: both reflections.
 fn turn_twice(alloc: Global, picture: &Picture) -> Result<Picture, OpFault>
-    ensures step { IfOk result (λ new. new ≡ stepped picture.now (ops.Quarter Quarter.Twice)) }
-    ensures accepted { OnOk result (fault_of picture.now (ops.Quarter Quarter.Twice) ≡ None) }
+    ensures step { IfOk result (λ new. new ≡ next_picture picture.now (ops.Quarter Quarter.Twice)) }
+    ensures accepted { OnOk result (op_fault picture.now (ops.Quarter Quarter.Twice) ≡ None) }
     ensures refused { IfErr result (λ fault. fault ≡ OpFault.OutOfMemory) }
 {
     Ok(reflect(alloc, picture, true, true)?)
@@ -82,8 +84,8 @@ fn turn_twice(alloc: Global, picture: &Picture) -> Result<Picture, OpFault>
 
 /// Returns the picture turned by 270 degrees: by 90 and then by 180.
 fn turn_thrice(alloc: Global, picture: &Picture) -> Result<Picture, OpFault>
-    ensures step { IfOk result (λ new. new ≡ stepped picture.now (ops.Quarter Quarter.Thrice)) }
-    ensures accepted { OnOk result (fault_of picture.now (ops.Quarter Quarter.Thrice) ≡ None) }
+    ensures step { IfOk result (λ new. new ≡ next_picture picture.now (ops.Quarter Quarter.Thrice)) }
+    ensures accepted { OnOk result (op_fault picture.now (ops.Quarter Quarter.Thrice) ≡ None) }
     ensures refused { IfErr result (λ fault. fault ≡ OpFault.OutOfMemory) }
 {
     let turned = picture.turn(alloc)?;
@@ -97,7 +99,7 @@ fn reflect(
     columns: bool,
     rows: bool,
 ) -> Result<Picture, OutOfMemory>
-    ensures weights { IfOk result (HasWeights (reflected_at columns rows picture.now)) }
+    ensures weights { IfOk result (HasWeights (reflection_at columns rows picture.now)) }
     ensures lawful { IfOk result IsPicture }
 {
     match (columns, rows) {
@@ -126,8 +128,8 @@ fn stays_inside(picture: &Picture, columns: &Stretch, rows: &Stretch) -> bool
 
 /// Whether both ends of a column, or row, lie in -4095..4095 after a stretch.
 fn lies_inside(stretch: &Stretch, place: i32) -> bool
-    requires least { negsuc 4094 ≤ℤ place }
-    requires greatest { place ≤ℤ pos 4094 }
+    requires least { least_coordinate ≤ℤ place }
+    requires greatest { place ≤ℤ last_in_field }
     ensures { IsTrue result ↔ PlaceStaysInside stretch.now place }
 {
     is_in_reach(stretch, place) && is_in_reach(stretch, place + 1)
@@ -135,9 +137,9 @@ fn lies_inside(stretch: &Stretch, place: i32) -> bool
 
 /// Whether a point lies in -4095..4095 after a stretch.
 fn is_in_reach(stretch: &Stretch, point: i32) -> bool
-    requires least { negsuc 4094 ≤ℤ point }
-    requires greatest { point ≤ℤ pos 4095 }
-    ensures { IsTrue result ↔ IsPointInReach (stretched_to stretch.now point) }
+    requires least { least_coordinate ≤ℤ point }
+    requires greatest { point ≤ℤ greatest_coordinate }
+    ensures { IsTrue result ↔ IsCoordinate (stretched_to stretch.now point) }
 {
     let new = i64::from(point) * i64::from(stretch.factor) + i64::from(stretch.offset);
     -REACH <= new && new <= REACH

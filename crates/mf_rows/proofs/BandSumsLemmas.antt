@@ -7,6 +7,7 @@ use Rattle.std.specs.declared.sync.Arc.{Arc}
 use Rattle.std.proofs.lemmas.Int.{ints, clamps, by_lt_z}
 use Rattle.std.proofs.lemmas.List.{append-nil, length-drop}
 use Rattle.std.proofs.lemmas.List.Elements.{All-head, All-append, All-weaker}
+use Rattle.mf_geom.specs.Coordinates.{last_in_field}
 use Rattle.mf_rows.specs.declared.band.Band.{Band}
 use Rattle.mf_rows.specs.Bands.{rows_of_bands, AreBelow}
 use Rattle.mf_rows.specs.BandSums.{lowest_of, AreUpTo, AreBehind, AreNumberedBehind, BeginUpTo, IsStep, HasSum}
@@ -57,7 +58,8 @@ fewer_behind n zero (b ∷ bs) behind begin =
     absurd (omega (arith, ints))
 fewer_behind n (suc k) (b ∷ bs) behind begin = omega (arith, length-drop k bs)
 
-pub split_at_band : (n : ℤ) (k : ℕ) (bs first rest : List (Arc Band Global)) → first ≡ take k bs → rest ≡ drop k bs → AreUpTo n (rows_of_bands (take k bs)) → AreBehind n (rows_of_bands (drop k bs)) → AreNumberedBehind n (drop k bs) → IsSplitAtBand n bs first rest
+pub split_at_band : (n : ℤ) (k : ℕ) (bs first rest : List (Arc Band Global)) → first ≡ take k bs → rest ≡ drop k bs
+    → AreUpTo n (rows_of_bands (take k bs)) → AreBehind n (rows_of_bands (drop k bs)) → AreNumberedBehind n (drop k bs) → IsSplitAtBand n bs first rest
 split_at_band n k bs first rest first_is rest_is up_to behind others = rw (first_is, rest_is) (record {
   all = rows_of_bands-split k bs;
   up_to = up_to;
@@ -66,13 +68,17 @@ split_at_band n k bs first rest first_is rest_is up_to behind others = rw (first
   shorter = fewer_behind n k bs others;
 })
 
-pub fewer_bands : {n : ℤ} {bs cs first_left rest_left first_right rest_right : List (Arc Band Global)} → IsStep bs cs n → IsSplitAtBand n bs first_left rest_left → IsSplitAtBand n cs first_right rest_right → length rest_left + length rest_right < length bs + length cs
+pub fewer_bands : {n : ℤ} {bs cs first_left rest_left first_right rest_right : List (Arc Band Global)} → IsStep bs cs n
+    → IsSplitAtBand n bs first_left rest_left → IsSplitAtBand n cs first_right rest_right → length rest_left + length rest_right < length bs + length cs
 fewer_bands step left right =
     ⊎_elim (λ begin. omega (arith, left.shorter begin, right.no_longer)) (λ begin. omega (arith, right.shorter begin, left.no_longer)) step.reached
 
 pub rows_of_first : (k : ℕ) (bs first : List (Arc Band Global)) → first ≡ take k bs → AreRows (rows_of_bands bs) → AreRows (rows_of_bands first)
 rows_of_first k bs first first_is rows =
-    rw first_is (record { rows = rows_from-front (pos 4094) (rows_of_bands (take k bs)) (rows_of_bands (drop k bs)) (subst (AreRowsFrom (pos 4094)) (rows_of_bands-split k bs) rows.rows) })
+    rw first_is (record {
+      rows = rows_from-front last_in_field (rows_of_bands (take k bs)) (rows_of_bands (drop k bs))
+          (subst (AreRowsFrom last_in_field) (rows_of_bands-split k bs) rows.rows);
+    })
 
 -- ---- what is left
 
@@ -80,8 +86,10 @@ module _ (whole_left whole_right sum rs ss : List EdgeRow) (so_far : IsRowSumSoF
   -- at the end of one list, the rows of the other follow
   rows_with_rest : (rs ≡ []) ⊎ (ss ≡ []) → AreRows ((sum ++ rs) ++ ss)
   rows_with_rest end =
-      ⊎_elim (λ none. subst AreRows (sym (ap (λ rs. (sum ++ rs) ++ ss) none ∙ ap (λ rs. rs ++ ss) (append-nil sum))) (rows_behind whole_left whole_right sum rs ss so_far ss so_far.right))
-      (λ none. subst AreRows (sym (ap (λ ss. (sum ++ rs) ++ ss) none ∙ append-nil (sum ++ rs))) (rows_behind whole_left whole_right sum rs ss so_far rs so_far.left)) end
+      ⊎_elim (λ none. subst AreRows (sym (ap (λ rs. (sum ++ rs) ++ ss) none ∙ ap (λ rs. rs ++ ss) (append-nil sum)))
+      (rows_behind whole_left whole_right sum rs ss so_far ss so_far.right))
+      (λ none. subst AreRows (sym (ap (λ ss. (sum ++ rs) ++ ss) none ∙ append-nil (sum ++ rs)))
+      (rows_behind whole_left whole_right sum rs ss so_far rs so_far.left)) end
 
   pub weights_with_rest : HaveRowWeights (weight_in_all whole_left whole_right) ((sum ++ rs) ++ ss)
   unfolding weight_in_all
@@ -93,9 +101,12 @@ module _ (whole_left whole_right sum rs ss : List EdgeRow) (so_far : IsRowSumSoF
         omega (arith, ints);
   }
 
-pub rows_with_bands : (whole_left whole_right sum : List EdgeRow) (bs cs : List (Arc Band Global)) → IsRowSumSoFar whole_left whole_right sum (rows_of_bands bs) (rows_of_bands cs) → (bs ≡ []) ⊎ (cs ≡ []) → AreRows ((sum ++ rows_of_bands bs) ++ rows_of_bands cs)
+pub rows_with_bands : (whole_left whole_right sum : List EdgeRow) (bs cs : List (Arc Band Global))
+    → IsRowSumSoFar whole_left whole_right sum (rows_of_bands bs) (rows_of_bands cs) → (bs ≡ []) ⊎ (cs ≡ [])
+    → AreRows ((sum ++ rows_of_bands bs) ++ rows_of_bands cs)
 rows_with_bands whole_left whole_right sum bs cs so_far end =
-    rows_with_rest whole_left whole_right sum (rows_of_bands bs) (rows_of_bands cs) so_far (⊎_elim (λ none. inl (ap rows_of_bands none)) (λ none. inr (ap rows_of_bands none)) end)
+    rows_with_rest whole_left whole_right sum (rows_of_bands bs) (rows_of_bands cs) so_far
+    (⊎_elim (λ none. inl (ap rows_of_bands none)) (λ none. inr (ap rows_of_bands none)) end)
 
 -- ---- one step
 
@@ -107,7 +118,10 @@ rows_from-both top y (r ∷ rs) rows below =
     let in_reach : r.y ≤ℤ top = rows.1 in
     (rows.0, omega (arith, ints, clamps), rows.2)
 
-module _ (whole_left whole_right sum : List EdgeRow) (bs cs : List (Arc Band Global)) (so_far : IsRowSumSoFar whole_left whole_right sum (rows_of_bands bs) (rows_of_bands cs)) (n : ℤ) (first_left rest_left first_right rest_right : List (Arc Band Global)) (split_left : IsSplitAtBand n bs first_left rest_left) (split_right : IsSplitAtBand n cs first_right rest_right) where
+module _ (whole_left whole_right sum : List EdgeRow) (bs cs : List (Arc Band Global))
+    (so_far : IsRowSumSoFar whole_left whole_right sum (rows_of_bands bs) (rows_of_bands cs)) (n : ℤ)
+    (first_left rest_left first_right rest_right : List (Arc Band Global))
+    (split_left : IsSplitAtBand n bs first_left rest_left) (split_right : IsSplitAtBand n cs first_right rest_right) where
   from_top_left : AreRowsFrom so_far.top (rows_of_bands first_left ++ rows_of_bands rest_left)
   from_top_left = subst (AreRowsFrom so_far.top) split_left.all so_far.left
 
@@ -115,12 +129,16 @@ module _ (whole_left whole_right sum : List EdgeRow) (bs cs : List (Arc Band Glo
   from_top_right = subst (AreRowsFrom so_far.top) split_right.all so_far.right
 
   below_left : (y : ℤ) → so_far.top <ℤ y → AreBelow y (rows_of_bands first_left)
-  below_left y lt = rows_from-below so_far.top y (rows_of_bands first_left) (rows_from-front so_far.top (rows_of_bands first_left) (rows_of_bands rest_left) from_top_left) lt
+  below_left y lt =
+      rows_from-below so_far.top y (rows_of_bands first_left) (rows_from-front so_far.top (rows_of_bands first_left) (rows_of_bands rest_left) from_top_left) lt
 
   below_right : (y : ℤ) → so_far.top <ℤ y → AreBelow y (rows_of_bands first_right)
-  below_right y lt = rows_from-below so_far.top y (rows_of_bands first_right) (rows_from-front so_far.top (rows_of_bands first_right) (rows_of_bands rest_right) from_top_right) lt
+  below_right y lt =
+      rows_from-below so_far.top y (rows_of_bands first_right)
+      (rows_from-front so_far.top (rows_of_bands first_right) (rows_of_bands rest_right) from_top_right) lt
 
-  weight_in_all-parts : (x y : ℤ) → weight_in_all (rows_of_bands bs) (rows_of_bands cs) x y ≡ weight_in_all (rows_of_bands first_left) (rows_of_bands first_right) x y +ℤ weight_in_all (rows_of_bands rest_left) (rows_of_bands rest_right) x y
+  weight_in_all-parts : (x y : ℤ) → weight_in_all (rows_of_bands bs) (rows_of_bands cs) x y
+      ≡ weight_in_all (rows_of_bands first_left) (rows_of_bands first_right) x y +ℤ weight_in_all (rows_of_bands rest_left) (rows_of_bands rest_right) x y
   unfolding weight_in_all
   weight_in_all-parts x y =
       let left = weight_in_rows-append (rows_of_bands first_left) (rows_of_bands rest_left) x y in
@@ -128,7 +146,8 @@ module _ (whole_left whole_right sum : List EdgeRow) (bs cs : List (Arc Band Glo
       rw (split_left.all, split_right.all) (omega (arith, ints))
 
   -- where the first bands have a weight, neither the sum so far nor the other bands have a row
-  weight_in_all-step : (x y : ℤ) → weight_in_all (rows_of_bands first_left) (rows_of_bands first_right) x y ≢ pos 0 → weight_in_all whole_left whole_right x y ≡ weight_in_all (rows_of_bands first_left) (rows_of_bands first_right) x y
+  weight_in_all-step : (x y : ℤ) → weight_in_all (rows_of_bands first_left) (rows_of_bands first_right) x y ≢ pos 0
+      → weight_in_all whole_left whole_right x y ≡ weight_in_all (rows_of_bands first_left) (rows_of_bands first_right) x y
   unfolding weight_in_all
   weight_in_all-step x y some =
       by_lt_z so_far.top y
@@ -138,12 +157,14 @@ module _ (whole_left whole_right sum : List EdgeRow) (bs cs : List (Arc Band Glo
       absurd (some (omega (arith, ints))))
       (λ in_reach. by_lt_z y (lowest_of n)
       (λ under.
-      let higher = λ (rs : List EdgeRow) (up_to : AreUpTo n rs). All-weaker (λ r. (lowest_of n -ℤ pos 1) <ℤ r.y) (λ r. y <ℤ r.y) (λ r lt. omega (arith, ints)) rs up_to in
+      let higher =
+      λ (rs : List EdgeRow) (up_to : AreUpTo n rs). All-weaker (λ r. (lowest_of n -ℤ pos 1) <ℤ r.y) (λ r. y <ℤ r.y) (λ r lt. omega (arith, ints)) rs up_to in
       let none_left = weight_in_rows-above (rows_of_bands first_left) x y (higher (rows_of_bands first_left) split_left.up_to) in
       let none_right = weight_in_rows-above (rows_of_bands first_right) x y (higher (rows_of_bands first_right) split_right.up_to) in
       absurd (some (omega (arith, ints))))
       (λ reached.
-      let lower = λ (rs : List EdgeRow) (behind : AreBehind n rs). All-weaker (λ r. r.y <ℤ lowest_of n) (λ r. r.y <ℤ y) (λ r lt. omega (arith, ints)) rs behind in
+      let lower =
+      λ (rs : List EdgeRow) (behind : AreBehind n rs). All-weaker (λ r. r.y <ℤ lowest_of n) (λ r. r.y <ℤ y) (λ r lt. omega (arith, ints)) rs behind in
       let none_before = weight_in_rows-above sum x y (All-weaker (λ r. so_far.top <ℤ r.y) (λ r. y <ℤ r.y) (λ r lt. omega (arith, ints)) sum so_far.above) in
       let none_left = weight_in_rows-below (rows_of_bands rest_left) x y (lower (rows_of_bands rest_left) split_left.behind) in
       let none_right = weight_in_rows-below (rows_of_bands rest_right) x y (lower (rows_of_bands rest_right) split_right.behind) in
@@ -151,11 +172,13 @@ module _ (whole_left whole_right sum : List EdgeRow) (bs cs : List (Arc Band Glo
       let parts = weight_in_all-parts x y in
       omega (arith, ints)))
 
-  pub unlawful_in_step : IsUnlawfulSomewhere (weight_in_all (rows_of_bands first_left) (rows_of_bands first_right)) → IsUnlawfulSomewhere (weight_in_all whole_left whole_right)
+  pub unlawful_in_step : IsUnlawfulSomewhere (weight_in_all (rows_of_bands first_left) (rows_of_bands first_right))
+      → IsUnlawfulSomewhere (weight_in_all whole_left whole_right)
   unlawful_in_step unlawful =
       let x = unlawful.x in
       let y = unlawful.y in
-      let some : weight_in_all (rows_of_bands first_left) (rows_of_bands first_right) x y ≢ pos 0 = λ blank. unlawful.unlawful (record { least = omega (arith, ints); greatest = omega (arith, ints) }) in
+      let some : weight_in_all (rows_of_bands first_left) (rows_of_bands first_right) x y ≢ pos 0 =
+      λ blank. unlawful.unlawful (record { least = omega (arith, ints); greatest = omega (arith, ints) }) in
       record {
         x = x;
         y = y;
@@ -163,7 +186,8 @@ module _ (whole_left whole_right sum : List EdgeRow) (bs cs : List (Arc Band Glo
         unlawful = λ lawful. unlawful.unlawful (subst IsLawfulWeight (weight_in_all-step x y some) lawful);
       }
 
-  pub sum_more_bands : (after : List EdgeRow) → HasSum sum (rows_of_bands first_left) (rows_of_bands first_right) after → IsRowSumSoFar whole_left whole_right after (rows_of_bands rest_left) (rows_of_bands rest_right)
+  pub sum_more_bands : (after : List EdgeRow) → HasSum sum (rows_of_bands first_left) (rows_of_bands first_right) after
+      → IsRowSumSoFar whole_left whole_right after (rows_of_bands rest_left) (rows_of_bands rest_right)
   sum_more_bands after step =
       let top = int_min so_far.top (lowest_of n -ℤ pos 1) in
       let lower : top ≤ℤ so_far.top = omega (arith, ints, clamps) in
@@ -171,14 +195,17 @@ module _ (whole_left whole_right sum : List EdgeRow) (bs cs : List (Arc Band Glo
       rw step.all (record {
         top = top;
         in_field = omega (arith, ints, lower, so_far.in_field);
-        rows = rows_from-append (pos 4094) sum step.more so_far.rows step.rows.rows
-            (All-weaker (λ r. so_far.top <ℤ r.y) (λ r. AreBelow r.y step.more) (λ r lt. step.within.below r.y (below_left r.y lt) (below_right r.y lt)) sum so_far.above);
+        rows = rows_from-append last_in_field sum step.more so_far.rows step.rows.rows
+            (All-weaker (λ r. so_far.top <ℤ r.y) (λ r. AreBelow r.y step.more)
+            (λ r lt. step.within.below r.y (below_left r.y lt) (below_right r.y lt)) sum so_far.above);
         above = All-append (λ r. top <ℤ r.y) sum step.more
             (All-weaker (λ r. so_far.top <ℤ r.y) (λ r. top <ℤ r.y) (λ r lt. omega (arith, ints, lower)) sum so_far.above)
             (All-weaker (λ r. (lowest_of n -ℤ pos 1) <ℤ r.y) (λ r. top <ℤ r.y) (λ r lt. omega (arith, ints, lower_than_band)) step.more
             (step.within.above (lowest_of n -ℤ pos 1) split_left.up_to split_right.up_to));
-        left = rows_from-both so_far.top (lowest_of n) (rows_of_bands rest_left) (rows_from-back so_far.top (rows_of_bands first_left) (rows_of_bands rest_left) from_top_left) split_left.behind;
-        right = rows_from-both so_far.top (lowest_of n) (rows_of_bands rest_right) (rows_from-back so_far.top (rows_of_bands first_right) (rows_of_bands rest_right) from_top_right) split_right.behind;
+        left = rows_from-both so_far.top (lowest_of n) (rows_of_bands rest_left)
+            (rows_from-back so_far.top (rows_of_bands first_left) (rows_of_bands rest_left) from_top_left) split_left.behind;
+        right = rows_from-both so_far.top (lowest_of n) (rows_of_bands rest_right)
+            (rows_from-back so_far.top (rows_of_bands first_right) (rows_of_bands rest_right) from_top_right) split_right.behind;
         weights = λ x y.
             let old = so_far.weights x y in
             let parts = weight_in_all-parts x y in

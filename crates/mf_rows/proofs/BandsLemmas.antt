@@ -9,6 +9,7 @@ use Rattle.std.proofs.lemmas.List.Elements.{All-nil, All-cons, All-head, All-tai
 use Rattle.std.specs.Arc.{arc_value}
 use Rattle.std.specs.declared.alloc.Global.{Global}
 use Rattle.std.specs.declared.sync.Arc.{Arc}
+use Rattle.mf_geom.specs.Coordinates.{last_in_field}
 use lib.Signed.{lt_z}
 use Rattle.mf_rows.specs.declared.band.Band.{Band}
 use Rattle.mf_rows.specs.declared.row.Row.{Row}
@@ -30,7 +31,8 @@ All-back P (r ∷ rs) ss all = All-back P rs ss (All-tail P r (rs ++ ss) all)
 All-edge_rows : (P : EdgeRow → Type 0) (rows : List Row) → All P (edge_rows rows) → All (λ row. P (edge_row row)) rows
 All-edge_rows P [] all = All-nil (λ row. P (edge_row row))
 All-edge_rows P (r ∷ rows) all =
-    All-cons (λ row. P (edge_row row)) r rows (All-head P (edge_row r) (edge_rows rows) all) (All-edge_rows P rows (All-tail P (edge_row r) (edge_rows rows) all))
+    All-cons (λ row. P (edge_row row)) r rows (All-head P (edge_row r) (edge_rows rows) all)
+    (All-edge_rows P rows (All-tail P (edge_row r) (edge_rows rows) all))
 
 -- no row is lower than the last, and none is higher than the first
 last_is_least : (top : ℤ) (rs : List EdgeRow) → AreRowsFrom top rs → All (λ r. last_height rs ≤ℤ r.y) rs
@@ -83,12 +85,14 @@ bands_fall top (b ∷ bs) rows =
     let here = bottom_of (arc_value b) in
     let apart = rows_from-apart top (rows_in (arc_value b)) (rows_of_bands bs) rows in
     let below = All-bands (λ r. r.y <ℤ here) bs (at_bottom (λ y. AreBelow y (rows_of_bands bs)) (arc_value b) apart) in (
-      All-weaker (λ c. All (λ r. r.y <ℤ here) (rows_in (arc_value c))) (λ c. bottom_of (arc_value c) <ℤ here) (λ c lower. at_bottom (λ y. y <ℤ here) (arc_value c) lower) bs below,
+      All-weaker (λ c. All (λ r. r.y <ℤ here) (rows_in (arc_value c))) (λ c. bottom_of (arc_value c) <ℤ here)
+          (λ c lower. at_bottom (λ y. y <ℤ here) (arc_value c) lower) bs below,
       bands_fall top bs (rows_from-back top (rows_in (arc_value b)) (rows_of_bands bs) rows),
     )
 
 -- bands whose lowest rows are above a row have all their rows above it
-above_from_bottoms : (top y : ℤ) (bs : List (Arc Band Global)) → AreRowsFrom top (rows_of_bands bs) → All (λ b. y <ℤ bottom_of (arc_value b)) bs → AreAbove y (rows_of_bands bs)
+above_from_bottoms : (top y : ℤ) (bs : List (Arc Band Global)) → AreRowsFrom top (rows_of_bands bs)
+    → All (λ b. y <ℤ bottom_of (arc_value b)) bs → AreAbove y (rows_of_bands bs)
 above_from_bottoms top y [] rows above = All-nil (λ r. y <ℤ r.y)
 above_from_bottoms top y (b ∷ bs) rows above =
     let rs = rows_in (arc_value b) in
@@ -104,23 +108,31 @@ abbrev pub stands_above : ℤ → Arc Band Global → Bool
 stands_above y band = lt_z y (bottom_of (arc_value band))
 
 pub IsPartitionedBy-stands_above : (y : ℤ) (bs : List (Arc Band Global)) → AreRows (rows_of_bands bs) → IsPartitionedBy (stands_above y) bs
-IsPartitionedBy-stands_above y bs lawful = IsPartitionedBy-falls (λ b. bottom_of (arc_value b)) (stands_above y) (λ a b le above. grind (arith, ints)) bs (bands_fall (pos 4094) bs lawful.rows)
+IsPartitionedBy-stands_above y bs lawful =
+    IsPartitionedBy-falls (λ b. bottom_of (arc_value b)) (stands_above y) (λ a b le above. grind (arith, ints)) bs (bands_fall last_in_field bs lawful.rows)
 
 -- what the places say of the rows before them and of the bands from them on
-pub above_split : (y : ℤ) (n : ℕ) (bs : List (Arc Band Global)) → AreRows (rows_of_bands bs) → n ≤ length bs → AllWithin (λ b. stands_above y b ≡ true) bs 0 n → AreAbove y (rows_of_bands (take n bs))
+pub above_split : (y : ℤ) (n : ℕ) (bs : List (Arc Band Global)) → AreRows (rows_of_bands bs) → n ≤ length bs
+    → AllWithin (λ b. stands_above y b ≡ true) bs 0 n → AreAbove y (rows_of_bands (take n bs))
 above_split y n bs lawful le passed =
-    let front = rows_from-front (pos 4094) (rows_of_bands (take n bs)) (rows_of_bands (drop n bs)) (subst (AreRowsFrom (pos 4094)) (rows_of_bands-split n bs) lawful.rows) in
-    above_from_bottoms (pos 4094) y (take n bs) front
-    (All-weaker (λ b. stands_above y b ≡ true) (λ b. y <ℤ bottom_of (arc_value b)) (λ b above. grind (arith, ints)) (take n bs) (All-take_within (λ b. stands_above y b ≡ true) bs n le passed))
+    let front =
+    rows_from-front last_in_field (rows_of_bands (take n bs)) (rows_of_bands (drop n bs))
+    (subst (AreRowsFrom last_in_field) (rows_of_bands-split n bs) lawful.rows) in
+    above_from_bottoms last_in_field y (take n bs) front
+    (All-weaker (λ b. stands_above y b ≡ true) (λ b. y <ℤ bottom_of (arc_value b)) (λ b above. grind (arith, ints))
+    (take n bs) (All-take_within (λ b. stands_above y b ≡ true) bs n le passed))
 
-pub others_split : (y : ℤ) (n : ℕ) (bs : List (Arc Band Global)) → AllWithin (λ b. stands_above y b ≡ false) bs n (length bs) → All (λ b. bottom_of (arc_value b) ≤ℤ y) (drop n bs)
+pub others_split : (y : ℤ) (n : ℕ) (bs : List (Arc Band Global)) → AllWithin (λ b. stands_above y b ≡ false) bs n (length bs)
+    → All (λ b. bottom_of (arc_value b) ≤ℤ y) (drop n bs)
 others_split y n bs failed =
-    All-weaker (λ b. stands_above y b ≡ false) (λ b. bottom_of (arc_value b) ≤ℤ y) (λ b not_above. grind (arith, ints)) (drop n bs) (All-drop_within (λ b. stands_above y b ≡ false) bs n failed)
+    All-weaker (λ b. stands_above y b ≡ false) (λ b. bottom_of (arc_value b) ≤ℤ y) (λ b not_above. grind (arith, ints))
+    (drop n bs) (All-drop_within (λ b. stands_above y b ≡ false) bs n failed)
 
 -- ---- the row in its band
 
 -- rows above a row and rows below it do not count
-weight_between : (above rs below : List EdgeRow) (x y : ℤ) → AreAbove y above → AreBelow y below → weight_in_rows (above ++ (rs ++ below)) x y ≡ weight_in_rows rs x y
+weight_between : (above rs below : List EdgeRow) (x y : ℤ) → AreAbove y above → AreBelow y below
+    → weight_in_rows (above ++ (rs ++ below)) x y ≡ weight_in_rows rs x y
 weight_between above rs below x y higher lower =
     let all = weight_in_rows-append above (rs ++ below) x y in
     let others = weight_in_rows-append rs below x y in
@@ -129,26 +141,29 @@ weight_between above rs below x y higher lower =
     omega (arith, ints)
 
 -- only the first band that is not entirely above row y may have it
-pub same_row_in_band : (y : ℤ) (k : ℕ) (bs : List (Arc Band Global)) (b : Arc Band Global) → AreRows (rows_of_bands bs) → k < length bs → b ≡ get_or bs k b → AreAbove y (rows_of_bands (take k bs)) → All (λ c. bottom_of (arc_value c) ≤ℤ y) (drop k bs) → HasSameRow (rows_of_bands bs) y (rows_in (arc_value b))
+pub same_row_in_band : (y : ℤ) (k : ℕ) (bs : List (Arc Band Global)) (b : Arc Band Global) → AreRows (rows_of_bands bs)
+    → k < length bs → b ≡ get_or bs k b → AreAbove y (rows_of_bands (take k bs))
+    → All (λ c. bottom_of (arc_value c) ≤ℤ y) (drop k bs) → HasSameRow (rows_of_bands bs) y (rows_in (arc_value b))
 same_row_in_band y k bs b lawful inside read above others =
     let front = rows_of_bands (take k bs) in
     let rs = rows_in (arc_value b) in
     let back = rows_of_bands (drop (k + 1) bs) in
     let rest : drop k bs ≡ b ∷ drop (k + 1) bs = drop_more bs k b inside ∙ ap (λ c. c ∷ drop (k + 1) bs) (sym read) in
     let all : rows_of_bands bs ≡ front ++ (rs ++ back) = rows_of_bands-split k bs ∙ ap (λ cs. front ++ rows_of_bands cs) rest in
-    let from_here = rows_from-back (pos 4094) front (rs ++ back) (subst (AreRowsFrom (pos 4094)) all lawful.rows) in
+    let from_here = rows_from-back last_in_field front (rs ++ back) (subst (AreRowsFrom last_in_field) all lawful.rows) in
     let bottom = All-head (λ c. bottom_of (arc_value c) ≤ℤ y) b (drop (k + 1) bs) (subst (All (λ c. bottom_of (arc_value c) ≤ℤ y)) rest others) in
-    let apart = at_bottom (λ z. AreBelow z back) (arc_value b) (rows_from-apart (pos 4094) rs back from_here) in
+    let apart = at_bottom (λ z. AreBelow z back) (arc_value b) (rows_from-apart last_in_field rs back from_here) in
     let below = All-weaker (λ r. r.y <ℤ bottom_of (arc_value b)) (λ r. r.y <ℤ y) (λ r lower. omega (arith, ints)) back apart in
     record {
-      lawful = record { rows = rows_from-front (pos 4094) rs back from_here };
+      lawful = record { rows = rows_from-front last_in_field rs back from_here };
       weights = λ x. ap (λ ss. weight_in_rows ss x y) all ∙ weight_between front rs back x y above below;
     }
 
 -- the first row that is not above row y is row y, or there is no row y
-row_here : (y : ℤ) (above : List EdgeRow) (r : EdgeRow) (below : List EdgeRow) → AreRows (above ++ r ∷ below) → AreAbove y above → r.y ≡ y → HasRow (above ++ r ∷ below) y r.edges
+row_here : (y : ℤ) (above : List EdgeRow) (r : EdgeRow) (below : List EdgeRow) → AreRows (above ++ r ∷ below)
+    → AreAbove y above → r.y ≡ y → HasRow (above ++ r ∷ below) y r.edges
 row_here y above r below lawful higher here =
-    let from_here = rows_from-back (pos 4094) above (r ∷ below) lawful.rows in
+    let from_here = rows_from-back last_in_field above (r ∷ below) lawful.rows in
     let lower = rows_from-below (r.y -ℤ pos 1) y below from_here.2 (omega (arith, ints)) in
     record {
       edges = from_here.0.edges;
@@ -160,9 +175,10 @@ row_here y above r below lawful higher here =
           omega (arith, ints);
     }
 
-no_row_here : (y : ℤ) (above : List EdgeRow) (r : EdgeRow) (below : List EdgeRow) → AreRows (above ++ r ∷ below) → AreAbove y above → r.y <ℤ y → HasNoRow (above ++ r ∷ below) y
+no_row_here : (y : ℤ) (above : List EdgeRow) (r : EdgeRow) (below : List EdgeRow) → AreRows (above ++ r ∷ below)
+    → AreAbove y above → r.y <ℤ y → HasNoRow (above ++ r ∷ below) y
 no_row_here y above r below lawful higher behind =
-    let from_here = rows_from-back (pos 4094) above (r ∷ below) lawful.rows in
+    let from_here = rows_from-back last_in_field above (r ∷ below) lawful.rows in
     let lower = rows_from-below r.y y (r ∷ below) (from_here.0, omega (arith, ints), from_here.2) behind in
     record {
       weights = λ x.
@@ -177,41 +193,54 @@ abbrev pub row_stands_above : ℤ → Row → Bool
 row_stands_above y row = lt_z y row.y
 
 pub IsPartitionedBy-row_stands_above : (y : ℤ) (rows : List Row) → AreRows (edge_rows rows) → IsPartitionedBy (row_stands_above y) rows
-IsPartitionedBy-row_stands_above y rows lawful = IsPartitionedBy-falls (λ row. row.y) (row_stands_above y) (λ a b le above. grind (arith, ints)) rows (rows_fall (pos 4094) rows lawful.rows)
+IsPartitionedBy-row_stands_above y rows lawful =
+    IsPartitionedBy-falls (λ row. row.y) (row_stands_above y) (λ a b le above. grind (arith, ints)) rows (rows_fall last_in_field rows lawful.rows)
 
-pub rows_above_split : (y : ℤ) (n : ℕ) (rows : List Row) → n ≤ length rows → AllWithin (λ row. row_stands_above y row ≡ true) rows 0 n → AreAbove y (edge_rows (take n rows))
+pub rows_above_split : (y : ℤ) (n : ℕ) (rows : List Row) → n ≤ length rows
+    → AllWithin (λ row. row_stands_above y row ≡ true) rows 0 n → AreAbove y (edge_rows (take n rows))
 rows_above_split y n rows le passed =
     All-map (λ r. y <ℤ r.y) edge_row (take n rows)
-    (All-weaker (λ row. row_stands_above y row ≡ true) (λ row. y <ℤ row.y) (λ row above. grind (arith, ints)) (take n rows) (All-take_within (λ row. row_stands_above y row ≡ true) rows n le passed))
+    (All-weaker (λ row. row_stands_above y row ≡ true) (λ row. y <ℤ row.y) (λ row above. grind (arith, ints))
+    (take n rows) (All-take_within (λ row. row_stands_above y row ≡ true) rows n le passed))
 
-pub rows_others_split : (y : ℤ) (n : ℕ) (rows : List Row) → AllWithin (λ row. row_stands_above y row ≡ false) rows n (length rows) → All (λ row. row.y ≤ℤ y) (drop n rows)
+pub rows_others_split : (y : ℤ) (n : ℕ) (rows : List Row) → AllWithin (λ row. row_stands_above y row ≡ false) rows n (length rows)
+    → All (λ row. row.y ≤ℤ y) (drop n rows)
 rows_others_split y n rows failed =
-    All-weaker (λ row. row_stands_above y row ≡ false) (λ row. row.y ≤ℤ y) (λ row not_above. grind (arith, ints)) (drop n rows) (All-drop_within (λ row. row_stands_above y row ≡ false) rows n failed)
+    All-weaker (λ row. row_stands_above y row ≡ false) (λ row. row.y ≤ℤ y) (λ row not_above. grind (arith, ints))
+    (drop n rows) (All-drop_within (λ row. row_stands_above y row ≡ false) rows n failed)
 
 -- the rows before a row, the row itself, and the rows after it
 rows-split : (n : ℕ) (rows : List Row) (row : Row) → n < length rows → row ≡ get_or rows n row → drop n rows ≡ row ∷ drop (n + 1) rows
 rows-split n rows row inside read = drop_more rows n row inside ∙ ap (λ r. r ∷ drop (n + 1) rows) (sym read)
 
-edge_rows-split : (n : ℕ) (rows : List Row) (row : Row) → n < length rows → row ≡ get_or rows n row → edge_rows rows ≡ edge_rows (take n rows) ++ edge_row row ∷ edge_rows (drop (n + 1) rows)
+edge_rows-split : (n : ℕ) (rows : List Row) (row : Row) → n < length rows → row ≡ get_or rows n row
+    → edge_rows rows ≡ edge_rows (take n rows) ++ edge_row row ∷ edge_rows (drop (n + 1) rows)
 edge_rows-split n rows row inside read =
-    ap edge_rows (sym (take-append-drop n rows)) ∙ (map-append edge_row (take n rows) (drop n rows) ∙ ap (λ others. edge_rows (take n rows) ++ edge_rows others) (rows-split n rows row inside read))
+    ap edge_rows (sym (take-append-drop n rows))
+    ∙ (map-append edge_row (take n rows) (drop n rows) ∙ ap (λ others. edge_rows (take n rows) ++ edge_rows others) (rows-split n rows row inside read))
 
-pub found_row : (y : ℤ) (n : ℕ) (rows : List Row) (row : Row) → AreRows (edge_rows rows) → n < length rows → row ≡ get_or rows n row → AreAbove y (edge_rows (take n rows)) → row.y ≡ y → HasRow (edge_rows rows) y (edge_row row).edges
+pub found_row : (y : ℤ) (n : ℕ) (rows : List Row) (row : Row) → AreRows (edge_rows rows) → n < length rows
+    → row ≡ get_or rows n row → AreAbove y (edge_rows (take n rows)) → row.y ≡ y → HasRow (edge_rows rows) y (edge_row row).edges
 found_row y n rows row lawful inside read above here =
     let all = edge_rows-split n rows row inside read in
-    subst (λ rs. HasRow rs y (edge_row row).edges) (sym all) (row_here y (edge_rows (take n rows)) (edge_row row) (edge_rows (drop (n + 1) rows)) (subst AreRows all lawful) above here)
+    subst (λ rs. HasRow rs y (edge_row row).edges) (sym all)
+    (row_here y (edge_rows (take n rows)) (edge_row row) (edge_rows (drop (n + 1) rows)) (subst AreRows all lawful) above here)
 
-pub absent_row : (y : ℤ) (n : ℕ) (rows : List Row) (row : Row) → AreRows (edge_rows rows) → n < length rows → row ≡ get_or rows n row → AreAbove y (edge_rows (take n rows)) → All (λ r. r.y ≤ℤ y) (drop n rows) → row.y ≢ y → HasNoRow (edge_rows rows) y
+pub absent_row : (y : ℤ) (n : ℕ) (rows : List Row) (row : Row) → AreRows (edge_rows rows) → n < length rows
+    → row ≡ get_or rows n row → AreAbove y (edge_rows (take n rows)) → All (λ r. r.y ≤ℤ y) (drop n rows) → row.y ≢ y → HasNoRow (edge_rows rows) y
 absent_row y n rows row lawful inside read above others elsewhere =
     let all = edge_rows-split n rows row inside read in
     let not_above = All-head (λ r. r.y ≤ℤ y) row (drop (n + 1) rows) (subst (All (λ r. r.y ≤ℤ y)) (rows-split n rows row inside read) others) in
-    subst (λ rs. HasNoRow rs y) (sym all) (no_row_here y (edge_rows (take n rows)) (edge_row row) (edge_rows (drop (n + 1) rows)) (subst AreRows all lawful) above (omega (arith, ints)))
+    subst (λ rs. HasNoRow rs y) (sym all)
+    (no_row_here y (edge_rows (take n rows)) (edge_row row) (edge_rows (drop (n + 1) rows)) (subst AreRows all lawful) above (omega (arith, ints)))
 
 pub absent_row_all : (y : ℤ) (n : ℕ) (rows : List Row) → length rows ≤ n → AreAbove y (edge_rows (take n rows)) → HasNoRow (edge_rows rows) y
-absent_row_all y n rows outside above = record { weights = λ x. weight_in_rows-above (edge_rows rows) x y (subst (λ rs. AreAbove y (edge_rows rs)) (take_all n rows outside) above) }
+absent_row_all y n rows outside above =
+    record { weights = λ x. weight_in_rows-above (edge_rows rows) x y (subst (λ rs. AreAbove y (edge_rows rs)) (take_all n rows outside) above) }
 
 pub absent_band_all : (y : ℤ) (n : ℕ) (bs : List (Arc Band Global)) → length bs ≤ n → AreAbove y (rows_of_bands (take n bs)) → HasNoRow (rows_of_bands bs) y
-absent_band_all y n bs outside above = record { weights = λ x. weight_in_rows-above (rows_of_bands bs) x y (subst (λ cs. AreAbove y (rows_of_bands cs)) (take_all n bs outside) above) }
+absent_band_all y n bs outside above =
+    record { weights = λ x. weight_in_rows-above (rows_of_bands bs) x y (subst (λ cs. AreAbove y (rows_of_bands cs)) (take_all n bs outside) above) }
 
 -- ---- rows that are put into bands
 
@@ -227,6 +256,7 @@ edge_rows-push : (rs : List EdgeRow) (rows : List Row) (row : Row) → rs ++ edg
 edge_rows-push rs rows row = ap (λ ss. rs ++ ss) (map-append edge_row rows (row ∷ [])) ∙ sym (append_assoc rs (edge_rows rows) (edge_row row ∷ []))
 
 -- one more row on both sides
-pub one_more_row : (bands old : List EdgeRow) (open_rows done : List Row) (row : Row) → bands ++ edge_rows open_rows ≡ old ++ edge_rows done → bands ++ edge_rows (open_rows ++ row ∷ []) ≡ old ++ edge_rows (done ++ row ∷ [])
+pub one_more_row : (bands old : List EdgeRow) (open_rows done : List Row) (row : Row)
+    → bands ++ edge_rows open_rows ≡ old ++ edge_rows done → bands ++ edge_rows (open_rows ++ row ∷ []) ≡ old ++ edge_rows (done ++ row ∷ [])
 one_more_row bands old open_rows done row same =
     edge_rows-push bands open_rows row ∙ (ap (λ rs. rs ++ edge_row row ∷ []) same ∙ sym (edge_rows-push old done row))

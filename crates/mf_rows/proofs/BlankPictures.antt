@@ -1,10 +1,11 @@
 -- Blank pictures: they have no rows, and so no bands, and they stay blank where their weights are mapped.
-use Rattle.std.proofs.Common.{◌≡◌, ◌≢◌, pos, List, [], ◌∷◌, length, length-append, refl, sym, ap, ◌∙◌, arith}
+use Rattle.std.proofs.Common.{◌≡◌, ◌≢◌, List, [], ◌∷◌, length, length-append, refl, sym, ap, ◌∙◌, arith}
 use Rattle.std.specs.Arc.{arc_value}
 use Rattle.std.specs.declared.alloc.Global.{Global}
 use Rattle.std.specs.declared.sync.Arc.{Arc}
 use Rattle.std.proofs.lemmas.List.{length-map}
 use Rattle.std.proofs.lemmas.List.Elements.{All-head}
+use Rattle.mf_geom.specs.Coordinates.{last_in_field}
 use Rattle.mf_rows.specs.declared.band.Band.{Band}
 use Rattle.mf_rows.specs.Bands.{edge_row, rows_in, rows_of_bands}
 use Rattle.mf_edges.specs.declared.weight_map.WeightMap.{WeightMap}
@@ -21,7 +22,7 @@ no_rows : (rs : List EdgeRow) → AreRows rs → picture_of_rows rs ≡ [] → r
 unfolding weight_at
 no_rows [] rows blank = refl
 no_rows (r ∷ rs) rows blank =
-    let others = no_row (pos 4094) r.y (r ∷ rs) rows.rows (λ x. sym (weight_at-picture_of_rows (r ∷ rs) x r.y rows) ∙ ap (λ ds. weight_at ds x r.y) blank) in
+    let others = no_row last_in_field r.y (r ∷ rs) rows.rows (λ x. sym (weight_at-picture_of_rows (r ∷ rs) x r.y rows) ∙ ap (λ ds. weight_at ds x r.y) blank) in
     absurd (All-head (λ s. s.y ≢ r.y) r rs others refl)
 
 -- and there are no bands, since each has a row

@@ -1,5 +1,5 @@
 -- The least box of a picture lies in the field.
-use Rattle.std.proofs.Common.{◌≡◌, ℤ, List, subst}
+use Rattle.std.proofs.Common.{◌≡◌, ℤ, List}
 use Rattle.std.specs.List.{All, Any}
 use Rattle.std.proofs.lemmas.List.Elements.{All-contains}
 use Rattle.mf_geom.specs.Field.{IsInField}

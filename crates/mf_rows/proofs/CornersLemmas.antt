@@ -9,6 +9,7 @@ use Rattle.std.proofs.lemmas.List.{drop_more}
 use Rattle.std.proofs.lemmas.List.Elements.{All-head, All-tail, All-nil}
 use Rattle.std.proofs.lemmas.List.Sorted.{sum_by-IsPermutation, length_permutation, All-permutation}
 use Rattle.std.proofs.lemmas.List.Sums.{sum_by-cons}
+use Rattle.mf_geom.specs.Coordinates.{least_coordinate, greatest_coordinate}
 use Rattle.mf_geom.specs.Field.{IsInField}
 use Rattle.mf_rows.specs.declared.corner.Corner.{Corner}
 use Rattle.mf_edges.specs.declared.edge.Edge.{Edge}
@@ -35,7 +36,8 @@ unfolding plus minus
 difference (pos n) = omega (arith, ints)
 difference (negsuc n) = omega (arith, ints)
 
-added_as_sums : (ks : List Corner) (x y : ℤ) → added_by_all ks x y ≡ pos (sum_by (λ k. plus (added_by k x y)) ks) -ℤ pos (sum_by (λ k. minus (added_by k x y)) ks)
+added_as_sums : (ks : List Corner) (x y : ℤ)
+    → added_by_all ks x y ≡ pos (sum_by (λ k. plus (added_by k x y)) ks) -ℤ pos (sum_by (λ k. minus (added_by k x y)) ks)
 unfolding added_by_all
 added_as_sums [] x y = omega (arith, ints)
 added_as_sums (k ∷ ks) x y =
@@ -53,7 +55,7 @@ pub corners_permuted : (ks ls : List Corner) → IsPermutation ks ls → AreCorn
 corners_permuted ks ls moved corners = record {
   few = rw (length_permutation ks ls moved) corners.few;
   corners = All-permutation IsCorner ks ls moved corners.corners;
-  closed = λ y. added_by_permuted ks ls (pos 4095) y moved ∙ corners.closed y;
+  closed = λ y. added_by_permuted ks ls greatest_coordinate y moved ∙ corners.closed y;
 }
 
 -- ---- corners sorted by falling height
@@ -70,18 +72,19 @@ not_above a b not_less =
     (λ equal same. omega (arith, ints, same))
     (λ greater over. omega (arith, ints, over))
 
-falling_by_index : (top : ℤ) (ks : List Corner) → first_height_of ks ≤ℤ top → ((i : ℕ) (d : Corner) → suc i < length ks → (get_or ks (suc i) d).y ≤ℤ (get_or ks i d).y) → AreFalling top ks
+falling_by_index : (top : ℤ) (ks : List Corner) → first_height_of ks ≤ℤ top
+    → ((i : ℕ) (d : Corner) → suc i < length ks → (get_or ks (suc i) d).y ≤ℤ (get_or ks i d).y) → AreFalling top ks
 falling_by_index top [] first falls = tt
 falling_by_index top (k ∷ []) first falls = (first, tt)
 falling_by_index top (k ∷ l ∷ ks) first falls =
     (first, falling_by_index k.y (l ∷ ks) (falls 0 k (omega arith)) (λ i d lt. falls (suc i) d (omega arith)))
 
-first_below_field_top : (ks : List Corner) → All IsCorner ks → first_height_of ks ≤ℤ pos 4095
+first_below_field_top : (ks : List Corner) → All IsCorner ks → first_height_of ks ≤ℤ greatest_coordinate
 first_below_field_top [] corners = omega (arith, ints)
 first_below_field_top (k ∷ ks) corners = (All-head IsCorner k ks corners).top
 
-pub falling_from_sorted : (ks : List Corner) → All IsCorner ks → IsSortedBy (λ k l. is_lt (int_cmp l.y k.y)) ks → AreFalling (pos 4095) ks
-falling_from_sorted ks corners sorted = falling_by_index (pos 4095) ks (first_below_field_top ks corners) (λ i d lt.
+pub falling_from_sorted : (ks : List Corner) → All IsCorner ks → IsSortedBy (λ k l. is_lt (int_cmp l.y k.y)) ks → AreFalling greatest_coordinate ks
+falling_from_sorted ks corners sorted = falling_by_index greatest_coordinate ks (first_below_field_top ks corners) (λ i d lt.
     let step = sorted i d (omega arith) (omega arith) in
     not_above _ _ (rw add-one at step))
 
@@ -90,7 +93,7 @@ next_height_falls : (k : Corner) (ks : List Corner) → IsCorner k → AreFallin
 next_height_falls k [] corner falling = corner.bottom
 next_height_falls k (l ∷ ks) corner falling = falling.0
 
-next_height_in_field : (ks : List Corner) → All IsCorner ks → negsuc 4094 ≤ℤ first_height_of ks
+next_height_in_field : (ks : List Corner) → All IsCorner ks → least_coordinate ≤ℤ first_height_of ks
 next_height_in_field [] corners = omega (arith, ints)
 next_height_in_field (k ∷ ks) corners = (All-head IsCorner k ks corners).bottom
 
@@ -142,21 +145,21 @@ added_above_first top (k ∷ ks) x y falling above = added_falling k.y (k ∷ ks
 -- the edges are those of the rows below it, as long as the corners that are left add nothing
 pub record IsSwept (all left : List Corner) (es : List Edge) (rs : List EdgeRow) : Type 0 where
   pub corners : All IsCorner left
-  pub falling : AreFalling (pos 4095) left
+  pub falling : AreFalling greatest_coordinate left
   pub rows : ReachDownTo (first_height_of left) rs
   pub above : (x y : ℤ) → IsInField x y → first_height_of left ≤ℤ y → weight_in_rows rs x y ≡ added_by_all all x y
   pub below : (x y : ℤ) → y <ℤ first_height_of left → added_by_all all x y ≡ weight_in es x +ℤ added_by_all left x y
-  pub sorted : AreEdgesFrom (negsuc 4094) es
+  pub sorted : AreEdgesFrom least_coordinate es
   pub least : (x : ℤ) → negsuc 24575 ≤ℤ (weight_in es x -ℤ pos (3 * length left))
   pub greatest : (x : ℤ) → (weight_in es x +ℤ pos (3 * length left)) ≤ℤ pos 24576
 
-pub swept_none : (all : List Corner) → AreCorners all → AreFalling (pos 4095) all → IsSwept all all [] []
+pub swept_none : (all : List Corner) → AreCorners all → AreFalling greatest_coordinate all → IsSwept all all [] []
 unfolding weight_in weight_in_rows
 swept_none all corners falling = record {
   corners = corners.corners;
   falling = falling;
   rows = record { rows = tt; reach = All-nil (λ r. first_height_of all ≤ℤ r.y) };
-  above = λ x y inside above. sym (added_above_first (pos 4095) all x y falling above);
+  above = λ x y inside above. sym (added_above_first greatest_coordinate all x y falling above);
   below = λ x y below. omega (arith, ints);
   sorted = tt;
   least = λ x. omega (arith, ints, corners.few);
@@ -172,12 +175,15 @@ swept_edges all left es rs swept = record {
   lawful = λ x. record { least = omega (arith, ints, swept.least x); greatest = omega (arith, ints, swept.greatest x) };
 }
 
-part_is_small : (b : Bool) (w : ℤ) → negsuc 2 ≤ℤ w → w ≤ℤ pos 3 → record { least : negsuc 2 ≤ℤ (if b then w else pos 0); greatest : (if b then w else pos 0) ≤ℤ pos 3 }
+part_is_small : (b : Bool) (w : ℤ) → negsuc 2 ≤ℤ w → w ≤ℤ pos 3
+    → record { least : negsuc 2 ≤ℤ (if b then w else pos 0); greatest : (if b then w else pos 0) ≤ℤ pos 3 }
 part_is_small true w least greatest = record { least = least; greatest = greatest }
 part_is_small false w least greatest = record { least = omega (arith, ints); greatest = omega (arith, ints) }
 
 -- the next corner becomes an edge, and the rows down to the corner after it are made
-module _ (all : List Corner) (k : Corner) (left : List Corner) (es fs : List Edge) (rs : List EdgeRow) (corners : AreCorners all) (swept : IsSwept all (k ∷ left) es rs) (sorted : AreEdgesFrom (negsuc 4094) fs) (added : HaveWeights (with_edge_in es k.x k.weight) fs) where
+module _ (all : List Corner) (k : Corner) (left : List Corner) (es fs : List Edge) (rs : List EdgeRow)
+    (corners : AreCorners all) (swept : IsSwept all (k ∷ left) es rs) (sorted : AreEdgesFrom least_coordinate fs)
+    (added : HaveWeights (with_edge_in es k.x k.weight) fs) where
   corner : IsCorner k
   corner = All-head IsCorner k left swept.corners
 
@@ -203,15 +209,15 @@ module _ (all : List Corner) (k : Corner) (left : List Corner) (es fs : List Edg
     sorted = sorted;
     lawful = λ x. record { least = omega (arith, ints, small x); greatest = omega (arith, ints, small x) };
     closed =
-        let level = below_corner (pos 4095) (first_height_of left) some in
-        let nothing = added_above_first k.y left (pos 4095) (first_height_of left) swept.falling.1 (omega (arith, ints)) in
+        let level = below_corner greatest_coordinate (first_height_of left) some in
+        let nothing = added_above_first k.y left greatest_coordinate (first_height_of left) swept.falling.1 (omega (arith, ints)) in
         omega (arith, ints, corners.closed (first_height_of left), level, nothing);
   }
 
   pub level_order : first_height_of left ≤ℤ k.y
   level_order = next_height_falls k left corner swept.falling.1
 
-  pub level_in_field : negsuc 4094 ≤ℤ first_height_of left
+  pub level_in_field : least_coordinate ≤ℤ first_height_of left
   level_in_field = next_height_in_field left corners_left
 
   module _ (ss : List EdgeRow) (strip : HasStrip rs fs (first_height_of left) k.y ss) where
@@ -225,7 +231,7 @@ module _ (all : List Corner) (k : Corner) (left : List Corner) (es fs : List Edg
     pub swept_more : IsSwept all left fs ss
     swept_more = record {
       corners = corners_left;
-      falling = falling_higher k.y (pos 4095) left corner.top swept.falling.1;
+      falling = falling_higher k.y greatest_coordinate left corner.top swept.falling.1;
       rows = strip.rows;
       above = swept_above;
       below = λ x y below. below_corner x y (omega (arith, ints, below, level_order));
@@ -236,7 +242,8 @@ module _ (all : List Corner) (k : Corner) (left : List Corner) (es fs : List Edg
 
 -- ---- the corner at a place, as the code reads it
 
-pub swept_at : (all : List Corner) (place : ℕ) (d : Corner) (es : List Edge) (rs : List EdgeRow) → place < length all → IsSwept all (drop place all) es rs → IsSwept all (get_or all place d ∷ drop (place + 1) all) es rs
+pub swept_at : (all : List Corner) (place : ℕ) (d : Corner) (es : List Edge) (rs : List EdgeRow) → place < length all
+    → IsSwept all (drop place all) es rs → IsSwept all (get_or all place d ∷ drop (place + 1) all) es rs
 swept_at all place d es rs lt swept = rw (drop_more all place d lt) at swept
 
 -- its numbers pass through bits unchanged

@@ -76,14 +76,19 @@ dots_from-lawful low [] dots = All-nil IsDot
 dots_from-lawful low (d ∷ ds) dots = All-cons IsDot d ds dots.0 (dots_from-lawful (place d.x d.y +ℤ pos 1) ds dots.2)
 
 -- dots may follow others that end before a place
-pub dots_from-append : (low middle : ℤ) (ds es : List Dot) → low ≤ℤ middle → AreDotsFrom low ds → AreBefore middle ds → AreDotsFrom middle es → AreDotsFrom low (ds ++ es)
+pub dots_from-append : (low middle : ℤ) (ds es : List Dot) → low ≤ℤ middle → AreDotsFrom low ds → AreBefore middle ds
+    → AreDotsFrom middle es → AreDotsFrom low (ds ++ es)
 dots_from-append low middle [] es le front before back = dots_from-lower low middle es le back
 dots_from-append low middle (d ∷ ds) es le front before back =
-    let lower : place d.x d.y <ℤ middle = All-head (λ d. place d.x d.y <ℤ middle) d ds before in
-    (front.0, front.1, dots_from-append (place d.x d.y +ℤ pos 1) middle ds es (omega (arith, ints)) front.2 (All-tail (λ d. place d.x d.y <ℤ middle) d ds before) back)
+    let lower : place d.x d.y <ℤ middle = All-head (λ d. place d.x d.y <ℤ middle) d ds before in (
+      front.0,
+      front.1,
+      dots_from-append (place d.x d.y +ℤ pos 1) middle ds es (omega (arith, ints)) front.2 (All-tail (λ d. place d.x d.y <ℤ middle) d ds before) back,
+    )
 
 -- the pixel of each dot has its weight
-pub weight_at-dot : (low : ℤ) (ds : List Dot) → AreDotsFrom low ds → (k : ℕ) (d : Dot) → k < length ds → weight_at ds (get_or ds k d).x (get_or ds k d).y ≡ (get_or ds k d).weight
+pub weight_at-dot : (low : ℤ) (ds : List Dot) → AreDotsFrom low ds → (k : ℕ) (d : Dot) → k < length ds
+    → weight_at ds (get_or ds k d).x (get_or ds k d).y ≡ (get_or ds k d).weight
 weight_at-dot low [] dots k e lt = absurd (omega arith)
 weight_at-dot low (d ∷ ds) dots zero e lt = weight_at-here d ds d.x d.y (record { column = refl; row = refl })
 weight_at-dot low (d ∷ ds) dots (suc k) e lt =

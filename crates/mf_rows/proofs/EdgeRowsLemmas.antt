@@ -1,11 +1,12 @@
 -- The weights of rows of edges.
-use Rattle.std.proofs.Common.{◌≡◌, ◌≢◌, ℤ, pos, negsuc, ◌+ℤ◌, ◌-ℤ◌, ◌≤ℤ◌, ◌<ℤ◌, List, [], ◌∷◌, ◌++◌, refl, sym, ap, ◌∙◌, arith}
+use Rattle.std.proofs.Common.{◌≡◌, ◌≢◌, ℤ, pos, ◌+ℤ◌, ◌-ℤ◌, ◌≤ℤ◌, ◌<ℤ◌, List, [], ◌∷◌, ◌++◌, refl, sym, ap, ◌∙◌, arith}
 use Rattle.std.specs.List.{All}
 use Rattle.std.specs.Ordering.{int_eq}
 use Rattle.std.proofs.lemmas.Bool.{cond-true, cond-false, cond_both, false_from_ne_true}
 use Rattle.std.proofs.lemmas.Bool.Decides.{Decides-int_eq}
 use Rattle.std.proofs.lemmas.Int.{ints, by_lt_z}
 use Rattle.std.proofs.lemmas.List.Elements.{All-head, All-tail, All-cons, All-nil, All-weaker}
+use Rattle.mf_geom.specs.Coordinates.{least_coordinate, last_in_field}
 use Rattle.mf_geom.specs.Field.{IsInField}
 use Rattle.mf_rows.specs.Bands.{AreAbove, AreBelow}
 use Rattle.mf_edges.specs.LawfulWeights.{IsLawfulWeight}
@@ -27,7 +28,8 @@ weight_in_rows-append (r ∷ rs) ss x y = omega (arith, ints, weight_in_rows-app
 -- the weights of the first row, and of any other
 pub weight_in_rows-here : (r : EdgeRow) (rs : List EdgeRow) (x y : ℤ) → r.y ≡ y → weight_in_rows (r ∷ rs) x y ≡ weight_in r.edges x +ℤ weight_in_rows rs x y
 unfolding weight_in_rows
-weight_in_rows-here r rs x y here = ap (λ w. w +ℤ weight_in_rows rs x y) (cond-true (int_eq r.y y) (weight_in r.edges x) (pos 0) ((Decides-int_eq r.y y).1 here))
+weight_in_rows-here r rs x y here =
+    ap (λ w. w +ℤ weight_in_rows rs x y) (cond-true (int_eq r.y y) (weight_in r.edges x) (pos 0) ((Decides-int_eq r.y y).1 here))
 
 pub weight_in_rows-elsewhere : (r : EdgeRow) (rs : List EdgeRow) (x y : ℤ) → r.y ≢ y → weight_in_rows (r ∷ rs) x y ≡ weight_in_rows rs x y
 unfolding weight_in_rows
@@ -119,22 +121,24 @@ weight_in_rows-outside top (r ∷ rs) x y rows outside =
     (λ test.
     let here = (Decides-int_eq r.y y).0 test in
     let row = rows.0 in
-    let own = weight_in-outside r.edges x row.edges (λ left right. outside (record { left = left; right = right; bottom = omega (arith, ints, row.bottom); top = omega (arith, ints, row.top) })) in
+    let own =
+    weight_in-outside r.edges x row.edges
+    (λ left right. outside (record { left = left; right = right; bottom = omega (arith, ints, row.bottom); top = omega (arith, ints, row.top) })) in
     omega (arith, ints, own, others))
     (λ test. omega (arith, ints, others))
 
 -- the picture of rows is a picture
 pub lawful_picture_of_rows : (rs : List EdgeRow) → AreRows rs → IsPicture (picture_of_rows rs)
 unfolding picture_of_rows
-lawful_picture_of_rows rs rows = lawful_picture_of (weight_in_rows rs) (λ x y inside. lawful_weight_in_rows (pos 4094) rs x y rows.rows)
+lawful_picture_of_rows rs rows = lawful_picture_of (weight_in_rows rs) (λ x y inside. lawful_weight_in_rows last_in_field rs x y rows.rows)
 
 -- a pixel lies in the field or not
 pub by_field : {P : Type 0} (x y : ℤ) → (IsInField x y → P) → ((IsInField x y → ⊥) → P) → P
 by_field x y inside outside =
-    by_lt_z x (negsuc 4094) (λ off. outside (λ within. omega (arith, ints, within.left)))
-    (λ left. by_lt_z (pos 4094) x (λ off. outside (λ within. omega (arith, ints, within.right)))
-    (λ right. by_lt_z y (negsuc 4094) (λ off. outside (λ within. omega (arith, ints, within.bottom)))
-    (λ bottom. by_lt_z (pos 4094) y (λ off. outside (λ within. omega (arith, ints, within.top)))
+    by_lt_z x least_coordinate (λ off. outside (λ within. omega (arith, ints, within.left)))
+    (λ left. by_lt_z last_in_field x (λ off. outside (λ within. omega (arith, ints, within.right)))
+    (λ right. by_lt_z y least_coordinate (λ off. outside (λ within. omega (arith, ints, within.bottom)))
+    (λ bottom. by_lt_z last_in_field y (λ off. outside (λ within. omega (arith, ints, within.top)))
     (λ top. inside (record { left = left; right = right; bottom = bottom; top = top })))))
 
 -- and its weights are those of the rows, at every pair of numbers
@@ -143,7 +147,8 @@ unfolding picture_of_rows
 weight_at-picture_of_rows rs x y rows =
     by_field x y
     (λ inside. weight_at-picture_of (weight_in_rows rs) x y inside)
-    (λ outside. weight_at-outside (picture_of_rows rs) x y (lawful_picture_of_rows rs rows) outside ∙ sym (weight_in_rows-outside (pos 4094) rs x y rows.rows outside))
+    (λ outside. weight_at-outside (picture_of_rows rs) x y (lawful_picture_of_rows rs rows) outside
+    ∙ sym (weight_in_rows-outside last_in_field rs x y rows.rows outside))
 
 -- a picture with the weights of rows is their picture
 pub picture_of_rows-from_weights : (ds : List Dot) (rs : List EdgeRow) → IsPicture ds → HasWeights (weight_in_rows rs) ds → ds ≡ picture_of_rows rs

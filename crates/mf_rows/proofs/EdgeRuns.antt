@@ -1,5 +1,5 @@
 -- The runs between the edges of a row.
-use Rattle.std.proofs.Common.{◌≡◌, ◌≢◌, ℕ, zero, suc, ◌≤◌, ℤ, pos, negsuc, ◌+ℤ◌, ◌-ℤ◌, ◌≤ℤ◌, ◌<ℤ◌, List, [], ◌∷◌, ◌++◌, refl, sym, ◌∙◌, subst, arith}
+use Rattle.std.proofs.Common.{◌≡◌, ◌≢◌, ℕ, zero, suc, ◌≤◌, ℤ, pos, ◌+ℤ◌, ◌-ℤ◌, ◌≤ℤ◌, ◌<ℤ◌, List, [], ◌∷◌, ◌++◌, refl, sym, ◌∙◌, subst, arith}
 use Rattle.std.specs.Int.RustNames.{unsigned_abs}
 use Rattle.std.specs.List.{All, flat_map}
 use Rattle.std.specs.Ordering.{int_eq}
@@ -7,6 +7,7 @@ use Rattle.std.proofs.lemmas.Bool.{cond_both}
 use Rattle.std.proofs.lemmas.Bool.Decides.{Decides-int_eq, not_from_Decides}
 use Rattle.std.proofs.lemmas.Int.{ints, by_lt_z}
 use Rattle.std.proofs.lemmas.List.Elements.{All-nil, All-cons}
+use Rattle.mf_geom.specs.Coordinates.{least_coordinate, greatest_coordinate, last_in_field}
 use Rattle.mf_edges.specs.declared.edge.Edge.{Edge}
 use Rattle.mf_rows.specs.declared.run.Run.{Run}
 use Rattle.mf_edges.specs.LawfulWeights.{IsLawfulWeight}
@@ -23,7 +24,7 @@ use Rattle.mf_rows.proofs.RunDots.{stretch-from, weight_at-stretch, weight_at-ap
 -- ---- what is left of a row
 
 -- at its left end, all its edges are left
-pub rest_of_edges : (es : List Edge) → AreEdges es → IsRestOfRow (negsuc 4094) (pos 0) es
+pub rest_of_edges : (es : List Edge) → AreEdges es → IsRestOfRow least_coordinate (pos 0) es
 rest_of_edges es edges = record {
   sorted = edges.sorted;
   lawful = λ x. record { least = omega (arith, ints, (edges.lawful x).least); greatest = omega (arith, ints, (edges.lawful x).greatest) };
@@ -55,7 +56,7 @@ rest_next low w e es rest = record {
       let own = weight_in-left e es x right in
       let there = rest.lawful x in
       record { least = omega (arith, ints, there.least); greatest = omega (arith, ints, there.greatest) });
-  closed = let own = weight_in-left e es (pos 4095) rest.sorted.0.right in omega (arith, ints, rest.closed);
+  closed = let own = weight_in-left e es greatest_coordinate rest.sorted.0.right in omega (arith, ints, rest.closed);
 }
 
 -- what is left from the column of its first edge on
@@ -111,7 +112,8 @@ between-ends : (y x u w : ℤ) → x ≤ℤ u → x +ℤ pos (unsigned_abs (u -�
 between-ends y x u w le = omega (arith, ints)
 
 -- between neighbouring edges that run is lawful
-is_run_between : (y low w : ℤ) (e f : Edge) (es : List Edge) → negsuc 4094 ≤ℤ y → y ≤ℤ pos 4094 → IsRestOfRow low w (e ∷ f ∷ es) → (w +ℤ e.weight) ≢ pos 0 → IsRun (run_between y e.x f.x (w +ℤ e.weight))
+is_run_between : (y low w : ℤ) (e f : Edge) (es : List Edge) → least_coordinate ≤ℤ y → y ≤ℤ last_in_field
+    → IsRestOfRow low w (e ∷ f ∷ es) → (w +ℤ e.weight) ≢ pos 0 → IsRun (run_between y e.x f.x (w +ℤ e.weight))
 is_run_between y low w e f es bottom top rest nonzero =
     let behind = rest_next low w e (f ∷ es) rest in
     let rise : (e.x +ℤ pos 1) ≤ℤ f.x = behind.sorted.1 in
@@ -126,10 +128,13 @@ is_run_between y low w e f es bottom top rest nonzero =
     }
 
 -- the runs of a row are in reading order before those of the rows below it
-pub runs_from-edges : (y low w : ℤ) (es : List Edge) (rs : List Run) → negsuc 4094 ≤ℤ y → y ≤ℤ pos 4094 → low ≤ℤ pos 4095 → IsRestOfRow low w es → AreRunsFrom (place (pos 4095) y) rs → AreRunsFrom (place low y) (runs_of_edges y w es ++ rs)
+pub runs_from-edges : (y low w : ℤ) (es : List Edge) (rs : List Run) → least_coordinate ≤ℤ y → y ≤ℤ last_in_field
+    → low ≤ℤ greatest_coordinate → IsRestOfRow low w es → AreRunsFrom (place greatest_coordinate y) rs → AreRunsFrom (place low y) (runs_of_edges y w es ++ rs)
 unfolding runs_of_edges
-runs_from-edges y low w [] rs bottom top le rest later = runs_from-lower (place low y) (place (pos 4095) y) rs (place-le low (pos 4095) y le) later
-runs_from-edges y low w (e ∷ []) rs bottom top le rest later = runs_from-lower (place low y) (place (pos 4095) y) rs (place-le low (pos 4095) y le) later
+runs_from-edges y low w [] rs bottom top le rest later =
+    runs_from-lower (place low y) (place greatest_coordinate y) rs (place-le low greatest_coordinate y le) later
+runs_from-edges y low w (e ∷ []) rs bottom top le rest later =
+    runs_from-lower (place low y) (place greatest_coordinate y) rs (place-le low greatest_coordinate y le) later
 runs_from-edges y low w (e ∷ f ∷ es) rs bottom top le rest later =
     let v = w +ℤ e.weight in
     let own = run_between y e.x f.x v in
@@ -157,7 +162,8 @@ weight_at-skip_stretch y x w (suc n) ds u v apart =
     ∙ weight_at-skip_stretch y (x +ℤ pos 1) w n ds u v apart
 
 -- nor do the runs of another row
-pub weight_at-off_row : (y w : ℤ) (es : List Edge) (rs : List Run) (u v : ℤ) → y ≢ v → weight_at (flat_map dots_of (runs_of_edges y w es ++ rs)) u v ≡ weight_at (flat_map dots_of rs) u v
+pub weight_at-off_row : (y w : ℤ) (es : List Edge) (rs : List Run) (u v : ℤ) → y ≢ v
+    → weight_at (flat_map dots_of (runs_of_edges y w es ++ rs)) u v ≡ weight_at (flat_map dots_of rs) u v
 unfolding runs_of_edges dots_of
 weight_at-off_row y w [] rs u v apart = refl
 weight_at-off_row y w (e ∷ []) rs u v apart = refl
@@ -176,12 +182,14 @@ unfolding place
 weight_at-left_of x y u rs runs lt = weight_at-before (place x y) (flat_map dots_of rs) u y (dots_from-runs (place x y) rs runs) (omega (arith, ints))
 
 -- from its first edge on, a row has the weights of its runs
-weight_at-row : (y low w : ℤ) (e : Edge) (es : List Edge) (rs : List Run) (u : ℤ) → negsuc 4094 ≤ℤ y → y ≤ℤ pos 4094 → e.x ≤ℤ u → u ≤ℤ pos 4094 → IsRestOfRow low w (e ∷ es) → AreRunsFrom (place (pos 4095) y) rs → weight_at (flat_map dots_of (runs_of_edges y w (e ∷ es) ++ rs)) u y ≡ w +ℤ weight_in (e ∷ es) u
+weight_at-row : (y low w : ℤ) (e : Edge) (es : List Edge) (rs : List Run) (u : ℤ) → least_coordinate ≤ℤ y
+    → y ≤ℤ last_in_field → e.x ≤ℤ u → u ≤ℤ last_in_field → IsRestOfRow low w (e ∷ es)
+    → AreRunsFrom (place greatest_coordinate y) rs → weight_at (flat_map dots_of (runs_of_edges y w (e ∷ es) ++ rs)) u y ≡ w +ℤ weight_in (e ∷ es) u
 unfolding runs_of_edges dots_of
 weight_at-row y low w e [] rs u bottom top left right rest later =
     let own = weight_in-left e [] u left in
     let others = weight_in-before (u +ℤ pos 1) [] u tt (omega (arith, ints)) in
-    let none = weight_at-left_of (pos 4095) y u rs later (omega (arith, ints)) in
+    let none = weight_at-left_of greatest_coordinate y u rs later (omega (arith, ints)) in
     omega (arith, ints, rest_last low w e rest)
 weight_at-row y low w e (f ∷ es) rs u bottom top left right rest later =
     let z = w +ℤ e.weight in
@@ -199,22 +207,27 @@ weight_at-row y low w e (f ∷ es) rs u bottom top left right rest later =
     let none_in = weight_in-before f.x (f ∷ es) u behind.sorted nearer in
     cond_both (int_eq z (pos 0)) [] (own ∷ []) P
     (λ blank. omega (arith, ints, (Decides-int_eq z (pos 0)).0 blank))
-    (λ weighty. weight_at-append_none (stretch y e.x z own.len) dots u y none ∙ weight_at-stretch y e.x z own.len u left (omega (arith, ints)) ∙ omega (arith, ints)))
+    (λ weighty. weight_at-append_none (stretch y e.x z own.len) dots u y none
+    ∙ weight_at-stretch y e.x z own.len u left (omega (arith, ints)) ∙ omega (arith, ints)))
     (λ further.
     let next = weight_at-row y f.x z f es rs u bottom top further right behind later in
     cond_both (int_eq z (pos 0)) [] (own ∷ []) P
     (λ blank. omega (arith, ints))
-    (λ weighty. weight_at-append_after (stretch y e.x z own.len) dots u y (before_stretch-end y e.x z own.len (place u y) (place-le (e.x +ℤ pos own.len) u y (omega (arith, ints)))) ∙ omega (arith, ints)))
+    (λ weighty. weight_at-append_after (stretch y e.x z own.len) dots u y
+    (before_stretch-end y e.x z own.len (place u y) (place-le (e.x +ℤ pos own.len) u y (omega (arith, ints)))) ∙ omega (arith, ints)))
 
 -- and so it has in all columns
-pub weight_at-whole_row : (y : ℤ) (es : List Edge) (rs : List Run) (u : ℤ) → negsuc 4094 ≤ℤ y → y ≤ℤ pos 4094 → u ≤ℤ pos 4094 → AreEdges es → AreRunsFrom (place (pos 4095) y) rs → weight_at (flat_map dots_of (runs_of_edges y (pos 0) es ++ rs)) u y ≡ weight_in es u
+pub weight_at-whole_row : (y : ℤ) (es : List Edge) (rs : List Run) (u : ℤ) → least_coordinate ≤ℤ y → y ≤ℤ last_in_field
+    → u ≤ℤ last_in_field → AreEdges es → AreRunsFrom (place greatest_coordinate y) rs
+    → weight_at (flat_map dots_of (runs_of_edges y (pos 0) es ++ rs)) u y ≡ weight_in es u
 unfolding runs_of_edges
 weight_at-whole_row y [] rs u bottom top right edges later =
-    weight_at-left_of (pos 4095) y u rs later (omega (arith, ints)) ∙ sym (weight_in-before (u +ℤ pos 1) [] u tt (omega (arith, ints)))
+    weight_at-left_of greatest_coordinate y u rs later (omega (arith, ints)) ∙ sym (weight_in-before (u +ℤ pos 1) [] u tt (omega (arith, ints)))
 weight_at-whole_row y (e ∷ es) rs u bottom top right edges later =
-    let rest = rest_from (negsuc 4094) (pos 0) e es (rest_of_edges (e ∷ es) edges) in
+    let rest = rest_from least_coordinate (pos 0) e es (rest_of_edges (e ∷ es) edges) in
     by_lt_z u e.x
-    (λ before. weight_at-left_of e.x y u (runs_of_edges y (pos 0) (e ∷ es) ++ rs) (runs_from-edges y e.x (pos 0) (e ∷ es) rs bottom top rest.sorted.0.right rest later) before ∙ sym (weight_in-before e.x (e ∷ es) u rest.sorted before))
+    (λ before. weight_at-left_of e.x y u (runs_of_edges y (pos 0) (e ∷ es) ++ rs)
+    (runs_from-edges y e.x (pos 0) (e ∷ es) rs bottom top rest.sorted.0.right rest later) before ∙ sym (weight_in-before e.x (e ∷ es) u rest.sorted before))
     (λ behind. weight_at-row y e.x (pos 0) e es rs u bottom top behind right rest later ∙ omega (arith, ints))
 
 -- ---- no run follows the one before it
@@ -235,13 +248,16 @@ apart-gap r x [] lt runs = tt
 apart-gap r x (s ∷ rs) lt runs = λ joined. let start : place x r.y ≤ℤ place s.x s.y = runs.1 in omega (arith, ints, joined.row, joined.column)
 
 -- nor does a run in another row
-apart-row : (r : Run) (rs : List Run) → (r.x +ℤ pos r.len) ≤ℤ pos 4095 → AreRunsFrom (place (pos 4095) r.y) rs → StartsApart r rs
+apart-row : (r : Run) (rs : List Run) → (r.x +ℤ pos r.len) ≤ℤ greatest_coordinate → AreRunsFrom (place greatest_coordinate r.y) rs → StartsApart r rs
 unfolding place
 apart-row r [] le runs = tt
-apart-row r (s ∷ rs) le runs = λ joined. let start : place (pos 4095) r.y ≤ℤ place s.x s.y = runs.1 in omega (arith, ints, joined.row, joined.column, runs.0.some, runs.0.right)
+apart-row r (s ∷ rs) le runs =
+    λ joined. let start : place greatest_coordinate r.y ≤ℤ place s.x s.y = runs.1 in omega (arith, ints, joined.row, joined.column, runs.0.some, runs.0.right)
 
 -- at an edge the weight changes
-apart-edge : (y low x z : ℤ) (f : Edge) (es : List Edge) (rs : List Run) → negsuc 4094 ≤ℤ y → y ≤ℤ pos 4094 → x ≤ℤ f.x → IsRestOfRow low z (f ∷ es) → AreRunsFrom (place (pos 4095) y) rs → StartsApart (run_between y x f.x z) (runs_of_edges y z (f ∷ es) ++ rs)
+apart-edge : (y low x z : ℤ) (f : Edge) (es : List Edge) (rs : List Run) → least_coordinate ≤ℤ y → y ≤ℤ last_in_field
+    → x ≤ℤ f.x → IsRestOfRow low z (f ∷ es) → AreRunsFrom (place greatest_coordinate y) rs
+    → StartsApart (run_between y x f.x z) (runs_of_edges y z (f ∷ es) ++ rs)
 unfolding runs_of_edges
 apart-edge y low x z f [] rs bottom top le rest later =
     let end = between-ends y x f.x z le in
@@ -259,7 +275,8 @@ apart-edge y low x z f (g ∷ es) rs bottom top le rest later =
     (λ weighty joined. rest.sorted.0.nonzero (omega (arith, ints, joined.weight)))
 
 -- so the runs of a row are maximal, and so are those of the rows below it
-pub maximal-edges : (y low w : ℤ) (es : List Edge) (rs : List Run) → negsuc 4094 ≤ℤ y → y ≤ℤ pos 4094 → IsRestOfRow low w es → AreRunsFrom (place (pos 4095) y) rs → AreMaximal rs → AreMaximal (runs_of_edges y w es ++ rs)
+pub maximal-edges : (y low w : ℤ) (es : List Edge) (rs : List Run) → least_coordinate ≤ℤ y → y ≤ℤ last_in_field
+    → IsRestOfRow low w es → AreRunsFrom (place greatest_coordinate y) rs → AreMaximal rs → AreMaximal (runs_of_edges y w es ++ rs)
 unfolding runs_of_edges
 maximal-edges y low w [] rs bottom top rest later maximal = maximal
 maximal-edges y low w (e ∷ []) rs bottom top rest later maximal = maximal

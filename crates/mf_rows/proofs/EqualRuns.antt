@@ -19,8 +19,10 @@ same_run r s row column length weight = λ i. record { y = row i; x = column i; 
 -- runs compare as equal exactly where they are
 pub run_decides : (r s : Run) → Decides ((run_eq.ghosts).eq r s) (r ≡ s)
 run_decides r s =
-    Decides-like ((run_eq.ghosts).eq r s) (λ same. same_run r s same.0 same.1.0 same.1.1.0 same.1.1.1) (λ same. (ap (λ t. t.y) same, (ap (λ t. t.x) same, (ap (λ t. t.len) same, ap (λ t. t.weight) same))))
-    (Decides-and _ _ (Decides-int_eq r.y s.y) (Decides-and _ _ (Decides-int_eq r.x s.x) (Decides-and _ _ (Decides-eqb r.len s.len) (Decides-int_eq r.weight s.weight))))
+    Decides-like ((run_eq.ghosts).eq r s) (λ same. same_run r s same.0 same.1.0 same.1.1.0 same.1.1.1)
+    (λ same. (ap (λ t. t.y) same, (ap (λ t. t.x) same, (ap (λ t. t.len) same, ap (λ t. t.weight) same))))
+    (Decides-and _ _ (Decides-int_eq r.y s.y)
+    (Decides-and _ _ (Decides-int_eq r.x s.x) (Decides-and _ _ (Decides-eqb r.len s.len) (Decides-int_eq r.weight s.weight))))
 
 module _ {S T A : Type 0} (rest : S → List A) (others : T → List A) (eq : A → A → Bool) (decides : (x y : A) → Decides (eq x y) (x ≡ y)) (b : Bool) where
   -- what the last two calls of a comparison say of its answer
@@ -36,8 +38,10 @@ module _ {S T A : Type 0} (rest : S → List A) (others : T → List A) (eq : A 
   at_last (Some x) None s u t w left right last = refuted last.0 (λ same. absurd cc)
   at_last (Some x) (Some y) s u t w left right last = refuted last.0 (λ same. not_from_Decides (eq x y) (decides x y) last.1 cc)
 
-  along : (xs ys : List A) (o p : Option A) (s u : S) (t w : T) → YieldsThen (YieldsFirst rest) s xs o u → YieldsThen (YieldsFirst others) t ys p w → AllZip (λ x y. eq x y ≡ true) xs ys → IsLast o p → Decides b (rest s ≡ others t)
-  along [] [] o p s u t w left right pairs last = at_last o p s u t w (subst (λ j. YieldsFirst rest j o u) (sym left.1) left.2) (subst (λ j. YieldsFirst others j p w) (sym right.1) right.2) last
+  along : (xs ys : List A) (o p : Option A) (s u : S) (t w : T) → YieldsThen (YieldsFirst rest) s xs o u
+      → YieldsThen (YieldsFirst others) t ys p w → AllZip (λ x y. eq x y ≡ true) xs ys → IsLast o p → Decides b (rest s ≡ others t)
+  along [] [] o p s u t w left right pairs last =
+      at_last o p s u t w (subst (λ j. YieldsFirst rest j o u) (sym left.1) left.2) (subst (λ j. YieldsFirst others j p w) (sym right.1) right.2) last
   along [] (y ∷ ys) o p s u t w left right pairs last = absurd pairs
   along (x ∷ xs) [] o p s u t w left right pairs last = absurd pairs
   along (x ∷ xs) (y ∷ ys) o p s u t w left right pairs last =
@@ -60,4 +64,5 @@ same_from_runs b ds es rs ss left right runs =
 
 -- and exactly where their weights are
 pub same_weights : (b : Bool) (ds es : List Dot) → IsPicture ds → IsPicture es → Decides b (ds ≡ es) → Decides b (HaveSameWeights ds es)
-same_weights b ds es left right pictures = Decides-like b (λ same. subst (HaveSameWeights ds) same (record { same = λ x y inside. refl })) (same_pictures ds es left right) pictures
+same_weights b ds es left right pictures =
+    Decides-like b (λ same. subst (HaveSameWeights ds) same (record { same = λ x y inside. refl })) (same_pictures ds es left right) pictures

@@ -8,6 +8,7 @@ use Rattle.std.proofs.lemmas.List.Elements.{All-nil, All-cons, All-head, All-tai
 use Rattle.std.specs.Arc.{arc_value}
 use Rattle.std.specs.declared.alloc.Global.{Global}
 use Rattle.std.specs.declared.sync.Arc.{Arc}
+use Rattle.mf_geom.specs.Coordinates.{last_in_field}
 use lib.Signed.{le_z}
 use Rattle.mf_rows.specs.declared.band.Band.{Band}
 use Rattle.mf_rows.specs.declared.row.Row.{Row}
@@ -25,16 +26,19 @@ pub rows_of_band : (band : Band) → All (λ r. IsOfBand band.number r.y) (rows_
 rows_of_band band = All-map (λ r. IsOfBand band.number r.y) edge_row band.rows.items band.of_band
 
 -- what the number of each band implies of its rows holds of the rows of all bands
-All-rows_of_bands : (N P : ℤ → Type 0) → ((n y : ℤ) → N n → IsOfBand n y → P y) → (bs : List (Arc Band Global)) → All (λ (b : Arc Band Global). N (arc_value b).number) bs → All (λ r. P r.y) (rows_of_bands bs)
+All-rows_of_bands : (N P : ℤ → Type 0) → ((n y : ℤ) → N n → IsOfBand n y → P y) → (bs : List (Arc Band Global))
+    → All (λ (b : Arc Band Global). N (arc_value b).number) bs → All (λ r. P r.y) (rows_of_bands bs)
 All-rows_of_bands N P holds [] all = All-nil (λ r. P r.y)
 All-rows_of_bands N P holds (b ∷ bs) all =
     let numbered = All-head (λ (c : Arc Band Global). N (arc_value c).number) b bs all in
     All-append (λ r. P r.y) (rows_in (arc_value b)) (rows_of_bands bs)
-    (All-weaker (λ r. IsOfBand (arc_value b).number r.y) (λ r. P r.y) (λ r of_band. holds (arc_value b).number r.y numbered of_band) (rows_in (arc_value b)) (rows_of_band (arc_value b)))
+    (All-weaker (λ r. IsOfBand (arc_value b).number r.y) (λ r. P r.y)
+    (λ r of_band. holds (arc_value b).number r.y numbered of_band) (rows_in (arc_value b)) (rows_of_band (arc_value b)))
     (All-rows_of_bands N P holds bs (All-tail (λ (c : Arc Band Global). N (arc_value c).number) b bs all))
 
 -- the rows between the ends of a band belong to it
-between_ends : (n : ℤ) (rows : List Row) → AreAbove (lowest_of n -ℤ pos 1) (edge_rows rows) → AreBelow (lowest_of n +ℤ pos 16) (edge_rows rows) → AreOfBand n rows
+between_ends : (n : ℤ) (rows : List Row) → AreAbove (lowest_of n -ℤ pos 1) (edge_rows rows)
+    → AreBelow (lowest_of n +ℤ pos 16) (edge_rows rows) → AreOfBand n rows
 between_ends n [] above below = All-nil (λ row. IsOfBand n row.y)
 between_ends n (row ∷ rows) above below =
     let bottom = All-head (λ r. (lowest_of n -ℤ pos 1) <ℤ r.y) (edge_row row) (edge_rows rows) above in
@@ -46,13 +50,18 @@ between_ends n (row ∷ rows) above below =
     (All-tail (λ r. r.y <ℤ (lowest_of n +ℤ pos 16)) (edge_row row) (edge_rows rows) below))
 
 above_end : (n : ℤ) (band : Band) → band.number ≡ n → AreAbove (lowest_of n -ℤ pos 1) (rows_in band)
-above_end n band is = All-weaker (λ r. IsOfBand band.number r.y) (λ r. (lowest_of n -ℤ pos 1) <ℤ r.y) (λ r own. let own : IsOfBand n r.y = rw (← is) own in omega (arith, ints, own.bottom)) (rows_in band) (rows_of_band band)
+above_end n band is =
+    All-weaker (λ r. IsOfBand band.number r.y) (λ r. (lowest_of n -ℤ pos 1) <ℤ r.y)
+    (λ r own. let own : IsOfBand n r.y = rw (← is) own in omega (arith, ints, own.bottom)) (rows_in band) (rows_of_band band)
 
 below_end : (n : ℤ) (band : Band) → band.number ≡ n → AreBelow (lowest_of n +ℤ pos 16) (rows_in band)
-below_end n band is = All-weaker (λ r. IsOfBand band.number r.y) (λ r. r.y <ℤ (lowest_of n +ℤ pos 16)) (λ r own. let own : IsOfBand n r.y = rw (← is) own in omega (arith, ints, own.top)) (rows_in band) (rows_of_band band)
+below_end n band is =
+    All-weaker (λ r. IsOfBand band.number r.y) (λ r. r.y <ℤ (lowest_of n +ℤ pos 16))
+    (λ r own. let own : IsOfBand n r.y = rw (← is) own in omega (arith, ints, own.top)) (rows_in band) (rows_of_band band)
 
 -- and so do the rows of the sum of two bands of its number
-pub sum_of_band : (n : ℤ) (left right : Band) (rows : List Row) → left.number ≡ n → right.number ≡ n → StayWithin (rows_in left) (rows_in right) (edge_rows rows) → AreOfBand n rows
+pub sum_of_band : (n : ℤ) (left right : Band) (rows : List Row) → left.number ≡ n → right.number ≡ n
+    → StayWithin (rows_in left) (rows_in right) (edge_rows rows) → AreOfBand n rows
 sum_of_band n left right rows of_left of_right within =
     between_ends n rows
     (within.above (lowest_of n -ℤ pos 1) (above_end n left of_left) (above_end n right of_right))
@@ -72,20 +81,27 @@ higher_up_to n a b le up_to =
     grind (arith, ints)
 
 pub IsPartitionedBy-is_up_to : (n : ℤ) (bs : List (Arc Band Global)) → AreRows (rows_of_bands bs) → IsPartitionedBy (is_up_to n) bs
-IsPartitionedBy-is_up_to n bs lawful = IsPartitionedBy-falls (λ b. bottom_of (arc_value b)) (is_up_to n) (higher_up_to n) bs (bands_fall (pos 4094) bs lawful.rows)
+IsPartitionedBy-is_up_to n bs lawful =
+    IsPartitionedBy-falls (λ b. bottom_of (arc_value b)) (is_up_to n) (higher_up_to n) bs (bands_fall last_in_field bs lawful.rows)
 
 -- what the place says of the rows before it, and of the bands and rows from it on
-pub up_to_split : (n : ℤ) (k : ℕ) (bs : List (Arc Band Global)) → k ≤ length bs → AllWithin (λ b. is_up_to n b ≡ true) bs 0 k → AreUpTo n (rows_of_bands (take k bs))
+pub up_to_split : (n : ℤ) (k : ℕ) (bs : List (Arc Band Global)) → k ≤ length bs
+    → AllWithin (λ b. is_up_to n b ≡ true) bs 0 k → AreUpTo n (rows_of_bands (take k bs))
 up_to_split n k bs le passed =
-    All-rows_of_bands (λ m. le_z m n ≡ true) (λ y. (lowest_of n -ℤ pos 1) <ℤ y) (λ m y up_to of_band. grind (arith, ints)) (take k bs) (All-take_within (λ b. is_up_to n b ≡ true) bs k le passed)
+    All-rows_of_bands (λ m. le_z m n ≡ true) (λ y. (lowest_of n -ℤ pos 1) <ℤ y)
+    (λ m y up_to of_band. grind (arith, ints)) (take k bs) (All-take_within (λ b. is_up_to n b ≡ true) bs k le passed)
 
-pub behind_split : (n : ℤ) (k : ℕ) (bs : List (Arc Band Global)) → AllWithin (λ b. is_up_to n b ≡ false) bs k (length bs) → AreBehind n (rows_of_bands (drop k bs))
+pub behind_split : (n : ℤ) (k : ℕ) (bs : List (Arc Band Global)) → AllWithin (λ b. is_up_to n b ≡ false) bs k (length bs)
+    → AreBehind n (rows_of_bands (drop k bs))
 behind_split n k bs failed =
-    All-rows_of_bands (λ m. le_z m n ≡ false) (λ y. y <ℤ lowest_of n) (λ m y behind of_band. grind (arith, ints)) (drop k bs) (All-drop_within (λ b. is_up_to n b ≡ false) bs k failed)
+    All-rows_of_bands (λ m. le_z m n ≡ false) (λ y. y <ℤ lowest_of n) (λ m y behind of_band. grind (arith, ints))
+    (drop k bs) (All-drop_within (λ b. is_up_to n b ≡ false) bs k failed)
 
-pub numbered_behind_split : (n : ℤ) (k : ℕ) (bs : List (Arc Band Global)) → AllWithin (λ b. is_up_to n b ≡ false) bs k (length bs) → AreNumberedBehind n (drop k bs)
+pub numbered_behind_split : (n : ℤ) (k : ℕ) (bs : List (Arc Band Global))
+    → AllWithin (λ b. is_up_to n b ≡ false) bs k (length bs) → AreNumberedBehind n (drop k bs)
 numbered_behind_split n k bs failed =
-    All-weaker (λ b. is_up_to n b ≡ false) (λ b. n <ℤ (arc_value b).number) (λ b behind. grind (arith, ints)) (drop k bs) (All-drop_within (λ b. is_up_to n b ≡ false) bs k failed)
+    All-weaker (λ b. is_up_to n b ≡ false) (λ b. n <ℤ (arc_value b).number) (λ b behind. grind (arith, ints))
+    (drop k bs) (All-drop_within (λ b. is_up_to n b ≡ false) bs k failed)
 
 -- ---- the end of a step
 
@@ -94,7 +110,9 @@ begin_up_to n [] b some read up_to = absurd (omega arith)
 begin_up_to n (a ∷ bs) b some read up_to = subst (λ (c : Arc Band Global). (arc_value c).number ≤ℤ n) read up_to
 
 -- a step up to the number before the greater of two first numbers reaches the band with the other number
-pub step_before_greater : (bs cs : List (Arc Band Global)) (b c : Arc Band Global) (n : ℤ) → 0 < length bs → b ≡ get_or bs 0 b → 0 < length cs → c ≡ get_or cs 0 c → (arc_value b).number ≢ (arc_value c).number → n ≡ int_max (arc_value b).number (arc_value c).number -ℤ pos 1 → IsStep bs cs n
+pub step_before_greater : (bs cs : List (Arc Band Global)) (b c : Arc Band Global) (n : ℤ) → 0 < length bs
+    → b ≡ get_or bs 0 b → 0 < length cs → c ≡ get_or cs 0 c → (arc_value b).number ≢ (arc_value c).number
+    → n ≡ int_max (arc_value b).number (arc_value c).number -ℤ pos 1 → IsStep bs cs n
 step_before_greater bs cs b c n some b_is more c_is apart n_is =
     record {
       reached = by_lt_z (arc_value b).number (arc_value c).number
@@ -103,14 +121,18 @@ step_before_greater bs cs b c n some b_is more c_is apart n_is =
     }
 
 -- a step ends as its first bands say
-end_from_first : (bs cs : List (Arc Band Global)) (b c : Arc Band Global) (n : ℤ) → 0 < length bs → b ≡ get_or bs 0 b → 0 < length cs → c ≡ get_or cs 0 c → n ≡ end_of (arc_value b).number (arc_value c).number → EndsStep bs cs n
+end_from_first : (bs cs : List (Arc Band Global)) (b c : Arc Band Global) (n : ℤ) → 0 < length bs → b ≡ get_or bs 0 b
+    → 0 < length cs → c ≡ get_or cs 0 c → n ≡ end_of (arc_value b).number (arc_value c).number → EndsStep bs cs n
 end_from_first [] cs b c n some b_is more c_is n_is = absurd (omega arith)
 end_from_first (a ∷ bs) [] b c n some b_is more c_is n_is = absurd (omega arith)
 end_from_first (a ∷ bs) (d ∷ cs) b c n some b_is more c_is n_is =
-    subst (λ (z : Arc Band Global). n ≡ end_of (arc_value z).number (arc_value d).number) b_is (subst (λ (z : Arc Band Global). n ≡ end_of (arc_value b).number (arc_value z).number) c_is n_is)
+    subst (λ (z : Arc Band Global). n ≡ end_of (arc_value z).number (arc_value d).number) b_is
+    (subst (λ (z : Arc Band Global). n ≡ end_of (arc_value b).number (arc_value z).number) c_is n_is)
 
 end_of-apart : (m n : ℤ) → m ≢ n → int_max m n -ℤ pos 1 ≡ end_of m n
 end_of-apart m n apart = grind (arith, ints, clamps)
 
-pub ends_before_greater : (bs cs : List (Arc Band Global)) (b c : Arc Band Global) (n : ℤ) → 0 < length bs → b ≡ get_or bs 0 b → 0 < length cs → c ≡ get_or cs 0 c → (arc_value b).number ≢ (arc_value c).number → n ≡ int_max (arc_value b).number (arc_value c).number -ℤ pos 1 → EndsStep bs cs n
+pub ends_before_greater : (bs cs : List (Arc Band Global)) (b c : Arc Band Global) (n : ℤ) → 0 < length bs
+    → b ≡ get_or bs 0 b → 0 < length cs → c ≡ get_or cs 0 c → (arc_value b).number ≢ (arc_value c).number
+    → n ≡ int_max (arc_value b).number (arc_value c).number -ℤ pos 1 → EndsStep bs cs n
 ends_before_greater bs cs b c n some b_is more c_is apart n_is = end_from_first bs cs b c n some b_is more c_is (n_is ∙ end_of-apart _ _ apart)

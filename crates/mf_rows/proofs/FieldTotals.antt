@@ -4,6 +4,7 @@ use Rattle.std.specs.Ordering.{int_eq}
 use Rattle.std.proofs.lemmas.Bool.{cond_both}
 use Rattle.std.proofs.lemmas.Bool.Decides.{Decides-int_eq}
 use Rattle.std.proofs.lemmas.Int.{ints}
+use Rattle.mf_geom.specs.Coordinates.{least_coordinate}
 use Rattle.mf_geom.specs.Field.{sum_over_field}
 use Rattle.mf_geom.specs.Sum.{sum_below}
 use Rattle.mf_rows.specs.Dots.{Dot, IsPicture, weight_at, total_of}
@@ -34,21 +35,22 @@ total_of-row f y x (suc n) =
     (λ dotted. whole)
 
 -- n rows, from the top down to the one above `bottom`, add up like the same rows from the lowest up
-total_of-rows : (f : ℤ → ℤ → ℤ) (bottom : ℤ) (n : ℕ) → total_of (rows_of f (bottom +ℤ pos n) n) ≡ sum_below n (λ j. total_of (row_of f (bottom +ℤ pos (suc j)) (negsuc 4094) 8190))
+total_of-rows : (f : ℤ → ℤ → ℤ) (bottom : ℤ) (n : ℕ)
+    → total_of (rows_of f (bottom +ℤ pos n) n) ≡ sum_below n (λ j. total_of (row_of f (bottom +ℤ pos (suc j)) least_coordinate 8190))
 unfolding rows_of total_of sum_below
 total_of-rows f bottom zero = refl
 total_of-rows f bottom (suc n) =
-    let top = row_of f (bottom +ℤ pos (suc n)) (negsuc 4094) 8190 in
+    let top = row_of f (bottom +ℤ pos (suc n)) least_coordinate 8190 in
     let next : (bottom +ℤ pos (suc n)) -ℤ pos 1 ≡ bottom +ℤ pos n = omega (arith, ints) in
-    let others : total_of (rows_of f ((bottom +ℤ pos (suc n)) -ℤ pos 1) n) ≡ sum_below n (λ j. total_of (row_of f (bottom +ℤ pos (suc j)) (negsuc 4094) 8190)) = (λ t. total_of (rows_of f (next t) n)) ∙ total_of-rows f bottom n in
+    let others : total_of (rows_of f ((bottom +ℤ pos (suc n)) -ℤ pos 1) n) ≡ sum_below n (λ j. total_of (row_of f (bottom +ℤ pos (suc j)) least_coordinate 8190)) = (λ t. total_of (rows_of f (next t) n)) ∙ total_of-rows f bottom n in
     total_of-append top (rows_of f ((bottom +ℤ pos (suc n)) -ℤ pos 1) n) ∙ omega (arith, ints, others)
 
 pub total_of-picture_of : (f : ℤ → ℤ → ℤ) → total_of (picture_of f) ≡ sum_over_field f
 unfolding picture_of sum_over_field
 total_of-picture_of f =
-    let height : (j : ℕ) → negsuc 4095 +ℤ pos (suc j) ≡ negsuc 4094 +ℤ pos j = λ j. omega (arith, ints) in
+    let height : (j : ℕ) → negsuc 4095 +ℤ pos (suc j) ≡ least_coordinate +ℤ pos j = λ j. omega (arith, ints) in
     total_of-rows f (negsuc 4095) 8190
-    ∙ (λ t. sum_below 8190 (λ j. (total_of-row f (negsuc 4095 +ℤ pos (suc j)) (negsuc 4094) 8190 ∙ ap (λ y. sum_below 8190 (λ i. f (negsuc 4094 +ℤ pos i) y)) (height j)) t))
+    ∙ (λ t. sum_below 8190 (λ j. (total_of-row f (negsuc 4095 +ℤ pos (suc j)) least_coordinate 8190 ∙ ap (λ y. sum_below 8190 (λ i. f (least_coordinate +ℤ pos i) y)) (height j)) t))
 
 -- a picture is the picture of its own weights
 pub total_of-picture : (ds : List Dot) → IsPicture ds → total_of ds ≡ sum_over_field (weight_at ds)

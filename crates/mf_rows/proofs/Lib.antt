@@ -26,7 +26,7 @@ mod RowSumSteps
 pub mod RunBoxes
 pub mod RunDots
 mod RunEdges
-mod RunsLeft
+mod RemainingRuns
 pub mod RunsLemmas
 pub mod StretchBounds
 mod StripCopies

@@ -11,7 +11,8 @@ use Rattle.mf_rows.proofs.DotsLemmas.{IsAt, weight_at-here, weight_at-elsewhere,
 use Rattle.mf_rows.proofs.RunsLemmas.{continued, more_after, runs_of-first}
 
 -- a run stays maximal after a dot that does not continue it
-kept : (d : Dot) (ds : List Dot) (r : Run) → AreDotsFrom (place d.x d.y +ℤ pos 1) ds → (IsFollowedBy (run_from d 0) r → ⊥) → IsMaximalRun ds r → IsMaximalRun (d ∷ ds) r
+kept : (d : Dot) (ds : List Dot) (r : Run) → AreDotsFrom (place d.x d.y +ℤ pos 1) ds
+    → (IsFollowedBy (run_from d 0) r → ⊥) → IsMaximalRun ds r → IsMaximalRun (d ∷ ds) r
 unfolding run_from place
 kept d ds r dots apart maximal =
     let low = place d.x d.y +ℤ pos 1 in
@@ -30,11 +31,13 @@ kept d ds r dots apart maximal =
       right = λ same.
           maximal.right
           (sym (weight_at-elsewhere d ds (r.x +ℤ pos r.len) r.y (λ here.
-          maximal.nonzero (sym (maximal.inside 0 maximal.some) ∙ weight_at-before low ds (r.x +ℤ pos 0) r.y dots (omega (arith, ints, here.column, here.row, maximal.some)))))
+          maximal.nonzero (sym (maximal.inside 0 maximal.some) ∙ weight_at-before low ds (r.x +ℤ pos 0) r.y dots
+          (omega (arith, ints, here.column, here.row, maximal.some)))))
           ∙ same);
     }
 
-inside_longer : (d : Dot) (ds : List Dot) (r : Run) → IsFollowedBy (run_from d 0) r → IsMaximalRun ds r → (i : ℕ) → i < suc r.len → weight_at (d ∷ ds) (d.x +ℤ pos i) d.y ≡ d.weight
+inside_longer : (d : Dot) (ds : List Dot) (r : Run) → IsFollowedBy (run_from d 0) r → IsMaximalRun ds r → (i : ℕ)
+    → i < suc r.len → weight_at (d ∷ ds) (d.x +ℤ pos i) d.y ≡ d.weight
 unfolding run_from
 inside_longer d ds r joined maximal zero lt = weight_at-here d ds (d.x +ℤ pos 0) d.y (record { column = omega (arith, ints); row = refl })
 inside_longer d ds r joined maximal (suc i) lt =
@@ -45,7 +48,8 @@ inside_longer d ds r joined maximal (suc i) lt =
     ∙ rw (← column, joined.row, joined.weight) behind
 
 -- with one more dot at its left end, a maximal run is one longer
-longer : (d : Dot) (ds : List Dot) (r : Run) → IsDot d → AreDotsFrom (place d.x d.y +ℤ pos 1) ds → IsFollowedBy (run_from d 0) r → IsMaximalRun ds r → IsMaximalRun (d ∷ ds) (run_from d r.len)
+longer : (d : Dot) (ds : List Dot) (r : Run) → IsDot d → AreDotsFrom (place d.x d.y +ℤ pos 1) ds
+    → IsFollowedBy (run_from d 0) r → IsMaximalRun ds r → IsMaximalRun (d ∷ ds) (run_from d r.len)
 unfolding run_from place
 longer d ds r dot dots joined maximal =
     let low = place d.x d.y +ℤ pos 1 in
@@ -53,7 +57,8 @@ longer d ds r dot dots joined maximal =
       some = omega arith;
       nonzero = dot.nonzero;
       inside = inside_longer d ds r joined maximal;
-      left = λ same. dot.nonzero (sym same ∙ weight_at-elsewhere d ds (d.x -ℤ pos 1) d.y (λ here. omega (arith, ints, here.column)) ∙ weight_at-before low ds (d.x -ℤ pos 1) d.y dots (omega (arith, ints)));
+      left = λ same. dot.nonzero (sym same ∙ weight_at-elsewhere d ds (d.x -ℤ pos 1) d.y
+          (λ here. omega (arith, ints, here.column)) ∙ weight_at-before low ds (d.x -ℤ pos 1) d.y dots (omega (arith, ints)));
       right = λ same.
           let x = d.x +ℤ pos (suc r.len) in
           let column : r.x +ℤ pos r.len ≡ x = omega (arith, ints, joined.column) in
@@ -61,7 +66,8 @@ longer d ds r dot dots joined maximal =
     }
 
 -- a dot is a maximal run where the next pixel has another weight
-alone : (d : Dot) (ds : List Dot) → IsDot d → AreDotsFrom (place d.x d.y +ℤ pos 1) ds → weight_at ds (d.x +ℤ pos 1) d.y ≢ d.weight → IsMaximalRun (d ∷ ds) (run_from d 0)
+alone : (d : Dot) (ds : List Dot) → IsDot d → AreDotsFrom (place d.x d.y +ℤ pos 1) ds
+    → weight_at ds (d.x +ℤ pos 1) d.y ≢ d.weight → IsMaximalRun (d ∷ ds) (run_from d 0)
 unfolding run_from place
 alone d ds dot dots apart =
     let low = place d.x d.y +ℤ pos 1 in
@@ -69,16 +75,19 @@ alone d ds dot dots apart =
       some = omega arith;
       nonzero = dot.nonzero;
       inside = λ i lt. weight_at-here d ds (d.x +ℤ pos i) d.y (record { column = omega (arith, ints, lt); row = refl });
-      left = λ same. dot.nonzero (sym same ∙ weight_at-elsewhere d ds (d.x -ℤ pos 1) d.y (λ here. omega (arith, ints, here.column)) ∙ weight_at-before low ds (d.x -ℤ pos 1) d.y dots (omega (arith, ints)));
+      left = λ same. dot.nonzero (sym same ∙ weight_at-elsewhere d ds (d.x -ℤ pos 1) d.y
+          (λ here. omega (arith, ints, here.column)) ∙ weight_at-before low ds (d.x -ℤ pos 1) d.y dots (omega (arith, ints)));
       right = λ same. apart (sym (weight_at-elsewhere d ds (d.x +ℤ pos 1) d.y (λ here. omega (arith, ints, here.column))) ∙ same);
     }
 
 -- the pixel to the right of a dot has its weight only where the next dot continues its run
-next_apart : (d e : Dot) (es : List Dot) (n : ℕ) → IsDot d → AreDotsFrom (place d.x d.y +ℤ pos 1) (e ∷ es) → (IsFollowedBy (run_from d 0) (run_from e n) → ⊥) → weight_at (e ∷ es) (d.x +ℤ pos 1) d.y ≢ d.weight
+next_apart : (d e : Dot) (es : List Dot) (n : ℕ) → IsDot d → AreDotsFrom (place d.x d.y +ℤ pos 1) (e ∷ es)
+    → (IsFollowedBy (run_from d 0) (run_from e n) → ⊥) → weight_at (e ∷ es) (d.x +ℤ pos 1) d.y ≢ d.weight
 unfolding run_from place
 next_apart d e es n dot dots apart = λ same.
     let x = d.x +ℤ pos 1 in
-    let elsewhere : IsAt e x d.y → ⊥ = λ here. apart (record { row = sym here.row; column = sym here.column; weight = sym same ∙ weight_at-here e es x d.y here }) in
+    let elsewhere : IsAt e x d.y → ⊥ =
+    λ here. apart (record { row = sym here.row; column = sym here.column; weight = sym same ∙ weight_at-here e es x d.y here }) in
     let start : (place d.x d.y +ℤ pos 1) ≤ℤ place e.x e.y = dots.1 in
     dot.nonzero (sym same ∙ weight_at-elsewhere e es x d.y elsewhere ∙ weight_at-before (place e.x e.y +ℤ pos 1) es x d.y dots.2 (omega (arith, ints)))
 
@@ -89,7 +98,8 @@ dots_from-drop low (suc n) (d ∷ ds) dots =
     let start : low ≤ℤ place d.x d.y = dots.1 in
     dots_from-lower low (place d.x d.y +ℤ pos 1) (drop n ds) (omega (arith, ints)) (dots_from-drop (place d.x d.y +ℤ pos 1) n ds dots.2)
 
-starts_with_dot : (low : ℤ) (d : Dot) (rs : List Run) → low ≤ℤ place d.x d.y → All (λ r. low ≤ℤ place r.x r.y) rs → All (λ r. low ≤ℤ place r.x r.y) (with_dot d rs)
+starts_with_dot : (low : ℤ) (d : Dot) (rs : List Run) → low ≤ℤ place d.x d.y → All (λ r. low ≤ℤ place r.x r.y) rs
+    → All (λ r. low ≤ℤ place r.x r.y) (with_dot d rs)
 unfolding with_dot run_from
 starts_with_dot low d [] le starts = All-cons (λ r. low ≤ℤ place r.x r.y) (run_from d 0) [] le starts
 starts_with_dot low d (r ∷ rs) le starts =
@@ -107,15 +117,18 @@ starts_after low (d ∷ ds) dots =
     starts_with_dot low d (runs_of ds) start (starts_after low ds (dots_from-lower low (place d.x d.y +ℤ pos 1) ds (omega (arith, ints)) dots.2))
 
 -- the runs after the first one are not continued by a dot before it
-kept_later : (d e : Dot) (es : List Dot) (n : ℕ) → AreDotsFrom (place d.x d.y +ℤ pos 1) (e ∷ es) → All (IsMaximalRun (e ∷ es)) (runs_of (drop n es)) → All (IsMaximalRun (d ∷ e ∷ es)) (runs_of (drop n es))
+kept_later : (d e : Dot) (es : List Dot) (n : ℕ) → AreDotsFrom (place d.x d.y +ℤ pos 1) (e ∷ es)
+    → All (IsMaximalRun (e ∷ es)) (runs_of (drop n es)) → All (IsMaximalRun (d ∷ e ∷ es)) (runs_of (drop n es))
 unfolding run_from place
 kept_later d e es n dots maximal = λ k s lt.
     let r = get_or (runs_of (drop n es)) k s in
     let start : (place d.x d.y +ℤ pos 1) ≤ℤ place e.x e.y = dots.1 in
-    let later : (place e.x e.y +ℤ pos 1) ≤ℤ place r.x r.y = starts_after (place e.x e.y +ℤ pos 1) (drop n es) (dots_from-drop (place e.x e.y +ℤ pos 1) n es dots.2) k s lt in
+    let later : (place e.x e.y +ℤ pos 1) ≤ℤ place r.x r.y =
+    starts_after (place e.x e.y +ℤ pos 1) (drop n es) (dots_from-drop (place e.x e.y +ℤ pos 1) n es dots.2) k s lt in
     kept d (e ∷ es) r dots (λ joined. omega (arith, ints, joined.row, joined.column)) (maximal k s lt)
 
-longest_with_dot : (d e : Dot) (es : List Dot) (n : ℕ) → IsDot d → AreDotsFrom (place d.x d.y +ℤ pos 1) (e ∷ es) → All (IsMaximalRun (e ∷ es)) (run_from e n ∷ runs_of (drop n es)) → All (IsMaximalRun (d ∷ e ∷ es)) (with_dot d (run_from e n ∷ runs_of (drop n es)))
+longest_with_dot : (d e : Dot) (es : List Dot) (n : ℕ) → IsDot d → AreDotsFrom (place d.x d.y +ℤ pos 1) (e ∷ es)
+    → All (IsMaximalRun (e ∷ es)) (run_from e n ∷ runs_of (drop n es)) → All (IsMaximalRun (d ∷ e ∷ es)) (with_dot d (run_from e n ∷ runs_of (drop n es)))
 unfolding with_dot
 longest_with_dot d e es n dot dots maximal =
     let r = run_from e n in
@@ -127,7 +140,8 @@ longest_with_dot d e es n dot dots maximal =
     (λ yes. All-cons P (run_from d r.len) rs (longer d (e ∷ es) r dot dots ((continued d r).0 yes) head) later)
     (λ no.
     let apart = λ (joined : IsFollowedBy (run_from d 0) r). false≢true (sym no ∙ (continued d r).1 joined) in
-    All-cons P (run_from d 0) (r ∷ rs) (alone d (e ∷ es) dot dots (next_apart d e es n dot dots apart)) (All-cons P r rs (kept d (e ∷ es) r dots apart head) later))
+    All-cons P (run_from d 0) (r ∷ rs) (alone d (e ∷ es) dot dots (next_apart d e es n dot dots apart))
+    (All-cons P r rs (kept d (e ∷ es) r dots apart head) later))
 
 -- each run of dots has at least one pixel, and is as long as it can be
 pub longest_runs : (low : ℤ) (ds : List Dot) → AreDotsFrom low ds → All (IsMaximalRun ds) (runs_of ds)
@@ -136,4 +150,5 @@ longest_runs low [] dots = All-nil (IsMaximalRun [])
 longest_runs low (d ∷ []) dots =
     All-cons (IsMaximalRun (d ∷ [])) (run_from d 0) [] (alone d [] dots.0 tt (λ same. dots.0.nonzero (sym same))) (All-nil (IsMaximalRun (d ∷ [])))
 longest_runs low (d ∷ e ∷ es) dots =
-    rw (runs_of-first e es) (longest_with_dot d e es (more_after e es) dots.0 dots.2 (rw (runs_of-first e es) at (longest_runs (place d.x d.y +ℤ pos 1) (e ∷ es) dots.2)))
+    rw (runs_of-first e es)
+    (longest_with_dot d e es (more_after e es) dots.0 dots.2 (rw (runs_of-first e es) at (longest_runs (place d.x d.y +ℤ pos 1) (e ∷ es) dots.2)))

@@ -14,7 +14,8 @@ with_dot-alone : (d : Dot) (rs : List Run) → AreMaximal (run_from d 0 ∷ rs) 
 unfolding with_dot
 with_dot-alone d [] maximal = refl
 with_dot-alone d (r ∷ rs) maximal =
-    cond-false (continues d r) (run_from d r.len ∷ rs) (run_from d 0 ∷ r ∷ rs) (false_from_ne_true (continues d r) (λ joined. maximal.0 ((continued d r).0 joined)))
+    cond-false (continues d r) (run_from d r.len ∷ rs) (run_from d 0 ∷ r ∷ rs)
+    (false_from_ne_true (continues d r) (λ joined. maximal.0 ((continued d r).0 joined)))
 
 -- a dot at the left end of a run lengthens it
 with_dot-longer : (d : Dot) (r : Run) (rs : List Run) → IsFollowedBy (run_from d 0) r → with_dot d (r ∷ rs) ≡ run_from d r.len ∷ rs
@@ -22,12 +23,17 @@ unfolding with_dot
 with_dot-longer d r rs joined = cond-true (continues d r) (run_from d r.len ∷ rs) (run_from d 0 ∷ r ∷ rs) ((continued d r).1 joined)
 
 -- a run without its first column ends in the same column
-maximal-shifted : (y x w : ℤ) (n : ℕ) (rs : List Run) → AreMaximal (record { y = y; x = x; len = suc (suc n); weight = w } ∷ rs) → AreMaximal (record { y = y; x = x +ℤ pos 1; len = suc n; weight = w } ∷ rs)
+maximal-shifted : (y x w : ℤ) (n : ℕ) (rs : List Run) → AreMaximal (record { y = y; x = x; len = suc (suc n); weight = w } ∷ rs)
+    → AreMaximal (record { y = y; x = x +ℤ pos 1; len = suc n; weight = w } ∷ rs)
 maximal-shifted y x w n [] maximal = tt
-maximal-shifted y x w n (r ∷ rs) maximal = (λ joined. maximal.0 (record { row = joined.row; column = omega (arith, ints, joined.column); weight = joined.weight }), maximal.1)
+maximal-shifted y x w n (r ∷ rs) maximal = (
+  λ joined. maximal.0 (record { row = joined.row; column = omega (arith, ints, joined.column); weight = joined.weight }),
+  maximal.1,
+)
 
 -- the first run of dots that begin with a stretch
-runs_of-stretch : (y x w : ℤ) (n : ℕ) (ds : List Dot) → AreMaximal (record { y = y; x = x; len = suc n; weight = w } ∷ runs_of ds) → runs_of (stretch y x w (suc n) ++ ds) ≡ record { y = y; x = x; len = suc n; weight = w } ∷ runs_of ds
+runs_of-stretch : (y x w : ℤ) (n : ℕ) (ds : List Dot) → AreMaximal (record { y = y; x = x; len = suc n; weight = w } ∷ runs_of ds)
+    → runs_of (stretch y x w (suc n) ++ ds) ≡ record { y = y; x = x; len = suc n; weight = w } ∷ runs_of ds
 unfolding runs_of stretch run_from
 runs_of-stretch y x w zero ds maximal = with_dot-alone (record { y = y; x = x; weight = w }) (runs_of ds) maximal
 runs_of-stretch y x w (suc n) ds maximal =
@@ -36,7 +42,8 @@ runs_of-stretch y x w (suc n) ds maximal =
     ap (with_dot first) (runs_of-stretch y (x +ℤ pos 1) w n ds (maximal-shifted y x w n (runs_of ds) maximal))
     ∙ with_dot-longer first others (runs_of ds) (record { row = refl; column = refl; weight = refl })
 
-runs_of-run : (y x w : ℤ) (n : ℕ) (ds : List Dot) → 1 ≤ n → AreMaximal (record { y = y; x = x; len = n; weight = w } ∷ runs_of ds) → runs_of (stretch y x w n ++ ds) ≡ record { y = y; x = x; len = n; weight = w } ∷ runs_of ds
+runs_of-run : (y x w : ℤ) (n : ℕ) (ds : List Dot) → 1 ≤ n → AreMaximal (record { y = y; x = x; len = n; weight = w } ∷ runs_of ds)
+    → runs_of (stretch y x w n ++ ds) ≡ record { y = y; x = x; len = n; weight = w } ∷ runs_of ds
 runs_of-run y x w zero ds some maximal = absurd (omega arith)
 runs_of-run y x w (suc n) ds some maximal = runs_of-stretch y x w n ds maximal
 

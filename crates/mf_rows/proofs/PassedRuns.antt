@@ -63,7 +63,8 @@ none_passed ds rs picture all = rw all (record { split = sym (dots_of-runs_of ds
 pub next_is_lawful : (ds : List Dot) (rs : List Run) (r : Run) (others : List Run) (passed : List Dot) → rs ≡ r ∷ others → ArePassed ds rs passed → IsRun r
 next_is_lawful ds rs r others passed first so_far = All-head IsRun r others (All-same IsRun (r ∷ others) rs (sym first) so_far.runs)
 
-pub one_more_passed : (ds : List Dot) (rs : List Run) (r : Run) (others : List Run) (passed : List Dot) → rs ≡ r ∷ others → ArePassed ds rs passed → ArePassed ds others (passed ++ dots_of r)
+pub one_more_passed : (ds : List Dot) (rs : List Run) (r : Run) (others : List Run) (passed : List Dot)
+    → rs ≡ r ∷ others → ArePassed ds rs passed → ArePassed ds others (passed ++ dots_of r)
 one_more_passed ds rs r others passed first so_far = record {
   split = so_far.split ∙ rw first (sym (append_assoc passed (dots_of r) (flat_map dots_of others)));
   runs = All-rest IsRun r others rs first so_far.runs;
@@ -77,7 +78,8 @@ pub passed_are_lawful : (ds : List Dot) (rs : List Run) (passed : List Dot) → 
 passed_are_lawful ds rs passed picture so_far = λ k d lt.
     let rest = flat_map dots_of rs in
     let within : k < length (passed ++ rest) = rw length-append (omega (arith, lt)) in
-    subst IsDot (get_or_append_left passed rest d k lt) (All-same IsDot (passed ++ rest) ds (sym so_far.split) (dots_from-lawful start_of_field ds picture.dots) k d within)
+    subst IsDot (get_or_append_left passed rest d k lt)
+    (All-same IsDot (passed ++ rest) ds (sym so_far.split) (dots_from-lawful start_of_field ds picture.dots) k d within)
 
 pub length-passed : (ds : List Dot) (rs : List Run) (passed : List Dot) → ArePassed ds rs passed → length passed ≤ length ds
 length-passed ds rs passed so_far = rw (so_far.split, length-append) (omega arith)

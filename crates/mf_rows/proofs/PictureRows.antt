@@ -2,6 +2,7 @@
 use Rattle.std.proofs.Common.{◌≡◌, ◌≢◌, ℕ, zero, suc, ◌<◌, ℤ, pos, ◌-ℤ◌, ◌<ℤ◌, List, [], ◌∷◌, length, get_or, refl, sym, ap, ◌∙◌, subst, arith}
 use Rattle.std.specs.List.{All, Contains}
 use Rattle.std.proofs.lemmas.Int.{ints}
+use Rattle.mf_geom.specs.Coordinates.{last_in_field}
 use Rattle.mf_rows.specs.declared.corner.Corner.{Corner}
 use Rattle.mf_edges.specs.declared.edge.Edge.{Edge}
 use Rattle.mf_edges.specs.declared.row_change.RowChange.TheVariants as change
@@ -22,7 +23,8 @@ use Rattle.mf_rows.proofs.EdgeRowsLemmas.{weight_in_rows-here, weight_in_rows-el
 
 -- ---- one row among rows
 
-weight_in_rows-at : (top : ℤ) (rs : List EdgeRow) (k : ℕ) (d : EdgeRow) (x : ℤ) → AreRowsFrom top rs → k < length rs → weight_in_rows rs x (get_or rs k d).y ≡ weight_in (get_or rs k d).edges x
+weight_in_rows-at : (top : ℤ) (rs : List EdgeRow) (k : ℕ) (d : EdgeRow) (x : ℤ) → AreRowsFrom top rs → k < length rs
+    → weight_in_rows rs x (get_or rs k d).y ≡ weight_in (get_or rs k d).edges x
 weight_in_rows-at top [] k d x rows lt = absurd (omega arith)
 weight_in_rows-at top (r ∷ rs) zero d x rows lt =
     let none = weight_in_rows-below rs x r.y (rows_from-below (r.y -ℤ pos 1) r.y rs rows.2 (omega (arith, ints))) in
@@ -37,7 +39,7 @@ weight_in_rows-at top (r ∷ rs) (suc k) d x rows lt =
 pub weight_at-row : (rs : List EdgeRow) (r : EdgeRow) (x : ℤ) → AreRows rs → Contains rs r → weight_at (picture_of_rows rs) x r.y ≡ weight_in r.edges x
 weight_at-row rs r x rows there =
     weight_at-picture_of_rows rs x r.y rows
-    ∙ subst (λ s. weight_in_rows rs x s.y ≡ weight_in s.edges x) there.2 (weight_in_rows-at (pos 4094) rs there.0 r x rows.rows there.1)
+    ∙ subst (λ s. weight_in_rows rs x s.y ≡ weight_in s.edges x) there.2 (weight_in_rows-at last_in_field rs there.0 r x rows.rows there.1)
 
 pub weight_at-other_rows : (rs : List EdgeRow) (x y : ℤ) → AreRows rs → All (λ r. r.y ≢ y) rs → weight_at (picture_of_rows rs) x y ≡ pos 0
 weight_at-other_rows rs x y rows others = weight_at-picture_of_rows rs x y rows ∙ weight_in_rows-none rs x y others
@@ -51,50 +53,60 @@ weight_at-blank {rs = rs} {y = y} x rows row = weight_at-picture_of_rows rs x y 
 -- ---- the sum of two pictures
 
 -- rows with the weights of two lists of rows together represent the sum of their pictures
-pub weights_with_sum : (rs ss sum : List EdgeRow) → AreRows rs → AreRows ss → AreRows sum → HaveRowWeights (weight_in_all rs ss) sum → HasWeights (sum_at (picture_of_rows rs) (picture_of_rows ss)) (picture_of_rows sum)
+pub weights_with_sum : (rs ss sum : List EdgeRow) → AreRows rs → AreRows ss → AreRows sum
+    → HaveRowWeights (weight_in_all rs ss) sum → HasWeights (sum_at (picture_of_rows rs) (picture_of_rows ss)) (picture_of_rows sum)
 unfolding sum_at weight_in_all
 weights_with_sum rs ss sum left right rows has = record {
   weights = λ x y inside.
       omega (arith, ints, weight_at-picture_of_rows rs x y left, weight_at-picture_of_rows ss x y right, weight_at-picture_of_rows sum x y rows, has.weights x y);
 }
 
-pub unlawful_with_sum : (rs ss : List EdgeRow) → AreRows rs → AreRows ss → IsUnlawfulSomewhere (weight_in_all rs ss) → IsUnlawfulSomewhere (sum_at (picture_of_rows rs) (picture_of_rows ss))
+pub unlawful_with_sum : (rs ss : List EdgeRow) → AreRows rs → AreRows ss → IsUnlawfulSomewhere (weight_in_all rs ss)
+    → IsUnlawfulSomewhere (sum_at (picture_of_rows rs) (picture_of_rows ss))
 unfolding sum_at weight_in_all
 unlawful_with_sum rs ss left right unlawful =
     let x = unlawful.x in
     let y = unlawful.y in
-    let same : sum_at (picture_of_rows rs) (picture_of_rows ss) x y ≡ weight_in_all rs ss x y = omega (arith, ints, weight_at-picture_of_rows rs x y left, weight_at-picture_of_rows ss x y right) in
+    let same : sum_at (picture_of_rows rs) (picture_of_rows ss) x y ≡ weight_in_all rs ss x y =
+    omega (arith, ints, weight_at-picture_of_rows rs x y left, weight_at-picture_of_rows ss x y right) in
     record { x = x; y = y; in_field = unlawful.in_field; unlawful = λ lawful. unlawful.unlawful (subst IsLawfulWeight same lawful) }
 
 -- ---- corners are added
 
-pub weights_with_corners : (ds : List Dot) (ks : List Corner) {rs : List EdgeRow} {es : List Dot} → AreRows rs → HaveFieldWeights (added_by_all ks) rs → HasWeights (sum_at ds (picture_of_rows rs)) es → HasWeights (with_corners_at ds ks) es
+pub weights_with_corners : (ds : List Dot) (ks : List Corner) {rs : List EdgeRow} {es : List Dot} → AreRows rs
+    → HaveFieldWeights (added_by_all ks) rs → HasWeights (sum_at ds (picture_of_rows rs)) es → HasWeights (with_corners_at ds ks) es
 unfolding sum_at with_corners_at
-weights_with_corners ds ks {rs = rs} rows added has = record { weights = λ x y inside. omega (arith, ints, added.weights x y inside, has.weights x y inside, weight_at-picture_of_rows rs x y rows) }
+weights_with_corners ds ks {rs = rs} rows added has =
+    record { weights = λ x y inside. omega (arith, ints, added.weights x y inside, has.weights x y inside, weight_at-picture_of_rows rs x y rows) }
 
-pub unlawful_with_corners : (ds : List Dot) (ks : List Corner) {rs : List EdgeRow} → AreRows rs → HaveFieldWeights (added_by_all ks) rs → IsUnlawfulSomewhere (sum_at ds (picture_of_rows rs)) → IsUnlawfulSomewhere (with_corners_at ds ks)
+pub unlawful_with_corners : (ds : List Dot) (ks : List Corner) {rs : List EdgeRow} → AreRows rs
+    → HaveFieldWeights (added_by_all ks) rs → IsUnlawfulSomewhere (sum_at ds (picture_of_rows rs)) → IsUnlawfulSomewhere (with_corners_at ds ks)
 unfolding sum_at with_corners_at
 unlawful_with_corners ds ks {rs = rs} rows added unlawful =
     let x = unlawful.x in
     let y = unlawful.y in
-    let same : with_corners_at ds ks x y ≡ sum_at ds (picture_of_rows rs) x y = omega (arith, ints, added.weights x y unlawful.in_field, weight_at-picture_of_rows rs x y rows) in
+    let same : with_corners_at ds ks x y ≡ sum_at ds (picture_of_rows rs) x y =
+    omega (arith, ints, added.weights x y unlawful.in_field, weight_at-picture_of_rows rs x y rows) in
     record { x = x; y = y; in_field = unlawful.in_field; unlawful = λ lawful. unlawful.unlawful (subst IsLawfulWeight same lawful) }
 
 -- ---- rows are changed, or move
 
-pub weights_mapped : (m : WeightMap) (rs mapped : List EdgeRow) → AreRows rs → AreRows mapped → HaveRowWeights (changed_in_rows (change.Weights m) rs) mapped → HasWeights (mapped_at m (picture_of_rows rs)) (picture_of_rows mapped)
+pub weights_mapped : (m : WeightMap) (rs mapped : List EdgeRow) → AreRows rs → AreRows mapped
+    → HaveRowWeights (changed_in_rows (change.Weights m) rs) mapped → HasWeights (mapped_at m (picture_of_rows rs)) (picture_of_rows mapped)
 unfolding mapped_at changed_in_rows
 weights_mapped m rs mapped rows lawful has = record {
   weights = λ x y inside. weight_at-picture_of_rows mapped x y lawful ∙ has.weights x y ∙ ap (mapped_to m) (sym (weight_at-picture_of_rows rs x y rows));
 }
 
-pub weights_of_columns_mirrored : (rs mirrored : List EdgeRow) → AreRows rs → AreRows mirrored → HaveRowWeights (changed_in_rows change.Mirror rs) mirrored → HasWeights (columns_mirrored_at (picture_of_rows rs)) (picture_of_rows mirrored)
+pub weights_of_columns_mirrored : (rs mirrored : List EdgeRow) → AreRows rs → AreRows mirrored
+    → HaveRowWeights (changed_in_rows change.Mirror rs) mirrored → HasWeights (columns_mirrored_at (picture_of_rows rs)) (picture_of_rows mirrored)
 unfolding columns_mirrored_at changed_in_rows
 weights_of_columns_mirrored rs mirrored rows lawful has = record {
   weights = λ x y inside. weight_at-picture_of_rows mirrored x y lawful ∙ has.weights x y ∙ sym (weight_at-picture_of_rows rs (opposite x) y rows);
 }
 
-pub weights_of_rows_mirrored : (rs mirrored : List EdgeRow) → AreRows rs → AreRows mirrored → HaveRowWeights (mirrored_in_rows rs) mirrored → HasWeights (rows_mirrored_at (picture_of_rows rs)) (picture_of_rows mirrored)
+pub weights_of_rows_mirrored : (rs mirrored : List EdgeRow) → AreRows rs → AreRows mirrored
+    → HaveRowWeights (mirrored_in_rows rs) mirrored → HasWeights (rows_mirrored_at (picture_of_rows rs)) (picture_of_rows mirrored)
 unfolding rows_mirrored_at mirrored_in_rows
 weights_of_rows_mirrored rs mirrored rows lawful has = record {
   weights = λ x y inside. weight_at-picture_of_rows mirrored x y lawful ∙ has.weights x y ∙ sym (weight_at-picture_of_rows rs x (opposite y) rows);
@@ -102,7 +114,8 @@ weights_of_rows_mirrored rs mirrored rows lawful has = record {
 
 -- ---- pictures are turned
 
-pub weights_turned : (rs turned : List EdgeRow) → AreRows rs → AreRows turned → HaveRowWeights (turned_in_rows rs) turned → HasWeights (turned_at (picture_of_rows rs)) (picture_of_rows turned)
+pub weights_turned : (rs turned : List EdgeRow) → AreRows rs → AreRows turned
+    → HaveRowWeights (turned_in_rows rs) turned → HasWeights (turned_at (picture_of_rows rs)) (picture_of_rows turned)
 unfolding turned_at turned_in_rows
 weights_turned rs turned rows lawful has = record {
   weights = λ x y inside. weight_at-picture_of_rows turned x y lawful ∙ has.weights x y ∙ sym (weight_at-picture_of_rows rs y (opposite x) rows);

@@ -1,6 +1,7 @@
 -- Places in reading order.
-use Rattle.std.proofs.Common.{◌≡◌, ℕ, suc, ℤ, pos, negsuc, ◌+ℤ◌, ◌-ℤ◌, ◌≤ℤ◌, ◌<ℤ◌, arith}
+use Rattle.std.proofs.Common.{◌≡◌, ℕ, suc, ℤ, pos, ◌+ℤ◌, ◌-ℤ◌, ◌≤ℤ◌, ◌<ℤ◌, arith}
 use Rattle.std.proofs.lemmas.Int.{ints}
+use Rattle.mf_geom.specs.Coordinates.{least_coordinate, greatest_coordinate, last_in_field}
 use Rattle.mf_geom.specs.Field.{IsInField}
 use Rattle.mf_rows.specs.Dots.{place, start_of_field}
 
@@ -10,7 +11,7 @@ unfolding place
 place-next x y = omega (arith, ints)
 
 -- after the last column of a row comes the first of the row below
-pub place-below : (y : ℤ) → place (pos 4095) y ≡ place (negsuc 4094) (y -ℤ pos 1)
+pub place-below : (y : ℤ) → place greatest_coordinate y ≡ place least_coordinate (y -ℤ pos 1)
 unfolding place
 place-below y = omega (arith, ints)
 
@@ -35,13 +36,18 @@ place-lt x y inside = omega (arith, ints)
 
 -- the n columns from x on lie in the field, in row y
 pub record AreColumns (x y : ℤ) (n : ℕ) : Type 0 where
-  pub left : negsuc 4094 ≤ℤ x
-  pub right : (x +ℤ pos n) ≤ℤ pos 4095
-  pub bottom : negsuc 4094 ≤ℤ y
-  pub top : y ≤ℤ pos 4094
+  pub left : least_coordinate ≤ℤ x
+  pub right : (x +ℤ pos n) ≤ℤ greatest_coordinate
+  pub bottom : least_coordinate ≤ℤ y
+  pub top : y ≤ℤ last_in_field
 
 pub first_column : (x y : ℤ) (n : ℕ) → AreColumns x y (suc n) → IsInField x y
 first_column x y n columns = record { left = columns.left; right = omega (arith, ints, columns.right); bottom = columns.bottom; top = columns.top }
 
 pub next_columns : (x y : ℤ) (n : ℕ) → AreColumns x y (suc n) → AreColumns (x +ℤ pos 1) y n
-next_columns x y n columns = record { left = omega (arith, ints, columns.left); right = omega (arith, ints, columns.right); bottom = columns.bottom; top = columns.top }
+next_columns x y n columns = record {
+  left = omega (arith, ints, columns.left);
+  right = omega (arith, ints, columns.right);
+  bottom = columns.bottom;
+  top = columns.top;
+}

@@ -9,6 +9,7 @@ use Rattle.std.proofs.lemmas.Int.{ints}
 use Rattle.std.proofs.lemmas.List.{drop_more}
 use Rattle.std.proofs.lemmas.List.Elements.{All-nil, All-tail, All-append, All-weaker, All-head}
 use Rattle.std.proofs.lemmas.Slice.Eq.{slice_eq-Decides}
+use Rattle.mf_geom.specs.Coordinates.{last_in_field, IsCoordinate}
 use Rattle.mf_edges.specs.contracts.edge.EdgePartialEq.TheImpl as edge_eq
 use Rattle.mf_edges.specs.declared.edge.Edge.{Edge}
 use Rattle.mf_rows.specs.declared.row.Row.{Row}
@@ -19,7 +20,7 @@ use Rattle.mf_rows.specs.Bands.{edge_row, edge_rows, AreBelow}
 use Rattle.mf_rows.specs.BlankRows.{unless_blank}
 use Rattle.mf_edges.specs.Edges.{weight_in, AreEdges}
 use Rattle.mf_rows.specs.EdgeRows.{EdgeRow, AreRowsFrom, AreRows, weight_in_rows}
-use Rattle.mf_edges.specs.Axes.{IsStretch, IsPointInReach, stretched_to, source_of}
+use Rattle.mf_edges.specs.Axes.{IsStretch, stretched_to, source_of}
 use Rattle.mf_edges.specs.RowChanges.{row_image, IsRowChange, EdgesAllowChange, changed_in, AreChanged}
 use Rattle.mf_rows.specs.RowChanges.{RowsAllowChange, changed_in_rows}
 use Rattle.mf_rows.specs.Sums.{HaveRowWeights}
@@ -66,7 +67,9 @@ changed-none c lawful = record {
 }
 
 -- a row and those below it have their weights at different heights, so each is changed by itself
-changed_in_rows-cons : (c : RowChange) (r : EdgeRow) (rest : List EdgeRow) (image : List Edge) (x v : ℤ) → IsRowChange c → AreBelow r.y rest → AreChanged c r.edges image → weight_in_rows (unless_blank (record { y = r.y; edges = image })) x v +ℤ changed_in_rows c rest x v ≡ changed_in_rows c (r ∷ rest) x v
+changed_in_rows-cons : (c : RowChange) (r : EdgeRow) (rest : List EdgeRow) (image : List Edge) (x v : ℤ) → IsRowChange c
+    → AreBelow r.y rest → AreChanged c r.edges image
+    → weight_in_rows (unless_blank (record { y = r.y; edges = image })) x v +ℤ changed_in_rows c rest x v ≡ changed_in_rows c (r ∷ rest) x v
 unfolding changed_in_rows changed_in weight_in_rows
 changed_in_rows-cons c r rest image x v lawful below changed =
     let row : EdgeRow = record { y = r.y; edges = image } in
@@ -89,9 +92,9 @@ changed_in_rows-cons c r rest image x v lawful below changed =
 
 -- the new rows have the weights of all rows after the change except for those that are left, and are above these
 pub record IsChangeSoFar (c : RowChange) (whole left changed : List EdgeRow) : Type 0 where
-  pub to_come : AreRowsFrom (pos 4094) left
+  pub to_come : AreRowsFrom last_in_field left
   pub allowed : RowsAllowChange c left
-  pub rows : AreRowsFrom (pos 4094) changed
+  pub rows : AreRowsFrom last_in_field changed
   pub apart : All (λ r. AreBelow r.y left) changed
   pub weights : (x y : ℤ) → weight_in_rows changed x y +ℤ changed_in_rows c left x y ≡ changed_in_rows c whole x y
 
@@ -106,23 +109,28 @@ change_none c whole rows allowed = record {
 }
 
 -- the first of the rows that are left
-pub change_next : {c : RowChange} {whole changed : List EdgeRow} (rows : List Row) (k : ℕ) (row : Row) → k < length rows → row ≡ get_or rows k row → IsChangeSoFar c whole (edge_rows (drop k rows)) changed → IsChangeSoFar c whole (edge_row row ∷ edge_rows (drop (k + 1) rows)) changed
+pub change_next : {c : RowChange} {whole changed : List EdgeRow} (rows : List Row) (k : ℕ) (row : Row) → k < length rows
+    → row ≡ get_or rows k row → IsChangeSoFar c whole (edge_rows (drop k rows)) changed
+    → IsChangeSoFar c whole (edge_row row ∷ edge_rows (drop (k + 1) rows)) changed
 change_next {c = c} {whole = whole} {changed = changed} rows k row inside read so_far =
-    subst (λ left. IsChangeSoFar c whole left changed) (ap edge_rows (drop_more rows k row inside) ∙ ap (λ r. edge_row r ∷ edge_rows (drop (k + 1) rows)) (sym read)) so_far
+    subst (λ left. IsChangeSoFar c whole left changed)
+    (ap edge_rows (drop_more rows k row inside) ∙ ap (λ r. edge_row r ∷ edge_rows (drop (k + 1) rows)) (sym read)) so_far
 
 pub allowed_next : {c : RowChange} {whole rest changed : List EdgeRow} {r : EdgeRow} → IsChangeSoFar c whole (r ∷ rest) changed → EdgesAllowChange c r.edges
 allowed_next {c = c} {rest = rest} {r = r} so_far = All-head (λ r. EdgesAllowChange c r.edges) r rest so_far.allowed
 
-pub change_more : (c : RowChange) (whole rest changed : List EdgeRow) (r : EdgeRow) (image : List Edge) → IsRowChange c → IsChangeSoFar c whole (r ∷ rest) changed → AreChanged c r.edges image → IsChangeSoFar c whole rest (changed ++ unless_blank (record { y = r.y; edges = image }))
+pub change_more : (c : RowChange) (whole rest changed : List EdgeRow) (r : EdgeRow) (image : List Edge) → IsRowChange c
+    → IsChangeSoFar c whole (r ∷ rest) changed → AreChanged c r.edges image
+    → IsChangeSoFar c whole rest (changed ++ unless_blank (record { y = r.y; edges = image }))
 change_more c whole rest changed r image lawful so_far has =
     let row : EdgeRow = record { y = r.y; edges = image } in
     let first = so_far.to_come.0 in
     let below = rows_from-below (r.y -ℤ pos 1) r.y rest so_far.to_come.2 (omega (arith, ints)) in
     record {
-      to_come = rows_from-higher (pos 4094) (r.y -ℤ pos 1) rest (omega (arith, ints, first.top)) so_far.to_come.2;
+      to_come = rows_from-higher last_in_field (r.y -ℤ pos 1) rest (omega (arith, ints, first.top)) so_far.to_come.2;
       allowed = All-tail (λ r. EdgesAllowChange c r.edges) r rest so_far.allowed;
-      rows = rows_from-append (pos 4094) changed (unless_blank row) so_far.rows
-          (rows_from-higher (pos 4094) r.y (unless_blank row) first.top (rows_from-unless_blank r.y image first.bottom first.top has.edges))
+      rows = rows_from-append last_in_field changed (unless_blank row) so_far.rows
+          (rows_from-higher last_in_field r.y (unless_blank row) first.top (rows_from-unless_blank r.y image first.bottom first.top has.edges))
           (All-weaker (λ s. AreBelow s.y (r ∷ rest)) (λ s. AreBelow s.y (unless_blank row))
           (λ s lower. All-unless_blank (λ t. t.y <ℤ s.y) r.y image (All-head (λ t. t.y <ℤ s.y) r rest lower)) changed so_far.apart);
       apart = All-append (λ s. AreBelow s.y rest) changed (unless_blank row)
@@ -135,7 +143,8 @@ change_more c whole rest changed r image lawful so_far has =
           omega (arith, ints);
     }
 
-pub change_all : (c : RowChange) (whole changed : List EdgeRow) → IsRowChange c → IsChangeSoFar c whole [] changed → HaveRowWeights (changed_in_rows c whole) changed
+pub change_all : (c : RowChange) (whole changed : List EdgeRow) → IsRowChange c → IsChangeSoFar c whole [] changed
+    → HaveRowWeights (changed_in_rows c whole) changed
 unfolding weight_in_rows changed_in_rows
 change_all c whole changed lawful so_far = record { weights = λ x y. let all = so_far.weights x y in omega (arith, ints, image_of_blank c x lawful) }
 
@@ -154,16 +163,18 @@ columns_stay : (s : Stretch) (rs : List EdgeRow) → IsStretch s → s.factor �
 unfolding changed_in_rows
 columns_stay s rs stretch one none = record { weights = λ x y. ap (λ z. weight_in_rows rs z y) (sym (source_of-same s x stretch one none)) }
 
--- an edge that stays in reach bounds the offset
-short_offset : (s : Stretch) (es : List Edge) → es ≢ [] → AreEdges es → EdgesAllowChange (change.Columns s) es → s.factor ≡ pos 1 → (negsuc 8189 ≤ℤ s.offset) × (s.offset ≤ℤ pos 8190)
+-- an edge that stays at a column where one may be bounds the offset
+short_offset : (s : Stretch) (es : List Edge) → es ≢ [] → AreEdges es → EdgesAllowChange (change.Columns s) es
+    → s.factor ≡ pos 1 → (negsuc 8189 ≤ℤ s.offset) × (s.offset ≤ℤ pos 8190)
 short_offset s [] some edges allowed one = absurd (some refl)
 short_offset s (e ∷ es) some edges allowed one =
-    let reach = All-head (λ e. IsPointInReach (stretched_to s e.x)) e es allowed in
+    let reach = All-head (λ e. IsCoordinate (stretched_to s e.x)) e es allowed in
     let edge = edges.sorted.0 in
     let moved : stretched_to s e.x ≡ e.x +ℤ s.offset = once e.x s.factor s.offset one in
     (omega (arith, ints, reach.least, edge.right), omega (arith, ints, reach.greatest, edge.left))
 
-pub columns_same : (s : Stretch) (rs : List EdgeRow) → AreRows rs → RowsAllowChange (change.Columns s) rs → IsStretch s → of_z w32 s.factor ≡ 1 → of_z w32 s.offset ≡ 0 → HaveRowWeights (changed_in_rows (change.Columns s) rs) rs
+pub columns_same : (s : Stretch) (rs : List EdgeRow) → AreRows rs → RowsAllowChange (change.Columns s) rs → IsStretch s
+    → of_z w32 s.factor ≡ 1 → of_z w32 s.offset ≡ 0 → HaveRowWeights (changed_in_rows (change.Columns s) rs) rs
 unfolding changed_in_rows weight_in_rows
 columns_same s [] rows allowed stretch one none = record { weights = λ x y. refl }
 columns_same s (r ∷ rs) rows allowed stretch one none =

@@ -4,6 +4,7 @@ use Rattle.std.specs.List.{push}
 use Rattle.std.proofs.lemmas.Int.{ints}
 use Rattle.std.proofs.lemmas.List.{append-nil, map-append}
 use Rattle.std.proofs.lemmas.List.Elements.{All-head, All-tail, All-cons, All-nil, All-weaker, All-append}
+use Rattle.mf_geom.specs.Coordinates.{last_in_field}
 use Rattle.mf_rows.specs.declared.row.Row.{Row}
 use Rattle.mf_rows.specs.Bands.{edge_row, edge_rows, AreAbove, AreBelow}
 use Rattle.mf_rows.specs.EdgeRows.{EdgeRow, IsEdgeRow, AreRowsFrom, AreRows, weight_in_rows}
@@ -36,18 +37,23 @@ mirror-above y (r ∷ rs) below =
     All-append (λ r. opposite y <ℤ r.y) (mirror rs) (opposite_row r ∷ []) (mirror-above y rs (All-tail (λ r. r.y <ℤ y) r rs below))
     (All-cons (λ r. opposite y <ℤ r.y) (opposite_row r) [] (omega (arith, ints)) (All-nil (λ r. opposite y <ℤ r.y)))
 
-mirror-rows : (top : ℤ) (rs : List EdgeRow) → AreRowsFrom top rs → AreRowsFrom (pos 4094) (mirror rs)
+mirror-rows : (top : ℤ) (rs : List EdgeRow) → AreRowsFrom top rs → AreRowsFrom last_in_field (mirror rs)
 mirror-rows top [] rows = tt
 mirror-rows top (r ∷ rs) rows =
     let row = rows.0 in
     let below = rows_from-below (r.y -ℤ pos 1) r.y rs rows.2 (omega (arith, ints)) in
-    let moved : IsEdgeRow (opposite_row r) = record { bottom = omega (arith, ints, row.top); top = omega (arith, ints, row.bottom); some = row.some; edges = row.edges } in
-    rows_from-append (pos 4094) (mirror rs) (opposite_row r ∷ []) (mirror-rows (r.y -ℤ pos 1) rs rows.2) (moved, moved.top, tt)
+    let moved : IsEdgeRow (opposite_row r) = record {
+      bottom = omega (arith, ints, row.top);
+      top = omega (arith, ints, row.bottom);
+      some = row.some;
+      edges = row.edges;
+    } in
+    rows_from-append last_in_field (mirror rs) (opposite_row r ∷ []) (mirror-rows (r.y -ℤ pos 1) rs rows.2) (moved, moved.top, tt)
     (All-weaker (λ s. opposite r.y <ℤ s.y) (λ s. AreBelow s.y (opposite_row r ∷ []))
     (λ s higher. All-cons (λ t. t.y <ℤ s.y) (opposite_row r) [] higher (All-nil (λ t. t.y <ℤ s.y))) (mirror rs) (mirror-above r.y rs below))
 
 pub lawful_mirror : (rs : List EdgeRow) → AreRows rs → AreRows (mirror rs)
-lawful_mirror rs rows = record { rows = mirror-rows (pos 4094) rs rows.rows }
+lawful_mirror rs rows = record { rows = mirror-rows last_in_field rs rows.rows }
 
 weight_in_rows-mirror : (rs : List EdgeRow) (x y : ℤ) → weight_in_rows (mirror rs) x y ≡ weight_in_rows rs x (opposite y)
 unfolding weight_in_rows
@@ -73,19 +79,22 @@ mirror_weights rs = record { weights = λ x y. weight_in_rows-mirror rs x y }
 
 -- the new rows are the reflections of the last of all rows, and the others are left
 pub record IsMirrorSoFar (whole left mirrored : List EdgeRow) : Type 0 where
-  pub to_come : AreRowsFrom (pos 4094) left
+  pub to_come : AreRowsFrom last_in_field left
   pub all : mirrored ++ mirror left ≡ mirror whole
 
 -- the last of the rows that are left
-pub mirror_next : {whole mirrored : List EdgeRow} (left rest : List Row) (row : Row) → left ≡ push rest row → IsMirrorSoFar whole (edge_rows left) mirrored → IsMirrorSoFar whole (edge_rows rest ++ edge_row row ∷ []) mirrored
-mirror_next {whole = whole} {mirrored = mirrored} left rest row split so_far = subst (λ left. IsMirrorSoFar whole left mirrored) (ap edge_rows split ∙ map-append edge_row rest (row ∷ [])) so_far
+pub mirror_next : {whole mirrored : List EdgeRow} (left rest : List Row) (row : Row) → left ≡ push rest row
+    → IsMirrorSoFar whole (edge_rows left) mirrored → IsMirrorSoFar whole (edge_rows rest ++ edge_row row ∷ []) mirrored
+mirror_next {whole = whole} {mirrored = mirrored} left rest row split so_far =
+    subst (λ left. IsMirrorSoFar whole left mirrored) (ap edge_rows split ∙ map-append edge_row rest (row ∷ [])) so_far
 
 pub mirror_last : {whole mirrored : List EdgeRow} (left : List EdgeRow) (r : EdgeRow) → IsMirrorSoFar whole (left ++ r ∷ []) mirrored → IsEdgeRow r
-mirror_last left r so_far = (rows_from-back (pos 4094) left (r ∷ []) so_far.to_come).0
+mirror_last left r so_far = (rows_from-back last_in_field left (r ∷ []) so_far.to_come).0
 
-pub mirror_more : {whole mirrored : List EdgeRow} (left : List EdgeRow) (r : EdgeRow) → IsMirrorSoFar whole (left ++ r ∷ []) mirrored → IsMirrorSoFar whole left (mirrored ++ opposite_row r ∷ [])
+pub mirror_more : {whole mirrored : List EdgeRow} (left : List EdgeRow) (r : EdgeRow)
+    → IsMirrorSoFar whole (left ++ r ∷ []) mirrored → IsMirrorSoFar whole left (mirrored ++ opposite_row r ∷ [])
 mirror_more {mirrored = mirrored} left r so_far = record {
-  to_come = rows_from-front (pos 4094) left (r ∷ []) so_far.to_come;
+  to_come = rows_from-front last_in_field left (r ∷ []) so_far.to_come;
   all = append_assoc mirrored (opposite_row r ∷ []) (mirror left) ∙ ap (λ ts. mirrored ++ ts) (sym (mirror-append left (r ∷ []))) ∙ so_far.all;
 }
 

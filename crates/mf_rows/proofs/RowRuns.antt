@@ -1,8 +1,9 @@
 -- The runs of rows of edges are the maximal runs of their picture.
-use Rattle.std.proofs.Common.{◌≡◌, ◌≢◌, ℤ, pos, negsuc, ◌-ℤ◌, ◌≤ℤ◌, List, [], ◌∷◌, refl, sym, ap, ◌∙◌, subst, arith}
+use Rattle.std.proofs.Common.{◌≡◌, ◌≢◌, ℤ, pos, ◌-ℤ◌, ◌≤ℤ◌, List, [], ◌∷◌, refl, sym, ap, ◌∙◌, subst, arith}
 use Rattle.std.specs.List.{flat_map}
 use Rattle.std.proofs.lemmas.Int.{ints, by_lt_z}
 use Rattle.std.proofs.lemmas.List.Elements.{All-nil, All-cons}
+use Rattle.mf_geom.specs.Coordinates.{least_coordinate, greatest_coordinate, last_in_field}
 use Rattle.mf_rows.specs.Dots.{IsPicture, place, start_of_field, weight_at}
 use Rattle.mf_edges.specs.Edges.{weight_in}
 use Rattle.mf_rows.specs.EdgeRows.{EdgeRow, IsEdgeRow, AreRowsFrom, AreRows, weight_in_rows, picture_of_rows}
@@ -19,23 +20,25 @@ pub edge_rows_from : (top : ℤ) (rs : List EdgeRow) → AreRowsFrom top rs → 
 edge_rows_from top [] rows = All-nil IsEdgeRow
 edge_rows_from top (r ∷ rs) rows = All-cons IsEdgeRow r rs rows.0 (edge_rows_from (r.y -ℤ pos 1) rs rows.2)
 
-place-below_row : (y v : ℤ) → v ≤ℤ (y -ℤ pos 1) → place (pos 4095) y ≤ℤ place (negsuc 4094) v
+place-below_row : (y v : ℤ) → v ≤ℤ (y -ℤ pos 1) → place greatest_coordinate y ≤ℤ place least_coordinate v
 unfolding place
 place-below_row y v le = omega (arith, ints)
 
 -- the runs of rows below row y come after it
-runs_from-rows : (y : ℤ) (rs : List EdgeRow) → AreRowsFrom (y -ℤ pos 1) rs → AreRunsFrom (place (pos 4095) y) (runs_of_rows rs)
+runs_from-rows : (y : ℤ) (rs : List EdgeRow) → AreRowsFrom (y -ℤ pos 1) rs → AreRunsFrom (place greatest_coordinate y) (runs_of_rows rs)
 runs_from-rows y [] rows = tt
 runs_from-rows y (r ∷ rs) rows =
     let row = rows.0 in
-    runs_from-lower (place (pos 4095) y) (place (negsuc 4094) r.y) (runs_of_rows (r ∷ rs)) (place-below_row y r.y rows.1)
-    (runs_from-edges r.y (negsuc 4094) (pos 0) r.edges (runs_of_rows rs) row.bottom row.top (omega (arith, ints)) (rest_of_edges r.edges row.edges) (runs_from-rows r.y rs rows.2))
+    runs_from-lower (place greatest_coordinate y) (place least_coordinate r.y) (runs_of_rows (r ∷ rs)) (place-below_row y r.y rows.1)
+    (runs_from-edges r.y least_coordinate (pos 0) r.edges (runs_of_rows rs) row.bottom row.top (omega (arith, ints))
+    (rest_of_edges r.edges row.edges) (runs_from-rows r.y rs rows.2))
 
 -- none of them continues another
 maximal-rows : (top : ℤ) (rs : List EdgeRow) → AreRowsFrom top rs → AreMaximal (runs_of_rows rs)
 maximal-rows top [] rows = tt
 maximal-rows top (r ∷ rs) rows =
-    maximal-edges r.y (negsuc 4094) (pos 0) r.edges (runs_of_rows rs) rows.0.bottom rows.0.top (rest_of_edges r.edges rows.0.edges) (runs_from-rows r.y rs rows.2) (maximal-rows (r.y -ℤ pos 1) rs rows.2)
+    maximal-edges r.y least_coordinate (pos 0) r.edges (runs_of_rows rs) rows.0.bottom rows.0.top
+    (rest_of_edges r.edges rows.0.edges) (runs_from-rows r.y rs rows.2) (maximal-rows (r.y -ℤ pos 1) rs rows.2)
 
 -- two rows are the same or not
 by_row : {P : Type 0} (u v : ℤ) → (u ≡ v → P) → (u ≢ v → P) → P
@@ -47,18 +50,22 @@ by_row u v same apart =
     (λ no_above. same (omega (arith, ints))))
 
 -- the dots of the runs have the weights of the rows
-weight_at-rows : (top : ℤ) (rs : List EdgeRow) (x y : ℤ) → x ≤ℤ pos 4094 → AreRowsFrom top rs → weight_at (flat_map dots_of (runs_of_rows rs)) x y ≡ weight_in_rows rs x y
+weight_at-rows : (top : ℤ) (rs : List EdgeRow) (x y : ℤ) → x ≤ℤ last_in_field → AreRowsFrom top rs
+    → weight_at (flat_map dots_of (runs_of_rows rs)) x y ≡ weight_in_rows rs x y
 unfolding weight_at weight_in_rows
 weight_at-rows top [] x y right rows = refl
 weight_at-rows top (r ∷ rs) x y right rows =
     by_row r.y y
     (λ here.
     let below = weight_in_rows-below rs x y (rows_from-below (r.y -ℤ pos 1) y rs rows.2 (omega (arith, ints))) in
-    let own = subst (λ v. weight_at (flat_map dots_of (runs_of_rows (r ∷ rs))) x v ≡ weight_in r.edges x) here (weight_at-whole_row r.y r.edges (runs_of_rows rs) x rows.0.bottom rows.0.top right rows.0.edges (runs_from-rows r.y rs rows.2)) in
+    let own =
+    subst (λ v. weight_at (flat_map dots_of (runs_of_rows (r ∷ rs))) x v ≡ weight_in r.edges x) here
+    (weight_at-whole_row r.y r.edges (runs_of_rows rs) x rows.0.bottom rows.0.top right rows.0.edges (runs_from-rows r.y rs rows.2)) in
     own ∙ sym (weight_in_rows-here r rs x y here ∙ omega (arith, ints, below)))
-    (λ elsewhere. weight_at-off_row r.y (pos 0) r.edges (runs_of_rows rs) x y elsewhere ∙ weight_at-rows (r.y -ℤ pos 1) rs x y right rows.2 ∙ sym (weight_in_rows-elsewhere r rs x y elsewhere))
+    (λ elsewhere. weight_at-off_row r.y (pos 0) r.edges (runs_of_rows rs) x y elsewhere
+    ∙ weight_at-rows (r.y -ℤ pos 1) rs x y right rows.2 ∙ sym (weight_in_rows-elsewhere r rs x y elsewhere))
 
-start_behind : start_of_field ≤ℤ place (pos 4095) (pos 4095)
+start_behind : start_of_field ≤ℤ place greatest_coordinate greatest_coordinate
 unfolding start_of_field place
 start_behind = omega (arith, ints)
 
@@ -66,8 +73,13 @@ start_behind = omega (arith, ints)
 pub runs_of-picture_of_rows : (rs : List EdgeRow) → AreRows rs → runs_of (picture_of_rows rs) ≡ runs_of_rows rs
 runs_of-picture_of_rows rs rows =
     let runs = runs_of_rows rs in
-    let in_order = runs_from-rows (pos 4095) rs rows.rows in
-    let picture : IsPicture (flat_map dots_of runs) = record { dots = dots_from-runs start_of_field runs (runs_from-lower start_of_field (place (pos 4095) (pos 4095)) runs start_behind in_order) } in
-    let weights : HasWeights (weight_in_rows rs) (flat_map dots_of runs) = record { weights = λ x y inside. weight_at-rows (pos 4094) rs x y inside.right rows.rows } in
+    let in_order = runs_from-rows greatest_coordinate rs rows.rows in
+    let picture : IsPicture (flat_map dots_of runs) =
+    record {
+      dots = dots_from-runs start_of_field runs
+          (runs_from-lower start_of_field (place greatest_coordinate greatest_coordinate) runs start_behind in_order);
+    } in
+    let weights : HasWeights (weight_in_rows rs) (flat_map dots_of runs) =
+    record { weights = λ x y inside. weight_at-rows last_in_field rs x y inside.right rows.rows } in
     ap runs_of (sym (picture_of_rows-from_weights (flat_map dots_of runs) rs picture weights))
-    ∙ runs_of-dots_of runs (some_of_runs (place (pos 4095) (pos 4095)) runs in_order) (maximal-rows (pos 4094) rs rows.rows)
+    ∙ runs_of-dots_of runs (some_of_runs (place greatest_coordinate greatest_coordinate) runs in_order) (maximal-rows last_in_field rs rows.rows)

@@ -1,10 +1,11 @@
 -- Rows that are stretched: each becomes a strip of rows.
-use Rattle.std.proofs.Common.{◌≡◌, ◌≢◌, ℕ, zero, suc, ◌+◌, ◌<◌, ℤ, pos, negsuc, ◌+ℤ◌, ◌-ℤ◌, ◌*ℤ◌, ◌≤ℤ◌, ◌<ℤ◌, List, [], ◌∷◌, ◌++◌, length, drop, get_or, refl, sym, ap, subst, ◌∙◌, append_assoc, append-nil, FitsSigned, to_z, of_z, w32, arith}
+use Rattle.std.proofs.Common.{◌≡◌, ◌≢◌, ℕ, zero, suc, ◌+◌, ◌<◌, ℤ, pos, ◌+ℤ◌, ◌-ℤ◌, ◌*ℤ◌, ◌≤ℤ◌, ◌<ℤ◌, List, [], ◌∷◌, length, drop, get_or, sym, ap, subst, ◌∙◌, FitsSigned, to_z, of_z, w32, arith}
 use Rattle.std.specs.Int.RustNames.{unsigned_abs}
 use Rattle.std.specs.List.{All}
 use Rattle.std.proofs.lemmas.Int.{ints, to_z-of_z, fits_signed_mul, by_lt_z}
 use Rattle.std.proofs.lemmas.List.Elements.{All-nil, All-cons, All-head, All-tail, All-append, All-weaker}
 use Rattle.std.proofs.lemmas.List.{drop_more}
+use Rattle.mf_geom.specs.Coordinates.{least_coordinate, greatest_coordinate, last_in_field}
 use Rattle.mf_edges.specs.declared.edge.Edge.{Edge}
 use Rattle.mf_rows.specs.declared.row.Row.{Row}
 use Rattle.mf_edges.specs.declared.stretch.Stretch.{Stretch}
@@ -21,7 +22,8 @@ use Rattle.mf_edges.proofs.Sources.{stretched_to-le, stretched_to-next, source_o
 
 -- ---- numbers that the code computes
 
-pub product_fits : (y f : ℤ) → negsuc 4094 ≤ℤ y → y ≤ℤ pos 4094 → pos 1 ≤ℤ f → f ≤ℤ pos 4095 → FitsSigned w32 (to_z w32 (of_z w32 y) *ℤ to_z w32 (of_z w32 f))
+pub product_fits : (y f : ℤ) → least_coordinate ≤ℤ y → y ≤ℤ last_in_field → pos 1 ≤ℤ f → f ≤ℤ greatest_coordinate
+    → FitsSigned w32 (to_z w32 (of_z w32 y) *ℤ to_z w32 (of_z w32 f))
 product_fits y f bottom top least greatest =
     let y_is : to_z w32 (of_z w32 y) ≡ y = omega (arith, ints) in
     let f_is : to_z w32 (of_z w32 f) ≡ f = omega (arith, ints) in
@@ -30,19 +32,21 @@ product_fits y f bottom top least greatest =
 -- where the strip of a row begins and ends, as the code computes it
 pub record StripPlace (s : Stretch) (y : ℤ) : Type 0 where
   pub bottom_fits : FitsSigned w32 (to_z w32 (of_z w32 (to_z w32 (of_z w32 y) *ℤ to_z w32 (of_z w32 s.factor))) +ℤ to_z w32 (of_z w32 s.offset))
-  pub bottom : to_z w32 (of_z w32 (to_z w32 (of_z w32 (to_z w32 (of_z w32 y) *ℤ to_z w32 (of_z w32 s.factor))) +ℤ to_z w32 (of_z w32 s.offset))) ≡ stretched_to s y
+  pub bottom : to_z w32 (of_z w32 (to_z w32 (of_z w32 (to_z w32 (of_z w32 y) *ℤ to_z w32 (of_z w32 s.factor))) +ℤ to_z w32 (of_z w32 s.offset)))
+      ≡ stretched_to s y
   pub top_fits : FitsSigned w32 (stretched_to s y +ℤ to_z w32 (of_z w32 s.factor))
   pub top : to_z w32 (of_z w32 (stretched_to s y +ℤ to_z w32 (of_z w32 s.factor))) ≡ stretched_to s y +ℤ s.factor
   pub order : stretched_to s y ≤ℤ (stretched_to s y +ℤ s.factor)
-  pub end : (stretched_to s y +ℤ s.factor) ≤ℤ pos 4095
+  pub end : (stretched_to s y +ℤ s.factor) ≤ℤ greatest_coordinate
   pub size : (stretched_to s y +ℤ s.factor) -ℤ stretched_to s y ≡ s.factor
 
-pub strip_place : (s : Stretch) (y : ℤ) → IsStretch s → negsuc 4094 ≤ℤ y → y ≤ℤ pos 4094 → PlaceStaysInside s y → to_z w32 (of_z w32 s.offset) ≡ s.offset → StripPlace s y
+pub strip_place : (s : Stretch) (y : ℤ) → IsStretch s → least_coordinate ≤ℤ y → y ≤ℤ last_in_field
+    → PlaceStaysInside s y → to_z w32 (of_z w32 s.offset) ≡ s.offset → StripPlace s y
 strip_place s y stretch bottom top inside offset =
     let product = to_z-of_z w32 _ (product_fits y s.factor bottom top stretch.least stretch.greatest) in
     let y_is : to_z w32 (of_z w32 y) ≡ y = omega (arith, ints) in
     let factor_is : to_z w32 (of_z w32 s.factor) ≡ s.factor = omega (arith, ints) in
-    let end : (stretched_to s y +ℤ s.factor) ≤ℤ pos 4095 = subst (λ z. z ≤ℤ pos 4095) (stretched_to-next s y) inside.end.greatest in
+    let end : (stretched_to s y +ℤ s.factor) ≤ℤ greatest_coordinate = subst (λ z. z ≤ℤ greatest_coordinate) (stretched_to-next s y) inside.end.greatest in
     record {
       bottom_fits = rw (product, y_is, factor_is, offset) (omega (arith, ints, inside.start));
       bottom = rw (product, y_is, factor_is, offset) (omega (arith, ints, inside.start));
@@ -60,24 +64,30 @@ strip_heights : (bottom : ℤ) (es : List Edge) (n : ℕ) → All (λ t. (bottom
 unfolding strip
 strip_heights bottom es zero = All-nil (λ t. (bottom ≤ℤ t.y) × (t.y <ℤ (bottom +ℤ pos zero)))
 strip_heights bottom es (suc n) =
-    All-cons (λ t. (bottom ≤ℤ t.y) × (t.y <ℤ (bottom +ℤ pos (suc n)))) (record { y = bottom +ℤ pos n; edges = es }) (strip bottom es n) (omega (arith, ints), omega (arith, ints))
-    (All-weaker (λ t. (bottom ≤ℤ t.y) × (t.y <ℤ (bottom +ℤ pos n))) (λ t. (bottom ≤ℤ t.y) × (t.y <ℤ (bottom +ℤ pos (suc n)))) (λ t within. (within.0, omega (arith, ints))) (strip bottom es n) (strip_heights bottom es n))
+    All-cons (λ t. (bottom ≤ℤ t.y) × (t.y <ℤ (bottom +ℤ pos (suc n)))) (record { y = bottom +ℤ pos n; edges = es })
+    (strip bottom es n) (omega (arith, ints), omega (arith, ints))
+    (All-weaker (λ t. (bottom ≤ℤ t.y) × (t.y <ℤ (bottom +ℤ pos n)))
+    (λ t. (bottom ≤ℤ t.y) × (t.y <ℤ (bottom +ℤ pos (suc n)))) (λ t within. (within.0, omega (arith, ints))) (strip bottom es n) (strip_heights bottom es n))
 
-strip_weight-outside : (bottom : ℤ) (es : List Edge) (n : ℕ) (x v : ℤ) → (bottom ≤ℤ v → v <ℤ (bottom +ℤ pos n) → ⊥) → weight_in_rows (strip bottom es n) x v ≡ pos 0
+strip_weight-outside : (bottom : ℤ) (es : List Edge) (n : ℕ) (x v : ℤ) → (bottom ≤ℤ v → v <ℤ (bottom +ℤ pos n) → ⊥)
+    → weight_in_rows (strip bottom es n) x v ≡ pos 0
 strip_weight-outside bottom es n x v outside =
     weight_in_rows-none (strip bottom es n) x v (All-weaker (λ t. (bottom ≤ℤ t.y) × (t.y <ℤ (bottom +ℤ pos n))) (λ t. t.y ≢ v)
     (λ t within same. outside (omega (arith, ints)) (omega (arith, ints))) (strip bottom es n) (strip_heights bottom es n))
 
-strip_weight-inside : (bottom : ℤ) (es : List Edge) (n : ℕ) (x v : ℤ) → bottom ≤ℤ v → v <ℤ (bottom +ℤ pos n) → weight_in_rows (strip bottom es n) x v ≡ weight_in es x
+strip_weight-inside : (bottom : ℤ) (es : List Edge) (n : ℕ) (x v : ℤ) → bottom ≤ℤ v → v <ℤ (bottom +ℤ pos n)
+    → weight_in_rows (strip bottom es n) x v ≡ weight_in es x
 unfolding strip
 strip_weight-inside bottom es zero x v above below = absurd (omega (arith, ints))
 strip_weight-inside bottom es (suc n) x v above below =
     let row : EdgeRow = record { y = bottom +ℤ pos n; edges = es } in
     by_same (bottom +ℤ pos n) v
-    (λ here. let others = strip_weight-outside bottom es n x v (λ least lower. omega (arith, ints)) in omega (arith, ints, others, weight_in_rows-here row (strip bottom es n) x v here))
+    (λ here. let others = strip_weight-outside bottom es n x v
+    (λ least lower. omega (arith, ints)) in omega (arith, ints, others, weight_in_rows-here row (strip bottom es n) x v here))
     (λ apart. weight_in_rows-elsewhere row (strip bottom es n) x v apart ∙ strip_weight-inside bottom es n x v above (omega (arith, ints)))
 
-strip_rows : (top bottom : ℤ) (es : List Edge) (n : ℕ) → negsuc 4094 ≤ℤ bottom → (bottom +ℤ pos n) ≤ℤ pos 4095 → (bottom +ℤ pos n) ≤ℤ (top +ℤ pos 1) → es ≢ [] → AreEdges es → AreRowsFrom top (strip bottom es n)
+strip_rows : (top bottom : ℤ) (es : List Edge) (n : ℕ) → least_coordinate ≤ℤ bottom
+    → (bottom +ℤ pos n) ≤ℤ greatest_coordinate → (bottom +ℤ pos n) ≤ℤ (top +ℤ pos 1) → es ≢ [] → AreEdges es → AreRowsFrom top (strip bottom es n)
 unfolding strip
 strip_rows top bottom es zero low high reach some edges = tt
 strip_rows top bottom es (suc n) low high reach some edges = (
@@ -90,9 +100,9 @@ strip_rows top bottom es (suc n) low high reach some edges = (
 
 -- the new rows have the stretched weights of all rows except for those that are left, and are above the strips of these
 pub record IsStretchSoFar (s : Stretch) (whole left stretched : List EdgeRow) : Type 0 where
-  pub to_come : AreRowsFrom (pos 4094) left
+  pub to_come : AreRowsFrom last_in_field left
   pub inside : AllowStretch s left
-  pub rows : AreRowsFrom (pos 4094) stretched
+  pub rows : AreRowsFrom last_in_field stretched
   pub apart : All (λ t. All (λ r. stretched_to s (r.y +ℤ pos 1) ≤ℤ t.y) left) stretched
   pub weights : (x v : ℤ) → weight_in_rows stretched x v +ℤ stretched_in_rows s left x v ≡ stretched_in_rows s whole x v
 
@@ -107,12 +117,17 @@ stretch_none s whole rows inside = record {
 }
 
 -- the first of the rows that are left
-pub stretch_next : {s : Stretch} {whole stretched : List EdgeRow} (rows : List Row) (k : ℕ) (row : Row) → k < length rows → row ≡ get_or rows k row → IsStretchSoFar s whole (edge_rows (drop k rows)) stretched → IsStretchSoFar s whole (edge_row row ∷ edge_rows (drop (k + 1) rows)) stretched
+pub stretch_next : {s : Stretch} {whole stretched : List EdgeRow} (rows : List Row) (k : ℕ) (row : Row)
+    → k < length rows → row ≡ get_or rows k row → IsStretchSoFar s whole (edge_rows (drop k rows)) stretched
+    → IsStretchSoFar s whole (edge_row row ∷ edge_rows (drop (k + 1) rows)) stretched
 stretch_next {s = s} {whole = whole} {stretched = stretched} rows k row inside read so_far =
-    subst (λ left. IsStretchSoFar s whole left stretched) (ap edge_rows (drop_more rows k row inside) ∙ ap (λ r. edge_row r ∷ edge_rows (drop (k + 1) rows)) (sym read)) so_far
+    subst (λ left. IsStretchSoFar s whole left stretched)
+    (ap edge_rows (drop_more rows k row inside) ∙ ap (λ r. edge_row r ∷ edge_rows (drop (k + 1) rows)) (sym read)) so_far
 
 -- the pixels of a row's strip come from that row, and those of the rows below it come from elsewhere
-stretched_in_rows-cons : (s : Stretch) (r : EdgeRow) (rest : List EdgeRow) (n : ℕ) (x v : ℤ) → IsStretch s → pos n ≡ s.factor → AreBelow r.y rest → weight_in_rows (strip (stretched_to s r.y) r.edges n) x v +ℤ stretched_in_rows s rest x v ≡ stretched_in_rows s (r ∷ rest) x v
+stretched_in_rows-cons : (s : Stretch) (r : EdgeRow) (rest : List EdgeRow) (n : ℕ) (x v : ℤ) → IsStretch s
+    → pos n ≡ s.factor → AreBelow r.y rest
+    → weight_in_rows (strip (stretched_to s r.y) r.edges n) x v +ℤ stretched_in_rows s rest x v ≡ stretched_in_rows s (r ∷ rest) x v
 unfolding stretched_in_rows
 stretched_in_rows-cons s r rest n x v stretch size below =
     let bottom = stretched_to s r.y in
@@ -133,7 +148,8 @@ stretched_in_rows-cons s r rest n x v stretch size below =
     omega (arith, ints))
 
 -- the next row becomes its strip
-pub stretch_more : (s : Stretch) (whole rest stretched after : List EdgeRow) (r : EdgeRow) → IsStretch s → IsStretchSoFar s whole (r ∷ rest) stretched → HasStretched stretched r s after → IsStretchSoFar s whole rest after
+pub stretch_more : (s : Stretch) (whole rest stretched after : List EdgeRow) (r : EdgeRow) → IsStretch s
+    → IsStretchSoFar s whole (r ∷ rest) stretched → HasStretched stretched r s after → IsStretchSoFar s whole rest after
 stretch_more s whole rest stretched after r stretch so_far has =
     let bottom = stretched_to s r.y in
     let n = unsigned_abs s.factor in
@@ -153,11 +169,11 @@ stretch_more s whole rest stretched after r stretch so_far has =
     All-weaker (λ t. (bottom ≤ℤ t.y) × (t.y <ℤ (bottom +ℤ pos n))) (λ t. All (λ q. stretched_to s (q.y +ℤ pos 1) ≤ℤ t.y) rest)
     (λ t within. All-weaker (λ q. q.y <ℤ r.y) (λ q. stretched_to s (q.y +ℤ pos 1) ≤ℤ t.y)
     (λ q lower. let le = stretched_to-le s (q.y +ℤ pos 1) r.y stretch (omega (arith, ints)) in omega (arith, ints)) rest below) own heights in
-    let lawful_strip = strip_rows (pos 4094) bottom r.edges n inside.start.least (omega (arith, ints)) (omega (arith, ints)) lawful.some lawful.edges in
+    let lawful_strip = strip_rows last_in_field bottom r.edges n inside.start.least (omega (arith, ints)) (omega (arith, ints)) lawful.some lawful.edges in
     rw has.all (record {
-      to_come = rows_from-higher (pos 4094) (r.y -ℤ pos 1) rest (omega (arith, ints)) so_far.to_come.2;
+      to_come = rows_from-higher last_in_field (r.y -ℤ pos 1) rest (omega (arith, ints)) so_far.to_come.2;
       inside = All-tail (λ r. PlaceStaysInside s r.y) r rest so_far.inside;
-      rows = rows_from-append (pos 4094) stretched own so_far.rows lawful_strip under;
+      rows = rows_from-append last_in_field stretched own so_far.rows lawful_strip under;
       apart = All-append (λ t. All (λ q. stretched_to s (q.y +ℤ pos 1) ≤ℤ t.y) rest) stretched own
           (All-weaker (λ t. All (λ q. stretched_to s (q.y +ℤ pos 1) ≤ℤ t.y) (r ∷ rest)) (λ t. All (λ q. stretched_to s (q.y +ℤ pos 1) ≤ℤ t.y) rest)
           (λ t over. All-tail (λ q. stretched_to s (q.y +ℤ pos 1) ≤ℤ t.y) r rest over) stretched so_far.apart)

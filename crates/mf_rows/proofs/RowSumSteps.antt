@@ -1,20 +1,18 @@
 -- The next row that is added to a sum of rows, and the end of the sum.
-use Rattle.std.proofs.Common.{◌≡◌, ◌≢◌, ℕ, ℤ, pos, negsuc, ◌+ℤ◌, ◌-ℤ◌, ◌≤ℤ◌, ◌<ℤ◌, List, [], ◌∷◌, ◌++◌, take, drop, get_or, refl, ap, sym, subst, ◌∙◌, arith}
+use Rattle.std.proofs.Common.{◌≡◌, ◌≢◌, ℤ, pos, ◌+ℤ◌, ◌-ℤ◌, ◌≤ℤ◌, ◌<ℤ◌, List, [], ◌∷◌, ◌++◌, get_or, refl, sym, subst, ◌∙◌, arith}
 use Rattle.std.specs.List.{All}
 use Rattle.std.proofs.lemmas.Int.{ints, by_lt_z}
-use Rattle.std.proofs.lemmas.List.{append-nil, map-append, take-append-drop}
-use Rattle.std.proofs.lemmas.List.Elements.{All-head, All-cons, All-nil, All-weaker, All-append}
+use Rattle.std.proofs.lemmas.List.Elements.{All-cons, All-nil, All-weaker, All-append}
+use Rattle.mf_geom.specs.Coordinates.{least_coordinate, last_in_field}
 use Rattle.mf_edges.specs.declared.edge.Edge.{Edge}
-use Rattle.mf_rows.specs.declared.row.Row.{Row}
-use Rattle.mf_rows.specs.Bands.{edge_row, edge_rows, AreAbove, AreBelow}
+use Rattle.mf_rows.specs.Bands.{AreAbove, AreBelow}
 use Rattle.mf_edges.specs.LawfulWeights.{IsLawfulWeight}
-use Rattle.mf_edges.specs.Edges.{weight_in, AreEdges, AreEdgesFrom}
-use Rattle.mf_rows.specs.EdgeRows.{EdgeRow, IsEdgeRow, AreRowsFrom, AreRows, weight_in_rows}
-use Rattle.mf_rows.specs.Merging.{IsRowAt, IsSplitAtHeight, HasRowSum, IsUnlawfulInRow}
-use Rattle.mf_edges.specs.Sums.{IsUnlawfulColumn, weight_in_both, HaveWeights}
+use Rattle.mf_edges.specs.Edges.{weight_in, AreEdgesFrom}
+use Rattle.mf_rows.specs.EdgeRows.{EdgeRow, AreRowsFrom, AreRows, weight_in_rows}
+use Rattle.mf_rows.specs.Merging.{IsSplitAtHeight, HasRowSum, IsUnlawfulInRow}
 use Rattle.mf_rows.specs.Sums.{weight_in_all, HaveRowWeights, IsUnlawfulSomewhere, StayWithin}
-use Rattle.mf_edges.proofs.EdgesLemmas.{weight_in-left, weight_in-before, weight_in-outside}
-use Rattle.mf_rows.proofs.EdgeRowsLemmas.{weight_in_rows-append, weight_in_rows-here, weight_in_rows-elsewhere, weight_in_rows-above, weight_in_rows-below, rows_from-higher, rows_from-below, rows_from-front, rows_from-back, rows_from-append, by_field}
+use Rattle.mf_edges.proofs.EdgesLemmas.{weight_in-left, weight_in-before}
+use Rattle.mf_rows.proofs.EdgeRowsLemmas.{weight_in_rows-append, weight_in_rows-here, weight_in_rows-elsewhere, weight_in_rows-above, weight_in_rows-below, rows_from-higher, rows_from-below, rows_from-append}
 use Rattle.mf_rows.proofs.RowSums.{IsRowSumSoFar, rows_behind, IsRowSumAbove}
 
 -- ---- the next row that is added
@@ -23,7 +21,8 @@ module _ (whole_left whole_right sum rs ss : List EdgeRow) (y : ℤ) (at : IsRow
   above_first : AreAbove y sum
   above_first = All-weaker (λ r. at.so_far.top <ℤ r.y) (λ r. y <ℤ r.y) (λ r lt. omega (arith, ints, at.reach)) sum at.so_far.above
 
-  module _ (found_left found_right others_left others_right : List EdgeRow) (split_left : IsSplitAtHeight rs y found_left others_left) (split_right : IsSplitAtHeight ss y found_right others_right) where
+  module _ (found_left found_right others_left others_right : List EdgeRow)
+      (split_left : IsSplitAtHeight rs y found_left others_left) (split_right : IsSplitAtHeight ss y found_right others_right) where
     weight_in_all-split : (x c : ℤ) → weight_in_all rs ss x c ≡ weight_in_all found_left found_right x c +ℤ weight_in_all others_left others_right x c
     unfolding weight_in_all
     weight_in_all-split x c =
@@ -54,8 +53,8 @@ module _ (whole_left whole_right sum rs ss : List EdgeRow) (y : ℤ) (at : IsRow
     sum_more after more = rw more.all (record {
       top = y -ℤ pos 1;
       in_field = omega (arith, ints, at.so_far.in_field, at.reach);
-      rows = rows_from-append (pos 4094) sum more.more at.so_far.rows
-          (rows_from-higher (pos 4094) y more.more (omega (arith, ints, at.so_far.in_field, at.reach)) more.here.rows)
+      rows = rows_from-append last_in_field sum more.more at.so_far.rows
+          (rows_from-higher last_in_field y more.more (omega (arith, ints, at.so_far.in_field, at.reach)) more.here.rows)
           (All-weaker (λ r. y <ℤ r.y) (λ r. AreBelow r.y more.more) (λ r lt. rows_from-below y r.y more.more more.here.rows lt) sum above_first);
       above = All-append (λ r. (y -ℤ pos 1) <ℤ r.y) sum more.more
           (All-weaker (λ r. y <ℤ r.y) (λ r. (y -ℤ pos 1) <ℤ r.y) (λ r lt. omega (arith, ints)) sum above_first) more.here.above;
@@ -70,7 +69,8 @@ module _ (whole_left whole_right sum rs ss : List EdgeRow) (y : ℤ) (at : IsRow
     })
 
 -- where nothing is left to add, the rows that are left follow
-pub sum_all_weights : (whole_left whole_right sum rs : List EdgeRow) → IsRowSumSoFar whole_left whole_right sum rs [] → HaveRowWeights (weight_in_all whole_left whole_right) (sum ++ rs)
+pub sum_all_weights : (whole_left whole_right sum rs : List EdgeRow) → IsRowSumSoFar whole_left whole_right sum rs []
+    → HaveRowWeights (weight_in_all whole_left whole_right) (sum ++ rs)
 unfolding weight_in_all weight_in_rows
 sum_all_weights whole_left whole_right sum rs so_far = record {
   weights = λ x y.
@@ -95,21 +95,24 @@ no_edges low (e ∷ es) sorted blank =
 pub no_row : (top y : ℤ) (rs : List EdgeRow) → AreRowsFrom top rs → ((x : ℤ) → weight_in_rows rs x y ≡ pos 0) → All (λ r. r.y ≢ y) rs
 no_row top y [] rows blank = All-nil (λ r. r.y ≢ y)
 no_row top y (r ∷ rs) rows blank =
-    let apart : r.y ≢ y = λ here. rows.0.some (no_edges (negsuc 4094) r.edges rows.0.edges.sorted (λ x.
+    let apart : r.y ≢ y = λ here. rows.0.some (no_edges least_coordinate r.edges rows.0.edges.sorted (λ x.
     let own = weight_in_rows-here r rs x y here in
     let others = weight_in_rows-below rs x y (rows_from-below (r.y -ℤ pos 1) y rs rows.2 (omega (arith, ints))) in
     omega (arith, ints, blank x))) in
     All-cons (λ r. r.y ≢ y) r rs apart (no_row (r.y -ℤ pos 1) y rs rows.2 (λ x. sym (weight_in_rows-elsewhere r rs x y apart) ∙ blank x))
 
-no_row_of_sum : (rs ss sum : List EdgeRow) (y : ℤ) → AreRows sum → HaveRowWeights (weight_in_all rs ss) sum → ((x : ℤ) → weight_in_rows rs x y ≡ pos 0) → ((x : ℤ) → weight_in_rows ss x y ≡ pos 0) → All (λ r. r.y ≢ y) sum
+no_row_of_sum : (rs ss sum : List EdgeRow) (y : ℤ) → AreRows sum → HaveRowWeights (weight_in_all rs ss) sum
+    → ((x : ℤ) → weight_in_rows rs x y ≡ pos 0) → ((x : ℤ) → weight_in_rows ss x y ≡ pos 0) → All (λ r. r.y ≢ y) sum
 unfolding weight_in_all
 no_row_of_sum rs ss sum y rows weights blank_left blank_right =
-    no_row (pos 4094) y sum rows.rows (λ x. let both = weights.weights x y in omega (arith, ints, blank_left x, blank_right x))
+    no_row last_in_field y sum rows.rows (λ x. let both = weights.weights x y in omega (arith, ints, blank_left x, blank_right x))
 
 pub stay_within : (rs ss sum : List EdgeRow) → AreRows sum → HaveRowWeights (weight_in_all rs ss) sum → StayWithin rs ss sum
 stay_within rs ss sum rows weights =
-    let higher = λ (y c : ℤ) (rs : List EdgeRow) (above : AreAbove y rs) (le : c ≤ℤ y). All-weaker (λ r. y <ℤ r.y) (λ r. c <ℤ r.y) (λ r lt. omega (arith, ints)) rs above in
-    let lower = λ (y c : ℤ) (rs : List EdgeRow) (below : AreBelow y rs) (le : y ≤ℤ c). All-weaker (λ r. r.y <ℤ y) (λ r. r.y <ℤ c) (λ r lt. omega (arith, ints)) rs below in
+    let higher =
+    λ (y c : ℤ) (rs : List EdgeRow) (above : AreAbove y rs) (le : c ≤ℤ y). All-weaker (λ r. y <ℤ r.y) (λ r. c <ℤ r.y) (λ r lt. omega (arith, ints)) rs above in
+    let lower =
+    λ (y c : ℤ) (rs : List EdgeRow) (below : AreBelow y rs) (le : y ≤ℤ c). All-weaker (λ r. r.y <ℤ y) (λ r. r.y <ℤ c) (λ r lt. omega (arith, ints)) rs below in
     record {
       above = λ y left right k d lt.
           let c = (get_or sum k d).y in

@@ -1,20 +1,21 @@
 -- The sum of two lists of rows, row by row.
-use Rattle.std.proofs.Common.{◌≡◌, ◌≢◌, ℕ, ℤ, pos, negsuc, ◌+ℤ◌, ◌-ℤ◌, ◌≤ℤ◌, ◌<ℤ◌, List, [], ◌∷◌, ◌++◌, take, drop, get_or, refl, ap, sym, subst, ◌∙◌, arith}
+use Rattle.std.proofs.Common.{◌≡◌, ◌≢◌, ℕ, ℤ, pos, ◌+ℤ◌, ◌-ℤ◌, ◌≤ℤ◌, ◌<ℤ◌, List, [], ◌∷◌, ◌++◌, take, drop, refl, ap, sym, subst, ◌∙◌, arith}
 use Rattle.std.specs.List.{All}
 use Rattle.std.proofs.lemmas.Int.{ints, by_lt_z}
 use Rattle.std.proofs.lemmas.List.{append-nil, map-append, take-append-drop}
 use Rattle.std.proofs.lemmas.List.Elements.{All-head, All-cons, All-nil, All-weaker, All-append}
+use Rattle.mf_geom.specs.Coordinates.{least_coordinate, last_in_field}
 use Rattle.mf_edges.specs.declared.edge.Edge.{Edge}
 use Rattle.mf_rows.specs.declared.row.Row.{Row}
 use Rattle.mf_rows.specs.Bands.{edge_row, edge_rows, AreAbove, AreBelow}
 use Rattle.mf_edges.specs.LawfulWeights.{IsLawfulWeight}
-use Rattle.mf_edges.specs.Edges.{weight_in, AreEdges, AreEdgesFrom}
+use Rattle.mf_edges.specs.Edges.{weight_in, AreEdges}
 use Rattle.mf_rows.specs.EdgeRows.{EdgeRow, IsEdgeRow, AreRowsFrom, AreRows, weight_in_rows}
 use Rattle.mf_rows.specs.Merging.{IsRowAt, IsSplitAtHeight, HasRowSum, IsUnlawfulInRow}
 use Rattle.mf_edges.specs.Sums.{IsUnlawfulColumn, weight_in_both, HaveWeights}
-use Rattle.mf_rows.specs.Sums.{weight_in_all, HaveRowWeights, IsUnlawfulSomewhere, StayWithin}
-use Rattle.mf_edges.proofs.EdgesLemmas.{weight_in-left, weight_in-before, weight_in-outside}
-use Rattle.mf_rows.proofs.EdgeRowsLemmas.{weight_in_rows-append, weight_in_rows-here, weight_in_rows-elsewhere, weight_in_rows-above, weight_in_rows-below, rows_from-higher, rows_from-below, rows_from-front, rows_from-back, rows_from-append, by_field}
+use Rattle.mf_rows.specs.Sums.{weight_in_all}
+use Rattle.mf_edges.proofs.EdgesLemmas.{weight_in-outside}
+use Rattle.mf_rows.proofs.EdgeRowsLemmas.{weight_in_rows-append, weight_in_rows-here, weight_in_rows-above, weight_in_rows-below, rows_from-higher, rows_from-below, rows_from-front, rows_from-back, rows_from-append, by_field}
 
 -- ---- what a sum has in one row
 
@@ -68,7 +69,7 @@ module _ (y : ℤ) (l r : EdgeRow) (left : IsRowAt y (l ∷ [])) (right : IsRowA
   unlawful_in_row column = by_field column.x y
       (λ inside. record { x = column.x; in_field = inside; unlawful = λ lawful. column.unlawful (subst IsLawfulWeight (weight_in_all-here column.x) lawful) })
       (λ outside.
-      let off : negsuc 4094 ≤ℤ column.x → column.x ≤ℤ pos 4094 → ⊥ = λ lower upper. outside (record {
+      let off : least_coordinate ≤ℤ column.x → column.x ≤ℤ last_in_field → ⊥ = λ lower upper. outside (record {
         left = lower;
         right = upper;
         bottom = omega (arith, ints, row_is y l left, left.rows.0.bottom);
@@ -79,7 +80,8 @@ module _ (y : ℤ) (l r : EdgeRow) (left : IsRowAt y (l ∷ [])) (right : IsRowA
       absurd (column.unlawful (record { least = omega (arith, ints); greatest = omega (arith, ints) })))
 
   -- two rows that cancel leave no row
-  pub sum_of_both-blank : (before : List EdgeRow) (es : List Edge) → es ≡ [] → HaveWeights (weight_in_both l.edges r.edges) es → HasRowSum before y (l ∷ []) (r ∷ []) before
+  pub sum_of_both-blank : (before : List EdgeRow) (es : List Edge) → es ≡ []
+      → HaveWeights (weight_in_both l.edges r.edges) es → HasRowSum before y (l ∷ []) (r ∷ []) before
   unfolding weight_in weight_in_rows
   sum_of_both-blank before es none weights = record {
     more = [];
@@ -92,7 +94,8 @@ module _ (y : ℤ) (l r : EdgeRow) (left : IsRowAt y (l ∷ [])) (right : IsRowA
     };
   }
 
-  pub sum_of_both-some : (before : List EdgeRow) (es : List Edge) → es ≢ [] → AreEdges es → HaveWeights (weight_in_both l.edges r.edges) es → HasRowSum before y (l ∷ []) (r ∷ []) (before ++ record { y = y; edges = es } ∷ [])
+  pub sum_of_both-some : (before : List EdgeRow) (es : List Edge) → es ≢ [] → AreEdges es
+      → HaveWeights (weight_in_both l.edges r.edges) es → HasRowSum before y (l ∷ []) (r ∷ []) (before ++ record { y = y; edges = es } ∷ [])
   sum_of_both-some before es some edges weights =
       let row : IsEdgeRow (record { y = y; edges = es }) = record {
         bottom = omega (arith, ints, row_is y l left, left.rows.0.bottom);
@@ -122,8 +125,8 @@ sum_of_right before y ss here = record { more = ss; all = refl; here = here; wei
 -- above a height the sum has the weights of two lists of rows, and what is left of the lists gives all others
 pub record IsRowSumSoFar (whole_left whole_right sum rs ss : List EdgeRow) : Type 0 where
   pub top : ℤ
-  pub in_field : top ≤ℤ pos 4094
-  pub rows : AreRowsFrom (pos 4094) sum
+  pub in_field : top ≤ℤ last_in_field
+  pub rows : AreRowsFrom last_in_field sum
   pub above : AreAbove top sum
   pub left : AreRowsFrom top rs
   pub right : AreRowsFrom top ss
@@ -132,10 +135,10 @@ pub record IsRowSumSoFar (whole_left whole_right sum rs ss : List EdgeRow) : Typ
 pub sum_none : (rs ss : List EdgeRow) → AreRows rs → AreRows ss → IsRowSumSoFar rs ss [] rs ss
 unfolding weight_in_rows
 sum_none rs ss left right = record {
-  top = pos 4094;
+  top = last_in_field;
   in_field = omega (arith, ints);
   rows = tt;
-  above = All-nil (λ r. pos 4094 <ℤ r.y);
+  above = All-nil (λ r. last_in_field <ℤ r.y);
   left = left.rows;
   right = right.rows;
   weights = λ x y. omega (arith, ints);
@@ -143,14 +146,14 @@ sum_none rs ss left right = record {
 
 module _ (whole_left whole_right sum rs ss : List EdgeRow) (so_far : IsRowSumSoFar whole_left whole_right sum rs ss) where
   pub rows_left : AreRows rs
-  rows_left = record { rows = rows_from-higher (pos 4094) so_far.top rs so_far.in_field so_far.left }
+  rows_left = record { rows = rows_from-higher last_in_field so_far.top rs so_far.in_field so_far.left }
 
   pub rows_right : AreRows ss
-  rows_right = record { rows = rows_from-higher (pos 4094) so_far.top ss so_far.in_field so_far.right }
+  rows_right = record { rows = rows_from-higher last_in_field so_far.top ss so_far.in_field so_far.right }
 
   pub rows_behind : (others : List EdgeRow) → AreRowsFrom so_far.top others → AreRows (sum ++ others)
   rows_behind others rows = record {
-    rows = rows_from-append (pos 4094) sum others so_far.rows (rows_from-higher (pos 4094) so_far.top others so_far.in_field rows)
+    rows = rows_from-append last_in_field sum others so_far.rows (rows_from-higher last_in_field so_far.top others so_far.in_field rows)
         (All-weaker (λ r. so_far.top <ℤ r.y) (λ r. AreBelow r.y others) (λ r lt. rows_from-below so_far.top r.y others rows lt) sum so_far.above);
   }
 
@@ -169,7 +172,10 @@ edge_rows-at : (k : ℕ) (rows : List Row) → edge_rows rows ≡ edge_rows (tak
 edge_rows-at k rows = ap edge_rows (sym (take-append-drop k rows)) ∙ map-append edge_row (take k rows) (drop k rows)
 
 -- the rows above the first one that is added join the sum as they are
-module _ (whole_left whole_right sum : List EdgeRow) (left right : List Row) (so_far : IsRowSumSoFar whole_left whole_right sum (edge_rows left) (edge_rows right)) (added : Row) (others : List Row) (right_is : right ≡ added ∷ others) (k : ℕ) (above : AreAbove added.y (edge_rows (take k left))) (below : All (λ row. row.y ≤ℤ added.y) (drop k left)) where
+module _ (whole_left whole_right sum : List EdgeRow) (left right : List Row)
+    (so_far : IsRowSumSoFar whole_left whole_right sum (edge_rows left) (edge_rows right)) (added : Row)
+    (others : List Row) (right_is : right ≡ added ∷ others) (k : ℕ) (above : AreAbove added.y (edge_rows (take k left)))
+    (below : All (λ row. row.y ≤ℤ added.y) (drop k left)) where
   from_top : AreRowsFrom so_far.top (edge_rows (take k left) ++ edge_rows (drop k left))
   from_top = subst (AreRowsFrom so_far.top) (edge_rows-at k left) so_far.left
 
@@ -202,7 +208,8 @@ module _ (whole_left whole_right sum : List EdgeRow) (left right : List Row) (so
           right = rw right_is (added_rows.0, omega (arith, ints), added_rows.2);
           weights = λ x y.
               let old = so_far.weights x y in
-              let split = ap (λ rs. weight_in_rows rs x y) (edge_rows-at k left) ∙ weight_in_rows-append (edge_rows (take k left)) (edge_rows (drop k left)) x y in
+              let split =
+              ap (λ rs. weight_in_rows rs x y) (edge_rows-at k left) ∙ weight_in_rows-append (edge_rows (take k left)) (edge_rows (drop k left)) x y in
               let more = weight_in_rows-append sum (edge_rows (take k left)) x y in
               omega (arith, ints);
         };

@@ -17,7 +17,8 @@ use Rattle.mf_rows.proofs.PassedRuns.{ArePassed, none_passed, next_is_lawful, on
 
 -- ---- the box of a run
 
-stretch_within : (b : Box4) (y x w : ℤ) (n : ℕ) → b.min_x ≤ℤ x → (x +ℤ pos n) ≤ℤ (b.max_x +ℤ pos 1) → b.min_y ≤ℤ y → y ≤ℤ b.max_y → All (IsWithin b) (stretch y x w n)
+stretch_within : (b : Box4) (y x w : ℤ) (n : ℕ) → b.min_x ≤ℤ x → (x +ℤ pos n) ≤ℤ (b.max_x +ℤ pos 1) → b.min_y ≤ℤ y
+    → y ≤ℤ b.max_y → All (IsWithin b) (stretch y x w n)
 unfolding stretch
 stretch_within b y x w zero left right bottom top = All-nil (IsWithin b)
 stretch_within b y x w (suc n) left right bottom top =
@@ -63,10 +64,20 @@ either_max : (P : ℤ → Type 0) (x y : ℤ) → P x → P y → P (int_max x y
 either_max P x y at_x at_y = cond_both (int_lt y x) x y P (λ _. at_x) (λ _. at_y)
 
 within_first : (a b : Box4) (d : Dot) → IsWithin a d → IsWithin (widened a b) d
-within_first a b d inside = record { left = omega (arith, ints, clamps, inside.left); right = omega (arith, ints, clamps, inside.right); bottom = omega (arith, ints, clamps, inside.bottom); top = omega (arith, ints, clamps, inside.top) }
+within_first a b d inside = record {
+  left = omega (arith, ints, clamps, inside.left);
+  right = omega (arith, ints, clamps, inside.right);
+  bottom = omega (arith, ints, clamps, inside.bottom);
+  top = omega (arith, ints, clamps, inside.top);
+}
 
 within_second : (a b : Box4) (d : Dot) → IsWithin b d → IsWithin (widened a b) d
-within_second a b d inside = record { left = omega (arith, ints, clamps, inside.left); right = omega (arith, ints, clamps, inside.right); bottom = omega (arith, ints, clamps, inside.bottom); top = omega (arith, ints, clamps, inside.top) }
+within_second a b d inside = record {
+  left = omega (arith, ints, clamps, inside.left);
+  right = omega (arith, ints, clamps, inside.right);
+  bottom = omega (arith, ints, clamps, inside.bottom);
+  top = omega (arith, ints, clamps, inside.top);
+}
 
 pub least_box_of_both : (ds es : List Dot) (a b : Box4) → IsLeastBox ds a → IsLeastBox es b → IsLeastBox (ds ++ es) (widened a b)
 least_box_of_both ds es a b first second =
@@ -74,7 +85,8 @@ least_box_of_both ds es a b first second =
     let at_x = λ (x : ℤ) (d : Dot). d.x ≡ x in
     let at_y = λ (y : ℤ) (d : Dot). d.y ≡ y in
     record {
-      within = All-append (IsWithin (widened a b)) ds es (All-weaker (IsWithin a) (IsWithin (widened a b)) (within_first a b) ds first.within) (All-weaker (IsWithin b) (IsWithin (widened a b)) (within_second a b) es second.within);
+      within = All-append (IsWithin (widened a b)) ds es (All-weaker (IsWithin a) (IsWithin (widened a b)) (within_first a b) ds first.within)
+          (All-weaker (IsWithin b) (IsWithin (widened a b)) (within_second a b) es second.within);
       left = either_min (λ x. Any (at_x x) all) a.min_x b.min_x (any_left (at_x a.min_x) ds es first.left) (any_right (at_x b.min_x) ds es second.left);
       right = either_max (λ x. Any (at_x x) all) a.max_x b.max_x (any_left (at_x a.max_x) ds es first.right) (any_right (at_x b.max_x) ds es second.right);
       bottom = either_min (λ y. Any (at_y y) all) a.min_y b.min_y (any_left (at_y a.min_y) ds es first.bottom) (any_right (at_y b.min_y) ds es second.bottom);
@@ -89,7 +101,8 @@ pub record IsBoxBefore (ds : List Dot) (rs : List Run) (b : Box4) : Type 0 where
   pub passes : ArePassed ds rs passed
   pub least : IsLeastBox passed b
 
-pub box_first : (ds : List Dot) (rs : List Run) (r : Run) (others : List Run) → IsPicture ds → rs ≡ runs_of ds → rs ≡ r ∷ others → IsBoxBefore ds others (box_of_run r)
+pub box_first : (ds : List Dot) (rs : List Run) (r : Run) (others : List Run) → IsPicture ds → rs ≡ runs_of ds
+    → rs ≡ r ∷ others → IsBoxBefore ds others (box_of_run r)
 box_first ds rs r others picture all first =
     let none = none_passed ds rs picture all in
     record {
@@ -98,13 +111,15 @@ box_first ds rs r others picture all first =
       least = least_box_of_run r (next_is_lawful ds rs r others [] first none);
     }
 
-pub box_more : (ds : List Dot) (rs : List Run) (r : Run) (others : List Run) (b : Box4) → rs ≡ r ∷ others → IsBoxBefore ds rs b → IsBoxBefore ds others (widened b (box_of_run r))
+pub box_more : (ds : List Dot) (rs : List Run) (r : Run) (others : List Run) (b : Box4) → rs ≡ r ∷ others
+    → IsBoxBefore ds rs b → IsBoxBefore ds others (widened b (box_of_run r))
 box_more ds rs r others b first so_far =
     let passed = so_far.passed in
     record {
       passed = passed ++ dots_of r;
       passes = one_more_passed ds rs r others passed first so_far.passes;
-      least = least_box_of_both passed (dots_of r) b (box_of_run r) so_far.least (least_box_of_run r (next_is_lawful ds rs r others passed first so_far.passes));
+      least = least_box_of_both passed (dots_of r) b (box_of_run r) so_far.least
+          (least_box_of_run r (next_is_lawful ds rs r others passed first so_far.passes));
     }
 
 pub box_all : (ds : List Dot) (rs : List Run) (b : Box4) → rs ≡ [] → IsBoxBefore ds rs b → IsLeastBox ds b

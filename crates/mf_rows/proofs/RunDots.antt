@@ -36,7 +36,8 @@ unfolding dots_of
 picture-push ds r picture fits =
     let run = fits.run in
     let start = start_of_field-le r.x r.y (record { left = run.left; right = omega (arith, ints, run.right, run.some); bottom = run.bottom; top = run.top }) in
-    let stretched = stretch-from r.y r.x r.weight r.len (record { left = run.left; right = run.right; bottom = run.bottom; top = run.top }) run.lawful run.nonzero in
+    let stretched =
+    stretch-from r.y r.x r.weight r.len (record { left = run.left; right = run.right; bottom = run.bottom; top = run.top }) run.lawful run.nonzero in
     record { dots = dots_from-append start_of_field (place r.x r.y) ds (stretch r.y r.x r.weight r.len) start picture.dots fits.after stretched }
 
 -- a pixel of a run
@@ -52,14 +53,16 @@ weight_at-stretch y x w (suc n) u left right =
     let first : Dot = record { y = y; x = x; weight = w } in
     let others = stretch y (x +ℤ pos 1) w n in
     by_lt_z x u
-    (λ later. weight_at-elsewhere first others u y (λ here. omega (arith, ints, here.column)) ∙ weight_at-stretch y (x +ℤ pos 1) w n u (omega (arith, ints)) (omega (arith, ints)))
+    (λ later. weight_at-elsewhere first others u y (λ here. omega (arith, ints, here.column))
+    ∙ weight_at-stretch y (x +ℤ pos 1) w n u (omega (arith, ints)) (omega (arith, ints)))
     (λ here. weight_at-here first others u y (record { column = omega (arith, ints); row = refl }))
 
 weight_at-off_stretch : (y x w : ℤ) (n : ℕ) (u v : ℤ) → (y ≡ v → x ≤ℤ u → u <ℤ (x +ℤ pos n) → ⊥) → weight_at (stretch y x w n) u v ≡ pos 0
 unfolding stretch weight_at
 weight_at-off_stretch y x w zero u v off = refl
 weight_at-off_stretch y x w (suc n) u v off =
-    weight_at-elsewhere (record { y = y; x = x; weight = w }) (stretch y (x +ℤ pos 1) w n) u v (λ here. off here.row (omega (arith, ints, here.column)) (omega (arith, ints, here.column)))
+    weight_at-elsewhere (record { y = y; x = x; weight = w }) (stretch y (x +ℤ pos 1) w n) u v
+    (λ here. off here.row (omega (arith, ints, here.column)) (omega (arith, ints, here.column)))
     ∙ weight_at-off_stretch y (x +ℤ pos 1) w n u v (λ row left right. off row (omega (arith, ints)) (omega (arith, ints)))
 
 -- dots that all come before a pixel do not affect it
@@ -100,4 +103,5 @@ pub before_stretch-end : (y x w : ℤ) (n : ℕ) (p : ℤ) → place (x +ℤ pos
 unfolding stretch place
 before_stretch-end y x w zero p end = All-nil (λ d. place d.x d.y <ℤ p)
 before_stretch-end y x w (suc n) p end =
-    All-cons (λ d. place d.x d.y <ℤ p) (record { y = y; x = x; weight = w }) (stretch y (x +ℤ pos 1) w n) (omega (arith, ints)) (before_stretch-end y (x +ℤ pos 1) w n p (omega (arith, ints)))
+    All-cons (λ d. place d.x d.y <ℤ p) (record { y = y; x = x; weight = w }) (stretch y (x +ℤ pos 1) w n)
+    (omega (arith, ints)) (before_stretch-end y (x +ℤ pos 1) w n p (omega (arith, ints)))

@@ -1,8 +1,9 @@
 -- The two edges of a run, after the edges of its row.
-use Rattle.std.proofs.Common.{◌≡◌, ◌≢◌, ℕ, zero, suc, ◌-◌, ◌<◌, ℤ, pos, negsuc, ◌+ℤ◌, ◌-ℤ◌, ◌≤ℤ◌, ◌<ℤ◌, int_le, true, false, List, [], ◌∷◌, length, get_or, refl, sym, ap, ◌∙◌, subst, arith}
+use Rattle.std.proofs.Common.{◌≡◌, ◌≢◌, ℕ, zero, suc, ◌-◌, ◌<◌, ℤ, pos, ◌+ℤ◌, ◌-ℤ◌, ◌≤ℤ◌, ◌<ℤ◌, int_le, true, false, List, [], ◌∷◌, length, get_or, refl, sym, ap, ◌∙◌, subst, arith}
 use Rattle.std.proofs.lemmas.Bool.{cond-true, cond-false}
 use Rattle.std.proofs.lemmas.Int.{ints, by_lt_z}
 use Rattle.std.proofs.lemmas.List.Elements.{All-nil, All-cons, All-head, All-tail}
+use Rattle.mf_geom.specs.Coordinates.{least_coordinate, greatest_coordinate}
 use Rattle.mf_edges.specs.declared.edge.Edge.{Edge}
 use Rattle.mf_rows.specs.declared.run.Run.{Run}
 use Rattle.mf_rows.specs.Building.{EndAt, HasRun}
@@ -27,9 +28,10 @@ EndAt-from_last low (e ∷ f ∷ es) (suc k) d x edges last le =
     All-cons (λ e. e.x ≤ℤ x) e (f ∷ es) (omega (arith, ints)) others
 
 -- the last of sorted edges says where the edges end
-pub last_decides_end : (es : List Edge) (last : Edge) (x : ℤ) → AreEdges es → 0 < length es → last ≡ get_or es (length es - 1) last → (last.x ≤ℤ x → EndAt x es) × (EndAt x es → last.x ≤ℤ x)
+pub last_decides_end : (es : List Edge) (last : Edge) (x : ℤ) → AreEdges es → 0 < length es
+    → last ≡ get_or es (length es - 1) last → (last.x ≤ℤ x → EndAt x es) × (EndAt x es → last.x ≤ℤ x)
 last_decides_end es last x edges some is_last = (
-  λ le. EndAt-from_last (negsuc 4094) es (length es - 1) last x edges.sorted (omega arith) (subst (λ e. e.x ≤ℤ x) is_last le),
+  λ le. EndAt-from_last least_coordinate es (length es - 1) last x edges.sorted (omega arith) (subst (λ e. e.x ≤ℤ x) is_last le),
   λ end. subst (λ e. e.x ≤ℤ x) (sym is_last) (end (length es - 1) last (omega arith)),
 )
 
@@ -73,12 +75,12 @@ weight_in-constant (e ∷ es) x u end le =
 -- after all edges of a row the weight is 0
 pub weight_in-end : (es : List Edge) (x u : ℤ) → AreEdges es → EndAt x es → x ≤ℤ u → weight_in es u ≡ pos 0
 weight_in-end es x u edges end le =
-    by_lt_z u (pos 4095)
-    (λ inside. weight_in-constant es x u end le ∙ sym (weight_in-constant es x (pos 4095) end (omega (arith, ints))) ∙ edges.closed)
-    (λ behind. weight_in-behind (negsuc 4094) es u edges.sorted behind ∙ edges.closed)
+    by_lt_z u greatest_coordinate
+    (λ inside. weight_in-constant es x u end le ∙ sym (weight_in-constant es x greatest_coordinate end (omega (arith, ints))) ∙ edges.closed)
+    (λ behind. weight_in-behind least_coordinate es u edges.sorted behind ∙ edges.closed)
 
 -- a row with an edge has a weight that is not 0
-pub some_weight : (es : List Edge) → es ≢ [] → AreEdgesFrom (negsuc 4094) es → ((x : ℤ) → negsuc 4094 ≤ℤ x → weight_in es x ≡ pos 0) → ⊥
+pub some_weight : (es : List Edge) → es ≢ [] → AreEdgesFrom least_coordinate es → ((x : ℤ) → least_coordinate ≤ℤ x → weight_in es x ≡ pos 0) → ⊥
 some_weight [] some edges none = some refl
 some_weight (e ∷ es) some edges none =
     let weight : weight_in (e ∷ es) e.x ≡ e.weight +ℤ weight_in es e.x = weight_in-left e es e.x (omega (arith, ints)) in
@@ -108,14 +110,16 @@ pub by_columns : {P : Type 0} (r : Run) (c : ℤ) → (c <ℤ r.x → P) → (r.
 by_columns r c left inside right = by_lt_z c r.x left (λ from. by_lt_z c (r.x +ℤ pos r.len) (inside from) right)
 
 -- with the first edge of a run after its edges, a row has the run's weight from there on
-weight-from_run : (es mid : List Edge) (r : Run) (c : ℤ) → AreEdges es → EndAt r.x es → HaveWeights (with_edge_in es r.x r.weight) mid → r.x ≤ℤ c → weight_in mid c ≡ r.weight
+weight-from_run : (es mid : List Edge) (r : Run) (c : ℤ) → AreEdges es → EndAt r.x es
+    → HaveWeights (with_edge_in es r.x r.weight) mid → r.x ≤ℤ c → weight_in mid c ≡ r.weight
 weight-from_run es mid r c edges end first from =
     let none = weight_in-end es r.x c edges end from in
     let sum = with_edge_in-from es r.x r.weight c from in
     omega (arith, ints, first.weights c)
 
 -- so its weights are still lawful
-pub run_begun : (es mid : List Edge) (r : Run) → AreEdges es → EndAt r.x es → IsLawfulWeight r.weight → AreEdgesFrom (negsuc 4094) mid → HaveWeights (with_edge_in es r.x r.weight) mid → AreOpenEdges mid
+pub run_begun : (es mid : List Edge) (r : Run) → AreEdges es → EndAt r.x es → IsLawfulWeight r.weight
+    → AreEdgesFrom least_coordinate mid → HaveWeights (with_edge_in es r.x r.weight) mid → AreOpenEdges mid
 run_begun es mid r edges end lawful sorted first = record {
   sorted = sorted;
   lawful = λ c. by_lt_z c r.x
@@ -129,13 +133,15 @@ record HaveRun (es : List Edge) (r : Run) (new : List Edge) : Type 0 where
   pub outside : (c : ℤ) → (r.x ≤ℤ c → c <ℤ (r.x +ℤ pos r.len) → ⊥) → weight_in new c ≡ weight_in es c
 
 -- the second edge of the run takes the run's weight away again
-run_ended : (es mid new : List Edge) (r : Run) → AreEdges es → EndAt r.x es → HaveWeights (with_edge_in es r.x r.weight) mid → HaveWeights (with_edge_in mid (r.x +ℤ pos r.len) (pos 0 -ℤ r.weight)) new → HaveRun es r new
+run_ended : (es mid new : List Edge) (r : Run) → AreEdges es → EndAt r.x es
+    → HaveWeights (with_edge_in es r.x r.weight) mid → HaveWeights (with_edge_in mid (r.x +ℤ pos r.len) (pos 0 -ℤ r.weight)) new → HaveRun es r new
 run_ended es mid new r edges end first second =
     let end_of_run = r.x +ℤ pos r.len in
     record {
       inside = λ c from to. second.weights c ∙ with_edge_in-before mid end_of_run (pos 0 -ℤ r.weight) c to ∙ weight-from_run es mid r c edges end first from;
       outside = λ c outside. by_columns r c
-          (λ before. second.weights c ∙ with_edge_in-before mid end_of_run (pos 0 -ℤ r.weight) c (omega (arith, ints)) ∙ first.weights c ∙ with_edge_in-before es r.x r.weight c before)
+          (λ before. second.weights c ∙ with_edge_in-before mid end_of_run (pos 0 -ℤ r.weight) c (omega (arith, ints))
+          ∙ first.weights c ∙ with_edge_in-before es r.x r.weight c before)
           (λ from to. absurd (outside from to))
           (λ behind.
           let sum = with_edge_in-from mid end_of_run (pos 0 -ℤ r.weight) c behind in
@@ -145,7 +151,7 @@ run_ended es mid new r edges end first second =
     }
 
 -- which leaves lawful edges
-lawful_run : (es new : List Edge) (r : Run) → AreEdges es → IsRun r → AreEdgesFrom (negsuc 4094) new → HaveRun es r new → AreEdges new
+lawful_run : (es new : List Edge) (r : Run) → AreEdges es → IsRun r → AreEdgesFrom least_coordinate new → HaveRun es r new → AreEdges new
 lawful_run es new r edges run sorted have =
     let outside = λ (c : ℤ) (out : r.x ≤ℤ c → c <ℤ (r.x +ℤ pos r.len) → ⊥). subst IsLawfulWeight (sym (have.outside c out)) (edges.lawful c) in
     record {
@@ -154,11 +160,13 @@ lawful_run es new r edges run sorted have =
           (λ before. outside c (λ from to. omega (arith, ints)))
           (λ from to. subst IsLawfulWeight (sym (have.inside c from to)) run.lawful)
           (λ behind. outside c (λ from to. omega (arith, ints)));
-      closed = have.outside (pos 4095) (λ from to. omega (arith, ints, run.right)) ∙ edges.closed;
+      closed = have.outside greatest_coordinate (λ from to. omega (arith, ints, run.right)) ∙ edges.closed;
     }
 
 -- so two edges add the run
-pub run_added : (old new : EdgeRow) (mid : List Edge) (r : Run) → IsRun r → AreEdges old.edges → EndAt r.x old.edges → new.y ≡ r.y → AreEdgesFrom (negsuc 4094) new.edges → HaveWeights (with_edge_in old.edges r.x r.weight) mid → HaveWeights (with_edge_in mid (r.x +ℤ pos r.len) (pos 0 -ℤ r.weight)) new.edges → HasRun old r new
+pub run_added : (old new : EdgeRow) (mid : List Edge) (r : Run) → IsRun r → AreEdges old.edges → EndAt r.x old.edges
+    → new.y ≡ r.y → AreEdgesFrom least_coordinate new.edges → HaveWeights (with_edge_in old.edges r.x r.weight) mid
+    → HaveWeights (with_edge_in mid (r.x +ℤ pos r.len) (pos 0 -ℤ r.weight)) new.edges → HasRun old r new
 run_added old new mid r run edges end row sorted first second =
     let have = run_ended old.edges mid new.edges r edges end first second in
     record { row = row; edges = lawful_run old.edges new.edges r edges run sorted have; inside = have.inside; outside = have.outside }

@@ -13,7 +13,8 @@ use Rattle.mf_rows.specs.Runs.{stretch, dots_of, continues, run_from, with_dot, 
 pub continued : (d : Dot) (r : Run) → Decides (continues d r) (IsFollowedBy (run_from d 0) r)
 unfolding continues run_from
 continued d r =
-    Decides-like (continues d r) (λ same. record { row = same.0; column = same.1.0; weight = same.1.1 }) (λ followed. (followed.row, (followed.column, followed.weight)))
+    Decides-like (continues d r) (λ same. record { row = same.0; column = same.1.0; weight = same.1.1 })
+    (λ followed. (followed.row, (followed.column, followed.weight)))
     (Decides-and _ _ (Decides-int_eq d.y r.y) (Decides-and _ _ (Decides-int_eq (d.x +ℤ pos 1) r.x) (Decides-int_eq d.weight r.weight)))
 
 same_stretch : (y x w v u m : ℤ) (n : ℕ) → y ≡ v → x ≡ u → w ≡ m → stretch y x w n ≡ stretch v u m n
@@ -65,7 +66,9 @@ more_after d [] = 0
 more_after d (e ∷ es) = if continues d (run_from e 0) then suc (more_after e es) else 0
 
 -- a dot before a run, which it continues or not
-first_split : (b : Bool) (d e : Dot) (es : List Dot) (r : Run) (n : ℕ) → r ∷ runs_of (drop n es) ≡ runs_of (e ∷ es) → (if b then (run_from d (suc n) ∷ runs_of (drop n es)) else (run_from d 0 ∷ r ∷ runs_of (drop n es))) ≡ run_from d (if b then suc n else 0) ∷ runs_of (drop (if b then suc n else 0) (e ∷ es))
+first_split : (b : Bool) (d e : Dot) (es : List Dot) (r : Run) (n : ℕ) → r ∷ runs_of (drop n es) ≡ runs_of (e ∷ es)
+    → (if b then (run_from d (suc n) ∷ runs_of (drop n es)) else (run_from d 0 ∷ r ∷ runs_of (drop n es)))
+    ≡ run_from d (if b then suc n else 0) ∷ runs_of (drop (if b then suc n else 0) (e ∷ es))
 first_split true d e es r n same = refl
 first_split false d e es r n same = ap (λ rs. run_from d 0 ∷ rs) same
 

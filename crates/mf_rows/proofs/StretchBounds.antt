@@ -1,15 +1,16 @@
 -- What a stretch that stays in the field requires of the rows and edges of a picture, and the picture that it makes.
-use Rattle.std.proofs.Common.{◌≡◌, ◌≢◌, ℤ, pos, negsuc, ◌+ℤ◌, ◌-ℤ◌, ◌≤ℤ◌, List, [], ◌∷◌, refl, sym, subst, ◌∙◌, arith}
+use Rattle.std.proofs.Common.{◌≡◌, ◌≢◌, ℤ, pos, ◌+ℤ◌, ◌-ℤ◌, ◌≤ℤ◌, List, [], ◌∷◌, refl, sym, subst, ◌∙◌, arith}
 use Rattle.std.specs.List.{All}
 use Rattle.std.proofs.lemmas.Int.{ints}
 use Rattle.std.proofs.lemmas.List.Elements.{All-nil, All-cons, All-head, All-tail, All-weaker}
+use Rattle.mf_geom.specs.Coordinates.{least_coordinate, last_in_field, IsCoordinate}
 use Rattle.mf_edges.specs.declared.edge.Edge.{Edge}
 use Rattle.mf_edges.specs.declared.row_change.RowChange.TheVariants as change
 use Rattle.mf_edges.specs.declared.stretch.Stretch.{Stretch}
 use Rattle.mf_rows.specs.Dots.{Dot, weight_at}
 use Rattle.mf_edges.specs.Edges.{weight_in, AreEdgesFrom}
 use Rattle.mf_rows.specs.EdgeRows.{EdgeRow, IsEdgeRow, AreRowsFrom, AreRows, weight_in_rows, picture_of_rows}
-use Rattle.mf_edges.specs.Axes.{IsPointInReach, PlaceStaysInside, source_of, stretched_to}
+use Rattle.mf_edges.specs.Axes.{PlaceStaysInside, source_of, stretched_to}
 use Rattle.mf_rows.specs.Moves.{PixelsStayInside, stretched_at}
 use Rattle.mf_rows.specs.RowChanges.{RowsAllowChange, AllowStretch, changed_in_rows, stretched_in_rows}
 use Rattle.mf_rows.specs.Sums.{HasWeights, HaveRowWeights}
@@ -25,7 +26,9 @@ pub holds_at_weight : (P : ℤ → ℤ → Type 0) (ds : List Dot) (x y : ℤ) �
 unfolding weight_at
 holds_at_weight P [] x y all nonzero = absurd (nonzero refl)
 holds_at_weight P (d ∷ ds) x y all nonzero =
-    let others = λ (elsewhere : IsAt d x y → ⊥). holds_at_weight P ds x y (All-tail (λ d. P d.x d.y) d ds all) (λ zero. nonzero (weight_at-elsewhere d ds x y elsewhere ∙ zero)) in
+    let others =
+    λ (elsewhere : IsAt d x y → ⊥). holds_at_weight P ds x y (All-tail (λ d. P d.x d.y) d ds all)
+    (λ zero. nonzero (weight_at-elsewhere d ds x y elsewhere ∙ zero)) in
     by_same d.x x
     (λ column. by_same d.y y
     (λ row. subst (λ a. P a y) column (subst (λ b. P d.x b) row (All-head (λ d. P d.x d.y) d ds all)))
@@ -69,9 +72,10 @@ first_weight low (e ∷ es) some edges use_at =
 -- so a stretch keeps rows in the field where it keeps the pixels of nonzero weight there
 pub rows_stay : (s : Stretch) (rs : List EdgeRow) → AreRows rs → ((x y : ℤ) → weight_in_rows rs x y ≢ pos 0 → PlaceStaysInside s y) → AllowStretch s rs
 rows_stay s rs rows inside =
-    All-weaker (IsOneOf (pos 4094) rs) (λ r. PlaceStaysInside s r.y)
-    (λ r own. first_weight (negsuc 4094) r.edges own.row.some own.row.edges.sorted (λ x nonzero. inside x r.y (λ zero. nonzero (sym (own.weights x) ∙ zero))))
-    rs (each_row (pos 4094) rs rows.rows)
+    All-weaker (IsOneOf last_in_field rs) (λ r. PlaceStaysInside s r.y)
+    (λ r own. first_weight least_coordinate r.edges own.row.some own.row.edges.sorted
+    (λ x nonzero. inside x r.y (λ zero. nonzero (sym (own.weights x) ∙ zero))))
+    rs (each_row last_in_field rs rows.rows)
 
 -- ---- edges
 
@@ -107,22 +111,24 @@ jumps low (e ∷ es) edges =
     }) es (jumps (e.x +ℤ pos 1) es edges.2))
 
 -- so the pixel at the edge or the one to its left is not 0, and the edge goes to an end of that pixel's stretched part
-edges_stay : (s : Stretch) (low : ℤ) (es : List Edge) → AreEdgesFrom low es → ((x : ℤ) → weight_in es x ≢ pos 0 → PlaceStaysInside s x) → All (λ e. IsPointInReach (stretched_to s e.x)) es
+edges_stay : (s : Stretch) (low : ℤ) (es : List Edge) → AreEdgesFrom low es
+    → ((x : ℤ) → weight_in es x ≢ pos 0 → PlaceStaysInside s x) → All (λ e. IsCoordinate (stretched_to s e.x)) es
 edges_stay s low es edges inside =
-    All-weaker (IsJump low es) (λ e. IsPointInReach (stretched_to s e.x))
+    All-weaker (IsJump low es) (λ e. IsCoordinate (stretched_to s e.x))
     (λ e is. by_same (weight_in es e.x) (pos 0)
     (λ zero.
     let left = inside (e.x -ℤ pos 1) (λ none. is.nonzero (omega (arith, ints))) in
     let same : (e.x -ℤ pos 1) +ℤ pos 1 ≡ e.x = omega (arith, ints) in
-    subst (λ x. IsPointInReach (stretched_to s x)) same left.end)
+    subst (λ x. IsCoordinate (stretched_to s x)) same left.end)
     (λ nonzero. (inside e.x nonzero).start))
     es (jumps low es edges)
 
-pub columns_stay : (s : Stretch) (rs : List EdgeRow) → AreRows rs → ((x y : ℤ) → weight_in_rows rs x y ≢ pos 0 → PlaceStaysInside s x) → RowsAllowChange (change.Columns s) rs
+pub columns_stay : (s : Stretch) (rs : List EdgeRow) → AreRows rs → ((x y : ℤ) → weight_in_rows rs x y ≢ pos 0 → PlaceStaysInside s x)
+    → RowsAllowChange (change.Columns s) rs
 columns_stay s rs rows inside =
-    All-weaker (IsOneOf (pos 4094) rs) (λ r. All (λ e. IsPointInReach (stretched_to s e.x)) r.edges)
-    (λ r own. edges_stay s (negsuc 4094) r.edges own.row.edges.sorted (λ x nonzero. inside x r.y (λ zero. nonzero (sym (own.weights x) ∙ zero))))
-    rs (each_row (pos 4094) rs rows.rows)
+    All-weaker (IsOneOf last_in_field rs) (λ r. All (λ e. IsCoordinate (stretched_to s e.x)) r.edges)
+    (λ r own. edges_stay s least_coordinate r.edges own.row.edges.sorted (λ x nonzero. inside x r.y (λ zero. nonzero (sym (own.weights x) ∙ zero))))
+    rs (each_row last_in_field rs rows.rows)
 
 -- ---- the picture
 
@@ -133,13 +139,17 @@ module _ (columns rows : Stretch) (rs : List EdgeRow) (lawful : AreRows rs) wher
       (λ zero. nonzero (sym (weight_at-picture_of_rows rs x y lawful) ∙ zero)))
 
   -- rows keep their heights when their columns are stretched
-  pub rows_allowed : (changed : List EdgeRow) → PixelsStayInside columns rows (picture_of_rows rs) → AreRows changed → HaveRowWeights (changed_in_rows (change.Columns columns) rs) changed → AllowStretch rows changed
+  pub rows_allowed : (changed : List EdgeRow) → PixelsStayInside columns rows (picture_of_rows rs) → AreRows changed
+      → HaveRowWeights (changed_in_rows (change.Columns columns) rs) changed → AllowStretch rows changed
   unfolding changed_in_rows
   rows_allowed changed inside lawful_changed has =
-      rows_stay rows changed lawful_changed (λ x y nonzero. holds_at_weight (λ a b. PlaceStaysInside rows b) (picture_of_rows rs) (source_of columns x) y inside.up
+      rows_stay rows changed lawful_changed
+      (λ x y nonzero. holds_at_weight (λ a b. PlaceStaysInside rows b) (picture_of_rows rs) (source_of columns x) y inside.up
       (λ zero. nonzero (has.weights x y ∙ sym (weight_at-picture_of_rows rs (source_of columns x) y lawful) ∙ zero)))
 
-  pub weights_stretched : (changed stretched : List EdgeRow) → AreRows stretched → HaveRowWeights (changed_in_rows (change.Columns columns) rs) changed → HaveRowWeights (stretched_in_rows rows changed) stretched → HasWeights (stretched_at columns rows (picture_of_rows rs)) (picture_of_rows stretched)
+  pub weights_stretched : (changed stretched : List EdgeRow) → AreRows stretched
+      → HaveRowWeights (changed_in_rows (change.Columns columns) rs) changed
+      → HaveRowWeights (stretched_in_rows rows changed) stretched → HasWeights (stretched_at columns rows (picture_of_rows rs)) (picture_of_rows stretched)
   unfolding changed_in_rows stretched_in_rows stretched_at
   weights_stretched changed stretched lawful_stretched has has_stretched = record {
     weights = λ x y inside.

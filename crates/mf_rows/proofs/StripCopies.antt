@@ -1,7 +1,8 @@
 -- Strips of rows with the same edges, pushed from the top down.
-use Rattle.std.proofs.Common.{◌≡◌, ◌≢◌, ℕ, zero, suc, ℤ, pos, negsuc, ◌+ℤ◌, ◌-ℤ◌, ◌≤ℤ◌, ◌<ℤ◌, List, [], ◌∷◌, ◌++◌, refl, sym, ap, ◌∙◌, append_assoc, append-nil, to_z, of_z, w32, arith}
+use Rattle.std.proofs.Common.{◌≡◌, ◌≢◌, ℕ, zero, suc, ℤ, pos, ◌+ℤ◌, ◌-ℤ◌, ◌≤ℤ◌, List, [], ◌∷◌, ◌++◌, refl, sym, ◌∙◌, append_assoc, append-nil, to_z, of_z, w32, arith}
 use Rattle.std.specs.Int.RustNames.{unsigned_abs}
 use Rattle.std.proofs.lemmas.Int.{ints}
+use Rattle.mf_geom.specs.Coordinates.{least_coordinate, greatest_coordinate}
 use Rattle.mf_edges.specs.declared.edge.Edge.{Edge}
 use Rattle.mf_edges.specs.Edges.{AreEdges}
 use Rattle.mf_rows.specs.EdgeRows.{EdgeRow}
@@ -27,7 +28,9 @@ are_sizes : (larger smaller : ℤ) → pos 0 ≤ℤ smaller → larger ≡ small
 are_sizes larger smaller least next = record { next = omega (arith, ints); size = omega (arith, ints) }
 
 -- the next row goes below them
-pub copies_more : (old : List EdgeRow) (es : List Edge) (bottom top down : ℤ) (new : List EdgeRow) → (down +ℤ pos 1) ≤ℤ (top -ℤ bottom) → AreCopiesSoFar old es bottom top down new → AreCopiesSoFar old es bottom top (down +ℤ pos 1) (new ++ record { y = top -ℤ (down +ℤ pos 1); edges = es } ∷ [])
+pub copies_more : (old : List EdgeRow) (es : List Edge) (bottom top down : ℤ) (new : List EdgeRow)
+    → (down +ℤ pos 1) ≤ℤ (top -ℤ bottom) → AreCopiesSoFar old es bottom top down new
+    → AreCopiesSoFar old es bottom top (down +ℤ pos 1) (new ++ record { y = top -ℤ (down +ℤ pos 1); edges = es } ∷ [])
 unfolding strip
 copies_more old es bottom top down new le so_far =
     let below = (top -ℤ bottom) -ℤ (down +ℤ pos 1) in
@@ -38,7 +41,8 @@ copies_more old es bottom top down new le so_far =
     record { all = rw place (append_assoc new (row ∷ []) (strip bottom es n) ∙ rw sizes.next at so_far.all) }
 
 -- all rows of the strip are there
-pub copies_all : (old : List EdgeRow) (es : List Edge) (bottom top down : ℤ) (new : List EdgeRow) → top -ℤ bottom ≡ down → AreCopiesSoFar old es bottom top down new → new ≡ old ++ strip bottom es (unsigned_abs (top -ℤ bottom))
+pub copies_all : (old : List EdgeRow) (es : List Edge) (bottom top down : ℤ) (new : List EdgeRow) → top -ℤ bottom ≡ down
+    → AreCopiesSoFar old es bottom top down new → new ≡ old ++ strip bottom es (unsigned_abs (top -ℤ bottom))
 unfolding strip
 copies_all old es bottom top down new end so_far =
     let none : (top -ℤ bottom) -ℤ down ≡ pos 0 = omega (arith, ints) in
@@ -50,7 +54,8 @@ pub record NextPlace (bottom top down : ℤ) : Type 0 where
   pub row : to_z w32 (of_z w32 (to_z w32 (of_z w32 (top -ℤ pos 1)) -ℤ down)) ≡ top -ℤ (down +ℤ pos 1)
   pub least : pos 0 ≤ℤ (down +ℤ pos 1)
 
-pub next_place : (bottom top down : ℤ) → negsuc 4094 ≤ℤ bottom → top ≤ℤ pos 4095 → pos 0 ≤ℤ down → (down +ℤ pos 1) ≤ℤ (top -ℤ bottom) → NextPlace bottom top down
+pub next_place : (bottom top down : ℤ) → least_coordinate ≤ℤ bottom → top ≤ℤ greatest_coordinate → pos 0 ≤ℤ down
+    → (down +ℤ pos 1) ≤ℤ (top -ℤ bottom) → NextPlace bottom top down
 next_place bottom top down low high least greatest = record {
   more = omega (arith, ints);
   row = omega (arith, ints);
@@ -58,12 +63,17 @@ next_place bottom top down low high least greatest = record {
 }
 
 -- a strip with edges goes below the rows that are there
-pub pushed_strip : (old rows : List EdgeRow) (es : List Edge) (n : ℕ) (bottom high top : ℤ) → HasStrip old es high top rows → high ≡ bottom +ℤ pos n → negsuc 4094 ≤ℤ bottom → high ≤ℤ top → top ≤ℤ pos 4095 → es ≢ [] → AreEdges es → HasStrip old es bottom top (rows ++ strip bottom es n)
+pub pushed_strip : (old rows : List EdgeRow) (es : List Edge) (n : ℕ) (bottom high top : ℤ)
+    → HasStrip old es high top rows → high ≡ bottom +ℤ pos n → least_coordinate ≤ℤ bottom → high ≤ℤ top
+    → top ≤ℤ greatest_coordinate → es ≢ [] → AreEdges es → HasStrip old es bottom top (rows ++ strip bottom es n)
 unfolding strip
 pushed_strip old rows es zero bottom high top have next low under in_reach some edges =
     let same : high ≡ bottom = omega (arith, ints) in
     rw (append-nil rows, ← same) have
 pushed_strip old rows es (suc n) bottom high top have next low under in_reach some edges =
     let row : EdgeRow = record { y = bottom +ℤ pos n; edges = es } in
-    let pushed = pushed_row old rows es (bottom +ℤ pos n) high top have (omega (arith, ints)) (omega (arith, ints)) (omega (arith, ints)) in_reach some edges (rows ++ row ∷ []) row refl refl in
-    rw (← append_assoc rows (row ∷ []) (strip bottom es n)) (pushed_strip old (rows ++ row ∷ []) es n bottom (bottom +ℤ pos n) top pushed refl low (omega (arith, ints)) in_reach some edges)
+    let pushed =
+    pushed_row old rows es (bottom +ℤ pos n) high top have (omega (arith, ints)) (omega (arith, ints))
+    (omega (arith, ints)) in_reach some edges (rows ++ row ∷ []) row refl refl in
+    rw (← append_assoc rows (row ∷ []) (strip bottom es n))
+    (pushed_strip old (rows ++ row ∷ []) es n bottom (bottom +ℤ pos n) top pushed refl low (omega (arith, ints)) in_reach some edges)

@@ -1,7 +1,8 @@
 -- Rows that are put below others, a strip with the same edges at a time.
-use Rattle.std.proofs.Common.{◌≡◌, ◌≢◌, ℤ, pos, negsuc, ◌+ℤ◌, ◌≤ℤ◌, ◌<ℤ◌, List, [], ◌∷◌, ◌++◌, ◌⊎◌, inl, inr, refl, sym, ◌∙◌, arith}
+use Rattle.std.proofs.Common.{◌≡◌, ◌≢◌, ℤ, pos, ◌+ℤ◌, ◌≤ℤ◌, ◌<ℤ◌, List, [], ◌∷◌, ◌++◌, ◌⊎◌, inl, inr, refl, sym, ◌∙◌, arith}
 use Rattle.std.proofs.lemmas.Int.{ints, by_lt_z}
 use Rattle.std.proofs.lemmas.List.Elements.{All-cons, All-nil, All-push, All-weaker}
+use Rattle.mf_geom.specs.Coordinates.{least_coordinate, greatest_coordinate, last_in_field}
 use Rattle.mf_edges.specs.declared.edge.Edge.{Edge}
 use Rattle.mf_rows.specs.Bands.{AreBelow}
 use Rattle.mf_edges.specs.Edges.{weight_in, AreEdges}
@@ -21,7 +22,8 @@ reach_lower bottom top rs le down = record {
 }
 
 -- a strip with no rows or no edges adds nothing
-pub no_strip : (rs : List EdgeRow) (es : List Edge) (bottom top : ℤ) → ReachDownTo top rs → bottom ≤ℤ top → (bottom <ℤ top → es ≡ []) → HasStrip rs es bottom top rs
+pub no_strip : (rs : List EdgeRow) (es : List Edge) (bottom top : ℤ) → ReachDownTo top rs → bottom ≤ℤ top
+    → (bottom <ℤ top → es ≡ []) → HasStrip rs es bottom top rs
 unfolding weight_in
 no_strip rs es bottom top down le none = record {
   rows = reach_lower bottom top rs le down;
@@ -30,17 +32,21 @@ no_strip rs es bottom top down le none = record {
 }
 
 -- a strip grows by a row at its bottom
-module _ (old rs : List EdgeRow) (es : List Edge) (bottom high top : ℤ) (have : HasStrip old es high top rs) (next : high ≡ bottom +ℤ pos 1) (low : negsuc 4094 ≤ℤ bottom) (under : bottom <ℤ top) (in_reach : top ≤ℤ pos 4095) (some : es ≢ []) (edges : AreEdges es) where
+module _ (old rs : List EdgeRow) (es : List Edge) (bottom high top : ℤ) (have : HasStrip old es high top rs)
+    (next : high ≡ bottom +ℤ pos 1) (low : least_coordinate ≤ℤ bottom) (under : bottom <ℤ top)
+    (in_reach : top ≤ℤ greatest_coordinate) (some : es ≢ []) (edges : AreEdges es) where
   abbrev pub bottom_row : EdgeRow
   bottom_row = record { y = bottom; edges = es }
 
   reaches_bottom : ReachDownTo bottom (rs ++ bottom_row ∷ [])
   reaches_bottom =
-      let under_field : bottom ≤ℤ pos 4094 = omega (arith, ints) in
+      let under_field : bottom ≤ℤ last_in_field = omega (arith, ints) in
       let is_row : IsEdgeRow bottom_row = record { bottom = low; top = under_field; some = some; edges = edges } in
-      let is_below = λ (r : EdgeRow) (above : high ≤ℤ r.y). All-cons (λ s. s.y <ℤ r.y) bottom_row [] (omega (arith, ints, above, next)) (All-nil (λ s. s.y <ℤ r.y)) in
+      let is_below =
+      λ (r : EdgeRow) (above : high ≤ℤ r.y). All-cons (λ s. s.y <ℤ r.y) bottom_row [] (omega (arith, ints, above, next)) (All-nil (λ s. s.y <ℤ r.y)) in
       record {
-        rows = rows_from-append (pos 4094) rs (bottom_row ∷ []) have.rows.rows (is_row, under_field, tt) (All-weaker (λ r. high ≤ℤ r.y) (λ r. AreBelow r.y (bottom_row ∷ [])) is_below rs have.rows.reach);
+        rows = rows_from-append last_in_field rs (bottom_row ∷ []) have.rows.rows (is_row, under_field, tt)
+            (All-weaker (λ r. high ≤ℤ r.y) (λ r. AreBelow r.y (bottom_row ∷ [])) is_below rs have.rows.reach);
         reach = All-push (λ r. bottom ≤ℤ r.y) rs bottom_row (reach_lower bottom high rs (omega (arith, ints, next)) have.rows).reach (omega (arith, ints));
       }
 
@@ -58,7 +64,8 @@ module _ (old rs : List EdgeRow) (es : List Edge) (bottom high top : ℤ) (have 
       omega (arith, ints, weight_in_rows-append rs (bottom_row ∷ []) x y, apart)
 
   weight_in_strip : (x y : ℤ) → bottom ≤ℤ y → y <ℤ top → (bottom <ℤ y) ⊎ (y ≡ bottom) → weight_in_rows (rs ++ bottom_row ∷ []) x y ≡ weight_in es x
-  weight_in_strip x y ge lt (inl higher) = weight_elsewhere x y (λ same. absurd (omega (arith, ints, same, higher))) ∙ have.strip x y (omega (arith, ints, next, higher)) lt
+  weight_in_strip x y ge lt (inl higher) =
+      weight_elsewhere x y (λ same. absurd (omega (arith, ints, same, higher))) ∙ have.strip x y (omega (arith, ints, next, higher)) lt
   weight_in_strip x y ge lt (inr here) = rw here (weight_at_bottom x)
 
   next_row : HasStrip old es bottom top (rs ++ bottom_row ∷ [])

@@ -13,7 +13,8 @@ use Rattle.mf_rows.proofs.PlacesLemmas.{place-lt}
 use Rattle.mf_rows.proofs.PassedRuns.{ArePassed, none_passed, one_more_passed, all_passed, passed_are_lawful, length-passed}
 
 -- dots fill at most the places that are left
-length-from : (low : ℤ) (ds : List Dot) → low ≤ℤ (start_of_field +ℤ pos 67076100) → AreDotsFrom low ds → (low +ℤ pos (length ds)) ≤ℤ (start_of_field +ℤ pos 67076100)
+length-from : (low : ℤ) (ds : List Dot) → low ≤ℤ (start_of_field +ℤ pos 67076100) → AreDotsFrom low ds
+    → (low +ℤ pos (length ds)) ≤ℤ (start_of_field +ℤ pos 67076100)
 length-from low [] room dots = omega (arith, ints)
 length-from low (d ∷ ds) room dots =
     let start : low ≤ℤ place d.x d.y = dots.1 in
@@ -46,7 +47,8 @@ weight_size (negsuc n) lawful = omega (arith, ints, lawful.least)
 
 -- the sum of a run's weights is far within the range of an i64
 pub run_total_fits : (r : Run) → IsRun r → FitsSigned w64 (pos r.len *ℤ r.weight)
-run_total_fits r run = fits_signed_mul w64 (pos r.len) r.weight 8190 32767 (omega (arith, ints, run.left, run.right)) (weight_size r.weight run.lawful) (omega arith)
+run_total_fits r run =
+    fits_signed_mul w64 (pos r.len) r.weight 8190 32767 (omega (arith, ints, run.left, run.right)) (weight_size r.weight run.lawful) (omega arith)
 
 pub total_of-append : (ds es : List Dot) → total_of (ds ++ es) ≡ total_of ds +ℤ total_of es
 unfolding total_of
@@ -76,7 +78,8 @@ pub total_none : (ds : List Dot) (rs : List Run) → IsPicture ds → rs ≡ run
 unfolding total_of
 total_none ds rs picture all = record { passed = []; passes = none_passed ds rs picture all; value = refl }
 
-pub total_more : (ds : List Dot) (rs : List Run) (r : Run) (others : List Run) (sum : ℤ) → rs ≡ r ∷ others → IsTotalBefore ds rs sum → IsTotalBefore ds others (sum +ℤ total_of (dots_of r))
+pub total_more : (ds : List Dot) (rs : List Run) (r : Run) (others : List Run) (sum : ℤ) → rs ≡ r ∷ others
+    → IsTotalBefore ds rs sum → IsTotalBefore ds others (sum +ℤ total_of (dots_of r))
 total_more ds rs r others sum first so_far = record {
   passed = so_far.passed ++ dots_of r;
   passes = one_more_passed ds rs r others so_far.passed first so_far.passes;

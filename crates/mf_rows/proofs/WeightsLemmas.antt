@@ -6,6 +6,7 @@ use Rattle.std.proofs.lemmas.Bool.{cond_both}
 use Rattle.std.proofs.lemmas.Bool.Decides.{Decides-int_eq, not_from_Decides}
 use Rattle.std.proofs.lemmas.Int.{ints, by_lt_z}
 use Rattle.std.proofs.lemmas.List.Elements.{All-nil, All-cons, All-append, All-head, All-tail}
+use Rattle.mf_geom.specs.Coordinates.{least_coordinate, last_in_field}
 use Rattle.mf_geom.specs.Field.{IsInField}
 use Rattle.mf_edges.specs.LawfulWeights.{IsLawfulWeight}
 use Rattle.mf_rows.specs.Dots.{Dot, IsDot, IsPicture, AreDotsFrom, place, start_of_field, weight_at}
@@ -19,14 +20,16 @@ same_dot : (d e : Dot) → d.y ≡ e.y → d.x ≡ e.x → d.weight ≡ e.weight
 same_dot d e row column weight = λ i. record { y = row i; x = column i; weight = weight i }
 
 -- a picture lacks a dot's weight where all its dots come later
-first_missing : (low : ℤ) (d : Dot) (ds es : List Dot) → AreDotsFrom low (d ∷ ds) → AreDotsFrom (place d.x d.y +ℤ pos 1) es → weight_at (d ∷ ds) d.x d.y ≡ weight_at es d.x d.y → ⊥
+first_missing : (low : ℤ) (d : Dot) (ds es : List Dot) → AreDotsFrom low (d ∷ ds)
+    → AreDotsFrom (place d.x d.y +ℤ pos 1) es → weight_at (d ∷ ds) d.x d.y ≡ weight_at es d.x d.y → ⊥
 first_missing low d ds es dots later same =
     dots.0.nonzero
     (sym (weight_at-here d ds d.x d.y (record { column = refl; row = refl }))
     ∙ same ∙ weight_at-before (place d.x d.y +ℤ pos 1) es d.x d.y later (omega (arith, ints)))
 
 -- after a common first dot the weights are equal, too
-same_tails : (d : Dot) (ds es : List Dot) → AreDotsFrom (place d.x d.y +ℤ pos 1) ds → AreDotsFrom (place d.x d.y +ℤ pos 1) es → HaveSameWeights (d ∷ ds) (d ∷ es) → HaveSameWeights ds es
+same_tails : (d : Dot) (ds es : List Dot) → AreDotsFrom (place d.x d.y +ℤ pos 1) ds
+    → AreDotsFrom (place d.x d.y +ℤ pos 1) es → HaveSameWeights (d ∷ ds) (d ∷ es) → HaveSameWeights ds es
 same_tails d ds es left right weights = record {
   same = λ x y inside.
       let low = place d.x d.y +ℤ pos 1 in
@@ -50,7 +53,9 @@ same_from low (d ∷ ds) (e ∷ es) left right weights =
     let here : place d.x d.y ≡ place e.x e.y = omega (arith, ints) in
     let row = row_from_place d.x d.y e.x e.y left.0.in_field right.0.in_field here in
     let column = column_from_place d.x d.y e.x e.y left.0.in_field right.0.in_field here in
-    let weight = sym (weight_at-here d ds e.x e.y (record { column = column; row = row })) ∙ weights.same e.x e.y right.0.in_field ∙ weight_at-here e es e.x e.y (record { column = refl; row = refl }) in
+    let weight =
+    sym (weight_at-here d ds e.x e.y (record { column = column; row = row })) ∙ weights.same e.x e.y right.0.in_field
+    ∙ weight_at-here e es e.x e.y (record { column = refl; row = refl }) in
     let same = same_dot d e row column weight in
     let others = subst (λ f. AreDotsFrom (place f.x f.y +ℤ pos 1) es) (sym same) right.2 in
     let tails = same_tails d ds es left.2 others (subst (λ f. HaveSameWeights (d ∷ ds) (f ∷ es)) (sym same) weights) in
@@ -64,28 +69,34 @@ same_pictures ds es left right weights = same_from start_of_field ds es left.dot
 -- ---- the picture of given weights is lawful
 
 -- the dots of a row may come before dots at later places
-row_from : (f : ℤ → ℤ → ℤ) (y x : ℤ) (n : ℕ) (es : List Dot) → AreColumns x y n → ((u v : ℤ) → IsInField u v → IsLawfulWeight (f u v)) → AreDotsFrom (place (x +ℤ pos n) y) es → AreDotsFrom (place x y) (row_of f y x n ++ es)
+row_from : (f : ℤ → ℤ → ℤ) (y x : ℤ) (n : ℕ) (es : List Dot) → AreColumns x y n
+    → ((u v : ℤ) → IsInField u v → IsLawfulWeight (f u v)) → AreDotsFrom (place (x +ℤ pos n) y) es → AreDotsFrom (place x y) (row_of f y x n ++ es)
 unfolding row_of
 row_from f y x zero es columns lawful later = subst (λ u. AreDotsFrom (place u y) es) (omega (arith, ints)) later
 row_from f y x (suc n) es columns lawful later =
     let first : Dot = record { y = y; x = x; weight = f x y } in
     let inside = first_column x y n columns in
     let others = row_of f y (x +ℤ pos 1) n in
-    let behind = subst (λ p. AreDotsFrom p (others ++ es)) (place-next x y) (row_from f y (x +ℤ pos 1) n es (next_columns x y n columns) lawful (subst (λ u. AreDotsFrom (place u y) es) (omega (arith, ints)) later)) in
+    let behind =
+    subst (λ p. AreDotsFrom p (others ++ es)) (place-next x y)
+    (row_from f y (x +ℤ pos 1) n es (next_columns x y n columns) lawful (subst (λ u. AreDotsFrom (place u y) es) (omega (arith, ints)) later)) in
     cond_both (int_eq (f x y) (pos 0)) others (first ∷ others) (λ row. AreDotsFrom (place x y) (row ++ es))
     (λ blank. dots_from-lower (place x y) (place x y +ℤ pos 1) (others ++ es) (omega (arith, ints)) behind)
     (λ dotted. (record { in_field = inside; lawful = lawful x y inside; nonzero = not_from_Decides (int_eq (f x y) (pos 0)) (Decides-int_eq (f x y) (pos 0)) dotted }, omega (arith, ints), behind))
 
-rows_from : (f : ℤ → ℤ → ℤ) (y : ℤ) (n : ℕ) → (negsuc 4095 +ℤ pos n) ≤ℤ y → y ≤ℤ pos 4094 → ((u v : ℤ) → IsInField u v → IsLawfulWeight (f u v)) → AreDotsFrom (place (negsuc 4094) y) (rows_of f y n)
+rows_from : (f : ℤ → ℤ → ℤ) (y : ℤ) (n : ℕ) → (negsuc 4095 +ℤ pos n) ≤ℤ y → y ≤ℤ last_in_field
+    → ((u v : ℤ) → IsInField u v → IsLawfulWeight (f u v)) → AreDotsFrom (place least_coordinate y) (rows_of f y n)
 unfolding rows_of
 rows_from f y zero bottom top lawful = tt
 rows_from f y (suc n) bottom top lawful =
-    row_from f y (negsuc 4094) 8190 (rows_of f (y -ℤ pos 1) n) (record { left = omega (arith, ints); right = omega (arith, ints); bottom = omega (arith, ints); top = top }) lawful
-    (subst (λ p. AreDotsFrom p (rows_of f (y -ℤ pos 1) n)) (sym (place-below y)) (rows_from f (y -ℤ pos 1) n (omega (arith, ints)) (omega (arith, ints)) lawful))
+    row_from f y least_coordinate 8190 (rows_of f (y -ℤ pos 1) n)
+    (record { left = omega (arith, ints); right = omega (arith, ints); bottom = omega (arith, ints); top = top }) lawful
+    (subst (λ p. AreDotsFrom p (rows_of f (y -ℤ pos 1) n)) (sym (place-below y))
+    (rows_from f (y -ℤ pos 1) n (omega (arith, ints)) (omega (arith, ints)) lawful))
 
 pub lawful_picture_of : (f : ℤ → ℤ → ℤ) → ((x y : ℤ) → IsInField x y → IsLawfulWeight (f x y)) → IsPicture (picture_of f)
 unfolding picture_of start_of_field
-lawful_picture_of f lawful = record { dots = rows_from f (pos 4094) 8190 (omega (arith, ints)) (omega (arith, ints)) lawful }
+lawful_picture_of f lawful = record { dots = rows_from f last_in_field 8190 (omega (arith, ints)) (omega (arith, ints)) lawful }
 
 -- ---- and has these weights
 
@@ -101,7 +112,8 @@ weight_at-off_row f y x (suc n) es u v off =
     (λ blank. same)
     (λ dotted. weight_at-elsewhere first (others ++ es) u v (λ here. off here.row (omega (arith, ints, here.column))) ∙ same)
 
-weight_at-row : (f : ℤ → ℤ → ℤ) (y x : ℤ) (n : ℕ) (es : List Dot) (u : ℤ) → weight_at es u y ≡ pos 0 → x ≤ℤ u → u <ℤ (x +ℤ pos n) → weight_at (row_of f y x n ++ es) u y ≡ f u y
+weight_at-row : (f : ℤ → ℤ → ℤ) (y x : ℤ) (n : ℕ) (es : List Dot) (u : ℤ) → weight_at es u y ≡ pos 0 → x ≤ℤ u
+    → u <ℤ (x +ℤ pos n) → weight_at (row_of f y x n ++ es) u y ≡ f u y
 unfolding row_of
 weight_at-row f y x zero es u none left right = absurd (omega (arith, ints))
 weight_at-row f y x (suc n) es u none left right =
@@ -112,9 +124,11 @@ weight_at-row f y x (suc n) es u none left right =
     (λ later. weight_at-row f y (x +ℤ pos 1) n es u none (omega (arith, ints)) (omega (arith, ints)))
     (λ no_later.
     let here : x ≡ u = omega (arith, ints) in
-    weight_at-off_row f y (x +ℤ pos 1) n es u y (λ row left. omega (arith, ints)) ∙ none ∙ sym ((Decides-int_eq (f x y) (pos 0)).0 blank) ∙ ap (λ column. f column y) here))
+    weight_at-off_row f y (x +ℤ pos 1) n es u y (λ row left. omega (arith, ints)) ∙ none
+    ∙ sym ((Decides-int_eq (f x y) (pos 0)).0 blank) ∙ ap (λ column. f column y) here))
     (λ dotted. by_lt_z x u
-    (λ later. weight_at-elsewhere first (others ++ es) u y (λ here. omega (arith, ints, here.column)) ∙ weight_at-row f y (x +ℤ pos 1) n es u none (omega (arith, ints)) (omega (arith, ints)))
+    (λ later. weight_at-elsewhere first (others ++ es) u y (λ here. omega (arith, ints, here.column))
+    ∙ weight_at-row f y (x +ℤ pos 1) n es u none (omega (arith, ints)) (omega (arith, ints)))
     (λ no_later.
     let here : x ≡ u = omega (arith, ints) in
     weight_at-here first (others ++ es) u y (record { column = here; row = refl }) ∙ ap (λ column. f column y) here))
@@ -124,24 +138,26 @@ weight_at-above : (f : ℤ → ℤ → ℤ) (y : ℤ) (n : ℕ) (u v : ℤ) → 
 unfolding rows_of weight_at
 weight_at-above f y zero u v above = refl
 weight_at-above f y (suc n) u v above =
-    weight_at-off_row f y (negsuc 4094) 8190 (rows_of f (y -ℤ pos 1) n) u v (λ row left. omega (arith, ints, row))
+    weight_at-off_row f y least_coordinate 8190 (rows_of f (y -ℤ pos 1) n) u v (λ row left. omega (arith, ints, row))
     ∙ weight_at-above f (y -ℤ pos 1) n u v (omega (arith, ints))
 
-weight_at-rows : (f : ℤ → ℤ → ℤ) (y : ℤ) (n : ℕ) (u v : ℤ) → negsuc 4094 ≤ℤ u → u ≤ℤ pos 4094 → v ≤ℤ y → y <ℤ (v +ℤ pos n) → weight_at (rows_of f y n) u v ≡ f u v
+weight_at-rows : (f : ℤ → ℤ → ℤ) (y : ℤ) (n : ℕ) (u v : ℤ) → least_coordinate ≤ℤ u → u ≤ℤ last_in_field → v ≤ℤ y
+    → y <ℤ (v +ℤ pos n) → weight_at (rows_of f y n) u v ≡ f u v
 unfolding rows_of
 weight_at-rows f y zero u v left right top bottom = absurd (omega (arith, ints))
 weight_at-rows f y (suc n) u v left right top bottom =
     let below = rows_of f (y -ℤ pos 1) n in
     by_lt_z v y
-    (λ lower. weight_at-off_row f y (negsuc 4094) 8190 below u v (λ row left. omega (arith, ints, row)) ∙ weight_at-rows f (y -ℤ pos 1) n u v left right (omega (arith, ints)) (omega (arith, ints)))
+    (λ lower. weight_at-off_row f y least_coordinate 8190 below u v (λ row left. omega (arith, ints, row))
+    ∙ weight_at-rows f (y -ℤ pos 1) n u v left right (omega (arith, ints)) (omega (arith, ints)))
     (λ no_lower.
     let here : y ≡ v = omega (arith, ints) in
-    subst (λ row. weight_at (row_of f y (negsuc 4094) 8190 ++ below) u row ≡ f u row) here
-    (weight_at-row f y (negsuc 4094) 8190 below u (weight_at-above f (y -ℤ pos 1) n u y (omega (arith, ints))) left (omega (arith, ints))))
+    subst (λ row. weight_at (row_of f y least_coordinate 8190 ++ below) u row ≡ f u row) here
+    (weight_at-row f y least_coordinate 8190 below u (weight_at-above f (y -ℤ pos 1) n u y (omega (arith, ints))) left (omega (arith, ints))))
 
 pub weight_at-picture_of : (f : ℤ → ℤ → ℤ) (x y : ℤ) → IsInField x y → weight_at (picture_of f) x y ≡ f x y
 unfolding picture_of
-weight_at-picture_of f x y inside = weight_at-rows f (pos 4094) 8190 x y inside.left inside.right inside.top (omega (arith, ints, inside.bottom))
+weight_at-picture_of f x y inside = weight_at-rows f last_in_field 8190 x y inside.left inside.right inside.top (omega (arith, ints, inside.bottom))
 
 -- ---- a lawful picture with given weights is the picture of these weights
 
@@ -150,12 +166,15 @@ pub lawful_weight_at : (ds : List Dot) (x y : ℤ) → All IsDot ds → IsLawful
 unfolding weight_at
 lawful_weight_at [] x y dots = record { least = omega (arith, ints); greatest = omega (arith, ints) }
 lawful_weight_at (d ∷ ds) x y dots =
-    cond_both _ d.weight (weight_at ds x y) IsLawfulWeight (λ here. (All-head IsDot d ds dots).lawful) (λ elsewhere. lawful_weight_at ds x y (All-tail IsDot d ds dots))
+    cond_both _ d.weight (weight_at ds x y) IsLawfulWeight (λ here. (All-head IsDot d ds dots).lawful)
+    (λ elsewhere. lawful_weight_at ds x y (All-tail IsDot d ds dots))
 
 pub picture_of-from_weights : (ds : List Dot) (f : ℤ → ℤ → ℤ) → IsPicture ds → ((x y : ℤ) → IsInField x y → weight_at ds x y ≡ f x y) → ds ≡ picture_of f
 picture_of-from_weights ds f picture weights =
-    let lawful : (x y : ℤ) → IsInField x y → IsLawfulWeight (f x y) = λ x y inside. subst IsLawfulWeight (weights x y inside) (lawful_weight_at ds x y (dots_from-lawful start_of_field ds picture.dots)) in
-    same_pictures ds (picture_of f) picture (lawful_picture_of f lawful) (record { same = λ x y inside. weights x y inside ∙ sym (weight_at-picture_of f x y inside) })
+    let lawful : (x y : ℤ) → IsInField x y → IsLawfulWeight (f x y) =
+    λ x y inside. subst IsLawfulWeight (weights x y inside) (lawful_weight_at ds x y (dots_from-lawful start_of_field ds picture.dots)) in
+    same_pictures ds (picture_of f) picture (lawful_picture_of f lawful)
+    (record { same = λ x y inside. weights x y inside ∙ sym (weight_at-picture_of f x y inside) })
 
 -- ---- each dot of the picture of given weights is a pixel of the field with its weight
 
@@ -175,14 +194,14 @@ row_of-dots f y x (suc n) columns =
     (λ blank. others_are)
     (λ dotted. All-cons (IsDotOf f) first others first_is others_are)
 
-rows_of-dots : (f : ℤ → ℤ → ℤ) (y : ℤ) (n : ℕ) → (negsuc 4095 +ℤ pos n) ≤ℤ y → y ≤ℤ pos 4094 → All (IsDotOf f) (rows_of f y n)
+rows_of-dots : (f : ℤ → ℤ → ℤ) (y : ℤ) (n : ℕ) → (negsuc 4095 +ℤ pos n) ≤ℤ y → y ≤ℤ last_in_field → All (IsDotOf f) (rows_of f y n)
 unfolding rows_of
 rows_of-dots f y zero bottom top = All-nil (IsDotOf f)
 rows_of-dots f y (suc n) bottom top =
-    All-append (IsDotOf f) (row_of f y (negsuc 4094) 8190) (rows_of f (y -ℤ pos 1) n)
-    (row_of-dots f y (negsuc 4094) 8190 (record { left = omega (arith, ints); right = omega (arith, ints); bottom = omega (arith, ints); top = top }))
+    All-append (IsDotOf f) (row_of f y least_coordinate 8190) (rows_of f (y -ℤ pos 1) n)
+    (row_of-dots f y least_coordinate 8190 (record { left = omega (arith, ints); right = omega (arith, ints); bottom = omega (arith, ints); top = top }))
     (rows_of-dots f (y -ℤ pos 1) n (omega (arith, ints)) (omega (arith, ints)))
 
 pub picture_of-dots : (f : ℤ → ℤ → ℤ) → All (IsDotOf f) (picture_of f)
 unfolding picture_of
-picture_of-dots f = rows_of-dots f (pos 4094) 8190 (omega (arith, ints)) (omega (arith, ints))
+picture_of-dots f = rows_of-dots f last_in_field 8190 (omega (arith, ints)) (omega (arith, ints))

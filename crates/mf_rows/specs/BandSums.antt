@@ -5,6 +5,8 @@ use Rattle.std.specs.Ordering.{int_eq}
 use Rattle.std.specs.Arc.{arc_value}
 use Rattle.std.specs.declared.alloc.Global.{Global}
 use Rattle.std.specs.declared.sync.Arc.{Arc}
+use Rattle.mf_geom.specs.Coordinates.{greatest_coordinate}
+use Rattle.mf_rows.specs.declared.bands.TheConstants.{BAND_HEIGHT}
 use Rattle.mf_rows.specs.declared.band.Band.{Band}
 use Rattle.mf_rows.specs.Bands.{AreAbove, AreBelow}
 use Rattle.mf_rows.specs.EdgeRows.{EdgeRow, AreRows}
@@ -12,7 +14,7 @@ use Rattle.mf_rows.specs.Sums.{HaveRowWeights, StayWithin, weight_in_all}
 
 -- the lowest row of band n of the field
 abbrev pub lowest_of : ℤ → ℤ
-lowest_of n = pos 4079 -ℤ (pos 16 *ℤ n)
+lowest_of n = (greatest_coordinate -ℤ BAND_HEIGHT) -ℤ (BAND_HEIGHT *ℤ n)
 
 -- rows that belong to bands up to band n
 abbrev pub AreUpTo : ℤ → List EdgeRow → Type 0

@@ -1,5 +1,7 @@
 -- Corners: each adds its weight to all pixels at or to the right of its column and below its height.
-use Rattle.std.specs.Prelude.{◌≡◌, ◌≤◌, ◌&&◌, ℤ, pos, negsuc, ◌+ℤ◌, ◌≤ℤ◌, int_le, int_lt, All, List, [], ◌∷◌, length, if◌then◌else◌}
+use Rattle.std.specs.Prelude.{◌≡◌, ◌≤◌, ◌*◌, ◌&&◌, ℤ, pos, negsuc, ◌+ℤ◌, ◌≤ℤ◌, int_le, int_lt, All, List, [], ◌∷◌, length, if◌then◌else◌}
+use Rattle.mf_geom.specs.Coordinates.{least_coordinate, greatest_coordinate}
+use Rattle.mf_geom.specs.Lawful.{most_points}
 use Rattle.mf_rows.specs.declared.corner.Corner.{Corner}
 use Rattle.mf_rows.specs.Dots.{Dot, weight_at}
 
@@ -12,21 +14,21 @@ unfoldable pub added_by_all : List Corner → ℤ → ℤ → ℤ
 added_by_all [] x y = pos 0
 added_by_all (k ∷ ks) x y = added_by k x y +ℤ added_by_all ks x y
 
--- a corner is a point in reach with a weight in -3..3
+-- a corner is a point in range with a weight in -3..3
 pub record IsCorner (k : Corner) : Type 0 where
-  pub left : negsuc 4094 ≤ℤ k.x
-  pub right : k.x ≤ℤ pos 4095
-  pub bottom : negsuc 4094 ≤ℤ k.y
-  pub top : k.y ≤ℤ pos 4095
+  pub left : least_coordinate ≤ℤ k.x
+  pub right : k.x ≤ℤ greatest_coordinate
+  pub bottom : least_coordinate ≤ℤ k.y
+  pub top : k.y ≤ℤ greatest_coordinate
   pub least : negsuc 2 ≤ℤ k.weight
   pub greatest : k.weight ≤ℤ pos 3
 
--- there are at most 8192 corners, and they add nothing to the right of the field (what they add below it is left out,
+-- there are at most two corners for each point of a cycle, and they add nothing to the right of the field (what they add below it is left out,
 -- as no pixel is there)
 pub record AreCorners (ks : List Corner) : Type 0 where
-  pub few : length ks ≤ 8192
+  pub few : length ks ≤ 2 * most_points
   pub corners : All IsCorner ks
-  pub closed : (y : ℤ) → added_by_all ks (pos 4095) y ≡ pos 0
+  pub closed : (y : ℤ) → added_by_all ks greatest_coordinate y ≡ pos 0
 
 -- the weight of the pixel (x, y) after corners are added to a picture
 unfoldable pub with_corners_at : List Dot → List Corner → ℤ → ℤ → ℤ

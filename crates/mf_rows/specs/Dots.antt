@@ -1,7 +1,8 @@
 -- Pictures as maps from pixels to weights (The METAFONTbook, chapter 13): the list of the pixels of nonzero weight in
 -- reading order, rows from the top down and columns from left to right.
-use Rattle.std.specs.Prelude.{◌≢◌, ◌&&◌, ℤ, pos, negsuc, ◌+ℤ◌, ◌-ℤ◌, ◌*ℤ◌, ◌≤ℤ◌, List, [], ◌∷◌, if◌then◌else◌}
+use Rattle.std.specs.Prelude.{◌≢◌, ◌&&◌, ℤ, pos, ◌+ℤ◌, ◌-ℤ◌, ◌*ℤ◌, ◌≤ℤ◌, List, [], ◌∷◌, if◌then◌else◌}
 use Rattle.std.specs.Ordering.{int_eq}
+use Rattle.mf_geom.specs.Coordinates.{least_coordinate, last_in_field, field_size}
 use Rattle.mf_geom.specs.Field.{IsInField}
 use Rattle.mf_edges.specs.LawfulWeights.{IsLawfulWeight}
 
@@ -17,9 +18,9 @@ pub record IsDot (d : Dot) : Type 0 where
   pub lawful : IsLawfulWeight d.weight
   pub nonzero : d.weight ≢ pos 0
 
--- the place of the pixel (x, y) in reading order: each row has 8190 pixels
+-- the place of the pixel (x, y) in reading order
 unfoldable pub place : ℤ → ℤ → ℤ
-place x y = x -ℤ (pos 8190 *ℤ y)
+place x y = x -ℤ (pos field_size *ℤ y)
 
 -- dots in reading order, the first of them at a place from low on
 abbrev pub AreDotsFrom : ℤ → List Dot → Type 0
@@ -28,7 +29,7 @@ AreDotsFrom low (d ∷ ds) = IsDot d × (low ≤ℤ place d.x d.y) × AreDotsFro
 
 -- the place of the first pixel of the field, at the left end of its top row
 unfoldable pub start_of_field : ℤ
-start_of_field = place (negsuc 4094) (pos 4094)
+start_of_field = place least_coordinate last_in_field
 
 -- a picture: lawful dots in reading order, none twice
 pub record IsPicture (ds : List Dot) : Type 0 where

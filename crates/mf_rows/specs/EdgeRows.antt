@@ -1,6 +1,7 @@
 -- Rows of edges, and the picture that they represent.
-use Rattle.std.specs.Prelude.{◌≢◌, ℤ, pos, negsuc, ◌+ℤ◌, ◌-ℤ◌, ◌≤ℤ◌, List, [], ◌∷◌, if◌then◌else◌}
+use Rattle.std.specs.Prelude.{◌≢◌, ℤ, pos, ◌+ℤ◌, ◌-ℤ◌, ◌≤ℤ◌, List, [], ◌∷◌, if◌then◌else◌}
 use Rattle.std.specs.Ordering.{int_eq}
+use Rattle.mf_geom.specs.Coordinates.{least_coordinate, last_in_field}
 use Rattle.mf_edges.specs.declared.edge.Edge.{Edge}
 use Rattle.mf_rows.specs.Dots.{Dot}
 use Rattle.mf_rows.specs.Weights.{picture_of}
@@ -13,8 +14,8 @@ pub record EdgeRow : Type 0 where
 
 -- a row of the field that is not blank
 pub record IsEdgeRow (r : EdgeRow) : Type 0 where
-  pub bottom : negsuc 4094 ≤ℤ r.y
-  pub top : r.y ≤ℤ pos 4094
+  pub bottom : least_coordinate ≤ℤ r.y
+  pub top : r.y ≤ℤ last_in_field
   pub some : r.edges ≢ []
   pub edges : AreEdges r.edges
 
@@ -25,7 +26,7 @@ AreRowsFrom top (r ∷ rs) = IsEdgeRow r × (r.y ≤ℤ top) × AreRowsFrom (r.y
 
 -- the rows of a picture
 pub record AreRows (rs : List EdgeRow) : Type 0 where
-  pub rows : AreRowsFrom (pos 4094) rs
+  pub rows : AreRowsFrom last_in_field rs
 
 -- the weight of the pixel (x, y): the sum of the edges of its row at or to the left of its column
 unfoldable pub weight_in_rows : List EdgeRow → ℤ → ℤ → ℤ

@@ -1,12 +1,14 @@
--- The bands of the field: 16 rows each, counted from 0 at the top.
-use Rattle.std.specs.Prelude.{ℤ, pos, ◌+ℤ◌, ◌*ℤ◌, ◌≤ℤ◌, All, List}
+-- The bands of the field, counted from 0 at the top.
+use Rattle.std.specs.Prelude.{ℤ, ◌+ℤ◌, ◌-ℤ◌, ◌*ℤ◌, ◌≤ℤ◌, All, List}
 use Rattle.std.proofs.Props.{props}
+use Rattle.mf_geom.specs.Coordinates.{greatest_coordinate, last_in_field}
+use Rattle.mf_rows.specs.declared.bands.TheConstants.{BAND_HEIGHT}
 use Rattle.mf_rows.specs.declared.row.Row.{Row}
 
 -- row y belongs to band n
 pub record IsOfBand (n y : ℤ) : Type 0 where
-  pub top : (y +ℤ (pos 16 *ℤ n)) ≤ℤ pos 4094
-  pub bottom : pos 4079 ≤ℤ (y +ℤ (pos 16 *ℤ n))
+  pub top : (y +ℤ (BAND_HEIGHT *ℤ n)) ≤ℤ last_in_field
+  pub bottom : (greatest_coordinate -ℤ BAND_HEIGHT) ≤ℤ (y +ℤ (BAND_HEIGHT *ℤ n))
 
 -- rows of band n
 abbrev pub AreOfBand : ℤ → List Row → Type 0

@@ -1,5 +1,6 @@
 -- Which runs may be pushed after the dots that are there.
-use Rattle.std.specs.Prelude.{◌≢◌, ◌≤◌, pos, negsuc, ◌+ℤ◌, ◌<ℤ◌, ◌≤ℤ◌, All, List}
+use Rattle.std.specs.Prelude.{◌≢◌, ◌≤◌, pos, ◌+ℤ◌, ◌<ℤ◌, ◌≤ℤ◌, All, List}
+use Rattle.mf_geom.specs.Coordinates.{least_coordinate, greatest_coordinate, last_in_field}
 use Rattle.mf_rows.specs.declared.run.Run.{Run}
 use Rattle.mf_edges.specs.LawfulWeights.{IsLawfulWeight}
 use Rattle.mf_rows.specs.Dots.{Dot, place}
@@ -7,10 +8,10 @@ use Rattle.mf_rows.specs.Dots.{Dot, place}
 -- a run has at least one pixel, lies in the field, and has a lawful weight that is not 0
 pub record IsRun (r : Run) : Type 0 where
   pub some : 1 ≤ r.len
-  pub left : negsuc 4094 ≤ℤ r.x
-  pub right : (r.x +ℤ pos r.len) ≤ℤ pos 4095
-  pub bottom : negsuc 4094 ≤ℤ r.y
-  pub top : r.y ≤ℤ pos 4094
+  pub left : least_coordinate ≤ℤ r.x
+  pub right : (r.x +ℤ pos r.len) ≤ℤ greatest_coordinate
+  pub bottom : least_coordinate ≤ℤ r.y
+  pub top : r.y ≤ℤ last_in_field
   pub lawful : IsLawfulWeight r.weight
   pub nonzero : r.weight ≢ pos 0
 

@@ -2,6 +2,7 @@
 use Rattle.std.specs.Prelude.{◌≡◌, ℤ, pos, ◌+ℤ◌, ◌++◌, All, List, [], ◌∷◌}
 use Rattle.std.specs.Coded.{Unit-prop}
 use Rattle.std.proofs.Props.{props}
+use Rattle.mf_geom.specs.Coordinates.{greatest_coordinate}
 use Rattle.mf_edges.specs.declared.edge.Edge.{Edge}
 use Rattle.mf_rows.specs.declared.rows.Rows.{Rows}
 use Rattle.mf_rows.specs.Bands.{edge_rows, rows_of_bands}
@@ -13,11 +14,11 @@ use Rattle.mf_rows.specs.EdgeRows.{EdgeRow, IsEdgeRow}
 pub record IsRestOfRow (low w : ℤ) (es : List Edge) : Type 0 where
   pub sorted : AreEdgesFrom low es
   pub lawful : (x : ℤ) → IsLawfulWeight (w +ℤ weight_in es x)
-  pub closed : w +ℤ weight_in es (pos 4095) ≡ pos 0
+  pub closed : w +ℤ weight_in es greatest_coordinate ≡ pos 0
 
 -- the rows that are still to come
-abbrev pub rows_left : Rows → List EdgeRow
-rows_left r = edge_rows r.rows.now ++ rows_of_bands r.bands.now
+abbrev pub remaining_rows : Rows → List EdgeRow
+remaining_rows r = edge_rows r.rows.now ++ rows_of_bands r.bands.now
 
 -- rows of the field that are not blank
 abbrev pub AreEdgeRows : List EdgeRow → Type 0

@@ -1,13 +1,14 @@
 -- What a walk over the edges of a picture has left.
-use Rattle.std.specs.Prelude.{◌≡◌, ℤ, pos, negsuc, ◌+ℤ◌, ◌-ℤ◌, ◌≤ℤ◌, List, [], ◌∷◌, ◌++◌, flat_map, if◌then◌else◌}
+use Rattle.std.specs.Prelude.{◌≡◌, ℤ, pos, ◌+ℤ◌, ◌-ℤ◌, ◌≤ℤ◌, List, [], ◌∷◌, ◌++◌, flat_map, if◌then◌else◌}
 use Rattle.std.specs.Ordering.{int_eq}
 use Rattle.std.specs.Int.RustNames.{unsigned_abs}
+use Rattle.mf_geom.specs.Coordinates.{least_coordinate}
 use Rattle.mf_edges.specs.declared.edge.Edge.{Edge}
 use Rattle.mf_rows.specs.declared.run.Run.{Run}
 use Rattle.mf_rows.specs.declared.walk.Walk.{Walk}
 use Rattle.mf_edges.specs.Edges.{AreEdgesFrom}
 use Rattle.mf_rows.specs.EdgeRows.{EdgeRow}
-use Rattle.mf_rows.specs.Rest.{rows_left}
+use Rattle.mf_rows.specs.Rest.{remaining_rows}
 
 -- the run of row y from column x, where the weight is w, up to the first of these edges; no run where w is 0
 abbrev pub run_up_to : ℤ → ℤ → ℤ → List Edge → List Run
@@ -25,11 +26,11 @@ abbrev pub runs_of_rows : List EdgeRow → List Run
 runs_of_rows rs = flat_map (λ r. runs_of_edges r.y (pos 0) r.edges) rs
 
 -- the runs that are still to come
-abbrev pub runs_left : Walk → List Run
-runs_left r = runs_of_edges r.y r.weight r.edges.now ++ runs_of_rows (rows_left r.rows)
+abbrev pub remaining_runs : Walk → List Run
+remaining_runs r = runs_of_edges r.y r.weight r.edges.now ++ runs_of_rows (remaining_rows r.rows)
 
 -- an edge at column x was taken from s, which left t: a run up to the next edge begins there, unless the weight is 0
 pub record IsEdgeTaken (s : Walk) (x : ℤ) (t : Walk) : Type 0 where
-  pub left : runs_left s ≡ run_up_to t.y x t.weight t.edges.now ++ runs_left t
-  pub column : negsuc 4094 ≤ℤ x
+  pub left : remaining_runs s ≡ run_up_to t.y x t.weight t.edges.now ++ remaining_runs t
+  pub column : least_coordinate ≤ℤ x
   pub behind : AreEdgesFrom (x +ℤ pos 1) t.edges.now

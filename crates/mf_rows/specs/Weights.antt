@@ -1,6 +1,7 @@
 -- The picture that has given weights.
-use Rattle.std.specs.Prelude.{◌≡◌, ℕ, zero, suc, ℤ, pos, negsuc, ◌+ℤ◌, ◌-ℤ◌, List, [], ◌∷◌, ◌++◌, if◌then◌else◌}
+use Rattle.std.specs.Prelude.{◌≡◌, ℕ, zero, suc, ℤ, pos, ◌+ℤ◌, ◌-ℤ◌, List, [], ◌∷◌, ◌++◌, if◌then◌else◌}
 use Rattle.std.specs.Ordering.{int_eq}
+use Rattle.mf_geom.specs.Coordinates.{least_coordinate, last_in_field, field_size}
 use Rattle.mf_geom.specs.Field.{IsInField}
 use Rattle.mf_rows.specs.Dots.{Dot, weight_at}
 
@@ -12,11 +13,11 @@ row_of f y x (suc n) = if int_eq (f x y) (pos 0) then row_of f y (x +ℤ pos 1) 
 -- the pixels at which f is not 0, in the n rows from y downwards and all columns of the field
 unfoldable pub rows_of : (ℤ → ℤ → ℤ) → ℤ → ℕ → List Dot
 rows_of f y zero = []
-rows_of f y (suc n) = row_of f y (negsuc 4094) 8190 ++ rows_of f (y -ℤ pos 1) n
+rows_of f y (suc n) = row_of f y least_coordinate field_size ++ rows_of f (y -ℤ pos 1) n
 
 -- the picture whose weight at each pixel (x, y) of the field is f x y
 unfoldable pub picture_of : (ℤ → ℤ → ℤ) → List Dot
-picture_of f = rows_of f (pos 4094) 8190
+picture_of f = rows_of f last_in_field field_size
 
 -- two pictures have the same weight at each pixel of the field
 pub record HaveSameWeights (ds es : List Dot) : Type 0 where

@@ -27,7 +27,8 @@ pub(crate) fn add_bands(
     ensures weights { OnOk result (HaveRowWeights (weight_in_all (rows_of_bands bands.old.items) (rows_of_bands added.now)) (rows_of_bands bands.new.items)) }
     ensures unchanged { OnErr result (bands.new.items ≡ bands.old.items) }
     ensures none { added.now ≡ [] → IsOk result }
-    ensures too_large { IfErr result (λ fault. fault ≢ AddFault.OutOfMemory → IsUnlawfulSomewhere (weight_in_all (rows_of_bands bands.old.items) (rows_of_bands added.now))) }
+    ensures too_large { IfErr result (λ fault. fault ≢ AddFault.OutOfMemory
+        → IsUnlawfulSomewhere (weight_in_all (rows_of_bands bands.old.items) (rows_of_bands added.now))) }
 {
     let (Some(first), Some(last)) = (added.first(), added.last()) else {
         return Ok(());
@@ -53,7 +54,8 @@ pub(crate) fn sum_of_bands(
     requires right { AreRows (rows_of_bands right.now) }
     ensures rows { IfOk result (λ sum. AreRows (rows_of_bands sum.items)) }
     ensures weights { IfOk result (λ sum. HaveRowWeights (weight_in_all (rows_of_bands left.now) (rows_of_bands right.now)) (rows_of_bands sum.items)) }
-    ensures too_large { IfErr result (λ fault. fault ≢ AddFault.OutOfMemory → IsUnlawfulSomewhere (weight_in_all (rows_of_bands left.now) (rows_of_bands right.now))) }
+    ensures too_large { IfErr result (λ fault. fault ≢ AddFault.OutOfMemory
+        → IsUnlawfulSomewhere (weight_in_all (rows_of_bands left.now) (rows_of_bands right.now))) }
 {
     let mut sum = Vec::new(alloc);
     let (mut left, mut right) = (left, right);
@@ -92,7 +94,8 @@ fn push_sum(
     requires left { AreRows (rows_of_bands left.now) }
     requires right { AreRows (rows_of_bands right.now) }
     ensures pushed { OnOk result (HasSum (rows_of_bands sum.old.items) (rows_of_bands left.now) (rows_of_bands right.now) (rows_of_bands sum.new.items)) }
-    ensures too_large { IfErr result (λ fault. fault ≢ AddFault.OutOfMemory → IsUnlawfulSomewhere (weight_in_all (rows_of_bands left.now) (rows_of_bands right.now))) }
+    ensures too_large { IfErr result (λ fault. fault ≢ AddFault.OutOfMemory
+        → IsUnlawfulSomewhere (weight_in_all (rows_of_bands left.now) (rows_of_bands right.now))) }
 {
     if left.is_empty() {
         return Ok(push_shared(sum, right)?);
@@ -119,7 +122,8 @@ fn push_sum_of_rows(
     requires left { AreRows (rows_of_bands left.now) }
     requires right { AreRows (rows_of_bands right.now) }
     ensures pushed { OnOk result (HasSum (rows_of_bands sum.old.items) (rows_of_bands left.now) (rows_of_bands right.now) (rows_of_bands sum.new.items)) }
-    ensures too_large { IfErr result (λ fault. fault ≢ AddFault.OutOfMemory → IsUnlawfulSomewhere (weight_in_all (rows_of_bands left.now) (rows_of_bands right.now))) }
+    ensures too_large { IfErr result (λ fault. fault ≢ AddFault.OutOfMemory
+        → IsUnlawfulSomewhere (weight_in_all (rows_of_bands left.now) (rows_of_bands right.now))) }
 {
     let (left, right) = (rows_of(alloc, left)?, rows_of(alloc, right)?);
     let rows = sum_of_rows(alloc, &left, &right)?;

@@ -1,6 +1,7 @@
 //! Lists of bands: an operation makes new bands where it changes something, and shares the others.
-ghost use Rattle.std.specs.Prelude.{◌≡◌, [], ◌++◌, ◌≤◌, pos, negsuc, IsNone, IsOk, IfSome, IfOk, OnOk, ◌≤ℤ◌, length, take, drop, All};
+ghost use Rattle.std.specs.Prelude.{◌≡◌, [], ◌++◌, ◌≤◌, IsNone, IsOk, IfSome, IfOk, OnOk, ◌≤ℤ◌, length, take, drop, All};
 ghost use Rattle.std.specs.Arc.{arc_value};
+ghost use Rattle.mf_geom.specs.Coordinates.{least_coordinate, last_in_field};
 ghost use Rattle.mf_rows.specs.Bands.{bottom_of, edge_row, edge_rows, rows_in, rows_of_bands, HasRow, HasNoRow, HasSameRow, AreAbove};
 ghost use Rattle.mf_rows.specs.BandSums.{AreUpTo, AreBehind, AreNumberedBehind};
 ghost use Rattle.mf_rows.specs.EdgeRows.{AreRows};
@@ -8,8 +9,8 @@ ghost use Rattle.mf_rows.specs.FieldBands.{IsOfBand, AreOfBand};
 
 use crate::band::Band;
 use crate::row::Row;
+use mf_base::OutOfMemory;
 use mf_edges::FIELD_END;
-use mf_geom::OutOfMemory;
 use std::alloc::Global;
 use std::mem::replace;
 use std::sync::Arc;
@@ -158,8 +159,8 @@ pub(crate) fn close_band(
 
 /// The number of the band of the field to which row y belongs.
 fn band_of(y: i32) -> i32
-    requires bottom { negsuc 4094 ≤ℤ y }
-    requires top { y ≤ℤ pos 4094 }
+    requires bottom { least_coordinate ≤ℤ y }
+    requires top { y ≤ℤ last_in_field }
     ensures { IsOfBand result y }
 {
     (FIELD_END - 1 - y) / BAND_HEIGHT

@@ -13,8 +13,8 @@ ghost use Rattle.mf_rows.specs.Runs.{dots_of};
 use crate::picture::Picture;
 use crate::row::Row;
 use crate::run::Run;
+use mf_base::OutOfMemory;
 use mf_edges::{Edge, add_edge};
-use mf_geom::OutOfMemory;
 use std::alloc::Global;
 use std::marker::Model;
 

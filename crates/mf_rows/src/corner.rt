@@ -1,5 +1,6 @@
 //! Corners, and the rows that they make.
-ghost use Rattle.std.specs.Prelude.{◌≡◌, ◌+◌, ◌<◌, IfOk, OnOk, pos, negsuc, ◌≤ℤ◌, ◌<ℤ◌, drop, length};
+ghost use Rattle.std.specs.Prelude.{◌≡◌, ◌+◌, ◌<◌, IfOk, OnOk, ◌≤ℤ◌, ◌<ℤ◌, drop, length};
+ghost use Rattle.mf_geom.specs.Coordinates.{least_coordinate, greatest_coordinate};
 ghost use Rattle.mf_rows.specs.Bands.{edge_rows};
 ghost use Rattle.mf_rows.specs.Corners.{AreCorners, added_by_all};
 ghost use Rattle.mf_edges.specs.Edges.{AreEdges};
@@ -8,8 +9,8 @@ ghost use Rattle.mf_rows.specs.Strips.{first_height_of, ReachDownTo, HasStrip};
 ghost use Rattle.mf_rows.specs.Sums.{HaveFieldWeights};
 
 use crate::row::Row;
+use mf_base::OutOfMemory;
 use mf_edges::{Edge, FIELD_START, add_edge};
-use mf_geom::OutOfMemory;
 use std::alloc::Global;
 use std::cmp::Reverse;
 
@@ -63,9 +64,9 @@ fn push_strip(
     bottom: i32,
     top: i32,
 ) -> Result<(), OutOfMemory>
-    requires bottom { negsuc 4094 ≤ℤ bottom }
+    requires bottom { least_coordinate ≤ℤ bottom }
     requires order { bottom ≤ℤ top }
-    requires top { top ≤ℤ pos 4095 }
+    requires top { top ≤ℤ greatest_coordinate }
     requires edges { bottom <ℤ top → AreEdges edges.now }
     requires rows { ReachDownTo top (edge_rows rows.old.items) }
     ensures { OnOk result (HasStrip (edge_rows rows.old.items) edges.now bottom top (edge_rows rows.new.items)) }

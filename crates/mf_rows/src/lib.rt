@@ -22,8 +22,6 @@ mod walk;
 pub use bounds::Box4;
 pub use builder::RowBuilder;
 pub use corner::Corner;
-pub use mf_edges::{AddFault, Choice, MAX_WEIGHT, Stretch, WeightMap};
-pub use mf_geom::OutOfMemory;
 pub use picture::Picture;
 pub use run::Run;
 pub use runs::Runs;

@@ -14,8 +14,8 @@ use crate::row_move::{mirrored_rows, stretched_rows};
 use crate::run::Run;
 use crate::runs::Runs;
 use crate::turn::turned_rows;
+use mf_base::OutOfMemory;
 use mf_edges::{AddFault, RowChange, Stretch, WeightMap, weight_at_column};
-use mf_geom::OutOfMemory;
 use std::alloc::Global;
 use std::marker::Model;
 use std::sync::Arc;
@@ -45,7 +45,6 @@ impl Model for Picture {
 }
 
 impl Picture {
-    ghost use Rattle.mf_rows.specs.Bands.{rows_of_bands};
     ghost use Rattle.mf_rows.specs.Bounds.{IsLeastBox};
     ghost use Rattle.mf_rows.specs.Corners.{AreCorners, with_corners_at};
     ghost use Rattle.mf_rows.specs.Dots.{IsPicture, weight_at, total_of};
@@ -243,23 +242,10 @@ impl Picture {
         Picture::from_rows(alloc, turned_rows(alloc, &rows)?)
     }
 
-    /// The picture with corners added to it; this one is unchanged. It shares the bands that no corner reaches.
-    /// Requires at most 8192 corners, with coordinates in -4095..=4095 and weights in -3..=3, which together add
-    /// nothing to the right of the field; what they add below the field is left out. Refused with `WeightTooLarge`
-    /// where a weight would exceed 32767 in absolute value, and with `OutOfMemory` where an allocation fails.
-    pub fn with_corners(&self, alloc: Global, corners: Vec<Corner>) -> Result<Picture, AddFault>
-        requires { AreCorners corners.items }
-        ensures weights { IfOk result (HasWeights (with_corners_at self.now corners.items)) }
-        ensures lawful { IfOk result IsPicture }
-        ensures too_large { IfErr result (λ fault. fault ≢ AddFault.OutOfMemory → IsUnlawfulSomewhere (with_corners_at self.now corners.items)) }
-    {
-        let mut new = self.copy(alloc)?;
-        new.add_corners(alloc, corners)?;
-        Ok(new)
-    }
-
-    /// Adds corners to the picture, with the requirements of `with_corners`. Bands that no corner reaches stay as they
-    /// are. Refused with `WeightTooLarge` and `OutOfMemory`, as there; a refusal leaves the picture as it was.
+    /// Adds corners to the picture. Bands that no corner reaches stay as they are. Requires at most 8192 corners, with
+    /// coordinates in -4095..=4095 and weights in -3..=3, which together add nothing to the right of the field; what
+    /// they add below the field is left out. Refused with `WeightTooLarge` where a weight would exceed 32767 in absolute
+    /// value, and with `OutOfMemory` where an allocation fails; a refusal leaves the picture as it was.
     pub fn add_corners(&mut self, alloc: Global, corners: Vec<Corner>) -> Result<(), AddFault>
         requires { AreCorners corners.items }
         ensures weights { OnOk result (HasWeights (with_corners_at self.old corners.items) self.new) }

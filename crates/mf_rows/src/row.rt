@@ -5,7 +5,7 @@ ghost use Rattle.mf_edges.specs.Reaches.{HasReach, HasReach-prop};
 use mf_edges::Edge;
 use std::sync::Arc;
 
-mod steps;
+mod sharing;
 
 /// A row of a picture. Its edges are never written once it is made, so rows and pictures share them. A row that changes
 /// is made anew, since published pictures and registers may share the old one, and a refused operation must leave it as

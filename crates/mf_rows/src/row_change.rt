@@ -1,17 +1,16 @@
 //! Changes that take each row by itself.
-ghost use Rattle.std.specs.Prelude.{◌≡◌, ◌++◌, ◌≢◌, [], IfOk, OnOk};
+ghost use Rattle.std.specs.Prelude.{◌≡◌, ◌++◌, IfOk, OnOk};
 ghost use Rattle.mf_rows.specs.Bands.{edge_row, edge_rows};
 ghost use Rattle.mf_rows.specs.BlankRows.{unless_blank};
-ghost use Rattle.mf_edges.specs.Edges.{AreEdges};
 ghost use Rattle.mf_rows.specs.EdgeRows.{AreRows};
 ghost use Rattle.mf_edges.specs.Axes.{IsStretch};
-ghost use Rattle.mf_edges.specs.RowChanges.{EdgesAllowChange, AreChanged, IsRowChange};
+ghost use Rattle.mf_edges.specs.RowChanges.{IsRowChange};
 ghost use Rattle.mf_rows.specs.RowChanges.{RowsAllowChange, changed_in_rows};
 ghost use Rattle.mf_rows.specs.Sums.{HaveRowWeights};
 
 use crate::row::Row;
+use mf_base::OutOfMemory;
 use mf_edges::{Edge, RowChange, Stretch, changed_edges};
-use mf_geom::OutOfMemory;
 use std::alloc::Global;
 
 /// The rows after a change, without those that become blank. Neighbours with the same edges are worked out once, and
@@ -52,7 +51,8 @@ pub(crate) fn with_columns_stretched(
     requires stretch { IsStretch stretch.now }
     requires allowed { RowsAllowChange (RowChange.Columns stretch.now) (edge_rows rows.items) }
     ensures rows { IfOk result (λ changed. AreRows (edge_rows changed.items)) }
-    ensures weights { IfOk result (λ changed. HaveRowWeights (changed_in_rows (RowChange.Columns stretch.now) (edge_rows rows.items)) (edge_rows changed.items)) }
+    ensures weights { IfOk result
+        (λ changed. HaveRowWeights (changed_in_rows (RowChange.Columns stretch.now) (edge_rows rows.items)) (edge_rows changed.items)) }
 {
     if stretch.factor == 1 && stretch.offset == 0 {
         return Ok(rows);

@@ -1,15 +1,16 @@
 //! Rows that move to other heights.
-ghost use Rattle.std.specs.Prelude.{◌≡◌, IfOk, OnOk, pos, negsuc, ◌≤ℤ◌};
+ghost use Rattle.std.specs.Prelude.{IfOk, OnOk, ◌≤ℤ◌};
+ghost use Rattle.mf_geom.specs.Coordinates.{least_coordinate, last_in_field};
 ghost use Rattle.mf_rows.specs.Bands.{edge_row, edge_rows};
 ghost use Rattle.mf_rows.specs.EdgeRows.{AreRows};
-ghost use Rattle.mf_edges.specs.Axes.{IsStretch, PlaceStaysInside, stretched_to};
+ghost use Rattle.mf_edges.specs.Axes.{IsStretch, PlaceStaysInside};
 ghost use Rattle.mf_rows.specs.RowChanges.{AllowStretch, mirrored_in_rows, stretched_in_rows};
 ghost use Rattle.mf_rows.specs.RowMoves.{HasStretched};
 ghost use Rattle.mf_rows.specs.Sums.{HaveRowWeights};
 
 use crate::row::Row;
+use mf_base::OutOfMemory;
 use mf_edges::Stretch;
-use mf_geom::OutOfMemory;
 use std::alloc::Global;
 
 /// The reflected rows: row y becomes row -y - 1. They share their edges with the old ones.
@@ -48,8 +49,8 @@ pub(crate) fn stretched_rows(
 /// Appends the rows that a row becomes, from the top down.
 fn push_stretched(rows: &mut Vec<Row>, row: &Row, stretch: &Stretch) -> Result<(), OutOfMemory>
     requires stretch { IsStretch stretch.now }
-    requires bottom { negsuc 4094 ≤ℤ row.now.y }
-    requires top { row.now.y ≤ℤ pos 4094 }
+    requires bottom { least_coordinate ≤ℤ row.now.y }
+    requires top { row.now.y ≤ℤ last_in_field }
     requires allowed { PlaceStaysInside stretch.now row.now.y }
     ensures { OnOk result (HasStretched (edge_rows rows.old.items) (edge_row row.now) stretch.now (edge_rows rows.new.items)) }
 {

@@ -14,8 +14,8 @@ use mf_edges::{AddFault, Edge, MAX_WEIGHT, sum_of_edges, with_changes};
 use std::alloc::Global;
 
 /// A row of at most this many edges is added to another by binary search, without looking at the weights between the
-/// other's edges, where the reaches of both leave room. With more edges, or with no room, the rows are merged and all
-/// weights are checked.
+/// other's edges, where the reaches of both leave room: a contour changes a row at few places, so it costs about a copy
+/// of the row. With more edges, or with no room, the rows are merged and all weights are checked.
 const FEW_EDGES: usize = 8;
 
 /// The rows of the sum of two lists. Rows that only one list has are shared. Refused with `WeightTooLarge` where a
@@ -64,7 +64,8 @@ fn push_sum(
     requires left { IsRowAt right.now.y (row_found left) }
     requires right { IsRowAt right.now.y (edge_row right.now ∷ []) }
     ensures pushed { OnOk result (HasRowSum (edge_rows sum.old.items) right.now.y (row_found left.entry) (edge_row right.now ∷ []) (edge_rows sum.new.items)) }
-    ensures too_large { IfErr result (λ fault. fault ≢ AddFault.OutOfMemory → IsUnlawfulInRow (weight_in_all (row_found left.entry) (edge_row right.now ∷ [])) right.now.y) }
+    ensures too_large { IfErr result (λ fault. fault ≢ AddFault.OutOfMemory
+        → IsUnlawfulInRow (weight_in_all (row_found left.entry) (edge_row right.now ∷ [])) right.now.y) }
 {
     match left {
         Some(left) => push_sum_of_both(alloc, sum, left, right),
@@ -81,8 +82,10 @@ fn push_sum_of_both(
 ) -> Result<(), AddFault>
     requires left { IsRowAt right.now.y (edge_row left.now ∷ []) }
     requires right { IsRowAt right.now.y (edge_row right.now ∷ []) }
-    ensures pushed { OnOk result (HasRowSum (edge_rows sum.old.items) right.now.y (edge_row left.now ∷ []) (edge_row right.now ∷ []) (edge_rows sum.new.items)) }
-    ensures too_large { IfErr result (λ fault. fault ≢ AddFault.OutOfMemory → IsUnlawfulInRow (weight_in_all (edge_row left.now ∷ []) (edge_row right.now ∷ [])) right.now.y) }
+    ensures pushed { OnOk result
+        (HasRowSum (edge_rows sum.old.items) right.now.y (edge_row left.now ∷ []) (edge_row right.now ∷ []) (edge_rows sum.new.items)) }
+    ensures too_large { IfErr result (λ fault. fault ≢ AddFault.OutOfMemory
+        → IsUnlawfulInRow (weight_in_all (edge_row left.now ∷ []) (edge_row right.now ∷ [])) right.now.y) }
 {
     let (edges, reach) = sum_of_both(alloc, left, right)?;
     if edges.is_empty() {
@@ -101,7 +104,8 @@ fn sum_of_both(alloc: Global, left: &Row, right: &Row) -> Result<(Vec<Edge>, Opt
     ensures edges { IfOk result (λ sum. AreEdges sum.0.items) }
     ensures weights { IfOk result (λ sum. HaveWeights (weight_in_both (edge_row left.now).edges (edge_row right.now).edges) sum.0.items) }
     ensures reach { IfOk result (λ sum. HasReach sum.1 sum.0.items) }
-    ensures too_large { IfErr result (λ fault. fault ≢ AddFault.OutOfMemory → IsUnlawfulColumn (weight_in_both (edge_row left.now).edges (edge_row right.now).edges)) }
+    ensures too_large { IfErr result (λ fault. fault ≢ AddFault.OutOfMemory
+        → IsUnlawfulColumn (weight_in_both (edge_row left.now).edges (edge_row right.now).edges)) }
 {
     if right.edges().len() <= FEW_EDGES {
         let reach = left.reach() + right.reach();

@@ -15,11 +15,11 @@ pub(crate) struct Rows<'a> {
 }
 
 impl<'a> Rows<'a> {
-    ghost use Rattle.mf_rows.specs.Rest.{rows_left};
+    ghost use Rattle.mf_rows.specs.Rest.{remaining_rows};
 
     /// The rows of these bands.
     pub(crate) fn over(bands: &'a [Arc<Band>]) -> Rows<'a>
-        ensures { rows_left result ≡ rows_of_bands bands.now }
+        ensures { remaining_rows result ≡ rows_of_bands bands.now }
     {
         Rows { rows: &[], bands }
     }
@@ -29,11 +29,11 @@ impl<'a> Iterator for Rows<'a> {
     type Item = &'a Row;
 
     ghost use Rattle.std.specs.Iterator.{YieldsFirstBy, item_count};
-    ghost use Rattle.mf_rows.specs.Rest.{rows_left};
+    ghost use Rattle.mf_rows.specs.Rest.{remaining_rows};
 
-    ghost next_gives = { YieldsFirstBy (λ row. edge_row row.now) rows_left };
+    ghost next_gives = { YieldsFirstBy (λ row. edge_row row.now) remaining_rows };
 
-    ghost remaining = { item_count rows_left };
+    ghost remaining = { item_count remaining_rows };
 
     fn next(&mut self) -> Option<&'a Row> {
         match self.rows.split_first() {

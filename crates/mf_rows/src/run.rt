@@ -1,5 +1,6 @@
 //! Runs of pixels.
-ghost use Rattle.std.specs.Prelude.{◌≡◌, ◌≢◌, ◌↔◌, IsTrue, pos, negsuc, ◌+ℤ◌, ◌-ℤ◌, ◌≤ℤ◌};
+ghost use Rattle.std.specs.Prelude.{◌≡◌, ◌≢◌, ◌↔◌, IsTrue, pos, ◌+ℤ◌, ◌-ℤ◌, ◌≤ℤ◌};
+ghost use Rattle.mf_geom.specs.Coordinates.{least_coordinate, greatest_coordinate, last_in_field};
 ghost use Rattle.mf_edges.specs.LawfulWeights.{IsLawfulWeight};
 ghost use Rattle.mf_rows.specs.Dots.{total_of};
 ghost use Rattle.mf_rows.specs.Order.{IsRun};
@@ -72,14 +73,14 @@ impl Run {
 
     /// Whether all its columns lie in the field.
     fn lies_in_columns(&self) -> bool
-        ensures { IsTrue result ↔ ((negsuc 4094 ≤ℤ self.now.x) × ((self.now.x +ℤ pos self.now.len) ≤ℤ pos 4095)) }
+        ensures { IsTrue result ↔ ((least_coordinate ≤ℤ self.now.x) × ((self.now.x +ℤ pos self.now.len) ≤ℤ greatest_coordinate)) }
     {
         FIELD_START <= self.x && i64::from(self.x) + i64::from(self.len) <= i64::from(FIELD_END)
     }
 
     /// Whether its row lies in the field.
     fn lies_in_rows(&self) -> bool
-        ensures { IsTrue result ↔ ((negsuc 4094 ≤ℤ self.now.y) × (self.now.y ≤ℤ pos 4094)) }
+        ensures { IsTrue result ↔ ((least_coordinate ≤ℤ self.now.y) × (self.now.y ≤ℤ last_in_field)) }
     {
         FIELD_START <= self.y && self.y < FIELD_END
     }

@@ -21,9 +21,9 @@ impl<'a> Model for Runs<'a> {
 
     ghost Value = { List Run };
 
-    ghost use Rattle.mf_rows.specs.Walk.{runs_left};
+    ghost use Rattle.mf_rows.specs.Walk.{remaining_runs};
 
-    ghost view = { λ runs. runs_left runs.walk };
+    ghost view = { λ runs. remaining_runs runs.walk };
 }
 
 impl<'a> Runs<'a> {

@@ -1,8 +1,9 @@
 //! The walk over the edges of a picture, which meets its runs one after another.
-ghost use Rattle.std.specs.Prelude.{◌≡◌, ◌≢◌, [], IfNone, IfSome, pos, negsuc};
+ghost use Rattle.std.specs.Prelude.{◌≡◌, ◌≢◌, [], IfNone, IfSome, pos};
+ghost use Rattle.mf_geom.specs.Coordinates.{least_coordinate};
 ghost use Rattle.mf_rows.specs.Bands.{rows_of_bands};
 ghost use Rattle.mf_rows.specs.EdgeRows.{AreRows, picture_of_rows};
-ghost use Rattle.mf_rows.specs.Rest.{rows_left, IsRestOfRow, IsRestOfRow-prop, AreEdgeRows, AreEdgeRows-prop};
+ghost use Rattle.mf_rows.specs.Rest.{remaining_rows, IsRestOfRow, IsRestOfRow-prop, AreEdgeRows, AreEdgeRows-prop};
 
 use crate::band::Band;
 use crate::rows::Rows;
@@ -20,18 +21,18 @@ pub(crate) struct Walk<'a> {
     edges: &'a [Edge],
     y: i32,
     weight: i32,
-    ghost rest: { IsRestOfRow (negsuc 4094) weight edges.now } by { IsRestOfRow-prop (negsuc 4094) weight edges.now },
-    ghost others: { AreEdgeRows (rows_left rows) } by { AreEdgeRows-prop (rows_left rows) },
+    ghost rest: { IsRestOfRow least_coordinate weight edges.now } by { IsRestOfRow-prop least_coordinate weight edges.now },
+    ghost others: { AreEdgeRows (remaining_rows rows) } by { AreEdgeRows-prop (remaining_rows rows) },
 }
 
 impl<'a> Walk<'a> {
     ghost use Rattle.mf_rows.specs.Runs.{runs_of};
-    ghost use Rattle.mf_rows.specs.Walk.{runs_left, IsEdgeTaken};
+    ghost use Rattle.mf_rows.specs.Walk.{remaining_runs, IsEdgeTaken};
 
     /// The walk over these bands.
     pub(crate) fn over(bands: &'a [Arc<Band>]) -> Walk<'a>
         requires { AreRows (rows_of_bands bands.now) }
-        ensures { runs_left result ≡ runs_of (picture_of_rows (rows_of_bands bands.now)) }
+        ensures { remaining_runs result ≡ runs_of (picture_of_rows (rows_of_bands bands.now)) }
     {
         Walk {
             rows: Rows::over(bands),
@@ -45,7 +46,7 @@ impl<'a> Walk<'a> {
     fn next_start(&mut self) -> Option<i32>
         ensures start { IfSome result (λ x. IsEdgeTaken self.old x self.new) }
         ensures nonzero { IfSome result (λ _. self.new.weight ≢ pos 0) }
-        ensures none { IfNone result ((runs_left self.old ≡ []) × (runs_left self.new ≡ [])) }
+        ensures none { IfNone result ((remaining_runs self.old ≡ []) × (remaining_runs self.new ≡ [])) }
     {
         let x = self.next_edge()?;
         if self.weight != 0 {
@@ -58,7 +59,7 @@ impl<'a> Walk<'a> {
     fn next_edge(&mut self) -> Option<i32>
         ensures edge { IfSome result (λ x. IsEdgeTaken self.old x self.new) }
         ensures changed { IfSome result (λ _. self.new.weight ≢ self.old.weight) }
-        ensures none { IfNone result ((runs_left self.old ≡ []) × (runs_left self.new ≡ [])) }
+        ensures none { IfNone result ((remaining_runs self.old ≡ []) × (remaining_runs self.new ≡ [])) }
     {
         self.enter_row();
         let (edge, edges) = self.edges.split_first()?;
@@ -69,8 +70,8 @@ impl<'a> Walk<'a> {
 
     /// Enters the next row where no edge of this one is left.
     fn enter_row(&mut self)
-        ensures left { runs_left self.new ≡ runs_left self.old }
-        ensures over { self.new.edges.now ≡ [] → runs_left self.new ≡ [] }
+        ensures left { remaining_runs self.new ≡ remaining_runs self.old }
+        ensures over { self.new.edges.now ≡ [] → remaining_runs self.new ≡ [] }
         ensures weight { self.new.weight ≡ self.old.weight }
     {
         if !self.edges.is_empty() {
@@ -87,11 +88,11 @@ impl Iterator for Walk<'_> {
     type Item = Run;
 
     ghost use Rattle.std.specs.Iterator.{YieldsFirst, item_count};
-    ghost use Rattle.mf_rows.specs.Walk.{runs_left};
+    ghost use Rattle.mf_rows.specs.Walk.{remaining_runs};
 
-    ghost next_gives = { YieldsFirst runs_left };
+    ghost next_gives = { YieldsFirst remaining_runs };
 
-    ghost remaining = { item_count runs_left };
+    ghost remaining = { item_count remaining_runs };
 
     fn next(&mut self) -> Option<Run> {
         let x = self.next_start()?;

@@ -15,7 +15,8 @@ mod slow;
 mod sums;
 
 use assertions::{assert_holds, assert_same};
-use mf_rows::{Box4, OutOfMemory, Picture, RowBuilder, Run};
+use mf_base::OutOfMemory;
+use mf_rows::{Box4, Picture, RowBuilder, Run};
 use std::fmt::Debug;
 use std::process::Abort;
 

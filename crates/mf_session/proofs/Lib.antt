@@ -1,6 +1,5 @@
 mod OneTranscript
 pub mod Performing
-mod Shipping
 mod SomeAnswer
 mod Standing
 mod WithoutContour

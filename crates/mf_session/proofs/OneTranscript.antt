@@ -14,7 +14,7 @@ use Rattle.mf_text.specs.declared.command.Name.{Name}
 use Rattle.mf_text.proofs.OneAnswer.{gives_one, refused_once, given_or_refused}
 use Rattle.mf_session.specs.declared.refusal.Refusal.TheVariants.{Line}
 use Rattle.mf_session.specs.Answers.{Prints, Operates, KeepsRest, ProofAnswers, AnswersTo, Answers}
-use Rattle.mf_session.specs.Changes.{refusal_of, operated, Becomes}
+use Rattle.mf_session.specs.Changes.{refusal_of, pictures_after, Becomes}
 use Rattle.mf_session.specs.Pictures.{Pictures, source_picture}
 use Rattle.mf_session.specs.Shipments.{Ships}
 use Rattle.mf_session.specs.Refusals.{refused_line}
@@ -34,13 +34,16 @@ same_state t u pictures check characters =
 same_drawn : (s t u : State) → t.pictures ≡ u.pictures → KeepsRest s t → KeepsRest s u → t ≡ u
 same_drawn s t u pictures p q = same_state t u pictures (p.check ∙ sym q.check) (p.characters ∙ sym q.characters)
 
-becomes_once : (refused : Option Fault) (s new t u : Pictures) (text other : List ℕ) → Becomes refused s new text t → Becomes refused s new other u → (text ≡ other) × (t ≡ u)
+becomes_once : (refused : Option Fault) (s new t u : Pictures) (text other : List ℕ) → Becomes refused s new text t
+    → Becomes refused s new other u → (text ≡ other) × (t ≡ u)
 becomes_once None s new t u text other p q = (p.0 ∙ sym q.0, p.1 ∙ sym q.1)
 becomes_once (Some why) s new t u text other p q = (p.0 ∙ sym q.0, p.1 ∙ sym q.1)
 
-operates_once : (limits : Limits) (s t u : State) (name : Name) (op : Op) (text other : List ℕ) → Operates limits s name op text t → Operates limits s name op other u → (text ≡ other) × (t ≡ u)
+operates_once : (limits : Limits) (s t u : State) (name : Name) (op : Op) (text other : List ℕ)
+    → Operates limits s name op text t → Operates limits s name op other u → (text ≡ other) × (t ≡ u)
 operates_once limits s t u name op text other p q =
-    let (same_text, same_pictures) = becomes_once (refusal_of limits.max_ops s.pictures name op) s.pictures (operated s.pictures name op) t.pictures u.pictures text other p.0 q.0 in
+    let (same_text, same_pictures) =
+    becomes_once (refusal_of limits.max_ops s.pictures name op) s.pictures (pictures_after s.pictures name op) t.pictures u.pictures text other p.0 q.0 in
     (same_text, same_drawn s t u same_pictures p.1 q.1)
 
 proof_once : (ds : List Dot) (text other : List ℕ) → ProofAnswers ds text → ProofAnswers ds other → text ≡ other
@@ -58,11 +61,13 @@ ships_once limits shipped c text other after later (inr p) (inl q) = absurd (p.f
 ships_once limits shipped c text other after later (inr p) (inr q) = (p.printed ∙ sym q.printed, p.appended ∙ sym q.appended)
 
 -- a command has one answer
-answers_once : (limits : Limits) (s t u : State) (given : Command) (text other : List ℕ) → AnswersTo limits s given text t → AnswersTo limits s given other u → (text ≡ other) × (t ≡ u)
+answers_once : (limits : Limits) (s t u : State) (given : Command) (text other : List ℕ)
+    → AnswersTo limits s given text t → AnswersTo limits s given other u → (text ≡ other) × (t ≡ u)
 answers_once limits s t u Nothing text other p q = prints_once s t u _ text other p q
 answers_once limits s t u (Turning check) text other p q = (p.0 ∙ sym q.0, p.1 ∙ sym q.1)
 answers_once limits s t u (Contour name cycle weight) text other p q = operates_once limits s t u name (ops.Contour cycle weight s.check) text other p q
-answers_once limits s t u (Also name source sign) text other p q = operates_once limits s t u name (ops.Also (source_picture s.pictures source) sign) text other p q
+answers_once limits s t u (Also name source sign) text other p q =
+    operates_once limits s t u name (ops.Also (source_picture s.pictures source) sign) text other p q
 answers_once limits s t u (Cull name cull) text other p q = operates_once limits s t u name (ops.Cull cull) text other p q
 answers_once limits s t u (Clear name) text other p q = operates_once limits s t u name ops.Clear text other p q
 answers_once limits s t u (Shift name dx dy) text other p q = operates_once limits s t u name (ops.Shift dx dy) text other p q
@@ -79,7 +84,8 @@ answers_once limits s t u (Ship source code dx width) text other p q =
 answers_once limits s t u Publish text other p q = (p.0.0 ∙ sym q.0.0, same_drawn s t u (p.0.1 ∙ sym q.0.1) p.1 q.1)
 
 -- a line has one answer, since it has one command or one refusal
-pub one_answer : (limits : Limits) (s t u : State) (line text other : List ℕ) → Answers limits s line text t → Answers limits s line other u → (text ≡ other) × (t ≡ u)
+pub one_answer : (limits : Limits) (s t u : State) (line text other : List ℕ) → Answers limits s line text t
+    → Answers limits s line other u → (text ≡ other) × (t ≡ u)
 one_answer limits s t u line text other (inl p) (inl q) =
     answers_once limits s t u q.command text other
     (subst (λ given. AnswersTo limits s given text t) (gives_one line p.command q.command p.given q.given) p.answer) q.answer
@@ -89,11 +95,14 @@ one_answer limits s t u line text other (inr p) (inr q) =
     prints_once s t u (refused_line (Line q.fault)) text other
     (subst (λ why. Prints s (refused_line (Line why)) text t) (refused_once line p.fault q.fault p.told q.told p.refused q.refused) p.answer) q.answer
 
-performed_once : (limits : Limits) (s t u : State) (lines : List (List ℕ)) (text other : List ℕ) → Perform limits s lines text t → Perform limits s lines other u → (text ≡ other) × (t ≡ u)
+performed_once : (limits : Limits) (s t u : State) (lines : List (List ℕ)) (text other : List ℕ)
+    → Perform limits s lines text t → Perform limits s lines other u → (text ≡ other) × (t ≡ u)
 performed_once limits s t u [] text other p q = prints_once s t u [] text other p q
-performed_once limits s t u (line ∷ more) text other (first, rest, next, answer, performed, is) (first_too, rest_too, next_too, answer_too, performed_too, is_too) =
+performed_once limits s t u (line ∷ more) text other (first, rest, next, answer, performed, is)
+    (first_too, rest_too, next_too, answer_too, performed_too, is_too) =
     let (same_first, same_next) = one_answer limits s next next_too line first first_too answer answer_too in
-    let (same_rest, same_last) = performed_once limits next_too t u more rest rest_too (subst (λ from. Perform limits from more rest t) same_next performed) performed_too in
+    let (same_rest, same_last) =
+    performed_once limits next_too t u more rest rest_too (subst (λ from. Perform limits from more rest t) same_next performed) performed_too in
     (cc, same_last)
 
 pub one_transcript : (limits : Limits) (input text other : List ℕ) → IsTranscript limits input text → IsTranscript limits input other → text ≡ other

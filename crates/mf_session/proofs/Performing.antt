@@ -5,14 +5,22 @@ use Rattle.mf_session.specs.States.{State, Limits}
 use Rattle.mf_session.specs.Transcript.{Perform}
 
 -- the first lines are performed, and then the others
-pub Perform-append : (limits : Limits) (s t u : State) (lines more : List (List ℕ)) (text rest : List ℕ) → Perform limits s lines text t → Perform limits t more rest u → Perform limits s (lines ++ more) (text ++ rest) u
+pub Perform-append : (limits : Limits) (s t u : State) (lines more : List (List ℕ)) (text rest : List ℕ)
+    → Perform limits s lines text t → Perform limits t more rest u → Perform limits s (lines ++ more) (text ++ rest) u
 Perform-append limits s t u [] more text rest (nothing, same) after =
     subst (λ first. Perform limits s more (first ++ rest) u) (sym nothing) (subst (λ from. Perform limits from more rest u) same after)
-Perform-append limits s t u (line ∷ lines) more text rest (first, others, next, answer, performed, is) after =
-    (first, others ++ rest, next, answer, Perform-append limits next t u lines more others rest performed after, ap (λ all. all ++ rest) is ∙ append_assoc first others rest)
+Perform-append limits s t u (line ∷ lines) more text rest (first, others, next, answer, performed, is) after = (
+  first,
+  others ++ rest,
+  next,
+  answer,
+  Perform-append limits next t u lines more others rest performed after,
+  ap (λ all. all ++ rest) is ∙ append_assoc first others rest,
+)
 
 -- lines are performed, and then one more
-pub Perform-line : (limits : Limits) (s t u : State) (lines : List (List ℕ)) (line : List ℕ) (text more : List ℕ) → Perform limits s lines text t → Answers limits t line more u → Perform limits s (lines ++ line ∷ []) (text ++ more) u
+pub Perform-line : (limits : Limits) (s t u : State) (lines : List (List ℕ)) (line : List ℕ) (text more : List ℕ)
+    → Perform limits s lines text t → Answers limits t line more u → Perform limits s (lines ++ line ∷ []) (text ++ more) u
 Perform-line limits s t u lines line text more performed answer =
     Perform-append limits s t u lines (line ∷ []) text more performed (more, [], u, answer, (refl, refl), sym (append-nil more))
 

@@ -20,7 +20,7 @@ use Rattle.mf_text.specs.declared.command.Name.{Name}
 use Rattle.mf_text.proofs.SomeAnswer as text
 use Rattle.mf_session.specs.declared.refusal.Refusal.TheVariants.{FileTooLong, Line, ProofTooLarge, Operation as RefusedOperation}
 use Rattle.mf_session.specs.Answers.{Answers, AnswersTo, Operates, ProofAnswers, total_line}
-use Rattle.mf_session.specs.Changes.{Becomes, operated, refusal_of}
+use Rattle.mf_session.specs.Changes.{Becomes, pictures_after, refusal_of}
 use Rattle.mf_session.specs.Pictures.{Pictures, source_picture}
 use Rattle.mf_session.specs.Refusals.{refused_line}
 use Rattle.mf_session.specs.Shipments.{Ships}
@@ -35,7 +35,7 @@ becomes_some (Some why) s new = (refused_line (RefusedOperation why), s, (refl, 
 
 operates_some : (limits : Limits) (s : State) (name : Name) (op : Op) → (text : List ℕ) × (t : State) × Operates limits s name op text t
 operates_some limits s name op =
-    let (text, pictures, becomes) = becomes_some (refusal_of limits.max_ops s.pictures name op) s.pictures (operated s.pictures name op) in
+    let (text, pictures, becomes) = becomes_some (refusal_of limits.max_ops s.pictures name op) s.pictures (pictures_after s.pictures name op) in
     (text, record { pictures = pictures; check = s.check; characters = s.characters }, (becomes, record { check = refl; characters = refl }))
 
 refused_proof : (ds : List Dot) → IsTooLarge ds → (text : List ℕ) × ProofAnswers ds text
@@ -96,7 +96,8 @@ command_some limits s Publish = (
 pub some_answer : (limits : Limits) (s : State) (line : List ℕ) → (text : List ℕ) × (t : State) × Answers limits s line text t
 some_answer limits s line =
     elim (text.some_answer line) [
-      | inl (given, gives) ↦ (let (printed, t, answer) = command_some limits s given in (printed, t, inl (record { command = given; given = gives; answer = answer })))
+      | inl (given, gives) ↦ (let
+          (printed, t, answer) = command_some limits s given in (printed, t, inl (record { command = given; given = gives; answer = answer })))
       | inr (fault, told, refused) ↦ (refused_line (Line fault), s, inr (record { fault = fault; told = told; refused = refused; answer = (refl, refl) }))
     ]
 

@@ -1,24 +1,47 @@
 -- The states that sessions represent once commands are performed.
-use Rattle.std.proofs.Common.{◌≡◌, List, [], ℕ, refl, sym, ◌∙◌, subst}
-use Rattle.mf_gf.specs.Keeping.{Keeps}
+use Rattle.std.proofs.Common.{◌≡◌, List, [], ℕ, refl, sym, subst, ◌∙◌}
+use Rattle.mf_gf.specs.declared.file.GfFile.{GfFile}
+use Rattle.mf_gf.specs.Files.{Character, shipments}
+use Rattle.mf_gf.specs.Keeping.{HasLasts, IsSameFile, Keeps}
 use Rattle.mf_text.specs.declared.command.Command.{Command}
 use Rattle.mf_session.specs.declared.session.Session.{Session}
 use Rattle.mf_session.specs.Answers.{AnswersTo}
-use Rattle.mf_session.specs.Pictures.{Pictures}
 use Rattle.mf_session.specs.Sessions.{StandsFor, IsAnsweredTo, limits}
 use Rattle.mf_session.specs.States.{State}
 use Rattle.mf_session.specs.Variables.{pictures}
 
--- a state with the pictures that a session has now, where nothing else has changed
-abbrev pub drawn_state : Session → State → State
-drawn_state after s = record { pictures = pictures after.variables; check = s.check; characters = s.characters }
+-- the state with the pictures and the turning check of a session, and with these characters
+abbrev pub state_of : Session → List Character → State
+state_of session characters = record { pictures = pictures session.variables; check = session.check; characters = characters }
 
--- a session has answered a command that changed only pictures, where `Holds` is true of the pictures before it
-pub answered-drawn : (before after : Session) (s : State) (command : Command) (text : List ℕ) (Holds : Pictures → Type 0) → StandsFor before s → after.check ≡ before.check → after.file ≡ before.file
-    → Holds (pictures before.variables) → (Holds s.pictures → AnswersTo (limits before) s command text (drawn_state after s)) → IsAnsweredTo before s command text after
-answered-drawn before after s command text Holds stands same_check same holds answer =
+-- a session represents no states but these
+pub standing : (session : Session) (Holds : State → Type 0)
+    → ((characters : List Character) → Keeps session.file [] characters → Holds (state_of session characters))
+    → (s : State) → StandsFor session s → Holds s
+standing session Holds holds s stands =
+    subst (λ p. Holds (record { pictures = p; check = s.check; characters = s.characters })) (sym stands.pictures)
+    (subst (λ k. Holds (record { pictures = pictures session.variables; check = k; characters = s.characters }))
+    (sym stands.check) (holds s.characters stands.file))
+
+-- a session has answered a command that left its font file as it was
+pub answered : (before after : Session) (command : Command) (text : List ℕ) → after.file ≡ before.file
+    → ((characters : List Character) → AnswersTo (limits before) (state_of before characters) command text (state_of after characters))
+    → (s : State) → StandsFor before s → IsAnsweredTo before s command text after
+answered before after command text same answers =
+    standing before (λ s. IsAnsweredTo before s command text after)
+    (λ characters keeps. record {
+      next = state_of after characters;
+      answer = answers characters;
+      stands = record { pictures = refl; check = refl; file = subst (λ file. Keeps file [] characters) (sym same) keeps };
+    })
+
+-- a file that has not changed keeps what it kept
+pub keeps-same : (before after : GfFile) (comment : List ℕ) (characters : List Character) → IsSameFile before after
+    → Keeps before comment characters → Keeps after comment characters
+keeps-same before after comment characters same keeps =
     record {
-      next = drawn_state after s;
-      answer = answer (subst Holds (sym stands.pictures) holds);
-      stands = record { pictures = refl; check = stands.check ∙ sym same_check; file = subst (λ file. Keeps file [] s.characters) (sym same) stands.file };
+      bytes = same.bytes ∙ keeps.bytes;
+      locators = subst (λ table. HasLasts table (shipments comment characters)) (sym same.locators) keeps.locators;
+      count = same.count ∙ keeps.count;
+      bounds = same.bounds ∙ keeps.bounds;
     }

@@ -70,7 +70,8 @@ AnswersTo limits s (Quarter name quarter) text t = Operates limits s name (ops.Q
 AnswersTo limits s (Total source) text t = Prints s (total_line (source_picture s.pictures source)) text t
 AnswersTo limits s (Show source) text t = Prints s (run_text (source_picture s.pictures source)) text t
 AnswersTo limits s (Proof source) text t = ProofAnswers (source_picture s.pictures source) text × (t ≡ s)
-AnswersTo limits s (Ship source code dx width) text t = Ships limits s.characters (character code dx width (source_picture s.pictures source)) text t.characters × KeepsDrawn s t
+AnswersTo limits s (Ship source code dx width) text t =
+    Ships limits s.characters (character code dx width (source_picture s.pictures source)) text t.characters × KeepsDrawn s t
 AnswersTo limits s Publish text t = PublishesAll s.pictures text t.pictures × KeepsRest s t
 
 -- a line gives a command, and answers what the command answers

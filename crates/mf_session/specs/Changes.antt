@@ -1,21 +1,21 @@
 -- What commands do with pictures: what they print, and the pictures after them.
-use Rattle.std.specs.Prelude.{◌≡◌, ◌<◌, ◌==◌, ℕ, List, [], ◌∷◌, ◌++◌, Option, None, Some, option_map, codes, decimal, slice_index_or, slice_set, if◌then◌else◌}
-use Rattle.mf_live.specs.Entries.{entry, pic, rev, next, Operation}
+use Rattle.std.specs.Prelude.{◌≡◌, ◌<◌, ◌==◌, ℕ, List, [], ◌++◌, Option, None, Some, option_map, codes, decimal, slice_index_or, slice_set, if◌then◌else◌}
+use Rattle.mf_live.specs.Entries.{pic, rev, Operation}
 use Rattle.mf_live.specs.declared.fault.Fault.{Fault}
 use Rattle.mf_live.specs.declared.fault.Fault.TheVariants.{TooManyOperations, Refused}
-use Rattle.mf_ops.specs.Step.{stepped, fault_of}
+use Rattle.mf_ops.specs.Step.{next_picture, op_fault}
 use Rattle.mf_ops.specs.declared.op.Op.{Op}
 use Rattle.mf_text.specs.declared.command.Name.{Name}
 use Rattle.mf_text.specs.declared.command.Name.TheVariants.{Current, Register}
-use Rattle.mf_session.specs.Pictures.{Pictures}
+use Rattle.mf_session.specs.Pictures.{Pictures, accepted_with}
 use Rattle.mf_session.specs.Refusals.{refused_line}
 use Rattle.mf_session.specs.declared.refusal.Refusal.TheVariants.{Operation as RefusedOperation}
 
 -- the refusal of an operation on a picture, if there is one: `currentpicture` accepts up to max_ops operations, a register any
 -- number
 abbrev pub refusal_of : ℕ → Pictures → Name → Op → Option Fault
-refusal_of max_ops s Current op = if rev s.accepted == max_ops then Some TooManyOperations else option_map Refused (fault_of (pic s.accepted) op)
-refusal_of max_ops s (Register letter) op = option_map Refused (fault_of (slice_index_or s.registers letter []) op)
+refusal_of max_ops s Current op = if rev s.accepted == max_ops then Some TooManyOperations else option_map Refused (op_fault (pic s.accepted) op)
+refusal_of max_ops s (Register letter) op = option_map Refused (op_fault (slice_index_or s.registers letter []) op)
 
 -- a clear of a picture is accepted: always for a register, and for `currentpicture` while it accepts operations
 abbrev pub IsClearable : ℕ → Pictures → Name → Type 0
@@ -23,9 +23,9 @@ IsClearable max_ops s Current = rev s.accepted < max_ops
 IsClearable max_ops s (Register letter) = Unit {0}
 
 -- the pictures after an operation on one of them
-abbrev pub operated : Pictures → Name → Op → Pictures
-operated s Current op = record s { accepted = s.accepted ++ entry (next s.published) (Operation op) ∷ [] }
-operated s (Register letter) op = record s { registers = slice_set s.registers letter (stepped (slice_index_or s.registers letter []) op) }
+abbrev pub pictures_after : Pictures → Name → Op → Pictures
+pictures_after s Current op = record s { accepted = accepted_with s (Operation op) }
+pictures_after s (Register letter) op = record s { registers = slice_set s.registers letter (next_picture (slice_index_or s.registers letter []) op) }
 
 -- an operation that is not refused prints nothing and makes the new pictures; one that is refused prints why and changes nothing
 abbrev pub Becomes : Option Fault → Pictures → Pictures → List ℕ → Pictures → Type 0
@@ -34,7 +34,7 @@ Becomes (Some why) s new text t = (text ≡ refused_line (RefusedOperation why))
 
 -- what an operation on a picture answers
 abbrev pub OperatesOn : ℕ → Pictures → Name → Op → List ℕ → Pictures → Type 0
-OperatesOn max_ops s name op text t = Becomes (refusal_of max_ops s name op) s (operated s name op) text t
+OperatesOn max_ops s name op text t = Becomes (refusal_of max_ops s name op) s (pictures_after s name op) text t
 
 -- everything that was accepted is published, and its revision is printed
 abbrev pub PublishesAll : Pictures → List ℕ → Pictures → Type 0

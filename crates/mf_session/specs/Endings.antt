@@ -1,11 +1,12 @@
 -- The end of a script: its picture is closed, and its font file is handed out.
-use Rattle.std.specs.Prelude.{◌≡◌, List, [], ◌∷◌, ◌++◌}
+use Rattle.std.specs.Prelude.{◌≡◌, List, []}
 use Rattle.mf_gf.specs.declared.file.GfFile.{GfFile}
 use Rattle.mf_gf.specs.Keeping.{Keeps, limit}
 use Rattle.mf_live.specs.declared.closing.Closing.{Closing}
 use Rattle.mf_live.specs.declared.closing.Ended.{Ended}
-use Rattle.mf_live.specs.Entries.{Entry, End, entry, next}
-use Rattle.mf_live.specs.Writers.{closing_accepted, closing_name, closing_published, ended_name, ended_published}
+use Rattle.mf_live.specs.Entries.{Entry}
+use Rattle.mf_live.specs.Entries as entries
+use Rattle.mf_live.specs.Writers.{closing_accepted_list, closing_identity, closing_published_list, ended_identity, ended_published_list}
 use Rattle.mf_session.specs.declared.session.EndFault.{EndFault}
 use Rattle.mf_session.specs.declared.session.EndFault.TheVariants.{Kept, Halfway}
 use Rattle.mf_session.specs.declared.session.Session.{Session}
@@ -14,8 +15,8 @@ use Rattle.mf_session.specs.Sessions.{StandsFor, limits, name}
 use Rattle.mf_session.specs.States.{State}
 
 -- what `currentpicture` has accepted, followed by the end mark
-abbrev pub whole_list : Pictures → List Entry
-whole_list p = p.accepted ++ entry (next p.published) End ∷ []
+abbrev pub complete_list : Pictures → List Entry
+complete_list p = entries.complete_list p.accepted p.published
 
 -- the font file keeps the characters, and its limit is that of the session
 pub record IsFileOf (session : Session) (s : State) (file : GfFile) : Type 0 where
@@ -24,15 +25,15 @@ pub record IsFileOf (session : Session) (s : State) (file : GfFile) : Type 0 whe
 
 -- everything that was accepted is published, and so is the end mark
 pub record HasEnded (session : Session) (s : State) (ended : Ended) (file : GfFile) : Type 0 where
-  pub name_is : ended_name ended ≡ name session
-  pub published : ended_published ended ≡ whole_list s.pictures
+  pub name_is : ended_identity ended ≡ name session
+  pub published : ended_published_list ended ≡ complete_list s.pictures
   pub file_is : IsFileOf session s file
 
 -- the end mark is set, and nothing was published
 pub record IsHalfway (session : Session) (s : State) (closing : Closing) (file : GfFile) : Type 0 where
-  pub name_is : closing_name closing ≡ name session
-  pub accepted : closing_accepted closing ≡ whole_list s.pictures
-  pub published : closing_published closing ≡ s.pictures.published
+  pub name_is : closing_identity closing ≡ name session
+  pub accepted : closing_accepted_list closing ≡ complete_list s.pictures
+  pub published : closing_published_list closing ≡ s.pictures.published
   pub file_is : IsFileOf session s file
 
 -- the session is as it was

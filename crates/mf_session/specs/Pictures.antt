@@ -1,6 +1,6 @@
 -- The pictures of a script: the live picture `currentpicture`, and those in the registers.
-use Rattle.std.specs.Prelude.{List, [], replicate, slice_index_or}
-use Rattle.mf_live.specs.Entries.{Entry, pic}
+use Rattle.std.specs.Prelude.{List, [], ◌∷◌, ◌++◌, replicate, slice_index_or}
+use Rattle.mf_live.specs.Entries.{Change, Entry, entry, next, pic}
 use Rattle.mf_rows.specs.Dots.{Dot}
 use Rattle.mf_text.specs.declared.command.Name.{Name}
 use Rattle.mf_text.specs.declared.command.Name.TheVariants.{Current, Register}
@@ -16,6 +16,10 @@ pub record Pictures : Type 0 where
 -- no operation is accepted, and all pictures are blank
 abbrev pub blank_pictures : Pictures
 blank_pictures = record { accepted = []; published = []; registers = replicate 26 [] }
+
+-- what `currentpicture` has accepted once it accepts this, too
+abbrev pub accepted_with : Pictures → Change → List Entry
+accepted_with s change = s.accepted ++ entry (next s.published) change ∷ []
 
 -- the picture with this name
 abbrev pub picture : Pictures → Name → List Dot

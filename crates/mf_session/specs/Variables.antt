@@ -7,12 +7,12 @@ use Rattle.mf_session.specs.Pictures.{Pictures}
 
 -- the pictures: what `currentpicture` has accepted, what of that is published, and the registers
 abbrev pub pictures : Variables → Pictures
-pictures v = record { accepted = writers.accepted v.writer; published = writers.published v.writer; registers = v.registers }
+pictures v = record { accepted = writers.accepted_list v.writer; published = writers.published_list v.writer; registers = v.registers }
 
 -- which live picture `currentpicture` is
 abbrev pub name : Variables → Book
-name v = writers.name v.writer
+name v = writers.identity v.writer
 
 -- the greatest number of operations that `currentpicture` accepts
 abbrev pub max_ops : Variables → ℕ
-max_ops v = writers.limit v.writer
+max_ops v = writers.max_ops v.writer

@@ -3,9 +3,11 @@
 #![tactic(auto)]
 
 pub mod laws;
+mod line;
 mod refusal;
 mod registers;
 mod session;
 mod variables;
 
+pub use line::before_line_feed;
 pub use session::{EndFault, Session};

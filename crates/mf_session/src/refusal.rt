@@ -2,7 +2,7 @@
 ghost use Rattle.std.specs.Prelude.{◌≡◌, IfOk};
 ghost use Rattle.mf_session.specs.Refusals.{refused_line};
 
-use mf_geom::OutOfMemory;
+use mf_base::OutOfMemory;
 use mf_live::Fault;
 use mf_text::TextFault;
 use std::alloc::Global;

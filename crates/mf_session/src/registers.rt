@@ -1,10 +1,10 @@
 //! The registers `a` to `z`, each of which keeps a picture.
 ghost use Rattle.std.specs.Prelude.{◌≡◌, ◌≢◌, ◌<◌, [], None, Some, Err, IfOk, IfErr, IsOk, OnOk, OnErr, replicate, slice_index_or, slice_set};
 ghost use Rattle.mf_geom.specs.declared.cycle.CycleFault.{CycleFault};
-ghost use Rattle.mf_ops.specs.Step.{stepped, fault_of};
+ghost use Rattle.mf_ops.specs.Step.{next_picture, op_fault};
 ghost use Rattle.mf_ops.specs.declared.op.Op.TheVariants as ops;
 
-use mf_geom::OutOfMemory;
+use mf_base::OutOfMemory;
 use mf_ops::{Op, OpFault, apply};
 use mf_rows::Picture;
 use std::alloc::Global;
@@ -54,12 +54,13 @@ impl Registers {
     /// Performs an operation on the picture of a register. It is refused as `mf_ops::apply` refuses it, and then nothing changes.
     pub fn apply(&mut self, alloc: Global, letter: u8, op: &Op) -> Result<(), OpFault>
         requires { letter < COUNT }
-        ensures step { OnOk result (self.new ≡ slice_set self.old letter (stepped (slice_index_or self.old letter []) op.now)) }
+        ensures step { OnOk result (self.new ≡ slice_set self.old letter (next_picture (slice_index_or self.old letter []) op.now)) }
         ensures unchanged { OnErr result (self.new ≡ self.old) }
-        ensures accepted { OnOk result (fault_of (slice_index_or self.old letter []) op.now ≡ None) }
-        ensures refused { IfErr result (λ fault. fault ≢ OpFault.OutOfMemory → fault_of (slice_index_or self.old letter []) op.now ≡ Some fault) }
-        ensures turning { (fault : CycleFault) → fault_of (slice_index_or self.old letter []) op.now ≡ Some (OpFault.Cycle fault) → result ≡ Err (OpFault.Cycle fault) }
-        ensures out_of_field { fault_of (slice_index_or self.old letter []) op.now ≡ Some OpFault.OutOfField → result ≡ Err OpFault.OutOfField }
+        ensures accepted { OnOk result (op_fault (slice_index_or self.old letter []) op.now ≡ None) }
+        ensures refused { IfErr result (λ fault. fault ≢ OpFault.OutOfMemory → op_fault (slice_index_or self.old letter []) op.now ≡ Some fault) }
+        ensures turning { (fault : CycleFault) → op_fault (slice_index_or self.old letter []) op.now ≡ Some (OpFault.Cycle fault)
+            → result ≡ Err (OpFault.Cycle fault) }
+        ensures out_of_field { op_fault (slice_index_or self.old letter []) op.now ≡ Some OpFault.OutOfField → result ≡ Err OpFault.OutOfField }
         ensures clears { op.now ≡ ops.Clear → IsOk result }
     {
         apply(alloc, &mut self.pictures[letter as usize], op)

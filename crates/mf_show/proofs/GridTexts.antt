@@ -9,15 +9,16 @@ use Rattle.mf_rows.specs.Bounds.{IsLeastBox}
 use Rattle.mf_rows.specs.Dots.{Dot, IsPicture, place, weight_at}
 use Rattle.mf_rows.specs.Runs.{dots_of, runs_of}
 use Rattle.mf_rows.proofs.RunsLemmas.{dots_of-runs_of}
+use Rattle.mf_show.specs.Boxes.{IsBoxOfField}
 use Rattle.mf_show.specs.Grid.{character, extent, row_text, rows_text, box_text, IsGridText, IsTooLarge}
 use Rattle.mf_show.specs.RunsAhead.{AreInOrder, AreSameFrom}
-use Rattle.mf_show.proofs.LeastBoxes.{IsBoxOfField, same_least_box, least_box_of_some, some_least_box}
+use Rattle.mf_show.proofs.LeastBoxes.{same_least_box, least_box_of_some, some_least_box}
 use Rattle.mf_show.proofs.PassedPixels.{all_in_order, same_all}
 
-extent-next : (x last : ℤ) → x ≤ℤ last → extent x last ≡ suc (extent (x +ℤ pos 1) last)
+pub extent-next : (x last : ℤ) → x ≤ℤ last → extent x last ≡ suc (extent (x +ℤ pos 1) last)
 extent-next x last le = omega (arith, ints)
 
-extent-none : (x last : ℤ) → x ≡ last +ℤ pos 1 → extent x last ≡ 0
+pub extent-none : (x last : ℤ) → x ≡ last +ℤ pos 1 → extent x last ≡ 0
 extent-none x last over = omega (arith, ints)
 
 -- ---- a row
@@ -104,7 +105,7 @@ rows_text-next : (ds : List Dot) (x y : ℤ) (columns n : ℕ)
 unfolding rows_text
 rows_text-next ds x y columns n = refl
 
-extent-lower : (first y : ℤ) → first ≤ℤ y → extent first y ≡ suc (extent first (y -ℤ pos 1))
+pub extent-lower : (first y : ℤ) → first ≤ℤ y → extent first y ≡ suc (extent first (y -ℤ pos 1))
 extent-lower first y le = omega (arith, ints)
 
 pub box_more : (ds : List Dot) (b : Box4) (y : ℤ) (text new : List ℕ) (rs others : List Run) → IsBoxOfField b → b.min_y ≤ℤ y

@@ -1,27 +1,18 @@
 -- The least box of a picture.
-use Rattle.std.proofs.Common.{◌≡◌, pos, negsuc, ◌≤ℤ◌, List, [], ◌∷◌, refl, arith}
+use Rattle.std.proofs.Common.{◌≡◌, ◌≤ℤ◌, List, [], ◌∷◌, None, Some, refl, ap, arith}
 use Rattle.std.specs.List.{All, Any}
 use Rattle.std.proofs.lemmas.Int.{ints}
 use Rattle.std.proofs.lemmas.List.Elements.{All-contains, All-nil, All-cons}
 use Rattle.mf_rows.specs.declared.bounds.Box4.{Box4}
 use Rattle.mf_rows.specs.Bounds.{IsWithin, IsLeastBox}
 use Rattle.mf_rows.specs.Dots.{Dot, IsPicture}
-use Rattle.mf_rows.specs.Widening.{widened}
 use Rattle.mf_rows.proofs.BoundsInField.{bounds_in_field}
 use Rattle.mf_rows.proofs.RunBoxes.{least_box_of_both}
+use Rattle.mf_show.specs.Boxes.{IsBoxOfField, box_of, box_of_dot, box_of_dots}
 
 -- what holds for all dots holds for the one that some property finds
 found : (P Q : Dot → Type 0) (ds : List Dot) (some : Any P ds) → All Q ds → Q some.1
 found P Q ds some all = All-contains Q ds some.1 all (some.0, some.2, some.3)
-
--- a box is not empty, and its columns and rows are in the field
-pub record IsBoxOfField (b : Box4) : Type 0 where
-  pub left : negsuc 4094 ≤ℤ b.min_x
-  pub right : b.max_x ≤ℤ pos 4094
-  pub bottom : negsuc 4094 ≤ℤ b.min_y
-  pub top : b.max_y ≤ℤ pos 4094
-  pub columns : b.min_x ≤ℤ b.max_x
-  pub rows : b.min_y ≤ℤ b.max_y
 
 pub least_box_of_field : (ds : List Dot) (b : Box4) → IsPicture ds → IsLeastBox ds b → IsBoxOfField b
 least_box_of_field ds b picture box =
@@ -72,23 +63,36 @@ same_least_box ds a b one other =
 pub least_box_of_some : (b : Box4) → IsLeastBox [] b → ⊥
 least_box_of_some b box = omega (arith, box.left.2)
 
--- the box of one dot
-abbrev box_of_dot : Dot → Box4
-box_of_dot d = record { min_x = d.x; max_x = d.x; min_y = d.y; max_y = d.y }
-
 least_box_of_dot : (d : Dot) → IsLeastBox (d ∷ []) (box_of_dot d)
 least_box_of_dot d =
     record {
-      within = All-cons (IsWithin (box_of_dot d)) d [] (record { left = omega (arith, ints); right = omega (arith, ints); bottom = omega (arith, ints); top = omega (arith, ints) }) (All-nil (IsWithin (box_of_dot d)));
+      within = All-cons (IsWithin (box_of_dot d)) d []
+          (record { left = omega (arith, ints); right = omega (arith, ints); bottom = omega (arith, ints); top = omega (arith, ints) })
+          (All-nil (IsWithin (box_of_dot d)));
       left = (0, d, omega arith, refl, refl);
       right = (0, d, omega arith, refl, refl);
       bottom = (0, d, omega arith, refl, refl);
       top = (0, d, omega arith, refl, refl);
     }
 
+-- the box of some dots is their least box
+pub least_box_of_dots : (d : Dot) (ds : List Dot) → IsLeastBox (d ∷ ds) (box_of_dots d ds)
+unfolding box_of_dots
+least_box_of_dots d [] = least_box_of_dot d
+least_box_of_dots d (e ∷ ds) =
+    least_box_of_both (d ∷ []) (e ∷ ds) (box_of_dot d) (box_of_dots e ds) (least_box_of_dot d) (least_box_of_dots e ds)
+
 -- a picture with a dot has a least box
 pub some_least_box : (d : Dot) (ds : List Dot) → (b : Box4) × IsLeastBox (d ∷ ds) b
-some_least_box d [] = (box_of_dot d, least_box_of_dot d)
-some_least_box d (e ∷ ds) =
-    let (b, least) = some_least_box e ds in
-    (widened (box_of_dot d) b, least_box_of_both (d ∷ []) (e ∷ ds) (box_of_dot d) b (least_box_of_dot d) least)
+some_least_box d ds = (box_of_dots d ds, least_box_of_dots d ds)
+
+-- the least box of a picture is the one that is defined
+pub least_box_is : (ds : List Dot) (b : Box4) → IsLeastBox ds b → box_of ds ≡ Some b
+unfolding box_of
+least_box_is [] b box = absurd (least_box_of_some b box)
+least_box_is (d ∷ ds) b box = ap Some (same_least_box (d ∷ ds) (box_of_dots d ds) b (least_box_of_dots d ds) box)
+
+-- the blank picture has none
+pub no_box : (ds : List Dot) → ds ≡ [] → box_of ds ≡ None
+unfolding box_of
+no_box ds blank = rw blank refl

@@ -1,3 +1,4 @@
+pub mod Boxes
 pub mod Grid
 pub mod Names
 pub mod RunsAhead

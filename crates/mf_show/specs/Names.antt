@@ -1,6 +1,6 @@
 -- The names of refusals, as they appear in texts.
 use Rattle.std.specs.Prelude.{ℕ, List, codes}
-use Rattle.mf_geom.specs.Names.{memory_text}
+use Rattle.mf_base.specs.Names.{memory_text}
 use Rattle.mf_show.specs.declared.fault.GridFault.{GridFault}
 use Rattle.mf_show.specs.declared.fault.GridFault.TheVariants.{ProofTooLarge, OutOfMemory}
 

@@ -1,5 +1,5 @@
 //! Why a picture has no grid text.
-use mf_geom::OutOfMemory;
+use mf_base::OutOfMemory;
 use std::error::Error;
 use std::fmt;
 

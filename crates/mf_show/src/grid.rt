@@ -1,5 +1,6 @@
 //! Grid texts.
-ghost use Rattle.std.specs.Prelude.{◌≡◌, ◌≤ℤ◌, ◌+ℤ◌, ◌++◌, ◌↔◌, Err, IfOk, codes, pos, negsuc};
+ghost use Rattle.std.specs.Prelude.{◌≡◌, ◌≤ℤ◌, ◌+ℤ◌, ◌++◌, ◌↔◌, Err, IfOk, codes, pos};
+ghost use Rattle.mf_geom.specs.Coordinates.{least_coordinate, last_in_field};
 ghost use Rattle.mf_rows.specs.Bounds.{IsLeastBox};
 ghost use Rattle.mf_rows.specs.Dots.{place};
 ghost use Rattle.mf_show.specs.Grid.{IsGridText, IsTooLarge, extent, box_text, row_text, character};
@@ -9,7 +10,7 @@ mod weights;
 
 use crate::fault::GridFault;
 use crate::grid::weights::Weights;
-use mf_geom::OutOfMemory;
+use mf_base::OutOfMemory;
 use mf_rows::{Box4, Picture};
 use std::alloc::Global;
 
@@ -42,10 +43,10 @@ fn blank(alloc: Global) -> Result<Vec<u8>, OutOfMemory>
     Ok(Vec::from_slice(alloc, b"blank\n")?)
 }
 
-/// The number of columns, or rows, from the first to the last, both inclusive.
-fn extent(first: i32, last: i32) -> u32
-    requires least { negsuc 4094 ≤ℤ first }
-    requires greatest { last ≤ℤ pos 4094 }
+/// The number of columns, or rows, from the first to the last, both inclusive. Requires that they are in the field.
+pub fn extent(first: i32, last: i32) -> u32
+    requires least { least_coordinate ≤ℤ first }
+    requires greatest { last ≤ℤ last_in_field }
     requires order { first ≤ℤ last }
     ensures { result ≡ extent first last }
 {
@@ -74,8 +75,8 @@ fn push_row(
     last: i32,
 ) -> Result<(), OutOfMemory>
     requires order { AreInOrder (runs_ahead weights.old) }
-    requires least { negsuc 4094 ≤ℤ first }
-    requires greatest { last ≤ℤ pos 4094 }
+    requires least { least_coordinate ≤ℤ first }
+    requires greatest { last ≤ℤ last_in_field }
     requires columns { first ≤ℤ last }
     ensures text { IfOk result (λ _. text.new.items ≡ text.old.items ++ row_text (dots_ahead weights.old) y first (extent first last) ++ codes "\n") }
     ensures order { IfOk result (λ _. AreInOrder (runs_ahead weights.new)) }

@@ -4,8 +4,10 @@
 mod fault;
 mod grid;
 pub mod laws;
+mod number;
 mod run_text;
 
 pub use fault::GridFault;
-pub use grid::proof_grid;
+pub use grid::{extent, proof_grid};
+pub use number::push_number;
 pub use run_text::show_runs;

@@ -1,11 +1,10 @@
 //! Run texts.
 ghost use Rattle.std.specs.Prelude.{◌≡◌, ◌++◌, IfOk};
-ghost use Rattle.std.specs.Fmt.{signed_decimal};
 ghost use Rattle.mf_rows.specs.Order.{IsRun};
 ghost use Rattle.mf_show.specs.RunText.{run_text, run_line};
 
-use itoa::Buffer;
-use mf_geom::OutOfMemory;
+use crate::number::push_number;
+use mf_base::OutOfMemory;
 use mf_rows::{Picture, Run};
 use std::alloc::Global;
 
@@ -34,14 +33,4 @@ fn push_line(text: &mut Vec<u8>, run: &Run) -> Result<(), OutOfMemory>
     push_number(text, run.x, b" ")?;
     push_number(text, run.x + (run.len - 1) as i32, b" ")?;
     push_number(text, run.weight, b"\n")
-}
-
-/// Appends a number and the bytes that come after it.
-fn push_number(text: &mut Vec<u8>, number: i32, behind: &[u8]) -> Result<(), OutOfMemory>
-    ensures { IfOk result (λ _. text.new.items ≡ text.old.items ++ signed_decimal number ++ behind.now) }
-{
-    let mut buffer = Buffer::new();
-    text.extend_from_slice(buffer.format(number).as_bytes())?;
-    text.extend_from_slice(behind)?;
-    Ok(())
 }

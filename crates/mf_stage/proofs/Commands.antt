@@ -10,7 +10,8 @@ pub false_is_true : false ≡ true → ⊥
 false_is_true same = cc
 
 -- a refused line does not publish
-pub refused-publish : {E : Type 0} (line : List ℕ) (fault : TextFault) (made : Result Bool E) → IsRefused line fault → IfOk made (λ yes. (yes ≡ false) × (fault ≢ faults.OutOfMemory))
+pub refused-publish : {E : Type 0} (line : List ℕ) (fault : TextFault) (made : Result Bool E) → IsRefused line fault
+    → IfOk made (λ yes. (yes ≡ false) × (fault ≢ faults.OutOfMemory))
     → IfOk made (λ yes. (yes ≡ true) ↔ Gives line Publish)
 refused-publish line fault (Err e) refused known = known
 refused-publish line fault (Ok is_publish) refused (not_publish, told) =

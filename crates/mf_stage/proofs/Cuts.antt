@@ -27,7 +27,8 @@ parts_first (b ∷ bs) =
     ]
 
 -- bytes without a line feed go to the front of the first part
-parts-front : (front rest first : List ℕ) (more : List (List ℕ)) → All is_other front → parts_of rest ≡ first ∷ more → parts_of (front ++ rest) ≡ (front ++ first) ∷ more
+parts-front : (front rest first : List ℕ) (more : List (List ℕ)) → All is_other front → parts_of rest ≡ first ∷ more
+    → parts_of (front ++ rest) ≡ (front ++ first) ∷ more
 parts-front [] rest first more unbroken is = is
 parts-front (b ∷ front) rest first more unbroken is =
     let all = parts_of (front ++ rest) in
@@ -51,7 +52,8 @@ ended front =
     let line = front ++ 10 ∷ [] in
     let last : length line - 1 ≡ length front = omega (arith, length-append front (10 ∷ [])) in
     let is_feed : get_or line (length line - 1) 0 ≡ 10 = get_or_push front 10 0 (length line - 1) (sym last) in
-    let before : take (length line - 1) line ≡ front = ap (λ n. take n line) last ∙ take-append-le (length front) front (10 ∷ []) (omega arith) ∙ take_all (length front) front (omega arith) in
+    let before : take (length line - 1) line ≡ front =
+    ap (λ n. take n line) last ∙ take-append-le (length front) front (10 ∷ []) (omega arith) ∙ take_all (length front) front (omega arith) in
     cond-true _ _ _ (eq-eqb (get_or line (length line - 1) 0) 10 is_feed) ∙ ap strip_carriage_return before
 
 -- a line that the end of the script ends has no ending
@@ -79,9 +81,11 @@ next_lines input some = ⊎_elim
     let rest = feed.1 in
     let read : take_through 10 input ≡ front ++ 10 ∷ [] = ap (take_through 10) feed.2 ∙ take_through-append 10 front (10 ∷ rest) feed.3 in
     let left : drop_through 10 input ≡ rest = ap (drop_through 10) feed.2 ∙ drop_through-append 10 front (10 ∷ rest) feed.3 in
-    ap lines feed.2 ∙ lines-feed front rest feed.3 ∙ sym (ap (λ l. without_ending l ∷ lines (drop_through 10 input)) read ∙ ap (λ l. without_ending (front ++ 10 ∷ []) ∷ lines l) left ∙ ap (λ l. l ∷ lines rest) (ended front)))
+    ap lines feed.2 ∙ lines-feed front rest feed.3 ∙ sym (ap (λ l. without_ending l ∷ lines (drop_through 10 input)) read
+    ∙ ap (λ l. without_ending (front ++ 10 ∷ []) ∷ lines l) left ∙ ap (λ l. l ∷ lines rest) (ended front)))
     (λ none.
     let read : take_through 10 input ≡ input = sym (ap (take_through 10) (append-nil input)) ∙ take_through-append 10 input [] none ∙ append-nil input in
     let left : drop_through 10 input ≡ [] = sym (ap (drop_through 10) (append-nil input)) ∙ drop_through-append 10 input [] none in
-    lines-whole input some none ∙ sym (ap (λ l. without_ending l ∷ lines (drop_through 10 input)) read ∙ ap (λ l. without_ending input ∷ lines l) left ∙ ap (λ l. l ∷ []) (unended input some none)))
+    lines-whole input some none ∙ sym (ap (λ l. without_ending l ∷ lines (drop_through 10 input)) read
+    ∙ ap (λ l. without_ending input ∷ lines l) left ∙ ap (λ l. l ∷ []) (unended input some none)))
     (cut input)

@@ -6,7 +6,8 @@ use Rattle.std.proofs.BufReadLemmas.{take_through_nonempty}
 use Rattle.mf_stage.specs.Lines.{Reads}
 
 -- a line was read
-pub Reads-line : (old new : Option (List ℕ)) (start line : List ℕ) → start ≡ [] → 0 < length line → IfSome old (λ xs. line ≡ start ++ take_through 10 xs) → DropsThrough old new 10
+pub Reads-line : (old new : Option (List ℕ)) (start line : List ℕ) → start ≡ [] → 0 < length line
+    → IfSome old (λ xs. line ≡ start ++ take_through 10 xs) → DropsThrough old new 10
     → IfSome old (λ input. Reads input line new)
 Reads-line None new start line empty some bytes rest = bytes
 Reads-line (Some xs) new start line empty some bytes rest =

@@ -20,29 +20,40 @@ use Rattle.mf_text.specs.Lines.{Gives}
 use Rattle.mf_text.specs.declared.command.Command.TheVariants.{Publish}
 
 -- the plate of a picture is that of the list that it is the picture of
-pub plate_where : (wanted : Option Plates) (plates : Plates) (shown : List Entry) (revision : ℕ) (ds : List Dot) (made : Plate) → wanted ≡ Some plates → revision ≡ rev shown → ds ≡ pic shown
+pub plate_where : (wanted : Option Plates) (plates : Plates) (shown : List Entry) (revision : ℕ) (ds : List Dot) (made : Plate)
+    → wanted ≡ Some plates → revision ≡ rev shown → ds ≡ pic shown
     → IsPlate plates revision ds made → IsPlateWhere wanted shown (Some made)
 plate_where wanted plates shown revision ds made is number picture plate =
     subst (λ w. IsPlateWhere w shown (Some made)) (sym is)
     (made, refl, subst (λ n. IsPlate plates n (pic shown) made) number (subst (λ e. IsPlate plates revision e made) picture plate))
 
 -- after a line that publishes, everything that was accepted is published
-published-all : (limits : Limits) (s : State) (line text : List ℕ) (t : State) → Answers limits s line text t → Gives line Publish → t.pictures.published ≡ t.pictures.accepted
+published-all : (limits : Limits) (s : State) (line text : List ℕ) (t : State) → Answers limits s line text t
+    → Gives line Publish → t.pictures.published ≡ t.pictures.accepted
 published-all limits s line text t (inl performed) given =
     let answer = subst (λ command. AnswersTo limits s command text t) (gives_one line performed.command Publish performed.given given) performed.answer in
     let pictures = answer.0.1 in
     ap (λ p. p.published) pictures ∙ sym (ap (λ p. p.accepted) pictures)
 published-all limits s line text t (inr refused) given = absurd (given_or_refused line Publish refused.fault refused.told given refused.refused)
 
-module _ (before after : Stage) (s : State) (line text : List ℕ) (held holds : Option (List ℕ)) (publishes : Bool) (means : (publishes ≡ true) ↔ Gives line Publish)
+module _ (before after : Stage) (s : State) (line text : List ℕ) (held holds : Option (List ℕ)) (publishes : Bool)
+    (means : (publishes ≡ true) ↔ Gives line Publish)
     (answered : IsAnswered (session_of before) s line text (session_of after)) (out : Appends held holds text) where
   -- nothing is made of a line that does not publish
   pub performed-quietly : publishes ≡ false → IsPerformed before s line None after held holds
   performed-quietly quiet =
-      record { text = text; next = answered.next; answer = answered.answer; stands = answered.stands; out = out; made_is = λ given. false_is_true (sym quiet ∙ means.1 given) }
+      record {
+        text = text;
+        next = answered.next;
+        answer = answered.answer;
+        stands = answered.stands;
+        out = out;
+        made_is = λ given. false_is_true (sym quiet ∙ means.1 given);
+      }
 
   -- the publication of what was published is made of one that does
-  pub performed-published : (made : Publication) → publishes ≡ true → plates_of after ≡ plates_of before → IsPublication (plates_of after) answered.next.pictures.accepted made
+  pub performed-published : (made : Publication) → publishes ≡ true → plates_of after ≡ plates_of before
+      → IsPublication (plates_of after) answered.next.pictures.accepted made
       → IsPerformed before s line (Some made) after held holds
   performed-published made publishing same publication =
       let given = means.0 publishing in
@@ -53,5 +64,9 @@ module _ (before after : Stage) (s : State) (line text : List ℕ) (held holds :
         answer = answered.answer;
         stands = answered.stands;
         out = out;
-        made_is = (given, subst (λ shown. IsPublication (plates_of before) shown made) (sym all) (subst (λ p. IsPublication p answered.next.pictures.accepted made) same publication));
+        made_is = (
+          given,
+          subst (λ shown. IsPublication (plates_of before) shown made) (sym all)
+              (subst (λ p. IsPublication p answered.next.pictures.accepted made) same publication),
+        );
       }

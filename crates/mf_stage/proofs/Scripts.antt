@@ -25,10 +25,12 @@ pub record HasBegun (before : Stage) (s : State) (input rest : List ℕ) (now : 
 -- where the bytes of the script are known, so are those that are left
 abbrev pub IsUnderWay : Stage → Option (List ℕ) → Option (List ℕ) → Stage → Option (List ℕ) → Option (List ℕ) → Type 0
 IsUnderWay before None left now held holds = Unit {0}
-IsUnderWay before (Some input) left now held holds = (s : State) → StandsFor before s → (rest : List ℕ) × (left ≡ Some rest) × HasBegun before s input rest now held holds
+IsUnderWay before (Some input) left now held holds =
+    (s : State) → StandsFor before s → (rest : List ℕ) × (left ≡ Some rest) × HasBegun before s input rest now held holds
 
 -- the buffer of a reader is empty at first
-pub remaining-start : {T A : Type 0} (remaining : T → Option (List ℕ)) (script : BufReader T A) (reader : T) → reader_inner script ≡ reader → reader_buffer script ≡ [] → reader_capacity script ≡ 8192
+pub remaining-start : {T A : Type 0} (remaining : T → Option (List ℕ)) (script : BufReader T A) (reader : T)
+    → reader_inner script ≡ reader → reader_buffer script ≡ [] → reader_capacity script ≡ 8192
     → reader_remaining remaining script ≡ remaining reader
 remaining-start remaining script reader inner empty capacity = rw (capacity, empty, inner) (nothing_before (remaining reader))
   where
@@ -39,17 +41,28 @@ remaining-start remaining script reader inner empty capacity = rw (capacity, emp
 -- no line has been performed
 pub under_way-start : (stage : Stage) (input held : Option (List ℕ)) → IsUnderWay stage input input stage held held
 under_way-start stage None held = tt
-under_way-start stage (Some input) held = λ s stands.
-    (input, refl, record { done = []; ahead = refl; performed = record { text = []; last = s; performed = (refl, refl); stands = stands; out = Appends-nil held } })
+under_way-start stage (Some input) held = λ s stands. (
+  input,
+  refl,
+  record { done = []; ahead = refl; performed = record { text = []; last = s; performed = (refl, refl); stands = stands; out = Appends-nil held } },
+)
 
 -- one line is performed
-pub performed-one : (before after : Stage) (s : State) (line : List ℕ) (made : Option Publication) (held holds : Option (List ℕ)) → IsPerformed before s line made after held holds
+pub performed-one : (before after : Stage) (s : State) (line : List ℕ) (made : Option Publication) (held holds : Option (List ℕ))
+    → IsPerformed before s line made after held holds
     → HasPerformed before s (line ∷ []) after held holds
 performed-one before after s line made held holds one =
-    record { text = one.text; last = one.next; performed = (one.text, [], one.next, one.answer, (refl, refl), sym (append-nil one.text)); stands = one.stands; out = one.out }
+    record {
+      text = one.text;
+      last = one.next;
+      performed = (one.text, [], one.next, one.answer, (refl, refl), sym (append-nil one.text));
+      stands = one.stands;
+      out = one.out;
+    }
 
 -- some lines are performed, and then others
-performed-more : (before now later : Stage) (s : State) (done more : List (List ℕ)) (held holds last : Option (List ℕ)) → limits now ≡ limits before → (first : HasPerformed before s done now held holds)
+performed-more : (before now later : Stage) (s : State) (done more : List (List ℕ)) (held holds last : Option (List ℕ))
+    → limits now ≡ limits before → (first : HasPerformed before s done now held holds)
     → HasPerformed now first.last more later holds last → HasPerformed before s (done ++ more) later held last
 performed-more before now later s done more held holds last same first second =
     record {
@@ -62,8 +75,10 @@ performed-more before now later s done more held holds last same first second =
     }
 
 -- the next line is read and performed
-pub under_way-next : (before now later : Stage) (input left remaining held holds last : Option (List ℕ)) (line : List ℕ) → limits now ≡ limits before → IsUnderWay before input left now held holds
-    → ((rest : List ℕ) → left ≡ Some rest → Reads rest line remaining) → ((s : State) → StandsFor now s → HasPerformed now s (without_ending line ∷ []) later holds last)
+pub under_way-next : (before now later : Stage) (input left remaining held holds last : Option (List ℕ)) (line : List ℕ)
+    → limits now ≡ limits before → IsUnderWay before input left now held holds
+    → ((rest : List ℕ) → left ≡ Some rest → Reads rest line remaining)
+    → ((s : State) → StandsFor now s → HasPerformed now s (without_ending line ∷ []) later holds last)
     → IsUnderWay before input remaining later held last
 under_way-next before now later None left remaining held holds last line same under_way reads performs = tt
 under_way-next before now later (Some input) left remaining held holds last line same under_way reads performs = λ s stands.
@@ -77,7 +92,8 @@ under_way-next before now later (Some input) left remaining held holds last line
       record {
         done = done ++ without_ending line ∷ [];
         ahead = begun.ahead ∙ ap (λ ls. done ++ ls) next ∙ sym (append_assoc done (without_ending line ∷ []) others);
-        performed = performed-more before now later s done (without_ending line ∷ []) held holds last same begun.performed (performs begun.performed.last begun.performed.stands);
+        performed = performed-more before now later s done (without_ending line ∷ []) held holds last same begun.performed
+            (performs begun.performed.last begun.performed.stands);
       },
     )
 
@@ -88,7 +104,8 @@ under_way-end before now None left held holds at_end under_way = tt
 under_way-end before now (Some input) left held holds at_end under_way = λ s stands.
     let (rest, is, begun) = under_way s stands in
     let nothing : rest ≡ [] = subst IsAtEnd is at_end in
-    subst (λ ls. HasPerformed before s ls now held holds) (sym (begun.ahead ∙ ap (λ bytes. begun.done ++ lines bytes) nothing ∙ append-nil begun.done)) begun.performed
+    subst (λ ls. HasPerformed before s ls now held holds)
+    (sym (begun.ahead ∙ ap (λ bytes. begun.done ++ lines bytes) nothing ∙ append-nil begun.done)) begun.performed
 
 -- what holds of known bytes
 pub known_is : (P : List ℕ → Type 0) (left : Option (List ℕ)) (rest : List ℕ) → left ≡ Some rest → IfSome left P → P rest

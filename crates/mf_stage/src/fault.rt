@@ -2,7 +2,7 @@
 ghost use Rattle.std.specs.Prelude.{◌≡◌};
 ghost use Rattle.mf_stage.specs.declared.fault.StageFault.TheVariants.{OutOfMemory as NoMemory};
 
-use mf_geom::OutOfMemory;
+use mf_base::OutOfMemory;
 use std::alloc::AllocError;
 use thiserror::Error;
 

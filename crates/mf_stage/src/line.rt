@@ -1,13 +1,13 @@
 //! The lines of a script, as they are read.
 ghost use Rattle.std.specs.Io.KnownBytes.{IsAtEnd};
 ghost use Rattle.std.specs.Prelude.{◌≡◌, ◌≢◌, ◌↔◌, false, true, IfOk, IfSome, None};
-ghost use Rattle.std.specs.Str.Lines.{strip_carriage_return};
 ghost use Rattle.mf_stage.specs.Lines.{Reads, without_ending};
 ghost use Rattle.mf_text.specs.Lines.{Gives};
 ghost use Rattle.mf_text.specs.declared.command.Command.TheVariants as commands;
 
 use crate::fault::StageFault;
-use mf_geom::OutOfMemory;
+use mf_base::OutOfMemory;
+use mf_session::before_line_feed;
 use mf_text::{Command, TextFault, read_command};
 use std::alloc::Global;
 use std::io::{BufRead, Error, ErrorKind};
@@ -40,16 +40,6 @@ pub fn without_ending(line: &[u8]) -> &[u8]
 {
     match line {
         [line @ .., b'\n'] => before_line_feed(line),
-        line => line,
-    }
-}
-
-/// The bytes before a line feed without the carriage return at their end, if there is one.
-fn before_line_feed(line: &[u8]) -> &[u8]
-    ensures { result.now ≡ strip_carriage_return line.now }
-{
-    match line {
-        [line @ .., b'\r'] => line,
         line => line,
     }
 }

@@ -1,7 +1,7 @@
 //! A stage: a session that performs a script, and what is made of each publish.
 ghost use Rattle.std.specs.Io.KnownBytes.{Appends};
 ghost use Rattle.std.specs.Prelude.{◌≡◌, ◌⊎◌, ◌<◌, ◌↔◌, ◌∷◌, [], Err, IfErr, IfOk, IfSome, IsOk, None, OnOk};
-ghost use Rattle.mf_live.specs.Desks.{desk_name};
+ghost use Rattle.mf_live.specs.Desks.{desk_identity};
 ghost use Rattle.mf_session.specs.Endings.{HasEnded};
 ghost use Rattle.mf_session.specs.States.{State, start};
 ghost use Rattle.mf_stage.specs.Publications.{IsPlateWhere, IsPublication};
@@ -49,7 +49,7 @@ impl Stage {
     ) -> Result<(Stage, Desk), StageFault>
         ensures start { IfOk result (λ made. StandsFor made.0 start) }
         ensures limits { IfOk result (λ made. limits made.0 ≡ limits_set settings.now) }
-        ensures name { IfOk result (λ made. desk_name made.1 ≡ name made.0) }
+        ensures name { IfOk result (λ made. desk_identity made.1 ≡ name made.0) }
         ensures plates { IfOk result (λ made. plates_of made.0 ≡ plates) }
         ensures too_long { (settings.now.max_bytes < 3) ↔ (result ≡ Err StageFault.FileTooLong) }
         ensures fault { IfErr result (λ fault. (fault ≡ StageFault.FileTooLong) ⊎ (fault ≡ StageFault.OutOfMemory)) }
@@ -123,7 +123,8 @@ impl Stage {
         transcript: &mut W,
         pace: &P,
     ) -> Result<(), StageFault>
-        ensures performed { OnOk result ((s : State) → StandsFor self.old s → HasPerformed self.old s (line.now ∷ []) self.new (W.contents transcript.old) (W.contents transcript.new)) }
+        ensures performed { OnOk result ((s : State) → StandsFor self.old s
+            → HasPerformed self.old s (line.now ∷ []) self.new (W.contents transcript.old) (W.contents transcript.new)) }
         ensures limits { limits self.new ≡ limits self.old }
         ensures name { name self.new ≡ name self.old }
         ensures plates { plates_of self.new ≡ plates_of self.old }
@@ -141,7 +142,8 @@ impl Stage {
         line: &[u8],
         transcript: &mut W,
     ) -> Result<Option<Publication>, StageFault>
-        ensures performed { IfOk result (λ made. (s : State) → StandsFor self.old s → IsPerformed self.old s line.now made self.new (W.contents transcript.old) (W.contents transcript.new)) }
+        ensures performed { IfOk result (λ made. (s : State) → StandsFor self.old s
+            → IsPerformed self.old s line.now made self.new (W.contents transcript.old) (W.contents transcript.new)) }
         ensures limits { limits self.new ≡ limits self.old }
         ensures name { name self.new ≡ name self.old }
         ensures plates { plates_of self.new ≡ plates_of self.old }

@@ -14,13 +14,14 @@ use Rattle.std.proofs.lemmas.Str.{digit_value_digit}
 use Rattle.std.proofs.lemmas.Str.Parse.{numerals_by_value, tells_digits, digits_value_short, digit_from_value}
 use Rattle.mf_text.specs.Token.{value_in}
 use Rattle.mf_text.specs.Token as token
-use Rattle.mf_text.specs.Tokens.{Finds, Taken, first_token, has_front, number_token}
+use Rattle.mf_text.specs.Tokens.{Finds, Taken, first_token, first_is, number_token}
 use Rattle.mf_text.proofs.Words.{digits_first, digits_lacking}
 
 digit_below_ten : (c : ℕ) → is_ascii_digit c ≡ true → digit_value c < 10
 digit_below_ten c e = grind (arith, nat_tests)
 
-row_from : (b : ℕ) (bs : List ℕ) (is_digit : Bool) → is_ascii_digit b ≡ is_digit → AllDigits 10 (take (prefix_len is_ascii_digit bs) bs) → AllDigits 10 (take (cond is_digit (1 + prefix_len is_ascii_digit bs) 0) (b ∷ bs))
+row_from : (b : ℕ) (bs : List ℕ) (is_digit : Bool) → is_ascii_digit b ≡ is_digit
+    → AllDigits 10 (take (prefix_len is_ascii_digit bs) bs) → AllDigits 10 (take (cond is_digit (1 + prefix_len is_ascii_digit bs) 0) (b ∷ bs))
 row_from b bs true e others =
     let longer : 1 + prefix_len is_ascii_digit bs ≡ suc (prefix_len is_ascii_digit bs) = omega arith in
     rw longer (digit_below_ten b e, others)
@@ -39,20 +40,20 @@ short_value ds all short = digits_value_short (numerals_by_value (AllDigits 10) 
 -- the first i bytes are digits, at most nine of them, with this value
 pub record IsNumberTo (text : List ℕ) (i value : ℕ) : Type 0 where
   pub few : i ≤ 9
-  pub front : i ≤ prefix_len is_ascii_digit text
+  pub in_prefix : i ≤ prefix_len is_ascii_digit text
   pub digits : AllDigits 10 (take i text)
   pub value_is : value ≡ digits_value 10 (take i text)
 
 pub number-none : (text : List ℕ) → IsNumberTo text 0 0
-number-none text = record { few = omega arith; front = omega arith; digits = tt; value_is = refl }
+number-none text = record { few = omega arith; in_prefix = omega arith; digits = tt; value_is = refl }
 
 -- a digit at i continues the digits before it
 digit_goes_on : (text : List ℕ) (i : ℕ) → i ≤ prefix_len is_ascii_digit text → i < length text → is_ascii_digit (get_or text i 0) ≡ true
     → i < prefix_len is_ascii_digit text
-digit_goes_on text i front inside digit =
+digit_goes_on text i in_prefix inside digit =
     let stops : i ≡ prefix_len is_ascii_digit text → is_ascii_digit (get_or text i 0) ≡ false =
     λ ends. subst (λ n. is_ascii_digit (get_or text n 0) ≡ false) (sym ends) (prefix_len_stops is_ascii_digit text 0 (omega (arith, ends, inside))) in
-    elim (eq-or-lt_of_le front) [
+    elim (eq-or-lt_of_le in_prefix) [
       | inl ends ↦ absurd (let no = stops ends in cc)
       | inr goes_on ↦ goes_on
     ]
@@ -60,8 +61,8 @@ digit_goes_on text i front inside digit =
 -- a byte at i that is not a digit ends the digits before it
 digits_end : (text : List ℕ) (i : ℕ) → i ≤ prefix_len is_ascii_digit text → is_ascii_digit (get_or text i 0) ≡ false
     → i ≡ prefix_len is_ascii_digit text
-digits_end text i front other =
-    elim (eq-or-lt_of_le front) [
+digits_end text i in_prefix other =
+    elim (eq-or-lt_of_le in_prefix) [
       | inl ends ↦ ends
       | inr goes_on ↦ absurd (let yes = prefix_len_passes is_ascii_digit text i 0 goes_on in cc)
     ]
@@ -86,7 +87,7 @@ number-more text i value to inside digit not_last =
       fits = omega (arith, value_is, short_value (take (i + 1) text) longer (omega (arith, to.few, not_last, length-take-le (i + 1) text (omega arith))));
       more = record {
         few = omega (arith, to.few, not_last);
-        front = omega (arith, digit_goes_on text i to.front inside digit);
+        in_prefix = omega (arith, digit_goes_on text i to.in_prefix inside digit);
         digits = longer;
         value_is = value_is;
       };
@@ -96,22 +97,22 @@ number-ends : (text : List ℕ) (i value : ℕ) → IsNumberTo text i value → 
     → token.Number value ≡ number_token (take_while is_ascii_digit text)
 unfolding number_token
 number-ends text i value to ends =
-    rw (sym ends, le-leb (length (take i text)) 9 (omega (arith, to.few, length-take-le i text (omega (arith, to.front, prefix_len-le-length is_ascii_digit text))))) (ap token.Number to.value_is)
+    rw (sym ends, le-leb (length (take i text)) 9 (omega (arith, to.few, length-take-le i text (omega (arith, to.in_prefix, prefix_len-le-length is_ascii_digit text))))) (ap token.Number to.value_is)
 
 pub number-stops : (text : List ℕ) (i value : ℕ) → IsNumberTo text i value → is_ascii_digit (get_or text i 0) ≡ false → i ≡ prefix_len is_ascii_digit text
-number-stops text i value to other = digits_end text i to.front other
+number-stops text i value to other = digits_end text i to.in_prefix other
 
 pub number-whole : (text : List ℕ) (i value : ℕ) → IsNumberTo text i value → length text ≤ i → i ≡ prefix_len is_ascii_digit text
-number-whole text i value to ended = omega (arith, to.front, ended, prefix_len-le-length is_ascii_digit text)
+number-whole text i value to ended = omega (arith, to.in_prefix, ended, prefix_len-le-length is_ascii_digit text)
 
 number-long : (text : List ℕ) (i value : ℕ) → IsNumberTo text i value → i ≡ 9 → i < length text → is_ascii_digit (get_or text i 0) ≡ true
     → token.Unknown ≡ number_token (take_while is_ascii_digit text)
 unfolding number_token
 number-long text i value to last inside digit =
-    let long = digit_goes_on text i to.front inside digit in
+    let long = digit_goes_on text i to.in_prefix inside digit in
     rw (lt-leb (length (take_while is_ascii_digit text)) 9 (omega (arith, last, long, length-prefix_len is_ascii_digit text))) refl
 
-has_digit : (bs : List ℕ) → 0 < prefix_len is_ascii_digit bs → has_front is_ascii_digit bs ≡ true
+has_digit : (bs : List ℕ) → 0 < prefix_len is_ascii_digit bs → first_is is_ascii_digit bs ≡ true
 has_digit [] some = absurd (omega arith)
 has_digit (b ∷ bs) some = elim (cases_Bool (is_ascii_digit b)) [
   | inl digit ↦ digit
@@ -119,18 +120,21 @@ has_digit (b ∷ bs) some = elim (cases_Bool (is_ascii_digit b)) [
 ]
 
 -- the number that is found once all of its digits are passed
-pub number-found : (text : List ℕ) (i value : ℕ) → IsNumberTo text i value → i ≡ prefix_len is_ascii_digit text → Finds value_in text (if nat_lt 0 i then Some (value, i) else None)
+pub number-found : (text : List ℕ) (i value : ℕ) → IsNumberTo text i value → i ≡ prefix_len is_ascii_digit text
+    → Finds value_in text (if nat_lt 0 i then Some (value, i) else None)
 number-found text i value to ends =
-    cond_both (nat_lt 0 i) (Some (value, i)) None (Finds value_in text) (λ some. found (digits_first text (has_digit text (omega (arith, ltb-true 0 i some, ends)))))
+    cond_both (nat_lt 0 i) (Some (value, i)) None (Finds value_in text)
+    (λ some. found (digits_first text (has_digit text (omega (arith, ltb-true 0 i some, ends)))))
     (λ none. digits_lacking text (no_digit text (omega (arith, ltb-false 0 i none, ends)))) where
-      no_digit : (bs : List ℕ) → prefix_len is_ascii_digit bs ≡ 0 → has_front is_ascii_digit bs ≡ false
+      no_digit : (bs : List ℕ) → prefix_len is_ascii_digit bs ≡ 0 → first_is is_ascii_digit bs ≡ false
       no_digit [] none = refl
       no_digit (b ∷ bs) none = elim (cases_Bool (is_ascii_digit b)) [
         | inr other ↦ other
         | inl digit ↦ absurd (let some : prefix_len is_ascii_digit (b ∷ bs) ≡ 1 + prefix_len is_ascii_digit bs = rw digit refl in omega (arith, some))
       ]
 
-      found : first_token text ≡ record { token = number_token (take_while is_ascii_digit text); bytes = length (take_while is_ascii_digit text) } → Finds value_in text (Some (value, i))
+      found : first_token text ≡ record { token = number_token (take_while is_ascii_digit text); bytes = length (take_while is_ascii_digit text) }
+          → Finds value_in text (Some (value, i))
       found first =
           let count = length-prefix_len is_ascii_digit text in (
             ap (λ (t : Taken). value_in t.token) first ∙ ap value_in (sym (number-ends text i value to ends)),
@@ -139,6 +143,8 @@ number-found text i value to ends =
           )
 
 -- with a tenth digit there is no number
-pub number-lacking : (text : List ℕ) (i value : ℕ) → IsNumberTo text i value → i ≡ 9 → i < length text → is_ascii_digit (get_or text i 0) ≡ true → value_in (first_token text).token ≡ None
+pub number-lacking : (text : List ℕ) (i value : ℕ) → IsNumberTo text i value → i ≡ 9 → i < length text
+    → is_ascii_digit (get_or text i 0) ≡ true → value_in (first_token text).token ≡ None
 number-lacking text i value to last inside digit =
-    ap (λ (t : Taken). value_in t.token) (digits_first text (has_digit text (omega (arith, last, to.front)))) ∙ ap value_in (sym (number-long text i value to last inside digit))
+    ap (λ (t : Taken). value_in t.token) (digits_first text (has_digit text (omega (arith, last, to.in_prefix))))
+    ∙ ap value_in (sym (number-long text i value to last inside digit))

@@ -1,5 +1,5 @@
 pub mod Digits
-pub mod Fronts
+pub mod FirstTokens
 pub mod LineAnswers
 pub mod LineReading
 pub mod LineRests

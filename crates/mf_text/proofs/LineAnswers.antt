@@ -1,30 +1,29 @@
 -- The answer to a line.
-use Rattle.std.proofs.Common.{◌≡◌, inl, inr, Result, Ok, Err, List, [], ℕ, refl, sym, subst}
+use Rattle.std.proofs.Common.{◌≡◌, ◌≢◌, inl, inr, Result, Ok, Err, List, [], ℕ, refl, sym, subst}
 use Rattle.std.specs.Prelude.{IfOk, IfErr}
 use Rattle.mf_text.specs.declared.command.Command.{Command}
 use Rattle.mf_text.specs.declared.fault.TextFault.{TextFault}
 use Rattle.mf_text.specs.declared.fault.TextFault.TheVariants as faults
 use Rattle.mf_text.specs.declared.tokens.Tokens.{Tokens}
 use Rattle.mf_text.specs.Grammar.{Line, Nothing}
-use Rattle.mf_text.specs.Left.{tokens_left}
 use Rattle.mf_text.specs.LineRests.{line}
-use Rattle.mf_text.specs.Lines.{IsText, IsLineOf, Gives, IsRefused, front as line_front}
+use Rattle.mf_text.specs.Lines.{IsText, IsLineOf, Gives, HasBadValues, IsRefused, line_ahead}
 use Rattle.mf_text.specs.Meaning.{Meaning, Is, IfCycle, IfWeight, IfCull, IfFactors, Turns, IsAnswerOf, Refuses, meaning}
-use Rattle.mf_text.specs.Reads.{Answers, ahead}
+use Rattle.mf_text.specs.Reads.{Answers, ahead, remaining_tokens}
 use Rattle.mf_text.specs.Rests.{follow, from}
 use Rattle.mf_text.specs.Tokens.{tokens}
 use Rattle.mf_text.proofs.LineReading.{goes_wrong, is_line}
 
 -- ---- a line with no token
 
-pub nothing : (old : Tokens) → tokens_left old ≡ [] → (r : Result Command TextFault) → IsAnswerOf Nothing r → Answers (from line (ahead old)) r
+pub nothing : (old : Tokens) → remaining_tokens old ≡ [] → (r : Result Command TextFault) → IsAnswerOf Nothing r → Answers (from line (ahead old)) r
 unfolding follow
 nothing old none r answer = subst (λ ps. Answers (from line (record { tokens = ps; past = old.column })) r) (sym none) answer
 
 -- ---- refusals of values
 
 -- the fault is a refusal of values
-abbrev IsOfValues : TextFault → Type 0
+abbrev pub IsOfValues : TextFault → Type 0
 IsOfValues (faults.Cycle cause) = Unit {0}
 IsOfValues faults.BadWeight = Unit {0}
 IsOfValues faults.BadCull = Unit {0}
@@ -32,7 +31,7 @@ IsOfValues faults.BadScale = Unit {0}
 IsOfValues faults.BadTurn = Unit {0}
 IsOfValues fault = ⊥
 
-refusals_of_values : (m : Meaning) (fault : TextFault) → Refuses m fault → IsOfValues fault
+pub refusals_of_values : (m : Meaning) (fault : TextFault) → Refuses m fault → IsOfValues fault
 refusals_of_values (Is made) fault is = absurd is
 refusals_of_values (IfCycle points rest) fault (inl is) = rw is.is tt
 refusals_of_values (IfCycle points rest) fault (inr is) = refusals_of_values rest fault is.1
@@ -44,6 +43,18 @@ refusals_of_values (IfFactors factors rest) fault (inl is) = rw is.is tt
 refusals_of_values (IfFactors factors rest) fault (inr is) = refusals_of_values rest fault is.1
 refusals_of_values (Turns name angle) fault is = rw is.is tt
 
+-- a line whose values are refused is refused, and not with `OutOfMemory`
+pub of_values : (fault : TextFault) → IsOfValues fault → (fault ≢ faults.OutOfMemory) × ((bytes : List ℕ) → HasBadValues bytes fault → IsRefused bytes fault)
+of_values (faults.Cycle cause) of = ((λ e. cc), λ bytes bad. bad)
+of_values faults.BadWeight of = ((λ e. cc), λ bytes bad. bad)
+of_values faults.BadCull of = ((λ e. cc), λ bytes bad. bad)
+of_values faults.BadScale of = ((λ e. cc), λ bytes bad. bad)
+of_values faults.BadTurn of = ((λ e. cc), λ bytes bad. bad)
+of_values faults.OutOfMemory of = absurd of
+of_values faults.LineTooLong of = absurd of
+of_values faults.NotAscii of = absurd of
+of_values (faults.Syntax column) of = absurd of
+
 -- ---- the answer
 
 -- this is the answer to a line: a command that it gives, or its refusal
@@ -51,41 +62,34 @@ abbrev Answered : List ℕ → Result Command TextFault → Type 0
 Answered bytes (Ok given) = Gives bytes given
 Answered bytes (Err fault) = IsRefused bytes fault
 
-whole-answered : (line : List ℕ) (l : Line) (r : Result Command TextFault) → IsLineOf line l → IsAnswerOf l.form r → Answered line r
-whole-answered bytes l (Ok given) is answer = record { line = l; line_is = is; command_is = answer }
-whole-answered bytes l (Err (faults.Cycle cause)) is answer = record { line = l; line_is = is; refusal_is = answer }
-whole-answered bytes l (Err faults.BadWeight) is answer = record { line = l; line_is = is; refusal_is = answer }
-whole-answered bytes l (Err faults.BadCull) is answer = record { line = l; line_is = is; refusal_is = answer }
-whole-answered bytes l (Err faults.BadScale) is answer = record { line = l; line_is = is; refusal_is = answer }
-whole-answered bytes l (Err faults.BadTurn) is answer = record { line = l; line_is = is; refusal_is = answer }
-whole-answered bytes l (Err faults.OutOfMemory) is answer = record { line = l; line_is = is; memory = answer }
-whole-answered bytes l (Err faults.LineTooLong) is answer = absurd (refusals_of_values (meaning l.form) faults.LineTooLong answer)
-whole-answered bytes l (Err faults.NotAscii) is answer = absurd (refusals_of_values (meaning l.form) faults.NotAscii answer)
-whole-answered bytes l (Err (faults.Syntax column)) is answer = absurd (refusals_of_values (meaning l.form) (faults.Syntax column) answer)
+form-answered : (line : List ℕ) (l : Line) (r : Result Command TextFault) → IsLineOf line l → IsAnswerOf l.form r → Answered line r
+form-answered bytes l (Ok given) is answer = record { line = l; line_is = is; command_is = answer }
+form-answered bytes l (Err (faults.Cycle cause)) is answer = record { line = l; line_is = is; refusal_is = answer }
+form-answered bytes l (Err faults.BadWeight) is answer = record { line = l; line_is = is; refusal_is = answer }
+form-answered bytes l (Err faults.BadCull) is answer = record { line = l; line_is = is; refusal_is = answer }
+form-answered bytes l (Err faults.BadScale) is answer = record { line = l; line_is = is; refusal_is = answer }
+form-answered bytes l (Err faults.BadTurn) is answer = record { line = l; line_is = is; refusal_is = answer }
+form-answered bytes l (Err faults.OutOfMemory) is answer = record { line = l; line_is = is; memory = answer }
+form-answered bytes l (Err faults.LineTooLong) is answer = absurd (refusals_of_values (meaning l.form) faults.LineTooLong answer)
+form-answered bytes l (Err faults.NotAscii) is answer = absurd (refusals_of_values (meaning l.form) faults.NotAscii answer)
+form-answered bytes l (Err (faults.Syntax column)) is answer = absurd (refusals_of_values (meaning l.form) (faults.Syntax column) answer)
 
-read_answered : (line_bytes : List ℕ) (o : Result Line ℕ) (r : Result Command TextFault) → IsText line_bytes → from line (line_front line_bytes) ≡ o → Answers o r → Answered line_bytes r
-read_answered bytes (Ok l) r text is answer = whole-answered bytes l r (record { text = text; spelled = is_line (line_front bytes) l is }) answer
+read_answered : (line_bytes : List ℕ) (o : Result Line ℕ) (r : Result Command TextFault) → IsText line_bytes
+    → from line (line_ahead line_bytes) ≡ o → Answers o r → Answered line_bytes r
+read_answered bytes (Ok l) r text is answer = form-answered bytes l r (record { text = text; spelled = is_line (line_ahead bytes) l is }) answer
 read_answered bytes (Err column) r text is answer =
-    subst (Answered bytes) (sym answer) (record { text = text; wrong = goes_wrong (line_front bytes) column is })
+    subst (Answered bytes) (sym answer) (record { text = text; wrong = goes_wrong (line_ahead bytes) column is })
 
-answered : (bytes : List ℕ) (start : Tokens) (r : Result Command TextFault) → IsText bytes → tokens_left start ≡ tokens bytes → start.column ≡ 1
+pub answered : (bytes : List ℕ) (start : Tokens) (r : Result Command TextFault) → IsText bytes → remaining_tokens start ≡ tokens bytes → start.column ≡ 1
     → Answers (from line (ahead start)) r → Answered bytes r
 answered bytes start r text tokens_are column_is answer =
-    let same : ahead start ≡ line_front bytes = rw (tokens_are, column_is) refl in
-    read_answered bytes (from line (line_front bytes)) r text refl (subst (λ a. Answers (from line a) r) same answer)
+    let same : ahead start ≡ line_ahead bytes = rw (tokens_are, column_is) refl in
+    read_answered bytes (from line (line_ahead bytes)) r text refl (subst (λ a. Answers (from line a) r) same answer)
 
-given_of : (bytes : List ℕ) (r : Result Command TextFault) → Answered bytes r → IfOk r (Gives bytes)
+pub given_of : (bytes : List ℕ) (r : Result Command TextFault) → Answered bytes r → IfOk r (Gives bytes)
 given_of bytes (Ok given) is = is
 given_of bytes (Err fault) is = tt
 
-refused_of : (bytes : List ℕ) (r : Result Command TextFault) → Answered bytes r → IfErr r (IsRefused bytes)
+pub refused_of : (bytes : List ℕ) (r : Result Command TextFault) → Answered bytes r → IfErr r (IsRefused bytes)
 refused_of bytes (Ok given) is = tt
 refused_of bytes (Err fault) is = is
-
-pub gives : (bytes : List ℕ) (start : Tokens) (r : Result Command TextFault) → IsText bytes → tokens_left start ≡ tokens bytes → start.column ≡ 1
-    → Answers (from line (ahead start)) r → IfOk r (Gives bytes)
-gives bytes start r text tokens_are column_is answer = given_of bytes r (answered bytes start r text tokens_are column_is answer)
-
-pub refuses : (bytes : List ℕ) (start : Tokens) (r : Result Command TextFault) → IsText bytes → tokens_left start ≡ tokens bytes → start.column ≡ 1
-    → Answers (from line (ahead start)) r → IfErr r (IsRefused bytes)
-refuses bytes start r text tokens_are column_is answer = refused_of bytes r (answered bytes start r text tokens_are column_is answer)

@@ -4,16 +4,15 @@ use Rattle.std.proofs.lemmas.Bool.{and_parts, eqb-true, false≢true}
 use Rattle.std.proofs.lemmas.List.{length-map}
 use Rattle.std.proofs.lemmas.Option.{none-some, same_Some}
 use Rattle.mf_text.specs.declared.token.Mark.TheVariants as mark
-use Rattle.mf_text.specs.Token.{Placed}
-use Rattle.mf_text.specs.Token.{Token}
+use Rattle.mf_text.specs.Token.{Placed, Token}
 use Rattle.mf_text.specs.Token as token
 use Rattle.mf_text.specs.declared.token.Word.TheVariants as word
-use Rattle.mf_text.specs.Ahead.{Ahead, behind, column_at, column_of}
+use Rattle.mf_text.specs.Ahead.{Ahead, ahead_after, column_at, column_of}
 use Rattle.mf_text.specs.Grammar.{Line, spell_line}
 use Rattle.mf_text.specs.LineRests.{line}
 use Rattle.mf_text.specs.Phrases.{IsWrongAt}
-use Rattle.mf_text.specs.Rests.{Place, Before, CodeNumber, ends, follow, from, shown, step}
-use Rattle.mf_text.specs.Syntax.{BeginsLine, IsSyntaxFault, is_negative_code, shown_at}
+use Rattle.mf_text.specs.Rests.{Place, Before, CodeNumber, ends, follow, from, report_column, step}
+use Rattle.mf_text.specs.Syntax.{StartsLine, IsSyntaxFault, is_negative_code, report_place}
 use Rattle.mf_text.specs.Tokens.{kinds}
 use Rattle.mf_text.proofs.LineRests.{line_read}
 use Rattle.mf_text.proofs.Rests.{is_code_number, is_code_number_at, place_ends, reads}
@@ -47,16 +46,16 @@ goes_on_or_not (Some p) (t ∷ ts) =
       | inr ends_here ↦ inr (λ on. ends_here (record { rest = on.rest; tree = on.tree; read = on.read }))
     ]
 
-begins : (ts : List Token) → GoesOn (Some (Before line)) ts → BeginsLine ts
-begins ts on = record { rest = on.rest; phrase = record { tree = on.tree; spelled = read_is_line (ts ++ on.rest) on.tree on.read } }
+starts : (ts : List Token) → GoesOn (Some (Before line)) ts → StartsLine ts
+starts ts on = record { rest = on.rest; phrase = record { tree = on.tree; spelled = read_is_line (ts ++ on.rest) on.tree on.read } }
 
-goes_on : (ts : List Token) → BeginsLine ts → GoesOn (Some (Before line)) ts
+goes_on : (ts : List Token) → StartsLine ts → GoesOn (Some (Before line)) ts
 goes_on ts begun = record { rest = begun.rest; tree = begun.phrase.tree; read = line_is_read (ts ++ begun.rest) begun.phrase.tree begun.phrase.spelled }
 
-pub begins_or_not : (ts : List Token) → BeginsLine ts ⊎ (BeginsLine ts → ⊥)
-begins_or_not ts =
+pub starts_or_not : (ts : List Token) → StartsLine ts ⊎ (StartsLine ts → ⊥)
+starts_or_not ts =
     elim (goes_on_or_not (Some (Before line)) ts) [
-      | inl on ↦ inl (begins ts on)
+      | inl on ↦ inl (starts ts on)
       | inr ends_here ↦ inr (λ begun. ends_here (goes_on ts begun))
     ]
 
@@ -78,7 +77,8 @@ last_column last (p ∷ ps) (suc k) = last_column p.column ps k
 record Stops (p : Place) (last past : ℕ) (ps : List Placed) (column : ℕ) : Type 0 where
   place : ℕ
   at : Wrong (Some p) (kinds ps) place
-  column_is : column ≡ (if is_code_number_at (Some p) (kinds ps) place then last_column last ps place else column_of (behind place ps past).tokens (behind place ps past).past)
+  column_is : column ≡ (if is_code_number_at (Some p) (kinds ps) place then last_column last ps place else column_of
+      (ahead_after place ps past).tokens (ahead_after place ps past).past)
 
 same_Err : (m n : ℕ) (r : Result Line ℕ) → r ≡ Err m → r ≡ Err n → n ≡ m
 same_Err m n r p q = cc
@@ -106,12 +106,12 @@ later p t ts k wrong = record {
   unended = λ whole l read. wrong.unended (omega (arith, whole)) l read;
 }
 
-shown_is : (p : Place) (t : Token) (last own : ℕ) → shown p t last own ≡ (if is_code_number p t then last else own)
-shown_is (CodeNumber next) (token.Number n) last own = refl
-shown_is p t last own = refl
+report_column-is : (p : Place) (t : Token) (last own : ℕ) → report_column p t last own ≡ (if is_code_number p t then last else own)
+report_column-is (CodeNumber next) (token.Number n) last own = refl
+report_column-is p t last own = refl
 
 at_token : (p : Place) (last past : ℕ) (t : Placed) (ps : List Placed) (column : ℕ) (q : Option Place) → step p t.token ≡ q
-    → follow (ok_or q (shown p t.token last t.column)) t.column t.after ps ≡ Err column
+    → follow (ok_or q (report_column p t.token last t.column)) t.column t.after ps ≡ Err column
     → ((s : Place) → follow (Ok s) t.column t.after ps ≡ Err column → Stops s t.column t.after ps column) → Stops p last past (t ∷ ps) column
 unfolding reads is_code_number_at follow
 at_token p last past t ps column None is wrong behind_it = let end = place_ends p in record {
@@ -122,13 +122,15 @@ at_token p last past t ps column None is wrong behind_it = let end = place_ends 
     wrong = λ more on. none-some on.tree (ap (λ q. reads q on.rest) (sym is) ∙ on.read);
     unended = λ whole. absurd (omega (arith, whole));
   };
-  column_is = same_Err (shown p t.token last t.column) column (Err (shown p t.token last t.column)) refl wrong ∙ shown_is p t.token last t.column;
+  column_is = same_Err (report_column p t.token last t.column) column (Err (report_column p t.token last t.column)) refl wrong
+      ∙ report_column-is p t.token last t.column;
 }
 at_token p last past t ps column (Some s) is wrong behind_it = let stops = behind_it s wrong in record {
   place = suc stops.place;
   at = later p t.token (kinds ps) stops.place (subst (λ q. Wrong q (kinds ps) stops.place) (sym is) stops.at);
   column_is = stops.column_is
-      ∙ ap (λ q. if is_code_number_at q (kinds ps) stops.place then last_column t.column ps stops.place else column_of (behind stops.place ps t.after).tokens (behind stops.place ps t.after).past)
+      ∙ ap (λ q. if is_code_number_at q (kinds ps) stops.place then last_column t.column ps stops.place else column_of
+      (ahead_after stops.place ps t.after).tokens (ahead_after stops.place ps t.after).past)
       (sym is);
 }
 
@@ -153,15 +155,16 @@ negative_shows : (ts us : List Token) (l : Line) → is_negative_code ts ≡ tru
 negative_shows (token.Word word.Shipout ∷ s ∷ token.Word word.Code ∷ token.Mark mark.Minus ∷ token.Number n ∷ ts) us l is read = shipped s n ts us l read
 negative_shows ts us l is read = absurd (false≢true is)
 
-column_before : (ps : List Placed) (last past : ℕ) → 4 ≤ length ps → last_column last ps 4 ≡ column_of (behind 3 ps past).tokens (behind 3 ps past).past
+column_before : (ps : List Placed) (last past : ℕ) → 4 ≤ length ps
+    → last_column last ps 4 ≡ column_of (ahead_after 3 ps past).tokens (ahead_after 3 ps past).past
 column_before (a ∷ b ∷ c ∷ d ∷ ps) last past long = refl
 column_before [] last past long = absurd (omega (arith, long))
 column_before (a ∷ []) last past long = absurd (omega (arith, long))
 column_before (a ∷ b ∷ []) last past long = absurd (omega (arith, long))
 column_before (a ∷ b ∷ c ∷ []) last past long = absurd (omega (arith, long))
 
-shown_three : (ts : List Token) (k : ℕ) → is_negative_code ts ≡ true → k ≡ 4 → shown_at ts k ≡ 3
-shown_three ts k negative fourth = rw (negative, fourth) refl
+report_place-three : (ts : List Token) (k : ℕ) → is_negative_code ts ≡ true → k ≡ 4 → report_place ts k ≡ 3
+report_place-three ts k negative fourth = rw (negative, fourth) refl
 
 module _ (ahead : Ahead) (column : ℕ) (found : Stops (Before line) ahead.past ahead.past ahead.tokens column) where
   abbrev ts : List Token
@@ -174,7 +177,7 @@ module _ (ahead : Ahead) (column : ℕ) (found : Stops (Before line) ahead.past 
   wrong_at : IsWrongAt spell_line ts found.place
   wrong_at = let at = found.at in record {
     within = at.within;
-    begins = begins (take found.place ts) at.before;
+    starts = starts (take found.place ts) at.before;
     wrong = λ more begun. at.wrong more (goes_on (take (suc found.place) ts) begun);
     unended = λ whole line. at.unended whole line.tree (line_is_read ts line.tree line.spelled);
   }
@@ -182,15 +185,15 @@ module _ (ahead : Ahead) (column : ℕ) (found : Stops (Before line) ahead.past 
   abbrev chosen : Bool → ℕ
   chosen shows = if shows then last_column ahead.past ahead.tokens found.place else column_at ahead found.place
 
-  shows_before : is_shown ≡ true → column ≡ column_at ahead (shown_at ts found.place)
+  shows_before : is_shown ≡ true → column ≡ column_at ahead (report_place ts found.place)
   shows_before shows =
       let coded = (sound_line (length ts)).coded ts found.place (omega arith) shows in
       let fourth : found.place ≡ 4 = omega (arith, coded.1) in
       let long : 4 ≤ length ahead.tokens = omega (arith, fourth, found.at.within, length-map ahead.tokens (λ (p : Placed). p.token)) in
       found.column_is ∙ ap chosen shows ∙ ap (last_column ahead.past ahead.tokens) fourth ∙ column_before ahead.tokens ahead.past ahead.past long
-      ∙ ap (column_at ahead) (sym (shown_three ts found.place coded.0 fourth))
+      ∙ ap (column_at ahead) (sym (report_place-three ts found.place coded.0 fourth))
 
-  shows_there : is_shown ≡ false → (bad : Bool) → (is_negative_code ts && eqb found.place 4) ≡ bad → column ≡ column_at ahead (shown_at ts found.place)
+  shows_there : is_shown ≡ false → (bad : Bool) → (is_negative_code ts && eqb found.place 4) ≡ bad → column ≡ column_at ahead (report_place ts found.place)
   shows_there plain false good = found.column_is ∙ ap chosen plain ∙ ap (λ b. column_at ahead (if b then 3 else found.place)) (sym good)
   shows_there plain true bad =
       let parts = and_parts (is_negative_code ts) (eqb found.place 4) bad in
@@ -198,7 +201,7 @@ module _ (ahead : Ahead) (column : ℕ) (found : Stops (Before line) ahead.past 
       let before = subst (λ k. GoesOn (Some (Before line)) (take k ts)) fourth found.at.before in
       absurd (false≢true (sym plain ∙ ap (is_code_number_at (Some (Before line)) ts) fourth ∙ negative_shows ts before.rest before.tree parts.0 before.read))
 
-  by_shown : (shows : Bool) → is_shown ≡ shows → column ≡ column_at ahead (shown_at ts found.place)
+  by_shown : (shows : Bool) → is_shown ≡ shows → column ≡ column_at ahead (report_place ts found.place)
   by_shown true shows = shows_before shows
   by_shown false plain = shows_there plain (is_negative_code ts && eqb found.place 4) refl
 
@@ -217,7 +220,7 @@ follows p last past [] l is = end_is (ends p) is where
   end_is None other = absurd (let wrong = other in cc)
   end_is (Some m) same = cc
 follows p last past (t ∷ ps) l is = on_to (step p t.token) is (λ s. follows s t.column t.after ps l) where
-  on_to : (q : Option Place) → follow (ok_or q (shown p t.token last t.column)) t.column t.after ps ≡ Ok l
+  on_to : (q : Option Place) → follow (ok_or q (report_column p t.token last t.column)) t.column t.after ps ≡ Ok l
       → ((s : Place) → follow (Ok s) t.column t.after ps ≡ Ok l → reads (Some s) (kinds ps) ≡ Some l) → reads q (kinds ps) ≡ Some l
   on_to None other later = absurd (let wrong = other in cc)
   on_to (Some s) is later = later s is

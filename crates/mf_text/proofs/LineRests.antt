@@ -13,7 +13,7 @@ use Rattle.mf_text.specs.Token as token
 use Rattle.mf_text.specs.declared.token.Word.{Word}
 use Rattle.mf_text.specs.declared.token.Word.TheVariants as word
 use Rattle.mf_text.specs.Grammar.{Form, Nothing, AddContour, AddPicture, CullKeeping, CullDropping, Clear, Move, ShowTotal, ShowPicture, ShowProof, ShipOut, SetCheck, PublishAll, Transform, Shifted, Scaled, XScaled, YScaled, Rotated, Line, spell_int, spell_name, spell_source, spell_form, spell_end, spell_line, spell_weight, spell_transform}
-use Rattle.mf_text.specs.LineRests.{added, addto, by_number, cleared, contour, cull, drop, keep, line, moved, name_token, named, proof, publish, shifted, shipout, show, turning_check, weighable, weight, whole}
+use Rattle.mf_text.specs.LineRests.{also, addto, by_number, clear, contour, cull, drop, keep, line, transform, name_token, assignment, proof, publish, shift, shipout, show, turning_check, weighable, weight, line_end}
 use Rattle.mf_text.specs.Rests.{Rest, One, Or, ACode, Before, int, step_from}
 use Rattle.mf_text.proofs.Rests.{Leads, on, reads, if_same, code_read, int_read, name_read, one_read, or_read, pair_read, path_read, source_read}
 
@@ -23,13 +23,14 @@ use Rattle.mf_text.proofs.Rests.{Leads, on, reads, if_same, code_read, int_read,
 abbrev read_line : List Token → Option Line
 read_line ts = reads (Some (Before line)) ts
 
-end_read : (form : Form) (ended : Bool) → reads (Some (Before (whole form))) (spell_end ended) ≡ Some (record { form = form; ended = ended })
+end_read : (form : Form) (ended : Bool) → reads (Some (Before (line_end form))) (spell_end ended) ≡ Some (record { form = form; ended = ended })
 unfolding reads
 end_read form true = refl
 end_read form false = refl
 
-whole_read : (form : Form) (ended : Bool) (ts : List Token) → Leads line ts (whole form) → read_line (ts ++ spell_end ended) ≡ Some (record { form = form; ended = ended })
-whole_read form ended ts leads = leads.by (spell_end ended) ∙ end_read form ended
+line_end_read : (form : Form) (ended : Bool) (ts : List Token) → Leads line ts (line_end form)
+    → read_line (ts ++ spell_end ended) ≡ Some (record { form = form; ended = ended })
+line_end_read form ended ts leads = leads.by (spell_end ended) ∙ end_read form ended
 
 weight_end_read : (form : Option Int → Form) (n : Option Int) (ended : Bool)
     → reads (Some (Before (weighable form))) (spell_weight n ++ spell_end ended) ≡ Some (record { form = form n; ended = ended })
@@ -38,89 +39,101 @@ weight_end_read form None true = refl
 weight_end_read form None false = refl
 weight_end_read form (Some n) ended =
     ap (reads (Some (Before (weighable form)))) (append_assoc (token.Word word.WithWeight ∷ []) (spell_int n) (spell_end ended))
-    ∙ (int_read (λ i. whole (form (Some i))) n).by (spell_end ended) ∙ end_read (form (Some n)) ended
+    ∙ (int_read (λ i. line_end (form (Some i))) n).by (spell_end ended) ∙ end_read (form (Some n)) ended
 
 weighed_read : (form : Option Int → Form) (n : Option Int) (ended : Bool) (ts : List Token) → Leads line ts (weighable form)
     → read_line ((ts ++ spell_weight n) ++ spell_end ended) ≡ Some (record { form = form n; ended = ended })
-weighed_read form n ended ts leads = ap read_line (append_assoc ts (spell_weight n) (spell_end ended)) ∙ leads.by (spell_weight n ++ spell_end ended) ∙ weight_end_read form n ended
+weighed_read form n ended ts leads =
+    ap read_line (append_assoc ts (spell_weight n) (spell_end ended)) ∙ leads.by (spell_weight n ++ spell_end ended) ∙ weight_end_read form n ended
 
 -- ---- choices
 
-front_read : (t : Token) (r : Rest) → step_from line t ≡ Some (Before r) → Leads line (t ∷ []) r
+first_read : (t : Token) (r : Rest) → step_from line t ≡ Some (Before r) → Leads line (t ∷ []) r
 unfolding reads
-front_read t r is = record { by = λ us. ap (λ p. reads p us) is }
+first_read t r is = record { by = λ us. ap (λ p. reads p us) is }
 
-named_read : (name : Name) → Leads line (spell_name name) (named name)
-named_read Current = front_read (token.Word word.CurrentPicture) (named Current) refl
-named_read (Register letter) = front_read (token.Letter letter) (named (Register letter)) refl
+assignment_read : (name : Name) → Leads line (spell_name name) (assignment name)
+assignment_read Current = first_read (token.Word word.CurrentPicture) (assignment Current) refl
+assignment_read (Register letter) = first_read (token.Letter letter) (assignment (Register letter)) refl
 
 choice_read : (r s : Rest) (t : Token) → step_from r t ≡ Some (Before s) → Leads r (t ∷ []) s
 unfolding reads
 choice_read r s t is = record { by = λ us. ap (λ p. reads p us) is }
 
-plus_read : (name : Name) (s : Source) → Leads (Or (token.Mark mark.Minus) (added name Minus) (added name Plus)) (spell_source s) (whole (AddPicture name Plus s))
+plus_read : (name : Name) (s : Source)
+    → Leads (Or (token.Mark mark.Minus) (also name Minus) (also name Plus)) (spell_source s) (line_end (AddPicture name Plus s))
 plus_read name Null = choice_read _ _ (token.Word word.NullPicture) refl
 plus_read name (Named Current) = choice_read _ _ (token.Word word.CurrentPicture) refl
 plus_read name (Named (Register letter)) = choice_read _ _ (token.Letter letter) refl
 
-show_read : (s : Source) → Leads show (spell_source s) (whole (ShowPicture s))
+show_read : (s : Source) → Leads show (spell_source s) (line_end (ShowPicture s))
 show_read Null = choice_read _ _ (token.Word word.NullPicture) refl
 show_read (Named Current) = choice_read _ _ (token.Word word.CurrentPicture) refl
 show_read (Named (Register letter)) = choice_read _ _ (token.Letter letter) refl
 
-again_read : (name : Name) → Leads (Or (token.Word word.NullPicture) (cleared name) (One (name_token name) (moved name))) (spell_name name) (moved name)
+again_read : (name : Name) → Leads (Or (token.Word word.NullPicture) (clear name) (One (name_token name) (transform name))) (spell_name name) (transform name)
 again_read Current = choice_read _ _ (token.Word word.CurrentPicture) refl
-again_read (Register letter) = choice_read _ _ (token.Letter letter) (if_same (token.Letter letter) (moved (Register letter)) None)
+again_read (Register letter) = choice_read _ _ (token.Letter letter) (if_same (token.Letter letter) (transform (Register letter)) None)
 
 word_read : (w : Word) (r s : Rest) → step_from r (token.Word w) ≡ Some (Before s) → Leads r (token.Word w ∷ []) s
 word_read w r s is = choice_read r s (token.Word w) is
 
-moved_read : (name : Name) → Leads line ((spell_name name ++ token.Mark mark.Becomes ∷ []) ++ spell_name name) (moved name)
-moved_read name = on (on (named_read name) (one_read _ _)) (again_read name)
+again_name_read : (name : Name) → Leads line ((spell_name name ++ token.Mark mark.Becomes ∷ []) ++ spell_name name) (transform name)
+again_name_read name = on (on (assignment_read name) (one_read _ _)) (again_read name)
 
 -- ---- forms
 
-motion_read : (name : Name) (transform : Transform) → Leads (moved name) (spell_transform transform) (whole (Move name transform))
-motion_read name (Shifted by) = on (word_read word.Shifted (moved name) (shifted name) refl) (pair_read (λ p. whole (Move name (Shifted p))) by)
-motion_read name (Scaled n) = on (word_read word.Scaled (moved name) (by_number name Scaled) refl) (int_read _ n)
-motion_read name (XScaled n) = on (word_read word.XScaled (moved name) (by_number name XScaled) refl) (int_read _ n)
-motion_read name (YScaled n) = on (word_read word.YScaled (moved name) (by_number name YScaled) refl) (int_read _ n)
-motion_read name (Rotated n) = on (word_read word.Rotated (moved name) (by_number name Rotated) refl) (int_read _ n)
+motion_read : (name : Name) (motion : Transform) → Leads (transform name) (spell_transform motion) (line_end (Move name motion))
+motion_read name (Shifted by) = on (word_read word.Shifted (transform name) (shift name) refl) (pair_read (λ p. line_end (Move name (Shifted p))) by)
+motion_read name (Scaled n) = on (word_read word.Scaled (transform name) (by_number name Scaled) refl) (int_read _ n)
+motion_read name (XScaled n) = on (word_read word.XScaled (transform name) (by_number name XScaled) refl) (int_read _ n)
+motion_read name (YScaled n) = on (word_read word.YScaled (transform name) (by_number name YScaled) refl) (int_read _ n)
+motion_read name (Rotated n) = on (word_read word.Rotated (transform name) (by_number name Rotated) refl) (int_read _ n)
 
 -- the last int of a form, and the end of the line
 abbrev last_int : (Int → Form) → Rest
-last_int form = int (λ n. whole (form n))
+last_int form = int (λ n. line_end (form n))
 
 -- the rest of a line that ships a character, after its code
-abbrev behind_code : Source → Code → Rest
-behind_code s code = One (token.Word word.Dx) (int (λ dx. One (token.Word word.Width) (last_int (ShipOut s code dx))))
+abbrev after_code : Source → Code → Rest
+after_code s code = One (token.Word word.Dx) (int (λ dx. One (token.Word word.Width) (last_int (ShipOut s code dx))))
 
 form_read : (form : Form) (ended : Bool) → read_line (spell_form form ++ spell_end ended) ≡ Some (record { form = form; ended = ended })
 unfolding reads
 form_read Nothing true = refl
 form_read Nothing false = refl
 form_read (AddContour name p weight) ended =
-    weighed_read (AddContour name p) weight ended _ (on (on (on (word_read word.Addto line addto refl) (name_read _ name)) (word_read word.Contour _ (contour name) refl)) (path_read _ p))
+    weighed_read (AddContour name p) weight ended _
+    (on (on (on (word_read word.Addto line addto refl) (name_read _ name)) (word_read word.Contour _ (contour name) refl)) (path_read _ p))
 form_read (AddPicture name Plus s) ended =
-    whole_read _ ended _ (on (on (on (word_read word.Addto line addto refl) (name_read _ name)) (word_read word.Also _ _ refl)) (plus_read name s))
+    line_end_read _ ended _ (on (on (on (word_read word.Addto line addto refl) (name_read _ name)) (word_read word.Also _ _ refl)) (plus_read name s))
 form_read (AddPicture name Minus s) ended =
-    whole_read _ ended _ (on (on (on (word_read word.Addto line addto refl) (name_read _ name)) (word_read word.Also _ (Or (token.Mark mark.Minus) (added name Minus) (added name Plus)) refl)) (on (or_read _ _ _) (source_read (λ p. whole (AddPicture name Minus p)) s)))
+    line_end_read _ ended _ (on (on (on (word_read word.Addto line addto refl) (name_read _ name))
+    (word_read word.Also _ (Or (token.Mark mark.Minus) (also name Minus) (also name Plus)) refl))
+    (on (or_read _ _ _) (source_read (λ p. line_end (AddPicture name Minus p)) s)))
 form_read (CullKeeping name range weight) ended =
-    weighed_read (CullKeeping name range) weight ended _ (on (on (on (word_read word.Cull line cull refl) (name_read _ name)) (word_read word.Keeping _ (keep name) refl)) (pair_read (λ p. weighable (CullKeeping name p)) range))
+    weighed_read (CullKeeping name range) weight ended _
+    (on (on (on (word_read word.Cull line cull refl) (name_read _ name)) (word_read word.Keeping _ (keep name) refl))
+    (pair_read (λ p. weighable (CullKeeping name p)) range))
 form_read (CullDropping name range weight) ended =
-    weighed_read (CullDropping name range) weight ended _ (on (on (on (word_read word.Cull line cull refl) (name_read _ name)) (word_read word.Dropping _ (drop name) refl)) (pair_read (λ p. weighable (CullDropping name p)) range))
-form_read (Clear name) ended = whole_read _ ended _ (on (on (named_read name) (one_read _ _)) (or_read _ _ _))
-form_read (Move name transform) ended = whole_read _ ended _ (on (moved_read name) (motion_read name transform))
-form_read (ShowTotal s) ended = whole_read _ ended _ (on (on (word_read word.Show line show refl) (or_read _ _ _)) (source_read (λ p. whole (ShowTotal p)) s))
-form_read (ShowPicture s) ended = whole_read _ ended _ (on (word_read word.Show line show refl) (show_read s))
-form_read (ShowProof s) ended = whole_read _ ended _ (on (word_read word.Proof line proof refl) (source_read (λ p. whole (ShowProof p)) s))
+    weighed_read (CullDropping name range) weight ended _
+    (on (on (on (word_read word.Cull line cull refl) (name_read _ name)) (word_read word.Dropping _ (drop name) refl))
+    (pair_read (λ p. weighable (CullDropping name p)) range))
+form_read (Clear name) ended = line_end_read _ ended _ (on (on (assignment_read name) (one_read _ _)) (or_read _ _ _))
+form_read (Move name motion) ended = line_end_read _ ended _ (on (again_name_read name) (motion_read name motion))
+form_read (ShowTotal s) ended =
+    line_end_read _ ended _ (on (on (word_read word.Show line show refl) (or_read _ _ _)) (source_read (λ p. line_end (ShowTotal p)) s))
+form_read (ShowPicture s) ended = line_end_read _ ended _ (on (word_read word.Show line show refl) (show_read s))
+form_read (ShowProof s) ended = line_end_read _ ended _ (on (word_read word.Proof line proof refl) (source_read (λ p. line_end (ShowProof p)) s))
 form_read (ShipOut s code dx width) ended =
-    whole_read _ ended _
+    line_end_read _ ended _
     (on (on (on (on (on (on (on (word_read word.Shipout line shipout refl)
-    (source_read (λ p. One (token.Word word.Code) (ACode (λ c. behind_code p c))) s)) (one_read _ _))
-    (code_read (behind_code s) code)) (one_read _ _)) (int_read (λ n. One (token.Word word.Width) (last_int (ShipOut s code n))) dx)) (one_read _ _)) (int_read (λ n. whole (ShipOut s code dx n)) width))
-form_read (SetCheck n) ended = whole_read _ ended _ (on (on (word_read word.TurningCheck line turning_check refl) (one_read _ _)) (int_read (λ i. whole (SetCheck i)) n))
-form_read PublishAll ended = whole_read _ ended _ (word_read word.Publish line publish refl)
+    (source_read (λ p. One (token.Word word.Code) (ACode (λ c. after_code p c))) s)) (one_read _ _))
+    (code_read (after_code s) code)) (one_read _ _)) (int_read (λ n. One (token.Word word.Width) (last_int (ShipOut s code n))) dx))
+    (one_read _ _)) (int_read (λ n. line_end (ShipOut s code dx n)) width))
+form_read (SetCheck n) ended =
+    line_end_read _ ended _ (on (on (word_read word.TurningCheck line turning_check refl) (one_read _ _)) (int_read (λ i. line_end (SetCheck i)) n))
+form_read PublishAll ended = line_end_read _ ended _ (word_read word.Publish line publish refl)
 
 pub line_read : (l : Line) → read_line (spell_line l) ≡ Some l
 line_read l = form_read l.form l.ended

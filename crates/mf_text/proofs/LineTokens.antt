@@ -8,7 +8,7 @@ use Rattle.std.proofs.lemmas.List.Folds.{length-prefix_len}
 use Rattle.std.proofs.lemmas.List.Sums.{prefix_len-le-length}
 use Rattle.mf_text.specs.Token.{Token}
 use Rattle.mf_text.specs.Bytes.{is_blank, IsClear}
-use Rattle.mf_text.specs.Tokens.{Taken, placed, marks, mark_among, first_token, tokens_within, tokens_from}
+use Rattle.mf_text.specs.Tokens.{Taken, token_at, marks, mark_among, first_token, tokens_within, tokens_from}
 
 -- ---- how many bytes a token takes
 
@@ -21,13 +21,13 @@ if_taken : (n : ℕ) (c : Bool) (x y : Taken) → (c ≡ true → TakesSome n x)
 if_taken n true x y p q = p refl
 if_taken n false x y p q = q
 
-taken : (n : ℕ) (t : Taken) → 0 < t.bytes → t.bytes ≤ n → TakesSome n t
-taken n t p q = record { some = p; within = q }
+found : (n : ℕ) (t : Taken) → 0 < t.bytes → t.bytes ≤ n → TakesSome n t
+found n t p q = record { some = p; within = q }
 
 mark_taken : (b : ℕ) (bs : List ℕ) → TakesSome (suc (length bs)) (mark_among marks (b ∷ bs))
 unfolding mark_among
-mark_taken b [] = search (if_taken, taken, arith) depth 20
-mark_taken b (other ∷ bs) = search (if_taken, taken, arith) depth 20
+mark_taken b [] = search (if_taken, found, arith) depth 20
+mark_taken b (other ∷ bs) = search (if_taken, found, arith) depth 20
 
 pub first_taken : (b : ℕ) (bs : List ℕ) → TakesSome (suc (length bs)) (first_token (b ∷ bs))
 unfolding first_token
@@ -67,7 +67,7 @@ unfolding tokens_from tokens_within
 tokens-blank column b bs blank = rw blank refl
 
 pub tokens-step : (column b : ℕ) (bs : List ℕ) → is_blank b ≡ false → eqb b 37 ≡ false
-    → tokens_from column (b ∷ bs) ≡ placed column (first_token (b ∷ bs))
+    → tokens_from column (b ∷ bs) ≡ token_at column (first_token (b ∷ bs))
     ∷ tokens_from (column + (first_token (b ∷ bs)).bytes) (drop (first_token (b ∷ bs)).bytes (b ∷ bs))
 unfolding tokens_from tokens_within
 tokens-step column b bs clear token =

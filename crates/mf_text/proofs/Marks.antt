@@ -8,7 +8,7 @@ use Rattle.mf_text.specs.declared.token.Mark.TheVariants as mark
 use Rattle.mf_text.specs.Token.{Token, is_token}
 use Rattle.mf_text.specs.Token as token
 use Rattle.mf_text.specs.Tokens.{FindsToken, Taken, first_token, is_longer, mark_among, mark_text, marks}
-use Rattle.mf_text.proofs.Rows.{begins}
+use Rattle.mf_text.proofs.Rows.{starts-drop}
 use Rattle.mf_text.proofs.Words.{of_letters, of_numbers, same_bytes, same_token}
 
 same_mark : (m n : Mark) → is_token (token.Mark m) (token.Mark n) ≡ true → m ≡ n
@@ -24,7 +24,8 @@ are_written (entry ∷ entries) m bs all is =
     by_text (starts_with eqb bs entry.0) refl is (same_bytes entry.0 (mark_text entry.1) parts.0) (are_written entries m bs parts.1) where
       by_text : (begun : Bool) → starts_with eqb bs entry.0 ≡ begun
           → is_token (if begun then record { token = token.Mark entry.1; bytes = length entry.0 } else mark_among entries bs).token (token.Mark m) ≡ true
-          → entry.0 ≡ mark_text entry.1 → (is_token (mark_among entries bs).token (token.Mark m) ≡ true → starts_with eqb bs (mark_text m) ≡ true) → starts_with eqb bs (mark_text m) ≡ true
+          → entry.0 ≡ mark_text entry.1 → (is_token (mark_among entries bs).token (token.Mark m) ≡ true → starts_with eqb bs (mark_text m) ≡ true)
+          → starts_with eqb bs (mark_text m) ≡ true
       by_text true begun same own others = ap (starts_with eqb bs) (ap mark_text (sym (same_mark entry.1 m same)) ∙ sym own) ∙ begun
       by_text false begun found own others = others found
 
@@ -36,8 +37,10 @@ unfolding first_token
 is_mark m bs =
     let f : Token → Bool = λ t. is_token t (token.Mark m) in
     let P : Taken → Type 0 = λ t. f t.token ≡ true → starts_with eqb bs (mark_text m) ≡ true in
-    cond_both (ltb 0 (length (take (prefix_len is_ascii_alphabetic bs) bs))) _ _ P (λ _ is. absurd (false≢true (sym (of_letters f false refl (λ w. refl) (λ n. refl) _) ∙ is)))
-    (λ _. cond_both (ltb 0 (length (take (prefix_len is_ascii_digit bs) bs))) _ _ P (λ _ is. absurd (false≢true (sym (of_numbers f false refl (λ n. refl) _) ∙ is)))
+    cond_both (ltb 0 (length (take (prefix_len is_ascii_alphabetic bs) bs))) _ _ P
+    (λ _ is. absurd (false≢true (sym (of_letters f false refl (λ w. refl) (λ n. refl) _) ∙ is)))
+    (λ _. cond_both (ltb 0 (length (take (prefix_len is_ascii_digit bs) bs))) _ _ P
+    (λ _ is. absurd (false≢true (sym (of_numbers f false refl (λ n. refl) _) ∙ is)))
     (λ _ is. are_written marks m bs all_written is))
 
 lacking : (m : Mark) (bs : List ℕ) → starts_with eqb bs (mark_text m) ≡ false → is_token (first_token bs).token (token.Mark m) ≡ false
@@ -48,19 +51,22 @@ lacking m bs lacks =
     ]
 
 -- the text of a mark is found as that mark, unless a longer mark is there
-counts : (m : Mark) (xs : List ℕ) → is_longer m (mark_text m ++ xs) ≡ false → first_token (mark_text m ++ xs) ≡ record { token = token.Mark m; bytes = length (mark_text m) }
+counts : (m : Mark) (xs : List ℕ) → is_longer m (mark_text m ++ xs) ≡ false
+    → first_token (mark_text m ++ xs) ≡ record { token = token.Mark m; bytes = length (mark_text m) }
 unfolding first_token mark_among
 counts mark.Becomes xs short = refl
 counts mark.Close xs short = refl
 counts mark.Comma xs short = refl
 counts mark.Join xs short = refl
-counts mark.Minus xs short = ap (λ (b : Bool). if b then record { token = token.Mark mark.Join; bytes = 2 } else record { token = token.Mark mark.Minus; bytes = 1 }) short
+counts mark.Minus xs short =
+    ap (λ (b : Bool). if b then record { token = token.Mark mark.Join; bytes = 2 } else record { token = token.Mark mark.Minus; bytes = 1 }) short
 counts mark.Open xs short = refl
 counts mark.Semicolon xs short = refl
 
-first : (m : Mark) (bs : List ℕ) → starts_with eqb bs (mark_text m) ≡ true → is_longer m bs ≡ false → first_token bs ≡ record { token = token.Mark m; bytes = length (mark_text m) }
+first : (m : Mark) (bs : List ℕ) → starts_with eqb bs (mark_text m) ≡ true → is_longer m bs ≡ false
+    → first_token bs ≡ record { token = token.Mark m; bytes = length (mark_text m) }
 first m bs begun short =
-    let parts = begins bs (mark_text m) begun in
+    let parts = starts-drop bs (mark_text m) begun in
     ap first_token parts ∙ counts m (drop (length (mark_text m)) bs) (ap (is_longer m) (sym parts) ∙ short)
 
 -- whether a mark is found, where this is its text
@@ -78,7 +84,7 @@ module _ (m : Mark) (bs text : List ℕ) (is : text ≡ mark_text m) where
 
 pub mark_longer : (m : Mark) (bs : List ℕ) → is_longer m bs ≡ true → is_token (first_token bs).token (token.Mark m) ≡ false
 unfolding first_token mark_among
-mark_longer mark.Minus bs longer = rw (begins bs (mark_text mark.Join) longer) refl
+mark_longer mark.Minus bs longer = rw (starts-drop bs (mark_text mark.Join) longer) refl
 mark_longer m bs longer = absurd (false≢true longer)
 
 -- ---- a mark that is at the front
@@ -101,7 +107,8 @@ pub one_byte : (bs : List ℕ) (entries : List (List ℕ × Mark)) → (mark_amo
 unfolding mark_among
 one_byte bs [] is = refl
 one_byte bs (entry ∷ entries) is =
-    cond_both (starts_with eqb bs entry.0) _ _ (λ (t : Taken). t.token ≡ token.Unknown → t.bytes ≡ 1) (λ _ other. absurd (let marked = other in cc)) (λ _. one_byte bs entries) is
+    cond_both (starts_with eqb bs entry.0) _ _ (λ (t : Taken). t.token ≡ token.Unknown → t.bytes ≡ 1)
+    (λ _ other. absurd (let marked = other in cc)) (λ _. one_byte bs entries) is
 
 -- where the token at the front is unknown, no mark is there
 pub none_there : (m : Mark) (bs : List ℕ) → (first_token bs).token ≡ token.Unknown → starts_with eqb bs (mark_text m) ≡ false

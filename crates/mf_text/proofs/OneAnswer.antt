@@ -3,7 +3,7 @@ use Rattle.std.proofs.Common.{◌≡◌, ◌≢◌, ◌⊎◌, inl, inr, ℕ, su
 use Rattle.std.proofs.lemmas.Bool.{cases_lt}
 use Rattle.std.proofs.lemmas.Int.{ints}
 use Rattle.std.proofs.lemmas.List.{take-append-drop, take-take}
-use Rattle.mf_geom.proofs.FirstFaults.{fault_of-fault}
+use Rattle.mf_geom.proofs.FirstFaults.{cycle_fault_of-fault}
 use Rattle.mf_ops.specs.ContourWeight.{IsContourWeight}
 use Rattle.mf_ops.specs.Cull.{IsLawfulCull}
 use Rattle.mf_ops.specs.Moves.{AreFactors, degrees}
@@ -16,10 +16,10 @@ use Rattle.mf_text.specs.declared.fault.TextFault.TheVariants as faults
 use Rattle.mf_text.specs.Token.{Token}
 use Rattle.mf_text.specs.Ahead.{Ahead, column_at}
 use Rattle.mf_text.specs.Grammar.{Line, spell_line}
-use Rattle.mf_text.specs.Lines.{IsText, front, IsLineOf, Gives, HasBadValues, HasOtherBytes, HasSyntaxFault, IsRefused}
+use Rattle.mf_text.specs.Lines.{IsText, line_ahead, IsLineOf, Gives, HasBadValues, HasOtherBytes, HasSyntaxFault, IsRefused}
 use Rattle.mf_text.specs.Meaning.{Meaning, Is, IfCycle, IfWeight, IfCull, IfFactors, Turns, IsCommandOf, IsRefusalOf, IsUnlawful, Means, Refuses, meaning}
-use Rattle.mf_text.specs.Phrases.{IsPhrase, BeginsPhrase, IsWrongAt}
-use Rattle.mf_text.specs.Syntax.{IsLine, shown_at, IsSyntaxFault}
+use Rattle.mf_text.specs.Phrases.{IsPhrase, StartsPhrase, IsWrongAt}
+use Rattle.mf_text.specs.Syntax.{IsLine, report_place, IsSyntaxFault}
 use Rattle.mf_text.specs.Tokens.{kinds}
 use Rattle.mf_text.proofs.LineReading.{same_line}
 
@@ -50,22 +50,24 @@ module _ (lawful : Type 0) (fault : TextFault) (rest : TextFault → Type 0) whe
   Checked refused = IsUnlawful lawful fault refused ⊎ (lawful × rest refused)
 
   one_checked : (one other : TextFault) → (rest one → rest other → one ≡ other) → Checked one → Checked other → one ≡ other
-  one_checked one other behind (inl p) (inl q) = p.is ∙ sym q.is
-  one_checked one other behind (inl p) (inr q) = absurd (p.unlawful q.0)
-  one_checked one other behind (inr p) (inl q) = absurd (q.unlawful p.0)
-  one_checked one other behind (inr p) (inr q) = behind p.1 q.1
+  one_checked one other later (inl p) (inl q) = p.is ∙ sym q.is
+  one_checked one other later (inl p) (inr q) = absurd (p.unlawful q.0)
+  one_checked one other later (inr p) (inl q) = absurd (q.unlawful p.0)
+  one_checked one other later (inr p) (inr q) = later p.1 q.1
 
   not_checked : (refused : TextFault) → (rest refused → ⊥) → lawful → Checked refused → ⊥
-  not_checked refused behind holds (inl q) = q.unlawful holds
-  not_checked refused behind holds (inr q) = behind q.1
+  not_checked refused later holds (inl q) = q.unlawful holds
+  not_checked refused later holds (inr q) = later q.1
 
 one_refused : (m : Meaning) (one other : TextFault) → Refuses m one → Refuses m other → one ≡ other
 one_refused (Is made) one other p q = absurd p
-one_refused (IfCycle points rest) one other (inl p) (inl q) = let first = fault_of-fault points p.cause p.fault in let second = fault_of-fault points q.cause q.fault in cc
+one_refused (IfCycle points rest) one other (inl p) (inl q) =
+    let first = cycle_fault_of-fault points p.cause p.fault in let second = cycle_fault_of-fault points q.cause q.fault in cc
 one_refused (IfCycle points rest) one other (inl p) (inr q) = absurd (p.none q.0)
 one_refused (IfCycle points rest) one other (inr p) (inl q) = absurd (q.none p.0)
 one_refused (IfCycle points rest) one other (inr p) (inr q) = one_refused rest one other p.1 q.1
-one_refused (IfWeight weight rest) one other p q = one_checked (IsContourWeight weight) faults.BadWeight (Refuses rest) one other (one_refused rest one other) p q
+one_refused (IfWeight weight rest) one other p q =
+    one_checked (IsContourWeight weight) faults.BadWeight (Refuses rest) one other (one_refused rest one other) p q
 one_refused (IfCull rule rest) one other p q = one_checked (IsLawfulCull rule) faults.BadCull (Refuses rest) one other (one_refused rest one other) p q
 one_refused (IfFactors factors rest) one other p q = one_checked (AreFactors factors) faults.BadScale (Refuses rest) one other (one_refused rest one other) p q
 one_refused (Turns name angle) one other p q = p.is ∙ sym q.is
@@ -74,7 +76,8 @@ not_both : (m : Meaning) (given : Command) (fault : TextFault) → Means m given
 not_both (Is made) given fault p q = q
 not_both (IfCycle points rest) given fault p (inl q) = q.none p.0
 not_both (IfCycle points rest) given fault p (inr q) = not_both rest given fault p.1 q.1
-not_both (IfWeight weight rest) given fault p q = not_checked (IsContourWeight weight) faults.BadWeight (Refuses rest) fault (not_both rest given fault p.1) p.0 q
+not_both (IfWeight weight rest) given fault p q =
+    not_checked (IsContourWeight weight) faults.BadWeight (Refuses rest) fault (not_both rest given fault p.1) p.0 q
 not_both (IfCull rule rest) given fault p q = not_checked (IsLawfulCull rule) faults.BadCull (Refuses rest) fault (not_both rest given fault p.1) p.0 q
 not_both (IfFactors factors rest) given fault p q = not_checked (AreFactors factors) faults.BadScale (Refuses rest) fault (not_both rest given fault p.1) p.0 q
 not_both (Turns name angle) given fault p q = q.unlawful (p.quarter, p.angle_is)
@@ -82,22 +85,26 @@ not_both (Turns name angle) given fault p q = q.unlawful (p.quarter, p.angle_is)
 -- ---- where tokens go wrong
 
 rejoined : {A : Type 0} (xs : List A) (j k : ℕ) → j ≤ k → take j xs ++ drop j (take k xs) ≡ take k xs
-rejoined xs j k below = ap (λ front. front ++ drop j (take k xs)) (sym (take-take j k xs below)) ∙ take-append-drop j (take k xs)
+rejoined xs j k below = ap (λ opening. opening ++ drop j (take k xs)) (sym (take-take j k xs below)) ∙ take-append-drop j (take k xs)
 
 -- where some phrase starts with tokens, one starts with each prefix of them
-begins-front : {A : Type 0} (spell : A → List Token) (ts : List Token) (j k : ℕ) → j ≤ k → BeginsPhrase spell (take k ts)
-    → BeginsPhrase spell (take j ts)
-begins-front spell ts j k below begun = record {
+starts-sooner : {A : Type 0} (spell : A → List Token) (ts : List Token) (j k : ℕ) → j ≤ k → StartsPhrase spell (take k ts)
+    → StartsPhrase spell (take j ts)
+starts-sooner spell ts j k below begun = record {
   rest = drop j (take k ts) ++ begun.rest;
   phrase =
-      record { tree = begun.phrase.tree; spelled = sym (append_assoc (take j ts) (drop j (take k ts)) begun.rest) ∙ ap (λ front. front ++ begun.rest) (rejoined ts j k below) ∙ begun.phrase.spelled };
+      record {
+        tree = begun.phrase.tree;
+        spelled = sym (append_assoc (take j ts) (drop j (take k ts)) begun.rest)
+            ∙ ap (λ opening. opening ++ begun.rest) (rejoined ts j k below) ∙ begun.phrase.spelled;
+      };
 }
 
 -- tokens do not go wrong at two places
 not_before : {A : Type 0} (spell : A → List Token) (ts : List Token) (j k : ℕ) → IsWrongAt spell ts j → IsWrongAt spell ts k → j < k → ⊥
 not_before spell ts j k p q before =
     let within = q.within in
-    p.wrong (omega arith) (begins-front spell ts (suc j) k (omega arith) q.begins)
+    p.wrong (omega arith) (starts-sooner spell ts (suc j) k (omega arith) q.starts)
 
 one_place : {A : Type 0} (spell : A → List Token) (ts : List Token) (j k : ℕ) → IsWrongAt spell ts j → IsWrongAt spell ts k → j ≡ k
 one_place spell ts j k p q =
@@ -112,7 +119,7 @@ one_place spell ts j k p q =
 one_column : (ahead : Ahead) (one other : ℕ) → IsSyntaxFault ahead one → IsSyntaxFault ahead other → one ≡ other
 one_column ahead one other p q =
     let ts = kinds ahead.tokens in
-    p.column_is ∙ ap (λ k. column_at ahead (shown_at ts k)) (one_place spell_line ts p.place q.place p.at q.at) ∙ sym q.column_is
+    p.column_is ∙ ap (λ k. column_at ahead (report_place ts k)) (one_place spell_line ts p.place q.place p.at q.at) ∙ sym q.column_is
 
 -- tokens that go wrong are not a phrase
 wrong_is_no_phrase : {A : Type 0} (spell : A → List Token) (ts : List Token) (k : ℕ) → IsWrongAt spell ts k → IsPhrase spell ts → ⊥
@@ -158,7 +165,7 @@ text_is_text : (bytes : List ℕ) → IsText bytes → HasOtherBytes bytes → �
 text_is_text bytes p q = cc
 
 no_line-line : (bytes : List ℕ) (column : ℕ) (line : Line) → HasSyntaxFault bytes column → IsLineOf bytes line → ⊥
-no_line-line bytes column line p q = wrong_is_no_line (front bytes) column p.wrong (record { tree = line; spelled = q.spelled })
+no_line-line bytes column line p q = wrong_is_no_line (line_ahead bytes) column p.wrong (record { tree = line; spelled = q.spelled })
 
 one_cause : (bytes : List ℕ) (one other : TextFault) → IsCause bytes one → IsCause bytes other → one ≡ other
 one_cause bytes one other (TooLong p long) (TooLong q _) = cc
@@ -172,7 +179,7 @@ one_cause bytes one other (NoText p bad) (BadValues values) = absurd (text_is_te
 one_cause bytes one other (NoLine column p wrong) (TooLong q long) = absurd (omega (arith, long, wrong.text.short))
 one_cause bytes one other (NoLine column p wrong) (NoText q bad) = absurd (text_is_text bytes wrong.text bad)
 one_cause bytes one other (NoLine column p wrong) (NoLine place q other_wrong) =
-    p ∙ ap faults.Syntax (one_column (front bytes) column place wrong.wrong other_wrong.wrong) ∙ sym q
+    p ∙ ap faults.Syntax (one_column (line_ahead bytes) column place wrong.wrong other_wrong.wrong) ∙ sym q
 one_cause bytes one other (NoLine column p wrong) (BadValues values) = absurd (no_line-line bytes column values.line wrong values.line_is)
 one_cause bytes one other (BadValues values) (TooLong q long) = absurd (omega (arith, long, values.line_is.text.short))
 one_cause bytes one other (BadValues values) (NoText q bad) = absurd (text_is_text bytes values.line_is.text bad)

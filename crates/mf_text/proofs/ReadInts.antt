@@ -9,7 +9,8 @@ use Rattle.mf_text.specs.Ints.{int_of, short_int, is_byte}
 
 short_int-some : (negative : Bool) (n : ℕ) (short : Bool) (is : nat_lt n 1000000000 ≡ short) (fits : nat_lt n 1000000000 ≡ true)
     → short_int negative n short is ≡ Some (record { negative = negative; magnitude = n; short = fits })
-short_int-some negative n true is fits = ap (λ (s : nat_lt n 1000000000 ≡ true). Some (record { negative = negative; magnitude = n; short = s })) (Bool-set (nat_lt n 1000000000) true is fits)
+short_int-some negative n true is fits =
+    ap (λ (s : nat_lt n 1000000000 ≡ true). Some (record { negative = negative; magnitude = n; short = s })) (Bool-set (nat_lt n 1000000000) true is fits)
 short_int-some negative n false is fits = absurd (false≢true (sym is ∙ fits))
 
 short_int-none : (negative : Bool) (n : ℕ) (short : Bool) (is : nat_lt n 1000000000 ≡ short) → nat_lt n 1000000000 ≡ false

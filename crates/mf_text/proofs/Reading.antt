@@ -18,11 +18,10 @@ use Rattle.mf_text.specs.declared.tokens.Tokens.{Tokens}
 use Rattle.mf_text.specs.Ahead.{Ahead, column_of}
 use Rattle.mf_text.specs.Grammar.{Line, Path}
 use Rattle.mf_text.specs.Ints.{pair_value}
-use Rattle.mf_text.specs.Left.{tokens_left}
 use Rattle.mf_text.specs.LineRests.{name_token}
 use Rattle.mf_text.specs.Paths.{HasPoints}
-use Rattle.mf_text.specs.Reads.{HasTaken, Passes, PassesPath, Takes, after_first, ahead, is_next, taken, with_rest}
-use Rattle.mf_text.specs.Rests.{Rest, ACode, AName, ANumber, Corners, One, Or, OrName, Place, Before, CodeNumber, Ends, before, code_in, corner, end_of, path, follow, from, number_in, or_place, shown, step_from}
+use Rattle.mf_text.specs.Reads.{TakesToken, Passes, PassesPath, TakesValue, after_first, ahead, is_next, remaining_tokens, next_value, with_rest}
+use Rattle.mf_text.specs.Rests.{Rest, ACode, AName, ANumber, Corners, One, Or, OrName, Place, Before, CodeNumber, Ends, before, code_in, corner, end_of, path, follow, from, number_in, or_place, report_column, step_from}
 use Rattle.mf_text.specs.Token.{Placed, Token, is_token, letter_in, name_in, value_in}
 use Rattle.mf_text.specs.Token as token
 use Rattle.mf_text.proofs.Words.{same_token}
@@ -41,7 +40,7 @@ exit (Err e) fault same = ap Err same
 -- ---- a value of the next token
 
 -- where no value is taken, the first token has none
-pub lacks : {A : Type 0} (f : Token → Option A) (p : Placed) (ps : List Placed) → taken f (p ∷ ps) ≡ None → f p.token ≡ None
+pub lacks : {A : Type 0} (f : Token → Option A) (p : Placed) (ps : List Placed) → next_value f (p ∷ ps) ≡ None → f p.token ≡ None
 lacks {A} f p ps is = by_value (f p.token) is where
   by_value : (v : Option A) → with_rest (record { tokens = ps; past = p.after }) v ≡ None → v ≡ None
   by_value None none = refl
@@ -58,7 +57,7 @@ module _ {A : Type 0} (rest : Rest) (f : Token → Option A) (next : A → Rest)
   unfolding follow
   at_value p ps v step is = ap (λ (s : Option Place). follow (ok_or s p.column) p.column p.after ps) (step ∙ ap (before next) is)
 
-  pub goes_on_with : (ps : List Placed) → Follows rest f next ps → (a : A) (after : Ahead) → taken f ps ≡ Some (a, after)
+  pub goes_on_with : (ps : List Placed) → Follows rest f next ps → (a : A) (after : Ahead) → next_value f ps ≡ Some (a, after)
       → from rest (record { tokens = ps; past = past }) ≡ from (next a) after
   unfolding follow
   goes_on_with [] follows a after is = absurd (none-some (a, after) is)
@@ -70,21 +69,26 @@ module _ {A : Type 0} (rest : Rest) (f : Token → Option A) (next : A → Rest)
         at_value p ps (Some x) (follows.steps p ps refl) found ∙ from_any (next x) p.column p.after ps
         ∙ ap (λ (v : A × Ahead). from (next v.0) v.1) (same_Some (x, record { tokens = ps; past = p.after }) (a, after) same)
 
-  pub goes_wrong_there : (ps : List Placed) → Follows rest f next ps → taken f ps ≡ None → from rest (record { tokens = ps; past = past }) ≡ Err (column_of ps past)
+  pub goes_wrong_there : (ps : List Placed) → Follows rest f next ps → next_value f ps ≡ None
+      → from rest (record { tokens = ps; past = past }) ≡ Err (column_of ps past)
   unfolding follow
   goes_wrong_there [] follows is = ap (λ (l : Option Line). ok_or l past) follows.endless
   goes_wrong_there (p ∷ ps) follows is = at_value p ps None (follows.steps p ps refl) (lacks f p ps is)
 
 -- a phrase that is the value of one token
-pub value_passed : {A : Type 0} (phrase : (A → Rest) → Rest) (f : Token → Option A) (before after : Tokens) → ((next : A → Rest) → Follows (phrase next) f next (tokens_left before))
-    → (a : A) → Takes f before after (Some a) → Passes phrase before after (Ok a)
-value_passed phrase f before after follows a took next = goes_on_with (phrase next) f next before.column (tokens_left before) (follows next) a (ahead after) took
+pub value_passed : {A : Type 0} (phrase : (A → Rest) → Rest) (f : Token → Option A) (before after : Tokens)
+    → ((next : A → Rest) → Follows (phrase next) f next (remaining_tokens before))
+    → (a : A) → TakesValue f before after (Some a) → Passes phrase before after (Ok a)
+value_passed phrase f before after follows a took next =
+    goes_on_with (phrase next) f next before.column (remaining_tokens before) (follows next) a (ahead after) took
 
-pub value_lacking : {A : Type 0} (phrase : (A → Rest) → Rest) (f : Token → Option A) (before same after : Tokens) → ((next : A → Rest) → Follows (phrase next) f next (tokens_left before))
-    → Takes f before same None → (fault : SyntaxFault) → fault.column ≡ column_of (tokens_left same) same.column → Passes phrase before after (Err fault)
+pub value_lacking : {A : Type 0} (phrase : (A → Rest) → Rest) (f : Token → Option A) (before same after : Tokens)
+    → ((next : A → Rest) → Follows (phrase next) f next (remaining_tokens before))
+    → TakesValue f before same None → (fault : SyntaxFault) → fault.column ≡ column_of (remaining_tokens same) same.column
+    → Passes phrase before after (Err fault)
 value_lacking phrase f before same after follows took fault column_is next =
-    goes_wrong_there (phrase next) f next before.column (tokens_left before) (follows next) took.0
-    ∙ ap (λ (t : Tokens). Err (column_of (tokens_left t) t.column)) (sym took.1) ∙ ap Err (sym column_is)
+    goes_wrong_there (phrase next) f next before.column (remaining_tokens before) (follows next) took.0
+    ∙ ap (λ (t : Tokens). Err (column_of (remaining_tokens t) t.column)) (sym took.1) ∙ ap Err (sym column_is)
 
 pub name_follows : (next : Name → Rest) (ps : List Placed) → Follows (AName next) name_in next ps
 name_follows next ps = record { steps = λ p qs is. refl; endless = refl }
@@ -95,37 +99,44 @@ number_follows negative next ps = record { steps = λ p qs is. refl; endless = r
 -- a code without `-`
 pub code_follows : (next : Code → Rest) (ps : List Placed) → is_next (token.Mark mark.Minus) ps ≡ false → Follows (ACode next) (code_in false) next ps
 code_follows next ps differs = record {
-  steps = λ p qs is. ap (λ (b : Bool). if b then Some (CodeNumber next) else before next (code_in false p.token)) (ap (is_next (token.Mark mark.Minus)) (sym is) ∙ differs);
+  steps = λ p qs is. ap (λ (b : Bool). if b then Some (CodeNumber next) else before next (code_in false p.token))
+      (ap (is_next (token.Mark mark.Minus)) (sym is) ∙ differs);
   endless = refl;
 }
 
 -- where each token with the value a also has the value b, taking a takes b
 pub taken_as : {A B : Type 0} (f : Token → Option A) (g : Token → Option B) (a : A) (b : B) → ((t : Token) → f t ≡ Some a → g t ≡ Some b)
-    → (ps : List Placed) (after : Ahead) → taken f ps ≡ Some (a, after) → taken g ps ≡ Some (b, after)
+    → (ps : List Placed) (after : Ahead) → next_value f ps ≡ Some (a, after) → next_value g ps ≡ Some (b, after)
 taken_as f g a b same [] after is = absurd (none-some (a, after) is)
 taken_as {A} {B} f g a b same (p ∷ ps) after is = by_value (f p.token) refl is where
-  by_value : (v : Option A) → f p.token ≡ v → with_rest (record { tokens = ps; past = p.after }) v ≡ Some (a, after) → taken g (p ∷ ps) ≡ Some (b, after)
+  by_value : (v : Option A) → f p.token ≡ v → with_rest (record { tokens = ps; past = p.after }) v ≡ Some (a, after) → next_value g (p ∷ ps) ≡ Some (b, after)
   by_value None found none = absurd (none-some (a, after) none)
   by_value (Some x) found both =
       let pairs = same_Some (x, record { tokens = ps; past = p.after }) (a, after) both in
       ap (with_rest (record { tokens = ps; past = p.after })) (same p.token (found ∙ ap (λ (v : A × Ahead). Some v.0) pairs))
       ∙ ap (λ (v : A × Ahead). Some (b, v.1)) pairs
 
-pub none_taken : {A : Type 0} (f : Token → Option A) (ps : List Placed) → ((p : Placed) (qs : List Placed) → ps ≡ p ∷ qs → f p.token ≡ None) → taken f ps ≡ None
+pub none_taken : {A : Type 0} (f : Token → Option A) (ps : List Placed)
+    → ((p : Placed) (qs : List Placed) → ps ≡ p ∷ qs → f p.token ≡ None) → next_value f ps ≡ None
 none_taken f [] never = refl
 none_taken f (p ∷ ps) never = ap (with_rest (record { tokens = ps; past = p.after })) (never p ps refl)
 
 -- ---- a given word or mark
 
 module _ (u : Token) (this other : Rest) (past : ℕ) where
-  pub chosen : (p : Placed) (ps : List Placed) → is_token p.token u ≡ true → from (Or u this other) (record { tokens = p ∷ ps; past = past }) ≡ from this (record { tokens = ps; past = p.after })
+  pub chosen : (p : Placed) (ps : List Placed) → is_token p.token u ≡ true
+      → from (Or u this other) (record { tokens = p ∷ ps; past = past }) ≡ from this (record { tokens = ps; past = p.after })
   unfolding follow
-  chosen p ps same = ap (λ (b : Bool). follow (ok_or (if b then Some (Before this) else step_from other p.token) p.column) p.column p.after ps) same ∙ from_any this p.column p.after ps
+  chosen p ps same =
+      ap (λ (b : Bool). follow (ok_or (if b then Some (Before this) else step_from other p.token) p.column) p.column p.after ps) same
+      ∙ from_any this p.column p.after ps
 
-  pub not_chosen : (ps : List Placed) → is_next u ps ≡ false → from (Or u this other) (record { tokens = ps; past = past }) ≡ from other (record { tokens = ps; past = past })
+  pub not_chosen : (ps : List Placed) → is_next u ps ≡ false
+      → from (Or u this other) (record { tokens = ps; past = past }) ≡ from other (record { tokens = ps; past = past })
   unfolding follow
   not_chosen [] differs = refl
-  not_chosen (p ∷ ps) differs = ap (λ (b : Bool). follow (ok_or (if b then Some (Before this) else step_from other p.token) p.column) p.column p.after ps) differs
+  not_chosen (p ∷ ps) differs =
+      ap (λ (b : Bool). follow (ok_or (if b then Some (Before this) else step_from other p.token) p.column) p.column p.after ps) differs
 
   pub not_here : (ps : List Placed) → is_next u ps ≡ false → from (One u this) (record { tokens = ps; past = past }) ≡ Err (column_of ps past)
   unfolding follow
@@ -135,25 +146,31 @@ module _ (u : Token) (this other : Rest) (past : ℕ) where
 -- a token that must come is one that may come
 or_again : (u : Token) (this : Rest) (t : Token) → step_from (One u this) t ≡ step_from (Or u this (One u this)) t
 or_again u this t = again (is_token t u) refl where
-  again : (same : Bool) → is_token t u ≡ same → (if same then Some (Before this) else None) ≡ (if same then Some (Before this) else (if is_token t u then Some (Before this) else None))
+  again : (same : Bool) → is_token t u ≡ same
+      → (if same then Some (Before this) else None) ≡ (if same then Some (Before this) else (if is_token t u then Some (Before this) else None))
   again true is = refl
   again false is = rw is refl
 
-pub one_or : (u : Token) (this : Rest) (past : ℕ) (ps : List Placed) → from (One u this) (record { tokens = ps; past = past }) ≡ from (Or u this (One u this)) (record { tokens = ps; past = past })
+pub one_or : (u : Token) (this : Rest) (past : ℕ) (ps : List Placed)
+    → from (One u this) (record { tokens = ps; past = past }) ≡ from (Or u this (One u this)) (record { tokens = ps; past = past })
 unfolding follow
 one_or u this past [] = refl
 one_or u this past (p ∷ ps) = ap (λ s. follow (ok_or s p.column) p.column p.after ps) (or_again u this p.token)
 
 -- a token that must come was passed, or is not next
-module _ (u : Token) (old new : Tokens) (taken : Bool)
-    (read : (this other : Rest) → from (Or u this other) (ahead old) ≡ (if taken then from this (ahead new) else from other (ahead new)))
-    (took : HasTaken u old new taken) (this : Rest) where
-  pub passed : taken ≡ true → from (One u this) (ahead old) ≡ from this (ahead new)
-  passed is = one_or u this old.column (tokens_left old) ∙ read this (One u this) ∙ ap (λ (b : Bool). if b then from this (ahead new) else from (One u this) (ahead new)) is
+module _ (u : Token) (old new : Tokens) (passes : Bool)
+    (read : (this other : Rest) → from (Or u this other) (ahead old) ≡ (if passes then from this (ahead new) else from other (ahead new)))
+    (took : TakesToken u old new passes) (this : Rest) where
+  pub passed : passes ≡ true → from (One u this) (ahead old) ≡ from this (ahead new)
+  passed is =
+      one_or u this old.column (remaining_tokens old) ∙ read this (One u this)
+      ∙ ap (λ (b : Bool). if b then from this (ahead new) else from (One u this) (ahead new)) is
 
-  pub missed : taken ≡ false → (fault : SyntaxFault) → fault.column ≡ column_of (tokens_left new) new.column → from (One u this) (ahead old) ≡ Err fault.column
+  pub missed : passes ≡ false → (fault : SyntaxFault) → fault.column ≡ column_of (remaining_tokens new) new.column
+      → from (One u this) (ahead old) ≡ Err fault.column
   missed is fault column_is =
-      not_here u this this old.column (tokens_left old) (sym took.next ∙ is) ∙ ap (λ (t : Tokens). Err (column_of (tokens_left t) t.column)) (sym (took.left is)) ∙ ap Err (sym column_is)
+      not_here u this this old.column (remaining_tokens old) (sym took.next ∙ is)
+      ∙ ap (λ (t : Tokens). Err (column_of (remaining_tokens t) t.column)) (sym (took.same is)) ∙ ap Err (sym column_is)
 
 -- ---- the end of a line
 
@@ -168,7 +185,7 @@ line_goes_on line past (p ∷ ps) some = refl
 
 -- ---- a name, where one may come
 
-pub name_chosen : (this : Name → Rest) (other : Rest) (past : ℕ) (ps : List Placed) (name : Name) (after : Ahead) → taken name_in ps ≡ Some (name, after)
+pub name_chosen : (this : Name → Rest) (other : Rest) (past : ℕ) (ps : List Placed) (name : Name) (after : Ahead) → next_value name_in ps ≡ Some (name, after)
     → from (OrName this other) (record { tokens = ps; past = past }) ≡ from (this name) after
 unfolding follow
 name_chosen this other past [] name after is = absurd (none-some (name, after) is)
@@ -177,10 +194,11 @@ name_chosen this other past (p ∷ ps) name after is = by_value (name_in p.token
       → from (OrName this other) (record { tokens = p ∷ ps; past = past }) ≡ from (this name) after
   by_value None none found = absurd (none-some (name, after) none)
   by_value (Some x) same found =
-      ap (λ (v : Option Name). follow (ok_or (or_place (before this v) (step_from other p.token)) p.column) p.column p.after ps) found ∙ from_any (this x) p.column p.after ps
+      ap (λ (v : Option Name). follow (ok_or (or_place (before this v) (step_from other p.token)) p.column) p.column p.after ps) found
+      ∙ from_any (this x) p.column p.after ps
       ∙ ap (λ (v : Name × Ahead). from (this v.0) v.1) (same_Some (x, record { tokens = ps; past = p.after }) (name, after) same)
 
-pub name_not_chosen : (this : Name → Rest) (other : Rest) (past : ℕ) (ps : List Placed) → taken name_in ps ≡ None
+pub name_not_chosen : (this : Name → Rest) (other : Rest) (past : ℕ) (ps : List Placed) → next_value name_in ps ≡ None
     → from (OrName this other) (record { tokens = ps; past = past }) ≡ from other (record { tokens = ps; past = past })
 unfolding follow
 name_not_chosen this other past [] is = refl
@@ -195,7 +213,8 @@ token_is (token.Mark m) (token.Mark n) same = ap token.Mark (search rules)
 token_is token.Unknown token.Unknown same = refl
 token_is t u other = absurd (false≢true other)
 
-pub current_taken : (ps : List Placed) (after : Ahead) → is_next (token.Word word.CurrentPicture) ps ≡ true → after_first ps ≡ Some after → taken name_in ps ≡ Some (Current, after)
+pub current_taken : (ps : List Placed) (after : Ahead) → is_next (token.Word word.CurrentPicture) ps ≡ true
+    → after_first ps ≡ Some after → next_value name_in ps ≡ Some (Current, after)
 current_taken [] after is after_is = absurd (false≢true is)
 current_taken (p ∷ ps) after is after_is =
     ap (λ t. with_rest (record { tokens = ps; past = p.after }) (name_in t)) (token_is p.token (token.Word word.CurrentPicture) is)
@@ -206,7 +225,7 @@ letter_name : (t : Token) (n : ℕ) → letter_in t ≡ Some n → name_in t ≡
 letter_name (token.Letter m) n is = ap (λ k. Some (Register k)) (same_Some m n is)
 letter_name t n is = absurd (none-some n is)
 
-pub letter_taken : (ps : List Placed) (n : ℕ) (after : Ahead) → taken letter_in ps ≡ Some (n, after) → taken name_in ps ≡ Some (Register n, after)
+pub letter_taken : (ps : List Placed) (n : ℕ) (after : Ahead) → next_value letter_in ps ≡ Some (n, after) → next_value name_in ps ≡ Some (Register n, after)
 letter_taken ps n after is = taken_as letter_in name_in n (Register n) (λ t. letter_name t n) ps after is
 
 no_name : (t : Token) → is_token t (token.Word word.CurrentPicture) ≡ false → letter_in t ≡ None → name_in t ≡ None
@@ -214,7 +233,7 @@ no_name (token.Word word.CurrentPicture) other none = absurd (false≢true (sym 
 no_name (token.Letter n) other none = absurd (none-some n (sym none))
 no_name t other none = refl
 
-pub no_name_taken : (ps : List Placed) → is_next (token.Word word.CurrentPicture) ps ≡ false → taken letter_in ps ≡ None → taken name_in ps ≡ None
+pub no_name_taken : (ps : List Placed) → is_next (token.Word word.CurrentPicture) ps ≡ false → next_value letter_in ps ≡ None → next_value name_in ps ≡ None
 no_name_taken [] other none = refl
 no_name_taken (p ∷ ps) other none = ap (with_rest (record { tokens = ps; past = p.after })) (no_name p.token other (lacks letter_in p ps none))
 
@@ -229,11 +248,12 @@ name_of Current = refl
 name_of (Register n) = refl
 
 -- a name that is taken is passed as this name
-pub name_passed : (name : Name) (this : Rest) (past : ℕ) (ps : List Placed) (after : Ahead) → taken name_in ps ≡ Some (name, after)
+pub name_passed : (name : Name) (this : Rest) (past : ℕ) (ps : List Placed) (after : Ahead) → next_value name_in ps ≡ Some (name, after)
     → from (One (name_token name) this) (record { tokens = ps; past = past }) ≡ from this after
 name_passed name this past ps after is =
     one_or (name_token name) this past ps ∙ chosen_there ps is where
-      chosen_there : (qs : List Placed) → taken name_in qs ≡ Some (name, after) → from (Or (name_token name) this (One (name_token name) this)) (record { tokens = qs; past = past }) ≡ from this after
+      chosen_there : (qs : List Placed) → next_value name_in qs ≡ Some (name, after)
+          → from (Or (name_token name) this (One (name_token name) this)) (record { tokens = qs; past = past }) ≡ from this after
       chosen_there [] none = absurd (none-some (name, after) none)
       chosen_there (p ∷ qs) found = by_name (name_in p.token) refl found where
         by_name : (v : Option Name) → name_in p.token ≡ v → with_rest (record { tokens = qs; past = p.after }) v ≡ Some (name, after)
@@ -242,22 +262,25 @@ name_passed name this past ps after is =
         by_name (Some x) is_name both =
             let pairs = same_Some (x, record { tokens = qs; past = p.after }) (name, after) both in
             let same : is_token p.token (name_token name) ≡ true =
-            ap (λ t. is_token t (name_token name)) (name_is p.token name (is_name ∙ ap (λ (v : Name × Ahead). Some v.0) pairs)) ∙ same_token (name_token name) in
+            ap (λ t. is_token t (name_token name)) (name_is p.token name (is_name ∙ ap (λ (v : Name × Ahead). Some v.0) pairs))
+            ∙ same_token (name_token name) in
             chosen (name_token name) this (One (name_token name) this) past p qs same ∙ ap (λ (v : Name × Ahead). from this v.1) pairs
 
 -- a name that is not taken as this name is not next
-pub name_missed : (name : Name) (old after : Tokens) (r : Option Name) → Takes name_in old after r → (r ≡ Some name → ⊥) → is_next (name_token name) (tokens_left old) ≡ false
-name_missed name old after r took other = differs (tokens_left old) (λ v is. other (taken_is r took v is)) where
-  taken_is : (r : Option Name) → Takes name_in old after r → (v : Ahead) → taken name_in (tokens_left old) ≡ Some (name, v) → r ≡ Some name
+pub name_missed : (name : Name) (old after : Tokens) (r : Option Name) → TakesValue name_in old after r
+    → (r ≡ Some name → ⊥) → is_next (name_token name) (remaining_tokens old) ≡ false
+name_missed name old after r took other = differs (remaining_tokens old) (λ v is. other (taken_is r took v is)) where
+  taken_is : (r : Option Name) → TakesValue name_in old after r → (v : Ahead) → next_value name_in (remaining_tokens old) ≡ Some (name, v) → r ≡ Some name
   taken_is None none v is = absurd (none-some (name, v) (sym none.0 ∙ is))
   taken_is (Some x) some v is = ap (λ (w : Name × Ahead). Some w.0) (same_Some (x, ahead after) (name, v) (sym some ∙ is))
 
-  differs : (ps : List Placed) → ((v : Ahead) → taken name_in ps ≡ Some (name, v) → ⊥) → is_next (name_token name) ps ≡ false
+  differs : (ps : List Placed) → ((v : Ahead) → next_value name_in ps ≡ Some (name, v) → ⊥) → is_next (name_token name) ps ≡ false
   differs [] never = refl
   differs (p ∷ ps) never = elim (cases_Bool (is_token p.token (name_token name))) [
     | inr not_same ↦ not_same
     | inl same ↦ absurd (never (record { tokens = ps; past = p.after })
-        (ap (λ t. with_rest (record { tokens = ps; past = p.after }) (name_in t)) (token_is p.token (name_token name) same) ∙ ap (with_rest (record { tokens = ps; past = p.after })) (name_of name)))
+        (ap (λ t. with_rest (record { tokens = ps; past = p.after }) (name_in t))
+        (token_is p.token (name_token name) same) ∙ ap (with_rest (record { tokens = ps; past = p.after })) (name_of name)))
   ]
 
 -- ---- the number of a code after its `-`
@@ -273,15 +296,16 @@ at_minus next past (p ∷ ps) after same is =
 
 module _ (next : Code → Rest) (first past : ℕ) where
   -- a number is reported at the `-`, and any other token where it is
-  shown_number : (t : Token) (n column : ℕ) → value_in t ≡ Some n → shown (CodeNumber next) t first column ≡ first
+  shown_number : (t : Token) (n column : ℕ) → value_in t ≡ Some n → report_column (CodeNumber next) t first column ≡ first
   shown_number (token.Number m) n column is = refl
   shown_number t n column is = absurd (none-some n is)
 
-  shown_other : (t : Token) (column : ℕ) → value_in t ≡ None → (code_in true t ≡ None) × (shown (CodeNumber next) t first column ≡ column)
+  shown_other : (t : Token) (column : ℕ) → value_in t ≡ None → (code_in true t ≡ None) × (report_column (CodeNumber next) t first column ≡ column)
   shown_other (token.Number m) column is = absurd (none-some m (sym is))
   shown_other t column is = (refl, refl)
 
-  pub code_read : (ps : List Placed) (code : Code) (after : Ahead) → taken (code_in true) ps ≡ Some (code, after) → follow (Ok (CodeNumber next)) first past ps ≡ from (next code) after
+  pub code_read : (ps : List Placed) (code : Code) (after : Ahead) → next_value (code_in true) ps ≡ Some (code, after)
+      → follow (Ok (CodeNumber next)) first past ps ≡ from (next code) after
   unfolding follow
   code_read [] code after is = absurd (none-some (code, after) is)
   code_read (p ∷ ps) code after is = by_value (code_in true p.token) refl is where
@@ -289,10 +313,12 @@ module _ (next : Code → Rest) (first past : ℕ) where
         → follow (Ok (CodeNumber next)) first past (p ∷ ps) ≡ from (next code) after
     by_value None found none = absurd (none-some (code, after) none)
     by_value (Some x) found same =
-        ap (λ (v : Option Code). follow (ok_or (before next v) (shown (CodeNumber next) p.token first p.column)) p.column p.after ps) found
-        ∙ from_any (next x) p.column p.after ps ∙ ap (λ (v : Code × Ahead). from (next v.0) v.1) (same_Some (x, record { tokens = ps; past = p.after }) (code, after) same)
+        ap (λ (v : Option Code). follow (ok_or (before next v) (report_column (CodeNumber next) p.token first p.column)) p.column p.after ps) found
+        ∙ from_any (next x) p.column p.after ps
+        ∙ ap (λ (v : Code × Ahead). from (next v.0) v.1) (same_Some (x, record { tokens = ps; past = p.after }) (code, after) same)
 
-  pub code_bad : (ps : List Placed) (n : ℕ) (after : Ahead) → taken (code_in true) ps ≡ None → taken value_in ps ≡ Some (n, after) → follow (Ok (CodeNumber next)) first past ps ≡ Err first
+  pub code_bad : (ps : List Placed) (n : ℕ) (after : Ahead) → next_value (code_in true) ps ≡ None
+      → next_value value_in ps ≡ Some (n, after) → follow (Ok (CodeNumber next)) first past ps ≡ Err first
   unfolding follow
   code_bad [] n after none is = absurd (none-some (n, after) is)
   code_bad (p ∷ ps) n after none is = by_value (value_in p.token) refl is where
@@ -300,15 +326,17 @@ module _ (next : Code → Rest) (first past : ℕ) where
         → follow (Ok (CodeNumber next)) first past (p ∷ ps) ≡ Err first
     by_value None found none = absurd (none-some (n, after) none)
     by_value (Some x) found same =
-        ap (λ (v : Option Code). follow (ok_or (before next v) (shown (CodeNumber next) p.token first p.column)) p.column p.after ps) (lacks (code_in true) p ps none)
+        ap (λ (v : Option Code). follow (ok_or (before next v) (report_column (CodeNumber next) p.token first p.column)) p.column p.after ps)
+        (lacks (code_in true) p ps none)
         ∙ ap Err (shown_number p.token x p.column found)
 
-  pub code_missing : (ps : List Placed) → taken value_in ps ≡ None → follow (Ok (CodeNumber next)) first past ps ≡ Err (column_of ps past)
+  pub code_missing : (ps : List Placed) → next_value value_in ps ≡ None → follow (Ok (CodeNumber next)) first past ps ≡ Err (column_of ps past)
   unfolding follow
   code_missing [] none = refl
   code_missing (p ∷ ps) none =
       let other = shown_other p.token p.column (lacks value_in p ps none) in
-      ap (λ (v : Option Code). follow (ok_or (before next v) (shown (CodeNumber next) p.token first p.column)) p.column p.after ps) other.0 ∙ ap Err other.1
+      ap (λ (v : Option Code). follow (ok_or (before next v) (report_column (CodeNumber next) p.token first p.column)) p.column p.after ps) other.0
+      ∙ ap Err other.1
 
 -- ---- the corners of a path
 
@@ -323,30 +351,38 @@ one_more first others next p = Corners first (others ++ p ∷ []) next
 
 pub corners_or : (first : Pair) (others : List Pair) (next : Path → Rest) (past : ℕ) (ps : List Placed)
     → from (Corners first others next) (record { tokens = ps; past = past })
-    ≡ from (Or (token.Mark mark.Open) (corner (one_more first others next)) (One (token.Word word.Cycle) (next (record { first = first; others = others })))) (record { tokens = ps; past = past })
+    ≡ from (Or (token.Mark mark.Open) (corner (one_more first others next)) (One (token.Word word.Cycle) (next (record { first = first; others = others }))))
+    (record { tokens = ps; past = past })
 unfolding follow
 corners_or first others next past [] = refl
 corners_or first others next past (p ∷ ps) = refl
 
 -- what a line gives at the `(` of one more corner, and at the `cycle` after the last one
-module _ (first : Pair) (others : List Pair) (now after : Tokens) (taken : Bool)
-    (read : (this other : Rest) → from (Or (token.Mark mark.Open) this other) (ahead now) ≡ (if taken then from this (ahead after) else from other (ahead after))) where
-  pub corner_more : (next : Path → Rest) → taken ≡ true → from (Corners first others next) (ahead now) ≡ from (corner (one_more first others next)) (ahead after)
+module _ (first : Pair) (others : List Pair) (now after : Tokens) (passes : Bool)
+    (read : (this other : Rest) → from (Or (token.Mark mark.Open) this other)
+    (ahead now) ≡ (if passes then from this (ahead after) else from other (ahead after))) where
+  pub corner_more : (next : Path → Rest) → passes ≡ true
+      → from (Corners first others next) (ahead now) ≡ from (corner (one_more first others next)) (ahead after)
   corner_more next is =
-      corners_or first others next now.column (tokens_left now) ∙ read (corner (one_more first others next)) (One (token.Word word.Cycle) (next (record { first = first; others = others })))
-      ∙ ap (λ t. if t then from (corner (one_more first others next)) (ahead after) else from (One (token.Word word.Cycle) (next (record { first = first; others = others }))) (ahead after)) is
+      corners_or first others next now.column (remaining_tokens now)
+      ∙ read (corner (one_more first others next)) (One (token.Word word.Cycle) (next (record { first = first; others = others })))
+      ∙ ap (λ t. if t then from (corner (one_more first others next)) (ahead after) else from
+      (One (token.Word word.Cycle) (next (record { first = first; others = others }))) (ahead after)) is
 
-  pub corner_last : (next : Path → Rest) → taken ≡ false
+  pub corner_last : (next : Path → Rest) → passes ≡ false
       → from (Corners first others next) (ahead now) ≡ from (One (token.Word word.Cycle) (next (record { first = first; others = others }))) (ahead after)
   corner_last next is =
-      corners_or first others next now.column (tokens_left now) ∙ read (corner (one_more first others next)) (One (token.Word word.Cycle) (next (record { first = first; others = others })))
-      ∙ ap (λ t. if t then from (corner (one_more first others next)) (ahead after) else from (One (token.Word word.Cycle) (next (record { first = first; others = others }))) (ahead after)) is
+      corners_or first others next now.column (remaining_tokens now)
+      ∙ read (corner (one_more first others next)) (One (token.Word word.Cycle) (next (record { first = first; others = others })))
+      ∙ ap (λ t. if t then from (corner (one_more first others next)) (ahead after) else from
+      (One (token.Word word.Cycle) (next (record { first = first; others = others }))) (ahead after)) is
 
 pub path_wrong : (before after : Tokens) (r : Result paths.Path SyntaxFault) (fault : SyntaxFault) → IsErrAnd r (λ y. y ≡ fault)
     → ((next : Path → Rest) → from (path next) (ahead before) ≡ Err fault.column) → PassesPath before after r
 path_wrong before after r fault is wrong = subst (PassesPath before after) (sym (exit r fault is)) wrong
 
-pub points_more : (kept : paths.Path) (first : Pair) (others : List Pair) (p : Pair) (v : Point) → v ≡ pair_value p → HasPoints kept (map pair_value (first ∷ others) ++ v ∷ [])
+pub points_more : (kept : paths.Path) (first : Pair) (others : List Pair) (p : Pair) (v : Point) → v ≡ pair_value p
+    → HasPoints kept (map pair_value (first ∷ others) ++ v ∷ [])
     → HasPoints kept (map pair_value (first ∷ (others ++ p ∷ [])))
 points_more kept first others p v is has =
     subst (HasPoints kept) (ap (λ u. map pair_value (first ∷ others) ++ u ∷ []) is ∙ sym (map-append pair_value (first ∷ others) (p ∷ []))) has

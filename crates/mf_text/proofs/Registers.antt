@@ -61,15 +61,15 @@ all_letters column bytes (p ∷ ps) (blanks, (text, (others, (cut, later)))) = (
 
 -- ---- the names of a form whose letters have numbers below 26
 
-front : (ts us : List Token) → AreLetters (ts ++ us) → AreLetters ts
+of_first : (ts us : List Token) → AreLetters (ts ++ us) → AreLetters ts
 unfolding AreLetters
-front [] us all = tt
-front (t ∷ ts) us all = (all.0, front ts us all.1)
+of_first [] us all = tt
+of_first (t ∷ ts) us all = (all.0, of_first ts us all.1)
 
-behind : (ts us : List Token) → AreLetters (ts ++ us) → AreLetters us
+of_second : (ts us : List Token) → AreLetters (ts ++ us) → AreLetters us
 unfolding AreLetters
-behind [] us all = all
-behind (t ∷ ts) us all = behind ts us all.1
+of_second [] us all = all
+of_second (t ∷ ts) us all = of_second ts us all.1
 
 rest : (t : Token) (ts : List Token) → AreLetters (t ∷ ts) → AreLetters ts
 unfolding AreLetters
@@ -82,7 +82,7 @@ name_is (Register letter) all = all.0
 
 -- a name, with two phrases after it
 first_name : (name : Name) (ts us : List Token) → AreLetters (spell_name name ++ ts ++ us) → IsName name
-first_name name ts us all = name_is name (front _ ts (front _ us all))
+first_name name ts us all = name_is name (of_first _ ts (of_first _ us all))
 
 source_is : (source : Source) → AreLetters (spell_source source) → IsSource source
 source_is Null all = tt
@@ -101,14 +101,14 @@ AreNamed (IfCull rule rest) = AreNamed rest
 AreNamed (IfFactors factors rest) = AreNamed rest
 AreNamed (Turns name angle) = IsName name
 
-named : (m : Meaning) (given : Command) → AreNamed m → Means m given → HasNames given
+names_meant : (m : Meaning) (given : Command) → AreNamed m → Means m given → HasNames given
 unfolding AreNamed
-named (Is made) given all p = rw p all
-named (IfCycle points rest) given all p = named rest given all p.1
-named (IfWeight weight rest) given all p = named rest given all p.1
-named (IfCull rule rest) given all p = named rest given all p.1
-named (IfFactors factors rest) given all p = named rest given all p.1
-named (Turns name angle) given all p = rw p.is all
+names_meant (Is made) given all p = rw p all
+names_meant (IfCycle points rest) given all p = names_meant rest given all p.1
+names_meant (IfWeight weight rest) given all p = names_meant rest given all p.1
+names_meant (IfCull rule rest) given all p = names_meant rest given all p.1
+names_meant (IfFactors factors rest) given all p = names_meant rest given all p.1
+names_meant (Turns name angle) given all p = rw p.is all
 
 move_names : (name : Name) (transform : Transform) → IsName name → AreNamed (transform_meaning name transform)
 unfolding AreNamed
@@ -121,16 +121,17 @@ move_names name (Rotated n) letter = letter
 form_names : (form : Form) → AreLetters (spell_form form) → AreNamed (meaning form)
 unfolding AreNamed
 form_names Nothing all = tt
-form_names (AddContour name path weight) all = first_name name _ _ (front _ _ (rest _ _ all))
-form_names (AddPicture name sign source) all = let called = rest _ _ all in (first_name name _ _ called, signed_is sign source (behind _ _ called))
-form_names (CullKeeping name range weight) all = first_name name _ _ (front _ _ (rest _ _ all))
-form_names (CullDropping name range weight) all = first_name name _ _ (front _ _ (rest _ _ all))
+form_names (AddContour name path weight) all = first_name name _ _ (of_first _ _ (rest _ _ all))
+form_names (AddPicture name sign source) all = let called = rest _ _ all in (first_name name _ _ called, signed_is sign source (of_second _ _ called))
+form_names (CullKeeping name range weight) all = first_name name _ _ (of_first _ _ (rest _ _ all))
+form_names (CullDropping name range weight) all = first_name name _ _ (of_first _ _ (rest _ _ all))
 form_names (Clear name) all = first_name name _ _ all
-form_names (Move name transform) all = move_names name transform (first_name name _ _ (front _ _ all))
+form_names (Move name transform) all = move_names name transform (first_name name _ _ (of_first _ _ all))
 form_names (ShowTotal source) all = source_is source (rest _ _ (rest _ _ all))
 form_names (ShowPicture source) all = source_is source (rest _ _ all)
 form_names (ShowProof source) all = source_is source (rest _ _ all)
-form_names (ShipOut source code dx width) all = source_is source (front _ _ (front _ _ (front _ _ (front _ _ (front _ _ (front _ _ (rest _ _ all)))))))
+form_names (ShipOut source code dx width) all =
+    source_is source (of_first _ _ (of_first _ _ (of_first _ _ (of_first _ _ (of_first _ _ (of_first _ _ (rest _ _ all)))))))
 form_names (SetCheck n) all = tt
 form_names PublishAll all = tt
 
@@ -140,4 +141,4 @@ pub names-given : (bytes : List ℕ) (given : Command) → Gives bytes given →
 names-given bytes given gives =
     let line = gives.line in
     let letters = subst AreLetters gives.line_is.spelled (all_letters 1 bytes (tokens bytes) (are_tokens bytes)) in
-    named (meaning line.form) given (form_names line.form (front (spell_form line.form) (spell_end line.ended) letters)) gives.command_is
+    names_meant (meaning line.form) given (form_names line.form (of_first (spell_form line.form) (spell_end line.ended) letters)) gives.command_is

@@ -9,14 +9,13 @@ use Rattle.mf_text.specs.declared.command.Source.TheVariants.{Null, Named}
 use Rattle.mf_text.specs.declared.int.Int.{Int}
 use Rattle.mf_text.specs.declared.pair.Pair.{Pair}
 use Rattle.mf_text.specs.declared.token.Mark.TheVariants as mark
-use Rattle.mf_text.specs.Token.{Token}
+use Rattle.mf_text.specs.Token.{Token, is_token}
 use Rattle.mf_text.specs.Token as token
 use Rattle.mf_text.specs.declared.token.Word.TheVariants as word
 use Rattle.mf_text.specs.Codes.{code_of}
 use Rattle.mf_text.specs.Grammar.{Line, Path, spell_int, spell_code, spell_pair, spell_name, spell_source, spell_corner, spell_path}
 use Rattle.mf_text.specs.Ints.{int_of}
 use Rattle.mf_text.specs.Rests.{Rest, Ends, One, Or, AName, OrName, ANumber, ACode, Corners, Place, Before, CodeNumber, before, corner, ends, if_token, int, pair, path, source, step, step_from}
-use Rattle.mf_text.specs.Token.{is_token}
 use Rattle.mf_text.proofs.ReadInts.{int_of-back, code_of-back}
 
 -- the line that these tokens are read as from a place, if there is one
@@ -60,7 +59,8 @@ source_read next (Named Current) = record { by = λ us. refl }
 source_read next (Named (Register letter)) = record { by = λ us. refl }
 
 signed_read : (next : Int → Rest) (negative : Bool) (n : ℕ) (us : List Token)
-    → reads (Some (Before (int next))) ((if negative then token.Mark mark.Minus ∷ token.Number n ∷ [] else token.Number n ∷ []) ++ us) ≡ reads (before next (int_of negative n)) us
+    → reads (Some (Before (int next))) ((if negative then token.Mark mark.Minus ∷ token.Number n ∷ [] else token.Number n ∷ []) ++ us)
+    ≡ reads (before next (int_of negative n)) us
 unfolding reads
 signed_read next true n us = refl
 signed_read next false n us = refl
@@ -91,7 +91,8 @@ corner_read next p = on (pair_read (λ q. One (token.Mark mark.Join) (next q)) p
 abbrev one_more : Pair → List Pair → (Path → Rest) → Pair → Rest
 one_more first others next p = Corners first (others ++ p ∷ []) next
 
-next_corner_read : (first : Pair) (others : List Pair) (next : Path → Rest) (p : Pair) → Leads (Corners first others next) (spell_corner p) (one_more first others next p)
+next_corner_read : (first : Pair) (others : List Pair) (next : Path → Rest) (p : Pair)
+    → Leads (Corners first others next) (spell_corner p) (one_more first others next p)
 unfolding reads
 next_corner_read first others next p = record { by = (corner_read (one_more first others next) p).by }
 
@@ -102,7 +103,8 @@ corners_read first others next (p ∷ ps) =
     subst (λ all. Leads (Corners first others next) (flat_map spell_corner (p ∷ ps)) (Corners first all next)) (append_assoc others (p ∷ []) ps)
     (on (next_corner_read first others next p) (corners_read first (others ++ p ∷ []) next ps))
 
-cycle_read : (first : Pair) (others : List Pair) (next : Path → Rest) → Leads (Corners first others next) (token.Word word.Cycle ∷ []) (next (record { first = first; others = others }))
+cycle_read : (first : Pair) (others : List Pair) (next : Path → Rest)
+    → Leads (Corners first others next) (token.Word word.Cycle ∷ []) (next (record { first = first; others = others }))
 unfolding reads
 cycle_read first others next = record { by = λ us. refl }
 

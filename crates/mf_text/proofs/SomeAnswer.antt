@@ -5,7 +5,8 @@ use Rattle.std.specs.List.{list_all}
 use Rattle.std.proofs.lemmas.Bool.{cases_Bool, cases_lt}
 use Rattle.std.proofs.lemmas.Int.{ints, by_lt_z}
 use Rattle.std.proofs.lemmas.Option.{none-some}
-use Rattle.mf_geom.proofs.FirstFaults.{cycle-form_fault, fault-fault_of, form_fault-none}
+use Rattle.mf_geom.specs.Coordinates.{least_coordinate, greatest_coordinate}
+use Rattle.mf_geom.proofs.FirstFaults.{cycle-form_fault, fault-cycle_fault_of, form_fault-none}
 use Rattle.mf_geom.specs.Faults.{form_fault}
 use Rattle.mf_geom.specs.Lawful.{IsRectilinearCycle}
 use Rattle.mf_geom.specs.declared.cycle.CycleFault.{CycleFault}
@@ -24,12 +25,13 @@ use Rattle.mf_text.specs.declared.fault.TextFault.{TextFault}
 use Rattle.mf_text.specs.declared.fault.TextFault.TheVariants as faults
 use Rattle.mf_text.specs.Bytes.{is_text_byte}
 use Rattle.mf_text.specs.Grammar.{Line}
-use Rattle.mf_text.specs.Lines.{IsText, front, Gives, HasBadValues, IsRefused}
+use Rattle.mf_text.specs.Lines.{IsText, line_ahead, Gives, IsRefused}
 use Rattle.mf_text.specs.Meaning.{Meaning, Is, IfCycle, IfWeight, IfCull, IfFactors, Turns, IsNoCycle, IsUnlawful, Means, Refuses, meaning}
 use Rattle.mf_text.specs.LineRests.{line}
 use Rattle.mf_text.specs.Rests.{from}
 use Rattle.mf_text.specs.Syntax.{IsLine}
 use Rattle.mf_text.specs.Tokens.{kinds, tokens}
+use Rattle.mf_text.proofs.LineAnswers.{of_values, refusals_of_values}
 use Rattle.mf_text.proofs.LineReading.{goes_wrong, is_line}
 
 -- ---- values are lawful or not
@@ -45,8 +47,8 @@ weight_or_not w =
 
 factor_or_not : (f : ℤ) → IsFactor f ⊎ (IsFactor f → ⊥)
 factor_or_not f =
-    by_lt_z f (negsuc 4094) (λ below. inr (λ is. omega (arith, ints, is.least)))
-    (λ least. by_lt_z (pos 4095) f (λ above. inr (λ is. omega (arith, ints, is.greatest)))
+    by_lt_z f least_coordinate (λ below. inr (λ is. omega (arith, ints, is.least)))
+    (λ least. by_lt_z greatest_coordinate f (λ above. inr (λ is. omega (arith, ints, is.greatest)))
     (λ greatest. elim (ℤ_discrete f (pos 0)) [
       | no nonzero ↦ inl (record { least = least; greatest = greatest; nonzero = nonzero })
       | yes zero ↦ inr (λ is. is.nonzero zero)
@@ -72,7 +74,8 @@ cull_or_not (Dropping a b w) =
     by_lt_z (pos 0) a (λ above. inr (λ is. omega (arith, ints, is.least)))
     (λ least. by_lt_z b (pos 0) (λ below. inr (λ is. omega (arith, ints, is.greatest))) (λ greatest. inl (record { least = least; greatest = greatest })))
 
-no_turn : (angle : ℤ) → (degrees Once ≡ angle → ⊥) → (degrees Twice ≡ angle → ⊥) → (degrees Thrice ≡ angle → ⊥) → (quarter : Quarter) → degrees quarter ≡ angle → ⊥
+no_turn : (angle : ℤ) → (degrees Once ≡ angle → ⊥) → (degrees Twice ≡ angle → ⊥) → (degrees Thrice ≡ angle → ⊥)
+    → (quarter : Quarter) → degrees quarter ≡ angle → ⊥
 no_turn angle once twice thrice Once is = once is
 no_turn angle once twice thrice Twice is = twice is
 no_turn angle once twice thrice Thrice is = thrice is
@@ -94,61 +97,45 @@ cycle_or_not : (points : List Point) (found : Option CycleFault) → form_fault 
     → IsRectilinearCycle points ⊎ ((cause : CycleFault) × IsNoCycle points (faults.Cycle cause))
 cycle_or_not points None is = inl (cycle-form_fault points is)
 cycle_or_not points (Some cause) is =
-    inr (cause, record { cause = cause; none = λ cycle. none-some cause (sym (form_fault-none points cycle) ∙ is); fault = fault-fault_of points cause (rw is refl); is = refl })
+    inr (cause, record { cause = cause; none = λ cycle. none-some cause (sym (form_fault-none points cycle) ∙ is); fault = fault-cycle_fault_of points cause (rw is refl); is = refl })
 
 -- ---- forms have a command or a refusal
 
--- only the values of a line are refused with this fault
-record IsOfValues (fault : TextFault) : Type 0 where
-  refuses : (bytes : List ℕ) → HasBadValues bytes fault → IsRefused bytes fault
-  told : fault ≢ faults.OutOfMemory
-
-of_cycle : (cause : CycleFault) → IsOfValues (faults.Cycle cause)
-of_cycle cause = record { refuses = λ bytes bad. bad; told = λ e. cc }
-
-of_weight : IsOfValues faults.BadWeight
-of_weight = record { refuses = λ bytes bad. bad; told = λ e. cc }
-
-of_cull : IsOfValues faults.BadCull
-of_cull = record { refuses = λ bytes bad. bad; told = λ e. cc }
-
-of_scale : IsOfValues faults.BadScale
-of_scale = record { refuses = λ bytes bad. bad; told = λ e. cc }
-
-of_turn : IsOfValues faults.BadTurn
-of_turn = record { refuses = λ bytes bad. bad; told = λ e. cc }
+-- a command, or a refusal
+abbrev IsEither : (Command → Type 0) → (TextFault → Type 0) → Type 0
+IsEither gives refuses = ((given : Command) × gives given) ⊎ ((fault : TextFault) × refuses fault)
 
 abbrev Answered : Meaning → Type 0
-Answered m = ((given : Command) × Means m given) ⊎ ((fault : TextFault) × IsOfValues fault × Refuses m fault)
+Answered m = IsEither (Means m) (Refuses m)
 
 -- a lawful value, and the answer after it
-behind : (lawful : Type 0) (rest : Command → Type 0) (refuses : TextFault → Type 0) (first : TextFault → Type 0) → lawful
-    → ((given : Command) × rest given) ⊎ ((fault : TextFault) × IsOfValues fault × refuses fault)
-    → ((given : Command) × (lawful × rest given)) ⊎ ((fault : TextFault) × IsOfValues fault × (first fault ⊎ (lawful × refuses fault)))
-behind lawful rest refuses first holds (inl (given, is)) = inl (given, (holds, is))
-behind lawful rest refuses first holds (inr (fault, values, is)) = inr (fault, values, inr (holds, is))
+after_lawful : (lawful : Type 0) (gives : Command → Type 0) (refuses first : TextFault → Type 0) → lawful → IsEither gives refuses
+    → IsEither (λ given. lawful × gives given) (λ fault. first fault ⊎ (lawful × refuses fault))
+after_lawful lawful gives refuses first holds (inl (given, is)) = inl (given, (holds, is))
+after_lawful lawful gives refuses first holds (inr (fault, is)) = inr (fault, inr (holds, is))
 
-checked : (lawful : Type 0) (rest : Command → Type 0) (refuses : TextFault → Type 0) (fault : TextFault) → IsOfValues fault → lawful ⊎ (lawful → ⊥)
-    → ((given : Command) × rest given) ⊎ ((other : TextFault) × IsOfValues other × refuses other)
-    → ((given : Command) × (lawful × rest given)) ⊎ ((other : TextFault) × IsOfValues other × (IsUnlawful lawful fault other ⊎ (lawful × refuses other)))
-checked lawful rest refuses fault values (inl holds) later = behind lawful rest refuses (IsUnlawful lawful fault) holds later
-checked lawful rest refuses fault values (inr never) later = inr (fault, values, inl (record { unlawful = never; is = refl }))
+checked : (lawful : Type 0) (gives : Command → Type 0) (refuses : TextFault → Type 0) (fault : TextFault) → lawful ⊎ (lawful → ⊥) → IsEither gives refuses
+    → IsEither (λ given. lawful × gives given) (λ other. IsUnlawful lawful fault other ⊎ (lawful × refuses other))
+checked lawful gives refuses fault (inl holds) later = after_lawful lawful gives refuses (IsUnlawful lawful fault) holds later
+checked lawful gives refuses fault (inr never) later = inr (fault, inl (record { unlawful = never; is = refl }))
 
-cycle_checked : (points : List Point) (rest : Meaning) → Answered rest → IsRectilinearCycle points ⊎ ((cause : CycleFault) × IsNoCycle points (faults.Cycle cause))
+cycle_checked : (points : List Point) (rest : Meaning) → Answered rest
+    → IsRectilinearCycle points ⊎ ((cause : CycleFault) × IsNoCycle points (faults.Cycle cause))
     → Answered (IfCycle points rest)
-cycle_checked points rest later (inl cycle) = behind (IsRectilinearCycle points) (Means rest) (Refuses rest) (IsNoCycle points) cycle later
-cycle_checked points rest later (inr (cause, fault)) = inr (faults.Cycle cause, of_cycle cause, inl fault)
+cycle_checked points rest later (inl cycle) = after_lawful (IsRectilinearCycle points) (Means rest) (Refuses rest) (IsNoCycle points) cycle later
+cycle_checked points rest later (inr (cause, fault)) = inr (faults.Cycle cause, inl fault)
 
-turn_checked : (name : Name) (angle : ℤ) → ((quarter : Quarter) × (degrees quarter ≡ angle)) ⊎ ((quarter : Quarter) → degrees quarter ≡ angle → ⊥) → Answered (Turns name angle)
+turn_checked : (name : Name) (angle : ℤ) → ((quarter : Quarter) × (degrees quarter ≡ angle)) ⊎ ((quarter : Quarter) → degrees quarter ≡ angle → ⊥)
+    → Answered (Turns name angle)
 turn_checked name angle (inl (quarter, is)) = inl (command.Quarter name quarter, record { quarter = quarter; angle_is = is; is = refl })
-turn_checked name angle (inr never) = inr (faults.BadTurn, of_turn, record { unlawful = λ turn. never turn.0 turn.1; is = refl })
+turn_checked name angle (inr never) = inr (faults.BadTurn, record { unlawful = λ turn. never turn.0 turn.1; is = refl })
 
 answered : (m : Meaning) → Answered m
 answered (Is made) = inl (made, refl)
 answered (IfCycle points rest) = cycle_checked points rest (answered rest) (cycle_or_not points (form_fault points) refl)
-answered (IfWeight weight rest) = checked (IsContourWeight weight) (Means rest) (Refuses rest) faults.BadWeight of_weight (weight_or_not weight) (answered rest)
-answered (IfCull rule rest) = checked (IsLawfulCull rule) (Means rest) (Refuses rest) faults.BadCull of_cull (cull_or_not rule) (answered rest)
-answered (IfFactors factors rest) = checked (AreFactors factors) (Means rest) (Refuses rest) faults.BadScale of_scale (factors_or_not factors) (answered rest)
+answered (IfWeight weight rest) = checked (IsContourWeight weight) (Means rest) (Refuses rest) faults.BadWeight (weight_or_not weight) (answered rest)
+answered (IfCull rule rest) = checked (IsLawfulCull rule) (Means rest) (Refuses rest) faults.BadCull (cull_or_not rule) (answered rest)
+answered (IfFactors factors rest) = checked (AreFactors factors) (Means rest) (Refuses rest) faults.BadScale (factors_or_not factors) (answered rest)
 answered (Turns name angle) = turn_checked name angle (turn_or_not angle)
 
 -- ---- lines have an answer
@@ -158,20 +145,22 @@ HasAnswer bytes =
     ((given : Command) × Gives bytes given) ⊎ ((fault : TextFault) × (fault ≢ faults.OutOfMemory) × IsRefused bytes fault)
 
 line_answered : (bytes : List ℕ) → IsText bytes → (line : IsLine (kinds (tokens bytes))) → Answered (meaning line.tree.form) → HasAnswer bytes
-line_answered bytes text line (inl (given, is)) = inl (given, record { line = line.tree; line_is = record { text = text; spelled = line.spelled }; command_is = is })
-line_answered bytes text line (inr (fault, values, is)) =
-    inr (fault, values.told, values.refuses bytes (record { line = line.tree; line_is = record { text = text; spelled = line.spelled }; refusal_is = is }))
+line_answered bytes text line (inl (given, is)) =
+    inl (given, record { line = line.tree; line_is = record { text = text; spelled = line.spelled }; command_is = is })
+line_answered bytes text line (inr (fault, is)) =
+    let (other, refused) = of_values fault (refusals_of_values (meaning line.tree.form) fault is) in
+    inr (fault, other, refused bytes (record { line = line.tree; line_is = record { text = text; spelled = line.spelled }; refusal_is = is }))
 
-text_answered : (bytes : List ℕ) → IsText bytes → (o : Result Line ℕ) → from line (front bytes) ≡ o → HasAnswer bytes
-text_answered bytes text (Ok l) is = line_answered bytes text (record { tree = l; spelled = is_line (front bytes) l is }) (answered (meaning l.form))
-text_answered bytes text (Err column) is = inr (faults.Syntax column, (λ e. cc), record { text = text; wrong = goes_wrong (front bytes) column is })
+text_answered : (bytes : List ℕ) → IsText bytes → (o : Result Line ℕ) → from line (line_ahead bytes) ≡ o → HasAnswer bytes
+text_answered bytes text (Ok l) is = line_answered bytes text (record { tree = l; spelled = is_line (line_ahead bytes) l is }) (answered (meaning l.form))
+text_answered bytes text (Err column) is = inr (faults.Syntax column, (λ e. cc), record { text = text; wrong = goes_wrong (line_ahead bytes) column is })
 
 pub some_answer : (bytes : List ℕ) → HasAnswer bytes
 some_answer bytes =
     elim (cases_lt 65536 (length bytes)) [
       | inl long ↦ inr (faults.LineTooLong, (λ e. cc), long)
       | inr short ↦ elim (cases_Bool (list_all is_text_byte bytes)) [
-        | inl text ↦ (let is : IsText bytes = record { short = short; text = text } in text_answered bytes is (from line (front bytes)) refl)
+        | inl text ↦ (let is : IsText bytes = record { short = short; text = text } in text_answered bytes is (from line (line_ahead bytes)) refl)
         | inr other ↦ inr (faults.NotAscii, (λ e. cc), record { short = short; other = other })
       ]
     ]

@@ -8,19 +8,20 @@ use Rattle.std.proofs.lemmas.List.{take-append-drop, length-take-le}
 use Rattle.std.proofs.lemmas.List.Elements.{All-cons, All-nil}
 use Rattle.std.proofs.lemmas.List.Folds.{length-prefix_len}
 use Rattle.mf_text.specs.Bytes.{is_blank}
-use Rattle.mf_text.specs.Token.{Placed, Token, is_token}
+use Rattle.mf_text.specs.Token.{Placed, Token}
 use Rattle.mf_text.specs.Token as token
-use Rattle.mf_text.specs.Tokens.{Taken, first_token, has_front, is_longer, mark_among, mark_text, marks, number_token, placed, tokens_from, tokens_within, word_token}
+use Rattle.mf_text.specs.Tokens.{Taken, first_token, first_is, is_longer, mark_among, mark_text, marks, number_token, token_at, tokens_from, tokens_within, word_token}
 use Rattle.mf_text.specs.TokenTexts.{AMark, AreTokens, Digits, IsEnd, IsRow, IsTokenText, Letters, OtherByte}
 use Rattle.mf_text.proofs.LineTokens.{first_taken, rest_shorter}
 use Rattle.mf_text.proofs.Marks.{mark_bytes, mark_there, no_longer, none_there, one_byte}
-use Rattle.mf_text.proofs.Rows.{begins, row}
+use Rattle.mf_text.proofs.Rows.{starts-drop, row}
 use Rattle.mf_text.proofs.Words.{digits_first, letters_first, of_marks}
 
 -- ---- the text of a token
 
 -- a token whose text is a row of bytes of one kind
-module _ (p : ℕ → Bool) (bs : List ℕ) (some : has_front p bs ≡ true) (t : Token) (first : first_token bs ≡ record { token = t; bytes = length (take_while p bs) }) where
+module _ (p : ℕ → Bool) (bs : List ℕ) (some : first_is p bs ≡ true) (t : Token)
+    (first : first_token bs ≡ record { token = t; bytes = length (take_while p bs) }) where
   pub taken_row : IsRow p (take (first_token bs).bytes bs) (drop (first_token bs).bytes bs)
   taken_row = subst (λ n. IsRow p (take n bs) (drop n bs)) (sym (ap (λ (f : Taken). f.bytes) first ∙ length-prefix_len p bs)) (row p bs some)
 
@@ -48,24 +49,28 @@ module _ (b : ℕ) (bs : List ℕ) (letter : is_ascii_alphabetic b ≡ false) (d
   other_text (token.Mark m) is other =
       let begun = mark_there m xs is in
       let count : (first_token xs).bytes ≡ length (mark_text m) = mark_bytes m xs is in
-      let parts = begins xs (mark_text m) begun in
-      let text : take (first_token xs).bytes xs ≡ mark_text m = ap (λ n. take n xs) count ∙ ap (take (length (mark_text m))) parts ∙ take-append_seam (mark_text m) (drop (length (mark_text m)) xs) in
+      let parts = starts-drop xs (mark_text m) begun in
+      let text : take (first_token xs).bytes xs ≡ mark_text m =
+      ap (λ n. take n xs) count ∙ ap (take (length (mark_text m))) parts ∙ take-append_seam (mark_text m) (drop (length (mark_text m)) xs) in
       AMark m (record { written = text; longest = ap (is_longer m) (take-append-drop (first_token xs).bytes xs) ∙ no_longer m xs is }) refl
   other_text token.Unknown is other =
       let one : (first_token xs).bytes ≡ 1 = ap (λ (f : Taken). f.bytes) first_other ∙ one_byte xs marks (sym (ap (λ (f : Taken). f.token) first_other) ∙ is) in
       OtherByte (record { byte = b; one = ap (λ n. take n xs) one; no_letter = letter; no_digit = digit; no_mark = λ m. ap (λ n. starts_with eqb (b ∷ drop n xs) (mark_text m)) one ∙ none_there m xs is }) refl
   other_text t is none = absurd (false≢true none)
 
-first-text : (b : ℕ) (bs : List ℕ) → IsTokenText (first_token (b ∷ bs)).token (take (first_token (b ∷ bs)).bytes (b ∷ bs)) (drop (first_token (b ∷ bs)).bytes (b ∷ bs))
+first-text : (b : ℕ) (bs : List ℕ)
+    → IsTokenText (first_token (b ∷ bs)).token (take (first_token (b ∷ bs)).bytes (b ∷ bs)) (drop (first_token (b ∷ bs)).bytes (b ∷ bs))
 first-text b bs =
     elim (cases_Bool (is_ascii_alphabetic b)) [
       | inl letter ↦
           (let first = letters_first (b ∷ bs) letter in
-          Letters (taken_row is_ascii_alphabetic (b ∷ bs) letter _ first) (taken_token is_ascii_alphabetic (b ∷ bs) letter _ first ∙ ap word_token (sym (taken_text is_ascii_alphabetic (b ∷ bs) letter _ first))))
+          Letters (taken_row is_ascii_alphabetic (b ∷ bs) letter _ first)
+          (taken_token is_ascii_alphabetic (b ∷ bs) letter _ first ∙ ap word_token (sym (taken_text is_ascii_alphabetic (b ∷ bs) letter _ first))))
       | inr no_letter ↦ elim (cases_Bool (is_ascii_digit b)) [
         | inl digit ↦
             (let first = digits_first (b ∷ bs) digit in
-            Digits (taken_row is_ascii_digit (b ∷ bs) digit _ first) (taken_token is_ascii_digit (b ∷ bs) digit _ first ∙ ap number_token (sym (taken_text is_ascii_digit (b ∷ bs) digit _ first))))
+            Digits (taken_row is_ascii_digit (b ∷ bs) digit _ first)
+            (taken_token is_ascii_digit (b ∷ bs) digit _ first ∙ ap number_token (sym (taken_text is_ascii_digit (b ∷ bs) digit _ first))))
         | inr no_digit ↦
             other_text b bs no_letter no_digit (first_token (b ∷ bs)).token refl
             (ap (λ (f : Taken). is_other f.token) (first_other b bs no_letter no_digit) ∙ of_marks is_other true refl (λ m. refl) (b ∷ bs) marks)
@@ -109,7 +114,8 @@ no_more : (column : ℕ) (rest : List ℕ) → IsEnd rest → AreTokens column r
 no_more column rest end = record { blanks = []; rest = rest; parts = refl; blank = All-nil blank_byte; end = end }
 
 one-token : (column b : ℕ) (bs : List ℕ) (ps : List Placed)
-    → AreTokens (column + (first_token (b ∷ bs)).bytes) (drop (first_token (b ∷ bs)).bytes (b ∷ bs)) ps → AreTokens column (b ∷ bs) (placed column (first_token (b ∷ bs)) ∷ ps)
+    → AreTokens (column + (first_token (b ∷ bs)).bytes) (drop (first_token (b ∷ bs)).bytes (b ∷ bs)) ps
+    → AreTokens column (b ∷ bs) (token_at column (first_token (b ∷ bs)) ∷ ps)
 one-token column b bs ps later =
     let first = first_token (b ∷ bs) in
     let xs : List ℕ = b ∷ bs in
@@ -140,7 +146,8 @@ cut-within zero column (b ∷ bs) short = absurd (omega arith)
 cut-within (suc n) column [] short = no_more column [] tt
 cut-within (suc n) column (b ∷ bs) short =
     let first = first_token (b ∷ bs) in
-    cond_both (is_blank b) _ _ (AreTokens column (b ∷ bs)) (λ blank. more-blank column b bs (tokens_within n (column + 1) bs) blank (cut-within n (column + 1) bs (omega arith)))
+    cond_both (is_blank b) _ _ (AreTokens column (b ∷ bs))
+    (λ blank. more-blank column b bs (tokens_within n (column + 1) bs) blank (cut-within n (column + 1) bs (omega arith)))
     (λ clear. cond_both (eqb b 37) _ _ (AreTokens column (b ∷ bs)) (λ comment. no_more column (b ∷ bs) (eqb-true b 37 comment))
     (λ token. one-token column b bs (tokens_within n (column + first.bytes) (drop first.bytes (b ∷ bs)))
     (cut-within n (column + first.bytes) (drop first.bytes (b ∷ bs)) (omega (arith, rest_shorter b bs)))))

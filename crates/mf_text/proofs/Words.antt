@@ -15,8 +15,8 @@ use Rattle.mf_text.specs.declared.token.Word.{Word}
 use Rattle.mf_text.specs.declared.token.Word.TheVariants as word
 use Rattle.mf_text.specs.Token.{Token, is_token, letter_in, value_in}
 use Rattle.mf_text.specs.Token as token
-use Rattle.mf_text.specs.Tokens.{Finds, FindsToken, Taken, first_token, has_front, is_letter, known_word, letter_number, mark_among, marks, number_token, word_among, word_text, word_token, words}
-use Rattle.mf_text.proofs.Rows.{begins, row_count, row_end}
+use Rattle.mf_text.specs.Tokens.{Finds, FindsToken, Taken, first_token, first_is, is_letter, known_word, letter_number, mark_among, marks, number_token, word_among, word_text, word_token, words}
+use Rattle.mf_text.proofs.Rows.{starts-drop, row_count, row_end}
 
 pub same_token : (t : Token) → is_token t t ≡ true
 same_token (token.Word w) = search rules
@@ -28,35 +28,35 @@ same_token token.Unknown = refl
 -- a word is written with at least two letters, and no earlier word of the table is written in the same way
 record IsWritten (w : Word) : Type 0 where
   letters : list_all is_ascii_alphabetic (word_text w) ≡ true
-  front : has_front is_ascii_alphabetic (word_text w) ≡ true
+  starts : first_is is_ascii_alphabetic (word_text w) ≡ true
   word : word_token (word_text w) ≡ token.Word w
 
 written : (w : Word) → IsWritten w
 unfolding word_token word_among
-written word.Addto = record { letters = refl; front = refl; word = refl }
-written word.Also = record { letters = refl; front = refl; word = refl }
-written word.Code = record { letters = refl; front = refl; word = refl }
-written word.Contour = record { letters = refl; front = refl; word = refl }
-written word.Cull = record { letters = refl; front = refl; word = refl }
-written word.CurrentPicture = record { letters = refl; front = refl; word = refl }
-written word.Cycle = record { letters = refl; front = refl; word = refl }
-written word.Dropping = record { letters = refl; front = refl; word = refl }
-written word.Dx = record { letters = refl; front = refl; word = refl }
-written word.Keeping = record { letters = refl; front = refl; word = refl }
-written word.NullPicture = record { letters = refl; front = refl; word = refl }
-written word.Proof = record { letters = refl; front = refl; word = refl }
-written word.Publish = record { letters = refl; front = refl; word = refl }
-written word.Rotated = record { letters = refl; front = refl; word = refl }
-written word.Scaled = record { letters = refl; front = refl; word = refl }
-written word.Shifted = record { letters = refl; front = refl; word = refl }
-written word.Shipout = record { letters = refl; front = refl; word = refl }
-written word.Show = record { letters = refl; front = refl; word = refl }
-written word.TotalWeight = record { letters = refl; front = refl; word = refl }
-written word.TurningCheck = record { letters = refl; front = refl; word = refl }
-written word.Width = record { letters = refl; front = refl; word = refl }
-written word.WithWeight = record { letters = refl; front = refl; word = refl }
-written word.XScaled = record { letters = refl; front = refl; word = refl }
-written word.YScaled = record { letters = refl; front = refl; word = refl }
+written word.Addto = record { letters = refl; starts = refl; word = refl }
+written word.Also = record { letters = refl; starts = refl; word = refl }
+written word.Code = record { letters = refl; starts = refl; word = refl }
+written word.Contour = record { letters = refl; starts = refl; word = refl }
+written word.Cull = record { letters = refl; starts = refl; word = refl }
+written word.CurrentPicture = record { letters = refl; starts = refl; word = refl }
+written word.Cycle = record { letters = refl; starts = refl; word = refl }
+written word.Dropping = record { letters = refl; starts = refl; word = refl }
+written word.Dx = record { letters = refl; starts = refl; word = refl }
+written word.Keeping = record { letters = refl; starts = refl; word = refl }
+written word.NullPicture = record { letters = refl; starts = refl; word = refl }
+written word.Proof = record { letters = refl; starts = refl; word = refl }
+written word.Publish = record { letters = refl; starts = refl; word = refl }
+written word.Rotated = record { letters = refl; starts = refl; word = refl }
+written word.Scaled = record { letters = refl; starts = refl; word = refl }
+written word.Shifted = record { letters = refl; starts = refl; word = refl }
+written word.Shipout = record { letters = refl; starts = refl; word = refl }
+written word.Show = record { letters = refl; starts = refl; word = refl }
+written word.TotalWeight = record { letters = refl; starts = refl; word = refl }
+written word.TurningCheck = record { letters = refl; starts = refl; word = refl }
+written word.Width = record { letters = refl; starts = refl; word = refl }
+written word.WithWeight = record { letters = refl; starts = refl; word = refl }
+written word.XScaled = record { letters = refl; starts = refl; word = refl }
+written word.YScaled = record { letters = refl; starts = refl; word = refl }
 
 -- ---- tokens of another kind
 
@@ -65,11 +65,14 @@ module _ {A : Type 0} (f : Token → A) (a : A) (unknown : f token.Unknown ≡ a
   pub of_marks : ((m : Mark) → f (token.Mark m) ≡ a) → (bs : List ℕ) (entries : List (List ℕ × Mark)) → f (mark_among entries bs).token ≡ a
   unfolding mark_among
   of_marks mark bs [] = unknown
-  of_marks mark bs (entry ∷ entries) = cond_both (starts_with eqb bs entry.0) _ _ (λ (t : Taken). f t.token ≡ a) (λ _. mark entry.1) (λ _. of_marks mark bs entries)
+  of_marks mark bs (entry ∷ entries) =
+      cond_both (starts_with eqb bs entry.0) _ _ (λ (t : Taken). f t.token ≡ a) (λ _. mark entry.1) (λ _. of_marks mark bs entries)
 
   pub of_numbers : ((n : ℕ) → f (token.Number n) ≡ a) → (digits : List ℕ) → f (number_token digits) ≡ a
   unfolding number_token
-  of_numbers number digits = cond_both (leb (length digits) 9) (token.Number (digits_value 10 digits)) token.Unknown (λ t. f t ≡ a) (λ _. number (digits_value 10 digits)) (λ _. unknown)
+  of_numbers number digits =
+      cond_both (leb (length digits) 9) (token.Number (digits_value 10 digits)) token.Unknown (λ t. f t ≡ a)
+      (λ _. number (digits_value 10 digits)) (λ _. unknown)
 
   known : ((w : Word) → f (token.Word w) ≡ a) → (o : Option Word) → f (known_word o) ≡ a
   known word None = unknown
@@ -81,7 +84,8 @@ module _ {A : Type 0} (f : Token → A) (a : A) (unknown : f token.Unknown ≡ a
 
   pub of_letters : ((w : Word) → f (token.Word w) ≡ a) → ((n : ℕ) → f (token.Letter n) ≡ a) → (letters : List ℕ) → f (word_token letters) ≡ a
   unfolding word_token
-  of_letters word letter letters = cond_both (is_letter letters) _ _ (λ t. f t ≡ a) (λ _. letter (letter_number letters)) (λ _. known word (word_among words letters))
+  of_letters word letter letters =
+      cond_both (is_letter letters) _ _ (λ t. f t ≡ a) (λ _. letter (letter_number letters)) (λ _. known word (word_among words letters))
 
 -- ---- letters at the front
 
@@ -89,7 +93,7 @@ abbrev pub letters : List ℕ → List ℕ
 letters bs = take_while is_ascii_alphabetic bs
 
 -- letters that no letter follows are the letters at the front
-letters_of : (ls bs : List ℕ) → list_all is_ascii_alphabetic ls ≡ true → has_front is_ascii_alphabetic bs ≡ false → letters (ls ++ bs) ≡ ls
+letters_of : (ls bs : List ℕ) → list_all is_ascii_alphabetic ls ≡ true → first_is is_ascii_alphabetic bs ≡ false → letters (ls ++ bs) ≡ ls
 letters_of [] [] all ends = refl
 letters_of [] (b ∷ bs) all ends = take_while-cons is_ascii_alphabetic b bs ∙ rw ends refl
 letters_of (l ∷ ls) bs all ends =
@@ -97,10 +101,11 @@ letters_of (l ∷ ls) bs all ends =
     take_while-cons is_ascii_alphabetic l (ls ++ bs) ∙ rw parts.0 (ap (λ (xs : List ℕ). l ∷ xs) (letters_of ls bs parts.1 ends))
 
 -- no letter follows the letters at the front
-letters_end : (bs : List ℕ) → has_front is_ascii_alphabetic (drop (length (letters bs)) bs) ≡ false
+letters_end : (bs : List ℕ) → first_is is_ascii_alphabetic (drop (length (letters bs)) bs) ≡ false
 letters_end bs = rw (length-prefix_len is_ascii_alphabetic bs) (row_end is_ascii_alphabetic bs)
 
-pub letters_first : (bs : List ℕ) → has_front is_ascii_alphabetic bs ≡ true → first_token bs ≡ record { token = word_token (letters bs); bytes = length (letters bs) }
+pub letters_first : (bs : List ℕ) → first_is is_ascii_alphabetic bs ≡ true
+    → first_token bs ≡ record { token = word_token (letters bs); bytes = length (letters bs) }
 unfolding first_token
 letters_first [] is = absurd (false≢true is)
 letters_first (b ∷ bs) is =
@@ -117,7 +122,8 @@ same_word : (v w : Word) → is_token (token.Word v) (token.Word w) ≡ true →
 same_word v w same = search rules
 
 -- where each entry of a table has the text of its word, a word that is found has its text
-are_written : (entries : List (List ℕ × Word)) (w : Word) (ls : List ℕ) → list_all (λ e. bytes_eq e.0 (word_text e.1)) entries ≡ true → word_among entries ls ≡ Some w
+are_written : (entries : List (List ℕ × Word)) (w : Word) (ls : List ℕ)
+    → list_all (λ e. bytes_eq e.0 (word_text e.1)) entries ≡ true → word_among entries ls ≡ Some w
     → ls ≡ word_text w
 unfolding word_among
 are_written [] w ls all is = absurd (none-some w is)
@@ -156,29 +162,31 @@ lacking w bs lacks =
     elim (cases_Bool (is_token (first_token bs).token (token.Word w))) [
       | inr other ↦ other
       | inl is ↦
-          (let parts : bs ≡ word_text w ++ drop (length (letters bs)) bs = sym (ap (λ ls. ls ++ drop (length (letters bs)) bs) (sym (is_word w bs is)) ∙ joined) in
+          (let parts : bs ≡ word_text w ++ drop (length (letters bs)) bs = sym
+          (ap (λ ls. ls ++ drop (length (letters bs)) bs) (sym (is_word w bs is)) ∙ joined) in
           absurd (false≢true (sym lacks ∙ (starts_is Decides-eqb bs (word_text w) (starts_with eqb bs (word_text w)) refl).1 _ parts)))
     ] where
       joined : letters bs ++ drop (length (letters bs)) bs ≡ bs
       joined = rw (length-prefix_len is_ascii_alphabetic bs) (take-append-drop (prefix_len is_ascii_alphabetic bs) bs)
 
-longer_word : (w : Word) (bs : List ℕ) → has_front is_ascii_alphabetic (drop (length (word_text w)) bs) ≡ true → is_token (first_token bs).token (token.Word w) ≡ false
+longer_word : (w : Word) (bs : List ℕ) → first_is is_ascii_alphabetic (drop (length (word_text w)) bs) ≡ true
+    → is_token (first_token bs).token (token.Word w) ≡ false
 longer_word w bs longer =
     elim (cases_Bool (is_token (first_token bs).token (token.Word w))) [
       | inr other ↦ other
-      | inl is ↦ absurd (false≢true (sym (letters_end bs) ∙ ap (λ ls. has_front is_ascii_alphabetic (drop (length ls) bs)) (is_word w bs is) ∙ longer))
+      | inl is ↦ absurd (false≢true (sym (letters_end bs) ∙ ap (λ ls. first_is is_ascii_alphabetic (drop (length ls) bs)) (is_word w bs is) ∙ longer))
     ]
 
-front_on : (ls bs : List ℕ) → has_front is_ascii_alphabetic ls ≡ true → has_front is_ascii_alphabetic (ls ++ bs) ≡ true
-front_on [] bs is = absurd (false≢true is)
-front_on (l ∷ ls) bs is = is
+first_is-append : (ls bs : List ℕ) → first_is is_ascii_alphabetic ls ≡ true → first_is is_ascii_alphabetic (ls ++ bs) ≡ true
+first_is-append [] bs is = absurd (false≢true is)
+first_is-append (l ∷ ls) bs is = is
 
-word_first : (w : Word) (bs : List ℕ) → starts_with eqb bs (word_text w) ≡ true → has_front is_ascii_alphabetic (drop (length (word_text w)) bs) ≡ false
+word_first : (w : Word) (bs : List ℕ) → starts_with eqb bs (word_text w) ≡ true → first_is is_ascii_alphabetic (drop (length (word_text w)) bs) ≡ false
     → first_token bs ≡ record { token = token.Word w; bytes = length (word_text w) }
 word_first w bs begun ends =
-    let parts = begins bs (word_text w) begun in
+    let parts = starts-drop bs (word_text w) begun in
     let all : letters bs ≡ word_text w = ap letters parts ∙ letters_of (word_text w) _ (written w).letters ends in
-    letters_first bs (subst (λ xs. has_front is_ascii_alphabetic xs ≡ true) (sym parts) (front_on (word_text w) _ (written w).front))
+    letters_first bs (subst (λ xs. first_is is_ascii_alphabetic xs ≡ true) (sym parts) (first_is-append (word_text w) _ (written w).starts))
     ∙ ap (λ ls. record { token = word_token ls; bytes = length ls }) all ∙ ap (λ t. record { token = t; bytes = length (word_text w) }) (written w).word
 
 -- whether a word is found, where these letters are its text
@@ -186,13 +194,15 @@ module _ (w : Word) (bs ls : List ℕ) (is : ls ≡ word_text w) where
   pub word_lacking : starts_with eqb bs ls ≡ false → is_token (first_token bs).token (token.Word w) ≡ false
   word_lacking lacks = lacking w bs (ap (starts_with eqb bs) (sym is) ∙ lacks)
 
-  after_is : has_front is_ascii_alphabetic (drop (length (word_text w)) bs) ≡ has_front is_ascii_alphabetic (take (length bs - length ls) (drop (length ls) bs))
-  after_is = ap (λ (n : ℕ). has_front is_ascii_alphabetic (drop n bs)) (ap length (sym is)) ∙ ap (has_front is_ascii_alphabetic) (sym (take_rest bs (length ls)))
+  after_is : first_is is_ascii_alphabetic (drop (length (word_text w)) bs) ≡ first_is is_ascii_alphabetic (take (length bs - length ls) (drop (length ls) bs))
+  after_is = ap (λ (n : ℕ). first_is is_ascii_alphabetic (drop n bs)) (ap length (sym is)) ∙ ap (first_is is_ascii_alphabetic) (sym (take_rest bs (length ls)))
 
-  pub word_longer : has_front is_ascii_alphabetic (take (length bs - length ls) (drop (length ls) bs)) ≡ true → is_token (first_token bs).token (token.Word w) ≡ false
+  pub word_longer : first_is is_ascii_alphabetic (take (length bs - length ls) (drop (length ls) bs)) ≡ true
+      → is_token (first_token bs).token (token.Word w) ≡ false
   word_longer longer = longer_word w bs (after_is ∙ longer)
 
-  pub word_found : starts_with eqb bs ls ≡ true → has_front is_ascii_alphabetic (take (length bs - length ls) (drop (length ls) bs)) ≡ false → length ls ≤ length bs
+  pub word_found : starts_with eqb bs ls ≡ true → first_is is_ascii_alphabetic (take (length bs - length ls) (drop (length ls) bs)) ≡ false
+      → length ls ≤ length bs
       → FindsToken (token.Word w) bs (Some (length ls))
   word_found begun ends within =
       let first = word_first w bs (ap (starts_with eqb bs) (sym is) ∙ begun) (after_is ∙ ends) in (
@@ -203,7 +213,7 @@ module _ (w : Word) (bs ls : List ℕ) (is : ls ≡ word_text w) where
 
 -- ---- letters
 
-letter_first : (b : ℕ) (bs : List ℕ) → leb 97 b ≡ true → leb b 122 ≡ true → has_front is_ascii_alphabetic bs ≡ false
+letter_first : (b : ℕ) (bs : List ℕ) → leb 97 b ≡ true → leb b 122 ≡ true → first_is is_ascii_alphabetic bs ≡ false
     → first_token (b ∷ bs) ≡ record { token = token.Letter (b - 97); bytes = 1 }
 unfolding word_token
 letter_first b bs least greatest ends =
@@ -223,9 +233,9 @@ letters_lacking bs long =
     (λ _. cond_both (ltb 0 (length (take (prefix_len is_ascii_digit bs) bs))) _ _ P (λ _. of_numbers letter_in None refl (λ n. refl) _)
     (λ _. of_marks letter_in None refl (λ m. refl) bs marks))
 
-no_small : (bs : List ℕ) → has_front (λ b. leb 97 b && leb b 122) bs ≡ false → letter_in (first_token bs).token ≡ None
+no_small : (bs : List ℕ) → first_is (λ b. leb 97 b && leb b 122) bs ≡ false → letter_in (first_token bs).token ≡ None
 no_small bs other = letters_lacking bs (long bs other) where
-  long : (xs : List ℕ) → has_front (λ b. leb 97 b && leb b 122) xs ≡ false → is_letter (letters xs) ≡ false
+  long : (xs : List ℕ) → first_is (λ b. leb 97 b && leb b 122) xs ≡ false → is_letter (letters xs) ≡ false
   long [] none = refl
   long (x ∷ xs) none = rw (take_while-cons is_ascii_alphabetic x xs) (by_front (is_ascii_alphabetic x) (letters xs)) where
     by_front : (first : Bool) (rest : List ℕ) → is_letter (cond first (x ∷ rest) []) ≡ false
@@ -241,28 +251,31 @@ small_lacking (b ∷ bs) never =
       | inl small ↦ (let parts = and_parts (leb 97 b) (leb b 122) small in absurd (never (omega arith) (leb-true 97 b parts.0) (leb-true b 122 parts.1)))
     ])
 
-two_letters : (b : ℕ) (bs : List ℕ) → has_front is_ascii_alphabetic bs ≡ true → letter_in (first_token (b ∷ bs)).token ≡ None
+two_letters : (b : ℕ) (bs : List ℕ) → first_is is_ascii_alphabetic bs ≡ true → letter_in (first_token (b ∷ bs)).token ≡ None
 two_letters b [] longer = absurd (false≢true longer)
 two_letters b (c ∷ bs) longer =
-    letters_lacking (b ∷ c ∷ bs) (rw (take_while-cons is_ascii_alphabetic b (c ∷ bs), take_while-cons is_ascii_alphabetic c bs, longer) (by_front (is_ascii_alphabetic b))) where
+    letters_lacking (b ∷ c ∷ bs)
+    (rw (take_while-cons is_ascii_alphabetic b (c ∷ bs), take_while-cons is_ascii_alphabetic c bs, longer) (by_front (is_ascii_alphabetic b))) where
       by_front : (first : Bool) → is_letter (cond first (b ∷ c ∷ letters bs) []) ≡ false
       by_front true = refl
       by_front false = refl
 
-pub letters_longer : (bs : List ℕ) → 1 ≤ length bs → has_front is_ascii_alphabetic (take (length bs - 1) (drop 1 bs)) ≡ true → letter_in (first_token bs).token ≡ None
+pub letters_longer : (bs : List ℕ) → 1 ≤ length bs → first_is is_ascii_alphabetic (take (length bs - 1) (drop 1 bs)) ≡ true
+    → letter_in (first_token bs).token ≡ None
 letters_longer [] some longer = absurd (omega arith)
-letters_longer (b ∷ bs) some longer = two_letters b bs (ap (has_front is_ascii_alphabetic) (sym (take_rest (b ∷ bs) 1)) ∙ longer)
+letters_longer (b ∷ bs) some longer = two_letters b bs (ap (first_is is_ascii_alphabetic) (sym (take_rest (b ∷ bs) 1)) ∙ longer)
 
-pub letter_found : (bs : List ℕ) → 1 ≤ length bs → 97 ≤ get_or bs 0 0 → get_or bs 0 0 ≤ 122 → has_front is_ascii_alphabetic (take (length bs - 1) (drop 1 bs)) ≡ false
+pub letter_found : (bs : List ℕ) → 1 ≤ length bs → 97 ≤ get_or bs 0 0 → get_or bs 0 0 ≤ 122
+    → first_is is_ascii_alphabetic (take (length bs - 1) (drop 1 bs)) ≡ false
     → Finds letter_in bs (Some (get_or bs 0 0 - 97, 1))
 letter_found [] some least greatest ends = absurd (omega arith)
 letter_found (b ∷ bs) some least greatest ends =
-    let first = letter_first b bs (le-leb 97 b least) (le-leb b 122 greatest) (ap (has_front is_ascii_alphabetic) (sym (take_rest (b ∷ bs) 1)) ∙ ends) in
+    let first = letter_first b bs (le-leb 97 b least) (le-leb b 122 greatest) (ap (first_is is_ascii_alphabetic) (sym (take_rest (b ∷ bs) 1)) ∙ ends) in
     (ap (λ (t : Taken). letter_in t.token) first, sym (ap (λ (t : Taken). t.bytes) first), some)
 
 -- ---- numbers
 
-pub digits_first : (bs : List ℕ) → has_front is_ascii_digit bs ≡ true
+pub digits_first : (bs : List ℕ) → first_is is_ascii_digit bs ≡ true
     → first_token bs ≡ record { token = number_token (take_while is_ascii_digit bs); bytes = length (take_while is_ascii_digit bs) }
 unfolding first_token
 digits_first [] is = absurd (false≢true is)
@@ -272,13 +285,13 @@ digits_first (b ∷ bs) is =
     let some : ltb 0 (length (take (prefix_len is_ascii_digit (b ∷ bs)) (b ∷ bs))) ≡ true = grind (arith, nat_tests) in
     rw (letter, some) refl
 
-pub digits_lacking : (bs : List ℕ) → has_front is_ascii_digit bs ≡ false → value_in (first_token bs).token ≡ None
+pub digits_lacking : (bs : List ℕ) → first_is is_ascii_digit bs ≡ false → value_in (first_token bs).token ≡ None
 unfolding first_token
 digits_lacking bs none =
     let P : Taken → Type 0 = λ t. value_in t.token ≡ None in
     cond_both (ltb 0 (length (take (prefix_len is_ascii_alphabetic bs) bs))) _ _ P (λ _. of_letters value_in None refl (λ w. refl) (λ n. refl) (letters bs))
     (λ _. cond_both (ltb 0 (length (take (prefix_len is_ascii_digit bs) bs))) _ _ P (λ some. absurd (false≢true (sym (no_digits bs none) ∙ some)))
     (λ _. of_marks value_in None refl (λ m. refl) bs marks)) where
-      no_digits : (xs : List ℕ) → has_front is_ascii_digit xs ≡ false → ltb 0 (length (take (prefix_len is_ascii_digit xs) xs)) ≡ false
+      no_digits : (xs : List ℕ) → first_is is_ascii_digit xs ≡ false → ltb 0 (length (take (prefix_len is_ascii_digit xs) xs)) ≡ false
       no_digits [] other = refl
       no_digits (x ∷ xs) other = rw other refl

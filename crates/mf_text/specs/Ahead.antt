@@ -13,14 +13,14 @@ column_of [] past = past
 column_of (p ∷ ps) past = p.column
 
 -- what is ahead after k of these tokens, or after all of them where they are fewer
-abbrev pub behind : ℕ → List Placed → ℕ → Ahead
-behind zero ps past = record { tokens = ps; past = past }
-behind (suc k) [] past = record { tokens = []; past = past }
-behind (suc k) (p ∷ ps) past = behind k ps p.after
+abbrev pub ahead_after : ℕ → List Placed → ℕ → Ahead
+ahead_after zero ps past = record { tokens = ps; past = past }
+ahead_after (suc k) [] past = record { tokens = []; past = past }
+ahead_after (suc k) (p ∷ ps) past = ahead_after k ps p.after
 
 -- what is ahead after k tokens
 abbrev pub skip : ℕ → Ahead → Ahead
-skip k ahead = behind k ahead.tokens ahead.past
+skip k ahead = ahead_after k ahead.tokens ahead.past
 
 -- the column of token k, counted from 0, or one past the last token
 abbrev pub column_at : Ahead → ℕ → ℕ

@@ -3,7 +3,6 @@ pub mod Bytes
 pub mod Codes
 pub mod Grammar
 pub mod Ints
-pub mod Left
 pub mod LineRests
 pub mod Lines
 pub mod Meaning

@@ -13,8 +13,8 @@ use Rattle.mf_text.specs.Grammar.{Form, Nothing, AddContour, AddPicture, CullKee
 use Rattle.mf_text.specs.Rests.{Rest, Ends, One, Or, AName, OrName, ACode, int, source, pair, path}
 
 -- after a complete command: `;`, or nothing
-abbrev pub whole : Form → Rest
-whole form = Or (token.Mark mark.Semicolon) (Ends (record { form = form; ended = true })) (Ends (record { form = form; ended = false }))
+abbrev pub line_end : Form → Rest
+line_end form = Or (token.Mark mark.Semicolon) (Ends (record { form = form; ended = true })) (Ends (record { form = form; ended = false }))
 
 -- a weight, or none
 abbrev pub weight : (Option Int → Rest) → Rest
@@ -22,11 +22,11 @@ weight next = Or (token.Word word.WithWeight) (int (λ n. next (Some n))) (next 
 
 -- after a command that may have a weight: the weight, if there is one, and the end of the line
 abbrev pub weighable : (Option Int → Form) → Rest
-weighable form = weight (λ n. whole (form n))
+weighable form = weight (λ n. line_end (form n))
 
 -- after `addto` name `also`, and `-` where it comes: a source
-abbrev pub added : Name → Sign → Rest
-added name sign = source (λ picture. whole (AddPicture name sign picture))
+abbrev pub also : Name → Sign → Rest
+also name sign = source (λ picture. line_end (AddPicture name sign picture))
 
 -- after `addto` name `contour`
 abbrev pub contour : Name → Rest
@@ -36,7 +36,7 @@ contour name = path (λ p. weighable (AddContour name p))
 abbrev pub addto : Rest
 addto =
     AName (λ name. Or (token.Word word.Contour) (contour name)
-    (One (token.Word word.Also) (Or (token.Mark mark.Minus) (added name Minus) (added name Plus))))
+    (One (token.Word word.Also) (Or (token.Mark mark.Minus) (also name Minus) (also name Plus))))
 
 -- after `cull` name `keeping`
 abbrev pub keep : Name → Rest
@@ -52,25 +52,25 @@ cull = AName (λ name. Or (token.Word word.Keeping) (keep name) (One (token.Word
 
 -- after `show` `totalweight`
 abbrev pub total : Rest
-total = source (λ picture. whole (ShowTotal picture))
+total = source (λ picture. line_end (ShowTotal picture))
 
 -- after `show`
 abbrev pub show : Rest
-show = Or (token.Word word.TotalWeight) total (source (λ picture. whole (ShowPicture picture)))
+show = Or (token.Word word.TotalWeight) total (source (λ picture. line_end (ShowPicture picture)))
 
 -- after `proof`
 abbrev pub proof : Rest
-proof = source (λ picture. whole (ShowProof picture))
+proof = source (λ picture. line_end (ShowProof picture))
 
 -- after `shipout`
 abbrev pub shipout : Rest
 shipout =
     source (λ picture. One (token.Word word.Code) (ACode (λ code. One (token.Word word.Dx) (int (λ dx. One (token.Word word.Width)
-    (int (λ width. whole (ShipOut picture code dx width))))))))
+    (int (λ width. line_end (ShipOut picture code dx width))))))))
 
 -- after `turningcheck`
 abbrev pub turning_check : Rest
-turning_check = One (token.Mark mark.Becomes) (int (λ n. whole (SetCheck n)))
+turning_check = One (token.Mark mark.Becomes) (int (λ n. line_end (SetCheck n)))
 
 -- the token of a name
 abbrev pub name_token : Name → Token
@@ -79,37 +79,37 @@ name_token (Register letter) = token.Letter letter
 
 -- after the word of a transform that has an int: the int
 abbrev pub by_number : Name → (Int → Transform) → Rest
-by_number name transform = int (λ n. whole (Move name (transform n)))
+by_number name motion = int (λ n. line_end (Move name (motion n)))
 
 -- after name `:=` name `shifted`
-abbrev pub shifted : Name → Rest
-shifted name = pair (λ by. whole (Move name (Shifted by)))
+abbrev pub shift : Name → Rest
+shift name = pair (λ by. line_end (Move name (Shifted by)))
 
 -- after name `:=` name, where `shifted` does not come: another transform
-abbrev pub stretched : Name → Rest
-stretched name =
+abbrev pub scale_or_turn : Name → Rest
+scale_or_turn name =
     Or (token.Word word.Scaled) (by_number name Scaled) (Or (token.Word word.XScaled) (by_number name XScaled)
     (Or (token.Word word.YScaled) (by_number name YScaled) (One (token.Word word.Rotated) (by_number name Rotated))))
 
 -- after name `:=` name: a transform
-abbrev pub moved : Name → Rest
-moved name = Or (token.Word word.Shifted) (shifted name) (stretched name)
+abbrev pub transform : Name → Rest
+transform name = Or (token.Word word.Shifted) (shift name) (scale_or_turn name)
 
 -- after name `:=` `nullpicture`
-abbrev pub cleared : Name → Rest
-cleared name = whole (Clear name)
+abbrev pub clear : Name → Rest
+clear name = line_end (Clear name)
 
 -- after the name that a line starts with
-abbrev pub named : Name → Rest
-named name = One (token.Mark mark.Becomes) (Or (token.Word word.NullPicture) (cleared name) (One (name_token name) (moved name)))
+abbrev pub assignment : Name → Rest
+assignment name = One (token.Mark mark.Becomes) (Or (token.Word word.NullPicture) (clear name) (One (name_token name) (transform name)))
 
 -- after `publish`
 abbrev pub publish : Rest
-publish = whole PublishAll
+publish = line_end PublishAll
 
 -- a complete line
 abbrev pub line : Rest
 line =
     Or (token.Word word.Addto) addto (Or (token.Word word.Cull) cull (Or (token.Word word.Show) show (Or (token.Word word.Proof) proof
     (Or (token.Word word.Shipout) shipout (Or (token.Word word.TurningCheck) turning_check (Or (token.Word word.Publish) publish
-    (OrName named (whole Nothing))))))))
+    (OrName assignment (line_end Nothing))))))))

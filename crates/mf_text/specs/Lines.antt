@@ -16,9 +16,9 @@ pub record IsText (line : List ℕ) : Type 0 where
   pub short : length line ≤ 65536
   pub text : list_all is_text_byte line ≡ true
 
--- what is ahead at the front of a line: all of its tokens
-abbrev pub front : List ℕ → Ahead
-front line = record { tokens = tokens line; past = 1 }
+-- what is ahead at the start of a line: all of its tokens
+abbrev pub line_ahead : List ℕ → Ahead
+line_ahead line = record { tokens = tokens line; past = 1 }
 
 -- the bytes are this line of the grammar
 pub record IsLineOf (bytes : List ℕ) (line : Line) : Type 0 where
@@ -45,7 +45,7 @@ pub record HasOtherBytes (bytes : List ℕ) : Type 0 where
 -- the bytes are text and not a line of the grammar, which is reported at this column
 pub record HasSyntaxFault (bytes : List ℕ) (column : ℕ) : Type 0 where
   pub text : IsText bytes
-  pub wrong : IsSyntaxFault (front bytes) column
+  pub wrong : IsSyntaxFault (line_ahead bytes) column
 
 -- the bytes are a line that may be refused with `OutOfMemory`, which only that of a contour may be
 pub record MayWantMemory (bytes : List ℕ) : Type 0 where

@@ -1,6 +1,7 @@
 -- The names of refusals, as they are printed.
 use Rattle.std.specs.Prelude.{ℕ, List, ◌++◌, codes, decimal}
-use Rattle.mf_geom.specs.Names.{fault_text, memory_text}
+use Rattle.mf_base.specs.Names.{memory_text}
+use Rattle.mf_geom.specs.Names.{fault_text}
 use Rattle.mf_ops.specs.Names.{bad_weight_text, bad_cull_text, bad_scale_text, bad_turn_text}
 use Rattle.mf_text.specs.declared.fault.TextFault.{TextFault}
 use Rattle.mf_text.specs.declared.fault.TextFault.TheVariants.{Cycle, BadWeight, BadCull, BadScale, BadTurn, OutOfMemory, LineTooLong, NotAscii, Syntax}

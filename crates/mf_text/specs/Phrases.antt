@@ -9,7 +9,7 @@ module _ {A : Type 0} (spell : A → List Token) where
     pub spelled : ts ≡ spell tree
 
   -- some phrase starts with the tokens
-  pub record BeginsPhrase (ts : List Token) : Type 0 where
+  pub record StartsPhrase (ts : List Token) : Type 0 where
     pub rest : List Token
     pub phrase : IsPhrase (ts ++ rest)
 
@@ -17,6 +17,6 @@ module _ {A : Type 0} (spell : A → List Token) where
   -- where some phrase starts with the tokens but they are not one
   pub record IsWrongAt (ts : List Token) (k : ℕ) : Type 0 where
     pub within : k ≤ length ts
-    pub begins : BeginsPhrase (take k ts)
-    pub wrong : k < length ts → BeginsPhrase (take (suc k) ts) → ⊥
+    pub starts : StartsPhrase (take k ts)
+    pub wrong : k < length ts → StartsPhrase (take (suc k) ts) → ⊥
     pub unended : k ≡ length ts → IsPhrase ts → ⊥

@@ -9,20 +9,24 @@ use Rattle.mf_text.specs.declared.tokens.Tokens.{Tokens}
 use Rattle.mf_text.specs.Ahead.{Ahead}
 use Rattle.mf_text.specs.declared.path.Path as paths
 use Rattle.mf_text.specs.Grammar.{Form, Line, Path, path_value}
-use Rattle.mf_text.specs.Left.{tokens_left}
-use Rattle.mf_text.specs.LineRests.{whole}
+use Rattle.mf_text.specs.LineRests.{line_end}
 use Rattle.mf_text.specs.Meaning.{IsAnswerOf}
 use Rattle.mf_text.specs.Paths.{HasPoints}
 use Rattle.mf_text.specs.Rests.{Rest, path, from}
 use Rattle.mf_text.specs.Token.{Token, Placed, is_token}
+use Rattle.mf_text.specs.Tokens.{tokens_from}
 
--- what is ahead of the reader: the tokens that are left, and the column one past the token before them
+-- the tokens of a line that remain to be read
+abbrev pub remaining_tokens : Tokens → List Placed
+remaining_tokens t = tokens_from t.column t.rest.now
+
+-- what is ahead of the reader: the tokens that remain, and the column one past the token before them
 abbrev pub ahead : Tokens → Ahead
-ahead t = record { tokens = tokens_left t; past = t.column }
+ahead t = record { tokens = remaining_tokens t; past = t.column }
 
--- no more tokens are left after than before
+-- no more tokens remain after than before
 abbrev pub IsWithin : Tokens → Tokens → Type 0
-IsWithin after before = length (tokens_left after) ≤ length (tokens_left before)
+IsWithin after before = length (remaining_tokens after) ≤ length (remaining_tokens before)
 
 -- the next token is this one
 abbrev pub is_next : Token → List Placed → Bool
@@ -35,10 +39,10 @@ after_first [] = None
 after_first (p ∷ ps) = Some (record { tokens = ps; past = p.after })
 
 -- this token was passed where it is the next one, and otherwise nothing was
-pub record HasTaken (t : Token) (before after : Tokens) (taken : Bool) : Type 0 where
-  pub next : taken ≡ is_next t (tokens_left before)
-  pub after_is : taken ≡ true → after_first (tokens_left before) ≡ Some (ahead after)
-  pub left : taken ≡ false → after ≡ before
+pub record TakesToken (t : Token) (before after : Tokens) (was_next : Bool) : Type 0 where
+  pub next : was_next ≡ is_next t (remaining_tokens before)
+  pub after_is : was_next ≡ true → after_first (remaining_tokens before) ≡ Some (ahead after)
+  pub same : was_next ≡ false → after ≡ before
 
 -- a value, if there is one, and what is ahead after it
 abbrev pub with_rest : {A : Type 0} → Ahead → Option A → Option (A × Ahead)
@@ -46,14 +50,14 @@ with_rest after None = None
 with_rest after (Some a) = Some (a, after)
 
 -- the value of the next token, if it has one, and what is ahead after it
-abbrev pub taken : {A : Type 0} → (Token → Option A) → List Placed → Option (A × Ahead)
-taken f [] = None
-taken f (p ∷ ps) = with_rest (record { tokens = ps; past = p.after }) (f p.token)
+abbrev pub next_value : {A : Type 0} → (Token → Option A) → List Placed → Option (A × Ahead)
+next_value f [] = None
+next_value f (p ∷ ps) = with_rest (record { tokens = ps; past = p.after }) (f p.token)
 
 -- the next token was passed and its value returned where it has one, and otherwise nothing was passed
-abbrev pub Takes : {A : Type 0} → (Token → Option A) → Tokens → Tokens → Option A → Type 0
-Takes f before after None = (taken f (tokens_left before) ≡ None) × (after ≡ before)
-Takes f before after (Some a) = taken f (tokens_left before) ≡ Some (a, ahead after)
+abbrev pub TakesValue : {A : Type 0} → (Token → Option A) → Tokens → Tokens → Option A → Type 0
+TakesValue f before after None = (next_value f (remaining_tokens before) ≡ None) × (after ≡ before)
+TakesValue f before after (Some a) = next_value f (remaining_tokens before) ≡ Some (a, ahead after)
 
 -- what a line gives after a phrase: what its rest gives, or the column of the fault
 abbrev pub then_from : {A : Type 0} → (A → Rest) → Ahead → Result A SyntaxFault → Result Line ℕ
@@ -97,8 +101,8 @@ pub record HasEnded (form : Form) (read : Result Line ℕ) : Type 0 where
 
 -- the line ends here, or goes wrong at this column, whatever its form is
 abbrev pub Closes : Tokens → Result (Unit {0}) SyntaxFault → Type 0
-Closes before (Ok done) = (form : Form) → HasEnded form (from (whole form) (ahead before))
-Closes before (Err fault) = (form : Form) → from (whole form) (ahead before) ≡ Err fault.column
+Closes before (Ok done) = (form : Form) → HasEnded form (from (line_end form) (ahead before))
+Closes before (Err fault) = (form : Form) → from (line_end form) (ahead before) ≡ Err fault.column
 
 -- the answer to what a line gives: that of its form, or `Syntax` with the column at which it goes wrong
 abbrev pub Answers : Result Line ℕ → Result Command TextFault → Type 0

@@ -120,16 +120,16 @@ ends p = None
 -- ---- a line, or the column at which it goes wrong
 
 -- the column at which a token that may not come is reported: its own, or that of the `-` for a number after `code -`
-abbrev pub shown : Place → Token → ℕ → ℕ → ℕ
-shown (CodeNumber next) (token.Number n) last column = last
-shown p t last column = column
+abbrev pub report_column : Place → Token → ℕ → ℕ → ℕ
+report_column (CodeNumber next) (token.Number n) last column = last
+report_column p t last column = column
 
 -- what the tokens after a place give: a line, or the column at which they go wrong; the token before them is at column `last`,
 -- and ends before column `past`
 unfoldable pub follow : Result Place ℕ → ℕ → ℕ → List Placed → Result Line ℕ
 follow (Err column) last past ps = Err column
 follow (Ok place) last past [] = ok_or (ends place) past
-follow (Ok place) last past (p ∷ ps) = follow (ok_or (step place p.token) (shown place p.token last p.column)) p.column p.after ps
+follow (Ok place) last past (p ∷ ps) = follow (ok_or (step place p.token) (report_column place p.token last p.column)) p.column p.after ps
 
 -- what the tokens ahead give where they must be this rest: a line, or the column at which they go wrong
 abbrev pub from : Rest → Ahead → Result Line ℕ

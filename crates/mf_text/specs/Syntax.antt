@@ -6,7 +6,7 @@ use Rattle.mf_text.specs.Token as token
 use Rattle.mf_text.specs.declared.token.Word.TheVariants as word
 use Rattle.mf_text.specs.Ahead.{Ahead, column_at}
 use Rattle.mf_text.specs.Grammar.{spell_line}
-use Rattle.mf_text.specs.Phrases.{IsPhrase, BeginsPhrase, IsWrongAt}
+use Rattle.mf_text.specs.Phrases.{IsPhrase, StartsPhrase, IsWrongAt}
 use Rattle.mf_text.specs.Tokens.{kinds}
 
 -- the tokens are a line of the grammar
@@ -14,8 +14,8 @@ abbrev pub IsLine : List Token → Type 0
 IsLine ts = IsPhrase spell_line ts
 
 -- some line of the grammar starts with these tokens
-abbrev pub BeginsLine : List Token → Type 0
-BeginsLine ts = BeginsPhrase spell_line ts
+abbrev pub StartsLine : List Token → Type 0
+StartsLine ts = StartsPhrase spell_line ts
 
 -- the tokens start with `-` and a number
 abbrev pub is_negative_int : List Token → Bool
@@ -28,11 +28,11 @@ is_negative_code (token.Word word.Shipout ∷ source ∷ token.Word word.Code �
 is_negative_code ts = false
 
 -- the token at which a line that goes wrong at token k is reported: that one, but for a number after `code -` the `-`
-abbrev pub shown_at : List Token → ℕ → ℕ
-shown_at ts k = if is_negative_code ts && eqb k 4 then 3 else k
+abbrev pub report_place : List Token → ℕ → ℕ
+report_place ts k = if is_negative_code ts && eqb k 4 then 3 else k
 
 -- the tokens ahead are not a line, which is reported at this column
 pub record IsSyntaxFault (ahead : Ahead) (column : ℕ) : Type 0 where
   pub place : ℕ
   pub at : IsWrongAt spell_line (kinds ahead.tokens) place
-  pub column_is : column ≡ column_at ahead (shown_at (kinds ahead.tokens) place)
+  pub column_is : column ≡ column_at ahead (report_place (kinds ahead.tokens) place)

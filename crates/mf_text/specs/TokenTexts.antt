@@ -6,13 +6,13 @@ use Rattle.mf_text.specs.declared.token.Mark.{Mark}
 use Rattle.mf_text.specs.Bytes.{is_blank}
 use Rattle.mf_text.specs.Token.{Placed, Token}
 use Rattle.mf_text.specs.Token as token
-use Rattle.mf_text.specs.Tokens.{has_front, is_longer, mark_text, number_token, word_token}
+use Rattle.mf_text.specs.Tokens.{first_is, is_longer, mark_text, number_token, word_token}
 
 -- the text is a longest row of bytes of one kind: it has at least one, and the rest does not start with another
 pub record IsRow (p : ℕ → Bool) (text rest : List ℕ) : Type 0 where
   pub some : 0 < length text
   pub all : All (λ b. p b ≡ true) text
-  pub longest : has_front p rest ≡ false
+  pub longest : first_is p rest ≡ false
 
 -- the text is that of a mark, and no longer mark is there: `-` only where `--` is not
 pub record IsMarkText (m : Mark) (text rest : List ℕ) : Type 0 where
@@ -58,4 +58,5 @@ pub record EndsLine (bytes : List ℕ) : Type 0 where
 -- the bytes from a column on are cut into these tokens
 abbrev pub AreTokens : ℕ → List ℕ → List Placed → Type 0
 AreTokens column bytes [] = EndsLine bytes
-AreTokens column bytes (p ∷ ps) = (blanks : List ℕ) × ((text : List ℕ) × ((rest : List ℕ) × (IsCut column bytes p blanks text rest × AreTokens p.after rest ps)))
+AreTokens column bytes (p ∷ ps) =
+    (blanks : List ℕ) × ((text : List ℕ) × ((rest : List ℕ) × (IsCut column bytes p blanks text rest × AreTokens p.after rest ps)))

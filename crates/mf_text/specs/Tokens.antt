@@ -86,9 +86,9 @@ first_token bs =
     else mark_among marks bs)
 
 -- a byte of this kind is at the front
-abbrev pub has_front : (ℕ → Bool) → List ℕ → Bool
-has_front p [] = false
-has_front p (b ∷ bs) = p b
+abbrev pub first_is : (ℕ → Bool) → List ℕ → Bool
+first_is p [] = false
+first_is p (b ∷ bs) = p b
 
 -- a longer mark that starts with this one is at the front
 abbrev pub is_longer : Mark → List ℕ → Bool
@@ -106,8 +106,8 @@ FindsToken t bs None = is_token (first_token bs).token t ≡ false
 FindsToken t bs (Some bytes) = (is_token (first_token bs).token t ≡ true) × (bytes ≡ (first_token bs).bytes) × (bytes ≤ length bs)
 
 -- a token with its columns, where its first byte has this one
-abbrev pub placed : ℕ → Taken → Placed
-placed column taken = record { token = taken.token; column = column; after = column + taken.bytes }
+abbrev pub token_at : ℕ → Taken → Placed
+token_at column found = record { token = found.token; column = column; after = column + found.bytes }
 
 -- the tokens found in at most n steps, each past a token or a blank, where the first byte has this column
 unfoldable pub tokens_within : ℕ → ℕ → List ℕ → List Placed
@@ -116,7 +116,7 @@ tokens_within (suc n) column [] = []
 tokens_within (suc n) column (b ∷ bs) =
     if is_blank b then tokens_within n (column + 1) bs
     else (if b == 37 then []
-    else (placed column (first_token (b ∷ bs)) ∷ tokens_within n (column + (first_token (b ∷ bs)).bytes) (drop (first_token (b ∷ bs)).bytes (b ∷ bs))))
+    else (token_at column (first_token (b ∷ bs)) ∷ tokens_within n (column + (first_token (b ∷ bs)).bytes) (drop (first_token (b ∷ bs)).bytes (b ∷ bs))))
 
 -- the tokens of bytes, the first of which has this column
 unfoldable pub tokens_from : ℕ → List ℕ → List Placed

@@ -4,12 +4,40 @@ ghost use Rattle.mf_text.specs.Ints.{is_byte};
 
 use crate::int::Int;
 
-mod steps;
-
 /// The int after `code`, in 0..=255. The invariant says so, so that no use of its value needs a check. 0 can be written in two
 /// ways, since `-` may come before it.
 #[derive(Clone, Copy, Debug)]
 pub struct Code {
     pub(crate) int: Int,
     ghost is_byte: { is_byte int ≡ true },
+}
+
+impl Code {
+    ghost use Rattle.std.specs.Prelude.{◌≡◌};
+    ghost use Rattle.mf_text.specs.Codes.{code_of, code_value};
+
+    /// The code that an int is, if it is in 0..=255.
+    pub fn new(int: Int) -> Option<Code>
+        ensures { result ≡ code_of int }
+    {
+        if is_byte(int) {
+            return Some(Code { int });
+        }
+        None
+    }
+
+    /// Its value, in 0..=255.
+    pub fn value(self) -> u8
+        ensures { result ≡ code_value self }
+    {
+        self.int.magnitude as u8
+    }
+}
+
+/// Whether an int is in 0..=255.
+fn is_byte(int: Int) -> bool
+    ensures { result ≡ is_byte int }
+{
+    let value = int.value();
+    0 <= value && value <= 255
 }

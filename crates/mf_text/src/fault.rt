@@ -1,5 +1,6 @@
 //! Why lines are refused.
-use mf_geom::{CycleFault, OutOfMemory};
+use mf_base::OutOfMemory;
+use mf_geom::CycleFault;
 use mf_ops::{BadCull, BadScale, BadTurn, BadWeight};
 use std::error::Error;
 use std::fmt;

@@ -7,7 +7,7 @@ ghost use Rattle.mf_text.specs.Ahead.{Ahead};
 ghost use Rattle.mf_text.specs.Grammar.{Line, spell_line};
 ghost use Rattle.mf_text.specs.Lines.{Gives, IsRefused};
 ghost use Rattle.mf_text.specs.Registers.{HasNames};
-ghost use Rattle.mf_text.specs.Syntax.{IsLine, BeginsLine, IsSyntaxFault};
+ghost use Rattle.mf_text.specs.Syntax.{IsLine, StartsLine, IsSyntaxFault};
 ghost use Rattle.mf_text.specs.Tokens.{kinds, tokens};
 ghost use Rattle.mf_text.specs.TokenTexts.{AreTokens};
 
@@ -26,9 +26,11 @@ pub fn one_line()
 
 /// A line gives exactly one command or, allocation failures aside, has exactly one refusal, and never both.
 pub fn one_answer()
-    ensures some { (bytes : List ℕ) → ((given : Command) × Gives bytes given) ⊎ ((fault : TextFault) × (fault ≢ TextFault.OutOfMemory) × IsRefused bytes fault) }
+    ensures some { (bytes : List ℕ) → ((given : Command) × Gives bytes given)
+        ⊎ ((fault : TextFault) × (fault ≢ TextFault.OutOfMemory) × IsRefused bytes fault) }
     ensures command { (bytes : List ℕ) (one other : Command) → Gives bytes one → Gives bytes other → one ≡ other }
-    ensures refusal { (bytes : List ℕ) (one other : TextFault) → one ≢ TextFault.OutOfMemory → other ≢ TextFault.OutOfMemory → IsRefused bytes one → IsRefused bytes other → one ≡ other }
+    ensures refusal { (bytes : List ℕ) (one other : TextFault) → one ≢ TextFault.OutOfMemory
+        → other ≢ TextFault.OutOfMemory → IsRefused bytes one → IsRefused bytes other → one ≡ other }
     ensures not_both { (bytes : List ℕ) (given : Command) (fault : TextFault) → fault ≢ TextFault.OutOfMemory → Gives bytes given → IsRefused bytes fault → ⊥ }
 {}
 
@@ -38,8 +40,8 @@ pub fn wrong_is_no_line()
 {}
 
 /// Some line of the grammar starts with given tokens, or none does.
-pub fn begins_or_not()
-    ensures { (ts : List Token) → BeginsLine ts ⊎ (BeginsLine ts → ⊥) }
+pub fn starts_or_not()
+    ensures { (ts : List Token) → StartsLine ts ⊎ (StartsLine ts → ⊥) }
 {}
 
 /// The registers that the command of a line names are `a` to `z`.

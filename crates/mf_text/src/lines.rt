@@ -1,5 +1,5 @@
 //! Lines, with a function for each form that they may have.
-ghost use Rattle.std.specs.Prelude.{◌≡◌, true, IfOk, IfErr};
+ghost use Rattle.std.specs.Prelude.{◌≡◌, IfOk, IfErr};
 ghost use Rattle.std.specs.List.{list_all};
 ghost use Rattle.mf_text.specs.Bytes.{is_text_byte};
 ghost use Rattle.mf_text.specs.LineRests as rests;
@@ -8,11 +8,13 @@ ghost use Rattle.mf_text.specs.Grammar.{Nothing, Rotated, Scaled, XScaled, YScal
 ghost use Rattle.mf_text.specs.Reads.{Answers, ahead};
 ghost use Rattle.mf_text.specs.Rests.{from};
 
-use crate::command::{Command, Name, Source};
+use crate::command::{Command, Name};
 use crate::fault::TextFault;
 use crate::token::{Mark, Word};
 use crate::tokens::Tokens;
-use crate::value::{check, contour, dropping, keeping, rotated, scaled};
+use crate::value::{
+    check, contour_command, drop_command, keep_command, scale_command, turn_command,
+};
 use mf_ops::Sign;
 use std::alloc::Global;
 
@@ -88,14 +90,14 @@ fn line_of(alloc: Global, tokens: Tokens<'_>) -> Result<Command, TextFault>
         return publish(&mut tokens);
     }
     match tokens.takes_name() {
-        Some(name) => named(&mut tokens, name),
+        Some(name) => assignment(&mut tokens, name),
         None => nothing(&mut tokens),
     }
 }
 
 /// The line without a command: `;`, or nothing.
 fn nothing(tokens: &mut Tokens<'_>) -> Result<Command, TextFault>
-    ensures { Answers (from (rests.whole Nothing) (ahead tokens.old)) result }
+    ensures { Answers (from (rests.line_end Nothing) (ahead tokens.old)) result }
 {
     tokens.end()?;
     Ok(Command::Nothing)
@@ -123,12 +125,12 @@ fn add_contour(alloc: Global, tokens: &mut Tokens<'_>, name: Name) -> Result<Com
     let path = tokens.path(alloc)?;
     let weight = tokens.weight()?;
     tokens.end()?;
-    contour(name, path, weight)
+    contour_command(name, path, weight)
 }
 
 /// The line after `addto`, a name, `also`, and `-` where it comes.
 fn also(tokens: &mut Tokens<'_>, name: Name, sign: Sign) -> Result<Command, TextFault>
-    ensures { Answers (from (rests.added name sign) (ahead tokens.old)) result }
+    ensures { Answers (from (rests.also name sign) (ahead tokens.old)) result }
 {
     let source = tokens.source()?;
     tokens.end()?;
@@ -154,7 +156,7 @@ fn keep(tokens: &mut Tokens<'_>, name: Name) -> Result<Command, TextFault>
     let range = tokens.pair()?;
     let weight = tokens.weight()?;
     tokens.end()?;
-    keeping(name, range, weight)
+    keep_command(name, range, weight)
 }
 
 /// The line after `cull`, a name and `dropping`.
@@ -164,7 +166,7 @@ fn drop_range(tokens: &mut Tokens<'_>, name: Name) -> Result<Command, TextFault>
     let range = tokens.pair()?;
     let weight = tokens.weight()?;
     tokens.end()?;
-    dropping(name, range, weight)
+    drop_command(name, range, weight)
 }
 
 /// The line after `show`.
@@ -231,39 +233,39 @@ fn publish(tokens: &mut Tokens<'_>) -> Result<Command, TextFault>
 }
 
 /// The line after the name that it starts with.
-fn named(tokens: &mut Tokens<'_>, name: Name) -> Result<Command, TextFault>
-    ensures { Answers (from (rests.named name) (ahead tokens.old)) result }
+fn assignment(tokens: &mut Tokens<'_>, name: Name) -> Result<Command, TextFault>
+    ensures { Answers (from (rests.assignment name) (ahead tokens.old)) result }
 {
     tokens.pass_mark(Mark::Becomes)?;
     if tokens.takes_word(Word::NullPicture) {
         return clear(tokens, name);
     }
     tokens.pass_name(name)?;
-    moved(tokens, name)
+    transform(tokens, name)
 }
 
 /// The line after a name and `:= nullpicture`.
 fn clear(tokens: &mut Tokens<'_>, name: Name) -> Result<Command, TextFault>
-    ensures { Answers (from (rests.cleared name) (ahead tokens.old)) result }
+    ensures { Answers (from (rests.clear name) (ahead tokens.old)) result }
 {
     tokens.end()?;
     Ok(Command::Clear(name))
 }
 
 /// The line after a name, `:=` and the same name.
-fn moved(tokens: &mut Tokens<'_>, name: Name) -> Result<Command, TextFault>
-    ensures { Answers (from (rests.moved name) (ahead tokens.old)) result }
+fn transform(tokens: &mut Tokens<'_>, name: Name) -> Result<Command, TextFault>
+    ensures { Answers (from (rests.transform name) (ahead tokens.old)) result }
 {
     if tokens.takes_word(Word::Shifted) {
-        return shifted(tokens, name);
+        return shift(tokens, name);
     }
-    stretched(tokens, name)
+    scale_or_turn(tokens, name)
 }
 
 /// The line after a name, `:=` and the same name, where `shifted` does not come: `scaled`, `xscaled`, `yscaled` or `rotated`
 /// must.
-fn stretched(tokens: &mut Tokens<'_>, name: Name) -> Result<Command, TextFault>
-    ensures { Answers (from (rests.stretched name) (ahead tokens.old)) result }
+fn scale_or_turn(tokens: &mut Tokens<'_>, name: Name) -> Result<Command, TextFault>
+    ensures { Answers (from (rests.scale_or_turn name) (ahead tokens.old)) result }
 {
     if tokens.takes_word(Word::Scaled) {
         return scale_both(tokens, name);
@@ -284,7 +286,7 @@ fn scale_both(tokens: &mut Tokens<'_>, name: Name) -> Result<Command, TextFault>
 {
     let factor = tokens.int()?;
     tokens.end()?;
-    scaled(name, factor.value(), factor.value())
+    scale_command(name, factor.value(), factor.value())
 }
 
 /// The line after a name, `:=`, the same name and `xscaled`.
@@ -293,7 +295,7 @@ fn scale_columns(tokens: &mut Tokens<'_>, name: Name) -> Result<Command, TextFau
 {
     let factor = tokens.int()?;
     tokens.end()?;
-    scaled(name, factor.value(), 1)
+    scale_command(name, factor.value(), 1)
 }
 
 /// The line after a name, `:=`, the same name and `yscaled`.
@@ -302,7 +304,7 @@ fn scale_rows(tokens: &mut Tokens<'_>, name: Name) -> Result<Command, TextFault>
 {
     let factor = tokens.int()?;
     tokens.end()?;
-    scaled(name, 1, factor.value())
+    scale_command(name, 1, factor.value())
 }
 
 /// The line after a name, `:=`, the same name and `rotated`.
@@ -311,12 +313,12 @@ fn turn(tokens: &mut Tokens<'_>, name: Name) -> Result<Command, TextFault>
 {
     let angle = tokens.int()?;
     tokens.end()?;
-    rotated(name, angle)
+    turn_command(name, angle)
 }
 
 /// The line after a name, `:=`, the same name and `shifted`.
-fn shifted(tokens: &mut Tokens<'_>, name: Name) -> Result<Command, TextFault>
-    ensures { Answers (from (rests.shifted name) (ahead tokens.old)) result }
+fn shift(tokens: &mut Tokens<'_>, name: Name) -> Result<Command, TextFault>
+    ensures { Answers (from (rests.shift name) (ahead tokens.old)) result }
 {
     let by = tokens.pair()?.value();
     tokens.end()?;

@@ -3,7 +3,8 @@ ghost use Rattle.std.specs.Prelude.{◌≡◌, ◌≤◌, ◌++◌, ◌∷◌, [
 ghost use Rattle.mf_geom.specs.declared.point.Point as points;
 ghost use Rattle.mf_text.specs.Paths.{HasPoints};
 
-use mf_geom::{MAX_POINTS, OutOfMemory, Point};
+use mf_base::OutOfMemory;
+use mf_geom::{MAX_POINTS, Point};
 use std::alloc::Global;
 
 /// The points of a path, kept while the line is read: at most one more than a cycle may have, and none after an allocation has

@@ -1,10 +1,9 @@
 //! Phrases of lines, each passed by a function of its own. A fault is the column, in bytes from 1, at which the line goes
 //! wrong.
-ghost use Rattle.std.specs.Prelude.{◌≡◌, ◌<◌, length, true, ◌∷◌, [], Ok, IfOk, IfErr, if◌then◌else◌};
+ghost use Rattle.std.specs.Prelude.{◌≡◌, Ok, IfOk};
 ghost use Rattle.mf_text.specs.Grammar.{Line};
-ghost use Rattle.mf_text.specs.Left.{tokens_left};
 ghost use Rattle.mf_text.specs.LineRests as lines;
-ghost use Rattle.mf_text.specs.Reads.{Closes, IsWithin, Passes, PassesPath, Takes, ahead, then_end, then_from, then_name, then_rest};
+ghost use Rattle.mf_text.specs.Reads.{Closes, IsWithin, Passes, PassesPath, TakesValue, ahead, remaining_tokens, then_end, then_from, then_name, then_rest};
 ghost use Rattle.mf_text.specs.Rests as rests;
 ghost use Rattle.mf_text.specs.Rests.{CodeNumber, Ends, Rest, follow, from};
 ghost use Rattle.mf_text.specs.Token as token;
@@ -45,7 +44,7 @@ impl Tokens<'_> {
 
     /// Passes a name, if it is the next token.
     pub fn takes_name(&mut self) -> Option<Name>
-        ensures took { Takes name_in self.old self.new result }
+        ensures took { TakesValue name_in self.old self.new result }
         ensures read { (this : Name → Rest) → (other : Rest) → from (rests.OrName this other) (ahead self.old) ≡ then_name this other (ahead self.new) result }
     {
         if self.takes_word(Word::CurrentPicture) {
@@ -89,7 +88,7 @@ impl Tokens<'_> {
     /// Passes the number of an int, if it is the next token. `negative` says whether `-` comes before it.
     #[inline(always)]
     fn takes_int(&mut self, negative: bool) -> Option<Int>
-        ensures { Takes (rests.number_in negative) self.old self.new result }
+        ensures { TakesValue (rests.number_in negative) self.old self.new result }
     {
         let mut after = *self;
         let int = Int::new(negative, after.takes_number()?)?;
@@ -124,7 +123,7 @@ impl Tokens<'_> {
     /// Passes the number of a code, if it is the next token and the int is in 0..=255. `negative` says whether `-` comes before
     /// it.
     fn takes_code(&mut self, negative: bool) -> Option<Code>
-        ensures { Takes (rests.code_in negative) self.old self.new result }
+        ensures { TakesValue (rests.code_in negative) self.old self.new result }
     {
         let mut after = *self;
         let code = Code::new(after.takes_int(negative)?)?;
@@ -149,7 +148,8 @@ impl Tokens<'_> {
     /// Passes the number of a code after its `-`. A number out of range is reported at the `-`, which `first` is. This is a
     /// rule of its own: a line may go on with `-` after `code`, since `-0` is a code.
     fn negative_code(&mut self, first: SyntaxFault) -> Result<Code, SyntaxFault>
-        ensures { (next : Code → Rest) → follow (Ok (CodeNumber next)) first.column self.old.column (tokens_left self.old) ≡ then_from next (ahead self.new) result }
+        ensures { (next : Code → Rest)
+            → follow (Ok (CodeNumber next)) first.column self.old.column (remaining_tokens self.old) ≡ then_from next (ahead self.new) result }
     {
         if let Some(code) = self.takes_code(true) {
             return Ok(code);

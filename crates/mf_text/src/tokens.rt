@@ -5,7 +5,7 @@ ghost use Rattle.std.specs.Char.{is_ascii_alphabetic};
 ghost use Rattle.mf_text.specs.Bytes.{IsClear};
 ghost use Rattle.mf_text.specs.Token as token;
 ghost use Rattle.mf_text.specs.Token.{letter_in, value_in};
-ghost use Rattle.mf_text.specs.Tokens.{Finds, FindsToken, has_front, is_longer};
+ghost use Rattle.mf_text.specs.Tokens.{Finds, FindsToken, first_is, is_longer};
 
 use crate::fault::SyntaxFault;
 use crate::token::{Mark, Word};
@@ -28,15 +28,14 @@ impl<'a> Tokens<'a> {
     ghost use Rattle.std.specs.Prelude.{ℕ, ◌≡◌, ◌≢◌, ◌+◌, ◌<◌, ◌≤◌, ◌^◌, drop, length, true, false, [], if◌then◌else◌};
     ghost use Rattle.mf_text.specs.Ahead.{column_of};
     ghost use Rattle.mf_text.specs.Bytes.{IsClear};
-    ghost use Rattle.mf_text.specs.Left.{tokens_left};
-    ghost use Rattle.mf_text.specs.Reads.{HasTaken, IsWithin, Takes, ahead};
+    ghost use Rattle.mf_text.specs.Reads.{IsWithin, TakesToken, TakesValue, ahead, remaining_tokens};
     ghost use Rattle.mf_text.specs.Rests.{Or, Rest, from};
     ghost use Rattle.mf_text.specs.Tokens.{tokens};
 
     /// All tokens of this line. Requires it to be shorter than 2^31 bytes.
     pub fn new(line: &'a [u8]) -> Tokens<'a>
         requires { length line.now < 2 ^ 31 }
-        ensures tokens { tokens_left result ≡ tokens line.now }
+        ensures tokens { remaining_tokens result ≡ tokens line.now }
         ensures column { result.column ≡ 1 }
     {
         Tokens {
@@ -48,7 +47,7 @@ impl<'a> Tokens<'a> {
     /// Passes the blanks at the front.
     #[inline(always)]
     fn skip_blanks(&mut self)
-        ensures same { tokens_left self.new ≡ tokens_left self.old }
+        ensures same { remaining_tokens self.new ≡ remaining_tokens self.old }
         ensures clear { IsClear self.new.rest.now }
     {
         while let [b' ' | b'\t', after @ ..] = self.rest {
@@ -75,14 +74,15 @@ impl<'a> Tokens<'a> {
     /// Passes this word, if it is the next token, and returns whether it was. The word is compared with the bytes, and no table
     /// is searched for the word that is there: only a few words may come at any place.
     pub fn takes_word(&mut self, word: Word) -> bool
-        ensures read { (this other : Rest) → from (Or (token.Word word) this other) (ahead self.old) ≡ (if result then from this (ahead self.new) else from other (ahead self.new)) }
-        ensures took { HasTaken (token.Word word) self.old self.new result }
+        ensures read { (this other : Rest)
+            → from (Or (token.Word word) this other) (ahead self.old) ≡ (if result then from this (ahead self.new) else from other (ahead self.new)) }
+        ensures took { TakesToken (token.Word word) self.old self.new result }
     {
-        let mut front = *self;
-        front.skip_blanks();
-        match word_at(word, front.rest) {
+        let mut start = *self;
+        start.skip_blanks();
+        match word_at(word, start.rest) {
             Some(bytes) => {
-                *self = front.after(bytes);
+                *self = start.after(bytes);
                 true
             }
             None => false,
@@ -93,16 +93,17 @@ impl<'a> Tokens<'a> {
     /// tokens of a contour are marks, and a search of their table would look at several entries for each.
     #[inline(always)]
     pub fn takes_mark(&mut self, mark: Mark) -> bool
-        ensures read { (this other : Rest) → from (Or (token.Mark mark) this other) (ahead self.old) ≡ (if result then from this (ahead self.new) else from other (ahead self.new)) }
-        ensures took { HasTaken (token.Mark mark) self.old self.new result }
+        ensures read { (this other : Rest)
+            → from (Or (token.Mark mark) this other) (ahead self.old) ≡ (if result then from this (ahead self.new) else from other (ahead self.new)) }
+        ensures took { TakesToken (token.Mark mark) self.old self.new result }
         ensures within { IsWithin self.new self.old }
-        ensures fewer { result ≡ true → length (tokens_left self.new) < length (tokens_left self.old) }
+        ensures fewer { result ≡ true → length (remaining_tokens self.new) < length (remaining_tokens self.old) }
     {
-        let mut front = *self;
-        front.skip_blanks();
-        match mark_at(mark, front.rest) {
+        let mut start = *self;
+        start.skip_blanks();
+        match mark_at(mark, start.rest) {
             Some(bytes) => {
-                *self = front.after(bytes);
+                *self = start.after(bytes);
                 true
             }
             None => false,
@@ -112,45 +113,45 @@ impl<'a> Tokens<'a> {
     /// Passes a single letter `a`..`z`, if it is the next token, and returns its number, 0 for `a`.
     #[inline(always)]
     pub fn takes_letter(&mut self) -> Option<u8>
-        ensures { Takes letter_in self.old self.new result }
+        ensures { TakesValue letter_in self.old self.new result }
     {
-        let mut front = *self;
-        front.skip_blanks();
-        let (letter, bytes) = letter_at(front.rest)?;
-        *self = front.after(bytes);
+        let mut start = *self;
+        start.skip_blanks();
+        let (letter, bytes) = letter_at(start.rest)?;
+        *self = start.after(bytes);
         Some(letter)
     }
 
     /// Passes a number of at most nine digits, if it is the next token, and returns its value.
     #[inline(always)]
     pub fn takes_number(&mut self) -> Option<u32>
-        ensures { Takes value_in self.old self.new result }
+        ensures { TakesValue value_in self.old self.new result }
     {
-        let mut front = *self;
-        front.skip_blanks();
-        let (value, bytes) = number_at(front.rest)?;
-        *self = front.after(bytes);
+        let mut start = *self;
+        start.skip_blanks();
+        let (value, bytes) = number_at(start.rest)?;
+        *self = start.after(bytes);
         Some(value)
     }
 
     /// Whether no token is left.
     #[inline(always)]
     pub fn is_ended(&self) -> bool
-        ensures ended { result ≡ true → tokens_left self.now ≡ [] }
-        ensures more { result ≡ false → tokens_left self.now ≢ [] }
+        ensures ended { result ≡ true → remaining_tokens self.now ≡ [] }
+        ensures more { result ≡ false → remaining_tokens self.now ≢ [] }
     {
-        let mut front = *self;
-        front.skip_blanks();
-        front.is_at_end()
+        let mut start = *self;
+        start.skip_blanks();
+        start.is_at_end()
     }
 
     /// Whether the line ends here or a comment begins here. Requires that no blank is at the front.
     #[inline(always)]
     fn is_at_end(&self) -> bool
         requires { IsClear self.now.rest.now }
-        ensures ended { result ≡ true → tokens_left self.now ≡ [] }
-        ensures more { result ≡ false → tokens_left self.now ≢ [] }
-        ensures column { result ≡ false → (past : ℕ) → column_of (tokens_left self.now) past ≡ self.now.column }
+        ensures ended { result ≡ true → remaining_tokens self.now ≡ [] }
+        ensures more { result ≡ false → remaining_tokens self.now ≢ [] }
+        ensures column { result ≡ false → (past : ℕ) → column_of (remaining_tokens self.now) past ≡ self.now.column }
     {
         match self.rest {
             [] => true,
@@ -161,17 +162,17 @@ impl<'a> Tokens<'a> {
     /// The fault of a line that cannot go on with its next token: the column of that token, or one past the last token where
     /// none is left.
     pub fn fault(&self) -> SyntaxFault
-        ensures { result.column ≡ column_of (tokens_left self.now) self.now.column }
+        ensures { result.column ≡ column_of (remaining_tokens self.now) self.now.column }
     {
-        let mut front = *self;
-        front.skip_blanks();
-        if front.is_at_end() {
+        let mut start = *self;
+        start.skip_blanks();
+        if start.is_at_end() {
             return SyntaxFault {
                 column: self.column,
             };
         }
         SyntaxFault {
-            column: front.column,
+            column: start.column,
         }
     }
 }
@@ -235,7 +236,7 @@ fn letter_at(text: &[u8]) -> Option<(u8, usize)>
 /// Whether a letter is at the front.
 #[inline(always)]
 fn has_letter(text: &[u8]) -> bool
-    ensures { result ≡ has_front is_ascii_alphabetic text.now }
+    ensures { result ≡ first_is is_ascii_alphabetic text.now }
 {
     match text {
         [byte, ..] => byte.is_ascii_alphabetic(),

@@ -17,9 +17,10 @@ use mf_ops::{Cull, Quarter, Scale, Weight};
 
 /// The command of a contour. Refused, in this order, with `TooManyPoints`, with `OutOfMemory` where an allocation failed for a
 /// point, with another fault of the points, or with `BadWeight`.
-pub fn contour(name: Name, path: Path, weight: Option<Int>) -> Result<Command, TextFault>
+pub fn contour_command(name: Name, path: Path, weight: Option<Int>) -> Result<Command, TextFault>
     ensures given { IfOk result (λ command. (points : List Point) → HasPoints path points → Means (contour_meaning name points (weight_value weight)) command) }
-    ensures refused { IfErr result (λ fault. fault ≢ TextFault.OutOfMemory → (points : List Point) → HasPoints path points → Refuses (contour_meaning name points (weight_value weight)) fault) }
+    ensures refused { IfErr result (λ fault. fault ≢ TextFault.OutOfMemory → (points : List Point)
+        → HasPoints path points → Refuses (contour_meaning name points (weight_value weight)) fault) }
 {
     if path.corners > MAX_POINTS {
         return Err(TextFault::Cycle(CycleFault::TooManyPoints));
@@ -59,7 +60,7 @@ fn lawful_weight(weight: Option<Int>) -> Result<Weight, TextFault>
 }
 
 /// The command of a cull that keeps a range. Refused with `BadWeight`, or else with `BadCull`.
-pub fn keeping(name: Name, range: Pair, weight: Option<Int>) -> Result<Command, TextFault>
+pub fn keep_command(name: Name, range: Pair, weight: Option<Int>) -> Result<Command, TextFault>
     ensures { IsAnswerOf (grammar.CullKeeping name range weight) result }
 {
     let kept = lawful_weight(weight)?;
@@ -71,7 +72,7 @@ pub fn keeping(name: Name, range: Pair, weight: Option<Int>) -> Result<Command, 
 }
 
 /// The command of a cull that drops a range. Refused with `BadWeight`, or else with `BadCull`.
-pub fn dropping(name: Name, range: Pair, weight: Option<Int>) -> Result<Command, TextFault>
+pub fn drop_command(name: Name, range: Pair, weight: Option<Int>) -> Result<Command, TextFault>
     ensures { IsAnswerOf (grammar.CullDropping name range weight) result }
 {
     let others = lawful_weight(weight)?;
@@ -83,7 +84,7 @@ pub fn dropping(name: Name, range: Pair, weight: Option<Int>) -> Result<Command,
 }
 
 /// The command of a scale by these factors of columns and rows. Refused with `BadScale`.
-pub fn scaled(name: Name, x: i32, y: i32) -> Result<Command, TextFault>
+pub fn scale_command(name: Name, x: i32, y: i32) -> Result<Command, TextFault>
     ensures given { IfOk result (Means (scale_meaning name (record { x = x; y = y }))) }
     ensures refused { IfErr result (Refuses (scale_meaning name (record { x = x; y = y }))) }
 {
@@ -94,7 +95,7 @@ pub fn scaled(name: Name, x: i32, y: i32) -> Result<Command, TextFault>
 }
 
 /// The command of a turn by this angle, in degrees counterclockwise. Refused with `BadTurn`.
-pub fn rotated(name: Name, angle: Int) -> Result<Command, TextFault>
+pub fn turn_command(name: Name, angle: Int) -> Result<Command, TextFault>
     ensures { IsAnswerOf (grammar.Move name (grammar.Rotated angle)) result }
 {
     match Quarter::new(angle.value()) {

@@ -4,7 +4,7 @@ use Rattle.std.specs.Io.KnownBytes.{Appends}
 use Rattle.std.proofs.KnownBytes.{Appends-nil, Appends-trans}
 use Rattle.std.proofs.lemmas.List.{append-nil}
 use Rattle.std.proofs.lemmas.List.Elements.{All-cons, All-head, All-nil, All-weaker}
-use Rattle.mf_easel.specs.Easels.{HasLookedLast, HasSameManner, canvas_of, drawing_of, drawn_of, looked, style_of, viewer_of}
+use Rattle.mf_easel.specs.Easels.{HasLookedLast, HasSameManner, canvas_of, drawing_of, drawn_of, looked_at_list, style_of, viewer_of}
 use Rattle.mf_easel.specs.Screens.{Gets, IsAbove, newly_drawn, over}
 use Rattle.mf_frame.specs.Canvases.{Size}
 use Rattle.mf_frame.specs.Frames.{frame_text}
@@ -42,7 +42,8 @@ in-manner held holds before after lists manner text =
 
 -- what a look draws goes after what was drawn
 drawn-after : (held then holds : Option (List ℕ)) (style : Style) (canvas : Size) (drawn : Option ℕ) (lists : List (List Entry)) (L : List Entry)
-    → Appends held then (frames style canvas lists) → drawn ≡ last_revision lists → Appends then holds (over style canvas drawn ++ frame_text style canvas (rev L) (pic L))
+    → Appends held then (frames style canvas lists) → drawn ≡ last_revision lists
+    → Appends then holds (over style canvas drawn ++ frame_text style canvas (rev L) (pic L))
     → Appends held holds (frames style canvas (L ∷ lists))
 drawn-after held then holds style canvas drawn lists L was last gets =
     Appends-trans held then holds (frames style canvas lists) (drawing style canvas lists L) was
@@ -50,24 +51,25 @@ drawn-after held then holds style canvas drawn lists L was last gets =
 
 -- a look draws its own list after what was drawn, or what was drawn last has its revision
 pub drawn-look : {W : Type 0} (contents : W → Option (List ℕ)) (held : Option (List ℕ)) (s t : W) (before after : Easel) (shown : Option ℕ)
-    → HasLooked (viewer_of before) (viewer_of after) → HasSameManner before after → shown ≡ newly_drawn (drawn_of before) (rev (looked after))
-    → drawn_of after ≡ Some (rev (looked after)) → Gets contents s t (drawing_of before (looked after)) shown → IfSome shown (IsAbove (drawn_of before))
+    → HasLooked (viewer_of before) (viewer_of after) → HasSameManner before after → shown ≡ newly_drawn (drawn_of before) (rev (looked_at_list after))
+    → drawn_of after ≡ Some (rev (looked_at_list after)) → Gets contents s t (drawing_of before (looked_at_list after)) shown → IfSome shown (IsAbove (drawn_of before))
     → HasDrawn before held (contents s) → HasDrawn after held (contents t)
 drawn-look contents held s t before after None look manner answer drawn same rising was = record {
   lists = was.lists;
   text = rw same (in-manner held (contents s) before after was.lists manner was.text);
   rise = was.rise;
-  seen = seen-more (looked before) (looked after) was.lists look.extends.looked was.seen;
-  last = drawn ∙ (sym (newly-none (drawn_of before) (rev (looked after)) (sym answer)) ∙ was.last);
+  seen = seen-more (looked_at_list before) (looked_at_list after) was.lists look.extends.looked was.seen;
+  last = drawn ∙ (sym (newly-none (drawn_of before) (rev (looked_at_list after)) (sym answer)) ∙ was.last);
 }
 drawn-look contents held s t before after (Some shown) look manner answer drawn gets rising was =
-    let revision = newly-some (drawn_of before) (rev (looked after)) shown (sym answer) in
+    let revision = newly-some (drawn_of before) (rev (looked_at_list after)) shown (sym answer) in
     record {
-      lists = looked after ∷ was.lists;
-      text = in-manner held (contents t) before after (looked after ∷ was.lists) manner
-          (drawn-after held (contents s) (contents t) (style_of before) (canvas_of before) (drawn_of before) was.lists (looked after) was.text was.last gets);
+      lists = looked_at_list after ∷ was.lists;
+      text = in-manner held (contents t) before after (looked_at_list after ∷ was.lists) manner
+          (drawn-after held (contents s) (contents t) (style_of before) (canvas_of before) (drawn_of before) was.lists (looked_at_list after) was.text was.last gets);
       rise = (subst (λ n. IsAbove (last_revision was.lists) n) revision (subst (λ d. IsAbove d shown) was.last rising), was.rise);
-      seen = All-cons (IsSeenOf (looked after)) (looked after) was.lists (whole-self (looked after)) (seen-more (looked before) (looked after) was.lists look.extends.looked was.seen);
+      seen = All-cons (IsSeenOf (looked_at_list after)) (looked_at_list after) was.lists (whole-self (looked_at_list after))
+          (seen-more (looked_at_list before) (looked_at_list after) was.lists look.extends.looked was.seen);
       last = drawn;
     }
 
@@ -82,7 +84,8 @@ same-picture L whole part same =
     let sum : rev whole ≡ rev L + rev part.rest = ap rev part.whole ∙ rev-append L part.rest in
     let none : length (operations part.rest) ≡ 0 = omega arith in
     let rest : operations part.rest ≡ [] = no-operation (operations part.rest) none in
-    sym (ap pic part.whole ∙ (ap picture_after (operations-append L part.rest) ∙ ap picture_after (ap (λ ops. operations L ++ ops) rest ∙ append-nil (operations L))))
+    sym (ap pic part.whole
+    ∙ (ap picture_after (operations-append L part.rest) ∙ ap picture_after (ap (λ ops. operations L ++ ops) rest ∙ append-nil (operations L))))
 
 -- the last picture was drawn before
 shown-before : (easel : Easel) (whole : List Entry) (held holds : Option (List ℕ)) (lists : List (List Entry))
@@ -108,7 +111,7 @@ pub shown-last : {W : Type 0} (contents : W → Option (List ℕ)) (held : Optio
     → HasDrawn before held (contents s) → ShowsLast (style_of before) (canvas_of before) whole held (contents t)
 shown-last contents held s t before after whole None look answer same rising was =
     let again = sym was.last ∙ newly-none (drawn_of before) (rev whole) (sym answer) in
-    let seen = seen-more (looked before) whole was.lists look.0.looked was.seen in
+    let seen = seen-more (looked_at_list before) whole was.lists look.0.looked was.seen in
     rw same (shown-before before whole held (contents s) was.lists was.text was.rise seen again)
 shown-last contents held s t before after whole (Some shown) look answer gets rising was =
     let revision = newly-some (drawn_of before) (rev whole) shown (sym answer) in
@@ -117,7 +120,7 @@ shown-last contents held s t before after whole (Some shown) look answer gets ri
       earlier = was.lists;
       text = drawn-after held (contents s) (contents t) (style_of before) (canvas_of before) (drawn_of before) was.lists whole was.text was.last gets;
       rise = (subst (λ n. IsAbove (last_revision was.lists) n) revision (subst (λ d. IsAbove d shown) was.last rising), was.rise);
-      seen = All-cons (IsSeenOf whole) whole was.lists (whole-self whole) (seen-more (looked before) whole was.lists look.0.looked was.seen);
+      seen = All-cons (IsSeenOf whole) whole was.lists (whole-self whole) (seen-more (looked_at_list before) whole was.lists look.0.looked was.seen);
       revision = refl;
       picture = refl;
     }
@@ -125,7 +128,7 @@ shown-last contents held s t before after whole (Some shown) look answer gets ri
 -- an easel that has drawn nothing
 pub drawn-nothing : (easel : Easel) (held : Option (List ℕ)) → drawn_of easel ≡ None → HasDrawn easel held held
 drawn-nothing easel held nothing =
-    record { lists = []; text = Appends-nil held; rise = tt; seen = All-nil (IsSeenOf (looked easel)); last = nothing }
+    record { lists = []; text = Appends-nil held; rise = tt; seen = All-nil (IsSeenOf (looked_at_list easel)); last = nothing }
 
 pub same-manner : (a b c : Easel) → HasSameManner a b → HasSameManner b c → HasSameManner a c
 same-manner a b c first then = record { canvas = then.canvas ∙ first.canvas; style = then.style ∙ first.style }

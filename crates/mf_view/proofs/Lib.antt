@@ -1,4 +1,3 @@
 mod Drawn
-mod FontFiles
 mod Messages
 mod Shown

@@ -16,6 +16,7 @@ pub message-front : (held holds : Option (List ℕ)) (text more : List ℕ) → 
 message-front held holds text more (front, rest, is, out) = (front, rest ++ more, ap (λ all. all ++ more) is ∙ append_assoc front rest more, out)
 
 -- what a writer got after a text
-pub message-after : (held then holds : Option (List ℕ)) (text more : List ℕ) → Appends held then text → GetsMessage then holds more → GetsMessage held holds (text ++ more)
+pub message-after : (held then holds : Option (List ℕ)) (text more : List ℕ) → Appends held then text
+    → GetsMessage then holds more → GetsMessage held holds (text ++ more)
 message-after held then holds text more all (front, rest, is, out) =
     (text ++ front, rest, ap (λ after. text ++ after) is ∙ sym (append_assoc text front rest), Appends-trans held then holds text front all out)

@@ -8,7 +8,7 @@ use Rattle.mf_easel.specs.declared.fault.EaselFault.{EaselFault}
 use Rattle.mf_frame.specs.Canvases.{Size}
 use Rattle.mf_frame.specs.declared.tile.Style.{Style}
 use Rattle.mf_gf.specs.declared.file.GfFile.{GfFile}
-use Rattle.mf_session.specs.Endings.{IsFileOf, whole_list}
+use Rattle.mf_session.specs.Endings.{IsFileOf, complete_list}
 use Rattle.mf_session.specs.States.{State, start}
 use Rattle.mf_session.specs.Transcript.{Perform}
 use Rattle.mf_stage.specs.Scripts.{HasPerformed}
@@ -34,7 +34,7 @@ shown-file : (style : Style) (canvas : Size) (held holds told tells : Option (Li
     → limits before ≡ script_limits → StandsFor before start
     → IfSome unread (λ input. (s : State) → StandsFor before s → HasPerformed before s (lines input) after told tells)
     → ((s : State) → StandsFor after s → IsFileOf (session_of after) s file)
-    → ((s : State) → StandsFor after s → ShowsLast style canvas (whole_list s.pictures) held holds)
+    → ((s : State) → StandsFor after s → ShowsLast style canvas (complete_list s.pictures) held holds)
     → IfSome unread (IsShown style canvas file held holds told tells)
 shown-file style canvas held holds told tells before after file None limited begins performed of_file shown = tt
 shown-file style canvas held holds told tells before after file (Some input) limited begins performed of_file shown =
@@ -61,7 +61,7 @@ pub shown-whole : (style : Style) (canvas : Size) (held holds told tells : Optio
     → OnOk performed (IfSome unread (λ input. (s : State) → StandsFor before s → HasPerformed before s (lines input) after told tells))
     → IfErr performed (λ fault. r ≡ Err (fault_of_stage fault))
     → IfOk r (λ file. (s : State) → StandsFor after s → IsFileOf (session_of after) s file)
-    → OnOk r ((s : State) → StandsFor after s → ShowsLast style canvas (whole_list s.pictures) held holds)
+    → OnOk r ((s : State) → StandsFor after s → ShowsLast style canvas (complete_list s.pictures) held holds)
     → IfOk r (λ file. IfSome unread (IsShown style canvas file held holds told tells))
 shown-whole style canvas held holds told tells before after unread (Ok done) (Ok file) limited begins transcript script of_file shown =
     shown-file style canvas held holds told tells before after file unread limited begins transcript of_file shown
@@ -72,16 +72,18 @@ shown-whole style canvas held holds told tells before after unread (Err fault) (
 -- what is shown in the manner of an easel is shown in its first manner
 pub shown-end : (first easel : Easel) (stage : Stage) (held mid holds : Option (List ℕ)) (drawn : Result (Unit {0}) EaselFault) (r : Result GfFile ProgramFault)
     → HasSameManner first easel → OnOk drawn (HasDrawn easel held mid)
-    → OnOk r ((s : State) (held : Option (List ℕ)) → StandsFor stage s → OnOk drawn (HasDrawn easel held mid) → ShowsLast (style_of easel) (canvas_of easel) (whole_list s.pictures) held holds)
-    → OnOk r ((s : State) → StandsFor stage s → ShowsLast (style_of first) (canvas_of first) (whole_list s.pictures) held holds)
+    → OnOk r ((s : State) (held : Option (List ℕ)) → StandsFor stage s → OnOk drawn (HasDrawn easel held mid)
+    → ShowsLast (style_of easel) (canvas_of easel) (complete_list s.pictures) held holds)
+    → OnOk r ((s : State) → StandsFor stage s → ShowsLast (style_of first) (canvas_of first) (complete_list s.pictures) held holds)
 shown-end first easel stage held mid holds drawn (Ok file) manner was shown = λ s stands.
-    subst (λ style. ShowsLast style (canvas_of first) (whole_list s.pictures) held holds) manner.style
-    (subst (λ canvas. ShowsLast (style_of easel) canvas (whole_list s.pictures) held holds) manner.canvas (shown s held stands was))
+    subst (λ style. ShowsLast style (canvas_of first) (complete_list s.pictures) held holds) manner.style
+    (subst (λ canvas. ShowsLast (style_of easel) canvas (complete_list s.pictures) held holds) manner.canvas (shown s held stands was))
 shown-end first easel stage held mid holds drawn (Err fault) manner was shown = tt
 
 -- what was performed with this style and this size is what was asked for
 pub shown-as : (transcript : Option (List ℕ)) (style wanted : Style) (canvas size : Size) (unread held holds told tells : Option (List ℕ)) (file : GfFile)
-    → (style ≡ wanted) × (canvas ≡ size) → IsShownInto transcript style canvas unread held holds told tells file → IsShownInto transcript wanted size unread held holds told tells file
+    → (style ≡ wanted) × (canvas ≡ size) → IsShownInto transcript style canvas unread held holds told tells file
+    → IsShownInto transcript wanted size unread held holds told tells file
 shown-as transcript style wanted canvas size unread held holds told tells file (same_style, same_size) shown =
     subst (λ style. IsShownInto transcript style size unread held holds told tells file) same_style
     (subst (λ size. IsShownInto transcript style size unread held holds told tells file) same_size shown)

@@ -1,7 +1,7 @@
 -- What an easel has drawn on a screen.
 use Rattle.std.specs.Prelude.{◌≡◌, ℕ, All, List, [], ◌∷◌, ◌++◌, None, Option, Some}
 use Rattle.std.specs.Io.KnownBytes.{Appends}
-use Rattle.mf_easel.specs.Easels.{canvas_of, drawn_of, looked, style_of}
+use Rattle.mf_easel.specs.Easels.{canvas_of, drawn_of, looked_at_list, style_of}
 use Rattle.mf_easel.specs.Screens.{IsAbove, over}
 use Rattle.mf_easel.specs.declared.easel.Easel.{Easel}
 use Rattle.mf_frame.specs.Canvases.{Size}
@@ -38,7 +38,7 @@ pub record HasDrawn (easel : Easel) (held holds : Option (List ℕ)) : Type 0 wh
   pub lists : List (List Entry)
   pub text : Appends held holds (frames (style_of easel) (canvas_of easel) lists)
   pub rise : Rise lists
-  pub seen : All (IsSeenOf (looked easel)) lists
+  pub seen : All (IsSeenOf (looked_at_list easel)) lists
   pub last : drawn_of easel ≡ last_revision lists
 
 -- a screen has got frames of whole prefixes of a list, of rising revisions, and the last is that of the picture of the list

@@ -22,7 +22,8 @@ style_in true = Plain
 style_in false = Colored
 
 -- a script was performed and shown, with the transcript in a file where a path is given, and else in the stream of messages
-abbrev pub IsShownInto : Option (List ℕ) → Style → Size → Option (List ℕ) → Option (List ℕ) → Option (List ℕ) → Option (List ℕ) → Option (List ℕ) → GfFile → Type 0
+abbrev pub IsShownInto : Option (List ℕ) → Style → Size → Option (List ℕ) → Option (List ℕ) → Option (List ℕ)
+    → Option (List ℕ) → Option (List ℕ) → GfFile → Type 0
 IsShownInto None style canvas unread held holds told tells file = IfSome unread (IsShown style canvas file held holds told tells)
 IsShownInto (Some path) style canvas unread held holds told tells file =
     (tells ≡ told) × (empty : Option (List ℕ)) × (full : Option (List ℕ)) × IfSome unread (IsShown style canvas file held holds empty full)
@@ -30,7 +31,8 @@ IsShownInto (Some path) style canvas unread held holds told tells file =
 -- the script was performed and shown as the words ask for it
 abbrev pub IsWatched : Words → Option (List ℕ) → Option (List ℕ) → Option (List ℕ) → Option (List ℕ) → Option (List ℕ) → Type 0
 IsWatched words unread held holds told tells =
-    (file : GfFile) × IsShownInto (option_map string_bytes words.transcript) (style_in words.frames) (size_in words.columns words.rows) unread held holds told tells file
+    (file : GfFile) × IsShownInto (option_map string_bytes words.transcript) (style_in words.frames)
+    (size_in words.columns words.rows) unread held holds told tells file
 
 -- what was asked for is written: the help text, the version, or what a performance writes
 abbrev pub EndsAs : Request → Option (List ℕ) → Option (List ℕ) → Option (List ℕ) → Option (List ℕ) → Option (List ℕ) → Type 0

@@ -1,6 +1,5 @@
 -- The numbers of the font.
-use Rattle.std.specs.Prelude.{◌≡◌, ◌<◌, ◌*◌, ◌+◌, ◌/◌, ℕ, List, [], ◌∷◌, Option, None, Some, length, pos}
-use Rattle.mf_gf.specs.Files.{Character, file_of}
+use Rattle.std.specs.Prelude.{◌*◌, ◌+◌, ◌/◌, ℕ, pos}
 use Rattle.mf_gf.specs.declared.file.FontWords.{FontWords}
 
 -- the integer nearest to a quotient
@@ -19,13 +18,3 @@ font_words design_size resolution = record {
   hppp = pos (pixels_per_point resolution);
   vppp = pos (pixels_per_point resolution);
 }
-
--- the font file of the shipped characters, or none where none was shipped
-abbrev pub font_file : FontWords → List Character → Option (List ℕ)
-font_file font [] = None
-font_file font (c ∷ cs) = Some (file_of font [] (c ∷ cs))
-
--- the font file of these characters would have more bytes than it may have
-pub record IsLongFile (max_bytes : ℕ) (font : FontWords) (characters : List Character) : Type 0 where
-  pub some : characters ≡ [] → ⊥
-  pub too_long : max_bytes < length (file_of font [] characters)

@@ -6,7 +6,7 @@ use Rattle.mf_frame.specs.Canvases.{Size}
 use Rattle.mf_frame.specs.declared.tile.Style.{Style}
 use Rattle.mf_gf.specs.declared.file.GfFile.{GfFile}
 use Rattle.mf_gf.specs.Keeping.{Keeps}
-use Rattle.mf_session.specs.Endings.{whole_list}
+use Rattle.mf_session.specs.Endings.{complete_list}
 use Rattle.mf_session.specs.States.{Limits, State, limits_of, start}
 use Rattle.mf_session.specs.Transcript.{Perform}
 use Rattle.mf_view.specs.Drawings.{ShowsLast}
@@ -22,5 +22,5 @@ pub record IsShown (style : Style) (canvas : Size) (file : GfFile) (held holds t
   pub last : State
   pub performed : Perform script_limits start (lines input) text last
   pub out : Appends told tells text
-  pub shown : ShowsLast style canvas (whole_list last.pictures) held holds
+  pub shown : ShowsLast style canvas (complete_list last.pictures) held holds
   pub file_is : Keeps file [] last.characters

@@ -1,8 +1,8 @@
 //! The viewer's side of a performance: looking and drawing until the script has ended.
-ghost use Rattle.std.specs.Prelude.{◌≡◌, true, IfOk, List, Option, OnOk, ℕ};
+ghost use Rattle.std.specs.Prelude.{◌≡◌, true, List, Option, OnOk, ℕ};
 ghost use Rattle.mf_easel.specs.Easels.{HasSameManner, canvas_of, name, style_of};
 ghost use Rattle.mf_live.specs.Entries.{is_closed};
-ghost use Rattle.mf_live.specs.Viewers.{notice_name, told};
+ghost use Rattle.mf_live.specs.Viewers.{notice_identity, told_list};
 ghost use Rattle.mf_view.specs.Drawings.{HasDrawn, ShowsLast};
 
 use crate::pace::Rest;
@@ -64,9 +64,10 @@ pub fn draw_last<W: Write>(
     screen: &mut W,
     notice: Notice,
 ) -> Result<(), EaselFault>
-    requires name { notice_name notice ≡ name easel.old }
-    requires closed { is_closed (told notice) ≡ true }
-    ensures shown { OnOk result ((held : Option (List ℕ)) → HasDrawn easel.old held (W.contents screen.old) → ShowsLast (style_of easel.old) (canvas_of easel.old) (told notice) held (W.contents screen.new)) }
+    requires name { notice_identity notice ≡ name easel.old }
+    requires closed { is_closed (told_list notice) ≡ true }
+    ensures shown { OnOk result ((held : Option (List ℕ)) → HasDrawn easel.old held (W.contents screen.old)
+        → ShowsLast (style_of easel.old) (canvas_of easel.old) (told_list notice) held (W.contents screen.new)) }
 {
     match easel.look_last(alloc, screen, notice) {
         Ok(_) => Ok(()),

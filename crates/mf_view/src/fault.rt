@@ -1,6 +1,6 @@
 //! Why the program ends with a fault.
 ghost use Rattle.std.specs.Prelude.{◌≡◌};
-ghost use Rattle.mf_view.specs.declared.fault.ProgramFault.TheVariants.{OutOfMemory as NoMemory, TooSmall as NoRoom};
+ghost use Rattle.mf_view.specs.declared.fault.ProgramFault.TheVariants.{TooSmall as NoRoom};
 
 use mf_easel::EaselFault;
 use mf_frame::TooSmall;

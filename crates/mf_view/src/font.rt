@@ -1,8 +1,8 @@
 //! The font file: its numbers, its bytes, and how it is written.
 ghost use Rattle.std.specs.Prelude.{◌≡◌, ◌⊎◌, ◌≤◌, ◌<◌, ◌+◌, ◌*◌, ◌↔◌, [], Err, IfErr, IfOk, IfSome, List, None, ℕ, pos};
-ghost use Rattle.mf_gf.specs.Files.{Character};
+ghost use Rattle.mf_gf.specs.Files.{Character, IsLongFile, file_if_any};
 ghost use Rattle.mf_gf.specs.Keeping.{Keeps, limit};
-ghost use Rattle.mf_view.specs.Fonts.{IsLongFile, font_file, font_words, nearest, pixels_per_point};
+ghost use Rattle.mf_view.specs.Fonts.{font_words, nearest, pixels_per_point};
 
 use crate::fault::ProgramFault;
 use mf_gf::{FontWords, GfBytes, GfFault, GfFile};
@@ -44,15 +44,15 @@ pub fn nearest_is_at_most_half_away()
 
 /// The font file of the shipped characters, if there are any. Refused with `FileTooLong` where it would have more bytes than it
 /// may have, and with `OutOfMemory` where an allocation fails.
-pub fn finished(file: GfFile, font: FontWords) -> Result<Option<GfBytes>, ProgramFault>
-    ensures some { IfOk result (λ gf. (characters : List Character) → Keeps file [] characters → gf ≡ font_file font characters) }
-    ensures too_long { (characters : List Character) → Keeps file [] characters → IsLongFile (limit file) font characters ↔ (result ≡ Err ProgramFault.FileTooLong) }
+pub fn finish(file: GfFile, font: FontWords) -> Result<Option<GfBytes>, ProgramFault>
+    ensures some { IfOk result (λ gf. (characters : List Character) → Keeps file [] characters → gf ≡ file_if_any font [] characters) }
+    ensures too_long { (characters : List Character) → Keeps file [] characters
+        → IsLongFile (limit file) font [] characters ↔ (result ≡ Err ProgramFault.FileTooLong) }
     ensures fault { IfErr result (λ fault. (fault ≡ ProgramFault.FileTooLong) ⊎ (fault ≡ ProgramFault.OutOfMemory)) }
 {
-    match file.finish(font) {
-        Ok(bytes) => Ok(Some(bytes)),
-        Err((_, GfFault::NoCharacters)) => Ok(None),
-        Err((_, GfFault::FileTooLong)) => Err(ProgramFault::FileTooLong),
+    match file.finish_if_any(font) {
+        Ok(bytes) => Ok(bytes),
+        Err(GfFault::FileTooLong) => Err(ProgramFault::FileTooLong),
         Err(_) => Err(ProgramFault::OutOfMemory),
     }
 }

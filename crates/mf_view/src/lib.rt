@@ -11,7 +11,5 @@ pub mod program;
 
 pub use fault::ProgramFault;
 pub use font::font_words;
-pub use mf_stage::Pace;
-pub use mf_view_words::{Request, Words, WordsFault, read_words};
 pub use pace::{Rest, Timed};
 pub use performance::{Showing, perform};

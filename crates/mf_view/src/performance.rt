@@ -3,8 +3,8 @@ ghost use Rattle.std.specs.Prelude.{◌≡◌, Err, IfErr, IfOk, IfSome, IsErr, 
 ghost use Rattle.std.specs.Str.Lines.{lines};
 ghost use denote.Param.Send.{IsSync, IsSend};
 ghost use Rattle.mf_easel.specs.Easels as easels;
-ghost use Rattle.mf_live.specs.Writers.{ended_name, ended_published};
-ghost use Rattle.mf_session.specs.Endings.{HasEnded, IsFileOf, whole_list};
+ghost use Rattle.mf_live.specs.Writers.{ended_identity, ended_published_list};
+ghost use Rattle.mf_session.specs.Endings.{IsFileOf, complete_list};
 ghost use Rattle.mf_session.specs.States.{State, start};
 ghost use Rattle.mf_stage.specs.Stages as stages;
 ghost use Rattle.mf_stage.specs.Stages.{StandsFor, limits};
@@ -73,7 +73,8 @@ pub fn perform<
     pace: &P,
     showing: Showing,
 ) -> Result<GfFile, ProgramFault>
-    ensures { IfOk result (λ file. IfSome (R.remaining reader.old) (IsShown showing.style showing.canvas file (W.contents screen.old) (W.contents screen.new) (T.contents transcript.old) (T.contents transcript.new))) }
+    ensures { IfOk result (λ file. IfSome (R.remaining reader.old)
+        (IsShown showing.style showing.canvas file (W.contents screen.old) (W.contents screen.new) (T.contents transcript.old) (T.contents transcript.new))) }
 {
     let Showing {
         canvas,
@@ -114,7 +115,9 @@ fn show<
     requires start { StandsFor stage start }
     requires limits { limits stage ≡ script_limits }
     requires blank { easels.drawn_of easel ≡ None }
-    ensures { IfOk result (λ file. IfSome (R.remaining reader.old) (IsShown (easels.style_of easel) (easels.canvas_of easel) file (W.contents screen.old) (W.contents screen.new) (T.contents transcript.old) (T.contents transcript.new))) }
+    ensures { IfOk result (λ file. IfSome (R.remaining reader.old)
+        (IsShown (easels.style_of easel) (easels.canvas_of easel) file (W.contents screen.old) (W.contents screen.new)
+        (T.contents transcript.old) (T.contents transcript.new))) }
 {
     let mut stage = stage;
     let mut easel = easel;
@@ -142,7 +145,7 @@ fn conclude<S: Wait + Files, W: Write>(
     ensures drawing { IfErr drawn (λ _. IsErr result) }
     ensures file { IfOk result (λ file. (s : State) → StandsFor stage s → IsFileOf (stages.session_of stage) s file) }
     ensures shown { OnOk result ((s : State) (held : Option (List ℕ)) → StandsFor stage s → OnOk drawn (HasDrawn easel held (W.contents screen.old))
-        → ShowsLast (easels.style_of easel) (easels.canvas_of easel) (whole_list s.pictures) held (W.contents screen.new)) }
+        → ShowsLast (easels.style_of easel) (easels.canvas_of easel) (complete_list s.pictures) held (W.contents screen.new)) }
 {
     match performed {
         Ok(()) => end(rt, alloc, stage, easel, screen, drawn),
@@ -173,21 +176,26 @@ fn perform_beside<
     ensures stage_name { stages.name stage.new ≡ stages.name stage.old }
     ensures easel_name { easels.name easel.new ≡ easels.name easel.old }
     ensures manner { easels.HasSameManner easel.old easel.new }
-    ensures drawn { OnOk result.drawn ((held : Option (List ℕ)) → HasDrawn easel.old held (W.contents screen.old) → HasDrawn easel.new held (W.contents screen.new)) }
+    ensures drawn { OnOk result.drawn ((held : Option (List ℕ)) → HasDrawn easel.old held (W.contents screen.old)
+        → HasDrawn easel.new held (W.contents screen.new)) }
     ensures stands { OnOk result.performed ((s : State) → StandsFor stage.old s → (t : State) × StandsFor stage.new t) }
-    ensures transcript { OnOk result.performed (IfSome (R.remaining reader.old) (λ input. (s : State) → StandsFor stage.old s → HasPerformed stage.old s (lines input) stage.new (T.contents transcript.old) (T.contents transcript.new))) }
+    ensures transcript { OnOk result.performed (IfSome (R.remaining reader.old) (λ input. (s : State)
+        → StandsFor stage.old s → HasPerformed stage.old s (lines input) stage.new (T.contents transcript.old) (T.contents transcript.new))) }
 {
     let ended = AtomicBool::new(false);
     let (drawn, performed) = join_mut(
         rt,
         &mut || -> Result<(), EaselFault>
             requires { IsSync S.row × IsSync P.row × IsSend W.row }
-            ensures { (easels.name easel.exit.now ≡ easels.name easel.entry.now) × easels.HasSameManner easel.entry.now easel.exit.now × OnOk result ((held : Option (List ℕ)) → HasDrawn easel.entry.now held (W.contents screen.entry.now) → HasDrawn easel.exit.now held (W.contents screen.exit.now)) }
+            ensures { (easels.name easel.exit.now ≡ easels.name easel.entry.now)
+                × easels.HasSameManner easel.entry.now easel.exit.now × OnOk result ((held : Option (List ℕ))
+                → HasDrawn easel.entry.now held (W.contents screen.entry.now) → HasDrawn easel.exit.now held (W.contents screen.exit.now)) }
         { draw_on(rt, alloc, easel, screen, pace, &ended) },
         &mut || -> Result<(), StageFault>
             ensures { (stages.name stage.exit.now ≡ stages.name stage.entry.now)
                 × OnOk result ((s : State) → StandsFor stage.entry.now s → (t : State) × StandsFor stage.exit.now t)
-                × OnOk result (IfSome (R.remaining reader.entry.now) (λ input. (s : State) → StandsFor stage.entry.now s → HasPerformed stage.entry.now s (lines input) stage.exit.now (T.contents transcript.entry.now) (T.contents transcript.exit.now))) }
+                × OnOk result (IfSome (R.remaining reader.entry.now) (λ input. (s : State) → StandsFor stage.entry.now s
+                → HasPerformed stage.entry.now s (lines input) stage.exit.now (T.contents transcript.entry.now) (T.contents transcript.exit.now))) }
         {
             let performed = stage.perform(rt, alloc, &mut *reader, transcript, pace);
             ended.store(true, Ordering::SeqCst);
@@ -211,7 +219,7 @@ fn end<S: Wait + Files, W: Write>(
     ensures drawing { IfErr drawn (λ _. IsErr result) }
     ensures file { IfOk result (λ file. (s : State) → StandsFor stage s → IsFileOf (stages.session_of stage) s file) }
     ensures shown { OnOk result ((s : State) (held : Option (List ℕ)) → StandsFor stage s → OnOk drawn (HasDrawn easel held (W.contents screen.old))
-        → ShowsLast (easels.style_of easel) (easels.canvas_of easel) (whole_list s.pictures) held (W.contents screen.new)) }
+        → ShowsLast (easels.style_of easel) (easels.canvas_of easel) (complete_list s.pictures) held (W.contents screen.new)) }
 {
     let (mut ended, file) = stage.finish(rt, alloc)?;
     let shown = show_last(alloc, easel, screen, &mut ended, drawn);
@@ -230,10 +238,10 @@ fn show_last<W: Write>(
     ended: &mut Ended,
     drawn: Result<(), EaselFault>,
 ) -> Result<(), EaselFault>
-    requires name { easels.name easel ≡ ended_name ended.old }
+    requires name { easels.name easel ≡ ended_identity ended.old }
     ensures drawing { IfErr drawn (λ fault. result ≡ Err fault) }
     ensures shown { OnOk result ((held : Option (List ℕ)) → OnOk drawn (HasDrawn easel held (W.contents screen.old))
-        → ShowsLast (easels.style_of easel) (easels.canvas_of easel) (ended_published ended.old) held (W.contents screen.new)) }
+        → ShowsLast (easels.style_of easel) (easels.canvas_of easel) (ended_published_list ended.old) held (W.contents screen.new)) }
 {
     let mut easel = easel;
     match drawn {

@@ -7,12 +7,13 @@ ghost use Rattle.mf_view.specs.Statuses.{status_of};
 ghost use Rattle.mf_view_words.specs.Requests.{IsCommandLine, IsWordsInRange};
 
 use crate::fault::ProgramFault;
-use crate::font::{finished, font_words, write_font};
+use crate::font::{finish, font_words, write_font};
 use crate::pace::{Rest, Timed};
 use crate::performance::{Showing, perform};
 use itoa::Buffer;
+use mf_base::write_counted;
 use mf_frame::{Canvas, Style, TooSmall};
-use mf_gf::{GfFile, write_counted};
+use mf_gf::GfFile;
 use mf_stage::{Pace, Plates};
 use mf_view_words::{HELP, Request, USAGE, VERSION, Words, WordsFault, read_words};
 use std::alloc::Global;
@@ -56,7 +57,8 @@ pub fn program<S: Wait + Threads + Files + Clock + Sync, R: Read, W: Write + Sen
     ensures unread { (IsCommandLine (map string_bytes words.items) → ⊥) → reader.new ≡ reader.old }
     ensures unwritten { (IsCommandLine (map string_bytes words.items) → ⊥) → screen.new ≡ screen.old }
     ensures usage { result ≡ BAD_WORDS → GetsMessage (E.contents errors.old) (E.contents errors.new) usage }
-    ensures done { result ≡ DONE → EndsWell (map string_bytes words.items) (R.remaining reader.old) (W.contents screen.old) (W.contents screen.new) (E.contents errors.old) (E.contents errors.new) }
+    ensures done { result ≡ DONE → EndsWell (map string_bytes words.items) (R.remaining reader.old)
+        (W.contents screen.old) (W.contents screen.new) (E.contents errors.old) (E.contents errors.new) }
 {
     let request = match read_words(alloc, words) {
         Ok(request) => request,
@@ -83,7 +85,8 @@ fn watch<S: Wait + Threads + Files + Clock + Sync, R: Read, W: Write + Send, E: 
     words: Words,
 ) -> Result<(), ProgramFault>
     requires { IsWordsInRange words }
-    ensures { OnOk result (IsWatched words (R.remaining reader.old) (W.contents screen.old) (W.contents screen.new) (E.contents errors.old) (E.contents errors.new)) }
+    ensures { OnOk result
+        (IsWatched words (R.remaining reader.old) (W.contents screen.old) (W.contents screen.new) (E.contents errors.old) (E.contents errors.new)) }
 {
     let Words {
         columns,
@@ -102,7 +105,7 @@ fn watch<S: Wait + Threads + Files + Clock + Sync, R: Read, W: Write + Send, E: 
     let file = perform_into(
         rt, alloc, reader, screen, errors, &pace, showing, transcript,
     )?;
-    let bytes = finished(file, font_words(design_size, resolution))?;
+    let bytes = finish(file, font_words(design_size, resolution))?;
     match gf {
         Some(path) => write_font(rt, path.as_str(), bytes),
         None => Ok(()),
@@ -151,7 +154,8 @@ fn perform_into<
     showing: Showing,
     transcript: Option<String>,
 ) -> Result<GfFile, ProgramFault>
-    ensures { IfOk result (IsShownInto (option_map string_bytes transcript) showing.style showing.canvas (R.remaining reader.old) (W.contents screen.old) (W.contents screen.new) (E.contents errors.old) (E.contents errors.new)) }
+    ensures { IfOk result (IsShownInto (option_map string_bytes transcript) showing.style showing.canvas
+        (R.remaining reader.old) (W.contents screen.old) (W.contents screen.new) (E.contents errors.old) (E.contents errors.new)) }
 {
     let Some(path) = transcript else {
         return perform(rt, alloc, reader, screen, errors, pace, showing);

@@ -139,8 +139,12 @@ module _ (c : Command) (m : ArgMatches) (p : IsParsedFrom c m) (same : app_of c 
         → (v : Bor Text) × (t ≡ read_as how v.now) × PassesArg p.built id v.now → IsAccepted q t
     of_value how is t got =
         let arg = got.2 in
-        let read : t ≡ read_as (reading_of q) got.0.now = got.1 ∙ ap (λ h. read_as h got.0.now) is in
-        (got.0.now, read, arg.1.ignore_case, subst (λ (r : ValueParser). Accepts arg.1.ignore_case r got.0.now) (parser_is arg.0 arg.1 arg.2 arg.3 arg.4.0) arg.4.1)
+        let read : t ≡ read_as (reading_of q) got.0.now = got.1 ∙ ap (λ h. read_as h got.0.now) is in (
+          got.0.now,
+          read,
+          arg.1.ignore_case,
+          subst (λ (r : ValueParser). Accepts arg.1.ignore_case r got.0.now) (parser_is arg.0 arg.1 arg.2 arg.3 arg.4.0) arg.4.1,
+        )
 
     reading_is : (how : Reading) → HasReading p.built id how → how ≡ reading_of q
     reading_is how arg = sym arg.4.1 ∙ ap reading_of (parser_is arg.0 arg.1 arg.2 arg.3 arg.4.0)

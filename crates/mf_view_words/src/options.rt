@@ -1,5 +1,5 @@
 //! The options of the command line, as clap takes them.
-ghost use Rattle.std.specs.Prelude.{◌≡◌, IfOk, pos};
+ghost use Rattle.std.specs.Prelude.{◌≡◌, IfOk};
 ghost use Rattle.clap.specs.Words.{app_of, with_rule};
 ghost use Rattle.mf_view_words.specs.CommandLine.{file_rule, flag_rule, mfview, number_rule};
 

@@ -21,13 +21,20 @@ AreGlances-none whole = record { counted = refl; each = All-nil (IsGlance whole)
 
 -- a glance at a whole prefix of S is one at a whole prefix of L, where S is a whole prefix of L
 IsGlance-more : (S L : List Entry) (g : Glance) → IsWholePrefix S L → IsGlance S g → IsGlance L g
-IsGlance-more S L g more seen = record { list = seen.list; events = seen.events; published = seen.published; prefix = whole-trans seen.list S L seen.prefix more; is = seen.is }
+IsGlance-more S L g more seen = record {
+  list = seen.list;
+  events = seen.events;
+  published = seen.published;
+  prefix = whole-trans seen.list S L seen.prefix more;
+  is = seen.is;
+}
 
 -- the revision of a glance is no greater than that of the list
 revision-le : (L : List Entry) (g : Glance) → IsGlance L g → g.revision ≤ rev L
 revision-le L g seen = rw (ap (λ g. g.revision) seen.is) (rev-whole seen.list L seen.prefix)
 
-NeverFall-push : (low : ℕ) (gs : List Glance) (g : Glance) → low ≤ g.revision → All (λ (e : Glance). e.revision ≤ g.revision) gs → NeverFall low gs → NeverFall low (gs ++ g ∷ [])
+NeverFall-push : (low : ℕ) (gs : List Glance) (g : Glance) → low ≤ g.revision
+    → All (λ (e : Glance). e.revision ≤ g.revision) gs → NeverFall low gs → NeverFall low (gs ++ g ∷ [])
 NeverFall-push low [] g above below rising = (above, tt)
 NeverFall-push low (e ∷ es) g above below rising =
     let P : Glance → Type 0 = λ (x : Glance). x.revision ≤ g.revision in
@@ -41,7 +48,8 @@ AreGlances-push S L events looks gs published more glances =
     record {
       counted = length-append gs (glance_at L ∷ []) ∙ ap (λ n. n + 1) glances.counted;
       each = All-push (IsGlance L) gs (glance_at L) each (record { list = L; events = events; published = published; prefix = whole-self L; is = refl });
-      never_fall = NeverFall-push 0 gs (glance_at L) (omega arith) (All-weaker (IsGlance L) (λ (x : Glance). x.revision ≤ rev L) (λ g seen. revision-le L g seen) gs each) glances.never_fall;
+      never_fall = NeverFall-push 0 gs (glance_at L) (omega arith)
+          (All-weaker (IsGlance L) (λ (x : Glance). x.revision ≤ rev L) (λ g seen. revision-le L g seen) gs each) glances.never_fall;
     }
 
 -- the last look

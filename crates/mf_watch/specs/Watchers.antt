@@ -50,11 +50,11 @@ record_of w = w.seen
 
 -- which picture it looks at
 abbrev pub name : Watcher → Book
-name w = viewers.name (viewer_of w)
+name w = viewers.identity (viewer_of w)
 
 -- it has the record of this many looks, each at a whole prefix of what its viewer has seen
 abbrev pub IsRecord : ℕ → Watcher → Type 0
-IsRecord looks w = AreGlances (viewers.seen (viewer_of w)) looks (record_of w).items
+IsRecord looks w = AreGlances (viewers.seen_list (viewer_of w)) looks (record_of w).items
 
 -- it has room for the record of this many more looks
 abbrev pub HasRoom : ℕ → Watcher → Type 0
@@ -69,5 +69,5 @@ EndWith list glances = (glances ≡ []) ⊎ ((earlier : List Glance) × (glances
 pub record IsWatcher (picture : Book) (looks more : ℕ) (w : Watcher) : Type 0 where
   pub name_is : name w ≡ picture
   pub record_is : IsRecord looks w
-  pub last_is : EndWith (viewers.looked (viewer_of w)) (record_of w).items
+  pub last_is : EndWith (viewers.looked_at_list (viewer_of w)) (record_of w).items
   pub room : HasRoom more w

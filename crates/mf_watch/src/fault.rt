@@ -2,7 +2,7 @@
 ghost use Rattle.std.specs.Prelude.{◌≡◌};
 ghost use Rattle.mf_watch.specs.declared.fault.StartFault.TheVariants.{OutOfMemory as NoMemory, NoPlace as NoPlaceLeft};
 
-use mf_geom::OutOfMemory;
+use mf_base::OutOfMemory;
 use mf_live::NoPlace;
 use std::alloc::{AllocError, AllocFailed};
 

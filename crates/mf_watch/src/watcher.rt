@@ -8,7 +8,7 @@ ghost use Rattle.mf_watch.specs.Watchers.{HasRoom, HasSeen, IsRecord, IsWatcher,
 
 use crate::gate::Gate;
 use crate::glance::Glance;
-use mf_geom::OutOfMemory;
+use mf_base::OutOfMemory;
 use mf_live::laws::last_sheet;
 use mf_live::{NoLook, Notice, SheetFault, Viewer};
 use std::alloc::Global;
@@ -25,7 +25,7 @@ pub struct Watcher {
 impl Watcher {
     /// A viewer with an empty record, which has room for this many looks.
     pub(crate) fn new(alloc: Global, viewer: Viewer, looks: usize) -> Result<Watcher, OutOfMemory>
-        ensures { IfOk result (IsWatcher (viewers.name viewer) 0 looks) }
+        ensures { IfOk result (IsWatcher (viewers.identity viewer) 0 looks) }
     {
         Ok(Watcher {
             viewer,
@@ -49,8 +49,9 @@ impl Watcher {
     /// Looks once, as look `look` of viewer `number`.
     fn look<G: Gate>(self, number: u32, look: u32, gate: &G) -> Result<Watcher, NoLook>
         requires { HasRoom 1 self }
-        ensures watcher { IfOk result (λ after. (picture : Book) (looks more : ℕ) → IsWatcher picture looks (more + 1) self → IsWatcher picture (looks + 1) more after) }
-        ensures shown { IfOk result (λ after. (record_of after).items ≡ (record_of self).items ++ glance_at (viewers.looked (viewer_of after)) ∷ []) }
+        ensures watcher { IfOk result (λ after. (picture : Book) (looks more : ℕ)
+            → IsWatcher picture looks (more + 1) self → IsWatcher picture (looks + 1) more after) }
+        ensures shown { IfOk result (λ after. (record_of after).items ≡ (record_of self).items ++ glance_at (viewers.looked_at_list (viewer_of after)) ∷ []) }
     {
         let Watcher { viewer, mut seen } = self;
         let held = match viewer.look() {
@@ -73,15 +74,15 @@ impl Watcher {
     /// after it; the record then stays as it was.
     pub fn look_last(&mut self, alloc: Global, notice: Notice) -> Result<Glance, SheetFault>
         requires room { HasRoom 1 self.old }
-        requires name { viewers.notice_name notice ≡ name self.old }
-        requires closed { is_closed (viewers.told notice) ≡ true }
+        requires name { viewers.notice_identity notice ≡ name self.old }
+        requires closed { is_closed (viewers.told_list notice) ≡ true }
         ensures name { name self.new ≡ name self.old }
-        ensures glance { IfOk result (λ glance. glance ≡ glance_at (viewers.told notice)) }
-        ensures seen { OnOk result ((looks : ℕ) → IsRecord looks self.old → HasSeen (viewers.told notice) looks (record_of self.new).items) }
-        ensures recorded { OnOk result ((record_of self.new).items ≡ (record_of self.old).items ++ glance_at (viewers.told notice) ∷ []) }
+        ensures glance { IfOk result (λ glance. glance ≡ glance_at (viewers.told_list notice)) }
+        ensures seen { OnOk result ((looks : ℕ) → IsRecord looks self.old → HasSeen (viewers.told_list notice) looks (record_of self.new).items) }
+        ensures recorded { OnOk result ((record_of self.new).items ≡ (record_of self.old).items ++ glance_at (viewers.told_list notice) ∷ []) }
         ensures unchanged { OnErr result (record_of self.new ≡ record_of self.old) }
-        ensures looked { OnOk result (HasLookedAt (viewers.told notice) (viewer_of self.new)) }
-        ensures missed { IfErr result (IsLastNotTaken (viewer_of self.old) (viewers.told notice) (viewer_of self.new)) }
+        ensures looked { OnOk result (HasLookedAt (viewers.told_list notice) (viewer_of self.new)) }
+        ensures missed { IfErr result (IsLastNotTaken (viewer_of self.old) (viewers.told_list notice) (viewer_of self.new)) }
     {
         let sheet = last_sheet(&mut self.viewer, alloc, notice)?;
         let glance = Glance::of(sheet.revision(), sheet.picture());

@@ -1,7 +1,7 @@
 //! Viewers that look on, each in a thread of its own.
 ghost use Rattle.std.specs.Prelude.{◌≡◌, ◌⊎◌, ◌+◌, ◌≤◌, ◌<◌, ℕ, All, IfErr, IfOk, OnOk, length, vec_capacity};
 ghost use Rattle.logbook.specs.Pages.{Book};
-ghost use Rattle.mf_live.specs.Desks.{desk_name, left};
+ghost use Rattle.mf_live.specs.Desks.{desk_identity, remaining_viewers};
 ghost use Rattle.mf_watch.specs.Watchers.{IsWatcher, name};
 
 use crate::fault::StartFault;
@@ -44,9 +44,9 @@ pub struct Watching {
 /// `viewers` viewers with empty records, each with room for `looks` looks and one more. Refused with `NoPlace` where the desk has
 /// fewer viewers left, and with `OutOfMemory` where an allocation fails.
 fn watchers(alloc: Global, desk: Desk, viewers: u32, looks: u32) -> Result<Vec<Watcher>, StartFault>
-    ensures ready { IfOk result (λ watchers. All (IsWatcher (desk_name desk) 0 (looks + 1)) watchers.items) }
+    ensures ready { IfOk result (λ watchers. All (IsWatcher (desk_identity desk) 0 (looks + 1)) watchers.items) }
     ensures count { IfOk result (λ watchers. length watchers.items ≡ viewers) }
-    ensures fault { IfErr result (λ fault. ((fault ≡ StartFault.NoPlace) × (left desk < viewers)) ⊎ (fault ≡ StartFault.OutOfMemory)) }
+    ensures fault { IfErr result (λ fault. ((fault ≡ StartFault.NoPlace) × (remaining_viewers desk < viewers)) ⊎ (fault ≡ StartFault.OutOfMemory)) }
 {
     let mut desk = desk;
     let mut watchers = Vec::with_capacity(alloc, viewers as usize)?;
@@ -73,7 +73,7 @@ impl Watching {
         gate: &Arc<G>,
     ) -> Result<Watching, StartFault>
         requires few { viewers ≤ 64 }
-        ensures started { IfOk result (AreStarted (desk_name desk) looks) }
+        ensures started { IfOk result (AreStarted (desk_identity desk) looks) }
         ensures count { IfOk result (λ watching. viewer_count watching ≡ viewers) }
         ensures fault { IfErr result (λ fault. ((fault ≡ StartFault.NoPlace) × (0 < viewers)) ⊎ (fault ≡ StartFault.OutOfMemory)) }
     {
@@ -139,7 +139,8 @@ impl Watching {
     /// Joins all threads, and so waits for their gates. Refused with `NoLook` where a look was refused in one of them; all of
     /// them are joined even then.
     pub fn join<S: Threads>(self, rt: &S) -> Result<Vec<Watcher>, NoLook>
-        ensures watchers { IfOk result (λ watchers. (picture : Book) (looks : ℕ) → AreStarted picture looks self → All (IsWatcher picture looks 1) watchers.items) }
+        ensures watchers { IfOk result (λ watchers. (picture : Book) (looks : ℕ) → AreStarted picture looks self
+            → All (IsWatcher picture looks 1) watchers.items) }
         ensures count { IfOk result (λ watchers. length watchers.items ≡ viewer_count self) }
         ensures refused { IfErr result (λ _. 0 < viewer_count self) }
         ensures looked { IfErr result (λ _. (picture : Book) (looks : ℕ) → AreStarted picture looks self → 0 < looks) }

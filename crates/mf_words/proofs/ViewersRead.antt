@@ -74,7 +74,8 @@ parser_is c m p same j a lt at key =
     let elem_id : (slice_index_or (args_of c) 0 x).id.now ≡ viewers = ap (λ (b : Arg). b.id.now) elem ∙ id in
     let own : IsAuto (slice_index_or (args_of c) 0 x) → ⊥ = no_flag _ elem_id in
     let inside : 0 < length (args_of c) = subst (λ (xs : List Arg). 0 < length xs) (sym two.2) (omega arith) in
-    let unique = subst (λ (xs : List Arg). (k : ℕ) (e : Arg) → k < length xs → bytes_eq (slice_index_or xs k e).id.now (slice_index_or xs 0 x).id.now ≡ true → k ≡ 0)
+    let unique =
+    subst (λ (xs : List Arg). (k : ℕ) (e : Arg) → k < length xs → bytes_eq (slice_index_or xs k e).id.now (slice_index_or xs 0 x).id.now ≡ true → k ≡ 0)
     (sym two.2) (only_first x two.1 id (ap (λ (r : Rule). r.id) two.4)) in
     let rules = same_rules_by_id c m p 0 x inside unique own j a lt at (rw elem_id key) in
     let given : (slice_index_or (args_of c) 0 x).value_parser ≡ Some at_most_16 = ap (λ (b : Arg). b.value_parser) elem ∙ ap (λ (r : Rule). r.parser) two.3 in

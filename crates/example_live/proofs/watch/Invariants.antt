@@ -1,7 +1,7 @@
 -- The viewer is one of the same picture after each look.
 use Rattle.std.proofs.Common.{◌≡◌}
-use Rattle.mf_live.specs.Viewers.{name}
+use Rattle.mf_live.specs.Viewers.{identity}
 use Rattle.example_live.proofs.watch.Given as goal
 
 abbrev pub invariant-loop : goal.invariant-loop
-invariant-loop l = name l.viewer ≡ name l.fn.viewer
+invariant-loop l = identity l.viewer ≡ identity l.fn.viewer

@@ -23,7 +23,7 @@ fn finished<R: Abort + Wait>(rt: &R, alloc: Global, script: &str) -> (Ended, GfF
 
 /// Asserts that a look shows `revision` operations, and a picture with this total weight.
 pub(super) fn assert_shows<R: Abort>(rt: &R, viewer: Viewer, revision: u32, total: i64) -> Viewer
-    ensures { viewers.name result ≡ viewers.name viewer }
+    ensures { viewers.identity result ≡ viewers.identity viewer }
 {
     match viewer.look() {
         Ok(look) => {

@@ -4,15 +4,15 @@ ghost use Rattle.mf_frame.specs.Frames.{frame_text};
 ghost use Rattle.mf_live.specs.Entries.{is_closed, pic, rev};
 ghost use Rattle.mf_live.specs.Sheets.{HasLooked, sheet_picture, sheet_revision};
 ghost use Rattle.mf_live.specs.Viewers as viewers;
-ghost use Rattle.mf_easel.specs.Easels.{HasLookedLast, HasSameManner, IsLastNotDrawn, IsNotDrawn, canvas_of, drawn_of, drawing_of, looked, name, style_of, viewer_of};
+ghost use Rattle.mf_easel.specs.Easels.{HasLookedLast, HasSameManner, IsLastNotDrawn, IsNotDrawn, canvas_of, drawn_of, drawing_of, looked_at_list, name, style_of, viewer_of};
 ghost use Rattle.mf_easel.specs.Screens.{Gets, GetsNoMore, IsAbove, newly_drawn, over};
 
 use super::Easel;
 use crate::fault::EaselFault;
 use crate::screen::send;
 use itoa::Buffer;
+use mf_base::OutOfMemory;
 use mf_frame::{Canvas, Style, draw};
-use mf_geom::OutOfMemory;
 use mf_live::laws::last_sheet;
 use mf_live::{Notice, Sheet, Viewer};
 use std::alloc::Global;
@@ -21,7 +21,7 @@ use std::io::Write;
 impl Easel {
     /// An easel for this viewer, which has drawn nothing.
     pub fn new(viewer: Viewer, canvas: Canvas, style: Style) -> Easel
-        ensures name { name result ≡ viewers.name viewer }
+        ensures name { name result ≡ viewers.identity viewer }
         ensures viewer { viewer_of result ≡ viewer }
         ensures canvas { canvas_of result ≡ canvas }
         ensures style { style_of result ≡ style }
@@ -52,10 +52,10 @@ impl Easel {
         ensures manner { HasSameManner self.old self.new }
         ensures looked { OnOk result (HasLooked (viewer_of self.old) (viewer_of self.new)) }
         ensures missed { IfErr result (IsNotDrawn (viewer_of self.old) (viewer_of self.new)) }
-        ensures answer { IfOk result (λ shown. shown ≡ newly_drawn (drawn_of self.old) (rev (looked self.new))) }
-        ensures drawn { MatchResult result (λ _. drawn_of self.new ≡ Some (rev (looked self.new))) (λ _. drawn_of self.new ≡ drawn_of self.old) }
-        ensures screen { IfOk result (λ shown. Gets W.contents screen.old screen.new (drawing_of self.old (looked self.new)) shown) }
-        ensures cut { IfErr result (λ fault. GetsNoMore W.contents screen.old screen.new (drawing_of self.old (looked self.new)) fault) }
+        ensures answer { IfOk result (λ shown. shown ≡ newly_drawn (drawn_of self.old) (rev (looked_at_list self.new))) }
+        ensures drawn { MatchResult result (λ _. drawn_of self.new ≡ Some (rev (looked_at_list self.new))) (λ _. drawn_of self.new ≡ drawn_of self.old) }
+        ensures screen { IfOk result (λ shown. Gets W.contents screen.old screen.new (drawing_of self.old (looked_at_list self.new)) shown) }
+        ensures cut { IfErr result (λ fault. GetsNoMore W.contents screen.old screen.new (drawing_of self.old (looked_at_list self.new)) fault) }
         ensures rising { IfOk result (λ shown. IfSome shown (IsAbove (drawn_of self.old))) }
     {
         let sheet = self.viewer.sheet(alloc)?;
@@ -71,16 +71,16 @@ impl Easel {
         screen: &mut W,
         notice: Notice,
     ) -> Result<Option<u32>, EaselFault>
-        requires name { viewers.notice_name notice ≡ name self.old }
-        requires closed { is_closed (viewers.told notice) ≡ true }
+        requires name { viewers.notice_identity notice ≡ name self.old }
+        requires closed { is_closed (viewers.told_list notice) ≡ true }
         ensures name { name self.new ≡ name self.old }
         ensures manner { HasSameManner self.old self.new }
-        ensures looked { OnOk result (HasLookedLast (viewer_of self.old) (viewers.told notice) (viewer_of self.new)) }
-        ensures missed { IfErr result (IsLastNotDrawn (viewer_of self.old) (viewers.told notice) (viewer_of self.new)) }
-        ensures answer { IfOk result (λ shown. shown ≡ newly_drawn (drawn_of self.old) (rev (viewers.told notice))) }
-        ensures drawn { MatchResult result (λ _. drawn_of self.new ≡ Some (rev (viewers.told notice))) (λ _. drawn_of self.new ≡ drawn_of self.old) }
-        ensures screen { IfOk result (λ shown. Gets W.contents screen.old screen.new (drawing_of self.old (viewers.told notice)) shown) }
-        ensures cut { IfErr result (λ fault. GetsNoMore W.contents screen.old screen.new (drawing_of self.old (viewers.told notice)) fault) }
+        ensures looked { OnOk result (HasLookedLast (viewer_of self.old) (viewers.told_list notice) (viewer_of self.new)) }
+        ensures missed { IfErr result (IsLastNotDrawn (viewer_of self.old) (viewers.told_list notice) (viewer_of self.new)) }
+        ensures answer { IfOk result (λ shown. shown ≡ newly_drawn (drawn_of self.old) (rev (viewers.told_list notice))) }
+        ensures drawn { MatchResult result (λ _. drawn_of self.new ≡ Some (rev (viewers.told_list notice))) (λ _. drawn_of self.new ≡ drawn_of self.old) }
+        ensures screen { IfOk result (λ shown. Gets W.contents screen.old screen.new (drawing_of self.old (viewers.told_list notice)) shown) }
+        ensures cut { IfErr result (λ fault. GetsNoMore W.contents screen.old screen.new (drawing_of self.old (viewers.told_list notice)) fault) }
         ensures rising { IfOk result (λ shown. IfSome shown (IsAbove (drawn_of self.old))) }
     {
         let sheet = last_sheet(&mut self.viewer, alloc, notice)?;
@@ -94,14 +94,14 @@ impl Easel {
         screen: &mut W,
         sheet: &Sheet,
     ) -> Result<Option<u32>, EaselFault>
-        requires picture { sheet_picture sheet.now ≡ pic (looked self.old) }
-        requires revision { sheet_revision sheet.now ≡ rev (looked self.old) }
+        requires picture { sheet_picture sheet.now ≡ pic (looked_at_list self.old) }
+        requires revision { sheet_revision sheet.now ≡ rev (looked_at_list self.old) }
         ensures viewer { viewer_of self.new ≡ viewer_of self.old }
         ensures manner { HasSameManner self.old self.new }
-        ensures answer { IfOk result (λ shown. shown ≡ newly_drawn (drawn_of self.old) (rev (looked self.old))) }
-        ensures drawn { MatchResult result (λ _. drawn_of self.new ≡ Some (rev (looked self.old))) (λ _. drawn_of self.new ≡ drawn_of self.old) }
-        ensures screen { IfOk result (λ shown. Gets W.contents screen.old screen.new (drawing_of self.old (looked self.old)) shown) }
-        ensures cut { IfErr result (λ fault. GetsNoMore W.contents screen.old screen.new (drawing_of self.old (looked self.old)) fault) }
+        ensures answer { IfOk result (λ shown. shown ≡ newly_drawn (drawn_of self.old) (rev (looked_at_list self.old))) }
+        ensures drawn { MatchResult result (λ _. drawn_of self.new ≡ Some (rev (looked_at_list self.old))) (λ _. drawn_of self.new ≡ drawn_of self.old) }
+        ensures screen { IfOk result (λ shown. Gets W.contents screen.old screen.new (drawing_of self.old (looked_at_list self.old)) shown) }
+        ensures cut { IfErr result (λ fault. GetsNoMore W.contents screen.old screen.new (drawing_of self.old (looked_at_list self.old)) fault) }
         ensures rising { IfOk result (λ shown. IfSome shown (IsAbove (drawn_of self.old))) }
         ensures fault { IfErr result (λ fault. (fault ≡ EaselFault.OutOfMemory) ⊎ (fault ≡ EaselFault.WriteFault)) }
     {
@@ -117,7 +117,8 @@ impl Easel {
 
     /// The text that draws a sheet: over the frame before, if there is one.
     fn next_text(&self, alloc: Global, sheet: &Sheet) -> Result<Vec<u8>, OutOfMemory>
-        ensures { IfOk result (λ text. text.items ≡ over (style_of self.now) (canvas_of self.now) (drawn_of self.now) ++ frame_text (style_of self.now) (canvas_of self.now) (sheet_revision sheet.now) (sheet_picture sheet.now)) }
+        ensures { IfOk result (λ text. text.items ≡ over (style_of self.now) (canvas_of self.now)
+            (drawn_of self.now) ++ frame_text (style_of self.now) (canvas_of self.now) (sheet_revision sheet.now) (sheet_picture sheet.now)) }
     {
         let mut text = self.over(alloc)?;
         let frame = draw(

@@ -54,18 +54,28 @@ fn assert_windings<R: Abort + AllocGlobal>(
     }
 }
 
-/// Asserts that the cycle through these points has exactly these edges.
-fn assert_edges<R: Abort + AllocGlobal>(
+/// Asserts that the cycle through these points has exactly these segments.
+fn assert_segments<R: Abort + AllocGlobal>(
     rt: &R,
     corners: Corners,
-    edges: &[((i32, i32), (i32, i32))],
+    segments: &[((i32, i32), (i32, i32))],
 ) {
     let cycle = cycle_of(rt, corners, 1);
-    assert_same(rt, cycle.points().len(), edges.len(), "number of edges");
-    for (place, ends) in edges.iter().enumerate() {
+    assert_same(
+        rt,
+        cycle.points().len(),
+        segments.len(),
+        "number of segments",
+    );
+    for (place, ends) in segments.iter().enumerate() {
         if place < cycle.points().len() {
             let (from, to) = cycle.edge(place);
-            assert_same(rt, ((from.x, from.y), (to.x, to.y)), *ends, ("edge", place));
+            assert_same(
+                rt,
+                ((from.x, from.y), (to.x, to.y)),
+                *ends,
+                ("segment", place),
+            );
         }
     }
 }
@@ -163,9 +173,9 @@ fn winds_round_pixels(rt: HostRuntime) {
 }
 
 #[test]
-fn gives_its_edges(rt: HostRuntime) {
-    // The last edge leads back to the first point.
-    assert_edges(
+fn gives_its_segments(rt: HostRuntime) {
+    // The last segment leads back to the first point.
+    assert_segments(
         &rt,
         RECTANGLE,
         &[

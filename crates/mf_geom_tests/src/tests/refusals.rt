@@ -28,7 +28,7 @@ fn assert_out_of_range<R: Abort + AllocGlobal>(rt: &R, lists: &[(Corners, u32)])
     }
 }
 
-/// Asserts that each of these paths has an edge that is not rectilinear, the first of them at this index.
+/// Asserts that each of these paths has a segment that is not rectilinear, the first of them at this index.
 fn assert_not_rectilinear<R: Abort + AllocGlobal>(rt: &R, lists: &[(Corners, u32)]) {
     for (corners, place) in lists {
         assert_refused(rt, corners, 1, CycleFault::NotRectilinear(*place));
@@ -54,14 +54,14 @@ fn refuses_points_out_of_range(rt: HostRuntime) {
         (&[(0, -4096), (1, -4096), (1, 0), (0, 0)], 0),
         (&[(0, 0), (i32::MIN, 0), (0, 1)], 1),
         (&[(0, 0), (1, 0), (1, i32::MAX)], 2),
-        // The coordinates are checked before the edges.
+        // The coordinates are checked before the segments.
         (&[(0, 0), (1, 1), (4096, 1), (0, 1)], 2),
     ];
     assert_out_of_range(&rt, &lists);
 }
 
 #[test]
-fn refuses_edges_that_are_not_rectilinear(rt: HostRuntime) {
+fn refuses_segments_that_are_not_rectilinear(rt: HostRuntime) {
     let lists: [(Corners, u32); 6] = [
         (&[(0, 0), (1, 1), (0, 1)], 0),
         (&[(0, 0), (2, 0), (2, 1)], 2),
@@ -69,7 +69,7 @@ fn refuses_edges_that_are_not_rectilinear(rt: HostRuntime) {
         // A point is repeated, or the first point comes again at the end.
         (&[(0, 0), (3, 0), (3, 0), (3, 2), (0, 2)], 1),
         (&[(0, 0), (3, 0), (3, 2), (0, 2), (0, 0)], 4),
-        // A reversal is no fault of the list, so the edge after it is reported.
+        // A reversal is no fault of the list, so the segment after it is reported.
         (&[(0, 0), (3, 0), (1, 0), (1, 1), (0, 2)], 3),
     ];
     assert_not_rectilinear(&rt, &lists);

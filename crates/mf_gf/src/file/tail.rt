@@ -1,6 +1,6 @@
 //! The end of a file: the postamble, the locators and what comes after them.
 ghost use Rattle.std.specs.Prelude.{◌≡◌, ◌⊎◌, ◌<◌, ◌≤◌, ◌↔◌, ◌+◌, ◌++◌, [], Err, IfErr, IfOk, List, ℕ, length};
-ghost use Rattle.mf_gf.specs.Files.{Character, ending, file_of, post};
+ghost use Rattle.mf_gf.specs.Files.{Character, IsLongFile, ending, file_if_any, file_of, post};
 ghost use Rattle.mf_gf.specs.Keeping.{IsRefusedAs, IsSameFile, Keeps, limit, table_text};
 ghost use Rattle.mf_gf.specs.Spellings.{Holds};
 ghost use Rattle.mf_gf.specs.Tails.{tail_of};
@@ -29,10 +29,13 @@ impl GfFile {
     /// shipped, else with `FileTooLong` exactly where the file would have more bytes than it may have, and with `OutOfMemory`
     /// where an allocation fails. A refusal hands the file back as it was.
     pub fn finish(self, words: FontWords) -> Result<GfBytes, (GfFile, GfFault)>
-        ensures finished { IfOk result (λ bytes. (comment : List ℕ) (characters : List Character) → Keeps self comment characters → bytes ≡ file_of words comment characters) }
+        ensures finished { IfOk result (λ bytes. (comment : List ℕ) (characters : List Character)
+            → Keeps self comment characters → bytes ≡ file_of words comment characters) }
         ensures handed_back { IfErr result (λ refused. IsSameFile self refused.0) }
-        ensures none { (comment : List ℕ) (characters : List Character) → Keeps self comment characters → (characters ≡ []) ↔ IsRefusedAs GfFault.NoCharacters result }
-        ensures too_long { (comment : List ℕ) (characters : List Character) → Keeps self comment characters → (characters ≡ [] → ⊥) → (limit self < length (file_of words comment characters)) ↔ IsRefusedAs GfFault.FileTooLong result }
+        ensures none { (comment : List ℕ) (characters : List Character) → Keeps self comment characters
+            → (characters ≡ []) ↔ IsRefusedAs GfFault.NoCharacters result }
+        ensures too_long { (comment : List ℕ) (characters : List Character) → Keeps self comment characters
+            → (characters ≡ [] → ⊥) → (limit self < length (file_of words comment characters)) ↔ IsRefusedAs GfFault.FileTooLong result }
         ensures fault { IfErr result (λ refused. (refused.1 ≡ GfFault.NoCharacters) ⊎ (refused.1 ≡ GfFault.FileTooLong) ⊎ (refused.1 ≡ GfFault.OutOfMemory)) }
     {
         let Some(bounds) = self.bounds else {
@@ -44,10 +47,27 @@ impl GfFile {
         }
     }
 
+    /// Finishes the file as `finish` does, if a character was shipped; `None` where none was. Refused with `FileTooLong` exactly
+    /// where it would have more bytes than it may have, and with `OutOfMemory` where an allocation fails.
+    pub fn finish_if_any(self, words: FontWords) -> Result<Option<GfBytes>, GfFault>
+        ensures value { IfOk result (λ bytes. (comment : List ℕ) (characters : List Character)
+            → Keeps self comment characters → bytes ≡ file_if_any words comment characters) }
+        ensures too_long { (comment : List ℕ) (characters : List Character) → Keeps self comment characters
+            → IsLongFile (limit self) words comment characters ↔ (result ≡ Err GfFault.FileTooLong) }
+        ensures fault { IfErr result (λ fault. (fault ≡ GfFault.FileTooLong) ⊎ (fault ≡ GfFault.OutOfMemory)) }
+    {
+        match self.finish(words) {
+            Ok(bytes) => Ok(Some(bytes)),
+            Err((_, GfFault::NoCharacters)) => Ok(None),
+            Err((_, fault)) => Err(fault),
+        }
+    }
+
     /// The bytes that come after the characters.
     fn tail(&self, words: &FontWords, bounds: &CharacterBox) -> Result<Vec<u8>, GfFault>
         ensures bytes { IfOk result (λ tail. tail.items ≡ tail_of words.now bounds.now self.now.bytes.items (table_text self.now.locators)) }
-        ensures too_long { (self.now.max_bytes < length (self.now.bytes.items ++ tail_of words.now bounds.now self.now.bytes.items (table_text self.now.locators))) ↔ (result ≡ Err GfFault.FileTooLong) }
+        ensures too_long { (self.now.max_bytes < length
+            (self.now.bytes.items ++ tail_of words.now bounds.now self.now.bytes.items (table_text self.now.locators))) ↔ (result ≡ Err GfFault.FileTooLong) }
         ensures fault { IfErr result (λ fault. (fault ≡ GfFault.FileTooLong) ⊎ (fault ≡ GfFault.OutOfMemory)) }
     {
         let place = self.bytes.len() as u32;

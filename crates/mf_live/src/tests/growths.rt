@@ -1,6 +1,8 @@
 //! The end of a picture is published while allocations are refused.
 
-use super::{Closing, Ended, Viewer, assert_shows, assert_tells, ended, fill, half_closed, opened};
+use super::{
+    Closing, Ended, Viewer, assert_shows, assert_tells, fill, half_close, open, publish_end,
+};
 use std::alloc::{AllocError, Global};
 use std::process::Abort;
 use std::sync::Wait;
@@ -16,7 +18,7 @@ fn ask(alloc: Global, size: usize) {
 }
 
 /// The end as it was published, or as it is published again with ample memory. Until then a look shows what was published before.
-fn ended_again<R: Abort + Wait>(
+fn publish_end_again<R: Abort + Wait>(
     rt: &R,
     published: Result<Ended, Closing>,
     viewer: Viewer,
@@ -25,7 +27,7 @@ fn ended_again<R: Abort + Wait>(
         Ok(ended) => (ended, viewer),
         Err(closing) => {
             let viewer = assert_shows(rt, viewer, 0, 0);
-            (ended(rt, closing), viewer)
+            (publish_end(rt, closing), viewer)
         }
     }
 }
@@ -33,13 +35,13 @@ fn ended_again<R: Abort + Wait>(
 #[test]
 fn the_end_is_published(rt: HostRuntime) {
     let alloc = rt.alloc();
-    let (mut writer, viewer) = opened(&rt, alloc);
+    let (mut writer, viewer) = open(&rt, alloc);
     fill(&rt, alloc, &mut writer);
-    let closing = half_closed(writer);
+    let closing = half_close(writer);
     ask(alloc, REFUSED_FROM_HERE);
     let published = closing.publish(&rt);
     ask(alloc, REFUSED_FROM_HERE + 1);
-    let (mut ended, viewer) = ended_again(&rt, published, viewer);
+    let (mut ended, viewer) = publish_end_again(&rt, published, viewer);
     assert_tells(&rt, &mut ended, 1);
     assert_shows(&rt, viewer, 1, 6);
     ended.discard(&rt);

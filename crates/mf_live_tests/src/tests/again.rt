@@ -1,7 +1,9 @@
 //! Calls that are made again after an allocation failed. A test that runs by itself has ample memory; `tests/wanting_memory.py`
 //! refuses each allocation of this one in turn.
 
-use super::{RECT, assert_shows, assert_tells, assert_working, contour_through, points, seated};
+use super::{
+    RECT, assert_shows, assert_tells, assert_working, contour_through, points, take_viewer,
+};
 use crate::tests::assertions::assert_same;
 use mf_geom::Check;
 use mf_live::{CloseFault, Closing, Desk, Ended, Fault, SheetFault, Viewer, Writer, open_picture};
@@ -15,7 +17,7 @@ use std::sync::Wait;
 const TRIES: u32 = 2;
 
 /// The writer of a picture of at most 10 operations, and a desk of at most 2 viewers.
-fn opened<R: Abort + Wait>(rt: &R, alloc: Global) -> (Writer, Desk) {
+fn open<R: Abort + Wait>(rt: &R, alloc: Global) -> (Writer, Desk) {
     for _ in 0..TRIES {
         if let Ok(opened) = open_picture(rt, alloc, 2, 10) {
             return opened;
@@ -35,7 +37,7 @@ fn rectangle(rt: &impl Abort, alloc: Global) -> Op {
 }
 
 /// A copy of a picture.
-fn copied(rt: &impl Abort, alloc: Global, picture: &Picture) -> Picture {
+fn copy(rt: &impl Abort, alloc: Global, picture: &Picture) -> Picture {
     for _ in 0..TRIES {
         if let Ok(copy) = picture.copy(alloc) {
             return copy;
@@ -45,7 +47,7 @@ fn copied(rt: &impl Abort, alloc: Global, picture: &Picture) -> Picture {
 }
 
 /// Applies an operation. A refused one leaves the picture as it was.
-fn applied(rt: &impl Abort, alloc: Global, writer: &mut Writer, op: Op) {
+fn apply(rt: &impl Abort, alloc: Global, writer: &mut Writer, op: Op) {
     let mut op = op;
     for _ in 0..TRIES {
         let (pending, total) = (writer.pending(), writer.working().total());
@@ -63,7 +65,7 @@ fn applied(rt: &impl Abort, alloc: Global, writer: &mut Writer, op: Op) {
 }
 
 /// Publishes. After a refusal the same is published as before.
-fn published<R: Abort + Wait>(rt: &R, writer: &mut Writer) {
+fn publish<R: Abort + Wait>(rt: &R, writer: &mut Writer) {
     for _ in 0..TRIES {
         let revision = writer.tell().revision();
         if writer.publish(rt).is_ok() {
@@ -90,13 +92,13 @@ fn assert_sheet(rt: &impl Abort, alloc: Global, viewer: &mut Viewer, revision: u
 }
 
 /// Closes the picture.
-fn closed<R: Abort + Wait>(rt: &R, writer: Writer) -> Ended {
+fn close<R: Abort + Wait>(rt: &R, writer: Writer) -> Ended {
     let mut writer = writer;
     for _ in 0..TRIES {
         match writer.close(rt) {
             Ok(ended) => return ended,
             Err(CloseFault::Kept(back)) => writer = back,
-            Err(CloseFault::Halfway(closing)) => return ended(rt, closing),
+            Err(CloseFault::Halfway(closing)) => return end(rt, closing),
         }
     }
     writer.discard(rt);
@@ -104,7 +106,7 @@ fn closed<R: Abort + Wait>(rt: &R, writer: Writer) -> Ended {
 }
 
 /// Publishes the end.
-fn ended<R: Abort + Wait>(rt: &R, closing: Closing) -> Ended {
+fn end<R: Abort + Wait>(rt: &R, closing: Closing) -> Ended {
     let mut closing = closing;
     for _ in 0..TRIES {
         match closing.publish(rt) {
@@ -119,22 +121,22 @@ fn ended<R: Abort + Wait>(rt: &R, closing: Closing) -> Ended {
 #[test]
 fn calls_are_made_again(rt: HostRuntime) {
     let alloc = rt.alloc();
-    let (mut writer, mut desk) = opened(&rt, alloc);
-    let viewer = seated(&rt, &mut desk);
+    let (mut writer, mut desk) = open(&rt, alloc);
+    let viewer = take_viewer(&rt, &mut desk);
     let rectangle = rectangle(&rt, alloc);
-    applied(&rt, alloc, &mut writer, rectangle);
-    published(&rt, &mut writer);
+    apply(&rt, alloc, &mut writer, rectangle);
+    publish(&rt, &mut writer);
     let mut viewer = assert_shows(&rt, viewer, 1, 6);
     assert_sheet(&rt, alloc, &mut viewer, 1, 6);
 
-    let copy = copied(&rt, alloc, writer.working());
-    applied(&rt, alloc, &mut writer, Op::Also(copy, Sign::Plus));
-    applied(&rt, alloc, &mut writer, Op::Shift(1, -1));
-    published(&rt, &mut writer);
+    let copy = copy(&rt, alloc, writer.working());
+    apply(&rt, alloc, &mut writer, Op::Also(copy, Sign::Plus));
+    apply(&rt, alloc, &mut writer, Op::Shift(1, -1));
+    publish(&rt, &mut writer);
     let viewer = assert_shows(&rt, viewer, 3, 12);
 
-    applied(&rt, alloc, &mut writer, Op::Clear);
-    let mut ended = closed(&rt, writer);
+    apply(&rt, alloc, &mut writer, Op::Clear);
+    let mut ended = close(&rt, writer);
     assert_tells(&rt, &ended.notice(), 4);
     assert_shows(&rt, viewer, 4, 0);
     ended.discard(&rt);

@@ -1,8 +1,8 @@
 //! Pictures that are closed or discarded.
 
 use super::{
-    RECT_RUNS, assert_sees, assert_shows, assert_tells, close, fill, opened, publish_rectangle,
-    seated,
+    RECT_RUNS, assert_sees, assert_shows, assert_tells, close, fill, open, publish_rectangle,
+    take_viewer,
 };
 use crate::tests::assertions::assert_holds;
 use mf_live::{SheetFault, Viewer};
@@ -13,10 +13,10 @@ use std::process::Abort;
 #[test]
 fn shows_the_end_to_a_later_viewer(rt: HostRuntime) {
     let alloc = rt.alloc();
-    let (mut writer, mut desk) = opened(&rt, alloc, 1, 10);
+    let (mut writer, mut desk) = open(&rt, alloc, 1, 10);
     fill(&rt, alloc, &mut writer);
     let mut ended = close(&rt, writer);
-    let mut viewer = seated(&rt, &mut desk);
+    let mut viewer = take_viewer(&rt, &mut desk);
     let notice = ended.notice();
     assert_tells(&rt, &notice, 1);
     viewer.learn(notice);
@@ -29,8 +29,8 @@ fn shows_the_end_to_a_later_viewer(rt: HostRuntime) {
 #[test]
 fn shows_the_end_of_a_picture_that_nothing_changed(rt: HostRuntime) {
     let alloc = rt.alloc();
-    let (writer, mut desk) = opened(&rt, alloc, 1, 10);
-    let mut viewer = seated(&rt, &mut desk);
+    let (writer, mut desk) = open(&rt, alloc, 1, 10);
+    let mut viewer = take_viewer(&rt, &mut desk);
     let mut ended = close(&rt, writer);
     let notice = ended.notice();
     assert_tells(&rt, &notice, 0);
@@ -43,8 +43,8 @@ fn shows_the_end_of_a_picture_that_nothing_changed(rt: HostRuntime) {
 #[test]
 fn shows_the_end_of_a_picture_that_is_published(rt: HostRuntime) {
     let alloc = rt.alloc();
-    let (mut writer, mut desk) = opened(&rt, alloc, 1, 10);
-    let mut viewer = seated(&rt, &mut desk);
+    let (mut writer, mut desk) = open(&rt, alloc, 1, 10);
+    let mut viewer = take_viewer(&rt, &mut desk);
     publish_rectangle(&rt, alloc, &mut writer);
     let mut ended = close(&rt, writer);
     let notice = ended.notice();
@@ -71,8 +71,8 @@ fn assert_refused(rt: &impl Abort, alloc: Global, viewer: Viewer) {
 #[test]
 fn looks_are_refused_after_a_discard(rt: HostRuntime) {
     let alloc = rt.alloc();
-    let (mut writer, mut desk) = opened(&rt, alloc, 1, 10);
-    let viewer = seated(&rt, &mut desk);
+    let (mut writer, mut desk) = open(&rt, alloc, 1, 10);
+    let viewer = take_viewer(&rt, &mut desk);
     fill(&rt, alloc, &mut writer);
     writer.discard(&rt);
     assert_refused(&rt, alloc, viewer);
@@ -81,8 +81,8 @@ fn looks_are_refused_after_a_discard(rt: HostRuntime) {
 #[test]
 fn looks_are_refused_once_all_is_discarded(rt: HostRuntime) {
     let alloc = rt.alloc();
-    let (writer, mut desk) = opened(&rt, alloc, 1, 10);
-    let viewer = seated(&rt, &mut desk);
+    let (writer, mut desk) = open(&rt, alloc, 1, 10);
+    let viewer = take_viewer(&rt, &mut desk);
     close(&rt, writer).discard(&rt);
     assert_refused(&rt, alloc, viewer);
 }

@@ -8,8 +8,8 @@ mod publishing;
 mod sheets;
 
 use super::{
-    Pixels, RECT_RUNS, apply, assert_runs, assert_sees, assert_tells, opened, publish_rectangle,
-    seated,
+    Pixels, RECT_RUNS, apply, assert_runs, assert_sees, assert_tells, open, publish_rectangle,
+    take_viewer,
 };
 use crate::tests::assertions::assert_same;
 use mf_live::{Viewer, Writer};
@@ -23,9 +23,9 @@ use std::sync::Wait;
 const MOVED: &[Pixels] = &[(14, 1, 3, 1), (13, 1, 3, 1)];
 
 /// A picture whose rectangle is published and seen, and whose move by one column and 13 rows is accepted but pending.
-fn moved<R: Abort + Wait>(rt: &R, alloc: Global) -> (Writer, Viewer) {
-    let (mut writer, mut desk) = opened(rt, alloc, 1, 10);
-    let viewer = seated(rt, &mut desk);
+fn open_moved<R: Abort + Wait>(rt: &R, alloc: Global) -> (Writer, Viewer) {
+    let (mut writer, mut desk) = open(rt, alloc, 1, 10);
+    let viewer = take_viewer(rt, &mut desk);
     publish_rectangle(rt, alloc, &mut writer);
     apply(rt, alloc, &mut writer, Op::Shift(1, 13));
     assert_waiting(rt, &writer, (1, 2), MOVED);

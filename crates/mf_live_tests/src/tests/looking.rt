@@ -4,7 +4,7 @@ ghost use Rattle.std.specs.Prelude.{◌≤◌};
 
 use super::{
     Pixels, RECT, RECT_RUNS, apply, assert_no_place, assert_sees, assert_shows, assert_tells,
-    assert_working, close, contour, fill, opened, publish, publish_rectangle, seated,
+    assert_working, close, contour, fill, open, publish, publish_rectangle, take_viewer,
 };
 use crate::tests::assertions::assert_same;
 use mf_live::{Desk, Viewer, Writer, open_picture};
@@ -42,8 +42,8 @@ fn both_operations_are_shown_at_once(rt: HostRuntime) -> Result<(), Fail> {
 #[test]
 fn shows_what_is_published(rt: HostRuntime) {
     let alloc = rt.alloc();
-    let (mut writer, mut desk) = opened(&rt, alloc, 1, 10);
-    let viewer = seated(&rt, &mut desk);
+    let (mut writer, mut desk) = open(&rt, alloc, 1, 10);
+    let viewer = take_viewer(&rt, &mut desk);
     let viewer = assert_shows(&rt, viewer, 0, 0);
     fill(&rt, alloc, &mut writer);
     let viewer = assert_shows(&rt, viewer, 0, 0);
@@ -59,10 +59,10 @@ fn shows_what_is_published(rt: HostRuntime) {
 #[test]
 fn each_desk_has_its_own_picture(rt: HostRuntime) {
     let alloc = rt.alloc();
-    let (mut first, mut first_desk) = opened(&rt, alloc, 1, 10);
-    let (second, mut second_desk) = opened(&rt, alloc, 1, 10);
-    let here = seated(&rt, &mut first_desk);
-    let there = seated(&rt, &mut second_desk);
+    let (mut first, mut first_desk) = open(&rt, alloc, 1, 10);
+    let (second, mut second_desk) = open(&rt, alloc, 1, 10);
+    let here = take_viewer(&rt, &mut first_desk);
+    let there = take_viewer(&rt, &mut second_desk);
     publish_rectangle(&rt, alloc, &mut first);
     assert_shows(&rt, here, 1, 6);
     assert_shows(&rt, there, 0, 0);
@@ -74,7 +74,7 @@ fn each_desk_has_its_own_picture(rt: HostRuntime) {
 #[test]
 fn a_picture_may_have_no_viewers(rt: HostRuntime) {
     let alloc = rt.alloc();
-    let (mut writer, mut desk) = opened(&rt, alloc, 0, 10);
+    let (mut writer, mut desk) = open(&rt, alloc, 0, 10);
     assert_no_place(&rt, &mut desk);
     publish_rectangle(&rt, alloc, &mut writer);
     assert_working(&rt, &writer, 0, 6);
@@ -88,19 +88,19 @@ fn a_picture_may_have_no_viewers(rt: HostRuntime) {
 
 #[test]
 fn does_not_reuse_the_place_of_a_dropped_viewer(rt: HostRuntime) {
-    let (writer, mut desk) = opened(&rt, rt.alloc(), 2, 10);
-    drop(seated(&rt, &mut desk));
-    drop(seated(&rt, &mut desk));
+    let (writer, mut desk) = open(&rt, rt.alloc(), 2, 10);
+    drop(take_viewer(&rt, &mut desk));
+    drop(take_viewer(&rt, &mut desk));
     assert_no_place(&rt, &mut desk);
     writer.discard(&rt);
 }
 
 /// The viewers of a desk that has exactly this many places.
-fn all_seated(rt: &impl Abort, alloc: Global, desk: &mut Desk, places: u32) -> Vec<Viewer> {
+fn all_viewers(rt: &impl Abort, alloc: Global, desk: &mut Desk, places: u32) -> Vec<Viewer> {
     let mut viewers = Vec::new(alloc);
     for _ in 0..places {
         viewers
-            .push(seated(rt, desk))
+            .push(take_viewer(rt, desk))
             .expect(rt, "there is room for a viewer");
     }
     assert_no_place(rt, desk);
@@ -108,7 +108,7 @@ fn all_seated(rt: &impl Abort, alloc: Global, desk: &mut Desk, places: u32) -> V
 }
 
 /// Asserts that all viewers see this many operations, and a picture of exactly these runs.
-fn all_see(
+fn assert_all_see(
     rt: &impl Abort,
     alloc: Global,
     viewers: Vec<Viewer>,
@@ -128,11 +128,11 @@ fn all_see(
 fn assert_places<R: Abort + Wait>(rt: &R, alloc: Global, places: u32)
     requires { places ≤ 64 }
 {
-    let (mut writer, mut desk) = opened(rt, alloc, places, 10);
-    let viewers = all_seated(rt, alloc, &mut desk, places);
-    let viewers = all_see(rt, alloc, viewers, 0, &[]);
+    let (mut writer, mut desk) = open(rt, alloc, places, 10);
+    let viewers = all_viewers(rt, alloc, &mut desk, places);
+    let viewers = assert_all_see(rt, alloc, viewers, 0, &[]);
     publish_rectangle(rt, alloc, &mut writer);
-    let viewers = all_see(rt, alloc, viewers, 1, RECT_RUNS);
+    let viewers = assert_all_see(rt, alloc, viewers, 1, RECT_RUNS);
     assert_same(rt, viewers.len(), places as usize, "viewers");
     writer.discard(rt);
 }
@@ -153,8 +153,8 @@ fn has_64_places(rt: HostRuntime) {
 #[test]
 fn learns_the_second_notice_before_the_first(rt: HostRuntime) {
     let alloc = rt.alloc();
-    let (mut writer, mut desk) = opened(&rt, alloc, 1, 10);
-    let mut viewer = seated(&rt, &mut desk);
+    let (mut writer, mut desk) = open(&rt, alloc, 1, 10);
+    let mut viewer = take_viewer(&rt, &mut desk);
     publish_rectangle(&rt, alloc, &mut writer);
     let first = writer.tell();
     apply(&rt, alloc, &mut writer, Op::Shift(2, 1));
@@ -172,8 +172,8 @@ fn learns_the_second_notice_before_the_first(rt: HostRuntime) {
 #[test]
 fn publishes_after_a_viewer_was_dropped(rt: HostRuntime) {
     let alloc = rt.alloc();
-    let (mut writer, mut desk) = opened(&rt, alloc, 1, 10);
-    let viewer = seated(&rt, &mut desk);
+    let (mut writer, mut desk) = open(&rt, alloc, 1, 10);
+    let viewer = take_viewer(&rt, &mut desk);
     publish_rectangle(&rt, alloc, &mut writer);
     drop(viewer);
     publish_rectangle(&rt, alloc, &mut writer);
@@ -197,8 +197,8 @@ fn publish_moves<R: Abort + Wait>(rt: &R, alloc: Global, writer: &mut Writer) {
 #[test]
 fn shows_100_000_operations(rt: HostRuntime) {
     let alloc = rt.alloc();
-    let (mut writer, mut desk) = opened(&rt, alloc, 1, 100_000);
-    let viewer = seated(&rt, &mut desk);
+    let (mut writer, mut desk) = open(&rt, alloc, 1, 100_000);
+    let viewer = take_viewer(&rt, &mut desk);
     publish_rectangle(&rt, alloc, &mut writer);
     publish_moves(&rt, alloc, &mut writer);
     let viewer = assert_sees(&rt, viewer, 99_999, RECT_RUNS);

@@ -1,9 +1,9 @@
 //! Sheets, which stay as they are.
 ghost use Rattle.std.specs.Prelude.{◌≡◌};
-ghost use Rattle.mf_live.specs.Viewers.{name};
+ghost use Rattle.mf_live.specs.Viewers.{identity};
 
 use super::{
-    Pixels, apply, assert_shows, opened, publish, publish_rectangle, push, run_of, seated,
+    Pixels, apply, assert_shows, open, publish, publish_rectangle, push, run_of, take_viewer,
 };
 use crate::tests::assertions::assert_same;
 use mf_live::{Sheet, Viewer};
@@ -13,8 +13,8 @@ use std::alloc::Global;
 use std::process::Abort;
 
 /// Takes a sheet.
-pub(crate) fn taken(rt: &impl Abort, alloc: Global, viewer: &mut Viewer) -> Sheet
-    ensures { name viewer.new ≡ name viewer.old }
+pub(crate) fn take(rt: &impl Abort, alloc: Global, viewer: &mut Viewer) -> Sheet
+    ensures { identity viewer.new ≡ identity viewer.old }
 {
     viewer.sheet(alloc).expect(rt, "there is room for a sheet")
 }
@@ -27,14 +27,14 @@ fn assert_sheet(rt: &impl Abort, sheet: &Sheet, revision: u32, total: i64) {
 #[test]
 fn sheets_stay(rt: HostRuntime) {
     let alloc = rt.alloc();
-    let (mut writer, mut desk) = opened(&rt, alloc, 1, 10);
-    let mut viewer = seated(&rt, &mut desk);
+    let (mut writer, mut desk) = open(&rt, alloc, 1, 10);
+    let mut viewer = take_viewer(&rt, &mut desk);
     publish_rectangle(&rt, alloc, &mut writer);
-    let first = taken(&rt, alloc, &mut viewer);
+    let first = take(&rt, alloc, &mut viewer);
     assert_sheet(&rt, &first, 1, 6);
     apply(&rt, alloc, &mut writer, Op::Clear);
     publish(&rt, &mut writer);
-    let second = taken(&rt, alloc, &mut viewer);
+    let second = take(&rt, alloc, &mut viewer);
     assert_sheet(&rt, &second, 2, 0);
     viewer.learn(writer.tell());
     assert_shows(&rt, viewer, 2, 0);
@@ -82,12 +82,12 @@ fn assert_million(rt: &impl Abort, picture: &Picture, some: &[(usize, Pixels)]) 
 #[test]
 fn sheets_have_a_million_runs(rt: HostRuntime) {
     let alloc = rt.alloc();
-    let (mut writer, mut desk) = opened(&rt, alloc, 1, 10);
-    let mut viewer = seated(&rt, &mut desk);
+    let (mut writer, mut desk) = open(&rt, alloc, 1, 10);
+    let mut viewer = take_viewer(&rt, &mut desk);
     let million = Op::Also(million(&rt, alloc), Sign::Plus);
     apply(&rt, alloc, &mut writer, million);
     publish(&rt, &mut writer);
-    let sheet = taken(&rt, alloc, &mut viewer);
+    let sheet = take(&rt, alloc, &mut viewer);
     apply(&rt, alloc, &mut writer, Op::Clear);
     publish(&rt, &mut writer);
     assert_sheet(&rt, &sheet, 1, 500_500_000);

@@ -1,6 +1,6 @@
 //! Looks in threads beside a writer.
 
-use super::{UNIT, assert_shows, contour, opened, seated};
+use super::{UNIT, assert_shows, contour, open, take_viewer};
 use crate::tests::assertions::{assert_holds, assert_same};
 use mf_live::{Viewer, Writer};
 use std::alloc::Global;
@@ -65,9 +65,9 @@ fn race<R: Abort + Threads + Wait + Sync>(
 #[test]
 fn looks_beside_a_writer_never_go_back(rt: HostRuntime) {
     let alloc = rt.alloc();
-    let (mut writer, mut desk) = opened(&rt, alloc, 2, PUBLISHES);
-    let one = seated(&rt, &mut desk);
-    let other = seated(&rt, &mut desk);
+    let (mut writer, mut desk) = open(&rt, alloc, 2, PUBLISHES);
+    let one = take_viewer(&rt, &mut desk);
+    let other = take_viewer(&rt, &mut desk);
     let (fine, watched) = race(&rt, alloc, &mut writer, one, other);
     assert_holds(&rt, fine, "the writer is refused nothing");
     let ((one, wrong), (other, wrong_too)) = watched;

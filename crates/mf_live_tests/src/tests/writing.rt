@@ -1,8 +1,8 @@
 //! What a writer does, and what is refused.
 
 use super::{
-    UNIT, apply, assert_tells, assert_working, close, contour, copied, fill, opened, publish,
-    unchecked,
+    UNIT, apply, assert_tells, assert_working, close, contour, copy_working, fill, open, publish,
+    unchecked_contour,
 };
 use crate::tests::assertions::{assert_holds, assert_same};
 use mf_geom::CycleFault;
@@ -13,7 +13,7 @@ use std::process::Abort;
 
 /// Adds the working picture to itself, which is accepted.
 fn double(rt: &impl Abort, alloc: Global, writer: &mut Writer) {
-    let copy = copied(rt, alloc, writer);
+    let copy = copy_working(rt, alloc, writer);
     apply(rt, alloc, writer, Op::Also(copy, Sign::Plus));
 }
 
@@ -27,7 +27,7 @@ fn assert_full(rt: &impl Abort, alloc: Global, writer: &mut Writer) {
 #[test]
 fn accepts_operations_up_to_the_limit(rt: HostRuntime) {
     let alloc = rt.alloc();
-    let (mut writer, _desk) = opened(&rt, alloc, 1, 2);
+    let (mut writer, _desk) = open(&rt, alloc, 1, 2);
     fill(&rt, alloc, &mut writer);
     double(&rt, alloc, &mut writer);
     assert_working(&rt, &writer, 2, 12);
@@ -50,7 +50,7 @@ fn accepts_operations_up_to_the_limit(rt: HostRuntime) {
 #[test]
 fn accepts_no_operation(rt: HostRuntime) {
     let alloc = rt.alloc();
-    let (mut writer, _desk) = opened(&rt, alloc, 1, 0);
+    let (mut writer, _desk) = open(&rt, alloc, 1, 0);
     assert_full(&rt, alloc, &mut writer);
     assert_working(&rt, &writer, 0, 0);
     let mut ended = close(&rt, writer);
@@ -60,7 +60,7 @@ fn accepts_no_operation(rt: HostRuntime) {
 
 #[test]
 fn publishes_nothing_three_times(rt: HostRuntime) {
-    let (mut writer, _desk) = opened(&rt, rt.alloc(), 1, 10);
+    let (mut writer, _desk) = open(&rt, rt.alloc(), 1, 10);
     for _ in 0..3 {
         publish(&rt, &mut writer);
         assert_tells(&rt, &writer.tell(), 0);
@@ -81,7 +81,7 @@ fn assert_leaves_the_field(rt: &impl Abort, alloc: Global, writer: &mut Writer, 
 #[test]
 fn hands_back_what_leaves_the_field(rt: HostRuntime) {
     let alloc = rt.alloc();
-    let (mut writer, _desk) = opened(&rt, alloc, 1, 10);
+    let (mut writer, _desk) = open(&rt, alloc, 1, 10);
     fill(&rt, alloc, &mut writer);
     assert_leaves_the_field(&rt, alloc, &mut writer, 4093);
     assert_working(&rt, &writer, 1, 6);
@@ -92,7 +92,7 @@ fn hands_back_what_leaves_the_field(rt: HostRuntime) {
 
 /// Asserts that the working picture, of this total weight, is too heavy to be added to itself: the copy is handed back.
 fn assert_weighs_too_much(rt: &impl Abort, alloc: Global, writer: &mut Writer, total: i64) {
-    let copy = copied(rt, alloc, writer);
+    let copy = copy_working(rt, alloc, writer);
     match writer.apply(alloc, Op::Also(copy, Sign::Plus)) {
         Err((Op::Also(copy, Sign::Plus), Fault::Refused(OpFault::WeightTooLarge))) => {
             assert_same(rt, copy.total(), total, "what is handed back");
@@ -104,7 +104,7 @@ fn assert_weighs_too_much(rt: &impl Abort, alloc: Global, writer: &mut Writer, t
 #[test]
 fn hands_back_what_weighs_too_much(rt: HostRuntime) {
     let alloc = rt.alloc();
-    let (mut writer, _desk) = opened(&rt, alloc, 1, 100);
+    let (mut writer, _desk) = open(&rt, alloc, 1, 100);
     apply(&rt, alloc, &mut writer, contour(&rt, alloc, UNIT, 1));
     for _ in 0..14 {
         double(&rt, alloc, &mut writer);
@@ -131,7 +131,7 @@ fn assert_refuses_a_contour(rt: &impl Abort, alloc: Global, writer: &mut Writer,
 #[test]
 fn counts_contours_that_change_no_pixel(rt: HostRuntime) {
     let alloc = rt.alloc();
-    let (mut writer, _desk) = opened(&rt, alloc, 1, 2);
+    let (mut writer, _desk) = open(&rt, alloc, 1, 2);
     let turns_back = Fault::Refused(OpFault::Cycle(CycleFault::Backtracks(0)));
     assert_refuses_a_contour(&rt, alloc, &mut writer, turns_back);
     assert_working(&rt, &writer, 0, 0);
@@ -140,7 +140,7 @@ fn counts_contours_that_change_no_pixel(rt: HostRuntime) {
             &rt,
             alloc,
             &mut writer,
-            unchecked(&rt, alloc, THERE_AND_BACK, 1),
+            unchecked_contour(&rt, alloc, THERE_AND_BACK, 1),
         );
         assert_working(&rt, &writer, pending, 0);
     }

@@ -4,7 +4,8 @@ use super::chance::Chance;
 use super::slow::{SlowPicture, both_forms};
 use super::{assert_equality, block, copy_of, make_run, picture_of};
 use crate::tests::assertions::{assert_holds, assert_same};
-use mf_rows::{OutOfMemory, Picture, Run};
+use mf_base::OutOfMemory;
+use mf_rows::{Picture, Run};
 use std::alloc::Global;
 use std::process::Abort;
 

@@ -4,8 +4,9 @@ use super::chance::Chance;
 use super::slow::{SlowPicture, both_forms};
 use super::{assert_runs, assert_weights, copy_of, made, make_run};
 use crate::tests::assertions::assert_holds;
+use mf_base::OutOfMemory;
 use mf_edges::FIELD_START;
-use mf_rows::{OutOfMemory, Picture, RowBuilder, Run};
+use mf_rows::{Picture, RowBuilder, Run};
 use std::alloc::Global;
 use std::process::Abort;
 

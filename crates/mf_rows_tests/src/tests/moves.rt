@@ -7,7 +7,9 @@ use super::chance::Chance;
 use super::generated::{ROWS, STARTS, random_picture};
 use super::slow::{SlowPicture, both_forms};
 use super::{assert_equality, assert_total, assert_weights, copy_of, made, make_run, picture_of};
-use mf_rows::{OutOfMemory, Picture, Run, Stretch};
+use mf_base::OutOfMemory;
+use mf_edges::Stretch;
+use mf_rows::{Picture, Run};
 use std::alloc::Global;
 use std::process::Abort;
 

@@ -3,7 +3,7 @@
 use super::chance::Chance;
 use super::rectangles::{Rectangle, at_once, make_rectangle, negated, one_by_one, weight_of_all};
 use super::slow::SlowPicture;
-use mf_rows::OutOfMemory;
+use mf_base::OutOfMemory;
 use std::alloc::Global;
 use std::process::Abort;
 

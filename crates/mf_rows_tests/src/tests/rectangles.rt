@@ -1,8 +1,11 @@
 //! Rectangles, and their corners.
-ghost use Rattle.std.specs.Prelude.{IfOk, OnOk, ◌≡◌, pos, negsuc, ◌≤ℤ◌};
+ghost use Rattle.std.specs.Prelude.{IfOk, OnOk, ◌≡◌, ◌≤ℤ◌};
+ghost use Rattle.mf_geom.specs.Coordinates.{least_coordinate, greatest_coordinate};
 ghost use Rattle.mf_rows.specs.Corners.{AreCorners};
 
-use mf_rows::{AddFault, Corner, OutOfMemory, Picture};
+use mf_base::OutOfMemory;
+use mf_edges::AddFault;
+use mf_rows::{Corner, Picture};
 use std::alloc::Global;
 use std::process::Abort;
 
@@ -111,8 +114,8 @@ pub(super) fn make_corner(x: i32, y: i32, weight: i32) -> Corner
 
 /// Asserts that a corner may have this coordinate.
 fn assert_in_reach(rt: &impl Abort, coordinate: i32)
-    ensures least { negsuc 4094 ≤ℤ coordinate }
-    ensures greatest { coordinate ≤ℤ pos 4095 }
+    ensures least { least_coordinate ≤ℤ coordinate }
+    ensures greatest { coordinate ≤ℤ greatest_coordinate }
 {
     assert!(rt; -4095 <= coordinate);
     assert!(rt; coordinate <= 4095);
@@ -133,7 +136,10 @@ pub(super) fn try_all<R: Abort + AllocGlobal>(
     picture: &Picture,
     rectangles: &[Rectangle],
 ) -> Result<Picture, AddFault> {
-    picture.with_corners(rt.alloc(), corners_of(rt, rt.alloc(), rectangles)?)
+    let corners = corners_of(rt, rt.alloc(), rectangles)?;
+    let mut new = picture.copy(rt.alloc())?;
+    new.add_corners(rt.alloc(), corners)?;
+    Ok(new)
 }
 
 /// A picture with rectangles added to it all at once; this must not be refused.

@@ -3,7 +3,8 @@
 
 use super::{assert_equality, assert_runs_in, made};
 use crate::tests::assertions::assert_same;
-use mf_rows::{Box4, OutOfMemory, Picture, RowBuilder, Run};
+use mf_base::OutOfMemory;
+use mf_rows::{Box4, Picture, RowBuilder, Run};
 use std::alloc::Global;
 use std::process::Abort;
 

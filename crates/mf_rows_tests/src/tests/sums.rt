@@ -7,7 +7,9 @@ use super::generated::{ROWS, SMALL_WEIGHTS, STARTS, WEIGHTS, forms_of_weights, r
 use super::slow::SlowPicture;
 use super::{assert_equality, assert_total, made};
 use crate::tests::assertions::assert_holds;
-use mf_rows::{AddFault, Choice, OutOfMemory, Picture, WeightMap};
+use mf_base::OutOfMemory;
+use mf_edges::{AddFault, Choice, WeightMap};
+use mf_rows::Picture;
 use std::alloc::Global;
 use std::process::Abort;
 

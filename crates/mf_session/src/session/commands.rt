@@ -11,7 +11,8 @@ ghost use Rattle.mf_text.specs.declared.command.Name.{Name};
 
 use super::Session;
 use crate::refusal::{Refusal, refused};
-use mf_geom::{Check, OutOfMemory};
+use mf_base::OutOfMemory;
+use mf_geom::Check;
 use mf_gf::GfFault;
 use mf_ops::Op;
 use mf_rows::Picture;
@@ -32,7 +33,8 @@ impl Session {
         ensures answer { IfOk result (λ text. (s : State) → StandsFor self.old s → IsAnsweredTo self.old s command text.items self.new) }
         ensures nothing { command ≡ commands.Nothing → IsOk result }
         ensures turning { (check : Check) → command ≡ commands.Turning check → IsOk result }
-        ensures clears { (s : State) (name : Name) → StandsFor self.old s → command ≡ commands.Clear name → IsClearable (limits self.old).max_ops s.pictures name → IsOk result }
+        ensures clears { (s : State) (name : Name) → StandsFor self.old s → command ≡ commands.Clear name
+            → IsClearable (limits self.old).max_ops s.pictures name → IsOk result }
         ensures unchanged { OnErr result ((s : State) → StandsFor self.old s → StandsFor self.new s) }
         ensures limits { limits self.new ≡ limits self.old }
         ensures name { name self.new ≡ name self.old }
@@ -85,7 +87,8 @@ impl Session {
         width: i32,
     ) -> Result<Vec<u8>, OutOfMemory>
         requires { IsSource source }
-        ensures answer { IfOk result (λ text. (s : State) → StandsFor self.old s → IsAnsweredTo self.old s (commands.Ship source code dx width) text.items self.new) }
+        ensures answer { IfOk result (λ text. (s : State) → StandsFor self.old s
+            → IsAnsweredTo self.old s (commands.Ship source code dx width) text.items self.new) }
         ensures unchanged { OnErr result ((s : State) → StandsFor self.old s → StandsFor self.new s) }
         ensures limits { limits self.new ≡ limits self.old }
         ensures name { name self.new ≡ name self.old }

@@ -1,5 +1,6 @@
 //! The weights of the pixels of a picture, in reading order.
-ghost use Rattle.std.specs.Prelude.{◌≡◌, ◌↔◌, IsTrue, IfSome, pos, negsuc, ◌≤ℤ◌, ◌+ℤ◌};
+ghost use Rattle.std.specs.Prelude.{◌≡◌, ◌↔◌, IsTrue, IfSome, pos, ◌≤ℤ◌, ◌+ℤ◌};
+ghost use Rattle.mf_geom.specs.Coordinates.{least_coordinate, last_in_field};
 ghost use Rattle.mf_rows.specs.Dots.{IsPicture, place, weight_at};
 ghost use Rattle.mf_rows.specs.Order.{IsRun};
 ghost use Rattle.mf_rows.specs.Runs.{dots_of, runs_of};
@@ -30,8 +31,8 @@ impl<'a> Weights<'a> {
     /// forgotten.
     pub(crate) fn weight(&mut self, x: i32, y: i32) -> i32
         requires order { AreInOrder (runs_ahead self.old) }
-        requires left { negsuc 4094 ≤ℤ x }
-        requires right { x ≤ℤ pos 4094 }
+        requires left { least_coordinate ≤ℤ x }
+        requires right { x ≤ℤ last_in_field }
         ensures order { AreInOrder (runs_ahead self.new) }
         ensures weight { result ≡ weight_at (dots_ahead self.old) x y }
         ensures later { AreSameFrom (place x y) (dots_ahead self.old) (dots_ahead self.new) }
@@ -46,8 +47,8 @@ impl<'a> Weights<'a> {
     /// Passes the runs that end before a pixel.
     fn pass(&mut self, x: i32, y: i32)
         requires order { AreInOrder (runs_ahead self.old) }
-        requires left { negsuc 4094 ≤ℤ x }
-        requires right { x ≤ℤ pos 4094 }
+        requires left { least_coordinate ≤ℤ x }
+        requires right { x ≤ℤ last_in_field }
         ensures order { AreInOrder (runs_ahead self.new) }
         ensures reach { IfSome self.new.run (IsNotBefore x y) }
         ensures later { AreSameFrom (place x y) (dots_ahead self.old) (dots_ahead self.new) }
@@ -64,8 +65,8 @@ impl<'a> Weights<'a> {
 /// Whether a run ends before a pixel, in reading order.
 fn is_before(run: &Run, x: i32, y: i32) -> bool
     requires run { IsRun run.now }
-    requires left { negsuc 4094 ≤ℤ x }
-    requires right { x ≤ℤ pos 4094 }
+    requires left { least_coordinate ≤ℤ x }
+    requires right { x ≤ℤ last_in_field }
     ensures { IsTrue result ↔ (place (run.now.x +ℤ pos run.now.len) run.now.y ≤ℤ place x y) }
 {
     if run.y == y {

@@ -42,7 +42,7 @@ const BACK: &[Point] = &[
 ];
 
 /// A path of two points, which turns straight back at both.
-const EDGE: &[Point] = &[Point { x: 0, y: 0 }, Point { x: 1, y: 0 }];
+const SEGMENT: &[Point] = &[Point { x: 0, y: 0 }, Point { x: 1, y: 0 }];
 
 /// Asserts that the line is a contour with this name and weight through these points.
 fn assert_contour(
@@ -114,6 +114,6 @@ fn contours_are_read_unchecked(rt: HostRuntime) {
         alloc,
         "addto z contour (0,0)--(1,0)--cycle;",
         (Name::Register(25), 1),
-        EDGE,
+        SEGMENT,
     );
 }

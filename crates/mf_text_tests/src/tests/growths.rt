@@ -167,7 +167,7 @@ fn a_point_out_of_range_is_refused(rt: HostRuntime) {
 }
 
 #[test]
-fn a_slanted_edge_is_refused(rt: HostRuntime) {
+fn a_slanted_segment_is_refused(rt: HostRuntime) {
     let line = b"addto a contour (0,0)--(1,0)--(1,1)--(0,1)--(0,2)--(3,3)--cycle withweight 4";
     assert_no_cycle(&rt, rt.alloc(), line, CycleFault::NotRectilinear(4));
 }

@@ -1,5 +1,6 @@
 //! A pace that holds each publish until its frame was drawn, so that what is drawn does not depend on the threads.
-use mf_view::{Pace, Rest};
+use mf_stage::Pace;
+use mf_view::Rest;
 use std::sync::atomic::{AtomicU64, Ordering};
 
 /// How often a publish looks whether its frame was drawn before it goes on.

@@ -1,5 +1,6 @@
 use Rattle.std.proofs.Common.{inl, sym}
-use Rattle.mf_cli.proofs.Outputs.{fault-nothing}
+use Rattle.mf_desk.proofs.Performances.{Tells-nothing}
+use Rattle.mf_cli.specs.Output.{settings}
 use Rattle.mf_cli.proofs.program.program.Goals as goal
 
 pub returns-in-Err-OutOfMemory-clause-fault : goal.returns-in-Err-OutOfMemory-clause-fault
@@ -7,5 +8,5 @@ returns-in-Err-OutOfMemory-clause-fault g c = λ _. record {
   fault = c.into.result;
   status_is = sym c.report.ensures.status;
   message = c.report.ensures.message;
-  ended = rw c.into.ensures (inl (fault-nothing _ _ _));
+  ended = rw c.into.ensures (inl (Tells-nothing settings _ _ _));
 }

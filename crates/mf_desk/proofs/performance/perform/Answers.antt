@@ -3,13 +3,13 @@ use Rattle.std.proofs.lemmas.Result.{IfOk-weaker, err_from_is_err_and}
 use Rattle.mf_desk.specs.declared.fault.RunFault.TheVariants as faults
 use Rattle.mf_desk.specs.ViewerFaults.{fault_of_start}
 use Rattle.mf_watch.specs.Watching.{AreStarted}
-use Rattle.mf_desk.proofs.Performances.{StopsEarly-nothing, StopsEarly-no_room, StopsEarly-no_place}
+use Rattle.mf_desk.proofs.Performances.{Tells-nothing, Tells-no_room, Tells-no_place}
 use Rattle.mf_desk.proofs.performance.perform.Goals as goal
 
 pub returns-in_err-memory-clause-fault : goal.returns-in_err-memory-clause-fault
 returns-in_err-memory-clause-fault g c =
     let wanting = err_from_is_err_and c.from_residual.result c.from_residual.ensures.1 in
-    rw (wanting.1, wanting.2) (StopsEarly-nothing c.args.settings.now c.args.viewers _ _)
+    rw (wanting.1, wanting.2) (Tells-nothing c.args.settings.now c.args.viewers _ _)
 
 pub returns-in_err-progress-clause-fault : goal.returns-in_err-progress-clause-fault
 returns-in_err-progress-clause-fault g c =
@@ -17,8 +17,8 @@ returns-in_err-progress-clause-fault g c =
     let passed_on = err_from_is_err_and c.from_residual-in_err-progress.result c.from_residual-in_err-progress.ensures.1 in
     rw (passed_on.1, passed_on.2)
     (⊎_elim
-    (λ long. rw long (StopsEarly-no_room settings c.args.viewers _ _ (c.in_err-progress.ensures.too_long.1 (ap Err long))))
-    (λ wanting. rw wanting (StopsEarly-nothing settings c.args.viewers _ _))
+    (λ long. rw long (Tells-no_room settings c.args.viewers _ _ (c.in_err-progress.ensures.too_long.1 (ap Err long))))
+    (λ wanting. rw wanting (Tells-nothing settings c.args.viewers _ _))
     c.in_err-progress.ensures.fault)
 
 pub returns-in-Err-clause-fault : goal.returns-in-Err-clause-fault
@@ -27,10 +27,10 @@ returns-in-Err-clause-fault g c =
     ⊎_elim
     (λ none.
     let is : c.into.result ≡ faults.NoPlace = c.into.ensures ∙ ap fault_of_start none.0 in
-    rw is (StopsEarly-no_place settings c.args.viewers _ _ none.1))
+    rw is (Tells-no_place settings c.args.viewers _ _ none.1))
     (λ wanting.
     let is : c.into.result ≡ faults.OutOfMemory = c.into.ensures ∙ ap fault_of_start wanting in
-    rw is (StopsEarly-nothing settings c.args.viewers _ _))
+    rw is (Tells-nothing settings c.args.viewers _ _))
     c.in-Err.ensures.fault
 
 pub returns-in_err-memory-clause-too_small : goal.returns-in_err-memory-clause-too_small
@@ -68,12 +68,16 @@ pub perform_watched-requires-clause-few : goal.perform_watched-requires-clause-f
 perform_watched-requires-clause-few g c = omega (arith, c.requires, c.in-Ok.ensures.count)
 
 pub perform_watched-requires-clause-started : goal.perform_watched-requires-clause-started
-perform_watched-requires-clause-started g c = (c.args.looks, subst (λ picture. AreStarted picture c.args.looks c.in-Ok.watching) c.in_ok-progress.ensures.name c.in-Ok.ensures.started)
+perform_watched-requires-clause-started g c = (
+  c.args.looks,
+  subst (λ picture. AreStarted picture c.args.looks c.in-Ok.watching) c.in_ok-progress.ensures.name c.in-Ok.ensures.started,
+)
 
 pub returns-clause-performance : goal.returns-clause-performance
 returns-clause-performance g c =
     let started = subst (λ picture. AreStarted picture c.args.looks c.in-Ok.watching) c.in_ok-progress.ensures.name c.in-Ok.ensures.started in
-    rw (sym c.in-Ok.ensures.count) (IfOk-weaker c.perform_watched.result _ _ (λ outcome performance. performance c.args.looks started) c.perform_watched.ensures.performance)
+    rw (sym c.in-Ok.ensures.count)
+    (IfOk-weaker c.perform_watched.result _ _ (λ outcome performance. performance c.args.looks started) c.perform_watched.ensures.performance)
 
 pub returns-clause-fault : goal.returns-clause-fault
 returns-clause-fault g c = rw (sym c.in-Ok.ensures.count) c.perform_watched.ensures.fault

@@ -1,42 +1,43 @@
-use Rattle.std.proofs.Common.{[], Err, All, ⊎_elim, sym, ap, subst, ◌∙◌, arith}
+use Rattle.std.proofs.Common.{Err, All, ⊎_elim, sym, ap, subst, ◌∙◌}
 use Rattle.std.specs.Io.KnownBytes.{Appends}
 use Rattle.std.proofs.KnownBytes.{Consumes-whole}
 use Rattle.std.proofs.lemmas.List.Elements.{All-weaker}
 use Rattle.std.proofs.lemmas.Result.{IfOk-weaker, err_from_is_err_and}
-use Rattle.mf_gf.specs.Keeping.{Keeps, limit}
 use Rattle.mf_desk.specs.declared.outcome.Outcome.{Outcome}
 use Rattle.mf_watch.specs.declared.watcher.Watcher.{Watcher}
 use Rattle.mf_desk.specs.EndedRuns.{EndsWith, glance}
 use Rattle.mf_desk.specs.Performances.{IsPerformance, viewer_lines}
-use Rattle.mf_desk.specs.Runs.{IsLongFile}
+use Rattle.mf_desk.specs.Streams.{streams}
 use Rattle.mf_session.specs.Sessions.{name}
 use Rattle.mf_watch.specs.Watchers.{IsRecord, IsWatcher}
 use Rattle.mf_watch.specs.Watching.{viewer_count}
-use Rattle.mf_desk.proofs.Performances.{StopsEarly-script, StopsEarly-showing, StopsEarly-long, StopsEarly-wanting, IsPerformance-over, elsewhere-script, elsewhere-showing}
+use Rattle.mf_desk.proofs.Performances.{Tells-script, Tells-showing, Tells-unfinished, IsPerformance-over, elsewhere-script, elsewhere-showing}
 use Rattle.mf_desk.proofs.performance.perform_watched.Goals as goal
 
 pub returns-in_err-ended-clause-fault : goal.returns-in_err-ended-clause-fault
 returns-in_err-ended-clause-fault g c =
     let passed_on = err_from_is_err_and c.from_residual.result c.from_residual.ensures.1 in
-    rw (passed_on.1, passed_on.2) (StopsEarly-script c.args.settings.now (viewer_count c.args.watching) _ _ _ _ _ _ c.requires.limits c.in_err-ended.ensures.fault)
+    rw (passed_on.1, passed_on.2) (Tells-script c.args.settings.now (viewer_count c.args.watching) _ _ _ c.requires.limits c.in_err-ended.ensures.fault)
 
 pub returns-in_err-ended-clause-places : goal.returns-in_err-ended-clause-places
 returns-in_err-ended-clause-places g c =
     let passed_on = err_from_is_err_and c.from_residual.result c.from_residual.ensures.1 in
-    rw (passed_on.1, passed_on.2) (λ place. absurd (elsewhere-script (Err _) _ _ _ _ _ c.in_err-ended.ensures.fault place))
+    rw (passed_on.1, passed_on.2) (λ place. absurd (elsewhere-script (Err _) _ _ c.in_err-ended.ensures.fault place))
 
 pub show-shown-requires-clause-names : goal.show-shown-requires-clause-names
 show-shown-requires-clause-names g c =
     let same = sym c.in_ok-ended.ensures.name in
     let (looks, started) = c.requires.started in
     IfOk-weaker c.join-joined.result _ _
-    (λ watchers watched. All-weaker _ _ (λ (w : Watcher) (is : IsWatcher (name c.args.progress.performer.session) looks 1 w). is.name_is ∙ same) watchers.items (watched _ _ started)) c.join-joined.ensures.watchers
+    (λ watchers watched. All-weaker _ _ (λ (w : Watcher) (is : IsWatcher (name c.args.progress.performer.session) looks 1 w). is.name_is ∙ same) watchers.items
+    (watched _ _ started)) c.join-joined.ensures.watchers
 
 pub show-shown-requires-clause-rooms : goal.show-shown-requires-clause-rooms
 show-shown-requires-clause-rooms g c =
     let (looks, started) = c.requires.started in
     IfOk-weaker c.join-joined.result _ _
-    (λ watchers watched. All-weaker _ _ (λ (w : Watcher) (is : IsWatcher (name c.args.progress.performer.session) looks 1 w). is.room) watchers.items (watched _ _ started)) c.join-joined.ensures.watchers
+    (λ watchers watched. All-weaker _ _ (λ (w : Watcher) (is : IsWatcher (name c.args.progress.performer.session) looks 1 w). is.room) watchers.items
+    (watched _ _ started)) c.join-joined.ensures.watchers
 
 pub returns-in_err-seen-clause-fault : goal.returns-in_err-seen-clause-fault
 returns-in_err-seen-clause-fault g c =
@@ -45,15 +46,18 @@ returns-in_err-seen-clause-fault g c =
     let holds = g.W.Write.contents c.complete-completed.new.writer in
     let left = g.R.Read.remaining c.complete-completed.new.reader in
     let run = c.in_ok-ended.ended in
-    let (read, consumed, over) = subst (λ l. EndsWith l (g.R.Read.remaining c.args.reader.now) left held run holds) c.requires.limits c.in_ok-ended.ensures.over in
+    let (read, consumed, over) =
+    subst (λ l. EndsWith l (streams (g.R.Read.remaining c.args.reader.now) left held holds) run) c.requires.limits c.in_ok-ended.ensures.over in
     let passed_on = err_from_is_err_and c.from_residual-in_err-seen.result c.from_residual-in_err-seen.ensures.1 in
     rw (passed_on.1, passed_on.2)
-    (StopsEarly-showing settings (viewer_count c.args.watching) held holds _ read run over _ left consumed c.in_ok-ended.ensures.end _ (c.in_err-seen.ensures.fault _ c.join-joined.ensures.count c.join-joined.ensures.refused))
+    (Tells-showing settings (viewer_count c.args.watching) held holds _ read run over _ left consumed c.in_ok-ended.ensures.end _
+    (c.in_err-seen.ensures.fault _ c.join-joined.ensures.count c.join-joined.ensures.refused))
 
 pub returns-in_err-seen-clause-places : goal.returns-in_err-seen-clause-places
 returns-in_err-seen-clause-places g c =
     let passed_on = err_from_is_err_and c.from_residual-in_err-seen.result c.from_residual-in_err-seen.ensures.1 in
-    rw (passed_on.1, passed_on.2) (λ place. absurd (elsewhere-showing (Err _) _ _ _ _ (c.in_err-seen.ensures.fault _ c.join-joined.ensures.count c.join-joined.ensures.refused) place))
+    rw (passed_on.1, passed_on.2)
+    (λ place. absurd (elsewhere-showing (Err _) _ _ _ _ (c.in_err-seen.ensures.fault _ c.join-joined.ensures.count c.join-joined.ensures.refused) place))
 
 pub returns-in_err-gf-clause-fault : goal.returns-in_err-gf-clause-fault
 returns-in_err-gf-clause-fault g c =
@@ -64,19 +68,16 @@ returns-in_err-gf-clause-fault g c =
     let later = g.W.Write.contents c.show-shown.new.writer in
     let left = g.R.Read.remaining c.complete-completed.new.reader in
     let run = c.in_ok-ended.ended in
-    let (read, consumed, over) = subst (λ l. EndsWith l (g.R.Read.remaining c.args.reader.now) left held run holds) c.requires.limits c.in_ok-ended.ensures.over in
-    let out = subst (λ n. Appends holds later (viewer_lines n (glance run))) (c.in_ok-seen.ensures.count viewers c.join-joined.ensures.count) c.in_ok-seen.ensures.shown in
-    let same_file = c.file-file.ensures ∙ c.show-shown.ensures.same.file in
-    let file = subst (λ f. Keeps f [] over.last.characters) (sym same_file) over.file in
-    let most = ap limit same_file ∙ over.limit_is in
+    let (read, consumed, over) =
+    subst (λ l. EndsWith l (streams (g.R.Read.remaining c.args.reader.now) left held holds) run) c.requires.limits c.in_ok-ended.ensures.over in
+    let out =
+    subst (λ n. Appends holds later (viewer_lines n (glance run)))
+    (c.in_ok-seen.ensures.count viewers c.join-joined.ensures.count) c.in_ok-seen.ensures.shown in
     let passed_on = err_from_is_err_and c.from_residual-in_err-gf.result c.from_residual-in_err-gf.ensures.1 in
     rw (passed_on.1, passed_on.2)
-    (⊎_elim
-    (λ long.
-    let too_long = subst (λ n. IsLongFile n settings.font over.last.characters) most ((c.in_err-gf.ensures.too_long over.last.characters file).1 (ap Err long)) in
-    rw long (StopsEarly-long settings viewers held holds later read run over _ left consumed c.in_ok-ended.ensures.end out too_long))
-    (λ wanting. rw wanting (StopsEarly-wanting settings viewers held holds later read run over _ left consumed c.in_ok-ended.ensures.end out))
-    c.in_err-gf.ensures.fault)
+    (Tells-unfinished settings viewers held holds later read run over _ left consumed c.in_ok-ended.ensures.end out c.file-file.result _
+    (c.file-file.ensures ∙ c.show-shown.ensures.same.file)
+    (λ long characters keeps. (c.in_err-gf.ensures.too_long characters keeps).1 (ap Err long)) c.in_err-gf.ensures.fault)
 
 pub returns-in_err-gf-clause-places : goal.returns-in_err-gf-clause-places
 returns-in_err-gf-clause-places g c =
@@ -93,16 +94,15 @@ returns-clause-performance g c looks started =
     let left = g.R.Read.remaining c.complete-completed.new.reader in
     let run = c.in_ok-ended.ended in
     let picture = name c.args.progress.performer.session in
-    let (read, consumed, over) = subst (λ l. EndsWith l (g.R.Read.remaining c.args.reader.now) left held run holds) c.requires.limits c.in_ok-ended.ensures.over in
+    let (read, consumed, over) =
+    subst (λ l. EndsWith l (streams (g.R.Read.remaining c.args.reader.now) left held holds) run) c.requires.limits c.in_ok-ended.ensures.over in
     let records = IfOk-weaker c.join-joined.result _ (λ watchers. All (IsRecord looks) watchers.items)
-    (λ watchers watched. All-weaker _ _ (λ (w : Watcher) (is : IsWatcher picture looks 1 w). is.record_is) watchers.items (watched _ _ started)) c.join-joined.ensures.watchers in
+    (λ watchers watched. All-weaker _ _ (λ (w : Watcher) (is : IsWatcher picture looks 1 w). is.record_is) watchers.items
+    (watched _ _ started)) c.join-joined.ensures.watchers in
     let count = c.in_ok-seen.ensures.count viewers c.join-joined.ensures.count in
     let out = subst (λ n. Appends holds later (viewer_lines n (glance run))) count c.in_ok-seen.ensures.shown in
-    let same_file = c.file-file.ensures ∙ c.show-shown.ensures.same.file in
-    let file = subst (λ f. Keeps f [] over.last.characters) (sym same_file) over.file in
-    let most = ap limit same_file ∙ over.limit_is in
-    let fits : IsLongFile _ settings.font over.last.characters → ⊥ = λ long.
-    let refused = (c.in_ok-gf.ensures.too_long over.last.characters file).0 (subst (λ n. IsLongFile n settings.font over.last.characters) (sym most) long) in absurd (cc) in
     let outcome : Outcome = record { gf = c.in_ok-gf.gf; seen = c.in_ok-seen.seen } in
     Consumes-whole _ _ read (IsPerformance settings viewers looks outcome held later) consumed c.in_ok-ended.ensures.end
-    (IsPerformance-over settings viewers held holds later read run over looks outcome out fits (c.in_ok-gf.ensures.some over.last.characters file) count (c.in_ok-seen.ensures.seen looks records))
+    (IsPerformance-over settings viewers held holds later read run over looks outcome c.file-file.result (c.file-file.ensures ∙ c.show-shown.ensures.same.file)
+    (λ characters keeps. ((λ long. let refused = (c.in_ok-gf.ensures.too_long characters keeps).0 long in absurd (cc)), c.in_ok-gf.ensures.some characters keeps))
+    out count (c.in_ok-seen.ensures.seen looks records))

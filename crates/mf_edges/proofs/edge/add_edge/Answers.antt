@@ -19,7 +19,8 @@ returns-in-Ok-clause-weights c =
     let by_column = c.in-Ok.ensures.position (λ edge. edge.x) (answers_always _ _ _ (λ f a r g called. search rules)) in
     let found = subst (λ p. IsBinarySearchResult (λ (edge : Edge). int_cmp edge.x p) c.deref.result.now (Ok c.in-Ok.at)) x by_column in
     let here = found_column edges c.args.x c.in-Ok.at any (rw c.deref.ensures.value at found) in
-    let added : HaveWeights (with_edge_in edges (get_or edges c.in-Ok.at any).x (to_z w32 (of_z w32 c.args.weight))) c.change_edge.new.edges.items = c.change_edge.ensures.weights any in
+    let added : HaveWeights (with_edge_in edges (get_or edges c.in-Ok.at any).x (to_z w32 (of_z w32 c.args.weight))) c.change_edge.new.edges.items =
+    c.change_edge.ensures.weights any in
     rw (here, w) at added
 
 pub returns-in_ok-insert-in-Err-clause-sorted : goal.returns-in_ok-insert-in-Err-clause-sorted
@@ -28,7 +29,9 @@ returns-in_ok-insert-in-Err-clause-sorted c =
     let w : to_z w32 (of_z w32 c.args.weight) ≡ c.args.weight = omega (arith, ints) in
     let by_column = c.in-Err.ensures.position (λ edge. edge.x) (answers_always _ _ _ (λ f a r g called. search rules)) in
     let parted = subst (λ p. IsBinarySearchResult (λ (edge : Edge). int_cmp edge.x p) c.deref.result.now (Err c.in-Err.at)) x by_column in
-    rw (c.in_ok-insert-in-Err.ensures.items, x, w) (inserted_sorted c.args.edges.now.items c.args.x c.args.weight c.in-Err.at c.requires.edges (search rules) c.requires.left c.requires.right (λ zero_is. absurd (omega (arith, ints, zero_is, c.if-weight-ne0.true))) (rw c.deref.ensures.value at parted))
+    rw (c.in_ok-insert-in-Err.ensures.items, x, w) (inserted_sorted c.args.edges.now.items c.args.x c.args.weight c.in-Err.at c.requires.edges
+    (search rules) c.requires.left c.requires.right (λ zero_is. absurd (omega (arith, ints, zero_is, c.if-weight-ne0.true)))
+    (rw c.deref.ensures.value at parted))
 
 pub returns-in_ok-insert-in-Err-clause-weights : goal.returns-in_ok-insert-in-Err-clause-weights
 returns-in_ok-insert-in-Err-clause-weights c =

@@ -25,8 +25,11 @@ returns-else-changed-eq0-clause-sorted c =
     let small = edge_is_small c.args.edges.now.items c.args.at edge c.requires.edges (search rules) c.index-edge.ensures in
     let fits : FitsSigned w32 edge.x = search rules in
     let x : to_z w32 (of_z w32 edge.x) ≡ edge.x = omega (arith, ints) in
-    let s : to_z w32 (of_z w32 (to_z w32 (of_z w32 edge.weight) +ℤ to_z w32 (of_z w32 c.args.weight))) ≡ edge.weight +ℤ c.args.weight = omega (arith, ints, small, c.requires.weight) in
-    rw (x, s) (changed_sorted c.args.edges.now.items c.args.at edge c.args.weight _ (search rules) c.index-edge.ensures refl c.requires.edges (λ zero_is. absurd (omega (arith, ints, zero_is, small, c.requires.weight, c.if-changed-eq0.false))))
+    let s : to_z w32 (of_z w32 (to_z w32 (of_z w32 edge.weight) +ℤ to_z w32 (of_z w32 c.args.weight))) ≡ edge.weight +ℤ c.args.weight =
+    omega (arith, ints, small, c.requires.weight) in
+    rw (x, s) (changed_sorted c.args.edges.now.items c.args.at edge c.args.weight _
+    (search rules) c.index-edge.ensures refl c.requires.edges
+    (λ zero_is. absurd (omega (arith, ints, zero_is, small, c.requires.weight, c.if-changed-eq0.false))))
 
 pub returns-else-changed-eq0-clause-weights : goal.returns-else-changed-eq0-clause-weights
 returns-else-changed-eq0-clause-weights c =
@@ -34,5 +37,6 @@ returns-else-changed-eq0-clause-weights c =
     let small = edge_is_small c.args.edges.now.items c.args.at edge c.requires.edges (search rules) c.index-edge.ensures in
     let fits : FitsSigned w32 edge.x = search rules in
     let x : to_z w32 (of_z w32 edge.x) ≡ edge.x = omega (arith, ints) in
-    let s : to_z w32 (of_z w32 (to_z w32 (of_z w32 edge.weight) +ℤ to_z w32 (of_z w32 c.args.weight))) ≡ edge.weight +ℤ c.args.weight = omega (arith, ints, small, c.requires.weight) in
+    let s : to_z w32 (of_z w32 (to_z w32 (of_z w32 edge.weight) +ℤ to_z w32 (of_z w32 c.args.weight))) ≡ edge.weight +ℤ c.args.weight =
+    omega (arith, ints, small, c.requires.weight) in
     rw (x, s) (changed_weights c.args.edges.now.items c.args.at edge c.args.weight _ (search rules) c.index-edge.ensures refl)

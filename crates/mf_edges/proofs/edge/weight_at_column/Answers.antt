@@ -8,14 +8,18 @@ use Rattle.mf_edges.proofs.edge.weight_at_column.Goals as goal
 pub returns-then-x-edge : goal.returns-then-x-edge
 returns-then-x-edge c =
     let x_is : to_z w32 (of_z w32 c.args.x) ≡ c.args.x = omega (arith, ints) in
-    let before = sum_before_read c.args.edges.now c.args.x _ (record { x = pos 0; weight = pos 0 }) _ c.loop-edge-test.true (rw x_is at c.loop-edge.invariant) in
+    let before =
+    sum_before_read c.args.edges.now c.args.x _ (record { x = pos 0; weight = pos 0 }) _ c.loop-edge-test.true (rw x_is at c.loop-edge.invariant) in
     sum_before_right c.args.edges.now c.args.x _ _ _ before (grind (arith, ints, before.sorted.0))
 
 -- the sum with this edge
-more : (c : goal.After-weight-1) → let e : Edge = get_or c.args.edges.now c.loop-edge.edge-index (record { x = pos 0; weight = pos 0 }) in IsSumBefore c.args.edges.now c.args.x (drop (c.loop-edge.edge-index + 1) c.args.edges.now) (to_z w32 c.loop-edge.weight-bits +ℤ e.weight)
+more : (c : goal.After-weight-1) → let e : Edge =
+    get_or c.args.edges.now c.loop-edge.edge-index (record { x = pos 0; weight = pos 0 }) in IsSumBefore c.args.edges.now c.args.x
+    (drop (c.loop-edge.edge-index + 1) c.args.edges.now) (to_z w32 c.loop-edge.weight-bits +ℤ e.weight)
 more c =
     let x_is : to_z w32 (of_z w32 c.args.x) ≡ c.args.x = omega (arith, ints) in
-    let before = sum_before_read c.args.edges.now c.args.x _ (record { x = pos 0; weight = pos 0 }) _ c.loop-edge-test.true (rw x_is at c.loop-edge.invariant) in
+    let before =
+    sum_before_read c.args.edges.now c.args.x _ (record { x = pos 0; weight = pos 0 }) _ c.loop-edge-test.true (rw x_is at c.loop-edge.invariant) in
     sum_before_more c.args.edges.now c.args.x _ _ _ before (grind (arith, ints, before.sorted.0))
 
 pub overflow_add-weight : goal.overflow_add-weight

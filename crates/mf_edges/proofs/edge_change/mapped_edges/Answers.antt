@@ -44,4 +44,6 @@ loop-edge-preserved c =
     (mapped_more _ _ _ _ _ _ _ so_far next value c.requires.edges)
 
 pub returns : goal.returns
-returns c = rw c.give_back_room.ensures.items (mapped_all c.args.map.now c.args.edges.now c.loop-edge.mapped.items _ _ c.requires.edges c.requires.map (rw (drop_all _ c.args.edges.now c.loop-edge-test.false) at c.loop-edge.invariant))
+returns c =
+    rw c.give_back_room.ensures.items (mapped_all c.args.map.now c.args.edges.now c.loop-edge.mapped.items _ _ c.requires.edges c.requires.map
+    (rw (drop_all _ c.args.edges.now c.loop-edge-test.false) at c.loop-edge.invariant))

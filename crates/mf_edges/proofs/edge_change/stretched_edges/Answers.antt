@@ -14,7 +14,8 @@ pub overflow_mul-edge : goal.overflow_mul-edge
 overflow_mul-edge c = product_fits c.args.stretch.now _ c.requires.stretch (edge_at _ _ c.requires.edges c.loop-edge-test.true)
 
 pub overflow_add-edge : goal.overflow_add-edge
-overflow_add-edge c = sum_fits c.args.stretch.now _ c.requires.stretch (edge_at _ _ c.requires.edges c.loop-edge-test.true) (c.requires.allowed _ _ c.loop-edge-test.true)
+overflow_add-edge c =
+    sum_fits c.args.stretch.now _ c.requires.stretch (edge_at _ _ c.requires.edges c.loop-edge-test.true) (c.requires.allowed _ _ c.loop-edge-test.true)
 
 pub loop-edge-preserved : goal.loop-edge-preserved
 loop-edge-preserved c =
@@ -24,7 +25,8 @@ loop-edge-preserved c =
     let x_is = point_is s e c.requires.stretch (edge_at _ _ c.requires.edges c.loop-edge-test.true) (c.requires.allowed _ _ c.loop-edge-test.true) in
     let weight_is : to_z w32 (of_z w32 e.weight) ≡ e.weight = omega (arith, ints) in
     rw (c.in_ok-push.ensures.items, x_is, weight_is)
-    (ap (λ t. t ++ stretched_edge s e ∷ []) c.loop-edge.invariant ∙ sym (map_more (stretched_edge s) c.args.edges.now i (record { x = pos 0; weight = pos 0 }) c.loop-edge-test.true))
+    (ap (λ t. t ++ stretched_edge s e ∷ []) c.loop-edge.invariant ∙ sym
+    (map_more (stretched_edge s) c.args.edges.now i (record { x = pos 0; weight = pos 0 }) c.loop-edge-test.true))
 
 pub returns : goal.returns
 returns c =

@@ -5,12 +5,14 @@ use Rattle.std.proofs.lemmas.Fn.{always_returns_same}
 use Rattle.mf_edges.proofs.ReachesOfSums.{is_left_of, IsPartitionedBy-is_left_of, left_split, right_split}
 use Rattle.mf_edges.proofs.edge_sum.count_left_of.Goals as goal
 
-split : (c : goal.After-partition_point) → IsPartitionPoint (λ edge. is_left_of c.args.x edge ≡ true) (λ edge. is_left_of c.args.x edge ≡ false) c.args.edges.now c.partition_point.result
+split : (c : goal.After-partition_point)
+    → IsPartitionPoint (λ edge. is_left_of c.args.x edge ≡ true) (λ edge. is_left_of c.args.x edge ≡ false) c.args.edges.now c.partition_point.result
 split c =
     let edges = c.args.edges.now in
     let x_is : to_z w32 (of_z w32 c.args.x) ≡ c.args.x = omega (arith, ints) in
     subst (λ x. IsPartitionPoint (λ edge. is_left_of x edge ≡ true) (λ edge. is_left_of x edge ≡ false) edges c.partition_point.result) x_is
-    (c.partition_point.ensures.partitioned (is_left_of (to_z w32 (of_z w32 c.args.x))) (search (rules, always_returns_same)) (IsPartitionedBy-is_left_of _ edges c.requires))
+    (c.partition_point.ensures.partitioned (is_left_of (to_z w32 (of_z w32 c.args.x)))
+    (search (rules, always_returns_same)) (IsPartitionedBy-is_left_of _ edges c.requires))
 
 pub returns-clause-left : goal.returns-clause-left
 returns-clause-left c = left_split c.args.x _ c.args.edges.now c.partition_point.ensures.bound (split c).0

@@ -19,7 +19,8 @@ returns-then-not-is_lawful_weight-clause-too_large c =
     let difference = All-get_or (λ e. IsDifference e.weight) c.args.edges.now c.loop-edge.edge-index d c.loop-edge-test.true c.requires.differences in
     let now_is : to_z w32 (of_z w32 now) ≡ now = omega (arith, ints, so_far.lawful.least, so_far.lawful.greatest) in
     let edge_is : to_z w32 (of_z w32 e.weight) ≡ e.weight = omega (arith, ints, difference.least, difference.greatest) in
-    let sum_is : to_z w32 (of_z w32 (now +ℤ e.weight)) ≡ now +ℤ e.weight = omega (arith, ints, so_far.lawful.least, so_far.lawful.greatest, difference.least, difference.greatest) in
+    let sum_is : to_z w32 (of_z w32 (now +ℤ e.weight)) ≡ now +ℤ e.weight =
+    omega (arith, ints, so_far.lawful.least, so_far.lawful.greatest, difference.least, difference.greatest) in
     let asked = rw (now_is, edge_is, sum_is) at c.is_lawful_weight.ensures.1 in
     passed_stops c.args.edges.now c.args.x c.args.weight c.loop-edge.edge-index d now c.loop-edge-test.true so_far before
     (λ lawful. both_ways c.is_lawful_weight.result c.if-not-is_lawful_weight.true (asked lawful))
@@ -36,7 +37,10 @@ loop-edge-preserved c =
     let difference = All-get_or (λ e. IsDifference e.weight) c.args.edges.now c.loop-edge.edge-index d c.loop-edge-test.true c.requires.differences in
     let now_is : to_z w32 (of_z w32 now) ≡ now = omega (arith, ints, so_far.lawful.least, so_far.lawful.greatest) in
     let edge_is : to_z w32 (of_z w32 e.weight) ≡ e.weight = omega (arith, ints, difference.least, difference.greatest) in
-    let sum_is : to_z w32 (of_z w32 (now +ℤ e.weight)) ≡ now +ℤ e.weight = omega (arith, ints, so_far.lawful.least, so_far.lawful.greatest, difference.least, difference.greatest) in
+    let sum_is : to_z w32 (of_z w32 (now +ℤ e.weight)) ≡ now +ℤ e.weight =
+    omega (arith, ints, so_far.lawful.least, so_far.lawful.greatest, difference.least, difference.greatest) in
     let lawful = rw (now_is, edge_is, sum_is) at (c.is_lawful_weight.ensures.0 c.if-not-is_lawful_weight.false) in
-    rw (x_is, weight_is, now_is, edge_is, sum_is)
-    (ap (λ n. n + 1) c.loop-edge.invariant.0, passed_more c.args.edges.now c.args.x c.args.weight c.loop-edge.edge-index d now c.loop-edge-test.true so_far before lawful)
+    rw (x_is, weight_is, now_is, edge_is, sum_is) (
+      ap (λ n. n + 1) c.loop-edge.invariant.0,
+      passed_more c.args.edges.now c.args.x c.args.weight c.loop-edge.edge-index d now c.loop-edge-test.true so_far before lawful,
+    )

@@ -14,6 +14,7 @@ returns-in-Some c =
 
 pub returns-in_default : goal.returns-in_default
 returns-in_default c = split_behind c.args.edges.now c.args.x c.requires (elim c.in_default.branch as (λ _. BeginAt c.args.x c.args.edges.now → ⊥) [
-  | in_default-via-in-Some+else-edge-x w ↦ begins_elsewhere c.args.edges.now w.in-Some.edge.now w.in-Some.rest.now c.args.x w.in-Some.ensures.cases.0 (λ here. w.if-edge-x.false (omega (arith, ints)))
+  | in_default-via-in-Some+else-edge-x w ↦ begins_elsewhere c.args.edges.now w.in-Some.edge.now w.in-Some.rest.now c.args.x w.in-Some.ensures.cases.0
+      (λ here. w.if-edge-x.false (omega (arith, ints)))
   | in_default-via-in_default w ↦ λ here. rw (nil_from_length c.args.edges.now w.in_default.ensures.cases) at here
 ])

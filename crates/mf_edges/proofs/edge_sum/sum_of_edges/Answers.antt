@@ -100,7 +100,13 @@ loop-change-preserved c =
     (change_more _ _ _ _ f _ _ so_far from v _ split lawful)
 
 pub returns-clause-edges : goal.returns-clause-edges
-returns-clause-edges c = rw (c.give_back_room.ensures.items, c.in_ok-extend_from_slice-2.ensures.items) (sum_all c.args.left.now c.args.right.now _ _ _ c.requires.left c.requires.right (rw (nil_from_length c.loop-change.right.now c.in_default.ensures.cases) at c.loop-change.invariant))
+returns-clause-edges c =
+    rw (c.give_back_room.ensures.items, c.in_ok-extend_from_slice-2.ensures.items)
+    (sum_all c.args.left.now c.args.right.now _ _ _ c.requires.left c.requires.right
+    (rw (nil_from_length c.loop-change.right.now c.in_default.ensures.cases) at c.loop-change.invariant))
 
 pub returns-clause-weights : goal.returns-clause-weights
-returns-clause-weights c = rw (c.give_back_room.ensures.items, c.in_ok-extend_from_slice-2.ensures.items) (sum_all_weights c.args.left.now c.args.right.now _ _ _ c.requires.left c.requires.right (rw (nil_from_length c.loop-change.right.now c.in_default.ensures.cases) at c.loop-change.invariant))
+returns-clause-weights c =
+    rw (c.give_back_room.ensures.items, c.in_ok-extend_from_slice-2.ensures.items)
+    (sum_all_weights c.args.left.now c.args.right.now _ _ _ c.requires.left c.requires.right
+    (rw (nil_from_length c.loop-change.right.now c.in_default.ensures.cases) at c.loop-change.invariant))

@@ -3,12 +3,12 @@ use Rattle.std.proofs.lemmas.Int.{ints}
 use Rattle.std.proofs.lemmas.List.{nil_from_length}
 use Rattle.mf_edges.proofs.EdgeSums.{changes_of_edges}
 use Rattle.mf_edges.proofs.EdgesJoined.{difference_is, more_fits, more_is, sum_all, sum_all_weights}
-use Rattle.mf_edges.proofs.ReachesOfSums.{in_reach_left, in_reach_difference, in_reach_more}
-use Rattle.mf_edges.proofs.ReachesOfSums.{lawful_in_reach, in_reach_none, in_reach_sorted}
+use Rattle.mf_edges.proofs.ReachesOfSums.{in_reach_left, in_reach_difference, in_reach_more, lawful_in_reach, in_reach_none, in_reach_sorted}
 use Rattle.mf_edges.proofs.edge_sum.with_changes.Goals as goal
 
 pub loop-change-init : goal.loop-change-init
-loop-change-init c = rw (c.in_ok-reserve.ensures.items, c.new-edges.ensures.items) (in_reach_none c.args.left.now c.args.right.now c.requires.left c.requires.right)
+loop-change-init c =
+    rw (c.in_ok-reserve.ensures.items, c.new-edges.ensures.items) (in_reach_none c.args.left.now c.args.right.now c.requires.left c.requires.right)
 
 pub count_left_of-requires : goal.count_left_of-requires
 count_left_of-requires c = in_reach_sorted _ _ _ _ _ c.loop-change.invariant
@@ -53,9 +53,11 @@ loop-change-preserved c =
 pub returns-clause-edges : goal.returns-clause-edges
 returns-clause-edges c =
     let all = rw (nil_from_length c.loop-change.right.now c.in_default.ensures.cases) at c.loop-change.invariant in
-    rw c.in_ok-extend_from_slice-2.ensures.items (sum_all c.args.left.now c.args.right.now _ _ _ c.requires.left (changes_of_edges _ c.requires.right) all.so_far)
+    rw c.in_ok-extend_from_slice-2.ensures.items
+    (sum_all c.args.left.now c.args.right.now _ _ _ c.requires.left (changes_of_edges _ c.requires.right) all.so_far)
 
 pub returns-clause-weights : goal.returns-clause-weights
 returns-clause-weights c =
     let all = rw (nil_from_length c.loop-change.right.now c.in_default.ensures.cases) at c.loop-change.invariant in
-    rw c.in_ok-extend_from_slice-2.ensures.items (sum_all_weights c.args.left.now c.args.right.now _ _ _ c.requires.left (changes_of_edges _ c.requires.right) all.so_far)
+    rw c.in_ok-extend_from_slice-2.ensures.items
+    (sum_all_weights c.args.left.now c.args.right.now _ _ _ c.requires.left (changes_of_edges _ c.requires.right) all.so_far)

@@ -1,6 +1,6 @@
 use Rattle.std.proofs.Common.{refl}
+use Rattle.mf_show.proofs.LeastBoxes.{least_box_is, no_box}
 use Rattle.mf_frame.specs.Frames.{frame_text}
-use Rattle.mf_frame.proofs.LeastBoxes.{least_box_is, no_box}
 use Rattle.mf_frame.proofs.frame.draw.Goals as goal
 
 pub returns-in-Some : goal.returns-in-Some

@@ -1,9 +1,10 @@
 use Rattle.std.proofs.Common.{◌≡◌, to_z, of_z, w64, refl, arith}
 use Rattle.std.proofs.lemmas.Int.{ints}
 use Rattle.mf_rows.specs.Dots.{total_of}
+use Rattle.mf_show.proofs.LeastBoxes.{least_box_of_field}
 use Rattle.mf_frame.specs.Frames.{box_frame}
+use Rattle.mf_frame.proofs.DotsInWindow.{all_in_window}
 use Rattle.mf_frame.proofs.FrameLines.{drawn_lines}
-use Rattle.mf_frame.proofs.LeastBoxes.{all_in_window, least_box_of_field}
 use Rattle.mf_frame.proofs.Windows.{is_scale, stays_scale}
 use Rattle.mf_frame.proofs.frame.draw_box.Goals as goal
 
@@ -12,8 +13,7 @@ fitting-window-requires c = least_box_of_field _ _ c.total-total.ensures.lawful 
 
 pub cells_of-requires-clause-dots : goal.cells_of-requires-clause-dots
 cells_of-requires-clause-dots c =
-    let field = least_box_of_field _ _ c.total-total.ensures.lawful c.requires in
-    rw c.fitting-window.ensures.value (all_in_window _ _ _ (is_scale c.args.canvas c.args.bounds.now).least c.requires field)
+    rw c.fitting-window.ensures.value (all_in_window _ _ _ (is_scale c.args.canvas c.args.bounds.now).least c.requires)
 
 pub push_measures-requires : goal.push_measures-requires
 push_measures-requires c = least_box_of_field _ _ c.total-total.ensures.lawful c.requires

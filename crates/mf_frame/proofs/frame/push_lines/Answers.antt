@@ -9,9 +9,12 @@ loop-above-init c = lines_none _ _ _ _
 pub loop-above-preserved : goal.loop-above-preserved
 loop-above-preserved c =
     let next : c.loop-above.above ≡ suc (c.loop-above.above - 1) = omega (arith, c.loop-above-test.true) in
-    lines_more _ _ _ _ _ _ _ c.in_ok-push_line.ensures (subst (λ n. AreLinesSoFar c.args.style (shade_in c.args.window.now c.args.shades.now) c.args.window.now c.args.text.now.items n c.loop-above.text.items) next c.loop-above.invariant)
+    lines_more _ _ _ _ _ _ _ c.in_ok-push_line.ensures (subst (λ n. AreLinesSoFar c.args.style
+    (shade_in c.args.window.now c.args.shades.now) c.args.window.now c.args.text.now.items n c.loop-above.text.items) next c.loop-above.invariant)
 
 pub returns : goal.returns
 returns c =
     let none : c.loop-above.above ≡ 0 = omega (arith, c.loop-above-test.false) in
-    lines_all _ _ _ _ _ (subst (λ n. AreLinesSoFar c.args.style (shade_in c.args.window.now c.args.shades.now) c.args.window.now c.args.text.now.items n c.loop-above.text.items) none c.loop-above.invariant)
+    lines_all _ _ _ _ _ (subst
+    (λ n. AreLinesSoFar c.args.style
+    (shade_in c.args.window.now c.args.shades.now) c.args.window.now c.args.text.now.items n c.loop-above.text.items) none c.loop-above.invariant)

@@ -6,21 +6,21 @@ use Rattle.mf_geom.specs.Sum.{sum_below}
 use Rattle.mf_geom.proofs.PartialSums.{IsSumTo-none, IsSumTo-more}
 use Rattle.mf_geom.proofs.path.area.Goals as goal
 
-pub loop-edge-init : goal.loop-edge-init
-loop-edge-init c = IsSumTo-none _ _
+pub loop-segment-init : goal.loop-segment-init
+loop-segment-init c = IsSumTo-none _ _
 
-pub loop-edge-preserved : goal.loop-edge-preserved
-loop-edge-preserved c =
-    let so_far = to_z w64 c.loop-edge.doubled-bits in
-    let part = shoelace_at c.args.points.now c.loop-edge.edge in
+pub loop-segment-preserved : goal.loop-segment-preserved
+loop-segment-preserved c =
+    let so_far = to_z w64 c.loop-segment.doubled-bits in
+    let part = shoelace_at c.args.points.now c.loop-segment.segment in
     let widened = c.from-doubled.ensures in
     let sum : to_z w64 (of_z w64 (so_far +ℤ to_z w64 (of_z w64 c.from-doubled.result))) ≡ so_far +ℤ part = omega (arith, ints) in
-    rw sum (IsSumTo-more _ _ _ _ c.loop-edge.invariant (omega (arith, ints)) (omega (arith, ints)))
+    rw sum (IsSumTo-more _ _ _ _ c.loop-segment.invariant (omega (arith, ints)) (omega (arith, ints)))
 
 pub returns : goal.returns
 unfolding area
 returns c =
-    let sum = to_z w64 c.loop-edge.doubled-bits in
-    let whole : c.loop-edge.edge ≡ length c.args.points.now = omega arith in
+    let sum = to_z w64 c.loop-segment.doubled-bits in
+    let whole : c.loop-segment.segment ≡ length c.args.points.now = omega arith in
     to_z-of_z w64 (int_div sum (pos 2)) (quot_fits w64 sum (pos 2) (search rules) (omega (arith, ints)))
-    ∙ ap (λ s. int_div s (pos 2)) (c.loop-edge.invariant.value ∙ ap (λ n. sum_below n (shoelace_at c.args.points.now)) whole)
+    ∙ ap (λ s. int_div s (pos 2)) (c.loop-segment.invariant.value ∙ ap (λ n. sum_below n (shoelace_at c.args.points.now)) whole)

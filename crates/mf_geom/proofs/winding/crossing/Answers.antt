@@ -21,6 +21,7 @@ returns-clause-value c =
     let to_is : to_z w32 (of_z w32 to.y) ≡ to.y = omega (arith, ints) in
     let below_to : c.passed.result ≡ passed c.args.y to.y = c.passed.ensures.value ∙ (λ t. passed (y_is t) (to_is t)) in
     let below_from : c.passed-2.result ≡ passed c.args.y from.y = c.passed-2.ensures.value ∙ (λ t. passed (y_is t) (from_is t)) in
-    let difference : to_z w32 (of_z w32 (to_z w32 (of_z w32 c.passed.result) -ℤ to_z w32 (of_z w32 c.passed-2.result))) ≡ c.passed.result -ℤ c.passed-2.result = omega (arith, ints) in
+    let difference : to_z w32 (of_z w32 (to_z w32 (of_z w32 c.passed.result) -ℤ to_z w32 (of_z w32 c.passed-2.result))) ≡ c.passed.result -ℤ c.passed-2.result =
+    omega (arith, ints) in
     let reached = passed-reached c.args.x from.x (omega (arith, ints)) in
     rw (difference, below_to, below_from, ← c.ends.ensures.from, ← c.ends.ensures.to, reached) (omega (arith, ints))

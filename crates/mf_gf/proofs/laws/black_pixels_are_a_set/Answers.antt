@@ -41,7 +41,8 @@ ones-black (d ∷ ds) =
     (λ no. ones-black ds)
 
 -- after a dot there is no other one at the same pixel
-none_behind : (low : ℤ) (d : Dot) (ds : List Dot) (x y : ℤ) → AreDotsFrom low (d ∷ ds) → (int_eq d.x x && int_eq d.y y) ≡ true → weight_at (black ds) x y ≡ pos 0
+none_behind : (low : ℤ) (d : Dot) (ds : List Dot) (x y : ℤ) → AreDotsFrom low (d ∷ ds)
+    → (int_eq d.x x && int_eq d.y y) ≡ true → weight_at (black ds) x y ≡ pos 0
 none_behind low d ds x y dots at =
     let parts = and_parts (int_eq d.x x) (int_eq d.y y) at in
     let column = (Decides-int_eq d.x x).0 parts.0 in

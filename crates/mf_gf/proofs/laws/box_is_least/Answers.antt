@@ -7,7 +7,7 @@ use Rattle.std.proofs.lemmas.Int.{ints, clamps}
 use Rattle.std.proofs.lemmas.List.Elements.{All-cons, All-nil, All-weaker}
 use Rattle.mf_rows.specs.Dots.{Dot}
 use Rattle.mf_gf.specs.declared.boxes.CharacterBox.{CharacterBox}
-use Rattle.mf_gf.specs.Boxes.{IsLeastBox, IsWithin, box_of, box_of_pixel, joined}
+use Rattle.mf_gf.specs.Boxes.{IsLeastBox, IsWithin, box_of, box_of_pixel, join}
 use Rattle.mf_gf.proofs.laws.box_is_least.Goals as goal
 
 any_here : (P : Dot → Type 0) (d : Dot) (ds : List Dot) → P d → Any P (d ∷ ds)
@@ -29,11 +29,21 @@ least_of_pixel d ds others = record {
   top = any_here (λ e. e.y ≡ d.y) d ds refl;
 }
 
-within_first : (a b : CharacterBox) (d : Dot) → IsWithin a d → IsWithin (joined a b) d
-within_first a b d inside = record { left = omega (arith, ints, clamps, inside.left); right = omega (arith, ints, clamps, inside.right); bottom = omega (arith, ints, clamps, inside.bottom); top = omega (arith, ints, clamps, inside.top) }
+within_first : (a b : CharacterBox) (d : Dot) → IsWithin a d → IsWithin (join a b) d
+within_first a b d inside = record {
+  left = omega (arith, ints, clamps, inside.left);
+  right = omega (arith, ints, clamps, inside.right);
+  bottom = omega (arith, ints, clamps, inside.bottom);
+  top = omega (arith, ints, clamps, inside.top);
+}
 
-within_second : (a b : CharacterBox) (d : Dot) → IsWithin b d → IsWithin (joined a b) d
-within_second a b d inside = record { left = omega (arith, ints, clamps, inside.left); right = omega (arith, ints, clamps, inside.right); bottom = omega (arith, ints, clamps, inside.bottom); top = omega (arith, ints, clamps, inside.top) }
+within_second : (a b : CharacterBox) (d : Dot) → IsWithin b d → IsWithin (join a b) d
+within_second a b d inside = record {
+  left = omega (arith, ints, clamps, inside.left);
+  right = omega (arith, ints, clamps, inside.right);
+  bottom = omega (arith, ints, clamps, inside.bottom);
+  top = omega (arith, ints, clamps, inside.top);
+}
 
 -- the minimum, or the maximum, of two numbers is one of them
 either_min : (P : ℤ → Type 0) (x y : ℤ) → P x → P y → P (int_min x y)
@@ -43,16 +53,18 @@ either_max : (P : ℤ → Type 0) (x y : ℤ) → P x → P y → P (int_max x y
 either_max P x y first second = cond_both (int_lt y x) x y P (λ _. first) (λ _. second)
 
 -- the box is least also with one more pixel
-least_of_more : (d : Dot) (ds : List Dot) (b : CharacterBox) → IsLeastBox ds b → IsLeastBox (d ∷ ds) (joined (box_of_pixel d) b)
+least_of_more : (d : Dot) (ds : List Dot) (b : CharacterBox) → IsLeastBox ds b → IsLeastBox (d ∷ ds) (join (box_of_pixel d) b)
 least_of_more d ds b others =
     let a = box_of_pixel d in
     let at_left = λ (m : ℤ) (e : Dot). e.x ≡ m in
     let at_right = λ (m : ℤ) (e : Dot). (e.x +ℤ pos 1) ≡ m in
     let in_row = λ (n : ℤ) (e : Dot). e.y ≡ n in
     record {
-      within = All-cons (IsWithin (joined a b)) d ds (within_first a b d (within_pixel d)) (All-weaker (IsWithin b) (IsWithin (joined a b)) (within_second a b) ds others.within);
+      within = All-cons (IsWithin (join a b)) d ds (within_first a b d (within_pixel d))
+          (All-weaker (IsWithin b) (IsWithin (join a b)) (within_second a b) ds others.within);
       left = either_min (λ m. Any (at_left m) (d ∷ ds)) a.min_m b.min_m (any_here (at_left a.min_m) d ds refl) (any_later (at_left b.min_m) d ds others.left);
-      right = either_max (λ m. Any (at_right m) (d ∷ ds)) a.max_m b.max_m (any_here (at_right a.max_m) d ds refl) (any_later (at_right b.max_m) d ds others.right);
+      right = either_max (λ m. Any (at_right m) (d ∷ ds)) a.max_m b.max_m (any_here (at_right a.max_m) d ds refl)
+          (any_later (at_right b.max_m) d ds others.right);
       bottom = either_min (λ n. Any (in_row n) (d ∷ ds)) a.min_n b.min_n (any_here (in_row a.min_n) d ds refl) (any_later (in_row b.min_n) d ds others.bottom);
       top = either_max (λ n. Any (in_row n) (d ∷ ds)) a.max_n b.max_n (any_here (in_row a.max_n) d ds refl) (any_later (in_row b.max_n) d ds others.top);
     }

@@ -37,7 +37,8 @@ module _ (words : FontWords) (comment : List ℕ) (cs : List Character) (shippab
       record { dx = there.shippable.dx; width = there.shippable.width; place = omega (arith, there.before, shippable.short) }
 
   stand_in_file : AllStand file shipped
-  stand_in_file = let begins = file-begins words comment cs in subst (λ it. AllStand it shipped) (sym begins.1) (all_before (front comment cs) begins.0 shipped stand)
+  stand_in_file =
+      let begins = file-begins words comment cs in subst (λ it. AllStand it shipped) (sym begins.1) (all_before (front comment cs) begins.0 shipped stand)
 
   leads : (l : Locator) → IsLastFrom shipped 0 l → LeadsToAll file cs l
   leads l from =
@@ -55,12 +56,15 @@ module _ (words : FontWords) (comment : List ℕ) (cs : List Character) (shippab
         width = ap (λ (it : Locator). it.width) from.is;
         back =
             subst (λ p. LeadsBack file p (s.character ∷ first.others)) (sym at)
-            (subst (LeadsBack file (pos s.place)) first.all (subst (λ last. LeadsBack file (pointer (option_map (λ (it : Shipment). it.place) last)) (of_code code (map character_of shipped))) from.last back));
+            (subst (LeadsBack file (pos s.place)) first.all (subst
+            (λ last. LeadsBack file (pointer (option_map (λ (it : Shipment). it.place) last)) (of_code code (map character_of shipped))) from.last back));
       }
 
   shipped_is_found : (code : ℕ) → HasCode code cs → Any (λ (l : Locator). l.code ≡ code) locators
   shipped_is_found code (k, d, within, at, same) =
-      let last = some_last (last_of code shipped) (has_last-shipped code comment cs ∙ list_any-from_Any (λ (c : Character). c.code == code) cs (k, d, within, at, eq-eqb _ _ same)) in
+      let last =
+      some_last (last_of code shipped)
+      (has_last-shipped code comment cs ∙ list_any-from_Any (λ (c : Character). c.code == code) cs (k, d, within, at, eq-eqb _ _ same)) in
       let fits = (shippable.each k d within).code in
       let small : code < 256 = omega (arith, ap (λ (it : Character). it.code) at, same, fits) in
       let there = Any-from_list_any (λ (l : Locator). l.code == code) locators (lasts_have shipped code last.0 0 256 last.1 (omega arith) small) in
@@ -81,5 +85,6 @@ returns c = λ words comment cs shippable.
       read = locators_found words comment cs shippable.short (readable words comment cs shippable);
       rise = lasts_rise shipped 0 256;
       codes = λ code. (shipped_is_found words comment cs shippable code, found_is_shipped words comment cs shippable code);
-      lead = All-weaker (IsLastFrom shipped 0) (LeadsToAll (file_of words comment cs) cs) (leads words comment cs shippable) (lasts_from 0 256 shipped) (lasts_are_last shipped 0 256);
+      lead = All-weaker (IsLastFrom shipped 0) (LeadsToAll (file_of words comment cs) cs)
+          (leads words comment cs shippable) (lasts_from 0 256 shipped) (lasts_are_last shipped 0 256);
     }

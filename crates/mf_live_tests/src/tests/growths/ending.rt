@@ -2,7 +2,7 @@
 
 use super::{assert_published, assert_waiting};
 use crate::tests::{
-    Pixels, RECT_RUNS, assert_sees, assert_tells, close, fill, opened, publish_rectangle, seated,
+    Pixels, RECT_RUNS, assert_sees, assert_tells, close, fill, open, publish_rectangle, take_viewer,
 };
 use mf_live::{CloseFault, Closing, Ended, Viewer, Writer};
 use mf_testing::{grow_again, refuse_growths};
@@ -11,7 +11,7 @@ use std::process::Abort;
 use std::sync::Wait;
 
 /// Publishes the end once more, with ample memory.
-fn published_again<R: Abort + Wait>(rt: &R, closing: Closing) -> Ended {
+fn publish_again<R: Abort + Wait>(rt: &R, closing: Closing) -> Ended {
     match closing.publish(rt) {
         Ok(ended) => ended,
         Err(closing) => {
@@ -44,7 +44,7 @@ fn assert_closed<R: Abort + Wait>(
         }
         Err(CloseFault::Halfway(closing)) => {
             viewer = assert_sees(rt, viewer, published, runs);
-            published_again(rt, closing)
+            publish_again(rt, closing)
         }
     };
     assert_tells(rt, &ended.notice(), 1);
@@ -55,8 +55,8 @@ fn assert_closed<R: Abort + Wait>(
 #[test]
 fn closes_a_picture_whose_rectangle_is_pending(rt: HostRuntime) {
     let alloc = rt.alloc();
-    let (mut writer, mut desk) = opened(&rt, alloc, 1, 10);
-    let viewer = assert_sees(&rt, seated(&rt, &mut desk), 0, &[]);
+    let (mut writer, mut desk) = open(&rt, alloc, 1, 10);
+    let viewer = assert_sees(&rt, take_viewer(&rt, &mut desk), 0, &[]);
     fill(&rt, alloc, &mut writer);
     assert_closed(&rt, alloc, writer, viewer, (0, &[]));
 }
@@ -64,8 +64,8 @@ fn closes_a_picture_whose_rectangle_is_pending(rt: HostRuntime) {
 #[test]
 fn closes_a_picture_whose_rectangle_is_published(rt: HostRuntime) {
     let alloc = rt.alloc();
-    let (mut writer, mut desk) = opened(&rt, alloc, 1, 10);
-    let viewer = assert_sees(&rt, seated(&rt, &mut desk), 0, &[]);
+    let (mut writer, mut desk) = open(&rt, alloc, 1, 10);
+    let viewer = assert_sees(&rt, take_viewer(&rt, &mut desk), 0, &[]);
     publish_rectangle(&rt, alloc, &mut writer);
     assert_closed(&rt, alloc, writer, viewer, (1, RECT_RUNS));
 }

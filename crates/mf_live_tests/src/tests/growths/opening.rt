@@ -3,9 +3,9 @@
 use super::assert_waiting;
 use crate::tests::assertions::assert_same;
 use crate::tests::{
-    RECT_RUNS, assert_no_place, assert_sees, assert_tells, opened, publish_rectangle, seated,
+    RECT_RUNS, assert_no_place, assert_sees, assert_tells, open, publish_rectangle, take_viewer,
 };
-use mf_geom::OutOfMemory;
+use mf_base::OutOfMemory;
 use mf_live::{Desk, Writer, open_picture};
 use mf_testing::{grow_again, refuse_growths};
 use std::alloc::Global;
@@ -13,7 +13,7 @@ use std::process::Abort;
 use std::sync::Wait;
 
 /// The picture that was opened for three viewers or, where that failed, one that is opened with ample memory.
-fn opened_again<R: Abort + Wait>(
+fn open_again<R: Abort + Wait>(
     rt: &R,
     alloc: Global,
     found: Result<(Writer, Desk), OutOfMemory>,
@@ -22,7 +22,7 @@ fn opened_again<R: Abort + Wait>(
         Ok(opened) => opened,
         Err(fault) => {
             assert_same(rt, fault, OutOfMemory, "a new picture");
-            opened(rt, alloc, 3, 10)
+            open(rt, alloc, 3, 10)
         }
     }
 }
@@ -34,7 +34,11 @@ fn assert_three_places<R: Abort + Wait>(
     writer: &mut Writer,
     desk: &mut Desk,
 ) {
-    let (first, second, third) = (seated(rt, desk), seated(rt, desk), seated(rt, desk));
+    let (first, second, third) = (
+        take_viewer(rt, desk),
+        take_viewer(rt, desk),
+        take_viewer(rt, desk),
+    );
     assert_no_place(rt, desk);
     let first = assert_sees(rt, first, 0, &[]);
     publish_rectangle(rt, alloc, writer);
@@ -49,7 +53,7 @@ fn opens_a_picture_with_three_places(rt: HostRuntime) {
     refuse_growths(alloc);
     let found = open_picture(&rt, alloc, 3, 10);
     grow_again(alloc);
-    let (mut writer, mut desk) = opened_again(&rt, alloc, found);
+    let (mut writer, mut desk) = open_again(&rt, alloc, found);
     assert_waiting(&rt, &writer, (0, 0), &[]);
     assert_tells(&rt, &writer.tell(), 0);
     assert_three_places(&rt, alloc, &mut writer, &mut desk);

@@ -1,6 +1,6 @@
 //! Operations that are applied.
 
-use super::{MOVED, assert_waiting, moved};
+use super::{MOVED, assert_waiting, open_moved};
 use crate::tests::assertions::{assert_holds, assert_same};
 use crate::tests::{Pixels, RECT_RUNS, apply, assert_sees, contour, picture, publish};
 use mf_live::{Fault, Writer};
@@ -11,7 +11,7 @@ use std::process::Abort;
 use std::sync::Wait;
 
 /// Applies an operation while allocations are refused.
-fn applied_while_refused(alloc: Global, writer: &mut Writer, op: Op) -> Result<(), (Op, Fault)> {
+fn apply_while_refused(alloc: Global, writer: &mut Writer, op: Op) -> Result<(), (Op, Fault)> {
     refuse_growths(alloc);
     let applied = writer.apply(alloc, op);
     grow_again(alloc);
@@ -49,8 +49,8 @@ fn assert_handed_back(rt: &impl Abort, writer: &Writer, back: &Op, same: &Op, fa
 /// back as `same`, and viewers see nothing of it. Finally the picture has exactly these runs, and viewers see them once they are
 /// published.
 fn assert_accepted<R: Abort + Wait>(rt: &R, alloc: Global, op: Op, same: &Op, runs: &[Pixels]) {
-    let (mut writer, viewer) = moved(rt, alloc);
-    let applied = applied_while_refused(alloc, &mut writer, op);
+    let (mut writer, viewer) = open_moved(rt, alloc);
+    let applied = apply_while_refused(alloc, &mut writer, op);
     let viewer = assert_sees(rt, viewer, 1, RECT_RUNS);
     if let Err((back, fault)) = applied {
         assert_handed_back(rt, &writer, &back, same, fault);
@@ -164,7 +164,7 @@ fn a_quarter_turn_is_accepted(rt: HostRuntime) {
 const HEAVY: &[Pixels] = &[(20, 0, 2, 5), (14, 1, 1, 1), (13, 2, 1, 32767)];
 
 /// The operation that comes back as `same` when it is refused, and its fault. The moved rectangle is as it was.
-fn refused(
+fn refused_operation(
     rt: &impl Abort,
     writer: &Writer,
     applied: Result<(), (Op, Fault)>,
@@ -187,14 +187,14 @@ fn a_sum_that_weighs_too_much_is_refused(rt: HostRuntime) {
     let too_large = Fault::Refused(OpFault::WeightTooLarge);
     let same = also(&rt, alloc, HEAVY, Sign::Plus);
     let op = also(&rt, alloc, HEAVY, Sign::Plus);
-    let (mut writer, viewer) = moved(&rt, alloc);
-    let applied = applied_while_refused(alloc, &mut writer, op);
-    let (back, fault) = refused(&rt, &writer, applied, &same);
+    let (mut writer, viewer) = open_moved(&rt, alloc);
+    let applied = apply_while_refused(alloc, &mut writer, op);
+    let (back, fault) = refused_operation(&rt, &writer, applied, &same);
     if fault != Fault::Refused(OpFault::OutOfMemory) {
         assert_same(&rt, fault, too_large, "the sum");
     }
     let applied = writer.apply(alloc, back);
-    let (_, fault) = refused(&rt, &writer, applied, &same);
+    let (_, fault) = refused_operation(&rt, &writer, applied, &same);
     assert_same(&rt, fault, too_large, "the sum again");
     assert_sees(&rt, viewer, 1, RECT_RUNS);
     writer.discard(&rt);

@@ -1,9 +1,9 @@
 //! What is published.
 
-use super::{MOVED, assert_published, assert_waiting, moved};
+use super::{MOVED, assert_published, assert_waiting, open_moved};
 use crate::tests::assertions::assert_same;
-use crate::tests::{Pixels, RECT_RUNS, apply, assert_sees, fill, opened, publish, seated};
-use mf_geom::OutOfMemory;
+use crate::tests::{Pixels, RECT_RUNS, apply, assert_sees, fill, open, publish, take_viewer};
+use mf_base::OutOfMemory;
 use mf_live::{Viewer, Writer};
 use mf_ops::Op;
 use mf_testing::{grow_again, refuse_growths};
@@ -39,7 +39,7 @@ fn assert_move_is_published<R: Abort + Wait>(
 #[test]
 fn an_operation_is_published(rt: HostRuntime) {
     let alloc = rt.alloc();
-    let (mut writer, viewer) = moved(&rt, alloc);
+    let (mut writer, viewer) = open_moved(&rt, alloc);
     assert_move_is_published(&rt, alloc, &mut writer, viewer, RECT_RUNS);
     writer.discard(&rt);
 }
@@ -48,8 +48,8 @@ fn an_operation_is_published(rt: HostRuntime) {
 #[test]
 fn several_operations_are_published_at_once(rt: HostRuntime) {
     let alloc = rt.alloc();
-    let (mut writer, mut desk) = opened(&rt, alloc, 1, 10);
-    let viewer = assert_sees(&rt, seated(&rt, &mut desk), 0, &[]);
+    let (mut writer, mut desk) = open(&rt, alloc, 1, 10);
+    let viewer = assert_sees(&rt, take_viewer(&rt, &mut desk), 0, &[]);
     fill(&rt, alloc, &mut writer);
     apply(&rt, alloc, &mut writer, Op::Shift(0, 13));
     apply(&rt, alloc, &mut writer, Op::Shift(1, 0));

@@ -1,10 +1,10 @@
 //! Sheets that are taken.
 
-use super::{MOVED, moved};
+use super::{MOVED, open_moved};
 use crate::tests::assertions::assert_same;
-use crate::tests::sheets::taken;
+use crate::tests::sheets::take;
 use crate::tests::{
-    Pixels, RECT_RUNS, assert_runs, assert_sees, opened, publish, publish_rectangle, seated,
+    Pixels, RECT_RUNS, assert_runs, assert_sees, open, publish, publish_rectangle, take_viewer,
 };
 use mf_live::{Sheet, SheetFault, Viewer};
 use mf_testing::{grow_again, refuse_growths};
@@ -35,7 +35,7 @@ fn assert_taken(
         Err(fault) => {
             assert_same(rt, fault, SheetFault::OutOfMemory, "the sheet");
             viewer = assert_sees(rt, viewer, revision, runs);
-            assert_sheet(rt, &taken(rt, alloc, &mut viewer), revision, runs);
+            assert_sheet(rt, &take(rt, alloc, &mut viewer), revision, runs);
         }
     }
     assert_sees(rt, viewer, revision, runs)
@@ -44,9 +44,9 @@ fn assert_taken(
 #[test]
 fn a_first_sheet_is_taken(rt: HostRuntime) {
     let alloc = rt.alloc();
-    let (mut writer, mut desk) = opened(&rt, alloc, 1, 10);
+    let (mut writer, mut desk) = open(&rt, alloc, 1, 10);
     publish_rectangle(&rt, alloc, &mut writer);
-    assert_taken(&rt, alloc, seated(&rt, &mut desk), 1, RECT_RUNS);
+    assert_taken(&rt, alloc, take_viewer(&rt, &mut desk), 1, RECT_RUNS);
     writer.discard(&rt);
 }
 
@@ -54,8 +54,8 @@ fn a_first_sheet_is_taken(rt: HostRuntime) {
 #[test]
 fn a_later_sheet_is_taken(rt: HostRuntime) {
     let alloc = rt.alloc();
-    let (mut writer, mut viewer) = moved(&rt, alloc);
-    let first = taken(&rt, alloc, &mut viewer);
+    let (mut writer, mut viewer) = open_moved(&rt, alloc);
+    let first = take(&rt, alloc, &mut viewer);
     publish(&rt, &mut writer);
     assert_taken(&rt, alloc, viewer, 2, MOVED);
     assert_sheet(&rt, &first, 1, RECT_RUNS);

@@ -1,33 +1,29 @@
-use Rattle.std.proofs.Common.{◌≡◌, Some, to_z, of_z, w32, arith}
+use Rattle.std.proofs.Common.{◌≡◌, to_z, of_z, w32, arith}
 use Rattle.std.proofs.lemmas.Int.{ints}
-use Rattle.mf_geom.specs.Winding.{filling_weight}
+use Rattle.std.proofs.lemmas.Result.{err_from_is_err_and}
+use Rattle.mf_geom.specs.declared.check.Check.TheVariants.{Off}
 use Rattle.mf_ops.specs.declared.op.Op.TheVariants.{Contour}
-use Rattle.mf_ops.specs.declared.op.OpFault.TheVariants.{Cycle}
-use Rattle.mf_ops.specs.Step.{fault_of}
-use Rattle.mf_ops.proofs.Faults.{fault_of-turn, fault_of-unchecked, not_turning, stepped-unchecked}
+use Rattle.mf_ops.proofs.Faults.{HasWeights-same, IsUnlawfulSomewhere-same, made-from_weights, op_fault-sum_fault, unchecked_stays}
+use Rattle.mf_ops.proofs.Sides.{with_corners_at-contour}
 use Rattle.mf_ops.proofs.fill.fill.Goals as goal
 
-pub returns-in-Ok : goal.returns-in-Ok
-returns-in-Ok c =
+pub returns-in_err-add_corners-clause-refused : goal.returns-in_err-add_corners-clause-refused
+returns-in_err-add_corners-clause-refused c =
     let ds = c.args.picture.now in
-    let ps = c.args.cycle.now in
-    let filling_is : to_z w32 (of_z w32 c.in-Ok.weight) ≡ filling_weight c.args.check ps c.args.weight = omega (arith, ints, c.in-Ok.ensures.value) in
-    let is_unchecked = fault_of-unchecked ds ps c.args.weight c.args.check c.in-Ok.ensures.passes in
-    record {
-      step = rw (stepped-unchecked ds ps c.args.weight c.args.check) (rw filling_is at c.with_sides.ensures.step);
-      accepted = rw is_unchecked (rw filling_is at c.with_sides.ensures.accepted);
-      refused = rw is_unchecked (rw filling_is at c.with_sides.ensures.refused);
-      turning = λ fault found. absurd (not_turning ds (Contour ps c.args.weight c.args.check) fault (record { none = c.in-Ok.ensures.passes }) found);
-    }
+    let op = Contour c.args.cycle.now c.args.weight Off in
+    let weight_is : to_z w32 (of_z w32 c.args.weight) ≡ c.args.weight = omega (arith, ints) in
+    let same = with_corners_at-contour ds c.args.cycle.now c.args.weight _ (rw weight_is at c.in_ok-corners.ensures.added) in
+    let passed_on = err_from_is_err_and c.from_residual-in_err-add_corners.result c.from_residual-in_err-add_corners.ensures.1 in
+    rw (passed_on.1, passed_on.2)
+    (op_fault-sum_fault ds op _ (unchecked_stays ds _ _) (λ other. IsUnlawfulSomewhere-same _ _ same (c.in_err-add_corners.ensures.too_large other)))
 
-pub returns-in-Err : goal.returns-in-Err
-returns-in-Err c =
+pub returns : goal.returns
+returns c =
     let ds = c.args.picture.now in
-    let op = Contour c.args.cycle.now c.args.weight c.args.check in
-    let first : fault_of ds op ≡ Some (Cycle c.in-Err.fault) = fault_of-turn ds op (Cycle c.in-Err.fault) c.in-Err.ensures.refused in
-    record {
-      step = tt;
-      accepted = tt;
-      refused = λ _. first;
-      turning = λ fault found. cc;
-    }
+    let op = Contour c.args.cycle.now c.args.weight Off in
+    let weight_is : to_z w32 (of_z w32 c.args.weight) ≡ c.args.weight = omega (arith, ints) in
+    let same = with_corners_at-contour ds c.args.cycle.now c.args.weight _ (rw weight_is at c.in_ok-corners.ensures.added) in
+    let has = HasWeights-same _ _ _ same c.in_ok-add_corners.ensures.weights in
+    let picture = c.in_ok-add_corners.ensures.lawful in
+    let made = made-from_weights ds op _ (unchecked_stays ds _ _) picture has in
+    record { step = made.0; accepted = made.1; unchanged = tt; refused = tt }

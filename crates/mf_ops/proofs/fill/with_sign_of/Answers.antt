@@ -17,7 +17,9 @@ returns c =
     let sign : ℤ = int_signum c.args.turning in
     let turns_is : to_z w32 (of_z w32 c.args.turning) ≡ c.args.turning = omega (arith, ints) in
     let sign_is : c.signum.result ≡ sign = c.signum.ensures.value ∙ ap int_signum turns_is in
-    let bounds = signed_bounds w sign c.get.ensures.lawful.least c.get.ensures.lawful.greatest (rw sign_is at c.signum.ensures.lower_bound) (rw sign_is at c.signum.ensures.upper_bound) in
+    let bounds =
+    signed_bounds w sign c.get.ensures.lawful.least c.get.ensures.lawful.greatest
+    (rw sign_is at c.signum.ensures.lower_bound) (rw sign_is at c.signum.ensures.upper_bound) in
     let weight_is : to_z w32 (of_z w32 c.get.result) ≡ w = omega (arith, ints) in
     let factor_is : to_z w32 (of_z w32 c.signum.result) ≡ sign = omega (arith, ints) in
     let value : to_z w32 (of_z w32 (w *ℤ sign)) ≡ w *ℤ sign = omega (arith, ints, bounds.0, bounds.1) in

@@ -6,7 +6,7 @@ use Rattle.mf_rows.specs.Dots.{Dot, IsPicture, start_of_field, weight_at}
 use Rattle.mf_rows.proofs.DotsLemmas.{dots_from-lawful}
 use Rattle.mf_rows.proofs.WeightsLemmas.{lawful_weight_at}
 use Rattle.mf_ops.specs.Cull.{is_within}
-use Rattle.mf_ops.specs.Moves.{scale_source, turned_by}
+use Rattle.mf_ops.specs.Moves.{scale_source, turn_by}
 use Rattle.mf_ops.specs.declared.cull.CullRule.TheVariants.{Keeping, Dropping}
 use Rattle.mf_ops.specs.declared.op.Op.TheVariants as ops
 use Rattle.mf_ops.specs.declared.quarter.Quarter.{Quarter}
@@ -21,7 +21,7 @@ zero_is_lawful = record { least = omega (arith, ints); greatest = omega (arith, 
 lawful_at : (ds : List Dot) → IsPicture ds → (x y : ℤ) → IsLawfulWeight (weight_at ds x y)
 lawful_at ds picture x y = lawful_weight_at ds x y (dots_from-lawful start_of_field ds picture.dots)
 
-lawful_turned : (q : Quarter) (ds : List Dot) → IsPicture ds → (x y : ℤ) → IsLawfulWeight (turned_by q (weight_at ds) x y)
+lawful_turned : (q : Quarter) (ds : List Dot) → IsPicture ds → (x y : ℤ) → IsLawfulWeight (turn_by q (weight_at ds) x y)
 lawful_turned Once ds picture x y = lawful_at ds picture _ _
 lawful_turned Twice ds picture x y = lawful_at ds picture _ _
 lawful_turned Thrice ds picture x y = lawful_at ds picture _ _

@@ -8,7 +8,8 @@ pub returns-clause-scale : goal.returns-clause-scale
 returns-clause-scale c ds s picture factors = (scale-refused ds s picture factors, scale-outside ds s factors)
 
 pub returns-clause-contour : goal.returns-clause-contour
-returns-clause-contour c ds ps w check picture cycle = contour-inside ds ps w check picture (λ x y outside. c.nothing_outside_the_field.ensures ps x y cycle outside)
+returns-clause-contour c ds ps w check picture cycle =
+    contour-inside ds ps w check picture (λ x y outside. c.nothing_outside_the_field.ensures ps x y cycle outside)
 
 pub returns-clause-also : goal.returns-clause-also
 returns-clause-also c = also-inside

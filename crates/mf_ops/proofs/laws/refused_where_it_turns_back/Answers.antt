@@ -1,17 +1,17 @@
 use Rattle.std.proofs.Common.{refl, sym, ap, ◌∙◌}
 use Rattle.std.specs.Option.{option_map}
-use Rattle.mf_geom.proofs.FirstFaults.{fault_of-fault, fault_of-rectilinear, fault-fault_of}
+use Rattle.mf_geom.proofs.FirstFaults.{cycle_fault_of-fault, cycle_fault_of-rectilinear, fault-cycle_fault_of}
 use Rattle.mf_ops.specs.declared.op.Op.TheVariants.{Contour}
 use Rattle.mf_ops.specs.declared.op.OpFault.TheVariants.{Cycle}
 use Rattle.mf_geom.specs.declared.check.Check.TheVariants.{On}
-use Rattle.mf_ops.proofs.Faults.{fault_of-turn, turning_fault-refused, not_turning}
+use Rattle.mf_ops.proofs.Faults.{op_fault-turn, turning_fault-refused, not_turning}
 use Rattle.mf_ops.proofs.laws.refused_where_it_turns_back.Goals as goal
 
 pub returns-clause-checked : goal.returns-clause-checked
 returns-clause-checked c ds ps w fault cycle =
-    let same = fault_of-rectilinear ps cycle in (
-      λ refused. fault-fault_of ps fault (same ∙ turning_fault-refused ds ps w fault refused),
-      λ is. fault_of-turn ds (Contour ps w On) (Cycle fault) (ap (option_map Cycle) (sym same ∙ fault_of-fault ps fault is)),
+    let same = cycle_fault_of-rectilinear ps cycle in (
+      λ refused. fault-cycle_fault_of ps fault (same ∙ turning_fault-refused ds ps w fault refused),
+      λ is. op_fault-turn ds (Contour ps w On) (Cycle fault) (ap (option_map Cycle) (sym same ∙ cycle_fault_of-fault ps fault is)),
     )
 
 pub returns-clause-unchecked : goal.returns-clause-unchecked

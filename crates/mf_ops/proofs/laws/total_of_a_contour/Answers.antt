@@ -11,12 +11,13 @@ use Rattle.mf_geom.specs.Winding.{contour, filling_weight}
 use Rattle.mf_geom.proofs.Areas.{sum_over_field-contour}
 use Rattle.mf_rows.specs.Dots.{total_of, weight_at}
 use Rattle.mf_rows.proofs.FieldTotals.{total_of-picture_of}
-use Rattle.mf_ops.specs.Step.{step_at, stepped}
+use Rattle.mf_ops.specs.Step.{step_at, next_picture}
 use Rattle.mf_ops.specs.declared.op.Op.TheVariants.{Contour}
 use Rattle.mf_ops.proofs.laws.total_of_a_contour.Goals as goal
 
-total : (ps : List Point) (w : ℤ) (check : Check) → IsRectilinearCycle ps → total_of (stepped [] (Contour ps w check)) ≡ filling_weight check ps w *ℤ area ps
-unfolding stepped weight_at
+total : (ps : List Point) (w : ℤ) (check : Check) → IsRectilinearCycle ps
+    → total_of (next_picture [] (Contour ps w check)) ≡ filling_weight check ps w *ℤ area ps
+unfolding next_picture weight_at
 total ps w check cycle =
     let alone : (x y : ℤ) → pos 0 +ℤ contour ps w check x y ≡ contour ps w check x y = λ x y. omega (arith, ints) in
     total_of-picture_of (step_at [] (Contour ps w check))

@@ -3,11 +3,12 @@ use Rattle.std.proofs.Math.Nat.{mul-le-mul}
 use Rattle.std.proofs.lemmas.Bool.{both_ways}
 use Rattle.std.proofs.lemmas.Int.{ints, to_z-of_z, unsigned_abs-mul, fits_signed_from_abs}
 use Rattle.std.specs.Int.RustNames.{unsigned_abs}
+use Rattle.mf_geom.specs.Coordinates.{least_coordinate, greatest_coordinate, IsCoordinate}
 use Rattle.mf_edges.specs.declared.stretch.Stretch.{Stretch}
-use Rattle.mf_edges.specs.Axes.{IsPointInReach, stretched_to}
+use Rattle.mf_edges.specs.Axes.{stretched_to}
 use Rattle.mf_ops.proofs.transform.is_in_reach.Goals as goal
 
-size-at_most : (p : ℤ) → negsuc 4094 ≤ℤ p → p ≤ℤ pos 4095 → unsigned_abs p ≤ 4095
+size-at_most : (p : ℤ) → least_coordinate ≤ℤ p → p ≤ℤ greatest_coordinate → unsigned_abs p ≤ 4095
 size-at_most (pos n) least greatest = omega (arith, ints)
 size-at_most (negsuc n) least greatest = omega (arith, ints)
 
@@ -23,14 +24,14 @@ fits-between : (a : ℤ) → negsuc 8796093022207 ≤ℤ a → a ≤ℤ pos 8796
 fits-between (pos n) least greatest = record { sfits = omega (arith, ints) }
 fits-between (negsuc n) least greatest = record { sfits = omega (arith, ints) }
 
-not_left : (x : ℤ) → int_le (negsuc 4094) x ≡ true → IsTrue (int_le x (pos 4095)) ↔ IsPointInReach x
+not_left : (x : ℤ) → int_le least_coordinate x ≡ true → IsTrue (int_le x greatest_coordinate) ↔ IsCoordinate x
 not_left x passes = (λ test. record { least = grind (arith, ints); greatest = grind (arith, ints) }, λ point. grind (arith, ints))
 
-left : (x : ℤ) → int_le (negsuc 4094) x ≡ false → IsTrue (int_le (negsuc 4094) x) ↔ IsPointInReach x
+left : (x : ℤ) → int_le least_coordinate x ≡ false → IsTrue (int_le least_coordinate x) ↔ IsCoordinate x
 left x fails = (λ test. absurd (both_ways _ fails test), λ point. grind (arith, ints))
 
 -- the code reads the point as an integer, and computes with it in 64 bits
-module _ (s : Stretch) (p x y z : ℤ) (least : negsuc 4094 ≤ℤ p) (greatest : p ≤ℤ pos 4095)
+module _ (s : Stretch) (p x y z : ℤ) (least : least_coordinate ≤ℤ p) (greatest : p ≤ℤ greatest_coordinate)
     (factor : FitsSigned w32 s.factor) (offset : FitsSigned w32 s.offset)
     (x_is : x ≡ to_z w32 (of_z w32 p)) (y_is : y ≡ to_z w32 (of_z w32 s.factor)) (z_is : z ≡ to_z w32 (of_z w32 s.offset)) where
   product-size : unsigned_abs (p *ℤ s.factor) ≤ 8793945538560

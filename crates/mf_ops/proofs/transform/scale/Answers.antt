@@ -1,16 +1,17 @@
 use Rattle.std.proofs.Common.{refl, ap, ◌∙◌}
 use Rattle.std.proofs.lemmas.Bool.{both_ways}
+use Rattle.mf_ops.specs.Moves.{scale_by}
 use Rattle.mf_ops.specs.declared.op.Op.TheVariants.{Scale}
-use Rattle.mf_ops.proofs.Faults.{stepped-from_weights, fault_of-from_weights, fault_of-leaves, not_out}
+use Rattle.mf_ops.proofs.Faults.{made-from_weights, op_fault-leaves, not_out}
 use Rattle.mf_ops.proofs.Leaving.{stays_in_field-scale, leaves-scale}
-use Rattle.mf_ops.proofs.Scaling.{by_factor, factor_passed, stretches_made, IsStretch-made, HasWeights-scale, PixelsStayInside-scale}
+use Rattle.mf_ops.proofs.Scaling.{factor_passed, stretches_made, IsStretch-made, HasWeights-scale, PixelsStayInside-scale}
 use Rattle.mf_ops.proofs.transform.scale.Goals as goal
 
 pub returns-then-not-stays_inside-clause-refused : goal.returns-then-not-stays_inside-clause-refused
 returns-then-not-stays_inside-clause-refused c other =
-    let columns = c.stretch.ensures ∙ ap by_factor (factor_passed _ _ c.x-x.ensures.factor c.x-x.ensures.value) in
-    let rows = c.stretch-2.ensures ∙ ap by_factor (factor_passed _ _ c.y-y.ensures.factor c.y-y.ensures.value) in
-    fault_of-leaves c.args.picture.now (Scale c.args.scale) (record { none = refl })
+    let columns = c.stretch.ensures ∙ ap scale_by (factor_passed _ _ c.x-x.ensures.factor c.x-x.ensures.value) in
+    let rows = c.stretch-2.ensures ∙ ap scale_by (factor_passed _ _ c.y-y.ensures.factor c.y-y.ensures.value) in
+    op_fault-leaves c.args.picture.now (Scale c.args.scale) (record { none = refl })
     (leaves-scale c.args.picture.now c.args.scale (λ inside. both_ways _ c.if-not-stays_inside.true (c.stays_inside.ensures.1 (rw (columns, rows) inside))))
 
 pub stretch-requires-5 : goal.stretch-requires-5
@@ -21,7 +22,8 @@ stretch-requires-5 c =
     record {
       columns = IsStretch-made _ _ _ _ x;
       rows = IsStretch-made _ _ _ _ y;
-      inside = PixelsStayInside-scale _ _ c.args.scale _ _ _ _ _ _ x y reflected.lawful reflected.weights (c.stays_inside.ensures.0 c.if-not-stays_inside.false);
+      inside = PixelsStayInside-scale _ _ c.args.scale _ _ _ _ _ _ x y reflected.lawful reflected.weights
+          (c.stays_inside.ensures.0 c.if-not-stays_inside.false);
     }
 
 pub returns : goal.returns
@@ -33,18 +35,19 @@ returns c =
     let has = HasWeights-scale ds _ _ s _ _ _ _ _ _ x y c.in_ok-reflected.ensures.weights c.in_ok-stretch.ensures.weights in
     let stays = stays_in_field-scale ds s (rw (x.signed_is, y.signed_is) at (c.stays_inside.ensures.0 c.if-not-stays_inside.false)) in
     let picture = c.in_ok-stretch.ensures.lawful in
-    record { step = stepped-from_weights ds (Scale s) _ picture has; accepted = fault_of-from_weights ds (Scale s) _ stays picture has; refused = tt; out_of_field = λ out. absurd (not_out ds (Scale s) stays out) }
+    let made = made-from_weights ds (Scale s) _ stays picture has in
+    record { step = made.0; accepted = made.1; refused = tt; out_of_field = λ out. absurd (not_out ds (Scale s) stays out) }
 
 pub returns-in_err-reflected-clause-out_of_field : goal.returns-in_err-reflected-clause-out_of_field
 returns-in_err-reflected-clause-out_of_field c out =
-    let columns = c.stretch.ensures ∙ ap by_factor (factor_passed _ _ c.x-x.ensures.factor c.x-x.ensures.value) in
-    let rows = c.stretch-2.ensures ∙ ap by_factor (factor_passed _ _ c.y-y.ensures.factor c.y-y.ensures.value) in
+    let columns = c.stretch.ensures ∙ ap scale_by (factor_passed _ _ c.x-x.ensures.factor c.x-x.ensures.value) in
+    let rows = c.stretch-2.ensures ∙ ap scale_by (factor_passed _ _ c.y-y.ensures.factor c.y-y.ensures.value) in
     let stays = stays_in_field-scale c.args.picture.now c.args.scale (rw (columns, rows) at (c.stays_inside.ensures.0 c.if-not-stays_inside.false)) in
     absurd (not_out _ (Scale c.args.scale) stays out)
 
 pub returns-in_err-stretch-clause-out_of_field : goal.returns-in_err-stretch-clause-out_of_field
 returns-in_err-stretch-clause-out_of_field c out =
-    let columns = c.stretch.ensures ∙ ap by_factor (factor_passed _ _ c.x-x.ensures.factor c.x-x.ensures.value) in
-    let rows = c.stretch-2.ensures ∙ ap by_factor (factor_passed _ _ c.y-y.ensures.factor c.y-y.ensures.value) in
+    let columns = c.stretch.ensures ∙ ap scale_by (factor_passed _ _ c.x-x.ensures.factor c.x-x.ensures.value) in
+    let rows = c.stretch-2.ensures ∙ ap scale_by (factor_passed _ _ c.y-y.ensures.factor c.y-y.ensures.value) in
     let stays = stays_in_field-scale c.args.picture.now c.args.scale (rw (columns, rows) at (c.stays_inside.ensures.0 c.if-not-stays_inside.false)) in
     absurd (not_out _ (Scale c.args.scale) stays out)

@@ -26,18 +26,23 @@ overflow_sub-deref c =
 pub returns-in_default-2-clause-weights : goal.returns-in_default-2-clause-weights
 returns-in_default-2-clause-weights c =
     let none : c.args.added.now ≡ [] = nil_from_length c.args.added.now (grind (arith, common_steps)) in
-    let all = weights_with_rest _ _ [] _ _ (sum_none (rows_of_bands c.args.bands.now.items) (rows_of_bands c.args.added.now) c.requires.bands c.requires.added) in
-    let same : rows_of_bands c.args.bands.now.items ++ rows_of_bands c.args.added.now ≡ rows_of_bands c.args.bands.now.items = ap (λ bs. rows_of_bands c.args.bands.now.items ++ rows_of_bands bs) none ∙ append-nil (rows_of_bands c.args.bands.now.items) in
+    let all =
+    weights_with_rest _ _ [] _ _ (sum_none (rows_of_bands c.args.bands.now.items) (rows_of_bands c.args.added.now) c.requires.bands c.requires.added) in
+    let same : rows_of_bands c.args.bands.now.items ++ rows_of_bands c.args.added.now ≡ rows_of_bands c.args.bands.now.items =
+    ap (λ bs. rows_of_bands c.args.bands.now.items ++ rows_of_bands bs) none ∙ append-nil (rows_of_bands c.args.bands.now.items) in
     subst (HaveRowWeights (weight_in_all (rows_of_bands c.args.bands.now.items) (rows_of_bands c.args.added.now))) same all
 
 -- the bands above those that are added, and the others
-split : (c : After-split_at) → IsSplitAtBand ((arc_value c.in-Some-Some.first.now).number -ℤ pos 1) c.args.bands.now.items c.split_at.result.0.now c.split_at.result.1.now
+split : (c : After-split_at)
+    → IsSplitAtBand ((arc_value c.in-Some-Some.first.now).number -ℤ pos 1) c.args.bands.now.items c.split_at.result.0.now c.split_at.result.1.now
 split c =
     let is : c.deref-2.result.now.number ≡ (arc_value c.in-Some-Some.first.now).number = ap (λ (b : Band). b.number) c.deref-2.ensures in
     let least = number_of_band c.args.added.now c.in-Some-Some.first.now c.requires.added c.in-Some-Some.ensures.item.3.0 c.in-Some-Some.ensures.item.1 in
-    let number_is : to_z w32 (of_z w32 (to_z w32 (of_z w32 c.deref-2.result.now.number) -ℤ pos 1)) ≡ (arc_value c.in-Some-Some.first.now).number -ℤ pos 1 = omega (arith, ints) in
+    let number_is : to_z w32 (of_z w32 (to_z w32 (of_z w32 c.deref-2.result.now.number) -ℤ pos 1)) ≡ (arc_value c.in-Some-Some.first.now).number -ℤ pos 1 =
+    omega (arith, ints) in
     let found = rw (number_is, c.deref.ensures.value) at c.count_up_to-start.ensures in
-    split_at_band _ _ c.args.bands.now.items _ _ (rw (← c.deref-3.ensures.value) c.split_at.ensures.front) (rw (← c.deref-3.ensures.value) c.split_at.ensures.back) found.above found.below found.others
+    split_at_band _ _ c.args.bands.now.items _ _ (rw (← c.deref-3.ensures.value) c.split_at.ensures.front)
+    (rw (← c.deref-3.ensures.value) c.split_at.ensures.back) found.above found.below found.others
 
 pub count_up_to-requires : goal.count_up_to-requires
 count_up_to-requires c =
@@ -45,7 +50,8 @@ count_up_to-requires c =
     rest_rows c.args.bands.now.items _ _ c.args.added.now c.requires.bands c.requires.added c.in-Some-Some.first.now c.in-Some-Some.ensures.item.3.0 c.in-Some-Some.ensures.item.1 (split step)
 
 -- the bands that are reached, and those below them
-split_rest : (c : After-split_at-2) → IsSplitAtBand (arc_value c.in-Some-Some.last.now).number c.split_at.result.1.now c.split_at-2.result.0.now c.split_at-2.result.1.now
+split_rest : (c : After-split_at-2)
+    → IsSplitAtBand (arc_value c.in-Some-Some.last.now).number c.split_at.result.1.now c.split_at-2.result.0.now c.split_at-2.result.1.now
 split_rest c =
     let is : c.deref-4.result.now.number ≡ (arc_value c.in-Some-Some.last.now).number = ap (λ (b : Band). b.number) c.deref-4.ensures in
     let number_is : to_z w32 (of_z w32 c.deref-4.result.now.number) ≡ (arc_value c.in-Some-Some.last.now).number = omega (arith, ints) in
@@ -71,11 +77,15 @@ spliced c =
     let bands = c.args.bands.now.items in
     let done = c.in_ok-splice.ensures.items in
     let long : into_iter_len done.0 ≡ length c.in_ok-sum.sum.items = omega (arith, done.2.1) in
-    let added : done.1 ≡ c.in_ok-sum.sum.items = sym (map-id done.1) ∙ items_from_drains done.1 (done.3.1.0, done.3.1.1, λ _. (done.3.0, done.3.1.2)) (YieldsList-from_vec c.in_ok-sum.sum.items done.2.0 long) in
+    let added : done.1 ≡ c.in_ok-sum.sum.items =
+    sym (map-id done.1) ∙ items_from_drains done.1 (done.3.1.0, done.3.1.1, λ _. (done.3.0, done.3.1.2))
+    (YieldsList-from_vec c.in_ok-sum.sum.items done.2.0 long) in
     let front : take c.count_up_to-start.result bands ≡ c.split_at.result.0.now = sym (rw (← c.deref-3.ensures.value) c.split_at.ensures.front) in
     let inside : c.count_up_to-start.result ≤ length bands = rw (← c.deref.ensures.value) c.count_up_to-start.ensures.within in
     let rest : c.split_at.result.1.now ≡ drop c.count_up_to-start.result bands = rw (← c.deref-3.ensures.value) c.split_at.ensures.back in
-    let behind = drop_reached c.count_up_to-start.result c.count_up_to.result bands c.split_at-2.result.0.now c.split_at-2.result.1.now inside (rw (← rest) c.split_at-2.ensures.front) (rw (← rest) c.split_at-2.ensures.back) in
+    let behind =
+    drop_reached c.count_up_to-start.result c.count_up_to.result bands c.split_at-2.result.0.now c.split_at-2.result.1.now inside
+    (rw (← rest) c.split_at-2.ensures.front) (rw (← rest) c.split_at-2.ensures.back) in
     let joined : take c.count_up_to-start.result bands ++ (done.1 ++ drop (c.count_up_to-start.result + length c.split_at-2.result.0.now) bands) ≡ c.split_at.result.0.now ++ (c.in_ok-sum.sum.items ++ c.split_at-2.result.1.now) = rw (front, added, behind) refl in
     done.4 ∙ joined
 

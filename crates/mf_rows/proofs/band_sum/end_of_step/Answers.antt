@@ -14,7 +14,8 @@ returns-clause-step c =
     let left_is : c.deref.result.now.number ≡ (arc_value left).number = ap (λ (b : Band). b.number) c.deref.ensures in
     let right_is : c.deref-2.result.now.number ≡ (arc_value right).number = ap (λ (b : Band). b.number) c.deref-2.ensures in
     let apart : (arc_value left).number ≢ (arc_value right).number = λ same. c.if-left-right.false (ap (of_z w32) (left_is ∙ same ∙ sym right_is)) in
-    step_before_greater c.args.left.now c.args.right.now left right _ first_left.3.0 first_left.1 first_right.3.0 first_right.1 apart (omega (arith, ints, clamps, c.max.ensures.value))
+    step_before_greater c.args.left.now c.args.right.now left right _ first_left.3.0 first_left.1 first_right.3.0 first_right.1 apart
+    (omega (arith, ints, clamps, c.max.ensures.value))
 
 pub returns-clause-end : goal.returns-clause-end
 returns-clause-end c =
@@ -25,4 +26,5 @@ returns-clause-end c =
     let left_is : c.deref.result.now.number ≡ (arc_value left).number = ap (λ (b : Band). b.number) c.deref.ensures in
     let right_is : c.deref-2.result.now.number ≡ (arc_value right).number = ap (λ (b : Band). b.number) c.deref-2.ensures in
     let apart : (arc_value left).number ≢ (arc_value right).number = λ same. c.if-left-right.false (ap (of_z w32) (left_is ∙ same ∙ sym right_is)) in
-    ends_before_greater c.args.left.now c.args.right.now left right _ first_left.3.0 first_left.1 first_right.3.0 first_right.1 apart (omega (arith, ints, clamps, c.max.ensures.value))
+    ends_before_greater c.args.left.now c.args.right.now left right _ first_left.3.0 first_left.1 first_right.3.0 first_right.1 apart
+    (omega (arith, ints, clamps, c.max.ensures.value))

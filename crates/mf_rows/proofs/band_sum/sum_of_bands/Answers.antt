@@ -30,7 +30,8 @@ split_left c =
     let number_is : to_z w32 (of_z w32 c.in-Some.number) ≡ c.in-Some.number = omega (arith, ints) in
     rw number_is at (split_at_band _ _ c.loop-number.left.now _ _ c.split_at.ensures.front c.split_at.ensures.back c.count_up_to.ensures.above c.count_up_to.ensures.below c.count_up_to.ensures.others)
 
-split_right : (c : After-split_at-in-Some) → IsSplitAtBand c.in-Some.number c.loop-number.right.now c.split_at-in-Some.result.0.now c.split_at-in-Some.result.1.now
+split_right : (c : After-split_at-in-Some)
+    → IsSplitAtBand c.in-Some.number c.loop-number.right.now c.split_at-in-Some.result.0.now c.split_at-in-Some.result.1.now
 split_right c =
     let number_is : to_z w32 (of_z w32 c.in-Some.number) ≡ c.in-Some.number = omega (arith, ints) in
     rw number_is at (split_at_band _ _ c.loop-number.right.now _ _ c.split_at-in-Some.ensures.front c.split_at-in-Some.ensures.back c.count_up_to-in-Some.ensures.above c.count_up_to-in-Some.ensures.below c.count_up_to-in-Some.ensures.others)
@@ -39,7 +40,8 @@ pub returns-in_err-push_sum-clause-too_large : goal.returns-in_err-push_sum-clau
 returns-in_err-push_sum-clause-too_large c =
     let step = (goal.at.returns-in_err-push_sum-clause-too_large c).After-split_at-in-Some in
     let p = err_from_is_err_and c.from_residual.result c.from_residual.ensures.1 in
-    rw (p.1, p.2) (λ fault. unlawful_in_step _ _ _ _ _ c.loop-number.invariant _ _ _ _ _ (split_left step) (split_right step) (c.in_err-push_sum.ensures.too_large fault))
+    rw (p.1, p.2) (λ fault. unlawful_in_step _ _ _ _ _ c.loop-number.invariant _ _ _ _ _ (split_left step)
+    (split_right step) (c.in_err-push_sum.ensures.too_large fault))
 
 pub loop-number-smaller : goal.loop-number-smaller
 loop-number-smaller c =
@@ -59,4 +61,5 @@ returns-clause-rows c =
 pub returns-clause-weights : goal.returns-clause-weights
 returns-clause-weights c =
     let all = c.in_ok-push_shared-2.ensures.rows ∙ ap (λ rs. rs ++ rows_of_bands c.loop-number.right.now) c.in_ok-push_shared.ensures.rows in
-    subst (HaveRowWeights (weight_in_all (rows_of_bands c.args.left.now) (rows_of_bands c.args.right.now))) (sym all) (weights_with_rest _ _ _ _ _ c.loop-number.invariant)
+    subst (HaveRowWeights (weight_in_all (rows_of_bands c.args.left.now) (rows_of_bands c.args.right.now))) (sym all)
+    (weights_with_rest _ _ _ _ _ c.loop-number.invariant)

@@ -4,7 +4,8 @@ use Rattle.mf_rows.proofs.RowSums.{IsRowSumSoFar}
 use Rattle.mf_rows.proofs.band_sum.sum_of_bands.Given as goal
 
 abbrev pub invariant-loop-number : goal.invariant-loop-number
-invariant-loop-number l = IsRowSumSoFar (rows_of_bands l.fn.left) (rows_of_bands l.fn.right) (rows_of_bands l.sum.items) (rows_of_bands l.left) (rows_of_bands l.right)
+invariant-loop-number l =
+    IsRowSumSoFar (rows_of_bands l.fn.left) (rows_of_bands l.fn.right) (rows_of_bands l.sum.items) (rows_of_bands l.left) (rows_of_bands l.right)
 
 abbrev pub decreases-loop-number : goal.decreases-loop-number
 decreases-loop-number l = length l.left + length l.right

@@ -12,5 +12,7 @@ pub returns-clause-found : goal.returns-clause-found
 returns-clause-found c =
     let y_is : to_z w32 (of_z w32 c.args.y) ≡ c.args.y = omega (arith, ints) in
     let read = c.in_ok-band.ensures.lookup in
-    let same = same_row_in_band c.args.y _ c.args.bands.now c.in_ok-band.band.now c.requires read.3.0 read.1 (rw y_is at c.count_above.ensures.above) (rw y_is at c.count_above.ensures.others) in
+    let same =
+    same_row_in_band c.args.y _ c.args.bands.now c.in_ok-band.band.now c.requires read.3.0 read.1
+    (rw y_is at c.count_above.ensures.above) (rw y_is at c.count_above.ensures.others) in
     rw c.deref.ensures same

@@ -22,4 +22,5 @@ returns-else-row-y-clause-blank c = λ none.
     let y_is : to_z w32 (of_z w32 c.args.y) ≡ c.args.y = omega (arith, ints) in
     let read = c.in_ok-row.ensures.lookup in
     let elsewhere : row.y ≢ c.args.y = λ same. c.if-row-y.false (ap (of_z w32) same) in
-    absent_row c.args.y _ c.args.rows.now row c.requires read.3.0 read.1 (rw y_is at c.count_rows_above.ensures.above) (rw y_is at c.count_rows_above.ensures.others) elsewhere
+    absent_row c.args.y _ c.args.rows.now row c.requires read.3.0 read.1 (rw y_is at c.count_rows_above.ensures.above)
+    (rw y_is at c.count_rows_above.ensures.others) elsewhere

@@ -2,6 +2,7 @@ use Rattle.std.proofs.Common.{◌≡◌, ◌++◌, pos, w32, to_z, of_z, subst, 
 use Rattle.std.specs.List.{All}
 use Rattle.std.proofs.lemmas.Int.{ints}
 use Rattle.std.proofs.lemmas.List.Elements.{All-nil, All-push, All-head, All-tail}
+use Rattle.mf_geom.specs.Coordinates.{last_in_field}
 use Rattle.mf_rows.specs.Bands.{edge_rows, rows_of_bands}
 use Rattle.mf_rows.specs.FieldBands.{IsOfBand, AreOfBand}
 use Rattle.mf_rows.proofs.BandsLemmas.{IsRow, All-rows, one_more_row}
@@ -11,7 +12,7 @@ use Rattle.mf_rows.proofs.bands.push_rows.Goals.{then-own-number+in_ok-close_ban
 pub loop-row-init : goal.loop-row-init
 loop-row-init c =
     rw (c.in_ok-reserve.ensures.items, c.new-open.ensures.items, c.into_iter-row-iterator.ensures.into_iter_gives.0)
-    record { same = refl; open_of_band = All-nil (λ row. IsOfBand (pos 0) row.y); left = All-rows (pos 4094) c.args.rows.items c.requires.rows }
+    record { same = refl; open_of_band = All-nil (λ row. IsOfBand (pos 0) row.y); left = All-rows last_in_field c.args.rows.items c.requires.rows }
 
 pub band_of-own-requires : goal.band_of-own-requires
 band_of-own-requires c =

@@ -19,13 +19,15 @@ pub push_run-requires-clause-after : goal.push_run-requires-clause-after
 push_run-requires-clause-after c =
     let rows = c.args.rows.now in
     let is_last = last_is_last rows c.index-rows-last.result c.requires.last.some in
-    (last_ends_before rows _ c.args.run c.requires.rows c.requires.fits.run is_last c.requires.fits.after).columns (c.requires.last.last c.index-rows-last.result)
+    (last_ends_before rows _ c.args.run c.requires.rows c.requires.fits.run is_last c.requires.fits.after).columns
+    (c.requires.last.last c.index-rows-last.result)
 
 pub returns-clause-ok : goal.returns-clause-ok
 returns-clause-ok c =
     let rows = c.args.rows.now in
     let is_last = last_is_last rows c.index-rows-last.result c.requires.last.some in
-    on_ok_weaker c.push_run.result (picture-pushed_on_last rows _ c.push_run.new.self c.args.run c.requires.rows c.requires.fits is_last (c.requires.last.last c.index-rows-last.result)) c.push_run.ensures.ok
+    on_ok_weaker c.push_run.result (picture-pushed_on_last rows _ c.push_run.new.self c.args.run c.requires.rows c.requires.fits is_last
+    (c.requires.last.last c.index-rows-last.result)) c.push_run.ensures.ok
 
 pub returns-clause-unchanged : goal.returns-clause-unchanged
 returns-clause-unchanged c =
@@ -42,5 +44,6 @@ returns-clause-rows c =
     let rows = c.args.rows.now in
     let is_last = last_is_last rows c.index-rows-last.result c.requires.last.some in
     by_result c.push_run.result
-    (on_ok_weaker c.push_run.result (rows-pushed_on_last rows _ c.push_run.new.self c.args.run c.requires.rows c.requires.fits.run is_last (c.requires.last.last c.index-rows-last.result)) c.push_run.ensures.ok)
+    (on_ok_weaker c.push_run.result (rows-pushed_on_last rows _ c.push_run.new.self c.args.run c.requires.rows c.requires.fits.run is_last
+    (c.requires.last.last c.index-rows-last.result)) c.push_run.ensures.ok)
     (on_err_weaker c.push_run.result (λ same. subst AreRows (sym same) c.requires.rows) (returns-clause-unchanged c))

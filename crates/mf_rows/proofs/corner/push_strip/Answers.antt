@@ -1,4 +1,4 @@
-use Rattle.std.proofs.Common.{◌≡◌, ◌≢◌, [], ℤ, pos, ◌+ℤ◌, ◌-ℤ◌, ◌<ℤ◌, to_z, of_z, w32, ap, ◌∙◌, sym, arith}
+use Rattle.std.proofs.Common.{◌≡◌, ◌≢◌, [], pos, ◌+ℤ◌, ◌-ℤ◌, ◌<ℤ◌, to_z, of_z, w32, ap, ◌∙◌, sym, arith}
 use Rattle.std.specs.Int.RustNames.{unsigned_abs}
 use Rattle.std.proofs.lemmas.Bool.{false≢true}
 use Rattle.std.proofs.lemmas.Int.{ints}
@@ -30,4 +30,5 @@ returns c =
     let size : c.args.top ≡ c.args.bottom +ℤ pos (unsigned_abs (c.args.top -ℤ c.args.bottom)) = omega (arith, ints, c.requires.order) in
     let here = no_strip old c.args.edges.now c.args.top c.args.top c.requires.rows (omega (arith, ints)) (λ lt. absurd (omega (arith, ints, lt))) in
     let pushed = rw (kept, edges, top, bottom) at c.push_copies.ensures in
-    on_ok_weaker c.push_copies.result (λ all. rw all (pushed_strip old old c.args.edges.now _ c.args.bottom c.args.top c.args.top here size c.requires.bottom (omega (arith, ints)) c.requires.top some (c.requires.edges below))) pushed
+    on_ok_weaker c.push_copies.result (λ all. rw all (pushed_strip old old c.args.edges.now _ c.args.bottom c.args.top c.args.top here size c.requires.bottom
+    (omega (arith, ints)) c.requires.top some (c.requires.edges below))) pushed

@@ -15,8 +15,10 @@ pub loop-place-init : goal.loop-place-init
 loop-place-init c =
     let sorted = c.sort_unstable_by_key.new.self.items in
     let corners = corners_permuted c.args.corners.items sorted c.sort_unstable_by_key.ensures.permutation c.requires in
-    let by_height : IsSortedBy (λ (k l : Corner). is_lt (int_cmp l.y k.y)) sorted = c.sort_unstable_by_key.ensures.sorted (λ corner. record { 0 = corner.y }) (answers_always _ _ _ (λ f a r g called. search rules)) in
-    rw (c.deref-corner-items.ensures.value, c.new-edges.ensures.items, c.new-rows.ensures.items) (swept_none sorted corners (falling_from_sorted sorted corners.corners by_height))
+    let by_height : IsSortedBy (λ (k l : Corner). is_lt (int_cmp l.y k.y)) sorted =
+    c.sort_unstable_by_key.ensures.sorted (λ corner. record { 0 = corner.y }) (answers_always _ _ _ (λ f a r g called. search rules)) in
+    rw (c.deref-corner-items.ensures.value, c.new-edges.ensures.items, c.new-rows.ensures.items)
+    (swept_none sorted corners (falling_from_sorted sorted corners.corners by_height))
 
 pub add_edge-requires : goal.add_edge-requires
 add_edge-requires c =
@@ -44,9 +46,14 @@ push_strip-requires c =
     let corner = All-head IsCorner k left swept.corners in
     let read = corner_read_back k corner in
     let same = c.deref.ensures.value ∙ sym c.deref-corner-items.ensures.value in
-    let next = height_read_back left c.next_height-next.result (All-tail IsCorner k left swept.corners) (c.next_height-next.ensures ∙ ap (λ ks. first_height_of (drop (place + 1) ks)) same) in
-    let corners : AreCorners all = rw c.deref-corner-items.ensures.value (corners_permuted c.args.corners.items c.sort_unstable_by_key.new.self.items c.sort_unstable_by_key.ensures.permutation c.requires) in
-    let added : HaveWeights (with_edge_in c.loop-place.edges.items k.x k.weight) c.add_edge.new.edges.items = rw (read.x, read.weight) at c.in_ok-add_edge.ensures.weights in
+    let next =
+    height_read_back left c.next_height-next.result (All-tail IsCorner k left swept.corners)
+    (c.next_height-next.ensures ∙ ap (λ ks. first_height_of (drop (place + 1) ks)) same) in
+    let corners : AreCorners all =
+    rw c.deref-corner-items.ensures.value
+    (corners_permuted c.args.corners.items c.sort_unstable_by_key.new.self.items c.sort_unstable_by_key.ensures.permutation c.requires) in
+    let added : HaveWeights (with_edge_in c.loop-place.edges.items k.x k.weight) c.add_edge.new.edges.items =
+    rw (read.x, read.weight) at c.in_ok-add_edge.ensures.weights in
     let sorted = c.in_ok-add_edge.ensures.sorted in
     record {
       bottom = rw next (level_in_field all k left _ _ _ corners swept sorted added);
@@ -67,9 +74,14 @@ loop-place-preserved c =
     let corner = All-head IsCorner k left swept.corners in
     let read = corner_read_back k corner in
     let same = c.deref.ensures.value ∙ sym c.deref-corner-items.ensures.value in
-    let next = height_read_back left c.next_height-next.result (All-tail IsCorner k left swept.corners) (c.next_height-next.ensures ∙ ap (λ ks. first_height_of (drop (place + 1) ks)) same) in
-    let corners : AreCorners all = rw c.deref-corner-items.ensures.value (corners_permuted c.args.corners.items c.sort_unstable_by_key.new.self.items c.sort_unstable_by_key.ensures.permutation c.requires) in
-    let added : HaveWeights (with_edge_in c.loop-place.edges.items k.x k.weight) c.add_edge.new.edges.items = rw (read.x, read.weight) at c.in_ok-add_edge.ensures.weights in
+    let next =
+    height_read_back left c.next_height-next.result (All-tail IsCorner k left swept.corners)
+    (c.next_height-next.ensures ∙ ap (λ ks. first_height_of (drop (place + 1) ks)) same) in
+    let corners : AreCorners all =
+    rw c.deref-corner-items.ensures.value
+    (corners_permuted c.args.corners.items c.sort_unstable_by_key.new.self.items c.sort_unstable_by_key.ensures.permutation c.requires) in
+    let added : HaveWeights (with_edge_in c.loop-place.edges.items k.x k.weight) c.add_edge.new.edges.items =
+    rw (read.x, read.weight) at c.in_ok-add_edge.ensures.weights in
     let strip = rw (next, read.y, c.deref-in-loop-place.ensures.value) at c.in_ok-push_strip.ensures in
     swept_more all k left _ _ _ corners swept c.in_ok-add_edge.ensures.sorted added _ strip
 

@@ -1,4 +1,4 @@
-use Rattle.std.proofs.Common.{◌≡◌, ℤ, pos, ◌+ℤ◌, ◌≤ℤ◌, ◌<ℤ◌, arith}
+use Rattle.std.proofs.Common.{◌≡◌, ℤ, pos, ◌+ℤ◌, ◌≤ℤ◌, arith}
 use Rattle.std.proofs.lemmas.Int.{ints, by_lt_z}
 use Rattle.mf_edges.specs.declared.stretch.Stretch.{Stretch}
 use Rattle.mf_edges.specs.Axes.{IsStretch, source_of, stretched_to}
@@ -8,7 +8,8 @@ use Rattle.mf_rows.proofs.laws.one_source_under_a_stretch.Goals as goal
 has_place : (s : Stretch) (p q : ℤ) → IsStretch s → source_of s q ≡ p → (stretched_to s p ≤ℤ q) × ((q +ℤ pos 1) ≤ℤ stretched_to s (p +ℤ pos 1))
 has_place s p q stretch is = (
   source_of-reached s p q stretch (omega (arith, ints)),
-  by_lt_z q (stretched_to s (p +ℤ pos 1)) (λ before. omega (arith, ints)) (λ behind. let next = source_of-from s (p +ℤ pos 1) q stretch behind in absurd (omega (arith, ints))),
+  by_lt_z q (stretched_to s (p +ℤ pos 1)) (λ before. omega (arith, ints))
+      (λ behind. let next = source_of-from s (p +ℤ pos 1) q stretch behind in absurd (omega (arith, ints))),
 )
 
 pub returns : goal.returns

@@ -9,7 +9,8 @@ use Rattle.mf_rows.proofs.row_change.changed_rows.Goals as goal
 
 pub loop-row-init : goal.loop-row-init
 loop-row-init c = record {
-  so_far = rw (c.in_ok-reserve.ensures.items, c.new-changed.ensures.items) (change_none c.args.change.now (edge_rows c.args.rows.now) c.requires.rows c.requires.allowed);
+  so_far = rw (c.in_ok-reserve.ensures.items, c.new-changed.ensures.items)
+      (change_none c.args.change.now (edge_rows c.args.rows.now) c.requires.rows c.requires.allowed);
   image = rw (ap (λ r. r.edges) c.in_ok-image.ensures, c.new.ensures.items) (changed-none c.args.change.now c.requires.change);
 }
 

@@ -21,7 +21,9 @@ loop-row-preserved c =
     (mirror_more (edge_rows rest) (edge_row row) next)
 
 pub returns-clause-rows : goal.returns-clause-rows
-returns-clause-rows c = rw (mirror_all c.loop-row.row-iterator.iter.rest.now c.in-None.ensures.steps.0 c.loop-row.invariant) (lawful_mirror (edge_rows c.args.rows.now) c.requires)
+returns-clause-rows c =
+    rw (mirror_all c.loop-row.row-iterator.iter.rest.now c.in-None.ensures.steps.0 c.loop-row.invariant) (lawful_mirror (edge_rows c.args.rows.now) c.requires)
 
 pub returns-clause-weights : goal.returns-clause-weights
-returns-clause-weights c = rw (mirror_all c.loop-row.row-iterator.iter.rest.now c.in-None.ensures.steps.0 c.loop-row.invariant) (mirror_weights (edge_rows c.args.rows.now))
+returns-clause-weights c =
+    rw (mirror_all c.loop-row.row-iterator.iter.rest.now c.in-None.ensures.steps.0 c.loop-row.invariant) (mirror_weights (edge_rows c.args.rows.now))

@@ -5,7 +5,8 @@ use Rattle.mf_rows.proofs.RowStretches.{product_fits, strip_place}
 use Rattle.mf_rows.proofs.row_move.push_stretched.Goals as goal
 
 pub overflow_mul-bottom : goal.overflow_mul-bottom
-overflow_mul-bottom c = product_fits c.args.row.now.y c.args.stretch.now.factor c.requires.bottom c.requires.top c.requires.stretch.least c.requires.stretch.greatest
+overflow_mul-bottom c =
+    product_fits c.args.row.now.y c.args.stretch.now.factor c.requires.bottom c.requires.top c.requires.stretch.least c.requires.stretch.greatest
 
 pub overflow_add-bottom : goal.overflow_add-bottom
 overflow_add-bottom c =

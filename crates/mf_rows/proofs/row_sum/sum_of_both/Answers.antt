@@ -32,7 +32,8 @@ returns-in_err-sum_of_edges-clause-too_large c =
     rw (fault.1, fault.2) unlawful
 
 pub returns-then-reach-le-MAX_WEIGHT-clause-weights : goal.returns-then-reach-le-MAX_WEIGHT-clause-weights
-returns-then-reach-le-MAX_WEIGHT-clause-weights c = rw (c.edges-then-reach-le-MAX_WEIGHT.ensures, c.edges-then-reach-le-MAX_WEIGHT-2.ensures) at c.in_ok-sum.ensures.weights
+returns-then-reach-le-MAX_WEIGHT-clause-weights c =
+    rw (c.edges-then-reach-le-MAX_WEIGHT.ensures, c.edges-then-reach-le-MAX_WEIGHT-2.ensures) at c.in_ok-sum.ensures.weights
 
 pub returns-clause-weights : goal.returns-clause-weights
 returns-clause-weights c = rw (c.edges-2.ensures, c.edges-3.ensures) at c.in_ok-sum_of_edges.ensures.weights
@@ -50,4 +51,5 @@ with_changes-requires-clause-reach c =
     let left = c.reach.ensures.stays in
     let right = c.reach-then-edges-le-FEW_EDGES.ensures.stays in
     let room = room_of_reaches _ _ _ _ left right c.if-reach-le-MAX_WEIGHT.true in
-    rw (c.edges-then-reach-le-MAX_WEIGHT.ensures, c.edges-then-reach-le-MAX_WEIGHT-2.ensures) (record { left_reach = _; right_reach = _; left = left; right = right; room = room })
+    rw (c.edges-then-reach-le-MAX_WEIGHT.ensures, c.edges-then-reach-le-MAX_WEIGHT-2.ensures)
+    (record { left_reach = _; right_reach = _; left = left; right = right; room = room })

@@ -8,7 +8,9 @@ use Rattle.mf_rows.proofs.RowSumSteps.{sum_more, sum_all_rows, sum_all_weights, 
 use Rattle.mf_rows.proofs.row_sum.sum_of_rows.Goals as goal
 
 pub loop-added-init : goal.loop-added-init
-loop-added-init c = rw (c.in_ok-reserve.ensures.items, c.new-sum.ensures.items) (sum_none (edge_rows c.args.left.now) (edge_rows c.args.right.now) c.requires.left c.requires.right)
+loop-added-init c =
+    rw (c.in_ok-reserve.ensures.items, c.new-sum.ensures.items)
+    (sum_none (edge_rows c.args.left.now) (edge_rows c.args.right.now) c.requires.left c.requires.right)
 
 pub count_rows_above-requires : goal.count_rows_above-requires
 count_rows_above-requires c = rows_left _ _ _ _ _ c.loop-added.invariant
@@ -19,7 +21,8 @@ split_at_height-requires c =
     let y_is : to_z w32 (of_z w32 r.y) ≡ r.y = omega (arith, ints) in
     let above = rw y_is at c.count_rows_above.ensures.above in
     let below = rw y_is at c.count_rows_above.ensures.others in
-    rw (y_is, c.split_at.ensures.back) (rest_from _ _ _ c.loop-added.left.now c.loop-added.right.now c.loop-added.invariant r c.in-Some.rest_right.now c.in-Some.ensures.cases.0 _ above below)
+    rw (y_is, c.split_at.ensures.back)
+    (rest_from _ _ _ c.loop-added.left.now c.loop-added.right.now c.loop-added.invariant r c.in-Some.rest_right.now c.in-Some.ensures.cases.0 _ above below)
 
 pub push_sum-requires-clause-left : goal.push_sum-requires-clause-left
 push_sum-requires-clause-left c =
@@ -34,7 +37,8 @@ push_sum-requires-clause-right c =
     let y_is : to_z w32 (of_z w32 r.y) ≡ r.y = omega (arith, ints) in
     let above = rw y_is at c.count_rows_above.ensures.above in
     let below = rw y_is at c.count_rows_above.ensures.others in
-    let right = added_split _ _ _ c.loop-added.left.now c.loop-added.right.now c.loop-added.invariant r c.in-Some.rest_right.now c.in-Some.ensures.cases.0 _ above below in
+    let right =
+    added_split _ _ _ c.loop-added.left.now c.loop-added.right.now c.loop-added.invariant r c.in-Some.rest_right.now c.in-Some.ensures.cases.0 _ above below in
     right.here
 
 pub returns-in_err-push_sum-clause-too_large : goal.returns-in_err-push_sum-clause-too_large
@@ -44,7 +48,8 @@ returns-in_err-push_sum-clause-too_large c =
     let above = rw y_is at c.count_rows_above.ensures.above in
     let below = rw y_is at c.count_rows_above.ensures.others in
     let left = rw (y_is, c.split_at.ensures.back) at c.split_at_height.ensures in
-    let right = added_split _ _ _ c.loop-added.left.now c.loop-added.right.now c.loop-added.invariant r c.in-Some.rest_right.now c.in-Some.ensures.cases.0 _ above below in
+    let right =
+    added_split _ _ _ c.loop-added.left.now c.loop-added.right.now c.loop-added.invariant r c.in-Some.rest_right.now c.in-Some.ensures.cases.0 _ above below in
     let so_far = sum_with_above _ _ _ c.loop-added.left.now c.loop-added.right.now c.loop-added.invariant r c.in-Some.rest_right.now c.in-Some.ensures.cases.0 _ above below in
     let p = err_from_is_err_and c.from_residual-in_err-push_sum.result c.from_residual-in_err-push_sum.ensures.1 in
     rw (p.1, p.2) (λ fault. unlawful_somewhere _ _ _ _ _ r.y so_far _ _ _ _ left right (c.in_err-push_sum.ensures.too_large fault))
@@ -56,7 +61,8 @@ loop-added-preserved c =
     let above = rw y_is at c.count_rows_above.ensures.above in
     let below = rw y_is at c.count_rows_above.ensures.others in
     let left = rw (y_is, c.split_at.ensures.back) at c.split_at_height.ensures in
-    let right = added_split _ _ _ c.loop-added.left.now c.loop-added.right.now c.loop-added.invariant r c.in-Some.rest_right.now c.in-Some.ensures.cases.0 _ above below in
+    let right =
+    added_split _ _ _ c.loop-added.left.now c.loop-added.right.now c.loop-added.invariant r c.in-Some.rest_right.now c.in-Some.ensures.cases.0 _ above below in
     let so_far = sum_with_above _ _ _ c.loop-added.left.now c.loop-added.right.now c.loop-added.invariant r c.in-Some.rest_right.now c.in-Some.ensures.cases.0 _ above below in
     let pushed = rw (c.in_ok-push_shared_rows.ensures, c.split_at.ensures.front) at c.in_ok-push_sum.ensures.pushed in
     sum_more _ _ _ _ _ r.y so_far _ _ _ _ left right _ pushed

@@ -3,7 +3,8 @@
 use super::APART;
 use crate::tests::runs::assert_fits;
 use crate::tests::{assert_runs, assert_weights, builder_of, made, push_all};
-use mf_rows::{OutOfMemory, RowBuilder, Run};
+use mf_base::OutOfMemory;
+use mf_rows::{RowBuilder, Run};
 use mf_testing::{grow_again, refuse_growths};
 use std::process::Abort;
 

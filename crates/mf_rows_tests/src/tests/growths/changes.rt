@@ -3,7 +3,9 @@
 use super::APART;
 use crate::tests::moves::assert_stays_inside;
 use crate::tests::{assert_runs, made, picture_of};
-use mf_rows::{Choice, OutOfMemory, Picture, Run, Stretch, WeightMap};
+use mf_base::OutOfMemory;
+use mf_edges::{Choice, Stretch, WeightMap};
+use mf_rows::{Picture, Run};
 use mf_testing::{grow_again, refuse_growths};
 use std::alloc::Global;
 use std::process::Abort;

@@ -2,9 +2,10 @@
 
 use super::APART;
 use crate::tests::assertions::{assert_holds, assert_same};
-use crate::tests::rectangles::{Rectangle, corners_of, try_all};
+use crate::tests::rectangles::{Rectangle, corners_of};
 use crate::tests::{assert_runs, picture_of};
-use mf_rows::{AddFault, Run};
+use mf_edges::AddFault;
+use mf_rows::Run;
 use mf_testing::{grow_again, refuse_growths};
 use std::process::Abort;
 
@@ -117,18 +118,4 @@ fn corners_are_added(rt: HostRuntime) {
         assert_holds(&rt, added.is_ok(), "there is room for the sum");
     }
     assert_runs(&rt, &picture, WITH_RECTANGLE);
-}
-
-#[test]
-fn a_picture_with_corners_is_made(rt: HostRuntime) {
-    let picture = picture_of(&rt, APART);
-    let corners = corners_of(&rt, rt.alloc(), &[RECTANGLE]).expect(&rt, "there is room");
-    refuse_growths(rt.alloc());
-    let new = picture.with_corners(rt.alloc(), corners);
-    grow_again(rt.alloc());
-    assert_out_of_memory(&rt, &new);
-    assert_runs(&rt, &picture, APART);
-    let new = new.or_else(|_| try_all(&rt, &picture, &[RECTANGLE]));
-    let new = new.expect(&rt, "there is room for the rectangle");
-    assert_runs(&rt, &new, WITH_RECTANGLE);
 }

@@ -8,11 +8,13 @@ loop-digits-init c = number-none c.args.text.now
 pub returns-then-not-is_ascii_digit : goal.returns-then-not-is_ascii_digit
 returns-then-not-is_ascii_digit c =
     rw c.number_of.ensures
-    (number-found _ _ _ c.loop-digits.invariant (number-stops _ _ _ c.loop-digits.invariant (sym c.is_ascii_digit.ensures.value ∙ c.if-not-is_ascii_digit.true)))
+    (number-found _ _ _ c.loop-digits.invariant
+    (number-stops _ _ _ c.loop-digits.invariant (sym c.is_ascii_digit.ensures.value ∙ c.if-not-is_ascii_digit.true)))
 
 pub returns-then-digits-eq-MAX_DIGITS : goal.returns-then-digits-eq-MAX_DIGITS
 returns-then-digits-eq-MAX_DIGITS c =
-    number-lacking _ _ _ c.loop-digits.invariant c.if-digits-eq-MAX_DIGITS.true c.loop-digits-test.true (sym c.is_ascii_digit.ensures.value ∙ c.if-not-is_ascii_digit.false)
+    number-lacking _ _ _ c.loop-digits.invariant c.if-digits-eq-MAX_DIGITS.true c.loop-digits-test.true
+    (sym c.is_ascii_digit.ensures.value ∙ c.if-not-is_ascii_digit.false)
 
 pub overflow_mul-value : goal.overflow_mul-value
 overflow_mul-value c =

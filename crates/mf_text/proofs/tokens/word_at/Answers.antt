@@ -7,7 +7,8 @@ returns-then-not-starts_with c =
     word_lacking c.args.word c.args.text.now c.text-written.result.now c.text-written.ensures (sym c.starts_with.ensures.value ∙ c.if-not-starts_with.true)
 
 pub returns-then-has_letter : goal.returns-then-has_letter
-returns-then-has_letter c = word_longer c.args.word c.args.text.now c.text-written.result.now c.text-written.ensures (sym c.has_letter.ensures ∙ c.if-has_letter.true)
+returns-then-has_letter c =
+    word_longer c.args.word c.args.text.now c.text-written.result.now c.text-written.ensures (sym c.has_letter.ensures ∙ c.if-has_letter.true)
 
 pub returns : goal.returns
 returns c =

@@ -7,7 +7,8 @@ use Rattle.mf_view.proofs.program.write_numbered.Goals as goal
 
 pub returns-then-not-write_piece : goal.returns-then-not-write_piece
 returns-then-not-write_piece g c =
-    message-front _ _ (c.args.text.now ++ decimal c.args.number) (codes "\n") (message-front _ _ c.args.text.now (decimal c.args.number) c.write_piece.ensures.front)
+    message-front _ _ (c.args.text.now ++ decimal c.args.number) (codes "\n")
+    (message-front _ _ c.args.text.now (decimal c.args.number) c.write_piece.ensures.front)
 
 pub returns-then-not-write_piece-2 : goal.returns-then-not-write_piece-2
 returns-then-not-write_piece-2 g c =
@@ -19,4 +20,5 @@ pub returns : goal.returns
 returns g c =
     let first = c.write_piece.ensures.all c.if-not-write_piece.false in
     let second : Appends _ _ (decimal c.args.number) = rw (← c.format.ensures.text) (c.write_piece-2.ensures.all c.if-not-write_piece-2.false) in
-    message-after _ _ _ (c.args.text.now ++ decimal c.args.number) (codes "\n") (Appends-trans _ _ _ c.args.text.now (decimal c.args.number) first second) c.write_piece-3.ensures.front
+    message-after _ _ _ (c.args.text.now ++ decimal c.args.number) (codes "\n")
+    (Appends-trans _ _ _ c.args.text.now (decimal c.args.number) first second) c.write_piece-3.ensures.front

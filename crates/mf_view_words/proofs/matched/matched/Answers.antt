@@ -29,4 +29,5 @@ returns-clause-found c =
     (c.in_ok-try_get_matches_from.ensures.matches (ap is_simple same ∙ mfview-simple)).0 ∙ ap (λ a. matches_of a (map string_bytes c.args.words.now)) same
 
 pub returns-clause-readable : goal.returns-clause-readable
-returns-clause-readable c = readable c.in_ok-command.field-0 c.in_ok-try_get_matches_from.field-0 c.in_ok-try_get_matches_from.ensures.parsed c.in_ok-command.ensures
+returns-clause-readable c =
+    readable c.in_ok-command.field-0 c.in_ok-try_get_matches_from.field-0 c.in_ok-try_get_matches_from.ensures.parsed c.in_ok-command.ensures

@@ -27,4 +27,5 @@ returns c =
     let nine = c.in_ok-command-9.ensures ∙ ap (λ a. with_rule a (flag_rule (codes "frames") (codes "frames"))) eight in
     let ten = c.in_ok-command-10.ensures ∙ ap (λ a. with_rule a (flag_rule (codes "pgm") (codes "pgm"))) nine in
     let eleven = c.in_ok-command-11.ensures ∙ ap (λ a. with_rule a (flag_rule (codes "asks-help") (codes "help"))) ten in
-    IfOk-weaker c.with_flag-4.result _ _ (λ made is. is ∙ ap (λ a. with_rule a (flag_rule (codes "asks-version") (codes "version"))) eleven) c.with_flag-4.ensures
+    IfOk-weaker c.with_flag-4.result _ _
+    (λ made is. is ∙ ap (λ a. with_rule a (flag_rule (codes "asks-version") (codes "version"))) eleven) c.with_flag-4.ensures

@@ -49,7 +49,8 @@ returns-clause-viewers c =
     let words_are = ap (map string_bytes) c.as_slice.ensures.value in
     let rows = (c.in_ok-matches.ensures.matches (ap is_simple same ∙ mfpic-simple)).0 ∙ ap₂ matches_of same words_are in
     let read = viewers_read _ Reads c.in_ok-command.field-0 c.in_ok-matches.matches c.get_one.result same c.in_ok-matches.ensures.parsed c.get_one.ensures.none c.get_one.ensures.value (λ t x h. h.0) in
-    c.unwrap_or-viewers.ensures ∙ read.0 ∙ ap number_of (one_text-rows (found_of c.in_ok-matches.matches) (codes "viewers") ∙ ap (one_of (codes "viewers")) rows)
+    c.unwrap_or-viewers.ensures ∙ read.0
+    ∙ ap number_of (one_text-rows (found_of c.in_ok-matches.matches) (codes "viewers") ∙ ap (one_of (codes "viewers")) rows)
 
 pub returns-clause-few : goal.returns-clause-few
 returns-clause-few c =

@@ -3,10 +3,10 @@ use Rattle.std.specs.Vec.Iter.{into_iter_items}
 use Rattle.std.proofs.lemmas.List.Elements.{All-nil, All-head, All-push, All-rest}
 use Rattle.std.proofs.lemmas.Result.{err_from_is_err_and}
 use Rattle.mf_live.specs.Entries.{Entry}
-use Rattle.mf_live.specs.Writers.{ended_name, ended_published}
+use Rattle.mf_live.specs.Writers.{ended_identity, ended_published_list}
 use Rattle.mf_watch.specs.declared.glance.Glance.{Glance}
 use Rattle.mf_watch.specs.Watchers.{HasRoom, HasSeen, IsRecord, name}
-use Rattle.mf_desk.proofs.Showing.{IsShown, IsShown-start, IsShown-number, IsShown-next, StopsShowing-behind, StopsShowing-line}
+use Rattle.mf_desk.proofs.Showing.{IsShown, IsShown-start, IsShown-number, IsShown-next, StopsShowing-behind, StopsShowing-line, StopsShowing-unflushed}
 use Rattle.mf_desk.proofs.ended_run.EndedRun.show_all.Goals as goal
 
 pub returns-in_err-seen-clause-fault : goal.returns-in_err-seen-clause-fault
@@ -25,24 +25,29 @@ loop-watcher-init g c =
       names = c.requires.names;
       rooms = c.requires.rooms;
       shown = IsShown-start run (g.W.Write.contents c.args.writer.now);
-      seen = λ looks records. (records, All-nil (λ (v : Vec Glance Global). HasSeen (ended_published run.ended) looks v.items));
+      seen = λ looks records. (records, All-nil (λ (v : Vec Glance Global). HasSeen (ended_published_list run.ended) looks v.items));
     }
 
 pub returns-in_err-show_one-clause-fault : goal.returns-in_err-show_one-clause-fault
 returns-in_err-show_one-clause-fault g c =
     let number = c.len-number.result in
     let was = c.loop-watcher.invariant in
-    let shown = IsShown-number c.args.self.now c.loop-watcher.self (length c.loop-watcher.seen.items) number _ _ (c.len-number.ensures ∙ c.loop-watcher.seen.ok.0) was.shown in
-    let few : number < length c.args.watchers.items = omega (arith, was.count, ap length c.in-Some.ensures.steps.0, ap length c.into_iter-watcher-iterator.ensures.into_iter_gives.0) in
+    let shown =
+    IsShown-number c.args.self.now c.loop-watcher.self (length c.loop-watcher.seen.items) number _ _
+    (c.len-number.ensures ∙ c.loop-watcher.seen.ok.0) was.shown in
+    let few : number < length c.args.watchers.items =
+    omega (arith, was.count, ap length c.in-Some.ensures.steps.0, ap length c.into_iter-watcher-iterator.ensures.into_iter_gives.0) in
     let passed_on = err_from_is_err_and c.from_residual-in_err-show_one.result c.from_residual-in_err-show_one.ensures.1 in
-    rw (passed_on.1, passed_on.2) (StopsShowing-line c.in_err-show_one.field-0.0 c.args.self.now c.loop-watcher.self number _ _ _ _ few shown c.in_err-show_one.ensures.fault)
+    rw (passed_on.1, passed_on.2)
+    (StopsShowing-line c.in_err-show_one.field-0.0 c.args.self.now c.loop-watcher.self number _ _ _ _ few shown c.in_err-show_one.ensures.fault)
 
 pub loop-watcher-preserved : goal.loop-watcher-preserved
 loop-watcher-preserved g c =
     let run = c.args.self.now in
     let was = c.loop-watcher.invariant in
     let number = c.len-number.result in
-    let shown = IsShown-number run c.loop-watcher.self (length c.loop-watcher.seen.items) number _ _ (c.len-number.ensures ∙ c.loop-watcher.seen.ok.0) was.shown in
+    let shown =
+    IsShown-number run c.loop-watcher.self (length c.loop-watcher.seen.items) number _ _ (c.len-number.ensures ∙ c.loop-watcher.seen.ok.0) was.shown in
     let seen = c.loop-watcher.seen.items in
     let looked = c.in_ok-show_one.field-0 in
     let one = c.in_ok-show_one.ensures in
@@ -52,15 +57,17 @@ loop-watcher-preserved g c =
     let Shown = λ (n : ℕ). IsShown run c.show_one.new.self n (g.W.Write.contents c.args.writer.now) (g.W.Write.contents c.show_one.new.writer) in
     record {
       count = omega (arith, grown, was.count, ap length step);
-      names = All-rest (λ w. name w ≡ ended_name run.ended) c.in-Some.watcher rest _ step was.names;
+      names = All-rest (λ w. name w ≡ ended_identity run.ended) c.in-Some.watcher rest _ step was.names;
       rooms = All-rest (HasRoom 1) c.in-Some.watcher rest _ step was.rooms;
       shown = subst Shown (sym grown) (IsShown-next run c.loop-watcher.self c.show_one.new.self number _ _ _ shown one.same one.shown one.counted one.at_most);
       seen = λ looks records.
           let Seen = λ (published : List Entry) (v : Vec Glance Global). HasSeen published looks v.items in
           let (left, kept) = was.seen looks records in
           let recorded = All-head (IsRecord looks) c.in-Some.watcher rest (subst (All (IsRecord looks)) step left) in
-          let here = subst (λ published. Seen published looked) was.shown.same.published (one.seen looks recorded) in
-          (All-rest (IsRecord looks) c.in-Some.watcher rest _ step left, rw c.in_ok-push.ensures.items (All-push (Seen (ended_published run.ended)) seen looked kept here));
+          let here = subst (λ published. Seen published looked) was.shown.same.published (one.seen looks recorded) in (
+            All-rest (IsRecord looks) c.in-Some.watcher rest _ step left,
+            rw c.in_ok-push.ensures.items (All-push (Seen (ended_published_list run.ended)) seen looked kept here),
+          );
     }
 
 pub returns-in_err-push-clause-fault : goal.returns-in_err-push-clause-fault
@@ -68,12 +75,24 @@ returns-in_err-push-clause-fault g c =
     let run = c.args.self.now in
     let number = c.len-number.result in
     let was = c.loop-watcher.invariant in
-    let shown = IsShown-number run c.loop-watcher.self (length c.loop-watcher.seen.items) number _ _ (c.len-number.ensures ∙ c.loop-watcher.seen.ok.0) was.shown in
+    let shown =
+    IsShown-number run c.loop-watcher.self (length c.loop-watcher.seen.items) number _ _ (c.len-number.ensures ∙ c.loop-watcher.seen.ok.0) was.shown in
     let one = c.in_ok-show_one.ensures in
-    let few : number + 1 ≤ length c.args.watchers.items = omega (arith, was.count, ap length c.in-Some.ensures.steps.0, ap length c.into_iter-watcher-iterator.ensures.into_iter_gives.0) in
+    let few : number + 1 ≤ length c.args.watchers.items =
+    omega (arith, was.count, ap length c.in-Some.ensures.steps.0, ap length c.into_iter-watcher-iterator.ensures.into_iter_gives.0) in
     let wanting = err_from_is_err_and c.from_residual-in_err-push.result c.from_residual-in_err-push.ensures.1 in
     rw (wanting.1, wanting.2)
-    (StopsShowing-behind run c.show_one.new.self (number + 1) _ _ _ few (IsShown-next run c.loop-watcher.self c.show_one.new.self number _ _ _ shown one.same one.shown one.counted one.at_most))
+    (StopsShowing-behind run c.show_one.new.self (number + 1) _ _ _ few
+    (IsShown-next run c.loop-watcher.self c.show_one.new.self number _ _ _ shown one.same one.shown one.counted one.at_most))
+
+pub returns-in_err-flush-clause-fault : goal.returns-in_err-flush-clause-fault
+returns-in_err-flush-clause-fault g c =
+    let was = c.loop-watcher.invariant in
+    let few : length c.loop-watcher.seen.items ≤ length c.args.watchers.items =
+    omega (arith, was.count, ap length c.into_iter-watcher-iterator.ensures.into_iter_gives.0) in
+    let passed_on = err_from_is_err_and c.from_residual-in_err-flush.result c.from_residual-in_err-flush.ensures.1 in
+    rw (passed_on.1, passed_on.2)
+    (StopsShowing-unflushed c.args.self.now c.loop-watcher.self _ _ _ _ _ few was.shown c.flush.ensures.kept c.in_err-flush.field-0.0 c.in_err-flush.ensures.fault)
 
 pub returns-clause-seen : goal.returns-clause-seen
 returns-clause-seen g c = λ looks records.

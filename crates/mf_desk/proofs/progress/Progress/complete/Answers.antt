@@ -1,7 +1,7 @@
 use Rattle.std.proofs.Common.{subst}
 use Rattle.std.proofs.lemmas.Result.{IfOk-weaker, IfErr-weaker}
 use Rattle.mf_desk.specs.EndedRuns.{IsOver}
-use Rattle.mf_desk.proofs.Runs.{BreaksScript-unended, IsOver-ended}
+use Rattle.mf_desk.proofs.ScriptEnds.{Breaks-unended, IsOver-ended}
 use Rattle.mf_desk.proofs.progress.Progress.complete.Goals as goal
 
 pub returns-in-Ok-clause-over : goal.returns-in-Ok-clause-over
@@ -15,4 +15,5 @@ returns-in-Ok-clause-over g c =
 
 pub returns-in-Ok-clause-fault : goal.returns-in-Ok-clause-fault
 returns-in-Ok-clause-fault g c =
-    IfErr-weaker c.finish.result _ _ (BreaksScript-unended _ _ _ _ _ c.read_all.new.self.performer c.in-Ok.ensures.limits c.in-Ok.ensures.end c.in-Ok.ensures.through) c.finish.ensures.fault
+    IfErr-weaker c.finish.result _ _
+    (Breaks-unended _ _ c.read_all.new.self.performer c.in-Ok.ensures.limits c.in-Ok.ensures.end c.in-Ok.ensures.through) c.finish.ensures.fault

@@ -17,7 +17,8 @@ pub returns-in_err-perform-clause-fault : goal.returns-in_err-perform-clause-fau
 returns-in_err-perform-clause-fault g c =
     let passed_on = err_from_is_err_and c.from_residual.result c.from_residual.ensures.1 in
     let broken_off = rw c.at_end.ensures at c.in_err-perform.ensures.fault in
-    rw (passed_on.1, passed_on.2) (λ held left read all_read after. CutsShort-last c.in_err-perform.field-0.0 held left _ _ read c.args.self.now all_read after (sym (c.if-is_empty.ensures)) (broken_off after.last after.stands))
+    rw (passed_on.1, passed_on.2) (λ held left read all_read after. CutsShort-last c.in_err-perform.field-0.0 held left _ _ read c.args.self.now all_read after
+    (sym (c.if-is_empty.ensures)) (broken_off after.last after.stands))
 
 pub returns-clause-done : goal.returns-clause-done
 returns-clause-done g c =
@@ -35,4 +36,5 @@ returns-clause-fault g c =
     let written = rw c.at_end.ensures at c.in_ok-perform.ensures.written in
     IfErr-weaker c.flush.result _ _ (λ fault is held left read all_read after.
     CutsShort-last_unflushed _ held left _ _ read c.perform.new.self all_read c.perform.ensures.limits c.flush.ensures.kept
-    (IsThrough-last held _ _ read old new after (sym (c.if-is_empty.ensures)) c.perform.ensures.limits (written after.last after.stands)) fault is) c.flush.ensures.fault
+    (IsThrough-last held _ _ read old new after (sym (c.if-is_empty.ensures)) c.perform.ensures.limits
+    (written after.last after.stands)) fault is) c.flush.ensures.fault

@@ -4,7 +4,8 @@ use Rattle.mf_desk.proofs.Stages.{IsAfter-unbroken, CutsShort-between}
 use Rattle.mf_desk.proofs.progress.Progress.keep.Goals as goal
 
 pub returns-clause-after : goal.returns-clause-after
-returns-clause-after c = λ held read holds after. IsAfter-unbroken held holds read c.args.bytes.now c.args.self.now _ c.requires refl c.in_ok-extend.ensures.added after
+returns-clause-after c =
+    λ held read holds after. IsAfter-unbroken held holds read c.args.bytes.now c.args.self.now _ c.requires refl c.in_ok-extend.ensures.added after
 
 pub returns-in_err-extend-clause-fault : goal.returns-in_err-extend-clause-fault
 returns-in_err-extend-clause-fault c =

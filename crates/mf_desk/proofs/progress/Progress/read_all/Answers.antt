@@ -6,7 +6,8 @@ use Rattle.mf_desk.proofs.Stages.{CutsShort-reads, CutsShort-unflushed, IsAfter-
 use Rattle.mf_desk.proofs.progress.Progress.read_all.Goals as goal
 
 -- a read that gives no byte
-Consumes-none : (unread left rest : Option (List ℕ)) (read chunk : List ℕ) (n : ℕ) → Consumes unread left read → n ≡ 0 → Consumes left rest (take n chunk) → Consumes unread rest read
+Consumes-none : (unread left rest : Option (List ℕ)) (read chunk : List ℕ) (n : ℕ) → Consumes unread left read → n ≡ 0
+    → Consumes left rest (take n chunk) → Consumes unread rest read
 Consumes-none unread left rest read chunk n before none more =
     subst (Consumes unread rest) (ap (λ m. read ++ take m chunk) none ∙ append-nil read) (Consumes-trans unread left rest read _ before more)
 
@@ -17,13 +18,17 @@ pub returns-in_err-flush-clause-fault : goal.returns-in_err-flush-clause-fault
 returns-in_err-flush-clause-fault g c =
     let (read, consumed, after) = c.reads.invariant.1 in
     let passed_on = err_from_is_err_and c.from_residual.result c.from_residual.ensures.1 in
-    rw (passed_on.1, passed_on.2, ← c.reads.invariant.2) (read, consumed, CutsShort-unflushed _ _ _ _ read c.reads.self c.flush.ensures.kept after c.in_err-flush.field-0.0 c.in_err-flush.ensures.fault)
+    rw (passed_on.1, passed_on.2, ← c.reads.invariant.2)
+    (read, consumed, CutsShort-unflushed _ _ _ _ read c.reads.self c.flush.ensures.kept after c.in_err-flush.field-0.0 c.in_err-flush.ensures.fault)
 
 pub returns-in-Err-clause-fault : goal.returns-in-Err-clause-fault
 returns-in-Err-clause-fault g c =
     let (read, consumed, before) = c.reads.invariant.1 in
-    let after = IsAfter-flushed _ _ _ read c.reads.self c.flush.ensures.kept before in
-    (read, Consumes-kept _ _ _ read consumed c.in-Err.ensures.bytes, rw (← c.reads.invariant.2) (CutsShort-reads _ (g.R.Read.remaining c.read.new.self) _ read c.reads.self after))
+    let after = IsAfter-flushed _ _ _ read c.reads.self c.flush.ensures.kept before in (
+      read,
+      Consumes-kept _ _ _ read consumed c.in-Err.ensures.bytes,
+      rw (← c.reads.invariant.2) (CutsShort-reads _ (g.R.Read.remaining c.read.new.self) _ read c.reads.self after),
+    )
 
 pub returns-in-Ok-eq0-clause-end : goal.returns-in-Ok-eq0-clause-end
 returns-in-Ok-eq0-clause-end g c =

@@ -2,9 +2,9 @@ use Rattle.std.proofs.Common.{◌≡◌, ◌+◌, ◌<◌, ◌==◌, ◌++◌, �
 use Rattle.std.proofs.lemmas.Bool.{eqb-true, eq-eqb}
 use Rattle.std.proofs.lemmas.List.{drop_more, get_or-take, get_or_default, length-take-le, take_rest}
 use Rattle.std.proofs.lemmas.Result.{err_from_is_err_and, IfErr-weaker}
-use Rattle.mf_desk.specs.Fault.{CutsShort}
 use Rattle.mf_desk.specs.Progress.{IsAfter}
 use Rattle.mf_session.specs.Sessions.{limits}
+use Rattle.mf_desk.proofs.Stages.{CutsShort}
 use Rattle.mf_desk.proofs.progress.Progress.take.Goals as goal
 
 -- the bytes before a line feed, the line feed, and the rest
@@ -27,7 +27,8 @@ returns-in_err-take_line-clause-fault g c =
     let passed_on = err_from_is_err_and c.from_residual.result c.from_residual.ensures.1 in
     rw (passed_on.1, passed_on.2, ← same) (
     λ held left read after.
-    subst (λ all. CutsShort (limits c.lines.self.performer.session) c.in_err-take_line.field-0.0 left all held (g.W.Write.contents c.take_line.new.writer)) (whole read)
+    subst (λ all. CutsShort (limits c.lines.self.performer.session) c.in_err-take_line.field-0.0 left all held (g.W.Write.contents c.take_line.new.writer))
+    (whole read)
     (c.in_err-take_line.ensures.fault held left (read ++ done) (drop (at + 1) rest) (goes_on held read after))
     )
 
@@ -41,7 +42,8 @@ lines-preserved g c =
       done ++ line,
       rw (take_rest rest (at + 1)) (bytes_are ∙ ap (λ more. done ++ more) all ∙ sym (append_assoc done line (drop (at + 1) rest))),
       omega (arith, few, c.in_ok-take_line.ensures.at_most, length-append done line, length-append (take at rest) (10 ∷ [])),
-      λ held read after. subst (λ bytes. IsAfter held bytes c.take_line.new.self (g.W.Write.contents c.take_line.new.writer)) (regrouped read done (take at rest) (10 ∷ []))
+      λ held read after. subst (λ bytes. IsAfter held bytes c.take_line.new.self (g.W.Write.contents c.take_line.new.writer))
+          (regrouped read done (take at rest) (10 ∷ []))
           (c.in_ok-take_line.ensures.after held (read ++ done) (goes_on held read after)),
       c.take_line.ensures.limits ∙ same,
       c.take_line.ensures.name ∙ name_is,
@@ -54,7 +56,8 @@ pub returns-clause-fault : goal.returns-clause-fault
 returns-clause-fault g c =
     let (done, bytes_are, few, goes_on, same, name_is) = c.lines.invariant in
     let rest = c.lines.rest.now in
-    let whole : (read : List ℕ) → read ++ done ++ rest ≡ read ++ c.args.bytes.now = λ read. append_assoc read done rest ∙ ap (λ all. read ++ all) (sym bytes_are) in
+    let whole : (read : List ℕ) → read ++ done ++ rest ≡ read ++ c.args.bytes.now =
+    λ read. append_assoc read done rest ∙ ap (λ all. read ++ all) (sym bytes_are) in
     rw (← same) (IfErr-weaker c.keep.result _ _ (λ fault cut_short held left read after.
     subst (λ all. CutsShort (limits c.lines.self.performer.session) fault left all held (g.W.Write.contents c.lines.writer)) (whole read)
     (cut_short held left (read ++ done) rest _ (goes_on held read after))) c.keep.ensures.fault)

@@ -2,9 +2,8 @@ use Rattle.std.proofs.Common.{◌++◌, ◌∷◌, sym, subst, append_assoc}
 use Rattle.std.proofs.lemmas.Bool.{eqb-true}
 use Rattle.std.proofs.lemmas.List.{nil_from_length}
 use Rattle.std.proofs.lemmas.Result.{err_from_is_err_and, on_ok_weaker, IfErr-weaker}
-use Rattle.mf_desk.specs.Fault.{CutsShort}
 use Rattle.mf_session.specs.Sessions.{limits}
-use Rattle.mf_desk.proofs.Stages.{IsAfter-whole, CutsShort-whole}
+use Rattle.mf_desk.proofs.Stages.{CutsShort, IsAfter-whole, CutsShort-whole}
 use Rattle.mf_desk.proofs.progress.Progress.take_line.Goals as goal
 
 pub returns-then-is_empty-clause-after : goal.returns-then-is_empty-clause-after
@@ -13,14 +12,16 @@ returns-then-is_empty-clause-after g c =
     let none = sym (c.if-is_empty.ensures) in
     let written = rw c.before_line_feed-line.ensures at c.perform.ensures.written in
     on_ok_weaker c.perform.result (λ done held read after.
-    IsAfter-whole held _ read c.args.bytes.now old after none c.requires.unbroken _ (record { performer = c.perform.new.self; line = old.line }) (done after.last after.stands) c.perform.ensures.limits
+    IsAfter-whole held _ read c.args.bytes.now old after none c.requires.unbroken _
+    (record { performer = c.perform.new.self; line = old.line }) (done after.last after.stands) c.perform.ensures.limits
     (nil_from_length old.line (eqb-true _ 0 none))) written
 
 pub returns-then-is_empty-clause-fault : goal.returns-then-is_empty-clause-fault
 returns-then-is_empty-clause-fault g c =
     let broken_off = rw c.before_line_feed-line.ensures at c.perform.ensures.fault in
     IfErr-weaker c.perform.result _ _ (λ fault broken held left read more after.
-    CutsShort-whole held _ read c.args.bytes.now c.args.self.now after (sym (c.if-is_empty.ensures)) c.requires.unbroken fault left _ more (broken after.last after.stands)) broken_off
+    CutsShort-whole held _ read c.args.bytes.now c.args.self.now after
+    (sym (c.if-is_empty.ensures)) c.requires.unbroken fault left _ more (broken after.last after.stands)) broken_off
 
 pub returns-in_err-keep-clause-fault : goal.returns-in_err-keep-clause-fault
 returns-in_err-keep-clause-fault g c =
@@ -33,10 +34,12 @@ returns-in_err-keep-clause-fault g c =
 
 pub returns-clause-after : goal.returns-clause-after
 returns-clause-after g c =
-    on_ok_weaker c.end_line.result (λ ended held read after. ended held (read ++ c.args.bytes.now) (c.in_ok-keep.ensures.after held read _ after)) c.end_line.ensures.after
+    on_ok_weaker c.end_line.result
+    (λ ended held read after. ended held (read ++ c.args.bytes.now) (c.in_ok-keep.ensures.after held read _ after)) c.end_line.ensures.after
 
 pub returns-clause-fault : goal.returns-clause-fault
 returns-clause-fault g c =
     IfErr-weaker c.end_line.result _ _ (λ fault cut_short held left read more after.
-    subst (λ performer. CutsShort (limits performer.session) fault left (read ++ c.args.bytes.now ++ 10 ∷ more) held (g.W.Write.contents c.end_line.new.writer)) c.keep.ensures.same
+    subst (λ performer. CutsShort (limits performer.session) fault left (read ++ c.args.bytes.now ++ 10 ∷ more) held
+    (g.W.Write.contents c.end_line.new.writer)) c.keep.ensures.same
     (cut_short held left (read ++ c.args.bytes.now) more (c.in_ok-keep.ensures.after held read _ after))) c.end_line.ensures.fault

@@ -12,7 +12,7 @@ of_run-requires c = next_run _ _ _ _ _ c.in-Some.ensures.steps c.loop-stretch.in
 
 pub loop-stretch-preserved : goal.loop-stretch-preserved
 loop-stretch-preserved c =
-    rw (c.widened.ensures, c.of_run.ensures) (box_more _ _ _ _ _ c.in-Some.ensures.steps c.loop-stretch.invariant)
+    rw (c.widen.ensures, c.of_run.ensures) (box_more _ _ _ _ _ c.in-Some.ensures.steps c.loop-stretch.invariant)
 
 pub returns-clause-value : goal.returns-clause-value
 returns-clause-value c =

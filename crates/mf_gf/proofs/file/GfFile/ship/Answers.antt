@@ -9,7 +9,8 @@ use Rattle.mf_gf.proofs.file.GfFile.ship.Goals as goal
 
 pub append-requires-clause-some : goal.append-requires-clause-some
 append-requires-clause-some c =
-    subst (λ bytes. 1 ≤ length bytes) (sym (c.deref.ensures.value ∙ c.in_ok-spelled.ensures.bytes)) (spell_some c.args.code (pointer c.last_place-earlier.result) (black c.args.picture.now))
+    subst (λ bytes. 1 ≤ length bytes) (sym (c.deref.ensures.value ∙ c.in_ok-spelled.ensures.bytes))
+    (spell_some c.args.code (pointer c.last_place-earlier.result) (black c.args.picture.now))
 
 pub returns-clause-shipped : goal.returns-clause-shipped
 returns-clause-shipped c = λ comment characters keeps.
@@ -24,17 +25,23 @@ returns-clause-shipped c = λ comment characters keeps.
 pub returns-in_err-spelled-clause-too_long : goal.returns-in_err-spelled-clause-too_long
 returns-in_err-spelled-clause-too_long c = λ comment characters keeps.
     let this = character c.args.code c.args.dx c.args.width c.args.picture.now in
-    let whole = front-kept c.args.self.now comment characters this c.last_place-earlier.result keeps (c.last_place-earlier.ensures (shipments comment characters) keeps.locators) in
+    let whole =
+    front-kept c.args.self.now comment characters this c.last_place-earlier.result keeps
+    (c.last_place-earlier.ensures (shipments comment characters) keeps.locators) in
     rw whole (search rules)
 
 pub returns-in_err-append-clause-too_long : goal.returns-in_err-append-clause-too_long
 returns-in_err-append-clause-too_long c = λ comment characters keeps.
     let this = character c.args.code c.args.dx c.args.width c.args.picture.now in
-    let whole = front-kept c.args.self.now comment characters this c.last_place-earlier.result keeps (c.last_place-earlier.ensures (shipments comment characters) keeps.locators) in
+    let whole =
+    front-kept c.args.self.now comment characters this c.last_place-earlier.result keeps
+    (c.last_place-earlier.ensures (shipments comment characters) keeps.locators) in
     rw whole (search rules)
 
 pub returns-clause-too_long : goal.returns-clause-too_long
 returns-clause-too_long c = λ comment characters keeps.
     let this = character c.args.code c.args.dx c.args.width c.args.picture.now in
-    let whole = front-kept c.args.self.now comment characters this c.last_place-earlier.result keeps (c.last_place-earlier.ensures (shipments comment characters) keeps.locators) in
+    let whole =
+    front-kept c.args.self.now comment characters this c.last_place-earlier.result keeps
+    (c.last_place-earlier.ensures (shipments comment characters) keeps.locators) in
     rw whole (search rules)

@@ -5,4 +5,5 @@ use Rattle.mf_gf.proofs.locators.Locators.new.Goals as goal
 
 pub returns : goal.returns
 unfolding last_of
-returns c = record { last = λ code fits. ap (λ items. slice_index_or items code None) c.in_ok-from_slice.ensures.items ∙ get_or-replicate 256 code None None fits }
+returns c =
+    record { last = λ code fits. ap (λ items. slice_index_or items code None) c.in_ok-from_slice.ensures.items ∙ get_or-replicate 256 code None None fits }

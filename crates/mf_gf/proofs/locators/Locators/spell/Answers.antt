@@ -11,6 +11,7 @@ loop-last-preserved c =
     let are = c.deref-last-items.ensures.value in
     let within = subst (λ items. i < length items) are c.loop-last-test.true in
     record {
-      held = λ text h. next_code_held c.spell_if.new.out text c.args.self.now.by_code.items i _ within (rw are at (c.spell_if.ensures.held _ (c.loop-last.invariant.held text h)));
+      held = λ text h. next_code_held c.spell_if.new.out text c.args.self.now.by_code.items i _ within
+          (rw are at (c.spell_if.ensures.held _ (c.loop-last.invariant.held text h)));
       room = c.spell_if.ensures.room ∙ c.loop-last.invariant.room;
     }

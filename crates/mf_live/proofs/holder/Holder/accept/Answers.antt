@@ -1,6 +1,6 @@
 use Rattle.std.proofs.Common.{rules, ◌≡◌, ◌<◌, false, None, refl, ap, sym, ◌∙◌, arith}
 use Rattle.left_right.specs.Sides.{view}
-use Rattle.mf_ops.specs.Step.{fault_of}
+use Rattle.mf_ops.specs.Step.{op_fault}
 use Rattle.mf_ops.specs.declared.op.Op.{Op}
 use Rattle.mf_live.specs.declared.event.Event.TheVariants.{Accept}
 use Rattle.mf_live.specs.declared.holder.Holder.{Holder}
@@ -8,17 +8,17 @@ use Rattle.mf_live.specs.declared.version.Version.{Version}
 use Rattle.mf_live.specs.declared.view.View.{View}
 use Rattle.mf_live.specs.Books.{most}
 use Rattle.mf_live.specs.Entries.{Entry, entry, pic, rev, next, is_closed, Operation}
-use Rattle.mf_live.specs.Holders.{accepted, published, version}
+use Rattle.mf_live.specs.Holders.{accepted_list, published_list, version}
 use Rattle.mf_live.specs.Rule.{with_event}
 use Rattle.mf_live.proofs.EntryLists.{pic-push, rev-push}
 use Rattle.mf_live.proofs.Histories.{few_unwritten, HasOneMore, one_more}
 use Rattle.mf_live.proofs.holder.Holder.accept.Goals as goal
 
 abbrev taken : Holder → Op → Entry
-taken h op = entry (next (published h)) (Operation op)
+taken h op = entry (next (published_list h)) (Operation op)
 
 accepts : (h : Holder) (x : Version) (w : View) (op : Op) → x ≡ version h → w ≡ with_event (view h.swap.desk.place) (Accept op)
-    → is_closed (accepted h) ≡ false → rev (accepted h) < most → fault_of (pic (accepted h)) op ≡ None → HasOneMore h x w (taken h op)
+    → is_closed (accepted_list h) ≡ false → rev (accepted_list h) < most → op_fault (pic (accepted_list h)) op ≡ None → HasOneMore h x w (taken h op)
 accepts h x w op same more not_closed few allowed = one_more h x w (Accept op) (taken h op) same more (h.alive, not_closed, few, allowed) refl
 
 pub overflow_add-self : goal.overflow_add-self
@@ -38,8 +38,8 @@ invariant_of-self-2 c =
       lawful = more.lawful;
       alive = more.alive;
       counted = more.counted;
-      pictured = step ∙ sym (ap pic more.accepted ∙ pic-push (accepted h) (next (published h)) op);
-      numbered = omega (arith, h.numbered, ap rev more.accepted, rev-push (accepted h) (next (published h)) op);
+      pictured = step ∙ sym (ap pic more.accepted ∙ pic-push (accepted_list h) (next (published_list h)) op);
+      numbered = omega (arith, h.numbered, ap rev more.accepted, rev-push (accepted_list h) (next (published_list h)) op);
       since = more.since;
       short = search rules;
     }
@@ -47,4 +47,5 @@ invariant_of-self-2 c =
 pub returns-clause-accepted : goal.returns-clause-accepted
 returns-clause-accepted c =
     let allowed = rw c.args.self.now.pictured at c.in_ok-apply.ensures.accepted in
-    (accepts c.args.self.now _ _ c.args.op.now (ap (λ part. part.value) c.note_operation.ensures.shown) c.note_operation.ensures.view c.requires.open c.requires.few allowed).accepted
+    (accepts c.args.self.now _ _ c.args.op.now
+    (ap (λ part. part.value) c.note_operation.ensures.shown) c.note_operation.ensures.view c.requires.open c.requires.few allowed).accepted

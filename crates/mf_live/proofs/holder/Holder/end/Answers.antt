@@ -5,7 +5,7 @@ use Rattle.mf_live.specs.declared.holder.Holder.{Holder}
 use Rattle.mf_live.specs.declared.version.Version.{Version}
 use Rattle.mf_live.specs.declared.view.View.{View}
 use Rattle.mf_live.specs.Entries.{Entry, entry, pic, rev, next, is_closed, End}
-use Rattle.mf_live.specs.Holders.{accepted, published, version}
+use Rattle.mf_live.specs.Holders.{accepted_list, published_list, version}
 use Rattle.mf_live.specs.Rule.{newcomer, with_event}
 use Rattle.mf_live.proofs.EntryLists.{pic-end, rev-end}
 use Rattle.mf_live.proofs.Histories.{few_unwritten, HasOneMore, one_more}
@@ -13,9 +13,10 @@ use Rattle.mf_live.proofs.Seats.{forks}
 use Rattle.mf_live.proofs.holder.Holder.end.Goals as goal
 
 abbrev mark : Holder → Entry
-mark h = entry (next (published h)) End
+mark h = entry (next (published_list h)) End
 
-closes : (h : Holder) (x : Version) (w : View) → x ≡ version h → w ≡ with_event (view h.swap.desk.place) Close → is_closed (accepted h) ≡ false → HasOneMore h x w (mark h)
+closes : (h : Holder) (x : Version) (w : View) → x ≡ version h → w ≡ with_event (view h.swap.desk.place) Close
+    → is_closed (accepted_list h) ≡ false → HasOneMore h x w (mark h)
 closes h x w same more not_closed = one_more h x w Close (mark h) same more (h.alive, not_closed) refl
 
 pub tell-none-requires : goal.tell-none-requires
@@ -37,11 +38,12 @@ invariant_of-self c =
       lawful = more.lawful;
       alive = more.alive;
       counted = more.counted;
-      pictured = h.pictured ∙ sym (ap pic more.accepted ∙ pic-end (accepted h) (next (published h)));
-      numbered = omega (arith, h.numbered, ap rev more.accepted, rev-end (accepted h) (next (published h)));
+      pictured = h.pictured ∙ sym (ap pic more.accepted ∙ pic-end (accepted_list h) (next (published_list h)));
+      numbered = omega (arith, h.numbered, ap rev more.accepted, rev-end (accepted_list h) (next (published_list h)));
       since = more.since;
       short = search rules;
     }
 
 pub returns-clause-accepted : goal.returns-clause-accepted
-returns-clause-accepted c = (closes c.args.self.now _ _ (ap (λ part. part.value) c.tell-none.ensures.kept.0) c.tell-none.ensures.kept.3 c.requires.open).accepted
+returns-clause-accepted c =
+    (closes c.args.self.now _ _ (ap (λ part. part.value) c.tell-none.ensures.kept.0) c.tell-none.ensures.kept.3 c.requires.open).accepted

@@ -1,24 +1,24 @@
 use Rattle.std.proofs.Common.{◌≡◌, ◌≤◌, ◌*◌, ◌++◌, List, [], length, ap, sym, subst, ◌∙◌, arith, le_refl}
 use Rattle.left_right.specs.Sides.{view}
 use Rattle.mf_live.specs.declared.event.Event.{Event}
-use Rattle.mf_live.specs.declared.history.Token.{Token}
+use Rattle.mf_live.specs.declared.history.Knowledge.{Knowledge}
 use Rattle.mf_live.specs.declared.view.View.{View}
 use Rattle.mf_live.specs.Books.{most, head_of}
-use Rattle.mf_live.specs.Rule.{events_of, history, token_of}
+use Rattle.mf_live.specs.Rule.{events_of, history, knowledge_of}
 use Rattle.mf_live.specs.World.{Happen, start, world_after, accepted_of, published_of}
 use Rattle.mf_live.proofs.Blank.{pic-blank, rev-blank}
 use Rattle.mf_live.proofs.holder.Holder.open.Goals as goal
 
 pub invariant_of-result : goal.invariant_of-result
 invariant_of-result g c =
-    let token = c.open_history-head.result.1.token in
+    let knowledge = c.open_history-head.result.1.knowledge in
     let swap = c.show.new.swap in
-    let same : token_of swap.desk.shown.value ≡ token = ap token_of c.show.ensures.shown ∙ c.blank.ensures in
-    let shows : events_of swap.desk.shown.value ≡ [] = ap (λ (t : Token). t.seen.log) same ∙ c.open_history-head.ensures.empty in
+    let same : knowledge_of swap.desk.shown.value ≡ knowledge = ap knowledge_of c.show.ensures.shown ∙ c.blank.ensures in
+    let shows : events_of swap.desk.shown.value ≡ [] = ap (λ (t : Knowledge). t.seen.log) same ∙ c.open_history-head.ensures.empty in
     let written : (view swap.desk.place).unwritten ≡ [] = ap (λ (v : View). v.unwritten) c.show.ensures.view in
     let happened : history swap.desk.shown.value (view swap.desk.place) ≡ [] = λ i. shows i ++ written i in
     record {
-      head_is = c.open_history-head.ensures.head ∙ sym (ap (λ (t : Token). head_of t.seen.book) same);
+      head_is = c.open_history-head.ensures.head ∙ sym (ap (λ (t : Knowledge). head_of t.seen.book) same);
       shown_is = ap published_of (shows ∙ sym happened);
       lawful = subst (Happen most start) (sym happened) tt;
       alive = ap (λ (es : List Event). (world_after start es).dropped) happened;

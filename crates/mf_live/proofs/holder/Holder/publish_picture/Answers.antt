@@ -2,12 +2,12 @@ use Rattle.std.proofs.Common.{◌≡◌, ◌∙◌, ◌++◌, List, [], length, 
 use Rattle.std.proofs.lemmas.List.{append-nil}
 use Rattle.left_right.specs.Sides.{view}
 use Rattle.mf_live.specs.declared.event.Event.{Event}
-use Rattle.mf_live.specs.declared.history.Token.{Token}
+use Rattle.mf_live.specs.declared.history.Knowledge.{Knowledge}
 use Rattle.mf_live.specs.declared.view.View.{View}
 use Rattle.mf_live.specs.Books.{most, head_of}
 use Rattle.mf_live.specs.Entries.{pic, rev}
-use Rattle.mf_live.specs.Holders.{accepted, version}
-use Rattle.mf_live.specs.Rule.{book_of, events_of, history, shown_by, token_of}
+use Rattle.mf_live.specs.Holders.{accepted_list, version}
+use Rattle.mf_live.specs.Rule.{book_of, events_of, history, shown_by, knowledge_of}
 use Rattle.mf_live.specs.World.{Happen, start, world_after, accepted_of, published_of}
 use Rattle.mf_live.proofs.Histories.{few_events, few_unwritten}
 use Rattle.mf_live.proofs.Publishing.{written, all_written, accepted-publish, published-publish, alive-publish, Happen-publish, Happen-written, length-publish}
@@ -18,49 +18,52 @@ overflow_add-self g c = omega (arith, few_unwritten c.args.self.now)
 
 pub write_publish-requires-clause-room : goal.write_publish-requires-clause-room
 write_publish-requires-clause-room g c =
-    let known = c.again-front.ensures ∙ ap token_of c.published.ensures in
-    omega (arith, c.again-front.result.counted, ap (λ (t : Token). length t.seen.log) known, few_events c.args.self.now, few_unwritten c.args.self.now)
+    let known = c.again-prefix.ensures ∙ ap knowledge_of c.published.ensures in
+    omega (arith, c.again-prefix.result.counted, ap (λ (t : Knowledge). length t.seen.log) known, few_events c.args.self.now, few_unwritten c.args.self.now)
 
 pub write_publish-requires-clause-lawful : goal.write_publish-requires-clause-lawful
 write_publish-requires-clause-lawful g c =
     let h = c.args.self.now in
-    let known = c.again-front.ensures ∙ ap token_of c.published.ensures in
-    subst (λ (t : Token). Happen most (world_after start t.seen.log) (written h)) (sym known) (Happen-written h)
+    let known = c.again-prefix.ensures ∙ ap knowledge_of c.published.ensures in
+    subst (λ (t : Knowledge). Happen most (world_after start t.seen.log) (written h)) (sym known) (Happen-written h)
 
 pub write_publish-requires-clause-alive : goal.write_publish-requires-clause-alive
 write_publish-requires-clause-alive g c =
     let h = c.args.self.now in
-    let known = c.again-front.ensures ∙ ap token_of c.published.ensures in
-    ap (λ (t : Token). (world_after start (t.seen.log ++ written h)).dropped) known ∙ alive-publish h
+    let known = c.again-prefix.ensures ∙ ap knowledge_of c.published.ensures in
+    ap (λ (t : Knowledge). (world_after start (t.seen.log ++ written h)).dropped) known ∙ alive-publish h
 
 pub invariant_of-notice : goal.invariant_of-notice
 invariant_of-notice g c =
     let h = c.args.self.now in
-    let known = c.again-front.ensures ∙ ap token_of c.published.ensures in
-    let log : c.write_publish.new.front.token.seen.log ≡ all_written h = c.write_publish.ensures.log ∙ ap (λ (t : Token). t.seen.log ++ written h) known in
-    let all : published_of c.write_publish.new.front.token.seen.log ≡ accepted h = ap published_of log ∙ published-publish h in
+    let known = c.again-prefix.ensures ∙ ap knowledge_of c.published.ensures in
+    let log : c.write_publish.new.prefix.knowledge.seen.log ≡ all_written h =
+    c.write_publish.ensures.log ∙ ap (λ (t : Knowledge). t.seen.log ++ written h) known in
+    let all : published_of c.write_publish.new.prefix.knowledge.seen.log ≡ accepted_list h = ap published_of log ∙ published-publish h in
     record { whole = ap accepted_of log ∙ accepted-publish h ∙ sym all; numbered = h.numbered ∙ ap rev (sym all) }
 
 pub invariant_of-show : goal.invariant_of-show
 invariant_of-show g c =
     let h = c.args.self.now in
-    let known = c.again-front.ensures ∙ ap token_of c.published.ensures in
-    let log : c.write_publish.new.front.token.seen.log ≡ all_written h = c.write_publish.ensures.log ∙ ap (λ (t : Token). t.seen.log ++ written h) known in
+    let known = c.again-prefix.ensures ∙ ap knowledge_of c.published.ensures in
+    let log : c.write_publish.new.prefix.knowledge.seen.log ≡ all_written h =
+    c.write_publish.ensures.log ∙ ap (λ (t : Knowledge). t.seen.log ++ written h) known in
     record { pictured = c.requires.picture ∙ ap pic (sym (ap published_of log ∙ published-publish h)) }
 
 pub invariant_of-self : goal.invariant_of-self
 invariant_of-self g c =
     let h = c.args.self.now in
     let swap = c.show.new.swap in
-    let known = c.again-front.ensures ∙ ap token_of c.published.ensures in
-    let log : c.write_publish.new.front.token.seen.log ≡ all_written h = c.write_publish.ensures.log ∙ ap (λ (t : Token). t.seen.log ++ written h) known in
+    let known = c.again-prefix.ensures ∙ ap knowledge_of c.published.ensures in
+    let log : c.write_publish.new.prefix.knowledge.seen.log ≡ all_written h =
+    c.write_publish.ensures.log ∙ ap (λ (t : Knowledge). t.seen.log ++ written h) known in
     let book : book_of swap.desk.shown.value ≡ book_of (version h) =
-    ap book_of c.show.ensures.shown ∙ c.write_publish.ensures.book ∙ ap (λ (t : Token). t.seen.book) known in
+    ap book_of c.show.ensures.shown ∙ c.write_publish.ensures.book ∙ ap (λ (t : Knowledge). t.seen.book) known in
     let shows : events_of swap.desk.shown.value ≡ all_written h = ap events_of c.show.ensures.shown ∙ log in
     let none : (view swap.desk.place).unwritten ≡ [] = ap (λ (v : View). v.unwritten) c.show.ensures.view in
     let happened : history swap.desk.shown.value (view swap.desk.place) ≡ all_written h = (λ i. shows i ++ none i) ∙ append-nil (all_written h) in
-    let accepts : accepted_of (history swap.desk.shown.value (view swap.desk.place)) ≡ accepted h = ap accepted_of happened ∙ accepted-publish h in
-    let tells : shown_by swap.desk.shown.value ≡ accepted h = ap published_of shows ∙ published-publish h in
+    let accepts : accepted_of (history swap.desk.shown.value (view swap.desk.place)) ≡ accepted_list h = ap accepted_of happened ∙ accepted-publish h in
+    let tells : shown_by swap.desk.shown.value ≡ accepted_list h = ap published_of shows ∙ published-publish h in
     record {
       head_is = h.head_is ∙ ap head_of (sym book);
       shown_is = ap published_of (shows ∙ sym happened);
@@ -76,8 +79,9 @@ invariant_of-self g c =
 pub returns-clause-accepted : goal.returns-clause-accepted
 returns-clause-accepted g c =
     let h = c.args.self.now in
-    let known = c.again-front.ensures ∙ ap token_of c.published.ensures in
-    let log : c.write_publish.new.front.token.seen.log ≡ all_written h = c.write_publish.ensures.log ∙ ap (λ (t : Token). t.seen.log ++ written h) known in
+    let known = c.again-prefix.ensures ∙ ap knowledge_of c.published.ensures in
+    let log : c.write_publish.new.prefix.knowledge.seen.log ≡ all_written h =
+    c.write_publish.ensures.log ∙ ap (λ (t : Knowledge). t.seen.log ++ written h) known in
     let shows = ap events_of c.show.ensures.shown ∙ log in
     let none = ap (λ (v : View). v.unwritten) c.show.ensures.view in
     ap accepted_of ((λ i. shows i ++ none i) ∙ append-nil (all_written h)) ∙ accepted-publish h
@@ -85,8 +89,9 @@ returns-clause-accepted g c =
 pub returns-clause-published : goal.returns-clause-published
 returns-clause-published g c =
     let h = c.args.self.now in
-    let known = c.again-front.ensures ∙ ap token_of c.published.ensures in
-    let log : c.write_publish.new.front.token.seen.log ≡ all_written h = c.write_publish.ensures.log ∙ ap (λ (t : Token). t.seen.log ++ written h) known in
+    let known = c.again-prefix.ensures ∙ ap knowledge_of c.published.ensures in
+    let log : c.write_publish.new.prefix.knowledge.seen.log ≡ all_written h =
+    c.write_publish.ensures.log ∙ ap (λ (t : Knowledge). t.seen.log ++ written h) known in
     let shows = ap events_of c.show.ensures.shown ∙ log in
     let none = ap (λ (v : View). v.unwritten) c.show.ensures.view in
     ap published_of ((λ i. shows i ++ none i) ∙ append-nil (all_written h)) ∙ published-publish h

@@ -1,21 +1,21 @@
 use Rattle.std.proofs.Common.{arith}
-use Rattle.mf_live.proofs.Looking.{told-begins, longer-last, longer-second}
+use Rattle.mf_live.proofs.Looking.{told_list-prefix, longer-last, longer-second}
 use Rattle.mf_live.proofs.WholePrefixes.{whole-trans, whole-longer}
 use Rattle.mf_live.proofs.viewer.Viewer.learn.Goals as goal
 
 pub returns-then-self-notice-clause-seen : goal.returns-then-self-notice-clause-seen
-returns-then-self-notice-clause-seen c = longer-last _ _ _ (told-begins c.args.notice _ (c.meets.ensures.this (omega arith)))
+returns-then-self-notice-clause-seen c = longer-last _ _ _ (told_list-prefix c.args.notice _ (c.meets.ensures.this (omega arith)))
 
 pub returns-then-self-notice-clause-keeps : goal.returns-then-self-notice-clause-keeps
 returns-then-self-notice-clause-keeps c = λ L extends.
-    let grows = told-begins c.args.notice _ (c.meets.ensures.this (omega arith)) in
+    let grows = told_list-prefix c.args.notice _ (c.meets.ensures.this (omega arith)) in
     let learns = whole-trans _ _ L grows extends.learnt in
     (record { looked = extends.looked; learnt = learns; seen = whole-longer _ _ L extends.looked learns }, extends.learnt)
 
 pub returns-else-self-notice-clause-seen : goal.returns-else-self-notice-clause-seen
-returns-else-self-notice-clause-seen c = longer-second _ _ _ (told-begins c.args.self.now.known _ (c.meets.ensures.that (omega arith)))
+returns-else-self-notice-clause-seen c = longer-second _ _ _ (told_list-prefix c.args.self.now.known _ (c.meets.ensures.that (omega arith)))
 
 pub returns-else-self-notice-clause-keeps : goal.returns-else-self-notice-clause-keeps
 returns-else-self-notice-clause-keeps c = λ L extends.
-    let begins = told-begins c.args.self.now.known _ (c.meets.ensures.that (omega arith)) in
-    (extends, whole-trans _ _ L begins extends.learnt)
+    let prefix = told_list-prefix c.args.self.now.known _ (c.meets.ensures.that (omega arith)) in
+    (extends, whole-trans _ _ L prefix extends.learnt)

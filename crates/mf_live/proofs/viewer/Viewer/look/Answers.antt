@@ -6,7 +6,7 @@ use Rattle.mf_live.specs.Entries.{ends_last}
 use Rattle.mf_live.specs.Rule.{events_of}
 use Rattle.mf_live.specs.Viewers.{IsPublished, notice_events}
 use Rattle.mf_live.specs.World.{published_of}
-use Rattle.mf_live.proofs.Looking.{extends-look, is_published, shown-last, told-ends}
+use Rattle.mf_live.proofs.Looking.{extends-look, is_published, shown-last, told_list-ends}
 use Rattle.mf_live.proofs.WholePrefixes.{whole-length}
 use Rattle.mf_live.proofs.viewer.Viewer.look.Goals as goal
 
@@ -20,15 +20,15 @@ invariant_of-result c =
     let looks = c.in-Ok.ensures in
     let known = subst (λ (x : Version). IsPrefix (notice_events c.args.self.known) (events_of x)) c.get.ensures (c.meets.ensures.that (omega arith)) in
     record {
-      named = ap (λ (v : View). v.named) looks.now ∙ c.args.self.named;
-      book = ap (λ (v : View). v.now.seen.book) looks.now ∙ (sym (looks.knows c.args.self.named).1.book ∙ c.args.self.book);
-      token = ap (λ (v : View). v.now) looks.now;
+      identified = ap (λ (v : View). v.identified) looks.now ∙ c.args.self.identified;
+      book = ap (λ (v : View). v.now.seen.book) looks.now ∙ (sym (looks.knows c.args.self.identified).1.book ∙ c.args.self.book);
+      knowledge = ap (λ (v : View). v.now) looks.now;
       enough = whole-length _ _ (extends-look c.args.self _ _ looks known).learnt;
     }
 
 pub returns-clause-ends : goal.returns-clause-ends
 returns-clause-ends c =
-    subst (λ (v : View). ends_last (published_of v.now.seen.log) ≡ true) (sym c.in-Ok.ensures.now) (told-ends c.in-Ok.reading.part.value.notice)
+    subst (λ (v : View). ends_last (published_of v.now.seen.log) ≡ true) (sym c.in-Ok.ensures.now) (told_list-ends c.in-Ok.reading.part.value.notice)
 
 pub returns-clause-published : goal.returns-clause-published
 returns-clause-published c =

@@ -1,7 +1,7 @@
 use Rattle.std.proofs.Common.{ap, arith}
 use Rattle.mf_live.specs.declared.version.Version.{Version}
-use Rattle.mf_live.proofs.Ending.{told-few}
+use Rattle.mf_live.proofs.Ending.{published_list-few}
 use Rattle.mf_live.proofs.writer.Writer.pending.Goals as goal
 
 pub overflow_sub-result : goal.overflow_sub-result
-overflow_sub-result c = omega (arith, ap (λ (x : Version). x.notice.number) c.published.ensures, told-few c.args.self.now.holder)
+overflow_sub-result c = omega (arith, ap (λ (x : Version). x.notice.number) c.published.ensures, published_list-few c.args.self.now.holder)

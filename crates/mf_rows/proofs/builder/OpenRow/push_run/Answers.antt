@@ -1,7 +1,8 @@
-use Rattle.std.proofs.Common.{◌≡◌, ◌≤ℤ◌, Result, Ok, Err, ◌+ℤ◌, ◌-ℤ◌, List, pos, negsuc, FitsSigned, to_z, of_z, w32, arith}
+use Rattle.std.proofs.Common.{◌≡◌, ◌≤ℤ◌, Result, Ok, Err, ◌+ℤ◌, ◌-ℤ◌, List, pos, FitsSigned, to_z, of_z, w32, arith}
 use Rattle.std.specs.Result.{IsOk, OnErr}
 use Rattle.std.proofs.lemmas.Int.{ints}
 use Rattle.std.proofs.lemmas.Result.{on_ok_weaker}
+use Rattle.mf_geom.specs.Coordinates.{least_coordinate, greatest_coordinate}
 use Rattle.mf_edges.specs.LawfulWeights.{IsLawfulWeight}
 use Rattle.mf_edges.specs.declared.edge.Edge.{Edge}
 use Rattle.mf_rows.specs.declared.run.Run.{Run}
@@ -20,11 +21,11 @@ record RunNumbers (r : Run) : Type 0 where
   cast : FitsSigned w32 (pos r.len)
   end : FitsSigned w32 (to_z w32 (of_z w32 r.x) +ℤ to_z w32 r.len)
   negated : FitsSigned w32 (pos 0 -ℤ to_z w32 (of_z w32 r.weight))
-  left : negsuc 4094 ≤ℤ to_z w32 (of_z w32 r.x)
-  right : to_z w32 (of_z w32 r.x) ≤ℤ pos 4095
+  left : least_coordinate ≤ℤ to_z w32 (of_z w32 r.x)
+  right : to_z w32 (of_z w32 r.x) ≤ℤ greatest_coordinate
   lawful : IsLawfulWeight (to_z w32 (of_z w32 r.weight))
-  end_left : negsuc 4094 ≤ℤ to_z w32 (of_z w32 (to_z w32 (of_z w32 r.x) +ℤ to_z w32 r.len))
-  end_right : to_z w32 (of_z w32 (to_z w32 (of_z w32 r.x) +ℤ to_z w32 r.len)) ≤ℤ pos 4095
+  end_left : least_coordinate ≤ℤ to_z w32 (of_z w32 (to_z w32 (of_z w32 r.x) +ℤ to_z w32 r.len))
+  end_right : to_z w32 (of_z w32 (to_z w32 (of_z w32 r.x) +ℤ to_z w32 r.len)) ≤ℤ greatest_coordinate
   negated_lawful : IsLawfulWeight (to_z w32 (of_z w32 (pos 0 -ℤ to_z w32 (of_z w32 r.weight))))
 
 run_numbers : (r : Run) → IsRun r → RunNumbers r
@@ -47,14 +48,17 @@ run_numbers r run =
     }
 
 -- the numbers of a run's first edge, passed as i32
-first_passed : (es mid : List Edge) (r : Run) → IsRun r → HaveWeights (with_edge_in es (to_z w32 (of_z w32 r.x)) (to_z w32 (of_z w32 r.weight))) mid → HaveWeights (with_edge_in es r.x r.weight) mid
+first_passed : (es mid : List Edge) (r : Run) → IsRun r → HaveWeights (with_edge_in es (to_z w32 (of_z w32 r.x)) (to_z w32 (of_z w32 r.weight))) mid
+    → HaveWeights (with_edge_in es r.x r.weight) mid
 first_passed es mid r run first =
     let x_is : to_z w32 (of_z w32 r.x) ≡ r.x = omega (arith, ints, run.left, run.right) in
     let weight_is : to_z w32 (of_z w32 r.weight) ≡ r.weight = omega (arith, ints) in
     rw (x_is, weight_is) at first
 
 -- the numbers of its second edge, passed as i32
-second_passed : (mid new : List Edge) (r : Run) → IsRun r → HaveWeights (with_edge_in mid (to_z w32 (of_z w32 (to_z w32 (of_z w32 r.x) +ℤ to_z w32 r.len))) (to_z w32 (of_z w32 (pos 0 -ℤ to_z w32 (of_z w32 r.weight))))) new → HaveWeights (with_edge_in mid (r.x +ℤ pos r.len) (pos 0 -ℤ r.weight)) new
+second_passed : (mid new : List Edge) (r : Run) → IsRun r → HaveWeights
+    (with_edge_in mid (to_z w32 (of_z w32 (to_z w32 (of_z w32 r.x) +ℤ to_z w32 r.len))) (to_z w32 (of_z w32 (pos 0 -ℤ to_z w32 (of_z w32 r.weight))))) new
+    → HaveWeights (with_edge_in mid (r.x +ℤ pos r.len) (pos 0 -ℤ r.weight)) new
 second_passed mid new r run second =
     let end_is : to_z w32 (of_z w32 (to_z w32 (of_z w32 r.x) +ℤ to_z w32 r.len)) ≡ r.x +ℤ pos r.len = omega (arith, ints, run.left, run.right) in
     let weight_is : to_z w32 (of_z w32 (pos 0 -ℤ to_z w32 (of_z w32 r.weight))) ≡ pos 0 -ℤ r.weight = omega (arith, ints) in
@@ -74,13 +78,16 @@ returns-clause-ok c =
     let new = c.add_edge-2.new.edges in
     let first = first_passed old.edges.items mid c.args.run c.requires.run (rw c.reserve.ensures.items at c.in_ok-add_edge.ensures.weights) in
     on_ok_weaker c.add_edge-2.result
-    (λ second. run_added (open_row old) (record { y = old.y; edges = new.items }) mid c.args.run c.requires.run c.requires.edges c.requires.after c.requires.row c.add_edge-2.ensures.sorted first (second_passed mid new.items c.args.run c.requires.run second))
+    (λ second. run_added (open_row old)
+    (record { y = old.y; edges = new.items }) mid c.args.run c.requires.run c.requires.edges c.requires.after c.requires.row c.add_edge-2.ensures.sorted first
+    (second_passed mid new.items c.args.run c.requires.run second))
     c.add_edge-2.ensures.weights
 
 -- the second edge has room, so it is not refused
 pub returns-clause-unchanged : goal.returns-clause-unchanged
 returns-clause-unchanged c =
-    on_err-from_ok c.add_edge-2.result _ (c.add_edge-2.ensures.succeeds (omega (arith, c.in_ok-reserve.ensures.ok, c.add_edge.ensures.len, c.add_edge.ensures.capacity)))
+    on_err-from_ok c.add_edge-2.result _
+    (c.add_edge-2.ensures.succeeds (omega (arith, c.in_ok-reserve.ensures.ok, c.add_edge.ensures.len, c.add_edge.ensures.capacity)))
 
 pub returns-clause-succeeds : goal.returns-clause-succeeds
 returns-clause-succeeds c = λ room.

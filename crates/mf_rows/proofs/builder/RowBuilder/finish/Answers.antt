@@ -14,4 +14,5 @@ returns-clause-value c =
 
 pub returns-clause-lawful : goal.returns-clause-lawful
 returns-clause-lawful c =
-    IfOk-weaker c.from_rows.result _ IsPicture (λ picture same. subst IsPicture (sym same) (lawful_picture_of_rows _ (rw c.in_ok-closed_rows.ensures c.self.invariant))) c.from_rows.ensures
+    IfOk-weaker c.from_rows.result _ IsPicture
+    (λ picture same. subst IsPicture (sym same) (lawful_picture_of_rows _ (rw c.in_ok-closed_rows.ensures c.self.invariant))) c.from_rows.ensures

@@ -10,4 +10,5 @@ returns-clause-weights c =
 pub returns-clause-too_large : goal.returns-clause-too_large
 returns-clause-too_large c =
     let has = rw c.in_ok-added.ensures at c.add.ensures.too_large in
-    MatchResult-weaker c.add.result has (λ sum none. none) (λ fault unlawful some. unlawful_with_corners _ _ c.in_ok-rows_of_corners.ensures.rows c.in_ok-rows_of_corners.ensures.weights (unlawful some))
+    MatchResult-weaker c.add.result has (λ sum none. none)
+    (λ fault unlawful some. unlawful_with_corners _ _ c.in_ok-rows_of_corners.ensures.rows c.in_ok-rows_of_corners.ensures.weights (unlawful some))

@@ -14,7 +14,8 @@ as_box-bounds-requires c = next_is_lawful _ _ _ _ _ c.in_ok-next.ensures.steps (
 
 pub loop-run-init : goal.loop-run-init
 loop-run-init c =
-    rw (c.into_iter-run-iterator.ensures.into_iter_gives, c.as_box-bounds.ensures) (box_first _ _ _ _ c.runs-runs.ensures.lawful c.runs-runs.ensures.runs c.in_ok-next.ensures.steps)
+    rw (c.into_iter-run-iterator.ensures.into_iter_gives, c.as_box-bounds.ensures)
+    (box_first _ _ _ _ c.runs-runs.ensures.lawful c.runs-runs.ensures.runs c.in_ok-next.ensures.steps)
 
 pub widened-bounds-requires : goal.widened-bounds-requires
 widened-bounds-requires c = next_is_lawful _ _ _ _ _ c.in-Some.ensures.steps c.loop-run.invariant.passes

@@ -7,7 +7,8 @@ use Rattle.mf_rows.proofs.picture.Picture.copy.Goals as goal
 
 pub returns-in_err-push_shared-clause-blank : goal.returns-in_err-push_shared-clause-blank
 returns-in_err-push_shared-clause-blank c = λ blank.
-    absurd (false≢true (c.in_err-push_shared.ensures.none (c.deref.ensures.value ∙ no_bands c.self.inside.bands.items c.self.invariant (c.self.view_is ∙ blank))))
+    absurd (false≢true (c.in_err-push_shared.ensures.none
+    (c.deref.ensures.value ∙ no_bands c.self.inside.bands.items c.self.invariant (c.self.view_is ∙ blank))))
 
 pub returns-in_err-push_shared-clause-lawful : goal.returns-in_err-push_shared-clause-lawful
 returns-in_err-push_shared-clause-lawful c = subst IsPicture c.self.view_is (lawful_picture_of_rows _ c.self.invariant)

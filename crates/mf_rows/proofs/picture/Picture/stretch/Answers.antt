@@ -30,7 +30,8 @@ stretched_rows-requires-clause-allowed c =
     let all : edge_rows c.in_ok-old.old.items ≡ old = c.in_ok-old.ensures ∙ ap rows_of_bands c.deref.ensures.value in
     let inside = subst (λ ds. PixelsStayInside columns rows ds) (sym c.self.view_is) c.requires.inside in
     let has = subst (λ rs. HaveRowWeights (changed_in_rows (change.Columns columns) rs) changed) all c.in_ok-changed.ensures.weights in
-    subst (λ rs. AllowStretch rows rs) (sym (ap edge_rows c.deref-2.ensures.value)) (rows_allowed columns rows old c.self.invariant changed inside c.in_ok-changed.ensures.rows has)
+    subst (λ rs. AllowStretch rows rs) (sym (ap edge_rows c.deref-2.ensures.value))
+    (rows_allowed columns rows old c.self.invariant changed inside c.in_ok-changed.ensures.rows has)
 
 pub returns-clause-weights : goal.returns-clause-weights
 returns-clause-weights c =
@@ -41,7 +42,8 @@ returns-clause-weights c =
     let stretched = edge_rows c.in_ok-stretched_rows.field-0.items in
     let all : edge_rows c.in_ok-old.old.items ≡ old = c.in_ok-old.ensures ∙ ap rows_of_bands c.deref.ensures.value in
     let has = subst (λ rs. HaveRowWeights (changed_in_rows (change.Columns columns) rs) changed) all c.in_ok-changed.ensures.weights in
-    let has_stretched = subst (λ rs. HaveRowWeights (stretched_in_rows rows rs) stretched) (ap edge_rows c.deref-2.ensures.value) c.in_ok-stretched_rows.ensures.weights in
+    let has_stretched =
+    subst (λ rs. HaveRowWeights (stretched_in_rows rows rs) stretched) (ap edge_rows c.deref-2.ensures.value) c.in_ok-stretched_rows.ensures.weights in
     let weights = subst (λ ds. HasWeights (stretched_at columns rows ds) (picture_of_rows stretched)) c.self.view_is
     (weights_stretched columns rows old c.self.invariant changed stretched c.in_ok-stretched_rows.ensures.rows has has_stretched) in
     IfOk-weaker c.from_rows.result (λ picture. picture ≡ picture_of_rows stretched) (HasWeights (stretched_at columns rows c.args.self.now))

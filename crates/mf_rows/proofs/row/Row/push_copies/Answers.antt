@@ -24,7 +24,9 @@ loop-down-preserved c =
     let bound : (down +ℤ pos 1) ≤ℤ (c.args.top -ℤ c.args.bottom) = omega (arith, ints, c.loop-down-test.true, c.requires) in
     let place = next_place c.args.bottom c.args.top down c.requires.bottom c.requires.top c.loop-down.invariant.least bound in
     record {
-      copies = rw (top, bottom, place.more, c.in_ok-push_at.ensures, top, place.row) (copies_more (edge_rows c.args.rows.now.items) edges c.args.bottom c.args.top down (edge_rows c.loop-down.rows.items) bound (rw (top, bottom) at c.loop-down.invariant.copies));
+      copies = rw (top, bottom, place.more, c.in_ok-push_at.ensures, top, place.row)
+          (copies_more (edge_rows c.args.rows.now.items) edges c.args.bottom c.args.top down
+          (edge_rows c.loop-down.rows.items) bound (rw (top, bottom) at c.loop-down.invariant.copies));
       least = rw place.more place.least;
       greatest = rw (place.more, top, bottom) bound;
     }
@@ -33,5 +35,6 @@ pub returns : goal.returns
 returns c =
     let top : to_z w32 (of_z w32 c.args.top) ≡ c.args.top = omega (arith, ints) in
     let bottom : to_z w32 (of_z w32 c.args.bottom) ≡ c.args.bottom = omega (arith, ints) in
-    let end : c.args.top -ℤ c.args.bottom ≡ to_z w32 c.loop-down.down-bits = omega (arith, ints, c.loop-down-test.false, c.loop-down.invariant.greatest, c.requires) in
+    let end : c.args.top -ℤ c.args.bottom ≡ to_z w32 c.loop-down.down-bits =
+    omega (arith, ints, c.loop-down-test.false, c.loop-down.invariant.greatest, c.requires) in
     copies_all _ _ c.args.bottom c.args.top (to_z w32 c.loop-down.down-bits) _ end (rw (top, bottom) at c.loop-down.invariant.copies)

@@ -6,7 +6,7 @@ use Rattle.std.proofs.lemmas.List.Elements.{All-rest}
 use Rattle.mf_rows.specs.EdgeRows.{IsEdgeRow}
 use Rattle.mf_rows.specs.Rest.{AreEdgeRows}
 use Rattle.mf_rows.specs.Walk.{runs_of_edges}
-use Rattle.mf_rows.proofs.RunsLeft.{rest_entered, runs_entered}
+use Rattle.mf_rows.proofs.RemainingRuns.{rest_entered, runs_entered}
 use Rattle.mf_rows.proofs.walk.Walk.enter_row.Goals as goal
 
 pub invariant_of-self : goal.invariant_of-self

@@ -1,5 +1,5 @@
 use Rattle.std.proofs.Common.{sym, ◌∙◌}
-use Rattle.mf_rows.proofs.RunsLeft.{rest_taken, rest_behind, fits_taken, weight_taken, weight_changed, column_taken, runs_taken}
+use Rattle.mf_rows.proofs.RemainingRuns.{rest_taken, rest_behind, fits_taken, weight_taken, weight_changed, column_taken, runs_taken}
 use Rattle.mf_rows.proofs.walk.Walk.next_edge.Goals as goal
 
 pub overflow_add-self : goal.overflow_add-self

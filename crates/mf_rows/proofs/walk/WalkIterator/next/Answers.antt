@@ -1,8 +1,8 @@
 use Rattle.std.proofs.Common.{◌≡◌, to_z, of_z, w32, refl, ◌∙◌, arith}
 use Rattle.std.proofs.lemmas.Int.{ints}
 use Rattle.std.proofs.lemmas.List.{nil_from_length}
-use Rattle.mf_rows.specs.Walk.{runs_left}
-use Rattle.mf_rows.proofs.RunsLeft.{weight_none, run_found}
+use Rattle.mf_rows.specs.Walk.{remaining_runs}
+use Rattle.mf_rows.proofs.RemainingRuns.{weight_none, run_found}
 use Rattle.mf_rows.proofs.walk.WalkIterator.next.Goals as goal
 
 -- where a run begins, its row has a further edge
@@ -16,7 +16,7 @@ returns-clause-steps c =
     let now = c.next_start.new.self in
     let taken = c.in_ok-x.ensures.start in
     let end = c.in_ok-end.ensures.item in
-    let found = run_found now.y c.in_ok-x.x now.weight now.edges.now c.in_ok-end.end.now (runs_left now) end.3.0 end.1 c.in_ok-x.ensures.nonzero in
+    let found = run_found now.y c.in_ok-x.x now.weight now.edges.now c.in_ok-end.end.now (remaining_runs now) end.3.0 end.1 c.in_ok-x.ensures.nonzero in
     let y : to_z w32 (of_z w32 now.y) ≡ now.y = omega (arith, ints) in
     let x : to_z w32 (of_z w32 c.in_ok-x.x) ≡ c.in_ok-x.x = omega (arith, ints) in
     let weight : to_z w32 (of_z w32 now.weight) ≡ now.weight = omega (arith, ints) in

@@ -2,11 +2,12 @@ use Rattle.std.proofs.Common.{◌≤◌, ℤ, pos, negsuc, ◌+ℤ◌, ◌*ℤ�
 use Rattle.std.proofs.Math.Nat.{mul-le-mul}
 use Rattle.std.proofs.lemmas.Int.{ints, unsigned_abs-mul}
 use Rattle.std.specs.Int.RustNames.{unsigned_abs}
+use Rattle.mf_geom.specs.Coordinates.{IsCoordinate}
 use Rattle.mf_rows.specs.Bounds.{IsLeastBox}
 use Rattle.mf_rows.specs.declared.bounds.Box4.{Box4}
 use Rattle.mf_edges.specs.declared.stretch.Stretch.{Stretch}
 use Rattle.mf_rows.specs.Dots.{Dot, IsPicture}
-use Rattle.mf_edges.specs.Axes.{IsPointInReach, PlaceStaysInside, stretched_to}
+use Rattle.mf_edges.specs.Axes.{PlaceStaysInside, stretched_to}
 use Rattle.mf_rows.specs.Moves.{PixelsStayInside}
 use Rattle.mf_rows.proofs.BoundsInField.{bounds_in_field}
 use Rattle.mf_rows_tests.proofs.tests.moves.assert_stays_inside.Goals as goal
@@ -31,9 +32,10 @@ record IsSmall (s : Stretch) : Type 0 where
   offset_greatest : s.offset ≤ℤ pos 1000
 
 -- it takes no place near 0 out of the field
-point_stays : (s : Stretch) (p : ℤ) → IsSmall s → negsuc 999 ≤ℤ p → p ≤ℤ pos 1000 → IsPointInReach (stretched_to s p)
+point_stays : (s : Stretch) (p : ℤ) → IsSmall s → negsuc 999 ≤ℤ p → p ≤ℤ pos 1000 → IsCoordinate (stretched_to s p)
 point_stays s p small least greatest =
-    let size : unsigned_abs (p *ℤ s.factor) ≤ 3000 = rw unsigned_abs-mul (mul-le-mul (size-point p least greatest) (size-factor s.factor small.factor_least small.factor_greatest)) in
+    let size : unsigned_abs (p *ℤ s.factor) ≤ 3000 =
+    rw unsigned_abs-mul (mul-le-mul (size-point p least greatest) (size-factor s.factor small.factor_least small.factor_greatest)) in
     let product = from_size (p *ℤ s.factor) size in
     record { least = omega (arith, ints, product.0, small.offset_least); greatest = omega (arith, ints, product.1, small.offset_greatest) }
 

@@ -5,4 +5,5 @@ use Rattle.mf_stage.proofs.plate.Plates.pgm_if_wanted.Goals as goal
 pub returns : goal.returns
 returns c =
     let image = c.in_ok-pgm.field-0 in
-    subst (λ wanted. IsPgmWhere wanted c.args.self.now c.args.revision c.args.picture.now (Some image)) (sym c.if-not-self.false) (image, refl, c.in_ok-pgm.ensures)
+    subst (λ wanted. IsPgmWhere wanted c.args.self.now c.args.revision c.args.picture.now (Some image))
+    (sym c.if-not-self.false) (image, refl, c.in_ok-pgm.ensures)

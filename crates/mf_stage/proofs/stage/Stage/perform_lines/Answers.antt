@@ -20,7 +20,8 @@ lines-preserved g c =
       done.limits ∙ limits_are,
       done.name ∙ name_is,
       done.plates ∙ plates_are,
-      under_way-next c.args.self.now c.lines.self c.perform_line.new.self _ (g.B.Read.remaining c.lines.script) remaining (g.W.Write.contents c.args.transcript.now) held holds line limits_are under_way
+      under_way-next c.args.self.now c.lines.self c.perform_line.new.self _
+          (g.B.Read.remaining c.lines.script) remaining (g.W.Write.contents c.args.transcript.now) held holds line limits_are under_way
           (λ rest is. known_is (λ input. Reads input line remaining) _ rest is read)
           (λ s stands. subst (λ l. HasPerformed c.lines.self s (l ∷ []) c.perform_line.new.self held holds) bare (done.performed s stands)),
       λ s stands. let (now, represented) = represents s stands in let next = done.performed now represented in (next.last, next.stands),

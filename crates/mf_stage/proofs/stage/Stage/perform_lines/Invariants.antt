@@ -9,5 +9,6 @@ invariant-lines g l =
     (limits l.self ≡ limits l.initial.self)
     × (name l.self ≡ name l.initial.self)
     × (plates_of l.self ≡ plates_of l.initial.self)
-    × IsUnderWay l.initial.self (g.B.Read.remaining l.initial.script) (g.B.Read.remaining l.script) l.self (g.W.Write.contents l.initial.transcript) (g.W.Write.contents l.transcript)
+    × IsUnderWay l.initial.self (g.B.Read.remaining l.initial.script) (g.B.Read.remaining l.script) l.self
+    (g.W.Write.contents l.initial.transcript) (g.W.Write.contents l.transcript)
     × ((s : State) → StandsFor l.initial.self s → (t : State) × StandsFor l.self t)

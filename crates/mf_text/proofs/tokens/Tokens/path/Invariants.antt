@@ -1,5 +1,5 @@
 use Rattle.std.proofs.Common.{length}
-use Rattle.mf_text.specs.Left.{tokens_left}
+use Rattle.mf_text.specs.Reads.{remaining_tokens}
 use Rattle.mf_text.proofs.Reading.{IsInPath}
 use Rattle.mf_text.proofs.tokens.Tokens.path.Given as goal
 
@@ -7,4 +7,4 @@ abbrev pub invariant-corners : goal.invariant-corners
 invariant-corners l = IsInPath l.fn.self l.self l.path
 
 abbrev pub decreases-corners : goal.decreases-corners
-decreases-corners l = length (tokens_left l.self)
+decreases-corners l = length (remaining_tokens l.self)

@@ -1,20 +1,14 @@
-use Rattle.std.proofs.Common.{◌∙◌, None, Some, ap, sym, refl}
-use Rattle.mf_text.specs.Ahead.{Ahead}
+use Rattle.std.proofs.Common.{sym, refl}
 use Rattle.mf_text.specs.Token.{value_in}
-use Rattle.mf_text.proofs.Fronts.{behind_is, value_ahead}
+use Rattle.mf_text.proofs.FirstTokens.{value_missed, value_taken}
 use Rattle.mf_text.proofs.tokens.Tokens.takes_number.Goals as goal
 
 pub returns-in_err-value : goal.returns-in_err-value
 returns-in_err-value c =
-    let front = c.skip_blanks.new.self in
     rw c.from_residual.ensures
-    (value_ahead c.args.self.now front.column front.rest.now (sym c.skip_blanks.ensures.same) c.skip_blanks.ensures.clear value_in refl None c.in_err-value.ensures, refl)
+    (value_missed c.args.self.now _ _ (sym c.skip_blanks.ensures.same) c.skip_blanks.ensures.clear value_in refl c.in_err-value.ensures, refl)
 
 pub returns : goal.returns
 returns c =
-    let front = c.skip_blanks.new.self in
-    let same = sym c.skip_blanks.ensures.same in
-    let clear = c.skip_blanks.ensures.clear in
-    let found = c.in_ok-value.ensures in
-    value_ahead c.args.self.now front.column front.rest.now same clear value_in refl (Some c.in_ok-value.value) found.0
-    ∙ ap (λ (a : Ahead). Some (c.in_ok-value.value, a)) (behind_is c.args.self.now front.column front.rest.now same clear c.after.result c.in_ok-value.bytes found.1 c.after.ensures.rest c.after.ensures.column)
+    value_taken c.args.self.now _ _ (sym c.skip_blanks.ensures.same) c.skip_blanks.ensures.clear value_in refl
+    c.in_ok-value.value c.after.result c.in_ok-value.bytes c.in_ok-value.ensures c.after.ensures.rest c.after.ensures.column

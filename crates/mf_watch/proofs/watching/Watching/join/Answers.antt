@@ -45,7 +45,9 @@ loop-thread-preserved g c =
       λ _. omega (arith, fewer, ap length first),
       λ _ picture looks started.
           let Owed = Owes picture looks in
-          let owed = All-head Owed c.in-Some.thread rest (All-same Owed (c.in-Some.thread ∷ rest) (into_iter_items c.loop-thread.thread-iterator) (sym first) (kept picture looks started).1) in
+          let owed =
+          All-head Owed c.in-Some.thread rest
+          (All-same Owed (c.in-Some.thread ∷ rest) (into_iter_items c.loop-thread.thread-iterator) (sym first) (kept picture looks started).1) in
           omega (arith, owed.1, c.in-Err.ensures),
     )
 

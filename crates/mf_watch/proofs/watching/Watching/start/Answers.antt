@@ -1,7 +1,7 @@
 use Rattle.std.proofs.Common.{◌+◌, ◌∷◌, ap, arith, length, subst, sym}
 use Rattle.std.proofs.lemmas.List.Elements.{All-head, All-rest, All-same}
 use Rattle.std.specs.Vec.Iter.{into_iter_items}
-use Rattle.mf_live.specs.Desks.{desk_name}
+use Rattle.mf_live.specs.Desks.{desk_identity}
 use Rattle.mf_watch.specs.Watchers.{IsWatcher}
 use Rattle.mf_watch.specs.Watching.{AreStarted}
 use Rattle.mf_watch.proofs.watching.Watching.start.Goals as goal
@@ -13,7 +13,7 @@ loop-watcher-preserved g c =
     let watchers = into_iter_items c.loop-watcher.watcher-iterator in
     let rest = into_iter_items c.next.new.self in
     let watcher = c.in-Some.watcher in
-    let Ready = IsWatcher (desk_name c.args.desk) 0 (c.args.looks + 1) in
+    let Ready = IsWatcher (desk_identity c.args.desk) 0 (c.args.looks + 1) in
     let this_ready : Ready watcher = All-head Ready watcher rest (All-same Ready (watcher ∷ rest) watchers (sym first) ready) in (
       subst (λ picture. AreStarted picture c.args.looks c.start_one.new.self) this_ready.name_is c.start_one.ensures.started,
       All-rest Ready watcher rest watchers first ready,

@@ -1,0 +1,8 @@
+//! What every layer needs: failed allocations, and writing with a count.
+#![tactic(auto)]
+
+mod memory;
+mod output;
+
+pub use memory::OutOfMemory;
+pub use output::write_counted;

@@ -1,0 +1,30 @@
+use Rattle.std.proofs.Common.{rules, inr, refl}
+use Rattle.std.proofs.lemmas.Result.{err_from_is_err_and}
+use Rattle.mf_cli.proofs.program.perform.Goals as goal
+
+pub returns-in_default-clause-done : goal.returns-in_default-clause-done
+returns-in_default-clause-done g c =
+    let outcome = c.in_ok-gf.field-0 in
+    (outcome.gf, record { all_read = c.in_ok-gf.ensures.end; outcome = outcome; gf_is = refl; performed = c.in_ok-gf.ensures.performance }, search rules)
+
+pub returns-in_err-write_file-in-Some-gf-clause-fault : goal.returns-in_err-write_file-in-Some-gf-clause-fault
+returns-in_err-write_file-in-Some-gf-clause-fault g c =
+    let (count, fault_is, few) = c.in_err-write_file-in-Some-gf.ensures in
+    let passed_on = err_from_is_err_and c.from_residual-in_err-write_file-in-Some-gf.result c.from_residual-in_err-write_file-in-Some-gf.ensures.1 in
+    rw (passed_on.1, passed_on.2)
+    (inr (record {
+      asked = search rules;
+      count = count;
+      fault_is = fault_is;
+      gf = _;
+      few = few;
+      output = record { all_read = c.in_ok-gf.ensures.end; outcome = c.in_ok-gf.field-0; gf_is = search rules; performed = c.in_ok-gf.ensures.performance };
+    }))
+
+pub returns-in_ok-write_file-in-Some-gf-clause-done : goal.returns-in_ok-write_file-in-Some-gf-clause-done
+returns-in_ok-write_file-in-Some-gf-clause-done g c =
+    let outcome = c.in_ok-gf.field-0 in (
+      outcome.gf,
+      record { all_read = c.in_ok-gf.ensures.end; outcome = outcome; gf_is = refl; performed = c.in_ok-gf.ensures.performance },
+      λ asked. search rules,
+    )

@@ -1,0 +1,42 @@
+-- The end of a script.
+use Rattle.std.proofs.Common.{◌≡◌, ℕ, List, [], Option, inr, sym, subst, ◌∙◌, append-nil}
+use Rattle.std.specs.Io.KnownBytes.{IsAtEnd}
+use Rattle.std.specs.Str.Lines.{lines}
+use Rattle.mf_desk.specs.declared.ended_run.EndedRun.{EndedRun}
+use Rattle.mf_desk.specs.declared.fault.RunFault.{RunFault}
+use Rattle.mf_desk.specs.declared.fault.RunFault.TheVariants.{OutOfMemory}
+use Rattle.mf_desk.specs.declared.performer.Performer.{Performer}
+use Rattle.mf_desk.specs.EndedRuns.{IsEndOf, IsOver}
+use Rattle.mf_desk.specs.Fault.{Breaks, IsFirstText}
+use Rattle.mf_desk.specs.Progress.{IsThrough, ReadsThrough}
+use Rattle.mf_desk.specs.Streams.{Passes, Streams}
+use Rattle.mf_session.specs.Sessions.{limits}
+use Rattle.mf_session.specs.States.{Limits, start}
+use Rattle.mf_session.specs.Transcript.{Perform}
+
+-- the script has ended, and its picture is closed
+pub IsOver-ended : (held holds : Option (List ℕ)) (read : List ℕ) (performer : Performer) (run : EndedRun) (through : IsThrough held read performer holds)
+    → IsEndOf performer through.last run → IsOver (limits performer.session) held read run holds
+IsOver-ended held holds read performer run through end = record {
+  text = through.text;
+  last = through.last;
+  performed = through.performed;
+  published = end.ended.published;
+  file = end.ended.file_is.keeps;
+  limit_is = end.ended.file_is.limit_is;
+  out = through.out;
+  counted = end.counted ∙ through.counted;
+}
+
+-- the script has ended, but an allocation fails while its picture is closed
+pub Breaks-unended : (s : Streams) (l : Limits) (performer : Performer) → limits performer.session ≡ l → IsAtEnd s.left → ReadsThrough s performer
+    → (fault : RunFault) → fault ≡ OutOfMemory → Passes s (Breaks l fault)
+Breaks-unended s l performer same all_read (read, consumed, through) fault is =
+    let first : IsFirstText l s.left read through.text = record {
+      done = lines read;
+      more = [];
+      last = through.last;
+      first = inr (all_read, sym (append-nil (lines read)));
+      performed = subst (λ m. Perform m start (lines read) through.text through.last) same through.performed;
+    } in
+    subst (λ f. Passes s (Breaks l f)) (sym is) (read, consumed, (through.text, through.out, first))

@@ -1,0 +1,37 @@
+-- The streams of a run, and what passes through them.
+use Rattle.std.specs.Prelude.{ℕ, List, ◌++◌, Option}
+use Rattle.std.specs.Io.KnownBytes.{Appends, Consumes}
+
+-- what a reader had and has left, and what a writer held and holds, where this is known
+pub record Streams : Type 0 where
+  pub unread : Option (List ℕ)
+  pub left : Option (List ℕ)
+  pub held : Option (List ℕ)
+  pub holds : Option (List ℕ)
+
+-- streams with these four, in this order
+abbrev pub streams : Option (List ℕ) → Option (List ℕ) → Option (List ℕ) → Option (List ℕ) → Streams
+streams unread left held holds = record { unread = unread; left = left; held = held; holds = holds }
+
+-- what has passed: the bytes that are left where they are known, those that were read, and those that were written
+pub record Passage : Type 0 where
+  pub left : Option (List ℕ)
+  pub read : List ℕ
+  pub written : List ℕ
+
+-- a passage with these three, in this order
+abbrev pub passage : Option (List ℕ) → List ℕ → List ℕ → Passage
+passage left read written = record { left = left; read = read; written = written }
+
+-- a writer that held some bytes has got others of which this is true
+abbrev pub Gets : Option (List ℕ) → Option (List ℕ) → (List ℕ → Type 0) → Type 0
+Gets held holds IsSuch = (written : List ℕ) × Appends held holds written × IsSuch written
+
+-- what has passed through these streams is such a passage
+abbrev pub Passes : Streams → (Passage → Type 0) → Type 0
+Passes through IsSuch =
+    (read : List ℕ) × Consumes through.unread through.left read × Gets through.held through.holds (λ written. IsSuch (passage through.left read written))
+
+-- with some more bytes, or with none, these are such a text
+abbrev pub IsCut : (List ℕ → Type 0) → List ℕ → Type 0
+IsCut IsText written = (rest : List ℕ) × IsText (written ++ rest)

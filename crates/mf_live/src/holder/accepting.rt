@@ -1,0 +1,128 @@
+//! Opening a picture, and accepting operations and the end mark.
+ghost use Rattle.std.specs.Prelude.{◌≡◌, ◌≢◌, ◌<◌, ◌^◌, [], ◌∷◌, ◌++◌, false, None, Some, Err, IfOk, IfErr, IsOk, OnOk, MatchResult};
+ghost use Rattle.left_right.specs.Sides.{view};
+ghost use Rattle.mf_geom.specs.declared.cycle.CycleFault.{CycleFault};
+ghost use Rattle.mf_ops.specs.Step.{op_fault};
+ghost use Rattle.mf_ops.specs.declared.op.Op.TheVariants.{Clear};
+ghost use Rattle.mf_live.specs.Books.{most};
+ghost use Rattle.mf_live.specs.Entries.{entry, pic, rev, next, is_closed, Operation, End};
+ghost use Rattle.mf_live.specs.Holders.{identity, accepted_list, knowledge, published_list};
+ghost use Rattle.mf_live.specs.Rule.{view_knowing, knowledge_of, with_event};
+ghost use Rattle.mf_live.specs.declared.event.Event.TheVariants.{Accept};
+
+use super::Holder;
+use super::publishing::show;
+use crate::history::{Prefix, open_history};
+use crate::notice::Notice;
+use crate::rule::{Accepting, Accepts, Ends, Swap};
+use crate::version::Version;
+use mf_base::OutOfMemory;
+use mf_ops::{Op, OpFault, apply};
+use mf_rows::Picture;
+use std::alloc::Global;
+use std::marker::Brand;
+use std::sync::Wait;
+
+/// The blank version of a history in which nothing has happened.
+fn blank(alloc: Global, prefix: &Prefix) -> Version
+    requires { prefix.now.knowledge.seen.log ≡ [] }
+    ensures { knowledge_of result ≡ prefix.now.knowledge }
+{
+    Version {
+        picture: Picture::blank(alloc),
+        notice: Notice {
+            prefix: prefix.again(),
+            number: 0,
+        },
+    }
+}
+
+/// Notes in the writer's view that it has accepted an operation.
+fn note_operation<N: Accepting>(swap: &mut Swap, op: &Op)
+    requires { N.op ≡ op.now }
+    ensures shown { swap.new.desk.shown ≡ swap.old.desk.shown }
+    ensures view { view swap.new.desk.place ≡ with_event (view swap.old.desk.place) (Accept op.now) }
+{
+    // `op` is only there to choose the operation that the writer's view gets.
+    let _ = op;
+    let _none = swap.tell::<Accepts<N>>();
+}
+
+impl Holder {
+    /// Opens a blank picture for up to `readers` readers.
+    pub(crate) fn open<R: Wait>(
+        rt: &R,
+        alloc: Global,
+        readers: usize,
+    ) -> Result<Holder, OutOfMemory>
+        requires { (0 < readers) × (readers < 2 ^ 32) }
+        ensures start { IfOk result (λ h. (accepted_list h ≡ []) × (published_list h ≡ [])) }
+        ensures identified { IfOk result (λ h. view h.swap.desk.place ≡ view_knowing (knowledge h)) }
+        ensures empty { IfOk result (λ h. (knowledge h).seen.log ≡ []) }
+    {
+        let (head, prefix) = open_history();
+        let (first, second) = (blank(alloc, &prefix), blank(alloc, &prefix));
+        let mut swap = Swap::new(alloc, first, second, readers)?;
+        // Only a publish can put into the writer's view which picture this is, so the blank picture is shown once more.
+        show(rt, &mut swap, blank(alloc, &prefix));
+        Ok(Holder {
+            alloc,
+            swap,
+            head,
+            working: Picture::blank(alloc),
+            revision: 0,
+            unwritten: 0,
+        })
+    }
+
+    /// Accepts an operation, which changes the working picture. A refusal changes nothing.
+    pub(crate) fn accept(&mut self, alloc: Global, op: &Op) -> Result<(), OpFault>
+        requires open { is_closed (accepted_list self.old) ≡ false }
+        requires few { rev (accepted_list self.old) < most }
+        ensures identity { identity self.new ≡ identity self.old }
+        ensures accepted { MatchResult result
+            (λ _. accepted_list self.new ≡ accepted_list self.old ++ entry (next (published_list self.old)) (Operation op.now) ∷ [])
+            (λ _. accepted_list self.new ≡ accepted_list self.old) }
+        ensures published { published_list self.new ≡ published_list self.old }
+        ensures allowed { OnOk result (op_fault (pic (accepted_list self.old)) op.now ≡ None) }
+        ensures refused { IfErr result (λ fault. fault ≢ OpFault.OutOfMemory → op_fault (pic (accepted_list self.old)) op.now ≡ Some fault) }
+        ensures turning { (fault : CycleFault) → op_fault (pic (accepted_list self.old)) op.now ≡ Some (OpFault.Cycle fault)
+            → result ≡ Err (OpFault.Cycle fault) }
+        ensures out_of_field { op_fault (pic (accepted_list self.old)) op.now ≡ Some OpFault.OutOfField → result ≡ Err OpFault.OutOfField }
+        ensures clears { op.now ≡ Clear → IsOk result }
+    {
+        apply(alloc, &mut self.working, op)?;
+        note_operation::<Brand>(&mut self.swap, op);
+        self.unwritten += 1;
+        self.revision += 1;
+        Ok(())
+    }
+
+    /// Sets the end mark.
+    pub(crate) fn end(&mut self)
+        requires open { is_closed (accepted_list self.old) ≡ false }
+        ensures identity { identity self.new ≡ identity self.old }
+        ensures accepted { accepted_list self.new ≡ accepted_list self.old ++ entry (next (published_list self.old)) End ∷ [] }
+        ensures published { published_list self.new ≡ published_list self.old }
+        ensures working { self.new.working ≡ self.old.working }
+        ensures waits { 0 < self.new.unwritten }
+    {
+        let _none = self.swap.tell::<Ends>();
+        self.unwritten += 1;
+    }
+
+    /// What viewers go on looking at once nothing is accepted or published any more.
+    pub(crate) fn into_swap(self) -> Swap
+        ensures { result ≡ self.swap }
+    {
+        let Holder {
+            alloc: _,
+            swap,
+            head: _,
+            working: _,
+            revision: _,
+            unwritten: _,
+        } = self;
+        swap
+    }
+}

@@ -1,0 +1,40 @@
+//! What a look shows, and its end.
+ghost use Rattle.std.specs.Prelude.{◌≡◌};
+ghost use Rattle.mf_live.specs.Entries.{pic, rev};
+ghost use Rattle.mf_live.specs.Viewers.{identity, looked_at_list, looked_at_events, learnt_list, seen_list, look_events, look_learnt_list, look_identity, shown_list};
+
+use super::Look;
+use crate::viewer::Viewer;
+use mf_rows::Picture;
+
+impl Look {
+    /// The picture of the operations that were published at one moment of the call that made this look.
+    pub fn picture(&self) -> &Picture
+        ensures { result.now ≡ pic (shown_list self.now) }
+    {
+        &self.reading.get().picture
+    }
+
+    /// Its revision: the number of those operations.
+    pub fn revision(&self) -> u32
+        ensures { result ≡ rev (shown_list self.now) }
+    {
+        self.reading.get().notice.number
+    }
+
+    /// Ends the look and gives its viewer back, which has then seen what the look showed.
+    pub fn leave(self) -> Viewer
+        ensures identity { identity result ≡ look_identity self }
+        ensures events { looked_at_events result ≡ look_events self }
+        ensures looked { looked_at_list result ≡ shown_list self }
+        ensures learnt { learnt_list result ≡ look_learnt_list self }
+        ensures seen { seen_list result ≡ shown_list self }
+    {
+        let Look { reading, known } = self;
+        Viewer {
+            reader: reading.leave(),
+            known,
+            missed: false,
+        }
+    }
+}

@@ -1,0 +1,55 @@
+//! Taking sheets.
+ghost use Rattle.std.specs.Prelude.{◌≡◌, MatchResult};
+ghost use Rattle.mf_live.specs.Sheets.{IsTaken, IsNotTaken, sheet_picture, sheet_revision};
+ghost use Rattle.mf_live.specs.Viewers.{identity};
+
+use super::{Sheet, SheetFault};
+use crate::viewer::Viewer;
+use core::mem::replace_with;
+use mf_rows::Picture;
+use std::alloc::Global;
+
+impl Sheet {
+    /// The picture that the look showed.
+    pub fn picture(&self) -> &Picture
+        ensures { result.now ≡ sheet_picture self.now }
+    {
+        &self.picture
+    }
+
+    /// Its revision: the number of its operations.
+    pub fn revision(&self) -> u32
+        ensures { result ≡ sheet_revision self.now }
+    {
+        self.revision
+    }
+}
+
+/// Looks, and takes a sheet.
+fn take_sheet(viewer: Viewer, alloc: Global) -> (Viewer, Result<Sheet, SheetFault>)
+    ensures identity { identity result.0 ≡ identity viewer }
+    ensures taken { MatchResult result.1 (λ sheet. IsTaken viewer result.0 sheet) (λ fault. IsNotTaken viewer result.0 fault) }
+{
+    let look = match viewer.look() {
+        Ok(look) => look,
+        Err((viewer, _)) => return (viewer, Err(SheetFault::NoLook)),
+    };
+    let copy = look.picture().copy(alloc);
+    let revision = look.revision();
+    let viewer = look.leave();
+    match copy {
+        Ok(picture) => (viewer, Ok(Sheet { picture, revision })),
+        Err(_) => (viewer, Err(SheetFault::OutOfMemory)),
+    }
+}
+
+impl Viewer {
+    /// Looks, and keeps what is shown as a sheet. Refused with `NoLook` where the look is not answered: the viewer has then seen
+    /// what it had seen before. Refused with `OutOfMemory` where an allocation fails: the viewer has looked all the same.
+    pub fn sheet(&mut self, alloc: Global) -> Result<Sheet, SheetFault>
+        ensures identity { identity self.new ≡ identity self.old }
+        ensures taken { MatchResult result (λ sheet. IsTaken self.old self.new sheet) (λ fault. IsNotTaken self.old self.new fault) }
+    {
+        replace_with(self, alloc, |viewer, alloc| take_sheet(viewer, alloc))
+    }
+}

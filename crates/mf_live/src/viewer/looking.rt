@@ -1,0 +1,85 @@
+//! What a viewer does.
+ghost use Rattle.std.specs.Prelude.{◌≡◌, List, true, IfOk, MatchResult};
+ghost use Rattle.left_right.specs.Sides.{view};
+ghost use Rattle.mf_live.specs.Entries.{Entry, ends_last, is_closed};
+ghost use Rattle.mf_live.specs.Prefixes.{IsWholePrefix, longer};
+ghost use Rattle.mf_live.specs.Rule.{IsLook, kept_by};
+ghost use Rattle.mf_live.specs.Viewers.{identity, learnt_list, looked_at_list, seen_list, Extends, IsPublished, SeesTheSame, notice_identity, told_list, look_events, look_learnt_list, look_identity, shown_list};
+
+use super::Viewer;
+use crate::look::{Look, NoLook};
+use crate::notice::Notice;
+use crate::rule::{Lists, Looks, LooksAgain};
+use crate::version::Version;
+use crate::view::View;
+use left_right::reader::{Reader, Reading};
+
+/// Enters the copy that is shown.
+fn enter(
+    reader: Reader<Version, View, Lists>,
+    missed: bool,
+) -> Result<Reading<Version, View, Lists>, Reader<Version, View, Lists>>
+    ensures { MatchResult result (λ r. IsLook (kept_by missed) (view reader.place) r.part.value r.part.value (view r.place))
+        (λ r. view r.place ≡ view reader.place) }
+{
+    if missed {
+        return reader.enter_as::<LooksAgain>();
+    }
+    reader.enter_as::<Looks>()
+}
+
+impl Viewer {
+    /// Looks at what is published. It waits for nobody and allocates nothing. Refused with [`NoLook`], which hands the viewer
+    /// back: it has then seen what it had seen before. What the look shows was published, all of it and no more, by the events
+    /// that it knows of its picture. Everything that the viewer had looked at or learnt of is a whole prefix of it.
+    pub fn look(self) -> Result<Look, (Viewer, NoLook)>
+        ensures identity { MatchResult result (λ look. look_identity look ≡ identity self) (λ refused. identity refused.0 ≡ identity self) }
+        ensures extends { MatchResult result (λ look. Extends self (shown_list look)) (λ refused. SeesTheSame self refused.0) }
+        ensures ends { MatchResult result (λ look. ends_last (shown_list look) ≡ true) (λ refused. seen_list refused.0 ≡ seen_list self) }
+        ensures learnt { IfOk result (λ look. look_learnt_list look ≡ learnt_list self) }
+        ensures published { IfOk result (λ look. IsPublished (look_events look) (shown_list look)) }
+        ensures last { is_closed (seen_list self) ≡ true → IfOk result (λ look. shown_list look ≡ seen_list self) }
+    {
+        let Viewer {
+            reader,
+            known,
+            missed,
+        } = self;
+        let reading = match enter(reader, missed) {
+            Ok(reading) => reading,
+            Err(reader) => {
+                let viewer = Viewer {
+                    reader,
+                    known,
+                    missed,
+                };
+                return Err((viewer, NoLook));
+            }
+        };
+        let shown = &reading.get().notice.prefix;
+        shown.meets(&known.prefix);
+        if shown.events < known.prefix.events {
+            let viewer = Viewer {
+                reader: reading.leave(),
+                known,
+                missed: true,
+            };
+            return Err((viewer, NoLook));
+        }
+        Ok(Look { reading, known })
+    }
+
+    /// Learns a notice: the looks that follow include what it says is published. Requires a notice of this viewer's picture.
+    pub fn learn(&mut self, notice: Notice)
+        requires { notice_identity notice ≡ identity self.old }
+        ensures identity { identity self.new ≡ identity self.old }
+        ensures looked { looked_at_list self.new ≡ looked_at_list self.old }
+        ensures seen { seen_list self.new ≡ longer (seen_list self.old) (told_list notice) }
+        ensures keeps { (L : List Entry) → Extends self.new L → Extends self.old L × IsWholePrefix (told_list notice) L }
+    {
+        self.known.prefix.meets(&notice.prefix);
+        if self.known.prefix.events < notice.prefix.events {
+            self.known = notice;
+        }
+    }
+}

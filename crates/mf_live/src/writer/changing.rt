@@ -1,0 +1,108 @@
+//! What a writer does.
+ghost use Rattle.std.specs.Prelude.{◌≡◌, ◌≢◌, ◌-◌, ◌<◌, [], ◌∷◌, ◌++◌, None, Some, Err, IfErr, IsOk, OnOk, MatchResult, ◌↔◌};
+ghost use Rattle.mf_geom.specs.declared.cycle.CycleFault.{CycleFault};
+ghost use Rattle.mf_ops.specs.Step.{op_fault};
+ghost use Rattle.mf_ops.specs.declared.op.Op.TheVariants.{Clear};
+ghost use Rattle.mf_live.specs.Entries.{entry, pic, rev, next, Operation};
+ghost use Rattle.mf_live.specs.Viewers.{notice_identity, told_list};
+ghost use Rattle.mf_live.specs.Writers.{identity, accepted_list, published_list, max_ops, IsSameWriter};
+
+use super::Writer;
+use crate::fault::Fault;
+use crate::notice::Notice;
+use crate::rule::Swap;
+use mf_base::OutOfMemory;
+use mf_ops::{Op, OpFault};
+use mf_rows::Picture;
+use std::alloc::Global;
+use std::sync::Wait;
+
+impl Writer {
+    /// Accepts an operation: the working picture becomes the one after it, and what is published stays as it is. Refused with
+    /// `TooManyOperations` exactly where as many operations were accepted as may be. Otherwise it is refused as `mf_ops::after`
+    /// refuses it on the working picture: with `Backtracks` or `TurningZero`, for a contour under the turning check, with
+    /// `OutOfField`, with `WeightTooLarge`, or with `OutOfMemory`, which may hide `WeightTooLarge` but no other refusal. A
+    /// refusal changes nothing and hands the operation back.
+    pub fn apply(&mut self, alloc: Global, op: Op) -> Result<(), (Op, Fault)>
+        ensures identity { identity self.new ≡ identity self.old }
+        ensures published { published_list self.new ≡ published_list self.old }
+        ensures max_ops { max_ops self.new ≡ max_ops self.old }
+        ensures accepted { MatchResult result
+            (λ _. accepted_list self.new ≡ accepted_list self.old ++ entry (next (published_list self.old)) (Operation op) ∷ [])
+            (λ _. accepted_list self.new ≡ accepted_list self.old) }
+        ensures allowed { OnOk result ((rev (accepted_list self.old) < max_ops self.old) × (op_fault (pic (accepted_list self.old)) op ≡ None)) }
+        ensures handed_back { IfErr result (λ refused. refused.0 ≡ op) }
+        ensures too_many { (rev (accepted_list self.old) ≡ max_ops self.old) ↔ (result ≡ Err (op, Fault.TooManyOperations)) }
+        ensures clears { op ≡ Clear → rev (accepted_list self.old) < max_ops self.old → IsOk result }
+        ensures turning { (fault : CycleFault) → rev (accepted_list self.old) < max_ops self.old
+            → op_fault (pic (accepted_list self.old)) op ≡ Some (OpFault.Cycle fault) → result ≡ Err (op, Fault.Refused (OpFault.Cycle fault)) }
+        ensures out_of_field { rev (accepted_list self.old) < max_ops self.old
+            → op_fault (pic (accepted_list self.old)) op ≡ Some OpFault.OutOfField → result ≡ Err (op, Fault.Refused OpFault.OutOfField) }
+        ensures refused { IfErr result (λ refused. (fault : OpFault) → refused.1 ≡ Fault.Refused fault
+            → fault ≢ OpFault.OutOfMemory → op_fault (pic (accepted_list self.old)) op ≡ Some fault) }
+    {
+        if self.holder.revision == self.max_ops {
+            return Err((op, Fault::TooManyOperations));
+        }
+        match self.holder.accept(alloc, &op) {
+            Ok(()) => Ok(()),
+            Err(fault) => Err((op, Fault::Refused(fault))),
+        }
+    }
+
+    /// The working picture: that of all accepted operations, which viewers see from the next publish on.
+    pub fn working(&self) -> &Picture
+        ensures { result.now ≡ pic (accepted_list self.now) }
+    {
+        &self.holder.working
+    }
+
+    /// Its revision: how many operations were accepted.
+    pub fn revision(&self) -> u32
+        ensures { result ≡ rev (accepted_list self.now) }
+    {
+        self.holder.revision
+    }
+
+    /// How many accepted operations are not published yet.
+    pub fn pending(&self) -> u32
+        ensures { result ≡ rev (accepted_list self.now) - rev (published_list self.now) }
+    {
+        self.holder.revision - self.holder.swap.published().notice.number
+    }
+
+    /// Publishes all accepted operations at once; where all are published already, it does nothing. It may wait for looks that
+    /// are held. Refused with `OutOfMemory` where an allocation fails: nothing is published then, and the call can be made again.
+    pub fn publish<R: Wait>(&mut self, rt: &R) -> Result<(), OutOfMemory>
+        ensures identity { identity self.new ≡ identity self.old }
+        ensures accepted { accepted_list self.new ≡ accepted_list self.old }
+        ensures published { MatchResult result (λ _. published_list self.new ≡ accepted_list self.old)
+            (λ _. published_list self.new ≡ published_list self.old) }
+        ensures nothing { published_list self.old ≡ accepted_list self.old → IsOk result }
+        ensures max_ops { max_ops self.new ≡ max_ops self.old }
+    {
+        self.holder.publish(rt)
+    }
+
+    /// A notice of what is published.
+    pub fn tell(&mut self) -> Notice
+        ensures same { IsSameWriter self.old self.new }
+        ensures identity { notice_identity result ≡ identity self.old }
+        ensures told { told_list result ≡ published_list self.old }
+    {
+        self.holder.swap.published().notice.again()
+    }
+
+    /// Ends the picture without an end mark. It may wait for looks that are held, and looks may be refused from then on.
+    pub fn discard<R: Wait>(self, rt: &R) {
+        self.into_swap().take(rt);
+    }
+
+    /// What viewers can look at, unchanged. `discard` calls this first, so that a clause says that nothing is published there.
+    fn into_swap(self) -> Swap
+        ensures { result ≡ self.holder.swap }
+    {
+        let Writer { holder, max_ops: _ } = self;
+        holder.into_swap()
+    }
+}

@@ -1,0 +1,29 @@
+-- The least box of a picture, as a value.
+use Rattle.std.specs.Prelude.{◌≤ℤ◌, List, [], ◌∷◌, Option, None, Some}
+use Rattle.mf_geom.specs.Coordinates.{least_coordinate, last_in_field}
+use Rattle.mf_rows.specs.declared.bounds.Box4.{Box4}
+use Rattle.mf_rows.specs.Dots.{Dot}
+use Rattle.mf_rows.specs.Widening.{widened}
+
+-- the box of one dot
+abbrev pub box_of_dot : Dot → Box4
+box_of_dot d = record { min_x = d.x; max_x = d.x; min_y = d.y; max_y = d.y }
+
+-- the least box of a dot and others
+unfoldable pub box_of_dots : Dot → List Dot → Box4
+box_of_dots d [] = box_of_dot d
+box_of_dots d (e ∷ ds) = widened (box_of_dot d) (box_of_dots e ds)
+
+-- the least box of a picture, none where it is blank
+unfoldable pub box_of : List Dot → Option Box4
+box_of [] = None
+box_of (d ∷ ds) = Some (box_of_dots d ds)
+
+-- a box is not empty, and its columns and rows are in the field
+pub record IsBoxOfField (b : Box4) : Type 0 where
+  pub left : least_coordinate ≤ℤ b.min_x
+  pub right : b.max_x ≤ℤ last_in_field
+  pub bottom : least_coordinate ≤ℤ b.min_y
+  pub top : b.max_y ≤ℤ last_in_field
+  pub columns : b.min_x ≤ℤ b.max_x
+  pub rows : b.min_y ≤ℤ b.max_y
