@@ -52,7 +52,7 @@ def one_line(seed, size):
     return [contour("currentpicture", rectangle(0, 0, 3, 2)), total()]
 
 
-def scattered(seed, size, columns, rows):
+def placed(seed, size, columns, rows):
     """Rectangles with sides of 1 to 30 and weights of -3 to 3, with uniformly random sizes and places."""
     draw = random.Random(seed)
     lines = []
@@ -61,7 +61,28 @@ def scattered(seed, size, columns, rows):
         x, y = draw.randint(0, columns - width), draw.randint(0, rows - height)
         shape = rectangle(x - columns // 2, y - rows // 2, width, height)
         lines.append(contour("currentpicture", shape, draw.choice((-3, -2, -1, 1, 2, 3))))
-    return lines + [total(), "cull currentpicture keeping (1,32767)", total()]
+    return lines
+
+
+def scattered(seed, size, columns, rows):
+    """Such rectangles, and a cull."""
+    return placed(seed, size, columns, rows) + [total(), "cull currentpicture keeping (1,32767)", total()]
+
+
+def published(seed, size, every):
+    """Rectangles on 4,000 by 4,000 pixels, with a publish after each `every` of them, and no cull."""
+    lines = []
+    for number, line in enumerate(placed(seed, size, 4000, 4000), 1):
+        lines += [line, "publish"] if number % every == 0 else [line]
+    return lines + [total()]
+
+
+def published_each(seed, size):
+    return published(seed, size, 1)
+
+
+def published_tenth(seed, size):
+    return published(seed, size, 10)
 
 
 def rectangles(seed, size):
@@ -197,6 +218,8 @@ WORKLOADS = {
     "10,000 rectangles": (rectangles, 10_000),
     "100,000 rectangles": (rectangles, 100_000),
     "10,000 rectangles on 200 rows": (flat_rectangles, 10_000),
+    "10,000 rectangles, a publish after each": (published_each, 10_000),
+    "10,000 rectangles, a publish after each tenth": (published_tenth, 10_000),
     "200 staircases of 4,096 points": (staircases, 200),
     "a comb of 4,092 points, from the right": (comb_from_right, 1023),
     "a comb of 4,092 points, from the left": (comb_from_left, 1023),

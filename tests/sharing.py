@@ -43,17 +43,20 @@ void *malloc(size_t size) { return count(size), __libc_malloc(size); }
 void *realloc(void *old, size_t size) { return count(size), __libc_realloc(old, size); }
 """
 
-# The field has 8190 rows, in 512 bands of 16. A list of bands takes 8 bytes for each. A row takes 16 bytes besides its list of
-# edges, which takes 8 bytes for each edge.
+# The field has 8190 rows, in 512 bands of 16, and these in 16 groups of 32. The list of groups takes 16 bytes for each. A row takes
+# at least 16 bytes, and an edge takes 8.
 FIELD, EDGE = 8190, 8
-LIST, ROWS = 8 * 512, 16 * FIELD
-# A band that is made anew takes 48 bytes, and a list of up to 16 rows and one more, few of which get edges of their own: at least
-# 304 bytes and at most 512. The points of a rectangle, its corners and its picture take at most 512 bytes.
-BAND, LINE = 512, 512
-# A copy needs a list of bands in the command, in the sum and in the picture that it becomes. The first two are allocated at once,
-# and a list that grows by doubling allocates at most four times its length: less than 8 lists, a quarter of the rows.
-LISTS = 8 * LIST
-# A command that goes through all rows has them in a list, in a list of changed ones, and in bands, and each list may have grown.
+ROWS = 16 * FIELD
+GROUPS = 16 * 16
+# A group that is made anew has a list of up to 32 bands, 8 bytes each, which grows by doubling and so allocates at most four times its
+# length. A band that is made anew has up to 17 heads of rows, 32 bytes each, few edges and 72 bytes more. The points of a
+# rectangle and its corners take at most 512 bytes.
+GROUP, BAND, LINE = 4 * 8 * 32, 1024, 512
+# A contour makes a picture of its own, with a list of groups, and then the sum, with another.
+CONTOUR = LINE + 2 * (GROUPS + GROUP)
+# A copy needs a list of groups in the command, in the sum and in the picture that it becomes, and a sum of few groups makes these anew.
+LISTS = 4 * GROUPS
+# A command that goes through all rows has them in a list, which grows by doubling, and in bands.
 PASS = 3 * 4 * ROWS
 # The edges of a row of a comb. With 128 teeth, those of all rows are ten times a pass.
 TEETH = 128
@@ -79,7 +82,7 @@ def box(name, left, bottom, right, top):
 
 
 def tall(name):
-    """A line for a picture with a run of 3 pixels in each row of the field. The rows share one list of edges."""
+    """A line for a picture with a run of 3 pixels in each row of the field. The rows of a band share their edges."""
     return box(name, 0, -4095, 3, 4095)
 
 
@@ -102,17 +105,17 @@ def cases():
     live = tall("currentpicture")
     yield Case("a picture made anew", "", tall("a"), {"a": of_tall}, PASS, ROWS)
     yield Case("a copy", tall("a"), "addto b also a\n", {"a": of_tall, "b": of_tall}, LISTS)
-    yield Case("a sum of few bands and all", tall("a") + few, "addto b also a\n", {"b": of_tall + 56}, LISTS)
-    yield Case("a sum of two halves", halves, "addto b also c\n", {"b": of_tall, "c": 3 * 4110}, LISTS)
+    yield Case("a sum of few bands and all", tall("a") + few, "addto b also a\n", {"b": of_tall + 56}, LISTS + 2 * GROUP + 3 * BAND)
+    yield Case("a sum of two halves", halves, "addto b also c\n", {"b": of_tall, "c": 3 * 4110}, LISTS + GROUP + BAND)
     yield Case("nothing is added", tall("a"), "addto a also nullpicture\n", {"a": of_tall}, LINE)
     for bottom, top in [(0, 1), (4078, 4079), (-4095, -4094)]:
         line, shown = box("b", 1, bottom, 5, top), {"a": of_tall, "b": of_tall + 4}
-        yield Case("a row of one band", a_and_b, line, shown, LINE + BAND)
+        yield Case("a row of one band", a_and_b, line, shown, CONTOUR + 2 * BAND)
     line, shown = box("b", 1, 4078, 5, 4080), {"a": of_tall, "b": of_tall + 8}
-    yield Case("a row of each of two bands", a_and_b, line, shown, LINE + 2 * BAND)
+    yield Case("a row of each of two bands", a_and_b, line, shown, CONTOUR + 4 * BAND)
     yield Case("a publish", live, "publish\n", {"currentpicture": of_tall}, LISTS)
     line, shown = box("currentpicture", 1, 0, 5, 1), {"currentpicture": of_tall + 4}
-    yield Case("a row of one band after a publish", live + "publish\n", line, shown, LINE + BAND)
+    yield Case("a row of one band after a publish", live + "publish\n", line, shown, CONTOUR + 2 * BAND)
     # Every row that is reached gets its own edges. Half as much again is for the rest of the row, and for the line.
     for about, bottom, top in [("a band", 4063, 4079), ("two bands", 4047, 4079), ("all rows", -4094, 4095)]:
         least = (top - bottom) * COMB

@@ -1,4 +1,5 @@
 pub mod AddedEdges
+pub mod AppendedSums
 pub mod EdgeChanges
 pub mod EdgeMaps
 pub mod EdgesJoined

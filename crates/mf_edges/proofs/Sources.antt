@@ -8,18 +8,18 @@ use Rattle.mf_edges.specs.Axes.{IsStretch, stretched_to, source_of}
 use borrow.Author.Differences.{up, down}
 
 -- multiplying by a positive factor keeps the order
-mul-le : (a b f : ℤ) → pos 1 ≤ℤ f → a ≤ℤ b → (a *ℤ f) ≤ℤ (b *ℤ f)
+pub mul-le : (a b f : ℤ) → pos 1 ≤ℤ f → a ≤ℤ b → (a *ℤ f) ≤ℤ (b *ℤ f)
 mul-le a b (pos n) positive le =
     let parts : up a + down b ≤ up b + down a = omega (arith, ints) in
     let times : (up a + down b) * n ≤ (up b + down a) * n = mul-le-mul_right n parts in
     omega (arith, ints)
 mul-le a b (negsuc n) positive le = absurd (omega (arith, ints))
 
-mul-next : (a f : ℤ) → (a +ℤ pos 1) *ℤ f ≡ (a *ℤ f) +ℤ f
+pub mul-next : (a f : ℤ) → (a +ℤ pos 1) *ℤ f ≡ (a *ℤ f) +ℤ f
 mul-next a f = omega (arith, ints, mul-add f a (pos 1))
 
 -- the dividend is between the quotient times the divisor and the next multiple
-quotient-within : (d f : ℤ) → pos 1 ≤ℤ f → ((int_div_euclid d f *ℤ f) ≤ℤ d) × (d <ℤ ((int_div_euclid d f *ℤ f) +ℤ f))
+pub quotient-within : (d f : ℤ) → pos 1 ≤ℤ f → ((int_div_euclid d f *ℤ f) ≤ℤ d) × (d <ℤ ((int_div_euclid d f *ℤ f) +ℤ f))
 quotient-within (pos a) (pos n) positive = (omega (arith, ints), omega (arith, ints))
 quotient-within (negsuc a) (pos n) positive = (omega (arith, ints), omega (arith, ints))
 quotient-within d (negsuc n) positive = absurd (omega (arith, ints))

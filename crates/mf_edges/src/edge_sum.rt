@@ -1,33 +1,31 @@
 //! The sum of two rows of edges.
-ghost use Rattle.std.specs.Prelude.{◌≡◌, ◌≢◌, ◌≤◌, ◌<ℤ◌, IfOk, IfErr, All, drop, length, take};
+ghost use Rattle.std.specs.Prelude.{◌≡◌, ◌≢◌, ◌≤◌, ◌<ℤ◌, IfOk, IfErr, OnOk, OnErr, All, drop, length, take};
 ghost use Rattle.mf_geom.specs.Coordinates.{least_coordinate};
 ghost use Rattle.mf_edges.specs.LawfulWeights.{IsLawfulWeight};
 ghost use Rattle.mf_edges.specs.Edges.{AreEdges, AreEdgesFrom};
 ghost use Rattle.mf_edges.specs.Merging.{AreChanges, AreEdgesLeft, BeginFrom, IsDifference, IsSplitAt};
 ghost use Rattle.mf_edges.specs.Reaches.{AddInReach};
 ghost use Rattle.mf_edges.specs.SumsSoFar.{ArePassed, AreStopped};
-ghost use Rattle.mf_edges.specs.Sums.{weight_in_both, HaveWeights, IsUnlawfulColumn};
+ghost use Rattle.mf_edges.specs.Sums.{weight_in_both, HasEdgeSum, HasMoreEdges, IsUnlawfulColumn};
 
-use crate::edge::{Edge, give_back_room, push_unless_zero};
+use crate::edge::{Edge, push_unless_zero};
 use crate::fault::AddFault;
 use crate::field::is_lawful_weight;
 use mf_base::OutOfMemory;
-use std::alloc::Global;
 
-/// The edges of the sum of a row and of what is added to it. The edges of the row up to the next change are copied at
-/// once, so a change at few places costs little more than a copy; all weights that may become too large are checked.
-/// Refused with `WeightTooLarge` where a weight between the edges would exceed 32767 in absolute value, and with
-/// `OutOfMemory` where an allocation fails, which may come instead of `WeightTooLarge`. Requires the edges of a row on
-/// the left, and changes of a row on the right: sorted edges with a sum of 0, and between them differences of two
-/// lawful weights.
-pub fn sum_of_edges(alloc: Global, left: &[Edge], right: &[Edge]) -> Result<Vec<Edge>, AddFault>
+/// Appends the edges of the sum of a row and of what is added to it to a list of edges. The edges of the row up to the next
+/// change are copied at once, so a change at few places costs little more than a copy; all weights that may become too
+/// large are checked. Refused with `WeightTooLarge` where a weight between the edges would exceed 32767 in absolute value,
+/// and with `OutOfMemory` where an allocation fails, which may come instead of `WeightTooLarge`; some of the edges may then
+/// have been appended. Requires the edges of a row on the left, and changes of a row on the right: sorted edges with a sum of
+/// 0, and between them differences of two lawful weights.
+pub fn push_sum_of_edges(sum: &mut Vec<Edge>, left: &[Edge], right: &[Edge]) -> Result<(), AddFault>
     requires left { AreEdges left.now }
     requires right { AreChanges right.now }
-    ensures edges { IfOk result (λ sum. AreEdges sum.items) }
-    ensures weights { IfOk result (λ sum. HaveWeights (weight_in_both left.now right.now) sum.items) }
+    ensures pushed { OnOk result (HasEdgeSum sum.old.items left.now right.now sum.new.items) }
+    ensures kept { OnErr result (HasMoreEdges sum.old.items sum.new.items) }
     ensures too_large { IfErr result (λ fault. fault ≢ AddFault.OutOfMemory → IsUnlawfulColumn (weight_in_both left.now right.now)) }
 {
-    let mut sum = Vec::new(alloc);
     sum.reserve(left.len() + right.len())?;
     let (mut left, mut right) = (left, right);
     let mut weight = 0;
@@ -42,7 +40,7 @@ pub fn sum_of_edges(alloc: Global, left: &[Edge], right: &[Edge]) -> Result<Vec<
             return Err(AddFault::WeightTooLarge);
         }
         push_unless_zero(
-            &mut sum,
+            sum,
             Edge {
                 x: change.x,
                 weight: more,
@@ -51,22 +49,24 @@ pub fn sum_of_edges(alloc: Global, left: &[Edge], right: &[Edge]) -> Result<Vec<
         (left, right) = (rest, changes);
     }
     sum.extend_from_slice(left)?;
-    give_back_room(&mut sum);
-    Ok(sum)
+    Ok(())
 }
 
-/// The edges of the sum of two rows whose reaches leave room for each other. No weight can exceed 32767 in absolute
-/// value, so no weight between the edges of the left row is looked at, and the place of each edge of the right row is
-/// found by binary search. Refused with `OutOfMemory` where an allocation fails. Requires the edges of two rows whose
-/// least reaches add up to at most 32767.
-pub fn with_changes(alloc: Global, left: &[Edge], right: &[Edge]) -> Result<Vec<Edge>, OutOfMemory>
+/// Appends the edges of the sum of two rows whose reaches leave room for each other to a list of edges. No weight can exceed
+/// 32767 in absolute value, so no weight between the edges of the left row is looked at, and the place of each edge of the
+/// right row is found by binary search. Refused with `OutOfMemory` where an allocation fails; some of the edges may then
+/// have been appended. Requires the edges of two rows whose least reaches add up to at most 32767.
+pub fn push_with_changes(
+    edges: &mut Vec<Edge>,
+    left: &[Edge],
+    right: &[Edge],
+) -> Result<(), OutOfMemory>
     requires left { AreEdges left.now }
     requires right { AreEdges right.now }
     requires reach { AddInReach left.now right.now }
-    ensures edges { IfOk result (λ sum. AreEdges sum.items) }
-    ensures weights { IfOk result (λ sum. HaveWeights (weight_in_both left.now right.now) sum.items) }
+    ensures pushed { OnOk result (HasEdgeSum edges.old.items left.now right.now edges.new.items) }
+    ensures kept { OnErr result (HasMoreEdges edges.old.items edges.new.items) }
 {
-    let mut edges = Vec::new(alloc);
     edges.reserve(left.len() + right.len())?;
     let (mut left, mut right) = (left, right);
     while let Some((change, changes)) = right.split_first() {
@@ -74,7 +74,7 @@ pub fn with_changes(alloc: Global, left: &[Edge], right: &[Edge]) -> Result<Vec<
         edges.extend_from_slice(kept)?;
         let (edge, rest) = split_at(others, change.x);
         push_unless_zero(
-            &mut edges,
+            edges,
             Edge {
                 x: change.x,
                 weight: edge + change.weight,
@@ -83,7 +83,7 @@ pub fn with_changes(alloc: Global, left: &[Edge], right: &[Edge]) -> Result<Vec<
         (left, right) = (rest, changes);
     }
     edges.extend_from_slice(left)?;
-    Ok(edges)
+    Ok(())
 }
 
 /// The number of edges to the left of column x, which are the first ones.

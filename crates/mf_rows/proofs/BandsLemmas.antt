@@ -1,9 +1,9 @@
 -- Bands of rows: from band to band the lowest rows fall, so a row is found by binary search.
-use Rattle.std.proofs.Common.{◌≡◌, ◌≢◌, ℕ, zero, suc, ◌+◌, ◌<◌, ◌≤◌, ℤ, pos, ◌-ℤ◌, ◌≤ℤ◌, ◌<ℤ◌, List, [], ◌∷◌, ◌++◌, Bool, true, false, length, take, drop, get_or, subst, sym, ap, ◌∙◌, arith}
+use Rattle.std.proofs.Common.{◌≡◌, ◌≢◌, ℕ, zero, suc, ◌+◌, ◌<◌, ◌≤◌, ℤ, pos, ◌-ℤ◌, ◌≤ℤ◌, ◌<ℤ◌, List, [], ◌∷◌, ◌++◌, Bool, true, false, length, take, drop, get_or, refl, subst, sym, append-nil, ap, ◌∙◌, arith}
 use Rattle.std.specs.List.{All, AllWithin}
 use Rattle.std.specs.List.Sorted.{IsPartitionedBy}
 use Rattle.std.proofs.lemmas.Int.{ints}
-use Rattle.std.proofs.lemmas.List.{take-append-drop, take_all, length-map, map-append, drop_more, append_assoc}
+use Rattle.std.proofs.lemmas.List.{take-append-drop, take_all, drop_more}
 use Rattle.std.proofs.lemmas.List.Concat.{flat_map-append}
 use Rattle.std.proofs.lemmas.List.Elements.{All-nil, All-cons, All-head, All-tail, All-append, All-weaker, All-map}
 use Rattle.std.specs.Arc.{arc_value}
@@ -12,9 +12,11 @@ use Rattle.std.specs.declared.sync.Arc.{Arc}
 use Rattle.mf_geom.specs.Coordinates.{last_in_field}
 use lib.Signed.{lt_z}
 use Rattle.mf_rows.specs.declared.band.Band.{Band}
-use Rattle.mf_rows.specs.declared.row.Row.{Row}
-use Rattle.mf_rows.specs.Bands.{edge_row, edge_rows, last_height, rows_in, bottom_of, rows_of_bands, HasRow, HasNoRow, HasSameRow, AreAbove, AreBelow}
-use Rattle.mf_rows.specs.EdgeRows.{EdgeRow, IsEdgeRow, AreRowsFrom, AreRows, weight_in_rows}
+use Rattle.mf_rows.specs.declared.row_list.Head.{Head}
+use Rattle.mf_edges.specs.declared.edge.Edge.{Edge}
+use Rattle.mf_rows.specs.RowLists.{row_at, rows_at}
+use Rattle.mf_rows.specs.Bands.{last_height, rows_in, bottom_of, rows_of_bands, HasRow, HasNoRow, HasSameRow, AreAbove, AreBelow}
+use Rattle.mf_rows.specs.EdgeRows.{EdgeRow, AreRowsFrom, AreRows, weight_in_rows}
 use Rattle.mf_rows.proofs.EdgeRowsLemmas.{weight_in_rows-append, weight_in_rows-above, weight_in_rows-below, rows_from-below, rows_from-front, rows_from-back, rows_from-apart, weight_in_rows-here}
 use Rattle.mf_edges.proofs.Falls.{Falls, IsPartitionedBy-falls, All-take_within, All-drop_within}
 
@@ -27,12 +29,6 @@ All-front P (r ∷ rs) ss all = All-cons P r rs (All-head P r (rs ++ ss) all) (A
 All-back : (P : EdgeRow → Type 0) (rs ss : List EdgeRow) → All P (rs ++ ss) → All P ss
 All-back P [] ss all = all
 All-back P (r ∷ rs) ss all = All-back P rs ss (All-tail P r (rs ++ ss) all)
-
-All-edge_rows : (P : EdgeRow → Type 0) (rows : List Row) → All P (edge_rows rows) → All (λ row. P (edge_row row)) rows
-All-edge_rows P [] all = All-nil (λ row. P (edge_row row))
-All-edge_rows P (r ∷ rows) all =
-    All-cons (λ row. P (edge_row row)) r rows (All-head P (edge_row r) (edge_rows rows) all)
-    (All-edge_rows P rows (All-tail P (edge_row r) (edge_rows rows) all))
 
 -- no row is lower than the last, and none is higher than the first
 last_is_least : (top : ℤ) (rs : List EdgeRow) → AreRowsFrom top rs → All (λ r. last_height rs ≤ℤ r.y) rs
@@ -50,24 +46,14 @@ at_last P [] some all = absurd (omega arith)
 at_last P (r ∷ []) some all = All-head (λ s. P s.y) r [] all
 at_last P (r ∷ s ∷ rs) some all = at_last P (s ∷ rs) (omega arith) (All-tail (λ t. P t.y) r (s ∷ rs) all)
 
--- the last element, as the code reads it, is the last row
-pub last_height_is : (rows : List Row) (k : ℕ) (row : Row) → length rows ≡ suc k → row ≡ get_or rows k row → last_height (edge_rows rows) ≡ row.y
-last_height_is [] k row long last = absurd (omega arith)
-last_height_is (r ∷ []) zero row long last = ap (λ s. s.y) (sym last)
-last_height_is (r ∷ []) (suc k) row long last = absurd (omega arith)
-last_height_is (r ∷ s ∷ rows) zero row long last = absurd (omega arith)
-last_height_is (r ∷ s ∷ rows) (suc k) row long last = last_height_is (s ∷ rows) k row (omega arith) last
-
-rows_fall : (top : ℤ) (rows : List Row) → AreRowsFrom top (edge_rows rows) → Falls (λ row. row.y) rows
-rows_fall top [] lawful = tt
-rows_fall top (r ∷ rows) lawful =
-    let below = rows_from-below (r.y -ℤ pos 1) r.y (edge_rows rows) lawful.2 (omega (arith, ints)) in
-    (All-edge_rows (λ s. s.y <ℤ r.y) rows below, rows_fall (r.y -ℤ pos 1) rows lawful.2)
-
 -- ---- lists of bands
 
+some_rows : (rs : List EdgeRow) → rs ≢ [] → 0 < length rs
+some_rows [] some = absurd (some refl)
+some_rows (r ∷ rs) some = omega arith
+
 pub at_bottom : (P : ℤ → Type 0) (band : Band) → All (λ r. P r.y) (rows_in band) → P (bottom_of band)
-at_bottom P band all = at_last P (rows_in band) (omega (arith, length-map band.rows.items edge_row)) all
+at_bottom P band all = at_last P (rows_in band) (some_rows (rows_in band) band.some) all
 
 pub rows_of_bands-split : (n : ℕ) (bs : List (Arc Band Global)) → rows_of_bands bs ≡ rows_of_bands (take n bs) ++ rows_of_bands (drop n bs)
 rows_of_bands-split n bs = ap rows_of_bands (sym (take-append-drop n bs)) ∙ flat_map-append (λ band. rows_in (arc_value band)) (take n bs) (drop n bs)
@@ -188,75 +174,68 @@ no_row_here y above r below lawful higher behind =
           omega (arith, ints);
     }
 
--- whether a row is above row y
-abbrev pub row_stands_above : ℤ → Row → Bool
-row_stands_above y row = lt_z y row.y
+-- rows that are split at row y: those above it, and the others
+module _ (y : ℤ) (rs above others : List EdgeRow) (all : rs ≡ above ++ others) (higher : AreAbove y above) where
+  pub absent_row_all : others ≡ [] → HasNoRow rs y
+  absent_row_all none =
+      let none_left : rs ≡ above = all ∙ ap (λ ss. above ++ ss) none ∙ append-nil above in
+      record { weights = λ x. ap (λ ss. weight_in_rows ss x y) none_left ∙ weight_in_rows-above above x y higher }
 
-pub IsPartitionedBy-row_stands_above : (y : ℤ) (rows : List Row) → AreRows (edge_rows rows) → IsPartitionedBy (row_stands_above y) rows
-IsPartitionedBy-row_stands_above y rows lawful =
-    IsPartitionedBy-falls (λ row. row.y) (row_stands_above y) (λ a b le above. grind (arith, ints)) rows (rows_fall last_in_field rows lawful.rows)
+  module _ (r : EdgeRow) (below : List EdgeRow) (first : others ≡ r ∷ below) (lawful : AreRows rs) where
+    with_first : rs ≡ above ++ r ∷ below
+    with_first = all ∙ ap (λ ss. above ++ ss) first
 
-pub rows_above_split : (y : ℤ) (n : ℕ) (rows : List Row) → n ≤ length rows
-    → AllWithin (λ row. row_stands_above y row ≡ true) rows 0 n → AreAbove y (edge_rows (take n rows))
-rows_above_split y n rows le passed =
-    All-map (λ r. y <ℤ r.y) edge_row (take n rows)
-    (All-weaker (λ row. row_stands_above y row ≡ true) (λ row. y <ℤ row.y) (λ row above. grind (arith, ints))
-    (take n rows) (All-take_within (λ row. row_stands_above y row ≡ true) rows n le passed))
+    pub found_row : r.y ≡ y → HasRow rs y r.edges
+    found_row here = subst (λ ss. HasRow ss y r.edges) (sym with_first) (row_here y above r below (subst AreRows with_first lawful) higher here)
 
-pub rows_others_split : (y : ℤ) (n : ℕ) (rows : List Row) → AllWithin (λ row. row_stands_above y row ≡ false) rows n (length rows)
-    → All (λ row. row.y ≤ℤ y) (drop n rows)
-rows_others_split y n rows failed =
-    All-weaker (λ row. row_stands_above y row ≡ false) (λ row. row.y ≤ℤ y) (λ row not_above. grind (arith, ints))
-    (drop n rows) (All-drop_within (λ row. row_stands_above y row ≡ false) rows n failed)
-
--- the rows before a row, the row itself, and the rows after it
-rows-split : (n : ℕ) (rows : List Row) (row : Row) → n < length rows → row ≡ get_or rows n row → drop n rows ≡ row ∷ drop (n + 1) rows
-rows-split n rows row inside read = drop_more rows n row inside ∙ ap (λ r. r ∷ drop (n + 1) rows) (sym read)
-
-edge_rows-split : (n : ℕ) (rows : List Row) (row : Row) → n < length rows → row ≡ get_or rows n row
-    → edge_rows rows ≡ edge_rows (take n rows) ++ edge_row row ∷ edge_rows (drop (n + 1) rows)
-edge_rows-split n rows row inside read =
-    ap edge_rows (sym (take-append-drop n rows))
-    ∙ (map-append edge_row (take n rows) (drop n rows) ∙ ap (λ others. edge_rows (take n rows) ++ edge_rows others) (rows-split n rows row inside read))
-
-pub found_row : (y : ℤ) (n : ℕ) (rows : List Row) (row : Row) → AreRows (edge_rows rows) → n < length rows
-    → row ≡ get_or rows n row → AreAbove y (edge_rows (take n rows)) → row.y ≡ y → HasRow (edge_rows rows) y (edge_row row).edges
-found_row y n rows row lawful inside read above here =
-    let all = edge_rows-split n rows row inside read in
-    subst (λ rs. HasRow rs y (edge_row row).edges) (sym all)
-    (row_here y (edge_rows (take n rows)) (edge_row row) (edge_rows (drop (n + 1) rows)) (subst AreRows all lawful) above here)
-
-pub absent_row : (y : ℤ) (n : ℕ) (rows : List Row) (row : Row) → AreRows (edge_rows rows) → n < length rows
-    → row ≡ get_or rows n row → AreAbove y (edge_rows (take n rows)) → All (λ r. r.y ≤ℤ y) (drop n rows) → row.y ≢ y → HasNoRow (edge_rows rows) y
-absent_row y n rows row lawful inside read above others elsewhere =
-    let all = edge_rows-split n rows row inside read in
-    let not_above = All-head (λ r. r.y ≤ℤ y) row (drop (n + 1) rows) (subst (All (λ r. r.y ≤ℤ y)) (rows-split n rows row inside read) others) in
-    subst (λ rs. HasNoRow rs y) (sym all)
-    (no_row_here y (edge_rows (take n rows)) (edge_row row) (edge_rows (drop (n + 1) rows)) (subst AreRows all lawful) above (omega (arith, ints)))
-
-pub absent_row_all : (y : ℤ) (n : ℕ) (rows : List Row) → length rows ≤ n → AreAbove y (edge_rows (take n rows)) → HasNoRow (edge_rows rows) y
-absent_row_all y n rows outside above =
-    record { weights = λ x. weight_in_rows-above (edge_rows rows) x y (subst (λ rs. AreAbove y (edge_rows rs)) (take_all n rows outside) above) }
+    pub absent_row : All (λ s. s.y ≤ℤ y) others → r.y ≢ y → HasNoRow rs y
+    absent_row up_to elsewhere =
+        let not_above = All-head (λ s. s.y ≤ℤ y) r below (subst (All (λ s. s.y ≤ℤ y)) first up_to) in
+        subst (λ ss. HasNoRow ss y) (sym with_first) (no_row_here y above r below (subst AreRows with_first lawful) higher (omega (arith, ints)))
 
 pub absent_band_all : (y : ℤ) (n : ℕ) (bs : List (Arc Band Global)) → length bs ≤ n → AreAbove y (rows_of_bands (take n bs)) → HasNoRow (rows_of_bands bs) y
 absent_band_all y n bs outside above =
     record { weights = λ x. weight_in_rows-above (rows_of_bands bs) x y (subst (λ cs. AreAbove y (rows_of_bands cs)) (take_all n bs outside) above) }
 
--- ---- rows that are put into bands
+-- ---- the rows of heads
 
--- a row of the field that is not blank
-abbrev pub IsRow : Row → Type 0
-IsRow r = IsEdgeRow (edge_row r)
+-- the last head, as the code reads it, is the last row
+pub last_height_is : (es : List Edge) (hs : List Head) (n : ℕ) (h : Head) → length hs ≡ suc n → h ≡ get_or hs n h → last_height (rows_at es hs) ≡ h.y
+last_height_is es [] n h long last = absurd (omega arith)
+last_height_is es (g ∷ []) zero h long last = ap (λ k. k.y) (sym last)
+last_height_is es (g ∷ []) (suc n) h long last = absurd (omega arith)
+last_height_is es (g ∷ k ∷ hs) zero h long last = absurd (omega arith)
+last_height_is es (g ∷ k ∷ hs) (suc n) h long last = last_height_is es (k ∷ hs) n h (omega arith) last
 
-pub All-rows : (top : ℤ) (rows : List Row) → AreRowsFrom top (edge_rows rows) → All IsRow rows
-All-rows top [] lawful = All-nil IsRow
-All-rows top (r ∷ rows) lawful = All-cons IsRow r rows lawful.0 (All-rows (r.y -ℤ pos 1) rows lawful.2)
+All-heads : (P : ℤ → Type 0) (es : List Edge) (hs : List Head) → All (λ r. P r.y) (rows_at es hs) → All (λ h. P h.y) hs
+All-heads P es [] all = All-nil (λ h. P h.y)
+All-heads P es (h ∷ hs) all =
+    All-cons (λ k. P k.y) h hs (All-head (λ r. P r.y) _ (rows_at es hs) all) (All-heads P es hs (All-tail (λ r. P r.y) _ (rows_at es hs) all))
 
-edge_rows-push : (rs : List EdgeRow) (rows : List Row) (row : Row) → rs ++ edge_rows (rows ++ row ∷ []) ≡ (rs ++ edge_rows rows) ++ edge_row row ∷ []
-edge_rows-push rs rows row = ap (λ ss. rs ++ ss) (map-append edge_row rows (row ∷ [])) ∙ sym (append_assoc rs (edge_rows rows) (edge_row row ∷ []))
+heads_fall : (top : ℤ) (es : List Edge) (hs : List Head) → AreRowsFrom top (rows_at es hs) → Falls (λ h. h.y) hs
+heads_fall top es [] lawful = tt
+heads_fall top es (h ∷ hs) lawful =
+    let below = rows_from-below (h.y -ℤ pos 1) h.y (rows_at es hs) lawful.2 (omega (arith, ints)) in
+    (All-heads (λ y. y <ℤ h.y) es hs below, heads_fall (h.y -ℤ pos 1) es hs lawful.2)
 
--- one more row on both sides
-pub one_more_row : (bands old : List EdgeRow) (open_rows done : List Row) (row : Row)
-    → bands ++ edge_rows open_rows ≡ old ++ edge_rows done → bands ++ edge_rows (open_rows ++ row ∷ []) ≡ old ++ edge_rows (done ++ row ∷ [])
-one_more_row bands old open_rows done row same =
-    edge_rows-push bands open_rows row ∙ (ap (λ rs. rs ++ edge_row row ∷ []) same ∙ sym (edge_rows-push old done row))
+-- whether the row of a head is above row y
+abbrev pub head_stands_above : ℤ → Head → Bool
+head_stands_above y head = lt_z y head.y
+
+pub IsPartitionedBy-head_stands_above : (y : ℤ) (es : List Edge) (hs : List Head) → AreRows (rows_at es hs) → IsPartitionedBy (head_stands_above y) hs
+IsPartitionedBy-head_stands_above y es hs lawful =
+    IsPartitionedBy-falls (λ h. h.y) (head_stands_above y) (λ a b le above. grind (arith, ints)) hs (heads_fall last_in_field es hs lawful.rows)
+
+pub heads_above_split : (y : ℤ) (n : ℕ) (es : List Edge) (hs : List Head) → n ≤ length hs
+    → AllWithin (λ h. head_stands_above y h ≡ true) hs 0 n → AreAbove y (rows_at es (take n hs))
+heads_above_split y n es hs le passed =
+    All-map (λ r. y <ℤ r.y) (row_at es) (take n hs)
+    (All-weaker (λ h. head_stands_above y h ≡ true) (λ h. y <ℤ h.y) (λ h above. grind (arith, ints))
+    (take n hs) (All-take_within (λ h. head_stands_above y h ≡ true) hs n le passed))
+
+pub heads_others_split : (y : ℤ) (n : ℕ) (es : List Edge) (hs : List Head)
+    → AllWithin (λ h. head_stands_above y h ≡ false) hs n (length hs) → All (λ r. r.y ≤ℤ y) (rows_at es (drop n hs))
+heads_others_split y n es hs failed =
+    All-map (λ r. r.y ≤ℤ y) (row_at es) (drop n hs)
+    (All-weaker (λ h. head_stands_above y h ≡ false) (λ h. h.y ≤ℤ y) (λ h not_above. grind (arith, ints))
+    (drop n hs) (All-drop_within (λ h. head_stands_above y h ≡ false) hs n failed))

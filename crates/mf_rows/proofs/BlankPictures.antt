@@ -1,40 +1,41 @@
--- Blank pictures: they have no rows, and so no bands, and they stay blank where their weights are mapped.
-use Rattle.std.proofs.Common.{◌≡◌, ◌≢◌, List, [], ◌∷◌, length, length-append, refl, sym, ap, ◌∙◌, arith}
-use Rattle.std.specs.Arc.{arc_value}
-use Rattle.std.specs.declared.alloc.Global.{Global}
-use Rattle.std.specs.declared.sync.Arc.{Arc}
-use Rattle.std.proofs.lemmas.List.{length-map}
+-- Blank pictures: they have no rows, nothing is added with them, and they stay blank where their weights are mapped.
+use Rattle.std.proofs.Common.{◌≡◌, ◌≢◌, Bool, true, false, not, Option, Some, None, is_some, MatchOption, List, [], ◌∷◌, length, refl, sym, ap, ◌∙◌, arith}
+use Rattle.std.proofs.lemmas.Bool.{false≢true}
+use Rattle.std.proofs.lemmas.Int.{ints}
 use Rattle.std.proofs.lemmas.List.Elements.{All-head}
 use Rattle.mf_geom.specs.Coordinates.{last_in_field}
-use Rattle.mf_rows.specs.declared.band.Band.{Band}
-use Rattle.mf_rows.specs.Bands.{edge_row, rows_in, rows_of_bands}
+use Rattle.mf_rows.specs.declared.row.Row.{Row}
+use Rattle.mf_rows.specs.Bands.{edge_row}
 use Rattle.mf_edges.specs.declared.weight_map.WeightMap.{WeightMap}
 use Rattle.mf_edges.specs.WeightMaps.{IsWeightMap}
 use Rattle.mf_rows.specs.Dots.{Dot, weight_at}
 use Rattle.mf_rows.specs.EdgeRows.{EdgeRow, AreRows, picture_of_rows}
-use Rattle.mf_rows.specs.Sums.{HasWeights}
+use Rattle.mf_rows.specs.Sums.{HasWeights, sum_at}
 use Rattle.mf_rows.specs.WeightMaps.{mapped_at}
-use Rattle.mf_rows.proofs.EdgeRowsLemmas.{picture_of_rows-none, weight_at-picture_of_rows}
+use Rattle.mf_rows.proofs.EdgeRowsLemmas.{weight_at-picture_of_rows}
 use Rattle.mf_rows.proofs.RowSumSteps.{no_row}
 
 -- where the picture of rows is blank, there are no rows
-no_rows : (rs : List EdgeRow) → AreRows rs → picture_of_rows rs ≡ [] → rs ≡ []
+pub no_rows : (rs : List EdgeRow) → AreRows rs → picture_of_rows rs ≡ [] → rs ≡ []
 unfolding weight_at
 no_rows [] rows blank = refl
 no_rows (r ∷ rs) rows blank =
     let others = no_row last_in_field r.y (r ∷ rs) rows.rows (λ x. sym (weight_at-picture_of_rows (r ∷ rs) x r.y rows) ∙ ap (λ ds. weight_at ds x r.y) blank) in
     absurd (All-head (λ s. s.y ≢ r.y) r rs others refl)
 
--- and there are no bands, since each has a row
-pub no_bands : (bands : List (Arc Band Global)) → AreRows (rows_of_bands bands) → picture_of_rows (rows_of_bands bands) ≡ [] → bands ≡ []
-no_bands [] rows blank = refl
-no_bands (band ∷ bands) rows blank =
-    let own = (arc_value band).rows.items in
-    let none = ap length (no_rows (rows_of_bands (band ∷ bands)) rows blank) in
-    absurd (omega (arith, none, (arc_value band).some, length-append (rows_in (arc_value band)) (rows_of_bands bands), length-map own edge_row))
+-- and there is no first one
+pub first_is_none : (first : Option Row) (none : Bool) (rs others : List EdgeRow)
+    → MatchOption first ((rs ≡ []) × (others ≡ [])) (λ r. rs ≡ edge_row r ∷ others) → is_some first ≡ not none
+    → (none ≡ true → rs ≡ []) × (rs ≡ [] → none ≡ true)
+first_is_none None true rs others steps is = (λ test. steps.0, λ blank. refl)
+first_is_none None false rs others steps is = absurd (false≢true is)
+first_is_none (Some r) true rs others steps is = absurd (false≢true (sym is))
+first_is_none (Some r) false rs others steps is = (λ test. absurd (false≢true test), λ blank. absurd (omega (arith, ap length (sym steps ∙ blank))))
 
-pub blank_of_none : (bands : List (Arc Band Global)) → bands ≡ [] → picture_of_rows (rows_of_bands bands) ≡ []
-blank_of_none bands none = ap (λ bs. picture_of_rows (rows_of_bands bs)) none ∙ picture_of_rows-none
+-- the sum with a blank picture
+pub blank_added : (ds es : List Dot) → es ≡ [] → HasWeights (sum_at ds es) ds
+unfolding sum_at weight_at
+blank_added ds es blank = rw blank (record { weights = λ x y inside. omega (arith, ints) })
 
 -- weight 0 stays 0
 pub blank_mapped : (ds : List Dot) (m : WeightMap) → ds ≡ [] → IsWeightMap m → HasWeights (mapped_at m ds) []

@@ -1,7 +1,7 @@
 -- Rows that are built from their runs, one after another.
-use Rattle.std.proofs.Common.{◌≡◌, ◌≢◌, ◌+◌, ◌-◌, ◌<◌, ℤ, pos, ◌≤ℤ◌, ◌<ℤ◌, List, [], ◌∷◌, ◌++◌, length, get_or, set, take, refl, sym, ap, ◌∙◌, subst, arith}
+use Rattle.std.proofs.Common.{◌≡◌, ◌≢◌, ℕ, ◌+◌, ◌-◌, ◌<◌, ℤ, pos, ◌≤ℤ◌, ◌<ℤ◌, List, [], ◌∷◌, ◌++◌, length, get_or, set, take, drop, refl, sym, ap, ◌∙◌, subst, arith}
 use Rattle.std.proofs.lemmas.Int.{ints, by_lt_z}
-use Rattle.std.proofs.lemmas.List.{take_all, map_more, map_push, take_more_set, get_or_default, length-set}
+use Rattle.std.proofs.lemmas.List.{drop_more, take_all, map_more, map_push, take_more_set, get_or_default, length-set}
 use Rattle.std.proofs.lemmas.List.Elements.{All-nil, All-cons, All-push, All-head, All-weaker}
 use Rattle.mf_geom.specs.Coordinates.{least_coordinate, last_in_field}
 use Rattle.mf_geom.specs.Field.{IsInField}
@@ -287,3 +287,15 @@ picture-pushed_behind rows new r lawful fits not_there has =
     (subst AreRows split (rows-pushed_behind rows new r lawful fits not_there has))
     (above_run rows r lawful fits not_there) refl has
     (λ x y. weight_at-picture_of_rows (open_rows rows) x y lawful ∙ sym (weight-with_blank (open_rows rows) r.y x y)))
+
+-- ---- rows that are closed, one after another
+
+-- the first of the rows that are left
+pub closed_next : {all : List EdgeRow} (closed : List EdgeRow) (rows : List OpenRow) (k : ℕ) (row : OpenRow) → k < length rows → row ≡ get_or rows k row
+    → closed ++ open_rows (drop k rows) ≡ all → closed ++ open_row row ∷ open_rows (drop (k + 1) rows) ≡ all
+closed_next closed rows k row inside read so_far =
+    ap (λ r. closed ++ open_row r ∷ open_rows (drop (k + 1) rows)) read ∙ ap (λ left. closed ++ open_rows left) (sym (drop_more rows k row inside)) ∙ so_far
+
+-- a row among lawful rows is lawful
+pub closed_row : (all closed rest : List EdgeRow) (r : EdgeRow) → AreRows all → closed ++ r ∷ rest ≡ all → IsEdgeRow r
+closed_row all closed rest r rows is = (rows_from-back last_in_field closed (r ∷ rest) (rw is rows.rows)).0

@@ -75,7 +75,7 @@ rows_from-back top (r ∷ rs) ss rows =
     rows_from-higher top (r.y -ℤ pos 1) ss (omega (arith, ints)) (rows_from-back (r.y -ℤ pos 1) rs ss rows.2)
 
 -- lawful rows that are below a row may follow it
-rows_from-cut : (top y : ℤ) (rs : List EdgeRow) → AreRowsFrom top rs → AreBelow y rs → AreRowsFrom (y -ℤ pos 1) rs
+pub rows_from-cut : (top y : ℤ) (rs : List EdgeRow) → AreRowsFrom top rs → AreBelow y rs → AreRowsFrom (y -ℤ pos 1) rs
 rows_from-cut top y [] rows below = tt
 rows_from-cut top y (r ∷ rs) rows below =
     let lower : r.y <ℤ y = All-head (λ r. r.y <ℤ y) r rs below in

@@ -4,17 +4,16 @@ use Rattle.std.specs.Int.{int_max}
 use Rattle.std.specs.List.{All, AllWithin}
 use Rattle.std.specs.List.Sorted.{IsPartitionedBy}
 use Rattle.std.proofs.lemmas.Int.{ints, clamps, by_lt_z}
-use Rattle.std.proofs.lemmas.List.Elements.{All-nil, All-cons, All-head, All-tail, All-append, All-weaker, All-map}
+use Rattle.std.proofs.lemmas.List.Elements.{All-nil, All-cons, All-head, All-tail, All-append, All-weaker}
 use Rattle.std.specs.Arc.{arc_value}
 use Rattle.std.specs.declared.alloc.Global.{Global}
 use Rattle.std.specs.declared.sync.Arc.{Arc}
 use Rattle.mf_geom.specs.Coordinates.{last_in_field}
 use lib.Signed.{le_z}
 use Rattle.mf_rows.specs.declared.band.Band.{Band}
-use Rattle.mf_rows.specs.declared.row.Row.{Row}
-use Rattle.mf_rows.specs.Bands.{AreAbove, AreBelow, edge_row, edge_rows, rows_in, bottom_of, rows_of_bands}
+use Rattle.mf_rows.specs.Bands.{AreAbove, AreBelow, rows_in, bottom_of, rows_of_bands}
 use Rattle.mf_rows.specs.BandSums.{lowest_of, AreUpTo, AreBehind, AreNumberedBehind, BeginUpTo, IsStep, EndsStep, end_of}
-use Rattle.mf_rows.specs.EdgeRows.{AreRows}
+use Rattle.mf_rows.specs.EdgeRows.{EdgeRow, AreRows}
 use Rattle.mf_rows.specs.FieldBands.{IsOfBand, AreOfBand}
 use Rattle.mf_rows.specs.Sums.{StayWithin}
 use Rattle.mf_edges.proofs.Falls.{IsPartitionedBy-falls, All-take_within, All-drop_within}
@@ -23,7 +22,7 @@ use Rattle.mf_rows.proofs.BandsLemmas.{at_bottom, bands_fall}
 -- ---- the rows of bands
 
 pub rows_of_band : (band : Band) → All (λ r. IsOfBand band.number r.y) (rows_in band)
-rows_of_band band = All-map (λ r. IsOfBand band.number r.y) edge_row band.rows.items band.of_band
+rows_of_band band = band.of_band
 
 -- what the number of each band implies of its rows holds of the rows of all bands
 All-rows_of_bands : (N P : ℤ → Type 0) → ((n y : ℤ) → N n → IsOfBand n y → P y) → (bs : List (Arc Band Global))
@@ -37,17 +36,14 @@ All-rows_of_bands N P holds (b ∷ bs) all =
     (All-rows_of_bands N P holds bs (All-tail (λ (c : Arc Band Global). N (arc_value c).number) b bs all))
 
 -- the rows between the ends of a band belong to it
-between_ends : (n : ℤ) (rows : List Row) → AreAbove (lowest_of n -ℤ pos 1) (edge_rows rows)
-    → AreBelow (lowest_of n +ℤ pos 16) (edge_rows rows) → AreOfBand n rows
-between_ends n [] above below = All-nil (λ row. IsOfBand n row.y)
-between_ends n (row ∷ rows) above below =
-    let bottom = All-head (λ r. (lowest_of n -ℤ pos 1) <ℤ r.y) (edge_row row) (edge_rows rows) above in
-    let top = All-head (λ r. r.y <ℤ (lowest_of n +ℤ pos 16)) (edge_row row) (edge_rows rows) below in
-    All-cons (λ row. IsOfBand n row.y) row rows
+between_ends : (n : ℤ) (rs : List EdgeRow) → AreAbove (lowest_of n -ℤ pos 1) rs → AreBelow (lowest_of n +ℤ pos 16) rs → AreOfBand n rs
+between_ends n [] above below = All-nil (λ r. IsOfBand n r.y)
+between_ends n (r ∷ rs) above below =
+    let bottom = All-head (λ r. (lowest_of n -ℤ pos 1) <ℤ r.y) r rs above in
+    let top = All-head (λ r. r.y <ℤ (lowest_of n +ℤ pos 16)) r rs below in
+    All-cons (λ r. IsOfBand n r.y) r rs
     (record { top = omega (arith, ints, top); bottom = omega (arith, ints, bottom) })
-    (between_ends n rows
-    (All-tail (λ r. (lowest_of n -ℤ pos 1) <ℤ r.y) (edge_row row) (edge_rows rows) above)
-    (All-tail (λ r. r.y <ℤ (lowest_of n +ℤ pos 16)) (edge_row row) (edge_rows rows) below))
+    (between_ends n rs (All-tail (λ r. (lowest_of n -ℤ pos 1) <ℤ r.y) r rs above) (All-tail (λ r. r.y <ℤ (lowest_of n +ℤ pos 16)) r rs below))
 
 above_end : (n : ℤ) (band : Band) → band.number ≡ n → AreAbove (lowest_of n -ℤ pos 1) (rows_in band)
 above_end n band is =
@@ -60,10 +56,10 @@ below_end n band is =
     (λ r own. let own : IsOfBand n r.y = rw (← is) own in omega (arith, ints, own.top)) (rows_in band) (rows_of_band band)
 
 -- and so do the rows of the sum of two bands of its number
-pub sum_of_band : (n : ℤ) (left right : Band) (rows : List Row) → left.number ≡ n → right.number ≡ n
-    → StayWithin (rows_in left) (rows_in right) (edge_rows rows) → AreOfBand n rows
-sum_of_band n left right rows of_left of_right within =
-    between_ends n rows
+pub sum_of_band : (n : ℤ) (left right : Band) (rs : List EdgeRow) → left.number ≡ n → right.number ≡ n
+    → StayWithin (rows_in left) (rows_in right) rs → AreOfBand n rs
+sum_of_band n left right rs of_left of_right within =
+    between_ends n rs
     (within.above (lowest_of n -ℤ pos 1) (above_end n left of_left) (above_end n right of_right))
     (within.below (lowest_of n +ℤ pos 16) (below_end n left of_left) (below_end n right of_right))
 
@@ -74,11 +70,17 @@ abbrev pub is_up_to : ℤ → Arc Band Global → Bool
 is_up_to n band = le_z (arc_value band).number n
 
 -- of two bands, the higher one has no greater number
+higher_number : (lower higher y z : ℤ) → IsOfBand lower y → IsOfBand higher z → y ≤ℤ z → higher ≤ℤ lower
+higher_number lower higher y z of_lower of_higher le = omega (arith, ints, of_lower.bottom, of_higher.top)
+
+up_to_from : (n lower higher : ℤ) → higher ≤ℤ lower → le_z lower n ≡ true → le_z higher n ≡ true
+up_to_from n lower higher le up_to = grind (arith, ints)
+
 higher_up_to : (n : ℤ) (a b : Arc Band Global) → bottom_of (arc_value a) ≤ℤ bottom_of (arc_value b) → is_up_to n a ≡ true → is_up_to n b ≡ true
 higher_up_to n a b le up_to =
     let lower = at_bottom (IsOfBand (arc_value a).number) (arc_value a) (rows_of_band (arc_value a)) in
     let higher = at_bottom (IsOfBand (arc_value b).number) (arc_value b) (rows_of_band (arc_value b)) in
-    grind (arith, ints)
+    up_to_from n (arc_value a).number (arc_value b).number (higher_number _ _ (bottom_of (arc_value a)) (bottom_of (arc_value b)) lower higher le) up_to
 
 pub IsPartitionedBy-is_up_to : (n : ℤ) (bs : List (Arc Band Global)) → AreRows (rows_of_bands bs) → IsPartitionedBy (is_up_to n) bs
 IsPartitionedBy-is_up_to n bs lawful =

@@ -1,4 +1,3 @@
-mod BandsAdded
 mod BandsLemmas
 mod BandSumsLemmas
 mod BlankPictures
@@ -12,12 +11,17 @@ mod EdgeRuns
 mod EqualRuns
 mod FieldBandsLemmas
 pub mod FieldTotals
+mod GroupsLemmas
+mod GroupsMade
 mod LongestRuns
 pub mod MaximalRuns
 pub mod PassedRuns
+mod PictureGroups
 mod PictureRows
 pub mod PlacesLemmas
+mod RemainingRuns
 mod RowChangesLemmas
+mod RowListLemmas
 mod RowMoves
 mod RowRuns
 mod RowStretches
@@ -26,7 +30,6 @@ mod RowSumSteps
 pub mod RunBoxes
 pub mod RunDots
 mod RunEdges
-mod RemainingRuns
 pub mod RunsLemmas
 pub mod StretchBounds
 mod StripCopies

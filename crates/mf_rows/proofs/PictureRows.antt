@@ -6,6 +6,7 @@ use Rattle.mf_geom.specs.Coordinates.{last_in_field}
 use Rattle.mf_rows.specs.declared.corner.Corner.{Corner}
 use Rattle.mf_edges.specs.declared.edge.Edge.{Edge}
 use Rattle.mf_edges.specs.declared.row_change.RowChange.TheVariants as change
+use Rattle.mf_edges.specs.declared.stretch.Stretch.{Stretch}
 use Rattle.mf_edges.specs.declared.weight_map.WeightMap.{WeightMap}
 use Rattle.mf_rows.specs.Bands.{HasRow, HasNoRow}
 use Rattle.mf_rows.specs.Corners.{added_by_all, with_corners_at}
@@ -13,8 +14,8 @@ use Rattle.mf_edges.specs.LawfulWeights.{IsLawfulWeight}
 use Rattle.mf_rows.specs.Dots.{Dot, weight_at}
 use Rattle.mf_edges.specs.Edges.{weight_in}
 use Rattle.mf_rows.specs.EdgeRows.{EdgeRow, AreRowsFrom, AreRows, weight_in_rows, picture_of_rows}
-use Rattle.mf_edges.specs.Axes.{opposite}
-use Rattle.mf_rows.specs.Moves.{columns_mirrored_at, rows_mirrored_at, turned_at}
+use Rattle.mf_edges.specs.Axes.{opposite, source_of}
+use Rattle.mf_rows.specs.Moves.{columns_mirrored_at, columns_stretched_at, rows_mirrored_at, turned_at}
 use Rattle.mf_rows.specs.RowChanges.{changed_in_rows, mirrored_in_rows, turned_in_rows}
 use Rattle.mf_rows.specs.Sums.{HasWeights, IsUnlawfulSomewhere, weight_in_all, sum_at, HaveFieldWeights, HaveRowWeights}
 use Rattle.mf_edges.specs.WeightMaps.{mapped_to}
@@ -103,6 +104,13 @@ pub weights_of_columns_mirrored : (rs mirrored : List EdgeRow) → AreRows rs �
 unfolding columns_mirrored_at changed_in_rows
 weights_of_columns_mirrored rs mirrored rows lawful has = record {
   weights = λ x y inside. weight_at-picture_of_rows mirrored x y lawful ∙ has.weights x y ∙ sym (weight_at-picture_of_rows rs (opposite x) y rows);
+}
+
+pub weights_of_columns_stretched : (s : Stretch) (rs changed : List EdgeRow) → AreRows rs → AreRows changed
+    → HaveRowWeights (changed_in_rows (change.Columns s) rs) changed → HasWeights (columns_stretched_at s (picture_of_rows rs)) (picture_of_rows changed)
+unfolding columns_stretched_at changed_in_rows
+weights_of_columns_stretched s rs changed rows lawful has = record {
+  weights = λ x y inside. weight_at-picture_of_rows changed x y lawful ∙ has.weights x y ∙ sym (weight_at-picture_of_rows rs (source_of s x) y rows);
 }
 
 pub weights_of_rows_mirrored : (rs mirrored : List EdgeRow) → AreRows rs → AreRows mirrored

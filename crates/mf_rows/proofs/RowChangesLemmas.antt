@@ -1,44 +1,31 @@
 -- Rows that are changed each by itself, one row after another.
-use Rattle.std.proofs.Common.{◌≡◌, ◌≢◌, ℕ, ◌+◌, ◌<◌, ℤ, pos, negsuc, ◌+ℤ◌, ◌-ℤ◌, ◌*ℤ◌, ◌≤ℤ◌, ◌<ℤ◌, of_z, w32, Bool, true, false, not, List, [], ◌∷◌, ◌++◌, length, drop, get_or, refl, sym, ap, subst, ◌∙◌, arith}
-use Rattle.std.specs.Bool.{Decides}
+use Rattle.std.proofs.Common.{◌≡◌, ℕ, ◌+◌, ◌<◌, ℤ, pos, ◌+ℤ◌, ◌-ℤ◌, ◌<ℤ◌, Bool, true, false, not, List, [], ◌∷◌, ◌++◌, length, drop, get_or, refl, sym, ap, subst, ◌∙◌, arith}
 use Rattle.std.specs.Cmp.Lexicographic.{pointwise}
 use Rattle.std.specs.List.{All}
 use Rattle.std.proofs.lemmas.Bool.{false≢true}
-use Rattle.std.proofs.lemmas.Bool.Decides.{Decides-int_eq, Decides-and, Decides-like}
 use Rattle.std.proofs.lemmas.Int.{ints}
 use Rattle.std.proofs.lemmas.List.{drop_more}
 use Rattle.std.proofs.lemmas.List.Elements.{All-nil, All-tail, All-append, All-weaker, All-head}
 use Rattle.std.proofs.lemmas.Slice.Eq.{slice_eq-Decides}
-use Rattle.mf_geom.specs.Coordinates.{last_in_field, IsCoordinate}
+use Rattle.mf_geom.specs.Coordinates.{last_in_field}
 use Rattle.mf_edges.specs.contracts.edge.EdgePartialEq.TheImpl as edge_eq
 use Rattle.mf_edges.specs.declared.edge.Edge.{Edge}
 use Rattle.mf_rows.specs.declared.row.Row.{Row}
 use Rattle.mf_edges.specs.declared.row_change.RowChange.{RowChange}
 use Rattle.mf_edges.specs.declared.row_change.RowChange.TheVariants as change
-use Rattle.mf_edges.specs.declared.stretch.Stretch.{Stretch}
 use Rattle.mf_rows.specs.Bands.{edge_row, edge_rows, AreBelow}
 use Rattle.mf_rows.specs.BlankRows.{unless_blank}
-use Rattle.mf_edges.specs.Edges.{weight_in, AreEdges}
+use Rattle.mf_edges.specs.Edges.{weight_in}
 use Rattle.mf_rows.specs.EdgeRows.{EdgeRow, AreRowsFrom, AreRows, weight_in_rows}
-use Rattle.mf_edges.specs.Axes.{IsStretch, stretched_to, source_of}
 use Rattle.mf_edges.specs.RowChanges.{row_image, IsRowChange, EdgesAllowChange, changed_in, AreChanged}
 use Rattle.mf_rows.specs.RowChanges.{RowsAllowChange, changed_in_rows}
 use Rattle.mf_rows.specs.Sums.{HaveRowWeights}
 use Rattle.mf_rows.proofs.BlankRowsLemmas.{weight_in_rows-unless_blank, rows_from-unless_blank, All-unless_blank}
 use Rattle.mf_rows.proofs.EdgeRowsLemmas.{weight_in_rows-append, weight_in_rows-here, weight_in_rows-elsewhere, weight_in_rows-below, rows_from-higher, rows_from-below, rows_from-append}
 use Rattle.mf_rows.proofs.RowSums.{by_same}
-use Rattle.mf_edges.proofs.Sources.{source_of-is}
+use Rattle.mf_rows.proofs.RowListLemmas.{edge_decides}
 
 -- ---- edges that are compared
-
-same_edge : (d e : Edge) → d.x ≡ e.x → d.weight ≡ e.weight → d ≡ e
-same_edge d e column weight = λ i. record { x = column i; weight = weight i }
-
--- edges compare as equal exactly where they are
-edge_decides : (d e : Edge) → Decides ((edge_eq.eq-value).it d e) (d ≡ e)
-edge_decides d e =
-    Decides-like ((edge_eq.eq-value).it d e) (λ same. same_edge d e same.0 same.1) (λ same. (ap (λ t. t.x) same, ap (λ t. t.weight) same))
-    (Decides-and _ _ (Decides-int_eq d.x e.x) (Decides-int_eq d.weight e.weight))
 
 true_from_not : (b : Bool) → false ≡ not b → b ≡ true
 true_from_not true e = refl
@@ -147,38 +134,3 @@ pub change_all : (c : RowChange) (whole changed : List EdgeRow) → IsRowChange 
     → HaveRowWeights (changed_in_rows c whole) changed
 unfolding weight_in_rows changed_in_rows
 change_all c whole changed lawful so_far = record { weights = λ x y. let all = so_far.weights x y in omega (arith, ints, image_of_blank c x lawful) }
-
--- ---- columns that stay in place
-
-once : (p f o : ℤ) → f ≡ pos 1 → (p *ℤ f) +ℤ o ≡ p +ℤ o
-once p f o one = rw one (omega (arith, ints))
-
-source_of-same : (s : Stretch) (q : ℤ) → IsStretch s → s.factor ≡ pos 1 → s.offset ≡ pos 0 → source_of s q ≡ q
-source_of-same s q stretch one none =
-    let start : stretched_to s q ≡ q +ℤ s.offset = once q s.factor s.offset one in
-    let behind : stretched_to s (q +ℤ pos 1) ≡ q +ℤ pos 1 +ℤ s.offset = once (q +ℤ pos 1) s.factor s.offset one in
-    source_of-is s q q stretch (omega (arith, ints)) (omega (arith, ints))
-
-columns_stay : (s : Stretch) (rs : List EdgeRow) → IsStretch s → s.factor ≡ pos 1 → s.offset ≡ pos 0 → HaveRowWeights (changed_in_rows (change.Columns s) rs) rs
-unfolding changed_in_rows
-columns_stay s rs stretch one none = record { weights = λ x y. ap (λ z. weight_in_rows rs z y) (sym (source_of-same s x stretch one none)) }
-
--- an edge that stays at a column where one may be bounds the offset
-short_offset : (s : Stretch) (es : List Edge) → es ≢ [] → AreEdges es → EdgesAllowChange (change.Columns s) es
-    → s.factor ≡ pos 1 → (negsuc 8189 ≤ℤ s.offset) × (s.offset ≤ℤ pos 8190)
-short_offset s [] some edges allowed one = absurd (some refl)
-short_offset s (e ∷ es) some edges allowed one =
-    let reach = All-head (λ e. IsCoordinate (stretched_to s e.x)) e es allowed in
-    let edge = edges.sorted.0 in
-    let moved : stretched_to s e.x ≡ e.x +ℤ s.offset = once e.x s.factor s.offset one in
-    (omega (arith, ints, reach.least, edge.right), omega (arith, ints, reach.greatest, edge.left))
-
-pub columns_same : (s : Stretch) (rs : List EdgeRow) → AreRows rs → RowsAllowChange (change.Columns s) rs → IsStretch s
-    → of_z w32 s.factor ≡ 1 → of_z w32 s.offset ≡ 0 → HaveRowWeights (changed_in_rows (change.Columns s) rs) rs
-unfolding changed_in_rows weight_in_rows
-columns_same s [] rows allowed stretch one none = record { weights = λ x y. refl }
-columns_same s (r ∷ rs) rows allowed stretch one none =
-    let factor : s.factor ≡ pos 1 = omega (arith, ints, stretch.least, stretch.greatest) in
-    let row = rows.rows.0 in
-    let short = short_offset s r.edges row.some row.edges (All-head (λ r. EdgesAllowChange (change.Columns s) r.edges) r rs allowed) factor in
-    columns_stay s (r ∷ rs) stretch factor (omega (arith, ints, short.0, short.1))

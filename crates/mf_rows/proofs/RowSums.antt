@@ -1,13 +1,12 @@
 -- The sum of two lists of rows, row by row.
-use Rattle.std.proofs.Common.{◌≡◌, ◌≢◌, ℕ, ℤ, pos, ◌+ℤ◌, ◌-ℤ◌, ◌≤ℤ◌, ◌<ℤ◌, List, [], ◌∷◌, ◌++◌, take, drop, refl, ap, sym, subst, ◌∙◌, arith}
+use Rattle.std.proofs.Common.{◌≡◌, ◌≢◌, ℤ, pos, ◌+ℤ◌, ◌-ℤ◌, ◌≤ℤ◌, ◌<ℤ◌, List, [], ◌∷◌, ◌++◌, refl, ap, sym, subst, ◌∙◌, arith}
 use Rattle.std.specs.List.{All}
 use Rattle.std.proofs.lemmas.Int.{ints, by_lt_z}
-use Rattle.std.proofs.lemmas.List.{append-nil, map-append, take-append-drop}
+use Rattle.std.proofs.lemmas.List.{append-nil}
 use Rattle.std.proofs.lemmas.List.Elements.{All-head, All-cons, All-nil, All-weaker, All-append}
 use Rattle.mf_geom.specs.Coordinates.{least_coordinate, last_in_field}
 use Rattle.mf_edges.specs.declared.edge.Edge.{Edge}
-use Rattle.mf_rows.specs.declared.row.Row.{Row}
-use Rattle.mf_rows.specs.Bands.{edge_row, edge_rows, AreAbove, AreBelow}
+use Rattle.mf_rows.specs.Bands.{AreAbove, AreBelow}
 use Rattle.mf_edges.specs.LawfulWeights.{IsLawfulWeight}
 use Rattle.mf_edges.specs.Edges.{weight_in, AreEdges}
 use Rattle.mf_rows.specs.EdgeRows.{EdgeRow, IsEdgeRow, AreRowsFrom, AreRows, weight_in_rows}
@@ -164,53 +163,49 @@ pub record IsRowSumAbove (whole_left whole_right sum rs ss : List EdgeRow) (y : 
   pub so_far : IsRowSumSoFar whole_left whole_right sum rs ss
   pub reach : y ≤ℤ so_far.top
 
-rows_from-first : (top y : ℤ) (rows : List Row) → AreRowsFrom top (edge_rows rows) → All (λ row. row.y ≤ℤ y) rows → AreRowsFrom y (edge_rows rows)
+rows_from-first : (top y : ℤ) (rows : List EdgeRow) → AreRowsFrom top rows → All (λ row. row.y ≤ℤ y) rows → AreRowsFrom y rows
 rows_from-first top y [] rows up_to = tt
 rows_from-first top y (r ∷ rs) rows up_to = (rows.0, All-head (λ row. row.y ≤ℤ y) r rs up_to, rows.2)
 
-edge_rows-at : (k : ℕ) (rows : List Row) → edge_rows rows ≡ edge_rows (take k rows) ++ edge_rows (drop k rows)
-edge_rows-at k rows = ap edge_rows (sym (take-append-drop k rows)) ∙ map-append edge_row (take k rows) (drop k rows)
-
 -- the rows above the first one that is added join the sum as they are
-module _ (whole_left whole_right sum : List EdgeRow) (left right : List Row)
-    (so_far : IsRowSumSoFar whole_left whole_right sum (edge_rows left) (edge_rows right)) (added : Row)
-    (others : List Row) (right_is : right ≡ added ∷ others) (k : ℕ) (above : AreAbove added.y (edge_rows (take k left)))
-    (below : All (λ row. row.y ≤ℤ added.y) (drop k left)) where
-  from_top : AreRowsFrom so_far.top (edge_rows (take k left) ++ edge_rows (drop k left))
-  from_top = subst (AreRowsFrom so_far.top) (edge_rows-at k left) so_far.left
+module _ (whole_left whole_right sum left right : List EdgeRow) (so_far : IsRowSumSoFar whole_left whole_right sum left right)
+    (added : EdgeRow) (rest_right : List EdgeRow) (right_is : right ≡ added ∷ rest_right)
+    (above others : List EdgeRow) (left_is : left ≡ above ++ others) (higher : AreAbove added.y above)
+    (up_to : All (λ row. row.y ≤ℤ added.y) others) where
+  from_top : AreRowsFrom so_far.top (above ++ others)
+  from_top = subst (AreRowsFrom so_far.top) left_is so_far.left
 
-  added_rows : AreRowsFrom so_far.top (edge_row added ∷ edge_rows others)
-  added_rows = subst (λ rows. AreRowsFrom so_far.top (edge_rows rows)) right_is so_far.right
+  added_rows : AreRowsFrom so_far.top (added ∷ rest_right)
+  added_rows = subst (AreRowsFrom so_far.top) right_is so_far.right
 
-  pub rest_from : AreRowsFrom added.y (edge_rows (drop k left))
-  rest_from = rows_from-first so_far.top added.y (drop k left) (rows_from-back so_far.top (edge_rows (take k left)) (edge_rows (drop k left)) from_top) below
+  pub rest_from : AreRowsFrom added.y others
+  rest_from = rows_from-first so_far.top added.y others (rows_from-back so_far.top above others from_top) up_to
 
-  pub added_split : IsSplitAtHeight (edge_rows right) added.y (edge_row added ∷ []) (edge_rows others)
+  pub added_split : IsSplitAtHeight right added.y (added ∷ []) rest_right
   added_split = record {
-    all = ap edge_rows right_is;
-    here = row_of_edges added.y (edge_row added) added_rows.0 refl;
+    all = right_is;
+    here = row_of_edges added.y added added_rows.0 refl;
     left = added_rows.2;
   }
 
-  pub sum_with_above : IsRowSumAbove whole_left whole_right (sum ++ edge_rows (take k left)) (edge_rows (drop k left)) (edge_rows right) added.y
+  pub sum_with_above : IsRowSumAbove whole_left whole_right (sum ++ above) others right added.y
   unfolding weight_in_all
   sum_with_above =
-      let first_rows = rows_from-front so_far.top (edge_rows (take k left)) (edge_rows (drop k left)) from_top in
+      let first_rows = rows_from-front so_far.top above others from_top in
       let in_reach : added.y ≤ℤ so_far.top = added_rows.1 in
       record {
         so_far = record {
           top = added.y;
           in_field = omega (arith, ints, so_far.in_field);
-          rows = (rows_behind whole_left whole_right sum (edge_rows left) (edge_rows right) so_far (edge_rows (take k left)) first_rows).rows;
-          above = All-append (λ r. added.y <ℤ r.y) sum (edge_rows (take k left))
-              (All-weaker (λ r. so_far.top <ℤ r.y) (λ r. added.y <ℤ r.y) (λ r lt. omega (arith, ints)) sum so_far.above) above;
+          rows = (rows_behind whole_left whole_right sum left right so_far above first_rows).rows;
+          above = All-append (λ r. added.y <ℤ r.y) sum above
+              (All-weaker (λ r. so_far.top <ℤ r.y) (λ r. added.y <ℤ r.y) (λ r lt. omega (arith, ints)) sum so_far.above) higher;
           left = rest_from;
           right = rw right_is (added_rows.0, omega (arith, ints), added_rows.2);
           weights = λ x y.
               let old = so_far.weights x y in
-              let split =
-              ap (λ rs. weight_in_rows rs x y) (edge_rows-at k left) ∙ weight_in_rows-append (edge_rows (take k left)) (edge_rows (drop k left)) x y in
-              let more = weight_in_rows-append sum (edge_rows (take k left)) x y in
+              let split = ap (λ rs. weight_in_rows rs x y) left_is ∙ weight_in_rows-append above others x y in
+              let more = weight_in_rows-append sum above x y in
               omega (arith, ints);
         };
         reach = omega (arith, ints);

@@ -1,5 +1,5 @@
 -- What a stretch that stays in the field requires of the rows and edges of a picture, and the picture that it makes.
-use Rattle.std.proofs.Common.{◌≡◌, ◌≢◌, ℤ, pos, ◌+ℤ◌, ◌-ℤ◌, ◌≤ℤ◌, List, [], ◌∷◌, refl, sym, subst, ◌∙◌, arith}
+use Rattle.std.proofs.Common.{◌≡◌, ◌≢◌, ℤ, pos, ◌+ℤ◌, ◌-ℤ◌, ◌*ℤ◌, ◌≤ℤ◌, of_z, w32, List, [], ◌∷◌, refl, sym, ap, subst, ◌∙◌, arith}
 use Rattle.std.specs.List.{All}
 use Rattle.std.proofs.lemmas.Int.{ints}
 use Rattle.std.proofs.lemmas.List.Elements.{All-nil, All-cons, All-head, All-tail, All-weaker}
@@ -7,16 +7,17 @@ use Rattle.mf_geom.specs.Coordinates.{least_coordinate, last_in_field, IsCoordin
 use Rattle.mf_edges.specs.declared.edge.Edge.{Edge}
 use Rattle.mf_edges.specs.declared.row_change.RowChange.TheVariants as change
 use Rattle.mf_edges.specs.declared.stretch.Stretch.{Stretch}
-use Rattle.mf_rows.specs.Dots.{Dot, weight_at}
+use Rattle.mf_rows.specs.Dots.{Dot, IsPicture, weight_at}
 use Rattle.mf_edges.specs.Edges.{weight_in, AreEdgesFrom}
 use Rattle.mf_rows.specs.EdgeRows.{EdgeRow, IsEdgeRow, AreRowsFrom, AreRows, weight_in_rows, picture_of_rows}
-use Rattle.mf_edges.specs.Axes.{PlaceStaysInside, source_of, stretched_to}
-use Rattle.mf_rows.specs.Moves.{PixelsStayInside, stretched_at}
-use Rattle.mf_rows.specs.RowChanges.{RowsAllowChange, AllowStretch, changed_in_rows, stretched_in_rows}
+use Rattle.mf_edges.specs.Axes.{IsStretch, PlaceStaysInside, source_of, stretched_to}
+use Rattle.mf_rows.specs.Moves.{columns_stretched_at, stretched_at}
+use Rattle.mf_rows.specs.RowChanges.{RowsAllowChange, AllowStretch, stretched_in_rows}
 use Rattle.mf_rows.specs.Sums.{HasWeights, HaveRowWeights}
-use Rattle.mf_rows.proofs.DotsLemmas.{IsAt, weight_at-elsewhere}
+use Rattle.mf_rows.proofs.DotsLemmas.{IsAt, weight_at-elsewhere, weight_at-outside}
 use Rattle.mf_edges.proofs.EdgesLemmas.{weight_in-left, weight_in-right, weight_in-before}
-use Rattle.mf_rows.proofs.EdgeRowsLemmas.{weight_in_rows-here, weight_in_rows-elsewhere, weight_in_rows-below, rows_from-below, weight_at-picture_of_rows}
+use Rattle.mf_edges.proofs.Sources.{source_of-is}
+use Rattle.mf_rows.proofs.EdgeRowsLemmas.{weight_in_rows-here, weight_in_rows-elsewhere, weight_in_rows-below, weight_in_rows-outside, rows_from-below, by_field, weight_at-picture_of_rows}
 use Rattle.mf_rows.proofs.RowSums.{by_same}
 
 -- ---- pixels that are not 0
@@ -132,27 +133,60 @@ columns_stay s rs rows inside =
 
 -- ---- the picture
 
-module _ (columns rows : Stretch) (rs : List EdgeRow) (lawful : AreRows rs) where
-  pub columns_allowed : PixelsStayInside columns rows (picture_of_rows rs) → RowsAllowChange (change.Columns columns) rs
-  columns_allowed inside =
-      columns_stay columns rs lawful (λ x y nonzero. holds_at_weight (λ a b. PlaceStaysInside columns a) (picture_of_rows rs) x y inside.across
-      (λ zero. nonzero (sym (weight_at-picture_of_rows rs x y lawful) ∙ zero)))
+pub columns_allowed : (columns : Stretch) (rs : List EdgeRow) → AreRows rs → All (λ d. PlaceStaysInside columns d.x) (picture_of_rows rs)
+    → RowsAllowChange (change.Columns columns) rs
+columns_allowed columns rs lawful inside =
+    columns_stay columns rs lawful (λ x y nonzero. holds_at_weight (λ a b. PlaceStaysInside columns a) (picture_of_rows rs) x y inside
+    (λ zero. nonzero (sym (weight_at-picture_of_rows rs x y lawful) ∙ zero)))
 
+-- a picture of which the columns were stretched, as rows
+module _ (columns rows : Stretch) (ds : List Dot) (wide : List EdgeRow) (lawful : AreRows wide) where
   -- rows keep their heights when their columns are stretched
-  pub rows_allowed : (changed : List EdgeRow) → PixelsStayInside columns rows (picture_of_rows rs) → AreRows changed
-      → HaveRowWeights (changed_in_rows (change.Columns columns) rs) changed → AllowStretch rows changed
-  unfolding changed_in_rows
-  rows_allowed changed inside lawful_changed has =
-      rows_stay rows changed lawful_changed
-      (λ x y nonzero. holds_at_weight (λ a b. PlaceStaysInside rows b) (picture_of_rows rs) (source_of columns x) y inside.up
-      (λ zero. nonzero (has.weights x y ∙ sym (weight_at-picture_of_rows rs (source_of columns x) y lawful) ∙ zero)))
+  pub rows_allowed : All (λ d. PlaceStaysInside rows d.y) ds → HasWeights (columns_stretched_at columns ds) (picture_of_rows wide) → AllowStretch rows wide
+  unfolding columns_stretched_at
+  rows_allowed inside has =
+      rows_stay rows wide lawful
+      (λ x y nonzero. by_field x y
+      (λ within. holds_at_weight (λ a b. PlaceStaysInside rows b) ds (source_of columns x) y inside
+      (λ zero. nonzero (sym (weight_at-picture_of_rows wide x y lawful) ∙ has.weights x y within ∙ zero)))
+      (λ outside. absurd (nonzero (weight_in_rows-outside last_in_field wide x y lawful.rows outside))))
 
-  pub weights_stretched : (changed stretched : List EdgeRow) → AreRows stretched
-      → HaveRowWeights (changed_in_rows (change.Columns columns) rs) changed
-      → HaveRowWeights (stretched_in_rows rows changed) stretched → HasWeights (stretched_at columns rows (picture_of_rows rs)) (picture_of_rows stretched)
-  unfolding changed_in_rows stretched_in_rows stretched_at
-  weights_stretched changed stretched lawful_stretched has has_stretched = record {
+  pub weights_stretched : (stretched : List EdgeRow) → IsPicture ds → AreRows stretched
+      → HasWeights (columns_stretched_at columns ds) (picture_of_rows wide)
+      → HaveRowWeights (stretched_in_rows rows wide) stretched → HasWeights (stretched_at columns rows ds) (picture_of_rows stretched)
+  unfolding columns_stretched_at stretched_in_rows stretched_at
+  weights_stretched stretched picture lawful_stretched has has_stretched = record {
     weights = λ x y inside.
-        weight_at-picture_of_rows stretched x y lawful_stretched ∙ has_stretched.weights x y ∙ has.weights x (source_of rows y)
-        ∙ sym (weight_at-picture_of_rows rs (source_of columns x) (source_of rows y) lawful);
+        let source = source_of rows y in
+        weight_at-picture_of_rows stretched x y lawful_stretched ∙ has_stretched.weights x y
+        ∙ by_field x source
+        (λ within. sym (weight_at-picture_of_rows wide x source lawful) ∙ has.weights x source within)
+        (λ outside.
+        weight_in_rows-outside last_in_field wide x source lawful.rows outside
+        ∙ sym (weight_at-outside ds (source_of columns x) source picture
+        (λ within. outside (record { left = inside.left; right = inside.right; bottom = within.bottom; top = within.top }))));
   }
+
+-- ---- columns that stay in place
+
+once : (p f o : ℤ) → f ≡ pos 1 → (p *ℤ f) +ℤ o ≡ p +ℤ o
+once p f o one = rw one (omega (arith, ints))
+
+source_of-same : (s : Stretch) (q : ℤ) → IsStretch s → s.factor ≡ pos 1 → s.offset ≡ pos 0 → source_of s q ≡ q
+source_of-same s q stretch one none =
+    let start : stretched_to s q ≡ q +ℤ s.offset = once q s.factor s.offset one in
+    let behind : stretched_to s (q +ℤ pos 1) ≡ q +ℤ pos 1 +ℤ s.offset = once (q +ℤ pos 1) s.factor s.offset one in
+    source_of-is s q q stretch (omega (arith, ints)) (omega (arith, ints))
+
+-- a pixel that stays in the field bounds the offset, so that no number of 32 bits stands for another one
+pub columns_same : (s : Stretch) (ds : List Dot) → IsPicture ds → All (λ d. PlaceStaysInside s d.x) ds → IsStretch s
+    → of_z w32 s.factor ≡ 1 → of_z w32 s.offset ≡ 0 → HasWeights (columns_stretched_at s ds) ds
+unfolding columns_stretched_at weight_at
+columns_same s [] picture inside stretch one none = record { weights = λ x y within. refl }
+columns_same s (d ∷ ds) picture inside stretch one none =
+    let factor : s.factor ≡ pos 1 = omega (arith, ints, stretch.least, stretch.greatest) in
+    let start = (All-head (λ d. PlaceStaysInside s d.x) d ds inside).start in
+    let moved : stretched_to s d.x ≡ d.x +ℤ s.offset = once d.x s.factor s.offset factor in
+    let pixel = picture.dots.0.in_field in
+    let offset : s.offset ≡ pos 0 = omega (arith, ints, start.least, start.greatest, pixel.left, pixel.right) in
+    record { weights = λ x y within. ap (λ z. weight_at (d ∷ ds) z y) (sym (source_of-same s x stretch factor offset)) }

@@ -1,5 +1,5 @@
 -- Strips of rows with the same edges, pushed from the top down.
-use Rattle.std.proofs.Common.{◌≡◌, ◌≢◌, ℕ, zero, suc, ℤ, pos, ◌+ℤ◌, ◌-ℤ◌, ◌≤ℤ◌, List, [], ◌∷◌, ◌++◌, refl, sym, ◌∙◌, append_assoc, append-nil, to_z, of_z, w32, arith}
+use Rattle.std.proofs.Common.{◌≡◌, ◌≢◌, ℕ, zero, suc, ℤ, pos, ◌+ℤ◌, ◌-ℤ◌, ◌≤ℤ◌, ◌<ℤ◌, List, [], ◌∷◌, ◌++◌, refl, sym, ◌∙◌, append_assoc, append-nil, to_z, of_z, w32, arith}
 use Rattle.std.specs.Int.RustNames.{unsigned_abs}
 use Rattle.std.proofs.lemmas.Int.{ints}
 use Rattle.mf_geom.specs.Coordinates.{least_coordinate, greatest_coordinate}
@@ -7,8 +7,8 @@ use Rattle.mf_edges.specs.declared.edge.Edge.{Edge}
 use Rattle.mf_edges.specs.Edges.{AreEdges}
 use Rattle.mf_rows.specs.EdgeRows.{EdgeRow}
 use Rattle.mf_rows.specs.RowMoves.{strip}
-use Rattle.mf_rows.specs.Strips.{HasStrip}
-use Rattle.mf_rows.proofs.StripsLemmas.{pushed_row}
+use Rattle.mf_rows.specs.Strips.{ReachDownTo, HasStrip}
+use Rattle.mf_rows.proofs.StripsLemmas.{no_strip, pushed_row}
 
 -- the old rows are followed by the first `down` rows of a strip
 pub record AreCopiesSoFar (old : List EdgeRow) (es : List Edge) (bottom top down : ℤ) (new : List EdgeRow) : Type 0 where
@@ -63,7 +63,7 @@ next_place bottom top down low high least greatest = record {
 }
 
 -- a strip with edges goes below the rows that are there
-pub pushed_strip : (old rows : List EdgeRow) (es : List Edge) (n : ℕ) (bottom high top : ℤ)
+pushed_strip : (old rows : List EdgeRow) (es : List Edge) (n : ℕ) (bottom high top : ℤ)
     → HasStrip old es high top rows → high ≡ bottom +ℤ pos n → least_coordinate ≤ℤ bottom → high ≤ℤ top
     → top ≤ℤ greatest_coordinate → es ≢ [] → AreEdges es → HasStrip old es bottom top (rows ++ strip bottom es n)
 unfolding strip
@@ -77,3 +77,11 @@ pushed_strip old rows es (suc n) bottom high top have next low under in_reach so
     (omega (arith, ints)) in_reach some edges (rows ++ row ∷ []) row refl refl in
     rw (← append_assoc rows (row ∷ []) (strip bottom es n))
     (pushed_strip old (rows ++ row ∷ []) es n bottom (bottom +ℤ pos n) top pushed refl low (omega (arith, ints)) in_reach some edges)
+
+-- a strip with edges goes below rows that reach down to its top
+pub strip_below : (old : List EdgeRow) (es : List Edge) (bottom top : ℤ) → ReachDownTo top old → least_coordinate ≤ℤ bottom → bottom <ℤ top
+    → top ≤ℤ greatest_coordinate → es ≢ [] → AreEdges es → HasStrip old es bottom top (old ++ strip bottom es (unsigned_abs (top -ℤ bottom)))
+strip_below old es bottom top rows low below in_reach some edges =
+    let size : top ≡ bottom +ℤ pos (unsigned_abs (top -ℤ bottom)) = omega (arith, ints) in
+    let here = no_strip old es top top rows (omega (arith, ints)) (λ lt. absurd (omega (arith, ints, lt))) in
+    pushed_strip old old es _ bottom top top here size low (omega (arith, ints)) in_reach some edges

@@ -5,21 +5,27 @@ use Rattle.std.specs.declared.alloc.Global.{Global}
 use Rattle.std.specs.declared.sync.Arc.{Arc}
 use Rattle.mf_rows.specs.declared.band.Band.{Band}
 use Rattle.mf_rows.specs.declared.row.Row.{Row}
+use Rattle.mf_rows.specs.declared.slice.RowSlice.{RowSlice}
+use Rattle.mf_rows.specs.RowLists.{rows_at}
 use Rattle.mf_edges.specs.declared.edge.Edge.{Edge}
 use Rattle.mf_edges.specs.Edges.{AreEdges, weight_in}
 use Rattle.mf_rows.specs.EdgeRows.{EdgeRow, AreRows, weight_in_rows}
 
 -- a row as its edges
 abbrev pub edge_row : Row → EdgeRow
-edge_row r = record { y = r.y; edges = (arc_value r.edges).items }
+edge_row r = record { y = r.y; edges = r.edges.now }
 
 -- rows as their edges
 abbrev pub edge_rows : List Row → List EdgeRow
 edge_rows rows = map edge_row rows
 
+-- the rows of a part of a list
+abbrev pub slice_rows : RowSlice → List EdgeRow
+slice_rows slice = rows_at slice.edges.now slice.heads.now
+
 -- the rows of a band
 abbrev pub rows_in : Band → List EdgeRow
-rows_in band = edge_rows band.rows.items
+rows_in band = band.rows
 
 -- the height of the last of these rows, 0 where there are none
 abbrev pub last_height : List EdgeRow → ℤ

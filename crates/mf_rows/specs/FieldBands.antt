@@ -3,7 +3,7 @@ use Rattle.std.specs.Prelude.{ℤ, ◌+ℤ◌, ◌-ℤ◌, ◌*ℤ◌, ◌≤ℤ
 use Rattle.std.proofs.Props.{props}
 use Rattle.mf_geom.specs.Coordinates.{greatest_coordinate, last_in_field}
 use Rattle.mf_rows.specs.declared.bands.TheConstants.{BAND_HEIGHT}
-use Rattle.mf_rows.specs.declared.row.Row.{Row}
+use Rattle.mf_rows.specs.EdgeRows.{EdgeRow}
 
 -- row y belongs to band n
 pub record IsOfBand (n y : ℤ) : Type 0 where
@@ -11,9 +11,9 @@ pub record IsOfBand (n y : ℤ) : Type 0 where
   pub bottom : (greatest_coordinate -ℤ BAND_HEIGHT) ≤ℤ (y +ℤ (BAND_HEIGHT *ℤ n))
 
 -- rows of band n
-abbrev pub AreOfBand : ℤ → List Row → Type 0
+abbrev pub AreOfBand : ℤ → List EdgeRow → Type 0
 AreOfBand n rows = All (λ row. IsOfBand n row.y) rows
 
 -- this fact has at most one proof
-pub AreOfBand-prop : (n : ℤ) (rows : List Row) → IsProp (AreOfBand n rows)
+pub AreOfBand-prop : (n : ℤ) (rows : List EdgeRow) → IsProp (AreOfBand n rows)
 AreOfBand-prop n rows = hlevel props

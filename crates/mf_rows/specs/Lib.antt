@@ -7,12 +7,16 @@ pub mod Corners
 pub mod Dots
 pub mod EdgeRows
 pub mod FieldBands
+pub mod Groups
 pub mod Merging
 pub mod Moves
+pub mod NewEdges
 pub mod Order
+pub mod Owned
 pub mod Places
 pub mod Rest
 pub mod RowChanges
+pub mod RowLists
 pub mod RowMoves
 pub mod Runs
 pub mod Strips

@@ -1,6 +1,5 @@
 -- What is left of two lists of rows while their sum is made.
 use Rattle.std.specs.Prelude.{◌≡◌, ℤ, pos, ◌-ℤ◌, List, [], ◌∷◌, ◌++◌, Option, Some, None}
-use Rattle.std.specs.Borrow.{Bor}
 use Rattle.mf_geom.specs.Field.{IsInField}
 use Rattle.mf_rows.specs.declared.row.Row.{Row}
 use Rattle.mf_rows.specs.Bands.{edge_row, AreAbove}
@@ -14,9 +13,9 @@ pub record IsRowAt (y : ℤ) (rs : List EdgeRow) : Type 0 where
   pub above : AreAbove (y -ℤ pos 1) rs
 
 -- the row that was found
-abbrev pub row_found : Option (Bor Row) → List EdgeRow
+abbrev pub row_found : Option Row → List EdgeRow
 row_found None = []
-row_found (Some r) = edge_row r.now ∷ []
+row_found (Some r) = edge_row r ∷ []
 
 -- row y is found, where there is one, and the rows below it are left
 pub record IsSplitAtHeight (rs : List EdgeRow) (y : ℤ) (found others : List EdgeRow) : Type 0 where

@@ -13,6 +13,10 @@ pub record PixelsStayInside (columns rows : Stretch) (ds : List Dot) : Type 0 wh
 unfoldable pub stretched_at : Stretch → Stretch → List Dot → ℤ → ℤ → ℤ
 stretched_at columns rows ds x y = weight_at ds (source_of columns x) (source_of rows y)
 
+-- the weight of the pixel (x, y) after the columns of a picture are stretched
+unfoldable pub columns_stretched_at : Stretch → List Dot → ℤ → ℤ → ℤ
+columns_stretched_at columns ds x y = weight_at ds (source_of columns x) y
+
 -- the weight of the pixel (x, y) after the columns of a picture are reflected
 unfoldable pub columns_mirrored_at : List Dot → ℤ → ℤ → ℤ
 columns_mirrored_at ds x y = weight_at ds (opposite x) y

@@ -5,7 +5,8 @@ use Rattle.std.proofs.Props.{props}
 use Rattle.mf_geom.specs.Coordinates.{greatest_coordinate}
 use Rattle.mf_edges.specs.declared.edge.Edge.{Edge}
 use Rattle.mf_rows.specs.declared.rows.Rows.{Rows}
-use Rattle.mf_rows.specs.Bands.{edge_rows, rows_of_bands}
+use Rattle.mf_rows.specs.Bands.{slice_rows, rows_of_bands}
+use Rattle.mf_rows.specs.Groups.{rows_of_groups}
 use Rattle.mf_edges.specs.LawfulWeights.{IsLawfulWeight}
 use Rattle.mf_edges.specs.Edges.{weight_in, AreEdgesFrom, AreEdges}
 use Rattle.mf_rows.specs.EdgeRows.{EdgeRow, IsEdgeRow}
@@ -18,7 +19,12 @@ pub record IsRestOfRow (low w : ℤ) (es : List Edge) : Type 0 where
 
 -- the rows that are still to come
 abbrev pub remaining_rows : Rows → List EdgeRow
-remaining_rows r = edge_rows r.rows.now ++ rows_of_bands r.bands.now
+remaining_rows r = slice_rows r.rows ++ (rows_of_bands r.bands.now ++ rows_of_groups r.groups.now)
+
+-- no row of the current group is still to come
+pub record IsGroupOver (r : Rows) : Type 0 where
+  pub rows : slice_rows r.rows ≡ []
+  pub bands : rows_of_bands r.bands.now ≡ []
 
 -- rows of the field that are not blank
 abbrev pub AreEdgeRows : List EdgeRow → Type 0

@@ -1,18 +1,20 @@
 //! Bands of rows.
-ghost use Rattle.std.specs.Prelude.{◌<◌, length};
+ghost use Rattle.std.specs.Prelude.{◌≢◌, []};
 ghost use Rattle.mf_rows.specs.FieldBands.{AreOfBand, AreOfBand-prop};
 
-use crate::row::Row;
+use crate::row_list::RowList;
+use crate::slice::RowSlice;
 
 /// The rows of one band of the field that are not blank, from the top down. They are never written once the band is
-/// made, so pictures share it.
+/// made, so pictures share it: a band that changes is made anew, since published pictures and registers may share the old
+/// one, and a refused operation must leave it as it was.
 #[derive(Debug, Drop)]
 pub(crate) struct Band {
     /// Which band of the field this is, counted from 0 at the top.
     pub(crate) number: i32,
-    pub(crate) rows: Vec<Row>,
-    ghost some: { 0 < length rows.items },
-    ghost of_band: { AreOfBand number rows.items } by { AreOfBand-prop number rows.items },
+    pub(crate) rows: RowList,
+    ghost some: { rows ≢ [] },
+    ghost of_band: { AreOfBand number rows } by { AreOfBand-prop number rows },
 }
 
 impl Band {
@@ -23,6 +25,6 @@ impl Band {
     pub(crate) fn bottom(&self) -> i32
         ensures { result ≡ bottom_of self.now }
     {
-        self.rows[self.rows.len() - 1].y
+        RowSlice::of(&self.rows).last_height()
     }
 }

@@ -1,46 +1,20 @@
 //! The sum of two lists of bands.
-ghost use Rattle.std.specs.Prelude.{◌≡◌, ◌≢◌, ◌⊎◌, [], IsOk, IfOk, IfErr, OnOk, OnErr, IfSome, IsNone};
+ghost use Rattle.std.specs.Prelude.{◌≡◌, ◌≢◌, ◌⊎◌, [], IfOk, IfErr, OnOk, IfSome, IsNone};
 ghost use Rattle.mf_rows.specs.Bands.{rows_in, rows_of_bands};
 ghost use Rattle.mf_rows.specs.BandSums.{EndsStep, IsStep, HasSum};
 ghost use Rattle.mf_rows.specs.EdgeRows.{AreRows};
 ghost use Rattle.mf_rows.specs.Sums.{weight_in_all, HaveRowWeights, IsUnlawfulSomewhere};
 
 use crate::band::Band;
-use crate::bands::{close_band, count_up_to, push_rows, push_shared, rows_of};
-use crate::row_sum::sum_of_rows;
+use crate::bands::{close_band, count_up_to, push_shared};
+use crate::row_list::RowList;
+use crate::row_sum::{push_rows, sum_of_rows};
+use crate::slice::RowSlice;
+use crate::writer::RowWriter;
+use mf_base::OutOfMemory;
 use mf_edges::AddFault;
 use std::alloc::Global;
 use std::sync::Arc;
-
-/// Adds bands to a list of bands. The bands of the list above and below them stay as they are. The sum takes the place
-/// of the bands that are reached only when all of it is there, so a refusal has nothing to undo. Refused with
-/// `WeightTooLarge` where a weight would exceed 32767 in absolute value, and with `OutOfMemory` where an allocation
-/// fails; a refusal leaves the list as it was. Where no band is added, it allocates nothing.
-pub(crate) fn add_bands(
-    alloc: Global,
-    bands: &mut Vec<Arc<Band>>,
-    added: &[Arc<Band>],
-) -> Result<(), AddFault>
-    requires bands { AreRows (rows_of_bands bands.old.items) }
-    requires added { AreRows (rows_of_bands added.now) }
-    ensures rows { AreRows (rows_of_bands bands.new.items) }
-    ensures weights { OnOk result (HaveRowWeights (weight_in_all (rows_of_bands bands.old.items) (rows_of_bands added.now)) (rows_of_bands bands.new.items)) }
-    ensures unchanged { OnErr result (bands.new.items ≡ bands.old.items) }
-    ensures none { added.now ≡ [] → IsOk result }
-    ensures too_large { IfErr result (λ fault. fault ≢ AddFault.OutOfMemory
-        → IsUnlawfulSomewhere (weight_in_all (rows_of_bands bands.old.items) (rows_of_bands added.now))) }
-{
-    let (Some(first), Some(last)) = (added.first(), added.last()) else {
-        return Ok(());
-    };
-    let start = count_up_to(bands, first.number - 1);
-    let (_, rest) = bands.split_at(start);
-    let (reached, _) = rest.split_at(count_up_to(rest, last.number));
-    let sum = sum_of_bands(alloc, reached, added)?;
-    let end = start + reached.len();
-    bands.splice(start..end, sum)?;
-    Ok(())
-}
 
 /// The bands of the sum of two lists. Bands of the field that only one list has are shared. Refused with
 /// `WeightTooLarge` where a weight would exceed 32767 in absolute value, and with `OutOfMemory` where an allocation
@@ -125,9 +99,22 @@ fn push_sum_of_rows(
     ensures too_large { IfErr result (λ fault. fault ≢ AddFault.OutOfMemory
         → IsUnlawfulSomewhere (weight_in_all (rows_of_bands left.now) (rows_of_bands right.now))) }
 {
-    let (left, right) = (rows_of(alloc, left)?, rows_of(alloc, right)?);
-    let rows = sum_of_rows(alloc, &left, &right)?;
-    Ok(push_rows(alloc, sum, rows)?)
+    let (left, right) = (all_rows(alloc, left)?, all_rows(alloc, right)?);
+    let rows = sum_of_rows(alloc, RowSlice::of(&left), RowSlice::of(&right))?;
+    let mut writer = RowWriter::new(alloc);
+    writer.push_rows(RowSlice::of(&rows))?;
+    Ok(push_shared(sum, &writer.finish()?)?)
+}
+
+/// The rows of bands, in one list.
+fn all_rows(alloc: Global, bands: &[Arc<Band>]) -> Result<RowList, OutOfMemory>
+    ensures { IfOk result (λ rows. rows ≡ rows_of_bands bands.now) }
+{
+    let mut rows = RowList::new(alloc);
+    for band in bands {
+        push_rows(&mut rows, RowSlice::of(&band.rows))?;
+    }
+    Ok(rows)
 }
 
 /// Appends the sum of two bands of one number to a list of bands.
@@ -143,6 +130,6 @@ fn push_sum_of_both(
     ensures pushed { OnOk result (HasSum (rows_of_bands sum.old.items) (rows_in left.now) (rows_in right.now) (rows_of_bands sum.new.items)) }
     ensures too_large { IfErr result (λ fault. fault ≢ AddFault.OutOfMemory → IsUnlawfulSomewhere (weight_in_all (rows_in left.now) (rows_in right.now))) }
 {
-    let rows = sum_of_rows(alloc, &left.rows, &right.rows)?;
+    let rows = sum_of_rows(alloc, RowSlice::of(&left.rows), RowSlice::of(&right.rows))?;
     Ok(close_band(alloc, sum, left.number, rows)?)
 }

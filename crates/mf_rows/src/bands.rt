@@ -1,32 +1,32 @@
 //! Lists of bands: an operation makes new bands where it changes something, and shares the others.
-ghost use Rattle.std.specs.Prelude.{◌≡◌, [], ◌++◌, ◌≤◌, IsNone, IsOk, IfSome, IfOk, OnOk, ◌≤ℤ◌, length, take, drop, All};
+ghost use Rattle.std.specs.Prelude.{◌≡◌, [], ◌++◌, ◌≤◌, IsNone, IsOk, IfSome, OnOk, ◌≤ℤ◌, length, take, drop, All};
 ghost use Rattle.std.specs.Arc.{arc_value};
 ghost use Rattle.mf_geom.specs.Coordinates.{least_coordinate, last_in_field};
-ghost use Rattle.mf_rows.specs.Bands.{bottom_of, edge_row, edge_rows, rows_in, rows_of_bands, HasRow, HasNoRow, HasSameRow, AreAbove};
+ghost use Rattle.mf_rows.specs.Bands.{bottom_of, rows_in, rows_of_bands, HasRow, HasNoRow, HasSameRow, AreAbove};
 ghost use Rattle.mf_rows.specs.BandSums.{AreUpTo, AreBehind, AreNumberedBehind};
 ghost use Rattle.mf_rows.specs.EdgeRows.{AreRows};
 ghost use Rattle.mf_rows.specs.FieldBands.{IsOfBand, AreOfBand};
 
 use crate::band::Band;
 use crate::row::Row;
+use crate::row_list::RowList;
+use crate::slice::RowSlice;
 use mf_base::OutOfMemory;
 use mf_edges::FIELD_END;
 use std::alloc::Global;
-use std::mem::replace;
 use std::sync::Arc;
 
-/// The number of rows of the field in a band. A change makes new bands in place of those that it reaches, and a copy of
-/// a picture copies the list of its bands (at most 512): lower bands make changes cheaper, higher ones make copies
-/// cheaper.
-const BAND_HEIGHT: i32 = 16;
+/// The number of rows of the field in a band. A change makes new bands in place of those that it reaches: lower bands make that
+/// cheaper, and higher ones ask for memory less often.
+pub(crate) const BAND_HEIGHT: i32 = 16;
 
-/// Row y, where it is not blank.
-pub(crate) fn find_row(bands: &[Arc<Band>], y: i32) -> Option<&Row>
+/// Row y of these bands, where it is not blank.
+pub(crate) fn find_row_in(bands: &[Arc<Band>], y: i32) -> Option<Row<'_>>
     requires { AreRows (rows_of_bands bands.now) }
-    ensures found { IfSome result (λ row. HasRow (rows_of_bands bands.now) y (edge_row row.now).edges) }
+    ensures found { IfSome result (λ row. HasRow (rows_of_bands bands.now) y row.edges.now) }
     ensures blank { IsNone result → HasNoRow (rows_of_bands bands.now) y }
 {
-    find_row_in(&find_band(bands, y)?.rows, y)
+    RowSlice::of(&find_band(bands, y)?.rows).find(y)
 }
 
 /// The only band that may have row y.
@@ -37,26 +37,6 @@ fn find_band(bands: &[Arc<Band>], y: i32) -> Option<&Band>
 {
     let band = bands.get(count_above(bands, y))?;
     Some(band)
-}
-
-/// Row y of these rows, where it is not blank.
-fn find_row_in(rows: &[Row], y: i32) -> Option<&Row>
-    requires { AreRows (edge_rows rows.now) }
-    ensures found { IfSome result (λ row. HasRow (edge_rows rows.now) y (edge_row row.now).edges) }
-    ensures blank { IsNone result → HasNoRow (edge_rows rows.now) y }
-{
-    let row = rows.get(count_rows_above(rows, y))?;
-    if row.y == y { Some(row) } else { None }
-}
-
-/// The number of rows above row y, which are the first ones.
-pub(crate) fn count_rows_above(rows: &[Row], y: i32) -> usize
-    requires { AreRows (edge_rows rows.now) }
-    ensures within { result ≤ length rows.now }
-    ensures above { AreAbove y (edge_rows (take result rows.now)) }
-    ensures others { All (λ row. row.y ≤ℤ y) (drop result rows.now) }
-{
-    rows.partition_point(|row| row.y > y)
 }
 
 /// The number of bands that lie entirely above row y, which are the first ones.
@@ -80,28 +60,6 @@ pub(crate) fn count_up_to(bands: &[Arc<Band>], number: i32) -> usize
     bands.partition_point(|band| band.number <= number)
 }
 
-/// The rows of bands, with shared edges.
-pub(crate) fn rows_of(alloc: Global, bands: &[Arc<Band>]) -> Result<Vec<Row>, OutOfMemory>
-    ensures { IfOk result (λ rows. edge_rows rows.items ≡ rows_of_bands bands.now) }
-{
-    let mut rows = Vec::new(alloc);
-    for band in bands {
-        push_shared_rows(&mut rows, &band.rows)?;
-    }
-    Ok(rows)
-}
-
-/// Appends rows to a list of rows. The edges are shared.
-pub(crate) fn push_shared_rows(rows: &mut Vec<Row>, others: &[Row]) -> Result<(), OutOfMemory>
-    ensures { OnOk result (edge_rows rows.new.items ≡ edge_rows rows.old.items ++ edge_rows others.now) }
-{
-    rows.reserve(others.len())?;
-    for row in others {
-        row.push_at(rows, row.y)?;
-    }
-    Ok(())
-}
-
 /// Appends bands to a list of bands. The bands are shared. Where there are none to append, it allocates nothing.
 pub(crate) fn push_shared(
     bands: &mut Vec<Arc<Band>>,
@@ -117,48 +75,27 @@ pub(crate) fn push_shared(
     Ok(())
 }
 
-/// Appends rows to a list of bands, in new bands.
-pub(crate) fn push_rows(
-    alloc: Global,
-    bands: &mut Vec<Arc<Band>>,
-    rows: Vec<Row>,
-) -> Result<(), OutOfMemory>
-    requires { AreRows (edge_rows rows.items) }
-    ensures { OnOk result (rows_of_bands bands.new.items ≡ rows_of_bands bands.old.items ++ edge_rows rows.items) }
-{
-    let mut open = Vec::new(alloc);
-    open.reserve(rows.len().min(BAND_HEIGHT as usize))?;
-    let mut number = 0;
-    for row in rows {
-        let own = band_of(row.y);
-        if own != number {
-            close_band(alloc, bands, number, replace(&mut open, Vec::new(alloc)))?;
-            number = own;
-        }
-        open.push(row)?;
-    }
-    close_band(alloc, bands, number, open)
-}
-
 /// Appends a band of this number with these rows to a list of bands; where there are no rows, it appends none.
 pub(crate) fn close_band(
     alloc: Global,
     bands: &mut Vec<Arc<Band>>,
     number: i32,
-    rows: Vec<Row>,
+    rows: RowList,
 ) -> Result<(), OutOfMemory>
-    requires { AreOfBand number rows.items }
-    ensures { OnOk result (rows_of_bands bands.new.items ≡ rows_of_bands bands.old.items ++ edge_rows rows.items) }
+    requires { AreOfBand number rows }
+    ensures { OnOk result (rows_of_bands bands.new.items ≡ rows_of_bands bands.old.items ++ rows) }
 {
     if rows.is_empty() {
         return Ok(());
     }
+    let mut rows = rows;
+    rows.give_back_room();
     bands.push(Arc::new(alloc, Band { number, rows })?)?;
     Ok(())
 }
 
 /// The number of the band of the field to which row y belongs.
-fn band_of(y: i32) -> i32
+pub(crate) fn band_of(y: i32) -> i32
     requires bottom { least_coordinate ≤ℤ y }
     requires top { y ≤ℤ last_in_field }
     ensures { IsOfBand result y }

@@ -1,7 +1,6 @@
 //! Pictures built from runs.
 ghost use Rattle.std.specs.Prelude.{◌≡◌, ◌-◌, [], ◌++◌, ◌↔◌, length, IsTrue, IsOk, IfOk, OnOk, OnErr};
 ghost use Rattle.std.specs.List.{HoldsAt};
-ghost use Rattle.mf_rows.specs.Bands.{edge_row, edge_rows};
 ghost use Rattle.mf_rows.specs.Building.{open_row, open_rows, EndInRow, EndAt, EndsBefore, HasRoom, HasRun};
 ghost use Rattle.mf_rows.specs.Dots.{place};
 ghost use Rattle.mf_edges.specs.Edges.{AreEdges};
@@ -13,6 +12,7 @@ ghost use Rattle.mf_rows.specs.Runs.{dots_of};
 use crate::picture::Picture;
 use crate::row::Row;
 use crate::run::Run;
+use crate::writer::RowWriter;
 use mf_base::OutOfMemory;
 use mf_edges::{Edge, add_edge};
 use std::alloc::Global;
@@ -133,12 +133,19 @@ fn push_on_last(rows: &mut [OpenRow], run: Run) -> Result<(), OutOfMemory>
 }
 
 /// The rows, finished: no more runs are added to them.
-fn closed_rows(alloc: Global, rows: Vec<OpenRow>) -> Result<Vec<Row>, OutOfMemory>
-    ensures { IfOk result (λ closed. edge_rows closed.items ≡ open_rows rows.items) }
+fn closed_rows(alloc: Global, rows: Vec<OpenRow>) -> Result<RowWriter, OutOfMemory>
+    requires { AreRows (open_rows rows.items) }
+    ensures { IfOk result (λ closed. closed ≡ open_rows rows.items) }
 {
-    let mut closed = Vec::new(alloc);
-    for row in rows {
-        closed.push(row.close(alloc)?)?;
+    let mut closed = RowWriter::new(alloc);
+    for row in &rows {
+        let edges = Row {
+            y: row.y,
+            reach: None,
+            edges: &row.edges,
+            own: None,
+        };
+        closed.push(row.y, &edges)?;
     }
     Ok(closed)
 }
@@ -171,13 +178,6 @@ impl OpenRow {
         self.edges.reserve(2)?;
         add_edge(&mut self.edges, run.x, run.weight)?;
         add_edge(&mut self.edges, run.x + run.len as i32, -run.weight)
-    }
-
-    /// The row, finished: no more runs are added to it.
-    fn close(self, alloc: Global) -> Result<Row, OutOfMemory>
-        ensures { IfOk result (λ row. edge_row row ≡ open_row self) }
-    {
-        Row::new(alloc, self.y, self.edges)
     }
 
     /// Whether the row ends before a run.

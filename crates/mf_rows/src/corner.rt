@@ -1,14 +1,16 @@
 //! Corners, and the rows that they make.
 ghost use Rattle.std.specs.Prelude.{◌≡◌, ◌+◌, ◌<◌, IfOk, OnOk, ◌≤ℤ◌, ◌<ℤ◌, drop, length};
 ghost use Rattle.mf_geom.specs.Coordinates.{least_coordinate, greatest_coordinate};
-ghost use Rattle.mf_rows.specs.Bands.{edge_rows};
 ghost use Rattle.mf_rows.specs.Corners.{AreCorners, added_by_all};
 ghost use Rattle.mf_edges.specs.Edges.{AreEdges};
 ghost use Rattle.mf_rows.specs.EdgeRows.{AreRows};
 ghost use Rattle.mf_rows.specs.Strips.{first_height_of, ReachDownTo, HasStrip};
 ghost use Rattle.mf_rows.specs.Sums.{HaveFieldWeights};
 
+use crate::new_edges::NewEdges;
 use crate::row::Row;
+use crate::row_list::MANY_EDGES;
+use crate::writer::RowWriter;
 use mf_base::OutOfMemory;
 use mf_edges::{Edge, FIELD_START, add_edge};
 use std::alloc::Global;
@@ -27,14 +29,14 @@ pub struct Corner {
 }
 
 /// The rows in which each pixel of the field has the weight that these corners add to it.
-pub(crate) fn rows_of_corners(alloc: Global, corners: Vec<Corner>) -> Result<Vec<Row>, OutOfMemory>
+pub(crate) fn rows_of_corners(alloc: Global, corners: Vec<Corner>) -> Result<RowWriter, OutOfMemory>
     requires { AreCorners corners.items }
-    ensures rows { IfOk result (λ rows. AreRows (edge_rows rows.items)) }
-    ensures weights { IfOk result (λ rows. HaveFieldWeights (added_by_all corners.items) (edge_rows rows.items)) }
+    ensures rows { IfOk result (λ rows. AreRows rows) }
+    ensures weights { IfOk result (λ rows. HaveFieldWeights (added_by_all corners.items) rows) }
 {
     let mut corners = corners;
     corners.sort_unstable_by_key(|corner| Reverse(corner.y));
-    let mut rows = Vec::new(alloc);
+    let mut rows = RowWriter::new(alloc);
     let mut edges = Vec::new(alloc);
     for (place, corner) in corners.iter().enumerate() {
         add_edge(&mut edges, corner.x, corner.weight)?;
@@ -59,7 +61,7 @@ fn next_height(corners: &[Corner], place: usize) -> i32
 /// edges, it appends none.
 fn push_strip(
     alloc: Global,
-    rows: &mut Vec<Row>,
+    rows: &mut RowWriter,
     edges: &[Edge],
     bottom: i32,
     top: i32,
@@ -68,15 +70,21 @@ fn push_strip(
     requires order { bottom ≤ℤ top }
     requires top { top ≤ℤ greatest_coordinate }
     requires edges { bottom <ℤ top → AreEdges edges.now }
-    requires rows { ReachDownTo top (edge_rows rows.old.items) }
-    ensures { OnOk result (HasStrip (edge_rows rows.old.items) edges.now bottom top (edge_rows rows.new.items)) }
+    requires rows { ReachDownTo top rows.old }
+    ensures { OnOk result (HasStrip rows.old edges.now bottom top rows.new) }
 {
     if edges.is_empty() || bottom == top {
         return Ok(());
     }
-    let mut kept = Vec::new(alloc);
-    kept.extend_from_slice(edges)?;
-    let first = Row::new(alloc, top - 1, kept)?;
-    rows.reserve((top - bottom) as usize)?;
-    first.push_copies(rows, bottom, top)
+    if edges.len() > MANY_EDGES {
+        let kept = NewEdges::copy_of(alloc, edges)?;
+        return rows.push_copies(kept.row(top - 1), bottom, top);
+    }
+    let strip = Row {
+        y: top - 1,
+        reach: None,
+        edges,
+        own: None,
+    };
+    rows.push_copies(strip, bottom, top)
 }

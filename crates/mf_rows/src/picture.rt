@@ -1,19 +1,20 @@
 //! Pictures.
-ghost use Rattle.std.specs.Prelude.{◌≡◌, ◌≢◌, [], IsNone, IsOk, IfSome, IfOk, IfErr, OnOk, OnErr, IsTrue, slice_get, ◌↔◌};
+ghost use Rattle.std.specs.Prelude.{◌≡◌, ◌≢◌, [], IsNone, IsOk, IfSome, IfOk, IfErr, OnOk, OnErr, IsTrue, slice_get, ◌↔◌, All};
 ghost use Rattle.mf_rows.specs.Bands.{edge_rows};
 ghost use Rattle.mf_rows.specs.EdgeRows.{AreRows};
 
-use crate::band::Band;
-use crate::band_sum::add_bands;
-use crate::bands::{find_row, push_rows, push_shared, rows_of};
 use crate::bounds::Box4;
 use crate::corner::{Corner, rows_of_corners};
+use crate::group::Group;
+use crate::groups::{find_row, groups_of, rows_of, share, sum_of_groups};
 use crate::row::Row;
-use crate::row_change::{changed_rows, with_columns_stretched};
+use crate::row_change::changed_rows;
 use crate::row_move::{mirrored_rows, stretched_rows};
+use crate::rows::Rows;
 use crate::run::Run;
 use crate::runs::Runs;
 use crate::turn::turned_rows;
+use crate::writer::RowWriter;
 use mf_base::OutOfMemory;
 use mf_edges::{AddFault, RowChange, Stretch, WeightMap, weight_at_column};
 use std::alloc::Global;
@@ -24,10 +25,10 @@ use std::sync::Arc;
 /// elsewhere have weight 0 (The METAFONTbook, chapter 13).
 ///
 /// It keeps edges: in each row that is not blank, the columns at which the weight changes (mf.web, "edge structures").
-/// Rows are never written once they are made, so pictures share them.
+/// Groups and bands of rows are never written once they are made, so pictures share them.
 #[derive(Debug, Drop)]
 pub struct Picture {
-    bands: Vec<Arc<Band>>,
+    groups: Vec<Option<Arc<Group>>>,
 }
 
 impl Model for Picture {
@@ -36,12 +37,12 @@ impl Model for Picture {
 
     ghost Value = { List Dot };
 
-    ghost use Rattle.mf_rows.specs.Bands.{rows_of_bands};
-    ghost use Rattle.mf_rows.specs.EdgeRows.{AreRows, picture_of_rows};
+    ghost use Rattle.mf_rows.specs.EdgeRows.{picture_of_rows};
+    ghost use Rattle.mf_rows.specs.Groups.{rows_of_groups, AreGroups};
 
-    ghost view = { λ p. picture_of_rows (rows_of_bands p.bands.items) };
+    ghost view = { λ p. picture_of_rows (rows_of_groups p.groups.items) };
 
-    ghost invariant = { λ p. AreRows (rows_of_bands p.bands.items) };
+    ghost invariant = { λ p. AreGroups p.groups.items };
 }
 
 impl Picture {
@@ -49,8 +50,8 @@ impl Picture {
     ghost use Rattle.mf_rows.specs.Corners.{AreCorners, with_corners_at};
     ghost use Rattle.mf_rows.specs.Dots.{IsPicture, weight_at, total_of};
     ghost use Rattle.mf_rows.specs.EdgeRows.{picture_of_rows};
-    ghost use Rattle.mf_edges.specs.Axes.{IsStretch};
-    ghost use Rattle.mf_rows.specs.Moves.{PixelsStayInside, columns_mirrored_at, rows_mirrored_at, stretched_at, turned_at};
+    ghost use Rattle.mf_edges.specs.Axes.{IsStretch, PlaceStaysInside};
+    ghost use Rattle.mf_rows.specs.Moves.{PixelsStayInside, columns_mirrored_at, columns_stretched_at, rows_mirrored_at, stretched_at, turned_at};
     ghost use Rattle.mf_rows.specs.Runs.{runs_of};
     ghost use Rattle.mf_rows.specs.Sums.{HasWeights, IsUnlawfulSomewhere, sum_at};
     ghost use Rattle.mf_edges.specs.WeightMaps.{IsWeightMap};
@@ -62,7 +63,7 @@ impl Picture {
         ensures { result ≡ [] }
     {
         Picture {
-            bands: Vec::new(alloc),
+            groups: Vec::new(alloc),
         }
     }
 
@@ -73,9 +74,11 @@ impl Picture {
         ensures blank { self.now ≡ [] → IsOk result }
         ensures lawful { IsPicture self.now }
     {
-        let mut bands = Vec::new(alloc);
-        push_shared(&mut bands, &self.bands)?;
-        Ok(Picture { bands })
+        if !self.is_blank() {
+            let groups = share(alloc, &self.groups)?;
+            return Ok(Picture { groups });
+        }
+        Ok(Picture::blank(alloc))
     }
 
     /// Whether both pictures have the same weight at every pixel.
@@ -92,8 +95,8 @@ impl Picture {
         ensures weight { result ≡ weight_at self.now x y }
         ensures lawful { IsPicture self.now }
     {
-        match find_row(&self.bands, y) {
-            Some(row) => weight_at_column(row.edges(), x),
+        match find_row(&self.groups, y) {
+            Some(row) => weight_at_column(row.edges, x),
             None => 0,
         }
     }
@@ -131,7 +134,7 @@ impl Picture {
         ensures runs { result ≡ runs_of self.now }
         ensures lawful { IsPicture self.now }
     {
-        Runs::over(&self.bands)
+        Runs::over(&self.groups)
     }
 
     /// The k-th of the maximal runs that `runs` gives, counted from 0; `None` after the last.
@@ -169,7 +172,12 @@ impl Picture {
         ensures lawful { OnOk result (IsPicture self.new) }
         ensures too_large { IfErr result (λ fault. fault ≢ AddFault.OutOfMemory → IsUnlawfulSomewhere (sum_at self.old other.now)) }
     {
-        add_bands(alloc, &mut self.bands, &other.bands)
+        let old = &self.groups;
+        if other.is_blank() {
+            return Ok(());
+        }
+        self.groups = sum_of_groups(alloc, old, &other.groups)?;
+        Ok(())
     }
 
     /// The picture after each weight is mapped by itself, as `cull` does (The METAFONTbook, chapter 13; mf.web:
@@ -184,7 +192,7 @@ impl Picture {
         if self.is_blank() {
             return Ok(Picture::blank(alloc));
         }
-        let rows = rows_of(alloc, &self.bands)?;
+        let rows = self.rows(alloc)?;
         let changed = changed_rows(alloc, &rows, &RowChange::Weights(*map))?;
         Picture::from_rows(alloc, changed)
     }
@@ -195,24 +203,24 @@ impl Picture {
         ensures weights { IfOk result (HasWeights (columns_mirrored_at self.now)) }
         ensures lawful { IfOk result IsPicture }
     {
-        let rows = rows_of(alloc, &self.bands)?;
+        let rows = self.rows(alloc)?;
         let changed = changed_rows(alloc, &rows, &RowChange::Mirror)?;
         Picture::from_rows(alloc, changed)
     }
 
     /// The picture reflected in the line between rows -1 and 0: row y becomes row -y - 1 (mf.web: `y_reflect_edges`).
-    /// This one is unchanged, and its rows are shared. Refused with `OutOfMemory` where an allocation fails.
+    /// This one is unchanged. Refused with `OutOfMemory` where an allocation fails.
     pub fn mirror_rows(&self, alloc: Global) -> Result<Picture, OutOfMemory>
         ensures weights { IfOk result (HasWeights (rows_mirrored_at self.now)) }
         ensures lawful { IfOk result IsPicture }
     {
-        let rows = rows_of(alloc, &self.bands)?;
+        let rows = self.rows(alloc)?;
         Picture::from_rows(alloc, mirrored_rows(alloc, &rows)?)
     }
 
     /// The picture after its columns and rows are stretched, so that each pixel becomes a rectangle of its weight
-    /// (mf.web: `x_scale_edges`, `y_scale_edges`). This one is unchanged. Rows that come from one row share their
-    /// edges. Requires factors in 1..=4095, and that all of these rectangles lie in the field. Refused with
+    /// (mf.web: `x_scale_edges`, `y_scale_edges`). This one is unchanged. Rows of a band that come from one row share
+    /// their edges. Requires factors in 1..=4095, and that all of these rectangles lie in the field. Refused with
     /// `OutOfMemory` where an allocation fails.
     pub fn stretch(
         &self,
@@ -226,8 +234,8 @@ impl Picture {
         ensures weights { IfOk result (HasWeights (stretched_at columns.now rows.now self.now)) }
         ensures lawful { IfOk result IsPicture }
     {
-        let old = rows_of(alloc, &self.bands)?;
-        let changed = with_columns_stretched(alloc, old, columns)?;
+        let wide = self.with_columns_stretched(alloc, columns)?;
+        let changed = wide.rows(alloc)?;
         Picture::from_rows(alloc, stretched_rows(alloc, &changed, rows)?)
     }
 
@@ -238,7 +246,7 @@ impl Picture {
         ensures weights { IfOk result (HasWeights (turned_at self.now)) }
         ensures lawful { IfOk result IsPicture }
     {
-        let rows = rows_of(alloc, &self.bands)?;
+        let rows = self.rows(alloc)?;
         Picture::from_rows(alloc, turned_rows(alloc, &rows)?)
     }
 
@@ -257,20 +265,48 @@ impl Picture {
         self.add(alloc, &added)
     }
 
+    /// The picture after its columns are stretched. Where all of them stay in place, it shares the groups of this one.
+    fn with_columns_stretched(
+        &self,
+        alloc: Global,
+        columns: &Stretch,
+    ) -> Result<Picture, OutOfMemory>
+        requires columns { IsStretch columns.now }
+        requires inside { All (λ dot. PlaceStaysInside columns.now dot.x) self.now }
+        ensures weights { IfOk result (HasWeights (columns_stretched_at columns.now self.now)) }
+        ensures lawful { IsPicture self.now }
+    {
+        if columns.factor == 1 && columns.offset == 0 {
+            return self.copy(alloc);
+        }
+        let rows = self.rows(alloc)?;
+        let changed = changed_rows(alloc, &rows, &RowChange::Columns(*columns))?;
+        Picture::from_rows(alloc, changed)
+    }
+
     /// Whether the picture is blank.
     fn is_blank(&self) -> bool
         ensures { IsTrue result ↔ (self.now ≡ []) }
     {
-        self.bands.is_empty()
+        Rows::over(&self.groups).next().is_none()
     }
 
-    /// The picture of these rows.
-    pub(crate) fn from_rows(alloc: Global, rows: Vec<Row>) -> Result<Picture, OutOfMemory>
-        requires { AreRows (edge_rows rows.items) }
-        ensures { IfOk result (λ picture. picture ≡ picture_of_rows (edge_rows rows.items)) }
+    /// The rows of the picture, from the top down.
+    fn rows(&self, alloc: Global) -> Result<Vec<Row<'_>>, OutOfMemory>
+        ensures rows { IfOk result (λ rows. AreRows (edge_rows rows.items)) }
+        ensures picture { IfOk result (λ rows. picture_of_rows (edge_rows rows.items) ≡ self.now) }
+        ensures lawful { IsPicture self.now }
     {
-        let mut bands = Vec::new(alloc);
-        push_rows(alloc, &mut bands, rows)?;
-        Ok(Picture { bands })
+        rows_of(alloc, &self.groups)
+    }
+
+    /// The picture of the rows that were written.
+    pub(crate) fn from_rows(alloc: Global, rows: RowWriter) -> Result<Picture, OutOfMemory>
+        requires { AreRows rows }
+        ensures value { IfOk result (λ picture. picture ≡ picture_of_rows rows) }
+        ensures lawful { IfOk result IsPicture }
+    {
+        let groups = groups_of(alloc, &rows.finish()?)?;
+        Ok(Picture { groups })
     }
 }

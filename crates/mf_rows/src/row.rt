@@ -1,20 +1,21 @@
-//! Rows of edges, which pictures share.
-ghost use Rattle.std.specs.Arc.{arc_value};
+//! Rows of edges, which bands lend.
 ghost use Rattle.mf_edges.specs.Reaches.{HasReach, HasReach-prop};
+ghost use Rattle.mf_rows.specs.Owned.{IsOwned, IsOwned-prop};
 
 use mf_edges::Edge;
 use std::sync::Arc;
 
-mod sharing;
+mod reach;
 
-/// A row of a picture. Its edges are never written once it is made, so rows and pictures share them. A row that changes
-/// is made anew, since published pictures and registers may share the old one, and a refused operation must leave it as
-/// it was.
-#[derive(Debug, Drop)]
-pub(crate) struct Row {
+/// A row of a picture, whose edges belong to a band or to what is being built.
+#[derive(Clone, Copy, Debug)]
+pub(crate) struct Row<'a> {
     pub(crate) y: i32,
     /// The reach: no weight of the row exceeds it in absolute value. `None` where no reach is known.
-    reach: Option<u16>,
-    pub(crate) edges: Arc<Vec<Edge>>,
-    ghost reached: { HasReach reach (arc_value edges).items } by { HasReach-prop reach (arc_value edges).items },
+    pub(crate) reach: Option<u16>,
+    pub(crate) edges: &'a [Edge],
+    /// The list that has exactly these edges, where there is one that rows share.
+    pub(crate) own: Option<&'a Arc<Vec<Edge>>>,
+    ghost owned: { IsOwned own edges.now } by { IsOwned-prop own edges.now },
+    ghost reached: { HasReach reach edges.now } by { HasReach-prop reach edges.now },
 }

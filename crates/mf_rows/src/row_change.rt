@@ -1,71 +1,54 @@
 //! Changes that take each row by itself.
-ghost use Rattle.std.specs.Prelude.{◌≡◌, ◌++◌, IfOk, OnOk};
+ghost use Rattle.std.specs.Prelude.{◌≡◌, ◌++◌, IfOk, OnOk, ◌≤ℤ◌};
+ghost use Rattle.mf_geom.specs.Coordinates.{least_coordinate, last_in_field};
 ghost use Rattle.mf_rows.specs.Bands.{edge_row, edge_rows};
 ghost use Rattle.mf_rows.specs.BlankRows.{unless_blank};
 ghost use Rattle.mf_rows.specs.EdgeRows.{AreRows};
-ghost use Rattle.mf_edges.specs.Axes.{IsStretch};
 ghost use Rattle.mf_edges.specs.RowChanges.{IsRowChange};
 ghost use Rattle.mf_rows.specs.RowChanges.{RowsAllowChange, changed_in_rows};
 ghost use Rattle.mf_rows.specs.Sums.{HaveRowWeights};
 
+use crate::new_edges::NewEdges;
 use crate::row::Row;
+use crate::writer::RowWriter;
 use mf_base::OutOfMemory;
-use mf_edges::{Edge, RowChange, Stretch, changed_edges};
+use mf_edges::{Edge, RowChange, changed_edges};
 use std::alloc::Global;
 
-/// The rows after a change, without those that become blank. Neighbours with the same edges are worked out once, and
-/// share their edges afterwards.
+/// The rows after a change, without those that become blank. Neighbours with the same edges are worked out once.
 pub(crate) fn changed_rows(
     alloc: Global,
-    rows: &[Row],
+    rows: &[Row<'_>],
     change: &RowChange,
-) -> Result<Vec<Row>, OutOfMemory>
+) -> Result<RowWriter, OutOfMemory>
     requires rows { AreRows (edge_rows rows.now) }
     requires change { IsRowChange change.now }
     requires allowed { RowsAllowChange change.now (edge_rows rows.now) }
-    ensures rows { IfOk result (λ changed. AreRows (edge_rows changed.items)) }
-    ensures weights { IfOk result (λ changed. HaveRowWeights (changed_in_rows change.now (edge_rows rows.now)) (edge_rows changed.items)) }
+    ensures rows { IfOk result (λ changed. AreRows changed) }
+    ensures weights { IfOk result (λ changed. HaveRowWeights (changed_in_rows change.now (edge_rows rows.now)) changed) }
 {
-    let mut changed = Vec::new(alloc);
-    changed.reserve(rows.len())?;
-    // The last edges, and a row with what they became; at first there are no edges, which stay none.
+    let mut changed = RowWriter::new(alloc);
+    // The last edges, and what they became; at first there are no edges, which stay none.
     let mut last: &[Edge] = &[];
-    let mut image = Row::new(alloc, 0, Vec::new(alloc))?;
+    let mut image = NewEdges::none(alloc);
     for row in rows {
-        if row.edges() != last {
-            last = row.edges();
-            image = Row::new(alloc, row.y, changed_edges(alloc, last, change)?)?;
+        if row.edges != last {
+            last = row.edges;
+            image = NewEdges::new(alloc, changed_edges(alloc, last, change)?)?;
         }
-        push_unless_blank(&mut changed, &image, row.y)?;
+        push_unless_blank(&mut changed, &image.row(row.y))?;
     }
     Ok(changed)
 }
 
-/// The rows after their columns are stretched. Where the stretch leaves all columns in place, these are the same rows.
-pub(crate) fn with_columns_stretched(
-    alloc: Global,
-    rows: Vec<Row>,
-    stretch: &Stretch,
-) -> Result<Vec<Row>, OutOfMemory>
-    requires rows { AreRows (edge_rows rows.items) }
-    requires stretch { IsStretch stretch.now }
-    requires allowed { RowsAllowChange (RowChange.Columns stretch.now) (edge_rows rows.items) }
-    ensures rows { IfOk result (λ changed. AreRows (edge_rows changed.items)) }
-    ensures weights { IfOk result
-        (λ changed. HaveRowWeights (changed_in_rows (RowChange.Columns stretch.now) (edge_rows rows.items)) (edge_rows changed.items)) }
+/// Appends a row to what is written, unless it has no edges.
+pub(crate) fn push_unless_blank(rows: &mut RowWriter, row: &Row<'_>) -> Result<(), OutOfMemory>
+    requires bottom { least_coordinate ≤ℤ row.now.y }
+    requires top { row.now.y ≤ℤ last_in_field }
+    ensures { OnOk result (rows.new ≡ rows.old ++ unless_blank (edge_row row.now)) }
 {
-    if stretch.factor == 1 && stretch.offset == 0 {
-        return Ok(rows);
-    }
-    changed_rows(alloc, &rows, &RowChange::Columns(*stretch))
-}
-
-/// Appends row y with the edges of another row, which are shared, to a list of rows, unless there are no edges.
-pub(crate) fn push_unless_blank(rows: &mut Vec<Row>, row: &Row, y: i32) -> Result<(), OutOfMemory>
-    ensures { OnOk result (edge_rows rows.new.items ≡ edge_rows rows.old.items ++ unless_blank (record { y = y; edges = (edge_row row.now).edges })) }
-{
-    if row.edges().is_empty() {
+    if row.edges.is_empty() {
         return Ok(());
     }
-    row.push_at(rows, y)
+    rows.push(row.y, row)
 }

@@ -9,20 +9,20 @@ ghost use Rattle.mf_rows.specs.RowMoves.{HasStretched};
 ghost use Rattle.mf_rows.specs.Sums.{HaveRowWeights};
 
 use crate::row::Row;
+use crate::writer::RowWriter;
 use mf_base::OutOfMemory;
 use mf_edges::Stretch;
 use std::alloc::Global;
 
-/// The reflected rows: row y becomes row -y - 1. They share their edges with the old ones.
-pub(crate) fn mirrored_rows(alloc: Global, rows: &[Row]) -> Result<Vec<Row>, OutOfMemory>
+/// The reflected rows: row y becomes row -y - 1.
+pub(crate) fn mirrored_rows(alloc: Global, rows: &[Row<'_>]) -> Result<RowWriter, OutOfMemory>
     requires { AreRows (edge_rows rows.now) }
-    ensures rows { IfOk result (λ mirrored. AreRows (edge_rows mirrored.items)) }
-    ensures weights { IfOk result (λ mirrored. HaveRowWeights (mirrored_in_rows (edge_rows rows.now)) (edge_rows mirrored.items)) }
+    ensures rows { IfOk result (λ mirrored. AreRows mirrored) }
+    ensures weights { IfOk result (λ mirrored. HaveRowWeights (mirrored_in_rows (edge_rows rows.now)) mirrored) }
 {
-    let mut mirrored = Vec::new(alloc);
-    mirrored.reserve(rows.len())?;
+    let mut mirrored = RowWriter::new(alloc);
     for row in rows.iter().rev() {
-        row.push_at(&mut mirrored, -1 - row.y)?;
+        mirrored.push(-1 - row.y, row)?;
     }
     Ok(mirrored)
 }
@@ -30,30 +30,30 @@ pub(crate) fn mirrored_rows(alloc: Global, rows: &[Row]) -> Result<Vec<Row>, Out
 /// The rows after a stretch. Each becomes as many rows as the factor says, which share its edges.
 pub(crate) fn stretched_rows(
     alloc: Global,
-    rows: &[Row],
+    rows: &[Row<'_>],
     stretch: &Stretch,
-) -> Result<Vec<Row>, OutOfMemory>
+) -> Result<RowWriter, OutOfMemory>
     requires rows { AreRows (edge_rows rows.now) }
     requires stretch { IsStretch stretch.now }
     requires allowed { AllowStretch stretch.now (edge_rows rows.now) }
-    ensures rows { IfOk result (λ stretched. AreRows (edge_rows stretched.items)) }
-    ensures weights { IfOk result (λ stretched. HaveRowWeights (stretched_in_rows stretch.now (edge_rows rows.now)) (edge_rows stretched.items)) }
+    ensures rows { IfOk result (λ stretched. AreRows stretched) }
+    ensures weights { IfOk result (λ stretched. HaveRowWeights (stretched_in_rows stretch.now (edge_rows rows.now)) stretched) }
 {
-    let mut stretched = Vec::new(alloc);
+    let mut stretched = RowWriter::new(alloc);
     for row in rows {
-        push_stretched(&mut stretched, row, stretch)?;
+        push_stretched(&mut stretched, *row, stretch)?;
     }
     Ok(stretched)
 }
 
 /// Appends the rows that a row becomes, from the top down.
-fn push_stretched(rows: &mut Vec<Row>, row: &Row, stretch: &Stretch) -> Result<(), OutOfMemory>
+fn push_stretched(rows: &mut RowWriter, row: Row<'_>, stretch: &Stretch) -> Result<(), OutOfMemory>
     requires stretch { IsStretch stretch.now }
-    requires bottom { least_coordinate ≤ℤ row.now.y }
-    requires top { row.now.y ≤ℤ last_in_field }
-    requires allowed { PlaceStaysInside stretch.now row.now.y }
-    ensures { OnOk result (HasStretched (edge_rows rows.old.items) (edge_row row.now) stretch.now (edge_rows rows.new.items)) }
+    requires bottom { least_coordinate ≤ℤ row.y }
+    requires top { row.y ≤ℤ last_in_field }
+    requires allowed { PlaceStaysInside stretch.now row.y }
+    ensures { OnOk result (HasStretched rows.old (edge_row row.entry) stretch.now rows.new) }
 {
     let bottom = row.y * stretch.factor + stretch.offset;
-    row.push_copies(rows, bottom, bottom + stretch.factor)
+    rows.push_copies(row, bottom, bottom + stretch.factor)
 }

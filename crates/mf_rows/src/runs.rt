@@ -1,8 +1,8 @@
 //! The maximal runs of a picture, one after another.
-ghost use Rattle.mf_rows.specs.Bands.{rows_of_bands};
+ghost use Rattle.mf_rows.specs.Groups.{rows_of_groups};
 ghost use Rattle.mf_rows.specs.EdgeRows.{AreRows, picture_of_rows};
 
-use crate::band::Band;
+use crate::group::Group;
 use crate::run::Run;
 use crate::walk::Walk;
 use std::marker::Model;
@@ -30,13 +30,13 @@ impl<'a> Runs<'a> {
     ghost use Rattle.std.specs.Prelude.{◌≡◌};
     ghost use Rattle.mf_rows.specs.Runs.{runs_of};
 
-    /// The runs of these bands.
-    pub(crate) fn over(bands: &'a [Arc<Band>]) -> Runs<'a>
-        requires { AreRows (rows_of_bands bands.now) }
-        ensures { result ≡ runs_of (picture_of_rows (rows_of_bands bands.now)) }
+    /// The runs of these groups.
+    pub(crate) fn over(groups: &'a [Option<Arc<Group>>]) -> Runs<'a>
+        requires { AreRows (rows_of_groups groups.now) }
+        ensures { result ≡ runs_of (picture_of_rows (rows_of_groups groups.now)) }
     {
         Runs {
-            walk: Walk::over(bands),
+            walk: Walk::over(groups),
         }
     }
 }

@@ -1,11 +1,11 @@
 //! The walk over the edges of a picture, which meets its runs one after another.
 ghost use Rattle.std.specs.Prelude.{◌≡◌, ◌≢◌, [], IfNone, IfSome, pos};
 ghost use Rattle.mf_geom.specs.Coordinates.{least_coordinate};
-ghost use Rattle.mf_rows.specs.Bands.{rows_of_bands};
+ghost use Rattle.mf_rows.specs.Groups.{rows_of_groups};
 ghost use Rattle.mf_rows.specs.EdgeRows.{AreRows, picture_of_rows};
 ghost use Rattle.mf_rows.specs.Rest.{remaining_rows, IsRestOfRow, IsRestOfRow-prop, AreEdgeRows, AreEdgeRows-prop};
 
-use crate::band::Band;
+use crate::group::Group;
 use crate::rows::Rows;
 use crate::run::Run;
 use mf_edges::Edge;
@@ -29,13 +29,13 @@ impl<'a> Walk<'a> {
     ghost use Rattle.mf_rows.specs.Runs.{runs_of};
     ghost use Rattle.mf_rows.specs.Walk.{remaining_runs, IsEdgeTaken};
 
-    /// The walk over these bands.
-    pub(crate) fn over(bands: &'a [Arc<Band>]) -> Walk<'a>
-        requires { AreRows (rows_of_bands bands.now) }
-        ensures { remaining_runs result ≡ runs_of (picture_of_rows (rows_of_bands bands.now)) }
+    /// The walk over these groups.
+    pub(crate) fn over(groups: &'a [Option<Arc<Group>>]) -> Walk<'a>
+        requires { AreRows (rows_of_groups groups.now) }
+        ensures { remaining_runs result ≡ runs_of (picture_of_rows (rows_of_groups groups.now)) }
     {
         Walk {
-            rows: Rows::over(bands),
+            rows: Rows::over(groups),
             edges: &[],
             y: 0,
             weight: 0,
@@ -79,7 +79,7 @@ impl<'a> Walk<'a> {
         }
         if let Some(row) = self.rows.next() {
             self.y = row.y;
-            self.edges = row.edges();
+            self.edges = row.edges;
         }
     }
 }

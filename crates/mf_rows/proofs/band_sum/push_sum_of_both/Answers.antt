@@ -7,5 +7,5 @@ pub close_band-requires : goal.close_band-requires
 close_band-requires c =
     let number = c.args.left.now.number in
     let fits : to_z w32 (of_z w32 number) ≡ number = omega (arith, ints) in
-    rw fits (sum_of_band number c.args.left.now c.args.right.now c.in_ok-rows.rows.items refl (sym c.requires.same)
-    (rw (c.deref.ensures.value, c.deref-2.ensures.value) at c.in_ok-rows.ensures.within))
+    rw fits (sum_of_band number c.args.left.now c.args.right.now c.in_ok-rows.rows refl (sym c.requires.same)
+    (rw (c.of.ensures, c.of-2.ensures) at c.in_ok-rows.ensures.within))

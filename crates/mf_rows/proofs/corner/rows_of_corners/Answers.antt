@@ -17,7 +17,7 @@ loop-place-init c =
     let corners = corners_permuted c.args.corners.items sorted c.sort_unstable_by_key.ensures.permutation c.requires in
     let by_height : IsSortedBy (λ (k l : Corner). is_lt (int_cmp l.y k.y)) sorted =
     c.sort_unstable_by_key.ensures.sorted (λ corner. record { 0 = corner.y }) (answers_always _ _ _ (λ f a r g called. search rules)) in
-    rw (c.deref-corner-items.ensures.value, c.new-edges.ensures.items, c.new-rows.ensures.items)
+    rw (c.deref-corner-items.ensures.value, c.new-edges.ensures.items, c.new-rows.ensures)
     (swept_none sorted corners (falling_from_sorted sorted corners.corners by_height))
 
 pub add_edge-requires : goal.add_edge-requires

@@ -1,8 +1,7 @@
 use Rattle.std.proofs.Common.{drop}
-use Rattle.mf_rows.specs.Bands.{edge_rows}
 use Rattle.mf_rows.proofs.CornersLemmas.{IsSwept}
 use Rattle.mf_rows.proofs.corner.rows_of_corners.Given as goal
 
 -- the corners so far have been swept
 abbrev pub invariant-loop-place : goal.invariant-loop-place
-invariant-loop-place l = IsSwept l.corner-items (drop l.place l.corner-items) l.edges.items (edge_rows l.rows.items)
+invariant-loop-place l = IsSwept l.corner-items (drop l.place l.corner-items) l.edges.items l.rows

@@ -1,5 +1,6 @@
 use Rattle.std.proofs.Common.{drop}
-use Rattle.mf_rows.specs.Bands.{edge_row, edge_rows}
+use Rattle.mf_rows.specs.Bands.{edge_rows}
+use Rattle.mf_rows.specs.NewEdges.{new_edges}
 use Rattle.mf_edges.specs.RowChanges.{AreChanged}
 use Rattle.mf_rows.proofs.RowChangesLemmas.{IsChangeSoFar}
 use Rattle.mf_rows.proofs.row_change.changed_rows.Given as goal
@@ -7,6 +8,6 @@ use Rattle.mf_rows.proofs.row_change.changed_rows.Given as goal
 -- the rows so far are changed, and the image is the change of the last edges
 abbrev pub invariant-loop-row : goal.invariant-loop-row
 invariant-loop-row l = record {
-  so_far : IsChangeSoFar l.change (edge_rows l.rows) (edge_rows (drop l.row-index l.rows)) (edge_rows l.changed.items);
-  image : AreChanged l.change l.last (edge_row l.image).edges;
+  so_far : IsChangeSoFar l.change (edge_rows l.rows) (edge_rows (drop l.row-index l.rows)) l.changed;
+  image : AreChanged l.change l.last (new_edges l.image);
 }

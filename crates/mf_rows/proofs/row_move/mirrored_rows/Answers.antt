@@ -7,8 +7,15 @@ use Rattle.mf_rows.proofs.row_move.mirrored_rows.Goals as goal
 
 pub loop-row-init : goal.loop-row-init
 loop-row-init c =
-    rw (c.into_iter-row-iterator.ensures.into_iter_gives, c.rev-row-items.ensures.source, c.iter.ensures.rest, c.in_ok-reserve.ensures.items, c.new-mirrored.ensures.items)
+    rw (c.into_iter-row-iterator.ensures.into_iter_gives, c.rev-row-items.ensures.source, c.iter.ensures.rest, c.new-mirrored.ensures)
     (record { to_come = c.requires.rows; all = refl })
+
+pub push-requires : goal.push-requires
+push-requires c =
+    let row = c.in-Some.row.now in
+    let rest = c.next.new.self.iter.rest.now in
+    let last = mirror_last (edge_rows rest) (edge_row row) (mirror_next c.loop-row.row-iterator.iter.rest.now rest row c.in-Some.ensures.steps c.loop-row.invariant) in
+    record { bottom = omega (arith, ints, last.bottom, last.top); top = omega (arith, ints, last.bottom, last.top) }
 
 pub loop-row-preserved : goal.loop-row-preserved
 loop-row-preserved c =
@@ -17,7 +24,7 @@ loop-row-preserved c =
     let next = mirror_next c.loop-row.row-iterator.iter.rest.now rest row c.in-Some.ensures.steps c.loop-row.invariant in
     let last = mirror_last (edge_rows rest) (edge_row row) next in
     let y_is : to_z w32 (of_z w32 (negsuc 0 -ℤ to_z w32 (of_z w32 row.y))) ≡ opposite row.y = omega (arith, ints, last.bottom, last.top) in
-    rw (c.in_ok-push_at.ensures, y_is)
+    rw (c.in_ok-push.ensures, y_is)
     (mirror_more (edge_rows rest) (edge_row row) next)
 
 pub returns-clause-rows : goal.returns-clause-rows

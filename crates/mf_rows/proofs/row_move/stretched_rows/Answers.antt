@@ -7,7 +7,7 @@ use Rattle.mf_rows.proofs.RowStretches.{stretch_none, stretch_next, stretch_more
 use Rattle.mf_rows.proofs.row_move.stretched_rows.Goals as goal
 
 pub loop-row-init : goal.loop-row-init
-loop-row-init c = rw c.new-stretched.ensures.items (stretch_none c.args.stretch.now (edge_rows c.args.rows.now) c.requires.rows c.requires.allowed)
+loop-row-init c = rw c.new-stretched.ensures (stretch_none c.args.stretch.now (edge_rows c.args.rows.now) c.requires.rows c.requires.allowed)
 
 pub push_stretched-requires : goal.push_stretched-requires
 push_stretched-requires c =
@@ -31,4 +31,4 @@ returns-clause-rows c = record { rows = c.loop-row.invariant.rows }
 pub returns-clause-weights : goal.returns-clause-weights
 returns-clause-weights c =
     let none : drop c.loop-row.row-index c.args.rows.now ≡ [] = drop_all c.loop-row.row-index c.args.rows.now c.loop-row-test.false in
-    stretch_all c.args.stretch.now (edge_rows c.args.rows.now) (edge_rows c.loop-row.stretched.items) (rw none at c.loop-row.invariant)
+    stretch_all c.args.stretch.now (edge_rows c.args.rows.now) c.loop-row.stretched (rw none at c.loop-row.invariant)

@@ -1,83 +1,78 @@
-use Rattle.std.proofs.Common.{◌≡◌, to_z, of_z, w32, arith}
-use Rattle.std.proofs.lemmas.Int.{ints}
-use Rattle.std.proofs.lemmas.List.{nil_from_length}
+use Rattle.std.proofs.Common.{◌≡◌, to_z, of_z, w32, refl, arith, rules}
+use Rattle.std.proofs.lemmas.Int.{to_z-of_z}
 use Rattle.std.proofs.lemmas.Result.{err_from_is_err_and}
-use Rattle.mf_rows.specs.Bands.{edge_rows}
+use Rattle.mf_rows.specs.Bands.{edge_row, slice_rows}
 use Rattle.mf_rows.proofs.RowSums.{sum_none, rows_left, rest_from, added_split, sum_with_above}
 use Rattle.mf_rows.proofs.RowSumSteps.{sum_more, sum_all_rows, sum_all_weights, unlawful_somewhere, stay_within}
 use Rattle.mf_rows.proofs.row_sum.sum_of_rows.Goals as goal
 
 pub loop-added-init : goal.loop-added-init
 loop-added-init c =
-    rw (c.in_ok-reserve.ensures.items, c.new-sum.ensures.items)
-    (sum_none (edge_rows c.args.left.now) (edge_rows c.args.right.now) c.requires.left c.requires.right)
+    rw c.in_ok-sum.ensures
+    (sum_none (slice_rows c.args.left) (slice_rows c.args.right) c.requires.left c.requires.right)
 
-pub count_rows_above-requires : goal.count_rows_above-requires
-count_rows_above-requires c = rows_left _ _ _ _ _ c.loop-added.invariant
+pub split_above-requires : goal.split_above-requires
+split_above-requires c = rows_left _ _ _ _ _ c.loop-added.invariant
 
 pub split_at_height-requires : goal.split_at_height-requires
 split_at_height-requires c =
-    let r = c.in-Some.added.now in
-    let y_is : to_z w32 (of_z w32 r.y) ≡ r.y = omega (arith, ints) in
-    let above = rw y_is at c.count_rows_above.ensures.above in
-    let below = rw y_is at c.count_rows_above.ensures.others in
-    rw (y_is, c.split_at.ensures.back)
-    (rest_from _ _ _ c.loop-added.left.now c.loop-added.right.now c.loop-added.invariant r c.in-Some.rest_right.now c.in-Some.ensures.cases.0 _ above below)
+    let r = edge_row c.in-Some.added in
+    let y_is : to_z w32 (of_z w32 r.y) ≡ r.y = to_z-of_z w32 r.y (search rules) in
+    let above = rw y_is at c.split_above.ensures.above in
+    let below = rw y_is at c.split_above.ensures.others in
+    rw y_is (rest_from _ _ _ _ _ c.loop-added.invariant r _ c.in-Some.ensures.first _ _ c.split_above.ensures.all above below)
 
 pub push_sum-requires-clause-left : goal.push_sum-requires-clause-left
 push_sum-requires-clause-left c =
-    let r = c.in-Some.added.now in
-    let y_is : to_z w32 (of_z w32 r.y) ≡ r.y = omega (arith, ints) in
-    let left = rw (y_is, c.split_at.ensures.back) at c.split_at_height.ensures in
+    let r = edge_row c.in-Some.added in
+    let y_is : to_z w32 (of_z w32 r.y) ≡ r.y = to_z-of_z w32 r.y (search rules) in
+    let left = rw y_is at c.split_at_height.ensures in
     left.here
 
 pub push_sum-requires-clause-right : goal.push_sum-requires-clause-right
 push_sum-requires-clause-right c =
-    let r = c.in-Some.added.now in
-    let y_is : to_z w32 (of_z w32 r.y) ≡ r.y = omega (arith, ints) in
-    let above = rw y_is at c.count_rows_above.ensures.above in
-    let below = rw y_is at c.count_rows_above.ensures.others in
-    let right =
-    added_split _ _ _ c.loop-added.left.now c.loop-added.right.now c.loop-added.invariant r c.in-Some.rest_right.now c.in-Some.ensures.cases.0 _ above below in
+    let r = edge_row c.in-Some.added in
+    let y_is : to_z w32 (of_z w32 r.y) ≡ r.y = to_z-of_z w32 r.y (search rules) in
+    let above = rw y_is at c.split_above.ensures.above in
+    let below = rw y_is at c.split_above.ensures.others in
+    let right = added_split _ _ _ _ _ c.loop-added.invariant r _ c.in-Some.ensures.first _ _ c.split_above.ensures.all above below in
     right.here
 
 pub returns-in_err-push_sum-clause-too_large : goal.returns-in_err-push_sum-clause-too_large
 returns-in_err-push_sum-clause-too_large c =
-    let r = c.in-Some.added.now in
-    let y_is : to_z w32 (of_z w32 r.y) ≡ r.y = omega (arith, ints) in
-    let above = rw y_is at c.count_rows_above.ensures.above in
-    let below = rw y_is at c.count_rows_above.ensures.others in
-    let left = rw (y_is, c.split_at.ensures.back) at c.split_at_height.ensures in
-    let right =
-    added_split _ _ _ c.loop-added.left.now c.loop-added.right.now c.loop-added.invariant r c.in-Some.rest_right.now c.in-Some.ensures.cases.0 _ above below in
-    let so_far = sum_with_above _ _ _ c.loop-added.left.now c.loop-added.right.now c.loop-added.invariant r c.in-Some.rest_right.now c.in-Some.ensures.cases.0 _ above below in
+    let r = edge_row c.in-Some.added in
+    let y_is : to_z w32 (of_z w32 r.y) ≡ r.y = to_z-of_z w32 r.y (search rules) in
+    let above = rw y_is at c.split_above.ensures.above in
+    let below = rw y_is at c.split_above.ensures.others in
+    let left = rw y_is at c.split_at_height.ensures in
+    let right = added_split _ _ _ _ _ c.loop-added.invariant r _ c.in-Some.ensures.first _ _ c.split_above.ensures.all above below in
+    let so_far = sum_with_above _ _ _ _ _ c.loop-added.invariant r _ c.in-Some.ensures.first _ _ c.split_above.ensures.all above below in
     let p = err_from_is_err_and c.from_residual-in_err-push_sum.result c.from_residual-in_err-push_sum.ensures.1 in
     rw (p.1, p.2) (λ fault. unlawful_somewhere _ _ _ _ _ r.y so_far _ _ _ _ left right (c.in_err-push_sum.ensures.too_large fault))
 
 pub loop-added-preserved : goal.loop-added-preserved
 loop-added-preserved c =
-    let r = c.in-Some.added.now in
-    let y_is : to_z w32 (of_z w32 r.y) ≡ r.y = omega (arith, ints) in
-    let above = rw y_is at c.count_rows_above.ensures.above in
-    let below = rw y_is at c.count_rows_above.ensures.others in
-    let left = rw (y_is, c.split_at.ensures.back) at c.split_at_height.ensures in
-    let right =
-    added_split _ _ _ c.loop-added.left.now c.loop-added.right.now c.loop-added.invariant r c.in-Some.rest_right.now c.in-Some.ensures.cases.0 _ above below in
-    let so_far = sum_with_above _ _ _ c.loop-added.left.now c.loop-added.right.now c.loop-added.invariant r c.in-Some.rest_right.now c.in-Some.ensures.cases.0 _ above below in
-    let pushed = rw (c.in_ok-push_shared_rows.ensures, c.split_at.ensures.front) at c.in_ok-push_sum.ensures.pushed in
+    let r = edge_row c.in-Some.added in
+    let y_is : to_z w32 (of_z w32 r.y) ≡ r.y = to_z-of_z w32 r.y (search rules) in
+    let above = rw y_is at c.split_above.ensures.above in
+    let below = rw y_is at c.split_above.ensures.others in
+    let left = rw y_is at c.split_at_height.ensures in
+    let right = added_split _ _ _ _ _ c.loop-added.invariant r _ c.in-Some.ensures.first _ _ c.split_above.ensures.all above below in
+    let so_far = sum_with_above _ _ _ _ _ c.loop-added.invariant r _ c.in-Some.ensures.first _ _ c.split_above.ensures.all above below in
+    let pushed = rw c.in_ok-push_rows.ensures at c.in_ok-push_sum.ensures.pushed in
     sum_more _ _ _ _ _ r.y so_far _ _ _ _ left right _ pushed
 
 pub returns-clause-rows : goal.returns-clause-rows
 returns-clause-rows c =
-    let all = rw (nil_from_length c.loop-added.right.now c.in_default.ensures.cases) at c.loop-added.invariant in
-    rw c.in_ok-push_shared_rows-2.ensures (sum_all_rows _ _ _ _ all)
+    let all = rw (c.in_default.ensures.none refl) at c.loop-added.invariant in
+    rw c.in_ok-push_rows-2.ensures (sum_all_rows _ _ _ _ all)
 
 pub returns-clause-weights : goal.returns-clause-weights
 returns-clause-weights c =
-    let all = rw (nil_from_length c.loop-added.right.now c.in_default.ensures.cases) at c.loop-added.invariant in
-    rw c.in_ok-push_shared_rows-2.ensures (sum_all_weights _ _ _ _ all)
+    let all = rw (c.in_default.ensures.none refl) at c.loop-added.invariant in
+    rw c.in_ok-push_rows-2.ensures (sum_all_weights _ _ _ _ all)
 
 pub returns-clause-within : goal.returns-clause-within
 returns-clause-within c =
-    let all = rw (nil_from_length c.loop-added.right.now c.in_default.ensures.cases) at c.loop-added.invariant in
-    rw c.in_ok-push_shared_rows-2.ensures (stay_within _ _ _ (sum_all_rows _ _ _ _ all) (sum_all_weights _ _ _ _ all))
+    let all = rw (c.in_default.ensures.none refl) at c.loop-added.invariant in
+    rw c.in_ok-push_rows-2.ensures (stay_within _ _ _ (sum_all_rows _ _ _ _ all) (sum_all_weights _ _ _ _ all))

@@ -1,8 +1,6 @@
-use Rattle.std.proofs.Common.{◌∙◌, subst, sym, ap}
+use Rattle.std.proofs.Common.{◌∙◌, ap}
 use Rattle.std.proofs.lemmas.Result.{IfOk-weaker}
-use Rattle.mf_rows.specs.Dots.{IsPicture}
 use Rattle.mf_rows.specs.EdgeRows.{picture_of_rows}
-use Rattle.mf_rows.proofs.EdgeRowsLemmas.{lawful_picture_of_rows}
 use Rattle.mf_rows.proofs.builder.RowBuilder.finish.Goals as goal
 
 pub from_rows-requires : goal.from_rows-requires
@@ -10,9 +8,4 @@ from_rows-requires c = rw c.in_ok-closed_rows.ensures c.self.invariant
 
 pub returns-clause-value : goal.returns-clause-value
 returns-clause-value c =
-    IfOk-weaker c.from_rows.result _ _ (λ picture same. same ∙ ap picture_of_rows c.in_ok-closed_rows.ensures ∙ c.self.view_is) c.from_rows.ensures
-
-pub returns-clause-lawful : goal.returns-clause-lawful
-returns-clause-lawful c =
-    IfOk-weaker c.from_rows.result _ IsPicture
-    (λ picture same. subst IsPicture (sym same) (lawful_picture_of_rows _ (rw c.in_ok-closed_rows.ensures c.self.invariant))) c.from_rows.ensures
+    IfOk-weaker c.from_rows.result _ _ (λ picture same. same ∙ ap picture_of_rows c.in_ok-closed_rows.ensures ∙ c.self.view_is) c.from_rows.ensures.value

@@ -14,16 +14,16 @@ invariant_of-self c =
     let over = nil_from_length _ (eqb-true _ _ (sym c.is_empty.ensures ∙ c.if-not-is_empty.false)) in
     let rows = subst AreEdgeRows c.in-Some.ensures.steps c.args.self.now.others in
     record {
-      rest = rw c.edges-self.ensures (rest_entered _ _ _ _ over c.args.self.now.rest rows);
+      rest = rest_entered _ _ _ _ over c.args.self.now.rest rows;
       others = All-rest IsEdgeRow _ _ _ c.in-Some.ensures.steps c.args.self.now.others;
     }
 
 pub returns-in-Some-clause-left : goal.returns-in-Some-clause-left
 returns-in-Some-clause-left c =
     let over = nil_from_length _ (eqb-true _ _ (sym c.is_empty.ensures ∙ c.if-not-is_empty.false)) in
-    let y_fits : FitsSigned w32 c.in-Some.row.now.y = search rules in
-    let y : to_z w32 (of_z w32 c.in-Some.row.now.y) ≡ c.in-Some.row.now.y = omega (arith, ints) in
-    rw (y, c.edges-self.ensures, c.in-Some.ensures.steps) (runs_entered _ _ _ _ _ over c.args.self.now.rest)
+    let y_fits : FitsSigned w32 c.in-Some.row.y = search rules in
+    let y : to_z w32 (of_z w32 c.in-Some.row.y) ≡ c.in-Some.row.y = omega (arith, ints) in
+    rw (y, c.in-Some.ensures.steps) (runs_entered _ _ _ _ _ over c.args.self.now.rest)
 
 -- no row is left
 pub returns-in_default-clause-over : goal.returns-in_default-clause-over

@@ -1,0 +1,134 @@
+use Rattle.std.proofs.Common.{◌≡◌, subst, arith, to_z, of_z, w32}
+use Rattle.std.proofs.lemmas.Bool.{both_ways}
+use Rattle.std.proofs.lemmas.Int.{ints}
+use Rattle.std.proofs.lemmas.List.{nil_from_length}
+use Rattle.std.proofs.lemmas.List.Elements.{All-head}
+use Rattle.std.proofs.lemmas.Result.{err_from_is_err_and}
+use Rattle.mf_edges.specs.LawfulWeights.{IsLawfulWeight}
+use Rattle.mf_edges.specs.Merging.{IsDifference}
+use Rattle.mf_edges.proofs.AppendedSums.{appended_none, appended_twice, some_appended, some_more_appended, all_appended}
+use Rattle.mf_edges.proofs.EdgeSums.{sum_none}
+use Rattle.mf_edges.proofs.EdgesJoined.{passed_before_change, stopped_before_change, left_of_change, change_at_column, change_more, difference_is, lawful_is, more_fits, more_is, total_fits, total_is, sum_all, sum_all_weights}
+use Rattle.mf_edges.proofs.edge_sum.push_sum_of_edges.Goals as goal
+
+pub loop-change-init : goal.loop-change-init
+loop-change-init c =
+    rw c.in_ok-reserve.ensures.items
+    (appended_none _ _ (sum_none c.args.left.now c.args.right.now c.requires.left c.requires.right))
+
+pub returns-in_err-passed-clause-too_large : goal.returns-in_err-passed-clause-too_large
+returns-in_err-passed-clause-too_large c =
+    let f = c.in-Some.change.now in
+    let x_is : to_z w32 (of_z w32 f.x) ≡ f.x = omega (arith, ints) in
+    let stopped = rw x_is at c.in_err-passed.ensures.too_large in
+    let fault = err_from_is_err_and c.from_residual-in_err-passed.result c.from_residual-in_err-passed.ensures.1 in
+    rw fault.1 (λ _. stopped_before_change _ _ _ _ _ f c.in-Some.changes.now _ c.in-Some.ensures.cases.0 c.loop-change.invariant.is stopped)
+
+pub split_at-edge-requires : goal.split_at-edge-requires
+split_at-edge-requires c =
+    let f = c.in-Some.change.now in
+    let x_is : to_z w32 (of_z w32 f.x) ≡ f.x = omega (arith, ints) in
+    let passed = rw x_is at c.in_ok-passed.ensures.passed in
+    let so_far = passed_before_change _ _ _ _ _ f c.in-Some.changes.now _ _ _ c.in-Some.ensures.cases.0 c.loop-change.invariant.is passed in
+    let from = rw x_is at c.in_ok-passed.ensures.stops in
+    rw (x_is, c.split_at.ensures.back) (left_of_change _ _ _ _ f _ _ so_far from)
+
+pub overflow_add-more : goal.overflow_add-more
+overflow_add-more c =
+    let f = c.in-Some.change.now in
+    let x_is : to_z w32 (of_z w32 f.x) ≡ f.x = omega (arith, ints) in
+    let passed = rw x_is at c.in_ok-passed.ensures.passed in
+    let so_far = passed_before_change _ _ _ _ _ f c.in-Some.changes.now _ _ _ c.in-Some.ensures.cases.0 c.loop-change.invariant.is passed in
+    let from = rw x_is at c.in_ok-passed.ensures.stops in
+    let v = c.split_at-edge.result.0 in
+    let split = rw (x_is, c.split_at.ensures.back) at c.split_at-edge.ensures in
+    let difference = All-head (λ e. IsDifference e.weight) f c.in-Some.changes.now so_far.right.differences in
+    rw (difference_is v split.difference, difference_is f.weight difference) (more_fits v f.weight split.difference difference)
+
+pub overflow_add-weight : goal.overflow_add-weight
+overflow_add-weight c =
+    let f = c.in-Some.change.now in
+    let x_is : to_z w32 (of_z w32 f.x) ≡ f.x = omega (arith, ints) in
+    let passed = rw x_is at c.in_ok-passed.ensures.passed in
+    let so_far = passed_before_change _ _ _ _ _ f c.in-Some.changes.now _ _ _ c.in-Some.ensures.cases.0 c.loop-change.invariant.is passed in
+    let from = rw x_is at c.in_ok-passed.ensures.stops in
+    let v = c.split_at-edge.result.0 in
+    let split = rw (x_is, c.split_at.ensures.back) at c.split_at-edge.ensures in
+    let difference = All-head (λ e. IsDifference e.weight) f c.in-Some.changes.now so_far.right.differences in
+    let weight = c.in_ok-passed.passed.weight in
+    rw (difference_is v split.difference, difference_is f.weight difference, more_is v f.weight split.difference difference, lawful_is weight so_far.lawful)
+    (total_fits v f.weight split.difference difference weight so_far.lawful)
+
+pub returns-then-not-is_lawful_weight-clause-too_large : goal.returns-then-not-is_lawful_weight-clause-too_large
+returns-then-not-is_lawful_weight-clause-too_large c =
+    let f = c.in-Some.change.now in
+    let x_is : to_z w32 (of_z w32 f.x) ≡ f.x = omega (arith, ints) in
+    let passed = rw x_is at c.in_ok-passed.ensures.passed in
+    let so_far = passed_before_change _ _ _ _ _ f c.in-Some.changes.now _ _ _ c.in-Some.ensures.cases.0 c.loop-change.invariant.is passed in
+    let from = rw x_is at c.in_ok-passed.ensures.stops in
+    let v = c.split_at-edge.result.0 in
+    let split = rw (x_is, c.split_at.ensures.back) at c.split_at-edge.ensures in
+    let difference = All-head (λ e. IsDifference e.weight) f c.in-Some.changes.now so_far.right.differences in
+    let weight = c.in_ok-passed.passed.weight in
+    let v_is = difference_is v split.difference in
+    let w_is = difference_is f.weight difference in
+    let more_is = more_is v f.weight split.difference difference in
+    let passed_is = lawful_is weight so_far.lawful in
+    let total_is = total_is v f.weight split.difference difference weight so_far.lawful in
+    let asked = rw (v_is, w_is, more_is, passed_is, total_is) at c.is_lawful_weight.ensures.1 in
+    let at = change_at_column _ _ _ _ f _ _ so_far from v _ split in
+    λ _. record {
+      x = f.x;
+      unlawful = λ lawful. both_ways c.is_lawful_weight.result c.if-not-is_lawful_weight.true (asked (subst IsLawfulWeight at lawful));
+    }
+
+pub loop-change-preserved : goal.loop-change-preserved
+loop-change-preserved c =
+    let f = c.in-Some.change.now in
+    let x_is : to_z w32 (of_z w32 f.x) ≡ f.x = omega (arith, ints) in
+    let passed = rw x_is at c.in_ok-passed.ensures.passed in
+    let so_far = passed_before_change _ _ _ _ _ f c.in-Some.changes.now _ _ _ c.in-Some.ensures.cases.0 c.loop-change.invariant.is passed in
+    let from = rw x_is at c.in_ok-passed.ensures.stops in
+    let v = c.split_at-edge.result.0 in
+    let split = rw (x_is, c.split_at.ensures.back) at c.split_at-edge.ensures in
+    let difference = All-head (λ e. IsDifference e.weight) f c.in-Some.changes.now so_far.right.differences in
+    let weight = c.in_ok-passed.passed.weight in
+    let v_is = difference_is v split.difference in
+    let w_is = difference_is f.weight difference in
+    let more_is = more_is v f.weight split.difference difference in
+    let passed_is = lawful_is weight so_far.lawful in
+    let total_is = total_is v f.weight split.difference difference weight so_far.lawful in
+    let lawful = rw (v_is, w_is, more_is, passed_is, total_is) at (c.is_lawful_weight.ensures.0 c.if-not-is_lawful_weight.false) in
+    rw (c.in_ok-push_unless_zero.ensures.pushed, c.in_ok-extend_from_slice.ensures.items, c.split_at.ensures.front, x_is, v_is, w_is, more_is, passed_is, total_is)
+    (appended_twice _ _ _ _ _ _ c.loop-change.invariant (change_more _ _ _ _ f _ _ so_far from v _ split lawful))
+
+pub returns-in_err-passed-clause-kept : goal.returns-in_err-passed-clause-kept
+returns-in_err-passed-clause-kept c =
+    let fault = err_from_is_err_and c.from_residual-in_err-passed.result c.from_residual-in_err-passed.ensures.1 in
+    rw fault.1 (some_appended _ _ _ c.loop-change.invariant)
+
+pub returns-in_err-extend_from_slice-clause-kept : goal.returns-in_err-extend_from_slice-clause-kept
+returns-in_err-extend_from_slice-clause-kept c =
+    let fault = err_from_is_err_and c.from_residual-in_err-extend_from_slice.result c.from_residual-in_err-extend_from_slice.ensures.1 in
+    rw (fault.1, c.in_err-extend_from_slice.ensures.items) (some_appended _ _ _ c.loop-change.invariant)
+
+pub returns-then-not-is_lawful_weight-clause-kept : goal.returns-then-not-is_lawful_weight-clause-kept
+returns-then-not-is_lawful_weight-clause-kept c =
+    rw c.in_ok-extend_from_slice.ensures.items (some_more_appended _ _ _ _ c.loop-change.invariant)
+
+pub returns-in_err-push_unless_zero-clause-kept : goal.returns-in_err-push_unless_zero-clause-kept
+returns-in_err-push_unless_zero-clause-kept c =
+    let fault = err_from_is_err_and c.from_residual-in_err-push_unless_zero.result c.from_residual-in_err-push_unless_zero.ensures.1 in
+    rw (fault.1, c.in_err-push_unless_zero.ensures.unchanged, c.in_ok-extend_from_slice.ensures.items) (some_more_appended _ _ _ _ c.loop-change.invariant)
+
+pub returns-in_err-extend_from_slice-2-clause-kept : goal.returns-in_err-extend_from_slice-2-clause-kept
+returns-in_err-extend_from_slice-2-clause-kept c =
+    let fault = err_from_is_err_and c.from_residual-in_err-extend_from_slice-2.result c.from_residual-in_err-extend_from_slice-2.ensures.1 in
+    rw (fault.1, c.in_err-extend_from_slice-2.ensures.items) (some_appended _ _ _ c.loop-change.invariant)
+
+pub returns-clause-pushed : goal.returns-clause-pushed
+returns-clause-pushed c =
+    let so_far = rw (nil_from_length c.loop-change.right.now c.in_default.ensures.cases) at c.loop-change.invariant.is in
+    rw c.in_ok-extend_from_slice-2.ensures.items
+    (all_appended _ _ _ _ _ _ c.loop-change.invariant (sum_all c.args.left.now c.args.right.now _ _ _ c.requires.left c.requires.right so_far)
+    (sum_all_weights c.args.left.now c.args.right.now _ _ _ c.requires.left c.requires.right so_far))

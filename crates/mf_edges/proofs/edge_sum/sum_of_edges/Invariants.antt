@@ -1,9 +1,0 @@
-use Rattle.std.proofs.Common.{length}
-use Rattle.mf_edges.specs.SumsSoFar.{IsSumSoFar}
-use Rattle.mf_edges.proofs.edge_sum.sum_of_edges.Given as goal
-
-abbrev pub invariant-loop-change : goal.invariant-loop-change
-invariant-loop-change l = IsSumSoFar l.fn.left l.fn.right l.sum.items l.left l.right l.weight
-
-abbrev pub decreases-loop-change : goal.decreases-loop-change
-decreases-loop-change l = length l.right

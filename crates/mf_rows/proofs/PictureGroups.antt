@@ -1,0 +1,41 @@
+-- The picture that groups represent, and groups with the same rows.
+use Rattle.std.proofs.Common.{◌≡◌, ℤ, ◌-ℤ◌, List, [], ◌∷◌, ◌++◌, map, length, drop, get_or, refl, ap, sym, subst, ◌∙◌, arith}
+use Rattle.std.specs.Prelude.{Option}
+use Rattle.std.specs.declared.alloc.Global.{Global}
+use Rattle.std.specs.declared.sync.Arc.{Arc}
+use Rattle.mf_geom.specs.Coordinates.{last_in_field}
+use Rattle.mf_rows.specs.declared.group.Group.{Group}
+use Rattle.mf_rows.specs.declared.group.TheConstants.{GROUP_HEIGHT}
+use Rattle.mf_rows.specs.Dots.{IsPicture}
+use Rattle.mf_rows.specs.EdgeRows.{EdgeRow, picture_of_rows}
+use Rattle.mf_rows.specs.Groups.{rows_at_place, rows_of_groups, IsLayer, AreLayersFrom, AreGroups}
+use Rattle.mf_rows.proofs.EdgeRowsLemmas.{lawful_picture_of_rows}
+use Rattle.mf_rows.proofs.GroupsLemmas.{rows_of_groups_are_rows}
+
+pub lawful_picture_of_groups : (gs : List (Option (Arc Group Global))) → AreGroups gs → IsPicture (picture_of_rows (rows_of_groups gs))
+lawful_picture_of_groups gs groups = lawful_picture_of_rows (rows_of_groups gs) (rows_of_groups_are_rows gs groups)
+
+-- ---- groups that have the same rows at each place
+
+first_same : (r s : List EdgeRow) (rs ss : List (List EdgeRow)) → (r ∷ rs) ≡ (s ∷ ss) → r ≡ s
+first_same r s rs ss same = ap (λ l. get_or l 0 r) same
+
+others_same : (r s : List EdgeRow) (rs ss : List (List EdgeRow)) → (r ∷ rs) ≡ (s ∷ ss) → rs ≡ ss
+others_same r s rs ss same = ap (drop 1) same
+
+pub rows_of_same : (gs hs : List (Option (Arc Group Global))) → map rows_at_place gs ≡ map rows_at_place hs → rows_of_groups gs ≡ rows_of_groups hs
+rows_of_same [] [] same = refl
+rows_of_same [] (h ∷ hs) same = absurd (omega (arith, ap length same))
+rows_of_same (g ∷ gs) [] same = absurd (omega (arith, ap length same))
+rows_of_same (g ∷ gs) (h ∷ hs) same =
+    ap (λ rows. rows ++ rows_of_groups gs) (first_same _ _ _ _ same) ∙ ap (λ rows. rows_at_place h ++ rows) (rows_of_same gs hs (others_same _ _ _ _ same))
+
+layers_from_same : (top : ℤ) (gs hs : List (Option (Arc Group Global))) → map rows_at_place gs ≡ map rows_at_place hs
+    → AreLayersFrom top hs → AreLayersFrom top gs
+layers_from_same top [] hs same layers = tt
+layers_from_same top (g ∷ gs) [] same layers = absurd (omega (arith, ap length same))
+layers_from_same top (g ∷ gs) (h ∷ hs) same layers =
+    (subst (IsLayer top) (sym (first_same _ _ _ _ same)) layers.0, layers_from_same (top -ℤ GROUP_HEIGHT) gs hs (others_same _ _ _ _ same) layers.1)
+
+pub groups_from_same : (gs hs : List (Option (Arc Group Global))) → map rows_at_place gs ≡ map rows_at_place hs → AreGroups hs → AreGroups gs
+groups_from_same gs hs same groups = record { layers = layers_from_same last_in_field gs hs same groups.layers }

@@ -1,0 +1,115 @@
+-- Lists of rows: heads stay true where edges are appended, and a new head appends a row.
+use Rattle.std.proofs.Common.{◌≡◌, ◌≢◌, ℕ, ◌-◌, ◌≤◌, List, [], ◌∷◌, ◌++◌, length, take, drop, Option, refl, sym, ap, subst, ◌∙◌, length-append, length-drop, append-nil, arith}
+use Rattle.std.proofs.Math.Seq.{drop-append_seam}
+use Rattle.std.specs.Arc.{arc_value}
+use Rattle.std.specs.Bool.{Decides}
+use Rattle.std.specs.declared.alloc.Global.{Global}
+use Rattle.std.specs.declared.sync.Arc.{Arc}
+use Rattle.std.specs.declared.vec.Vec.{Vec}
+use Rattle.std.proofs.lemmas.Bool.Decides.{Decides-and, Decides-int_eq, Decides-like}
+use Rattle.mf_edges.specs.contracts.edge.EdgePartialEq.TheImpl as edge_eq
+use Rattle.std.proofs.lemmas.List.{take-append-le, drop-append-le, map_push, nil_from_length, take_all}
+use Rattle.std.proofs.lemmas.List.Elements.{All-head, All-tail, All-weaker, All-push}
+use Rattle.mf_edges.specs.declared.edge.Edge.{Edge}
+use Rattle.mf_edges.specs.Reaches.{HasReach}
+use Rattle.mf_edges.specs.Sums.{HasMoreEdges}
+use Rattle.mf_rows.specs.declared.row_list.Head.{Head}
+use Rattle.mf_rows.specs.EdgeRows.{EdgeRow}
+use Rattle.mf_rows.specs.declared.row_list.Place.{Place}
+use Rattle.mf_rows.specs.declared.row_list.Place.TheVariants as place
+use Rattle.mf_rows.specs.RowLists.{edges_between, edges_at, row_at, rows_at, IsThere, IsPlaceOf, IsHead, AreHeads, HasReachedSum}
+
+-- ---- edges are appended
+
+edges_between-append : (es fs : List Edge) (i j : ℕ) → i ≤ j → j ≤ length es → edges_between (es ++ fs) i j ≡ edges_between es i j
+edges_between-append es fs i j order within =
+    ap (take (j - i)) (drop-append-le i es fs (omega arith)) ∙ take-append-le (j - i) (drop i es) fs (omega (arith, length-drop i es))
+
+module _ (es ds : List Edge) (kept : HasMoreEdges es ds) where
+  edges_kept : (i j : ℕ) → i ≤ j → j ≤ length es → edges_between ds i j ≡ edges_between es i j
+  edges_kept i j order within = rw kept.all (edges_between-append es kept.more i j order within)
+
+  length_kept : length es ≤ length ds
+  length_kept = omega (arith, ap (λ (fs : List Edge). length fs) kept.all, length-append es kept.more)
+
+  there_kept : (p : Place) → IsThere es p → IsThere ds p
+  there_kept (place.Among i j) there = record { order = there.order; within = omega (arith, length_kept, there.within) }
+  there_kept (place.Own own) there = tt
+
+  place_kept : (p : Place) → IsThere es p → edges_at ds p ≡ edges_at es p
+  place_kept (place.Among i j) there = edges_kept i j there.order there.within
+  place_kept (place.Own own) there = refl
+
+  head_kept : (h : Head) → IsHead es h → IsHead ds h
+  head_kept h head =
+      record { there = there_kept h.place head.there; reached = subst (HasReach h.reach) (sym (place_kept h.place head.there)) head.reached }
+
+  pub heads_kept : (hs : List Head) → AreHeads es hs → AreHeads ds hs
+  heads_kept hs heads = All-weaker (IsHead es) (IsHead ds) head_kept hs heads
+
+  row_kept : (h : Head) → IsHead es h → row_at ds h ≡ row_at es h
+  row_kept h head = ap (λ (fs : List Edge). record { y = h.y; edges = fs }) (place_kept h.place head.there)
+
+  pub rows_kept : (hs : List Head) → AreHeads es hs → rows_at ds hs ≡ rows_at es hs
+  rows_kept [] heads = refl
+  rows_kept (h ∷ hs) heads =
+      ap (λ (r : EdgeRow). r ∷ rows_at ds hs) (row_kept h (All-head (IsHead es) h hs heads))
+      ∙ ap (λ (rs : List EdgeRow). row_at es h ∷ rs) (rows_kept hs (All-tail (IsHead es) h hs heads))
+
+  -- ---- a head is appended, whose edges are at their place then
+
+  module _ (hs : List Head) (heads : AreHeads es hs) (h : Head) (row : List Edge) (placed : IsPlaceOf ds h.place row) where
+    pub heads_push : HasReach h.reach row → AreHeads ds (hs ++ h ∷ [])
+    heads_push reached =
+        All-push (IsHead ds) hs h (heads_kept hs heads)
+        (record { there = placed.there; reached = subst (HasReach h.reach) (sym placed.edges) reached })
+
+    pub rows_push : rows_at ds (hs ++ h ∷ []) ≡ rows_at es hs ++ record { y = h.y; edges = row } ∷ []
+    rows_push =
+        map_push (row_at ds) hs h
+        ∙ ap (λ (rs : List EdgeRow). rs ++ row_at ds h ∷ []) (rows_kept hs heads)
+        ∙ ap (λ (fs : List Edge). rows_at es hs ++ record { y = h.y; edges = fs } ∷ []) placed.edges
+
+module _ (es ds : List Edge) (kept : HasMoreEdges es ds) (start end : ℕ) (starts : start ≡ length es) (ends : end ≡ length ds) where
+  count_of_more : end - start ≡ length kept.more
+  count_of_more = omega (arith, starts, ends, ap (λ (fs : List Edge). length fs) kept.all, length-append es kept.more)
+
+  -- the edges that were appended have a place
+  pub place_of_more : IsPlaceOf ds (place.Among start end) kept.more
+  place_of_more =
+      let between : drop start ds ≡ kept.more = rw (starts, kept.all) (drop-append_seam es kept.more) in
+      record {
+        there = record { order = omega (arith, starts, ends, length_kept es ds kept); within = omega (arith, ends) };
+        edges = rw (count_of_more, between) (take_all (length kept.more) kept.more (omega arith));
+      }
+
+  pub none_more : start ≡ end → kept.more ≡ []
+  none_more same = nil_from_length kept.more (omega (arith, count_of_more))
+
+  pub some_more : start ≢ end → kept.more ≢ []
+  some_more apart none =
+      let count = count_of_more in
+      let order = length_kept es ds kept in
+      let no_length : length kept.more ≡ 0 = ap (λ (fs : List Edge). length fs) none in
+      apart (omega arith)
+
+-- ---- a list that a row owns
+
+pub place_of_own : (es row : List Edge) (own : Arc (Vec Edge Global) Global) → (arc_value own).items ≡ row → IsPlaceOf es (place.Own own) row
+place_of_own es row own is = record { there = tt; edges = is }
+
+-- where a row has a list of its own, the others stay as they are
+pub nothing_more : (es : List Edge) → HasMoreEdges es es
+nothing_more es = record { more = []; all = sym (append-nil es) }
+
+-- the edges of the sum of two rows that were appended
+abbrev pub more_of_sum : (es ls rs ds : List Edge) (reach : Option ℕ) → HasReachedSum es ls rs ds reach → HasMoreEdges es ds
+more_of_sum es ls rs ds reach pushed = record { more = pushed.sum.more; all = pushed.sum.all }
+
+-- ---- edges that are compared
+
+-- edges compare as equal exactly where they are
+pub edge_decides : (d e : Edge) → Decides ((edge_eq.eq-value).it d e) (d ≡ e)
+edge_decides d e =
+    Decides-like ((edge_eq.eq-value).it d e) (λ same. λ i. record { x = same.0 i; weight = same.1 i }) (λ same. (ap (λ t. t.x) same, ap (λ t. t.weight) same))
+    (Decides-and _ _ (Decides-int_eq d.x e.x) (Decides-int_eq d.weight e.weight))

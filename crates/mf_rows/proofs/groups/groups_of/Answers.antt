@@ -1,0 +1,23 @@
+use Rattle.std.proofs.Common.{◌≡◌, pos, ◌+ℤ◌, to_z, of_z, w32, refl, ◌∙◌, arith}
+use Rattle.std.proofs.lemmas.Int.{ints}
+use Rattle.mf_rows.specs.Bands.{rows_of_bands}
+use Rattle.mf_rows.proofs.BandSumsLemmas.{split_at_band}
+use Rattle.mf_rows.proofs.GroupsMade.{lawful_left, grouped_more, grouped_all}
+use Rattle.mf_rows.proofs.groups.groups_of.Goals as goal
+
+pub count_up_to-requires : goal.count_up_to-requires
+count_up_to-requires c = lawful_left _ _ _ _ c.loop-place.invariant
+
+pub loop-place-preserved : goal.loop-place-preserved
+loop-place-preserved c =
+    let so_far = c.loop-place.invariant in
+    let split = split_at_band _ _ c.loop-place.rest.now _ _ c.split_at.ensures.front c.split_at.ensures.back
+    c.count_up_to.ensures.above c.count_up_to.ensures.below c.count_up_to.ensures.others in
+    let shared : rows_of_bands c.push_shared.new.bands.items ≡ rows_of_bands c.split_at.result.0.now =
+    c.in_ok-push_shared.ensures.rows ∙ rw c.new-shared.ensures.items refl in
+    let next : to_z w32 (of_z w32 (to_z w32 c.loop-place.place-bits +ℤ pos 1)) ≡ to_z w32 c.loop-place.place-bits +ℤ pos 1 =
+    grind (arith, ints, so_far.place, c.loop-place-test.true) in
+    rw (next, c.in_ok-push.ensures.items) (grouped_more _ _ _ _ _ _ _ so_far split (grind (arith, ints, so_far.place, c.loop-place-test.true)) _ (c.in_ok-group_of.ensures ∙ shared))
+
+pub returns-clause-rows : goal.returns-clause-rows
+returns-clause-rows c = grouped_all _ _ _ _ c.loop-place.invariant (grind (arith, ints, c.loop-place-test.false))

@@ -1,0 +1,21 @@
+use Rattle.std.proofs.Common.{◌≡◌, to_z, of_z, w32, arith}
+use Rattle.std.proofs.lemmas.Int.{ints}
+use Rattle.std.proofs.lemmas.Result.{err_from_is_err_and}
+use Rattle.mf_rows.proofs.RowListLemmas.{heads_kept, heads_push, rows_push, rows_kept}
+use Rattle.mf_rows.proofs.row_list.RowList.push.Goals as goal
+
+pub returns-in_err-push-clause-unchanged : goal.returns-in_err-push-clause-unchanged
+returns-in_err-push-clause-unchanged c =
+    let fault = err_from_is_err_and c.from_residual-in_err-push.result c.from_residual-in_err-push.ensures.1 in
+    rw (fault.1, c.in_err-push.ensures.items, ← c.self.view_is) (rows_kept _ _ c.place_of.ensures.kept _ c.self.invariant)
+
+pub invariant_of-self-in_err-push : goal.invariant_of-self-in_err-push
+invariant_of-self-in_err-push c = rw c.in_err-push.ensures.items (heads_kept _ _ c.place_of.ensures.kept _ c.self.invariant)
+
+pub invariant_of-self-2 : goal.invariant_of-self-2
+invariant_of-self-2 c = rw c.in_ok-push.ensures.items (heads_push _ _ c.place_of.ensures.kept _ c.self.invariant _ c.args.row.now.edges.now c.in_ok-place.ensures.place c.args.row.now.reached)
+
+pub returns-clause-pushed : goal.returns-clause-pushed
+returns-clause-pushed c =
+    let y_is : to_z w32 (of_z w32 c.args.y) ≡ c.args.y = omega (arith, ints) in
+    rw (c.in_ok-push.ensures.items, ← c.self.view_is, y_is) (rows_push _ _ c.place_of.ensures.kept _ c.self.invariant _ c.args.row.now.edges.now c.in_ok-place.ensures.place)

@@ -1,0 +1,39 @@
+use Rattle.std.proofs.Common.{◌≡◌, pos, ◌+ℤ◌, ◌-ℤ◌, ◌≤ℤ◌, to_z, of_z, w32, arith}
+use Rattle.std.proofs.lemmas.Int.{ints}
+use Rattle.mf_rows.proofs.StripCopies.{copies_none, copies_more, copies_all, next_place}
+use Rattle.mf_rows.proofs.writer.RowWriter.push_copies.Goals as goal
+
+pub loop-down-init : goal.loop-down-init
+loop-down-init c = record {
+  copies = copies_none _ _ _ _;
+  least = omega (arith, ints);
+  greatest = omega (arith, ints, c.requires.order);
+}
+
+pub overflow_sub-top-in-loop-down : goal.overflow_sub-top-in-loop-down
+overflow_sub-top-in-loop-down c = omega (arith, ints, c.loop-down.invariant.greatest, c.loop-down.invariant.least, c.requires)
+
+-- the next row is below those that are there, and has their edges
+pub loop-down-preserved : goal.loop-down-preserved
+loop-down-preserved c =
+    let edges = c.args.row.edges.now in
+    let top : to_z w32 (of_z w32 c.args.top) ≡ c.args.top = omega (arith, ints) in
+    let bottom : to_z w32 (of_z w32 c.args.bottom) ≡ c.args.bottom = omega (arith, ints) in
+    let down = to_z w32 c.loop-down.down-bits in
+    let bound : (down +ℤ pos 1) ≤ℤ (c.args.top -ℤ c.args.bottom) = omega (arith, ints, c.loop-down-test.true, c.requires) in
+    let place = next_place c.args.bottom c.args.top down c.requires.bottom c.requires.top c.loop-down.invariant.least bound in
+    record {
+      copies = rw (top, bottom, place.more, c.in_ok-push.ensures, top, place.row)
+          (copies_more c.args.self.now edges c.args.bottom c.args.top down
+          c.loop-down.self bound (rw (top, bottom) at c.loop-down.invariant.copies));
+      least = rw place.more place.least;
+      greatest = rw (place.more, top, bottom) bound;
+    }
+
+pub returns : goal.returns
+returns c =
+    let top : to_z w32 (of_z w32 c.args.top) ≡ c.args.top = omega (arith, ints) in
+    let bottom : to_z w32 (of_z w32 c.args.bottom) ≡ c.args.bottom = omega (arith, ints) in
+    let end : c.args.top -ℤ c.args.bottom ≡ to_z w32 c.loop-down.down-bits =
+    omega (arith, ints, c.loop-down-test.false, c.loop-down.invariant.greatest, c.requires) in
+    copies_all _ _ c.args.bottom c.args.top (to_z w32 c.loop-down.down-bits) _ end (rw (top, bottom) at c.loop-down.invariant.copies)

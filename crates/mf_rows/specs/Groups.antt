@@ -1,0 +1,39 @@
+-- Groups of bands: the field has a place for each, and a group has the bands of 512 rows of the field.
+use Rattle.std.specs.Prelude.{ℤ, ◌-ℤ◌, List, [], ◌∷◌, Option, Some, None, flat_map}
+use Rattle.std.specs.Arc.{arc_value}
+use Rattle.std.specs.Borrow.{Bor}
+use Rattle.std.specs.declared.alloc.Global.{Global}
+use Rattle.std.specs.declared.sync.Arc.{Arc}
+use Rattle.mf_geom.specs.Coordinates.{last_in_field}
+use Rattle.mf_rows.specs.declared.group.Group.{Group}
+use Rattle.mf_rows.specs.declared.group.TheConstants.{GROUP_HEIGHT}
+use Rattle.mf_rows.specs.Bands.{rows_of_bands, AreAbove}
+use Rattle.mf_rows.specs.EdgeRows.{EdgeRow, AreRowsFrom}
+
+-- the rows of the group at a place, where there is one
+abbrev pub rows_at_place : Option (Arc Group Global) → List EdgeRow
+rows_at_place None = []
+rows_at_place (Some g) = rows_of_bands (arc_value g).bands.items
+
+-- the rows of a group that was found, where one was
+abbrev pub group_found : Option (Bor (Arc Group Global)) → List EdgeRow
+group_found None = []
+group_found (Some g) = rows_of_bands (arc_value g.now).bands.items
+
+-- the rows of groups, one place after another
+abbrev pub rows_of_groups : List (Option (Arc Group Global)) → List EdgeRow
+rows_of_groups gs = flat_map rows_at_place gs
+
+-- rows among those of a group whose highest row is row `top`
+pub record IsLayer (top : ℤ) (rs : List EdgeRow) : Type 0 where
+  pub rows : AreRowsFrom top rs
+  pub above : AreAbove (top -ℤ GROUP_HEIGHT) rs
+
+-- groups at their places, the first of which has row `top` as its highest
+abbrev pub AreLayersFrom : ℤ → List (Option (Arc Group Global)) → Type 0
+AreLayersFrom top [] = Unit {0}
+AreLayersFrom top (g ∷ gs) = IsLayer top (rows_at_place g) × AreLayersFrom (top -ℤ GROUP_HEIGHT) gs
+
+-- the groups of a picture, from the top of the field down
+pub record AreGroups (gs : List (Option (Arc Group Global))) : Type 0 where
+  pub layers : AreLayersFrom last_in_field gs

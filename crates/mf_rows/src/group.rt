@@ -1,0 +1,21 @@
+//! Groups of bands.
+
+use crate::band::Band;
+use crate::bands::BAND_HEIGHT;
+use std::sync::Arc;
+
+/// The number of bands of the field in a group.
+pub(crate) const BANDS_IN_GROUP: i32 = 32;
+
+/// The number of rows of the field in a group.
+pub(crate) const GROUP_HEIGHT: i32 = BANDS_IN_GROUP * BAND_HEIGHT;
+
+/// The number of groups that the field has.
+pub(crate) const GROUP_COUNT: usize = 16;
+
+/// The bands of 512 rows of the field, from the top down. They are never written once the group is made, so pictures share it. So a copy
+/// of a picture copies a list of at most 16 groups, and the first change after that a list of at most 32 bands.
+#[derive(Debug, Drop)]
+pub(crate) struct Group {
+    pub(crate) bands: Vec<Arc<Band>>,
+}

@@ -1,0 +1,232 @@
+//! Lists of rows whose edges stand one after another.
+ghost use Rattle.std.specs.Prelude.{◌≡◌, ◌≢◌, [], ◌∷◌, ◌++◌, ◌↔◌, IsTrue, IfOk, IfErr, OnOk, OnErr};
+ghost use Rattle.mf_edges.specs.Edges.{AreEdges};
+ghost use Rattle.mf_edges.specs.Sums.{weight_in_both, HasMoreEdges, IsUnlawfulColumn};
+ghost use Rattle.mf_rows.specs.RowLists.{AreHeads, IsPlaceOf, HasReachedSum};
+
+use crate::row::Row;
+use mf_base::OutOfMemory;
+use mf_edges::{AddFault, Edge, MAX_WEIGHT, give_back_room, push_sum_of_edges, push_with_changes};
+use std::alloc::Global;
+use std::marker::Model;
+use std::sync::Arc;
+
+/// A row of at most this many edges is added to another by binary search, without looking at the weights between the
+/// other's edges, where the reaches of both leave room: a contour changes a row at few places, so it costs about a copy
+/// of the row. With more edges, or with no room, the rows are merged and all weights are checked.
+const FEW_EDGES: usize = 8;
+
+/// Rows of corners and changed rows with more edges than this, and sums to whose left row that applies, get lists of their own
+/// behind an `Arc`. A band that is made anew for other rows then shares such a list, where it copies the edges of shorter rows:
+/// copying few edges costs less than asking for memory, and copying many costs more.
+pub(crate) const MANY_EDGES: usize = 64;
+
+/// Where a row of a list has its edges.
+#[derive(Debug, Drop)]
+pub(crate) enum Place {
+    /// Among the edges of the list, from the place `start` up to the one before `end`.
+    Among { start: usize, end: usize },
+    /// In a list of its own, which rows share.
+    Own(Arc<Vec<Edge>>),
+}
+
+/// A row of a list: its height and its edges, and its reach, where one is known.
+#[derive(Debug, Drop)]
+pub(crate) struct Head {
+    pub(crate) y: i32,
+    pub(crate) reach: Option<u16>,
+    pub(crate) place: Place,
+}
+
+/// Rows, from the top down. The edges of the short ones are in one list, so that a few rows ask for memory twice, and not
+/// twice each. Neighbours with the same edges share them.
+#[derive(Debug, Drop)]
+pub(crate) struct RowList {
+    pub(crate) heads: Vec<Head>,
+    pub(crate) edges: Vec<Edge>,
+}
+
+impl Model for RowList {
+    ghost use Rattle.std.specs.Prelude.{List};
+    ghost use Rattle.mf_rows.specs.EdgeRows.{EdgeRow};
+
+    ghost Value = { List EdgeRow };
+
+    ghost use Rattle.mf_rows.specs.RowLists.{rows_at, AreHeads};
+
+    ghost view = { λ l. rows_at l.edges.items l.heads.items };
+
+    ghost invariant = { λ l. AreHeads l.edges.items l.heads.items };
+}
+
+impl RowList {
+    ghost use Rattle.mf_rows.specs.Bands.{edge_row};
+    ghost use Rattle.mf_rows.specs.Merging.{IsRowAt, HasRowSum, IsUnlawfulInRow};
+    ghost use Rattle.mf_rows.specs.Sums.{weight_in_all};
+
+    /// No rows. Allocates nothing.
+    pub(crate) fn new(alloc: Global) -> RowList
+        ensures { result ≡ [] }
+    {
+        RowList {
+            heads: Vec::new(alloc),
+            edges: Vec::new(alloc),
+        }
+    }
+
+    /// No rows yet, and room for so many rows and edges.
+    pub(crate) fn with_room(
+        alloc: Global,
+        rows: usize,
+        edges: usize,
+    ) -> Result<RowList, OutOfMemory>
+        ensures { IfOk result (λ rows. rows ≡ []) }
+    {
+        let mut heads = Vec::new(alloc);
+        heads.reserve(rows)?;
+        let mut kept = Vec::new(alloc);
+        kept.reserve(edges)?;
+        Ok(RowList { heads, edges: kept })
+    }
+
+    /// Whether there is no row.
+    pub(crate) fn is_empty(&self) -> bool
+        ensures { IsTrue result ↔ (self.now ≡ []) }
+    {
+        self.heads.is_empty()
+    }
+
+    /// Appends row y with the edges and the reach of a row. The edges are shared where that row has a list of its own, or where
+    /// the row before has the same edges in the list of all rows.
+    pub(crate) fn push(&mut self, y: i32, row: &Row<'_>) -> Result<(), OutOfMemory>
+        ensures pushed { OnOk result (self.new ≡ self.old ++ record { y = y; edges = row.now.edges.now } ∷ []) }
+        ensures unchanged { OnErr result (self.new ≡ self.old) }
+    {
+        let place = place_of(&mut self.edges, &self.heads, row)?;
+        self.heads.push(Head {
+            y,
+            reach: row.reach,
+            place,
+        })?;
+        Ok(())
+    }
+
+    /// Appends the sum of two rows of the same height, unless it is blank. Refused with `WeightTooLarge` where a weight
+    /// would exceed 32767 in absolute value, and with `OutOfMemory` where an allocation fails.
+    pub(crate) fn push_sum(
+        &mut self,
+        alloc: Global,
+        left: &Row<'_>,
+        right: &Row<'_>,
+    ) -> Result<(), AddFault>
+        requires left { IsRowAt right.now.y (edge_row left.now ∷ []) }
+        requires right { IsRowAt right.now.y (edge_row right.now ∷ []) }
+        ensures pushed { OnOk result (HasRowSum self.old right.now.y (edge_row left.now ∷ []) (edge_row right.now ∷ []) self.new) }
+        ensures too_large { IfErr result (λ fault. fault ≢ AddFault.OutOfMemory
+            → IsUnlawfulInRow (weight_in_all (edge_row left.now ∷ []) (edge_row right.now ∷ [])) right.now.y) }
+    {
+        if left.edges.len() > MANY_EDGES {
+            return self.push_long_sum(alloc, left, right);
+        }
+        let start = self.edges.len();
+        let reach = push_sum_of_both(&mut self.edges, left, right)?;
+        let end = self.edges.len();
+        if start == end {
+            return Ok(());
+        }
+        self.heads.push(Head {
+            y: right.y,
+            reach,
+            place: Place::Among { start, end },
+        })?;
+        Ok(())
+    }
+
+    /// Does the same, and gives the sum a list of its own.
+    fn push_long_sum(
+        &mut self,
+        alloc: Global,
+        left: &Row<'_>,
+        right: &Row<'_>,
+    ) -> Result<(), AddFault>
+        requires left { IsRowAt right.now.y (edge_row left.now ∷ []) }
+        requires right { IsRowAt right.now.y (edge_row right.now ∷ []) }
+        ensures pushed { OnOk result (HasRowSum self.old right.now.y (edge_row left.now ∷ []) (edge_row right.now ∷ []) self.new) }
+        ensures too_large { IfErr result (λ fault. fault ≢ AddFault.OutOfMemory
+            → IsUnlawfulInRow (weight_in_all (edge_row left.now ∷ []) (edge_row right.now ∷ [])) right.now.y) }
+    {
+        let mut edges = Vec::new(alloc);
+        let reach = push_sum_of_both(&mut edges, left, right)?;
+        if edges.is_empty() {
+            return Ok(());
+        }
+        give_back_room(&mut edges);
+        self.heads.push(Head {
+            y: right.y,
+            reach,
+            place: Place::Own(Arc::new(alloc, edges)?),
+        })?;
+        Ok(())
+    }
+
+    /// Gives back the room that cancelled edges have left.
+    pub(crate) fn give_back_room(&mut self)
+        ensures { self.new ≡ self.old }
+    {
+        give_back_room(&mut self.edges);
+    }
+}
+
+/// The place of the edges of a row: its own list, or else that of the last row's edges where they are the same; else they are
+/// appended.
+fn place_of(edges: &mut Vec<Edge>, heads: &[Head], row: &Row<'_>) -> Result<Place, OutOfMemory>
+    requires { AreHeads edges.old.items heads.now }
+    ensures kept { HasMoreEdges edges.old.items edges.new.items }
+    ensures unchanged { OnErr result (edges.new.items ≡ edges.old.items) }
+    ensures place { IfOk result (λ place. IsPlaceOf edges.new.items place row.now.edges.now) }
+{
+    if let Some(own) = row.own {
+        return Ok(Place::Own(Arc::try_clone(own)?));
+    }
+    if let Some(last) = heads.last() {
+        if let Place::Among { start, end } = last.place {
+            let last_edges: &[Edge] = &edges[start..end];
+            if last_edges == row.edges {
+                return Ok(Place::Among { start, end });
+            }
+        }
+    }
+    let start = edges.len();
+    edges.extend_from_slice(row.edges)?;
+    Ok(Place::Among {
+        start,
+        end: edges.len(),
+    })
+}
+
+/// Appends the edges of the sum of two rows to a list of edges, and answers its reach, where that is known. Where few edges
+/// are added within the limit, the reach is the sum of both reaches, so it grows with each contour. Once there is no room
+/// left, all weights are checked, no reach is kept, and the next sum finds the least reach anew. Refused with
+/// `WeightTooLarge` where a weight would exceed 32767 in absolute value, and with `OutOfMemory` where an allocation fails;
+/// some edges may then have been appended.
+fn push_sum_of_both(
+    edges: &mut Vec<Edge>,
+    left: &Row<'_>,
+    right: &Row<'_>,
+) -> Result<Option<u16>, AddFault>
+    requires left { AreEdges left.now.edges.now }
+    requires right { AreEdges right.now.edges.now }
+    ensures pushed { IfOk result (λ reach. HasReachedSum edges.old.items left.now.edges.now right.now.edges.now edges.new.items reach) }
+    ensures kept { OnErr result (HasMoreEdges edges.old.items edges.new.items) }
+    ensures too_large { IfErr result (λ fault. fault ≢ AddFault.OutOfMemory → IsUnlawfulColumn (weight_in_both left.now.edges.now right.now.edges.now)) }
+{
+    if right.edges.len() <= FEW_EDGES {
+        let reach = left.reach() + right.reach();
+        if reach <= MAX_WEIGHT {
+            push_with_changes(edges, left.edges, right.edges)?;
+            return Ok(Some(reach as u16));
+        }
+    }
+    push_sum_of_edges(edges, left.edges, right.edges)?;
+    Ok(None)
+}

@@ -1,0 +1,146 @@
+//! The rows of a part of a list: the first one, those above a height, the one at a height.
+ghost use Rattle.std.specs.Prelude.{◌≡◌, [], ◌∷◌, ◌++◌, ◌≤◌, IsNone, IfSome, All, length, take, drop, ◌≤ℤ◌};
+ghost use Rattle.mf_rows.specs.Bands.{edge_row, slice_rows, last_height, HasRow, HasNoRow, AreAbove};
+ghost use Rattle.mf_rows.specs.EdgeRows.{AreRows, AreRowsFrom};
+ghost use Rattle.mf_rows.specs.Merging.{row_found, IsSplitAtHeight};
+ghost use Rattle.mf_rows.specs.RowLists.{row_at, rows_at, IsHead};
+
+use super::RowSlice;
+use crate::row::Row;
+use crate::row_list::{Head, Place, RowList};
+use mf_edges::Edge;
+
+impl<'a> RowSlice<'a> {
+    /// No rows.
+    pub(crate) fn empty() -> RowSlice<'a>
+        ensures { slice_rows result ≡ [] }
+    {
+        RowSlice {
+            heads: &[],
+            edges: &[],
+        }
+    }
+
+    /// The rows of a list.
+    pub(crate) fn of(rows: &'a RowList) -> RowSlice<'a>
+        ensures { slice_rows result ≡ rows.now }
+    {
+        RowSlice {
+            heads: &rows.heads,
+            edges: &rows.edges,
+        }
+    }
+
+    /// The number of the rows.
+    pub(crate) fn len(self) -> usize
+        ensures { result ≡ length (slice_rows self.entry) }
+    {
+        self.heads.len()
+    }
+
+    /// The number of the edges of these rows that are in the list, where those that rows share count once for each.
+    pub(crate) fn edge_count(self) -> usize {
+        let mut count = 0usize;
+        for head in self.heads {
+            if let Place::Among { start, end } = head.place {
+                count = count.saturating_add(end - start);
+            }
+        }
+        count
+    }
+
+    /// The height of the last row, 0 where there is none.
+    pub(crate) fn last_height(self) -> i32
+        ensures { result ≡ last_height (slice_rows self.entry) }
+    {
+        match self.heads.last() {
+            Some(head) => head.y,
+            None => 0,
+        }
+    }
+
+    /// The first row, and the rows below it.
+    pub(crate) fn split_first(self) -> Option<(Row<'a>, RowSlice<'a>)>
+        ensures first { IfSome result (λ both. slice_rows self.entry ≡ edge_row both.0 ∷ slice_rows both.1) }
+        ensures none { IsNone result → slice_rows self.entry ≡ [] }
+    {
+        let (head, heads) = self.heads.split_first()?;
+        let rest = RowSlice {
+            heads,
+            edges: self.edges,
+        };
+        Some((row_of(self.edges, head), rest))
+    }
+
+    /// The rows above row y, and the others.
+    pub(crate) fn split_above(self, y: i32) -> (RowSlice<'a>, RowSlice<'a>)
+        requires { AreRows (slice_rows self) }
+        ensures all { slice_rows self.entry ≡ slice_rows result.0 ++ slice_rows result.1 }
+        ensures above { AreAbove y (slice_rows result.0) }
+        ensures others { All (λ row. row.y ≤ℤ y) (slice_rows result.1) }
+    {
+        let (above, others) = self.heads.split_at(count_rows_above(self, y));
+        let above = RowSlice {
+            heads: above,
+            edges: self.edges,
+        };
+        let others = RowSlice {
+            heads: others,
+            edges: self.edges,
+        };
+        (above, others)
+    }
+
+    /// The first row, where it has this height, and the rows below this height.
+    pub(crate) fn split_at_height(self, y: i32) -> (Option<Row<'a>>, RowSlice<'a>)
+        requires { AreRowsFrom y (slice_rows self) }
+        ensures { IsSplitAtHeight (slice_rows self.entry) y (row_found result.0) (slice_rows result.1) }
+    {
+        match self.split_first() {
+            Some((row, rest)) if row.y == y => (Some(row), rest),
+            _ => (None, self),
+        }
+    }
+
+    /// Row y, where it is not blank.
+    pub(crate) fn find(self, y: i32) -> Option<Row<'a>>
+        requires { AreRows (slice_rows self) }
+        ensures found { IfSome result (λ row. HasRow (slice_rows self.entry) y row.edges.now) }
+        ensures blank { IsNone result → HasNoRow (slice_rows self.entry) y }
+    {
+        let (_, others) = self.split_above(y);
+        let (row, _) = others.split_first()?;
+        if row.y == y { Some(row) } else { None }
+    }
+}
+
+/// The number of rows above row y, which are the first ones.
+fn count_rows_above(rows: RowSlice<'_>, y: i32) -> usize
+    requires { AreRows (slice_rows rows) }
+    ensures within { result ≤ length rows.entry.heads.now }
+    ensures above { AreAbove y (rows_at rows.entry.edges.now (take result rows.entry.heads.now)) }
+    ensures others { All (λ row. row.y ≤ℤ y) (rows_at rows.entry.edges.now (drop result rows.entry.heads.now)) }
+{
+    rows.heads.partition_point(|head| head.y > y)
+}
+
+/// The row of a head.
+fn row_of<'a>(edges: &'a [Edge], head: &'a Head) -> Row<'a>
+    requires { IsHead edges.now head.now }
+    ensures { edge_row result ≡ row_at edges.now head.now }
+{
+    match &head.place {
+        Place::Among { start, end } => Row {
+            y: head.y,
+            reach: head.reach,
+            edges: &edges[*start..*end],
+            own: None,
+        },
+        Place::Own(own) => Row {
+            y: head.y,
+            reach: head.reach,
+            edges: own.as_slice(),
+            own: Some(own),
+        },
+    }
+}

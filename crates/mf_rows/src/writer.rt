@@ -1,0 +1,123 @@
+//! Rows that are written into bands, one after another.
+ghost use Rattle.std.specs.Prelude.{◌≡◌, [], ◌∷◌, ◌++◌, IfOk, OnOk, ◌≤ℤ◌, ◌-ℤ◌};
+ghost use Rattle.std.specs.Int.RustNames.{unsigned_abs};
+ghost use Rattle.mf_geom.specs.Coordinates.{least_coordinate, greatest_coordinate, last_in_field};
+ghost use Rattle.mf_rows.specs.RowMoves.{strip};
+
+use crate::band::Band;
+use crate::bands::{BAND_HEIGHT, band_of, close_band};
+use crate::row::Row;
+use crate::row_list::{MANY_EDGES, RowList};
+use crate::slice::RowSlice;
+use mf_base::OutOfMemory;
+use std::alloc::Global;
+use std::marker::Model;
+use std::mem::replace;
+use std::sync::Arc;
+
+/// Writes rows, from the top down, into new bands. To contracts it is the list of the rows that it has.
+#[derive(Debug, Drop)]
+pub(crate) struct RowWriter {
+    alloc: Global,
+    bands: Vec<Arc<Band>>,
+    /// The number of the band that is being written, and its rows.
+    number: i32,
+    open: RowList,
+}
+
+impl Model for RowWriter {
+    ghost use Rattle.std.specs.Prelude.{List, ◌++◌};
+    ghost use Rattle.mf_rows.specs.EdgeRows.{EdgeRow};
+
+    ghost Value = { List EdgeRow };
+
+    ghost use Rattle.mf_rows.specs.Bands.{rows_of_bands};
+    ghost use Rattle.mf_rows.specs.FieldBands.{AreOfBand};
+
+    ghost view = { λ w. rows_of_bands w.bands.items ++ w.open };
+
+    ghost invariant = { λ w. AreOfBand w.number w.open };
+}
+
+impl RowWriter {
+    ghost use Rattle.mf_rows.specs.Bands.{slice_rows, rows_of_bands};
+    ghost use Rattle.mf_rows.specs.Rest.{AreEdgeRows};
+
+    /// No rows. Allocates nothing.
+    pub(crate) fn new(alloc: Global) -> RowWriter
+        ensures { result ≡ [] }
+    {
+        RowWriter {
+            alloc,
+            bands: Vec::new(alloc),
+            number: 0,
+            open: RowList::new(alloc),
+        }
+    }
+
+    /// Appends row y, which lies in the field, with the edges and the reach of a row.
+    pub(crate) fn push(&mut self, y: i32, row: &Row<'_>) -> Result<(), OutOfMemory>
+        requires bottom { least_coordinate ≤ℤ y }
+        requires top { y ≤ℤ last_in_field }
+        ensures { OnOk result (self.new ≡ self.old ++ record { y = y; edges = row.now.edges.now } ∷ []) }
+    {
+        let own = band_of(y);
+        if own != self.number {
+            let next = RowList::with_room(
+                self.alloc,
+                BAND_HEIGHT as usize,
+                row.edges.len().min(MANY_EDGES),
+            )?;
+            let rows = replace(&mut self.open, next);
+            close_band(self.alloc, &mut self.bands, self.number, rows)?;
+            self.number = own;
+        }
+        self.open.push(y, row)?;
+        Ok(())
+    }
+
+    /// Appends a row with the edges of this one at each height from `top - 1` down to `bottom`.
+    pub(crate) fn push_copies(
+        &mut self,
+        row: Row<'_>,
+        bottom: i32,
+        top: i32,
+    ) -> Result<(), OutOfMemory>
+        requires bottom { least_coordinate ≤ℤ bottom }
+        requires order { bottom ≤ℤ top }
+        requires top { top ≤ℤ greatest_coordinate }
+        ensures { OnOk result (self.new ≡ self.old ++ strip bottom row.entry.edges.now (unsigned_abs (top -ℤ bottom))) }
+    {
+        for down in 0..top - bottom {
+            self.push(top - 1 - down, &row)?;
+        }
+        Ok(())
+    }
+
+    /// Appends rows.
+    pub(crate) fn push_rows(&mut self, rows: RowSlice<'_>) -> Result<(), OutOfMemory>
+        requires { AreEdgeRows (slice_rows rows) }
+        ensures { OnOk result (self.new ≡ self.old ++ slice_rows rows.entry) }
+    {
+        let mut rows = rows;
+        while let Some((row, rest)) = rows.split_first() {
+            self.push(row.y, &row)?;
+            rows = rest;
+        }
+        Ok(())
+    }
+
+    /// The bands of all rows.
+    pub(crate) fn finish(self) -> Result<Vec<Arc<Band>>, OutOfMemory>
+        ensures { IfOk result (λ bands. rows_of_bands bands.items ≡ self) }
+    {
+        let RowWriter {
+            alloc,
+            mut bands,
+            number,
+            open,
+        } = self;
+        close_band(alloc, &mut bands, number, open)?;
+        Ok(bands)
+    }
+}
