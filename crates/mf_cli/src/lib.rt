@@ -5,4 +5,5 @@ mod fault;
 pub mod program;
 
 pub use fault::ProgramFault;
-pub use mf_words::{Words, WordsFault, read_words};
+pub use mf_options::WordsFault;
+pub use mf_words::{Words, read_words};

@@ -1,19 +1,20 @@
 //! The program that `main` calls: from its words and streams to its exit status.
 ghost use Rattle.std.specs.Io.KnownBytes.{Appends, IsAtEnd};
-ghost use Rattle.std.specs.Prelude.{◌≡◌, ◌<◌, ◌≤◌, ◌⊎◌, ℕ, IfErr, IfOk, IfSome, OnOk, length, map, option_map, string_bytes, take};
-ghost use Rattle.mf_words.specs.CommandLine.{IsCommandLine, file_in, viewers_in};
+ghost use Rattle.std.specs.Prelude.{◌≡◌, ◌<◌, ◌≤◌, ◌⊎◌, ℕ, IfErr, IfOk, OnOk, length, take};
+ghost use Rattle.mf_words.specs.CommandLine.{IsCommandLine};
 ghost use Rattle.mf_cli.specs.Faults.{EndsBadly, ReportsFault};
 ghost use Rattle.mf_cli.specs.Messages.{GetsMessage, message_of, usage};
-ghost use Rattle.mf_cli.specs.Output.{EndsWell, looks, settings};
+ghost use Rattle.mf_cli.specs.Output.{EndsWell, looks, request_in, request_of, settings, words_of};
 ghost use Rattle.mf_cli.specs.Statuses.{status_of};
-ghost use Rattle.mf_desk.specs.Performances.{IsPerformance, Tells};
-ghost use Rattle.mf_desk.specs.Streams.{Passes, streams};
+ghost use Rattle.mf_desk.specs.Performances.{Performs, Tells, asked};
+ghost use Rattle.mf_desk.specs.Streams.{Passes, streams_of};
 
 use crate::fault::ProgramFault;
 use mf_base::write_counted;
 use mf_desk::{OpenGate, Outcome, RunFault, Settings};
 use mf_gf::{FontWords, GfBytes};
-use mf_words::{USAGE, Words, WordsFault, read_words};
+use mf_options::WordsFault;
+use mf_words::{USAGE, Words, read_words};
 use std::alloc::Global;
 use std::fs;
 use std::io::{Read, Write};
@@ -61,18 +62,19 @@ pub fn program<S: Wait + Threads + Files, R: Read, W: Write, E: Write>(
     errors: &mut E,
 ) -> u8
     ensures statuses { (result ≡ DONE) ⊎ (result ≡ BAD_WORDS) ⊎ (result ≡ STREAM_FAULT) ⊎ (result ≡ WANTING) }
-    ensures bad_words { result ≡ BAD_WORDS → IsCommandLine (map string_bytes words.items) → ⊥ }
-    ensures refused { (IsCommandLine (map string_bytes words.items) → ⊥) → (result ≡ BAD_WORDS) ⊎ (result ≡ WANTING) }
-    ensures unread { (IsCommandLine (map string_bytes words.items) → ⊥) → reader.new ≡ reader.old }
-    ensures unwritten { (IsCommandLine (map string_bytes words.items) → ⊥) → writer.new ≡ writer.old }
-    ensures wanting { (IsCommandLine (map string_bytes words.items) → ⊥) → result ≡ WANTING
+    ensures bad_words { result ≡ BAD_WORDS → IsCommandLine (words_of words) → ⊥ }
+    ensures refused { (IsCommandLine (words_of words) → ⊥) → (result ≡ BAD_WORDS) ⊎ (result ≡ WANTING) }
+    ensures unread { (IsCommandLine (words_of words) → ⊥) → reader.new ≡ reader.old }
+    ensures unwritten { (IsCommandLine (words_of words) → ⊥) → writer.new ≡ writer.old }
+    ensures wanting { (IsCommandLine (words_of words) → ⊥) → result ≡ WANTING
         → GetsMessage (E.contents errors.old) (E.contents errors.new) (message_of (ProgramFault.Run RunFault.OutOfMemory)) }
     ensures quiet { result ≡ DONE → errors.new ≡ errors.old }
     ensures usage { result ≡ BAD_WORDS → GetsMessage (E.contents errors.old) (E.contents errors.new) usage }
-    ensures done { result ≡ DONE → EndsWell (viewers_in (map string_bytes words.items)) (file_in (map string_bytes words.items))
-        (streams (R.remaining reader.old) (R.remaining reader.new) (W.contents writer.old) (W.contents writer.new)) }
-    ensures fault { (result ≡ STREAM_FAULT) ⊎ (result ≡ WANTING) → ReportsFault (map string_bytes words.items) result (GetsMessage (E.contents errors.old) (E.contents errors.new))
-        (streams (R.remaining reader.old) (R.remaining reader.new) (W.contents writer.old) (W.contents writer.new)) }
+    ensures done { result ≡ DONE → EndsWell (request_in (words_of words))
+        (streams_of R.remaining reader.old reader.new W.contents writer.old writer.new) }
+    ensures fault { (result ≡ STREAM_FAULT) ⊎ (result ≡ WANTING)
+        → ReportsFault (words_of words) result (GetsMessage (E.contents errors.old) (E.contents errors.new))
+        (streams_of R.remaining reader.old reader.new W.contents writer.old writer.new) }
 {
     let words = match read_words(alloc, words) {
         Ok(words) => words,
@@ -94,10 +96,10 @@ fn perform<S: Wait + Threads + Files, R: Read, W: Write>(
     words: &Words,
 ) -> Result<(), ProgramFault>
     requires { words.now.viewers ≤ 16 }
-    ensures done { OnOk result (EndsWell words.now.viewers (option_map string_bytes words.now.gf)
-        (streams (R.remaining reader.old) (R.remaining reader.new) (W.contents writer.old) (W.contents writer.new))) }
-    ensures fault { IfErr result (λ fault. EndsBadly words.now.viewers (option_map string_bytes words.now.gf) fault
-        (streams (R.remaining reader.old) (R.remaining reader.new) (W.contents writer.old) (W.contents writer.new))) }
+    ensures done { OnOk result (EndsWell (request_of words.now)
+        (streams_of R.remaining reader.old reader.new W.contents writer.old writer.new)) }
+    ensures fault { IfErr result (λ fault. EndsBadly (request_of words.now) fault
+        (streams_of R.remaining reader.old reader.new W.contents writer.old writer.new)) }
 {
     let Outcome { gf, .. } = run_script(rt, alloc, reader, writer, words.viewers)?;
     let Some(path) = &words.gf else {
@@ -119,8 +121,8 @@ fn run_script<S: Wait + Threads, R: Read, W: Write>(
 ) -> Result<Outcome, RunFault>
     requires { viewers ≤ 16 }
     ensures performance { IfOk result
-        (λ outcome. IfSome (R.remaining reader.old) (IsPerformance settings viewers looks outcome (W.contents writer.old) (W.contents writer.new))) }
-    ensures fault { IfErr result (λ fault. Passes (streams (R.remaining reader.old) (R.remaining reader.new) (W.contents writer.old) (W.contents writer.new))
+        (Performs (asked settings viewers looks) (streams_of R.remaining reader.old reader.new W.contents writer.old writer.new)) }
+    ensures fault { IfErr result (λ fault. Passes (streams_of R.remaining reader.old reader.new W.contents writer.old writer.new)
         (Tells settings viewers fault)) }
     ensures end { OnOk result (IsAtEnd (R.remaining reader.new)) }
 {
@@ -178,7 +180,8 @@ pub fn report<E: Write>(errors: &mut E, fault: ProgramFault) -> u8
     }
 }
 
-/// The message of a fault: the program's name, and the name of the fault.
+/// The message of a fault: the program's name, and the name of the fault. It is a constant, so that a message is one write, and is
+/// there even where an allocation fails.
 fn message_of(fault: ProgramFault) -> &'static str
     ensures { result.now ≡ message_of fault }
 {

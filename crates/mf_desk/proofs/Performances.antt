@@ -1,10 +1,10 @@
 -- What a run answers, whether its script has ended or not.
-use Rattle.std.proofs.Common.{◌≡◌, ◌⊎◌, ◌<◌, ◌+◌, ℕ, List, [], ◌++◌, All, Err, IfErr, Option, Result, length, ⊎_elim, inl, inr, refl, sym, ap, subst, ◌∙◌, append_assoc, length-append, arith}
+use Rattle.std.proofs.Common.{◌≡◌, ◌⊎◌, ◌<◌, ◌+◌, ℕ, List, [], ◌++◌, All, Err, IfErr, Option, Result, length, ⊎_elim, inl, inr, refl, sym, ap, subst, ◌∙◌, arith}
 use Rattle.std.specs.Io.KnownBytes.{Appends, Consumes, IsAtEnd}
 use Rattle.std.proofs.KnownBytes.{Appends-nil, Appends-trans, Consumes-nil}
 use Rattle.std.proofs.Math.Nat.{min-le_left}
 use Rattle.mf_gf.specs.Files.{Character, IsLongFile, file_if_any}
-use Rattle.mf_gf.specs.Keeping.{Keeps, limit}
+use Rattle.mf_gf.specs.Keeping.{Keeps, max_bytes_of}
 use Rattle.mf_gf.specs.declared.file.GfFile.{GfFile}
 use Rattle.mf_live.specs.Writers.{ended_published_list}
 use Rattle.mf_desk.specs.declared.ended_run.EndedRun.{EndedRun}
@@ -12,10 +12,10 @@ use Rattle.mf_desk.specs.declared.fault.RunFault.{RunFault}
 use Rattle.mf_desk.specs.declared.fault.RunFault.TheVariants.{OutOfMemory, NoPlace, FileTooLong, ReadFault, WriteFault, NoLook}
 use Rattle.mf_desk.specs.declared.outcome.Outcome.{Outcome}
 use Rattle.mf_desk.specs.declared.settings.Settings.{Settings}
-use Rattle.mf_desk.specs.EndedRuns.{IsOver, StopsShowing, glance}
+use Rattle.mf_desk.specs.EndedRuns.{IsOver, glance}
 use Rattle.mf_desk.specs.Fault.{Breaks}
-use Rattle.mf_desk.specs.Performances.{IsCompleteText, IsPerformance, IsShownText, Tells, limits_set, viewer_lines}
-use Rattle.mf_desk.specs.Streams.{Gets, Passes, Streams, streams}
+use Rattle.mf_desk.specs.Performances.{IsCompleteText, IsPerformance, IsShownText, Tells, asked, limits_set, viewer_lines}
+use Rattle.mf_desk.specs.Streams.{Passes, Streams, streams}
 use Rattle.mf_session.specs.States.{Limits}
 use Rattle.mf_watch.specs.Watchers.{HasSeen, glance_at}
 use Rattle.mf_desk.proofs.Stages.{CutsShort-nothing}
@@ -50,7 +50,7 @@ module _ (settings : Settings) (viewers : ℕ) where
 
   module _ (held holds later : Option (List ℕ)) (read : List ℕ) (run : EndedRun) (over : IsOver (limits_set settings) held read run holds) where
     -- the transcript, and the lines of the first viewers
-    abbrev complete : (n : ℕ) (lines : List ℕ) → lines ≡ viewer_lines n (glance run) → IsCompleteText (limits_set settings) n read (over.text ++ lines)
+    abbrev pub complete : (n : ℕ) (lines : List ℕ) → lines ≡ viewer_lines n (glance run) → IsCompleteText (limits_set settings) n read (over.text ++ lines)
     complete n lines is =
         record {
           transcript = over.text;
@@ -59,62 +59,23 @@ module _ (settings : Settings) (viewers : ℕ) where
           is = ap (λ more. over.text ++ more) (is ∙ ap (λ L. viewer_lines n (glance_at L)) over.published);
         }
 
-    out-more : (text : List ℕ) → Appends holds later text → Appends held later (over.text ++ text)
+    pub out-more : (text : List ℕ) → Appends holds later text → Appends held later (over.text ++ text)
     out-more text out = Appends-trans held holds later over.text text over.out out
 
     kept : (file : GfFile) → file ≡ run.file → Keeps file [] over.last.characters
     kept file same = subst (λ f. Keeps f [] over.last.characters) (sym same) over.file
 
     module _ (unread left : Option (List ℕ)) (consumed : Consumes unread left read) (all_read : IsAtEnd left) where
-      -- a fault comes where the last looks and their lines are due
-      pub Tells-showing : (fault : RunFault) → Gets holds later (StopsShowing run viewers fault)
-          → Passes (streams unread left held later) (Tells settings viewers fault)
-      Tells-showing OutOfMemory (written, out, some) = (
-        read,
-        consumed,
-        (
-          over.text ++ written,
-          out-more written out,
-          inr (all_read, record { shown = some.shown; few = some.few; complete = complete some.shown written some.is }),
-        ),
-      )
-      Tells-showing NoLook (written, out, (some, fewer)) = (
-        read,
-        consumed,
-        (
-          over.text ++ written,
-          out-more written out,
-          (all_read, (record { shown = some.shown; few = some.few; complete = complete some.shown written some.is }, fewer)),
-        ),
-      )
-      Tells-showing (WriteFault count) (written, out, (counted, (rest, some))) =
-          let shown : IsShownText (limits_set settings) viewers read (over.text ++ (written ++ rest)) =
-          record { shown = some.shown; few = some.few; complete = complete some.shown (written ++ rest) some.is } in (
-            read,
-            consumed,
-            (
-              over.text ++ written,
-              out-more written out,
-              (
-                length-append over.text written ∙ sym (counted ∙ ap (λ n. n + length written) over.counted),
-                (rest, inr (all_read, rw (append_assoc over.text written rest) shown)),
-              ),
-            ),
-          )
-      Tells-showing NoPlace (written, out, stops) = absurd stops
-      Tells-showing FileTooLong (written, out, stops) = absurd stops
-      Tells-showing ReadFault (written, out, stops) = absurd stops
-
       module _ (out : Appends holds later (viewer_lines viewers (glance run))) where
         -- the font file is not made
         pub Tells-unfinished : (file : GfFile) (fault : RunFault) → file ≡ run.file
-            → (fault ≡ FileTooLong → (characters : List Character) → Keeps file [] characters → IsLongFile (limit file) settings.font [] characters)
+            → (fault ≡ FileTooLong → (characters : List Character) → Keeps file [] characters → IsLongFile (max_bytes_of file) settings.font [] characters)
             → (fault ≡ FileTooLong) ⊎ (fault ≡ OutOfMemory) → Passes (streams unread left held later) (Tells settings viewers fault)
         Tells-unfinished file fault same too_long =
             ⊎_elim
             (λ long.
             let is_long =
-            subst (λ n. IsLongFile n settings.font [] over.last.characters) (ap limit same ∙ over.limit_is)
+            subst (λ n. IsLongFile n settings.font [] over.last.characters) (ap max_bytes_of same ∙ over.max_bytes_is)
             (too_long long over.last.characters (kept file same)) in
             rw long (read, consumed, (over.text ++ viewer_lines viewers (glance run), out-more _ out, inr (all_read, record { complete = complete viewers _ refl; too_long = is_long }))))
             (λ wanting.
@@ -126,29 +87,25 @@ module _ (settings : Settings) (viewers : ℕ) where
             rw wanting (read, consumed, (over.text ++ viewer_lines viewers (glance run), out-more _ out, inr (all_read, shown))))
 
     -- the run ends well
-    pub IsPerformance-over : (looks : ℕ) (outcome : Outcome) (file : GfFile) → file ≡ run.file
+    pub IsPerformance-over : (unread left : Option (List ℕ)) (looks : ℕ) (outcome : Outcome) (file : GfFile) → file ≡ run.file
         → ((characters : List Character) → Keeps file [] characters
-        → (IsLongFile (limit file) settings.font [] characters → ⊥) × (outcome.gf ≡ file_if_any settings.font [] characters))
+        → (IsLongFile (max_bytes_of file) settings.font [] characters → ⊥) × (outcome.gf ≡ file_if_any settings.font [] characters))
         → Appends holds later (viewer_lines viewers (glance run)) → length outcome.seen.items ≡ viewers
-        → All (λ v. HasSeen (ended_published_list run.ended) looks v.items) outcome.seen.items → IsPerformance settings viewers looks outcome held later read
-    IsPerformance-over looks outcome file same finished out count seen =
+        → All (λ v. HasSeen (ended_published_list run.ended) looks v.items) outcome.seen.items
+        → IsPerformance (asked settings viewers looks) outcome (streams unread left held later) read
+    IsPerformance-over unread left looks outcome file same finished out count seen =
         let (fits, font) = finished over.last.characters (kept file same) in
         record {
           text = over.text ++ viewer_lines viewers (glance run);
           complete = complete viewers _ refl;
           out = out-more _ out;
-          fits = subst (λ n. IsLongFile n settings.font [] over.last.characters → ⊥) (ap limit same ∙ over.limit_is) fits;
+          fits = subst (λ n. IsLongFile n settings.font [] over.last.characters → ⊥) (ap max_bytes_of same ∙ over.max_bytes_is) fits;
           font = font;
           count = count;
           seen = subst (λ L. All (λ v. HasSeen L looks v.items) outcome.seen.items) over.published seen;
         }
 
--- neither the script nor the last looks are refused with `NoPlace`
+-- the script is not refused with `NoPlace`
 pub elsewhere-script : (r : Result Outcome RunFault) (l : Limits) (s : Streams) → IfErr r (λ fault. Passes s (Breaks l fault)) → r ≡ Err NoPlace → ⊥
 elsewhere-script r l s breaks is =
     let (read, consumed, (written, out, none)) = subst (λ e. IfErr e (λ fault. Passes s (Breaks l fault))) is breaks in none
-
-pub elsewhere-showing : (r : Result Outcome RunFault) (run : EndedRun) (viewers : ℕ) (held holds : Option (List ℕ))
-    → IfErr r (λ fault. Gets held holds (StopsShowing run viewers fault)) → r ≡ Err NoPlace → ⊥
-elsewhere-showing r run viewers held holds stops is =
-    let (written, out, none) = subst (λ e. IfErr e (λ fault. Gets held holds (StopsShowing run viewers fault))) is stops in none

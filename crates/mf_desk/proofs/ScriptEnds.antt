@@ -23,7 +23,7 @@ IsOver-ended held holds read performer run through end = record {
   performed = through.performed;
   published = end.ended.published;
   file = end.ended.file_is.keeps;
-  limit_is = end.ended.file_is.limit_is;
+  max_bytes_is = end.ended.file_is.max_bytes_is;
   out = through.out;
   counted = end.counted ∙ through.counted;
 }

@@ -76,18 +76,18 @@ performed-ended held holds read line more progress next after whole answer =
 -- a line feed is read, and its line has been performed
 IsAfter-ended : (held holds later : Option (List ℕ)) (read line : List ℕ) (old new : Progress) (after : IsAfter held read old holds)
     → StandsForEnded old after.last read line
-    → IsWritten old.performer after.last new.performer line holds later → limits new.performer.session ≡ limits old.performer.session → new.line ≡ []
+    → Gets holds later (IsWritten old.performer after.last line new.performer) → limits new.performer.session ≡ limits old.performer.session → new.line ≡ []
     → IsAfter held (read ++ 10 ∷ []) new later
-IsAfter-ended held holds later read line old new after whole written same empty =
+IsAfter-ended held holds later read line old new after whole (text, out, written) same empty =
     record {
-      text = after.text ++ written.text;
+      text = after.text ++ text;
       last = written.next;
-      performed = subst (λ l. Perform l start (ended_lines (read ++ 10 ∷ [])) (after.text ++ written.text) written.next) (sym same)
-          (performed-ended held holds read line written.text old written.next after whole written.answer);
+      performed = subst (λ l. Perform l start (ended_lines (read ++ 10 ∷ [])) (after.text ++ text) written.next) (sym same)
+          (performed-ended held holds read line text old written.next after whole written.answer);
       stands = written.stands;
       line = empty ∙ ap (take 65538) (sym (unended-line_feed read));
-      out = Appends-trans held holds later after.text written.text after.out written.out;
-      counted = written.counted ∙ ap (λ n. n + length written.text) after.counted ∙ sym (length-append after.text written.text);
+      out = Appends-trans held holds later after.text text after.out out;
+      counted = written.counted ∙ ap (λ n. n + length text) after.counted ∙ sym (length-append after.text text);
     }
 
 -- the line that was kept may be cut
@@ -99,7 +99,7 @@ kept-ended held holds read progress after text next answer =
     Answers-stripped m s next (unended read) text (subst (λ line. Answers m s (strip_carriage_return line) text next) after.line answer)
 
 pub IsAfter-line_feed : (held holds later : Option (List ℕ)) (read : List ℕ) (old new : Progress) (after : IsAfter held read old holds)
-    → IsWritten old.performer after.last new.performer (strip_carriage_return old.line) holds later
+    → Gets holds later (IsWritten old.performer after.last (strip_carriage_return old.line) new.performer)
     → limits new.performer.session ≡ limits old.performer.session → new.line ≡ []
     → IsAfter held (read ++ 10 ∷ []) new later
 IsAfter-line_feed held holds later read old new after =
@@ -110,15 +110,16 @@ IsAfter-line_feed held holds later read old new after =
 abbrev pub CutsShort : Limits → RunFault → Option (List ℕ) → List ℕ → Option (List ℕ) → Option (List ℕ) → Type 0
 CutsShort limits fault left read held holds = Gets held holds (λ written. Breaks limits fault (passage left read written))
 
--- a fault comes where the text of a line is due
-abbrev pub BreaksText : RunFault → Performer → State → List ℕ → Option (List ℕ) → Option (List ℕ) → Type 0
-BreaksText fault before s line held holds = Gets held holds (BreaksOff (IsAnswer (limits before.session) s line) before.written fault)
+-- a fault comes where the text of a line is due, and the lines before it have led to this state
+abbrev pub CutsText : RunFault → Performer → State → List ℕ → Option (List ℕ) → Option (List ℕ) → Type 0
+CutsText fault before s line held holds = Gets held holds (BreaksOff (IsAnswer (limits before.session) s line) before.written fault)
 
 -- an allocation fails between two lines
-pub CutsShort-between : (held left holds : Option (List ℕ)) (read more : List ℕ) (progress : Progress) → IsAfter held read progress holds
-    → CutsShort (limits progress.performer.session) OutOfMemory left (read ++ more) held holds
-CutsShort-between held left holds read more progress after =
-    let (others, first) = ended_lines-front read more in
+pub CutsShort-between : (held left holds : Option (List ℕ)) (read bytes more : List ℕ) (progress : Progress) → IsAfter held read progress holds
+    → CutsShort (limits progress.performer.session) OutOfMemory left (read ++ bytes ++ more) held holds
+CutsShort-between held left holds read bytes more progress after =
+    let (others, before) = ended_lines-front read (bytes ++ more) in
+    let first = ap ended_lines (append_assoc read bytes more) ∙ before in
     (after.text, after.out, record { done = ended_lines read; more = others; last = after.last; first = inl first; performed = after.performed })
 
 -- the text of a line breaks off; the first completely read lines are the performed ones, and then this one
@@ -128,7 +129,7 @@ CutsShort-text : (fault : RunFault) (held left holds later : Option (List ℕ)) 
     → AreWholeLines left bytes (first ++ behind)
     → ((more : List ℕ) (next : State) → Answers (limits progress.performer.session) after.last line more next
     → Perform (limits progress.performer.session) start first (after.text ++ more) next)
-    → BreaksText fault progress.performer after.last line holds later → CutsShort (limits progress.performer.session) fault left bytes held later
+    → CutsText fault progress.performer after.last line holds later → CutsShort (limits progress.performer.session) fault left bytes held later
 CutsShort-text NoPlace held left holds later read bytes line others first behind progress after before with_line performs (written, out, broken) = absurd broken
 CutsShort-text NoLook held left holds later read bytes line others first behind progress after before with_line performs (written, out, broken) = absurd broken
 CutsShort-text FileTooLong held left holds later read bytes line others first behind progress after before with_line performs (written, out, broken) =
@@ -162,20 +163,21 @@ CutsShort-text (WriteFault count) held left holds later read bytes line others f
 -- the text of a line that a line feed ends breaks off
 CutsShort-ended : (fault : RunFault) (held left holds later : Option (List ℕ)) (read more line : List ℕ)
     (progress : Progress) (after : IsAfter held read progress holds)
-    → StandsForEnded progress after.last read line → BreaksText fault progress.performer after.last line holds later
-    → CutsShort (limits progress.performer.session) fault left (read ++ 10 ∷ more) held later
+    → StandsForEnded progress after.last read line → CutsText fault progress.performer after.last line holds later
+    → CutsShort (limits progress.performer.session) fault left (read ++ 10 ∷ [] ++ more) held later
 CutsShort-ended fault held left holds later read more line progress after whole broken =
     let (others, before) = ended_lines-front read (10 ∷ more) in
     let (behind, with_line) = ended_lines-front (read ++ 10 ∷ []) more in
-    CutsShort-text fault held left holds later read (read ++ 10 ∷ more) line others (ended_lines (read ++ 10 ∷ [])) behind progress after (inl before)
-    (inl (ap ended_lines (sym (append_assoc read (10 ∷ []) more)) ∙ with_line))
+    CutsShort-text fault held left holds later read (read ++ 10 ∷ [] ++ more) line others (ended_lines (read ++ 10 ∷ [])) behind progress after
+    (inl (ap ended_lines (append_assoc read (10 ∷ []) more) ∙ before))
+    (inl with_line)
     (λ text next answer. performed-ended held holds read line text progress next after whole answer)
     broken
 
 pub CutsShort-line_feed : (fault : RunFault) (held left holds later : Option (List ℕ)) (read more : List ℕ)
     (progress : Progress) (after : IsAfter held read progress holds)
-    → BreaksText fault progress.performer after.last (strip_carriage_return progress.line) holds later
-    → CutsShort (limits progress.performer.session) fault left (read ++ 10 ∷ more) held later
+    → CutsText fault progress.performer after.last (strip_carriage_return progress.line) holds later
+    → CutsShort (limits progress.performer.session) fault left (read ++ 10 ∷ [] ++ more) held later
 CutsShort-line_feed fault held left holds later read more progress after =
     CutsShort-ended fault held left holds later read more (strip_carriage_return progress.line) progress after (kept-ended held holds read progress after)
 
@@ -197,7 +199,7 @@ performed-last held holds read more progress next after answer =
 
 pub CutsShort-last : (fault : RunFault) (held left holds later : Option (List ℕ)) (read : List ℕ) (progress : Progress)
     → IsAtEnd left → (after : IsAfter held read progress holds) → eqb (length progress.line) 0 ≡ false
-    → BreaksText fault progress.performer after.last progress.line holds later → CutsShort (limits progress.performer.session) fault left read held later
+    → CutsText fault progress.performer after.last progress.line holds later → CutsShort (limits progress.performer.session) fault left read held later
 CutsShort-last fault held left holds later read progress all_read after some broken =
     let whole = lines-last read (some-unended held holds read progress after some) in
     CutsShort-text fault held left holds later read read progress.line (unended read ∷ [])
@@ -230,19 +232,19 @@ IsThrough-none held holds read progress after none =
 -- the last line ends with the script
 pub IsThrough-last : (held holds later : Option (List ℕ)) (read : List ℕ) (old new : Progress) (after : IsAfter held read old holds)
     → eqb (length old.line) 0 ≡ false
-    → limits new.performer.session ≡ limits old.performer.session → IsWritten old.performer after.last new.performer old.line holds later
+    → limits new.performer.session ≡ limits old.performer.session → Gets holds later (IsWritten old.performer after.last old.line new.performer)
     → IsThrough held read new.performer later
-IsThrough-last held holds later read old new after some same written =
+IsThrough-last held holds later read old new after some same (text, out, written) =
     let whole = lines-last read (some-unended held holds read old after some) in
     record {
-      text = after.text ++ written.text;
+      text = after.text ++ text;
       last = written.next;
-      performed = subst (λ l. Perform l start (lines read) (after.text ++ written.text) written.next) (sym same)
-          (subst (λ ls. Perform (limits old.performer.session) start ls (after.text ++ written.text) written.next) (sym whole)
-          (performed-last held holds read written.text old written.next after written.answer));
+      performed = subst (λ l. Perform l start (lines read) (after.text ++ text) written.next) (sym same)
+          (subst (λ ls. Perform (limits old.performer.session) start ls (after.text ++ text) written.next) (sym whole)
+          (performed-last held holds read text old written.next after written.answer));
       stands = written.stands;
-      out = Appends-trans held holds later after.text written.text after.out written.out;
-      counted = written.counted ∙ ap (λ n. n + length written.text) after.counted ∙ sym (length-append after.text written.text);
+      out = Appends-trans held holds later after.text text after.out out;
+      counted = written.counted ∙ ap (λ n. n + length text) after.counted ∙ sym (length-append after.text text);
     }
 
 -- an allocation fails before anything is read
@@ -269,15 +271,19 @@ module _ (held holds : Option (List ℕ)) (read bytes : List ℕ) (old : Progres
       unended-unbroken read bytes unbroken ∙ ap (λ line. line ++ bytes) (empty-unended held holds read old after none) in
       subst (λ line. Answers (limits old.performer.session) after.last (strip_carriage_return line) text next) (sym whole) answer
 
-  pub IsAfter-whole : (later : Option (List ℕ)) (new : Progress) → IsWritten old.performer after.last new.performer (strip_carriage_return bytes) holds later
-      → limits new.performer.session ≡ limits old.performer.session → new.line ≡ [] → IsAfter held (read ++ bytes ++ 10 ∷ []) new later
-  IsAfter-whole later new = IsAfter-ended held holds later (read ++ bytes) (strip_carriage_return bytes) with_bytes new after_bytes whole_line
+  pub IsAfter-whole : (later : Option (List ℕ)) (new : Progress)
+      → Gets holds later (IsWritten old.performer after.last (strip_carriage_return bytes) new.performer)
+      → limits new.performer.session ≡ limits old.performer.session → new.line ≡ [] → IsAfter held (read ++ (bytes ++ 10 ∷ [])) new later
+  IsAfter-whole later new written same empty =
+      subst (λ all. IsAfter held all new later) (append_assoc read bytes (10 ∷ []))
+      (IsAfter-ended held holds later (read ++ bytes) (strip_carriage_return bytes) with_bytes new after_bytes whole_line written same empty)
 
   pub CutsShort-whole : (fault : RunFault) (left later : Option (List ℕ)) (more : List ℕ)
-      → BreaksText fault old.performer after.last (strip_carriage_return bytes) holds later
-      → CutsShort (limits old.performer.session) fault left (read ++ bytes ++ 10 ∷ more) held later
-  CutsShort-whole fault left later more =
-      CutsShort-ended fault held left holds later (read ++ bytes) more (strip_carriage_return bytes) with_bytes after_bytes whole_line
+      → CutsText fault old.performer after.last (strip_carriage_return bytes) holds later
+      → CutsShort (limits old.performer.session) fault left (read ++ (bytes ++ 10 ∷ []) ++ more) held later
+  CutsShort-whole fault left later more broken =
+      subst (λ front. CutsShort (limits old.performer.session) fault left (front ++ more) held later) (append_assoc read bytes (10 ∷ []))
+      (CutsShort-ended fault held left holds later (read ++ bytes) more (strip_carriage_return bytes) with_bytes after_bytes whole_line broken)
 
 -- the writer is flushed
 pub IsAfter-flushed : (held holds later : Option (List ℕ)) (read : List ℕ) (progress : Progress) → Keeps holds later

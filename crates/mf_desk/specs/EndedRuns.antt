@@ -1,20 +1,22 @@
 -- A run whose script has ended.
-use Rattle.std.specs.Prelude.{◌≡◌, ◌≤◌, ◌<◌, ◌+◌, ℕ, List, [], Option, length}
-use Rattle.std.specs.Io.KnownBytes.{Appends, Consumes}
+use Rattle.std.specs.Prelude.{◌≡◌, ◌<◌, ℕ, IfErr, IfOk, List, [], Option, Result, Vec, length}
+use Rattle.std.specs.Global.{Global}
+use Rattle.std.specs.Io.KnownBytes.{Appends, Consumes, IsAtEnd}
 use Rattle.std.specs.Str.Lines.{lines}
-use Rattle.mf_gf.specs.Keeping.{Keeps, limit}
+use Rattle.mf_gf.specs.Keeping.{Keeps, max_bytes_of}
 use Rattle.mf_live.specs.Writers.{ended_identity, ended_published_list}
 use Rattle.mf_desk.specs.declared.ended_run.EndedRun.{EndedRun}
 use Rattle.mf_desk.specs.declared.fault.RunFault.{RunFault}
-use Rattle.mf_desk.specs.declared.fault.RunFault.TheVariants.{OutOfMemory, WriteFault, NoLook}
-use Rattle.mf_watch.specs.declared.glance.Glance.{Glance}
 use Rattle.mf_desk.specs.declared.performer.Performer.{Performer}
+use Rattle.mf_desk.specs.declared.settings.Settings.{Settings}
+use Rattle.mf_live.specs.declared.look.NoLook.{NoLook}
+use Rattle.mf_watch.specs.declared.glance.Glance.{Glance}
+use Rattle.mf_watch.specs.declared.watcher.Watcher.{Watcher}
 use Rattle.mf_session.specs.Endings.{HasEnded, complete_list}
-use Rattle.mf_desk.specs.Fault.{BreaksOff}
-use Rattle.mf_desk.specs.Performances.{viewer_line, viewer_lines}
+use Rattle.mf_desk.specs.Performances.{Tells, limits_set, viewer_line}
 use Rattle.mf_session.specs.States.{State, Limits, start}
 use Rattle.mf_session.specs.Transcript.{Perform}
-use Rattle.mf_desk.specs.Streams.{IsCut, Streams}
+use Rattle.mf_desk.specs.Streams.{Gets, Streams, passage}
 use Rattle.mf_watch.specs.Watchers.{glance_at}
 
 -- the script of this performer, whose lines have led to this state, has ended with this run
@@ -30,7 +32,7 @@ pub record IsOver (limits : Limits) (held : Option (List ℕ)) (read : List ℕ)
   pub performed : Perform limits start (lines read) text last
   pub published : ended_published_list run.ended ≡ complete_list last.pictures
   pub file : Keeps run.file [] last.characters
-  pub limit_is : limit run.file ≡ limits.max_bytes
+  pub max_bytes_is : max_bytes_of run.file ≡ limits.max_bytes
   pub out : Appends held holds text
   pub counted : run.written ≡ length text
 
@@ -42,26 +44,23 @@ EndsWith limits s run = (read : List ℕ) × Consumes s.unread s.left read × Is
 abbrev pub glance : EndedRun → Glance
 glance run = glance_at (ended_published_list run.ended)
 
+-- this is the line of the viewer with this number
+abbrev pub IsLineOf : EndedRun → ℕ → List ℕ → Type 0
+IsLineOf run number line = line ≡ viewer_line number (glance run)
+
 -- the picture and the font file are as they were
 pub record IsSameEnd (before after : EndedRun) : Type 0 where
-  pub name : ended_identity after.ended ≡ ended_identity before.ended
+  pub identity : ended_identity after.ended ≡ ended_identity before.ended
   pub published : ended_published_list after.ended ≡ ended_published_list before.ended
   pub file : after.file ≡ before.file
 
--- what a fault says where the line of the viewer with this number is due
-abbrev pub BreaksLine : EndedRun → ℕ → RunFault → List ℕ → Type 0
-BreaksLine run number NoLook written = written ≡ []
-BreaksLine run number fault written = BreaksOff (λ text. text ≡ viewer_line number (glance run)) run.written fault written
+-- the threads of this many viewers were joined: these are their watchers, or a look was refused to one
+abbrev pub AreJoined : Result (Vec Watcher Global) NoLook → ℕ → Type 0
+AreJoined joined viewers = IfOk joined (λ watchers. length watchers.items ≡ viewers) × IfErr joined (λ _. 0 < viewers)
 
--- these are the lines of the first of these viewers
-pub record AreFirstLines (run : EndedRun) (viewers : ℕ) (text : List ℕ) : Type 0 where
-  pub shown : ℕ
-  pub few : shown ≤ viewers
-  pub is : text ≡ viewer_lines shown (glance run)
-
--- what a fault says where the lines of this many viewers are due; `NoLook` leaves at least one line out
-abbrev pub StopsShowing : EndedRun → ℕ → RunFault → List ℕ → Type 0
-StopsShowing run viewers OutOfMemory written = AreFirstLines run viewers written
-StopsShowing run viewers NoLook written = (some : AreFirstLines run viewers written) × (some.shown < viewers)
-StopsShowing run viewers (WriteFault count) written = (count ≡ run.written + length written) × IsCut (AreFirstLines run viewers) written
-StopsShowing run viewers _ written = ⊥
+-- whatever was read and written before, a fault comes where the lines of this many viewers are due; the writer, which held some
+-- bytes, now holds others
+abbrev pub StopsShowing : EndedRun → ℕ → RunFault → Option (List ℕ) → Option (List ℕ) → Type 0
+StopsShowing run viewers fault holds later =
+    (settings : Settings) (held left : Option (List ℕ)) (read : List ℕ) → IsAtEnd left → IsOver (limits_set settings) held read run holds
+    → Gets held later (λ written. Tells settings viewers fault (passage left read written))

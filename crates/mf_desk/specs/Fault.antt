@@ -1,4 +1,4 @@
--- What has been written where a fault of its script, its reader or its writer ends a run.
+-- What has been written where a fault breaks off a text, or the script.
 use Rattle.std.specs.Prelude.{ℕ, List, Option, ◌≡◌, ◌⊎◌, ◌+◌, [], ◌++◌, length}
 use Rattle.std.specs.Io.KnownBytes.{IsAtEnd}
 use Rattle.std.specs.Str.Lines.{lines}

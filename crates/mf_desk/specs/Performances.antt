@@ -1,8 +1,9 @@
 -- What a run answers, with viewers or without.
-use Rattle.std.specs.Prelude.{◌≡◌, ◌≤◌, ◌<◌, ◌⊎◌, ℕ, zero, suc, All, List, [], ◌++◌, Option, codes, decimal, length}
+use Rattle.std.specs.Prelude.{◌≡◌, ◌≤◌, ◌<◌, ◌⊎◌, ℕ, zero, suc, All, IfSome, List, [], ◌++◌, codes, decimal, length}
 use Rattle.std.specs.Fmt.{signed_decimal}
 use Rattle.std.specs.Io.KnownBytes.{Appends, IsAtEnd}
 use Rattle.std.specs.Str.Lines.{lines}
+use Rattle.logbook.specs.Pages.{Book}
 use Rattle.mf_gf.specs.Files.{IsLongFile, file_if_any, preamble}
 use Rattle.mf_desk.specs.declared.fault.RunFault.{RunFault}
 use Rattle.mf_desk.specs.declared.fault.RunFault.TheVariants.{OutOfMemory, NoPlace, FileTooLong, ReadFault, WriteFault, NoLook}
@@ -11,10 +12,12 @@ use Rattle.mf_desk.specs.declared.outcome.Outcome.{Outcome}
 use Rattle.mf_desk.specs.declared.settings.Settings.{Settings}
 use Rattle.mf_session.specs.Endings.{complete_list}
 use Rattle.mf_desk.specs.Fault.{IsEndedText, IsFirstText}
-use Rattle.mf_desk.specs.Streams.{IsCut, Passage}
+use Rattle.mf_desk.specs.Streams.{IsCut, Passage, Streams}
 use Rattle.mf_session.specs.States.{State, Limits, limits_of, start}
 use Rattle.mf_session.specs.Transcript.{Perform}
 use Rattle.mf_watch.specs.Watchers.{HasSeen, glance_at}
+use Rattle.mf_watch.specs.Watching.{AreStarted, viewer_count}
+use Rattle.mf_watch.specs.declared.watching.Watching.{Watching}
 
 -- the limits of a session, from the settings of a run
 abbrev pub limits_set : Settings → Limits
@@ -41,17 +44,36 @@ pub record IsCompleteText (limits : Limits) (viewers : ℕ) (read text : List �
   pub performed : Perform limits start (lines read) transcript last
   pub is : text ≡ transcript ++ viewer_lines viewers (last_glance last)
 
--- a run of these bytes beside this many viewers, with this many looks each: a writer that held some bytes has got the transcript
--- and the line of each viewer, and the outcome is the font file of exactly the characters that were shipped, and the record of
--- each viewer; a run without viewers has no line of one, and no record
-pub record IsPerformance (settings : Settings) (viewers looks : ℕ) (outcome : Outcome) (held holds : Option (List ℕ)) (input : List ℕ) : Type 0 where
+-- what a run is asked for: its limits and its font, how many viewers look on, and how often each looks in its thread
+pub record Asked : Type 0 where
+  pub settings : Settings
+  pub viewers : ℕ
+  pub looks : ℕ
+
+-- these three, in this order
+abbrev pub asked : Settings → ℕ → ℕ → Asked
+asked settings viewers looks = record { settings = settings; viewers = viewers; looks = looks }
+
+-- a run of these bytes that did what it was asked for: its writer has got the transcript and the line of each viewer, and the
+-- outcome is the font file of exactly the characters that were shipped, and the record of each viewer; a run without viewers has
+-- no line of one, and no record
+pub record IsPerformance (a : Asked) (outcome : Outcome) (s : Streams) (input : List ℕ) : Type 0 where
   pub text : List ℕ
-  pub complete : IsCompleteText (limits_set settings) viewers input text
-  pub out : Appends held holds text
-  pub fits : IsLongFile (limits_set settings).max_bytes settings.font [] complete.last.characters → ⊥
-  pub font : outcome.gf ≡ file_if_any settings.font [] complete.last.characters
-  pub count : length outcome.seen.items ≡ viewers
-  pub seen : All (λ v. HasSeen (complete_list complete.last.pictures) looks v.items) outcome.seen.items
+  pub complete : IsCompleteText (limits_set a.settings) a.viewers input text
+  pub out : Appends s.held s.holds text
+  pub fits : IsLongFile (limits_set a.settings).max_bytes a.settings.font [] complete.last.characters → ⊥
+  pub font : outcome.gf ≡ file_if_any a.settings.font [] complete.last.characters
+  pub count : length outcome.seen.items ≡ a.viewers
+  pub seen : All (λ v. HasSeen (complete_list complete.last.pictures) a.looks v.items) outcome.seen.items
+
+-- the run did what it was asked for with what its reader had, where this is known
+abbrev pub Performs : Asked → Streams → Outcome → Type 0
+Performs a s outcome = IfSome s.unread (IsPerformance a outcome s)
+
+-- so did a run beside these viewers, however often each was to look when it was started
+abbrev pub PerformsBeside : Settings → Book → Watching → Streams → Outcome → Type 0
+PerformsBeside settings picture watching s outcome =
+    (looks : ℕ) → AreStarted picture looks watching → Performs (asked settings (viewer_count watching) looks) s outcome
 
 -- this is the complete transcript, and the lines of the first of these viewers
 pub record IsShownText (limits : Limits) (viewers : ℕ) (read text : List ℕ) : Type 0 where

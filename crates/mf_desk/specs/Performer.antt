@@ -1,21 +1,26 @@
 -- What has been written when a line is performed.
 use Rattle.std.specs.Prelude.{ℕ, List, Option, ◌≡◌, ◌+◌, ◌<◌, ◌^◌, length}
-use Rattle.std.specs.Io.KnownBytes.{Appends}
 use Rattle.mf_session.specs.Answers.{Answers}
 use Rattle.mf_session.specs.Sessions.{StandsFor, limits}
 use Rattle.mf_session.specs.States.{State, Limits}
+use Rattle.mf_desk.specs.declared.fault.RunFault.{RunFault}
 use Rattle.mf_desk.specs.declared.performer.Performer.{Performer}
+use Rattle.mf_desk.specs.Fault.{BreaksOff}
+use Rattle.mf_desk.specs.Streams.{Gets}
 
--- a line was performed, and its text has gone out
-pub record IsWritten (before : Performer) (s : State) (after : Performer) (line : List ℕ) (held holds : Option (List ℕ)) : Type 0 where
-  pub text : List ℕ
+-- a line was performed, and this text of it was written
+pub record IsWritten (before : Performer) (s : State) (line : List ℕ) (after : Performer) (text : List ℕ) : Type 0 where
   pub next : State
   pub answer : Answers (limits before.session) s line text next
   pub stands : StandsFor after.session next
-  pub out : Appends held holds text
   pub counted : after.written ≡ before.written + length text
   pub short : length text < 2 ^ 64
 
 -- a line prints this text
 abbrev pub IsAnswer : Limits → State → List ℕ → List ℕ → Type 0
 IsAnswer limits s line text = (next : State) × Answers limits s line text next
+
+-- a fault comes where the text of a line is due; the writer, which held some bytes, now holds others
+abbrev pub BreaksText : Performer → List ℕ → RunFault → Option (List ℕ) → Option (List ℕ) → Type 0
+BreaksText performer line fault held holds =
+    (s : State) → StandsFor performer.session s → Gets held holds (BreaksOff (IsAnswer (limits performer.session) s line) performer.written fault)

@@ -1,12 +1,14 @@
 -- The state of a run whose bytes so far are known.
-use Rattle.std.specs.Prelude.{ℕ, List, Option, ◌≡◌, length, take}
-use Rattle.std.specs.Io.KnownBytes.{Appends, Consumes}
+use Rattle.std.specs.Prelude.{ℕ, List, Option, ◌≡◌, ◌++◌, length, take}
+use Rattle.std.specs.Io.KnownBytes.{Appends, Consumes, IsAtEnd}
 use Rattle.std.specs.Str.Lines.{lines}
 use Rattle.mf_desk.specs.Ended.{ended_lines, unended}
-use Rattle.mf_desk.specs.Streams.{Streams}
+use Rattle.mf_desk.specs.Fault.{Breaks}
+use Rattle.mf_desk.specs.Streams.{Gets, Streams, passage}
 use Rattle.mf_session.specs.Sessions.{StandsFor, limits}
 use Rattle.mf_session.specs.States.{State, start}
 use Rattle.mf_session.specs.Transcript.{Perform}
+use Rattle.mf_desk.specs.declared.fault.RunFault.{RunFault}
 use Rattle.mf_desk.specs.declared.line_buffer.TheConstants.{MAX_KEPT}
 use Rattle.mf_desk.specs.declared.performer.Performer.{Performer}
 use Rattle.mf_desk.specs.declared.progress.Progress.{Progress}
@@ -34,3 +36,19 @@ pub record IsThrough (held : Option (List ℕ)) (read : List ℕ) (performer : P
 -- everything that the reader had was read and performed
 abbrev pub ReadsThrough : Streams → Performer → Type 0
 ReadsThrough s performer = (read : List ℕ) × Consumes s.unread s.left read × IsThrough s.held read performer s.holds
+
+-- the run takes these bytes, which come after whatever was read, and goes on; the writer, which held some bytes, now holds others
+abbrev pub GoesOn : Progress → List ℕ → Progress → Option (List ℕ) → Option (List ℕ) → Type 0
+GoesOn before bytes after holds later = (held : Option (List ℕ)) (read : List ℕ) → IsAfter held read before holds → IsAfter held (read ++ bytes) after later
+
+-- the fault breaks the script off where the run takes these bytes, which come after whatever was read, and maybe before others
+abbrev pub BreaksAfter : Progress → List ℕ → RunFault → Option (List ℕ) → Option (List ℕ) → Type 0
+BreaksAfter before bytes fault holds later =
+    (held left : Option (List ℕ)) (read more : List ℕ) → IsAfter held read before holds
+    → Gets held later (λ written. Breaks (limits before.performer.session) fault (passage left (read ++ bytes ++ more) written))
+
+-- the fault breaks the script off where nothing is left to read
+abbrev pub BreaksAtEnd : Progress → RunFault → Option (List ℕ) → Option (List ℕ) → Type 0
+BreaksAtEnd before fault holds later =
+    (held left : Option (List ℕ)) (read : List ℕ) → IsAtEnd left → IsAfter held read before holds
+    → Gets held later (λ written. Breaks (limits before.performer.session) fault (passage left read written))

@@ -1,11 +1,12 @@
 //! A run whose script has ended: its viewers are shown the last picture.
 ghost use Rattle.std.specs.Io.KnownBytes.{Appends};
-ghost use Rattle.std.specs.Prelude.{◌≡◌, ◌+◌, ◌<◌, ◌≤◌, ◌^◌, ℕ, All, Err, IfErr, IfOk, OnOk, length};
+ghost use Rattle.std.specs.Prelude.{◌≡◌, ◌≢◌, ◌+◌, ◌≤◌, ◌^◌, ℕ, All, Err, IfErr, IfOk, OnOk, length};
 ghost use Rattle.mf_live.specs.Writers.{ended_identity, ended_published_list};
-ghost use Rattle.mf_desk.specs.EndedRuns.{BreaksLine, IsSameEnd, StopsShowing};
+ghost use Rattle.mf_desk.specs.EndedRuns.{AreJoined, IsLineOf, IsSameEnd, StopsShowing, glance};
+ghost use Rattle.mf_desk.specs.Fault.{BreaksOff};
 ghost use Rattle.mf_desk.specs.Performances.{viewer_line, viewer_lines};
 ghost use Rattle.mf_desk.specs.Streams.{Gets};
-ghost use Rattle.mf_watch.specs.Watchers.{HasRoom, HasSeen, IsRecord, glance_at, name};
+ghost use Rattle.mf_watch.specs.Watchers.{HasRoom, HasSeen, IsRecord, identity};
 
 use crate::fault::RunFault;
 use crate::output::flush;
@@ -35,19 +36,20 @@ impl EndedRun {
         writer: &mut W,
         joined: Result<Vec<Watcher>, NoLook>,
     ) -> Result<Vec<Vec<Glance>>, RunFault>
-        requires names { IfOk joined (λ watchers. All (λ w. name w ≡ ended_identity self.old.ended) watchers.items) }
+        requires identities { IfOk joined (λ watchers. All (λ w. identity w ≡ ended_identity self.old.ended) watchers.items) }
         requires rooms { IfOk joined (λ watchers. All (HasRoom 1) watchers.items) }
         requires few { IfOk joined (λ watchers. length watchers.items ≤ 64) }
         requires short { self.old.written ≤ 2 ^ 101 }
         ensures no_look { IfErr joined (λ _. result ≡ Err RunFault.NoLook) }
         ensures same { IsSameEnd self.old self.new }
-        ensures shown { IfOk result (λ seen. Appends (W.contents writer.old) (W.contents writer.new)
-            (viewer_lines (length seen.items) (glance_at (ended_published_list self.old.ended)))) }
+        ensures shown { IfOk result (λ seen.
+            Appends (W.contents writer.old) (W.contents writer.new) (viewer_lines (length seen.items) (glance self.old))) }
         ensures count { IfOk result (λ seen. (viewers : ℕ) → IfOk joined (λ watchers. length watchers.items ≡ viewers) → length seen.items ≡ viewers) }
         ensures seen { IfOk result (λ seen. (looks : ℕ) → IfOk joined (λ watchers. All (IsRecord looks) watchers.items)
             → All (λ v. HasSeen (ended_published_list self.old.ended) looks v.items) seen.items) }
-        ensures fault { IfErr result (λ fault. (viewers : ℕ) → IfOk joined (λ watchers. length watchers.items ≡ viewers) → IfErr joined (λ _. 0 < viewers)
-            → Gets (W.contents writer.old) (W.contents writer.new) (StopsShowing self.old viewers fault)) }
+        ensures fault { IfErr result (λ fault. (viewers : ℕ) → AreJoined joined viewers
+            → StopsShowing self.old viewers fault (W.contents writer.old) (W.contents writer.new)) }
+        ensures elsewhere { (result ≢ Err RunFault.NoPlace) × (result ≢ Err RunFault.FileTooLong) × (result ≢ Err RunFault.ReadFault) }
     {
         match joined {
             Ok(watchers) => self.show_all(alloc, writer, watchers),
@@ -62,17 +64,17 @@ impl EndedRun {
         writer: &mut W,
         watchers: Vec<Watcher>,
     ) -> Result<Vec<Vec<Glance>>, RunFault>
-        requires names { All (λ w. name w ≡ ended_identity self.old.ended) watchers.items }
+        requires identities { All (λ w. identity w ≡ ended_identity self.old.ended) watchers.items }
         requires rooms { All (HasRoom 1) watchers.items }
         requires few { length watchers.items ≤ 64 }
         requires short { self.old.written ≤ 2 ^ 101 }
         ensures same { IsSameEnd self.old self.new }
-        ensures shown { OnOk result
-            (Appends (W.contents writer.old) (W.contents writer.new) (viewer_lines (length watchers.items) (glance_at (ended_published_list self.old.ended)))) }
+        ensures shown { OnOk result (Appends (W.contents writer.old) (W.contents writer.new) (viewer_lines (length watchers.items) (glance self.old))) }
         ensures count { IfOk result (λ seen. length seen.items ≡ length watchers.items) }
         ensures seen { IfOk result (λ seen. (looks : ℕ) → All (IsRecord looks) watchers.items
             → All (λ v. HasSeen (ended_published_list self.old.ended) looks v.items) seen.items) }
-        ensures fault { IfErr result (λ fault. Gets (W.contents writer.old) (W.contents writer.new) (StopsShowing self.old (length watchers.items) fault)) }
+        ensures fault { IfErr result (λ fault. StopsShowing self.old (length watchers.items) fault (W.contents writer.old) (W.contents writer.new)) }
+        ensures elsewhere { (result ≢ Err RunFault.NoPlace) × (result ≢ Err RunFault.FileTooLong) × (result ≢ Err RunFault.ReadFault) }
     {
         let mut seen = Vec::with_capacity(alloc, watchers.len())?;
         for watcher in watchers {
@@ -91,16 +93,17 @@ impl EndedRun {
         number: u32,
         watcher: Watcher,
     ) -> Result<Vec<Glance>, RunFault>
-        requires name { name watcher ≡ ended_identity self.old.ended }
+        requires identity { identity watcher ≡ ended_identity self.old.ended }
         requires room { HasRoom 1 watcher }
         requires short { self.old.written + 2 ^ 64 ≤ 2 ^ 127 }
         ensures same { IsSameEnd self.old self.new }
-        ensures shown { OnOk result
-            (Appends (W.contents writer.old) (W.contents writer.new) (viewer_line number (glance_at (ended_published_list self.old.ended)))) }
-        ensures counted { OnOk result (self.new.written ≡ self.old.written + length (viewer_line number (glance_at (ended_published_list self.old.ended)))) }
+        ensures shown { OnOk result (Appends (W.contents writer.old) (W.contents writer.new) (viewer_line number (glance self.old))) }
+        ensures counted { OnOk result (self.new.written ≡ self.old.written + length (viewer_line number (glance self.old))) }
         ensures at_most { OnOk result (self.new.written ≤ self.old.written + 2 ^ 64) }
         ensures seen { IfOk result (λ seen. (looks : ℕ) → IsRecord looks watcher → HasSeen (ended_published_list self.old.ended) looks seen.items) }
-        ensures fault { IfErr result (λ fault. Gets (W.contents writer.old) (W.contents writer.new) (BreaksLine self.old number fault)) }
+        ensures no_look { result ≡ Err RunFault.NoLook → writer.new ≡ writer.old }
+        ensures fault { IfErr result (λ fault. fault ≢ RunFault.NoLook
+            → Gets (W.contents writer.old) (W.contents writer.new) (BreaksOff (IsLineOf self.old number) self.old.written fault)) }
     {
         let mut watcher = watcher;
         let glance = watcher.look_last(alloc, self.ended.notice())?;

@@ -1,10 +1,10 @@
 //! A run beside viewers in threads.
 ghost use Rattle.std.specs.Io.KnownBytes.{IsAtEnd};
-ghost use Rattle.std.specs.Prelude.{◌≡◌, ◌≢◌, ◌⊎◌, ◌<◌, ◌≤◌, ◌^◌, ℕ, [], Err, IfErr, IfOk, IfSome, List, OnOk, Option, length};
-ghost use Rattle.mf_desk.specs.Performances.{IsPerformance, Tells, limits_set};
+ghost use Rattle.std.specs.Prelude.{◌≡◌, ◌≢◌, ◌⊎◌, ◌<◌, ◌≤◌, ◌^◌, ℕ, [], Err, IfErr, IfOk, List, OnOk, Option, length};
+ghost use Rattle.mf_desk.specs.Performances.{Performs, PerformsBeside, Tells, asked, limits_set};
 ghost use Rattle.mf_desk.specs.Progress.{IsAfter};
-ghost use Rattle.mf_desk.specs.Streams.{Passes, streams};
-ghost use Rattle.mf_session.specs.Sessions.{limits, name};
+ghost use Rattle.mf_desk.specs.Streams.{Passes, streams_of};
+ghost use Rattle.mf_session.specs.Sessions.{identity, limits};
 ghost use Rattle.mf_watch.specs.Watching.{AreStarted, viewer_count};
 
 use crate::fault::RunFault;
@@ -43,10 +43,10 @@ pub fn perform<S: Wait + Threads, R: Read, W: Write, G: Gate + 'static>(
     ensures untouched { settings.now.max_bytes < 3 → (reader.new ≡ reader.old) × (writer.new ≡ writer.old) }
     ensures no_place { result ≡ Err RunFault.NoPlace → (reader.new ≡ reader.old) × (writer.new ≡ writer.old) }
     ensures performance { IfOk result
-        (λ outcome. IfSome (R.remaining reader.old) (IsPerformance settings.now viewers looks outcome (W.contents writer.old) (W.contents writer.new))) }
+        (Performs (asked settings.now viewers looks) (streams_of R.remaining reader.old reader.new W.contents writer.old writer.new)) }
     ensures end { OnOk result (IsAtEnd (R.remaining reader.new)) }
-    ensures fault { IfErr result (λ fault. Passes (streams (R.remaining reader.old) (R.remaining reader.new) (W.contents writer.old) (W.contents writer.new))
-        (Tells settings.now viewers fault)) }
+    ensures fault { IfErr result (λ fault.
+        Passes (streams_of R.remaining reader.old reader.new W.contents writer.old writer.new) (Tells settings.now viewers fault)) }
 {
     let mut memory = vec![in alloc; 0u8; CHUNK_SIZE]?;
     let (progress, desk) = Progress::new(rt, alloc, settings, viewers)?;
@@ -87,12 +87,12 @@ fn perform_watched<S: Wait + Threads, R: Read, W: Write>(
     requires some { 0 < length chunk.old }
     requires short { length chunk.old ≤ 2 ^ 16 }
     requires few { viewer_count watching ≤ 64 }
-    requires started { (looks : ℕ) × AreStarted (name progress.performer.session) looks watching }
-    ensures performance { IfOk result (λ outcome. (looks : ℕ) → AreStarted (name progress.performer.session) looks watching
-        → IfSome (R.remaining reader.old) (IsPerformance settings.now (viewer_count watching) looks outcome (W.contents writer.old) (W.contents writer.new))) }
+    requires started { (looks : ℕ) × AreStarted (identity progress.performer.session) looks watching }
+    ensures performance { IfOk result (PerformsBeside settings.now (identity progress.performer.session) watching
+        (streams_of R.remaining reader.old reader.new W.contents writer.old writer.new)) }
     ensures end { OnOk result (IsAtEnd (R.remaining reader.new)) }
-    ensures fault { IfErr result (λ fault. Passes (streams (R.remaining reader.old) (R.remaining reader.new) (W.contents writer.old) (W.contents writer.new))
-        (Tells settings.now (viewer_count watching) fault)) }
+    ensures fault { IfErr result (λ fault.
+        Passes (streams_of R.remaining reader.old reader.new W.contents writer.old writer.new) (Tells settings.now (viewer_count watching) fault)) }
     ensures places { result ≢ Err RunFault.NoPlace }
 {
     let completed = progress.complete(rt, alloc, reader, writer, chunk);

@@ -2,11 +2,10 @@
 ghost use Rattle.std.specs.Prelude.{◌≡◌, ◌⊎◌, ◌+◌, ◌<◌, ◌≤◌, ◌^◌, ◌↔◌, Err, IfErr, IfOk, OnOk};
 ghost use Rattle.mf_live.specs.Desks.{desk_identity};
 ghost use Rattle.mf_desk.specs.EndedRuns.{IsEndOf};
-ghost use Rattle.mf_desk.specs.Fault.{BreaksOff};
 ghost use Rattle.mf_desk.specs.Performances.{limits_set};
-ghost use Rattle.mf_desk.specs.Performer.{IsAnswer, IsWritten};
+ghost use Rattle.mf_desk.specs.Performer.{BreaksText, IsWritten};
 ghost use Rattle.mf_desk.specs.Streams.{Gets};
-ghost use Rattle.mf_session.specs.Sessions.{StandsFor, limits, name};
+ghost use Rattle.mf_session.specs.Sessions.{StandsFor, identity, limits};
 ghost use Rattle.mf_session.specs.States.{State, start};
 
 use crate::ended_run::EndedRun;
@@ -39,7 +38,7 @@ impl Performer {
         requires { viewers ≤ 64 }
         ensures start { IfOk result (λ made. StandsFor made.0.session start) }
         ensures limits { IfOk result (λ made. limits made.0.session ≡ limits_set settings.now) }
-        ensures name { IfOk result (λ made. desk_identity made.1 ≡ name made.0.session) }
+        ensures identity { IfOk result (λ made. desk_identity made.1 ≡ identity made.0.session) }
         ensures written { IfOk result (λ made. made.0.written ≡ 0) }
         ensures too_long { (settings.now.max_bytes < 3) ↔ (result ≡ Err RunFault.FileTooLong) }
         ensures fault { IfErr result (λ fault. (fault ≡ RunFault.FileTooLong) ⊎ (fault ≡ RunFault.OutOfMemory)) }
@@ -68,12 +67,11 @@ impl Performer {
     ) -> Result<(), RunFault>
         requires { self.old.written + 2 ^ 64 ≤ 2 ^ 127 }
         ensures written { OnOk result ((s : State) → StandsFor self.old.session s
-            → IsWritten self.old s self.new line.now (W.contents writer.old) (W.contents writer.new)) }
+            → Gets (W.contents writer.old) (W.contents writer.new) (IsWritten self.old s line.now self.new)) }
         ensures at_most { OnOk result (self.new.written ≤ self.old.written + 2 ^ 64) }
         ensures limits { limits self.new.session ≡ limits self.old.session }
-        ensures name { name self.new.session ≡ name self.old.session }
-        ensures fault { IfErr result (λ fault. (s : State) → StandsFor self.old.session s
-            → Gets (W.contents writer.old) (W.contents writer.new) (BreaksOff (IsAnswer (limits self.old.session) s line.now) self.old.written fault)) }
+        ensures identity { identity self.new.session ≡ identity self.old.session }
+        ensures fault { IfErr result (λ fault. BreaksText self.old line.now fault (W.contents writer.old) (W.contents writer.new)) }
     {
         let text = self.session.command(rt, alloc, line)?;
         match write_counted(writer, text.as_slice()) {

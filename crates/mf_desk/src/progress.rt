@@ -6,9 +6,9 @@ ghost use Rattle.mf_live.specs.Writers.{ended_identity};
 ghost use Rattle.mf_desk.specs.EndedRuns.{EndsWith};
 ghost use Rattle.mf_desk.specs.Fault.{Breaks};
 ghost use Rattle.mf_desk.specs.Performances.{limits_set};
-ghost use Rattle.mf_desk.specs.Progress.{IsAfter, IsThrough, ReadsThrough};
-ghost use Rattle.mf_desk.specs.Streams.{Gets, Passes, passage, streams};
-ghost use Rattle.mf_session.specs.Sessions.{limits, name};
+ghost use Rattle.mf_desk.specs.Progress.{BreaksAfter, BreaksAtEnd, GoesOn, IsAfter, IsThrough, ReadsThrough};
+ghost use Rattle.mf_desk.specs.Streams.{Passes, streams_of};
+ghost use Rattle.mf_session.specs.Sessions.{identity, limits};
 
 use crate::ended_run::EndedRun;
 use crate::fault::RunFault;
@@ -44,7 +44,7 @@ impl Progress {
         requires { viewers ≤ 64 }
         ensures start { IfOk result (λ made. (held : Option (List ℕ)) → IsAfter held [] made.0 held) }
         ensures limits { IfOk result (λ made. limits made.0.performer.session ≡ limits_set settings.now) }
-        ensures name { IfOk result (λ made. desk_identity made.1 ≡ name made.0.performer.session) }
+        ensures identity { IfOk result (λ made. desk_identity made.1 ≡ identity made.0.performer.session) }
         ensures written { IfOk result (λ made. made.0.performer.written ≡ 0) }
         ensures too_long { (settings.now.max_bytes < 3) ↔ (result ≡ Err RunFault.FileTooLong) }
         ensures fault { IfErr result (λ fault. (fault ≡ RunFault.FileTooLong) ⊎ (fault ≡ RunFault.OutOfMemory)) }
@@ -69,11 +69,11 @@ impl Progress {
         requires some { 0 < length chunk.old }
         requires few { length chunk.old ≤ 2 ^ 16 }
         ensures over { IfOk result (λ run. EndsWith (limits self.performer.session)
-            (streams (R.remaining reader.old) (R.remaining reader.new) (W.contents writer.old) (W.contents writer.new)) run) }
-        ensures name { IfOk result (λ run. ended_identity run.ended ≡ name self.performer.session) }
+            (streams_of R.remaining reader.old reader.new W.contents writer.old writer.new) run) }
+        ensures identity { IfOk result (λ run. ended_identity run.ended ≡ identity self.performer.session) }
         ensures short { IfOk result (λ run. run.written ≤ 2 ^ 101) }
         ensures end { OnOk result (IsAtEnd (R.remaining reader.new)) }
-        ensures fault { IfErr result (λ fault. Passes (streams (R.remaining reader.old) (R.remaining reader.new) (W.contents writer.old) (W.contents writer.new))
+        ensures fault { IfErr result (λ fault. Passes (streams_of R.remaining reader.old reader.new W.contents writer.old writer.new)
             (Breaks (limits self.performer.session) fault)) }
     {
         let mut progress = self;
@@ -104,12 +104,12 @@ impl Progress {
         requires some { 0 < length chunk.old }
         requires few { length chunk.old ≤ 2 ^ 16 }
         ensures through { OnOk result
-            (ReadsThrough (streams (R.remaining reader.old) (R.remaining reader.new) (W.contents writer.old) (W.contents writer.new)) self.new.performer) }
+            (ReadsThrough (streams_of R.remaining reader.old reader.new W.contents writer.old writer.new) self.new.performer) }
         ensures short { OnOk result (self.new.performer.written ≤ 2 ^ 101) }
         ensures limits { limits self.new.performer.session ≡ limits self.old.performer.session }
-        ensures name { name self.new.performer.session ≡ name self.old.performer.session }
+        ensures identity { identity self.new.performer.session ≡ identity self.old.performer.session }
         ensures end { OnOk result (IsAtEnd (R.remaining reader.new)) }
-        ensures fault { IfErr result (λ fault. Passes (streams (R.remaining reader.old) (R.remaining reader.new) (W.contents writer.old) (W.contents writer.new))
+        ensures fault { IfErr result (λ fault. Passes (streams_of R.remaining reader.old reader.new W.contents writer.old writer.new)
             (Breaks (limits self.old.performer.session) fault)) }
     {
         'reads: for _ in 0..MAX_READS {
@@ -133,13 +133,11 @@ impl Progress {
         bytes: &[u8],
     ) -> Result<(), RunFault>
         requires { self.old.performer.written + length bytes.now * 2 ^ 64 ≤ 2 ^ 127 }
-        ensures after { OnOk result ((held : Option (List ℕ)) (read : List ℕ) → IsAfter held read self.old (W.contents writer.old)
-            → IsAfter held (read ++ bytes.now) self.new (W.contents writer.new)) }
+        ensures after { OnOk result (GoesOn self.old bytes.now self.new (W.contents writer.old) (W.contents writer.new)) }
         ensures at_most { OnOk result (self.new.performer.written ≤ self.old.performer.written + length bytes.now * 2 ^ 64) }
         ensures limits { limits self.new.performer.session ≡ limits self.old.performer.session }
-        ensures name { name self.new.performer.session ≡ name self.old.performer.session }
-        ensures fault { IfErr result (λ fault. (held left : Option (List ℕ)) (read : List ℕ) → IsAfter held read self.old (W.contents writer.old)
-            → Gets held (W.contents writer.new) (λ written. Breaks (limits self.old.performer.session) fault (passage left (read ++ bytes.now) written))) }
+        ensures identity { identity self.new.performer.session ≡ identity self.old.performer.session }
+        ensures fault { IfErr result (λ fault. BreaksAfter self.old bytes.now fault (W.contents writer.old) (W.contents writer.new)) }
     {
         let mut rest = bytes;
         'lines: while let Some(place) = memchr(b'\n', rest) {
@@ -160,14 +158,11 @@ impl Progress {
     ) -> Result<(), RunFault>
         requires room { self.old.performer.written + 2 ^ 64 ≤ 2 ^ 127 }
         requires unbroken { All (λ byte. byte ≢ 10) bytes.now }
-        ensures after { OnOk result ((held : Option (List ℕ)) (read : List ℕ) → IsAfter held read self.old (W.contents writer.old)
-            → IsAfter held (read ++ bytes.now ++ 10 ∷ []) self.new (W.contents writer.new)) }
+        ensures after { OnOk result (GoesOn self.old (bytes.now ++ 10 ∷ []) self.new (W.contents writer.old) (W.contents writer.new)) }
         ensures at_most { OnOk result (self.new.performer.written ≤ self.old.performer.written + 2 ^ 64) }
         ensures limits { limits self.new.performer.session ≡ limits self.old.performer.session }
-        ensures name { name self.new.performer.session ≡ name self.old.performer.session }
-        ensures fault { IfErr result (λ fault. (held left : Option (List ℕ)) (read more : List ℕ) → IsAfter held read self.old (W.contents writer.old)
-            → Gets held (W.contents writer.new) (λ written. Breaks (limits self.old.performer.session) fault
-            (passage left (read ++ bytes.now ++ 10 ∷ more) written))) }
+        ensures identity { identity self.new.performer.session ≡ identity self.old.performer.session }
+        ensures fault { IfErr result (λ fault. BreaksAfter self.old (bytes.now ++ 10 ∷ []) fault (W.contents writer.old) (W.contents writer.new)) }
     {
         if self.line.is_empty() {
             let line = before_line_feed(bytes);
@@ -189,9 +184,8 @@ impl Progress {
             → IsThrough held read self.new.performer (W.contents writer.new)) }
         ensures at_most { OnOk result (self.new.performer.written ≤ self.old.performer.written + 2 ^ 64) }
         ensures limits { limits self.new.performer.session ≡ limits self.old.performer.session }
-        ensures name { name self.new.performer.session ≡ name self.old.performer.session }
-        ensures fault { IfErr result (λ fault. (held left : Option (List ℕ)) (read : List ℕ) → IsAtEnd left → IsAfter held read self.old (W.contents writer.old)
-            → Gets held (W.contents writer.new) (λ written. Breaks (limits self.old.performer.session) fault (passage left read written))) }
+        ensures identity { identity self.new.performer.session ≡ identity self.old.performer.session }
+        ensures fault { IfErr result (λ fault. BreaksAtEnd self.old fault (W.contents writer.old) (W.contents writer.new)) }
     {
         if self.line.is_empty() {
             return Ok(());
@@ -209,13 +203,11 @@ impl Progress {
         writer: &mut W,
     ) -> Result<(), RunFault>
         requires { self.old.performer.written + 2 ^ 64 ≤ 2 ^ 127 }
-        ensures after { OnOk result ((held : Option (List ℕ)) (read : List ℕ) → IsAfter held read self.old (W.contents writer.old)
-            → IsAfter held (read ++ 10 ∷ []) self.new (W.contents writer.new)) }
+        ensures after { OnOk result (GoesOn self.old (10 ∷ []) self.new (W.contents writer.old) (W.contents writer.new)) }
         ensures at_most { OnOk result (self.new.performer.written ≤ self.old.performer.written + 2 ^ 64) }
         ensures limits { limits self.new.performer.session ≡ limits self.old.performer.session }
-        ensures name { name self.new.performer.session ≡ name self.old.performer.session }
-        ensures fault { IfErr result (λ fault. (held left : Option (List ℕ)) (read more : List ℕ) → IsAfter held read self.old (W.contents writer.old)
-            → Gets held (W.contents writer.new) (λ written. Breaks (limits self.old.performer.session) fault (passage left (read ++ 10 ∷ more) written))) }
+        ensures identity { identity self.new.performer.session ≡ identity self.old.performer.session }
+        ensures fault { IfErr result (λ fault. BreaksAfter self.old (10 ∷ []) fault (W.contents writer.old) (W.contents writer.new)) }
     {
         self.performer
             .perform(rt, alloc, writer, self.line.at_line_feed())?;
@@ -226,11 +218,9 @@ impl Progress {
     /// Keeps bytes that have no line feed.
     fn keep(&mut self, bytes: &[u8]) -> Result<(), RunFault>
         requires { All (λ byte. byte ≢ 10) bytes.now }
-        ensures after { OnOk result ((held : Option (List ℕ)) (read : List ℕ) (holds : Option (List ℕ)) → IsAfter held read self.old holds
-            → IsAfter held (read ++ bytes.now) self.new holds) }
+        ensures after { OnOk result ((holds : Option (List ℕ)) → GoesOn self.old bytes.now self.new holds holds) }
         ensures same { self.new.performer ≡ self.old.performer }
-        ensures fault { IfErr result (λ fault. (held left : Option (List ℕ)) (read more : List ℕ) (holds : Option (List ℕ)) → IsAfter held read self.old holds
-            → Gets held holds (λ written. Breaks (limits self.old.performer.session) fault (passage left (read ++ more) written))) }
+        ensures fault { IfErr result (λ fault. (holds : Option (List ℕ)) → BreaksAfter self.old bytes.now fault holds holds) }
     {
         self.line.extend(bytes)?;
         Ok(())

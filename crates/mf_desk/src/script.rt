@@ -1,10 +1,10 @@
 //! A run without viewers: reads a script to its end, writes its transcript, and makes the font file of what it ships.
 ghost use Rattle.std.specs.Io.KnownBytes.{IsAtEnd};
-ghost use Rattle.std.specs.Prelude.{◌≡◌, ◌⊎◌, ◌<◌, ◌↔◌, ℕ, [], Err, IfErr, IfOk, IfSome, OnOk, List};
+ghost use Rattle.std.specs.Prelude.{◌≡◌, ◌⊎◌, ◌<◌, ◌↔◌, ℕ, [], Err, IfErr, IfOk, OnOk, List};
 ghost use Rattle.mf_gf.specs.Files.{Character, IsLongFile, file_if_any};
-ghost use Rattle.mf_gf.specs.Keeping.{Keeps, limit};
-ghost use Rattle.mf_desk.specs.Performances.{IsPerformance, Tells};
-ghost use Rattle.mf_desk.specs.Streams.{Passes, streams};
+ghost use Rattle.mf_gf.specs.Keeping.{Keeps, max_bytes_of};
+ghost use Rattle.mf_desk.specs.Performances.{Performs, Tells, asked};
+ghost use Rattle.mf_desk.specs.Streams.{Passes, streams_of};
 
 use crate::fault::RunFault;
 use crate::outcome::Outcome;
@@ -31,10 +31,10 @@ pub fn run<S: Wait, R: Read, W: Write>(
     settings: &Settings,
 ) -> Result<Outcome, RunFault>
     ensures transcript { IfOk result (λ outcome. (looks : ℕ)
-        → IfSome (R.remaining reader.old) (IsPerformance settings.now 0 looks outcome (W.contents writer.old) (W.contents writer.new))) }
+        → Performs (asked settings.now 0 looks) (streams_of R.remaining reader.old reader.new W.contents writer.old writer.new) outcome) }
     ensures end { OnOk result (IsAtEnd (R.remaining reader.new)) }
-    ensures fault { IfErr result (λ fault. Passes (streams (R.remaining reader.old) (R.remaining reader.new) (W.contents writer.old) (W.contents writer.new))
-        (Tells settings.now 0 fault)) }
+    ensures fault { IfErr result (λ fault.
+        Passes (streams_of R.remaining reader.old reader.new W.contents writer.old writer.new) (Tells settings.now 0 fault)) }
     ensures too_small { settings.now.max_bytes < 3 → (result ≡ Err RunFault.FileTooLong) ⊎ (result ≡ Err RunFault.OutOfMemory) }
     ensures untouched { settings.now.max_bytes < 3 → (reader.new ≡ reader.old) × (writer.new ≡ writer.old) }
 {
@@ -53,7 +53,7 @@ pub fn run<S: Wait, R: Read, W: Write>(
 pub fn finished(file: GfFile, font: FontWords) -> Result<Option<GfBytes>, RunFault>
     ensures some { IfOk result (λ gf. (characters : List Character) → Keeps file [] characters → gf ≡ file_if_any font [] characters) }
     ensures too_long { (characters : List Character) → Keeps file [] characters
-        → IsLongFile (limit file) font [] characters ↔ (result ≡ Err RunFault.FileTooLong) }
+        → IsLongFile (max_bytes_of file) font [] characters ↔ (result ≡ Err RunFault.FileTooLong) }
     ensures fault { IfErr result (λ fault. (fault ≡ RunFault.FileTooLong) ⊎ (fault ≡ RunFault.OutOfMemory)) }
 {
     match file.finish_if_any(font) {

@@ -5,6 +5,7 @@ use Rattle.mf_live.specs.Entries.{Entry, pic, rev}
 use Rattle.mf_live.specs.Sheets.{HasLearnt, HasLooked, HasLookedAt}
 use Rattle.mf_live.specs.Viewers as viewers
 use Rattle.mf_live.specs.declared.viewer.Viewer.{Viewer}
+use Rattle.mf_rows.specs.Dots.{Dot}
 use Rattle.mf_easel.specs.Screens.{over}
 use Rattle.mf_easel.specs.declared.easel.Easel.{Easel}
 use Rattle.mf_easel.specs.declared.fault.EaselFault.{EaselFault}
@@ -18,8 +19,8 @@ abbrev pub viewer_of : Easel → Viewer
 viewer_of easel = easel.viewer
 
 -- which picture it looks at
-abbrev pub name : Easel → Book
-name easel = viewers.identity (viewer_of easel)
+abbrev pub identity : Easel → Book
+identity easel = viewers.identity (viewer_of easel)
 
 -- the list of its last look that was answered
 abbrev pub looked_at_list : Easel → List Entry
@@ -42,9 +43,13 @@ pub record HasSameManner (before after : Easel) : Type 0 where
   pub canvas : canvas_of after ≡ canvas_of before
   pub style : style_of after ≡ style_of before
 
--- the text that draws the picture of a list on an easel: over the frame before, if there is one
+-- the text that draws a picture of this revision on an easel: over the frame before, if there is one
+abbrev pub drawing_with : Easel → ℕ → List Dot → List ℕ
+drawing_with easel revision ds = over (style_of easel) (canvas_of easel) (drawn_of easel) ++ frame_text (style_of easel) (canvas_of easel) revision ds
+
+-- the text that draws the picture of a list on an easel
 abbrev pub drawing_of : Easel → List Entry → List ℕ
-drawing_of easel L = over (style_of easel) (canvas_of easel) (drawn_of easel) ++ frame_text (style_of easel) (canvas_of easel) (rev L) (pic L)
+drawing_of easel L = drawing_with easel (rev L) (pic L)
 
 -- where nothing is drawn, the viewer has not looked, or something failed after it had
 abbrev pub IsNotDrawn : Viewer → Viewer → EaselFault → Type 0

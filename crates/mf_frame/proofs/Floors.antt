@@ -1,29 +1,10 @@
 -- Quotients that are rounded down: which cell a pixel is in.
-use Rattle.std.proofs.Common.{◌≡◌, ◌+◌, ◌*◌, ◌≤◌, mul-le-mul_right, ℤ, pos, negsuc, ◌+ℤ◌, ◌*ℤ◌, ◌≤ℤ◌, ◌<ℤ◌, arith}
-use Rattle.std.specs.Int.{int_div_euclid}
+use Rattle.std.proofs.Common.{ℤ, pos, negsuc, ◌+ℤ◌, ◌*ℤ◌, ◌≤ℤ◌, ◌<ℤ◌, arith}
 use Rattle.std.proofs.lemmas.Int.{ints, by_lt_z}
 use Rattle.mf_geom.specs.Coordinates.{least_coordinate, greatest_coordinate, last_in_field}
-use Rattle.mf_geom.proofs.Products.{mul-add}
+use Rattle.mf_edges.proofs.Sources.{mul-le, mul-next, quotient-within}
 use Rattle.mf_frame.specs.Cells.{cell_of}
 use Rattle.mf_frame.specs.Windows.{line_of}
-use borrow.Author.Differences.{up, down}
-
--- multiplying by a positive factor keeps the order
-mul-le : (a b f : ℤ) → pos 1 ≤ℤ f → a ≤ℤ b → (a *ℤ f) ≤ℤ (b *ℤ f)
-mul-le a b (pos n) positive le =
-    let parts : up a + down b ≤ up b + down a = omega (arith, ints) in
-    let times : (up a + down b) * n ≤ (up b + down a) * n = mul-le-mul_right n parts in
-    omega (arith, ints)
-mul-le a b (negsuc n) positive le = absurd (omega (arith, ints))
-
-mul-next : (a f : ℤ) → (a +ℤ pos 1) *ℤ f ≡ (a *ℤ f) +ℤ f
-mul-next a f = omega (arith, ints, mul-add f a (pos 1))
-
--- the dividend is between the quotient times the divisor and the next multiple
-quotient-within : (d f : ℤ) → pos 1 ≤ℤ f → ((int_div_euclid d f *ℤ f) ≤ℤ d) × (d <ℤ ((int_div_euclid d f *ℤ f) +ℤ f))
-quotient-within (pos a) (pos n) positive = (omega (arith, ints), omega (arith, ints))
-quotient-within (negsuc a) (pos n) positive = (omega (arith, ints), omega (arith, ints))
-quotient-within d (negsuc n) positive = absurd (omega (arith, ints))
 
 -- a pixel is at or after the first pixel of its cell, and before that of the next
 pub cell-within : (s p : ℤ) → pos 1 ≤ℤ s → ((cell_of s p *ℤ s) ≤ℤ p) × (p <ℤ ((cell_of s p *ℤ s) +ℤ s))

@@ -9,7 +9,7 @@ use mathlib.Core.List.{reverse-cons}
 use Rattle.mf_rows.specs.Dots.{Dot, start_of_field}
 use Rattle.mf_rows.specs.Runs.{runs_of}
 use Rattle.mf_gf.specs.Boxes.{box_of}
-use Rattle.mf_gf.specs.Files.{Character, FileSoFar, Shipment, front, last_of, last_place, shipments, spell_after, with_character, with_characters}
+use Rattle.mf_gf.specs.Files.{Character, FileSoFar, Shipment, bytes_so_far, last_of, last_place, shipments, spell_after, with_character, with_characters}
 use Rattle.mf_gf.specs.Numbers.{IsWord}
 use Rattle.mf_gf.specs.Painting.{head_of, paint}
 use Rattle.mf_gf.specs.Pixels.{IsPixelSet}
@@ -89,7 +89,7 @@ stand_from f (c ∷ cs) shippable stand =
     stand_from (with_character f c) cs (All-tail IsShippable c cs shippable)
     (one_stands f c (All-head IsShippable c cs shippable), all_before f.bytes (spell_after f c) f.shipped stand)
 
-pub all_stand : (comment : List ℕ) (cs : List Character) → All IsShippable cs → AllStand (front comment cs) (shipments comment cs)
+pub all_stand : (comment : List ℕ) (cs : List Character) → All IsShippable cs → AllStand (bytes_so_far comment cs) (shipments comment cs)
 all_stand comment cs shippable = stand_from _ cs shippable tt
 
 -- the last character with a code is at its place
@@ -125,11 +125,11 @@ abbrev pub of_code : ℕ → List Character → List Character
 of_code code characters = filter (λ (c : Character). c.code == code) characters
 
 -- p leads from the last character with a code to all of them
-pub leads_back : (front file : List ℕ) (code : ℕ) (shipped : List Shipment) → length front < 2147483648 → AllStand front shipped → AllStand file shipped
+pub leads_back : (before file : List ℕ) (code : ℕ) (shipped : List Shipment) → length before < 2147483648 → AllStand before shipped → AllStand file shipped
     → LeadsBack file (pointer (last_place code shipped)) (of_code code (map character_of shipped))
 unfolding last_of LeadsBack
-leads_back front file code [] short stand whole = refl
-leads_back front file code (s ∷ shipped) short stand whole =
+leads_back before file code [] short stand whole = refl
+leads_back before file code (s ∷ shipped) short stand whole =
     let own = s.character.code in
     split
     (λ test.
@@ -139,15 +139,15 @@ leads_back front file code (s ∷ shipped) short stand whole =
     (λ yes.
     let same = eqb-true own code yes in
     let p = pointer (last_place own shipped) in
-    let this = is_at file s p whole.0 (pointer_fits front own shipped short stand.1) in (
+    let this = is_at file s p whole.0 (pointer_fits before own shipped short stand.1) in (
       s.place,
       refl,
       p,
       this,
       subst (λ c. LeadsBack file (pointer (last_place c shipped)) (of_code code (map character_of shipped))) (sym same)
-          (leads_back front file code shipped short stand.1 whole.1),
+          (leads_back before file code shipped short stand.1 whole.1),
     ))
-    (λ no. leads_back front file code shipped short stand.1 whole.1)
+    (λ no. leads_back before file code shipped short stand.1 whole.1)
 
 -- c is the first of these characters
 pub record BeginsWith (cs : List Character) (c : Character) : Type 0 where

@@ -99,12 +99,12 @@ all_of_both : (ss ts : List Stroke) (others : Option (List Stroke))
 all_of_both ss ts None = refl
 all_of_both ss ts (Some more) = ap (λ all. Some all) (sym (append_assoc ss ts more))
 
-pub spells_both : (front back : List ℕ) (ss ts : List Stroke) → Spells front ss → Spells back ts → Spells (front ++ back) (ss ++ ts)
-spells_both front back ss ts first second = record {
-  few = omega (arith, length-append front back, length-append ss ts, first.few, second.few);
+pub spells_both : (before after : List ℕ) (ss ts : List Stroke) → Spells before ss → Spells after ts → Spells (before ++ after) (ss ++ ts)
+spells_both before after ss ts first second = record {
+  few = omega (arith, length-append before after, length-append ss ts, first.few, second.few);
   read = λ m n rest same.
-      rw (append_assoc front back rest)
-      (first.read m (length ts + n) (back ++ rest) (omega (arith, same, length-append ss ts))
+      rw (append_assoc before after rest)
+      (first.read m (length ts + n) (after ++ rest) (omega (arith, same, length-append ss ts))
       ∙ ap (option_map (λ more. ss ++ more)) (second.read (length ts + n) n rest refl)
       ∙ all_of_both ss ts (strokes_within n rest));
 }

@@ -4,7 +4,7 @@ use Rattle.mf_rows.specs.Dots.{Dot}
 use Rattle.mf_gf.specs.declared.file.FontWords.{FontWords}
 use Rattle.mf_gf.specs.declared.file.GfFile.{GfFile}
 use Rattle.mf_gf.specs.Boxes.{box_of, join, widen}
-use Rattle.mf_gf.specs.Files.{Character, FileSoFar, Shipment, body, box_of_all, ending, file_of, file_so_far, front, last_place, locator_of, locators_from, post, shipments, spell_after, with_character, with_characters}
+use Rattle.mf_gf.specs.Files.{Character, FileSoFar, Shipment, body, box_of_all, bytes_so_far, ending, file_of, file_so_far, last_place, locator_of, locators_from, post, shipments, spell_after, with_character, with_characters}
 use Rattle.mf_gf.specs.Keeping.{HasLasts, IsAppended, Keeps, bounds_of}
 use Rattle.mf_gf.specs.Spelling.{pointer, spell}
 use Rattle.mf_gf.proofs.BlackBoxes.{join-assoc}
@@ -22,15 +22,15 @@ with_characters-more f (b ∷ cs) c = with_characters-more (with_character f b) 
 file_so_far-more : (comment : List ℕ) (cs : List Character) (c : Character) → file_so_far comment (cs ++ c ∷ []) ≡ with_character (file_so_far comment cs) c
 file_so_far-more comment cs c = with_characters-more _ cs c
 
-pub front-more : (comment : List ℕ) (cs : List Character) (c : Character)
-    → front comment (cs ++ c ∷ []) ≡ front comment cs ++ spell_after (file_so_far comment cs) c
-front-more comment cs c = ap (λ (f : FileSoFar). f.bytes) (file_so_far-more comment cs c)
+pub bytes_so_far-more : (comment : List ℕ) (cs : List Character) (c : Character)
+    → bytes_so_far comment (cs ++ c ∷ []) ≡ bytes_so_far comment cs ++ spell_after (file_so_far comment cs) c
+bytes_so_far-more comment cs c = ap (λ (f : FileSoFar). f.bytes) (file_so_far-more comment cs c)
 
 -- the bytes kept, with those of one more character, whose p is this earlier place
-pub front-kept : (file : GfFile) (comment : List ℕ) (cs : List Character) (c : Character) (earlier : Option ℕ) → Keeps file comment cs
-    → earlier ≡ last_place c.code (shipments comment cs) → front comment (cs ++ c ∷ []) ≡ file.bytes.items ++ spell c.code (pointer earlier) c.black
-front-kept file comment cs c earlier keeps is =
-    front-more comment cs c ∙ ap (λ bytes. bytes ++ spell_after (file_so_far comment cs) c) (sym keeps.bytes)
+pub bytes_so_far-kept : (file : GfFile) (comment : List ℕ) (cs : List Character) (c : Character) (earlier : Option ℕ) → Keeps file comment cs
+    → earlier ≡ last_place c.code (shipments comment cs) → bytes_so_far comment (cs ++ c ∷ []) ≡ file.bytes.items ++ spell c.code (pointer earlier) c.black
+bytes_so_far-kept file comment cs c earlier keeps is =
+    bytes_so_far-more comment cs c ∙ ap (λ bytes. bytes ++ spell_after (file_so_far comment cs) c) (sym keeps.bytes)
     ∙ ap (λ place. file.bytes.items ++ spell c.code (pointer place) c.black) (sym is)
 
 -- the shipment of a character after these bytes
@@ -38,7 +38,7 @@ abbrev pub shipment_after : List ℕ → Character → Shipment
 shipment_after bytes c = record { character = c; place = length bytes }
 
 pub shipments-more : (comment : List ℕ) (cs : List Character) (c : Character)
-    → shipments comment (cs ++ c ∷ []) ≡ shipment_after (front comment cs) c ∷ shipments comment cs
+    → shipments comment (cs ++ c ∷ []) ≡ shipment_after (bytes_so_far comment cs) c ∷ shipments comment cs
 shipments-more comment cs c = ap (λ (f : FileSoFar). f.shipped) (file_so_far-more comment cs c)
 
 pub box_of_all-more : (b : Character) (cs : List Character) (c : Character) → box_of_all (b ∷ cs ++ c ∷ []) ≡ join (box_of_all (b ∷ cs)) (box_of c.black)
@@ -55,7 +55,7 @@ pub keeps-more : (before after : GfFile) (comment : List ℕ) (cs : List Charact
     → IsAppended before after (locator_of (shipment_after before.bytes.items c)) (box_of c.black) (spell_after (file_so_far comment cs) c)
     → Keeps before comment cs → Keeps after comment (cs ++ c ∷ [])
 keeps-more before after comment cs c appended keeps = record {
-  bytes = appended.bytes ∙ ap (λ bytes. bytes ++ spell_after (file_so_far comment cs) c) keeps.bytes ∙ sym (front-more comment cs c);
+  bytes = appended.bytes ∙ ap (λ bytes. bytes ++ spell_after (file_so_far comment cs) c) keeps.bytes ∙ sym (bytes_so_far-more comment cs c);
   locators =
       subst (HasLasts after.locators) (ap (λ bytes. shipment_after bytes c ∷ shipments comment cs) keeps.bytes ∙ sym (shipments-more comment cs c))
       (appended.locators (shipment_after before.bytes.items c) (shipments comment cs) refl keeps.locators);
@@ -64,10 +64,10 @@ keeps-more before after comment cs c appended keeps = record {
 }
 
 -- a file begins with its preamble and its characters
-pub file-begins : (words : FontWords) (comment : List ℕ) (cs : List Character) → (rest : List ℕ) × (file_of words comment cs ≡ front comment cs ++ rest)
+pub file-begins : (words : FontWords) (comment : List ℕ) (cs : List Character) → (rest : List ℕ) × (file_of words comment cs ≡ bytes_so_far comment cs ++ rest)
 unfolding file_of
 file-begins words comment cs =
-    let before = front comment cs in
+    let before = bytes_so_far comment cs in
     let behind = post words (box_of_all cs) (length before) in
     let locators = locators_from 0 256 (shipments comment cs) in
     let last = ending (length before) (length (body words comment cs)) in

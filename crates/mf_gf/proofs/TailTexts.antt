@@ -8,7 +8,7 @@ use Rattle.mf_gf.specs.declared.file.FontWords.{FontWords}
 use Rattle.mf_gf.specs.declared.file.GfFile.{GfFile}
 use Rattle.mf_gf.specs.declared.finished.GfBytes.{GfBytes}
 use Rattle.mf_gf.specs.declared.spelling.Spelling.{Spelling}
-use Rattle.mf_gf.specs.Files.{Character, box_of_all, ending, file_of, front, shipments, locators_from, post}
+use Rattle.mf_gf.specs.Files.{Character, box_of_all, bytes_so_far, ending, file_of, locators_from, post, shipments}
 use Rattle.mf_gf.specs.Keeping.{IsRefusedAs, IsSameFile, Keeps, bounds_of, table_text}
 use Rattle.mf_gf.specs.Spellings.{Holds}
 use Rattle.mf_gf.specs.Tails.{tail_of}
@@ -22,28 +22,28 @@ tail_held s words b place bytes locators is =
     subst (λ (at : ℕ). Holds s (post words b at ++ locators ++ ending at (at + length (post words b at ++ locators)))) is
 
 -- there is no room for the tail exactly where there is none for the complete file
-pub too_long_behind : {P : Type 0} (room limit : ℕ) (before text : List ℕ) → room + length before ≡ limit
-    → (room < length text) ↔ P → (limit < length (before ++ text)) ↔ P
-too_long_behind room limit before text is fits = (
+pub too_long_behind : {P : Type 0} (room max_bytes : ℕ) (before text : List ℕ) → room + length before ≡ max_bytes
+    → (room < length text) ↔ P → (max_bytes < length (before ++ text)) ↔ P
+too_long_behind room max_bytes before text is fits = (
   λ long. let both = length-append before text in fits.0 (omega arith),
   λ refused. let both = length-append before text in let long = fits.1 refused in omega arith,
 )
 
 -- a file, split after its characters
-split_front : (characters post locators : List ℕ) (last : ℕ → List ℕ)
+split_file : (characters post locators : List ℕ) (last : ℕ → List ℕ)
     → characters ++ post ++ locators ++ last (length (characters ++ post ++ locators))
     ≡ characters ++ (post ++ locators ++ last (length characters + length (post ++ locators)))
-split_front characters post locators last =
+split_file characters post locators last =
     ap (λ all. all ++ last (length all)) (append_assoc characters post locators)
     ∙ append_assoc characters (post ++ locators) (last (length (characters ++ (post ++ locators))))
     ∙ ap (λ n. characters ++ (post ++ locators ++ last n)) (length-append characters (post ++ locators))
 
 file_of-tail : (words : FontWords) (comment : List ℕ) (cs : List Character)
-    → file_of words comment cs ≡ front comment cs ++ tail_of words (box_of_all cs) (front comment cs) (locators_from 0 256 (shipments comment cs))
+    → file_of words comment cs ≡ bytes_so_far comment cs ++ tail_of words (box_of_all cs) (bytes_so_far comment cs) (locators_from 0 256 (shipments comment cs))
 unfolding file_of tail_of
 file_of-tail words comment cs =
-    split_front (front comment cs) (post words (box_of_all cs) (length (front comment cs)))
-    (locators_from 0 256 (shipments comment cs)) (ending (length (front comment cs)))
+    split_file (bytes_so_far comment cs) (post words (box_of_all cs) (length (bytes_so_far comment cs)))
+    (locators_from 0 256 (shipments comment cs)) (ending (length (bytes_so_far comment cs)))
 
 box_of_all-some : (cs : List Character) (b : CharacterBox) → bounds_of cs ≡ Some b → box_of_all cs ≡ b
 box_of_all-some [] b is = absurd (cc)
@@ -57,7 +57,7 @@ file_of-kept file words b comment cs some keeps =
     let locators = locators_from 0 256 (shipments comment cs) in
     let bounds = box_of_all-some cs b (sym keeps.bounds ∙ some) in
     file_of-tail words comment cs
-    ∙ ap (λ box. front comment cs ++ tail_of words box (front comment cs) locators) bounds
+    ∙ ap (λ box. bytes_so_far comment cs ++ tail_of words box (bytes_so_far comment cs) locators) bounds
     ∙ ap (λ bytes. bytes ++ tail_of words b bytes locators) (sym keeps.bytes)
     ∙ ap (λ text. file.bytes.items ++ tail_of words b file.bytes.items text) (sym (table_text-is file.locators (shipments comment cs) keeps.locators))
 

@@ -1,6 +1,7 @@
 -- The boxes of characters.
-use Rattle.std.specs.Prelude.{◌≡◌, pos, ◌+ℤ◌, ◌≤ℤ◌, ◌<ℤ◌, All, Any, List, [], ◌∷◌, Option, None, Some}
+use Rattle.std.specs.Prelude.{pos, ◌+ℤ◌, ◌-ℤ◌, List, [], ◌∷◌, Option, None, Some}
 use Rattle.std.specs.Int.{int_max, int_min}
+use Rattle.mf_rows.specs.declared.bounds.Box4.{Box4}
 use Rattle.mf_rows.specs.declared.run.Run.{Run}
 use Rattle.mf_rows.specs.Dots.{Dot}
 use Rattle.mf_gf.specs.declared.boxes.CharacterBox.{CharacterBox}
@@ -36,17 +37,6 @@ box_of [] = no_box
 box_of (d ∷ []) = box_of_pixel d
 box_of (d ∷ e ∷ ds) = join (box_of_pixel d) (box_of (e ∷ ds))
 
--- a pixel lies in a box, whose right end is one column after the last
-pub record IsWithin (b : CharacterBox) (d : Dot) : Type 0 where
-  pub left : b.min_m ≤ℤ d.x
-  pub right : d.x <ℤ b.max_m
-  pub bottom : b.min_n ≤ℤ d.y
-  pub top : d.y ≤ℤ b.max_n
-
--- the box is the least one around pixels: each of them lies in it, and each of its four ends is reached
-pub record IsLeastBox (ds : List Dot) (b : CharacterBox) : Type 0 where
-  pub within : All (IsWithin b) ds
-  pub left : Any (λ (d : Dot). d.x ≡ b.min_m) ds
-  pub right : Any (λ (d : Dot). (d.x +ℤ pos 1) ≡ b.max_m) ds
-  pub bottom : Any (λ (d : Dot). d.y ≡ b.min_n) ds
-  pub top : Any (λ (d : Dot). d.y ≡ b.max_n) ds
+-- the box of the pixels in a box: the last column is the one before the right end
+abbrev pub pixel_box : CharacterBox → Box4
+pixel_box b = record { min_x = b.min_m; max_x = b.max_m -ℤ pos 1; min_y = b.min_n; max_y = b.max_n }

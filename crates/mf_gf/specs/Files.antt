@@ -57,9 +57,11 @@ with_characters f (c ∷ cs) = with_characters (with_character f c) cs
 abbrev pub file_so_far : List ℕ → List Character → FileSoFar
 file_so_far comment characters = with_characters (record { bytes = preamble comment; shipped = [] }) characters
 
-abbrev pub front : List ℕ → List Character → List ℕ
-front comment characters = (file_so_far comment characters).bytes
+-- the bytes of the file with this comment and these characters, without its end
+abbrev pub bytes_so_far : List ℕ → List Character → List ℕ
+bytes_so_far comment characters = (file_so_far comment characters).bytes
 
+-- its characters, each with its place
 abbrev pub shipments : List ℕ → List Character → List Shipment
 shipments comment characters = (file_so_far comment characters).shipped
 
@@ -119,11 +121,12 @@ ending place before = (249 ∷ []) ++ word (pos place) ++ (131 ∷ []) ++ replic
 -- the bytes of a file without its ending
 abbrev pub body : FontWords → List ℕ → List Character → List ℕ
 body words comment characters =
-    front comment characters ++ post words (box_of_all characters) (length (front comment characters)) ++ locators_from 0 256 (shipments comment characters)
+    bytes_so_far comment characters ++ post words (box_of_all characters) (length (bytes_so_far comment characters))
+    ++ locators_from 0 256 (shipments comment characters)
 
 -- the bytes of the finished file of these characters
 unfoldable pub file_of : FontWords → List ℕ → List Character → List ℕ
-file_of words comment characters = body words comment characters ++ ending (length (front comment characters)) (length (body words comment characters))
+file_of words comment characters = body words comment characters ++ ending (length (bytes_so_far comment characters)) (length (body words comment characters))
 
 -- the finished file of these characters, or none where there are none
 abbrev pub file_if_any : FontWords → List ℕ → List Character → Option (List ℕ)

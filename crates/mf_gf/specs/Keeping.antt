@@ -8,7 +8,7 @@ use Rattle.mf_gf.specs.declared.finished.GfBytes.{GfBytes}
 use Rattle.mf_gf.specs.declared.locator.Locator.{Locator}
 use Rattle.mf_gf.specs.declared.locators.Locators.{Locators}
 use Rattle.mf_gf.specs.Boxes.{widen}
-use Rattle.mf_gf.specs.Files.{Character, Shipment, box_of_all, front, last_of, locator_if, locator_of, shipments}
+use Rattle.mf_gf.specs.Files.{Character, Shipment, box_of_all, bytes_so_far, last_of, locator_if, locator_of, shipments}
 use Rattle.mf_gf.specs.Pixels.{black}
 
 -- the character that is shipped with the picture ds
@@ -29,14 +29,14 @@ table_text table = flat_map locator_if table.by_code.items
 
 -- a file keeps what its end needs of this comment and these characters
 pub record Keeps (file : GfFile) (comment : List ℕ) (characters : List Character) : Type 0 where
-  pub bytes : file.bytes.items ≡ front comment characters
+  pub bytes : file.bytes.items ≡ bytes_so_far comment characters
   pub locators : HasLasts file.locators (shipments comment characters)
   pub count : file.count ≡ length characters
   pub bounds : file.bounds ≡ bounds_of characters
 
 -- the greatest number of bytes that a file may have
-abbrev pub limit : GfFile → ℕ
-limit file = file.max_bytes
+abbrev pub max_bytes_of : GfFile → ℕ
+max_bytes_of file = file.max_bytes
 
 -- a file is unchanged
 pub record IsSameFile (before after : GfFile) : Type 0 where

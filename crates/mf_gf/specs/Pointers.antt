@@ -5,7 +5,7 @@ use Rattle.std.specs.Prelude.{◌≡◌, ◌<◌, ◌+◌, ◌*◌, ◌==◌, �
 use Rattle.byteorder.specs.Endian.{big_number}
 use Rattle.mf_gf.specs.declared.locator.Locator.{Locator}
 use Rattle.mf_gf.specs.Boxes.{box_of}
-use Rattle.mf_gf.specs.Files.{Character, front}
+use Rattle.mf_gf.specs.Files.{Character, bytes_so_far}
 use Rattle.mf_gf.specs.Numbers.{IsWord, word_at}
 use Rattle.mf_gf.specs.Painting.{head_of, paint}
 use Rattle.mf_gf.specs.Pixels.{IsPixelSet}
@@ -111,4 +111,4 @@ pub record IsShippable (c : Character) : Type 0 where
 -- the characters fit into a file, in which each place is a signed number of four bytes
 pub record AreShippable (comment : List ℕ) (characters : List Character) : Type 0 where
   pub each : All IsShippable characters
-  pub short : length (front comment characters) < 2147483648
+  pub short : length (bytes_so_far comment characters) < 2147483648

@@ -4,10 +4,11 @@ use Rattle.mf_gf.specs.declared.boxes.CharacterBox.{CharacterBox}
 use Rattle.mf_gf.specs.declared.file.FontWords.{FontWords}
 use Rattle.mf_gf.specs.Files.{ending, post}
 
--- post and the locators of a file that starts with the bytes `front`
+-- post and the locators of a file that starts with the bytes `before`
 abbrev pub before_ending : FontWords → CharacterBox → List ℕ → List ℕ → List ℕ
-before_ending words b front locators = post words b (length front) ++ locators
+before_ending words b before locators = post words b (length before) ++ locators
 
--- post, the locators and the ending of a file that starts with the bytes `front`
+-- post, the locators and the ending of a file that starts with the bytes `before`
 unfoldable pub tail_of : FontWords → CharacterBox → List ℕ → List ℕ → List ℕ
-tail_of words b front locators = before_ending words b front locators ++ ending (length front) (length front + length (before_ending words b front locators))
+tail_of words b before locators =
+    before_ending words b before locators ++ ending (length before) (length before + length (before_ending words b before locators))

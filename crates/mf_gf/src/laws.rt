@@ -1,14 +1,15 @@
 //! Laws of GF files. Each is the contract of a function that does nothing, because the toolchain proves a statement only where
 //! the contract of a function names it.
 ghost use Rattle.std.specs.Prelude.{◌≡◌, ◌↔◌, ◌<◌, ◌<ℤ◌, ◌∷◌, [], ◌++◌, length, ℕ, ℤ, pos, List, Some};
-ghost use Rattle.mf_gf.specs.Boxes.{IsLeastBox, box_of, join};
-ghost use Rattle.mf_gf.specs.Files.{Character, IsPadded, IsShortDx, box_of_all, file_of, front, last_place, shipments, short_dx};
+ghost use Rattle.mf_gf.specs.Boxes.{box_of, join, pixel_box};
+ghost use Rattle.mf_gf.specs.Files.{Character, IsPadded, IsShortDx, box_of_all, bytes_so_far, file_of, last_place, shipments, short_dx};
 ghost use Rattle.mf_gf.specs.declared.file.FontWords.{FontWords};
 ghost use Rattle.mf_gf.specs.Numbers.{IsWord};
 ghost use Rattle.mf_gf.specs.Painting.{head_of, paint};
 ghost use Rattle.mf_gf.specs.Pixels.{IsPixelSet, black};
 ghost use Rattle.mf_gf.specs.Pointers.{AreShippable, IsReadBack};
 ghost use Rattle.mf_gf.specs.Spelling.{pointer, spell};
+ghost use Rattle.mf_rows.specs.Bounds.{IsLeastBox};
 ghost use Rattle.mf_rows.specs.Dots.{Dot, IsPicture, weight_at};
 
 /// Painting the bytes of a character gives back exactly its pixels, for every finite set of pixels of the field, every code and
@@ -32,7 +33,7 @@ pub fn black_pixels_are_a_set()
 
 /// The box of a character is the least one around its black pixels.
 pub fn box_is_least()
-    ensures { (d : Dot) (ds : List Dot) → IsLeastBox (d ∷ ds) (box_of (d ∷ ds)) }
+    ensures { (d : Dot) (ds : List Dot) → IsLeastBox (d ∷ ds) (pixel_box (box_of (d ∷ ds))) }
 {}
 
 /// An escapement is written in one byte exactly where it is 65536 times that byte.
@@ -44,11 +45,12 @@ pub fn short_escapements()
 /// last one with its code. It is then the last one with that code, its place is where its bytes begin, and the box of the file is
 /// joined with its own box.
 pub fn one_character_more()
-    ensures begins { (words : FontWords) (comment : List ℕ) (cs : List Character) → (rest : List ℕ) × (file_of words comment cs ≡ front comment cs ++ rest) }
+    ensures begins { (words : FontWords) (comment : List ℕ) (cs : List Character) → (rest : List ℕ)
+        × (file_of words comment cs ≡ bytes_so_far comment cs ++ rest) }
     ensures bytes { (comment : List ℕ) (cs : List Character) (c : Character)
-        → front comment (cs ++ c ∷ []) ≡ front comment cs ++ spell c.code (pointer (last_place c.code (shipments comment cs))) c.black }
+        → bytes_so_far comment (cs ++ c ∷ []) ≡ bytes_so_far comment cs ++ spell c.code (pointer (last_place c.code (shipments comment cs))) c.black }
     ensures place { (comment : List ℕ) (cs : List Character) (c : Character)
-        → shipments comment (cs ++ c ∷ []) ≡ record { character = c; place = length (front comment cs) } ∷ shipments comment cs }
+        → shipments comment (cs ++ c ∷ []) ≡ record { character = c; place = length (bytes_so_far comment cs) } ∷ shipments comment cs }
     ensures bounds { (b : Character) (cs : List Character) (c : Character) → box_of_all (b ∷ cs ++ c ∷ []) ≡ join (box_of_all (b ∷ cs)) (box_of c.black) }
 {}
 

@@ -3,7 +3,7 @@ use Rattle.std.proofs.Common.{inl, inr, ℕ, List, [], ◌∷◌, ◌++◌, Opti
 use Rattle.std.specs.Prelude.{decimal}
 use Rattle.std.specs.Str.Lines.{lines}
 use Rattle.std.proofs.lemmas.Bool.{cases_lt}
-use Rattle.mf_gf.specs.Files.{Character, front}
+use Rattle.mf_gf.specs.Files.{Character, bytes_so_far}
 use Rattle.mf_gf.specs.Keeping.{character}
 use Rattle.mf_live.specs.Entries.{rev}
 use Rattle.mf_live.specs.declared.fault.Fault.{Fault}
@@ -60,7 +60,7 @@ proof_some (d ∷ ds) =
 
 ships_some : (limits : Limits) (shipped : List Character) (c : Character) → (text : List ℕ) × (after : List Character) × Ships limits shipped c text after
 ships_some limits shipped c =
-    elim (cases_lt limits.max_bytes (length (front [] (shipped ++ c ∷ [])))) [
+    elim (cases_lt limits.max_bytes (length (bytes_so_far [] (shipped ++ c ∷ [])))) [
       | inl long ↦ (refused_line FileTooLong, shipped, inl (record { too_long = long; printed = refl; same = refl }))
       | inr fits ↦ (
         codes "[" ++ decimal c.code ++ codes "]\n",

@@ -1,7 +1,7 @@
 -- The end of a script: its picture is closed, and its font file is handed out.
 use Rattle.std.specs.Prelude.{◌≡◌, List, []}
 use Rattle.mf_gf.specs.declared.file.GfFile.{GfFile}
-use Rattle.mf_gf.specs.Keeping.{Keeps, limit}
+use Rattle.mf_gf.specs.Keeping.{Keeps, max_bytes_of}
 use Rattle.mf_live.specs.declared.closing.Closing.{Closing}
 use Rattle.mf_live.specs.declared.closing.Ended.{Ended}
 use Rattle.mf_live.specs.Entries.{Entry}
@@ -11,34 +11,34 @@ use Rattle.mf_session.specs.declared.session.EndFault.{EndFault}
 use Rattle.mf_session.specs.declared.session.EndFault.TheVariants.{Kept, Halfway}
 use Rattle.mf_session.specs.declared.session.Session.{Session}
 use Rattle.mf_session.specs.Pictures.{Pictures}
-use Rattle.mf_session.specs.Sessions.{StandsFor, limits, name}
+use Rattle.mf_session.specs.Sessions.{StandsFor, identity, limits}
 use Rattle.mf_session.specs.States.{State}
 
 -- what `currentpicture` has accepted, followed by the end mark
 abbrev pub complete_list : Pictures → List Entry
 complete_list p = entries.complete_list p.accepted p.published
 
--- the font file keeps the characters, and its limit is that of the session
+-- the font file keeps the characters, and its greatest number of bytes is that of the session
 pub record IsFileOf (session : Session) (s : State) (file : GfFile) : Type 0 where
   pub keeps : Keeps file [] s.characters
-  pub limit_is : limit file ≡ (limits session).max_bytes
+  pub max_bytes_is : max_bytes_of file ≡ (limits session).max_bytes
 
 -- everything that was accepted is published, and so is the end mark
 pub record HasEnded (session : Session) (s : State) (ended : Ended) (file : GfFile) : Type 0 where
-  pub name_is : ended_identity ended ≡ name session
+  pub identity_is : ended_identity ended ≡ identity session
   pub published : ended_published_list ended ≡ complete_list s.pictures
   pub file_is : IsFileOf session s file
 
 -- the end mark is set, and nothing was published
 pub record IsHalfway (session : Session) (s : State) (closing : Closing) (file : GfFile) : Type 0 where
-  pub name_is : closing_identity closing ≡ name session
+  pub identity_is : closing_identity closing ≡ identity session
   pub accepted : closing_accepted_list closing ≡ complete_list s.pictures
   pub published : closing_published_list closing ≡ s.pictures.published
   pub file_is : IsFileOf session s file
 
 -- the session is as it was
 pub record IsKept (session : Session) (s : State) (same : Session) : Type 0 where
-  pub name_is : name same ≡ name session
+  pub identity_is : identity same ≡ identity session
   pub limits_are : limits same ≡ limits session
   pub stands : StandsFor same s
 

@@ -1,7 +1,7 @@
 -- The states that a session represents.
 use Rattle.std.specs.Prelude.{◌≡◌, ℕ, List, []}
 use Rattle.logbook.specs.Pages.{Book}
-use Rattle.mf_gf.specs.Keeping.{Keeps, limit}
+use Rattle.mf_gf.specs.Keeping.{Keeps, max_bytes_of}
 use Rattle.mf_text.specs.declared.command.Command.{Command}
 use Rattle.mf_session.specs.declared.session.Session.{Session}
 use Rattle.mf_session.specs.Answers.{Answers, AnswersTo}
@@ -15,12 +15,12 @@ pub record StandsFor (session : Session) (s : State) : Type 0 where
   pub file : Keeps session.file [] s.characters
 
 -- which live picture its `currentpicture` is
-abbrev pub name : Session → Book
-name session = variables.name session.variables
+abbrev pub identity : Session → Book
+identity session = variables.identity session.variables
 
 -- its limits of operations and of bytes
 abbrev pub limits : Session → Limits
-limits session = record { max_ops = variables.max_ops session.variables; max_bytes = limit session.file }
+limits session = record { max_ops = variables.max_ops session.variables; max_bytes = max_bytes_of session.file }
 
 -- a session that represented a state has answered a command, and represents the state after it
 pub record IsAnsweredTo (before : Session) (s : State) (command : Command) (text : List ℕ) (after : Session) : Type 0 where

@@ -10,8 +10,8 @@ abbrev pub pictures : Variables → Pictures
 pictures v = record { accepted = writers.accepted_list v.writer; published = writers.published_list v.writer; registers = v.registers }
 
 -- which live picture `currentpicture` is
-abbrev pub name : Variables → Book
-name v = writers.identity v.writer
+abbrev pub identity : Variables → Book
+identity v = writers.identity v.writer
 
 -- the greatest number of operations that `currentpicture` accepts
 abbrev pub max_ops : Variables → ℕ

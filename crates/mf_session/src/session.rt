@@ -40,7 +40,7 @@ impl Session {
     ghost use Rattle.mf_session.specs.Changes.{IsClearable};
     ghost use Rattle.mf_session.specs.Endings.{HasEnded, IsHandedBack};
     ghost use Rattle.mf_session.specs.Pictures.{picture};
-    ghost use Rattle.mf_session.specs.Sessions.{IsAnswered, StandsFor, limits, name};
+    ghost use Rattle.mf_session.specs.Sessions.{IsAnswered, StandsFor, identity, limits};
     ghost use Rattle.mf_session.specs.States.{State, limits_of, start};
 
     /// Opens a session in which nothing has happened, and the desk for viewers of its `currentpicture`, with at most `places` of
@@ -58,7 +58,7 @@ impl Session {
         requires { places ≤ 64 }
         ensures start { IfOk result (λ made. StandsFor made.0 start) }
         ensures limits { IfOk result (λ made. limits made.0 ≡ limits_of max_ops max_bytes) }
-        ensures name { IfOk result (λ made. desk_identity made.1 ≡ name made.0) }
+        ensures identity { IfOk result (λ made. desk_identity made.1 ≡ identity made.0) }
         ensures places { IfOk result (λ made. remaining_viewers made.1 ≤ places) }
         ensures too_long { (max_bytes < 3) ↔ (result ≡ Err GfFault.FileTooLong) }
         ensures fault { IfErr result (λ fault. (fault ≡ GfFault.FileTooLong) ⊎ (fault ≡ GfFault.OutOfMemory)) }
@@ -108,7 +108,7 @@ impl Session {
             → IsClearable (limits self.old).max_ops s.pictures name → IsOk result }
         ensures unchanged { OnErr result ((s : State) → StandsFor self.old s → StandsFor self.new s) }
         ensures limits { limits self.new ≡ limits self.old }
-        ensures name { name self.new ≡ name self.old }
+        ensures identity { identity self.new ≡ identity self.old }
     {
         match read_command(alloc, line) {
             Ok(command) => self.perform(rt, alloc, command),

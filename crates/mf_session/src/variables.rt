@@ -32,7 +32,7 @@ impl Variables {
     ghost use Rattle.mf_text.specs.declared.command.Name.TheVariants as names;
     ghost use Rattle.mf_session.specs.Changes.{IsClearable, OperatesOn, PublishesAll};
     ghost use Rattle.mf_session.specs.Pictures.{blank_pictures, picture, source_picture};
-    ghost use Rattle.mf_session.specs.Variables.{max_ops, name, pictures};
+    ghost use Rattle.mf_session.specs.Variables.{identity, max_ops, pictures};
 
     /// Blank pictures, and the desk for viewers of `currentpicture`, with at most `places` of them. `currentpicture` accepts at
     /// most `max_ops` operations.
@@ -45,7 +45,7 @@ impl Variables {
         requires { places ≤ 64 }
         ensures blank { IfOk result (λ made. pictures made.0 ≡ blank_pictures) }
         ensures max_ops { IfOk result (λ made. Rattle.mf_session.specs.Variables.max_ops made.0 ≡ max_ops) }
-        ensures name { IfOk result (λ made. desk_identity made.1 ≡ name made.0) }
+        ensures identity { IfOk result (λ made. desk_identity made.1 ≡ identity made.0) }
         ensures places { IfOk result (λ made. remaining_viewers made.1 ≤ places) }
     {
         let registers = Registers::blank(alloc)?;
@@ -101,7 +101,7 @@ impl Variables {
             (ops.Also (source_picture (pictures self.old) source) sign) text.items (pictures self.new)) }
         ensures unchanged { OnErr result (pictures self.new ≡ pictures self.old) }
         ensures max_ops { max_ops self.new ≡ max_ops self.old }
-        ensures same_name { Rattle.mf_session.specs.Variables.name self.new ≡ Rattle.mf_session.specs.Variables.name self.old }
+        ensures identity { identity self.new ≡ identity self.old }
     {
         let operand = self.source(&source).copy(alloc)?;
         self.operate(alloc, name, Op::Also(operand, sign))
@@ -114,7 +114,7 @@ impl Variables {
         ensures unchanged { OnErr result (pictures self.new ≡ pictures self.old) }
         ensures clears { op ≡ ops.Clear → IsClearable (max_ops self.old) (pictures self.old) name → IsOk result }
         ensures max_ops { max_ops self.new ≡ max_ops self.old }
-        ensures same_name { Rattle.mf_session.specs.Variables.name self.new ≡ Rattle.mf_session.specs.Variables.name self.old }
+        ensures identity { identity self.new ≡ identity self.old }
     {
         match name {
             Name::Current => self.operate_on_current(alloc, op),
@@ -128,7 +128,7 @@ impl Variables {
         ensures unchanged { OnErr result (pictures self.new ≡ pictures self.old) }
         ensures clears { op ≡ ops.Clear → IsClearable (max_ops self.old) (pictures self.old) names.Current → IsOk result }
         ensures max_ops { max_ops self.new ≡ max_ops self.old }
-        ensures name { name self.new ≡ name self.old }
+        ensures identity { identity self.new ≡ identity self.old }
     {
         match self.writer.apply(alloc, op) {
             Ok(()) => Ok(Vec::new(alloc)),
@@ -148,7 +148,7 @@ impl Variables {
         ensures unchanged { OnErr result (pictures self.new ≡ pictures self.old) }
         ensures clears { op ≡ ops.Clear → IsOk result }
         ensures max_ops { max_ops self.new ≡ max_ops self.old }
-        ensures name { name self.new ≡ name self.old }
+        ensures identity { identity self.new ≡ identity self.old }
     {
         match self.registers.apply(alloc, letter, &op) {
             Ok(()) => Ok(Vec::new(alloc)),
@@ -161,7 +161,7 @@ impl Variables {
         ensures answer { IfOk result (λ text. PublishesAll (pictures self.old) text.items (pictures self.new)) }
         ensures unchanged { OnErr result (pictures self.new ≡ pictures self.old) }
         ensures max_ops { max_ops self.new ≡ max_ops self.old }
-        ensures name { name self.new ≡ name self.old }
+        ensures identity { identity self.new ≡ identity self.old }
     {
         let revision = self.writer.revision();
         let text = format!(in alloc; "published {revision}\n")?.into_bytes();

@@ -1,6 +1,7 @@
 -- What a stage does with the lines of a script.
-use Rattle.std.specs.Prelude.{ℕ, List, Option}
+use Rattle.std.specs.Prelude.{ℕ, IfSome, List, Option}
 use Rattle.std.specs.Io.KnownBytes.{Appends}
+use Rattle.std.specs.Str.Lines.{lines}
 use Rattle.mf_session.specs.Answers.{Answers}
 use Rattle.mf_session.specs.States.{State}
 use Rattle.mf_session.specs.Transcript.{Perform}
@@ -25,3 +26,15 @@ pub record HasPerformed (before : Stage) (s : State) (done : List (List ℕ)) (a
   pub performed : Perform (limits before) s done text last
   pub stands : StandsFor after last
   pub out : Appends held holds text
+
+-- the stage has performed these lines, whatever state it represented; the writer, which held some bytes, now holds others
+abbrev pub Performs : Stage → List (List ℕ) → Stage → Option (List ℕ) → Option (List ℕ) → Type 0
+Performs before done after held holds = (s : State) → StandsFor before s → HasPerformed before s done after held holds
+
+-- the stage has performed all lines of a script, where it is known what its reader had
+abbrev pub PerformsAll : Stage → Option (List ℕ) → Stage → Option (List ℕ) → Option (List ℕ) → Type 0
+PerformsAll before unread after held holds = IfSome unread (λ input. Performs before (lines input) after held holds)
+
+-- the stage represents a state if it represented one before
+abbrev pub StillStands : Stage → Stage → Type 0
+StillStands before after = (s : State) → StandsFor before s → (t : State) × StandsFor after t

@@ -17,8 +17,8 @@ abbrev pub StandsFor : Stage → State → Type 0
 StandsFor stage s = sessions.StandsFor stage.session s
 
 -- which live picture its `currentpicture` is
-abbrev pub name : Stage → Book
-name stage = sessions.name stage.session
+abbrev pub identity : Stage → Book
+identity stage = sessions.identity stage.session
 
 -- its limits of operations and of bytes
 abbrev pub limits : Stage → Limits

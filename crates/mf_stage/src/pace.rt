@@ -3,6 +3,6 @@
 /// Learns of each publish of a script, on the writer's side, after its plate was written. It may wait: the next line is read
 /// after it.
 pub trait Pace {
-    /// This revision was published.
-    fn published(&self, revision: u32);
+    /// Takes note that this revision was published.
+    fn note_publish(&self, revision: u32);
 }

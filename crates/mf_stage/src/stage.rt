@@ -1,13 +1,12 @@
 //! A stage: a session that performs a script, and what is made of each publish.
 ghost use Rattle.std.specs.Io.KnownBytes.{Appends};
-ghost use Rattle.std.specs.Prelude.{◌≡◌, ◌⊎◌, ◌<◌, ◌↔◌, ◌∷◌, [], Err, IfErr, IfOk, IfSome, IsOk, None, OnOk};
+ghost use Rattle.std.specs.Prelude.{◌≡◌, ◌⊎◌, ◌<◌, ◌↔◌, ◌∷◌, [], Err, IfErr, IfOk, IsOk, None, OnOk};
 ghost use Rattle.mf_live.specs.Desks.{desk_identity};
 ghost use Rattle.mf_session.specs.Endings.{HasEnded};
 ghost use Rattle.mf_session.specs.States.{State, start};
 ghost use Rattle.mf_stage.specs.Publications.{IsPlateWhere, IsPublication};
-ghost use Rattle.mf_stage.specs.Scripts.{HasPerformed, IsPerformed};
-ghost use Rattle.mf_stage.specs.Stages.{StandsFor, limits, limits_set, name, plates_of, session_of};
-ghost use Rattle.std.specs.Str.Lines.{lines};
+ghost use Rattle.mf_stage.specs.Scripts.{IsPerformed, Performs, PerformsAll, StillStands};
+ghost use Rattle.mf_stage.specs.Stages.{StandsFor, identity, limits, limits_set, plates_of, session_of};
 
 use crate::fault::StageFault;
 use crate::line::{next_line, publishes, without_ending};
@@ -49,7 +48,7 @@ impl Stage {
     ) -> Result<(Stage, Desk), StageFault>
         ensures start { IfOk result (λ made. StandsFor made.0 start) }
         ensures limits { IfOk result (λ made. limits made.0 ≡ limits_set settings.now) }
-        ensures name { IfOk result (λ made. desk_identity made.1 ≡ name made.0) }
+        ensures identity { IfOk result (λ made. desk_identity made.1 ≡ identity made.0) }
         ensures plates { IfOk result (λ made. plates_of made.0 ≡ plates) }
         ensures too_long { (settings.now.max_bytes < 3) ↔ (result ≡ Err StageFault.FileTooLong) }
         ensures fault { IfErr result (λ fault. (fault ≡ StageFault.FileTooLong) ⊎ (fault ≡ StageFault.OutOfMemory)) }
@@ -76,11 +75,10 @@ impl Stage {
         transcript: &mut W,
         pace: &P,
     ) -> Result<(), StageFault>
-        ensures transcript { OnOk result (IfSome (R.remaining reader) (λ input. (s : State) → StandsFor self.old s
-            → HasPerformed self.old s (lines input) self.new (W.contents transcript.old) (W.contents transcript.new))) }
-        ensures stands { OnOk result ((s : State) → StandsFor self.old s → (t : State) × StandsFor self.new t) }
+        ensures transcript { OnOk result (PerformsAll self.old (R.remaining reader) self.new (W.contents transcript.old) (W.contents transcript.new)) }
+        ensures stands { OnOk result (StillStands self.old self.new) }
         ensures limits { limits self.new ≡ limits self.old }
-        ensures name { name self.new ≡ name self.old }
+        ensures identity { identity self.new ≡ identity self.old }
         ensures plates { plates_of self.new ≡ plates_of self.old }
     {
         match BufReader::new(alloc, reader) {
@@ -98,11 +96,11 @@ impl Stage {
         transcript: &mut W,
         pace: &P,
     ) -> Result<(), StageFault>
-        ensures transcript { OnOk result (IfSome (B.remaining script.old) (λ input. (s : State) → StandsFor self.old s
-            → HasPerformed self.old s (lines input) self.new (W.contents transcript.old) (W.contents transcript.new))) }
-        ensures stands { OnOk result ((s : State) → StandsFor self.old s → (t : State) × StandsFor self.new t) }
+        ensures transcript { OnOk result
+            (PerformsAll self.old (B.remaining script.old) self.new (W.contents transcript.old) (W.contents transcript.new)) }
+        ensures stands { OnOk result (StillStands self.old self.new) }
         ensures limits { limits self.new ≡ limits self.old }
-        ensures name { name self.new ≡ name self.old }
+        ensures identity { identity self.new ≡ identity self.old }
         ensures plates { plates_of self.new ≡ plates_of self.old }
     {
         'lines: for _ in 0..u64::MAX {
@@ -123,10 +121,9 @@ impl Stage {
         transcript: &mut W,
         pace: &P,
     ) -> Result<(), StageFault>
-        ensures performed { OnOk result ((s : State) → StandsFor self.old s
-            → HasPerformed self.old s (line.now ∷ []) self.new (W.contents transcript.old) (W.contents transcript.new)) }
+        ensures performed { OnOk result (Performs self.old (line.now ∷ []) self.new (W.contents transcript.old) (W.contents transcript.new)) }
         ensures limits { limits self.new ≡ limits self.old }
-        ensures name { name self.new ≡ name self.old }
+        ensures identity { identity self.new ≡ identity self.old }
         ensures plates { plates_of self.new ≡ plates_of self.old }
     {
         let made = self.answer(rt, alloc, line, transcript)?;
@@ -145,7 +142,7 @@ impl Stage {
         ensures performed { IfOk result (λ made. (s : State) → StandsFor self.old s
             → IsPerformed self.old s line.now made self.new (W.contents transcript.old) (W.contents transcript.new)) }
         ensures limits { limits self.new ≡ limits self.old }
-        ensures name { name self.new ≡ name self.old }
+        ensures identity { identity self.new ≡ identity self.old }
         ensures plates { plates_of self.new ≡ plates_of self.old }
     {
         let publishes = publishes(alloc, line)?;
@@ -254,7 +251,7 @@ fn announce<S: Files, P: Pace>(
         return Ok(());
     };
     publication.write(rt)?;
-    pace.published(publication.revision);
+    pace.note_publish(publication.revision);
     Ok(())
 }
 

@@ -1,5 +1,5 @@
 -- What a performance has written, from what its parts have.
-use Rattle.std.proofs.Common.{◌≡◌, ℕ, List, Option, None, Some, Result, Ok, Err, IfErr, IfOk, IfSome, OnOk, subst}
+use Rattle.std.proofs.Common.{◌≡◌, ℕ, List, Option, None, Some, Result, Ok, Err, IfErr, IfOk, OnOk, subst}
 use Rattle.std.specs.Str.Lines.{lines}
 use Rattle.core.specs.Result.{result_and}
 use Rattle.mf_easel.specs.Easels.{HasSameManner, canvas_of, style_of}
@@ -11,31 +11,34 @@ use Rattle.mf_gf.specs.declared.file.GfFile.{GfFile}
 use Rattle.mf_session.specs.Endings.{IsFileOf, complete_list}
 use Rattle.mf_session.specs.States.{State, start}
 use Rattle.mf_session.specs.Transcript.{Perform}
-use Rattle.mf_stage.specs.Scripts.{HasPerformed}
+use Rattle.mf_stage.specs.Scripts.{PerformsAll, StillStands}
 use Rattle.mf_stage.specs.Stages.{StandsFor, limits, session_of}
 use Rattle.mf_stage.specs.declared.stage.Stage.{Stage}
 use Rattle.mf_stage.specs.declared.fault.StageFault.{StageFault}
-use Rattle.mf_view.specs.Drawings.{HasDrawn, ShowsLast}
+use Rattle.mf_view.specs.Drawings.{DrawsMore, EndsDrawing, HasDrawn, ShowsLast}
 use Rattle.mf_view.specs.Faults.{fault_of_stage}
 use Rattle.mf_view.specs.Endings.{IsShownInto}
-use Rattle.mf_view.specs.Performances.{IsShown, script_limits}
+use Rattle.mf_view.specs.Performances.{Shows, Streams, script_limits}
 use Rattle.mf_view.specs.declared.fault.ProgramFault.{ProgramFault}
 
 -- two drawings, one after the other
 pub drawn-both : (held a b c : Option (List ℕ)) (before between after : Easel) (first then : Result (Unit {0}) EaselFault)
-    → OnOk first ((held : Option (List ℕ)) → HasDrawn before held a → HasDrawn between held b)
-    → OnOk then ((held : Option (List ℕ)) → HasDrawn between held b → HasDrawn after held c)
+    → OnOk first (DrawsMore before between a b) → OnOk then (DrawsMore between after b c)
     → HasDrawn before held a → OnOk (result_and first then) (HasDrawn after held c)
 drawn-both held a b c before between after (Ok done) (Ok more) one two was = two held (one held was)
 drawn-both held a b c before between after (Ok done) (Err fault) one two was = tt
 drawn-both held a b c before between after (Err fault) then one two was = tt
 
+-- the streams with these five, in this order
+abbrev five : Option (List ℕ) → Option (List ℕ) → Option (List ℕ) → Option (List ℕ) → Option (List ℕ) → Streams
+five unread held holds told tells = record { unread = unread; held = held; holds = holds; told = told; tells = tells }
+
 shown-file : (style : Style) (canvas : Size) (held holds told tells : Option (List ℕ)) (before after : Stage) (file : GfFile) (unread : Option (List ℕ))
     → limits before ≡ script_limits → StandsFor before start
-    → IfSome unread (λ input. (s : State) → StandsFor before s → HasPerformed before s (lines input) after told tells)
+    → PerformsAll before unread after told tells
     → ((s : State) → StandsFor after s → IsFileOf (session_of after) s file)
     → ((s : State) → StandsFor after s → ShowsLast style canvas (complete_list s.pictures) held holds)
-    → IfSome unread (IsShown style canvas file held holds told tells)
+    → Shows style canvas (five unread held holds told tells) file
 shown-file style canvas held holds told tells before after file None limited begins performed of_file shown = tt
 shown-file style canvas held holds told tells before after file (Some input) limited begins performed of_file shown =
     let done = performed start begins in
@@ -50,7 +53,7 @@ shown-file style canvas held holds told tells before after file (Some input) lim
 
 -- a stage on which nothing was performed represents a state after a script
 pub stands-after : (before after : Stage) (performed : Result (Unit {0}) StageFault) → StandsFor before start
-    → OnOk performed ((s : State) → StandsFor before s → (t : State) × StandsFor after t) → OnOk performed ((t : State) × StandsFor after t)
+    → OnOk performed (StillStands before after) → OnOk performed ((t : State) × StandsFor after t)
 stands-after before after (Ok done) begins stands = stands start begins
 stands-after before after (Err fault) begins stands = tt
 
@@ -58,11 +61,11 @@ stands-after before after (Err fault) begins stands = tt
 pub shown-whole : (style : Style) (canvas : Size) (held holds told tells : Option (List ℕ)) (before after : Stage) (unread : Option (List ℕ))
     (performed : Result (Unit {0}) StageFault) (r : Result GfFile ProgramFault)
     → limits before ≡ script_limits → StandsFor before start
-    → OnOk performed (IfSome unread (λ input. (s : State) → StandsFor before s → HasPerformed before s (lines input) after told tells))
+    → OnOk performed (PerformsAll before unread after told tells)
     → IfErr performed (λ fault. r ≡ Err (fault_of_stage fault))
     → IfOk r (λ file. (s : State) → StandsFor after s → IsFileOf (session_of after) s file)
     → OnOk r ((s : State) → StandsFor after s → ShowsLast style canvas (complete_list s.pictures) held holds)
-    → IfOk r (λ file. IfSome unread (IsShown style canvas file held holds told tells))
+    → IfOk r (Shows style canvas (five unread held holds told tells))
 shown-whole style canvas held holds told tells before after unread (Ok done) (Ok file) limited begins transcript script of_file shown =
     shown-file style canvas held holds told tells before after file unread limited begins transcript of_file shown
 shown-whole style canvas held holds told tells before after unread (Ok done) (Err fault) limited begins transcript script of_file shown = tt
@@ -72,21 +75,20 @@ shown-whole style canvas held holds told tells before after unread (Err fault) (
 -- what is shown in the manner of an easel is shown in its first manner
 pub shown-end : (first easel : Easel) (stage : Stage) (held mid holds : Option (List ℕ)) (drawn : Result (Unit {0}) EaselFault) (r : Result GfFile ProgramFault)
     → HasSameManner first easel → OnOk drawn (HasDrawn easel held mid)
-    → OnOk r ((s : State) (held : Option (List ℕ)) → StandsFor stage s → OnOk drawn (HasDrawn easel held mid)
-    → ShowsLast (style_of easel) (canvas_of easel) (complete_list s.pictures) held holds)
+    → OnOk r ((s : State) → StandsFor stage s → EndsDrawing drawn easel (complete_list s.pictures) mid holds)
     → OnOk r ((s : State) → StandsFor stage s → ShowsLast (style_of first) (canvas_of first) (complete_list s.pictures) held holds)
 shown-end first easel stage held mid holds drawn (Ok file) manner was shown = λ s stands.
     subst (λ style. ShowsLast style (canvas_of first) (complete_list s.pictures) held holds) manner.style
-    (subst (λ canvas. ShowsLast (style_of easel) canvas (complete_list s.pictures) held holds) manner.canvas (shown s held stands was))
+    (subst (λ canvas. ShowsLast (style_of easel) canvas (complete_list s.pictures) held holds) manner.canvas (shown s stands held was))
 shown-end first easel stage held mid holds drawn (Err fault) manner was shown = tt
 
 -- what was performed with this style and this size is what was asked for
-pub shown-as : (transcript : Option (List ℕ)) (style wanted : Style) (canvas size : Size) (unread held holds told tells : Option (List ℕ)) (file : GfFile)
-    → (style ≡ wanted) × (canvas ≡ size) → IsShownInto transcript style canvas unread held holds told tells file
-    → IsShownInto transcript wanted size unread held holds told tells file
-shown-as transcript style wanted canvas size unread held holds told tells file (same_style, same_size) shown =
-    subst (λ style. IsShownInto transcript style size unread held holds told tells file) same_style
-    (subst (λ size. IsShownInto transcript style size unread held holds told tells file) same_size shown)
+pub shown-as : (transcript : Option (List ℕ)) (style wanted : Style) (canvas size : Size) (s : Streams) (file : GfFile)
+    → (style ≡ wanted) × (canvas ≡ size) → IsShownInto transcript style canvas s file
+    → IsShownInto transcript wanted size s file
+shown-as transcript style wanted canvas size s file (same_style, same_size) shown =
+    subst (λ style. IsShownInto transcript style size s file) same_style
+    (subst (λ size. IsShownInto transcript style size s file) same_size shown)
 
 pub on-ok-known : {A E : Type 0} (r : Result A E) (P : Type 0) → P → OnOk r P
 on-ok-known (Ok x) P known = known

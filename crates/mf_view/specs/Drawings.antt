@@ -1,9 +1,10 @@
 -- What an easel has drawn on a screen.
-use Rattle.std.specs.Prelude.{◌≡◌, ℕ, All, List, [], ◌∷◌, ◌++◌, None, Option, Some}
+use Rattle.std.specs.Prelude.{◌≡◌, ℕ, All, List, [], ◌∷◌, ◌++◌, None, OnOk, Option, Result, Some}
 use Rattle.std.specs.Io.KnownBytes.{Appends}
-use Rattle.mf_easel.specs.Easels.{canvas_of, drawn_of, looked_at_list, style_of}
+use Rattle.mf_easel.specs.Easels.{HasSameManner, canvas_of, drawn_of, identity, looked_at_list, style_of}
 use Rattle.mf_easel.specs.Screens.{IsAbove, over}
 use Rattle.mf_easel.specs.declared.easel.Easel.{Easel}
+use Rattle.mf_easel.specs.declared.fault.EaselFault.{EaselFault}
 use Rattle.mf_frame.specs.Canvases.{Size}
 use Rattle.mf_frame.specs.Frames.{frame_text}
 use Rattle.mf_frame.specs.declared.tile.Style.{Style}
@@ -41,6 +42,14 @@ pub record HasDrawn (easel : Easel) (held holds : Option (List ℕ)) : Type 0 wh
   pub seen : All (IsSeenOf (looked_at_list easel)) lists
   pub last : drawn_of easel ≡ last_revision lists
 
+-- it is the same easel, and draws in the same manner
+abbrev pub IsSameEasel : Easel → Easel → Type 0
+IsSameEasel before after = (identity after ≡ identity before) × HasSameManner before after
+
+-- the easel has drawn more, whatever it had drawn before; its screen, which held some bytes, now holds others
+abbrev pub DrawsMore : Easel → Easel → Option (List ℕ) → Option (List ℕ) → Type 0
+DrawsMore before after holds later = (held : Option (List ℕ)) → HasDrawn before held holds → HasDrawn after held later
+
 -- a screen has got frames of whole prefixes of a list, of rising revisions, and the last is that of the picture of the list
 pub record ShowsLast (style : Style) (canvas : Size) (whole : List Entry) (held holds : Option (List ℕ)) : Type 0 where
   pub last : List Entry
@@ -50,3 +59,14 @@ pub record ShowsLast (style : Style) (canvas : Size) (whole : List Entry) (held 
   pub seen : All (IsSeenOf whole) (last ∷ earlier)
   pub revision : rev last ≡ rev whole
   pub picture : pic last ≡ pic whole
+
+-- the last picture, which is that of this list, is shown, whatever the easel had drawn before; its screen, which held some bytes, now
+-- holds others
+abbrev pub LeavesLast : Easel → List Entry → Option (List ℕ) → Option (List ℕ) → Type 0
+LeavesLast easel whole holds later =
+    (held : Option (List ℕ)) → HasDrawn easel held holds → ShowsLast (style_of easel) (canvas_of easel) whole held later
+
+-- so it is after a drawing, unless that had failed
+abbrev pub EndsDrawing : Result (Unit {0}) EaselFault → Easel → List Entry → Option (List ℕ) → Option (List ℕ) → Type 0
+EndsDrawing drawn easel whole holds later =
+    (held : Option (List ℕ)) → OnOk drawn (HasDrawn easel held holds) → ShowsLast (style_of easel) (canvas_of easel) whole held later

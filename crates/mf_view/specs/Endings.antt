@@ -1,12 +1,12 @@
 -- What the program has written where it ends well.
-use Rattle.std.specs.Prelude.{◌≡◌, Bool, true, false, ℕ, List, Option, None, Some, IfSome, codes, min, option_map, string_bytes}
+use Rattle.std.specs.Prelude.{◌≡◌, Bool, true, false, ℕ, List, Option, None, Some, codes, min, option_map, string_bytes}
 use Rattle.std.specs.Io.KnownBytes.{Appends}
 use Rattle.clap.specs.Words.{Text}
 use Rattle.mf_frame.specs.Canvases.{Size}
 use Rattle.mf_frame.specs.declared.tile.Style.{Style}
 use Rattle.mf_frame.specs.declared.tile.Style.TheVariants.{Colored, Plain}
 use Rattle.mf_gf.specs.declared.file.GfFile.{GfFile}
-use Rattle.mf_view.specs.Performances.{IsShown}
+use Rattle.mf_view.specs.Performances.{Shows, Streams}
 use Rattle.mf_view_words.specs.Requests.{IsRequest}
 use Rattle.mf_view_words.specs.declared.words.Request.{Request}
 use Rattle.mf_view_words.specs.declared.words.Request.TheVariants.{Help, Show, Version}
@@ -22,24 +22,22 @@ style_in true = Plain
 style_in false = Colored
 
 -- a script was performed and shown, with the transcript in a file where a path is given, and else in the stream of messages
-abbrev pub IsShownInto : Option (List ℕ) → Style → Size → Option (List ℕ) → Option (List ℕ) → Option (List ℕ)
-    → Option (List ℕ) → Option (List ℕ) → GfFile → Type 0
-IsShownInto None style canvas unread held holds told tells file = IfSome unread (IsShown style canvas file held holds told tells)
-IsShownInto (Some path) style canvas unread held holds told tells file =
-    (tells ≡ told) × (empty : Option (List ℕ)) × (full : Option (List ℕ)) × IfSome unread (IsShown style canvas file held holds empty full)
+abbrev pub IsShownInto : Option (List ℕ) → Style → Size → Streams → GfFile → Type 0
+IsShownInto None style canvas s file = Shows style canvas s file
+IsShownInto (Some path) style canvas s file =
+    (s.tells ≡ s.told) × (empty : Option (List ℕ)) × (full : Option (List ℕ)) × Shows style canvas (record s { told = empty; tells = full }) file
 
 -- the script was performed and shown as the words ask for it
-abbrev pub IsWatched : Words → Option (List ℕ) → Option (List ℕ) → Option (List ℕ) → Option (List ℕ) → Option (List ℕ) → Type 0
-IsWatched words unread held holds told tells =
-    (file : GfFile) × IsShownInto (option_map string_bytes words.transcript) (style_in words.frames)
-    (size_in words.columns words.rows) unread held holds told tells file
+abbrev pub IsWatched : Words → Streams → Type 0
+IsWatched words s =
+    (file : GfFile) × IsShownInto (option_map string_bytes words.transcript) (style_in words.frames) (size_in words.columns words.rows) s file
 
 -- what was asked for is written: the help text, the version, or what a performance writes
-abbrev pub EndsAs : Request → Option (List ℕ) → Option (List ℕ) → Option (List ℕ) → Option (List ℕ) → Option (List ℕ) → Type 0
-EndsAs Help unread held holds told tells = (tells ≡ told) × (text : List ℕ) × Appends held holds text
-EndsAs Version unread held holds told tells = (tells ≡ told) × Appends held holds (codes "mfview 1.0\n")
-EndsAs (Show words) unread held holds told tells = IsWatched words unread held holds told tells
+abbrev pub EndsAs : Request → Streams → Type 0
+EndsAs Help s = (s.tells ≡ s.told) × (text : List ℕ) × Appends s.held s.holds text
+EndsAs Version s = (s.tells ≡ s.told) × Appends s.held s.holds (codes "mfview 1.0\n")
+EndsAs (Show words) s = IsWatched words s
 
 -- these are the words of a request, and what it asks for is written
-abbrev pub EndsWell : List Text → Option (List ℕ) → Option (List ℕ) → Option (List ℕ) → Option (List ℕ) → Option (List ℕ) → Type 0
-EndsWell words unread held holds told tells = (request : Request) × IsRequest words request × EndsAs request unread held holds told tells
+abbrev pub EndsWell : List Text → Streams → Type 0
+EndsWell words s = (request : Request) × IsRequest words request × EndsAs request s

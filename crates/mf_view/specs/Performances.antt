@@ -1,5 +1,5 @@
 -- What a performance has written.
-use Rattle.std.specs.Prelude.{ℕ, List, [], Option}
+use Rattle.std.specs.Prelude.{ℕ, IfSome, List, [], Option}
 use Rattle.std.specs.Io.KnownBytes.{Appends}
 use Rattle.std.specs.Str.Lines.{lines}
 use Rattle.mf_frame.specs.Canvases.{Size}
@@ -15,12 +15,34 @@ use Rattle.mf_view.specs.Drawings.{ShowsLast}
 abbrev pub script_limits : Limits
 script_limits = limits_of 1000000 16777216
 
+-- what a reader had, what a screen held and holds, and what the transcript told before and tells now, where this is known
+pub record Streams : Type 0 where
+  pub unread : Option (List ℕ)
+  pub held : Option (List ℕ)
+  pub holds : Option (List ℕ)
+  pub told : Option (List ℕ)
+  pub tells : Option (List ℕ)
+
+-- the streams of a reader before a call, and of a screen and another writer before and after it
+abbrev pub streams_of : {R W T : Type 0} → (R → Option (List ℕ)) → R → (W → Option (List ℕ)) → W → W → (T → Option (List ℕ)) → T → T → Streams
+streams_of remaining reader contents screen shown texts transcript grown = record {
+  unread = remaining reader;
+  held = contents screen;
+  holds = contents shown;
+  told = texts transcript;
+  tells = texts grown;
+}
+
 -- the script of these bytes was performed: the transcript is written, the screen has got frames of the picture, the last of them
 -- that of the last picture, and the font file keeps the characters that were shipped
-pub record IsShown (style : Style) (canvas : Size) (file : GfFile) (held holds told tells : Option (List ℕ)) (input : List ℕ) : Type 0 where
+pub record IsShown (style : Style) (canvas : Size) (s : Streams) (file : GfFile) (input : List ℕ) : Type 0 where
   pub text : List ℕ
   pub last : State
   pub performed : Perform script_limits start (lines input) text last
-  pub out : Appends told tells text
-  pub shown : ShowsLast style canvas (complete_list last.pictures) held holds
+  pub out : Appends s.told s.tells text
+  pub shown : ShowsLast style canvas (complete_list last.pictures) s.held s.holds
   pub file_is : Keeps file [] last.characters
+
+-- the script that the reader had was performed and shown, where this script is known
+abbrev pub Shows : Style → Size → Streams → GfFile → Type 0
+Shows style canvas s file = IfSome s.unread (IsShown style canvas s file)

@@ -1,9 +1,9 @@
 //! The viewer's side of a performance: looking and drawing until the script has ended.
-ghost use Rattle.std.specs.Prelude.{◌≡◌, true, List, Option, OnOk, ℕ};
-ghost use Rattle.mf_easel.specs.Easels.{HasSameManner, canvas_of, name, style_of};
+ghost use Rattle.std.specs.Prelude.{◌≡◌, true, OnOk};
+ghost use Rattle.mf_easel.specs.Easels.{HasSameManner, identity};
 ghost use Rattle.mf_live.specs.Entries.{is_closed};
 ghost use Rattle.mf_live.specs.Viewers.{notice_identity, told_list};
-ghost use Rattle.mf_view.specs.Drawings.{HasDrawn, ShowsLast};
+ghost use Rattle.mf_view.specs.Drawings.{DrawsMore, LeavesLast};
 
 use crate::pace::Rest;
 use mf_easel::{Easel, EaselFault};
@@ -22,9 +22,9 @@ pub fn draw_on<S: Wait, W: Write, P: Rest>(
     pace: &P,
     ended: &AtomicBool,
 ) -> Result<(), EaselFault>
-    ensures name { name easel.new ≡ name easel.old }
+    ensures identity { identity easel.new ≡ identity easel.old }
     ensures manner { HasSameManner easel.old easel.new }
-    ensures drawn { OnOk result ((held : Option (List ℕ)) → HasDrawn easel.old held (W.contents screen.old) → HasDrawn easel.new held (W.contents screen.new)) }
+    ensures drawn { OnOk result (DrawsMore easel.old easel.new (W.contents screen.old) (W.contents screen.new)) }
 {
     for _ in rt.forever() {
         draw(alloc, easel, screen, pace)?;
@@ -43,13 +43,13 @@ pub fn draw<W: Write, P: Rest>(
     screen: &mut W,
     pace: &P,
 ) -> Result<(), EaselFault>
-    ensures name { name easel.new ≡ name easel.old }
+    ensures identity { identity easel.new ≡ identity easel.old }
     ensures manner { HasSameManner easel.old easel.new }
-    ensures drawn { OnOk result ((held : Option (List ℕ)) → HasDrawn easel.old held (W.contents screen.old) → HasDrawn easel.new held (W.contents screen.new)) }
+    ensures drawn { OnOk result (DrawsMore easel.old easel.new (W.contents screen.old) (W.contents screen.new)) }
 {
     match easel.look(alloc, screen) {
         Ok(Some(revision)) => {
-            pace.drawn(revision);
+            pace.note_frame(revision);
             Ok(())
         }
         Ok(None) => Ok(()),
@@ -64,10 +64,9 @@ pub fn draw_last<W: Write>(
     screen: &mut W,
     notice: Notice,
 ) -> Result<(), EaselFault>
-    requires name { notice_identity notice ≡ name easel.old }
+    requires identity { notice_identity notice ≡ identity easel.old }
     requires closed { is_closed (told_list notice) ≡ true }
-    ensures shown { OnOk result ((held : Option (List ℕ)) → HasDrawn easel.old held (W.contents screen.old)
-        → ShowsLast (style_of easel.old) (canvas_of easel.old) (told_list notice) held (W.contents screen.new)) }
+    ensures shown { OnOk result (LeavesLast easel.old (told_list notice) (W.contents screen.old) (W.contents screen.new)) }
 {
     match easel.look_last(alloc, screen, notice) {
         Ok(_) => Ok(()),

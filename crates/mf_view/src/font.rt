@@ -1,7 +1,7 @@
 //! The font file: its numbers, its bytes, and how it is written.
 ghost use Rattle.std.specs.Prelude.{◌≡◌, ◌⊎◌, ◌≤◌, ◌<◌, ◌+◌, ◌*◌, ◌↔◌, [], Err, IfErr, IfOk, IfSome, List, None, ℕ, pos};
 ghost use Rattle.mf_gf.specs.Files.{Character, IsLongFile, file_if_any};
-ghost use Rattle.mf_gf.specs.Keeping.{Keeps, limit};
+ghost use Rattle.mf_gf.specs.Keeping.{Keeps, max_bytes_of};
 ghost use Rattle.mf_view.specs.Fonts.{font_words, nearest, pixels_per_point};
 
 use crate::fault::ProgramFault;
@@ -47,7 +47,7 @@ pub fn nearest_is_at_most_half_away()
 pub fn finish(file: GfFile, font: FontWords) -> Result<Option<GfBytes>, ProgramFault>
     ensures some { IfOk result (λ gf. (characters : List Character) → Keeps file [] characters → gf ≡ file_if_any font [] characters) }
     ensures too_long { (characters : List Character) → Keeps file [] characters
-        → IsLongFile (limit file) font [] characters ↔ (result ≡ Err ProgramFault.FileTooLong) }
+        → IsLongFile (max_bytes_of file) font [] characters ↔ (result ≡ Err ProgramFault.FileTooLong) }
     ensures fault { IfErr result (λ fault. (fault ≡ ProgramFault.FileTooLong) ⊎ (fault ≡ ProgramFault.OutOfMemory)) }
 {
     match file.finish_if_any(font) {

@@ -8,8 +8,8 @@ const REST: u64 = 33;
 
 /// Learns, on the viewer's side, of each frame, and waits between two looks.
 pub trait Rest {
-    /// The frame of this revision was drawn.
-    fn drawn(&self, revision: u32);
+    /// Takes note that the frame of this revision was drawn.
+    fn note_frame(&self, revision: u32);
 
     /// Waits before the next look.
     fn rest(&self);
@@ -24,13 +24,13 @@ pub struct Timed<'a, C> {
 }
 
 impl<C: Clock> Pace for Timed<'_, C> {
-    fn published(&self, _revision: u32) {
+    fn note_publish(&self, _revision: u32) {
         sleep(self.clock, Duration::from_millis(self.pause as u64));
     }
 }
 
 impl<C: Clock> Rest for Timed<'_, C> {
-    fn drawn(&self, _revision: u32) {}
+    fn note_frame(&self, _revision: u32) {}
 
     fn rest(&self) {
         sleep(self.clock, Duration::from_millis(REST));

@@ -1,6 +1,5 @@
 //! The performance of a script beside the viewer that draws its picture.
-ghost use Rattle.std.specs.Prelude.{◌≡◌, Err, IfErr, IfOk, IfSome, IsErr, List, None, OnOk, Option, ℕ};
-ghost use Rattle.std.specs.Str.Lines.{lines};
+ghost use Rattle.std.specs.Prelude.{◌≡◌, Err, IfErr, IfOk, IsErr, None, OnOk};
 ghost use denote.Param.Send.{IsSync, IsSend};
 ghost use Rattle.mf_easel.specs.Easels as easels;
 ghost use Rattle.mf_live.specs.Writers.{ended_identity, ended_published_list};
@@ -8,10 +7,10 @@ ghost use Rattle.mf_session.specs.Endings.{IsFileOf, complete_list};
 ghost use Rattle.mf_session.specs.States.{State, start};
 ghost use Rattle.mf_stage.specs.Stages as stages;
 ghost use Rattle.mf_stage.specs.Stages.{StandsFor, limits};
-ghost use Rattle.mf_stage.specs.Scripts.{HasPerformed};
+ghost use Rattle.mf_stage.specs.Scripts.{PerformsAll, StillStands};
 ghost use Rattle.mf_view.specs.Faults.{fault_of_stage};
-ghost use Rattle.mf_view.specs.Drawings.{HasDrawn, ShowsLast};
-ghost use Rattle.mf_view.specs.Performances.{IsShown, script_limits};
+ghost use Rattle.mf_view.specs.Drawings.{DrawsMore, EndsDrawing, IsSameEasel};
+ghost use Rattle.mf_view.specs.Performances.{Shows, script_limits, streams_of};
 
 use crate::drawing::{draw, draw_last, draw_on};
 use crate::fault::ProgramFault;
@@ -73,8 +72,8 @@ pub fn perform<
     pace: &P,
     showing: Showing,
 ) -> Result<GfFile, ProgramFault>
-    ensures { IfOk result (λ file. IfSome (R.remaining reader.old)
-        (IsShown showing.style showing.canvas file (W.contents screen.old) (W.contents screen.new) (T.contents transcript.old) (T.contents transcript.new))) }
+    ensures { IfOk result (Shows showing.style showing.canvas
+        (streams_of R.remaining reader.old W.contents screen.old screen.new T.contents transcript.old transcript.new)) }
 {
     let Showing {
         canvas,
@@ -111,13 +110,12 @@ fn show<
     transcript: &mut T,
     pace: &P,
 ) -> Result<GfFile, ProgramFault>
-    requires name { easels.name easel ≡ stages.name stage }
+    requires identity { easels.identity easel ≡ stages.identity stage }
     requires start { StandsFor stage start }
     requires limits { limits stage ≡ script_limits }
     requires blank { easels.drawn_of easel ≡ None }
-    ensures { IfOk result (λ file. IfSome (R.remaining reader.old)
-        (IsShown (easels.style_of easel) (easels.canvas_of easel) file (W.contents screen.old) (W.contents screen.new)
-        (T.contents transcript.old) (T.contents transcript.new))) }
+    ensures { IfOk result (Shows (easels.style_of easel) (easels.canvas_of easel)
+        (streams_of R.remaining reader.old W.contents screen.old screen.new T.contents transcript.old transcript.new)) }
 {
     let mut stage = stage;
     let mut easel = easel;
@@ -139,13 +137,13 @@ fn conclude<S: Wait + Files, W: Write>(
     performed: Result<(), StageFault>,
     drawn: Result<(), EaselFault>,
 ) -> Result<GfFile, ProgramFault>
-    requires name { easels.name easel ≡ stages.name stage }
+    requires identity { easels.identity easel ≡ stages.identity stage }
     requires stands { OnOk performed ((s : State) × StandsFor stage s) }
     ensures script { IfErr performed (λ fault. result ≡ Err (fault_of_stage fault)) }
     ensures drawing { IfErr drawn (λ _. IsErr result) }
     ensures file { IfOk result (λ file. (s : State) → StandsFor stage s → IsFileOf (stages.session_of stage) s file) }
-    ensures shown { OnOk result ((s : State) (held : Option (List ℕ)) → StandsFor stage s → OnOk drawn (HasDrawn easel held (W.contents screen.old))
-        → ShowsLast (easels.style_of easel) (easels.canvas_of easel) (complete_list s.pictures) held (W.contents screen.new)) }
+    ensures shown { OnOk result ((s : State) → StandsFor stage s
+        → EndsDrawing drawn easel (complete_list s.pictures) (W.contents screen.old) (W.contents screen.new)) }
 {
     match performed {
         Ok(()) => end(rt, alloc, stage, easel, screen, drawn),
@@ -173,29 +171,26 @@ fn perform_beside<
     transcript: &mut T,
     pace: &P,
 ) -> Sides
-    ensures stage_name { stages.name stage.new ≡ stages.name stage.old }
-    ensures easel_name { easels.name easel.new ≡ easels.name easel.old }
+    ensures stage_identity { stages.identity stage.new ≡ stages.identity stage.old }
+    ensures easel_identity { easels.identity easel.new ≡ easels.identity easel.old }
     ensures manner { easels.HasSameManner easel.old easel.new }
-    ensures drawn { OnOk result.drawn ((held : Option (List ℕ)) → HasDrawn easel.old held (W.contents screen.old)
-        → HasDrawn easel.new held (W.contents screen.new)) }
-    ensures stands { OnOk result.performed ((s : State) → StandsFor stage.old s → (t : State) × StandsFor stage.new t) }
-    ensures transcript { OnOk result.performed (IfSome (R.remaining reader.old) (λ input. (s : State)
-        → StandsFor stage.old s → HasPerformed stage.old s (lines input) stage.new (T.contents transcript.old) (T.contents transcript.new))) }
+    ensures drawn { OnOk result.drawn (DrawsMore easel.old easel.new (W.contents screen.old) (W.contents screen.new)) }
+    ensures stands { OnOk result.performed (StillStands stage.old stage.new) }
+    ensures transcript { OnOk result.performed
+        (PerformsAll stage.old (R.remaining reader.old) stage.new (T.contents transcript.old) (T.contents transcript.new)) }
 {
     let ended = AtomicBool::new(false);
     let (drawn, performed) = join_mut(
         rt,
         &mut || -> Result<(), EaselFault>
             requires { IsSync S.row × IsSync P.row × IsSend W.row }
-            ensures { (easels.name easel.exit.now ≡ easels.name easel.entry.now)
-                × easels.HasSameManner easel.entry.now easel.exit.now × OnOk result ((held : Option (List ℕ))
-                → HasDrawn easel.entry.now held (W.contents screen.entry.now) → HasDrawn easel.exit.now held (W.contents screen.exit.now)) }
+            ensures { IsSameEasel easel.entry.now easel.exit.now
+                × OnOk result (DrawsMore easel.entry.now easel.exit.now (W.contents screen.entry.now) (W.contents screen.exit.now)) }
         { draw_on(rt, alloc, easel, screen, pace, &ended) },
         &mut || -> Result<(), StageFault>
-            ensures { (stages.name stage.exit.now ≡ stages.name stage.entry.now)
-                × OnOk result ((s : State) → StandsFor stage.entry.now s → (t : State) × StandsFor stage.exit.now t)
-                × OnOk result (IfSome (R.remaining reader.entry.now) (λ input. (s : State) → StandsFor stage.entry.now s
-                → HasPerformed stage.entry.now s (lines input) stage.exit.now (T.contents transcript.entry.now) (T.contents transcript.exit.now))) }
+            ensures { (stages.identity stage.exit.now ≡ stages.identity stage.entry.now)
+                × OnOk result (StillStands stage.entry.now stage.exit.now) × OnOk result (PerformsAll stage.entry.now
+                (R.remaining reader.entry.now) stage.exit.now (T.contents transcript.entry.now) (T.contents transcript.exit.now)) }
         {
             let performed = stage.perform(rt, alloc, &mut *reader, transcript, pace);
             ended.store(true, Ordering::SeqCst);
@@ -214,12 +209,12 @@ fn end<S: Wait + Files, W: Write>(
     screen: &mut W,
     drawn: Result<(), EaselFault>,
 ) -> Result<GfFile, ProgramFault>
-    requires name { easels.name easel ≡ stages.name stage }
+    requires identity { easels.identity easel ≡ stages.identity stage }
     requires stands { (s : State) × StandsFor stage s }
     ensures drawing { IfErr drawn (λ _. IsErr result) }
     ensures file { IfOk result (λ file. (s : State) → StandsFor stage s → IsFileOf (stages.session_of stage) s file) }
-    ensures shown { OnOk result ((s : State) (held : Option (List ℕ)) → StandsFor stage s → OnOk drawn (HasDrawn easel held (W.contents screen.old))
-        → ShowsLast (easels.style_of easel) (easels.canvas_of easel) (complete_list s.pictures) held (W.contents screen.new)) }
+    ensures shown { OnOk result ((s : State) → StandsFor stage s
+        → EndsDrawing drawn easel (complete_list s.pictures) (W.contents screen.old) (W.contents screen.new)) }
 {
     let (mut ended, file) = stage.finish(rt, alloc)?;
     let shown = show_last(alloc, easel, screen, &mut ended, drawn);
@@ -238,10 +233,9 @@ fn show_last<W: Write>(
     ended: &mut Ended,
     drawn: Result<(), EaselFault>,
 ) -> Result<(), EaselFault>
-    requires name { easels.name easel ≡ ended_identity ended.old }
+    requires identity { easels.identity easel ≡ ended_identity ended.old }
     ensures drawing { IfErr drawn (λ fault. result ≡ Err fault) }
-    ensures shown { OnOk result ((held : Option (List ℕ)) → OnOk drawn (HasDrawn easel held (W.contents screen.old))
-        → ShowsLast (easels.style_of easel) (easels.canvas_of easel) (ended_published_list ended.old) held (W.contents screen.new)) }
+    ensures shown { OnOk result (EndsDrawing drawn easel (ended_published_list ended.old) (W.contents screen.old) (W.contents screen.new)) }
 {
     let mut easel = easel;
     match drawn {

@@ -3,6 +3,7 @@ ghost use Rattle.std.specs.Io.KnownBytes.{Appends};
 ghost use Rattle.std.specs.Prelude.{◌≡◌, ◌++◌, ◌⊎◌, IfOk, OnOk, codes, decimal, map, option_map, string_bytes, true};
 ghost use Rattle.mf_view.specs.Endings.{EndsWell, IsShownInto, IsWatched, size_in, style_in};
 ghost use Rattle.mf_view.specs.Messages.{GetsMessage, message_of, usage};
+ghost use Rattle.mf_view.specs.Performances.{streams_of};
 ghost use Rattle.mf_view.specs.Statuses.{status_of};
 ghost use Rattle.mf_view_words.specs.Requests.{IsCommandLine, IsWordsInRange};
 
@@ -14,8 +15,9 @@ use itoa::Buffer;
 use mf_base::write_counted;
 use mf_frame::{Canvas, Style, TooSmall};
 use mf_gf::GfFile;
+use mf_options::WordsFault;
 use mf_stage::{Pace, Plates};
-use mf_view_words::{HELP, Request, USAGE, VERSION, Words, WordsFault, read_words};
+use mf_view_words::{HELP, Request, USAGE, VERSION, Words, read_words};
 use std::alloc::Global;
 use std::fs;
 use std::io::{Read, Write};
@@ -57,8 +59,8 @@ pub fn program<S: Wait + Threads + Files + Clock + Sync, R: Read, W: Write + Sen
     ensures unread { (IsCommandLine (map string_bytes words.items) → ⊥) → reader.new ≡ reader.old }
     ensures unwritten { (IsCommandLine (map string_bytes words.items) → ⊥) → screen.new ≡ screen.old }
     ensures usage { result ≡ BAD_WORDS → GetsMessage (E.contents errors.old) (E.contents errors.new) usage }
-    ensures done { result ≡ DONE → EndsWell (map string_bytes words.items) (R.remaining reader.old)
-        (W.contents screen.old) (W.contents screen.new) (E.contents errors.old) (E.contents errors.new) }
+    ensures done { result ≡ DONE → EndsWell (map string_bytes words.items)
+        (streams_of R.remaining reader.old W.contents screen.old screen.new E.contents errors.old errors.new) }
 {
     let request = match read_words(alloc, words) {
         Ok(request) => request,
@@ -85,8 +87,7 @@ fn watch<S: Wait + Threads + Files + Clock + Sync, R: Read, W: Write + Send, E: 
     words: Words,
 ) -> Result<(), ProgramFault>
     requires { IsWordsInRange words }
-    ensures { OnOk result
-        (IsWatched words (R.remaining reader.old) (W.contents screen.old) (W.contents screen.new) (E.contents errors.old) (E.contents errors.new)) }
+    ensures { OnOk result (IsWatched words (streams_of R.remaining reader.old W.contents screen.old screen.new E.contents errors.old errors.new)) }
 {
     let Words {
         columns,
@@ -155,7 +156,7 @@ fn perform_into<
     transcript: Option<String>,
 ) -> Result<GfFile, ProgramFault>
     ensures { IfOk result (IsShownInto (option_map string_bytes transcript) showing.style showing.canvas
-        (R.remaining reader.old) (W.contents screen.old) (W.contents screen.new) (E.contents errors.old) (E.contents errors.new)) }
+        (streams_of R.remaining reader.old W.contents screen.old screen.new E.contents errors.old errors.new)) }
 {
     let Some(path) = transcript else {
         return perform(rt, alloc, reader, screen, errors, pace, showing);

@@ -1,38 +1,29 @@
--- What clap's answers say about the command line.
-use Rattle.std.proofs.Common.{◌≡◌, ◌∙◌, List, [], ap, inl, inr, refl, subst, true}
-use Rattle.clap.specs.Faults.{is_simple_and_free}
-use Rattle.clap.specs.Kinds.{HasKind, IsAmong}
-use Rattle.clap.specs.Simple.{app_of_fields}
-use Rattle.clap.specs.Words.{App, Text, app_of, fault_of, is_simple, kind_of}
-use Rattle.clap.specs.declared.builder.command.Command.{Command}
-use Rattle.clap.specs.declared.builder.command.Command.TheOpen.{Command-F}
-use Rattle.clap.specs.declared.builder.command.Command.TheViews.{out-Command}
-use Rattle.clap.specs.declared.error.Error.{Error}
-use Rattle.mf_view_words.specs.CommandLine.{mfview, without_flags}
-use Rattle.mf_view_words.specs.Faults.{words_fault}
-use Rattle.mf_view_words.specs.declared.words.WordsFault.TheVariants.{BadWords, OutOfMemory}
+-- The command line has plain options only, and the words give numbers and flags to them.
+use Rattle.std.proofs.Common.{◌≡◌, List, codes, refl, subst, true}
+use Rattle.clap.specs.Words.{App, Row, is_simple_and_free}
+use Rattle.clap.specs.declared.builder.value_parser.ValueParser.TheVariants.{Bool as flag}
+use Rattle.mf_options.specs.Options.{within}
+use Rattle.mf_options.specs.Values.{AreValuesOf}
+use Rattle.mf_view_words.specs.CommandLine.{mfview, rules}
+use Rattle.mf_view_words.specs.Values.{IsReadable}
 
-pub mfview-simple : is_simple mfview ≡ true
+pub mfview-plain : is_simple_and_free mfview ≡ true
 unfolding mfview
-mfview-simple = refl
+mfview-plain = refl
 
-pub mfview-free : is_simple_and_free mfview ≡ true
+pub readable : (app : App) (found : List Row) → app ≡ mfview → AreValuesOf app.top.rules found → IsReadable found
 unfolding mfview
-mfview-free = refl
-
--- a command after `disable_help_flag(true)` and `disable_version_flag(true)`
-pub flags_taken : (start helpless bare : Command) → out-Command helpless ≡ record (out-Command start) { disable_help_flag = true }
-    → out-Command bare ≡ record (out-Command helpless) { disable_version_flag = true }
-    → app_of bare ≡ without_flags (app_of start)
-flags_taken start helpless bare first second = ap app_of_fields second ∙ ap without_version_flag first
+readable app found same values = go (subst (λ (a : App). AreValuesOf a.top.rules found) same values)
   where
-    without_version_flag : Command-F Command → App
-    without_version_flag f = app_of_fields (record f { disable_version_flag = true })
-
--- an error of clap that is not OutOfMemory means that clap finds a fault in the words
-pub has_fault : (words : List Text) (error : Error) → HasKind (fault_of mfview words) error → words_fault (kind_of error) ≡ BadWords
-    → fault_of mfview words ≡ [] → ⊥
-has_fault words error (inl memory) bad none =
-    let both : OutOfMemory ≡ BadWords = rw memory at bad in
-    cc
-has_fault words error (inr among) bad none = subst (IsAmong (kind_of error)) none among
+    go : AreValuesOf rules found → IsReadable found
+    go of = record {
+      columns = of (codes "columns") (within 1 1000) refl;
+      rows = of (codes "rows") (within 1 1000) refl;
+      pause = of (codes "pause") (within 0 60000) refl;
+      design_size = of (codes "design-size") (within 0 2047) refl;
+      resolution = of (codes "resolution") (within 0 100000) refl;
+      frames = of (codes "frames") flag refl;
+      pgm = of (codes "pgm") flag refl;
+      help = of (codes "asks-help") flag refl;
+      version = of (codes "asks-version") flag refl;
+    }

@@ -1,3 +1,1 @@
 mod CommandLines
-mod ValuesRead
-mod ValuesTyped

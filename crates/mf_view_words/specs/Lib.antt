@@ -1,4 +1,3 @@
 pub mod CommandLine
-pub mod Faults
 pub mod Requests
 pub mod Values

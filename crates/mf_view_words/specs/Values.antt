@@ -1,37 +1,7 @@
--- The values that the words give, by the names of their options.
-use Rattle.std.specs.Prelude.{◌≡◌, ◌⊎◌, ◌<◌, ◌≤◌, ◌^◌, ℕ, Bool, IfSome, List, Option, codes, false}
-use Rattle.std.specs.Option.{option_map_or}
-use Rattle.std.specs.Str.{bytes_eq}
-use Rattle.std.specs.Str.Parse.{IsNumeral, digits_value, without_leading_plus}
-use Rattle.clap.specs.Words.{Row, Text, first_of, one_of}
-
--- the number that a text represents in decimal
-abbrev pub number_of : Text → ℕ
-number_of text = digits_value 10 (without_leading_plus text)
-
--- the number of an option, and the default where the words do not have the option
-abbrev pub number_in : List Row → Text → ℕ → ℕ
-number_in found id default = option_map_or number_of (one_of id found) default
-
--- the file of an option, if the words have the option
-abbrev pub file_in : List Row → Text → Option Text
-file_in found id = first_of id found
-
--- whether the words have a flag
-abbrev pub has_flag : List Row → Text → Bool
-has_flag found id = option_map_or (λ text. bytes_eq text (codes "true")) (one_of id found) false
-
--- the text is a number of 32 bits
-abbrev pub IsNumber : Text → Type 0
-IsNumber text = IsNumeral 10 (without_leading_plus text) × (number_of text < 2 ^ 32)
-
--- the text is a number low..high
-abbrev pub IsNumberIn : ℕ → ℕ → Text → Type 0
-IsNumberIn low high text = IsNumeral 10 (without_leading_plus text) × (low ≤ number_of text) × (number_of text ≤ high)
-
--- the text is what clap keeps of a flag
-abbrev pub IsFlagText : Text → Type 0
-IsFlagText text = (text ≡ codes "true") ⊎ (text ≡ codes "false")
+-- The values that the words give are numbers and flags.
+use Rattle.std.specs.Prelude.{IfSome, List, codes}
+use Rattle.clap.specs.Words.{Row, one_of}
+use Rattle.mf_options.specs.Values.{IsFlagText, IsNumberIn}
 
 -- the values are numbers in their ranges, and flags
 pub record IsReadable (found : List Row) : Type 0 where

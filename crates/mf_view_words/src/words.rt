@@ -1,16 +1,13 @@
 //! The words of the command line, and what they ask for.
 ghost use Rattle.std.specs.Prelude.{◌≡◌, IfOk, IsErrOf, OnOk, map, string_bytes};
-ghost use Rattle.clap.specs.Words.{found_of, kind_of, rows_of};
-ghost use Rattle.mf_view_words.specs.Faults.{words_fault};
+ghost use Rattle.clap.specs.Words.{found_of, rows_of};
 ghost use Rattle.mf_view_words.specs.Requests.{AreWords, IsCommandLine, IsInRange, IsRequest, IsRequestIn, IsWordsInRange};
 ghost use Rattle.mf_view_words.specs.Values.{IsReadable};
-ghost use Rattle.mf_view_words.specs.declared.words.WordsFault.TheVariants.{OutOfMemory as NoMemory};
 
-use crate::matched::{file, flag, matched, number};
+use crate::options::command;
 use clap::ArgMatches;
-use clap::error::ErrorKind;
+use mf_options::{WordsFault, file, find_matches, flag, number};
 use std::alloc::{AllocError, Global};
-use thiserror::Error;
 
 /// How the words ask for a script to be performed and drawn.
 #[derive(Debug, Drop)]
@@ -48,36 +45,6 @@ pub enum Request {
     Version,
 }
 
-/// Why the words of the command line are refused. Its message is its name.
-#[derive(Clone, Copy, Debug, PartialEq, Eq, Error)]
-pub enum WordsFault {
-    /// The words are not a command line of the program.
-    #[error("BadWords")]
-    BadWords,
-    /// An allocation failed. This may come instead of `BadWords`.
-    #[error("OutOfMemory")]
-    OutOfMemory,
-}
-
-impl From<AllocError> for WordsFault {
-    ghost from_gives = { λ _ fault. fault ≡ NoMemory };
-
-    fn from(_fault: AllocError) -> WordsFault {
-        WordsFault::OutOfMemory
-    }
-}
-
-impl From<clap::Error> for WordsFault {
-    ghost from_gives = { λ error fault. fault ≡ words_fault (kind_of error) };
-
-    fn from(error: clap::Error) -> WordsFault {
-        match error.kind() {
-            ErrorKind::OutOfMemory => WordsFault::OutOfMemory,
-            _ => WordsFault::BadWords,
-        }
-    }
-}
-
 /// Reads the words of the command line. The first word is the program's name, whatever it is. `--help` comes before `--version`,
 /// and both before everything else. Refused with `BadWords` only where the rest has a word that is not an option, an option twice
 /// or without its value, a number out of its range, or `--pgm` without `--plates`; and with `OutOfMemory` where an allocation fails.
@@ -87,7 +54,7 @@ pub fn read_words(alloc: Global, words: Vec<String>) -> Result<Request, WordsFau
     ensures value { IfOk result (IsRequest (map string_bytes words.items)) }
     ensures range { IfOk result IsInRange }
 {
-    let matches = matched(alloc, words.as_slice())?;
+    let matches = find_matches(command(alloc)?, words.as_slice())?;
     let asked = words_in(alloc, &matches)?;
     if asked.pgm && asked.plates.is_none() {
         return Err(WordsFault::BadWords);

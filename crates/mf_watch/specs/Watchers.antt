@@ -49,8 +49,8 @@ abbrev pub record_of : Watcher → Vec Glance Global
 record_of w = w.seen
 
 -- which picture it looks at
-abbrev pub name : Watcher → Book
-name w = viewers.identity (viewer_of w)
+abbrev pub identity : Watcher → Book
+identity w = viewers.identity (viewer_of w)
 
 -- it has the record of this many looks, each at a whole prefix of what its viewer has seen
 abbrev pub IsRecord : ℕ → Watcher → Type 0
@@ -67,7 +67,7 @@ EndWith list glances = (glances ≡ []) ⊎ ((earlier : List Glance) × (glances
 -- a viewer of this picture, with the record of this many looks, the last of which is its last answered look, and with room for
 -- more
 pub record IsWatcher (picture : Book) (looks more : ℕ) (w : Watcher) : Type 0 where
-  pub name_is : name w ≡ picture
+  pub identity_is : identity w ≡ picture
   pub record_is : IsRecord looks w
   pub last_is : EndWith (viewers.looked_at_list (viewer_of w)) (record_of w).items
   pub room : HasRoom more w

@@ -7,7 +7,7 @@ use Rattle.mf_live.specs.declared.look.NoLook.{NoLook}
 use Rattle.mf_watch.specs.declared.watcher.Watcher.{Watcher}
 use Rattle.mf_watch.specs.declared.watching.OwedLooks.{OwedLooks}
 use Rattle.mf_watch.specs.declared.watching.Watching.{Watching}
-use Rattle.mf_watch.specs.Watchers.{name}
+use Rattle.mf_watch.specs.Watchers.{identity}
 
 -- how many viewers look on
 abbrev pub viewer_count : Watching → ℕ
@@ -15,7 +15,7 @@ viewer_count watching = length watching.threads.items
 
 -- the thread promises this many looks at this picture
 abbrev pub Owes : Book → ℕ → PromisedHandle (Result Watcher NoLook) OwedLooks → Type 0
-Owes picture looks thread = (name thread.promise.watcher.value ≡ picture) × (thread.promise.looks ≡ looks)
+Owes picture looks thread = (identity thread.promise.watcher.value ≡ picture) × (thread.promise.looks ≡ looks)
 
 -- each thread promises this many looks at this picture
 abbrev pub AreStarted : Book → ℕ → Watching → Type 0

@@ -4,7 +4,7 @@ ghost use Rattle.logbook.specs.Pages.{Book};
 ghost use Rattle.mf_live.specs.Entries.{is_closed};
 ghost use Rattle.mf_live.specs.Sheets.{HasLookedAt, IsLastNotTaken};
 ghost use Rattle.mf_live.specs.Viewers as viewers;
-ghost use Rattle.mf_watch.specs.Watchers.{HasRoom, HasSeen, IsRecord, IsWatcher, glance_at, name, record_of, viewer_of};
+ghost use Rattle.mf_watch.specs.Watchers.{HasRoom, HasSeen, IsRecord, IsWatcher, glance_at, identity, record_of, viewer_of};
 
 use crate::gate::Gate;
 use crate::glance::Glance;
@@ -35,8 +35,8 @@ impl Watcher {
 
     /// Looks `looks` times, and lets the gate know of each look while it is held. Refused with `NoLook` where a look is refused.
     pub(crate) fn watch<G: Gate>(self, number: u32, looks: u32, gate: &G) -> Result<Watcher, NoLook>
-        requires { IsWatcher (name self) 0 (looks + 1) self }
-        ensures watcher { IfOk result (IsWatcher (name self) looks 1) }
+        requires { IsWatcher (identity self) 0 (looks + 1) self }
+        ensures watcher { IfOk result (IsWatcher (identity self) looks 1) }
         ensures refused { IfErr result (λ _. 0 < looks) }
     {
         let mut watcher = self;
@@ -74,9 +74,9 @@ impl Watcher {
     /// after it; the record then stays as it was.
     pub fn look_last(&mut self, alloc: Global, notice: Notice) -> Result<Glance, SheetFault>
         requires room { HasRoom 1 self.old }
-        requires name { viewers.notice_identity notice ≡ name self.old }
+        requires identity { viewers.notice_identity notice ≡ identity self.old }
         requires closed { is_closed (viewers.told_list notice) ≡ true }
-        ensures name { name self.new ≡ name self.old }
+        ensures identity { identity self.new ≡ identity self.old }
         ensures glance { IfOk result (λ glance. glance ≡ glance_at (viewers.told_list notice)) }
         ensures seen { OnOk result ((looks : ℕ) → IsRecord looks self.old → HasSeen (viewers.told_list notice) looks (record_of self.new).items) }
         ensures recorded { OnOk result ((record_of self.new).items ≡ (record_of self.old).items ++ glance_at (viewers.told_list notice) ∷ []) }

@@ -2,7 +2,7 @@
 ghost use Rattle.std.specs.Prelude.{◌≡◌, ◌⊎◌, ◌+◌, ◌≤◌, ◌<◌, ℕ, All, IfErr, IfOk, OnOk, length, vec_capacity};
 ghost use Rattle.logbook.specs.Pages.{Book};
 ghost use Rattle.mf_live.specs.Desks.{desk_identity, remaining_viewers};
-ghost use Rattle.mf_watch.specs.Watchers.{IsWatcher, name};
+ghost use Rattle.mf_watch.specs.Watchers.{IsWatcher, identity};
 
 use crate::fault::StartFault;
 use crate::gate::Gate;
@@ -24,9 +24,9 @@ pub(crate) struct OwedLooks {
 
 impl Promise<Result<Watcher, NoLook>> for OwedLooks {
     ghost use Rattle.std.specs.Prelude.{◌<◌, MatchResult};
-    ghost use Rattle.mf_watch.specs.Watchers.{IsWatcher, name};
+    ghost use Rattle.mf_watch.specs.Watchers.{IsWatcher, identity};
 
-    ghost kept_by = { λ owed answer. MatchResult answer (IsWatcher (name owed.watcher.value) owed.looks 1) (λ _. 0 < owed.looks) };
+    ghost kept_by = { λ owed answer. MatchResult answer (IsWatcher (identity owed.watcher.value) owed.looks 1) (λ _. 0 < owed.looks) };
 }
 
 /// Viewers that look on in threads, and room for what the threads give back. The room is allocated before the first thread
@@ -100,12 +100,12 @@ impl Watching {
         looks: u32,
         gate: &Arc<G>,
     ) -> Result<(), NoPlace>
-        requires ready { IsWatcher (name watcher) 0 (looks + 1) watcher }
-        requires started { AreStarted (name watcher) looks self.old }
+        requires ready { IsWatcher (identity watcher) 0 (looks + 1) watcher }
+        requires started { AreStarted (identity watcher) looks self.old }
         requires few { viewer_count self.old < 64 }
         requires room { length self.old.threads.items < vec_capacity self.old.threads }
         requires joined { length self.old.threads.items < vec_capacity self.old.room }
-        ensures started { AreStarted (name watcher) looks self.new }
+        ensures started { AreStarted (identity watcher) looks self.new }
         ensures count { OnOk result (viewer_count self.new ≡ viewer_count self.old + 1) }
         ensures room { vec_capacity self.old.threads ≤ vec_capacity self.new.threads }
         ensures joined { vec_capacity self.new.room ≡ vec_capacity self.old.room }
@@ -122,7 +122,7 @@ impl Watching {
             rt,
             owed,
             move ||
-                requires { IsWatcher (name watcher) 0 (looks + 1) watcher }
+                requires { IsWatcher (identity watcher) 0 (looks + 1) watcher }
             { watcher.watch(number, looks, &*gate) },
         );
         match started {

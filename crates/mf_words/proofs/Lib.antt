@@ -1,2 +1,1 @@
 mod CommandLines
-mod ViewersRead

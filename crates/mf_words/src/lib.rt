@@ -3,4 +3,4 @@
 
 mod words;
 
-pub use words::{USAGE, Words, WordsFault, read_words};
+pub use words::{USAGE, Words, read_words};

@@ -1,6 +1,6 @@
 //! Sessions, called directly.
 ghost use Rattle.std.specs.Prelude.{◌≡◌};
-ghost use Rattle.mf_session.specs.Sessions.{StandsFor, name};
+ghost use Rattle.mf_session.specs.Sessions.{StandsFor, identity};
 ghost use Rattle.mf_session.specs.States.{State, start};
 ghost use Rattle.mf_live.specs.Desks.{desk_identity};
 ghost use Rattle.mf_live.specs.Writers.{ended_identity};
@@ -20,7 +20,7 @@ use std::sync::Wait;
 /// Opens a session that accepts at most `max_ops` operations on `currentpicture`, with a desk of one place.
 pub(crate) fn opened<R: Abort + Wait>(rt: &R, alloc: Global, max_ops: u32) -> (Session, Desk)
     ensures start { StandsFor result.0 start }
-    ensures name { desk_identity result.1 ≡ name result.0 }
+    ensures identity { desk_identity result.1 ≡ identity result.0 }
 {
     Session::new(rt, alloc, 1, max_ops, AMPLE.max_bytes).expect(rt, "there is room for a session")
 }
@@ -33,7 +33,7 @@ pub(crate) fn perform<R: Abort + Wait>(
     line: &str,
 ) -> Vec<u8>
     ensures stands { (s : State) → StandsFor session.old s → (t : State) × StandsFor session.new t }
-    ensures name { name session.new ≡ name session.old }
+    ensures identity { identity session.new ≡ identity session.old }
 {
     session
         .command(rt, alloc, line.as_bytes())
@@ -42,7 +42,7 @@ pub(crate) fn perform<R: Abort + Wait>(
 
 /// Ends the script of a session.
 pub(crate) fn finish<R: Abort + Wait>(rt: &R, session: Session) -> (Ended, GfFile)
-    ensures { (s : State) → StandsFor session s → ended_identity result.0 ≡ name session }
+    ensures { (s : State) → StandsFor session s → ended_identity result.0 ≡ identity session }
 {
     match session.finish(rt) {
         Ok(ended) => ended,

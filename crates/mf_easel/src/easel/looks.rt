@@ -1,10 +1,9 @@
 //! Looking and drawing.
-ghost use Rattle.std.specs.Prelude.{◌≡◌, ◌⊎◌, ◌++◌, None, Some, true, IfErr, IfOk, IfSome, MatchResult, OnOk};
-ghost use Rattle.mf_frame.specs.Frames.{frame_text};
+ghost use Rattle.std.specs.Prelude.{◌≡◌, ◌⊎◌, None, Some, true, IfErr, IfOk, IfSome, MatchResult, OnOk};
 ghost use Rattle.mf_live.specs.Entries.{is_closed, pic, rev};
 ghost use Rattle.mf_live.specs.Sheets.{HasLooked, sheet_picture, sheet_revision};
 ghost use Rattle.mf_live.specs.Viewers as viewers;
-ghost use Rattle.mf_easel.specs.Easels.{HasLookedLast, HasSameManner, IsLastNotDrawn, IsNotDrawn, canvas_of, drawn_of, drawing_of, looked_at_list, name, style_of, viewer_of};
+ghost use Rattle.mf_easel.specs.Easels.{HasLookedLast, HasSameManner, IsLastNotDrawn, IsNotDrawn, canvas_of, drawing_of, drawing_with, drawn_of, identity, looked_at_list, style_of, viewer_of};
 ghost use Rattle.mf_easel.specs.Screens.{Gets, GetsNoMore, IsAbove, newly_drawn, over};
 
 use super::Easel;
@@ -21,7 +20,7 @@ use std::io::Write;
 impl Easel {
     /// An easel for this viewer, which has drawn nothing.
     pub fn new(viewer: Viewer, canvas: Canvas, style: Style) -> Easel
-        ensures name { name result ≡ viewers.identity viewer }
+        ensures identity { identity result ≡ viewers.identity viewer }
         ensures viewer { viewer_of result ≡ viewer }
         ensures canvas { canvas_of result ≡ canvas }
         ensures style { style_of result ≡ style }
@@ -48,7 +47,7 @@ impl Easel {
         alloc: Global,
         screen: &mut W,
     ) -> Result<Option<u32>, EaselFault>
-        ensures name { name self.new ≡ name self.old }
+        ensures identity { identity self.new ≡ identity self.old }
         ensures manner { HasSameManner self.old self.new }
         ensures looked { OnOk result (HasLooked (viewer_of self.old) (viewer_of self.new)) }
         ensures missed { IfErr result (IsNotDrawn (viewer_of self.old) (viewer_of self.new)) }
@@ -71,9 +70,9 @@ impl Easel {
         screen: &mut W,
         notice: Notice,
     ) -> Result<Option<u32>, EaselFault>
-        requires name { viewers.notice_identity notice ≡ name self.old }
+        requires identity { viewers.notice_identity notice ≡ identity self.old }
         requires closed { is_closed (viewers.told_list notice) ≡ true }
-        ensures name { name self.new ≡ name self.old }
+        ensures identity { identity self.new ≡ identity self.old }
         ensures manner { HasSameManner self.old self.new }
         ensures looked { OnOk result (HasLookedLast (viewer_of self.old) (viewers.told_list notice) (viewer_of self.new)) }
         ensures missed { IfErr result (IsLastNotDrawn (viewer_of self.old) (viewers.told_list notice) (viewer_of self.new)) }
@@ -117,8 +116,7 @@ impl Easel {
 
     /// The text that draws a sheet: over the frame before, if there is one.
     fn next_text(&self, alloc: Global, sheet: &Sheet) -> Result<Vec<u8>, OutOfMemory>
-        ensures { IfOk result (λ text. text.items ≡ over (style_of self.now) (canvas_of self.now)
-            (drawn_of self.now) ++ frame_text (style_of self.now) (canvas_of self.now) (sheet_revision sheet.now) (sheet_picture sheet.now)) }
+        ensures { IfOk result (λ text. text.items ≡ drawing_with self.now (sheet_revision sheet.now) (sheet_picture sheet.now)) }
     {
         let mut text = self.over(alloc)?;
         let frame = draw(

@@ -3,8 +3,8 @@ ghost use Rattle.std.specs.Prelude.{◌≡◌, ◌⊎◌, ◌<◌, ◌≤◌, �
 ghost use Rattle.mf_gf.specs.Boxes.{box_of};
 ghost use Rattle.mf_gf.specs.Spelling as spelling;
 ghost use Rattle.mf_gf.specs.Spelling.{pointer};
-ghost use Rattle.mf_gf.specs.Files.{Character, front, preamble};
-ghost use Rattle.mf_gf.specs.Keeping.{IsAppended, IsSameFile, Keeps, character, limit};
+ghost use Rattle.mf_gf.specs.Files.{Character, bytes_so_far, preamble};
+ghost use Rattle.mf_gf.specs.Keeping.{IsAppended, IsSameFile, Keeps, character, max_bytes_of};
 ghost use Rattle.mf_gf.specs.Pixels.{black};
 
 use super::{GF_ID, GfFile};
@@ -36,7 +36,7 @@ impl GfFile {
     /// `CommentTooLong` exactly where the comment has more than 255 bytes, and with `OutOfMemory` where an allocation fails.
     pub fn new(alloc: Global, comment: &[u8], max_bytes: u32) -> Result<GfFile, GfFault>
         ensures kept { IfOk result (λ file. Keeps file comment.now []) }
-        ensures limit { IfOk result (λ file. limit file ≡ min max_bytes 2147483647) }
+        ensures max_bytes { IfOk result (λ file. max_bytes_of file ≡ min max_bytes 2147483647) }
         ensures too_long { (min max_bytes 2147483647 < length (preamble comment.now)) ↔ (result ≡ Err GfFault.FileTooLong) }
         ensures comment_too_long { length (preamble comment.now) ≤ min max_bytes 2147483647 → (255 < length comment.now)
             ↔ (result ≡ Err GfFault.CommentTooLong) }
@@ -78,9 +78,10 @@ impl GfFile {
         ensures shipped { OnOk result ((comment : List ℕ) (characters : List Character)
             → Keeps self.old comment characters → Keeps self.new comment (characters ++ character code dx width picture.now ∷ [])) }
         ensures unchanged { OnErr result (IsSameFile self.old self.new) }
-        ensures limit { limit self.new ≡ limit self.old }
+        ensures max_bytes { max_bytes_of self.new ≡ max_bytes_of self.old }
         ensures too_long { (comment : List ℕ) (characters : List Character) → Keeps self.old comment characters
-            → (limit self.old < length (front comment (characters ++ character code dx width picture.now ∷ []))) ↔ (result ≡ Err GfFault.FileTooLong) }
+            → (max_bytes_of self.old < length (bytes_so_far comment (characters ++ character code dx width picture.now ∷ [])))
+            ↔ (result ≡ Err GfFault.FileTooLong) }
         ensures fault { IfErr result (λ fault. (fault ≡ GfFault.FileTooLong) ⊎ (fault ≡ GfFault.OutOfMemory)) }
     {
         let earlier = self.locators.last_place(code);
@@ -128,7 +129,7 @@ impl GfFile {
         requires some { 1 ≤ length spelled.now }
         ensures appended { OnOk result (IsAppended self.old self.new locator bounds spelled.now) }
         ensures unchanged { OnErr result (IsSameFile self.old self.new) }
-        ensures limit { limit self.new ≡ limit self.old }
+        ensures max_bytes { max_bytes_of self.new ≡ max_bytes_of self.old }
     {
         self.bytes.extend_from_slice(spelled)?;
         self.locators.set(locator);

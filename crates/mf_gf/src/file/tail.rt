@@ -1,7 +1,7 @@
 //! The end of a file: the postamble, the locators and what comes after them.
 ghost use Rattle.std.specs.Prelude.{◌≡◌, ◌⊎◌, ◌<◌, ◌≤◌, ◌↔◌, ◌+◌, ◌++◌, [], Err, IfErr, IfOk, List, ℕ, length};
 ghost use Rattle.mf_gf.specs.Files.{Character, IsLongFile, ending, file_if_any, file_of, post};
-ghost use Rattle.mf_gf.specs.Keeping.{IsRefusedAs, IsSameFile, Keeps, limit, table_text};
+ghost use Rattle.mf_gf.specs.Keeping.{IsRefusedAs, IsSameFile, Keeps, max_bytes_of, table_text};
 ghost use Rattle.mf_gf.specs.Spellings.{Holds};
 ghost use Rattle.mf_gf.specs.Tails.{tail_of};
 
@@ -35,7 +35,7 @@ impl GfFile {
         ensures none { (comment : List ℕ) (characters : List Character) → Keeps self comment characters
             → (characters ≡ []) ↔ IsRefusedAs GfFault.NoCharacters result }
         ensures too_long { (comment : List ℕ) (characters : List Character) → Keeps self comment characters
-            → (characters ≡ [] → ⊥) → (limit self < length (file_of words comment characters)) ↔ IsRefusedAs GfFault.FileTooLong result }
+            → (characters ≡ [] → ⊥) → (max_bytes_of self < length (file_of words comment characters)) ↔ IsRefusedAs GfFault.FileTooLong result }
         ensures fault { IfErr result (λ refused. (refused.1 ≡ GfFault.NoCharacters) ⊎ (refused.1 ≡ GfFault.FileTooLong) ⊎ (refused.1 ≡ GfFault.OutOfMemory)) }
     {
         let Some(bounds) = self.bounds else {
@@ -53,7 +53,7 @@ impl GfFile {
         ensures value { IfOk result (λ bytes. (comment : List ℕ) (characters : List Character)
             → Keeps self comment characters → bytes ≡ file_if_any words comment characters) }
         ensures too_long { (comment : List ℕ) (characters : List Character) → Keeps self comment characters
-            → IsLongFile (limit self) words comment characters ↔ (result ≡ Err GfFault.FileTooLong) }
+            → IsLongFile (max_bytes_of self) words comment characters ↔ (result ≡ Err GfFault.FileTooLong) }
         ensures fault { IfErr result (λ fault. (fault ≡ GfFault.FileTooLong) ⊎ (fault ≡ GfFault.OutOfMemory)) }
     {
         match self.finish(words) {

@@ -4,7 +4,7 @@ ghost use Rattle.mf_geom.specs.declared.check.Check.{Check};
 ghost use Rattle.mf_text.specs.Registers.{HasNames, IsSource};
 ghost use Rattle.mf_session.specs.Answers.{ProofAnswers, total_line};
 ghost use Rattle.mf_session.specs.Changes.{IsClearable};
-ghost use Rattle.mf_session.specs.Sessions.{IsAnsweredTo, StandsFor, limits, name};
+ghost use Rattle.mf_session.specs.Sessions.{IsAnsweredTo, StandsFor, identity, limits};
 ghost use Rattle.mf_session.specs.States.{State};
 ghost use Rattle.mf_text.specs.declared.command.Command.TheVariants as commands;
 ghost use Rattle.mf_text.specs.declared.command.Name.{Name};
@@ -37,7 +37,7 @@ impl Session {
             → IsClearable (limits self.old).max_ops s.pictures name → IsOk result }
         ensures unchanged { OnErr result ((s : State) → StandsFor self.old s → StandsFor self.new s) }
         ensures limits { limits self.new ≡ limits self.old }
-        ensures name { name self.new ≡ name self.old }
+        ensures identity { identity self.new ≡ identity self.old }
     {
         match command {
             Command::Nothing => Ok(Vec::new(alloc)),
@@ -91,7 +91,7 @@ impl Session {
             → IsAnsweredTo self.old s (commands.Ship source code dx width) text.items self.new) }
         ensures unchanged { OnErr result ((s : State) → StandsFor self.old s → StandsFor self.new s) }
         ensures limits { limits self.new ≡ limits self.old }
-        ensures name { name self.new ≡ name self.old }
+        ensures identity { identity self.new ≡ identity self.old }
     {
         let text = format!(in alloc; "[{code}]\n")?.into_bytes();
         let picture = self.variables.source(&source);

@@ -20,7 +20,7 @@ const CONTOUR: &[u8] = b"addto currentpicture contour (1,1)--(3,1)--(3,2)--(1,2)
 const FRAME: &str = "▀▀\nrevision 1  totalweight 2\ncolumns 1..2  rows 1..1  scale 1\n";
 
 /// A stage whose picture has two pixels.
-fn drawn<R: Abort + Wait>(rt: &R, alloc: Global, plates: Option<Plates>) -> (Stage, Desk) {
+fn stage_and_desk<R: Abort + Wait>(rt: &R, alloc: Global, plates: Option<Plates>) -> (Stage, Desk) {
     let made = Stage::new(rt, alloc, &SETTINGS, plates);
     let (mut stage, desk) = made.expect(rt, "there is room for a stage");
     answer(rt, alloc, &mut stage, CONTOUR);
@@ -38,7 +38,7 @@ fn answer<R: Abort + Wait>(rt: &R, alloc: Global, stage: &mut Stage, line: &[u8]
 #[test]
 fn a_look_is_drawn(rt: HostRuntime) {
     let alloc = rt.alloc();
-    let (mut stage, mut desk) = drawn(&rt, alloc, None);
+    let (mut stage, mut desk) = stage_and_desk(&rt, alloc, None);
     answer(&rt, alloc, &mut stage, b"publish");
     let viewer = desk.viewer().expect(&rt, "there is a place");
     let canvas = Canvas::new(48, 6).expect(&rt, "the terminal is large enough");
@@ -67,7 +67,7 @@ fn a_look_is_drawn(rt: HostRuntime) {
 fn a_publish_has_a_plate(rt: HostRuntime) {
     let alloc = rt.alloc();
     let folder = String::from_str(alloc, "plates").expect(&rt, "there is room for a name");
-    let (mut stage, _) = drawn(&rt, alloc, Some(Plates { folder, pgm: true }));
+    let (mut stage, _) = stage_and_desk(&rt, alloc, Some(Plates { folder, pgm: true }));
     let mut transcript = Sink::reserved(alloc, 1000).expect(&rt, "there is room for a text");
     refuse_growths(alloc);
     let answered = stage.answer(&rt, alloc, b"publish", &mut transcript);

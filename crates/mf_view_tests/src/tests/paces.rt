@@ -21,7 +21,7 @@ impl Held {
 }
 
 impl Pace for Held {
-    fn published(&self, revision: u32) {
+    fn note_publish(&self, revision: u32) {
         for _ in 0..TURNS {
             if self.drawn.load(Ordering::SeqCst) >= u64::from(revision) {
                 return;
@@ -31,7 +31,7 @@ impl Pace for Held {
 }
 
 impl Rest for Held {
-    fn drawn(&self, revision: u32) {
+    fn note_frame(&self, revision: u32) {
         self.drawn.store(u64::from(revision), Ordering::SeqCst);
     }
 

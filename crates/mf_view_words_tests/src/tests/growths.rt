@@ -4,8 +4,9 @@ use crate::tests::assertions::assert_same;
 use crate::tests::words::{
     ALL, ALL_WORDS, Asked, assert_asks, assert_refused, assert_shows, command_line,
 };
+use mf_options::WordsFault;
 use mf_testing::{grow_again, refuse_growths};
-use mf_view_words::{Request, WordsFault, read_words};
+use mf_view_words::{Request, read_words};
 use std::process::Abort;
 
 /// What the words after the program's name ask for. Allocations are refused once the list of words is made.

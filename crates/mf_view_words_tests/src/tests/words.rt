@@ -1,7 +1,8 @@
 //! Tests of command lines: each option, its bounds, and what is refused.
 
 use crate::tests::assertions::{assert_holds, assert_same};
-use mf_view_words::{HELP, Request, Words, WordsFault, read_words};
+use mf_options::WordsFault;
+use mf_view_words::{HELP, Request, Words, read_words};
 use std::alloc::{AllocError, Global};
 use std::process::Abort;
 

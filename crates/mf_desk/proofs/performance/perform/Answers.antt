@@ -70,12 +70,12 @@ perform_watched-requires-clause-few g c = omega (arith, c.requires, c.in-Ok.ensu
 pub perform_watched-requires-clause-started : goal.perform_watched-requires-clause-started
 perform_watched-requires-clause-started g c = (
   c.args.looks,
-  subst (λ picture. AreStarted picture c.args.looks c.in-Ok.watching) c.in_ok-progress.ensures.name c.in-Ok.ensures.started,
+  subst (λ picture. AreStarted picture c.args.looks c.in-Ok.watching) c.in_ok-progress.ensures.identity c.in-Ok.ensures.started,
 )
 
 pub returns-clause-performance : goal.returns-clause-performance
 returns-clause-performance g c =
-    let started = subst (λ picture. AreStarted picture c.args.looks c.in-Ok.watching) c.in_ok-progress.ensures.name c.in-Ok.ensures.started in
+    let started = subst (λ picture. AreStarted picture c.args.looks c.in-Ok.watching) c.in_ok-progress.ensures.identity c.in-Ok.ensures.started in
     rw (sym c.in-Ok.ensures.count)
     (IfOk-weaker c.perform_watched.result _ _ (λ outcome performance. performance c.args.looks started) c.perform_watched.ensures.performance)
 

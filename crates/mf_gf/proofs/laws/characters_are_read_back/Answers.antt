@@ -4,7 +4,7 @@ use Rattle.std.proofs.lemmas.List.Elements.{All-weaker}
 use Rattle.std.proofs.lemmas.List.Folds.{Any-from_list_any, list_any-from_Any}
 use Rattle.mf_gf.specs.declared.file.FontWords.{FontWords}
 use Rattle.mf_gf.specs.declared.locator.Locator.{Locator}
-use Rattle.mf_gf.specs.Files.{Character, Shipment, file_of, front, last_of, locator_of, shipments}
+use Rattle.mf_gf.specs.Files.{Character, Shipment, bytes_so_far, file_of, last_of, locator_of, shipments}
 use Rattle.mf_gf.specs.Pointers.{AreShippable, HasCode, LeadsBack, LeadsToAll, characters_of}
 use Rattle.mf_gf.specs.Spelling.{pointer}
 use Rattle.mf_gf.proofs.CharactersRead.{AllStand, all_before, all_stand, character_of, characters_shipped, has_last, has_last-shipped, last_is_first, last_stands, leads_back, of_code}
@@ -28,17 +28,18 @@ module _ (words : FontWords) (comment : List ℕ) (cs : List Character) (shippab
   abbrev locators : List Locator
   locators = lasts_from 0 256 (shipments comment cs)
 
-  stand : AllStand (front comment cs) shipped
+  stand : AllStand (bytes_so_far comment cs) shipped
   stand = all_stand comment cs shippable.each
 
   readable : (code : ℕ) (s : Shipment) → last_of code shipped ≡ Some s → IsReadable (locator_of s)
   readable code s is =
-      let there = (last_stands (front comment cs) code s shipped stand is).stands in
+      let there = (last_stands (bytes_so_far comment cs) code s shipped stand is).stands in
       record { dx = there.shippable.dx; width = there.shippable.width; place = omega (arith, there.before, shippable.short) }
 
   stand_in_file : AllStand file shipped
   stand_in_file =
-      let begins = file-begins words comment cs in subst (λ it. AllStand it shipped) (sym begins.1) (all_before (front comment cs) begins.0 shipped stand)
+      let begins = file-begins words comment cs in
+      subst (λ it. AllStand it shipped) (sym begins.1) (all_before (bytes_so_far comment cs) begins.0 shipped stand)
 
   leads : (l : Locator) → IsLastFrom shipped 0 l → LeadsToAll file cs l
   leads l from =
@@ -47,7 +48,7 @@ module _ (words : FontWords) (comment : List ℕ) (cs : List Character) (shippab
       let first = last_is_first code s shipped from.last in
       let all : characters_of code cs ≡ s.character ∷ first.others = ap (of_code code) (sym (characters_shipped comment cs)) ∙ first.all in
       let at : pos l.place ≡ pos s.place = ap (λ (it : Locator). pos it.place) from.is in
-      let back = leads_back (front comment cs) file code shipped shippable.short stand stand_in_file in
+      let back = leads_back (bytes_so_far comment cs) file code shipped shippable.short stand stand_in_file in
       record {
         last = s.character;
         earlier = first.others;

@@ -1,6 +1,6 @@
 use Rattle.std.proofs.Common.{◌≡◌, ◌+◌, ℕ, List, [], ◌∷◌, ◌++◌, length, replicate, pos, sym, append_assoc, length-append, arith}
 use Rattle.std.proofs.lemmas.List.{length-replicate}
-use Rattle.mf_gf.specs.Files.{IsPadded, body, ending, file_of, front, padding}
+use Rattle.mf_gf.specs.Files.{IsPadded, body, bytes_so_far, ending, file_of, padding}
 use Rattle.mf_gf.specs.Numbers.{word}
 use Rattle.mf_gf.proofs.laws.files_are_padded.Goals as goal
 
@@ -24,4 +24,4 @@ padded text place =
 
 pub returns : goal.returns
 unfolding file_of
-returns c = λ words comment characters. padded (body words comment characters) (length (front comment characters))
+returns c = λ words comment characters. padded (body words comment characters) (length (bytes_so_far comment characters))

@@ -1,10 +1,19 @@
+use Rattle.std.proofs.Common.{option_map, string_bytes}
+use Rattle.mf_view.specs.Performances.{streams_of}
 use Rattle.mf_view.proofs.Shown.{on-ok-known, shown-as}
 use Rattle.mf_view.proofs.program.watch.Goals as goal
 
 pub returns-in-Some : goal.returns-in-Some
 returns-in-Some g c =
+    let s =
+    streams_of g.R.Read.remaining c.args.reader.now g.W.Write.contents c.args.screen.now c.perform_into.new.screen
+    g.E.Write.contents c.args.errors.now c.perform_into.new.errors in
     on-ok-known c.write_font.result _
-    (c.in_ok-file.file, shown-as _ _ _ _ _ _ _ _ _ _ c.in_ok-file.file c.in_ok-showing.ensures c.in_ok-file.ensures)
+    (c.in_ok-file.file, shown-as (option_map string_bytes c.args.words.transcript) _ _ _ _ s c.in_ok-file.file c.in_ok-showing.ensures c.in_ok-file.ensures)
 
 pub returns-in-None : goal.returns-in-None
-returns-in-None g c = (c.in_ok-file.file, shown-as _ _ _ _ _ _ _ _ _ _ c.in_ok-file.file c.in_ok-showing.ensures c.in_ok-file.ensures)
+returns-in-None g c =
+    let s =
+    streams_of g.R.Read.remaining c.args.reader.now g.W.Write.contents c.args.screen.now c.perform_into.new.screen
+    g.E.Write.contents c.args.errors.now c.perform_into.new.errors in
+    (c.in_ok-file.file, shown-as (option_map string_bytes c.args.words.transcript) _ _ _ _ s c.in_ok-file.file c.in_ok-showing.ensures c.in_ok-file.ensures)

@@ -7,6 +7,6 @@ learn-requires g c =
     let (one, stands_for_one) = c.perform.ensures.stands start c.opened-session.ensures.start in
     let (two, stands_for_two) = c.perform-2.ensures.stands one stands_for_one in
     let ended = c.notice.ensures.identity ∙ c.finish-ended.ensures two stands_for_two in
-    let opened = c.perform-2.ensures.name ∙ c.perform.ensures.name ∙ sym c.opened-session.ensures.name in
+    let opened = c.perform-2.ensures.identity ∙ c.perform.ensures.identity ∙ sym c.opened-session.ensures.identity in
     let seated = rw c.expect-viewer.ensures at c.viewer.ensures.viewer_identity in
     ended ∙ opened ∙ sym seated ∙ sym c.assert_shows-viewer.ensures

@@ -1,14 +1,20 @@
-use Rattle.std.proofs.Common.{◌<◌, IfErr, arith, refl, subst}
-use Rattle.mf_desk.specs.EndedRuns.{glance}
-use Rattle.mf_desk.specs.Performances.{viewer_lines}
-use Rattle.mf_desk.proofs.Showing.{IsShown-start}
+use Rattle.std.proofs.Common.{◌≡◌, ◌<◌, IfErr, IfOk, length, subst}
+use Rattle.std.proofs.lemmas.Result.{IfErr-weaker}
+use Rattle.mf_desk.specs.EndedRuns.{StopsShowing}
+use Rattle.mf_desk.proofs.Showing.{IsShown-start, Tells-no_look}
 use Rattle.mf_desk.proofs.ended_run.EndedRun.show.Goals as goal
 
-pub returns-in-Err-clause-fault : goal.returns-in-Err-clause-fault
-returns-in-Err-clause-fault g c = λ viewers counted refused.
+pub returns-in-Ok-clause-fault : goal.returns-in-Ok-clause-fault
+returns-in-Ok-clause-fault g c =
     let run = c.args.self.now in
-    let held = g.W.Write.contents c.args.writer.now in (
-      viewer_lines 0 (glance run),
-      (IsShown-start run held).out,
-      (record { shown = 0; few = omega arith; is = refl }, subst (λ r. IfErr r (λ _. 0 < viewers)) c.in-Err.is refused),
-    )
+    let holds = g.W.Write.contents c.args.writer.now in
+    IfErr-weaker c.show_all.result _ _ (λ fault stops viewers joined.
+    let count = subst (λ r. IfOk r (λ watchers. length watchers.items ≡ viewers)) c.in-Ok.is joined.0 in
+    subst (λ n. StopsShowing run n fault holds (g.W.Write.contents c.show_all.new.writer)) count stops) c.show_all.ensures.fault
+
+pub returns-in-Err-clause-fault : goal.returns-in-Err-clause-fault
+returns-in-Err-clause-fault g c = λ viewers joined settings held left read all_read over.
+    let run = c.args.self.now in
+    let holds = g.W.Write.contents c.args.writer.now in
+    Tells-no_look settings viewers held left holds read run over all_read run 0 holds (subst (λ r. IfErr r (λ _. 0 < viewers)) c.in-Err.is joined.1)
+    (IsShown-start run holds)

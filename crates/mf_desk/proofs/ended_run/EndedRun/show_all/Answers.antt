@@ -1,20 +1,21 @@
-use Rattle.std.proofs.Common.{◌≡◌, ◌+◌, ◌<◌, ◌≤◌, ◌∷◌, ℕ, All, Vec, Global, List, [], length, subst, sym, ap, ◌∙◌, arith, length-append}
+use Rattle.std.proofs.Common.{◌≡◌, ◌+◌, ◌<◌, ◌≤◌, ◌∷◌, ℕ, All, Err, Vec, Global, List, [], length, subst, sym, ap, ◌∙◌, arith, length-append}
 use Rattle.std.specs.Vec.Iter.{into_iter_items}
 use Rattle.std.proofs.lemmas.List.Elements.{All-nil, All-head, All-push, All-rest}
 use Rattle.std.proofs.lemmas.Result.{err_from_is_err_and}
 use Rattle.mf_live.specs.Entries.{Entry}
 use Rattle.mf_live.specs.Writers.{ended_identity, ended_published_list}
 use Rattle.mf_watch.specs.declared.glance.Glance.{Glance}
-use Rattle.mf_watch.specs.Watchers.{HasRoom, HasSeen, IsRecord, name}
-use Rattle.mf_desk.proofs.Showing.{IsShown, IsShown-start, IsShown-number, IsShown-next, StopsShowing-behind, StopsShowing-line, StopsShowing-unflushed}
+use Rattle.mf_watch.specs.Watchers.{HasRoom, HasSeen, IsRecord, identity}
+use Rattle.mf_desk.proofs.Showing.{IsShown, IsShown-start, IsShown-number, IsShown-next, Tells-behind, Tells-line, Tells-unflushed}
 use Rattle.mf_desk.proofs.ended_run.EndedRun.show_all.Goals as goal
 
 pub returns-in_err-seen-clause-fault : goal.returns-in_err-seen-clause-fault
 returns-in_err-seen-clause-fault g c =
     let run = c.args.self.now in
-    let held = g.W.Write.contents c.args.writer.now in
+    let holds = g.W.Write.contents c.args.writer.now in
     let wanting = err_from_is_err_and c.from_residual.result c.from_residual.ensures.1 in
-    rw (wanting.1, wanting.2) (StopsShowing-behind run run 0 (length c.args.watchers.items) held held (omega arith) (IsShown-start run held))
+    rw (wanting.1, wanting.2) (λ settings held left read all_read over.
+    Tells-behind settings (length c.args.watchers.items) held left holds read run over all_read run 0 holds (omega arith) (IsShown-start run holds))
 
 pub loop-watcher-init : goal.loop-watcher-init
 loop-watcher-init g c =
@@ -22,7 +23,7 @@ loop-watcher-init g c =
     rw (c.in_ok-seen.ensures.items, c.into_iter-watcher-iterator.ensures.into_iter_gives.0)
     record {
       count = omega arith;
-      names = c.requires.names;
+      identities = c.requires.identities;
       rooms = c.requires.rooms;
       shown = IsShown-start run (g.W.Write.contents c.args.writer.now);
       seen = λ looks records. (records, All-nil (λ (v : Vec Glance Global). HasSeen (ended_published_list run.ended) looks v.items));
@@ -38,8 +39,10 @@ returns-in_err-show_one-clause-fault g c =
     let few : number < length c.args.watchers.items =
     omega (arith, was.count, ap length c.in-Some.ensures.steps.0, ap length c.into_iter-watcher-iterator.ensures.into_iter_gives.0) in
     let passed_on = err_from_is_err_and c.from_residual-in_err-show_one.result c.from_residual-in_err-show_one.ensures.1 in
-    rw (passed_on.1, passed_on.2)
-    (StopsShowing-line c.in_err-show_one.field-0.0 c.args.self.now c.loop-watcher.self number _ _ _ _ few shown c.in_err-show_one.ensures.fault)
+    let fault = c.in_err-show_one.field-0.0 in
+    rw (passed_on.1, passed_on.2) (λ settings held left read all_read over.
+    Tells-line settings (length c.args.watchers.items) held left _ read c.args.self.now over all_read fault c.loop-watcher.self number _ _ few shown
+    (λ look. ap g.W.Write.contents (sym (c.in_err-show_one.ensures.no_look (ap Err look)))) c.in_err-show_one.ensures.fault)
 
 pub loop-watcher-preserved : goal.loop-watcher-preserved
 loop-watcher-preserved g c =
@@ -57,7 +60,7 @@ loop-watcher-preserved g c =
     let Shown = λ (n : ℕ). IsShown run c.show_one.new.self n (g.W.Write.contents c.args.writer.now) (g.W.Write.contents c.show_one.new.writer) in
     record {
       count = omega (arith, grown, was.count, ap length step);
-      names = All-rest (λ w. name w ≡ ended_identity run.ended) c.in-Some.watcher rest _ step was.names;
+      identities = All-rest (λ w. identity w ≡ ended_identity run.ended) c.in-Some.watcher rest _ step was.identities;
       rooms = All-rest (HasRoom 1) c.in-Some.watcher rest _ step was.rooms;
       shown = subst Shown (sym grown) (IsShown-next run c.loop-watcher.self c.show_one.new.self number _ _ _ shown one.same one.shown one.counted one.at_most);
       seen = λ looks records.
@@ -81,8 +84,8 @@ returns-in_err-push-clause-fault g c =
     let few : number + 1 ≤ length c.args.watchers.items =
     omega (arith, was.count, ap length c.in-Some.ensures.steps.0, ap length c.into_iter-watcher-iterator.ensures.into_iter_gives.0) in
     let wanting = err_from_is_err_and c.from_residual-in_err-push.result c.from_residual-in_err-push.ensures.1 in
-    rw (wanting.1, wanting.2)
-    (StopsShowing-behind run c.show_one.new.self (number + 1) _ _ _ few
+    rw (wanting.1, wanting.2) (λ settings held left read all_read over.
+    Tells-behind settings (length c.args.watchers.items) held left _ read run over all_read c.show_one.new.self (number + 1) _ few
     (IsShown-next run c.loop-watcher.self c.show_one.new.self number _ _ _ shown one.same one.shown one.counted one.at_most))
 
 pub returns-in_err-flush-clause-fault : goal.returns-in_err-flush-clause-fault
@@ -91,8 +94,9 @@ returns-in_err-flush-clause-fault g c =
     let few : length c.loop-watcher.seen.items ≤ length c.args.watchers.items =
     omega (arith, was.count, ap length c.into_iter-watcher-iterator.ensures.into_iter_gives.0) in
     let passed_on = err_from_is_err_and c.from_residual-in_err-flush.result c.from_residual-in_err-flush.ensures.1 in
-    rw (passed_on.1, passed_on.2)
-    (StopsShowing-unflushed c.args.self.now c.loop-watcher.self _ _ _ _ _ few was.shown c.flush.ensures.kept c.in_err-flush.field-0.0 c.in_err-flush.ensures.fault)
+    rw (passed_on.1, passed_on.2) (λ settings held left read all_read over.
+    Tells-unflushed settings (length c.args.watchers.items) held left _ read c.args.self.now over all_read c.loop-watcher.self _ _ _ few was.shown
+    c.flush.ensures.kept c.in_err-flush.field-0.0 c.in_err-flush.ensures.fault)
 
 pub returns-clause-seen : goal.returns-clause-seen
 returns-clause-seen g c = λ looks records.

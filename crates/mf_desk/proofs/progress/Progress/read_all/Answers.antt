@@ -2,7 +2,8 @@ use Rattle.std.proofs.Common.{◌≡◌, ◌<◌, ◌++◌, Option, [], List, �
 use Rattle.std.proofs.KnownBytes.{Consumes-nil, Consumes-trans, Consumes-kept}
 use Rattle.std.proofs.lemmas.Result.{err_from_is_err_and, on_ok_weaker, IfErr-weaker}
 use Rattle.std.specs.Io.KnownBytes.{Consumes, IsAtEnd}
-use Rattle.mf_desk.proofs.Stages.{CutsShort-reads, CutsShort-unflushed, IsAfter-flushed}
+use Rattle.mf_session.specs.Sessions.{limits}
+use Rattle.mf_desk.proofs.Stages.{CutsShort, CutsShort-reads, CutsShort-unflushed, IsAfter-flushed}
 use Rattle.mf_desk.proofs.progress.Progress.read_all.Goals as goal
 
 -- a read that gives no byte
@@ -56,11 +57,15 @@ pub returns-in_err-take-in-Ok-clause-fault : goal.returns-in_err-take-in-Ok-clau
 returns-in_err-take-in-Ok-clause-fault g c =
     let (read, consumed, before) = c.reads.invariant.1 in
     let after = IsAfter-flushed _ _ _ read c.reads.self c.flush.ensures.kept before in
+    let held = g.W.Write.contents c.args.writer.now in
+    let later = g.W.Write.contents c.take.new.writer in
+    let bytes = read ++ take c.in-Ok.count c.read.new.buf in
     let passed_on = err_from_is_err_and c.from_residual-in_err-take-in-Ok.result c.from_residual-in_err-take-in-Ok.ensures.1 in
     rw (passed_on.1, passed_on.2, ← c.reads.invariant.2) (
-      read ++ take c.in-Ok.count c.read.new.buf,
+      bytes,
       Consumes-trans _ _ _ read _ consumed c.in-Ok.ensures.bytes.0,
-      c.in_err-take-in-Ok.ensures.fault _ _ read after,
+      subst (λ all. CutsShort (limits c.reads.self.performer.session) c.in_err-take-in-Ok.field-0.0 (g.R.Read.remaining c.read.new.self) all held later)
+          (append-nil bytes) (c.in_err-take-in-Ok.ensures.fault held _ read [] after),
     )
 
 pub reads-preserved : goal.reads-preserved
@@ -70,7 +75,7 @@ reads-preserved g c =
       omega (arith, c.in-Ok.ensures.bound, c.in_ok-take-in-Ok.ensures.at_most, c.read.auto.buf, c.reads.auto.chunk, c.requires.few),
       (read ++ take c.in-Ok.count c.read.new.buf, Consumes-trans _ _ _ read _ consumed c.in-Ok.ensures.bytes.0, c.in_ok-take-in-Ok.ensures.after _ read after),
       c.take.ensures.limits ∙ c.reads.invariant.2,
-      c.take.ensures.name ∙ c.reads.invariant.3,
+      c.take.ensures.identity ∙ c.reads.invariant.3,
     )
 
 pub returns-clause-fault : goal.returns-clause-fault

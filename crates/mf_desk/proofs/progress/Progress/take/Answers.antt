@@ -8,45 +8,48 @@ use Rattle.mf_desk.proofs.Stages.{CutsShort}
 use Rattle.mf_desk.proofs.progress.Progress.take.Goals as goal
 
 -- the bytes before a line feed, the line feed, and the rest
-around : (rest : List ℕ) (at : ℕ) → at < length rest → (get_or rest at 0 == 10) ≡ true → rest ≡ take at rest ++ 10 ∷ drop (at + 1) rest
+around : (rest : List ℕ) (at : ℕ) → at < length rest → (get_or rest at 0 == 10) ≡ true → rest ≡ take at rest ++ 10 ∷ [] ++ drop (at + 1) rest
 around rest at within is =
     sym (take-append-drop at rest) ∙ ap (λ more. take at rest ++ more) (drop_more rest at 0 within ∙ ap (λ b. b ∷ drop (at + 1) rest) (eqb-true _ 10 is))
+    ∙ sym (append_assoc (take at rest) (10 ∷ []) (drop (at + 1) rest))
 
--- the bytes so far, some more, and the rest
-regrouped : (read done front rest : List ℕ) → read ++ done ++ front ++ rest ≡ read ++ (done ++ (front ++ rest))
-regrouped read done front rest = append_assoc (read ++ done) front rest ∙ append_assoc read done (front ++ rest)
+-- the bytes so far, a line, the rest, and what is read after them
+regrouped : (read done line rest more : List ℕ) → read ++ done ++ line ++ (rest ++ more) ≡ read ++ (done ++ (line ++ rest)) ++ more
+regrouped read done line rest more = simp append_assoc
 
 pub returns-in_err-take_line-clause-fault : goal.returns-in_err-take_line-clause-fault
 returns-in_err-take_line-clause-fault g c =
-    let (done, bytes_are, few, goes_on, same, name_is) = c.lines.invariant in
+    let (done, bytes_are, few, goes_on, same, identity_is) = c.lines.invariant in
     let rest = c.lines.rest.now in
     let at = c.in-Some.place in
-    let whole : (read : List ℕ) → read ++ done ++ take at rest ++ 10 ∷ drop (at + 1) rest ≡ read ++ c.args.bytes.now =
-    λ read. regrouped read done (take at rest) (10 ∷ drop (at + 1) rest)
-    ∙ ap (λ all. read ++ all) (sym (bytes_are ∙ ap (λ more. done ++ more) (around rest at c.in-Some.ensures.0.high c.in-Some.ensures.1))) in
+    let line = take at rest ++ 10 ∷ [] in
+    let all : rest ≡ line ++ drop (at + 1) rest = around rest at c.in-Some.ensures.0.high c.in-Some.ensures.1 in
+    let whole : (read more : List ℕ) → read ++ done ++ line ++ (drop (at + 1) rest ++ more) ≡ read ++ c.args.bytes.now ++ more =
+    λ read more. regrouped read done line (drop (at + 1) rest) more
+    ∙ ap (λ bytes. read ++ bytes ++ more) (sym (bytes_are ∙ ap (λ after. done ++ after) all)) in
     let passed_on = err_from_is_err_and c.from_residual.result c.from_residual.ensures.1 in
     rw (passed_on.1, passed_on.2, ← same) (
-    λ held left read after.
+    λ held left read more after.
     subst (λ all. CutsShort (limits c.lines.self.performer.session) c.in_err-take_line.field-0.0 left all held (g.W.Write.contents c.take_line.new.writer))
-    (whole read)
-    (c.in_err-take_line.ensures.fault held left (read ++ done) (drop (at + 1) rest) (goes_on held read after))
+    (whole read more)
+    (c.in_err-take_line.ensures.fault held left (read ++ done) (drop (at + 1) rest ++ more) (goes_on held read after))
     )
 
 pub lines-preserved : goal.lines-preserved
 lines-preserved g c =
-    let (done, bytes_are, few, goes_on, same, name_is) = c.lines.invariant in
+    let (done, bytes_are, few, goes_on, same, identity_is) = c.lines.invariant in
     let rest = c.lines.rest.now in
     let at = c.in-Some.place in
     let line = take at rest ++ 10 ∷ [] in
-    let all : rest ≡ line ++ drop (at + 1) rest = around rest at c.in-Some.ensures.0.high c.in-Some.ensures.1 ∙ sym (append_assoc (take at rest) (10 ∷ []) (drop (at + 1) rest)) in (
+    let all : rest ≡ line ++ drop (at + 1) rest = around rest at c.in-Some.ensures.0.high c.in-Some.ensures.1 in (
       done ++ line,
       rw (take_rest rest (at + 1)) (bytes_are ∙ ap (λ more. done ++ more) all ∙ sym (append_assoc done line (drop (at + 1) rest))),
       omega (arith, few, c.in_ok-take_line.ensures.at_most, length-append done line, length-append (take at rest) (10 ∷ [])),
       λ held read after. subst (λ bytes. IsAfter held bytes c.take_line.new.self (g.W.Write.contents c.take_line.new.writer))
-          (regrouped read done (take at rest) (10 ∷ []))
+          (append_assoc read done line)
           (c.in_ok-take_line.ensures.after held (read ++ done) (goes_on held read after)),
       c.take_line.ensures.limits ∙ same,
-      c.take_line.ensures.name ∙ name_is,
+      c.take_line.ensures.identity ∙ identity_is,
     )
 
 pub keep-requires : goal.keep-requires
@@ -54,13 +57,13 @@ keep-requires g c = λ k d within is. c.in_default.ensures k (omega arith) withi
 
 pub returns-clause-fault : goal.returns-clause-fault
 returns-clause-fault g c =
-    let (done, bytes_are, few, goes_on, same, name_is) = c.lines.invariant in
+    let (done, bytes_are, few, goes_on, same, identity_is) = c.lines.invariant in
     let rest = c.lines.rest.now in
     let whole : (read : List ℕ) → read ++ done ++ rest ≡ read ++ c.args.bytes.now =
     λ read. append_assoc read done rest ∙ ap (λ all. read ++ all) (sym bytes_are) in
-    rw (← same) (IfErr-weaker c.keep.result _ _ (λ fault cut_short held left read after.
-    subst (λ all. CutsShort (limits c.lines.self.performer.session) fault left all held (g.W.Write.contents c.lines.writer)) (whole read)
-    (cut_short held left (read ++ done) rest _ (goes_on held read after))) c.keep.ensures.fault)
+    rw (← same) (IfErr-weaker c.keep.result _ _ (λ fault cut_short held left read more after.
+    subst (λ all. CutsShort (limits c.lines.self.performer.session) fault left (all ++ more) held (g.W.Write.contents c.lines.writer)) (whole read)
+    (cut_short _ held left (read ++ done) more (goes_on held read after))) c.keep.ensures.fault)
 
 pub lines-init : goal.lines-init
 lines-init g c = (

@@ -1,6 +1,6 @@
 use Rattle.std.proofs.Common.{◌≡◌, ◌+◌, ◌*◌, ◌≤◌, ◌^◌, ◌++◌, Option, List, ℕ, length}
 use Rattle.mf_desk.specs.Progress.{IsAfter}
-use Rattle.mf_session.specs.Sessions.{limits, name}
+use Rattle.mf_session.specs.Sessions.{identity, limits}
 use Rattle.mf_desk.proofs.progress.Progress.take.Given as goal
 
 abbrev pub invariant-lines : goal.invariant-lines
@@ -11,7 +11,7 @@ invariant-lines g l =
     × ((held : Option (List ℕ)) (read : List ℕ) → IsAfter held read l.initial.self (g.W.Write.contents l.initial.writer)
     → IsAfter held (read ++ done) l.self (g.W.Write.contents l.writer))
     × (limits l.self.performer.session ≡ limits l.initial.self.performer.session)
-    × (name l.self.performer.session ≡ name l.initial.self.performer.session)
+    × (identity l.self.performer.session ≡ identity l.initial.self.performer.session)
 
 abbrev pub decreases-lines : goal.decreases-lines
 decreases-lines g l = length l.rest

@@ -1,10 +1,16 @@
-use Rattle.std.proofs.Common.{◌++◌, ◌∷◌, sym, subst, append_assoc}
+use Rattle.std.proofs.Common.{◌≡◌, ◌++◌, ◌∷◌, ◌∙◌, List, ℕ, [], ap, sym, subst, append_assoc}
 use Rattle.std.proofs.lemmas.Bool.{eqb-true}
 use Rattle.std.proofs.lemmas.List.{nil_from_length}
 use Rattle.std.proofs.lemmas.Result.{err_from_is_err_and, on_ok_weaker, IfErr-weaker}
+use Rattle.mf_desk.specs.Progress.{IsAfter}
 use Rattle.mf_session.specs.Sessions.{limits}
 use Rattle.mf_desk.proofs.Stages.{CutsShort, IsAfter-whole, CutsShort-whole}
 use Rattle.mf_desk.proofs.progress.Progress.take_line.Goals as goal
+
+-- the line feed is of these bytes, or of those after them
+regrouped : (read bytes more : List ℕ) → read ++ bytes ++ (10 ∷ more) ≡ read ++ (bytes ++ 10 ∷ []) ++ more
+regrouped read bytes more =
+    sym (append_assoc (read ++ bytes) (10 ∷ []) more) ∙ ap (λ front. front ++ more) (append_assoc read bytes (10 ∷ []))
 
 pub returns-then-is_empty-clause-after : goal.returns-then-is_empty-clause-after
 returns-then-is_empty-clause-after g c =
@@ -29,17 +35,21 @@ returns-in_err-keep-clause-fault g c =
     rw (passed_on.1, passed_on.2) (
     λ held left read more after.
     subst (λ all. CutsShort (limits c.args.self.now.performer.session) c.in_err-keep.field-0.0 left all held (g.W.Write.contents c.args.writer.now))
-    (sym (append_assoc read c.args.bytes.now (10 ∷ more))) (c.in_err-keep.ensures.fault held left read (c.args.bytes.now ++ 10 ∷ more) _ after)
+    (regrouped read c.args.bytes.now more) (c.in_err-keep.ensures.fault _ held left read (10 ∷ more) after)
     )
 
 pub returns-clause-after : goal.returns-clause-after
 returns-clause-after g c =
     on_ok_weaker c.end_line.result
-    (λ ended held read after. ended held (read ++ c.args.bytes.now) (c.in_ok-keep.ensures.after held read _ after)) c.end_line.ensures.after
+    (λ ended held read after.
+    subst (λ all. IsAfter held all c.end_line.new.self (g.W.Write.contents c.end_line.new.writer)) (append_assoc read c.args.bytes.now (10 ∷ []))
+    (ended held (read ++ c.args.bytes.now) (c.in_ok-keep.ensures.after _ held read after))) c.end_line.ensures.after
 
 pub returns-clause-fault : goal.returns-clause-fault
 returns-clause-fault g c =
     IfErr-weaker c.end_line.result _ _ (λ fault cut_short held left read more after.
-    subst (λ performer. CutsShort (limits performer.session) fault left (read ++ c.args.bytes.now ++ 10 ∷ more) held
+    subst (λ performer. CutsShort (limits performer.session) fault left (read ++ (c.args.bytes.now ++ 10 ∷ []) ++ more) held
     (g.W.Write.contents c.end_line.new.writer)) c.keep.ensures.same
-    (cut_short held left (read ++ c.args.bytes.now) more (c.in_ok-keep.ensures.after held read _ after))) c.end_line.ensures.fault
+    (subst (λ front. CutsShort (limits c.keep.new.self.performer.session) fault left (front ++ more) held (g.W.Write.contents c.end_line.new.writer))
+    (append_assoc read c.args.bytes.now (10 ∷ []))
+    (cut_short held left (read ++ c.args.bytes.now) more (c.in_ok-keep.ensures.after _ held read after)))) c.end_line.ensures.fault

@@ -4,7 +4,7 @@ use Rattle.mf_gf.specs.Files.{shipments}
 use Rattle.mf_gf.specs.Keeping.{character}
 use Rattle.mf_gf.specs.Pixels.{black}
 use Rattle.mf_gf.specs.Spelling.{pointer, spell}
-use Rattle.mf_gf.proofs.Shipped.{front-kept, keeps-more, spell_some}
+use Rattle.mf_gf.proofs.Shipped.{bytes_so_far-kept, keeps-more, spell_some}
 use Rattle.mf_gf.proofs.file.GfFile.ship.Goals as goal
 
 pub append-requires-clause-some : goal.append-requires-clause-some
@@ -26,7 +26,7 @@ pub returns-in_err-spelled-clause-too_long : goal.returns-in_err-spelled-clause-
 returns-in_err-spelled-clause-too_long c = λ comment characters keeps.
     let this = character c.args.code c.args.dx c.args.width c.args.picture.now in
     let whole =
-    front-kept c.args.self.now comment characters this c.last_place-earlier.result keeps
+    bytes_so_far-kept c.args.self.now comment characters this c.last_place-earlier.result keeps
     (c.last_place-earlier.ensures (shipments comment characters) keeps.locators) in
     rw whole (search rules)
 
@@ -34,7 +34,7 @@ pub returns-in_err-append-clause-too_long : goal.returns-in_err-append-clause-to
 returns-in_err-append-clause-too_long c = λ comment characters keeps.
     let this = character c.args.code c.args.dx c.args.width c.args.picture.now in
     let whole =
-    front-kept c.args.self.now comment characters this c.last_place-earlier.result keeps
+    bytes_so_far-kept c.args.self.now comment characters this c.last_place-earlier.result keeps
     (c.last_place-earlier.ensures (shipments comment characters) keeps.locators) in
     rw whole (search rules)
 
@@ -42,6 +42,6 @@ pub returns-clause-too_long : goal.returns-clause-too_long
 returns-clause-too_long c = λ comment characters keeps.
     let this = character c.args.code c.args.dx c.args.width c.args.picture.now in
     let whole =
-    front-kept c.args.self.now comment characters this c.last_place-earlier.result keeps
+    bytes_so_far-kept c.args.self.now comment characters this c.last_place-earlier.result keeps
     (c.last_place-earlier.ensures (shipments comment characters) keeps.locators) in
     rw whole (search rules)

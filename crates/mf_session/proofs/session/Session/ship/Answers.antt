@@ -1,8 +1,8 @@
 use Rattle.std.proofs.Common.{rules, ◌≡◌, ◌<◌, Err, inl, inr, length, refl, [], ◌∷◌, ◌++◌, codes, decimal, ap, w32, to_z, of_z, arith}
 use Rattle.std.proofs.lemmas.Int.{ints}
 use Rattle.std.proofs.lemmas.Result.{IfOk-weaker}
-use Rattle.mf_gf.specs.Files.{front}
-use Rattle.mf_gf.specs.Keeping.{Keeps, character, limit}
+use Rattle.mf_gf.specs.Files.{bytes_so_far}
+use Rattle.mf_gf.specs.Keeping.{Keeps, character, max_bytes_of}
 use Rattle.mf_session.specs.Pictures.{source_picture}
 use Rattle.mf_session.specs.Variables.{pictures}
 use Rattle.mf_session.proofs.Standing.{keeps-same, standing, state_of}
@@ -16,7 +16,8 @@ returns-in-Ok-clause-answer c =
     let shipped = character c.args.code c.args.dx c.args.width (source_picture (pictures c.args.self.now.variables) c.args.source) in
     let keeps : Keeps c.ship.new.self [] (characters ++ shipped ∷ []) =
     rw (dx, width, c.source-picture.ensures) at (c.in-Ok.ensures.shipped [] characters kept) in
-    let fits : limit c.args.self.now.file < length (front [] (characters ++ shipped ∷ [])) → ⊥ = λ long. let refused = (rw (dx, width, c.source-picture.ensures) at (c.in-Ok.ensures.too_long [] characters kept)).0 long in absurd (cc) in
+    let fits : max_bytes_of c.args.self.now.file < length (bytes_so_far [] (characters ++ shipped ∷ [])) → ⊥ =
+    λ long. let refused = (rw (dx, width, c.source-picture.ensures) at (c.in-Ok.ensures.too_long [] characters kept)).0 long in absurd (cc) in
     let printed : c.into_bytes-text.result.items ≡ codes "[" ++ decimal c.args.code ++ codes "]\n" = search rules in
     record {
       next = state_of c.args.self.now (characters ++ shipped ∷ []);

@@ -9,7 +9,7 @@ lines-init g c = (refl, refl, refl, under_way-start _ _ _, λ s stands. (s, stan
 
 pub lines-preserved : goal.lines-preserved
 lines-preserved g c =
-    let (limits_are, name_is, plates_are, under_way, represents) = c.lines.invariant in
+    let (limits_are, identity_is, plates_are, under_way, represents) = c.lines.invariant in
     let line = c.in-Some.line.items in
     let remaining = g.B.Read.remaining c.next_line.new.script in
     let held = g.W.Write.contents c.lines.transcript in
@@ -18,7 +18,7 @@ lines-preserved g c =
     let read = rw c.in-Some.is at c.in_ok-line.ensures.line in
     let bare = c.without_ending.ensures ∙ ap without_ending c.deref.ensures.value in (
       done.limits ∙ limits_are,
-      done.name ∙ name_is,
+      done.identity ∙ identity_is,
       done.plates ∙ plates_are,
       under_way-next c.args.self.now c.lines.self c.perform_line.new.self _
           (g.B.Read.remaining c.lines.script) remaining (g.W.Write.contents c.args.transcript.now) held holds line limits_are under_way

@@ -1,13 +1,13 @@
 use Rattle.std.proofs.Common.{◌≡◌}
 use Rattle.mf_session.specs.States.{State}
-use Rattle.mf_stage.specs.Stages.{StandsFor, limits, name, plates_of}
+use Rattle.mf_stage.specs.Stages.{StandsFor, identity, limits, plates_of}
 use Rattle.mf_stage.proofs.Scripts.{IsUnderWay}
 use Rattle.mf_stage.proofs.stage.Stage.perform_lines.Given as goal
 
 abbrev pub invariant-lines : goal.invariant-lines
 invariant-lines g l =
     (limits l.self ≡ limits l.initial.self)
-    × (name l.self ≡ name l.initial.self)
+    × (identity l.self ≡ identity l.initial.self)
     × (plates_of l.self ≡ plates_of l.initial.self)
     × IsUnderWay l.initial.self (g.B.Read.remaining l.initial.script) (g.B.Read.remaining l.script) l.self
     (g.W.Write.contents l.initial.transcript) (g.W.Write.contents l.transcript)

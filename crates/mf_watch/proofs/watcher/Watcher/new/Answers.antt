@@ -8,7 +8,7 @@ pub returns : goal.returns
 returns c =
     let made = c.in_ok-with_capacity.ensures in
     record {
-      name_is = refl;
+      identity_is = refl;
       record_is = subst (λ gs. AreGlances (viewers.seen_list c.args.viewer) 0 gs) (sym made.items) (AreGlances-none (viewers.seen_list c.args.viewer));
       last_is = inl made.items;
       room = omega (arith, made.len, made.capacity);

@@ -15,7 +15,7 @@ loop-watcher-preserved g c =
     let watcher = c.in-Some.watcher in
     let Ready = IsWatcher (desk_identity c.args.desk) 0 (c.args.looks + 1) in
     let this_ready : Ready watcher = All-head Ready watcher rest (All-same Ready (watcher ∷ rest) watchers (sym first) ready) in (
-      subst (λ picture. AreStarted picture c.args.looks c.start_one.new.self) this_ready.name_is c.start_one.ensures.started,
+      subst (λ picture. AreStarted picture c.args.looks c.start_one.new.self) this_ready.identity_is c.start_one.ensures.started,
       All-rest Ready watcher rest watchers first ready,
       omega (arith, counted, ap length first, c.in_default.ensures.count),
       omega (arith, threads, c.start_one.ensures.room),

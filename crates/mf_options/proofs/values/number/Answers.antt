@@ -2,8 +2,8 @@ use Rattle.std.proofs.Common.{◌∙◌, ℕ, Result}
 use Rattle.std.specs.Str.Parse.{ExplainsUnsignedError, HasUnsignedDigitsIfOk, ParsesUnsigned}
 use Rattle.std.specs.declared.num.ParseIntError.{ParseIntError}
 use Rattle.clap.specs.Words.{Text, found_of}
-use Rattle.mf_view_words.proofs.ValuesTyped.{number_read}
-use Rattle.mf_view_words.proofs.matched.number.Goals as goal
+use Rattle.mf_options.proofs.ValuesTyped.{number_read}
+use Rattle.mf_options.proofs.values.number.Goals as goal
 
 -- how the text of a `u32` is read
 abbrev Reads : Text → Result ℕ ParseIntError → Type 0

@@ -1,6 +1,5 @@
 -- What a parse gives for an option: a text that the parser of the option accepted.
 use Rattle.std.proofs.Common.{◌≡◌, ◌∙◌, ◌<◌, ◌&&◌, ◌||◌, ◌==◌, ℕ, Bool, not, zero, suc, All, Bor, IfSome, List, [], ◌∷◌, None, Option, Some, ap, ap₂, arith, bytes_eq, codes, eqb-true, false, inl, inr, length, map, option_map, pos, refl, slice_get, slice_index_or, subst, sym, true, unwrap_or}
-use Rattle.std.specs.List.{list_all}
 use Rattle.std.proofs.lemmas.Bool.{cases_lt}
 use Rattle.std.proofs.lemmas.List.Elements.{All-get_or}
 use Rattle.std.proofs.lemmas.Slice.Eq.{bytes_eq-Decides}
@@ -10,8 +9,9 @@ use Rattle.clap.proofs.WalkLemmas.{both, one_text-rows}
 use Rattle.clap.specs.Built.{IsAuto, IsParsedFrom, SameRules}
 use Rattle.clap.specs.Facts.{Entry, EntryPasses, HasReading, PassesArg, parser_of, parser_of_value}
 use Rattle.clap.specs.Matches.{matched_of}
+use Rattle.clap.specs.Simple.{has_simple_rules, is_buildable}
 use Rattle.clap.specs.Values.{Accepts, read_as, reading_of}
-use Rattle.clap.specs.Words.{App, Rule, Text, app_of, args_of, found_of, groups_of, one_of, one_text, rows_of, rule_of, shape_of}
+use Rattle.clap.specs.Words.{Rule, Text, app_of, args_of, found_of, groups_of, is_simple, is_simple_and_free, one_of, one_text, rows_of, rule_of, shape_of}
 use Rattle.clap.specs.declared.builder.arg.Arg.{Arg}
 use Rattle.clap.specs.declared.builder.command.Command.{Command}
 use Rattle.clap.specs.declared.builder.command.Command.TheViews.{out-Command}
@@ -20,46 +20,22 @@ use Rattle.clap.specs.declared.builder.value_parser.ValueParser.{ValueParser}
 use Rattle.clap.specs.declared.builder.value_parser.ValueParser.TheVariants as parser
 use Rattle.clap.specs.declared.parser.matches.ArgMatches.{ArgMatches}
 use Rattle.clap.specs.declared.parser.matches.MatchedArg.{MatchedArg}
-use Rattle.mf_view_words.specs.CommandLine.{mfview, rules, within}
-use Rattle.mf_view_words.specs.Values.{IsFlagText, IsNumberIn, IsReadable}
-use Rattle.mf_view_words.proofs.ValuesTyped.{flag_text, in_range}
+use Rattle.mf_options.proofs.ValuesTyped.{flag_text, in_range}
+use Rattle.mf_options.specs.Options.{within}
+use Rattle.mf_options.specs.Values.{AreValuesOf, IsFlagText, IsNumberIn, IsValueOf, have_parser, is_option, is_parser}
 
--- a test of the parser of an option
-abbrev Test : Type 0
-Test = Option ValueParser → Bool
-
-abbrev is_within : ℕ → ℕ → Test
-is_within low high (Some (parser.Signed (pos a) (pos b))) = (a == low) && (b == high)
-is_within low high _ = false
-
-abbrev is_bool : Test
-is_bool (Some parser.Bool) = true
-is_bool _ = false
-
-within_is : (low high : ℕ) (o : Option ValueParser) → is_within low high o ≡ true → o ≡ Some (within low high)
-within_is low high (Some (parser.Signed (pos a) (pos b))) e =
+is_parser-same : (q : ValueParser) (o : Option ValueParser) → is_parser q o ≡ true → o ≡ Some q
+is_parser-same (parser.Signed (pos low) (pos high)) (Some (parser.Signed (pos a) (pos b))) e =
     let parts = both (a == low) (b == high) e in
     ap₂ (λ x y. Some (within x y)) (eqb-true a low parts.0) (eqb-true b high parts.1)
-within_is low high _ e = cc
+is_parser-same parser.Bool (Some parser.Bool) e = refl
+is_parser-same _ _ e = cc
 
-bool_is : (o : Option ValueParser) → is_bool o ≡ true → o ≡ Some parser.Bool
-bool_is (Some parser.Bool) e = refl
-bool_is _ e = cc
-
--- each rule with the id passes the test
-abbrev each_passes : Text → Test → List Rule → Bool
-each_passes id test rs = list_all (λ r. not (bytes_eq r.id id) || test r.parser) rs
-
--- the id is that of options with this parser alone, and clap makes no argument with it
-abbrev is_option : Text → Test → Bool
-is_option id test = each_passes id test rules
-    && (not (bytes_eq id (codes "help")) && (not (bytes_eq id (codes "version")) && not (bytes_eq id [])))
-
-parts_of : (id : Text) (test : Test) → is_option id test ≡ true
-    → (each_passes id test rules ≡ true) × (not (bytes_eq id (codes "help")) ≡ true) × (not (bytes_eq id (codes "version")) ≡ true)
+parts_of : (rules : List Rule) (id : Text) (q : ValueParser) → is_option rules id q ≡ true
+    → (have_parser id q rules ≡ true) × (not (bytes_eq id (codes "help")) ≡ true) × (not (bytes_eq id (codes "version")) ≡ true)
     × (not (bytes_eq id []) ≡ true)
-parts_of id test ok =
-    let each = both (each_passes id test rules) (not (bytes_eq id (codes "help")) && (not (bytes_eq id (codes "version")) && not (bytes_eq id []))) ok in
+parts_of rules id q ok =
+    let each = both (have_parser id q rules) (not (bytes_eq id (codes "help")) && (not (bytes_eq id (codes "version")) && not (bytes_eq id []))) ok in
     let help = both (not (bytes_eq id (codes "help"))) (not (bytes_eq id (codes "version")) && not (bytes_eq id [])) each.1 in
     let rest = both (not (bytes_eq id (codes "version"))) (not (bytes_eq id [])) help.1 in
     (each.0, help.0, rest.0, rest.1)
@@ -70,27 +46,14 @@ differs a b other self same =
     let bad : false ≡ true = rw is at other in
     cc
 
-found_at : (id : Text) (test : Test) (xs : List Arg) → each_passes id test (map rule_of xs) ≡ true
+found_at : (id : Text) (q : ValueParser) (xs : List Arg) → have_parser id q (map rule_of xs) ≡ true
     → (j : ℕ) (e : Arg) → j < length xs → bytes_eq (slice_index_or xs j e).id.now id ≡ true
-    → test (slice_index_or xs j e).value_parser ≡ true
-found_at id test [] ok j e lt key = absurd (omega arith)
-found_at id test (x ∷ xs) ok zero e lt key =
-    let passes : (not (bytes_eq x.id.now id) || test x.value_parser) ≡ true = (both _ _ ok).0 in
+    → is_parser q (slice_index_or xs j e).value_parser ≡ true
+found_at id q [] ok j e lt key = absurd (omega arith)
+found_at id q (x ∷ xs) ok zero e lt key =
+    let passes : (not (bytes_eq x.id.now id) || is_parser q x.value_parser) ≡ true = (both _ _ ok).0 in
     rw key at passes
-found_at id test (x ∷ xs) ok (suc j) e lt key = found_at id test xs (both _ _ ok).1 j e (omega arith) key
-
-args_are : (c : Command) → app_of c ≡ mfview → map rule_of (args_of c) ≡ rules
-unfolding mfview
-args_are c same = ap (λ (a : App). a.top.rules) same
-
--- the built command has no group and no global argument
-plain_of : (c : Command) → app_of c ≡ mfview → (shape_of c).is_plain ≡ true
-unfolding mfview
-plain_of c same = ap (λ (a : App). a.top.is_plain) same
-
-simple_of : (c : Command) → app_of c ≡ mfview → all_simple (shape_of c).rules ≡ true
-unfolding mfview
-simple_of c same = ap (λ (a : App). all_simple a.top.rules) same
+found_at id q (x ∷ xs) ok (suc j) e lt key = found_at id q xs (both _ _ ok).1 j e (omega arith) key
 
 -- the first value of an entry has what all its values have
 head_of : (P : Bor Text → Type 0) (how : Reading) (vs : List (Bor Text)) (t : Text) → All P vs
@@ -103,27 +66,32 @@ head_of P how (v ∷ vs) t all e = (v, sym (ap (λ o. unwrap_or o t) e), All-get
 abbrev IsAccepted : ValueParser → Text → Type 0
 IsAccepted q t = (raw : Text) × (t ≡ read_as (reading_of q) raw) × (any_case : Bool) × Accepts any_case q raw
 
-module _ (c : Command) (m : ArgMatches) (p : IsParsedFrom c m) (same : app_of c ≡ mfview) where
+accepted-value : (q : ValueParser) (t : Text) → IsAccepted q t → IsValueOf q t
+accepted-value (parser.Signed (pos low) (pos high)) t got = subst (IsNumberIn low high) (sym got.1) (in_range low high got.0 got.3)
+accepted-value parser.Bool t got = subst IsFlagText (sym got.1) (flag_text got.0 got.3)
+accepted-value _ t got = tt
+
+module _ (c : Command) (m : ArgMatches) (p : IsParsedFrom c m) (plain : (shape_of c).is_plain ≡ true) (simple : all_simple (shape_of c).rules ≡ true) where
   no_groups : groups_of p.built ≡ []
-  no_groups = (p.from.same_groups (simple_groups c (simple_of c same))).1 ∙ (plain_fields c (plain_of c same)).groups
+  no_groups = (p.from.same_groups (simple_groups c simple)).1 ∙ (plain_fields c plain).groups
 
   built_local : (out-Command p.built).has_globals ≡ false
-  built_local = p.from.globals ∙ (plain_fields c (plain_of c same)).globals
+  built_local = p.from.globals ∙ (plain_fields c plain).globals
 
-  module _ (id : Text) (q : ValueParser) (test : Test) (sound : (o : Option ValueParser) → test o ≡ true → o ≡ Some q) (ok : is_option id test ≡ true) where
+  module _ (id : Text) (q : ValueParser) (ok : is_option (shape_of c).rules id q ≡ true) where
     -- an argument of the built command with the id has the parser
     parser_is : (j : ℕ) (a : Arg) → j < length (args_of p.built) → slice_index_or (args_of p.built) j a ≡ a → bytes_eq a.id.now id ≡ true
         → parser_of a ≡ q
     parser_is j a lt at key =
-        let parts = parts_of id test ok in
+        let parts = parts_of (shape_of c).rules id q ok in
         let is : a.id.now ≡ id = (bytes_eq-Decides a.id.now id).0 key in
         elim (cases_lt j (length (args_of c))) [
           | inl under ↦
               let kept : SameRules (slice_index_or (args_of c) j a) a =
               subst (λ (b : Arg). SameRules (slice_index_or (args_of c) j a) b) at (p.from.kept j a under).1 in
               let old_key : bytes_eq (slice_index_or (args_of c) j a).id.now id ≡ true = rw (← kept.id) key in
-              let tested = found_at id test (args_of c) (ap (each_passes id test) (args_are c same) ∙ parts.0) j a under old_key in
-              ap parser_of_value (kept.parser q (sound _ tested))
+              let tested = found_at id q (args_of c) parts.0 j a under old_key in
+              ap parser_of_value (kept.parser q (is_parser-same q _ tested))
           | inr over ↦
               let auto : IsAuto a = subst IsAuto at (p.from.extra j a over lt) in
               elim auto [
@@ -133,7 +101,7 @@ module _ (c : Command) (m : ArgMatches) (p : IsParsedFrom c m) (same : app_of c 
         ]
 
     named : id ≡ [] → ⊥
-    named empty = differs id [] (parts_of id test ok).3 refl empty
+    named empty = differs id [] (parts_of (shape_of c).rules id q ok).3 refl empty
 
     of_value : (how : Reading) → how ≡ reading_of q → (t : Text)
         → (v : Bor Text) × (t ≡ read_as how v.now) × PassesArg p.built id v.now → IsAccepted q t
@@ -154,18 +122,18 @@ module _ (c : Command) (m : ArgMatches) (p : IsParsedFrom c m) (same : app_of c 
     of_entry x t first got =
         let e = got.0 in
         let key : e.0.now ≡ id = (bytes_eq-Decides e.0.now id).0 got.2 in
-        let plain : e.1.is_group ≡ true → ⊥ = λ group. elim (got.3.3 group) [
+        let single : e.1.is_group ≡ true → ⊥ = λ group. elim (got.3.3 group) [
           | inl unnamed ↦ named (sym key ∙ unnamed)
           | inr some ↦
               let bad : 0 < 0 = rw no_groups at some in
               absurd (omega arith)
         ] in
         let all : All (λ v. PassesArg p.built id v.now) x.vals.items = elim got.3.0 [
-          | inl group ↦ absurd (plain group)
+          | inl group ↦ absurd (single group)
           | inr values ↦ subst (λ (w : Text). All (λ v. PassesArg p.built w v.now) x.vals.items) key (rw got.1 at values)
         ] in
         let reading : e.1.reading ≡ reading_of q = elim got.3.4 [
-          | inl group ↦ absurd (plain group)
+          | inl group ↦ absurd (single group)
           | inr has ↦ reading_is e.1.reading (subst (λ (w : Text). HasReading p.built w e.1.reading) key has)
         ] in
         of_value x.reading (ap (λ (y : MatchedArg). y.reading) (sym got.1) ∙ reading) t
@@ -182,31 +150,17 @@ module _ (c : Command) (m : ArgMatches) (p : IsParsedFrom c m) (same : app_of c 
         go (Some x) e first =
             of_entry x t (rw e at first) (entry_by_id (EntryPasses p.built) (found_of m).entries.items id x (p.parsed built_local).values e)
 
-    -- and so has what the parser demands
-    demanded : (P : Text → Type 0) → ((t : Text) → IsAccepted q t → P t) → IfSome (one_of id (rows_of (found_of m))) P
-    demanded P meets = subst (λ (o : Option Text). IfSome o P) (one_text-rows (found_of m) id) (go (one_text (found_of m) id) refl)
+    -- and so it is a value of the parser
+    value : IfSome (one_of id (rows_of (found_of m))) (IsValueOf q)
+    value = subst (λ (o : Option Text). IfSome o (IsValueOf q)) (one_text-rows (found_of m) id) (go (one_text (found_of m) id) refl)
       where
-        go : (o : Option Text) → one_text (found_of m) id ≡ o → IfSome o P
+        go : (o : Option Text) → one_text (found_of m) id ≡ o → IfSome o (IsValueOf q)
         go None e = tt
-        go (Some t) e = meets t (accepted t e)
+        go (Some t) e = accepted-value q t (accepted t e)
 
-  number : (id : Text) (low high : ℕ) → is_option id (is_within low high) ≡ true → IfSome (one_of id (rows_of (found_of m))) (IsNumberIn low high)
-  number id low high ok = demanded id (within low high) (is_within low high) (within_is low high) ok (IsNumberIn low high)
-      (λ t got. subst (IsNumberIn low high) (sym got.1) (in_range low high got.0 got.3))
-
-  flag : (id : Text) → is_option id is_bool ≡ true → IfSome (one_of id (rows_of (found_of m))) IsFlagText
-  flag id ok = demanded id parser.Bool is_bool bool_is ok IsFlagText (λ t got. subst IsFlagText (sym got.1) (flag_text got.0 got.3))
-
-  -- the values of a parse are numbers in their ranges, and flags
-  pub readable : IsReadable (rows_of (found_of m))
-  readable = record {
-    columns = number (codes "columns") 1 1000 refl;
-    rows = number (codes "rows") 1 1000 refl;
-    pause = number (codes "pause") 0 60000 refl;
-    design_size = number (codes "design-size") 0 2047 refl;
-    resolution = number (codes "resolution") 0 100000 refl;
-    frames = flag (codes "frames") refl;
-    pgm = flag (codes "pgm") refl;
-    help = flag (codes "asks-help") refl;
-    version = flag (codes "asks-version") refl;
-  }
+-- the values of a parse are values of their options
+pub are_values : (c : Command) (m : ArgMatches) → IsParsedFrom c m → is_simple_and_free (app_of c) ≡ true
+    → AreValuesOf (shape_of c).rules (rows_of (found_of m))
+are_values c m p all id q ok =
+    let rules = both (shape_of c).is_plain (all_simple (shape_of c).rules) (both (has_simple_rules (shape_of c)) _ (both (is_buildable (app_of c)) _ (both (is_simple (app_of c)) _ all).0).0).0 in
+    value c m p rules.0 rules.1 id q ok

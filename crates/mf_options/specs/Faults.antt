@@ -1,8 +1,8 @@
--- What the program makes of clap's refusals.
+-- What the programs make of clap's refusals.
 use Rattle.clap.specs.declared.error.kind.ErrorKind.{ErrorKind}
 use Rattle.clap.specs.declared.error.kind.ErrorKind.TheVariants as kind
-use Rattle.mf_view_words.specs.declared.words.WordsFault.{WordsFault}
-use Rattle.mf_view_words.specs.declared.words.WordsFault.TheVariants.{BadWords, OutOfMemory}
+use Rattle.mf_options.specs.declared.fault.WordsFault.{WordsFault}
+use Rattle.mf_options.specs.declared.fault.WordsFault.TheVariants.{BadWords, OutOfMemory}
 
 -- the refusal that each kind of clap's errors becomes
 abbrev pub words_fault : ErrorKind → WordsFault

@@ -10,7 +10,7 @@ use Rattle.clap.specs.Matches.{ReadsOne}
 use Rattle.clap.specs.Values.{IsSignedIn}
 use Rattle.clap.specs.Words.{Row, Text, one_of, one_text, rows_of, without_minus}
 use Rattle.clap.specs.declared.parser.matches.Found.{Found}
-use Rattle.mf_view_words.specs.Values.{IsFlagText, IsNumber, IsNumberIn, has_flag, number_in, number_of}
+use Rattle.mf_options.specs.Values.{IsFlagText, IsNumber, IsNumberIn, has_flag, number_in, number_of}
 
 without_minus_is : (t : Text) → without_minus t ≡ cond (starts_with_minus t) (drop 1 t) t
 without_minus_is [] = refl

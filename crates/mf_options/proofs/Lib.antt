@@ -1,0 +1,3 @@
+mod Faults
+mod ValuesRead
+pub mod ValuesTyped

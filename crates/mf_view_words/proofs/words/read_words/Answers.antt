@@ -1,0 +1,16 @@
+use Rattle.std.proofs.Common.{◌∙◌, ap}
+use Rattle.clap.specs.Words.{app_of, found_of, is_simple_and_free, rows_of}
+use Rattle.mf_view_words.proofs.CommandLines.{mfview-plain, readable}
+use Rattle.mf_view_words.proofs.words.read_words.Goals as goal
+
+pub find_matches-requires : goal.find_matches-requires
+find_matches-requires c = record { plain = ap is_simple_and_free c.in_ok-command.ensures ∙ mfview-plain }
+
+pub words_in-requires : goal.words_in-requires
+words_in-requires c = record {
+  readable = readable (app_of c.in_ok-command.field-0) (rows_of (found_of c.in_ok-matches.matches)) c.in_ok-command.ensures c.in_ok-matches.ensures.values;
+}
+
+pub request_for-requires-clause-readable : goal.request_for-requires-clause-readable
+request_for-requires-clause-readable c =
+    readable (app_of c.in_ok-command.field-0) (rows_of (found_of c.in_ok-matches.matches)) c.in_ok-command.ensures c.in_ok-matches.ensures.values
