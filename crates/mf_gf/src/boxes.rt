@@ -67,6 +67,7 @@ impl CharacterBox {
     }
 
     /// The box of the black pixels of a picture: those of positive weight.
+    #[inline(never)]
     pub(crate) fn of_black(picture: &Picture) -> CharacterBox
         ensures value { result ≡ box_of (black picture.now) }
         ensures lawful { IsPicture picture.now }

@@ -22,6 +22,7 @@ struct Place {
 }
 
 /// Spells stretches of black pixels one after another, starting from the left end of the top row of their box.
+#[inline(never)]
 pub(crate) fn spell_rows(out: &mut Spelling, stretches: Stretches<'_>, bounds: &CharacterBox)
     requires order { AreInOrder (blacks_ahead stretches) }
     requires left { IsCoordinate bounds.now.min_m }
@@ -45,6 +46,7 @@ pub(crate) fn spell_rows(out: &mut Spelling, stretches: Stretches<'_>, bounds: &
 }
 
 /// Goes from a position to the start of a stretch, where the next paint is black. `left` is the left end of the box.
+#[inline(always)]
 fn go_to(out: &mut Spelling, left: i32, from: Place, stretch: &Run)
     requires stretch { IsRun stretch.now }
     requires left { IsCoordinate left }

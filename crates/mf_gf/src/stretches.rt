@@ -30,6 +30,7 @@ impl<'a> Stretches<'a> {
     }
 
     /// Returns the stretch that starts with this run, lengthened by the runs that continue it. It passes those.
+    #[inline(always)]
     fn lengthen(&mut self, begun: Run) -> Run
         requires order { AreInOrder (begun ∷ blacks_ahead self.old) }
         ensures order { AreInOrder (blacks_ahead self.new) }
@@ -59,6 +60,7 @@ impl Iterator for Stretches<'_> {
 
     ghost remaining = { item_count stretches_left };
 
+    #[inline(always)]
     fn next(&mut self) -> Option<Run> {
         let begun = self.next?;
         self.next = next_black(&mut self.runs);
@@ -67,6 +69,7 @@ impl Iterator for Stretches<'_> {
 }
 
 /// The next run of positive weight, returned with weight 1.
+#[inline(always)]
 fn next_black(runs: &mut Runs<'_>) -> Option<Run>
     ensures next { blacks runs.old ≡ with_next result (blacks runs.new) }
 {

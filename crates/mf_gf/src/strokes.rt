@@ -22,6 +22,7 @@ const NEW_ROW_0: u8 = 74;
 
 impl Spelling {
     /// Appends a command that paints `length` pixels.
+    #[inline(always)]
     pub(crate) fn paint(&mut self, length: u32)
         requires { length < 2 ^ 16 }
         ensures held { (text : List ℕ) → Holds self.old text → Holds self.new (text ++ paint length) }
@@ -57,6 +58,7 @@ impl Spelling {
     }
 
     /// Appends a command with its parameter: this opcode for a parameter of one byte, and the next one for two bytes.
+    #[inline(never)]
     fn put_parameter(&mut self, opcode: u8, parameter: u32)
         requires opcode { opcode < 255 }
         requires parameter { parameter < 2 ^ 16 }

@@ -74,7 +74,12 @@ none_left p (r ∷ rest) last rows =
     let top : r.y ≤ℤ (last_in_field -ℤ (GROUP_HEIGHT *ℤ p)) = rows.1 in
     absurd (omega (arith, ints, rows.0.bottom))
 
+-- where nothing is left all are grouped
+pub grouped_before : (p : ℤ) (whole : List EdgeRow) (gs : List (Option (Arc Group Global))) (rest : List EdgeRow)
+    → IsGroupedUpTo p whole gs rest → rest ≡ [] → rows_of_groups gs ≡ whole
+grouped_before p whole gs rest so_far none =
+    sym (append-nil (rows_of_groups gs)) ∙ ap (λ rs. rows_of_groups gs ++ rs) (sym none) ∙ so_far.all
+
 pub grouped_all : (p : ℤ) (whole : List EdgeRow) (gs : List (Option (Arc Group Global))) (rest : List EdgeRow)
     → IsGroupedUpTo p whole gs rest → pos GROUP_COUNT ≤ℤ p → rows_of_groups gs ≡ whole
-grouped_all p whole gs rest so_far last =
-    sym (append-nil (rows_of_groups gs)) ∙ ap (λ rs. rows_of_groups gs ++ rs) (sym (none_left p rest last so_far.left)) ∙ so_far.all
+grouped_all p whole gs rest so_far last = grouped_before p whole gs rest so_far (none_left p rest last so_far.left)

@@ -1,5 +1,5 @@
 -- Lists of rows: heads stay true where edges are appended, and a new head appends a row.
-use Rattle.std.proofs.Common.{◌≡◌, ◌≢◌, ℕ, ◌-◌, ◌≤◌, List, [], ◌∷◌, ◌++◌, length, take, drop, Option, refl, sym, ap, subst, ◌∙◌, length-append, length-drop, append-nil, arith}
+use Rattle.std.proofs.Common.{◌≡◌, ◌≢◌, ℕ, zero, suc, get_or, ◌-◌, ◌≤◌, List, [], ◌∷◌, ◌++◌, length, take, drop, Option, refl, sym, ap, subst, ◌∙◌, length-append, length-drop, append-nil, arith}
 use Rattle.std.proofs.Math.Seq.{drop-append_seam}
 use Rattle.std.specs.Arc.{arc_value}
 use Rattle.std.specs.Bool.{Decides}
@@ -17,7 +17,7 @@ use Rattle.mf_rows.specs.declared.row_list.Head.{Head}
 use Rattle.mf_rows.specs.EdgeRows.{EdgeRow}
 use Rattle.mf_rows.specs.declared.row_list.Place.{Place}
 use Rattle.mf_rows.specs.declared.row_list.Place.TheVariants as place
-use Rattle.mf_rows.specs.RowLists.{edges_between, edges_at, row_at, rows_at, IsThere, IsPlaceOf, IsHead, AreHeads, HasReachedSum}
+use Rattle.mf_rows.specs.RowLists.{edges_between, edges_at, row_at, rows_at, IsThere, IsPlaceOf, IsHead, AreHeads, HasReachedSum, last_edges}
 
 -- ---- edges are appended
 
@@ -113,3 +113,32 @@ pub edge_decides : (d e : Edge) → Decides ((edge_eq.eq-value).it d e) (d ≡ e
 edge_decides d e =
     Decides-like ((edge_eq.eq-value).it d e) (λ same. λ i. record { x = same.0 i; weight = same.1 i }) (λ same. (ap (λ t. t.x) same, ap (λ t. t.weight) same))
     (Decides-and _ _ (Decides-int_eq d.x e.x) (Decides-int_eq d.weight e.weight))
+
+-- ---- the edges of the last row
+
+pub last_edges-push : (rs : List EdgeRow) (r : EdgeRow) → last_edges (rs ++ r ∷ []) ≡ r.edges
+last_edges-push [] r = refl
+last_edges-push (s ∷ []) r = refl
+last_edges-push (s ∷ t ∷ rs) r = last_edges-push (t ∷ rs) r
+
+pub last_edges-back : (rs ss : List EdgeRow) → ss ≢ [] → last_edges (rs ++ ss) ≡ last_edges ss
+last_edges-back [] ss some = refl
+last_edges-back (r ∷ rs) [] some = absurd (some refl)
+last_edges-back (r ∷ []) (s ∷ ss) some = refl
+last_edges-back (r ∷ q ∷ rs) (s ∷ ss) some = last_edges-back (q ∷ rs) (s ∷ ss) some
+
+-- the last head tells the place of the last row's edges, and their reach
+pub record IsLast (es : List Edge) (hs : List Head) (h : Head) : Type 0 where
+  pub place : IsPlaceOf es h.place (last_edges (rows_at es hs))
+  pub reached : HasReach h.reach (last_edges (rows_at es hs))
+
+pub is_last : (es : List Edge) (hs : List Head) (n : ℕ) (h : Head) → length hs ≡ suc n → h ≡ get_or hs n h → AreHeads es hs → IsLast es hs h
+is_last es [] n h long last heads = absurd (omega arith)
+is_last es (g ∷ []) zero h long last heads =
+    let head = All-head (IsHead es) g [] heads in
+    subst (λ k. IsLast es (g ∷ []) k) (sym last) (record { place = record { there = head.there; edges = refl }; reached = head.reached })
+is_last es (g ∷ []) (suc n) h long last heads = absurd (omega arith)
+is_last es (g ∷ f ∷ hs) zero h long last heads = absurd (omega arith)
+is_last es (g ∷ f ∷ hs) (suc n) h long last heads =
+    let rest = is_last es (f ∷ hs) n h (omega arith) last (All-tail (IsHead es) g (f ∷ hs) heads) in
+    record { place = rest.place; reached = rest.reached }

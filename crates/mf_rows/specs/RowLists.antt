@@ -1,5 +1,5 @@
 -- Lists of rows: the edges of short rows stand one after another in one list, and a long row has a list of its own.
-use Rattle.std.specs.Prelude.{◌≡◌, ◌≤◌, ◌-◌, ℕ, All, List, Option, take, drop, map, length}
+use Rattle.std.specs.Prelude.{◌≡◌, ◌≤◌, ◌-◌, ℕ, All, List, [], ◌∷◌, Option, take, drop, map, length}
 use Rattle.std.specs.Arc.{arc_value}
 use Rattle.std.specs.Coded.{Unit-prop}
 use Rattle.std.proofs.Props.{props}
@@ -27,6 +27,12 @@ row_at es h = record { y = h.y; edges = edges_at es h.place }
 -- the rows of heads
 abbrev pub rows_at : List Edge → List Head → List EdgeRow
 rows_at es hs = map (row_at es) hs
+
+-- the edges of the last of these rows, none where there is no row
+abbrev pub last_edges : List EdgeRow → List Edge
+last_edges [] = []
+last_edges (r ∷ []) = r.edges
+last_edges (r ∷ s ∷ rs) = last_edges (s ∷ rs)
 
 -- these places are among the edges, in order
 pub record IsRange (es : List Edge) (i j : ℕ) : Type 0 where

@@ -145,6 +145,9 @@ pub(crate) fn groups_of(
     groups.reserve(GROUP_COUNT)?;
     let mut rest = bands;
     for place in 0..GROUP_COUNT as i32 {
+        if rest.is_empty() {
+            break;
+        }
         let (own, others) = rest.split_at(count_up_to(rest, BANDS_IN_GROUP * (place + 1) - 1));
         let mut shared = Vec::new(alloc);
         push_shared(&mut shared, own)?;

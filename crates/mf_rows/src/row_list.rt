@@ -1,8 +1,8 @@
 //! Lists of rows whose edges stand one after another.
-ghost use Rattle.std.specs.Prelude.{◌≡◌, ◌≢◌, [], ◌∷◌, ◌++◌, ◌↔◌, IsTrue, IfOk, IfErr, OnOk, OnErr};
+ghost use Rattle.std.specs.Prelude.{◌≡◌, ◌≢◌, List, [], ◌∷◌, ◌++◌, ◌↔◌, IsTrue, IfOk, IfErr, OnOk, OnErr};
 ghost use Rattle.mf_edges.specs.Edges.{AreEdges};
 ghost use Rattle.mf_edges.specs.Sums.{weight_in_both, HasMoreEdges, IsUnlawfulColumn};
-ghost use Rattle.mf_rows.specs.RowLists.{AreHeads, IsPlaceOf, HasReachedSum};
+ghost use Rattle.mf_rows.specs.RowLists.{AreHeads, IsPlaceOf, HasReachedSum, last_edges};
 
 use crate::row::Row;
 use mf_base::OutOfMemory;
@@ -28,6 +28,21 @@ pub(crate) enum Place {
     Among { start: usize, end: usize },
     /// In a list of its own, which rows share.
     Own(Arc<Vec<Edge>>),
+}
+
+impl Place {
+    /// The same place, which is shared.
+    fn share(&self) -> Result<Place, OutOfMemory>
+        ensures { IfOk result (λ place. (edges row : List Edge) → IsPlaceOf edges self.now row → IsPlaceOf edges place row) }
+    {
+        match self {
+            Place::Among { start, end } => Ok(Place::Among {
+                start: *start,
+                end: *end,
+            }),
+            Place::Own(own) => Ok(Place::Own(Arc::try_clone(own)?)),
+        }
+    }
 }
 
 /// A row of a list: its height and its edges, and its reach, where one is known.
@@ -108,6 +123,21 @@ impl RowList {
             reach: row.reach,
             place,
         })?;
+        Ok(())
+    }
+
+    /// Appends row y with the edges and the reach of the last row, which share them.
+    pub(crate) fn push_again(&mut self, y: i32) -> Result<(), OutOfMemory>
+        requires { self.old ≢ [] }
+        ensures pushed { OnOk result (self.new ≡ self.old ++ record { y = y; edges = last_edges self.old } ∷ []) }
+        ensures unchanged { OnErr result (self.new ≡ self.old) }
+    {
+        let Some(last) = self.heads.last() else {
+            return Ok(());
+        };
+        let reach = last.reach;
+        let place = last.place.share()?;
+        self.heads.push(Head { y, reach, place })?;
         Ok(())
     }
 

@@ -33,6 +33,7 @@ impl<'a> Rows<'a> {
     }
 
     /// The next row of the current group.
+    #[inline(always)]
     fn next_in_group(&mut self) -> Option<Row<'a>>
         ensures next { IfSome result (λ row. remaining_rows self.old ≡ edge_row row ∷ remaining_rows self.new) }
         ensures none { IsNone result → IsGroupOver self.new }
@@ -65,6 +66,7 @@ impl<'a> Iterator for Rows<'a> {
 
     ghost remaining = { item_count remaining_rows };
 
+    #[inline(always)]
     fn next(&mut self) -> Option<Row<'a>> {
         loop {
             if let Some(row) = self.next_in_group() {

@@ -50,6 +50,7 @@ impl Iterator for Runs<'_> {
 
     ghost remaining = { item_count (λ runs. runs) };
 
+    #[inline(always)]
     fn next(&mut self) -> Option<Run> {
         self.walk.next()
     }

@@ -43,6 +43,7 @@ impl<'a> Walk<'a> {
     }
 
     /// Moves on to the edge at which the next run begins, and answers its column.
+    #[inline(always)]
     fn next_start(&mut self) -> Option<i32>
         ensures start { IfSome result (λ x. IsEdgeTaken self.old x self.new) }
         ensures nonzero { IfSome result (λ _. self.new.weight ≢ pos 0) }
@@ -56,6 +57,7 @@ impl<'a> Walk<'a> {
     }
 
     /// Moves on to the next edge, and answers its column.
+    #[inline(always)]
     fn next_edge(&mut self) -> Option<i32>
         ensures edge { IfSome result (λ x. IsEdgeTaken self.old x self.new) }
         ensures changed { IfSome result (λ _. self.new.weight ≢ self.old.weight) }
@@ -69,6 +71,7 @@ impl<'a> Walk<'a> {
     }
 
     /// Enters the next row where no edge of this one is left.
+    #[inline(always)]
     fn enter_row(&mut self)
         ensures left { remaining_runs self.new ≡ remaining_runs self.old }
         ensures over { self.new.edges.now ≡ [] → remaining_runs self.new ≡ [] }
@@ -94,6 +97,7 @@ impl Iterator for Walk<'_> {
 
     ghost remaining = { item_count remaining_runs };
 
+    #[inline(always)]
     fn next(&mut self) -> Option<Run> {
         let x = self.next_start()?;
         let end = self.edges.first()?;

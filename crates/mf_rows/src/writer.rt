@@ -42,6 +42,7 @@ impl Model for RowWriter {
 impl RowWriter {
     ghost use Rattle.mf_rows.specs.Bands.{slice_rows, rows_of_bands};
     ghost use Rattle.mf_rows.specs.Rest.{AreEdgeRows};
+    ghost use Rattle.mf_rows.specs.RowLists.{last_edges};
 
     /// No rows. Allocates nothing.
     pub(crate) fn new(alloc: Global) -> RowWriter
@@ -76,6 +77,21 @@ impl RowWriter {
         Ok(())
     }
 
+    /// Appends row y, which lies in the field, with the edges and the reach of a row that is the last one too, whose edges it
+    /// shares if it is in the same band.
+    fn push_again(&mut self, y: i32, row: &Row<'_>) -> Result<(), OutOfMemory>
+        requires bottom { least_coordinate ≤ℤ y }
+        requires top { y ≤ℤ last_in_field }
+        requires last { last_edges self.old ≡ row.now.edges.now }
+        ensures { OnOk result (self.new ≡ self.old ++ record { y = y; edges = row.now.edges.now } ∷ []) }
+    {
+        if !self.open.is_empty() && band_of(y) == self.number {
+            self.open.push_again(y)?;
+            return Ok(());
+        }
+        self.push(y, row)
+    }
+
     /// Appends a row with the edges of this one at each height from `top - 1` down to `bottom`.
     pub(crate) fn push_copies(
         &mut self,
@@ -88,8 +104,12 @@ impl RowWriter {
         requires top { top ≤ℤ greatest_coordinate }
         ensures { OnOk result (self.new ≡ self.old ++ strip bottom row.entry.edges.now (unsigned_abs (top -ℤ bottom))) }
     {
-        for down in 0..top - bottom {
-            self.push(top - 1 - down, &row)?;
+        if bottom == top {
+            return Ok(());
+        }
+        self.push(top - 1, &row)?;
+        for down in 1..top - bottom {
+            self.push_again(top - 1 - down, &row)?;
         }
         Ok(())
     }

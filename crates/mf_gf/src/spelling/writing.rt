@@ -60,6 +60,7 @@ impl Spelling {
     }
 
     /// Appends one byte.
+    #[inline(always)]
     pub(crate) fn put_byte(&mut self, byte: u8)
         ensures held { (text : List ℕ) → Holds self.old text → Holds self.new (text ++ byte ∷ []) }
         ensures room { self.new.room ≡ self.old.room }

@@ -1,4 +1,4 @@
-use Rattle.std.proofs.Common.{◌≡◌, to_z, of_z, w32, refl, arith, rules}
+use Rattle.std.proofs.Common.{◌≡◌, to_z, of_z, w32, refl, rules}
 use Rattle.std.proofs.lemmas.Int.{to_z-of_z}
 use Rattle.std.proofs.lemmas.Result.{err_from_is_err_and}
 use Rattle.mf_rows.specs.Bands.{edge_row, slice_rows}

@@ -1,14 +1,24 @@
 use Rattle.std.proofs.Common.{◌≡◌, pos, ◌+ℤ◌, ◌-ℤ◌, ◌≤ℤ◌, to_z, of_z, w32, arith}
 use Rattle.std.proofs.lemmas.Int.{ints}
+use Rattle.mf_rows.proofs.RowListLemmas.{last_edges-push}
 use Rattle.mf_rows.proofs.StripCopies.{copies_none, copies_more, copies_all, next_place}
 use Rattle.mf_rows.proofs.writer.RowWriter.push_copies.Goals as goal
 
 pub loop-down-init : goal.loop-down-init
-loop-down-init c = record {
-  copies = copies_none _ _ _ _;
-  least = omega (arith, ints);
-  greatest = omega (arith, ints, c.requires.order);
-}
+loop-down-init c =
+    let edges = c.args.row.edges.now in
+    let top : to_z w32 (of_z w32 c.args.top) ≡ c.args.top = omega (arith, ints) in
+    let bottom : to_z w32 (of_z w32 c.args.bottom) ≡ c.args.bottom = omega (arith, ints) in
+    let some : pos 1 ≤ℤ (c.args.top -ℤ c.args.bottom) = omega (arith, ints, c.if-bottom-top.false, c.requires.order) in
+    let first : to_z w32 (of_z w32 (to_z w32 (of_z w32 c.args.top) -ℤ pos 1)) ≡ c.args.top -ℤ (pos 0 +ℤ pos 1) =
+    omega (arith, ints, c.requires.top, c.requires.bottom, c.requires.order) in
+    record {
+      copies = rw (top, bottom, c.in_ok-push.ensures, first)
+          (copies_more c.args.self.now edges c.args.bottom c.args.top (pos 0) c.args.self.now some (copies_none _ _ _ _));
+      last = rw c.in_ok-push.ensures (last_edges-push c.args.self.now _);
+      least = omega (arith, ints);
+      greatest = omega (arith, ints, some);
+    }
 
 pub overflow_sub-top-in-loop-down : goal.overflow_sub-top-in-loop-down
 overflow_sub-top-in-loop-down c = omega (arith, ints, c.loop-down.invariant.greatest, c.loop-down.invariant.least, c.requires)
@@ -21,14 +31,23 @@ loop-down-preserved c =
     let bottom : to_z w32 (of_z w32 c.args.bottom) ≡ c.args.bottom = omega (arith, ints) in
     let down = to_z w32 c.loop-down.down-bits in
     let bound : (down +ℤ pos 1) ≤ℤ (c.args.top -ℤ c.args.bottom) = omega (arith, ints, c.loop-down-test.true, c.requires) in
-    let place = next_place c.args.bottom c.args.top down c.requires.bottom c.requires.top c.loop-down.invariant.least bound in
+    let place = next_place c.args.bottom c.args.top down c.requires.bottom c.requires.top (omega (arith, ints, c.loop-down.invariant.least)) bound in
     record {
-      copies = rw (top, bottom, place.more, c.in_ok-push.ensures, top, place.row)
+      copies = rw (top, bottom, place.more, c.in_ok-push_again.ensures, top, place.row)
           (copies_more c.args.self.now edges c.args.bottom c.args.top down
           c.loop-down.self bound (rw (top, bottom) at c.loop-down.invariant.copies));
-      least = rw place.more place.least;
+      last = rw c.in_ok-push_again.ensures (last_edges-push c.loop-down.self _);
+      least = rw place.more (omega (arith, ints, c.loop-down.invariant.least));
       greatest = rw (place.more, top, bottom) bound;
     }
+
+pub returns-then-bottom-top : goal.returns-then-bottom-top
+returns-then-bottom-top c =
+    let none : c.args.top -ℤ c.args.bottom ≡ pos 0 = omega (arith, ints, c.if-bottom-top.true) in
+    copies_all _ _ c.args.bottom c.args.top (pos 0) _ none (copies_none _ _ _ _)
+
+pub push_again-requires-clause-last : goal.push_again-requires-clause-last
+push_again-requires-clause-last c = c.loop-down.invariant.last
 
 pub returns : goal.returns
 returns c =
