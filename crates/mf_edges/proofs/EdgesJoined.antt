@@ -1,7 +1,8 @@
 -- Edges that join the sum of two rows: those of one row as they are, a change, and the rest at the end.
-use Rattle.std.proofs.Common.{◌≡◌, ◌≢◌, ◌<◌, ◌+◌, ℕ, ℤ, length, get_or, take, drop, FitsSigned, to_z, of_z, w32, pos, ◌+ℤ◌, ◌≤ℤ◌, ◌<ℤ◌, List, [], ◌∷◌, ◌++◌, refl, ap, sym, subst, ◌∙◌, inl, inr, arith}
+use Rattle.std.proofs.Common.{◌≡◌, ◌≢◌, ◌<◌, ◌+◌, ℕ, ℤ, length, get_or, take, drop, FitsSigned, to_z, of_z, to_z-of_z, w32, pos, ◌+ℤ◌, ◌≤ℤ◌, ◌<ℤ◌, List, [], ◌∷◌, ◌++◌, refl, ap, sym, subst, ◌∙◌, inl, inr, arith}
 use Rattle.std.proofs.lemmas.Int.{ints, by_lt_z}
 use Rattle.std.proofs.lemmas.List.{append_assoc, drop_more, take_more}
+use Rattle.std.proofs.lemmas.List.Elements.{All-head}
 use Rattle.mf_geom.specs.Coordinates.{least_coordinate, greatest_coordinate}
 use Rattle.mf_edges.specs.declared.edge.Edge.{Edge}
 use Rattle.mf_edges.specs.LawfulWeights.{IsLawfulWeight}
@@ -96,22 +97,15 @@ stopped_before_change whole_left whole_right sum es changes f fs weight is so_fa
 pub difference_is : (w : ℤ) → IsDifference w → to_z w32 (of_z w32 w) ≡ w
 difference_is w difference = omega (arith, ints, difference.least, difference.greatest)
 
-pub lawful_is : (w : ℤ) → IsLawfulWeight w → to_z w32 (of_z w32 w) ≡ w
+lawful_is : (w : ℤ) → IsLawfulWeight w → to_z w32 (of_z w32 w) ≡ w
 lawful_is w lawful = omega (arith, ints, lawful.least, lawful.greatest)
 
 module _ (v w : ℤ) (left : IsDifference v) (right : IsDifference w) where
   pub more_fits : FitsSigned w32 (v +ℤ w)
   more_fits = omega (arith, ints, left.least, left.greatest, right.least, right.greatest)
 
-  pub more_is : to_z w32 (of_z w32 (v +ℤ w)) ≡ v +ℤ w
-  more_is = omega (arith, ints, left.least, left.greatest, right.least, right.greatest)
-
-  module _ (weight : ℤ) (lawful : IsLawfulWeight weight) where
-    pub total_fits : FitsSigned w32 (weight +ℤ (v +ℤ w))
-    total_fits = omega (arith, ints, left.least, left.greatest, right.least, right.greatest, lawful.least, lawful.greatest)
-
-    pub total_is : to_z w32 (of_z w32 (weight +ℤ (v +ℤ w))) ≡ weight +ℤ (v +ℤ w)
-    total_is = omega (arith, ints, left.least, left.greatest, right.least, right.greatest, lawful.least, lawful.greatest)
+  total_fits : (weight : ℤ) → IsLawfulWeight weight → FitsSigned w32 (weight +ℤ (v +ℤ w))
+  total_fits weight lawful = omega (arith, ints, left.least, left.greatest, right.least, right.greatest, lawful.least, lawful.greatest)
 
 module _ (whole_left whole_right sum es : List Edge) (f : Edge) (fs : List Edge) (weight : ℤ)
     (so_far : IsSumSoFar whole_left whole_right sum es (f ∷ fs) weight) (from : BeginFrom f.x es) where
@@ -131,6 +125,46 @@ module _ (whole_left whole_right sum es : List Edge) (f : Edge) (fs : List Edge)
     pub change_more : IsLawfulWeight (weight +ℤ (v +ℤ f.weight))
         → IsSumSoFar whole_left whole_right (sum ++ unless_zero (record { x = f.x; weight = v +ℤ f.weight })) others fs (weight +ℤ (v +ℤ f.weight))
     change_more = sum_more whole_left whole_right sum es (f ∷ fs) weight so_far f.x change_first others fs v f.weight split change_split
+
+-- a sum has come to the first change, with what is at its column split off the edges; and its numbers fit
+pub record IsJoint (whole_left whole_right sum es : List Edge) (f : Edge) (fs : List Edge) (weight v : ℤ) (others : List Edge) : Type 0 where
+  pub so_far : IsSumSoFar whole_left whole_right sum es (f ∷ fs) weight
+  pub from : BeginFrom f.x es
+  pub split : IsSplitAt es f.x v others
+  pub column_is : to_z w32 (of_z w32 f.x) ≡ f.x
+  pub edge_is : to_z w32 (of_z w32 v) ≡ v
+  pub change_is : to_z w32 (of_z w32 f.weight) ≡ f.weight
+  pub more_fits : FitsSigned w32 (v +ℤ f.weight)
+  pub more_is : to_z w32 (of_z w32 (v +ℤ f.weight)) ≡ v +ℤ f.weight
+  pub weight_is : to_z w32 (of_z w32 weight) ≡ weight
+  pub total_fits : FitsSigned w32 (weight +ℤ (v +ℤ f.weight))
+  pub total_is : to_z w32 (of_z w32 (weight +ℤ (v +ℤ f.weight))) ≡ weight +ℤ (v +ℤ f.weight)
+
+pub joint : (whole_left whole_right sum es changes : List Edge) (f : Edge) (fs : List Edge) (weight : ℤ) (count : ℕ) (now v : ℤ) (others : List Edge)
+    → changes ≡ f ∷ fs → IsSumSoFar whole_left whole_right sum es changes weight
+    → ArePassed es (to_z w32 (of_z w32 f.x)) weight count now → BeginFrom (to_z w32 (of_z w32 f.x)) (drop count es)
+    → IsSplitAt (drop count es) (to_z w32 (of_z w32 f.x)) v others
+    → IsJoint whole_left whole_right (sum ++ take count es) (drop count es) f fs now v others
+joint whole_left whole_right sum es changes f fs weight count now v others is so_far passed from split =
+    let before = subst (λ fs. IsSumSoFar whole_left whole_right sum es fs weight) is so_far in
+    let x_is : to_z w32 (of_z w32 f.x) ≡ f.x = omega (arith, ints, before.reach, before.right.sorted.0) in
+    let further = (rw x_is at passed).goes_on whole_left whole_right sum (f ∷ fs) (omega (arith, ints)) before in
+    let change = All-head (λ e. IsDifference e.weight) f fs further.right.differences in
+    let more_fits = more_fits v f.weight split.difference change in
+    let total_fits = total_fits v f.weight split.difference change now further.lawful in
+    record {
+      so_far = further;
+      from = rw x_is at from;
+      split = rw x_is at split;
+      column_is = x_is;
+      edge_is = difference_is v split.difference;
+      change_is = difference_is f.weight change;
+      more_fits = more_fits;
+      more_is = to_z-of_z more_fits;
+      weight_is = lawful_is now further.lawful;
+      total_fits = total_fits;
+      total_is = to_z-of_z total_fits;
+    }
 
 -- ---- the complete sum
 

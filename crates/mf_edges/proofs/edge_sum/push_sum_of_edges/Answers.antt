@@ -2,13 +2,11 @@ use Rattle.std.proofs.Common.{◌≡◌, subst, arith, to_z, of_z, w32}
 use Rattle.std.proofs.lemmas.Bool.{both_ways}
 use Rattle.std.proofs.lemmas.Int.{ints}
 use Rattle.std.proofs.lemmas.List.{nil_from_length}
-use Rattle.std.proofs.lemmas.List.Elements.{All-head}
 use Rattle.std.proofs.lemmas.Result.{err_from_is_err_and}
 use Rattle.mf_edges.specs.LawfulWeights.{IsLawfulWeight}
-use Rattle.mf_edges.specs.Merging.{IsDifference}
 use Rattle.mf_edges.proofs.AppendedSums.{appended_none, appended_twice, some_appended, some_more_appended, all_appended}
 use Rattle.mf_edges.proofs.EdgeSums.{sum_none}
-use Rattle.mf_edges.proofs.EdgesJoined.{passed_before_change, stopped_before_change, left_of_change, change_at_column, change_more, difference_is, lawful_is, more_fits, more_is, total_fits, total_is, sum_all, sum_all_weights}
+use Rattle.mf_edges.proofs.EdgesJoined.{passed_before_change, stopped_before_change, left_of_change, change_at_column, change_more, joint, sum_all, sum_all_weights}
 use Rattle.mf_edges.proofs.edge_sum.push_sum_of_edges.Goals as goal
 
 pub loop-change-init : goal.loop-change-init
@@ -35,72 +33,35 @@ split_at-edge-requires c =
 
 pub overflow_add-more : goal.overflow_add-more
 overflow_add-more c =
-    let f = c.in-Some.change.now in
-    let x_is : to_z w32 (of_z w32 f.x) ≡ f.x = omega (arith, ints) in
-    let passed = rw x_is at c.in_ok-passed.ensures.passed in
-    let so_far = passed_before_change _ _ _ _ _ f c.in-Some.changes.now _ _ _ c.in-Some.ensures.cases.0 c.loop-change.invariant.is passed in
-    let from = rw x_is at c.in_ok-passed.ensures.stops in
-    let v = c.split_at-edge.result.0 in
-    let split = rw (x_is, c.split_at.ensures.back) at c.split_at-edge.ensures in
-    let difference = All-head (λ e. IsDifference e.weight) f c.in-Some.changes.now so_far.right.differences in
-    rw (difference_is v split.difference, difference_is f.weight difference) (more_fits v f.weight split.difference difference)
+    let split = rw c.split_at.ensures.back at c.split_at-edge.ensures in
+    let j = joint _ _ _ _ _ _ _ _ _ _ _ _ c.in-Some.ensures.cases.0 c.loop-change.invariant.is c.in_ok-passed.ensures.passed c.in_ok-passed.ensures.stops split in
+    rw (j.edge_is, j.change_is) j.more_fits
 
 pub overflow_add-weight : goal.overflow_add-weight
 overflow_add-weight c =
-    let f = c.in-Some.change.now in
-    let x_is : to_z w32 (of_z w32 f.x) ≡ f.x = omega (arith, ints) in
-    let passed = rw x_is at c.in_ok-passed.ensures.passed in
-    let so_far = passed_before_change _ _ _ _ _ f c.in-Some.changes.now _ _ _ c.in-Some.ensures.cases.0 c.loop-change.invariant.is passed in
-    let from = rw x_is at c.in_ok-passed.ensures.stops in
-    let v = c.split_at-edge.result.0 in
-    let split = rw (x_is, c.split_at.ensures.back) at c.split_at-edge.ensures in
-    let difference = All-head (λ e. IsDifference e.weight) f c.in-Some.changes.now so_far.right.differences in
-    let weight = c.in_ok-passed.passed.weight in
-    rw (difference_is v split.difference, difference_is f.weight difference, more_is v f.weight split.difference difference, lawful_is weight so_far.lawful)
-    (total_fits v f.weight split.difference difference weight so_far.lawful)
+    let split = rw c.split_at.ensures.back at c.split_at-edge.ensures in
+    let j = joint _ _ _ _ _ _ _ _ _ _ _ _ c.in-Some.ensures.cases.0 c.loop-change.invariant.is c.in_ok-passed.ensures.passed c.in_ok-passed.ensures.stops split in
+    rw (j.edge_is, j.change_is, j.more_is, j.weight_is) j.total_fits
 
 pub returns-then-not-is_lawful_weight-clause-too_large : goal.returns-then-not-is_lawful_weight-clause-too_large
 returns-then-not-is_lawful_weight-clause-too_large c =
-    let f = c.in-Some.change.now in
-    let x_is : to_z w32 (of_z w32 f.x) ≡ f.x = omega (arith, ints) in
-    let passed = rw x_is at c.in_ok-passed.ensures.passed in
-    let so_far = passed_before_change _ _ _ _ _ f c.in-Some.changes.now _ _ _ c.in-Some.ensures.cases.0 c.loop-change.invariant.is passed in
-    let from = rw x_is at c.in_ok-passed.ensures.stops in
-    let v = c.split_at-edge.result.0 in
-    let split = rw (x_is, c.split_at.ensures.back) at c.split_at-edge.ensures in
-    let difference = All-head (λ e. IsDifference e.weight) f c.in-Some.changes.now so_far.right.differences in
-    let weight = c.in_ok-passed.passed.weight in
-    let v_is = difference_is v split.difference in
-    let w_is = difference_is f.weight difference in
-    let more_is = more_is v f.weight split.difference difference in
-    let passed_is = lawful_is weight so_far.lawful in
-    let total_is = total_is v f.weight split.difference difference weight so_far.lawful in
-    let asked = rw (v_is, w_is, more_is, passed_is, total_is) at c.is_lawful_weight.ensures.1 in
-    let at = change_at_column _ _ _ _ f _ _ so_far from v _ split in
+    let split = rw c.split_at.ensures.back at c.split_at-edge.ensures in
+    let j = joint _ _ _ _ _ _ _ _ _ _ _ _ c.in-Some.ensures.cases.0 c.loop-change.invariant.is c.in_ok-passed.ensures.passed c.in_ok-passed.ensures.stops split in
+    let asked = rw (j.edge_is, j.change_is, j.more_is, j.weight_is, j.total_is) at c.is_lawful_weight.ensures.1 in
+    let at = change_at_column _ _ _ _ c.in-Some.change.now _ _ j.so_far j.from _ _ j.split in
     λ _. record {
-      x = f.x;
+      x = c.in-Some.change.now.x;
       unlawful = λ lawful. both_ways c.is_lawful_weight.result c.if-not-is_lawful_weight.true (asked (subst IsLawfulWeight at lawful));
     }
 
 pub loop-change-preserved : goal.loop-change-preserved
 loop-change-preserved c =
-    let f = c.in-Some.change.now in
-    let x_is : to_z w32 (of_z w32 f.x) ≡ f.x = omega (arith, ints) in
-    let passed = rw x_is at c.in_ok-passed.ensures.passed in
-    let so_far = passed_before_change _ _ _ _ _ f c.in-Some.changes.now _ _ _ c.in-Some.ensures.cases.0 c.loop-change.invariant.is passed in
-    let from = rw x_is at c.in_ok-passed.ensures.stops in
-    let v = c.split_at-edge.result.0 in
-    let split = rw (x_is, c.split_at.ensures.back) at c.split_at-edge.ensures in
-    let difference = All-head (λ e. IsDifference e.weight) f c.in-Some.changes.now so_far.right.differences in
-    let weight = c.in_ok-passed.passed.weight in
-    let v_is = difference_is v split.difference in
-    let w_is = difference_is f.weight difference in
-    let more_is = more_is v f.weight split.difference difference in
-    let passed_is = lawful_is weight so_far.lawful in
-    let total_is = total_is v f.weight split.difference difference weight so_far.lawful in
-    let lawful = rw (v_is, w_is, more_is, passed_is, total_is) at (c.is_lawful_weight.ensures.0 c.if-not-is_lawful_weight.false) in
-    rw (c.in_ok-push_unless_zero.ensures.pushed, c.in_ok-extend_from_slice.ensures.items, c.split_at.ensures.front, x_is, v_is, w_is, more_is, passed_is, total_is)
-    (appended_twice _ _ _ _ _ _ c.loop-change.invariant (change_more _ _ _ _ f _ _ so_far from v _ split lawful))
+    let split = rw c.split_at.ensures.back at c.split_at-edge.ensures in
+    let j = joint _ _ _ _ _ _ _ _ _ _ _ _ c.in-Some.ensures.cases.0 c.loop-change.invariant.is c.in_ok-passed.ensures.passed c.in_ok-passed.ensures.stops split in
+    let lawful = rw (j.edge_is, j.change_is, j.more_is, j.weight_is, j.total_is) at (c.is_lawful_weight.ensures.0 c.if-not-is_lawful_weight.false) in
+    rw (c.in_ok-push_unless_zero.ensures.pushed, c.in_ok-extend_from_slice.ensures.items, c.split_at.ensures.front)
+    (rw (j.column_is, j.edge_is, j.change_is, j.more_is, j.weight_is, j.total_is)
+    (appended_twice _ _ _ _ _ _ c.loop-change.invariant (change_more _ _ _ _ c.in-Some.change.now _ _ j.so_far j.from _ _ j.split lawful)))
 
 pub returns-in_err-passed-clause-kept : goal.returns-in_err-passed-clause-kept
 returns-in_err-passed-clause-kept c =

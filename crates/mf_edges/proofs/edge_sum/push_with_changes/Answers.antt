@@ -1,10 +1,10 @@
-use Rattle.std.proofs.Common.{◌≡◌, to_z, of_z, w32, arith}
+use Rattle.std.proofs.Common.{◌≡◌, to_z, of_z, to_z-of_z, w32, arith}
 use Rattle.std.proofs.lemmas.Int.{ints}
 use Rattle.std.proofs.lemmas.List.{nil_from_length}
 use Rattle.std.proofs.lemmas.Result.{err_from_is_err_and}
 use Rattle.mf_edges.proofs.AppendedSums.{appended_none, appended_twice, some_appended, some_more_appended, all_appended}
 use Rattle.mf_edges.proofs.EdgeSums.{changes_of_edges}
-use Rattle.mf_edges.proofs.EdgesJoined.{difference_is, more_fits, more_is, sum_all, sum_all_weights}
+use Rattle.mf_edges.proofs.EdgesJoined.{difference_is, more_fits, sum_all, sum_all_weights}
 use Rattle.mf_edges.proofs.ReachesOfSums.{in_reach_left, in_reach_difference, in_reach_more, lawful_in_reach, in_reach_none, in_reach_sorted}
 use Rattle.mf_edges.proofs.edge_sum.push_with_changes.Goals as goal
 
@@ -49,7 +49,7 @@ loop-change-preserved c =
     let split = rw (x_is, c.split_at.ensures.back) at c.split_at-edge.ensures in
     let v_is = difference_is v split.difference in
     let w_is = difference_is f.weight difference in
-    let sum_is = more_is v f.weight split.difference difference in
+    let sum_is = to_z-of_z (more_fits v f.weight split.difference difference) in
     rw (c.in_ok-push_unless_zero.ensures.pushed, c.in_ok-extend_from_slice.ensures.items, c.split_at.ensures.front, x_is, v_is, w_is, sum_is)
     (appended_twice _ _ _ _ _ _ c.loop-change.invariant
     (in_reach_more _ _ lawful _ _ _ f c.in-Some.changes.now _ c.in-Some.ensures.cases.0 c.loop-change.invariant.is left from v _ split))
