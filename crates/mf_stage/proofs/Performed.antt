@@ -8,7 +8,7 @@ use Rattle.mf_session.specs.Sessions.{IsAnswered}
 use Rattle.mf_session.specs.States.{Limits, State}
 use Rattle.mf_stage.specs.Plates.{IsPlate}
 use Rattle.mf_stage.specs.Publications.{IsPlateWhere, IsPublication}
-use Rattle.mf_stage.specs.Scripts.{IsPerformed}
+use Rattle.mf_stage.specs.Scripts.{IsPerformed, step_of}
 use Rattle.mf_stage.specs.Stages.{plates_of, session_of}
 use Rattle.mf_stage.specs.declared.plate.Plate.{Plate}
 use Rattle.mf_stage.specs.declared.plate.Plates.{Plates}
@@ -40,7 +40,7 @@ module _ (before after : Stage) (s : State) (line text : List ℕ) (held holds :
     (means : (publishes ≡ true) ↔ Gives line Publish)
     (answered : IsAnswered (session_of before) s line text (session_of after)) (out : Appends held holds text) where
   -- nothing is made of a line that does not publish
-  pub performed-quietly : publishes ≡ false → IsPerformed before s line None after held holds
+  pub performed-quietly : publishes ≡ false → IsPerformed (step_of before s after held holds) line None
   performed-quietly quiet =
       record {
         text = text;
@@ -54,7 +54,7 @@ module _ (before after : Stage) (s : State) (line text : List ℕ) (held holds :
   -- the publication of what was published is made of one that does
   pub performed-published : (made : Publication) → publishes ≡ true → plates_of after ≡ plates_of before
       → IsPublication (plates_of after) answered.next.pictures.accepted made
-      → IsPerformed before s line (Some made) after held holds
+      → IsPerformed (step_of before s after held holds) line (Some made)
   performed-published made publishing same publication =
       let given = means.0 publishing in
       let all = published-all _ s line text answered.next answered.answer given in

@@ -11,7 +11,7 @@ use Rattle.mf_session.specs.States.{State}
 use Rattle.mf_session.specs.Transcript.{Perform}
 use Rattle.mf_stage.proofs.Cuts.{next_lines}
 use Rattle.mf_stage.specs.Lines.{Reads, without_ending}
-use Rattle.mf_stage.specs.Scripts.{HasPerformed, IsPerformed}
+use Rattle.mf_stage.specs.Scripts.{HasPerformed, IsPerformed, Step, step_of}
 use Rattle.mf_stage.specs.Stages.{StandsFor, limits}
 use Rattle.mf_stage.specs.declared.stage.Publication.{Publication}
 use Rattle.mf_stage.specs.declared.stage.Stage.{Stage}
@@ -20,7 +20,7 @@ use Rattle.mf_stage.specs.declared.stage.Stage.{Stage}
 pub record HasBegun (before : Stage) (s : State) (input rest : List ℕ) (now : Stage) (held holds : Option (List ℕ)) : Type 0 where
   pub done : List (List ℕ)
   pub ahead : lines input ≡ done ++ lines rest
-  pub performed : HasPerformed before s done now held holds
+  pub performed : HasPerformed (step_of before s now held holds) done
 
 -- where the bytes of the script are known, so are those that are left
 abbrev pub IsUnderWay : Stage → Option (List ℕ) → Option (List ℕ) → Stage → Option (List ℕ) → Option (List ℕ) → Type 0
@@ -48,10 +48,8 @@ under_way-start stage (Some input) held = λ s stands. (
 )
 
 -- one line is performed
-pub performed-one : (before after : Stage) (s : State) (line : List ℕ) (made : Option Publication) (held holds : Option (List ℕ))
-    → IsPerformed before s line made after held holds
-    → HasPerformed before s (line ∷ []) after held holds
-performed-one before after s line made held holds one =
+pub performed-one : (step : Step) (line : List ℕ) (made : Option Publication) → IsPerformed step line made → HasPerformed step (line ∷ [])
+performed-one step line made one =
     record {
       text = one.text;
       last = one.next;
@@ -62,8 +60,8 @@ performed-one before after s line made held holds one =
 
 -- some lines are performed, and then others
 performed-more : (before now later : Stage) (s : State) (done more : List (List ℕ)) (held holds last : Option (List ℕ))
-    → limits now ≡ limits before → (first : HasPerformed before s done now held holds)
-    → HasPerformed now first.last more later holds last → HasPerformed before s (done ++ more) later held last
+    → limits now ≡ limits before → (first : HasPerformed (step_of before s now held holds) done)
+    → HasPerformed (step_of now first.last later holds last) more → HasPerformed (step_of before s later held last) (done ++ more)
 performed-more before now later s done more held holds last same first second =
     record {
       text = first.text ++ second.text;
@@ -78,7 +76,7 @@ performed-more before now later s done more held holds last same first second =
 pub under_way-next : (before now later : Stage) (input left remaining held holds last : Option (List ℕ)) (line : List ℕ)
     → limits now ≡ limits before → IsUnderWay before input left now held holds
     → ((rest : List ℕ) → left ≡ Some rest → Reads rest line remaining)
-    → ((s : State) → StandsFor now s → HasPerformed now s (without_ending line ∷ []) later holds last)
+    → ((s : State) → StandsFor now s → HasPerformed (step_of now s later holds last) (without_ending line ∷ []))
     → IsUnderWay before input remaining later held last
 under_way-next before now later None left remaining held holds last line same under_way reads performs = tt
 under_way-next before now later (Some input) left remaining held holds last line same under_way reads performs = λ s stands.
@@ -99,12 +97,12 @@ under_way-next before now later (Some input) left remaining held holds last line
 
 -- nothing is left
 pub under_way-end : (before now : Stage) (input left held holds : Option (List ℕ)) → IsAtEnd left → IsUnderWay before input left now held holds
-    → IfSome input (λ bytes. (s : State) → StandsFor before s → HasPerformed before s (lines bytes) now held holds)
+    → IfSome input (λ bytes. (s : State) → StandsFor before s → HasPerformed (step_of before s now held holds) (lines bytes))
 under_way-end before now None left held holds at_end under_way = tt
 under_way-end before now (Some input) left held holds at_end under_way = λ s stands.
     let (rest, is, begun) = under_way s stands in
     let nothing : rest ≡ [] = subst IsAtEnd is at_end in
-    subst (λ ls. HasPerformed before s ls now held holds)
+    subst (λ ls. HasPerformed (step_of before s now held holds) ls)
     (sym (begun.ahead ∙ ap (λ bytes. begun.done ++ lines bytes) nothing ∙ append-nil begun.done)) begun.performed
 
 -- what holds of known bytes

@@ -5,7 +5,7 @@ ghost use Rattle.mf_live.specs.Desks.{desk_identity};
 ghost use Rattle.mf_session.specs.Endings.{HasEnded};
 ghost use Rattle.mf_session.specs.States.{State, start};
 ghost use Rattle.mf_stage.specs.Publications.{IsPlateWhere, IsPublication};
-ghost use Rattle.mf_stage.specs.Scripts.{IsPerformed, Performs, PerformsAll, StillStands};
+ghost use Rattle.mf_stage.specs.Scripts.{IsPerformed, Performs, PerformsAll, StillStands, step_of};
 ghost use Rattle.mf_stage.specs.Stages.{StandsFor, identity, limits, limits_set, plates_of, session_of};
 
 use crate::fault::StageFault;
@@ -140,7 +140,7 @@ impl Stage {
         transcript: &mut W,
     ) -> Result<Option<Publication>, StageFault>
         ensures performed { IfOk result (λ made. (s : State) → StandsFor self.old s
-            → IsPerformed self.old s line.now made self.new (W.contents transcript.old) (W.contents transcript.new)) }
+            → IsPerformed (step_of self.old s self.new (W.contents transcript.old) (W.contents transcript.new)) line.now made) }
         ensures limits { limits self.new ≡ limits self.old }
         ensures identity { identity self.new ≡ identity self.old }
         ensures plates { plates_of self.new ≡ plates_of self.old }

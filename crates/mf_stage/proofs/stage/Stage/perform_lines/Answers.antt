@@ -1,7 +1,7 @@
 use Rattle.std.proofs.Common.{◌∷◌, [], refl, ap, subst, ◌∙◌}
 use Rattle.mf_stage.proofs.Scripts.{known_is, under_way-next, under_way-start}
 use Rattle.mf_stage.specs.Lines.{Reads, without_ending}
-use Rattle.mf_stage.specs.Scripts.{HasPerformed}
+use Rattle.mf_stage.specs.Scripts.{HasPerformed, step_of}
 use Rattle.mf_stage.proofs.stage.Stage.perform_lines.Goals as goal
 
 pub lines-init : goal.lines-init
@@ -23,6 +23,6 @@ lines-preserved g c =
       under_way-next c.args.self.now c.lines.self c.perform_line.new.self _
           (g.B.Read.remaining c.lines.script) remaining (g.W.Write.contents c.args.transcript.now) held holds line limits_are under_way
           (λ rest is. known_is (λ input. Reads input line remaining) _ rest is read)
-          (λ s stands. subst (λ l. HasPerformed c.lines.self s (l ∷ []) c.perform_line.new.self held holds) bare (done.performed s stands)),
+          (λ s stands. subst (λ l. HasPerformed (step_of c.lines.self s c.perform_line.new.self held holds) (l ∷ [])) bare (done.performed s stands)),
       λ s stands. let (now, represented) = represents s stands in let next = done.performed now represented in (next.last, next.stands),
     )
