@@ -6,6 +6,8 @@ use Rattle.std.proofs.lemmas.Bool.{cond-true, cond-false, and_parts, and_from, l
 use Rattle.std.proofs.lemmas.Int.{ints, by_lt_z}
 use Rattle.mf_geom.specs.Coordinates.{least_coordinate, greatest_coordinate, last_in_field}
 use Rattle.mf_rows.specs.declared.bounds.Box4.{Box4}
+use Rattle.mf_rows.specs.declared.run.Run.{Run}
+use Rattle.mf_rows.specs.Order.{IsRun}
 use Rattle.mf_show.specs.Boxes.{IsBoxOfField}
 use Rattle.mf_show.specs.Grid.{extent}
 use Rattle.mf_frame.specs.declared.window.Window.{Window}
@@ -248,12 +250,31 @@ pub few_lines : (canvas : Size) (b : Box4) → IsSize canvas → IsBoxOfField b 
 few_lines canvas b size box = (fitting_parts canvas (window_at b (scale_of canvas b)) (scale-fits canvas b size box)).lines
 
 -- the cell that the code finds
-pub found_cell : (s p r : ℤ) → IsScale s → least_coordinate ≤ℤ p → p ≤ℤ last_in_field → r ≡ cell_of (to_z w32 (of_z w32 s)) (to_z w32 (of_z w32 p))
+found_cell : (s p r : ℤ) → IsScale s → least_coordinate ≤ℤ p → p ≤ℤ last_in_field → r ≡ cell_of (to_z w32 (of_z w32 s)) (to_z w32 (of_z w32 p))
     → to_z w32 (of_z w32 r) ≡ cell_of s p
 found_cell s p r scale least greatest computed =
     let value = cell_value s p r scale least greatest computed in
     let field = cell_in_field s p scale.least least greatest in
     rw value (stays (cell_of s p) field.least (omega (arith, ints, field.greatest)))
+
+-- the cells that the code finds of the row of a run, and of its first and last column
+pub record AreFoundCells (s : ℤ) (run : Run) (row first last : ℤ) : Type 0 where
+  pub row_is : to_z w32 (of_z w32 row) ≡ cell_of s run.y
+  pub first_is : to_z w32 (of_z w32 first) ≡ cell_of s run.x
+  pub last_is : to_z w32 (of_z w32 last) ≡ cell_of s ((run.x +ℤ pos run.len) -ℤ pos 1)
+
+pub found_cells : (s : ℤ) (run : Run) (row first last : ℤ) → IsScale s → IsRun run
+    → row ≡ cell_of (to_z w32 (of_z w32 s)) (to_z w32 (of_z w32 run.y)) → first ≡ cell_of (to_z w32 (of_z w32 s)) (to_z w32 (of_z w32 run.x))
+    → last ≡ cell_of (to_z w32 (of_z w32 s)) (to_z w32 (of_z w32 (to_z w32 (of_z w32 run.x) +ℤ to_z w32 (run.len - 1))))
+    → AreFoundCells s run row first last
+found_cells s run row first last scale r row_computed first_computed last_computed =
+    let end : to_z w32 (of_z w32 run.x) +ℤ to_z w32 (run.len - 1) ≡ (run.x +ℤ pos run.len) -ℤ pos 1 = omega (arith, ints, r.some, r.left, r.right) in
+    record {
+      row_is = found_cell s run.y row scale r.bottom r.top row_computed;
+      first_is = found_cell s run.x first scale r.left (omega (arith, ints, r.some, r.right)) first_computed;
+      last_is = found_cell s ((run.x +ℤ pos run.len) -ℤ pos 1) last scale (omega (arith, ints, r.some, r.left))
+          (omega (arith, ints, r.right)) (rw end at last_computed);
+    }
 
 pub stays_scale : (s : ℤ) → IsScale s → to_z w32 (of_z w32 s) ≡ s
 stays_scale s scale = stays s (omega (arith, ints, scale.least)) scale.greatest
