@@ -16,7 +16,7 @@ use std::sync::Arc;
 /// of the row. With more edges, or with no room, the rows are merged and all weights are checked.
 const FEW_EDGES: usize = 8;
 
-/// Rows of corners and changed rows with more edges than this, and sums to whose left row that applies, get lists of their own
+/// Rows of corners and changed rows with more edges than this, and sums of two rows that have more together, get lists of their own
 /// behind an `Arc`. A band that is made anew for other rows then shares such a list, where it copies the edges of shorter rows:
 /// copying few edges costs less than asking for memory, and copying many costs more.
 pub(crate) const MANY_EDGES: usize = 64;
@@ -155,7 +155,7 @@ impl RowList {
         ensures too_large { IfErr result (λ fault. fault ≢ AddFault.OutOfMemory
             → IsUnlawfulInRow (weight_in_all (edge_row left.now ∷ []) (edge_row right.now ∷ [])) right.now.y) }
     {
-        if left.edges.len() > MANY_EDGES {
+        if left.edges.len() + right.edges.len() > MANY_EDGES {
             return self.push_long_sum(alloc, left, right);
         }
         let start = self.edges.len();

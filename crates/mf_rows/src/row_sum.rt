@@ -5,6 +5,7 @@ ghost use Rattle.mf_rows.specs.EdgeRows.{AreRows};
 ghost use Rattle.mf_rows.specs.Merging.{IsRowAt, row_found, HasRowSum, IsUnlawfulInRow};
 ghost use Rattle.mf_rows.specs.Sums.{weight_in_all, HaveRowWeights, StayWithin, IsUnlawfulSomewhere};
 
+use crate::bands::BAND_HEIGHT;
 use crate::row::Row;
 use crate::row_list::RowList;
 use crate::slice::RowSlice;
@@ -29,7 +30,7 @@ pub(crate) fn sum_of_rows(
 {
     let mut sum = RowList::with_room(
         alloc,
-        left.len() + right.len(),
+        (left.len() + right.len()).min(BAND_HEIGHT as usize),
         left.edge_count().saturating_add(right.edge_count()),
     )?;
     let (mut left, mut right) = (left, right);
