@@ -42,6 +42,12 @@ class Prover:
         self.toolchain = pathlib.Path(page.strip()).parent
         self.version = subprocess.run(["rt", "version"], stdout=subprocess.PIPE, check=True).stdout
         self.libraries = libraries_of_crates()
+        self.folders = {crate: ROOT / "crates" / crate for crate in self.libraries}
+
+    def add_program(self, crate: str, folder: pathlib.Path, libraries: list[str]) -> None:
+        """Adds a program in another folder, for `link`. Its libraries come each after the libraries that it uses."""
+        self.libraries[crate] = libraries
+        self.folders[crate] = folder
 
     def below(self, crate: str) -> list[str]:
         """The crates of the repository that a crate uses."""
@@ -70,7 +76,7 @@ class Prover:
 
     def link(self, crate: str, jobs: int) -> None:
         """Proves, compiles and links a program, and puts it into the folder `out` of its crate."""
-        out = ROOT / "crates" / crate / "out"
+        out = self.folders[crate] / "out"
         out.mkdir(exist_ok=True)
         made, compilers = str(out / f"{crate}.o"), ["--toolchain", str(self.toolchain / "toolchain")]
         words = [*self.words("build", crate, "src/main.rt"), "--jobs", str(jobs), *compilers]
@@ -92,6 +98,6 @@ class Prover:
         """Runs a command in the folder of a crate."""
         how = {"stdin": subprocess.DEVNULL, "stdout": subprocess.PIPE, "stderr": subprocess.STDOUT}
         words = ["nice", "-n", str(niceness), *words]
-        ran = subprocess.run(words, cwd=ROOT / "crates" / crate, check=False, encoding="utf-8", errors="replace", **how)
+        ran = subprocess.run(words, cwd=self.folders[crate], check=False, encoding="utf-8", errors="replace", **how)
         if ran.returncode:
             raise Failure(f"{crate}\n{ran.stdout}the prover exited with status {ran.returncode}")

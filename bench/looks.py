@@ -1,0 +1,125 @@
+"""Measures looks at a live picture with the program of the folder looks. (`run.py --looks` calls it.)
+
+The program is no crate of crates.txt, so that the gate takes no longer, and the gate stops at a file .rt that belongs to no crate.
+So its sources have names that end in .rattle. They are copied into a folder of their own, and proved and built there, if they or a
+library have changed. The program is kept as out/looks.
+"""
+
+import hashlib
+import pathlib
+import shutil
+import statistics
+import subprocess
+import sys
+import tempfile
+
+HERE = pathlib.Path(__file__).resolve().parent
+sys.path.insert(0, str(HERE.parent / "tools"))
+
+import build  # noqa: E402
+from prover import Failure, Prover  # noqa: E402
+
+NAME = "looks"
+SOURCES = sorted((HERE / NAME).glob("*.rattle"))
+PROGRAM, STAMP = HERE / "out" / NAME, HERE / "out" / "stamp"
+LIBRARIES = "mf_base mf_geom mf_edges mf_rows mf_ops mf_live core left_right logbook crossbeam_utils atomic_table anyhow".split()
+
+THREADS = (1, 2, 4, 16)
+# The rows of the pictures. A picture has at most 8190, and a band 16.
+HEIGHTS = (1, 16, 512, 2048, 8190)
+HEIGHT = 512
+# Each number is the best of so many runs, of so many milliseconds each.
+RUNS, MILLISECONDS = 3, 500
+
+
+def sum_of_sources(prover):
+    """A hash of everything that the program is proved from."""
+    found = hashlib.sha256(prover.version)
+    for name in prover.below(NAME):
+        found.update(prover.sum_of_sources(name).encode())
+    for file in SOURCES:
+        found.update(file.name.encode() + file.read_bytes())
+    return found.hexdigest()
+
+
+def prove_and_build(prover, folder):
+    """Proves and builds the program in this folder, and keeps it."""
+    (folder / "src").mkdir()
+    for file in SOURCES:
+        shutil.copy(file, folder / "src" / f"{file.stem}.rt")
+    prover.add_program(NAME, folder, LIBRARIES)
+    build.build(prover, NAME)
+    PROGRAM.parent.mkdir(exist_ok=True)
+    shutil.copy(folder / "out" / NAME, PROGRAM)
+    STAMP.write_text(sum_of_sources(prover))
+
+
+def ensure_program():
+    """Proves and builds the program, unless it is built from the present sources."""
+    prover = Prover()
+    prover.libraries[NAME] = LIBRARIES
+    if PROGRAM.is_file() and STAMP.is_file() and STAMP.read_text() == sum_of_sources(prover):
+        return
+    print(f"{NAME}: proving and building the program; this takes some four minutes, and more if libraries have changed", file=sys.stderr)
+    with tempfile.TemporaryDirectory() as folder:
+        try:
+            prove_and_build(prover, pathlib.Path(folder))
+        except Failure as failure:
+            raise SystemExit(str(failure))
+
+
+def numbers(kind, threads, height):
+    """The numbers that one run prints."""
+    words = [str(PROGRAM), kind, str(threads), str(height), str(MILLISECONDS)]
+    ran = subprocess.run(words, stdout=subprocess.PIPE, check=True, encoding="ascii", timeout=600)
+    return [int(word) for word in ran.stdout.split()]
+
+
+def rates(kind, threads):
+    """The most looks in a second, and the most publishes, in millions."""
+    runs = [numbers(kind, threads, HEIGHT) for _ in range(RUNS)]
+    return max(1000 * run[0] / run[4] for run in runs), max(1000 * run[1] / run[4] for run in runs)
+
+
+def print_rates():
+    """Looks in a second, at a picture and at a number that `left_right` keeps."""
+    print("| threads | looks, silent | looks | publishes | left_right, silent | left_right | its publishes |")
+    print("|---|---|---|---|---|---|---|")
+    for threads in THREADS:
+        row = [rates("live-silent", threads)[0], *rates("live", threads)]
+        row += [rates("library-silent", threads)[0], *rates("library", threads)]
+        shown = " | ".join(f"{number:.3f}" for number in row)
+        print(f"| {threads} | {shown} |", flush=True)
+
+
+def microseconds(threads, height):
+    """The least microseconds of an operation, and of a publish."""
+    runs = [numbers("live", threads, height) for _ in range(RUNS)]
+    return [min(run[at] / run[1] / 1000 for run in runs) for at in (2, 3)]
+
+
+def print_publishes():
+    """Microseconds of an operation and of a publish, by the height of the picture."""
+    print("| rows | an operation | a publish | an operation, one viewer | a publish, one viewer |")
+    print("|---|---|---|---|---|")
+    for height in HEIGHTS:
+        shown = " | ".join(f"{number:.2f}" for threads in (0, 1) for number in microseconds(threads, height))
+        print(f"| {height:,} | {shown} |", flush=True)
+
+
+def print_delays():
+    """Microseconds from a publish to the first look that shows it."""
+    print("| threads | publishes | median | 99th percentile |")
+    print("|---|---|---|---|")
+    for threads in THREADS:
+        delays = [number / 1000 for _ in range(RUNS) for number in numbers("delay", threads, HEIGHT)]
+        last = statistics.quantiles(delays, n=100)[98]
+        print(f"| {threads} | {len(delays):,} | {statistics.median(delays):.1f} | {last:.1f} |", flush=True)
+
+
+def measure():
+    """Prints the three tables."""
+    ensure_program()
+    for print_table in (print_rates, print_publishes, print_delays):
+        print_table()
+        print()
