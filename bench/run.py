@@ -1,14 +1,19 @@
 #!/usr/bin/env python3
-"""Measures the program on the workloads of workloads.py, and compares it with METAFONT if that is installed.
+"""Measures the program on the workloads of workloads.py, and compares it with METAFONT and with a plain C++ program.
 
     bench/run.py [--program PROGRAM] [--repeats N] [--seed S] [--only WORD] [--growth]
+    bench/run.py --looks
 
-PROGRAM is the built program, by default crates/mfpic/out/mfpic beside this folder. Each workload runs at least N times, by
-default 5, and more often while all runs together take less than two seconds, up to 100 times. METAFONT (`mf-nowin`, Debian
-package texlive-binaries) and the program run in turn, and the least time of each counts. If a workload ships characters, both
-write a font file. The totals that both print and the characters that both ship are compared. The exit status is 1 if they differ,
-if the program refuses a line, or if METAFONT finds an error. One more run of each measures its peak memory with GNU time (Debian
-package time), if that is installed. With --growth only the program runs, on the sizes n, 2n and 4n.
+PROGRAM is the built program, by default crates/mfpic/out/mfpic beside this folder. METAFONT (`mf-nowin`, Debian package
+texlive-binaries) takes part if it is installed, and plain.cpp if there is a compiler, which is `c++` or what CXX names. Each
+workload runs at least N times, by default 5, and more often while all runs together take less than two seconds, up to 100 times.
+The programs run in turn, and the least time of each counts. If a workload ships characters, all write a font file. The totals that
+they print and the characters that they ship are compared. The exit status is 1 if they differ, if the program does not refuse
+exactly the lines that it should, or if METAFONT finds an error. One more run of each measures its peak memory with GNU time
+(Debian package time), if that is installed.
+
+With --growth only the program runs, on the sizes n, 2n and 4n. With --looks a program of its own runs, which measures looks at a
+live picture (looks.py).
 """
 
 import argparse
@@ -21,9 +26,12 @@ import sys
 import tempfile
 import time
 
+import looks
 import workloads
 
 ROOT = pathlib.Path(__file__).resolve().parent.parent
+
+PLAIN = ROOT / "bench/plain.cpp"
 
 GNU_TIME = "/usr/bin/time"
 
@@ -32,10 +40,12 @@ ENVIRONMENT = {**os.environ, "main_memory": "8000000"}
 
 
 class Runner:
-    """One of the two programs, with its own script in a folder."""
+    """One of the programs, with its own script in a folder."""
 
-    # The names of the script and of the font file, and the patterns of a total and of a fault in what the program writes.
-    SCRIPT, FONT, TOTAL, FAULT = "", "", r"", r""
+    # The name of the program, and those of its script, of what it prints and of its font file.
+    NAME, SCRIPT, PRINTED, FONT = "", "", "", ""
+    # The patterns of a total and of a fault in what the program writes.
+    TOTAL, FAULT = r"", r""
 
     def __init__(self, words, text, folder):
         self.words = words
@@ -48,11 +58,11 @@ class Runner:
 
     def told(self):
         """What the last run wrote."""
-        return (self.folder / "printed").read_text()
+        return (self.folder / self.PRINTED).read_text()
 
     def run(self, before=()):
         """Runs the program, and returns the wall time in seconds."""
-        with open(self.stdin(), "rb") as lines, open(self.folder / "printed", "wb") as printed:
+        with open(self.stdin(), "rb") as lines, open(self.folder / self.PRINTED, "wb") as printed:
             begin = time.perf_counter()
             done = subprocess.run(
                 [*before, *self.words],
@@ -92,20 +102,38 @@ class Runner:
 class Program(Runner):
     """The program, which writes a transcript, and a font file if the script ships characters."""
 
-    SCRIPT, FONT, TOTAL, FAULT = "work.mfp", "shipped.gf", r"^totalweight (-?\d+)$", r"^refused .*"
+    NAME, SCRIPT, PRINTED, FONT = "mfpic", "work.mfp", "mfpic.txt", "mfpic.gf"
+    TOTAL, FAULT = r"^totalweight (-?\d+)$", r"^refused (?!BadWeight$).*"
+    # The words of the command line before the name of the font file.
+    OPTION = ("--gf",)
 
     def __init__(self, program, lines, folder):
-        words = [program, "--gf", self.FONT] if workloads.ships(lines) else [program]
+        words = [program, *self.OPTION, self.FONT] if workloads.ships(lines) else [program]
         super().__init__(words, "\n".join(lines) + "\n", folder)
+        self.refused = sum(map(workloads.is_refused, lines))
+
+    def run(self, before=()):
+        seconds = super().run(before)
+        refused = len(re.findall(r"^refused ", self.told(), re.MULTILINE))
+        if refused != self.refused:
+            raise SystemExit(f"{self.NAME} refuses {refused} lines, and should refuse {self.refused}")
+        return seconds
 
     def totals(self):
         return [int(n) for n in super().totals()]
 
 
+class Plain(Program):
+    """The plain C++ program."""
+
+    NAME, PRINTED, FONT, OPTION = "C++", "plain.txt", "plain.gf", ()
+
+
 class Metafont(Runner):
     """METAFONT, which writes a log, and a font file if the script ships characters."""
 
-    SCRIPT, FONT, TOTAL, FAULT = "work.mf", "work.gf", r"^>> (-?[\d.]+)", r"^! .*"
+    NAME, SCRIPT, PRINTED, FONT = "METAFONT", "work.mf", "metafont.txt", "work.gf"
+    TOTAL, FAULT = r"^>> (-?[\d.]+)", r"^! .*"
 
     def __init__(self, lines, folder):
         super().__init__(["mf-nowin", "-ini", "-interaction=batchmode", self.SCRIPT], workloads.metafont(lines), folder)
@@ -121,6 +149,10 @@ class Metafont(Runner):
         return [round(float(n) * 65536) for n in super().totals()]
 
 
+# The programs, in the order of their columns.
+NAMES = [Program.NAME, Metafont.NAME, Plain.NAME]
+
+
 def is_wanted(repeats, times, seconds):
     """Whether one more run is needed after runs with these times, all of which took this many seconds."""
     return len(times) < repeats or (len(times) < 100 and seconds < 2)
@@ -134,42 +166,62 @@ def repeated(repeats, runner):
     return times
 
 
-def difference(own, theirs, lines):
+def difference(own, other, lines):
     """What differs between the last runs, if anything does."""
-    found, expected = own.totals(), theirs.totals()
+    found, expected = own.totals(), other.totals()
     if found != expected:
-        return f"the totals start with {found[:9]}, and METAFONT's with {expected[:9]}"
-    if workloads.ships(lines) and own.characters() != theirs.characters():
-        return "the characters are not METAFONT's"
+        return f"the totals start with {found[:9]}, and those of {other.NAME} with {expected[:9]}"
+    if workloads.ships(lines) and own.characters() != other.characters():
+        return f"the characters are not those of {other.NAME}"
     return None
 
 
-def beside_metafont(arguments, name, lines, folder):
-    """The row of a workload, with METAFONT."""
-    own, theirs = Program(arguments.program, lines, folder), Metafont(lines, folder)
-    own_times, their_times = [], []
-    while is_wanted(arguments.repeats, own_times, sum(own_times + their_times)):
-        their_times.append(theirs.run())
-        own_times.append(own.run())
-        if wrong := difference(own, theirs, lines):
+def times_in_turn(repeats, name, lines, runners):
+    """The times of each of the runners, which run in turn. The first one is compared with the others."""
+    own, *others = runners
+    times = [[] for _ in runners]
+    while is_wanted(repeats, times[0], sum(map(sum, times))):
+        for runner, taken in zip(runners, times):
+            taken.append(runner.run())
+        for wrong in filter(None, (difference(own, other, lines) for other in others)):
             raise SystemExit(f"{name}: {wrong}")
-    fast = min(their_times) / min(own_times)
-    return f"| {name} | {min(own_times):.3f} | {min(their_times):.3f} | {fast:.1f} | {own.peak()} | {theirs.peak()} |"
+    return times
 
 
-def alone(arguments, name, lines, folder):
-    own = Program(arguments.program, lines, folder)
-    times = repeated(arguments.repeats, own)
-    return f"| {name} | {min(times):.3f} | - | - | {own.peak()} | - |"
+def row(arguments, name, lines, folder, plain):
+    """The row of a workload."""
+    runners = [Program(arguments.program, lines, folder)]
+    if shutil.which("mf-nowin"):
+        runners.append(Metafont(lines, folder))
+    if plain:
+        runners.append(Plain(plain, lines, folder))
+    times = times_in_turn(arguments.repeats, name, lines, runners)
+    least = {runner.NAME: min(taken) for runner, taken in zip(runners, times)}
+    peaks = {runner.NAME: runner.peak() for runner in runners}
+    cells = [f"{least[it]:.3f}" if it in least else "-" for it in NAMES]
+    cells += [f"{least[it] / least[Program.NAME]:.2f}" if it in least else "-" for it in NAMES[1:]]
+    cells += [peaks.get(it, "-") for it in NAMES]
+    return f"| {name} | {' | '.join(cells)} |"
+
+
+def compiled(folder):
+    """The path of the compiled C++ program, or nothing where there is no compiler."""
+    compiler = shutil.which(os.environ.get("CXX", "c++"))
+    if not compiler:
+        return None
+    program = folder / "plain"
+    subprocess.run([compiler, "-std=c++17", "-O2", "-o", str(program), str(PLAIN)], check=True)
+    return str(program)
 
 
 def compare(arguments, folder):
-    row = beside_metafont if shutil.which("mf-nowin") else alone
-    print("| workload | mfpic, s | METAFONT, s | times as fast | mfpic, MB | METAFONT, MB |")
-    print("|---|---|---|---|---|---|")
+    plain = compiled(folder)
+    cells = [f"{name}, s" for name in NAMES] + [f"{name} / mfpic" for name in NAMES[1:]] + [f"{name}, MB" for name in NAMES]
+    print(f"| workload | {' | '.join(cells)} |")
+    print("|---" * (1 + len(cells)) + "|")
     for name, (make, size) in workloads.WORKLOADS.items():
         if arguments.only in name:
-            print(row(arguments, name, make(arguments.seed, size), folder), flush=True)
+            print(row(arguments, name, make(arguments.seed, size), folder, plain), flush=True)
 
 
 def growth(arguments, folder):
@@ -193,7 +245,11 @@ def main():
     parser.add_argument("--seed", type=int, default=1)
     parser.add_argument("--only", default="")
     parser.add_argument("--growth", action="store_true")
+    parser.add_argument("--looks", action="store_true")
     arguments = parser.parse_args()
+    if arguments.looks:
+        looks.measure()
+        return
     with tempfile.TemporaryDirectory() as folder:
         (growth if arguments.growth else compare)(arguments, pathlib.Path(folder))
 

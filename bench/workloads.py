@@ -10,6 +10,7 @@ HEAD = """delimiters ();
 def --={curl 1}..{curl 1}enddef;
 autorounding:=0; smoothing:=0; granularity:=1; turningcheck:=1;
 picture currentpicture,a,b,c,d,e,f;
+path refused;
 currentpicture:=nullpicture; a:=nullpicture; b:=nullpicture; c:=nullpicture; d:=nullpicture; e:=nullpicture; f:=nullpicture;
 """
 
@@ -18,13 +19,16 @@ def metafont(lines):
     """The same script for METAFONT.
 
     METAFONT's numbers are below 4096, so the greatest weight that a cull keeps, 32767, becomes 4095. No pixel here has a greater
-    weight.
+    weight. METAFONT would fill a contour of weight 4 with weight 1, and report an error. So it only reads the path of such a
+    contour, and assigns it to a variable.
     """
     out = [HEAD]
     for line in lines:
         words = line.split()
         if not words or words[0] == "publish":
             out.append("\n")
+        elif is_refused(line):
+            out.append(f"refused:={words[3]};\n")
         elif words[0] == "shipout":
             source, code, dx = words[1], words[3], words[5]
             out.append(f"charcode:={code};chardx:={int(dx) // 65536};shipout {source};\n")
@@ -32,6 +36,11 @@ def metafont(lines):
             out.append(line.replace(",32767)", ",4095)") + ";\n")
     out.append("end.\n")
     return "".join(out)
+
+
+def is_refused(line):
+    """Whether the line is refused for its weight, as a contour of weight 4 is."""
+    return line.endswith(" withweight 4")
 
 
 def contour(name, points, weight=1):
@@ -101,13 +110,13 @@ def staircase(x, y, steps):
     return points
 
 
-def stairs(seed, size, steps, highest):
-    """`size` staircases with weights of -1 and 1, at uniformly random places, whose first corners are at most at `highest`."""
+def stairs(seed, size, steps, highest, weights=(-1, 1)):
+    """`size` staircases with these weights, at uniformly random places, whose first corners are at most at `highest`."""
     draw = random.Random(seed)
     lines = []
     for _ in range(size):
         shape = staircase(draw.randint(-4000, highest), draw.randint(-4000, highest), steps)
-        lines.append(contour("currentpicture", shape, draw.choice((-1, 1))))
+        lines.append(contour("currentpicture", shape, draw.choice(weights)))
     return lines + [total()]
 
 
@@ -212,6 +221,11 @@ def contours(seed, size):
     return stairs(seed, size, 199, 3700)
 
 
+def refused_contours(seed, size):
+    """The points are read and checked, and nothing is filled."""
+    return stairs(seed, size, 199, 3700, (4,))
+
+
 # The name of each workload, what makes it, and its size.
 WORKLOADS = {
     "one line": (one_line, 1),
@@ -228,6 +242,7 @@ WORKLOADS = {
     "a page, shipped ten times": (page, 10),
     "1,000,000 trivial lines": (trivial_lines, 1_000_000),
     "2,000 contours of 400 points": (contours, 2_000),
+    "2,000 contours of 400 points, refused for their weights": (refused_contours, 2_000),
 }
 
 # Workloads whose times can be compared at a size, at twice that size and at four times that size. A page takes 838,624 bytes of
