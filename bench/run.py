@@ -1,7 +1,7 @@
 #!/usr/bin/env python3
 """Measures the program on the workloads of workloads.py, and compares it with METAFONT and with a plain C++ program.
 
-    bench/run.py [--program PROGRAM] [--repeats N] [--seed S] [--only WORD] [--growth]
+    bench/run.py [--program PROGRAM] [--repeats N] [--seed S] [--only WORD] [--processor] [--growth]
     bench/run.py --looks
 
 PROGRAM is the built program, by default crates/mfpic/out/mfpic beside this folder. METAFONT (`mf-nowin`, Debian package
@@ -12,6 +12,8 @@ they print and the characters that they ship are compared. The exit status is 1 
 exactly the lines that it should, or if METAFONT finds an error. One more run of each measures its peak memory with GNU time
 (Debian package time), if that is installed.
 
+Times are wall times, or, with --processor, processor times, which depend less on what else the machine does.
+
 With --growth only the program runs, on the sizes n, 2n and 4n. With --looks a program of its own runs, which measures looks at a
 live picture (looks.py).
 """
@@ -20,6 +22,7 @@ import argparse
 import os
 import pathlib
 import re
+import resource
 import shutil
 import subprocess
 import sys
@@ -39,6 +42,12 @@ GNU_TIME = "/usr/bin/time"
 ENVIRONMENT = {**os.environ, "main_memory": "8000000"}
 
 
+def processor_seconds():
+    """The processor time of all processes that were started and have ended."""
+    used = resource.getrusage(resource.RUSAGE_CHILDREN)
+    return used.ru_utime + used.ru_stime
+
+
 class Runner:
     """One of the programs, with its own script in a folder."""
 
@@ -46,6 +55,7 @@ class Runner:
     NAME, SCRIPT, PRINTED, FONT = "", "", "", ""
     # The patterns of a total and of a fault in what the program writes.
     TOTAL, FAULT = r"", r""
+    clock = staticmethod(time.perf_counter)
 
     def __init__(self, words, text, folder):
         self.words = words
@@ -61,9 +71,9 @@ class Runner:
         return (self.folder / self.PRINTED).read_text()
 
     def run(self, before=()):
-        """Runs the program, and returns the wall time in seconds."""
+        """Runs the program, and returns its time in seconds."""
         with open(self.stdin(), "rb") as lines, open(self.folder / self.PRINTED, "wb") as printed:
-            begin = time.perf_counter()
+            begin = self.clock()
             done = subprocess.run(
                 [*before, *self.words],
                 cwd=self.folder,
@@ -72,7 +82,7 @@ class Runner:
                 stdout=printed,
                 stderr=subprocess.DEVNULL,
             )
-            seconds = time.perf_counter() - begin
+            seconds = self.clock() - begin
         if fault := re.search(self.FAULT, self.told(), re.MULTILINE):
             raise SystemExit(f"{' '.join(self.words)} reports a fault: {fault[0]}")
         if done.returncode != 0:
@@ -244,9 +254,12 @@ def main():
     parser.add_argument("--repeats", type=int, default=5)
     parser.add_argument("--seed", type=int, default=1)
     parser.add_argument("--only", default="")
+    parser.add_argument("--processor", action="store_true")
     parser.add_argument("--growth", action="store_true")
     parser.add_argument("--looks", action="store_true")
     arguments = parser.parse_args()
+    if arguments.processor:
+        Runner.clock = staticmethod(processor_seconds)
     if arguments.looks:
         looks.measure()
         return
