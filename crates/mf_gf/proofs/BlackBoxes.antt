@@ -1,4 +1,4 @@
--- The box of the black pixels of a picture, widened by one stretch after another.
+-- The box of the black pixels of a picture, widened by one black run after another.
 use Rattle.std.proofs.Common.{◌≡◌, ℕ, zero, suc, ◌≤◌, ℤ, pos, ◌+ℤ◌, Option, None, Some, List, [], ◌∷◌, ◌++◌, refl, sym, ap, ◌∙◌, arith}
 use Rattle.std.specs.Int.{int_max, int_min}
 use Rattle.std.specs.Option.{unwrap_or}
@@ -7,11 +7,12 @@ use Rattle.mf_rows.specs.declared.run.Run.{Run}
 use Rattle.mf_rows.specs.Dots.{Dot, IsPicture}
 use Rattle.mf_rows.specs.Order.{IsRun}
 use Rattle.mf_rows.specs.Runs.{stretch, dots_of, runs_of}
-use Rattle.mf_rows.proofs.PassedRuns.{ArePassed, none_passed, next_is_lawful, one_more_passed, all_passed}
+use Rattle.mf_rows.proofs.PassedRuns.{ArePassed, next_is_lawful, one_more_passed, all_passed}
+use Rattle.mf_gf.specs.Ahead.{blacks}
 use Rattle.mf_gf.specs.declared.boxes.CharacterBox.{CharacterBox}
 use Rattle.mf_gf.specs.Boxes.{no_box, box_of_pixel, box_of_run, join, widen, box_of}
 use Rattle.mf_gf.specs.Pixels.{black}
-use Rattle.mf_gf.proofs.BlackDots.{black_picture}
+use Rattle.mf_gf.proofs.BlackDots.{black-blacks, blacks_in_order}
 
 -- ---- the box of two lists of pixels
 
@@ -53,7 +54,7 @@ box_of-stretch y x w zero = refl
 box_of-stretch y x w (suc n) =
     ap (join (box_of_pixel (record { y = y; x = x; weight = w }))) (box_of-stretch y (x +ℤ pos 1) w n) ∙ join_next y x (suc n)
 
--- ---- the box of the stretches of a picture
+-- ---- the box of the black runs of a picture
 
 -- the box of some pixels, or no box where there are none
 abbrev pub some_box : List Dot → Option CharacterBox
@@ -74,8 +75,9 @@ pub record IsBoxBefore (ds : List Dot) (rs : List Run) (b : Option CharacterBox)
   pub passes : ArePassed ds rs passed
   pub box : b ≡ some_box passed
 
-pub box_none : (ds : List Dot) (rs : List Run) (b : Option CharacterBox) → IsPicture ds → rs ≡ runs_of (black ds) → b ≡ None → IsBoxBefore (black ds) rs b
-box_none ds rs b picture all none = record { passed = []; passes = none_passed (black ds) rs (black_picture ds picture) all; box = none }
+pub box_none : (ds : List Dot) (rs : List Run) (b : Option CharacterBox) → IsPicture ds → rs ≡ runs_of ds → b ≡ None → IsBoxBefore (black ds) (blacks rs) b
+box_none ds rs b picture all none =
+    rw all (record { passed = []; passes = record { split = sym (black-blacks ds); runs = (blacks_in_order ds picture).runs }; box = none })
 
 pub next_run : (ds : List Dot) (rs : List Run) (r : Run) (others : List Run) (b : Option CharacterBox) → rs ≡ r ∷ others → IsBoxBefore ds rs b → IsRun r
 next_run ds rs r others b first so_far = next_is_lawful ds rs r others so_far.passed first so_far.passes

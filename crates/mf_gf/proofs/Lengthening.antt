@@ -146,6 +146,10 @@ ended_before all r s rs apart so_far =
 next_first : (o : Option Run) (s : Run) (rs : List Run) → o ≡ Some s → with_next o rs ≡ s ∷ rs
 next_first o s rs some = rw some refl
 
+pub begun_before : (all : List Run) (r : Run) (o : Option Run) (rs others : List Run) → rs ≡ with_next o others → IsBegun all r rs
+    → IsBegun all r (with_next o others)
+begun_before all r o rs others ahead so_far = subst (IsBegun all r) ahead so_far
+
 pub next_is_run : (all : List Run) (r s : Run) (o : Option Run) (rs : List Run) → o ≡ Some s → IsBegun all r (with_next o rs) → IsRun s
 next_is_run all r s o rs some so_far =
     All-head IsRun s rs (subst (All IsRun) (next_first o s rs some) (order_behind r (with_next o rs) so_far.order).runs)
@@ -153,10 +157,9 @@ next_is_run all r s o rs some so_far =
 pub first_is_run : (all : List Run) (r : Run) (rs : List Run) → IsBegun all r rs → IsRun r
 first_is_run all r rs so_far = All-head IsRun r rs so_far.order.runs
 
-pub one_more_joined : (all : List Run) (r s : Run) (o p : Option Run) (rs others : List Run) → o ≡ Some s → IsNext r s → rs ≡ with_next p others
-    → IsBegun all r (with_next o rs) → IsBegun all (with_more r s) (with_next p others)
-one_more_joined all r s o p rs others some next ahead so_far =
-    subst (IsBegun all (with_more r s)) ahead (lengthened all r s rs next (subst (IsBegun all r) (next_first o s rs some) so_far))
+pub one_more_joined : (all : List Run) (r s : Run) (o : Option Run) (rs : List Run) → o ≡ Some s → IsNext r s
+    → IsBegun all r (with_next o rs) → IsBegun all (with_more r s) rs
+one_more_joined all r s o rs some next so_far = lengthened all r s rs next (subst (IsBegun all r) (next_first o s rs some) so_far)
 
 -- the stretch ends where the next run does not continue it
 pub ended_at_run : (all : List Run) (r s : Run) (o : Option Run) (rs : List Run) → o ≡ Some s → (IsNext r s → ⊥) → IsBegun all r (with_next o rs)

@@ -5,7 +5,7 @@ ghost use Rattle.mf_gf.specs.Pixels.{black};
 ghost use Rattle.mf_rows.specs.Dots.{IsPicture};
 ghost use Rattle.mf_rows.specs.Order.{IsRun};
 
-use crate::stretches::Stretches;
+use crate::stretches::next_black;
 use mf_rows::{Picture, Run};
 
 /// The box of a character, in pixels: `min_m..=max_m` are the columns of its black pixels and one more column at the right, where
@@ -72,9 +72,10 @@ impl CharacterBox {
         ensures value { result ≡ box_of (black picture.now) }
         ensures lawful { IsPicture picture.now }
     {
+        let mut runs = picture.runs();
         let mut bounds = None;
-        for stretch in Stretches::over(picture) {
-            bounds = Some(CharacterBox::widen(bounds, CharacterBox::of_run(&stretch)));
+        while let Some(run) = next_black(&mut runs) {
+            bounds = Some(CharacterBox::widen(bounds, CharacterBox::of_run(&run)));
         }
         bounds.unwrap_or(CharacterBox::none())
     }

@@ -29,22 +29,25 @@ impl<'a> Stretches<'a> {
         Stretches { next, runs }
     }
 
-    /// Returns the stretch that starts with this run, lengthened by the runs that continue it. It passes those.
+    /// Returns the stretch that starts with this run, lengthened by the runs after it that continue it, and moves on to the one
+    /// after these.
     #[inline(always)]
     fn lengthen(&mut self, begun: Run) -> Run
-        requires order { AreInOrder (begun ∷ blacks_ahead self.old) }
+        requires order { AreInOrder (begun ∷ blacks self.old.runs) }
         ensures order { AreInOrder (blacks_ahead self.new) }
-        ensures stretch { runs_of (flat_map dots_of (begun ∷ blacks_ahead self.old)) ≡ result ∷ stretches_left self.new }
+        ensures stretch { runs_of (flat_map dots_of (begun ∷ blacks self.old.runs)) ≡ result ∷ stretches_left self.new }
     {
         let mut stretch = begun;
-        while let Some(run) = self.next {
+        loop {
+            self.next = next_black(&mut self.runs);
+            let Some(run) = self.next else {
+                return stretch;
+            };
             if run.y != stretch.y || run.x != stretch.x + stretch.len as i32 {
-                break;
+                return stretch;
             }
             stretch.len += run.len;
-            self.next = next_black(&mut self.runs);
         }
-        stretch
     }
 }
 
@@ -63,14 +66,13 @@ impl Iterator for Stretches<'_> {
     #[inline(always)]
     fn next(&mut self) -> Option<Run> {
         let begun = self.next?;
-        self.next = next_black(&mut self.runs);
         Some(self.lengthen(begun))
     }
 }
 
 /// The next run of positive weight, returned with weight 1.
 #[inline(always)]
-fn next_black(runs: &mut Runs<'_>) -> Option<Run>
+pub(crate) fn next_black(runs: &mut Runs<'_>) -> Option<Run>
     ensures next { blacks runs.old ≡ with_next result (blacks runs.new) }
 {
     while let Some(run) = runs.next() {

@@ -1,19 +1,19 @@
 use Rattle.std.proofs.Common.{◌≡◌, ◌+ℤ◌, to_z, of_z, w32, ap, arith}
 use Rattle.std.proofs.lemmas.Int.{ints}
-use Rattle.mf_gf.proofs.Lengthening.{order_behind, IsNext, next_is_run, first_is_run, one_more_joined, ended_at_run, ended_at_none}
+use Rattle.mf_gf.proofs.Lengthening.{order_behind, IsNext, begun_before, next_is_run, first_is_run, one_more_joined, ended_at_run, ended_at_none}
 use Rattle.mf_gf.proofs.stretches.Stretches.lengthen.Goals as goal
 use Rattle.mf_gf.proofs.stretches.Stretches.lengthen.Goals.{then-run-stretch-via-then-run-stretch, then-run-stretch-via-else-run-stretch+then-run-stretch-2}
 
-pub overflow_add-stretch-in-Some : goal.overflow_add-stretch-in-Some
-overflow_add-stretch-in-Some c =
-    let next = next_is_run _ _ _ _ _ c.in-Some.is c.loop-self.invariant in
+pub overflow_add-stretch-in-loop-self : goal.overflow_add-stretch-in-loop-self
+overflow_add-stretch-in-loop-self c =
+    let next = next_is_run _ _ _ _ _ c.in-Some.is (begun_before _ _ _ _ _ c.next_black-self.ensures.next c.loop-self.invariant) in
     let first = first_is_run _ _ _ c.loop-self.invariant in
     omega (arith, ints, next.left, next.right, first.left, first.right)
 
 -- the columns and rows of lawful runs fit into 32 bits
 pub loop-self-preserved : goal.loop-self-preserved
 loop-self-preserved c =
-    let next = next_is_run _ _ _ _ _ c.in-Some.is c.loop-self.invariant in
+    let next = next_is_run _ _ _ _ _ c.in-Some.is (begun_before _ _ _ _ _ c.next_black-self.ensures.next c.loop-self.invariant) in
     let first = first_is_run _ _ _ c.loop-self.invariant in
     let row = ap (to_z w32) c.if-run-stretch.false in
     let column = ap (to_z w32) c.if-run-stretch-2.false in
@@ -21,10 +21,10 @@ loop-self-preserved c =
       row = omega (arith, ints, row, next.bottom, next.top, first.bottom, first.top);
       column = omega (arith, ints, column, next.left, next.right, first.left, first.right);
     } in
-    one_more_joined _ _ _ _ _ _ _ c.in-Some.is follows c.next_black-self.ensures.next c.loop-self.invariant
+    one_more_joined _ _ _ _ _ c.in-Some.is follows (begun_before _ _ _ _ _ c.next_black-self.ensures.next c.loop-self.invariant)
 
 pub returns-then-run-stretch-clause-order : goal.returns-then-run-stretch-clause-order
-returns-then-run-stretch-clause-order c = order_behind _ _ c.loop-self.invariant.order
+returns-then-run-stretch-clause-order c = order_behind _ _ (begun_before _ _ _ _ _ c.next_black-self.ensures.next c.loop-self.invariant).order
 
 pub returns-then-run-stretch-clause-stretch : goal.returns-then-run-stretch-clause-stretch
 returns-then-run-stretch-clause-stretch c =
@@ -36,7 +36,10 @@ returns-then-run-stretch-clause-stretch c =
       | then-run-stretch-via-then-run-stretch w ↦ w.if-run-stretch.true (ap (of_z w32) follows.row)
       | then-run-stretch-via-else-run-stretch+then-run-stretch-2 w ↦ w.if-run-stretch-2.true (ap (of_z w32) column)
     ] in
-    ended_at_run _ _ _ _ _ c.in-Some.is apart c.loop-self.invariant
+    ended_at_run _ _ _ _ _ c.in-Some.is apart (begun_before _ _ _ _ _ c.next_black-self.ensures.next c.loop-self.invariant)
+
+pub returns-in_default-clause-order : goal.returns-in_default-clause-order
+returns-in_default-clause-order c = order_behind _ _ (begun_before _ _ _ _ _ c.next_black-self.ensures.next c.loop-self.invariant).order
 
 pub returns-in_default-clause-stretch : goal.returns-in_default-clause-stretch
-returns-in_default-clause-stretch c = ended_at_none _ _ _ _ c.in_default.is c.loop-self.invariant
+returns-in_default-clause-stretch c = ended_at_none _ _ _ _ c.in_default.is (begun_before _ _ _ _ _ c.next_black-self.ensures.next c.loop-self.invariant)
