@@ -16,7 +16,7 @@ use Rattle.mf_text.specs.declared.token.Mark.TheVariants as mark
 use Rattle.mf_text.specs.declared.token.Word.TheVariants as word
 use Rattle.mf_text.specs.declared.tokens.Tokens.{Tokens}
 use Rattle.mf_text.specs.Ahead.{Ahead, column_of}
-use Rattle.mf_text.specs.Grammar.{Line, Path}
+use Rattle.mf_text.specs.Grammar.{Line, Path, path_value}
 use Rattle.mf_text.specs.Ints.{pair_value}
 use Rattle.mf_text.specs.LineRests.{name_token}
 use Rattle.mf_text.specs.Paths.{HasPoints}
@@ -95,6 +95,12 @@ name_follows next ps = record { steps = λ p qs is. refl; endless = refl }
 
 pub number_follows : (negative : Bool) (next : Int → Rest) (ps : List Placed) → Follows (ANumber negative next) (number_in negative) next ps
 number_follows negative next ps = record { steps = λ p qs is. refl; endless = refl }
+
+-- the number of an int, after `-` or not
+pub number_after : (negative : Bool) (next : Int → Rest) (after : Ahead)
+    → (if negative then from (ANumber true next) after else from (ANumber false next) after) ≡ from (ANumber negative next) after
+number_after true next after = refl
+number_after false next after = refl
 
 -- a code without `-`
 pub code_follows : (next : Code → Rest) (ps : List Placed) → is_next (token.Mark mark.Minus) ps ≡ false → Follows (ACode next) (code_in false) next ps
@@ -340,49 +346,42 @@ module _ (next : Code → Rest) (first past : ℕ) where
 
 -- ---- the corners of a path
 
+-- the path of these corners and one more
+abbrev pub ended_with : List Pair → Pair → Path
+ended_with [] p = record { first = p; others = [] }
+ended_with (first ∷ others) p = record { first = first; others = others ++ p ∷ [] }
+
+-- after these corners and one more: another one, or `cycle`
+abbrev pub one_more : List Pair → (Path → Rest) → Pair → Rest
+one_more corners next p = Corners (ended_with corners p).first (ended_with corners p).others next
+
+-- these corners of a path were passed and kept, and the `(` of one more was passed
 pub record IsInPath (old now : Tokens) (kept : paths.Path) : Type 0 where
-  pub first : Pair
-  pub others : List Pair
-  pub points : HasPoints kept (map pair_value (first ∷ others))
-  pub read : (next : Path → Rest) → from (path next) (ahead old) ≡ from (Corners first others next) (ahead now)
+  pub corners : List Pair
+  pub points : HasPoints kept (map pair_value corners)
+  pub read : (next : Path → Rest) → from (path next) (ahead old) ≡ from (corner (one_more corners next)) (ahead now)
 
-abbrev pub one_more : Pair → List Pair → (Path → Rest) → Pair → Rest
-one_more first others next p = Corners first (others ++ p ∷ []) next
-
-pub corners_or : (first : Pair) (others : List Pair) (next : Path → Rest) (past : ℕ) (ps : List Placed)
-    → from (Corners first others next) (record { tokens = ps; past = past })
-    ≡ from (Or (token.Mark mark.Open) (corner (one_more first others next)) (One (token.Word word.Cycle) (next (record { first = first; others = others }))))
-    (record { tokens = ps; past = past })
+corners_or : (p : Path) (next : Path → Rest) (past : ℕ) (ps : List Placed)
+    → from (Corners p.first p.others next) (record { tokens = ps; past = past })
+    ≡ from (Or (token.Mark mark.Open) (corner (one_more (p.first ∷ p.others) next)) (One (token.Word word.Cycle) (next p))) (record { tokens = ps; past = past })
 unfolding follow
-corners_or first others next past [] = refl
-corners_or first others next past (p ∷ ps) = refl
+corners_or path next past [] = refl
+corners_or path next past (p ∷ ps) = refl
 
--- what a line gives at the `(` of one more corner, and at the `cycle` after the last one
-module _ (first : Pair) (others : List Pair) (now after : Tokens) (passes : Bool)
-    (read : (this other : Rest) → from (Or (token.Mark mark.Open) this other)
-    (ahead now) ≡ (if passes then from this (ahead after) else from other (ahead after))) where
-  pub corner_more : (next : Path → Rest) → passes ≡ true
-      → from (Corners first others next) (ahead now) ≡ from (corner (one_more first others next)) (ahead after)
-  corner_more next is =
-      corners_or first others next now.column (remaining_tokens now)
-      ∙ read (corner (one_more first others next)) (One (token.Word word.Cycle) (next (record { first = first; others = others })))
-      ∙ ap (λ t. if t then from (corner (one_more first others next)) (ahead after) else from
-      (One (token.Word word.Cycle) (next (record { first = first; others = others }))) (ahead after)) is
-
-  pub corner_last : (next : Path → Rest) → passes ≡ false
-      → from (Corners first others next) (ahead now) ≡ from (One (token.Word word.Cycle) (next (record { first = first; others = others }))) (ahead after)
-  corner_last next is =
-      corners_or first others next now.column (remaining_tokens now)
-      ∙ read (corner (one_more first others next)) (One (token.Word word.Cycle) (next (record { first = first; others = others })))
-      ∙ ap (λ t. if t then from (corner (one_more first others next)) (ahead after) else from
-      (One (token.Word word.Cycle) (next (record { first = first; others = others }))) (ahead after)) is
+-- what a line gives at the `(` of one more corner, or at the `cycle` after the last one
+pub corners_go_on : (p : Path) (now after : Tokens) (passes : Bool)
+    → ((this other : Rest) → from (Or (token.Mark mark.Open) this other) (ahead now) ≡ (if passes then from this (ahead after) else from other (ahead after)))
+    → (more : Bool) → passes ≡ more → (next : Path → Rest) → from (Corners p.first p.others next) (ahead now)
+    ≡ (if more then from (corner (one_more (p.first ∷ p.others) next)) (ahead after) else from (One (token.Word word.Cycle) (next p)) (ahead after))
+corners_go_on p now after passes read more is next =
+    corners_or p next now.column (remaining_tokens now) ∙ rw (sym is) (read (corner (one_more (p.first ∷ p.others) next)) (One (token.Word word.Cycle) (next p)))
 
 pub path_wrong : (before after : Tokens) (r : Result paths.Path SyntaxFault) (fault : SyntaxFault) → IsErrAnd r (λ y. y ≡ fault)
     → ((next : Path → Rest) → from (path next) (ahead before) ≡ Err fault.column) → PassesPath before after r
 path_wrong before after r fault is wrong = subst (PassesPath before after) (sym (exit r fault is)) wrong
 
-pub points_more : (kept : paths.Path) (first : Pair) (others : List Pair) (p : Pair) (v : Point) → v ≡ pair_value p
-    → HasPoints kept (map pair_value (first ∷ others) ++ v ∷ [])
-    → HasPoints kept (map pair_value (first ∷ (others ++ p ∷ [])))
-points_more kept first others p v is has =
+pub points_more : (kept : paths.Path) (corners : List Pair) (p : Pair) (v : Point) → v ≡ pair_value p → HasPoints kept (map pair_value corners ++ v ∷ [])
+    → HasPoints kept (path_value (ended_with corners p))
+points_more kept [] p v is has = subst (λ u. HasPoints kept (u ∷ [])) is has
+points_more kept (first ∷ others) p v is has =
     subst (HasPoints kept) (ap (λ u. map pair_value (first ∷ others) ++ u ∷ []) is ∙ sym (map-append pair_value (first ∷ others) (p ∷ []))) has

@@ -47,10 +47,13 @@ impl Tokens<'_> {
         ensures took { TakesValue name_in self.old self.new result }
         ensures read { (this : Name → Rest) → (other : Rest) → from (rests.OrName this other) (ahead self.old) ≡ then_name this other (ahead self.new) result }
     {
+        if let Some(letter) = self.takes_letter() {
+            return Some(Name::Register(letter));
+        }
         if self.takes_word(Word::CurrentPicture) {
             return Some(Name::Current);
         }
-        Some(Name::Register(self.takes_letter()?))
+        None
     }
 
     /// Passes a name, which must come next.
@@ -114,10 +117,8 @@ impl Tokens<'_> {
         ensures read { Passes rests.int self.old self.new result }
         ensures within { IfOk result (λ _. IsWithin self.new self.old) }
     {
-        if self.takes_mark(Mark::Minus) {
-            return self.number(true);
-        }
-        self.number(false)
+        let negative = self.takes_mark(Mark::Minus);
+        self.number(negative)
     }
 
     /// Passes the number of a code, if it is the next token and the int is in 0..=255. `negative` says whether `-` comes before
@@ -198,12 +199,16 @@ impl Tokens<'_> {
     pub fn path(&mut self, alloc: Global) -> Result<Path, SyntaxFault>
         ensures { PassesPath self.old self.new result }
     {
-        self.pass_mark(Mark::Open)?;
+        let mut rest = *self;
+        rest.pass_mark(Mark::Open)?;
         let mut path = Path::new(alloc);
-        path.push(self.corner()?.value());
-        'corners: while self.takes_mark(Mark::Open) {
-            path.push(self.corner()?.value());
+        'corners: loop {
+            path.push(rest.corner()?.value());
+            if !rest.takes_mark(Mark::Open) {
+                break;
+            }
         }
+        *self = rest;
         self.pass_word(Word::Cycle)?;
         Ok(path)
     }

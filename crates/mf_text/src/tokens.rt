@@ -58,6 +58,29 @@ impl<'a> Tokens<'a> {
         }
     }
 
+    /// Passes the blanks at the front, where mostly there are none, as before the tokens of a contour. The loop is out of line:
+    /// where it is not, the code after it reckons places by what it has passed.
+    #[inline(always)]
+    fn skip_rare_blanks(&mut self)
+        ensures same { remaining_tokens self.new ≡ remaining_tokens self.old }
+        ensures clear { IsClear self.new.rest.now }
+    {
+        if let [b' ' | b'\t', ..] = self.rest {
+            *self = self.past_blanks();
+        }
+    }
+
+    /// What is left after the blanks at the front.
+    #[inline(never)]
+    fn past_blanks(self) -> Tokens<'a>
+        ensures same { remaining_tokens result ≡ remaining_tokens self.entry }
+        ensures clear { IsClear result.rest.now }
+    {
+        let mut past = self;
+        past.skip_blanks();
+        past
+    }
+
     /// What is left after this many bytes. Requires that many to be left.
     #[inline(always)]
     fn after(self, bytes: usize) -> Tokens<'a>
@@ -100,7 +123,7 @@ impl<'a> Tokens<'a> {
         ensures fewer { result ≡ true → length (remaining_tokens self.new) < length (remaining_tokens self.old) }
     {
         let mut start = *self;
-        start.skip_blanks();
+        start.skip_rare_blanks();
         match mark_at(mark, start.rest) {
             Some(bytes) => {
                 *self = start.after(bytes);
@@ -128,7 +151,7 @@ impl<'a> Tokens<'a> {
         ensures { TakesValue value_in self.old self.new result }
     {
         let mut start = *self;
-        start.skip_blanks();
+        start.skip_rare_blanks();
         let (value, bytes) = number_at(start.rest)?;
         *self = start.after(bytes);
         Some(value)
@@ -161,10 +184,12 @@ impl<'a> Tokens<'a> {
 
     /// The fault of a line that cannot go on with its next token: the column of that token, or one past the last token where
     /// none is left.
-    pub fn fault(&self) -> SyntaxFault
-        ensures { result.column ≡ column_of (remaining_tokens self.now) self.now.column }
+    #[cold]
+    #[inline(never)]
+    pub fn fault(self) -> SyntaxFault
+        ensures { result.column ≡ column_of (remaining_tokens self.entry) self.entry.column }
     {
-        let mut start = *self;
+        let mut start = self;
         start.skip_blanks();
         if start.is_at_end() {
             return SyntaxFault {
