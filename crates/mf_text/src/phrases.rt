@@ -195,7 +195,8 @@ impl Tokens<'_> {
     }
 
     /// Passes a path, and keeps its points. Where there is no memory for one of them, it still passes the rest of the path, so
-    /// that `OutOfMemory` never comes instead of `Syntax`.
+    /// that `OutOfMemory` never comes instead of `Syntax`. In a function of its own, the place in the line stays in registers.
+    #[inline(never)]
     pub fn path(&mut self, alloc: Global) -> Result<Path, SyntaxFault>
         ensures { PassesPath self.old self.new result }
     {

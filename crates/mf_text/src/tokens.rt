@@ -1,7 +1,8 @@
 //! The tokens of a line, passed one after another where they are in its bytes. No token is made: the reader asks for the one
 //! that may come next.
-ghost use Rattle.std.specs.Prelude.{◌≡◌, ◌+◌, ◌<◌, ◌≤◌, ◌^◌, length, nat_lt, Some, None, if◌then◌else◌};
+ghost use Rattle.std.specs.Prelude.{◌≡◌, ◌+◌, ◌<◌, ◌≤◌, ◌^◌, IsTrue, length, nat_eq, nat_lt, Some, None, if◌then◌else◌};
 ghost use Rattle.std.specs.Char.{is_ascii_alphabetic};
+ghost use Rattle.std.specs.List.{starts_with};
 ghost use Rattle.mf_text.specs.Bytes.{IsClear};
 ghost use Rattle.mf_text.specs.Token as token;
 ghost use Rattle.mf_text.specs.Token.{letter_in, value_in};
@@ -209,7 +210,7 @@ fn word_at(word: Word, text: &[u8]) -> Option<usize>
     ensures { FindsToken (token.Word word) text.now result }
 {
     let written = word.text();
-    if !text.starts_with(written) {
+    if !begins_with(text, written) {
         return None;
     }
     if has_letter(&text[written.len()..]) {
@@ -224,7 +225,7 @@ fn mark_at(mark: Mark, text: &[u8]) -> Option<usize>
     ensures { FindsToken (token.Mark mark) text.now result }
 {
     let written = mark.text();
-    if !text.starts_with(written) {
+    if !begins_with(text, written) {
         return None;
     }
     if is_longer(mark, text) {
@@ -239,9 +240,27 @@ fn is_longer(mark: Mark, text: &[u8]) -> bool
     ensures { result ≡ is_longer mark text.now }
 {
     match mark {
-        Mark::Minus => text.starts_with(Mark::Join.text()),
+        Mark::Minus => begins_with(text, Mark::Join.text()),
         _ => false,
     }
+}
+
+/// Whether the text starts with these bytes. One after another is compared, so that those of a given word or mark are constants
+/// in the code, and the first byte that differs decides.
+#[inline(always)]
+fn begins_with(text: &[u8], written: &[u8]) -> bool
+    ensures bound { IsTrue result → length written.now ≤ length text.now }
+    ensures value { result ≡ starts_with nat_eq text.now written.now }
+{
+    if text.len() < written.len() {
+        return false;
+    }
+    for (place, byte) in written.iter().enumerate() {
+        if text[place] != *byte {
+            return false;
+        }
+    }
+    true
 }
 
 /// The number of the letter `a`..`z` at the front, 0 for `a`, and how many bytes it takes, if no other letter follows it.

@@ -1,8 +1,8 @@
-use Rattle.std.proofs.Common.{◌∙◌, ◌≡◌, None, ap, sym, subst}
+use Rattle.std.proofs.Common.{◌∙◌, ap, sym, subst}
 use Rattle.mf_text.specs.declared.command.Name.TheVariants.{Current, Register}
 use Rattle.mf_text.specs.declared.token.Word.TheVariants.{CurrentPicture}
 use Rattle.mf_text.specs.declared.tokens.Tokens.{Tokens}
-use Rattle.mf_text.specs.Reads.{TakesToken, ahead, remaining_tokens, next_value}
+use Rattle.mf_text.specs.Reads.{TakesToken, ahead, remaining_tokens}
 use Rattle.mf_text.specs.Rests.{from}
 use Rattle.mf_text.specs.Token.{name_in}
 use Rattle.mf_text.specs.Token as token
