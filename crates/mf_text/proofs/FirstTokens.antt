@@ -72,27 +72,32 @@ module _ (old : Tokens) (column : ℕ) (text : List ℕ) (same : remaining_token
     starts_at is (Ended ended unknown) = absurd (false≢true (sym none ∙ sym (ap (λ t. is_token t u) unknown) ∙ is))
     starts_at is (Starts starts) = same ∙ starts
 
-    pub token_missed : is_token (first_token text).token u ≡ false → TakesToken u old old false
-    token_missed is = record { next = sym (next_is ∙ is); after_is = λ some. absurd (false≢true some); same = λ _. refl }
+    -- what is ahead where the token is not passed
+    pub record HasMissed : Type 0 where
+      pub read : (this other : Rest) → from (Or u this other) (ahead old) ≡ from other (ahead old)
+      pub took : TakesToken u old old false
 
-    pub token_missed-read : is_token (first_token text).token u ≡ false → (this other : Rest) → from (Or u this other) (ahead old) ≡ from other (ahead old)
-    token_missed-read is this other = not_chosen u this other old.column (remaining_tokens old) (next_is ∙ is)
+    pub token_missed : is_token (first_token text).token u ≡ false → HasMissed
+    token_missed is = record {
+      read = λ this other. not_chosen u this other old.column (remaining_tokens old) (next_is ∙ is);
+      took = record { next = sym (next_is ∙ is); after_is = λ some. absurd (false≢true some); same = λ _. refl };
+    }
 
-    module _ (new : Tokens) (n : ℕ) (is : (is_token (first_token text).token u ≡ true) × (n ≡ bytes) × (n ≤ length text))
-        (rest : new.rest.now ≡ drop n text) (column_is : new.column ≡ column + n) where
-      starts : remaining_tokens old ≡ token_at column (first_token text) ∷ onward.tokens
-      starts = starts_at is.0 (first column text clear)
+    -- what is ahead once the token is passed, and that fewer tokens are
+    pub record HasPassed (new : Tokens) : Type 0 where
+      pub read : (this other : Rest) → from (Or u this other) (ahead old) ≡ from this (ahead new)
+      pub took : TakesToken u old new true
+      pub fewer : length (remaining_tokens new) < length (remaining_tokens old)
 
-      after : onward ≡ ahead new
-      after = onward_is new n is.1 rest column_is
-
-      pub token_taken : TakesToken u old new true
-      token_taken = record { next = sym (next_is ∙ is.0); after_is = λ _. ap after_first starts ∙ ap Some after; same = λ none. absurd (false≢true (sym none)) }
-
-      pub token_taken-read : (this other : Rest) → from (Or u this other) (ahead old) ≡ from this (ahead new)
-      token_taken-read this other =
-          ap (λ ps. from (Or u this other) (record { tokens = ps; past = old.column })) starts
-          ∙ chosen u this other old.column (token_at column (first_token text)) onward.tokens is.0 ∙ ap (from this) after
-
-      pub token_taken-fewer : length (remaining_tokens new) < length (remaining_tokens old)
-      token_taken-fewer = omega (arith, ap length starts, ap (λ (a : Ahead). length a.tokens) after)
+    pub token_taken : (new : Tokens) (n : ℕ) → (is_token (first_token text).token u ≡ true) × (n ≡ bytes) × (n ≤ length text)
+        → new.rest.now ≡ drop n text → new.column ≡ column + n → HasPassed new
+    token_taken new n (is, size, _) rest column_is =
+        let starts = starts_at is (first column text clear) in
+        let after = onward_is new n size rest column_is in
+        record {
+          read = λ this other.
+              ap (λ ps. from (Or u this other) (record { tokens = ps; past = old.column })) starts
+              ∙ chosen u this other old.column (token_at column (first_token text)) onward.tokens is ∙ ap (from this) after;
+          took = record { next = sym (next_is ∙ is); after_is = λ _. ap after_first starts ∙ ap Some after; same = λ none. absurd (false≢true (sym none)) };
+          fewer = omega (arith, ap length starts, ap (λ (a : Ahead). length a.tokens) after);
+        }

@@ -48,17 +48,13 @@ weighed_read form n ended ts leads =
 
 -- ---- choices
 
-first_read : (t : Token) (r : Rest) → step_from line t ≡ Some (Before r) → Leads line (t ∷ []) r
-unfolding reads
-first_read t r is = record { by = λ us. ap (λ p. reads p us) is }
-
-assignment_read : (name : Name) → Leads line (spell_name name) (assignment name)
-assignment_read Current = first_read (token.Word word.CurrentPicture) (assignment Current) refl
-assignment_read (Register letter) = first_read (token.Letter letter) (assignment (Register letter)) refl
-
 choice_read : (r s : Rest) (t : Token) → step_from r t ≡ Some (Before s) → Leads r (t ∷ []) s
 unfolding reads
 choice_read r s t is = record { by = λ us. ap (λ p. reads p us) is }
+
+assignment_read : (name : Name) → Leads line (spell_name name) (assignment name)
+assignment_read Current = choice_read _ _ (token.Word word.CurrentPicture) refl
+assignment_read (Register letter) = choice_read _ _ (token.Letter letter) refl
 
 plus_read : (name : Name) (s : Source)
     → Leads (Or (token.Mark mark.Minus) (also name Minus) (also name Plus)) (spell_source s) (line_end (AddPicture name Plus s))

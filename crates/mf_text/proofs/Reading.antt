@@ -1,7 +1,7 @@
 -- What a line gives at its next token, and after phrases.
-use Rattle.std.proofs.Common.{◌≡◌, ◌≢◌, inl, inr, ℕ, true, false, List, [], ◌∷◌, ◌++◌, map, Option, Some, None, Result, Ok, Err, ok_or, Bool, if◌then◌else◌, refl, sym, ap, subst, ◌∙◌, rules}
+use Rattle.std.proofs.Common.{◌≡◌, ◌≢◌, inl, inr, ℕ, true, false, List, [], ◌∷◌, ◌++◌, map, Option, Some, None, Result, Ok, Err, ok_or, Bool, if◌then◌else◌, refl, sym, ap, subst, ◌∙◌}
 use Rattle.std.specs.Result.{IsErrAnd}
-use Rattle.std.proofs.lemmas.Bool.{cases_Bool, eqb-true, false≢true}
+use Rattle.std.proofs.lemmas.Bool.{cases_Bool, false≢true}
 use Rattle.std.proofs.lemmas.List.{map-append}
 use Rattle.std.proofs.lemmas.Option.{none-some, same_Some}
 use Rattle.mf_geom.specs.declared.point.Point.{Point}
@@ -24,7 +24,7 @@ use Rattle.mf_text.specs.Reads.{TakesToken, Passes, PassesPath, TakesValue, afte
 use Rattle.mf_text.specs.Rests.{Rest, ACode, AName, ANumber, Corners, One, Or, OrName, Place, Before, CodeNumber, Ends, before, code_in, corner, end_of, path, follow, from, number_in, or_place, report_column, step_from}
 use Rattle.mf_text.specs.Token.{Placed, Token, is_token, letter_in, name_in, value_in}
 use Rattle.mf_text.specs.Token as token
-use Rattle.mf_text.proofs.Words.{same_token}
+use Rattle.mf_text.proofs.Words.{same_token, token_is}
 
 -- before a rest, the column of the last token does not matter
 pub from_any : (r : Rest) (last past : ℕ) (ps : List Placed) → follow (Ok (Before r)) last past ps ≡ from r (record { tokens = ps; past = past })
@@ -122,11 +122,6 @@ taken_as {A} {B} f g a b same (p ∷ ps) after is = by_value (f p.token) refl is
       ap (with_rest (record { tokens = ps; past = p.after })) (same p.token (found ∙ ap (λ (v : A × Ahead). Some v.0) pairs))
       ∙ ap (λ (v : A × Ahead). Some (b, v.1)) pairs
 
-pub none_taken : {A : Type 0} (f : Token → Option A) (ps : List Placed)
-    → ((p : Placed) (qs : List Placed) → ps ≡ p ∷ qs → f p.token ≡ None) → next_value f ps ≡ None
-none_taken f [] never = refl
-none_taken f (p ∷ ps) never = ap (with_rest (record { tokens = ps; past = p.after })) (never p ps refl)
-
 -- ---- a given word or mark
 
 module _ (u : Token) (this other : Rest) (past : ℕ) where
@@ -210,14 +205,6 @@ unfolding follow
 name_not_chosen this other past [] is = refl
 name_not_chosen this other past (p ∷ ps) is =
     ap (λ (v : Option Name). follow (ok_or (or_place (before this v) (step_from other p.token)) p.column) p.column p.after ps) (lacks name_in p ps is)
-
-token_is : (t u : Token) → is_token t u ≡ true → t ≡ u
-token_is (token.Word v) (token.Word w) same = ap token.Word (search rules)
-token_is (token.Letter m) (token.Letter n) same = ap token.Letter (eqb-true m n same)
-token_is (token.Number m) (token.Number n) same = ap token.Number (eqb-true m n same)
-token_is (token.Mark m) (token.Mark n) same = ap token.Mark (search rules)
-token_is token.Unknown token.Unknown same = refl
-token_is t u other = absurd (false≢true other)
 
 pub current_taken : (ps : List Placed) (after : Ahead) → is_next (token.Word word.CurrentPicture) ps ≡ true
     → after_first ps ≡ Some after → next_value name_in ps ≡ Some (Current, after)

@@ -1,5 +1,5 @@
 -- The rests of lines: what is spelled is read, each rest can be ended by some tokens, and the number of a code after its `-`.
-use Rattle.std.proofs.Common.{◌≡◌, ℕ, zero, suc, Bool, true, false, List, [], ◌∷◌, ◌++◌, Option, Some, None, if◌then◌else◌, refl, sym, ap, subst, ◌∙◌, append_assoc, append-nil, flat_map, rules}
+use Rattle.std.proofs.Common.{◌≡◌, ℕ, zero, suc, Bool, true, false, List, [], ◌∷◌, ◌++◌, Option, Some, None, if◌then◌else◌, refl, sym, ap, subst, ◌∙◌, append_assoc, append-nil, flat_map}
 use Rattle.std.specs.Option.{option_and_then}
 use Rattle.mf_text.specs.declared.code.Code.{Code}
 use Rattle.mf_text.specs.declared.command.Name.{Name}
@@ -17,6 +17,7 @@ use Rattle.mf_text.specs.Grammar.{Line, Path, spell_int, spell_code, spell_pair,
 use Rattle.mf_text.specs.Ints.{int_of}
 use Rattle.mf_text.specs.Rests.{Rest, Ends, One, Or, AName, OrName, ANumber, ACode, Corners, Place, Before, CodeNumber, before, corner, ends, if_token, int, pair, path, source, step, step_from}
 use Rattle.mf_text.proofs.ReadInts.{int_of-back, code_of-back}
+use Rattle.mf_text.proofs.Words.{same_token}
 
 -- the line that these tokens are read as from a place, if there is one
 unfoldable pub reads : Option Place → List Token → Option Line
@@ -32,9 +33,6 @@ pub record Leads (r : Rest) (ts : List Token) (s : Rest) : Type 0 where
 
 pub on : {r s q : Rest} {ts us : List Token} → Leads r ts s → Leads s us q → Leads r (ts ++ us) q
 on {r} {s} {q} {ts} {us} first second = record { by = λ vs. ap (reads (Some (Before r))) (append_assoc ts us vs) ∙ first.by (us ++ vs) ∙ second.by vs }
-
-same_token : (t : Token) → is_token t t ≡ true
-same_token t = search rules
 
 pub if_same : (u : Token) (this : Rest) (other : Option Place) → if_token u u this other ≡ Some (Before this)
 if_same u this other = ap (λ b. if b then Some (Before this) else other) (same_token u)

@@ -1,7 +1,9 @@
 -- Tokens that are read as a line are the spelling of that line.
-use Rattle.std.proofs.Common.{◌≡◌, ℕ, zero, suc, ◌+◌, ◌≤◌, Bool, true, false, List, [], ◌∷◌, ◌++◌, length, Option, Some, None, nat_lt, if◌then◌else◌, refl, sym, ap, subst, ◌∙◌, append_assoc, append-nil, flat_map, length-append, arith, rules}
+use Rattle.std.proofs.Common.{◌≡◌, ℕ, zero, suc, ◌+◌, ◌≤◌, Bool, true, false, List, [], ◌∷◌, ◌++◌, length, Option, Some, None, nat_lt, if◌then◌else◌, refl, sym, ap, subst, ◌∙◌, append_assoc, append-nil, flat_map, length-append, arith}
 use Rattle.std.specs.Option.{IfSome, option_and_then}
+use Rattle.std.proofs.lemmas.Bool.{false≢true}
 use Rattle.std.proofs.lemmas.Grind.{flat_map-append}
+use Rattle.std.proofs.lemmas.Option.{none-some, same_Some}
 use Rattle.mf_ops.specs.declared.sign.Sign.TheVariants.{Plus, Minus}
 use Rattle.mf_text.specs.declared.code.Code.{Code}
 use Rattle.mf_text.specs.declared.command.Name.{Name}
@@ -21,12 +23,7 @@ use Rattle.mf_text.specs.LineRests.{addto, by_number, cull, line, transform, nam
 use Rattle.mf_text.specs.Rests.{Rest, Ends, One, Or, AName, OrName, ANumber, ACode, Corners, Place, Before, CodeNumber, before, code_in, corner, ends, inner, int, number_in, or_place, pair, path, source, step, step_from}
 use Rattle.mf_text.specs.Syntax.{is_negative_code}
 use Rattle.mf_text.proofs.Rests.{is_code_number, is_code_number_at, reads}
-
-some_same : {A : Type 0} (a b : A) → Some a ≡ Some b → a ≡ b
-some_same a b is = cc
-
-none_is_some : {A : Type 0} (a : A) → None ≡ Some a → ⊥
-none_is_some a is = cc
+use Rattle.mf_text.proofs.Words.{token_is}
 
 -- after these tokens, with at most n more: what is read as a line is its spelling, and the number of a code after its `-` is
 -- where `is_negative_code` says
@@ -45,7 +42,7 @@ record Fits (n : ℕ) (past : List Token) (p : Place) : Type 0 where
 module _ (n : ℕ) (past us : List Token) (t : Token) (short : length us ≤ n) where
   spelled_on : (q : Option Place) → ((p : Place) → q ≡ Some p → Sound n (past ++ t ∷ []) p) → (l : Line) → reads q us ≡ Some l → spell_line l ≡ past ++ t ∷ us
   unfolding reads
-  spelled_on None fits l is = absurd (none_is_some l is)
+  spelled_on None fits l is = absurd (none-some l is)
   spelled_on (Some p) fits l is = (fits p refl).spelled us l short is ∙ append_assoc past (t ∷ []) us
 
   coded_on : (q : Option Place) → ((p : Place) → q ≡ Some p → Sound n (past ++ t ∷ []) p) → (k : ℕ) → is_code_number_at q us k ≡ true
@@ -83,44 +80,34 @@ at n past other p same is = subst (λ ts. Sound n ts p) same is
 
 -- ---- tokens
 
-false_is_true : false ≡ true → ⊥
-false_is_true is = cc
-
-token_of : (t u : Token) → is_token t u ≡ true → t ≡ u
-token_of t u same = search rules
-
 step_to : (n : ℕ) (past : List Token) (t : Token) (p q : Place) → Some p ≡ Some q → Sound n (past ++ t ∷ []) p → Sound n (past ++ t ∷ []) q
-step_to n past t p q same is = subst (λ r. Sound n (past ++ t ∷ []) r) (some_same p q same) is
+step_to n past t p q same is = subst (λ r. Sound n (past ++ t ∷ []) r) (same_Some p q same) is
 
 token_step : (n : ℕ) (past : List Token) (t u : Token) (this : Rest) (other : Option Place) (is : Bool)
     → is_token t u ≡ is → Sound n (past ++ u ∷ []) (Before this)
     → ((q : Place) → other ≡ Some q → Sound n (past ++ t ∷ []) q) → (q : Place)
     → (if is then Some (Before this) else other) ≡ Some q → Sound n (past ++ t ∷ []) q
 token_step n past t u this other true same first second q is =
-    step_to n past t (Before this) q is (at n (past ++ u ∷ []) (past ++ t ∷ []) (Before this) (ap (λ v. past ++ v ∷ []) (sym (token_of t u same))) first)
+    step_to n past t (Before this) q is (at n (past ++ u ∷ []) (past ++ t ∷ []) (Before this) (ap (λ v. past ++ v ∷ []) (sym (token_is t u same))) first)
 token_step n past t u this other false differs first second q is = second q is
 
+-- before a rest, no token is the number of a code after its `-`
+plain : (n : ℕ) (past : List Token) (r : Rest) → ((l : Line) → ends (Before r) ≡ Some l → spell_line l ≡ past)
+    → ((t : Token) (q : Place) → step_from r t ≡ Some q → Sound n (past ++ t ∷ []) q) → Fits n past (Before r)
+plain n past r end steps = record { end = end; code = λ t us is. absurd (false≢true is); steps = steps }
+
 fits_ends : (n : ℕ) (past : List Token) (l : Line) → spell_line l ≡ past → Fits n past (Before (Ends l))
-fits_ends n past l spelled = record {
-  end = λ m is. ap spell_line (sym (some_same l m is)) ∙ spelled;
-  code = λ t us is. absurd (false_is_true is);
-  steps = λ t q is. absurd (none_is_some q is);
-}
+fits_ends n past l spelled = plain n past (Ends l) (λ m is. ap spell_line (sym (same_Some l m is)) ∙ spelled) (λ t q is. absurd (none-some q is))
 
 fits_one : (n : ℕ) (past : List Token) (u : Token) (this : Rest) → Sound n (past ++ u ∷ []) (Before this) → Fits n past (Before (One u this))
-fits_one n past u this first = record {
-  end = λ l is. absurd (none_is_some l is);
-  code = λ t us is. absurd (false_is_true is);
-  steps = λ t. token_step n past t u this None (is_token t u) refl first (λ q is. absurd (none_is_some q is));
-}
+fits_one n past u this first =
+    plain n past (One u this) (λ l is. absurd (none-some l is))
+    (λ t. token_step n past t u this None (is_token t u) refl first (λ q is. absurd (none-some q is)))
 
 fits_or : (n : ℕ) (past : List Token) (u : Token) (this other : Rest) → Sound n (past ++ u ∷ []) (Before this)
     → Fits n past (Before other) → Fits n past (Before (Or u this other))
-fits_or n past u this other first second = record {
-  end = second.end;
-  code = λ t us is. absurd (false_is_true is);
-  steps = λ t. token_step n past t u this (step_from other t) (is_token t u) refl first (second.steps t);
-}
+fits_or n past u this other first second =
+    plain n past (Or u this other) second.end (λ t. token_step n past t u this (step_from other t) (is_token t u) refl first (second.steps t))
 
 -- ---- names and pictures
 
@@ -128,10 +115,10 @@ module _ (n : ℕ) (past : List Token) (next : Name → Rest) (after_name : (nam
   name_step : (t : Token) (q : Place) → before next (name_in t) ≡ Some q → Sound n (past ++ t ∷ []) q
   name_step (token.Word word.CurrentPicture) q is = step_to n past _ (Before (next Current)) q is (after_name Current)
   name_step (token.Letter letter) q is = step_to n past _ (Before (next (Register letter))) q is (after_name (Register letter))
-  name_step t q is = absurd (none_is_some q is)
+  name_step t q is = absurd (none-some q is)
 
   fits_name : Fits n past (Before (AName next))
-  fits_name = record { end = λ l is. absurd (none_is_some l is); code = λ t us is. absurd (false_is_true is); steps = name_step }
+  fits_name = plain n past (AName next) (λ l is. absurd (none-some l is)) name_step
 
   or_name_step : (other : Rest) → Fits n past (Before other) → (t : Token) (q : Place)
       → or_place (before next (name_in t)) (step_from other t) ≡ Some q → Sound n (past ++ t ∷ []) q
@@ -140,7 +127,7 @@ module _ (n : ℕ) (past : List Token) (next : Name → Rest) (after_name : (nam
   or_name_step other second t q is = second.steps t q is
 
   fits_or_name : (other : Rest) → Fits n past (Before other) → Fits n past (Before (OrName next other))
-  fits_or_name other second = record { end = second.end; code = λ t us is. absurd (false_is_true is); steps = or_name_step other second }
+  fits_or_name other second = plain n past (OrName next other) second.end (or_name_step other second)
 
 fits_source : (n : ℕ) (past : List Token) (next : Source → Rest) → ((s : Source) → Sound n (past ++ spell_source s) (Before (next s)))
     → Fits n past (Before (source next))
@@ -174,7 +161,7 @@ code_spelled i = byte_code_spelled i (is_byte i) refl
 module _ {A : Type 0} (n : ℕ) (past opening : List Token) (t : Token) (next : A → Rest) (spell : A → List Token)
     (after : (a : A) → Sound n (opening ++ spell a) (Before (next a))) where
   found_step : (a : Option A) → IfSome a (λ x. opening ++ spell x ≡ past ++ t ∷ []) → (q : Place) → before next a ≡ Some q → Sound n (past ++ t ∷ []) q
-  found_step None spelled q is = absurd (none_is_some q is)
+  found_step None spelled q is = absurd (none-some q is)
   found_step (Some a) spelled q is = step_to n past t (Before (next a)) q is (at n (opening ++ spell a) (past ++ t ∷ []) (Before (next a)) spelled (after a))
 
 module _ (n : ℕ) (past opening : List Token) (negative : Bool) (is_opening : (k : ℕ) → opening ++ signed negative k ≡ past ++ token.Number k ∷ []) where
@@ -188,10 +175,10 @@ module _ (n : ℕ) (past opening : List Token) (negative : Bool) (is_opening : (
     number_step (token.Number k) q is =
         found_step n past opening (token.Number k) next spell_int after (int_of negative k)
         (spelled_at spell_int k (int_of negative k) (int_spelled negative k)) q is
-    number_step t q is = absurd (none_is_some q is)
+    number_step t q is = absurd (none-some q is)
 
     fits_number : Fits n past (Before (ANumber negative next))
-    fits_number = record { end = λ l is. absurd (none_is_some l is); code = λ t us is. absurd (false_is_true is); steps = number_step }
+    fits_number = plain n past (ANumber negative next) (λ l is. absurd (none-some l is)) number_step
 
   code_of_spelled : (k : ℕ) (i : Option Int) → IfSome i (λ x. spell_int x ≡ signed negative k)
       → IfSome (option_and_then code_of i) (λ c. spell_code c ≡ signed negative k)
@@ -206,7 +193,7 @@ module _ (n : ℕ) (past opening : List Token) (negative : Bool) (is_opening : (
     code_step (token.Number k) q is =
         found_step n past opening (token.Number k) next spell_code after (code_in negative (token.Number k))
         (spelled_at spell_code k (code_in negative (token.Number k)) (code_of_spelled k (int_of negative k) (int_spelled negative k))) q is
-    code_step t q is = absurd (none_is_some q is)
+    code_step t q is = absurd (none-some q is)
 
 fits_int : (n : ℕ) (past : List Token) (next : Int → Rest) → ((i : Int) → Sound n (past ++ spell_int i) (Before (next i))) → Fits n past (Before (int next))
 fits_int n past next after =
@@ -223,11 +210,11 @@ module _ (n : ℕ) (s : Token) (next : Code → Rest) (after : (c : Code) → So
   code_number : (t : Token) (us : List Token) → is_code_number (CodeNumber next) t ≡ true
       → (is_negative_code ((to_code s ++ token.Mark mark.Minus ∷ []) ++ t ∷ us) ≡ true) × (length (to_code s ++ token.Mark mark.Minus ∷ []) ≡ 4)
   code_number (token.Number k) us is = (refl, omega arith)
-  code_number t us is = absurd (false_is_true is)
+  code_number t us is = absurd (false≢true is)
 
   fits_code_number : Fits n (to_code s ++ token.Mark mark.Minus ∷ []) (CodeNumber next)
   fits_code_number = record {
-    end = λ l is. absurd (none_is_some l is);
+    end = λ l is. absurd (none-some l is);
     code = code_number;
     steps = code_step n (to_code s ++ token.Mark mark.Minus ∷ []) (to_code s) true (λ k. refl) next after;
   }
@@ -237,16 +224,13 @@ module _ (n : ℕ) (s : Token) (next : Code → Rest) (after : (c : Code) → So
   code_steps t true same q is =
       step_to n (to_code s) t (CodeNumber next) q is
       (at n (to_code s ++ token.Mark mark.Minus ∷ []) (to_code s ++ t ∷ []) (CodeNumber next)
-      (ap (λ v. to_code s ++ v ∷ []) (sym (token_of t (token.Mark mark.Minus) same)))
+      (ap (λ v. to_code s ++ v ∷ []) (sym (token_is t (token.Mark mark.Minus) same)))
       (sound n (to_code s ++ token.Mark mark.Minus ∷ []) (CodeNumber next) fits_code_number))
   code_steps t false differs q is = code_step n (to_code s) (to_code s) false (λ k. refl) next after t q is
 
   fits_code : Fits n (to_code s) (Before (ACode next))
-  fits_code = record {
-    end = λ l is. absurd (none_is_some l is);
-    code = λ t us is. absurd (false_is_true is);
-    steps = λ t. code_steps t (is_token t (token.Mark mark.Minus)) refl;
-  }
+  fits_code =
+      plain n (to_code s) (ACode next) (λ l is. absurd (none-some l is)) (λ t. code_steps t (is_token t (token.Mark mark.Minus)) refl)
 
 -- ---- pairs and paths
 
@@ -293,27 +277,24 @@ module _ (opening : List Token) (next : Path → Rest) (after : (n : ℕ) (p : P
   none_left first others = record { spelled = spelled_none; coded = coded_none } where
     spelled_none : (us : List Token) (l : Line) → length us ≤ 0 → reads (Some (Before (Corners first others next))) us ≡ Some l
         → spell_line l ≡ to_corners first others ++ us
-    spelled_none [] l short is = absurd (none_is_some l is)
+    spelled_none [] l short is = absurd (none-some l is)
     spelled_none (t ∷ us) l short is = absurd (omega (arith, short))
 
     coded_none : (us : List Token) (k : ℕ) → length us ≤ 0 → is_code_number_at (Some (Before (Corners first others next))) us k ≡ true
         → (is_negative_code (to_corners first others ++ us) ≡ true) × (length (to_corners first others) + k ≡ 4)
-    coded_none [] k short is = absurd (false_is_true is)
+    coded_none [] k short is = absurd (false≢true is)
     coded_none (t ∷ us) k short is = absurd (omega (arith, short))
 
   sound_corners : (n : ℕ) (first : Pair) (others : List Pair) → Sound n (to_corners first others) (Before (Corners first others next))
   sound_corners zero first others = none_left first others
   sound_corners (suc n) first others =
-      longer n (to_corners first others) _ (record {
-        end = λ l is. absurd (none_is_some l is);
-        code = λ t us is. absurd (false_is_true is);
-        steps = λ t. token_step n (to_corners first others) t (token.Mark mark.Open) _ _ (is_token t (token.Mark mark.Open)) refl
-            (sound_corner n (to_corners first others) _ (λ p. at n _ _ _ (corner_tokens first others p) (sound_corners n first (others ++ p ∷ []))))
-            (token_step n (to_corners first others) t (token.Word word.Cycle) _ None (is_token t (token.Word word.Cycle)) refl
-            (at n _ _ _ (sym (append_assoc opening (flat_map spell_corner (first ∷ others)) (token.Word word.Cycle ∷ [])))
-            (after n (record { first = first; others = others })))
-            (λ q is. absurd (none_is_some q is)));
-      })
+      longer n (to_corners first others) _ (plain n (to_corners first others) (Corners first others next) (λ l is. absurd (none-some l is))
+      (λ t. token_step n (to_corners first others) t (token.Mark mark.Open) _ _ (is_token t (token.Mark mark.Open)) refl
+      (sound_corner n (to_corners first others) _ (λ p. at n _ _ _ (corner_tokens first others p) (sound_corners n first (others ++ p ∷ []))))
+      (token_step n (to_corners first others) t (token.Word word.Cycle) _ None (is_token t (token.Word word.Cycle)) refl
+      (at n _ _ _ (sym (append_assoc opening (flat_map spell_corner (first ∷ others)) (token.Word word.Cycle ∷ [])))
+      (after n (record { first = first; others = others })))
+      (λ q is. absurd (none-some q is)))))
 
   fits_path : (n : ℕ) → Fits n opening (Before (path next))
   fits_path n =

@@ -19,11 +19,10 @@ use Rattle.mf_text.specs.Tokens.{Finds, FindsToken, Taken, first_token, first_is
 use Rattle.mf_text.proofs.Rows.{starts-drop, row_count, row_end}
 
 pub same_token : (t : Token) → is_token t t ≡ true
-same_token (token.Word w) = search rules
-same_token (token.Letter n) = search rules
-same_token (token.Number n) = search rules
-same_token (token.Mark m) = search rules
-same_token token.Unknown = refl
+same_token t = search rules
+
+pub token_is : (t u : Token) → is_token t u ≡ true → t ≡ u
+token_is t u same = search rules
 
 -- a word is written with at least two letters, and no earlier word of the table is written in the same way
 record IsWritten (w : Word) : Type 0 where
