@@ -61,6 +61,10 @@ PASS = 3 * 4 * ROWS
 # The edges of a row of a comb. With 128 teeth, those of all rows are ten times a pass.
 TEETH = 128
 COMB = 2 * TEETH * EDGE
+# With 30 teeth and a pole, a row has 62 edges, few enough for the list of its band. A band that is made anew first has room for those of
+# each of its rows, and gives back what rows with equal edges do not need.
+FEW = 30
+SHORT = 17 * (2 * FEW + 2) * EDGE
 
 
 @dataclasses.dataclass(frozen=True)
@@ -86,10 +90,11 @@ def tall(name):
     return box(name, 0, -4095, 3, 4095)
 
 
-def striped(name):
-    """Lines for a comb in all rows but the lowest, to which a pole in all rows is added, so that each row has its own edges."""
-    points = ["(0,-4095)", f"({2 * TEETH},-4095)"]
-    for right in range(2 * TEETH, 0, -2):
+def striped(name, teeth=TEETH):
+    """Lines for a comb in all rows but the lowest, to which a pole in all rows is added, so that each row has its own edges, or each
+    band where they are few."""
+    points = ["(0,-4095)", f"({2 * teeth},-4095)"]
+    for right in range(2 * teeth, 0, -2):
         points += [f"({right},4095)", f"({right - 1},4095)", f"({right - 1},-4094)", f"({right - 2},-4094)"]
     return f"addto {name} contour {'--'.join(points)}--cycle\n{box(name, -2, -4095, -1, 4095)}"
 
@@ -121,6 +126,11 @@ def cases():
         least = (top - bottom) * COMB
         line, shown = box("a", -9, bottom, -8, top), {"a": of_comb + top - bottom}
         yield Case(f"edges of {about}", striped("a"), line, shown, least * 3 // 2, least)
+    # Only the row that is reached gets its own edges; the other rows of its band share theirs.
+    line, shown = box("a", -9, 4070, -8, 4071), {"a": of_comb + 1}
+    yield Case("edges of one row", striped("a"), line, shown, CONTOUR + 2 * BAND + COMB * 3 // 2, COMB)
+    line, shown = box("a", -9, 4070, -8, 4071), {"a": (FEW + 1) * FIELD + FEW + 1}
+    yield Case("a row of a band with one list", striped("a", FEW), line, shown, CONTOUR + 2 * BAND + SHORT)
     line, shown = "cull a keeping (1,3) withweight 2\n", {"a": 2 * of_comb}
     yield Case("a cull of equal rows", striped("a"), line, shown, PASS)
     yield Case("a negation of equal rows", striped("a"), "addto b also -a\n", {"b": -of_comb}, LISTS + PASS)

@@ -1,11 +1,15 @@
 //! Tests with values worked out by hand, and tests that compare pictures with a slow form of them.
 
 mod assertions;
+mod band_sums;
+mod borders;
 mod chance;
 mod corners;
 mod equal;
+mod field;
 mod generated;
 mod growths;
+mod long_rows;
 mod moves;
 mod rectangle_sums;
 mod rectangles;
@@ -103,6 +107,11 @@ fn assert_runs_in<R: Abort + AllocGlobal>(rt: &R, case: usize, picture: &Picture
         None,
         ("last run in case", case),
     );
+    assert_all_runs(rt, case, picture, runs);
+}
+
+/// Asserts that the walk over a picture gives exactly these runs, in this case of a test.
+fn assert_all_runs<R: Abort + AllocGlobal>(rt: &R, case: usize, picture: &Picture, runs: &[Run]) {
     let all: Vec<Run> = picture
         .runs()
         .collect(rt.alloc())

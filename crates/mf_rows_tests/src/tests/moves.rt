@@ -24,7 +24,7 @@ const SIDE: i32 = 8;
 
 /// How pixels are moved.
 #[derive(Clone, Copy, Debug)]
-enum Move {
+pub(super) enum Move {
     ColumnsMirrored,
     RowsMirrored,
     TurnedOnce,
@@ -50,7 +50,7 @@ fn opposite(place: i32) -> i32 {
 
 /// Asserts that `moved` has the weights of a picture's pixels from (start, y) on at the places to which these are
 /// moved.
-fn assert_row_moved(
+pub(super) fn assert_row_moved(
     rt: &impl Abort,
     (start, y): (i32, i32),
     picture: &Picture,
@@ -73,17 +73,17 @@ fn assert_moved(rt: &impl Abort, start: i32, picture: &Picture, moved: &Picture,
 }
 
 /// A picture with its columns reflected.
-fn columns_mirrored<R: Abort + AllocGlobal>(rt: &R, picture: &Picture) -> Picture {
+pub(super) fn columns_mirrored<R: Abort + AllocGlobal>(rt: &R, picture: &Picture) -> Picture {
     made(rt, picture.mirror_columns(rt.alloc()))
 }
 
 /// A picture with its rows reflected.
-fn rows_mirrored<R: Abort + AllocGlobal>(rt: &R, picture: &Picture) -> Picture {
+pub(super) fn rows_mirrored<R: Abort + AllocGlobal>(rt: &R, picture: &Picture) -> Picture {
     made(rt, picture.mirror_rows(rt.alloc()))
 }
 
 /// A picture turned `times` times.
-fn turned<R: Abort + AllocGlobal>(rt: &R, picture: &Picture, times: u32) -> Picture {
+pub(super) fn turned<R: Abort + AllocGlobal>(rt: &R, picture: &Picture, times: u32) -> Picture {
     let mut turned = copy_of(rt, picture);
     for _ in 0..times {
         turned = made(rt, turned.turn(rt.alloc()));
@@ -264,7 +264,7 @@ pub(super) fn assert_stays_inside(
     assert!(rt; bounds.max_y < 1000);
 }
 
-fn stretch(factor: i32, offset: i32) -> Stretch {
+pub(super) fn stretch(factor: i32, offset: i32) -> Stretch {
     Stretch { factor, offset }
 }
 

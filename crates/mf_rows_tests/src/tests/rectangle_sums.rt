@@ -34,7 +34,7 @@ fn slow_form_of(alloc: Global, rectangles: &[Rectangle]) -> Result<SlowPicture, 
 
 /// Asserts that rectangles make the picture of their slow form, both when added at once and when added one after
 /// another.
-fn assert_sum<R: Abort + AllocGlobal>(rt: &R, case: usize, rectangles: &[Rectangle]) {
+pub(super) fn assert_sum<R: Abort + AllocGlobal>(rt: &R, case: usize, rectangles: &[Rectangle]) {
     let slow = slow_form_of(rt.alloc(), rectangles).expect(rt, "there is room for the pixels");
     slow.assert_answers_of(rt, case, &at_once(rt, rectangles));
     slow.assert_answers_of(rt, case, &one_by_one(rt, rectangles));

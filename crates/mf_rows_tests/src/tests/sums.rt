@@ -165,7 +165,7 @@ fn assert_chosen<R: Abort + AllocGlobal>(rt: &R, choice: Choice)
     }
 }
 
-fn choice(low: i32, high: i32, inside: i32, outside: i32) -> Choice
+pub(super) fn choice(low: i32, high: i32, inside: i32, outside: i32) -> Choice
     ensures { result ≡ record { low = low; high = high; inside = inside; outside = outside } }
 {
     Choice {

@@ -1,0 +1,244 @@
+//! Rectangles that end at borders between bands, at borders between groups, and next to these. A band has 16 rows and a
+//! group 512, counted from the top of the field.
+
+use super::moves::{assert_stays_inside, columns_mirrored, rows_mirrored, stretch, turned};
+use super::rectangle_sums::assert_sum;
+use super::rectangles::{Rectangle, at_once, make_rectangle, negated};
+use super::{assert_all_runs, assert_bounds, assert_weights, made, make_run};
+use mf_base::OutOfMemory;
+use mf_edges::{FIELD_END, FIELD_START, Stretch, WeightMap};
+use mf_rows::{Box4, Picture, Run};
+use std::alloc::Global;
+use std::process::Abort;
+
+/// Heights at which a band ends and another begins: two inside groups, three between groups, and the one between the last
+/// bands. The last of these heights is next to the bottom of the field.
+const BORDERS: [i32; 7] = [4079, 15, 3583, -1, -3585, -4081, -4094];
+
+/// How far above a border rectangles end.
+const ENDS: [i32; 3] = [-1, 0, 1];
+
+/// Heights of rectangles: a row, a band, and a row more.
+const HEIGHTS: [i32; 3] = [1, 16, 17];
+
+/// Bottoms and tops of rectangles: groups, and one row less and more at either end.
+const TALL: [(i32, i32); 6] = [
+    (3583, 4095),
+    (3582, 4095),
+    (3584, 4095),
+    (3071, 3583),
+    (-2, 512),
+    (-4095, -3585),
+];
+
+/// A rectangle with its rows reflected.
+fn upside_down(rectangle: Rectangle) -> Rectangle {
+    Rectangle {
+        bottom: rectangle.top.wrapping_neg(),
+        top: rectangle.bottom.wrapping_neg(),
+        ..rectangle
+    }
+}
+
+/// A rectangle with its columns reflected.
+fn right_to_left(rectangle: Rectangle) -> Rectangle {
+    Rectangle {
+        left: rectangle.right.wrapping_neg(),
+        right: rectangle.left.wrapping_neg(),
+        ..rectangle
+    }
+}
+
+/// A rectangle turned once: its rows become columns, and the other way about.
+fn on_its_side(rectangle: Rectangle) -> Rectangle {
+    Rectangle {
+        left: rectangle.top.wrapping_neg(),
+        bottom: rectangle.left,
+        right: rectangle.bottom.wrapping_neg(),
+        top: rectangle.right,
+        weight: rectangle.weight,
+    }
+}
+
+/// Where a stretch takes a point of its axis.
+fn point_of(stretch: &Stretch, point: i32) -> i32 {
+    point
+        .wrapping_mul(stretch.factor)
+        .wrapping_add(stretch.offset)
+}
+
+/// A stretched rectangle.
+fn stretched(rectangle: Rectangle, columns: &Stretch, rows: &Stretch) -> Rectangle {
+    Rectangle {
+        left: point_of(columns, rectangle.left),
+        bottom: point_of(rows, rectangle.bottom),
+        right: point_of(columns, rectangle.right),
+        top: point_of(rows, rectangle.top),
+        weight: rectangle.weight,
+    }
+}
+
+/// The runs of a rectangle.
+fn runs_of(alloc: Global, rectangle: Rectangle) -> Result<Vec<Run>, OutOfMemory> {
+    let mut runs = Vec::new(alloc);
+    let len = rectangle.right.abs_diff(rectangle.left);
+    for y in (rectangle.bottom..rectangle.top).rev() {
+        runs.push(make_run(y, rectangle.left, len, rectangle.weight))?;
+    }
+    Ok(runs)
+}
+
+/// Asserts that a picture has the weights of a rectangle at its left and right sides, one row above and one row below it
+/// included.
+fn assert_sides(rt: &impl Abort, picture: &Picture, rectangle: Rectangle) {
+    let Rectangle { left, right, .. } = rectangle;
+    for y in rectangle.bottom.wrapping_sub(1)..rectangle.top.wrapping_add(1) {
+        for x in [left.wrapping_sub(1), left, right.wrapping_sub(1), right] {
+            assert_weights(rt, picture, &[(x, y, rectangle.weight_at(x, y))]);
+        }
+    }
+}
+
+/// Asserts that a picture is that of a rectangle.
+fn assert_shows<R: Abort + AllocGlobal>(rt: &R, picture: &Picture, rectangle: Rectangle) {
+    let runs = runs_of(rt.alloc(), rectangle).expect(rt, "there is room for the runs");
+    let bounds = Box4 {
+        min_x: rectangle.left,
+        max_x: rectangle.right.wrapping_sub(1),
+        min_y: rectangle.bottom,
+        max_y: rectangle.top.wrapping_sub(1),
+    };
+    assert_all_runs(rt, runs.len(), picture, &runs);
+    assert_bounds(rt, picture, Some(bounds));
+    assert_sides(rt, picture, rectangle);
+}
+
+/// Asserts that the negated picture of a rectangle is right, and that it cancels the picture: no row, band or group is
+/// left.
+fn assert_cancels<R: Abort + AllocGlobal>(rt: &R, rectangle: Rectangle) {
+    let picture = at_once(rt, &[rectangle]);
+    let negative = made(rt, picture.map_weights(rt.alloc(), &WeightMap::Negate));
+    assert_shows(rt, &negative, negated(rectangle));
+    let none = picture.plus(rt.alloc(), &negative);
+    let none = none.expect(rt, "opposite weights cancel");
+    assert_all_runs(rt, 0, &none, &[]);
+    assert_bounds(rt, &none, None);
+    assert_shows(rt, &picture, rectangle);
+}
+
+/// Asserts that the picture of a rectangle, reflected, is that of the reflected rectangle.
+fn assert_reflected<R: Abort + AllocGlobal>(rt: &R, rectangle: Rectangle) {
+    let picture = at_once(rt, &[rectangle]);
+    assert_shows(rt, &rows_mirrored(rt, &picture), upside_down(rectangle));
+    assert_shows(
+        rt,
+        &columns_mirrored(rt, &picture),
+        right_to_left(rectangle),
+    );
+}
+
+/// Asserts that the picture of a rectangle, turned once, is that of the turned rectangle.
+fn assert_turned<R: Abort + AllocGlobal>(rt: &R, rectangle: Rectangle) {
+    let picture = at_once(rt, &[rectangle]);
+    assert_shows(rt, &turned(rt, &picture, 1), on_its_side(rectangle));
+}
+
+/// Asserts the sums of a rectangle and of a pole that goes on a row above and below it, and that the pole is left when the
+/// rectangle is taken away.
+fn assert_on_a_pole<R: Abort + AllocGlobal>(rt: &R, rectangle: Rectangle) {
+    let bottom = rectangle.bottom.wrapping_sub(1).max(FIELD_START);
+    let top = rectangle.top.wrapping_add(1).min(FIELD_END);
+    let area = make_rectangle(rectangle.left, bottom, rectangle.right, top, 0);
+    let pole = make_rectangle(-1, bottom, 0, top, 2);
+    assert_sum(rt, 0, &[area, pole, rectangle]);
+    assert_sum(rt, 1, &[area, pole, rectangle, negated(rectangle)]);
+}
+
+/// Asserts all this of rectangles whose lowest row is this one.
+fn assert_from<R: Abort + AllocGlobal>(rt: &R, bottom: i32) {
+    for height in HEIGHTS {
+        let top = bottom.wrapping_add(height).min(FIELD_END);
+        let rectangle = make_rectangle(-2, bottom, 0, top, 1);
+        assert_cancels(rt, rectangle);
+        assert_reflected(rt, rectangle);
+    }
+    let row = make_rectangle(-2, bottom, 0, bottom.wrapping_add(1), 1);
+    assert_turned(rt, row);
+    assert_on_a_pole(rt, row);
+}
+
+/// Asserts all this of rectangles whose bottoms are at and next to a border.
+fn assert_near<R: Abort + AllocGlobal>(rt: &R, border: i32) {
+    for end in ENDS {
+        assert_from(rt, border.wrapping_add(end));
+    }
+}
+
+#[test]
+fn rectangles_end_at_borders(rt: HostRuntime) {
+    for border in BORDERS {
+        assert_near(&rt, border);
+    }
+}
+
+#[test]
+fn rectangles_are_as_high_as_groups(rt: HostRuntime) {
+    for (bottom, top) in TALL {
+        let rectangle = make_rectangle(-1, bottom, 0, top, -3);
+        assert_cancels(&rt, rectangle);
+        assert_reflected(&rt, rectangle);
+        assert_turned(&rt, rectangle);
+    }
+}
+
+/// Stretches of rows: shifts by a row, by a band, by a group and by one row less and more, and others.
+const STRETCHES: [(i32, i32); 12] = [
+    (1, 1),
+    (1, -1),
+    (1, 15),
+    (1, 16),
+    (1, 17),
+    (1, 511),
+    (1, -512),
+    (1, 513),
+    (2, 0),
+    (2, 1),
+    (3, 2),
+    (3, -512),
+];
+
+/// Asserts that a stretched picture of a rectangle is that of the stretched rectangle.
+fn assert_stretched<R: Abort + AllocGlobal>(
+    rt: &R,
+    rectangle: Rectangle,
+    columns: &Stretch,
+    rows: &Stretch,
+) {
+    let picture = at_once(rt, &[rectangle]);
+    assert_stays_inside(rt, &picture, columns, rows);
+    let new = made(rt, picture.stretch(rt.alloc(), columns, rows));
+    assert_shows(rt, &new, stretched(rectangle, columns, rows));
+}
+
+/// Asserts this of all these stretches, and of rectangles whose bottoms are at and next to a border.
+fn assert_stretched_near<R: Abort + AllocGlobal>(rt: &R, border: i32) {
+    for end in ENDS {
+        let bottom = border.wrapping_add(end);
+        let rectangle = make_rectangle(-1, bottom, 0, bottom.wrapping_add(16), 1);
+        for (factor, offset) in STRETCHES {
+            assert_stretched(rt, rectangle, &stretch(2, 5), &stretch(factor, offset));
+        }
+    }
+}
+
+#[test]
+fn rectangles_are_stretched_over_borders(rt: HostRuntime) {
+    for border in [511, 15, -1] {
+        assert_stretched_near(&rt, border);
+    }
+    // Half a group becomes a group, or reaches a row into the next one.
+    for offset in [-1, 0, 1, 2] {
+        let half = make_rectangle(-1, -1, 0, 255, 1);
+        assert_stretched(&rt, half, &stretch(1, 0), &stretch(2, offset));
+    }
+}

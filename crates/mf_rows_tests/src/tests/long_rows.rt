@@ -1,0 +1,290 @@
+//! Rows with as many edges as a row can have, and rows with about as many as stay in the list of their band, which is 64.
+
+ghost use Rattle.mf_edges.specs.WeightMaps.{IsWeightMap};
+
+use super::field::push_pixel;
+use super::moves::{Move, assert_row_moved, columns_mirrored, rows_mirrored, turned};
+use super::slow::{SlowPicture, both_forms};
+use super::sums::choice;
+use super::{
+    assert_all_runs, assert_bounds, assert_total, assert_weights, copy_of, made, make_run,
+    picture_of,
+};
+use crate::tests::assertions::assert_same;
+use mf_base::OutOfMemory;
+use mf_edges::{Choice, FIELD_END, FIELD_START, WeightMap};
+use mf_rows::{Picture, Run};
+use std::alloc::Global;
+use std::process::Abort;
+
+/// The weights of a row whose columns have two weights in turn, the first of them in column -4095. Where both differ and the last
+/// one is not 0, the row has an edge at each of 8191 columns; where the last one is 0, at each but the last.
+type Stripes = (i32, i32);
+
+/// The runs of such a row, which is row y.
+fn striped_runs(alloc: Global, y: i32, (one, two): Stripes) -> Result<Vec<Run>, OutOfMemory> {
+    let mut runs = Vec::new(alloc);
+    if one == two && one != 0 {
+        runs.push(make_run(y, -4095, 8190, one))?;
+        return Ok(runs);
+    }
+    let mut x = FIELD_START;
+    for _ in 0..4095 {
+        push_pixel(&mut runs, x, y, one)?;
+        push_pixel(&mut runs, x.wrapping_add(1), y, two)?;
+        x = x.wrapping_add(2);
+    }
+    Ok(runs)
+}
+
+/// The picture of such a row.
+fn striped<R: Abort + AllocGlobal>(rt: &R, y: i32, stripes: Stripes) -> Picture {
+    let runs = striped_runs(rt.alloc(), y, stripes);
+    picture_of(rt, &runs.expect(rt, "there is room for the runs"))
+}
+
+/// Asserts that a picture is that of such a row.
+fn assert_striped<R: Abort + AllocGlobal>(rt: &R, picture: &Picture, y: i32, stripes: Stripes) {
+    let (one, two) = stripes;
+    let runs = striped_runs(rt.alloc(), y, stripes).expect(rt, "there is room for the runs");
+    assert_all_runs(rt, runs.len(), picture, &runs);
+    assert_total(rt, picture, 4095 * (i64::from(one) + i64::from(two)));
+    let pixels = [
+        (-4096, y, 0),
+        (-4095, y, one),
+        (-4094, y, two),
+        (-1, y, one),
+        (0, y, two),
+        (4093, y, one),
+        (4094, y, two),
+        (4095, y, 0),
+        (0, y.wrapping_add(1), 0),
+        (0, y.wrapping_sub(1), 0),
+    ];
+    assert_weights(rt, picture, &pixels);
+}
+
+/// Weights of rows that are added. Both become one run, or they have an edge at each column, or cancel all or some of them.
+const SUMS: [(Stripes, Stripes); 7] = [
+    ((1, 0), (0, 1)),
+    ((1, 0), (0, 2)),
+    ((1, 2), (-1, -2)),
+    ((1, 2), (-1, -1)),
+    ((1, 2), (0, -2)),
+    ((1, 0), (3, 3)),
+    ((32767, -32767), (-32767, 32766)),
+];
+
+/// Asserts the sum of two such rows, whichever is added to the other.
+fn assert_stripes_added<R: Abort + AllocGlobal>(rt: &R, y: i32, left: Stripes, right: Stripes) {
+    let (one, other) = (striped(rt, y, left), striped(rt, y, right));
+    let stripes = (left.0.wrapping_add(right.0), left.1.wrapping_add(right.1));
+    let sum = one.plus(rt.alloc(), &other).expect(rt, "the sum is made");
+    assert_striped(rt, &sum, y, stripes);
+    let mut sum = copy_of(rt, &other);
+    assert_same(rt, sum.add(rt.alloc(), &one), Ok(()), (left, right));
+    assert_striped(rt, &sum, y, stripes);
+}
+
+#[test]
+fn rows_of_all_edges_are_added(rt: HostRuntime) {
+    for (left, right) in SUMS {
+        assert_stripes_added(&rt, 3583, left, right);
+    }
+}
+
+/// The runs of such a row after a turn: a column of single pixels, from the top down.
+fn turned_runs(alloc: Global, y: i32, (one, two): Stripes) -> Result<Vec<Run>, OutOfMemory> {
+    let mut runs = Vec::new(alloc);
+    let x = (-1i32).wrapping_sub(y);
+    let mut row = FIELD_END - 1;
+    for _ in 0..4095 {
+        push_pixel(&mut runs, x, row, two)?;
+        push_pixel(&mut runs, x, row.wrapping_sub(1), one)?;
+        row = row.wrapping_sub(2);
+    }
+    Ok(runs)
+}
+
+/// Asserts where such a row goes when it is reflected and turned.
+fn assert_stripes_moved<R: Abort + AllocGlobal>(rt: &R, y: i32, stripes: Stripes) {
+    let picture = striped(rt, y, stripes);
+    let opposite = (-1i32).wrapping_sub(y);
+    let swapped = (stripes.1, stripes.0);
+    assert_striped(rt, &columns_mirrored(rt, &picture), y, swapped);
+    assert_striped(rt, &rows_mirrored(rt, &picture), opposite, stripes);
+    let once = turned(rt, &picture, 1);
+    let runs = turned_runs(rt.alloc(), y, stripes).expect(rt, "there is room for the runs");
+    assert_all_runs(rt, 1, &once, &runs);
+    assert_striped(rt, &turned(rt, &once, 1), opposite, swapped);
+}
+
+#[test]
+fn rows_of_all_edges_are_moved(rt: HostRuntime) {
+    assert_stripes_moved(&rt, 3583, (1, 2));
+    assert_stripes_moved(&rt, -1, (1, 0));
+    assert_stripes_moved(&rt, -4095, (0, -1));
+}
+
+/// Asserts that a row of weights 1 and 2 in turn becomes one of these weights under a choice.
+fn assert_stripes_chosen<R: Abort + AllocGlobal>(rt: &R, choice: Choice, stripes: Stripes)
+    requires { IsWeightMap (WeightMap.Choose choice) }
+{
+    let picture = striped(rt, -1, (1, 2));
+    let new = picture.map_weights(rt.alloc(), &WeightMap::Choose(choice));
+    assert_striped(rt, &made(rt, new), -1, stripes);
+}
+
+#[test]
+fn rows_of_all_edges_are_culled(rt: HostRuntime) {
+    assert_stripes_chosen(&rt, choice(2, 2, 5, 0), (0, 5));
+    assert_stripes_chosen(&rt, choice(1, 2, 3, 0), (3, 3));
+    assert_stripes_chosen(&rt, choice(3, 4, 3, 0), (0, 0));
+}
+
+/// A row of single pixels of weight 1 in every second column from 0 on: its height, the number of its edges, and the length of the
+/// last run of weight 1. Where the number of edges is odd, one more pixel, of weight 2, touches that run.
+type Teeth = (i32, u32, i32);
+
+/// Rows of one picture each: of many edges between short ones; equal ones of 64 and of 65 edges; ones that differ in the last edge
+/// alone; and ones of 64 and more edges in turn, across a border between groups.
+const LISTS: [&[Teeth]; 6] = [
+    &[(4, 2, 1), (3, 65, 1), (2, 4, 1), (1, 63, 1)],
+    &[(4, 64, 1), (3, 64, 1), (2, 65, 1), (1, 65, 1)],
+    &[(4, 64, 1), (3, 64, 2), (2, 64, 1)],
+    &[(3, 66, 1), (2, 66, 2), (1, 66, 1)],
+    &[(1, 64, 1), (-1, 65, 1), (-2, 64, 1)],
+    &[(3, 4, 1), (2, 3, 1), (1, 64, 2)],
+];
+
+/// Adds the runs of a row.
+fn push_teeth(runs: &mut Vec<Run>, (y, edges, last): Teeth) -> Result<(), OutOfMemory> {
+    let mut x = 0i32;
+    for _ in 1..edges / 2 {
+        runs.push(make_run(y, x, 1, 1))?;
+        x = x.wrapping_add(2);
+    }
+    runs.push(make_run(y, x, last.unsigned_abs(), 1))?;
+    if edges % 2 == 1 {
+        runs.push(make_run(y, x.wrapping_add(last), 1, 2))?;
+    }
+    Ok(())
+}
+
+/// The runs of rows.
+fn runs_of(alloc: Global, rows: &[Teeth]) -> Result<Vec<Run>, OutOfMemory> {
+    let mut runs = Vec::new(alloc);
+    for row in rows {
+        push_teeth(&mut runs, *row)?;
+    }
+    Ok(runs)
+}
+
+/// Both forms of the picture of rows.
+fn forms_of<R: Abort + AllocGlobal>(rt: &R, rows: &[Teeth]) -> (Picture, SlowPicture) {
+    let runs = runs_of(rt.alloc(), rows).expect(rt, "there is room for the runs");
+    both_forms(rt, &runs)
+}
+
+/// The sum of two slow forms, or their difference where the factor is -1.
+fn slow_sum(
+    alloc: Global,
+    left: &SlowPicture,
+    right: &SlowPicture,
+    factor: i32,
+) -> Result<SlowPicture, OutOfMemory> {
+    let mut sum = SlowPicture::blank(alloc);
+    for y in (-3..6).rev() {
+        for x in -1..72 {
+            let added = right.weight(x, y).wrapping_mul(factor);
+            sum.push_pixel(x, y, left.weight(x, y).wrapping_add(added))?;
+        }
+    }
+    Ok(sum)
+}
+
+/// Asserts that a picture has the runs, the box and the total of its slow form, in this case of a test.
+fn assert_runs_of<R: Abort + AllocGlobal>(
+    rt: &R,
+    case: usize,
+    picture: &Picture,
+    slow: &SlowPicture,
+) {
+    let runs = slow
+        .runs(rt.alloc())
+        .expect(rt, "there is room for the runs");
+    assert_all_runs(rt, case, picture, &runs);
+    assert_bounds(rt, picture, slow.bounds());
+    assert_total(rt, picture, slow.total());
+}
+
+/// Asserts the sum and the difference of two pictures.
+fn assert_pair<R: Abort + AllocGlobal>(
+    rt: &R,
+    (left, slow_left): &(Picture, SlowPicture),
+    (right, slow_right): &(Picture, SlowPicture),
+) {
+    let slow = slow_sum(rt.alloc(), slow_left, slow_right, 1).expect(rt, "there is room");
+    let sum = left.plus(rt.alloc(), right).expect(rt, "the sum is made");
+    assert_runs_of(rt, 0, &sum, &slow);
+    let slow = slow_sum(rt.alloc(), slow_left, slow_right, -1).expect(rt, "there is room");
+    let negative = made(rt, right.map_weights(rt.alloc(), &WeightMap::Negate));
+    let sum = left.plus(rt.alloc(), &negative);
+    assert_runs_of(rt, 1, &sum.expect(rt, "the sum is made"), &slow);
+}
+
+/// Asserts that a picture answers like its slow form, and its sums with those of each of these lists.
+fn assert_with_all<R: Abort + AllocGlobal>(rt: &R, rows: &[Teeth]) {
+    let (picture, slow) = forms_of(rt, rows);
+    slow.assert_answers_of(rt, rows.len(), &picture);
+    let forms = (picture, slow);
+    for others in LISTS {
+        assert_pair(rt, &forms, &forms_of(rt, others));
+    }
+}
+
+#[test]
+fn rows_of_about_as_many_edges_as_a_band_keeps_are_added(rt: HostRuntime) {
+    for rows in LISTS {
+        assert_with_all(&rt, rows);
+    }
+}
+
+/// Asserts that rows are moved rightly by a reflection.
+fn assert_moved(rt: &impl Abort, rows: &[Teeth], picture: &Picture, moved: &Picture, how: Move) {
+    assert_total(rt, moved, picture.total());
+    for (y, _, _) in rows {
+        assert_row_moved(rt, (-1, *y), picture, moved, how);
+        assert_row_moved(rt, (39, *y), picture, moved, how);
+    }
+}
+
+/// Asserts this of the reflections of rows.
+fn assert_all_moved<R: Abort + AllocGlobal>(rt: &R, rows: &[Teeth]) {
+    let (picture, _) = forms_of(rt, rows);
+    let across = columns_mirrored(rt, &picture);
+    assert_moved(rt, rows, &picture, &across, Move::ColumnsMirrored);
+    let up = rows_mirrored(rt, &picture);
+    assert_moved(rt, rows, &picture, &up, Move::RowsMirrored);
+}
+
+#[test]
+fn rows_of_about_as_many_edges_as_a_band_keeps_are_reflected(rt: HostRuntime) {
+    for rows in LISTS {
+        assert_all_moved(&rt, rows);
+    }
+}
+
+/// Columns and weights of pixels that are added one after another to a row of 64 edges, which then has 66, 68, 66, 64, 62 and 64.
+const STEPS: [(i32, i32); 6] = [(66, 1), (68, 3), (66, -1), (68, -3), (4, -1), (4, 1)];
+
+#[test]
+fn a_row_of_64_edges_grows_and_shrinks(rt: HostRuntime) {
+    let (mut picture, mut slow) = forms_of(&rt, &[(-1, 64, 1)]);
+    for (x, weight) in STEPS {
+        let (pixel, slow_pixel) = both_forms(&rt, &[make_run(-1, x, 1, weight)]);
+        assert_same(&rt, picture.add(rt.alloc(), &pixel), Ok(()), (x, weight));
+        slow = slow_sum(rt.alloc(), &slow, &slow_pixel, 1).expect(&rt, "there is room");
+        slow.assert_answers_of(&rt, 0, &picture);
+    }
+}
