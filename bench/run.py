@@ -66,12 +66,19 @@ class Runner:
         """The file that is the standard input."""
         return self.folder / self.SCRIPT
 
+    def written(self):
+        """The files that a run writes."""
+        return [self.PRINTED, self.FONT]
+
     def told(self):
         """What the last run wrote."""
         return (self.folder / self.PRINTED).read_text()
 
     def run(self, before=()):
-        """Runs the program, and returns its time in seconds."""
+        """Runs the program, and returns its time in seconds. It writes into new files: where one is cut off that is still being written to
+        the disk, a run may wait for that."""
+        for name in self.written():
+            (self.folder / name).unlink(missing_ok=True)
         with open(self.stdin(), "rb") as lines, open(self.folder / self.PRINTED, "wb") as printed:
             begin = self.clock()
             done = subprocess.run(
@@ -150,6 +157,9 @@ class Metafont(Runner):
 
     def stdin(self):
         return os.devnull
+
+    def written(self):
+        return [*super().written(), "work.log"]
 
     def told(self):
         return (self.folder / "work.log").read_text(errors="replace")
