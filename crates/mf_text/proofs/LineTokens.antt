@@ -62,7 +62,7 @@ tokens_within-same (suc m) (suc n) column (b ∷ bs) p q =
       tokens_within-same m n (column + first.bytes) (drop first.bytes (b ∷ bs)) (omega arith) (omega arith),
     ) refl
 
-tokens-blank : (column b : ℕ) (bs : List ℕ) → is_blank b ≡ true → tokens_from column (b ∷ bs) ≡ tokens_from (column + 1) bs
+pub tokens-blank : (column b : ℕ) (bs : List ℕ) → is_blank b ≡ true → tokens_from column (b ∷ bs) ≡ tokens_from (column + 1) bs
 unfolding tokens_from tokens_within
 tokens-blank column b bs blank = rw blank refl
 

@@ -1,12 +1,13 @@
 //! The tokens of a line, passed one after another where they are in its bytes. No token is made: the reader asks for the one
 //! that may come next.
-ghost use Rattle.std.specs.Prelude.{◌≡◌, ◌+◌, ◌<◌, ◌≤◌, ◌^◌, IsTrue, length, nat_eq, nat_lt, Some, None, if◌then◌else◌};
+ghost use Rattle.std.specs.Prelude.{ℕ, ◌≡◌, ◌+◌, ◌<◌, ◌≤◌, ◌^◌, IsTrue, drop, length, nat_eq, nat_lt, Some, None, if◌then◌else◌};
 ghost use Rattle.std.specs.Char.{is_ascii_alphabetic};
 ghost use Rattle.std.specs.List.{starts_with};
+ghost use Rattle.mf_text.specs.Ahead.{column_of};
 ghost use Rattle.mf_text.specs.Bytes.{IsClear};
 ghost use Rattle.mf_text.specs.Token as token;
 ghost use Rattle.mf_text.specs.Token.{letter_in, value_in};
-ghost use Rattle.mf_text.specs.Tokens.{Finds, FindsToken, first_is, is_longer};
+ghost use Rattle.mf_text.specs.Tokens.{Finds, FindsToken, first_is, is_longer, tokens_from};
 
 use crate::fault::SyntaxFault;
 use crate::token::{Mark, Word};
@@ -59,27 +60,16 @@ impl<'a> Tokens<'a> {
         }
     }
 
-    /// Passes the blanks at the front, where mostly there are none, as before the tokens of a contour. The loop is out of line:
-    /// where it is not, the code after it reckons places by what it has passed.
+    /// Passes the blanks at the front, where mostly there are none, as before the tokens of a contour. They are counted out of
+    /// line: where they are not, the code after it reckons places by what it has passed.
     #[inline(always)]
     fn skip_rare_blanks(&mut self)
         ensures same { remaining_tokens self.new ≡ remaining_tokens self.old }
         ensures clear { IsClear self.new.rest.now }
     {
         if let [b' ' | b'\t', ..] = self.rest {
-            *self = self.past_blanks();
+            *self = self.after(blanks_at(self.rest));
         }
-    }
-
-    /// What is left after the blanks at the front.
-    #[inline(never)]
-    fn past_blanks(self) -> Tokens<'a>
-        ensures same { remaining_tokens result ≡ remaining_tokens self.entry }
-        ensures clear { IsClear result.rest.now }
-    {
-        let mut past = self;
-        past.skip_blanks();
-        past
     }
 
     /// What is left after this many bytes. Requires that many to be left.
@@ -185,22 +175,45 @@ impl<'a> Tokens<'a> {
 
     /// The fault of a line that cannot go on with its next token: the column of that token, or one past the last token where
     /// none is left.
-    #[cold]
-    #[inline(never)]
+    #[inline(always)]
     pub fn fault(self) -> SyntaxFault
         ensures { result.column ≡ column_of (remaining_tokens self.entry) self.entry.column }
     {
-        let mut start = self;
-        start.skip_blanks();
-        if start.is_at_end() {
-            return SyntaxFault {
-                column: self.column,
-            };
-        }
-        SyntaxFault {
-            column: start.column,
+        fault_at(self.rest, self.column)
+    }
+}
+
+/// The fault of a line that cannot go on where these bytes are left, the first of which has this column. It takes no `Tokens`:
+/// the reader would have to keep them in memory for a call, and not in registers.
+#[cold]
+#[inline(never)]
+fn fault_at(text: &[u8], column: u32) -> SyntaxFault
+    requires { length text.now + column < 2 ^ 32 }
+    ensures { result.column ≡ column_of (tokens_from column text.now) column }
+{
+    let mut start = Tokens { rest: text, column };
+    start.skip_blanks();
+    if start.is_at_end() {
+        return SyntaxFault { column };
+    }
+    SyntaxFault {
+        column: start.column,
+    }
+}
+
+/// How many blanks are at the front. It takes no `Tokens`, so that the reader keeps its place in registers.
+#[inline(never)]
+fn blanks_at(text: &[u8]) -> usize
+    ensures within { result ≤ length text.now }
+    ensures same { (column : ℕ) → tokens_from (column + result) (drop result text.now) ≡ tokens_from column text.now }
+    ensures clear { IsClear (drop result text.now) }
+{
+    for (place, byte) in text.iter().enumerate() {
+        if !matches!(byte, b' ' | b'\t') {
+            return place;
         }
     }
+    text.len()
 }
 
 /// How many bytes this word takes, if it is the token at the front. It is not if another letter follows it, since a token is as
