@@ -129,6 +129,7 @@ fn add_contour(alloc: Global, tokens: &mut Tokens<'_>, name: Name) -> Result<Com
 }
 
 /// The line after `addto`, a name, `also`, and `-` where it comes.
+#[inline(always)]
 fn also(tokens: &mut Tokens<'_>, name: Name, sign: Sign) -> Result<Command, TextFault>
     ensures { Answers (from (rests.also name sign) (ahead tokens.old)) result }
 {

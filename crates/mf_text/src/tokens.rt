@@ -259,7 +259,8 @@ fn is_longer(mark: Mark, text: &[u8]) -> bool
 }
 
 /// Whether the text starts with these bytes. One after another is compared, so that those of a given word or mark are constants
-/// in the code, and the first byte that differs decides.
+/// in the code, and the first byte that differs decides. With `starts_with` of std, which compares groups of bytes, a point of a
+/// contour takes 140 instructions more to read, and a trivial line 14.
 #[inline(always)]
 fn begins_with(text: &[u8], written: &[u8]) -> bool
     ensures bound { IsTrue result → length written.now ≤ length text.now }
