@@ -11,6 +11,7 @@ ghost use Rattle.mf_text.specs.declared.command.Name.{Name};
 
 use super::Session;
 use crate::refusal::{Refusal, refused};
+use itoa::Buffer;
 use mf_base::OutOfMemory;
 use mf_geom::Check;
 use mf_gf::GfFault;
@@ -20,6 +21,9 @@ use mf_show::{GridFault, proof_grid, show_runs};
 use mf_text::{Command, Source};
 use std::alloc::Global;
 use std::sync::Wait;
+
+/// The greatest number of bytes of a line that `show totalweight` prints: the word, a space, a number of 64 bits, a line feed.
+const TOTAL_LINE: usize = 33;
 
 impl Session {
     /// Performs a command, and answers with what it prints.
@@ -105,11 +109,15 @@ impl Session {
     }
 }
 
-/// What `show totalweight` prints.
+/// What `show totalweight` prints. It is a line of many scripts, so room for the longest is made at once.
 fn total(alloc: Global, picture: &Picture) -> Result<Vec<u8>, OutOfMemory>
     ensures { IfOk result (λ text. text.items ≡ total_line picture.now) }
 {
-    Ok(format!(in alloc; "totalweight {}\n", picture.total())?.into_bytes())
+    let mut text = Vec::with_capacity(alloc, TOTAL_LINE)?;
+    text.extend_from_slice(b"totalweight ")?;
+    text.extend_from_slice(Buffer::new().format(picture.total()).as_bytes())?;
+    text.push(b'\n')?;
+    Ok(text)
 }
 
 /// What `proof` prints: the grid text, or the refusal of one that would be too large.
