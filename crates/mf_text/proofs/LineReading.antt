@@ -16,12 +16,12 @@ use Rattle.mf_text.specs.Syntax.{StartsLine, IsSyntaxFault, is_negative_code, re
 use Rattle.mf_text.specs.Tokens.{kinds}
 use Rattle.mf_text.proofs.LineRests.{line_read}
 use Rattle.mf_text.proofs.Rests.{is_code_number, is_code_number_at, place_ends, reads}
-use Rattle.mf_text.proofs.Sound.{sound_line}
+use Rattle.mf_text.proofs.Sound.{coded, spelled, spells_line}
 
 -- ---- lines are what is read
 
 pub read_is_line : (ts : List Token) (l : Line) → reads (Some (Before line)) ts ≡ Some l → ts ≡ spell_line l
-read_is_line ts l is = sym ((sound_line (length ts)).spelled ts l (omega arith) is)
+read_is_line ts l is = sym (spelled ts [] (Before line) l spells_line is)
 
 pub line_is_read : (ts : List Token) (l : Line) → ts ≡ spell_line l → reads (Some (Before line)) ts ≡ Some l
 line_is_read ts l is = ap (reads (Some (Before line))) is ∙ line_read l
@@ -187,7 +187,7 @@ module _ (ahead : Ahead) (column : ℕ) (found : Stops (Before line) ahead.past 
 
   shows_before : is_shown ≡ true → column ≡ column_at ahead (report_place ts found.place)
   shows_before shows =
-      let coded = (sound_line (length ts)).coded ts found.place (omega arith) shows in
+      let coded = coded ts [] (Before line) found.place spells_line shows in
       let fourth : found.place ≡ 4 = omega (arith, coded.1) in
       let long : 4 ≤ length ahead.tokens = omega (arith, fourth, found.at.within, length-map ahead.tokens (λ (p : Placed). p.token)) in
       found.column_is ∙ ap chosen shows ∙ ap (last_column ahead.past ahead.tokens) fourth ∙ column_before ahead.tokens ahead.past ahead.past long
