@@ -8,7 +8,7 @@ use Rattle.mf_text.specs.declared.tokens.Tokens.{Tokens}
 use Rattle.mf_text.specs.Grammar.{Line, Nothing}
 use Rattle.mf_text.specs.LineRests.{line}
 use Rattle.mf_text.specs.Lines.{IsText, IsLineOf, Gives, HasBadValues, IsRefused, line_ahead}
-use Rattle.mf_text.specs.Meaning.{Meaning, Is, IfCycle, IfWeight, IfCull, IfFactors, Turns, IsAnswerOf, Refuses, meaning}
+use Rattle.mf_text.specs.Meaning.{Value, Points, Angle, Meaning, Is, If, Turns, IsAnswerOf, IsUnlawful, Refuses, meaning}
 use Rattle.mf_text.specs.Reads.{Answers, ahead, remaining_tokens}
 use Rattle.mf_text.specs.Rests.{follow, from}
 use Rattle.mf_text.specs.Tokens.{tokens}
@@ -31,29 +31,23 @@ IsOfValues faults.BadScale = Unit {0}
 IsOfValues faults.BadTurn = Unit {0}
 IsOfValues fault = ⊥
 
+of_value : (value : Value) (fault : TextFault) → IsUnlawful value fault → IsOfValues fault
+of_value (Points points) fault is = rw is.is.is tt
+of_value value fault is = rw is.is tt
+
 pub refusals_of_values : (m : Meaning) (fault : TextFault) → Refuses m fault → IsOfValues fault
 refusals_of_values (Is made) fault is = absurd is
-refusals_of_values (IfCycle points rest) fault (inl is) = rw is.is tt
-refusals_of_values (IfCycle points rest) fault (inr is) = refusals_of_values rest fault is.1
-refusals_of_values (IfWeight weight rest) fault (inl is) = rw is.is tt
-refusals_of_values (IfWeight weight rest) fault (inr is) = refusals_of_values rest fault is.1
-refusals_of_values (IfCull rule rest) fault (inl is) = rw is.is tt
-refusals_of_values (IfCull rule rest) fault (inr is) = refusals_of_values rest fault is.1
-refusals_of_values (IfFactors factors rest) fault (inl is) = rw is.is tt
-refusals_of_values (IfFactors factors rest) fault (inr is) = refusals_of_values rest fault is.1
-refusals_of_values (Turns name angle) fault is = rw is.is tt
+refusals_of_values (If value rest) fault (inl is) = of_value value fault is
+refusals_of_values (If value rest) fault (inr is) = refusals_of_values rest fault is.1
+refusals_of_values (Turns name angle) fault is = of_value (Angle angle) fault is
 
 -- a line whose values are refused is refused, and not with `OutOfMemory`
 pub of_values : (fault : TextFault) → IsOfValues fault → (fault ≢ faults.OutOfMemory) × ((bytes : List ℕ) → HasBadValues bytes fault → IsRefused bytes fault)
-of_values (faults.Cycle cause) of = ((λ e. cc), λ bytes bad. bad)
-of_values faults.BadWeight of = ((λ e. cc), λ bytes bad. bad)
-of_values faults.BadCull of = ((λ e. cc), λ bytes bad. bad)
-of_values faults.BadScale of = ((λ e. cc), λ bytes bad. bad)
-of_values faults.BadTurn of = ((λ e. cc), λ bytes bad. bad)
 of_values faults.OutOfMemory of = absurd of
 of_values faults.LineTooLong of = absurd of
 of_values faults.NotAscii of = absurd of
 of_values (faults.Syntax column) of = absurd of
+of_values fault of = ((λ e. cc), λ bytes bad. bad)
 
 -- ---- the answer
 
@@ -64,15 +58,9 @@ Answered bytes (Err fault) = IsRefused bytes fault
 
 form-answered : (line : List ℕ) (l : Line) (r : Result Command TextFault) → IsLineOf line l → IsAnswerOf l.form r → Answered line r
 form-answered bytes l (Ok given) is answer = record { line = l; line_is = is; command_is = answer }
-form-answered bytes l (Err (faults.Cycle cause)) is answer = record { line = l; line_is = is; refusal_is = answer }
-form-answered bytes l (Err faults.BadWeight) is answer = record { line = l; line_is = is; refusal_is = answer }
-form-answered bytes l (Err faults.BadCull) is answer = record { line = l; line_is = is; refusal_is = answer }
-form-answered bytes l (Err faults.BadScale) is answer = record { line = l; line_is = is; refusal_is = answer }
-form-answered bytes l (Err faults.BadTurn) is answer = record { line = l; line_is = is; refusal_is = answer }
 form-answered bytes l (Err faults.OutOfMemory) is answer = record { line = l; line_is = is; memory = answer }
-form-answered bytes l (Err faults.LineTooLong) is answer = absurd (refusals_of_values (meaning l.form) faults.LineTooLong answer)
-form-answered bytes l (Err faults.NotAscii) is answer = absurd (refusals_of_values (meaning l.form) faults.NotAscii answer)
-form-answered bytes l (Err (faults.Syntax column)) is answer = absurd (refusals_of_values (meaning l.form) (faults.Syntax column) answer)
+form-answered bytes l (Err fault) is answer =
+    (of_values fault (refusals_of_values (meaning l.form) fault answer)).1 bytes (record { line = l; line_is = is; refusal_is = answer })
 
 read_answered : (line_bytes : List ℕ) (o : Result Line ℕ) (r : Result Command TextFault) → IsText line_bytes
     → from line (line_ahead line_bytes) ≡ o → Answers o r → Answered line_bytes r

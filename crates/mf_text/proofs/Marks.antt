@@ -54,14 +54,9 @@ lacking m bs lacks =
 counts : (m : Mark) (xs : List ℕ) → is_longer m (mark_text m ++ xs) ≡ false
     → first_token (mark_text m ++ xs) ≡ record { token = token.Mark m; bytes = length (mark_text m) }
 unfolding first_token mark_among
-counts mark.Becomes xs short = refl
-counts mark.Close xs short = refl
-counts mark.Comma xs short = refl
-counts mark.Join xs short = refl
 counts mark.Minus xs short =
     ap (λ (b : Bool). if b then record { token = token.Mark mark.Join; bytes = 2 } else record { token = token.Mark mark.Minus; bytes = 1 }) short
-counts mark.Open xs short = refl
-counts mark.Semicolon xs short = refl
+counts m xs short = refl
 
 first : (m : Mark) (bs : List ℕ) → starts_with eqb bs (mark_text m) ≡ true → is_longer m bs ≡ false
     → first_token bs ≡ record { token = token.Mark m; bytes = length (mark_text m) }

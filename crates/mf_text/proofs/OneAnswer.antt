@@ -17,7 +17,7 @@ use Rattle.mf_text.specs.Token.{Token}
 use Rattle.mf_text.specs.Ahead.{Ahead, column_at}
 use Rattle.mf_text.specs.Grammar.{Line, spell_line}
 use Rattle.mf_text.specs.Lines.{IsText, line_ahead, IsLineOf, Gives, HasBadValues, HasOtherBytes, HasSyntaxFault, IsRefused}
-use Rattle.mf_text.specs.Meaning.{Meaning, Is, IfCycle, IfWeight, IfCull, IfFactors, Turns, IsCommandOf, IsRefusalOf, IsUnlawful, Means, Refuses, meaning}
+use Rattle.mf_text.specs.Meaning.{Value, Points, Angle, Meaning, Is, If, Turns, IsCommandOf, IsRefusalOf, IsUnlawful, Means, Refuses, meaning}
 use Rattle.mf_text.specs.Phrases.{IsPhrase, StartsPhrase, IsWrongAt}
 use Rattle.mf_text.specs.Syntax.{IsLine, report_place, IsSyntaxFault}
 use Rattle.mf_text.specs.Tokens.{kinds}
@@ -27,59 +27,35 @@ use Rattle.mf_text.proofs.LineReading.{same_line}
 
 same_angle : (one other : Quarter) → degrees one ≡ degrees other → one ≡ other
 same_angle Once Once same = refl
-same_angle Once Twice same = absurd (omega (arith, ints))
-same_angle Once Thrice same = absurd (omega (arith, ints))
-same_angle Twice Once same = absurd (omega (arith, ints))
 same_angle Twice Twice same = refl
-same_angle Twice Thrice same = absurd (omega (arith, ints))
-same_angle Thrice Once same = absurd (omega (arith, ints))
-same_angle Thrice Twice same = absurd (omega (arith, ints))
 same_angle Thrice Thrice same = refl
+same_angle one other same = absurd (omega (arith, ints))
 
 one_meant : (m : Meaning) (one other : Command) → Means m one → Means m other → one ≡ other
 one_meant (Is made) one other p q = cc
-one_meant (IfCycle points rest) one other p q = one_meant rest one other p.1 q.1
-one_meant (IfWeight weight rest) one other p q = one_meant rest one other p.1 q.1
-one_meant (IfCull rule rest) one other p q = one_meant rest one other p.1 q.1
-one_meant (IfFactors factors rest) one other p q = one_meant rest one other p.1 q.1
+one_meant (If value rest) one other p q = one_meant rest one other p.1 q.1
 one_meant (Turns name angle) one other p q = p.is ∙ ap (command.Quarter name) (same_angle p.quarter q.quarter (p.angle_is ∙ sym q.angle_is)) ∙ sym q.is
 
--- either a value is refused, or something that is checked after it
-module _ (lawful : Type 0) (fault : TextFault) (rest : TextFault → Type 0) where
-  abbrev Checked : TextFault → Type 0
-  Checked refused = IsUnlawful lawful fault refused ⊎ (lawful × rest refused)
-
-  one_checked : (one other : TextFault) → (rest one → rest other → one ≡ other) → Checked one → Checked other → one ≡ other
-  one_checked one other later (inl p) (inl q) = p.is ∙ sym q.is
-  one_checked one other later (inl p) (inr q) = absurd (p.unlawful q.0)
-  one_checked one other later (inr p) (inl q) = absurd (q.unlawful p.0)
-  one_checked one other later (inr p) (inr q) = later p.1 q.1
-
-  not_checked : (refused : TextFault) → (rest refused → ⊥) → lawful → Checked refused → ⊥
-  not_checked refused later holds (inl q) = q.unlawful holds
-  not_checked refused later holds (inr q) = later q.1
+one_unlawful : (value : Value) (one other : TextFault) → IsUnlawful value one → IsUnlawful value other → one ≡ other
+one_unlawful (Points points) one other p q =
+    let first = cycle_fault_of-fault points p.is.cause p.is.fault in
+    let second = cycle_fault_of-fault points q.is.cause q.is.fault in
+    let same : p.is.cause ≡ q.is.cause = cc in
+    p.is.is ∙ ap faults.Cycle same ∙ sym q.is.is
+one_unlawful value one other p q = p.is ∙ sym q.is
 
 one_refused : (m : Meaning) (one other : TextFault) → Refuses m one → Refuses m other → one ≡ other
 one_refused (Is made) one other p q = absurd p
-one_refused (IfCycle points rest) one other (inl p) (inl q) =
-    let first = cycle_fault_of-fault points p.cause p.fault in let second = cycle_fault_of-fault points q.cause q.fault in cc
-one_refused (IfCycle points rest) one other (inl p) (inr q) = absurd (p.none q.0)
-one_refused (IfCycle points rest) one other (inr p) (inl q) = absurd (q.none p.0)
-one_refused (IfCycle points rest) one other (inr p) (inr q) = one_refused rest one other p.1 q.1
-one_refused (IfWeight weight rest) one other p q =
-    one_checked (IsContourWeight weight) faults.BadWeight (Refuses rest) one other (one_refused rest one other) p q
-one_refused (IfCull rule rest) one other p q = one_checked (IsLawfulCull rule) faults.BadCull (Refuses rest) one other (one_refused rest one other) p q
-one_refused (IfFactors factors rest) one other p q = one_checked (AreFactors factors) faults.BadScale (Refuses rest) one other (one_refused rest one other) p q
-one_refused (Turns name angle) one other p q = p.is ∙ sym q.is
+one_refused (If value rest) one other (inl p) (inl q) = one_unlawful value one other p q
+one_refused (If value rest) one other (inl p) (inr q) = absurd (p.unlawful q.0)
+one_refused (If value rest) one other (inr p) (inl q) = absurd (q.unlawful p.0)
+one_refused (If value rest) one other (inr p) (inr q) = one_refused rest one other p.1 q.1
+one_refused (Turns name angle) one other p q = one_unlawful (Angle angle) one other p q
 
 not_both : (m : Meaning) (given : Command) (fault : TextFault) → Means m given → Refuses m fault → ⊥
 not_both (Is made) given fault p q = q
-not_both (IfCycle points rest) given fault p (inl q) = q.none p.0
-not_both (IfCycle points rest) given fault p (inr q) = not_both rest given fault p.1 q.1
-not_both (IfWeight weight rest) given fault p q =
-    not_checked (IsContourWeight weight) faults.BadWeight (Refuses rest) fault (not_both rest given fault p.1) p.0 q
-not_both (IfCull rule rest) given fault p q = not_checked (IsLawfulCull rule) faults.BadCull (Refuses rest) fault (not_both rest given fault p.1) p.0 q
-not_both (IfFactors factors rest) given fault p q = not_checked (AreFactors factors) faults.BadScale (Refuses rest) fault (not_both rest given fault p.1) p.0 q
+not_both (If value rest) given fault p (inl q) = q.unlawful p.0
+not_both (If value rest) given fault p (inr q) = not_both rest given fault p.1 q.1
 not_both (Turns name angle) given fault p q = q.unlawful (p.quarter, p.angle_is)
 
 -- ---- where tokens go wrong
@@ -151,15 +127,11 @@ data IsCause (bytes : List ℕ) (fault : TextFault) : Type 0 where
   BadValues : HasBadValues bytes fault → IsCause bytes fault
 
 cause : (bytes : List ℕ) (fault : TextFault) → fault ≢ faults.OutOfMemory → IsRefused bytes fault → IsCause bytes fault
-cause bytes (faults.Cycle why) memory p = BadValues p
-cause bytes faults.BadWeight memory p = BadValues p
-cause bytes faults.BadCull memory p = BadValues p
-cause bytes faults.BadScale memory p = BadValues p
-cause bytes faults.BadTurn memory p = BadValues p
 cause bytes faults.OutOfMemory memory p = absurd (memory refl)
 cause bytes faults.LineTooLong memory p = TooLong refl p
 cause bytes faults.NotAscii memory p = NoText refl p
 cause bytes (faults.Syntax column) memory p = NoLine column refl p
+cause bytes fault memory p = BadValues p
 
 text_is_text : (bytes : List ℕ) → IsText bytes → HasOtherBytes bytes → ⊥
 text_is_text bytes p q = cc

@@ -15,7 +15,7 @@ use Rattle.mf_text.specs.Token.{Placed, Token}
 use Rattle.mf_text.specs.Token as token
 use Rattle.mf_text.specs.Grammar.{Form, Nothing, AddContour, AddPicture, CullKeeping, CullDropping, Clear, Move, ShowTotal, ShowPicture, ShowProof, ShipOut, SetCheck, PublishAll, Transform, Shifted, Scaled, XScaled, YScaled, Rotated, spell_name, spell_source, spell_signed, spell_form, spell_end}
 use Rattle.mf_text.specs.Lines.{Gives}
-use Rattle.mf_text.specs.Meaning.{Meaning, Is, IfCycle, IfWeight, IfCull, IfFactors, Turns, Means, meaning, transform_meaning}
+use Rattle.mf_text.specs.Meaning.{Meaning, Is, If, Turns, Means, meaning, transform_meaning}
 use Rattle.mf_text.specs.Registers.{IsName, IsSource, HasNames}
 use Rattle.mf_text.specs.Tokens.{is_letter, kinds, known_word, letter_number, number_token, tokens, word_among, word_token, words}
 use Rattle.mf_text.specs.TokenTexts.{AMark, AreTokens, Digits, IsTokenText, Letters, OtherByte}
@@ -95,28 +95,19 @@ signed_is Minus source all = source_is source (rest _ _ all)
 -- the registers that the command of a meaning names are letters
 AreNamed : Meaning → Type 0
 AreNamed (Is made) = HasNames made
-AreNamed (IfCycle points rest) = AreNamed rest
-AreNamed (IfWeight weight rest) = AreNamed rest
-AreNamed (IfCull rule rest) = AreNamed rest
-AreNamed (IfFactors factors rest) = AreNamed rest
+AreNamed (If value rest) = AreNamed rest
 AreNamed (Turns name angle) = IsName name
 
 names_meant : (m : Meaning) (given : Command) → AreNamed m → Means m given → HasNames given
 unfolding AreNamed
 names_meant (Is made) given all p = rw p all
-names_meant (IfCycle points rest) given all p = names_meant rest given all p.1
-names_meant (IfWeight weight rest) given all p = names_meant rest given all p.1
-names_meant (IfCull rule rest) given all p = names_meant rest given all p.1
-names_meant (IfFactors factors rest) given all p = names_meant rest given all p.1
+names_meant (If value rest) given all p = names_meant rest given all p.1
 names_meant (Turns name angle) given all p = rw p.is all
 
 move_names : (name : Name) (transform : Transform) → IsName name → AreNamed (transform_meaning name transform)
 unfolding AreNamed
 move_names name (Shifted by) letter = letter
-move_names name (Scaled n) letter = letter
-move_names name (XScaled n) letter = letter
-move_names name (YScaled n) letter = letter
-move_names name (Rotated n) letter = letter
+move_names name other letter = letter
 
 form_names : (form : Form) → AreLetters (spell_form form) → AreNamed (meaning form)
 unfolding AreNamed

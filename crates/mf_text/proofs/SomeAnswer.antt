@@ -26,7 +26,7 @@ use Rattle.mf_text.specs.declared.fault.TextFault.TheVariants as faults
 use Rattle.mf_text.specs.Bytes.{is_text_byte}
 use Rattle.mf_text.specs.Grammar.{Line}
 use Rattle.mf_text.specs.Lines.{IsText, line_ahead, Gives, IsRefused}
-use Rattle.mf_text.specs.Meaning.{Meaning, Is, IfCycle, IfWeight, IfCull, IfFactors, Turns, IsNoCycle, IsUnlawful, Means, Refuses, meaning}
+use Rattle.mf_text.specs.Meaning.{Value, Points, AWeight, ACull, AScale, Angle, Meaning, Is, If, Turns, HasRefusal, IsLawful, IsUnlawful, Means, Refuses, meaning}
 use Rattle.mf_text.specs.LineRests.{line}
 use Rattle.mf_text.specs.Rests.{from}
 use Rattle.mf_text.specs.Syntax.{IsLine}
@@ -80,7 +80,7 @@ no_turn angle once twice thrice Once is = once is
 no_turn angle once twice thrice Twice is = twice is
 no_turn angle once twice thrice Thrice is = thrice is
 
-turn_or_not : (angle : ℤ) → ((quarter : Quarter) × (degrees quarter ≡ angle)) ⊎ ((quarter : Quarter) → degrees quarter ≡ angle → ⊥)
+turn_or_not : (angle : ℤ) → IsLawful (Angle angle) ⊎ (IsLawful (Angle angle) → ⊥)
 turn_or_not angle =
     elim (ℤ_discrete (degrees Once) angle) [
       | yes is ↦ inl (Once, is)
@@ -88,55 +88,51 @@ turn_or_not angle =
         | yes is ↦ inl (Twice, is)
         | no twice ↦ elim (ℤ_discrete (degrees Thrice) angle) [
           | yes is ↦ inl (Thrice, is)
-          | no thrice ↦ inr (no_turn angle once twice thrice)
+          | no thrice ↦ inr (λ turn. no_turn angle once twice thrice turn.0 turn.1)
         ]
       ]
     ]
 
-cycle_or_not : (points : List Point) (found : Option CycleFault) → form_fault points ≡ found
-    → IsRectilinearCycle points ⊎ ((cause : CycleFault) × IsNoCycle points (faults.Cycle cause))
+abbrev IsChecked : Value → Type 0
+IsChecked value = IsLawful value ⊎ ((fault : TextFault) × IsUnlawful value fault)
+
+cycle_or_not : (points : List Point) (found : Option CycleFault) → form_fault points ≡ found → IsChecked (Points points)
 cycle_or_not points None is = inl (cycle-form_fault points is)
-cycle_or_not points (Some cause) is =
-    inr (cause, record { cause = cause; none = λ cycle. none-some cause (sym (form_fault-none points cycle) ∙ is); fault = fault-cycle_fault_of points cause (rw is refl); is = refl })
+cycle_or_not points (Some cause) is = inr (faults.Cycle cause, record {
+  unlawful = λ cycle. none-some cause (sym (form_fault-none points cycle) ∙ is);
+  is = record { cause = cause; fault = fault-cycle_fault_of points cause (rw is refl); is = refl };
+})
+
+or_refused : (value : Value) (fault : TextFault) → HasRefusal value fault → IsLawful value ⊎ (IsLawful value → ⊥) → IsChecked value
+or_refused value fault is (inl lawful) = inl lawful
+or_refused value fault is (inr never) = inr (fault, record { unlawful = never; is = is })
+
+lawful_or_not : (value : Value) → IsChecked value
+lawful_or_not (Points points) = cycle_or_not points (form_fault points) refl
+lawful_or_not (AWeight weight) = or_refused (AWeight weight) faults.BadWeight refl (weight_or_not weight)
+lawful_or_not (ACull rule) = or_refused (ACull rule) faults.BadCull refl (cull_or_not rule)
+lawful_or_not (AScale factors) = or_refused (AScale factors) faults.BadScale refl (factors_or_not factors)
+lawful_or_not (Angle angle) = or_refused (Angle angle) faults.BadTurn refl (turn_or_not angle)
 
 -- ---- forms have a command or a refusal
 
 -- a command, or a refusal
-abbrev IsEither : (Command → Type 0) → (TextFault → Type 0) → Type 0
-IsEither gives refuses = ((given : Command) × gives given) ⊎ ((fault : TextFault) × refuses fault)
-
 abbrev Answered : Meaning → Type 0
-Answered m = IsEither (Means m) (Refuses m)
+Answered m = ((given : Command) × Means m given) ⊎ ((fault : TextFault) × Refuses m fault)
 
--- a lawful value, and the answer after it
-after_lawful : (lawful : Type 0) (gives : Command → Type 0) (refuses first : TextFault → Type 0) → lawful → IsEither gives refuses
-    → IsEither (λ given. lawful × gives given) (λ fault. first fault ⊎ (lawful × refuses fault))
-after_lawful lawful gives refuses first holds (inl (given, is)) = inl (given, (holds, is))
-after_lawful lawful gives refuses first holds (inr (fault, is)) = inr (fault, inr (holds, is))
+checked : (value : Value) (rest : Meaning) → IsChecked value → Answered rest → Answered (If value rest)
+checked value rest (inl lawful) (inl (given, is)) = inl (given, (lawful, is))
+checked value rest (inl lawful) (inr (fault, is)) = inr (fault, inr (lawful, is))
+checked value rest (inr (fault, is)) later = inr (fault, inl is)
 
-checked : (lawful : Type 0) (gives : Command → Type 0) (refuses : TextFault → Type 0) (fault : TextFault) → lawful ⊎ (lawful → ⊥) → IsEither gives refuses
-    → IsEither (λ given. lawful × gives given) (λ other. IsUnlawful lawful fault other ⊎ (lawful × refuses other))
-checked lawful gives refuses fault (inl holds) later = after_lawful lawful gives refuses (IsUnlawful lawful fault) holds later
-checked lawful gives refuses fault (inr never) later = inr (fault, inl (record { unlawful = never; is = refl }))
-
-cycle_checked : (points : List Point) (rest : Meaning) → Answered rest
-    → IsRectilinearCycle points ⊎ ((cause : CycleFault) × IsNoCycle points (faults.Cycle cause))
-    → Answered (IfCycle points rest)
-cycle_checked points rest later (inl cycle) = after_lawful (IsRectilinearCycle points) (Means rest) (Refuses rest) (IsNoCycle points) cycle later
-cycle_checked points rest later (inr (cause, fault)) = inr (faults.Cycle cause, inl fault)
-
-turn_checked : (name : Name) (angle : ℤ) → ((quarter : Quarter) × (degrees quarter ≡ angle)) ⊎ ((quarter : Quarter) → degrees quarter ≡ angle → ⊥)
-    → Answered (Turns name angle)
-turn_checked name angle (inl (quarter, is)) = inl (command.Quarter name quarter, record { quarter = quarter; angle_is = is; is = refl })
-turn_checked name angle (inr never) = inr (faults.BadTurn, record { unlawful = λ turn. never turn.0 turn.1; is = refl })
+turned : (name : Name) (angle : ℤ) → IsChecked (Angle angle) → Answered (Turns name angle)
+turned name angle (inl (quarter, is)) = inl (command.Quarter name quarter, record { quarter = quarter; angle_is = is; is = refl })
+turned name angle (inr refused) = inr refused
 
 answered : (m : Meaning) → Answered m
 answered (Is made) = inl (made, refl)
-answered (IfCycle points rest) = cycle_checked points rest (answered rest) (cycle_or_not points (form_fault points) refl)
-answered (IfWeight weight rest) = checked (IsContourWeight weight) (Means rest) (Refuses rest) faults.BadWeight (weight_or_not weight) (answered rest)
-answered (IfCull rule rest) = checked (IsLawfulCull rule) (Means rest) (Refuses rest) faults.BadCull (cull_or_not rule) (answered rest)
-answered (IfFactors factors rest) = checked (AreFactors factors) (Means rest) (Refuses rest) faults.BadScale (factors_or_not factors) (answered rest)
-answered (Turns name angle) = turn_checked name angle (turn_or_not angle)
+answered (If value rest) = checked value rest (lawful_or_not value) (answered rest)
+answered (Turns name angle) = turned name angle (lawful_or_not (Angle angle))
 
 -- ---- lines have an answer
 

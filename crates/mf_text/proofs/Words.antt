@@ -33,29 +33,7 @@ record IsWritten (w : Word) : Type 0 where
 written : (w : Word) → IsWritten w
 unfolding word_token word_among
 written word.Addto = record { letters = refl; starts = refl; word = refl }
-written word.Also = record { letters = refl; starts = refl; word = refl }
-written word.Code = record { letters = refl; starts = refl; word = refl }
-written word.Contour = record { letters = refl; starts = refl; word = refl }
-written word.Cull = record { letters = refl; starts = refl; word = refl }
-written word.CurrentPicture = record { letters = refl; starts = refl; word = refl }
-written word.Cycle = record { letters = refl; starts = refl; word = refl }
-written word.Dropping = record { letters = refl; starts = refl; word = refl }
-written word.Dx = record { letters = refl; starts = refl; word = refl }
-written word.Keeping = record { letters = refl; starts = refl; word = refl }
-written word.NullPicture = record { letters = refl; starts = refl; word = refl }
-written word.Proof = record { letters = refl; starts = refl; word = refl }
-written word.Publish = record { letters = refl; starts = refl; word = refl }
-written word.Rotated = record { letters = refl; starts = refl; word = refl }
-written word.Scaled = record { letters = refl; starts = refl; word = refl }
-written word.Shifted = record { letters = refl; starts = refl; word = refl }
-written word.Shipout = record { letters = refl; starts = refl; word = refl }
-written word.Show = record { letters = refl; starts = refl; word = refl }
-written word.TotalWeight = record { letters = refl; starts = refl; word = refl }
-written word.TurningCheck = record { letters = refl; starts = refl; word = refl }
-written word.Width = record { letters = refl; starts = refl; word = refl }
-written word.WithWeight = record { letters = refl; starts = refl; word = refl }
-written word.XScaled = record { letters = refl; starts = refl; word = refl }
-written word.YScaled = record { letters = refl; starts = refl; word = refl }
+written w = record { letters = refl; starts = refl; word = refl }
 
 -- ---- tokens of another kind
 

@@ -20,47 +20,40 @@ use Rattle.mf_text.specs.Codes.{code_value}
 use Rattle.mf_text.specs.Grammar.{Form, Nothing, AddContour, AddPicture, CullKeeping, CullDropping, Clear, Move, ShowTotal, ShowPicture, ShowProof, ShipOut, SetCheck, PublishAll, Transform, Shifted, Scaled, XScaled, YScaled, Rotated, weight_value, path_value}
 use Rattle.mf_text.specs.Ints.{int_value, pair_value}
 
--- what a form means: its command, after checks of its values in this order
+-- a value of a form that is checked
+pub data Value : Type 0 where
+  -- the points of a cycle; the turning check comes only when it is filled
+  Points : List Point → Value
+  AWeight : ℤ → Value
+  ACull : CullRule → Value
+  AScale : Factors → Value
+  -- the angle of a turn
+  Angle : ℤ → Value
+
+-- what a form means: its command, after checks of its values in this order; or a turn of a picture by an angle
 pub data Meaning : Type 0 where
   Is : Command → Meaning
-  -- the points are a cycle; the turning check comes only when it is filled
-  IfCycle : List Point → Meaning → Meaning
-  IfWeight : ℤ → Meaning → Meaning
-  IfCull : CullRule → Meaning → Meaning
-  IfFactors : Factors → Meaning → Meaning
-  -- a turn of the picture by this angle
+  If : Value → Meaning → Meaning
   Turns : Name → ℤ → Meaning
-
--- the factors of `scaled`
-abbrev pub both : ℤ → Factors
-both n = record { x = n; y = n }
-
--- the factors of `xscaled`
-abbrev pub of_columns : ℤ → Factors
-of_columns n = record { x = n; y = pos 1 }
-
--- the factors of `yscaled`
-abbrev pub of_rows : ℤ → Factors
-of_rows n = record { x = pos 1; y = n }
 
 -- the points of a contour are checked before its weight
 abbrev pub contour_meaning : Name → List Point → ℤ → Meaning
-contour_meaning name points weight = IfCycle points (IfWeight weight (Is (command.Contour name points weight)))
+contour_meaning name points weight = If (Points points) (If (AWeight weight) (Is (command.Contour name points weight)))
 
 -- the weight of a cull is checked before its range
 abbrev pub cull_meaning : Name → CullRule → ℤ → Meaning
-cull_meaning name rule weight = IfWeight weight (IfCull rule (Is (command.Cull name rule)))
+cull_meaning name rule weight = If (AWeight weight) (If (ACull rule) (Is (command.Cull name rule)))
 
 -- the factors of a scale are checked
 abbrev pub scale_meaning : Name → Factors → Meaning
-scale_meaning name factors = IfFactors factors (Is (command.Scale name factors))
+scale_meaning name factors = If (AScale factors) (Is (command.Scale name factors))
 
 -- what a transform of a picture means
 abbrev pub transform_meaning : Name → Transform → Meaning
 transform_meaning name (Shifted p) = Is (command.Shift name (pair_value p).x (pair_value p).y)
-transform_meaning name (Scaled n) = scale_meaning name (both (int_value n))
-transform_meaning name (XScaled n) = scale_meaning name (of_columns (int_value n))
-transform_meaning name (YScaled n) = scale_meaning name (of_rows (int_value n))
+transform_meaning name (Scaled n) = scale_meaning name (record { x = int_value n; y = int_value n })
+transform_meaning name (XScaled n) = scale_meaning name (record { x = int_value n; y = pos 1 })
+transform_meaning name (YScaled n) = scale_meaning name (record { x = pos 1; y = int_value n })
 transform_meaning name (Rotated n) = Turns name (int_value n)
 
 -- the turning check is on exactly where its number is positive
@@ -89,35 +82,44 @@ pub record IsTurn (name : Name) (angle : ℤ) (given : Command) : Type 0 where
   pub angle_is : degrees quarter ≡ angle
   pub is : given ≡ command.Quarter name quarter
 
--- the command that a meaning gives, where all of its checks pass
-abbrev pub Means : Meaning → Command → Type 0
-Means (Is made) given = given ≡ made
-Means (IfCycle points rest) given = IsRectilinearCycle points × Means rest given
-Means (IfWeight weight rest) given = IsContourWeight weight × Means rest given
-Means (IfCull rule rest) given = IsLawfulCull rule × Means rest given
-Means (IfFactors factors rest) given = AreFactors factors × Means rest given
-Means (Turns name angle) given = IsTurn name angle given
+-- the value is lawful; an angle is that of a quarter turn or of several
+abbrev pub IsLawful : Value → Type 0
+IsLawful (Points points) = IsRectilinearCycle points
+IsLawful (AWeight weight) = IsContourWeight weight
+IsLawful (ACull rule) = IsLawfulCull rule
+IsLawful (AScale factors) = AreFactors factors
+IsLawful (Angle angle) = (quarter : Quarter) × (degrees quarter ≡ angle)
 
--- the points are not a cycle, and this refusal is their fault, so it is not one of the turning check
-pub record IsNoCycle (points : List Point) (refused : TextFault) : Type 0 where
+-- this refusal is the fault of the points, so it is not one of the turning check
+pub record HasCycleFault (points : List Point) (refused : TextFault) : Type 0 where
   pub cause : CycleFault
-  pub none : IsRectilinearCycle points → ⊥
   pub fault : IsFault points cause
   pub is : refused ≡ faults.Cycle cause
 
--- a value is not lawful, and this is its refusal
-pub record IsUnlawful (lawful : Type 0) (fault refused : TextFault) : Type 0 where
-  pub unlawful : lawful → ⊥
-  pub is : refused ≡ fault
+-- this is the refusal of the value, if it is not lawful
+abbrev pub HasRefusal : Value → TextFault → Type 0
+HasRefusal (Points points) refused = HasCycleFault points refused
+HasRefusal (AWeight weight) refused = refused ≡ faults.BadWeight
+HasRefusal (ACull rule) refused = refused ≡ faults.BadCull
+HasRefusal (AScale factors) refused = refused ≡ faults.BadScale
+HasRefusal (Angle angle) refused = refused ≡ faults.BadTurn
+
+-- the value is not lawful, and this is its refusal
+pub record IsUnlawful (value : Value) (refused : TextFault) : Type 0 where
+  pub unlawful : IsLawful value → ⊥
+  pub is : HasRefusal value refused
+
+-- the command that a meaning gives, where all of its checks pass
+abbrev pub Means : Meaning → Command → Type 0
+Means (Is made) given = given ≡ made
+Means (If value rest) given = IsLawful value × Means rest given
+Means (Turns name angle) given = IsTurn name angle given
 
 -- the refusal of the first value that is not lawful
 abbrev pub Refuses : Meaning → TextFault → Type 0
 Refuses (Is made) refused = ⊥
-Refuses (IfCycle points rest) refused = IsNoCycle points refused ⊎ (IsRectilinearCycle points × Refuses rest refused)
-Refuses (IfWeight weight rest) refused = IsUnlawful (IsContourWeight weight) faults.BadWeight refused ⊎ (IsContourWeight weight × Refuses rest refused)
-Refuses (IfCull rule rest) refused = IsUnlawful (IsLawfulCull rule) faults.BadCull refused ⊎ (IsLawfulCull rule × Refuses rest refused)
-Refuses (IfFactors factors rest) refused = IsUnlawful (AreFactors factors) faults.BadScale refused ⊎ (AreFactors factors × Refuses rest refused)
-Refuses (Turns name angle) refused = IsUnlawful ((quarter : Quarter) × (degrees quarter ≡ angle)) faults.BadTurn refused
+Refuses (If value rest) refused = IsUnlawful value refused ⊎ (IsLawful value × Refuses rest refused)
+Refuses (Turns name angle) refused = IsUnlawful (Angle angle) refused
 
 -- the command that a form gives
 abbrev pub IsCommandOf : Form → Command → Type 0

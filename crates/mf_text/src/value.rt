@@ -4,7 +4,7 @@ ghost use Rattle.mf_geom.specs.declared.point.Point.{Point};
 ghost use Rattle.mf_ops.specs.ContourWeight.{IsContourWeight};
 ghost use Rattle.mf_text.specs.Grammar as grammar;
 ghost use Rattle.mf_text.specs.Grammar.{weight_value};
-ghost use Rattle.mf_text.specs.Meaning.{IsAnswerOf, IsUnlawful, Means, Refuses, check_of, contour_meaning, scale_meaning};
+ghost use Rattle.mf_text.specs.Meaning.{AWeight, IsAnswerOf, IsUnlawful, Means, Refuses, check_of, contour_meaning, scale_meaning};
 ghost use Rattle.mf_text.specs.Paths.{HasPoints};
 
 use crate::command::{Command, Name};
@@ -47,7 +47,7 @@ fn contour_through(
 /// The weight of a contour or a cull, which is 1 where the line gives none. Refused with `BadWeight`.
 fn lawful_weight(weight: Option<Int>) -> Result<Weight, TextFault>
     ensures given { IfOk result (λ found. (found ≡ weight_value weight) × IsContourWeight (weight_value weight)) }
-    ensures refused { IfErr result (IsUnlawful (IsContourWeight (weight_value weight)) TextFault.BadWeight) }
+    ensures refused { IfErr result (IsUnlawful (AWeight (weight_value weight))) }
 {
     let weight = match weight {
         Some(weight) => weight.value(),

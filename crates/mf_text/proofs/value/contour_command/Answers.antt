@@ -7,4 +7,7 @@ pub returns-then-path-gt-MAX_POINTS-clause-refused : goal.returns-then-path-gt-M
 unfolding IsFault
 returns-then-path-gt-MAX_POINTS-clause-refused c memory points is =
     let many = is.many c.if-path-gt-MAX_POINTS.true in
-    inl (record { cause = TooManyPoints; none = λ cycle. omega (arith, many, cycle.range.sized.greatest); fault = many; is = refl })
+    inl (record {
+      unlawful = λ cycle. omega (arith, many, cycle.range.sized.greatest);
+      is = record { cause = TooManyPoints; fault = many; is = refl };
+    })
