@@ -2,10 +2,9 @@
 use Rattle.std.proofs.Common.{◌≡◌, inl, inr, ℕ, ◌+◌, ◌<◌, ◌≤◌, true, false, eqb, List, [], ◌∷◌, drop, length, Option, None, Some, refl, sym, ap, ◌∙◌, arith}
 use Rattle.std.proofs.lemmas.Bool.{cases_Bool, eqb-true, false≢true}
 use Rattle.mf_text.specs.declared.tokens.Tokens.{Tokens}
-use Rattle.mf_text.specs.Ahead.{Ahead}
 use Rattle.mf_text.specs.Bytes.{IsClear}
 use Rattle.mf_text.specs.Reads.{TakesToken, after_first, ahead, is_next, next_value, remaining_tokens, with_rest}
-use Rattle.mf_text.specs.Rests.{Or, Rest, from}
+use Rattle.mf_text.specs.Rests.{Or, Rest, from, Ahead}
 use Rattle.mf_text.specs.Token.{Token, Unknown, is_token}
 use Rattle.mf_text.specs.Tokens.{first_token, mark_among, token_at, tokens_from}
 use Rattle.mf_text.proofs.LineTokens.{tokens_at_comment, tokens_at_end, tokens-step}

@@ -1,16 +1,13 @@
 -- The answer to a line.
 use Rattle.std.proofs.Common.{◌≡◌, ◌≢◌, inl, inr, Result, Ok, Err, List, [], ℕ, refl, sym, subst}
 use Rattle.std.specs.Prelude.{IfOk, IfErr}
-use Rattle.mf_text.specs.declared.command.Command.{Command}
-use Rattle.mf_text.specs.declared.fault.TextFault.{TextFault}
 use Rattle.mf_text.specs.declared.fault.TextFault.TheVariants as faults
 use Rattle.mf_text.specs.declared.tokens.Tokens.{Tokens}
 use Rattle.mf_text.specs.Grammar.{Line, Nothing}
-use Rattle.mf_text.specs.LineRests.{line}
 use Rattle.mf_text.specs.Lines.{IsText, IsLineOf, Gives, HasBadValues, IsRefused, line_ahead}
-use Rattle.mf_text.specs.Meaning.{Value, Points, Angle, Meaning, Is, If, Turns, IsAnswerOf, IsUnlawful, Refuses, meaning}
+use Rattle.mf_text.specs.Meaning.{Value, Points, Angle, Meaning, Is, If, Turns, IsAnswerOf, IsUnlawful, Refuses, meaning, Command, TextFault}
 use Rattle.mf_text.specs.Reads.{Answers, ahead, remaining_tokens}
-use Rattle.mf_text.specs.Rests.{follow, from}
+use Rattle.mf_text.specs.Rests.{follow, from, line}
 use Rattle.mf_text.specs.Tokens.{tokens}
 use Rattle.mf_text.proofs.LineReading.{goes_wrong, is_line}
 

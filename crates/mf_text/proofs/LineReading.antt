@@ -4,15 +4,12 @@ use Rattle.std.proofs.lemmas.Bool.{and_parts, eqb-true, false≢true}
 use Rattle.std.proofs.lemmas.List.{length-map}
 use Rattle.std.proofs.lemmas.Option.{none-some, same_Some}
 use Rattle.mf_text.specs.declared.token.Mark.TheVariants as mark
-use Rattle.mf_text.specs.Token.{Placed, Token}
 use Rattle.mf_text.specs.Token as token
 use Rattle.mf_text.specs.declared.token.Word.TheVariants as word
 use Rattle.mf_text.specs.Ahead.{Ahead, ahead_after, column_at, column_of}
 use Rattle.mf_text.specs.Grammar.{Line, spell_line}
-use Rattle.mf_text.specs.LineRests.{line}
-use Rattle.mf_text.specs.Phrases.{IsWrongAt}
-use Rattle.mf_text.specs.Rests.{Place, Before, CodeNumber, ends, follow, from, report_column, step}
-use Rattle.mf_text.specs.Syntax.{StartsLine, IsSyntaxFault, is_negative_code, report_place}
+use Rattle.mf_text.specs.Rests.{Place, Before, CodeNumber, ends, follow, from, report_column, step, line, Placed, Token}
+use Rattle.mf_text.specs.Syntax.{StartsLine, IsSyntaxFault, IsWrongAt, is_negative_code, report_place}
 use Rattle.mf_text.specs.Tokens.{kinds}
 use Rattle.mf_text.proofs.LineRests.{line_read}
 use Rattle.mf_text.proofs.Rests.{is_code_number, is_code_number_at, place_ends, reads}
@@ -47,10 +44,10 @@ goes_on_or_not (Some p) (t ∷ ts) =
     ]
 
 starts : (ts : List Token) → GoesOn (Some (Before line)) ts → StartsLine ts
-starts ts on = record { rest = on.rest; phrase = record { tree = on.tree; spelled = read_is_line (ts ++ on.rest) on.tree on.read } }
+starts ts on = record { rest = on.rest; line = record { tree = on.tree; spelled = read_is_line (ts ++ on.rest) on.tree on.read } }
 
 goes_on : (ts : List Token) → StartsLine ts → GoesOn (Some (Before line)) ts
-goes_on ts begun = record { rest = begun.rest; tree = begun.phrase.tree; read = line_is_read (ts ++ begun.rest) begun.phrase.tree begun.phrase.spelled }
+goes_on ts begun = record { rest = begun.rest; tree = begun.line.tree; read = line_is_read (ts ++ begun.rest) begun.line.tree begun.line.spelled }
 
 pub starts_or_not : (ts : List Token) → StartsLine ts ⊎ (StartsLine ts → ⊥)
 starts_or_not ts =
@@ -174,7 +171,7 @@ module _ (ahead : Ahead) (column : ℕ) (found : Stops (Before line) ahead.past 
   is_shown = is_code_number_at (Some (Before line)) ts found.place
 
   -- the tokens go wrong at this place
-  wrong_at : IsWrongAt spell_line ts found.place
+  wrong_at : IsWrongAt ts found.place
   wrong_at = let at = found.at in record {
     within = at.within;
     starts = starts (take found.place ts) at.before;

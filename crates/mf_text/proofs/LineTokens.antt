@@ -6,9 +6,8 @@ use Rattle.std.proofs.lemmas.Bool.{ltb-true, ne_eqb}
 use Rattle.std.proofs.lemmas.List.{take_rest}
 use Rattle.std.proofs.lemmas.List.Folds.{length-prefix_len}
 use Rattle.std.proofs.lemmas.List.Sums.{prefix_len-le-length}
-use Rattle.mf_text.specs.Token.{Token}
 use Rattle.mf_text.specs.Bytes.{is_blank, IsClear}
-use Rattle.mf_text.specs.Tokens.{Taken, token_at, marks, mark_among, first_token, tokens_within, tokens_from}
+use Rattle.mf_text.specs.Tokens.{Taken, token_at, marks, mark_among, first_token, tokens_within, tokens_from, Token}
 
 -- ---- how many bytes a token takes
 

@@ -3,11 +3,9 @@ use Rattle.std.proofs.Common.{◌≡◌, inl, inr, ℕ, Bool, true, false, bytes
 use Rattle.std.specs.Char.{is_ascii_alphabetic, is_ascii_digit}
 use Rattle.std.specs.List.{list_all, prefix_len, starts_with}
 use Rattle.std.proofs.lemmas.Bool.{and_parts, cases_Bool, cond_both, false≢true}
-use Rattle.mf_text.specs.declared.token.Mark.{Mark}
 use Rattle.mf_text.specs.declared.token.Mark.TheVariants as mark
-use Rattle.mf_text.specs.Token.{Token, is_token}
 use Rattle.mf_text.specs.Token as token
-use Rattle.mf_text.specs.Tokens.{FindsToken, Taken, first_token, is_longer, mark_among, mark_text, marks}
+use Rattle.mf_text.specs.Tokens.{FindsToken, Taken, first_token, is_longer, mark_among, mark_text, marks, Mark, Token, is_token}
 use Rattle.mf_text.proofs.Rows.{starts-drop}
 use Rattle.mf_text.proofs.Words.{of_letters, of_numbers, same_bytes, same_token}
 

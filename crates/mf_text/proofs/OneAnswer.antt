@@ -1,25 +1,17 @@
 -- A line has one answer: a command, or a refusal.
-use Rattle.std.proofs.Common.{◌≡◌, ◌≢◌, ◌⊎◌, inl, inr, ℕ, suc, ◌<◌, ◌≤◌, List, ◌++◌, length, take, drop, append_assoc, refl, sym, ap, ◌∙◌, subst, arith}
+use Rattle.std.proofs.Common.{◌≡◌, ◌≢◌, inl, inr, ℕ, suc, ◌<◌, ◌≤◌, List, ◌++◌, length, take, drop, append_assoc, refl, sym, ap, ◌∙◌, subst, arith}
 use Rattle.std.proofs.lemmas.Bool.{cases_lt}
 use Rattle.std.proofs.lemmas.Int.{ints}
 use Rattle.std.proofs.lemmas.List.{take-append-drop, take-take}
 use Rattle.mf_geom.proofs.FirstFaults.{cycle_fault_of-fault}
-use Rattle.mf_ops.specs.ContourWeight.{IsContourWeight}
-use Rattle.mf_ops.specs.Cull.{IsLawfulCull}
-use Rattle.mf_ops.specs.Moves.{AreFactors, degrees}
-use Rattle.mf_ops.specs.declared.quarter.Quarter.{Quarter}
 use Rattle.mf_ops.specs.declared.quarter.Quarter.TheVariants.{Once, Twice, Thrice}
-use Rattle.mf_text.specs.declared.command.Command.{Command}
 use Rattle.mf_text.specs.declared.command.Command.TheVariants as command
-use Rattle.mf_text.specs.declared.fault.TextFault.{TextFault}
 use Rattle.mf_text.specs.declared.fault.TextFault.TheVariants as faults
-use Rattle.mf_text.specs.Token.{Token}
 use Rattle.mf_text.specs.Ahead.{Ahead, column_at}
-use Rattle.mf_text.specs.Grammar.{Line, spell_line}
+use Rattle.mf_text.specs.Grammar.{Line, Token}
 use Rattle.mf_text.specs.Lines.{IsText, line_ahead, IsLineOf, Gives, HasBadValues, HasOtherBytes, HasSyntaxFault, IsRefused}
-use Rattle.mf_text.specs.Meaning.{Value, Points, Angle, Meaning, Is, If, Turns, IsCommandOf, IsRefusalOf, IsUnlawful, Means, Refuses, meaning}
-use Rattle.mf_text.specs.Phrases.{IsPhrase, StartsPhrase, IsWrongAt}
-use Rattle.mf_text.specs.Syntax.{IsLine, report_place, IsSyntaxFault}
+use Rattle.mf_text.specs.Meaning.{Value, Points, Angle, Meaning, Is, If, Turns, IsCommandOf, IsRefusalOf, IsUnlawful, Means, Refuses, meaning, degrees, Quarter, Command, TextFault}
+use Rattle.mf_text.specs.Syntax.{IsLine, IsSyntaxFault, IsWrongAt, StartsLine, report_place}
 use Rattle.mf_text.specs.Tokens.{kinds}
 use Rattle.mf_text.proofs.LineReading.{same_line}
 
@@ -63,31 +55,30 @@ not_both (Turns name angle) given fault p q = q.unlawful (p.quarter, p.angle_is)
 rejoined : {A : Type 0} (xs : List A) (j k : ℕ) → j ≤ k → take j xs ++ drop j (take k xs) ≡ take k xs
 rejoined xs j k below = ap (λ opening. opening ++ drop j (take k xs)) (sym (take-take j k xs below)) ∙ take-append-drop j (take k xs)
 
--- where some phrase starts with tokens, one starts with each prefix of them
-starts-sooner : {A : Type 0} (spell : A → List Token) (ts : List Token) (j k : ℕ) → j ≤ k → StartsPhrase spell (take k ts)
-    → StartsPhrase spell (take j ts)
-starts-sooner spell ts j k below begun = record {
+-- where some line starts with tokens, one starts with each prefix of them
+starts-sooner : (ts : List Token) (j k : ℕ) → j ≤ k → StartsLine (take k ts) → StartsLine (take j ts)
+starts-sooner ts j k below begun = record {
   rest = drop j (take k ts) ++ begun.rest;
-  phrase =
+  line =
       record {
-        tree = begun.phrase.tree;
+        tree = begun.line.tree;
         spelled = sym (append_assoc (take j ts) (drop j (take k ts)) begun.rest)
-            ∙ ap (λ opening. opening ++ begun.rest) (rejoined ts j k below) ∙ begun.phrase.spelled;
+            ∙ ap (λ opening. opening ++ begun.rest) (rejoined ts j k below) ∙ begun.line.spelled;
       };
 }
 
 -- tokens do not go wrong at two places
-not_before : {A : Type 0} (spell : A → List Token) (ts : List Token) (j k : ℕ) → IsWrongAt spell ts j → IsWrongAt spell ts k → j < k → ⊥
-not_before spell ts j k p q before =
+not_before : (ts : List Token) (j k : ℕ) → IsWrongAt ts j → IsWrongAt ts k → j < k → ⊥
+not_before ts j k p q before =
     let within = q.within in
-    p.wrong (omega arith) (starts-sooner spell ts (suc j) k (omega arith) q.starts)
+    p.wrong (omega arith) (starts-sooner ts (suc j) k (omega arith) q.starts)
 
-one_place : {A : Type 0} (spell : A → List Token) (ts : List Token) (j k : ℕ) → IsWrongAt spell ts j → IsWrongAt spell ts k → j ≡ k
-one_place spell ts j k p q =
+one_place : (ts : List Token) (j k : ℕ) → IsWrongAt ts j → IsWrongAt ts k → j ≡ k
+one_place ts j k p q =
     elim (cases_lt j k) [
-      | inl before ↦ absurd (not_before spell ts j k p q before)
+      | inl before ↦ absurd (not_before ts j k p q before)
       | inr after ↦ elim (cases_lt k j) [
-        | inl beyond ↦ absurd (not_before spell ts k j q p beyond)
+        | inl beyond ↦ absurd (not_before ts k j q p beyond)
         | inr same ↦ omega arith
       ]
     ]
@@ -95,19 +86,17 @@ one_place spell ts j k p q =
 one_column : (ahead : Ahead) (one other : ℕ) → IsSyntaxFault ahead one → IsSyntaxFault ahead other → one ≡ other
 one_column ahead one other p q =
     let ts = kinds ahead.tokens in
-    p.column_is ∙ ap (λ k. column_at ahead (report_place ts k)) (one_place spell_line ts p.place q.place p.at q.at) ∙ sym q.column_is
-
--- tokens that go wrong are not a phrase
-wrong_is_no_phrase : {A : Type 0} (spell : A → List Token) (ts : List Token) (k : ℕ) → IsWrongAt spell ts k → IsPhrase spell ts → ⊥
-wrong_is_no_phrase spell ts k wrong phrase =
-    elim (cases_lt k (length ts)) [
-      | inl inner ↦ wrong.wrong inner
-          (record { rest = drop (suc k) ts; phrase = record { tree = phrase.tree; spelled = take-append-drop (suc k) ts ∙ phrase.spelled } })
-      | inr outer ↦ let within = wrong.within in wrong.unended (omega arith) phrase
-    ]
+    p.column_is ∙ ap (λ k. column_at ahead (report_place ts k)) (one_place ts p.place q.place p.at q.at) ∙ sym q.column_is
 
 pub wrong_is_no_line : (ahead : Ahead) (column : ℕ) → IsSyntaxFault ahead column → IsLine (kinds ahead.tokens) → ⊥
-wrong_is_no_line ahead column wrong line = wrong_is_no_phrase spell_line (kinds ahead.tokens) wrong.place wrong.at line
+wrong_is_no_line ahead column wrong line = not_wrong (kinds ahead.tokens) wrong.place wrong.at line where
+  not_wrong : (ts : List Token) (k : ℕ) → IsWrongAt ts k → IsLine ts → ⊥
+  not_wrong ts k wrong line =
+      elim (cases_lt k (length ts)) [
+        | inl inner ↦ wrong.wrong inner
+            (record { rest = drop (suc k) ts; line = record { tree = line.tree; spelled = take-append-drop (suc k) ts ∙ line.spelled } })
+        | inr outer ↦ let within = wrong.within in wrong.unended (omega arith) line
+      ]
 
 -- ---- lines of bytes
 

@@ -2,8 +2,7 @@
 use Rattle.std.proofs.Common.{◌≡◌, ℕ, Bool, true, false, nat_lt, Some, None, refl, ap, sym, ◌∙◌}
 use Rattle.std.proofs.Math.Bool.{Bool-set}
 use Rattle.std.proofs.lemmas.Bool.{false≢true}
-use Rattle.mf_text.specs.declared.code.Code.{Code}
-use Rattle.mf_text.specs.declared.int.Int.{Int}
+use Rattle.mf_text.specs.Grammar.{Code, Int}
 use Rattle.mf_text.specs.Codes.{code_of, byte_code}
 use Rattle.mf_text.specs.Ints.{int_of, short_int, is_byte}
 

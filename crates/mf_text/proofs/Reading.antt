@@ -4,24 +4,16 @@ use Rattle.std.specs.Result.{IsErrAnd}
 use Rattle.std.proofs.lemmas.Bool.{cases_Bool, false≢true}
 use Rattle.std.proofs.lemmas.List.{map-append}
 use Rattle.std.proofs.lemmas.Option.{none-some, same_Some}
-use Rattle.mf_geom.specs.declared.point.Point.{Point}
-use Rattle.mf_text.specs.declared.code.Code.{Code}
-use Rattle.mf_text.specs.declared.command.Name.{Name}
-use Rattle.mf_text.specs.declared.command.Name.TheVariants.{Current, Register}
 use Rattle.mf_text.specs.declared.fault.SyntaxFault.{SyntaxFault}
-use Rattle.mf_text.specs.declared.int.Int.{Int}
-use Rattle.mf_text.specs.declared.pair.Pair.{Pair}
 use Rattle.mf_text.specs.declared.path.Path as paths
 use Rattle.mf_text.specs.declared.token.Mark.TheVariants as mark
 use Rattle.mf_text.specs.declared.token.Word.TheVariants as word
 use Rattle.mf_text.specs.declared.tokens.Tokens.{Tokens}
 use Rattle.mf_text.specs.Ahead.{Ahead, column_of}
-use Rattle.mf_text.specs.Grammar.{Line, Path, path_value}
-use Rattle.mf_text.specs.Ints.{pair_value}
-use Rattle.mf_text.specs.LineRests.{name_token}
+use Rattle.mf_text.specs.Grammar.{Line, Path, path_value, Point, Code, Name, Current, Register, Int, Pair, pair_value}
 use Rattle.mf_text.specs.Paths.{HasPoints}
 use Rattle.mf_text.specs.Reads.{TakesToken, Passes, PassesPath, TakesValue, after_first, ahead, is_next, remaining_tokens, next_value, with_rest}
-use Rattle.mf_text.specs.Rests.{Rest, ACode, AName, ANumber, Corners, One, Or, OrName, Place, Before, CodeNumber, Ends, before, code_in, corner, end_of, path, follow, from, number_in, or_place, report_column, step_from}
+use Rattle.mf_text.specs.Rests.{Rest, ACode, AName, ANumber, Corners, One, Or, OrName, Place, Before, CodeNumber, Ends, before, code_in, corner, end_of, path, follow, from, number_in, or_place, report_column, step_from, name_token}
 use Rattle.mf_text.specs.Token.{Placed, Token, is_token, letter_in, name_in, value_in}
 use Rattle.mf_text.specs.Token as token
 use Rattle.mf_text.proofs.Words.{same_token, token_is}
@@ -46,6 +38,18 @@ lacks {A} f p ps is = by_value (f p.token) is where
   by_value None none = refl
   by_value (Some x) other = absurd (none-some (x, record { tokens = ps; past = p.after }) (sym other))
 
+-- what holds where the first token has this value
+at_first : {A : Type 0} (f : Token → Option A) (a : A) (P : List Placed → Ahead → Type 0)
+    → ((p : Placed) (ps : List Placed) → f p.token ≡ Some a → P (p ∷ ps) (record { tokens = ps; past = p.after }))
+    → (ps : List Placed) (after : Ahead) → next_value f ps ≡ Some (a, after) → P ps after
+at_first f a P there [] after is = absurd (none-some (a, after) is)
+at_first {A} f a P there (p ∷ ps) after is = by_value (f p.token) refl is where
+  by_value : (v : Option A) → f p.token ≡ v → with_rest (record { tokens = ps; past = p.after }) v ≡ Some (a, after) → P (p ∷ ps) after
+  by_value None found none = absurd (none-some (a, after) none)
+  by_value (Some x) found same =
+      let pairs = same_Some (x, record { tokens = ps; past = p.after }) (a, after) same in
+      subst (P (p ∷ ps)) (ap (λ (v : A × Ahead). v.1) pairs) (there p ps (found ∙ ap (λ (v : A × Ahead). Some v.0) pairs))
+
 -- the rest goes on with a value of the first of these tokens, and no line ends before it
 pub record Follows {A : Type 0} (rest : Rest) (f : Token → Option A) (next : A → Rest) (ps : List Placed) : Type 0 where
   pub steps : (p : Placed) (qs : List Placed) → ps ≡ p ∷ qs → step_from rest p.token ≡ before next (f p.token)
@@ -59,15 +63,9 @@ module _ {A : Type 0} (rest : Rest) (f : Token → Option A) (next : A → Rest)
 
   pub goes_on_with : (ps : List Placed) → Follows rest f next ps → (a : A) (after : Ahead) → next_value f ps ≡ Some (a, after)
       → from rest (record { tokens = ps; past = past }) ≡ from (next a) after
-  unfolding follow
-  goes_on_with [] follows a after is = absurd (none-some (a, after) is)
-  goes_on_with (p ∷ ps) follows a after is = by_value (f p.token) refl is where
-    by_value : (v : Option A) → f p.token ≡ v → with_rest (record { tokens = ps; past = p.after }) v ≡ Some (a, after)
-        → from rest (record { tokens = p ∷ ps; past = past }) ≡ from (next a) after
-    by_value None found none = absurd (none-some (a, after) none)
-    by_value (Some x) found same =
-        at_value p ps (Some x) (follows.steps p ps refl) found ∙ from_any (next x) p.column p.after ps
-        ∙ ap (λ (v : A × Ahead). from (next v.0) v.1) (same_Some (x, record { tokens = ps; past = p.after }) (a, after) same)
+  goes_on_with ps follows a after is =
+      at_first f a (λ qs on. Follows rest f next qs → from rest (record { tokens = qs; past = past }) ≡ from (next a) on)
+      (λ p qs value given. at_value p qs (Some a) (given.steps p qs refl) value ∙ from_any (next a) p.column p.after qs) ps after is follows
 
   pub goes_wrong_there : (ps : List Placed) → Follows rest f next ps → next_value f ps ≡ None
       → from rest (record { tokens = ps; past = past }) ≡ Err (column_of ps past)
@@ -113,14 +111,9 @@ code_follows next ps differs = record {
 -- where each token with the value a also has the value b, taking a takes b
 pub taken_as : {A B : Type 0} (f : Token → Option A) (g : Token → Option B) (a : A) (b : B) → ((t : Token) → f t ≡ Some a → g t ≡ Some b)
     → (ps : List Placed) (after : Ahead) → next_value f ps ≡ Some (a, after) → next_value g ps ≡ Some (b, after)
-taken_as f g a b same [] after is = absurd (none-some (a, after) is)
-taken_as {A} {B} f g a b same (p ∷ ps) after is = by_value (f p.token) refl is where
-  by_value : (v : Option A) → f p.token ≡ v → with_rest (record { tokens = ps; past = p.after }) v ≡ Some (a, after) → next_value g (p ∷ ps) ≡ Some (b, after)
-  by_value None found none = absurd (none-some (a, after) none)
-  by_value (Some x) found both =
-      let pairs = same_Some (x, record { tokens = ps; past = p.after }) (a, after) both in
-      ap (with_rest (record { tokens = ps; past = p.after })) (same p.token (found ∙ ap (λ (v : A × Ahead). Some v.0) pairs))
-      ∙ ap (λ (v : A × Ahead). Some (b, v.1)) pairs
+taken_as f g a b same ps after is =
+    at_first f a (λ qs on. next_value g qs ≡ Some (b, on))
+    (λ p qs value. ap (with_rest (record { tokens = qs; past = p.after })) (same p.token value)) ps after is
 
 -- ---- a given word or mark
 
@@ -189,15 +182,10 @@ line_goes_on line past (p ∷ ps) some = refl
 pub name_chosen : (this : Name → Rest) (other : Rest) (past : ℕ) (ps : List Placed) (name : Name) (after : Ahead) → next_value name_in ps ≡ Some (name, after)
     → from (OrName this other) (record { tokens = ps; past = past }) ≡ from (this name) after
 unfolding follow
-name_chosen this other past [] name after is = absurd (none-some (name, after) is)
-name_chosen this other past (p ∷ ps) name after is = by_value (name_in p.token) is refl where
-  by_value : (v : Option Name) → with_rest (record { tokens = ps; past = p.after }) v ≡ Some (name, after) → name_in p.token ≡ v
-      → from (OrName this other) (record { tokens = p ∷ ps; past = past }) ≡ from (this name) after
-  by_value None none found = absurd (none-some (name, after) none)
-  by_value (Some x) same found =
-      ap (λ (v : Option Name). follow (ok_or (or_place (before this v) (step_from other p.token)) p.column) p.column p.after ps) found
-      ∙ from_any (this x) p.column p.after ps
-      ∙ ap (λ (v : Name × Ahead). from (this v.0) v.1) (same_Some (x, record { tokens = ps; past = p.after }) (name, after) same)
+name_chosen this other past ps name after is =
+    at_first name_in name (λ qs on. from (OrName this other) (record { tokens = qs; past = past }) ≡ from (this name) on) (λ p qs value.
+    ap (λ (v : Option Name). follow (ok_or (or_place (before this v) (step_from other p.token)) p.column) p.column p.after qs) value
+    ∙ from_any (this name) p.column p.after qs) ps after is
 
 pub name_not_chosen : (this : Name → Rest) (other : Rest) (past : ℕ) (ps : List Placed) → next_value name_in ps ≡ None
     → from (OrName this other) (record { tokens = ps; past = past }) ≡ from other (record { tokens = ps; past = past })
@@ -244,20 +232,10 @@ name_of (Register n) = refl
 pub name_passed : (name : Name) (this : Rest) (past : ℕ) (ps : List Placed) (after : Ahead) → next_value name_in ps ≡ Some (name, after)
     → from (One (name_token name) this) (record { tokens = ps; past = past }) ≡ from this after
 name_passed name this past ps after is =
-    one_or (name_token name) this past ps ∙ chosen_there ps is where
-      chosen_there : (qs : List Placed) → next_value name_in qs ≡ Some (name, after)
-          → from (Or (name_token name) this (One (name_token name) this)) (record { tokens = qs; past = past }) ≡ from this after
-      chosen_there [] none = absurd (none-some (name, after) none)
-      chosen_there (p ∷ qs) found = by_name (name_in p.token) refl found where
-        by_name : (v : Option Name) → name_in p.token ≡ v → with_rest (record { tokens = qs; past = p.after }) v ≡ Some (name, after)
-            → from (Or (name_token name) this (One (name_token name) this)) (record { tokens = p ∷ qs; past = past }) ≡ from this after
-        by_name None is_none none = absurd (none-some (name, after) none)
-        by_name (Some x) is_name both =
-            let pairs = same_Some (x, record { tokens = qs; past = p.after }) (name, after) both in
-            let same : is_token p.token (name_token name) ≡ true =
-            ap (λ t. is_token t (name_token name)) (name_is p.token name (is_name ∙ ap (λ (v : Name × Ahead). Some v.0) pairs))
-            ∙ same_token (name_token name) in
-            chosen (name_token name) this (One (name_token name) this) past p qs same ∙ ap (λ (v : Name × Ahead). from this v.1) pairs
+    one_or (name_token name) this past ps
+    ∙ at_first name_in name (λ qs on. from (Or (name_token name) this (One (name_token name) this)) (record { tokens = qs; past = past }) ≡ from this on)
+    (λ p qs value. chosen (name_token name) this (One (name_token name) this) past p qs
+    (ap (λ u. is_token u (name_token name)) (name_is p.token name value) ∙ same_token (name_token name))) ps after is
 
 -- a name that is not taken as this name is not next
 pub name_missed : (name : Name) (old after : Tokens) (r : Option Name) → TakesValue name_in old after r
@@ -300,28 +278,18 @@ module _ (next : Code → Rest) (first past : ℕ) where
   pub code_read : (ps : List Placed) (code : Code) (after : Ahead) → next_value (code_in true) ps ≡ Some (code, after)
       → follow (Ok (CodeNumber next)) first past ps ≡ from (next code) after
   unfolding follow
-  code_read [] code after is = absurd (none-some (code, after) is)
-  code_read (p ∷ ps) code after is = by_value (code_in true p.token) refl is where
-    by_value : (v : Option Code) → code_in true p.token ≡ v → with_rest (record { tokens = ps; past = p.after }) v ≡ Some (code, after)
-        → follow (Ok (CodeNumber next)) first past (p ∷ ps) ≡ from (next code) after
-    by_value None found none = absurd (none-some (code, after) none)
-    by_value (Some x) found same =
-        ap (λ (v : Option Code). follow (ok_or (before next v) (report_column (CodeNumber next) p.token first p.column)) p.column p.after ps) found
-        ∙ from_any (next x) p.column p.after ps
-        ∙ ap (λ (v : Code × Ahead). from (next v.0) v.1) (same_Some (x, record { tokens = ps; past = p.after }) (code, after) same)
+  code_read ps code after is =
+      at_first (code_in true) code (λ qs on. follow (Ok (CodeNumber next)) first past qs ≡ from (next code) on) (λ p qs value.
+      ap (λ (v : Option Code). follow (ok_or (before next v) (report_column (CodeNumber next) p.token first p.column)) p.column p.after qs) value
+      ∙ from_any (next code) p.column p.after qs) ps after is
 
   pub code_bad : (ps : List Placed) (n : ℕ) (after : Ahead) → next_value (code_in true) ps ≡ None
       → next_value value_in ps ≡ Some (n, after) → follow (Ok (CodeNumber next)) first past ps ≡ Err first
   unfolding follow
-  code_bad [] n after none is = absurd (none-some (n, after) is)
-  code_bad (p ∷ ps) n after none is = by_value (value_in p.token) refl is where
-    by_value : (v : Option ℕ) → value_in p.token ≡ v → with_rest (record { tokens = ps; past = p.after }) v ≡ Some (n, after)
-        → follow (Ok (CodeNumber next)) first past (p ∷ ps) ≡ Err first
-    by_value None found none = absurd (none-some (n, after) none)
-    by_value (Some x) found same =
-        ap (λ (v : Option Code). follow (ok_or (before next v) (report_column (CodeNumber next) p.token first p.column)) p.column p.after ps)
-        (lacks (code_in true) p ps none)
-        ∙ ap Err (shown_number p.token x p.column found)
+  code_bad ps n after none is =
+      at_first value_in n (λ qs on. next_value (code_in true) qs ≡ None → follow (Ok (CodeNumber next)) first past qs ≡ Err first) (λ p qs value lacking.
+      ap (λ (v : Option Code). follow (ok_or (before next v) (report_column (CodeNumber next) p.token first p.column)) p.column p.after qs)
+      (lacks (code_in true) p qs lacking) ∙ ap Err (shown_number p.token n p.column value)) ps after is none
 
   pub code_missing : (ps : List Placed) → next_value value_in ps ≡ None → follow (Ok (CodeNumber next)) first past ps ≡ Err (column_of ps past)
   unfolding follow

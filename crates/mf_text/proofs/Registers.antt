@@ -3,21 +3,12 @@ use Rattle.std.proofs.Common.{◌≡◌, ℕ, ◌<◌, true, leb, List, [], ◌�
 use Rattle.std.specs.List.{AllByRecursion}
 use Rattle.std.specs.Str.Parse.{digits_value}
 use Rattle.std.proofs.lemmas.Bool.{and_parts, cond_both, false≢true, leb-true}
-use Rattle.mf_ops.specs.declared.sign.Sign.{Sign}
-use Rattle.mf_ops.specs.declared.sign.Sign.TheVariants.{Plus, Minus}
-use Rattle.mf_text.specs.declared.command.Command.{Command}
-use Rattle.mf_text.specs.declared.command.Name.{Name}
-use Rattle.mf_text.specs.declared.command.Name.TheVariants.{Current, Register}
-use Rattle.mf_text.specs.declared.command.Source.{Source}
-use Rattle.mf_text.specs.declared.command.Source.TheVariants.{Null, Named}
-use Rattle.mf_text.specs.declared.token.Word.{Word}
-use Rattle.mf_text.specs.Token.{Placed, Token}
 use Rattle.mf_text.specs.Token as token
-use Rattle.mf_text.specs.Grammar.{Form, Nothing, AddContour, AddPicture, CullKeeping, CullDropping, Clear, Move, ShowTotal, ShowPicture, ShowProof, ShipOut, SetCheck, PublishAll, Transform, Shifted, Scaled, XScaled, YScaled, Rotated, spell_name, spell_source, spell_signed, spell_form, spell_end}
+use Rattle.mf_text.specs.Grammar.{Form, Nothing, AddContour, AddPicture, CullKeeping, CullDropping, Clear, Move, ShowTotal, ShowPicture, ShowProof, ShipOut, SetCheck, PublishAll, Transform, Shifted, spell_name, spell_source, spell_signed, spell_form, spell_end, Sign, Plus, Minus, Name, Current, Register, Source, Null, Named, Word}
 use Rattle.mf_text.specs.Lines.{Gives}
-use Rattle.mf_text.specs.Meaning.{Meaning, Is, If, Turns, Means, meaning, transform_meaning}
+use Rattle.mf_text.specs.Meaning.{Meaning, Is, If, Turns, Means, meaning, transform_meaning, Command}
 use Rattle.mf_text.specs.Registers.{IsName, IsSource, HasNames}
-use Rattle.mf_text.specs.Tokens.{is_letter, kinds, known_word, letter_number, number_token, tokens, word_among, word_token, words}
+use Rattle.mf_text.specs.Tokens.{is_letter, kinds, known_word, letter_number, number_token, tokens, word_among, word_token, words, Placed, Token}
 use Rattle.mf_text.specs.TokenTexts.{AMark, AreTokens, Digits, IsTokenText, Letters, OtherByte}
 use Rattle.mf_text.proofs.TokenTexts.{are_tokens}
 

@@ -1,21 +1,11 @@
 -- The rests of lines: what is spelled is read, each rest can be ended by some tokens, and the number of a code after its `-`.
 use Rattle.std.proofs.Common.{◌≡◌, ℕ, zero, suc, Bool, true, false, List, [], ◌∷◌, ◌++◌, Option, Some, None, if◌then◌else◌, refl, sym, ap, subst, ◌∙◌, append_assoc, append-nil, flat_map}
 use Rattle.std.specs.Option.{option_and_then}
-use Rattle.mf_text.specs.declared.code.Code.{Code}
-use Rattle.mf_text.specs.declared.command.Name.{Name}
-use Rattle.mf_text.specs.declared.command.Name.TheVariants.{Current, Register}
-use Rattle.mf_text.specs.declared.command.Source.{Source}
-use Rattle.mf_text.specs.declared.command.Source.TheVariants.{Null, Named}
-use Rattle.mf_text.specs.declared.int.Int.{Int}
-use Rattle.mf_text.specs.declared.pair.Pair.{Pair}
 use Rattle.mf_text.specs.declared.token.Mark.TheVariants as mark
-use Rattle.mf_text.specs.Token.{Token, is_token}
 use Rattle.mf_text.specs.Token as token
 use Rattle.mf_text.specs.declared.token.Word.TheVariants as word
-use Rattle.mf_text.specs.Codes.{code_of}
-use Rattle.mf_text.specs.Grammar.{Line, Path, spell_int, spell_code, spell_pair, spell_name, spell_source, spell_corner, spell_path}
-use Rattle.mf_text.specs.Ints.{int_of}
-use Rattle.mf_text.specs.Rests.{Rest, Ends, One, Or, AName, OrName, ANumber, ACode, Corners, Place, Before, CodeNumber, before, corner, ends, if_token, int, pair, path, source, step, step_from}
+use Rattle.mf_text.specs.Grammar.{Line, Path, spell_int, spell_code, spell_pair, spell_name, spell_source, spell_corner, spell_path, Code, Name, Current, Register, Source, Null, Named, Int, Pair}
+use Rattle.mf_text.specs.Rests.{Rest, Ends, One, Or, AName, OrName, ANumber, ACode, Corners, Place, Before, CodeNumber, before, corner, ends, if_token, int, pair, path, source, step, step_from, Token, code_of, int_of}
 use Rattle.mf_text.proofs.ReadInts.{int_of-back, code_of-back}
 use Rattle.mf_text.proofs.Words.{same_token}
 

@@ -8,27 +8,15 @@ use Rattle.std.proofs.lemmas.Option.{none-some}
 use Rattle.mf_geom.specs.Coordinates.{least_coordinate, greatest_coordinate}
 use Rattle.mf_geom.proofs.FirstFaults.{cycle-form_fault, fault-cycle_fault_of, form_fault-none}
 use Rattle.mf_geom.specs.Faults.{form_fault}
-use Rattle.mf_geom.specs.Lawful.{IsRectilinearCycle}
-use Rattle.mf_geom.specs.declared.cycle.CycleFault.{CycleFault}
-use Rattle.mf_geom.specs.declared.point.Point.{Point}
-use Rattle.mf_ops.specs.ContourWeight.{IsContourWeight}
-use Rattle.mf_ops.specs.Cull.{IsLawfulCull}
 use Rattle.mf_ops.specs.Moves.{AreFactors, Factors, IsFactor, degrees}
-use Rattle.mf_ops.specs.declared.cull.CullRule.{CullRule}
-use Rattle.mf_ops.specs.declared.cull.CullRule.TheVariants.{Keeping, Dropping}
-use Rattle.mf_ops.specs.declared.quarter.Quarter.{Quarter}
 use Rattle.mf_ops.specs.declared.quarter.Quarter.TheVariants.{Once, Twice, Thrice}
-use Rattle.mf_text.specs.declared.command.Command.{Command}
 use Rattle.mf_text.specs.declared.command.Command.TheVariants as command
-use Rattle.mf_text.specs.declared.command.Name.{Name}
-use Rattle.mf_text.specs.declared.fault.TextFault.{TextFault}
 use Rattle.mf_text.specs.declared.fault.TextFault.TheVariants as faults
 use Rattle.mf_text.specs.Bytes.{is_text_byte}
-use Rattle.mf_text.specs.Grammar.{Line}
+use Rattle.mf_text.specs.Grammar.{Line, Point, Name}
 use Rattle.mf_text.specs.Lines.{IsText, line_ahead, Gives, IsRefused}
-use Rattle.mf_text.specs.Meaning.{Value, Points, AWeight, ACull, AScale, Angle, Meaning, Is, If, Turns, HasRefusal, IsLawful, IsUnlawful, Means, Refuses, meaning}
-use Rattle.mf_text.specs.LineRests.{line}
-use Rattle.mf_text.specs.Rests.{from}
+use Rattle.mf_text.specs.Meaning.{Value, Points, AWeight, ACull, AScale, Angle, Meaning, Is, If, Turns, HasRefusal, IsLawful, IsUnlawful, Means, Refuses, meaning, CycleFault, IsContourWeight, IsLawfulCull, CullRule, Keeping, Dropping, Quarter, Command, TextFault}
+use Rattle.mf_text.specs.Rests.{from, line}
 use Rattle.mf_text.specs.Syntax.{IsLine}
 use Rattle.mf_text.specs.Tokens.{kinds, tokens}
 use Rattle.mf_text.proofs.LineAnswers.{of_values, refusals_of_values}
@@ -98,10 +86,13 @@ IsChecked value = IsLawful value ⊎ ((fault : TextFault) × IsUnlawful value fa
 
 cycle_or_not : (points : List Point) (found : Option CycleFault) → form_fault points ≡ found → IsChecked (Points points)
 cycle_or_not points None is = inl (cycle-form_fault points is)
-cycle_or_not points (Some cause) is = inr (faults.Cycle cause, record {
-  unlawful = λ cycle. none-some cause (sym (form_fault-none points cycle) ∙ is);
-  is = record { cause = cause; fault = fault-cycle_fault_of points cause (rw is refl); is = refl };
-})
+cycle_or_not points (Some cause) is = inr (
+  faults.Cycle cause,
+  record {
+    unlawful = λ cycle. none-some cause (sym (form_fault-none points cycle) ∙ is);
+    is = record { cause = cause; fault = fault-cycle_fault_of points cause (rw is refl); is = refl };
+  },
+)
 
 or_refused : (value : Value) (fault : TextFault) → HasRefusal value fault → IsLawful value ⊎ (IsLawful value → ⊥) → IsChecked value
 or_refused value fault is (inl lawful) = inl lawful

@@ -3,23 +3,13 @@ use Rattle.std.proofs.Common.{◌≡◌, ℕ, zero, suc, ◌+◌, Bool, true, fa
 use Rattle.std.specs.Option.{IfSome, option_and_then}
 use Rattle.std.proofs.lemmas.Bool.{cond_both, false≢true}
 use Rattle.std.proofs.lemmas.Option.{none-some, same_Some}
-use Rattle.mf_ops.specs.declared.sign.Sign.TheVariants.{Plus, Minus}
-use Rattle.mf_text.specs.declared.code.Code.{Code}
-use Rattle.mf_text.specs.declared.command.Name.{Name}
-use Rattle.mf_text.specs.declared.command.Name.TheVariants.{Current, Register}
-use Rattle.mf_text.specs.declared.command.Source.{Source}
-use Rattle.mf_text.specs.declared.command.Source.TheVariants.{Null, Named}
-use Rattle.mf_text.specs.declared.int.Int.{Int}
-use Rattle.mf_text.specs.declared.pair.Pair.{Pair}
 use Rattle.mf_text.specs.declared.token.Mark.TheVariants as mark
-use Rattle.mf_text.specs.Token.{Token, is_token, name_in}
 use Rattle.mf_text.specs.Token as token
 use Rattle.mf_text.specs.declared.token.Word.TheVariants as word
 use Rattle.mf_text.specs.Codes.{code_of, byte_code}
-use Rattle.mf_text.specs.Grammar.{Form, Nothing, AddContour, AddPicture, CullKeeping, CullDropping, Clear, Move, ShowTotal, ShowPicture, ShowProof, ShipOut, SetCheck, PublishAll, Shifted, Scaled, XScaled, YScaled, Rotated, Line, Path, spell_form, spell_weight, spell_int, spell_code, spell_pair, spell_name, spell_source, spell_corner, spell_path, spell_line}
+use Rattle.mf_text.specs.Grammar.{Form, Nothing, AddContour, AddPicture, CullKeeping, CullDropping, Clear, Move, ShowTotal, ShowPicture, ShowProof, ShipOut, SetCheck, PublishAll, Shifted, Scaled, XScaled, YScaled, Rotated, Line, Path, spell_form, spell_weight, spell_int, spell_code, spell_pair, spell_name, spell_source, spell_corner, spell_path, spell_line, Plus, Minus, Code, Name, Current, Register, Source, Null, Named, Int, Pair}
 use Rattle.mf_text.specs.Ints.{int_of, short_int, is_byte}
-use Rattle.mf_text.specs.LineRests.{assignment, line, line_end, name_token, transform, weighable}
-use Rattle.mf_text.specs.Rests.{Rest, Ends, One, Or, AName, OrName, ANumber, ACode, Corners, Place, Before, CodeNumber, before, code_in, corner, end_of, ends, if_token, inner, int, number_in, or_place, pair, path, source, step, step_from}
+use Rattle.mf_text.specs.Rests.{Rest, Ends, One, Or, AName, OrName, ANumber, ACode, Corners, Place, Before, CodeNumber, before, code_in, corner, end_of, ends, if_token, inner, int, number_in, or_place, pair, path, source, step, step_from, assignment, line, line_end, name_token, transform, weighable, Token, is_token, name_in}
 use Rattle.mf_text.specs.Syntax.{is_negative_code}
 use Rattle.mf_text.proofs.Rests.{is_code_number, is_code_number_at, reads}
 use Rattle.mf_text.proofs.Words.{token_is}

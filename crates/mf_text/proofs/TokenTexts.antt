@@ -7,10 +7,8 @@ use Rattle.std.proofs.lemmas.Bool.{cases_Bool, cond_both, eqb-true, false≢true
 use Rattle.std.proofs.lemmas.List.{take-append-drop, length-take-le}
 use Rattle.std.proofs.lemmas.List.Elements.{All-cons, All-nil}
 use Rattle.std.proofs.lemmas.List.Folds.{length-prefix_len}
-use Rattle.mf_text.specs.Bytes.{is_blank}
-use Rattle.mf_text.specs.Token.{Placed, Token}
 use Rattle.mf_text.specs.Token as token
-use Rattle.mf_text.specs.Tokens.{Taken, first_token, first_is, is_longer, mark_among, mark_text, marks, number_token, token_at, tokens_from, tokens_within, word_token}
+use Rattle.mf_text.specs.Tokens.{Taken, first_token, first_is, is_longer, mark_among, mark_text, marks, number_token, token_at, tokens_from, tokens_within, word_token, is_blank, Placed, Token}
 use Rattle.mf_text.specs.TokenTexts.{AMark, AreTokens, Digits, IsEnd, IsRow, IsTokenText, Letters, OtherByte}
 use Rattle.mf_text.proofs.LineTokens.{first_taken, rest_shorter}
 use Rattle.mf_text.proofs.Marks.{mark_bytes, mark_there, no_longer, none_there, one_byte}

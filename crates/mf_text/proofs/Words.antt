@@ -10,8 +10,7 @@ use Rattle.std.proofs.lemmas.Option.{none-some, same_Some}
 use Rattle.std.proofs.lemmas.Slice.Eq.{bytes_eq-Decides, starts_is}
 use Rattle.std.proofs.lemmas.List.Folds.{length-prefix_len}
 use Rattle.std.proofs.lemmas.List.Sums.{take_while-cons}
-use Rattle.mf_text.specs.declared.token.Mark.{Mark}
-use Rattle.mf_text.specs.declared.token.Word.{Word}
+use Rattle.mf_text.specs.Grammar.{Mark, Word}
 use Rattle.mf_text.specs.declared.token.Word.TheVariants as word
 use Rattle.mf_text.specs.Token.{Token, is_token, letter_in, value_in}
 use Rattle.mf_text.specs.Token as token

@@ -1,22 +1,22 @@
 -- The lines that a script may have, and how each is spelled in tokens.
 use Rattle.std.specs.Prelude.{Bool, List, [], ◌∷◌, ◌++◌, Option, Some, None, ℤ, pos, map, flat_map, if◌then◌else◌}
-use Rattle.mf_geom.specs.declared.point.Point.{Point}
-use Rattle.mf_ops.specs.declared.sign.Sign.{Sign}
-use Rattle.mf_ops.specs.declared.sign.Sign.TheVariants.{Plus, Minus}
-use Rattle.mf_text.specs.declared.command.Name.{Name}
-use Rattle.mf_text.specs.declared.command.Name.TheVariants.{Current, Register}
-use Rattle.mf_text.specs.declared.command.Source.{Source}
-use Rattle.mf_text.specs.declared.command.Source.TheVariants.{Null, Named}
-use Rattle.mf_text.specs.declared.code.Code.{Code}
-use Rattle.mf_text.specs.declared.int.Int.{Int}
-use Rattle.mf_text.specs.declared.pair.Pair.{Pair}
-use Rattle.mf_text.specs.declared.token.Mark.{Mark}
+pub use Rattle.mf_geom.specs.declared.point.Point.{Point}
+pub use Rattle.mf_ops.specs.declared.sign.Sign.{Sign}
+pub use Rattle.mf_ops.specs.declared.sign.Sign.TheVariants.{Plus, Minus}
+pub use Rattle.mf_text.specs.declared.command.Name.{Name}
+pub use Rattle.mf_text.specs.declared.command.Name.TheVariants.{Current, Register}
+pub use Rattle.mf_text.specs.declared.command.Source.{Source}
+pub use Rattle.mf_text.specs.declared.command.Source.TheVariants.{Null, Named}
+pub use Rattle.mf_text.specs.declared.code.Code.{Code}
+pub use Rattle.mf_text.specs.declared.int.Int.{Int}
+pub use Rattle.mf_text.specs.declared.pair.Pair.{Pair}
+pub use Rattle.mf_text.specs.declared.token.Mark.{Mark}
 use Rattle.mf_text.specs.declared.token.Mark.TheVariants as mark
-use Rattle.mf_text.specs.Token.{Token}
+pub use Rattle.mf_text.specs.Token.{Token}
 use Rattle.mf_text.specs.Token as token
-use Rattle.mf_text.specs.declared.token.Word.{Word}
+pub use Rattle.mf_text.specs.declared.token.Word.{Word}
 use Rattle.mf_text.specs.declared.token.Word.TheVariants as word
-use Rattle.mf_text.specs.Ints.{int_value, pair_value}
+pub use Rattle.mf_text.specs.Ints.{int_value, pair_value}
 
 -- a word is one token
 abbrev pub spell_word : Word → List Token

@@ -3,12 +3,10 @@ pub mod Bytes
 pub mod Codes
 pub mod Grammar
 pub mod Ints
-pub mod LineRests
 pub mod Lines
 pub mod Meaning
 pub mod Names
 pub mod Paths
-pub mod Phrases
 pub mod Reads
 pub mod Registers
 pub mod Rests

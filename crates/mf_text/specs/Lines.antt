@@ -1,13 +1,11 @@
 -- What a line of bytes gives: a command, or the first refusal.
 use Rattle.std.specs.Prelude.{◌≡◌, ◌<◌, ◌≤◌, ℕ, true, false, List, length}
 use Rattle.std.specs.List.{list_all}
-use Rattle.mf_text.specs.declared.command.Command.{Command}
-use Rattle.mf_text.specs.declared.fault.TextFault.{TextFault}
 use Rattle.mf_text.specs.declared.fault.TextFault.TheVariants.{LineTooLong, NotAscii, Syntax, OutOfMemory}
 use Rattle.mf_text.specs.Ahead.{Ahead}
 use Rattle.mf_text.specs.Bytes.{is_text_byte}
 use Rattle.mf_text.specs.Grammar.{Line, spell_line}
-use Rattle.mf_text.specs.Meaning.{IsCommandOf, IsRefusalOf, TakesMemory}
+use Rattle.mf_text.specs.Meaning.{IsCommandOf, IsRefusalOf, TakesMemory, Command, TextFault}
 use Rattle.mf_text.specs.Syntax.{IsSyntaxFault}
 use Rattle.mf_text.specs.Tokens.{tokens, kinds}
 

@@ -1,19 +1,13 @@
 -- What the reader of a line does: it passes a phrase, or finds the column at which the line goes wrong.
 use Rattle.std.specs.Prelude.{◌≡◌, ◌≤◌, ℕ, length, Bool, true, false, List, [], ◌∷◌, Option, None, Some, Result, Ok, Err}
-use Rattle.mf_text.specs.declared.command.Name.{Name}
-use Rattle.mf_text.specs.declared.command.Command.{Command}
-use Rattle.mf_text.specs.declared.fault.TextFault.{TextFault}
 use Rattle.mf_text.specs.declared.fault.TextFault.TheVariants.{Syntax}
 use Rattle.mf_text.specs.declared.fault.SyntaxFault.{SyntaxFault}
 use Rattle.mf_text.specs.declared.tokens.Tokens.{Tokens}
-use Rattle.mf_text.specs.Ahead.{Ahead}
 use Rattle.mf_text.specs.declared.path.Path as paths
-use Rattle.mf_text.specs.Grammar.{Form, Line, Path, path_value}
-use Rattle.mf_text.specs.LineRests.{line_end}
-use Rattle.mf_text.specs.Meaning.{IsAnswerOf}
+use Rattle.mf_text.specs.Grammar.{Form, Line, Path, path_value, Name}
+use Rattle.mf_text.specs.Meaning.{IsAnswerOf, Command, TextFault}
 use Rattle.mf_text.specs.Paths.{HasPoints}
-use Rattle.mf_text.specs.Rests.{Rest, path, from}
-use Rattle.mf_text.specs.Token.{Token, Placed, is_token}
+use Rattle.mf_text.specs.Rests.{Rest, path, from, line_end, Ahead, Token, Placed, is_token}
 use Rattle.mf_text.specs.Tokens.{tokens_from}
 
 -- the tokens of a line that remain to be read
@@ -68,11 +62,6 @@ then_from next after (Err fault) = Err fault.column
 abbrev pub then_end : Line → Result (Unit {0}) SyntaxFault → Result Line ℕ
 then_end line (Ok done) = Ok line
 then_end line (Err fault) = Err fault.column
-
--- what a line gives after a token that must come: what its rest gives, or the column of the fault
-abbrev pub then_rest : Rest → Ahead → Result (Unit {0}) SyntaxFault → Result Line ℕ
-then_rest rest after (Ok done) = from rest after
-then_rest rest after (Err fault) = Err fault.column
 
 -- what a line gives where a name may come: what the rest after the name gives, or else another rest
 abbrev pub then_name : (Name → Rest) → Rest → Ahead → Option Name → Result Line ℕ

@@ -1,11 +1,8 @@
 -- The registers that commands name.
 use Rattle.std.specs.Prelude.{◌<◌}
 use Rattle.mf_text.specs.declared.command.Command.{Command}
-use Rattle.mf_text.specs.declared.command.Command.TheVariants.{Nothing, Contour, Also, Cull, Clear, Shift, Scale, Quarter, Total, Show, Proof, Ship, Turning, Publish}
-use Rattle.mf_text.specs.declared.command.Name.{Name}
-use Rattle.mf_text.specs.declared.command.Name.TheVariants.{Current, Register}
-use Rattle.mf_text.specs.declared.command.Source.{Source}
-use Rattle.mf_text.specs.declared.command.Source.TheVariants.{Null, Named}
+use Rattle.mf_text.specs.declared.command.Command.TheVariants.{Contour, Also, Cull, Clear, Shift, Scale, Quarter, Total, Show, Proof, Ship}
+use Rattle.mf_text.specs.Grammar.{Name, Current, Register, Source, Null, Named}
 
 -- the name is `currentpicture` or one of the 26 registers
 abbrev pub IsName : Name → Type 0
@@ -19,7 +16,6 @@ IsSource (Named name) = IsName name
 
 -- each register that a command names is one of the 26
 abbrev pub HasNames : Command → Type 0
-HasNames Nothing = Unit {0}
 HasNames (Contour name cycle weight) = IsName name
 HasNames (Also name source sign) = IsName name × IsSource source
 HasNames (Cull name cull) = IsName name
@@ -31,5 +27,4 @@ HasNames (Total source) = IsSource source
 HasNames (Show source) = IsSource source
 HasNames (Proof source) = IsSource source
 HasNames (Ship source code dx width) = IsSource source
-HasNames (Turning check) = Unit {0}
-HasNames Publish = Unit {0}
+HasNames command = Unit {0}

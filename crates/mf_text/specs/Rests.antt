@@ -1,19 +1,13 @@
--- The rests of lines: what may follow in a line, token by token, and the line that it ends as.
+-- The rests of lines: what may follow in a line, token by token, and the line that it ends as. The grammar is one of them.
 use Rattle.std.specs.Prelude.{ℕ, List, [], ◌∷◌, ◌++◌, Bool, true, false, Option, None, Some, Result, Ok, Err, ok_or, if◌then◌else◌}
 use Rattle.std.specs.Option.{option_map, option_and_then}
-use Rattle.mf_text.specs.declared.code.Code.{Code}
-use Rattle.mf_text.specs.declared.command.Name.{Name}
-use Rattle.mf_text.specs.declared.command.Source.{Source}
-use Rattle.mf_text.specs.declared.command.Source.TheVariants.{Null, Named}
-use Rattle.mf_text.specs.declared.int.Int.{Int}
-use Rattle.mf_text.specs.declared.pair.Pair.{Pair}
 use Rattle.mf_text.specs.declared.token.Mark.TheVariants as mark
 use Rattle.mf_text.specs.declared.token.Word.TheVariants as word
-use Rattle.mf_text.specs.Ahead.{Ahead}
-use Rattle.mf_text.specs.Codes.{code_of}
-use Rattle.mf_text.specs.Grammar.{Path, Line}
-use Rattle.mf_text.specs.Ints.{int_of}
-use Rattle.mf_text.specs.Token.{Token, Placed, is_token, name_in, value_in}
+pub use Rattle.mf_text.specs.Ahead.{Ahead}
+unfoldable pub use Rattle.mf_text.specs.Codes.{code_of}
+use Rattle.mf_text.specs.Grammar.{Form, Nothing, AddContour, AddPicture, CullKeeping, CullDropping, Clear, Move, ShowTotal, ShowPicture, ShowProof, ShipOut, SetCheck, PublishAll, Shifted, Scaled, XScaled, YScaled, Rotated, Path, Line, Code, Plus, Minus, Name, Current, Register, Source, Null, Named, Int, Pair}
+unfoldable pub use Rattle.mf_text.specs.Ints.{int_of}
+pub use Rattle.mf_text.specs.Token.{Token, Placed, is_token, name_in, value_in}
 use Rattle.mf_text.specs.Token as token
 
 -- what may follow in a line
@@ -63,6 +57,82 @@ corner next = inner (λ p. One (token.Mark mark.Join) (next p))
 -- a path
 abbrev pub path : (Path → Rest) → Rest
 path next = One (token.Mark mark.Open) (corner (λ first. Corners first [] next))
+
+-- ---- lines
+
+-- after a complete command: `;`, or nothing
+abbrev pub line_end : Form → Rest
+line_end form = Or (token.Mark mark.Semicolon) (Ends (record { form = form; ended = true })) (Ends (record { form = form; ended = false }))
+
+-- a weight, or none
+abbrev pub weight : (Option Int → Rest) → Rest
+weight next = Or (token.Word word.WithWeight) (int (λ n. next (Some n))) (next None)
+
+-- after a command that may have a weight: the weight, if there is one, and the end of the line
+abbrev pub weighable : (Option Int → Form) → Rest
+weighable form = weight (λ n. line_end (form n))
+
+-- a source, and the end of the line
+abbrev pub of_source : (Source → Form) → Rest
+of_source form = source (λ picture. line_end (form picture))
+
+-- an int, and the end of the line
+abbrev pub of_int : (Int → Form) → Rest
+of_int form = int (λ n. line_end (form n))
+
+-- a range, and a weight and the end of the line
+abbrev pub of_range : (Pair → Option Int → Form) → Rest
+of_range form = pair (λ range. weighable (form range))
+
+-- after `addto`
+abbrev pub addto : Rest
+addto =
+    AName (λ name. Or (token.Word word.Contour) (path (λ p. weighable (AddContour name p)))
+    (One (token.Word word.Also) (Or (token.Mark mark.Minus) (of_source (AddPicture name Minus)) (of_source (AddPicture name Plus)))))
+
+-- after `cull`
+abbrev pub cull : Rest
+cull = AName (λ name. Or (token.Word word.Keeping) (of_range (CullKeeping name)) (One (token.Word word.Dropping) (of_range (CullDropping name))))
+
+-- after `show`
+abbrev pub show : Rest
+show = Or (token.Word word.TotalWeight) (of_source ShowTotal) (of_source ShowPicture)
+
+-- after `shipout`
+abbrev pub shipout : Rest
+shipout =
+    source (λ picture. One (token.Word word.Code) (ACode (λ code. One (token.Word word.Dx) (int (λ dx. One (token.Word word.Width)
+    (of_int (ShipOut picture code dx)))))))
+
+-- after `turningcheck`
+abbrev pub turning_check : Rest
+turning_check = One (token.Mark mark.Becomes) (of_int SetCheck)
+
+-- the token of a name
+abbrev pub name_token : Name → Token
+name_token Current = token.Word word.CurrentPicture
+name_token (Register letter) = token.Letter letter
+
+-- after name `:=` name, where `shifted` does not come: another transform
+abbrev pub scale_or_turn : Name → Rest
+scale_or_turn name =
+    Or (token.Word word.Scaled) (of_int (λ n. Move name (Scaled n))) (Or (token.Word word.XScaled) (of_int (λ n. Move name (XScaled n)))
+    (Or (token.Word word.YScaled) (of_int (λ n. Move name (YScaled n))) (One (token.Word word.Rotated) (of_int (λ n. Move name (Rotated n))))))
+
+-- after name `:=` name: a transform
+abbrev pub transform : Name → Rest
+transform name = Or (token.Word word.Shifted) (pair (λ by. line_end (Move name (Shifted by)))) (scale_or_turn name)
+
+-- after the name that a line starts with
+abbrev pub assignment : Name → Rest
+assignment name = One (token.Mark mark.Becomes) (Or (token.Word word.NullPicture) (line_end (Clear name)) (One (name_token name) (transform name)))
+
+-- a complete line
+abbrev pub line : Rest
+line =
+    Or (token.Word word.Addto) addto (Or (token.Word word.Cull) cull (Or (token.Word word.Show) show (Or (token.Word word.Proof) (of_source ShowProof)
+    (Or (token.Word word.Shipout) shipout (Or (token.Word word.TurningCheck) turning_check (Or (token.Word word.Publish) (line_end PublishAll)
+    (OrName assignment (line_end Nothing))))))))
 
 -- ---- a step
 

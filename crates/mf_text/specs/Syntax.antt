@@ -1,21 +1,29 @@
 -- Which lists of tokens are lines, and where others go wrong.
-use Rattle.std.specs.Prelude.{◌≡◌, ◌&&◌, ℕ, Bool, true, false, eqb, List, ◌∷◌, if◌then◌else◌}
+use Rattle.std.specs.Prelude.{◌≡◌, ◌<◌, ◌≤◌, ◌&&◌, ℕ, suc, Bool, true, false, eqb, List, ◌∷◌, ◌++◌, length, take, if◌then◌else◌}
 use Rattle.mf_text.specs.declared.token.Mark.TheVariants as mark
-use Rattle.mf_text.specs.Token.{Token}
 use Rattle.mf_text.specs.Token as token
 use Rattle.mf_text.specs.declared.token.Word.TheVariants as word
 use Rattle.mf_text.specs.Ahead.{Ahead, column_at}
-use Rattle.mf_text.specs.Grammar.{spell_line}
-use Rattle.mf_text.specs.Phrases.{IsPhrase, StartsPhrase, IsWrongAt}
+use Rattle.mf_text.specs.Grammar.{Line, spell_line, Token}
 use Rattle.mf_text.specs.Tokens.{kinds}
 
 -- the tokens are a line of the grammar
-abbrev pub IsLine : List Token → Type 0
-IsLine ts = IsPhrase spell_line ts
+pub record IsLine (ts : List Token) : Type 0 where
+  pub tree : Line
+  pub spelled : ts ≡ spell_line tree
 
 -- some line of the grammar starts with these tokens
-abbrev pub StartsLine : List Token → Type 0
-StartsLine ts = StartsPhrase spell_line ts
+pub record StartsLine (ts : List Token) : Type 0 where
+  pub rest : List Token
+  pub line : IsLine (ts ++ rest)
+
+-- the place, counted from 0, of the first token such that no line starts with the tokens up to and including it; or the end, where
+-- some line starts with the tokens but they are not one
+pub record IsWrongAt (ts : List Token) (k : ℕ) : Type 0 where
+  pub within : k ≤ length ts
+  pub starts : StartsLine (take k ts)
+  pub wrong : k < length ts → StartsLine (take (suc k) ts) → ⊥
+  pub unended : k ≡ length ts → IsLine ts → ⊥
 
 -- the tokens start with `-` and a number
 abbrev pub is_negative_int : List Token → Bool
@@ -34,5 +42,5 @@ report_place ts k = if is_negative_code ts && eqb k 4 then 3 else k
 -- the tokens ahead are not a line, which is reported at this column
 pub record IsSyntaxFault (ahead : Ahead) (column : ℕ) : Type 0 where
   pub place : ℕ
-  pub at : IsWrongAt spell_line (kinds ahead.tokens) place
+  pub at : IsWrongAt (kinds ahead.tokens) place
   pub column_is : column ≡ column_at ahead (report_place (kinds ahead.tokens) place)

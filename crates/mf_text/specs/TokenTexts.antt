@@ -2,11 +2,8 @@
 use Rattle.std.specs.Prelude.{◌≡◌, ◌<◌, ◌+◌, ℕ, Bool, true, false, List, [], ◌∷◌, ◌++◌, length, nat_eq}
 use Rattle.std.specs.Char.{is_ascii_alphabetic, is_ascii_digit}
 use Rattle.std.specs.List.{All, starts_with}
-use Rattle.mf_text.specs.declared.token.Mark.{Mark}
-use Rattle.mf_text.specs.Bytes.{is_blank}
-use Rattle.mf_text.specs.Token.{Placed, Token}
 use Rattle.mf_text.specs.Token as token
-use Rattle.mf_text.specs.Tokens.{first_is, is_longer, mark_text, number_token, word_token}
+use Rattle.mf_text.specs.Tokens.{first_is, is_longer, mark_text, number_token, word_token, Mark, is_blank, Placed, Token}
 
 -- the text is a longest row of bytes of one kind: it has at least one, and the rest does not start with another
 pub record IsRow (p : ℕ → Bool) (text rest : List ℕ) : Type 0 where

@@ -5,14 +5,14 @@ use Rattle.std.specs.Char.{is_ascii_alphabetic, is_ascii_digit}
 use Rattle.std.specs.List.{starts_with}
 use Rattle.std.specs.Str.{bytes_eq}
 use Rattle.std.specs.Str.Parse.{digits_value}
-use Rattle.mf_text.specs.declared.token.Mark.{Mark}
+pub use Rattle.mf_text.specs.declared.token.Mark.{Mark}
 use Rattle.mf_text.specs.declared.token.Mark.TheVariants as mark
 use Rattle.mf_text.specs.declared.token.TheConstants.{MARKS, WORDS}
-use Rattle.mf_text.specs.declared.token.Word.{Word}
+pub use Rattle.mf_text.specs.declared.token.Word.{Word}
 use Rattle.mf_text.specs.contracts.token.MarkPartialEq.TheImpl as same_mark
 use Rattle.mf_text.specs.contracts.token.WordPartialEq.TheImpl as same_word
-use Rattle.mf_text.specs.Bytes.{is_blank}
-use Rattle.mf_text.specs.Token.{Token, Placed, is_token}
+pub use Rattle.mf_text.specs.Bytes.{is_blank}
+pub use Rattle.mf_text.specs.Token.{Token, Placed, is_token}
 use Rattle.mf_text.specs.Token as token
 
 -- the words, each after the bytes that it is written with

@@ -2,9 +2,9 @@
 ghost use Rattle.std.specs.Prelude.{◌≡◌, IfOk, IfErr};
 ghost use Rattle.std.specs.List.{list_all};
 ghost use Rattle.mf_text.specs.Bytes.{is_text_byte};
-ghost use Rattle.mf_text.specs.LineRests as rests;
+ghost use Rattle.mf_text.specs.Rests as rests;
 ghost use Rattle.mf_text.specs.Lines.{Gives, IsRefused};
-ghost use Rattle.mf_text.specs.Grammar.{Nothing, Rotated, Scaled, XScaled, YScaled};
+ghost use Rattle.mf_text.specs.Grammar.{Nothing, AddContour, AddPicture, CullKeeping, CullDropping, Clear, Move, ShowTotal, ShowProof, PublishAll, Rotated, Scaled, Shifted, XScaled, YScaled};
 ghost use Rattle.mf_text.specs.Reads.{Answers, ahead};
 ghost use Rattle.mf_text.specs.Rests.{from};
 
@@ -120,7 +120,7 @@ fn addto(alloc: Global, tokens: &mut Tokens<'_>) -> Result<Command, TextFault>
 
 /// The line after `addto`, a name and `contour`.
 fn add_contour(alloc: Global, tokens: &mut Tokens<'_>, name: Name) -> Result<Command, TextFault>
-    ensures { Answers (from (rests.contour name) (ahead tokens.old)) result }
+    ensures { Answers (from (rests.path (λ p. rests.weighable (AddContour name p))) (ahead tokens.old)) result }
 {
     let path = tokens.path(alloc)?;
     let weight = tokens.weight()?;
@@ -131,7 +131,7 @@ fn add_contour(alloc: Global, tokens: &mut Tokens<'_>, name: Name) -> Result<Com
 /// The line after `addto`, a name, `also`, and `-` where it comes.
 #[inline(always)]
 fn also(tokens: &mut Tokens<'_>, name: Name, sign: Sign) -> Result<Command, TextFault>
-    ensures { Answers (from (rests.also name sign) (ahead tokens.old)) result }
+    ensures { Answers (from (rests.of_source (AddPicture name sign)) (ahead tokens.old)) result }
 {
     let source = tokens.source()?;
     tokens.end()?;
@@ -152,7 +152,7 @@ fn cull(tokens: &mut Tokens<'_>) -> Result<Command, TextFault>
 
 /// The line after `cull`, a name and `keeping`.
 fn keep(tokens: &mut Tokens<'_>, name: Name) -> Result<Command, TextFault>
-    ensures { Answers (from (rests.keep name) (ahead tokens.old)) result }
+    ensures { Answers (from (rests.of_range (CullKeeping name)) (ahead tokens.old)) result }
 {
     let range = tokens.pair()?;
     let weight = tokens.weight()?;
@@ -162,7 +162,7 @@ fn keep(tokens: &mut Tokens<'_>, name: Name) -> Result<Command, TextFault>
 
 /// The line after `cull`, a name and `dropping`.
 fn drop_range(tokens: &mut Tokens<'_>, name: Name) -> Result<Command, TextFault>
-    ensures { Answers (from (rests.drop name) (ahead tokens.old)) result }
+    ensures { Answers (from (rests.of_range (CullDropping name)) (ahead tokens.old)) result }
 {
     let range = tokens.pair()?;
     let weight = tokens.weight()?;
@@ -184,7 +184,7 @@ fn show(tokens: &mut Tokens<'_>) -> Result<Command, TextFault>
 
 /// The line after `show totalweight`.
 fn total(tokens: &mut Tokens<'_>) -> Result<Command, TextFault>
-    ensures { Answers (from rests.total (ahead tokens.old)) result }
+    ensures { Answers (from (rests.of_source ShowTotal) (ahead tokens.old)) result }
 {
     let source = tokens.source()?;
     tokens.end()?;
@@ -193,7 +193,7 @@ fn total(tokens: &mut Tokens<'_>) -> Result<Command, TextFault>
 
 /// The line after `proof`.
 fn proof(tokens: &mut Tokens<'_>) -> Result<Command, TextFault>
-    ensures { Answers (from rests.proof (ahead tokens.old)) result }
+    ensures { Answers (from (rests.of_source ShowProof) (ahead tokens.old)) result }
 {
     let source = tokens.source()?;
     tokens.end()?;
@@ -227,7 +227,7 @@ fn turning_check(tokens: &mut Tokens<'_>) -> Result<Command, TextFault>
 
 /// The line after `publish`.
 fn publish(tokens: &mut Tokens<'_>) -> Result<Command, TextFault>
-    ensures { Answers (from rests.publish (ahead tokens.old)) result }
+    ensures { Answers (from (rests.line_end PublishAll) (ahead tokens.old)) result }
 {
     tokens.end()?;
     Ok(Command::Publish)
@@ -247,7 +247,7 @@ fn assignment(tokens: &mut Tokens<'_>, name: Name) -> Result<Command, TextFault>
 
 /// The line after a name and `:= nullpicture`.
 fn clear(tokens: &mut Tokens<'_>, name: Name) -> Result<Command, TextFault>
-    ensures { Answers (from (rests.clear name) (ahead tokens.old)) result }
+    ensures { Answers (from (rests.line_end (Clear name)) (ahead tokens.old)) result }
 {
     tokens.end()?;
     Ok(Command::Clear(name))
@@ -283,7 +283,7 @@ fn scale_or_turn(tokens: &mut Tokens<'_>, name: Name) -> Result<Command, TextFau
 
 /// The line after a name, `:=`, the same name and `scaled`.
 fn scale_both(tokens: &mut Tokens<'_>, name: Name) -> Result<Command, TextFault>
-    ensures { Answers (from (rests.by_number name Scaled) (ahead tokens.old)) result }
+    ensures { Answers (from (rests.of_int (λ n. Move name (Scaled n))) (ahead tokens.old)) result }
 {
     let factor = tokens.int()?;
     tokens.end()?;
@@ -292,7 +292,7 @@ fn scale_both(tokens: &mut Tokens<'_>, name: Name) -> Result<Command, TextFault>
 
 /// The line after a name, `:=`, the same name and `xscaled`.
 fn scale_columns(tokens: &mut Tokens<'_>, name: Name) -> Result<Command, TextFault>
-    ensures { Answers (from (rests.by_number name XScaled) (ahead tokens.old)) result }
+    ensures { Answers (from (rests.of_int (λ n. Move name (XScaled n))) (ahead tokens.old)) result }
 {
     let factor = tokens.int()?;
     tokens.end()?;
@@ -301,7 +301,7 @@ fn scale_columns(tokens: &mut Tokens<'_>, name: Name) -> Result<Command, TextFau
 
 /// The line after a name, `:=`, the same name and `yscaled`.
 fn scale_rows(tokens: &mut Tokens<'_>, name: Name) -> Result<Command, TextFault>
-    ensures { Answers (from (rests.by_number name YScaled) (ahead tokens.old)) result }
+    ensures { Answers (from (rests.of_int (λ n. Move name (YScaled n))) (ahead tokens.old)) result }
 {
     let factor = tokens.int()?;
     tokens.end()?;
@@ -310,7 +310,7 @@ fn scale_rows(tokens: &mut Tokens<'_>, name: Name) -> Result<Command, TextFault>
 
 /// The line after a name, `:=`, the same name and `rotated`.
 fn turn(tokens: &mut Tokens<'_>, name: Name) -> Result<Command, TextFault>
-    ensures { Answers (from (rests.by_number name Rotated) (ahead tokens.old)) result }
+    ensures { Answers (from (rests.of_int (λ n. Move name (Rotated n))) (ahead tokens.old)) result }
 {
     let angle = tokens.int()?;
     tokens.end()?;
@@ -319,7 +319,7 @@ fn turn(tokens: &mut Tokens<'_>, name: Name) -> Result<Command, TextFault>
 
 /// The line after a name, `:=`, the same name and `shifted`.
 fn shift(tokens: &mut Tokens<'_>, name: Name) -> Result<Command, TextFault>
-    ensures { Answers (from (rests.shift name) (ahead tokens.old)) result }
+    ensures { Answers (from (rests.pair (λ by. rests.line_end (Move name (Shifted by)))) (ahead tokens.old)) result }
 {
     let by = tokens.pair()?.value();
     tokens.end()?;

@@ -2,8 +2,7 @@
 //! wrong.
 ghost use Rattle.std.specs.Prelude.{◌≡◌, Ok, IfOk};
 ghost use Rattle.mf_text.specs.Grammar.{Line};
-ghost use Rattle.mf_text.specs.LineRests as lines;
-ghost use Rattle.mf_text.specs.Reads.{Closes, IsWithin, Passes, PassesPath, TakesValue, ahead, remaining_tokens, then_end, then_from, then_name, then_rest};
+ghost use Rattle.mf_text.specs.Reads.{Closes, IsWithin, Passes, PassesPath, TakesValue, ahead, remaining_tokens, then_end, then_from, then_name};
 ghost use Rattle.mf_text.specs.Rests as rests;
 ghost use Rattle.mf_text.specs.Rests.{CodeNumber, Ends, Rest, follow, from};
 ghost use Rattle.mf_text.specs.Token as token;
@@ -22,7 +21,7 @@ use std::alloc::Global;
 impl Tokens<'_> {
     /// Passes this word, which must come next.
     pub fn pass_word(&mut self, word: Word) -> Result<(), SyntaxFault>
-        ensures { (this : Rest) → from (rests.One (token.Word word) this) (ahead self.old) ≡ then_rest this (ahead self.new) result }
+        ensures { (this : Rest) → from (rests.One (token.Word word) this) (ahead self.old) ≡ then_from (λ _. this) (ahead self.new) result }
     {
         if self.takes_word(word) {
             return Ok(());
@@ -33,7 +32,7 @@ impl Tokens<'_> {
     /// Passes this mark, which must come next.
     #[inline(always)]
     pub fn pass_mark(&mut self, mark: Mark) -> Result<(), SyntaxFault>
-        ensures read { (this : Rest) → from (rests.One (token.Mark mark) this) (ahead self.old) ≡ then_rest this (ahead self.new) result }
+        ensures read { (this : Rest) → from (rests.One (token.Mark mark) this) (ahead self.old) ≡ then_from (λ _. this) (ahead self.new) result }
         ensures within { IfOk result (λ _. IsWithin self.new self.old) }
     {
         if self.takes_mark(mark) {
@@ -68,7 +67,7 @@ impl Tokens<'_> {
 
     /// Passes this name, which must come next.
     pub fn pass_name(&mut self, name: Name) -> Result<(), SyntaxFault>
-        ensures { (this : Rest) → from (rests.One (lines.name_token name) this) (ahead self.old) ≡ then_rest this (ahead self.new) result }
+        ensures { (this : Rest) → from (rests.One (rests.name_token name) this) (ahead self.old) ≡ then_from (λ _. this) (ahead self.new) result }
     {
         let mut after = *self;
         if after.takes_name() == Some(name) {
@@ -216,7 +215,7 @@ impl Tokens<'_> {
 
     /// Passes a weight, `withweight` and an int, if `withweight` comes next.
     pub fn weight(&mut self) -> Result<Option<Int>, SyntaxFault>
-        ensures { Passes lines.weight self.old self.new result }
+        ensures { Passes rests.weight self.old self.new result }
     {
         if self.takes_word(Word::WithWeight) {
             return Ok(Some(self.int()?));

@@ -1,5 +1,5 @@
 use Rattle.std.proofs.Common.{◌∙◌, ◌≡◌, Err, Some, ap, sym, subst, rules}
-use Rattle.mf_text.specs.LineRests.{name_token}
+use Rattle.mf_text.specs.Rests.{name_token}
 use Rattle.mf_text.specs.Reads.{TakesValue, ahead, remaining_tokens}
 use Rattle.mf_text.specs.Token.{name_in}
 use Rattle.mf_text.proofs.Reading.{name_missed, name_passed, not_here}
