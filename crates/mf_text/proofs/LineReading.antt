@@ -152,13 +152,11 @@ negative_shows : (ts us : List Token) (l : Line) → is_negative_code ts ≡ tru
 negative_shows (token.Word word.Shipout ∷ s ∷ token.Word word.Code ∷ token.Mark mark.Minus ∷ token.Number n ∷ ts) us l is read = shipped s n ts us l read
 negative_shows ts us l is read = absurd (false≢true is)
 
-column_before : (ps : List Placed) (last past : ℕ) → 4 ≤ length ps
-    → last_column last ps 4 ≡ column_of (ahead_after 3 ps past).tokens (ahead_after 3 ps past).past
-column_before (a ∷ b ∷ c ∷ d ∷ ps) last past long = refl
-column_before [] last past long = absurd (omega (arith, long))
-column_before (a ∷ []) last past long = absurd (omega (arith, long))
-column_before (a ∷ b ∷ []) last past long = absurd (omega (arith, long))
-column_before (a ∷ b ∷ c ∷ []) last past long = absurd (omega (arith, long))
+last_before : (ps : List Placed) (k last past : ℕ) → k < length ps
+    → last_column last ps (suc k) ≡ column_of (ahead_after k ps past).tokens (ahead_after k ps past).past
+last_before [] k last past within = absurd (omega (arith, within))
+last_before (p ∷ ps) zero last past within = refl
+last_before (p ∷ ps) (suc k) last past within = last_before ps k p.column p.after (omega (arith, within))
 
 report_place-three : (ts : List Token) (k : ℕ) → is_negative_code ts ≡ true → k ≡ 4 → report_place ts k ≡ 3
 report_place-three ts k negative fourth = rw (negative, fourth) refl
@@ -187,7 +185,7 @@ module _ (ahead : Ahead) (column : ℕ) (found : Stops (Before line) ahead.past 
       let coded = coded ts [] (Before line) found.place spells_line shows in
       let fourth : found.place ≡ 4 = omega (arith, coded.1) in
       let long : 4 ≤ length ahead.tokens = omega (arith, fourth, found.at.within, length-map ahead.tokens (λ (p : Placed). p.token)) in
-      found.column_is ∙ ap chosen shows ∙ ap (last_column ahead.past ahead.tokens) fourth ∙ column_before ahead.tokens ahead.past ahead.past long
+      found.column_is ∙ ap chosen shows ∙ ap (last_column ahead.past ahead.tokens) fourth ∙ last_before ahead.tokens 3 ahead.past ahead.past (omega (arith, long))
       ∙ ap (column_at ahead) (sym (report_place-three ts found.place coded.0 fourth))
 
   shows_there : is_shown ≡ false → (bad : Bool) → (is_negative_code ts && eqb found.place 4) ≡ bad → column ≡ column_at ahead (report_place ts found.place)

@@ -15,11 +15,11 @@ use Rattle.mf_text.proofs.TokenTexts.{are_tokens}
 -- ---- every letter of a line is one of 26
 
 -- what is true of each token of a line: the number of a letter is below 26
-IsLetter : Token → Type 0
+abbrev IsLetter : Token → Type 0
 IsLetter (token.Letter n) = n < 26
 IsLetter _ = Unit {0}
 
-AreLetters : List Token → Type 0
+abbrev AreLetters : List Token → Type 0
 AreLetters ts = AllByRecursion IsLetter ts
 
 small_number : (text : List ℕ) → is_letter text ≡ true → letter_number text < 26
@@ -28,46 +28,37 @@ small_number (b ∷ []) is = let bounds = and_parts (leb 97 b) (leb b 122) is in
 small_number (b ∷ c ∷ bs) is = absurd (false≢true is)
 
 word_letter : (text : List ℕ) → IsLetter (word_token text)
-unfolding IsLetter word_token
+unfolding word_token
 word_letter text = cond_both (is_letter text) _ _ IsLetter (small_number text) (λ _. known (word_among words text)) where
   known : (o : Option Word) → IsLetter (known_word o)
   known None = tt
   known (Some w) = tt
 
 number_letter : (text : List ℕ) → IsLetter (number_token text)
-unfolding IsLetter number_token
+unfolding number_token
 number_letter text = cond_both (leb (length text) 9) (token.Number (digits_value 10 text)) token.Unknown IsLetter (λ _. tt) (λ _. tt)
 
 token_letter : (t : Token) (text rest : List ℕ) → IsTokenText t text rest → IsLetter t
-unfolding IsLetter
 token_letter t text rest (Letters row is) = subst IsLetter (sym is) (word_letter text)
 token_letter t text rest (Digits row is) = subst IsLetter (sym is) (number_letter text)
 token_letter t text rest (AMark m written is) = subst IsLetter (sym is) tt
 token_letter t text rest (OtherByte other is) = subst IsLetter (sym is) tt
 
 all_letters : (column : ℕ) (bytes : List ℕ) (ps : List Placed) → AreTokens column bytes ps → AreLetters (kinds ps)
-unfolding AreLetters
 all_letters column bytes [] cut = tt
-all_letters column bytes (p ∷ ps) (blanks, (text, (others, (cut, later)))) = (token_letter p.token text others cut.token, all_letters p.after others ps later)
+all_letters column bytes (p ∷ ps) (cut, later) = (token_letter p.token cut.text cut.rest cut.token, all_letters p.after cut.rest ps later)
 
 -- ---- the names of a form whose letters have numbers below 26
 
 of_first : (ts us : List Token) → AreLetters (ts ++ us) → AreLetters ts
-unfolding AreLetters
 of_first [] us all = tt
 of_first (t ∷ ts) us all = (all.0, of_first ts us all.1)
 
 of_second : (ts us : List Token) → AreLetters (ts ++ us) → AreLetters us
-unfolding AreLetters
 of_second [] us all = all
 of_second (t ∷ ts) us all = of_second ts us all.1
 
-rest : (t : Token) (ts : List Token) → AreLetters (t ∷ ts) → AreLetters ts
-unfolding AreLetters
-rest t ts all = all.1
-
 name_is : (name : Name) → AreLetters (spell_name name) → IsName name
-unfolding AreLetters IsLetter
 name_is Current all = tt
 name_is (Register letter) all = all.0
 
@@ -81,39 +72,36 @@ source_is (Named name) all = name_is name all
 
 signed_is : (sign : Sign) (source : Source) → AreLetters (spell_signed sign source) → IsSource source
 signed_is Plus source all = source_is source all
-signed_is Minus source all = source_is source (rest _ _ all)
+signed_is Minus source all = source_is source all.1
 
 -- the registers that the command of a meaning names are letters
-AreNamed : Meaning → Type 0
+abbrev AreNamed : Meaning → Type 0
 AreNamed (Is made) = HasNames made
 AreNamed (If value rest) = AreNamed rest
 AreNamed (Turns name angle) = IsName name
 
 names_meant : (m : Meaning) (given : Command) → AreNamed m → Means m given → HasNames given
-unfolding AreNamed
 names_meant (Is made) given all p = rw p all
 names_meant (If value rest) given all p = names_meant rest given all p.1
 names_meant (Turns name angle) given all p = rw p.is all
 
 move_names : (name : Name) (transform : Transform) → IsName name → AreNamed (transform_meaning name transform)
-unfolding AreNamed
 move_names name (Shifted by) letter = letter
 move_names name other letter = letter
 
 form_names : (form : Form) → AreLetters (spell_form form) → AreNamed (meaning form)
-unfolding AreNamed
 form_names Nothing all = tt
-form_names (AddContour name path weight) all = first_name name _ _ (of_first _ _ (rest _ _ all))
-form_names (AddPicture name sign source) all = let called = rest _ _ all in (first_name name _ _ called, signed_is sign source (of_second _ _ called))
-form_names (CullKeeping name range weight) all = first_name name _ _ (of_first _ _ (rest _ _ all))
-form_names (CullDropping name range weight) all = first_name name _ _ (of_first _ _ (rest _ _ all))
+form_names (AddContour name path weight) all = first_name name _ _ (of_first _ _ all.1)
+form_names (AddPicture name sign source) all = let called = all.1 in (first_name name _ _ called, signed_is sign source (of_second _ _ called))
+form_names (CullKeeping name range weight) all = first_name name _ _ (of_first _ _ all.1)
+form_names (CullDropping name range weight) all = first_name name _ _ (of_first _ _ all.1)
 form_names (Clear name) all = first_name name _ _ all
 form_names (Move name transform) all = move_names name transform (first_name name _ _ (of_first _ _ all))
-form_names (ShowTotal source) all = source_is source (rest _ _ (rest _ _ all))
-form_names (ShowPicture source) all = source_is source (rest _ _ all)
-form_names (ShowProof source) all = source_is source (rest _ _ all)
+form_names (ShowTotal source) all = source_is source all.1.1
+form_names (ShowPicture source) all = source_is source all.1
+form_names (ShowProof source) all = source_is source all.1
 form_names (ShipOut source code dx width) all =
-    source_is source (of_first _ _ (of_first _ _ (of_first _ _ (of_first _ _ (of_first _ _ (of_first _ _ (rest _ _ all)))))))
+    source_is source (of_first _ _ (of_first _ _ (of_first _ _ (of_first _ _ (of_first _ _ (of_first _ _ all.1))))))
 form_names (SetCheck n) all = tt
 form_names PublishAll all = tt
 

@@ -88,24 +88,18 @@ more-blank column b bs [] blank end = record {
   blank = All-cons blank_byte b end.blanks blank end.blank;
   end = end.end;
 }
-more-blank column b bs (p ∷ ps) blank (blanks, (text, (rest, (cut, later)))) = (
-  b ∷ blanks,
-  (
-    text,
-    (
-      rest,
-      (
-        record {
-          parts = ap (λ cs. b ∷ cs) cut.parts;
-          blank = All-cons blank_byte b blanks blank cut.blank;
-          column_is = omega (arith, cut.column_is);
-          after_is = cut.after_is;
-          token = cut.token;
-        },
-        later,
-      ),
-    ),
-  ),
+more-blank column b bs (p ∷ ps) blank (cut, later) = (
+  record {
+    blanks = b ∷ cut.blanks;
+    text = cut.text;
+    rest = cut.rest;
+    parts = ap (λ cs. b ∷ cs) cut.parts;
+    blank = All-cons blank_byte b cut.blanks blank cut.blank;
+    column_is = omega (arith, cut.column_is);
+    after_is = cut.after_is;
+    token = cut.token;
+  },
+  later,
 )
 
 no_more : (column : ℕ) (rest : List ℕ) → IsEnd rest → AreTokens column rest []
@@ -118,23 +112,17 @@ one-token column b bs ps later =
     let first = first_token (b ∷ bs) in
     let xs : List ℕ = b ∷ bs in
     let takes = first_taken b bs in (
-      [],
-      (
-        take first.bytes xs,
-        (
-          drop first.bytes xs,
-          (
-            record {
-              parts = sym (take-append-drop first.bytes xs);
-              blank = All-nil blank_byte;
-              column_is = omega arith;
-              after_is = ap (λ n. column + n) (sym (length-take-le first.bytes xs takes.within));
-              token = first-text b bs;
-            },
-            later,
-          ),
-        ),
-      ),
+      record {
+        blanks = [];
+        text = take first.bytes xs;
+        rest = drop first.bytes xs;
+        parts = sym (take-append-drop first.bytes xs);
+        blank = All-nil blank_byte;
+        column_is = omega arith;
+        after_is = ap (λ n. column + n) (sym (length-take-le first.bytes xs takes.within));
+        token = first-text b bs;
+      },
+      later,
     )
 
 cut-within : (n column : ℕ) (bs : List ℕ) → length bs ≤ n → AreTokens column bs (tokens_within n column bs)
