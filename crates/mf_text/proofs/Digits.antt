@@ -1,5 +1,5 @@
 -- Rows of at most nine digits, and their numbers.
-use Rattle.std.proofs.Common.{◌≡◌, ◌≢◌, inl, inr, ℕ, suc, ◌+◌, ◌-◌, ◌*◌, ◌^◌, ◌<◌, ◌≤◌, Bool, true, false, cond, nat_lt, if◌then◌else◌, None, Some, List, [], ◌∷◌, length, get_or, take, refl, ap, sym, subst, ◌∙◌, arith}
+use Rattle.std.proofs.Common.{◌≡◌, ◌≢◌, inl, inr, ℕ, ◌+◌, ◌-◌, ◌*◌, ◌^◌, ◌<◌, ◌≤◌, true, false, nat_lt, if◌then◌else◌, None, Some, List, [], ◌∷◌, length, get_or, take, refl, ap, sym, subst, ◌∙◌, arith}
 use Rattle.std.specs.Char.{digit_value, is_ascii_digit}
 use Rattle.std.specs.List.{prefix_len, take_while}
 use Rattle.std.specs.Str.Parse.{AllDigits, digits_value}
@@ -19,18 +19,6 @@ use Rattle.mf_text.proofs.Words.{digits_first, digits_lacking}
 
 digit_below_ten : (c : ℕ) → is_ascii_digit c ≡ true → digit_value c < 10
 digit_below_ten c e = grind (arith, nat_tests)
-
-row_from : (b : ℕ) (bs : List ℕ) (is_digit : Bool) → is_ascii_digit b ≡ is_digit
-    → AllDigits 10 (take (prefix_len is_ascii_digit bs) bs) → AllDigits 10 (take (cond is_digit (1 + prefix_len is_ascii_digit bs) 0) (b ∷ bs))
-row_from b bs true e others =
-    let longer : 1 + prefix_len is_ascii_digit bs ≡ suc (prefix_len is_ascii_digit bs) = omega arith in
-    rw longer (digit_below_ten b e, others)
-row_from b bs false e others = tt
-
--- the row of digits at the front has digits only
-pub digits_of_row : (bs : List ℕ) → AllDigits 10 (take (prefix_len is_ascii_digit bs) bs)
-digits_of_row [] = tt
-digits_of_row (b ∷ bs) = row_from b bs (is_ascii_digit b) refl (digits_of_row bs)
 
 pub short_value : (ds : List ℕ) → AllDigits 10 ds → length ds ≤ 9 → digits_value 10 ds < 10 ^ 9
 short_value ds all short = digits_value_short (numerals_by_value (AllDigits 10) tells_digits) ds 9 all short

@@ -2,7 +2,6 @@ pub mod Digits
 pub mod FirstTokens
 pub mod LineAnswers
 pub mod LineReading
-pub mod LineRests
 pub mod LineTokens
 pub mod Marks
 pub mod OneAnswer

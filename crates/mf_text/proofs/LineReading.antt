@@ -11,8 +11,7 @@ use Rattle.mf_text.specs.Grammar.{Line, spell_line}
 use Rattle.mf_text.specs.Rests.{Place, Before, CodeNumber, ends, follow, from, report_column, step, line, Placed, Token}
 use Rattle.mf_text.specs.Syntax.{StartsLine, IsSyntaxFault, IsWrongAt, is_negative_code, report_place}
 use Rattle.mf_text.specs.Tokens.{kinds}
-use Rattle.mf_text.proofs.LineRests.{line_read}
-use Rattle.mf_text.proofs.Rests.{is_code_number, is_code_number_at, place_ends, reads}
+use Rattle.mf_text.proofs.Rests.{is_code_number, is_code_number_at, line_read, place_ends, reads}
 use Rattle.mf_text.proofs.Sound.{coded, spelled, spells_line}
 
 -- ---- lines are what is read

@@ -33,12 +33,12 @@ all_written = refl
 is_mark : (m : Mark) (bs : List ℕ) → is_token (first_token bs).token (token.Mark m) ≡ true → starts_with eqb bs (mark_text m) ≡ true
 unfolding first_token
 is_mark m bs =
-    let f : Token → Bool = λ t. is_token t (token.Mark m) in
-    let P : Taken → Type 0 = λ t. f t.token ≡ true → starts_with eqb bs (mark_text m) ≡ true in
+    let f : Token → Type 0 = λ t. is_token t (token.Mark m) ≡ false in
+    let P : Taken → Type 0 = λ t. is_token t.token (token.Mark m) ≡ true → starts_with eqb bs (mark_text m) ≡ true in
     cond_both (ltb 0 (length (take (prefix_len is_ascii_alphabetic bs) bs))) _ _ P
-    (λ _ is. absurd (false≢true (sym (of_letters f false refl (λ w. refl) (λ n. refl) _) ∙ is)))
+    (λ _ is. absurd (false≢true (sym (of_letters f refl (λ w. refl) _ (λ _. refl)) ∙ is)))
     (λ _. cond_both (ltb 0 (length (take (prefix_len is_ascii_digit bs) bs))) _ _ P
-    (λ _ is. absurd (false≢true (sym (of_numbers f false refl (λ n. refl) _) ∙ is)))
+    (λ _ is. absurd (false≢true (sym (of_numbers f refl (λ n. refl) _) ∙ is)))
     (λ _ is. are_written marks m bs all_written is))
 
 lacking : (m : Mark) (bs : List ℕ) → starts_with eqb bs (mark_text m) ≡ false → is_token (first_token bs).token (token.Mark m) ≡ false

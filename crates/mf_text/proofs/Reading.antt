@@ -132,33 +132,25 @@ module _ (u : Token) (this other : Rest) (past : ℕ) where
   not_chosen (p ∷ ps) differs =
       ap (λ (b : Bool). follow (ok_or (if b then Some (Before this) else step_from other p.token) p.column) p.column p.after ps) differs
 
+  pub here : (ps : List Placed) (after : Ahead) → is_next u ps ≡ true → after_first ps ≡ Some after
+      → from (One u this) (record { tokens = ps; past = past }) ≡ from this after
+  unfolding follow
+  here [] after none is = absurd (false≢true none)
+  here (p ∷ ps) after same is =
+      ap (λ (b : Bool). follow (ok_or (if b then Some (Before this) else None) p.column) p.column p.after ps) same
+      ∙ from_any this p.column p.after ps ∙ ap (from this) (same_Some (record { tokens = ps; past = p.after }) after is)
+
   pub not_here : (ps : List Placed) → is_next u ps ≡ false → from (One u this) (record { tokens = ps; past = past }) ≡ Err (column_of ps past)
   unfolding follow
   not_here [] differs = refl
   not_here (p ∷ ps) differs = ap (λ (b : Bool). follow (ok_or (if b then Some (Before this) else None) p.column) p.column p.after ps) differs
-
--- a token that must come is one that may come
-or_again : (u : Token) (this : Rest) (t : Token) → step_from (One u this) t ≡ step_from (Or u this (One u this)) t
-or_again u this t = again (is_token t u) refl where
-  again : (same : Bool) → is_token t u ≡ same
-      → (if same then Some (Before this) else None) ≡ (if same then Some (Before this) else (if is_token t u then Some (Before this) else None))
-  again true is = refl
-  again false is = rw is refl
-
-pub one_or : (u : Token) (this : Rest) (past : ℕ) (ps : List Placed)
-    → from (One u this) (record { tokens = ps; past = past }) ≡ from (Or u this (One u this)) (record { tokens = ps; past = past })
-unfolding follow
-one_or u this past [] = refl
-one_or u this past (p ∷ ps) = ap (λ s. follow (ok_or s p.column) p.column p.after ps) (or_again u this p.token)
 
 -- a token that must come was passed, or is not next
 module _ (u : Token) (old new : Tokens) (passes : Bool)
     (read : (this other : Rest) → from (Or u this other) (ahead old) ≡ (if passes then from this (ahead new) else from other (ahead new)))
     (took : TakesToken u old new passes) (this : Rest) where
   pub passed : passes ≡ true → from (One u this) (ahead old) ≡ from this (ahead new)
-  passed is =
-      one_or u this old.column (remaining_tokens old) ∙ read this (One u this)
-      ∙ ap (λ (b : Bool). if b then from this (ahead new) else from (One u this) (ahead new)) is
+  passed is = here u this this old.column (remaining_tokens old) (ahead new) (sym took.next ∙ is) (took.after_is is)
 
   pub missed : passes ≡ false → (fault : SyntaxFault) → fault.column ≡ column_of (remaining_tokens new) new.column
       → from (One u this) (ahead old) ≡ Err fault.column
@@ -232,10 +224,9 @@ name_of (Register n) = refl
 pub name_passed : (name : Name) (this : Rest) (past : ℕ) (ps : List Placed) (after : Ahead) → next_value name_in ps ≡ Some (name, after)
     → from (One (name_token name) this) (record { tokens = ps; past = past }) ≡ from this after
 name_passed name this past ps after is =
-    one_or (name_token name) this past ps
-    ∙ at_first name_in name (λ qs on. from (Or (name_token name) this (One (name_token name) this)) (record { tokens = qs; past = past }) ≡ from this on)
-    (λ p qs value. chosen (name_token name) this (One (name_token name) this) past p qs
-    (ap (λ u. is_token u (name_token name)) (name_is p.token name value) ∙ same_token (name_token name))) ps after is
+    at_first name_in name (λ qs on. from (One (name_token name) this) (record { tokens = qs; past = past }) ≡ from this on) (λ p qs value.
+    here (name_token name) this this past (p ∷ qs) (record { tokens = qs; past = p.after })
+    (ap (λ u. is_token u (name_token name)) (name_is p.token name value) ∙ same_token (name_token name)) refl) ps after is
 
 -- a name that is not taken as this name is not next
 pub name_missed : (name : Name) (old after : Tokens) (r : Option Name) → TakesValue name_in old after r

@@ -1,16 +1,16 @@
 -- The registers that a line names are letters.
-use Rattle.std.proofs.Common.{◌≡◌, ℕ, ◌<◌, true, leb, List, [], ◌∷◌, ◌++◌, Option, None, Some, length, subst, sym, arith}
+use Rattle.std.proofs.Common.{◌≡◌, ℕ, ◌<◌, true, leb, List, [], ◌∷◌, ◌++◌, subst, sym, arith}
 use Rattle.std.specs.List.{AllByRecursion}
-use Rattle.std.specs.Str.Parse.{digits_value}
-use Rattle.std.proofs.lemmas.Bool.{and_parts, cond_both, false≢true, leb-true}
+use Rattle.std.proofs.lemmas.Bool.{and_parts, false≢true, leb-true}
 use Rattle.mf_text.specs.Token as token
-use Rattle.mf_text.specs.Grammar.{Form, Nothing, AddContour, AddPicture, CullKeeping, CullDropping, Clear, Move, ShowTotal, ShowPicture, ShowProof, ShipOut, SetCheck, PublishAll, Transform, Shifted, spell_name, spell_source, spell_signed, spell_form, spell_end, Sign, Plus, Minus, Name, Current, Register, Source, Null, Named, Word}
+use Rattle.mf_text.specs.Grammar.{Form, Nothing, AddContour, AddPicture, CullKeeping, CullDropping, Clear, Move, ShowTotal, ShowPicture, ShowProof, ShipOut, SetCheck, PublishAll, Transform, Shifted, spell_name, spell_source, spell_signed, spell_form, spell_end, Sign, Plus, Minus, Name, Current, Register, Source, Null, Named}
 use Rattle.mf_text.specs.Lines.{Gives}
 use Rattle.mf_text.specs.Meaning.{Meaning, Is, If, Turns, Means, meaning, transform_meaning, Command}
 use Rattle.mf_text.specs.Registers.{IsName, IsSource, HasNames}
-use Rattle.mf_text.specs.Tokens.{is_letter, kinds, known_word, letter_number, number_token, tokens, word_among, word_token, words, Placed, Token}
+use Rattle.mf_text.specs.Tokens.{is_letter, kinds, letter_number, tokens, Placed, Token}
 use Rattle.mf_text.specs.TokenTexts.{AMark, AreTokens, Digits, IsTokenText, Letters, OtherByte}
 use Rattle.mf_text.proofs.TokenTexts.{are_tokens}
+use Rattle.mf_text.proofs.Words.{of_letters, of_numbers}
 
 -- ---- every letter of a line is one of 26
 
@@ -27,20 +27,9 @@ small_number [] is = absurd (false≢true is)
 small_number (b ∷ []) is = let bounds = and_parts (leb 97 b) (leb b 122) is in omega (arith, leb-true 97 b bounds.0, leb-true b 122 bounds.1)
 small_number (b ∷ c ∷ bs) is = absurd (false≢true is)
 
-word_letter : (text : List ℕ) → IsLetter (word_token text)
-unfolding word_token
-word_letter text = cond_both (is_letter text) _ _ IsLetter (small_number text) (λ _. known (word_among words text)) where
-  known : (o : Option Word) → IsLetter (known_word o)
-  known None = tt
-  known (Some w) = tt
-
-number_letter : (text : List ℕ) → IsLetter (number_token text)
-unfolding number_token
-number_letter text = cond_both (leb (length text) 9) (token.Number (digits_value 10 text)) token.Unknown IsLetter (λ _. tt) (λ _. tt)
-
 token_letter : (t : Token) (text rest : List ℕ) → IsTokenText t text rest → IsLetter t
-token_letter t text rest (Letters row is) = subst IsLetter (sym is) (word_letter text)
-token_letter t text rest (Digits row is) = subst IsLetter (sym is) (number_letter text)
+token_letter t text rest (Letters row is) = subst IsLetter (sym is) (of_letters IsLetter tt (λ w. tt) text (small_number text))
+token_letter t text rest (Digits row is) = subst IsLetter (sym is) (of_numbers IsLetter tt (λ n. tt) text)
 token_letter t text rest (AMark m written is) = subst IsLetter (sym is) tt
 token_letter t text rest (OtherByte other is) = subst IsLetter (sym is) tt
 

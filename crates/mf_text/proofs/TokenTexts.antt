@@ -71,7 +71,7 @@ first-text b bs =
             (taken_token is_ascii_digit (b ∷ bs) digit _ first ∙ ap number_token (sym (taken_text is_ascii_digit (b ∷ bs) digit _ first))))
         | inr no_digit ↦
             other_text b bs no_letter no_digit (first_token (b ∷ bs)).token refl
-            (ap (λ (f : Taken). is_other f.token) (first_other b bs no_letter no_digit) ∙ of_marks is_other true refl (λ m. refl) (b ∷ bs) marks)
+            (ap (λ (f : Taken). is_other f.token) (first_other b bs no_letter no_digit) ∙ of_marks (λ t. is_other t ≡ true) refl (λ m. refl) (b ∷ bs) marks)
       ]
     ]
 

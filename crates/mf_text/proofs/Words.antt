@@ -36,32 +36,26 @@ written w = record { letters = refl; starts = refl; word = refl }
 
 -- ---- tokens of another kind
 
--- where f gives a for the unknown token and for all tokens of a kind, it gives a for whatever is found as one of that kind
-module _ {A : Type 0} (f : Token → A) (a : A) (unknown : f token.Unknown ≡ a) where
-  pub of_marks : ((m : Mark) → f (token.Mark m) ≡ a) → (bs : List ℕ) (entries : List (List ℕ × Mark)) → f (mark_among entries bs).token ≡ a
+-- what holds of the unknown token and of all tokens of a kind holds of whatever is found as one of that kind
+module _ (P : Token → Type 0) (unknown : P token.Unknown) where
+  pub of_marks : ((m : Mark) → P (token.Mark m)) → (bs : List ℕ) (entries : List (List ℕ × Mark)) → P (mark_among entries bs).token
   unfolding mark_among
   of_marks mark bs [] = unknown
   of_marks mark bs (entry ∷ entries) =
-      cond_both (starts_with eqb bs entry.0) _ _ (λ (t : Taken). f t.token ≡ a) (λ _. mark entry.1) (λ _. of_marks mark bs entries)
+      cond_both (starts_with eqb bs entry.0) _ _ (λ (t : Taken). P t.token) (λ _. mark entry.1) (λ _. of_marks mark bs entries)
 
-  pub of_numbers : ((n : ℕ) → f (token.Number n) ≡ a) → (digits : List ℕ) → f (number_token digits) ≡ a
+  pub of_numbers : ((n : ℕ) → P (token.Number n)) → (digits : List ℕ) → P (number_token digits)
   unfolding number_token
-  of_numbers number digits =
-      cond_both (leb (length digits) 9) (token.Number (digits_value 10 digits)) token.Unknown (λ t. f t ≡ a)
-      (λ _. number (digits_value 10 digits)) (λ _. unknown)
+  of_numbers number digits = cond_both (leb (length digits) 9) (token.Number (digits_value 10 digits)) token.Unknown P (λ _. number _) (λ _. unknown)
 
-  known : ((w : Word) → f (token.Word w) ≡ a) → (o : Option Word) → f (known_word o) ≡ a
+  known : ((w : Word) → P (token.Word w)) → (o : Option Word) → P (known_word o)
   known word None = unknown
   known word (Some w) = word w
 
-  pub of_words : ((w : Word) → f (token.Word w) ≡ a) → (letters : List ℕ) → is_letter letters ≡ false → f (word_token letters) ≡ a
+  pub of_letters : ((w : Word) → P (token.Word w)) → (letters : List ℕ) → (is_letter letters ≡ true → P (token.Letter (letter_number letters)))
+      → P (word_token letters)
   unfolding word_token
-  of_words word letters long = rw long (known word (word_among words letters))
-
-  pub of_letters : ((w : Word) → f (token.Word w) ≡ a) → ((n : ℕ) → f (token.Letter n) ≡ a) → (letters : List ℕ) → f (word_token letters) ≡ a
-  unfolding word_token
-  of_letters word letter letters =
-      cond_both (is_letter letters) _ _ (λ t. f t ≡ a) (λ _. letter (letter_number letters)) (λ _. known word (word_among words letters))
+  of_letters word letters letter = cond_both (is_letter letters) _ _ P letter (λ _. known word (word_among words letters))
 
 -- ---- letters at the front
 
@@ -130,8 +124,8 @@ is_word w bs =
     let P : Taken → Type 0 = λ t. is_token t.token (token.Word w) ≡ true → letters bs ≡ word_text w in
     cond_both (ltb 0 (length (take (prefix_len is_ascii_alphabetic bs) bs))) _ _ P (λ _ is. word_is w (letters bs) is)
     (λ _. cond_both (ltb 0 (length (take (prefix_len is_ascii_digit bs) bs))) _ _ P
-    (λ _ is. absurd (false≢true (sym (of_numbers (λ t. is_token t (token.Word w)) false refl (λ n. refl) _) ∙ is)))
-    (λ _ is. absurd (false≢true (sym (of_marks (λ t. is_token t (token.Word w)) false refl (λ m. refl) bs marks) ∙ is))))
+    (λ _ is. absurd (false≢true (sym (of_numbers (λ t. is_token t (token.Word w) ≡ false) refl (λ n. refl) _) ∙ is)))
+    (λ _ is. absurd (false≢true (sym (of_marks (λ t. is_token t (token.Word w) ≡ false) refl (λ m. refl) bs marks) ∙ is))))
 
 lacking : (w : Word) (bs : List ℕ) → starts_with eqb bs (word_text w) ≡ false → is_token (first_token bs).token (token.Word w) ≡ false
 lacking w bs lacks =
@@ -199,15 +193,15 @@ letter_first b bs least greatest ends =
 
 -- a row of letters other than a single small one has no letter as its token
 none_of : (ls : List ℕ) → is_letter ls ≡ false → letter_in (word_token ls) ≡ None
-none_of ls long = of_words letter_in None refl (λ w. refl) ls long
+none_of ls long = of_letters (λ t. letter_in t ≡ None) refl (λ w. refl) ls (λ one. absurd (false≢true (sym long ∙ one)))
 
 letters_lacking : (bs : List ℕ) → is_letter (letters bs) ≡ false → letter_in (first_token bs).token ≡ None
 unfolding first_token
 letters_lacking bs long =
     let P : Taken → Type 0 = λ t. letter_in t.token ≡ None in
     cond_both (ltb 0 (length (take (prefix_len is_ascii_alphabetic bs) bs))) _ _ P (λ _. none_of (letters bs) long)
-    (λ _. cond_both (ltb 0 (length (take (prefix_len is_ascii_digit bs) bs))) _ _ P (λ _. of_numbers letter_in None refl (λ n. refl) _)
-    (λ _. of_marks letter_in None refl (λ m. refl) bs marks))
+    (λ _. cond_both (ltb 0 (length (take (prefix_len is_ascii_digit bs) bs))) _ _ P (λ _. of_numbers (λ t. letter_in t ≡ None) refl (λ n. refl) _)
+    (λ _. of_marks (λ t. letter_in t ≡ None) refl (λ m. refl) bs marks))
 
 no_small : (bs : List ℕ) → first_is (λ b. leb 97 b && leb b 122) bs ≡ false → letter_in (first_token bs).token ≡ None
 no_small bs other = letters_lacking bs (long bs other) where
@@ -265,9 +259,9 @@ pub digits_lacking : (bs : List ℕ) → first_is is_ascii_digit bs ≡ false �
 unfolding first_token
 digits_lacking bs none =
     let P : Taken → Type 0 = λ t. value_in t.token ≡ None in
-    cond_both (ltb 0 (length (take (prefix_len is_ascii_alphabetic bs) bs))) _ _ P (λ _. of_letters value_in None refl (λ w. refl) (λ n. refl) (letters bs))
+    cond_both (ltb 0 (length (take (prefix_len is_ascii_alphabetic bs) bs))) _ _ P (λ _. of_letters (λ t. value_in t ≡ None) refl (λ w. refl) (letters bs) (λ _. refl))
     (λ _. cond_both (ltb 0 (length (take (prefix_len is_ascii_digit bs) bs))) _ _ P (λ some. absurd (false≢true (sym (no_digits bs none) ∙ some)))
-    (λ _. of_marks value_in None refl (λ m. refl) bs marks)) where
+    (λ _. of_marks (λ t. value_in t ≡ None) refl (λ m. refl) bs marks)) where
       no_digits : (xs : List ℕ) → first_is is_ascii_digit xs ≡ false → ltb 0 (length (take (prefix_len is_ascii_digit xs) xs)) ≡ false
       no_digits [] other = refl
       no_digits (x ∷ xs) other = rw other refl
