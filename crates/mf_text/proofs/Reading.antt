@@ -11,8 +11,7 @@ use Rattle.mf_text.specs.declared.token.Word.TheVariants as word
 use Rattle.mf_text.specs.declared.tokens.Tokens.{Tokens}
 use Rattle.mf_text.specs.Ahead.{Ahead, column_of}
 use Rattle.mf_text.specs.Grammar.{Line, Path, path_value, Point, Code, Name, Current, Register, Int, Pair, pair_value}
-use Rattle.mf_text.specs.Paths.{HasPoints}
-use Rattle.mf_text.specs.Reads.{TakesToken, Passes, PassesPath, TakesValue, after_first, ahead, is_next, remaining_tokens, next_value, with_rest}
+use Rattle.mf_text.specs.Reads.{HasPoints, TakesToken, Passes, PassesPath, TakesValue, after_first, ahead, is_next, remaining_tokens, next_value, with_rest}
 use Rattle.mf_text.specs.Rests.{Rest, ACode, AName, ANumber, Corners, One, Or, OrName, Place, Before, CodeNumber, Ends, before, code_in, corner, end_of, path, follow, from, number_in, or_place, report_column, step_from, name_token}
 use Rattle.mf_text.specs.Token.{Placed, Token, is_token, letter_in, name_in, value_in}
 use Rattle.mf_text.specs.Token as token

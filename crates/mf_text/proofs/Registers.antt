@@ -3,9 +3,9 @@ use Rattle.std.proofs.Common.{◌≡◌, ℕ, ◌<◌, true, leb, List, [], ◌�
 use Rattle.std.specs.List.{AllByRecursion}
 use Rattle.std.proofs.lemmas.Bool.{and_parts, false≢true, leb-true}
 use Rattle.mf_text.specs.Token as token
-use Rattle.mf_text.specs.Grammar.{Form, Nothing, AddContour, AddPicture, CullKeeping, CullDropping, Clear, Move, ShowTotal, ShowPicture, ShowProof, ShipOut, SetCheck, PublishAll, Transform, Shifted, spell_name, spell_source, spell_signed, spell_form, spell_end, Sign, Plus, Minus, Name, Current, Register, Source, Null, Named}
+use Rattle.mf_text.specs.Grammar.{Form, AddContour, AddPicture, CullKeeping, CullDropping, Clear, Move, ShowTotal, ShowPicture, ShowProof, ShipOut, Shifted, spell_name, spell_source, spell_signed, spell_form, spell_end, Sign, Plus, Minus, Name, Current, Register, Source, Null, Named}
 use Rattle.mf_text.specs.Lines.{Gives}
-use Rattle.mf_text.specs.Meaning.{Meaning, Is, If, Turns, Means, meaning, transform_meaning, Command}
+use Rattle.mf_text.specs.Meaning.{Meaning, Is, If, Turns, Means, meaning, Command}
 use Rattle.mf_text.specs.Registers.{IsName, IsSource, HasNames}
 use Rattle.mf_text.specs.Tokens.{is_letter, kinds, letter_number, tokens, Placed, Token}
 use Rattle.mf_text.specs.TokenTexts.{AMark, AreTokens, Digits, IsTokenText, Letters, OtherByte}
@@ -74,25 +74,20 @@ names_meant (Is made) given all p = rw p all
 names_meant (If value rest) given all p = names_meant rest given all p.1
 names_meant (Turns name angle) given all p = rw p.is all
 
-move_names : (name : Name) (transform : Transform) → IsName name → AreNamed (transform_meaning name transform)
-move_names name (Shifted by) letter = letter
-move_names name other letter = letter
-
 form_names : (form : Form) → AreLetters (spell_form form) → AreNamed (meaning form)
-form_names Nothing all = tt
 form_names (AddContour name path weight) all = first_name name _ _ (of_first _ _ all.1)
 form_names (AddPicture name sign source) all = let called = all.1 in (first_name name _ _ called, signed_is sign source (of_second _ _ called))
 form_names (CullKeeping name range weight) all = first_name name _ _ (of_first _ _ all.1)
 form_names (CullDropping name range weight) all = first_name name _ _ (of_first _ _ all.1)
 form_names (Clear name) all = first_name name _ _ all
-form_names (Move name transform) all = move_names name transform (first_name name _ _ (of_first _ _ all))
+form_names (Move name (Shifted by)) all = first_name name _ _ (of_first _ _ all)
+form_names (Move name other) all = first_name name _ _ (of_first _ _ all)
 form_names (ShowTotal source) all = source_is source all.1.1
 form_names (ShowPicture source) all = source_is source all.1
 form_names (ShowProof source) all = source_is source all.1
 form_names (ShipOut source code dx width) all =
     source_is source (of_first _ _ (of_first _ _ (of_first _ _ (of_first _ _ (of_first _ _ (of_first _ _ all.1))))))
-form_names (SetCheck n) all = tt
-form_names PublishAll all = tt
+form_names form all = tt
 
 -- ---- the command of a line of bytes
 

@@ -18,10 +18,6 @@ ahead_after zero ps past = record { tokens = ps; past = past }
 ahead_after (suc k) [] past = record { tokens = []; past = past }
 ahead_after (suc k) (p ∷ ps) past = ahead_after k ps p.after
 
--- what is ahead after k tokens
-abbrev pub skip : ℕ → Ahead → Ahead
-skip k ahead = ahead_after k ahead.tokens ahead.past
-
 -- the column of token k, counted from 0, or one past the last token
 abbrev pub column_at : Ahead → ℕ → ℕ
-column_at ahead k = column_of (skip k ahead).tokens (skip k ahead).past
+column_at ahead k = column_of (ahead_after k ahead.tokens ahead.past).tokens (ahead_after k ahead.tokens ahead.past).past

@@ -1,12 +1,8 @@
 -- The codes of characters, as a line writes them.
-use Rattle.std.specs.Prelude.{◌≡◌, true, false, refl, Bool, ℕ, Option, Some, None}
+use Rattle.std.specs.Prelude.{◌≡◌, true, false, refl, Bool, Option, Some, None}
 use Rattle.mf_text.specs.declared.code.Code.{Code}
 use Rattle.mf_text.specs.declared.int.Int.{Int}
 use Rattle.mf_text.specs.Ints.{is_byte}
-
--- the value of a code
-abbrev pub code_value : Code → ℕ
-code_value code = code.int.magnitude
 
 -- the code that an int is, where it is known whether the int is in 0..255
 abbrev pub byte_code : (n : Int) (byte : Bool) → is_byte n ≡ byte → Option Code

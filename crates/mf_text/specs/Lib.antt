@@ -6,7 +6,6 @@ pub mod Ints
 pub mod Lines
 pub mod Meaning
 pub mod Names
-pub mod Paths
 pub mod Reads
 pub mod Registers
 pub mod Rests

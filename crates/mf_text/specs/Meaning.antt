@@ -14,8 +14,7 @@ pub use Rattle.mf_text.specs.declared.command.Command.{Command}
 use Rattle.mf_text.specs.declared.command.Command.TheVariants as command
 pub use Rattle.mf_text.specs.declared.fault.TextFault.{TextFault}
 use Rattle.mf_text.specs.declared.fault.TextFault.TheVariants as faults
-use Rattle.mf_text.specs.Codes.{code_value}
-use Rattle.mf_text.specs.Grammar.{Form, Nothing, AddContour, AddPicture, CullKeeping, CullDropping, Clear, Move, ShowTotal, ShowPicture, ShowProof, ShipOut, SetCheck, PublishAll, Transform, Shifted, Scaled, XScaled, YScaled, Rotated, weight_value, path_value, Point, Name, int_value, pair_value}
+use Rattle.mf_text.specs.Grammar.{Form, Nothing, AddContour, AddPicture, CullKeeping, CullDropping, Clear, Move, ShowTotal, ShowPicture, ShowProof, ShipOut, SetCheck, PublishAll, Shifted, Scaled, XScaled, YScaled, Rotated, weight_value, path_value, Point, Name, int_value, pair_value}
 
 -- a value of a form that is checked
 pub data Value : Type 0 where
@@ -45,14 +44,6 @@ cull_meaning name rule weight = If (AWeight weight) (If (ACull rule) (Is (comman
 abbrev pub scale_meaning : Name → Factors → Meaning
 scale_meaning name factors = If (AScale factors) (Is (command.Scale name factors))
 
--- what a transform of a picture means
-abbrev pub transform_meaning : Name → Transform → Meaning
-transform_meaning name (Shifted p) = Is (command.Shift name (pair_value p).x (pair_value p).y)
-transform_meaning name (Scaled n) = scale_meaning name (record { x = int_value n; y = int_value n })
-transform_meaning name (XScaled n) = scale_meaning name (record { x = int_value n; y = pos 1 })
-transform_meaning name (YScaled n) = scale_meaning name (record { x = pos 1; y = int_value n })
-transform_meaning name (Rotated n) = Turns name (int_value n)
-
 -- the turning check is on exactly where its number is positive
 abbrev pub check_of : ℤ → Check
 check_of n = if int_lt (pos 0) n then On else Off
@@ -65,11 +56,15 @@ meaning (AddPicture name sign source) = Is (command.Also name source sign)
 meaning (CullKeeping name range weight) = cull_meaning name (Keeping (pair_value range).x (pair_value range).y (weight_value weight)) (weight_value weight)
 meaning (CullDropping name range weight) = cull_meaning name (Dropping (pair_value range).x (pair_value range).y (weight_value weight)) (weight_value weight)
 meaning (Clear name) = Is (command.Clear name)
-meaning (Move name transform) = transform_meaning name transform
+meaning (Move name (Shifted p)) = Is (command.Shift name (pair_value p).x (pair_value p).y)
+meaning (Move name (Scaled n)) = scale_meaning name (record { x = int_value n; y = int_value n })
+meaning (Move name (XScaled n)) = scale_meaning name (record { x = int_value n; y = pos 1 })
+meaning (Move name (YScaled n)) = scale_meaning name (record { x = pos 1; y = int_value n })
+meaning (Move name (Rotated n)) = Turns name (int_value n)
 meaning (ShowTotal source) = Is (command.Total source)
 meaning (ShowPicture source) = Is (command.Show source)
 meaning (ShowProof source) = Is (command.Proof source)
-meaning (ShipOut source code dx width) = Is (command.Ship source (code_value code) (int_value dx) (int_value width))
+meaning (ShipOut source code dx width) = Is (command.Ship source code.int.magnitude (int_value dx) (int_value width))
 meaning (SetCheck n) = Is (command.Turning (check_of (int_value n)))
 meaning PublishAll = Is command.Publish
 

@@ -1,12 +1,11 @@
 -- What the reader of a line does: it passes a phrase, or finds the column at which the line goes wrong.
-use Rattle.std.specs.Prelude.{◌≡◌, ◌≤◌, ℕ, length, Bool, true, false, List, [], ◌∷◌, Option, None, Some, Result, Ok, Err}
+use Rattle.std.specs.Prelude.{◌≡◌, ◌≤◌, ◌<◌, ℕ, length, Bool, true, false, List, [], ◌∷◌, Option, None, Some, Result, Ok, Err}
 use Rattle.mf_text.specs.declared.fault.TextFault.TheVariants.{Syntax}
 use Rattle.mf_text.specs.declared.fault.SyntaxFault.{SyntaxFault}
 use Rattle.mf_text.specs.declared.tokens.Tokens.{Tokens}
 use Rattle.mf_text.specs.declared.path.Path as paths
-use Rattle.mf_text.specs.Grammar.{Form, Line, Path, path_value, Name}
+use Rattle.mf_text.specs.Grammar.{Form, Line, Path, path_value, Name, Point}
 use Rattle.mf_text.specs.Meaning.{IsAnswerOf, Command, TextFault}
-use Rattle.mf_text.specs.Paths.{HasPoints}
 use Rattle.mf_text.specs.Rests.{Rest, path, from, line_end, Ahead, Token, Placed, is_token}
 use Rattle.mf_text.specs.Tokens.{tokens_from}
 
@@ -71,6 +70,13 @@ then_name this other after None = from other after
 -- a phrase was passed, or the line goes wrong in it, whatever may follow the phrase
 abbrev pub Passes : {A : Type 0} → ((A → Rest) → Rest) → Tokens → Tokens → Result A SyntaxFault → Type 0
 Passes {A} phrase before after result = (next : A → Rest) → from (phrase next) (ahead before) ≡ then_from next (ahead after) result
+
+-- a path has these points: they are counted, up to one more than a cycle may have; where they are no more than a cycle may
+-- have and no allocation failed, they are kept
+pub record HasPoints (path : paths.Path) (points : List Point) : Type 0 where
+  pub few : path.corners ≤ 4096 → path.corners ≡ length points
+  pub many : 4096 < path.corners → 4096 < length points
+  pub kept : path.corners ≤ 4096 → path.is_wanting ≡ false → path.points.items ≡ points
 
 -- a path was passed, whatever may follow it, and its points are kept
 pub record HasPassedPath (before after : Tokens) (kept : paths.Path) : Type 0 where

@@ -25,14 +25,9 @@ pub record IsWrongAt (ts : List Token) (k : ℕ) : Type 0 where
   pub wrong : k < length ts → StartsLine (take (suc k) ts) → ⊥
   pub unended : k ≡ length ts → IsLine ts → ⊥
 
--- the tokens start with `-` and a number
-abbrev pub is_negative_int : List Token → Bool
-is_negative_int (token.Mark mark.Minus ∷ token.Number n ∷ ts) = true
-is_negative_int ts = false
-
 -- the tokens start with `shipout`, a source, `code`, `-` and a number
 abbrev pub is_negative_code : List Token → Bool
-is_negative_code (token.Word word.Shipout ∷ source ∷ token.Word word.Code ∷ ts) = is_negative_int ts
+is_negative_code (token.Word word.Shipout ∷ source ∷ token.Word word.Code ∷ token.Mark mark.Minus ∷ token.Number n ∷ ts) = true
 is_negative_code ts = false
 
 -- the token at which a line that goes wrong at token k is reported: that one, but for a number after `code -` the `-`

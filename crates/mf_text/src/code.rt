@@ -14,7 +14,7 @@ pub struct Code {
 
 impl Code {
     ghost use Rattle.std.specs.Prelude.{◌≡◌};
-    ghost use Rattle.mf_text.specs.Codes.{code_of, code_value};
+    ghost use Rattle.mf_text.specs.Codes.{code_of};
 
     /// The code that an int is, if it is in 0..=255.
     pub fn new(int: Int) -> Option<Code>
@@ -28,7 +28,7 @@ impl Code {
 
     /// Its value, in 0..=255.
     pub fn value(self) -> u8
-        ensures { result ≡ code_value self }
+        ensures { result ≡ self.int.magnitude }
     {
         self.int.magnitude as u8
     }

@@ -1,7 +1,7 @@
 //! Paths of contours.
 ghost use Rattle.std.specs.Prelude.{◌≡◌, ◌≤◌, ◌++◌, ◌∷◌, [], IfOk, IsErr, IsTrue, List};
 ghost use Rattle.mf_geom.specs.declared.point.Point as points;
-ghost use Rattle.mf_text.specs.Paths.{HasPoints};
+ghost use Rattle.mf_text.specs.Reads.{HasPoints};
 
 use mf_base::OutOfMemory;
 use mf_geom::{MAX_POINTS, Point};

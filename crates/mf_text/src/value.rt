@@ -5,7 +5,7 @@ ghost use Rattle.mf_ops.specs.ContourWeight.{IsContourWeight};
 ghost use Rattle.mf_text.specs.Grammar as grammar;
 ghost use Rattle.mf_text.specs.Grammar.{weight_value};
 ghost use Rattle.mf_text.specs.Meaning.{AWeight, IsAnswerOf, IsUnlawful, Means, Refuses, check_of, contour_meaning, scale_meaning};
-ghost use Rattle.mf_text.specs.Paths.{HasPoints};
+ghost use Rattle.mf_text.specs.Reads.{HasPoints};
 
 use crate::command::{Command, Name};
 use crate::fault::TextFault;
