@@ -9,7 +9,6 @@ pub mod ReadInts
 pub mod Reading
 pub mod Registers
 pub mod Rests
-pub mod Rows
 pub mod SomeAnswer
 pub mod Sound
 pub mod TokenTexts

@@ -11,7 +11,7 @@ use Rattle.mf_text.specs.Grammar.{Line, spell_line}
 use Rattle.mf_text.specs.Rests.{Place, Before, CodeNumber, ends, follow, from, report_column, step, line, Placed, Token}
 use Rattle.mf_text.specs.Syntax.{StartsLine, IsSyntaxFault, IsWrongAt, is_negative_code, report_place}
 use Rattle.mf_text.specs.Tokens.{kinds}
-use Rattle.mf_text.proofs.Rests.{is_code_number, is_code_number_at, line_read, place_ends, reads}
+use Rattle.mf_text.proofs.Rests.{GoesOn, is_code_number, is_code_number_at, line_read, place_ends, reads}
 use Rattle.mf_text.proofs.Sound.{coded, spelled, spells_line}
 
 -- ---- lines are what is read
@@ -26,27 +26,17 @@ line_is_read ts l is = ap (reads (Some (Before line))) is ∙ line_read l
 pub same_line : (l m : Line) → spell_line l ≡ spell_line m → l ≡ m
 same_line l m same = same_Some l m (sym (line_read l) ∙ line_is_read (spell_line l) m same)
 
--- from a place, these tokens and some others are read as a line
-record GoesOn (p : Option Place) (ts : List Token) : Type 0 where
-  rest : List Token
-  tree : Line
-  read : reads p (ts ++ rest) ≡ Some tree
-
 goes_on_or_not : (p : Option Place) (ts : List Token) → GoesOn p ts ⊎ (GoesOn p ts → ⊥)
 unfolding reads
-goes_on_or_not None ts = inr (λ on. none-some on.tree on.read)
-goes_on_or_not (Some p) [] = let end = place_ends p in inl (record { rest = end.tokens; tree = end.line; read = end.whole })
-goes_on_or_not (Some p) (t ∷ ts) =
-    elim (goes_on_or_not (step p t) ts) [
-      | inl on ↦ inl (record { rest = on.rest; tree = on.tree; read = on.read })
-      | inr ends_here ↦ inr (λ on. ends_here (record { rest = on.rest; tree = on.tree; read = on.read }))
-    ]
+goes_on_or_not None ts = inr (λ on. none-some on.1.0 on.1.1)
+goes_on_or_not (Some p) [] = inl (place_ends p)
+goes_on_or_not (Some p) (t ∷ ts) = goes_on_or_not (step p t) ts
 
 starts : (ts : List Token) → GoesOn (Some (Before line)) ts → StartsLine ts
-starts ts on = record { rest = on.rest; line = record { tree = on.tree; spelled = read_is_line (ts ++ on.rest) on.tree on.read } }
+starts ts on = record { rest = on.0; line = record { tree = on.1.0; spelled = read_is_line (ts ++ on.0) on.1.0 on.1.1 } }
 
 goes_on : (ts : List Token) → StartsLine ts → GoesOn (Some (Before line)) ts
-goes_on ts begun = record { rest = begun.rest; tree = begun.line.tree; read = line_is_read (ts ++ begun.rest) begun.line.tree begun.line.spelled }
+goes_on ts begun = (begun.rest, (begun.line.tree, line_is_read (ts ++ begun.rest) begun.line.tree begun.line.spelled))
 
 pub starts_or_not : (ts : List Token) → StartsLine ts ⊎ (StartsLine ts → ⊥)
 starts_or_not ts =
@@ -81,11 +71,11 @@ same_Err m n r p q = cc
 
 at_end : (p : Place) (last past column : ℕ) (end : Option Line) → ends p ≡ end → ok_or end past ≡ Err column → Stops p last past [] column
 unfolding reads is_code_number_at
-at_end p last past column None is wrong = let end = place_ends p in record {
+at_end p last past column None is wrong = record {
   place = 0;
   at = record {
     within = omega arith;
-    before = record { rest = end.tokens; tree = end.line; read = end.whole };
+    before = place_ends p;
     wrong = λ more. absurd (omega (arith, more));
     unended = λ whole l read. none-some l (sym is ∙ read);
   };
@@ -97,8 +87,8 @@ later : (p : Place) (t : Token) (ts : List Token) (k : ℕ) → Wrong (step p t)
 unfolding reads
 later p t ts k wrong = record {
   within = omega (arith, wrong.within);
-  before = record { rest = wrong.before.rest; tree = wrong.before.tree; read = wrong.before.read };
-  wrong = λ more on. wrong.wrong (omega (arith, more)) (record { rest = on.rest; tree = on.tree; read = on.read });
+  before = wrong.before;
+  wrong = λ more on. wrong.wrong (omega (arith, more)) on;
   unended = λ whole l read. wrong.unended (omega (arith, whole)) l read;
 }
 
@@ -110,12 +100,12 @@ at_token : (p : Place) (last past : ℕ) (t : Placed) (ps : List Placed) (column
     → follow (ok_or q (report_column p t.token last t.column)) t.column t.after ps ≡ Err column
     → ((s : Place) → follow (Ok s) t.column t.after ps ≡ Err column → Stops s t.column t.after ps column) → Stops p last past (t ∷ ps) column
 unfolding reads is_code_number_at follow
-at_token p last past t ps column None is wrong behind_it = let end = place_ends p in record {
+at_token p last past t ps column None is wrong behind_it = record {
   place = 0;
   at = record {
     within = omega arith;
-    before = record { rest = end.tokens; tree = end.line; read = end.whole };
-    wrong = λ more on. none-some on.tree (ap (λ q. reads q on.rest) (sym is) ∙ on.read);
+    before = place_ends p;
+    wrong = λ more on. none-some on.1.0 (ap (λ q. reads q on.0) (sym is) ∙ on.1.1);
     unended = λ whole. absurd (omega (arith, whole));
   };
   column_is = same_Err (report_column p t.token last t.column) column (Err (report_column p t.token last t.column)) refl wrong
@@ -193,7 +183,7 @@ module _ (ahead : Ahead) (column : ℕ) (found : Stops (Before line) ahead.past 
       let parts = and_parts (is_negative_code ts) (eqb found.place 4) bad in
       let fourth = eqb-true found.place 4 parts.1 in
       let before = subst (λ k. GoesOn (Some (Before line)) (take k ts)) fourth found.at.before in
-      absurd (false≢true (sym plain ∙ ap (is_code_number_at (Some (Before line)) ts) fourth ∙ negative_shows ts before.rest before.tree parts.0 before.read))
+      absurd (false≢true (sym plain ∙ ap (is_code_number_at (Some (Before line)) ts) fourth ∙ negative_shows ts before.0 before.1.0 parts.0 before.1.1))
 
   by_shown : (shows : Bool) → is_shown ≡ shows → column ≡ column_at ahead (report_place ts found.place)
   by_shown true shows = shows_before shows

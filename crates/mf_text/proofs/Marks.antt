@@ -6,8 +6,7 @@ use Rattle.std.proofs.lemmas.Bool.{and_parts, cases_Bool, cond_both, false≢tru
 use Rattle.mf_text.specs.declared.token.Mark.TheVariants as mark
 use Rattle.mf_text.specs.Token as token
 use Rattle.mf_text.specs.Tokens.{FindsToken, Taken, first_token, is_longer, mark_among, mark_text, marks, Mark, Token, is_token}
-use Rattle.mf_text.proofs.Rows.{starts-drop}
-use Rattle.mf_text.proofs.Words.{of_letters, of_numbers, same_bytes, same_token}
+use Rattle.mf_text.proofs.Words.{starts-drop, of_letters, of_numbers, same_bytes, same_token}
 
 same_mark : (m n : Mark) → is_token (token.Mark m) (token.Mark n) ≡ true → m ≡ n
 same_mark m n same = search rules

@@ -214,19 +214,18 @@ line_read l = form_read l.form l.ended
 
 -- ---- each rest can be ended by some tokens
 
-pub record CanEnd (p : Place) : Type 0 where
-  pub tokens : List Token
-  pub line : Line
-  pub whole : reads (Some p) tokens ≡ Some line
+-- from a place, these tokens and some others are read as a line
+abbrev pub GoesOn : Option Place → List Token → Type 0
+GoesOn p ts = (rest : List Token) × ((tree : Line) × (reads p (ts ++ rest) ≡ Some tree))
 
 -- a place can be ended if the place after one more token can
-further : (p : Place) (t : Token) (q : Place) → step p t ≡ Some q → CanEnd q → CanEnd p
+further : (p : Place) (t : Token) (q : Place) → step p t ≡ Some q → GoesOn (Some q) [] → GoesOn (Some p) []
 unfolding reads
-further p t q is end = record { tokens = t ∷ end.tokens; line = end.line; whole = ap (λ s. reads s end.tokens) is ∙ end.whole }
+further p t q is (rest, (tree, read)) = (t ∷ rest, (tree, ap (λ s. reads s rest) is ∙ read))
 
-rest_ends : (r : Rest) → CanEnd (Before r)
+rest_ends : (r : Rest) → GoesOn (Some (Before r)) []
 unfolding reads int_of code_of
-rest_ends (Ends l) = record { tokens = []; line = l; whole = refl }
+rest_ends (Ends l) = ([], (l, refl))
 rest_ends (One u this) = further (Before (One u this)) u (Before this) (if_same u this None) (rest_ends this)
 rest_ends (Or u this other) = further (Before (Or u this other)) u (Before this) (if_same u this (step_from other u)) (rest_ends this)
 rest_ends (AName next) = further (Before (AName next)) (token.Word word.CurrentPicture) (Before (next Current)) refl (rest_ends (next Current))
@@ -235,7 +234,7 @@ rest_ends (ANumber negative next) = further (Before (ANumber negative next)) (to
 rest_ends (ACode next) = further (Before (ACode next)) (token.Number 0) _ refl (rest_ends (next _))
 rest_ends (Corners first others next) = further (Before (Corners first others next)) (token.Word word.Cycle) _ refl (rest_ends (next _))
 
-pub place_ends : (p : Place) → CanEnd p
+pub place_ends : (p : Place) → GoesOn (Some p) []
 unfolding int_of code_of
 place_ends (Before r) = rest_ends r
 place_ends (CodeNumber next) = further (CodeNumber next) (token.Number 0) _ refl (rest_ends (next _))

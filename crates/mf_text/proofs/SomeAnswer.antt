@@ -86,10 +86,13 @@ IsChecked value = IsLawful value ⊎ ((fault : TextFault) × IsUnlawful value fa
 
 cycle_or_not : (points : List Point) (found : Option CycleFault) → form_fault points ≡ found → IsChecked (Points points)
 cycle_or_not points None is = inl (cycle-form_fault points is)
-cycle_or_not points (Some cause) is = inr (faults.Cycle cause, record {
-  unlawful = λ cycle. none-some cause (sym (form_fault-none points cycle) ∙ is);
-  is = record { cause = cause; fault = fault-cycle_fault_of points cause (rw is refl); is = refl };
-})
+cycle_or_not points (Some cause) is = inr (
+  faults.Cycle cause,
+  record {
+    unlawful = λ cycle. none-some cause (sym (form_fault-none points cycle) ∙ is);
+    is = record { cause = cause; fault = fault-cycle_fault_of points cause (rw is refl); is = refl };
+  },
+)
 
 or_refused : (value : Value) (fault : TextFault) → HasRefusal value fault → IsLawful value ⊎ (IsLawful value → ⊥) → IsChecked value
 or_refused value fault is (inl lawful) = inl lawful

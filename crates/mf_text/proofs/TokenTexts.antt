@@ -12,8 +12,7 @@ use Rattle.mf_text.specs.Tokens.{Taken, first_token, first_is, is_longer, mark_a
 use Rattle.mf_text.specs.TokenTexts.{AMark, AreTokens, Digits, IsEnd, IsRow, IsTokenText, Letters, OtherByte}
 use Rattle.mf_text.proofs.LineTokens.{first_taken, rest_shorter}
 use Rattle.mf_text.proofs.Marks.{mark_bytes, mark_there, no_longer, none_there, one_byte}
-use Rattle.mf_text.proofs.Rows.{starts-drop, row}
-use Rattle.mf_text.proofs.Words.{digits_first, letters_first, of_marks}
+use Rattle.mf_text.proofs.Words.{starts-drop, row, digits_first, letters_first, of_marks}
 
 -- ---- the text of a token
 

@@ -1,7 +1,7 @@
--- A word of the table at the front of bytes.
-use Rattle.std.proofs.Common.{◌≡◌, inl, inr, ℕ, ◌-◌, ◌&&◌, ◌≤◌, Bool, true, false, cond, eqb, leb, ltb, bytes_eq, if◌then◌else◌, List, [], ◌∷◌, ◌++◌, Option, None, Some, length, get_or, take, drop, refl, sym, ap, subst, ◌∙◌, arith, rules}
+-- The front of bytes: a row of bytes of one kind, and a word of the table.
+use Rattle.std.proofs.Common.{◌≡◌, inl, inr, ℕ, ◌-◌, ◌&&◌, ◌≤◌, Bool, true, false, cond, eqb, leb, ltb, bytes_eq, if◌then◌else◌, List, [], ◌∷◌, ◌++◌, Option, None, Some, length, get_or, take, drop, refl, sym, ap, subst, ◌∙◌, arith, rules, suc, ◌+◌}
 use Rattle.std.specs.Char.{is_ascii_alphabetic, is_ascii_digit}
-use Rattle.std.specs.List.{list_all, prefix_len, starts_with, take_while}
+use Rattle.std.specs.List.{list_all, prefix_len, starts_with, take_while, All}
 use Rattle.std.specs.Str.Parse.{digits_value}
 use Rattle.std.proofs.lemmas.Bool.{and_parts, cases_Bool, cond_both, false≢true, le-leb, leb-true}
 use Rattle.std.proofs.lemmas.Bool.Decides.{Decides-eqb, nat_tests}
@@ -15,7 +15,38 @@ use Rattle.mf_text.specs.declared.token.Word.TheVariants as word
 use Rattle.mf_text.specs.Token.{Token, is_token, letter_in, value_in}
 use Rattle.mf_text.specs.Token as token
 use Rattle.mf_text.specs.Tokens.{Finds, FindsToken, Taken, first_token, first_is, is_letter, known_word, letter_number, mark_among, marks, number_token, word_among, word_text, word_token, words}
-use Rattle.mf_text.proofs.Rows.{starts-drop, row_count, row_end}
+use Rattle.std.proofs.lemmas.List.Elements.{All-cons, All-nil}
+use Rattle.mf_text.specs.TokenTexts.{IsRow}
+
+-- ---- rows of bytes
+
+pub starts-drop : (bs text : List ℕ) → starts_with eqb bs text ≡ true → bs ≡ text ++ drop (length text) bs
+starts-drop bs text is = (starts_is Decides-eqb bs text (starts_with eqb bs text) refl).0 is
+
+-- the text has only bytes of one kind, and the rest does not start with another of them
+record IsStartRow (p : ℕ → Bool) (text rest : List ℕ) : Type 0 where
+  all : All (λ b. p b ≡ true) text
+  longest : first_is p rest ≡ false
+
+row-more : (p : ℕ → Bool) (b : ℕ) (bs : List ℕ) (n : ℕ) (passes : Bool) → p b ≡ passes → IsStartRow p (take n bs) (drop n bs)
+    → IsStartRow p (take (cond passes (1 + n) 0) (b ∷ bs)) (drop (cond passes (1 + n) 0) (b ∷ bs))
+row-more p b bs n true is start =
+    let longer : 1 + n ≡ suc n = omega arith in
+    rw longer (record { all = All-cons (λ c. p c ≡ true) b (take n bs) is start.all; longest = start.longest })
+row-more p b bs n false is start = record { all = All-nil (λ c. p c ≡ true); longest = is }
+
+start_row : (p : ℕ → Bool) (bs : List ℕ) → IsStartRow p (take (prefix_len p bs) bs) (drop (prefix_len p bs) bs)
+start_row p [] = record { all = All-nil (λ c. p c ≡ true); longest = refl }
+start_row p (b ∷ bs) = row-more p b bs (prefix_len p bs) (p b) refl (start_row p bs)
+
+pub row_count : (p : ℕ → Bool) (bs : List ℕ) → first_is p bs ≡ true → length (take (prefix_len p bs) bs) ≡ 1 + prefix_len p (drop 1 bs)
+row_count p [] some = absurd (false≢true some)
+row_count p (b ∷ bs) some = length-prefix_len p (b ∷ bs) ∙ rw some refl
+
+pub row : (p : ℕ → Bool) (bs : List ℕ) → first_is p bs ≡ true → IsRow p (take (prefix_len p bs) bs) (drop (prefix_len p bs) bs)
+row p bs some = let start = start_row p bs in record { some = omega (arith, row_count p bs some); all = start.all; longest = start.longest }
+
+-- ---- words of the table
 
 pub same_token : (t : Token) → is_token t t ≡ true
 same_token t = search rules
@@ -72,7 +103,7 @@ letters_of (l ∷ ls) bs all ends =
 
 -- no letter follows the letters at the front
 letters_end : (bs : List ℕ) → first_is is_ascii_alphabetic (drop (length (letters bs)) bs) ≡ false
-letters_end bs = rw (length-prefix_len is_ascii_alphabetic bs) (row_end is_ascii_alphabetic bs)
+letters_end bs = rw (length-prefix_len is_ascii_alphabetic bs) (start_row is_ascii_alphabetic bs).longest
 
 pub letters_first : (bs : List ℕ) → first_is is_ascii_alphabetic bs ≡ true
     → first_token bs ≡ record { token = word_token (letters bs); bytes = length (letters bs) }
