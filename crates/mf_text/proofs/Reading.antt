@@ -1,5 +1,6 @@
 -- What a line gives at its next token, and after phrases.
 use Rattle.std.proofs.Common.{◌≡◌, ◌≢◌, inl, inr, ℕ, true, false, List, [], ◌∷◌, ◌++◌, map, Option, Some, None, Result, Ok, Err, ok_or, Bool, if◌then◌else◌, refl, sym, ap, subst, ◌∙◌}
+use Rattle.std.specs.Option.{option_or}
 use Rattle.std.specs.Result.{IsErrAnd}
 use Rattle.std.proofs.lemmas.Bool.{cases_Bool, false≢true}
 use Rattle.std.proofs.lemmas.List.{map-append}
@@ -12,7 +13,7 @@ use Rattle.mf_text.specs.declared.tokens.Tokens.{Tokens}
 use Rattle.mf_text.specs.Ahead.{Ahead, column_of}
 use Rattle.mf_text.specs.Grammar.{Line, Path, path_value, Point, Code, Name, Current, Register, Int, Pair, pair_value}
 use Rattle.mf_text.specs.Reads.{HasPoints, TakesToken, Passes, PassesPath, TakesValue, after_first, ahead, is_next, remaining_tokens, next_value, with_rest}
-use Rattle.mf_text.specs.Rests.{Rest, ACode, AName, ANumber, Corners, One, Or, OrName, Place, Before, CodeNumber, Ends, before, code_in, corner, end_of, path, follow, from, number_in, or_place, report_column, step_from, name_token}
+use Rattle.mf_text.specs.Rests.{Rest, ACode, AName, ANumber, Corners, One, Or, OrName, Place, Before, CodeNumber, Ends, before, code_in, corner, end_of, path, follow, from, number_in, report_column, step_from, name_token}
 use Rattle.mf_text.specs.Token.{Placed, Token, is_token, letter_in, name_in, value_in}
 use Rattle.mf_text.specs.Token as token
 use Rattle.mf_text.proofs.Words.{same_token, token_is}
@@ -175,7 +176,7 @@ pub name_chosen : (this : Name → Rest) (other : Rest) (past : ℕ) (ps : List 
 unfolding follow
 name_chosen this other past ps name after is =
     at_first name_in name (λ qs on. from (OrName this other) (record { tokens = qs; past = past }) ≡ from (this name) on) (λ p qs value.
-    ap (λ (v : Option Name). follow (ok_or (or_place (before this v) (step_from other p.token)) p.column) p.column p.after qs) value
+    ap (λ (v : Option Name). follow (ok_or (option_or (before this v) (step_from other p.token)) p.column) p.column p.after qs) value
     ∙ from_any (this name) p.column p.after qs) ps after is
 
 pub name_not_chosen : (this : Name → Rest) (other : Rest) (past : ℕ) (ps : List Placed) → next_value name_in ps ≡ None
@@ -183,7 +184,7 @@ pub name_not_chosen : (this : Name → Rest) (other : Rest) (past : ℕ) (ps : L
 unfolding follow
 name_not_chosen this other past [] is = refl
 name_not_chosen this other past (p ∷ ps) is =
-    ap (λ (v : Option Name). follow (ok_or (or_place (before this v) (step_from other p.token)) p.column) p.column p.after ps) (lacks name_in p ps is)
+    ap (λ (v : Option Name). follow (ok_or (option_or (before this v) (step_from other p.token)) p.column) p.column p.after ps) (lacks name_in p ps is)
 
 pub current_taken : (ps : List Placed) (after : Ahead) → is_next (token.Word word.CurrentPicture) ps ≡ true
     → after_first ps ≡ Some after → next_value name_in ps ≡ Some (Current, after)

@@ -4,7 +4,7 @@ use Rattle.std.specs.Option.{option_and_then}
 use Rattle.mf_text.specs.declared.token.Mark.TheVariants as mark
 use Rattle.mf_text.specs.Token as token
 use Rattle.mf_text.specs.declared.token.Word.TheVariants as word
-use Rattle.mf_text.specs.Grammar.{Line, Path, spell_int, spell_code, spell_pair, spell_name, spell_source, spell_corner, spell_path, Code, Name, Current, Register, Source, Null, Named, Int, Pair, Form, Nothing, AddContour, AddPicture, CullKeeping, CullDropping, Clear, Move, ShowTotal, ShowPicture, ShowProof, ShipOut, SetCheck, PublishAll, Transform, Shifted, Scaled, XScaled, YScaled, Rotated, spell_form, spell_end, spell_line, spell_weight, spell_transform, Plus, Minus, Word}
+use Rattle.mf_text.specs.Grammar.{Line, Path, spell_int, spell_code, spell_pair, spell_name, spell_source, spell_corner, spell_path, spell_signed, Sign, Code, Name, Current, Register, Source, Null, Named, Int, Pair, Form, Nothing, AddContour, AddPicture, CullKeeping, CullDropping, Clear, Move, ShowTotal, ShowPicture, ShowProof, ShipOut, SetCheck, PublishAll, Transform, Shifted, Scaled, XScaled, YScaled, Rotated, spell_form, spell_end, spell_line, spell_weight, spell_transform, Plus, Minus, Word}
 use Rattle.mf_text.specs.Rests.{Rest, Ends, One, Or, AName, OrName, ANumber, ACode, Corners, Place, Before, CodeNumber, before, corner, ends, if_token, int, pair, path, source, step, step_from, Token, code_of, int_of, addto, assignment, cull, line, line_end, name_token, of_int, of_range, of_source, shipout, show, transform, turning_check, weighable}
 use Rattle.mf_text.proofs.ReadInts.{int_of-back, code_of-back}
 use Rattle.mf_text.proofs.Words.{same_token}
@@ -138,11 +138,13 @@ assignment_read : (name : Name) → Leads line (spell_name name) (assignment nam
 assignment_read Current = choice_read _ _ (token.Word word.CurrentPicture) refl
 assignment_read (Register letter) = choice_read _ _ (token.Letter letter) refl
 
-plus_read : (name : Name) (s : Source)
-    → Leads (Or (token.Mark mark.Minus) (of_source (AddPicture name Minus)) (of_source (AddPicture name Plus))) (spell_source s) (line_end (AddPicture name Plus s))
-plus_read name Null = choice_read _ _ (token.Word word.NullPicture) refl
-plus_read name (Named Current) = choice_read _ _ (token.Word word.CurrentPicture) refl
-plus_read name (Named (Register letter)) = choice_read _ _ (token.Letter letter) refl
+signed_source_read : (name : Name) (sign : Sign) (s : Source)
+    → Leads (Or (token.Mark mark.Minus) (of_source (AddPicture name Minus)) (of_source (AddPicture name Plus))) (spell_signed sign s)
+    (line_end (AddPicture name sign s))
+signed_source_read name Minus s = on (or_read _ _ _) (source_read (λ p. line_end (AddPicture name Minus p)) s)
+signed_source_read name Plus Null = choice_read _ _ (token.Word word.NullPicture) refl
+signed_source_read name Plus (Named Current) = choice_read _ _ (token.Word word.CurrentPicture) refl
+signed_source_read name Plus (Named (Register letter)) = choice_read _ _ (token.Letter letter) refl
 
 show_read : (s : Source) → Leads show (spell_source s) (line_end (ShowPicture s))
 show_read Null = choice_read _ _ (token.Word word.NullPicture) refl
@@ -179,12 +181,9 @@ form_read Nothing false = refl
 form_read (AddContour name p weight) ended =
     weighed_read (AddContour name p) weight ended _
     (on (on (on (word_read word.Addto line addto refl) (name_read _ name)) (word_read word.Contour _ _ refl)) (path_read _ p))
-form_read (AddPicture name Plus s) ended =
-    line_end_read _ ended _ (on (on (on (word_read word.Addto line addto refl) (name_read _ name)) (word_read word.Also _ _ refl)) (plus_read name s))
-form_read (AddPicture name Minus s) ended =
-    line_end_read _ ended _ (on (on (on (word_read word.Addto line addto refl) (name_read _ name))
-    (word_read word.Also _ (Or (token.Mark mark.Minus) (of_source (AddPicture name Minus)) (of_source (AddPicture name Plus))) refl))
-    (on (or_read _ _ _) (source_read (λ p. line_end (AddPicture name Minus p)) s)))
+form_read (AddPicture name sign s) ended =
+    line_end_read _ ended _
+    (on (on (on (word_read word.Addto line addto refl) (name_read _ name)) (word_read word.Also _ _ refl)) (signed_source_read name sign s))
 form_read (CullKeeping name range weight) ended =
     weighed_read (CullKeeping name range) weight ended _
     (on (on (on (word_read word.Cull line cull refl) (name_read _ name)) (word_read word.Keeping _ (of_range (CullKeeping name)) refl))

@@ -1,6 +1,6 @@
 -- Tokens that are read as a line are the spelling of that line.
 use Rattle.std.proofs.Common.{◌≡◌, ℕ, zero, suc, ◌+◌, Bool, true, false, List, [], ◌∷◌, ◌++◌, length, Option, Some, None, nat_lt, refl, sym, ap, subst, ◌∙◌, append_assoc, append-nil, flat_map, length-append, arith}
-use Rattle.std.specs.Option.{IfSome, option_and_then}
+use Rattle.std.specs.Option.{IfSome, option_and_then, option_or}
 use Rattle.std.proofs.lemmas.Bool.{cond_both, false≢true}
 use Rattle.std.proofs.lemmas.Option.{none-some, same_Some}
 use Rattle.mf_text.specs.declared.token.Mark.TheVariants as mark
@@ -9,7 +9,7 @@ use Rattle.mf_text.specs.declared.token.Word.TheVariants as word
 use Rattle.mf_text.specs.Codes.{code_of, byte_code}
 use Rattle.mf_text.specs.Grammar.{Form, Nothing, AddContour, AddPicture, CullKeeping, CullDropping, Clear, Move, ShowTotal, ShowPicture, ShowProof, ShipOut, SetCheck, PublishAll, Shifted, Scaled, XScaled, YScaled, Rotated, Line, Path, spell_form, spell_weight, spell_int, spell_code, spell_pair, spell_name, spell_source, spell_corner, spell_path, spell_line, Plus, Minus, Code, Name, Current, Register, Source, Null, Named, Int, Pair}
 use Rattle.mf_text.specs.Ints.{int_of, short_int, is_byte}
-use Rattle.mf_text.specs.Rests.{Rest, Ends, One, Or, AName, OrName, ANumber, ACode, Corners, Place, Before, CodeNumber, before, code_in, corner, end_of, ends, if_token, inner, int, number_in, or_place, pair, path, source, step, step_from, assignment, line, line_end, name_token, transform, weighable, Token, is_token, name_in}
+use Rattle.mf_text.specs.Rests.{Rest, Ends, One, Or, AName, OrName, ANumber, ACode, Corners, Place, Before, CodeNumber, before, code_in, corner, end_of, ends, if_token, inner, int, number_in, pair, path, source, step, step_from, assignment, line, line_end, name_token, transform, weighable, Token, is_token, name_in}
 use Rattle.mf_text.specs.Syntax.{is_negative_code}
 use Rattle.mf_text.proofs.Rests.{is_code_number, is_code_number_at, reads}
 use Rattle.mf_text.proofs.Words.{token_is}
@@ -51,7 +51,7 @@ value_step past next None spells = tt
 value_step past next (Some x) spells = spells
 
 name_step : (past : List Token) (next : Name → Rest) (other : Option Place) (t : Token) → ((name : Name) → Spells (past ++ spell_name name) (next name))
-    → IfSome other (SpellsAt (past ++ t ∷ [])) → IfSome (or_place (before next (name_in t)) other) (SpellsAt (past ++ t ∷ []))
+    → IfSome other (SpellsAt (past ++ t ∷ [])) → IfSome (option_or (before next (name_in t)) other) (SpellsAt (past ++ t ∷ []))
 name_step past next other (token.Word word.CurrentPicture) spells second = spells Current
 name_step past next other (token.Letter n) spells second = spells (Register n)
 name_step past next other t spells second = second
@@ -178,7 +178,7 @@ rest_step past (Ends l) t spells = tt
 rest_step past (One u this) t spells = token_step past t u this None spells tt
 rest_step past (Or u this other) t spells = token_step past t u this (step_from other t) spells.0 (rest_step past other t spells.1)
 rest_step past (AName next) t spells = either_none (before next (name_in t)) (name_step past next None t spells tt) where
-  either_none : (o : Option Place) → IfSome (or_place o None) (SpellsAt (past ++ t ∷ [])) → IfSome o (SpellsAt (past ++ t ∷ []))
+  either_none : (o : Option Place) → IfSome (option_or o None) (SpellsAt (past ++ t ∷ [])) → IfSome o (SpellsAt (past ++ t ∷ []))
   either_none None is = tt
   either_none (Some p) is = is
 rest_step past (OrName next other) t spells = name_step past next (step_from other t) t spells.0 (rest_step past other t spells.1)

@@ -17,16 +17,14 @@ use Rattle.mf_text.proofs.Words.{starts-drop, row, digits_first, letters_first, 
 -- ---- the text of a token
 
 -- a token whose text is a row of bytes of one kind
-module _ (p : ℕ → Bool) (bs : List ℕ) (some : first_is p bs ≡ true) (t : Token)
-    (first : first_token bs ≡ record { token = t; bytes = length (take_while p bs) }) where
-  pub taken_row : IsRow p (take (first_token bs).bytes bs) (drop (first_token bs).bytes bs)
-  taken_row = subst (λ n. IsRow p (take n bs) (drop n bs)) (sym (ap (λ (f : Taken). f.bytes) first ∙ length-prefix_len p bs)) (row p bs some)
-
-  pub taken_text : take (first_token bs).bytes bs ≡ take_while p bs
-  taken_text = ap (λ n. take n bs) (ap (λ (f : Taken). f.bytes) first ∙ length-prefix_len p bs)
-
-  pub taken_token : (first_token bs).token ≡ t
-  taken_token = ap (λ (f : Taken). f.token) first
+row_text : (p : ℕ → Bool) (bs : List ℕ) → first_is p bs ≡ true → (make : List ℕ → Token)
+    → first_token bs ≡ record { token = make (take_while p bs); bytes = length (take_while p bs) }
+    → IsRow p (take (first_token bs).bytes bs) (drop (first_token bs).bytes bs) × ((first_token bs).token ≡ make (take (first_token bs).bytes bs))
+row_text p bs some make first =
+    let count = ap (λ (f : Taken). f.bytes) first ∙ length-prefix_len p bs in (
+      subst (λ n. IsRow p (take n bs) (drop n bs)) (sym count) (row p bs some),
+      ap (λ (f : Taken). f.token) first ∙ ap (λ n. make (take n bs)) (sym count),
+    )
 
 -- the token is a mark or unknown
 abbrev is_other : Token → Bool
@@ -59,15 +57,9 @@ first-text : (b : ℕ) (bs : List ℕ)
     → IsTokenText (first_token (b ∷ bs)).token (take (first_token (b ∷ bs)).bytes (b ∷ bs)) (drop (first_token (b ∷ bs)).bytes (b ∷ bs))
 first-text b bs =
     elim (cases_Bool (is_ascii_alphabetic b)) [
-      | inl letter ↦
-          (let first = letters_first (b ∷ bs) letter in
-          Letters (taken_row is_ascii_alphabetic (b ∷ bs) letter _ first)
-          (taken_token is_ascii_alphabetic (b ∷ bs) letter _ first ∙ ap word_token (sym (taken_text is_ascii_alphabetic (b ∷ bs) letter _ first))))
+      | inl letter ↦ (let text = row_text is_ascii_alphabetic (b ∷ bs) letter word_token (letters_first (b ∷ bs) letter) in Letters text.0 text.1)
       | inr no_letter ↦ elim (cases_Bool (is_ascii_digit b)) [
-        | inl digit ↦
-            (let first = digits_first (b ∷ bs) digit in
-            Digits (taken_row is_ascii_digit (b ∷ bs) digit _ first)
-            (taken_token is_ascii_digit (b ∷ bs) digit _ first ∙ ap number_token (sym (taken_text is_ascii_digit (b ∷ bs) digit _ first))))
+        | inl digit ↦ (let text = row_text is_ascii_digit (b ∷ bs) digit number_token (digits_first (b ∷ bs) digit) in Digits text.0 text.1)
         | inr no_digit ↦
             other_text b bs no_letter no_digit (first_token (b ∷ bs)).token refl
             (ap (λ (f : Taken). is_other f.token) (first_other b bs no_letter no_digit) ∙ of_marks (λ t. is_other t ≡ true) refl (λ m. refl) (b ∷ bs) marks)

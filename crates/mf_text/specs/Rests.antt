@@ -1,6 +1,6 @@
 -- The rests of lines: what may follow in a line, token by token, and the line that it ends as. The grammar is one of them.
 use Rattle.std.specs.Prelude.{ℕ, List, [], ◌∷◌, ◌++◌, Bool, true, false, Option, None, Some, Result, Ok, Err, ok_or, if◌then◌else◌}
-use Rattle.std.specs.Option.{option_map, option_and_then}
+use Rattle.std.specs.Option.{option_map, option_and_then, option_or}
 use Rattle.mf_text.specs.declared.token.Mark.TheVariants as mark
 use Rattle.mf_text.specs.declared.token.Word.TheVariants as word
 pub use Rattle.mf_text.specs.Ahead.{Ahead}
@@ -148,11 +148,6 @@ code_in negative t = option_and_then code_of (number_in negative t)
 abbrev pub before : {A : Type 0} → (A → Rest) → Option A → Option Place
 before next a = option_map (λ x. Before (next x)) a
 
--- the first of two places if there is one, or else the second
-abbrev pub or_place : Option Place → Option Place → Option Place
-or_place None other = other
-or_place (Some p) other = Some p
-
 -- the place after this token if it comes, or else another place
 abbrev pub if_token : Token → Token → Rest → Option Place → Option Place
 if_token t u this other = if is_token t u then Some (Before this) else other
@@ -163,7 +158,7 @@ step_from (Ends l) t = None
 step_from (One u this) t = if_token t u this None
 step_from (Or u this other) t = if_token t u this (step_from other t)
 step_from (AName next) t = before next (name_in t)
-step_from (OrName next other) t = or_place (before next (name_in t)) (step_from other t)
+step_from (OrName next other) t = option_or (before next (name_in t)) (step_from other t)
 step_from (ANumber negative next) t = before next (number_in negative t)
 step_from (ACode next) t = if is_token t (token.Mark mark.Minus) then Some (CodeNumber next) else before next (code_in false t)
 step_from (Corners first others next) t =
