@@ -1,5 +1,5 @@
 -- The registers that a line names are letters.
-use Rattle.std.proofs.Common.{◌≡◌, ℕ, ◌<◌, true, leb, List, [], ◌∷◌, ◌++◌, subst, sym, arith}
+use Rattle.std.proofs.Common.{◌≡◌, ℕ, ◌<◌, true, leb, ◌-◌, get_or, List, [], ◌∷◌, ◌++◌, subst, sym, arith}
 use Rattle.std.specs.List.{AllByRecursion}
 use Rattle.std.proofs.lemmas.Bool.{and_parts, false≢true, leb-true}
 use Rattle.mf_text.specs.Token as token
@@ -7,7 +7,7 @@ use Rattle.mf_text.specs.Grammar.{Form, AddContour, AddPicture, CullKeeping, Cul
 use Rattle.mf_text.specs.Lines.{Gives}
 use Rattle.mf_text.specs.Meaning.{Meaning, Is, If, Turns, Means, meaning, Command}
 use Rattle.mf_text.specs.Registers.{IsName, IsSource, HasNames}
-use Rattle.mf_text.specs.Tokens.{is_letter, kinds, letter_number, tokens, Placed, Token}
+use Rattle.mf_text.specs.Tokens.{is_letter, kinds, tokens, Placed, Token}
 use Rattle.mf_text.specs.TokenTexts.{AMark, AreTokens, Digits, IsTokenText, Letters, OtherByte}
 use Rattle.mf_text.proofs.TokenTexts.{are_tokens}
 use Rattle.mf_text.proofs.Words.{of_letters, of_numbers}
@@ -22,7 +22,7 @@ IsLetter _ = Unit {0}
 abbrev AreLetters : List Token → Type 0
 AreLetters ts = AllByRecursion IsLetter ts
 
-small_number : (text : List ℕ) → is_letter text ≡ true → letter_number text < 26
+small_number : (text : List ℕ) → is_letter text ≡ true → get_or text 0 0 - 97 < 26
 small_number [] is = absurd (false≢true is)
 small_number (b ∷ []) is = let bounds = and_parts (leb 97 b) (leb b 122) is in omega (arith, leb-true 97 b bounds.0, leb-true b 122 bounds.1)
 small_number (b ∷ c ∷ bs) is = absurd (false≢true is)

@@ -2,6 +2,7 @@
 use Rattle.std.proofs.Common.{◌≡◌, inl, inr, ℕ, ◌-◌, ◌&&◌, ◌≤◌, Bool, true, false, cond, eqb, leb, ltb, bytes_eq, if◌then◌else◌, List, [], ◌∷◌, ◌++◌, Option, None, Some, length, get_or, take, drop, refl, sym, ap, subst, ◌∙◌, arith, rules, suc, ◌+◌}
 use Rattle.std.specs.Char.{is_ascii_alphabetic, is_ascii_digit}
 use Rattle.std.specs.List.{list_all, prefix_len, starts_with, take_while, All}
+use Rattle.std.specs.Option.{option_map_or}
 use Rattle.std.specs.Str.Parse.{digits_value}
 use Rattle.std.proofs.lemmas.Bool.{and_parts, cases_Bool, cond_both, false≢true, le-leb, leb-true}
 use Rattle.std.proofs.lemmas.Bool.Decides.{Decides-eqb, nat_tests}
@@ -14,7 +15,7 @@ use Rattle.mf_text.specs.Grammar.{Mark, Word}
 use Rattle.mf_text.specs.declared.token.Word.TheVariants as word
 use Rattle.mf_text.specs.Token.{Token, is_token, letter_in, value_in}
 use Rattle.mf_text.specs.Token as token
-use Rattle.mf_text.specs.Tokens.{Finds, FindsToken, Taken, first_token, first_is, is_letter, known_word, letter_number, mark_among, marks, number_token, word_among, word_text, word_token, words}
+use Rattle.mf_text.specs.Tokens.{Finds, FindsToken, Taken, first_token, first_is, is_letter, mark_among, marks, number_token, word_among, word_text, word_token, words}
 use Rattle.std.proofs.lemmas.List.Elements.{All-cons, All-nil}
 use Rattle.mf_text.specs.TokenTexts.{IsRow}
 
@@ -79,11 +80,11 @@ module _ (P : Token → Type 0) (unknown : P token.Unknown) where
   unfolding number_token
   of_numbers number digits = cond_both (leb (length digits) 9) (token.Number (digits_value 10 digits)) token.Unknown P (λ _. number _) (λ _. unknown)
 
-  known : ((w : Word) → P (token.Word w)) → (o : Option Word) → P (known_word o)
+  known : ((w : Word) → P (token.Word w)) → (o : Option Word) → P (option_map_or token.Word o token.Unknown)
   known word None = unknown
   known word (Some w) = word w
 
-  pub of_letters : ((w : Word) → P (token.Word w)) → (letters : List ℕ) → (is_letter letters ≡ true → P (token.Letter (letter_number letters)))
+  pub of_letters : ((w : Word) → P (token.Word w)) → (letters : List ℕ) → (is_letter letters ≡ true → P (token.Letter (get_or letters 0 0 - 97)))
       → P (word_token letters)
   unfolding word_token
   of_letters word letters letter = cond_both (is_letter letters) _ _ P letter (λ _. known word (word_among words letters))
@@ -144,7 +145,7 @@ unfolding word_token
 word_is w ls =
     cond_both (is_letter ls) _ _ (λ t. is_token t (token.Word w) ≡ true → ls ≡ word_text w) (λ _ none. absurd (false≢true none))
     (λ _. known_is (word_among words ls) refl) where
-      known_is : (o : Option Word) → word_among words ls ≡ o → is_token (known_word o) (token.Word w) ≡ true → ls ≡ word_text w
+      known_is : (o : Option Word) → word_among words ls ≡ o → is_token (option_map_or token.Word o token.Unknown) (token.Word w) ≡ true → ls ≡ word_text w
       known_is None is none = absurd (false≢true none)
       known_is (Some v) is same = are_written words w ls all_written (is ∙ ap Some (same_word v w same))
 

@@ -1,8 +1,9 @@
 -- The tokens of a line of a script: words, letters, numbers and marks. Blanks may come between tokens, and `%` begins a comment,
 -- which goes to the end of the line.
-use Rattle.std.specs.Prelude.{◌≡◌, ◌≤◌, true, false, ℕ, zero, suc, ◌+◌, ◌-◌, ◌==◌, ◌&&◌, Bool, List, [], ◌∷◌, Option, None, Some, length, drop, take_while, map, nat_eq, nat_le, nat_lt, if◌then◌else◌}
+use Rattle.std.specs.Prelude.{◌≡◌, ◌≤◌, true, false, ℕ, zero, suc, ◌+◌, ◌-◌, ◌==◌, ◌&&◌, Bool, List, [], ◌∷◌, Option, None, Some, length, drop, get_or, take_while, map, nat_eq, nat_le, nat_lt, if◌then◌else◌}
 use Rattle.std.specs.Char.{is_ascii_alphabetic, is_ascii_digit}
 use Rattle.std.specs.List.{starts_with}
+use Rattle.std.specs.Option.{option_map_or}
 use Rattle.std.specs.Str.{bytes_eq}
 use Rattle.std.specs.Str.Parse.{digits_value}
 pub use Rattle.mf_text.specs.declared.token.Mark.{Mark}
@@ -48,23 +49,12 @@ pub record Taken : Type 0 where
 
 -- the letters are a single one, `a`..`z`
 abbrev pub is_letter : List ℕ → Bool
-is_letter [] = nat_lt 1 0
 is_letter (b ∷ []) = nat_le 97 b && nat_le b 122
-is_letter (b ∷ c ∷ bs) = nat_lt 1 0
+is_letter bs = false
 
--- the number of a single letter, 0 for `a`
-abbrev pub letter_number : List ℕ → ℕ
-letter_number [] = 0
-letter_number (b ∷ bs) = b - 97
-
--- the token of a word, or the unknown token where there is no word
-abbrev pub known_word : Option Word → Token
-known_word None = token.Unknown
-known_word (Some w) = token.Word w
-
--- the token whose text is this longest row of letters
+-- the token whose text is this longest row of letters: a letter by its number, 0 for `a`, or a word
 unfoldable pub word_token : List ℕ → Token
-word_token letters = if is_letter letters then token.Letter (letter_number letters) else known_word (word_among words letters)
+word_token letters = if is_letter letters then token.Letter (get_or letters 0 0 - 97) else option_map_or token.Word (word_among words letters) token.Unknown
 
 -- the token whose text is this longest row of digits: a number has at most nine of them
 unfoldable pub number_token : List ℕ → Token
