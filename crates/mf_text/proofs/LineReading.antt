@@ -174,7 +174,7 @@ module _ (ahead : Ahead) (column : ℕ) (found : Stops (Before line) ahead.past 
       let coded = coded ts [] (Before line) found.place spells_line shows in
       let fourth : found.place ≡ 4 = omega (arith, coded.1) in
       let long : 4 ≤ length ahead.tokens = omega (arith, fourth, found.at.within, length-map ahead.tokens (λ (p : Placed). p.token)) in
-      found.column_is ∙ ap chosen shows ∙ ap (last_column ahead.past ahead.tokens) fourth ∙ last_before ahead.tokens 3 ahead.past ahead.past (omega (arith, long))
+      found.column_is ∙ ap chosen shows ∙ ap (last_column ahead.past ahead.tokens) fourth ∙ last_before ahead.tokens 3 _ ahead.past (omega (arith, long))
       ∙ ap (column_at ahead) (sym (report_place-three ts found.place coded.0 fourth))
 
   shows_there : is_shown ≡ false → (bad : Bool) → (is_negative_code ts && eqb found.place 4) ≡ bad → column ≡ column_at ahead (report_place ts found.place)

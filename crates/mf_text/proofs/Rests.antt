@@ -151,7 +151,8 @@ show_read Null = choice_read _ _ (token.Word word.NullPicture) refl
 show_read (Named Current) = choice_read _ _ (token.Word word.CurrentPicture) refl
 show_read (Named (Register letter)) = choice_read _ _ (token.Letter letter) refl
 
-again_read : (name : Name) → Leads (Or (token.Word word.NullPicture) (line_end (Clear name)) (One (name_token name) (transform name))) (spell_name name) (transform name)
+again_read : (name : Name)
+    → Leads (Or (token.Word word.NullPicture) (line_end (Clear name)) (One (name_token name) (transform name))) (spell_name name) (transform name)
 again_read Current = choice_read _ _ (token.Word word.CurrentPicture) refl
 again_read (Register letter) = choice_read _ _ (token.Letter letter) (if_same (token.Letter letter) (transform (Register letter)) None)
 
@@ -164,7 +165,8 @@ again_name_read name = on (on (assignment_read name) (one_read _ _)) (again_read
 -- ---- forms
 
 motion_read : (name : Name) (motion : Transform) → Leads (transform name) (spell_transform motion) (line_end (Move name motion))
-motion_read name (Shifted by) = on (word_read word.Shifted (transform name) (pair (λ p. line_end (Move name (Shifted p)))) refl) (pair_read (λ p. line_end (Move name (Shifted p))) by)
+motion_read name (Shifted by) =
+    let next : Pair → Rest = λ p. line_end (Move name (Shifted p)) in on (word_read word.Shifted (transform name) (pair next) refl) (pair_read next by)
 motion_read name (Scaled n) = on (word_read word.Scaled (transform name) (of_int (λ i. Move name (Scaled i))) refl) (int_read _ n)
 motion_read name (XScaled n) = on (word_read word.XScaled (transform name) (of_int (λ i. Move name (XScaled i))) refl) (int_read _ n)
 motion_read name (YScaled n) = on (word_read word.YScaled (transform name) (of_int (λ i. Move name (YScaled i))) refl) (int_read _ n)
@@ -197,7 +199,8 @@ form_read (Move name motion) ended = line_end_read _ ended _ (on (again_name_rea
 form_read (ShowTotal s) ended =
     line_end_read _ ended _ (on (on (word_read word.Show line show refl) (or_read _ _ _)) (source_read (λ p. line_end (ShowTotal p)) s))
 form_read (ShowPicture s) ended = line_end_read _ ended _ (on (word_read word.Show line show refl) (show_read s))
-form_read (ShowProof s) ended = line_end_read _ ended _ (on (word_read word.Proof line (of_source ShowProof) refl) (source_read (λ p. line_end (ShowProof p)) s))
+form_read (ShowProof s) ended =
+    line_end_read _ ended _ (on (word_read word.Proof line (of_source ShowProof) refl) (source_read (λ p. line_end (ShowProof p)) s))
 form_read (ShipOut s code dx width) ended =
     line_end_read _ ended _
     (on (on (on (on (on (on (on (word_read word.Shipout line shipout refl)

@@ -291,7 +291,8 @@ pub digits_lacking : (bs : List ℕ) → first_is is_ascii_digit bs ≡ false �
 unfolding first_token
 digits_lacking bs none =
     let P : Taken → Type 0 = λ t. value_in t.token ≡ None in
-    cond_both (ltb 0 (length (take (prefix_len is_ascii_alphabetic bs) bs))) _ _ P (λ _. of_letters (λ t. value_in t ≡ None) refl (λ w. refl) (letters bs) (λ _. refl))
+    cond_both (ltb 0 (length (take (prefix_len is_ascii_alphabetic bs) bs))) _ _ P
+    (λ _. of_letters (λ t. value_in t ≡ None) refl (λ w. refl) (letters bs) (λ _. refl))
     (λ _. cond_both (ltb 0 (length (take (prefix_len is_ascii_digit bs) bs))) _ _ P (λ some. absurd (false≢true (sym (no_digits bs none) ∙ some)))
     (λ _. of_marks (λ t. value_in t ≡ None) refl (λ m. refl) bs marks)) where
       no_digits : (xs : List ℕ) → first_is is_ascii_digit xs ≡ false → ltb 0 (length (take (prefix_len is_ascii_digit xs) xs)) ≡ false
