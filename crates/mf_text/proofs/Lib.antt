@@ -5,6 +5,7 @@ pub mod LineReading
 pub mod LineTokens
 pub mod Marks
 pub mod OneAnswer
+pub mod OneCut
 pub mod ReadInts
 pub mod Reading
 pub mod Registers

@@ -32,7 +32,8 @@ is_other (token.Mark m) = true
 is_other token.Unknown = true
 is_other t = false
 
-module _ (b : ℕ) (bs : List ℕ) (letter : is_ascii_alphabetic b ≡ false) (digit : is_ascii_digit b ≡ false) where
+module _ (b : ℕ) (bs : List ℕ) (letter : is_ascii_alphabetic b ≡ false) (digit : is_ascii_digit b ≡ false)
+    (blank : is_blank b ≡ false) (comment : eqb b 37 ≡ false) where
   abbrev xs : List ℕ
   xs = b ∷ bs
 
@@ -50,19 +51,28 @@ module _ (b : ℕ) (bs : List ℕ) (letter : is_ascii_alphabetic b ≡ false) (d
       AMark m (record { written = text; longest = ap (is_longer m) (take-append-drop (first_token xs).bytes xs) ∙ no_longer m xs is }) refl
   other_text token.Unknown is other =
       let one : (first_token xs).bytes ≡ 1 = ap (λ (f : Taken). f.bytes) first_other ∙ one_byte xs marks (sym (ap (λ (f : Taken). f.token) first_other) ∙ is) in
-      OtherByte (record { byte = b; one = ap (λ n. take n xs) one; no_letter = letter; no_digit = digit; no_mark = λ m. ap (λ n. starts_with eqb (b ∷ drop n xs) (mark_text m)) one ∙ none_there m xs is }) refl
+      OtherByte (record {
+        byte = b;
+        one = ap (λ n. take n xs) one;
+        no_letter = letter;
+        no_digit = digit;
+        no_blank = blank;
+        no_comment = λ same. false≢true (sym comment ∙ ap (λ n. eqb n 37) same);
+        no_mark = λ m. ap (λ n. starts_with eqb (b ∷ drop n xs) (mark_text m)) one ∙ none_there m xs is;
+      }) refl
   other_text t is none = absurd (false≢true none)
 
-first-text : (b : ℕ) (bs : List ℕ)
+first-text : (b : ℕ) (bs : List ℕ) → is_blank b ≡ false → eqb b 37 ≡ false
     → IsTokenText (first_token (b ∷ bs)).token (take (first_token (b ∷ bs)).bytes (b ∷ bs)) (drop (first_token (b ∷ bs)).bytes (b ∷ bs))
-first-text b bs =
+first-text b bs blank comment =
     elim (cases_Bool (is_ascii_alphabetic b)) [
       | inl letter ↦ (let text = row_text is_ascii_alphabetic (b ∷ bs) letter word_token (letters_first (b ∷ bs) letter) in Letters text.0 text.1)
       | inr no_letter ↦ elim (cases_Bool (is_ascii_digit b)) [
         | inl digit ↦ (let text = row_text is_ascii_digit (b ∷ bs) digit number_token (digits_first (b ∷ bs) digit) in Digits text.0 text.1)
         | inr no_digit ↦
-            other_text b bs no_letter no_digit (first_token (b ∷ bs)).token refl
-            (ap (λ (f : Taken). is_other f.token) (first_other b bs no_letter no_digit) ∙ of_marks (λ t. is_other t ≡ true) refl (λ m. refl) (b ∷ bs) marks)
+            other_text b bs no_letter no_digit blank comment (first_token (b ∷ bs)).token refl
+            (ap (λ (f : Taken). is_other f.token) (first_other b bs no_letter no_digit blank comment)
+            ∙ of_marks (λ t. is_other t ≡ true) refl (λ m. refl) (b ∷ bs) marks)
       ]
     ]
 
@@ -96,10 +106,10 @@ more-blank column b bs (p ∷ ps) blank (cut, later) = (
 no_more : (column : ℕ) (rest : List ℕ) → IsEnd rest → AreTokens column rest []
 no_more column rest end = record { blanks = []; rest = rest; parts = refl; blank = All-nil blank_byte; end = end }
 
-one-token : (column b : ℕ) (bs : List ℕ) (ps : List Placed)
+one-token : (column b : ℕ) (bs : List ℕ) (ps : List Placed) → is_blank b ≡ false → eqb b 37 ≡ false
     → AreTokens (column + (first_token (b ∷ bs)).bytes) (drop (first_token (b ∷ bs)).bytes (b ∷ bs)) ps
     → AreTokens column (b ∷ bs) (token_at column (first_token (b ∷ bs)) ∷ ps)
-one-token column b bs ps later =
+one-token column b bs ps blank comment later =
     let first = first_token (b ∷ bs) in
     let xs : List ℕ = b ∷ bs in
     let takes = first_taken b bs in (
@@ -111,7 +121,7 @@ one-token column b bs ps later =
         blank = All-nil blank_byte;
         column_is = omega arith;
         after_is = ap (λ n. column + n) (sym (length-take-le first.bytes xs takes.within));
-        token = first-text b bs;
+        token = first-text b bs blank comment;
       },
       later,
     )
@@ -126,7 +136,7 @@ cut-within (suc n) column (b ∷ bs) short =
     cond_both (is_blank b) _ _ (AreTokens column (b ∷ bs))
     (λ blank. more-blank column b bs (tokens_within n (column + 1) bs) blank (cut-within n (column + 1) bs (omega arith)))
     (λ clear. cond_both (eqb b 37) _ _ (AreTokens column (b ∷ bs)) (λ comment. no_more column (b ∷ bs) (eqb-true b 37 comment))
-    (λ token. one-token column b bs (tokens_within n (column + first.bytes) (drop first.bytes (b ∷ bs)))
+    (λ token. one-token column b bs (tokens_within n (column + first.bytes) (drop first.bytes (b ∷ bs))) clear token
     (cut-within n (column + first.bytes) (drop first.bytes (b ∷ bs)) (omega (arith, rest_shorter b bs)))))
 
 -- the tokens of a line are its bytes, cut in this way

@@ -13,3 +13,4 @@ pub mod Syntax
 pub mod TokenTexts
 pub mod Token
 pub mod Tokens
+pub mod Written

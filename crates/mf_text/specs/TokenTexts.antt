@@ -1,5 +1,5 @@
 -- How a line is cut into tokens, said without a scanner: each is as long as possible, and only blanks come between them.
-use Rattle.std.specs.Prelude.{◌≡◌, ◌<◌, ◌+◌, ℕ, Bool, true, false, List, [], ◌∷◌, ◌++◌, length, nat_eq}
+use Rattle.std.specs.Prelude.{◌≡◌, ◌≢◌, ◌<◌, ◌+◌, ℕ, Bool, true, false, List, [], ◌∷◌, ◌++◌, length, nat_eq}
 use Rattle.std.specs.Char.{is_ascii_alphabetic, is_ascii_digit}
 use Rattle.std.specs.List.{All, starts_with}
 use Rattle.mf_text.specs.Token as token
@@ -16,12 +16,14 @@ pub record IsMarkText (m : Mark) (text rest : List ℕ) : Type 0 where
   pub written : text ≡ mark_text m
   pub longest : is_longer m (text ++ rest) ≡ false
 
--- the text is one byte that is neither a letter nor a digit, and no mark is there
+-- the text is one byte that is neither a letter, a digit nor a blank and begins no comment, and no mark is there
 pub record IsOtherByte (text rest : List ℕ) : Type 0 where
   pub byte : ℕ
   pub one : text ≡ byte ∷ []
   pub no_letter : is_ascii_alphabetic byte ≡ false
   pub no_digit : is_ascii_digit byte ≡ false
+  pub no_blank : is_blank byte ≡ false
+  pub no_comment : byte ≢ 37
   pub no_mark : (m : Mark) → starts_with nat_eq (byte ∷ rest) (mark_text m) ≡ false
 
 -- the token has this text, after which the rest comes

@@ -16,13 +16,17 @@ pub use Rattle.mf_text.specs.Bytes.{is_blank}
 pub use Rattle.mf_text.specs.Token.{Token, Placed, is_token}
 use Rattle.mf_text.specs.Token as token
 
+-- the entries of a table of the code
+abbrev pub entries_of : {A : Type 0} → List (record { now : List ℕ } × A) → List (List ℕ × A)
+entries_of table = map (λ entry. (entry.0.now, entry.1)) table
+
 -- the words, each after the bytes that it is written with
 abbrev pub words : List (List ℕ × Word)
-words = map (λ entry. (entry.0.now, entry.1)) WORDS
+words = entries_of WORDS
 
 -- the marks, each after the bytes that it is written with; of two at one place the first counts, and `--` comes before `-`
 abbrev pub marks : List (List ℕ × Mark)
-marks = map (λ entry. (entry.0.now, entry.1)) MARKS
+marks = entries_of MARKS
 
 -- how a table writes a word or a mark
 abbrev pub text_in : {A : Type 0} → (A → A → Bool) → List (List ℕ × A) → A → List ℕ

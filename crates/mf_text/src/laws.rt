@@ -2,21 +2,31 @@
 //! where a function's contract names it.
 ghost use Rattle.std.specs.Prelude.{◌≡◌, ◌≢◌, ◌⊎◌, ℕ, List};
 ghost use Rattle.mf_text.specs.declared.command.Command.{Command};
-ghost use Rattle.mf_text.specs.Token.{Token};
+ghost use Rattle.mf_text.specs.declared.token.TheConstants.{MARKS, WORDS};
+ghost use Rattle.mf_text.specs.Token.{Placed, Token};
 ghost use Rattle.mf_text.specs.Ahead.{Ahead};
 ghost use Rattle.mf_text.specs.Grammar.{Line, spell_line};
 ghost use Rattle.mf_text.specs.Lines.{Gives, IsRefused};
 ghost use Rattle.mf_text.specs.Registers.{HasNames};
 ghost use Rattle.mf_text.specs.Syntax.{IsLine, StartsLine, IsSyntaxFault};
-ghost use Rattle.mf_text.specs.Tokens.{kinds, tokens};
+ghost use Rattle.mf_text.specs.Tokens.{entries_of, kinds, tokens};
 ghost use Rattle.mf_text.specs.TokenTexts.{AreTokens};
+ghost use Rattle.mf_text.specs.Written.{written_marks, written_words};
 
 use crate::fault::TextFault;
 
+/// The words and the marks of the language are written so, and it has no others: the tables from which its definition and its
+/// reader take them have these texts.
+pub fn words_are_written()
+    ensures words { entries_of WORDS ≡ written_words }
+    ensures marks { entries_of MARKS ≡ written_marks }
+{}
+
 /// The tokens of a line are its bytes, cut from the left: each is as long as possible, only blanks come between them, and after
-/// the last one only blanks and perhaps a comment.
+/// the last one only blanks and perhaps a comment. No other list of tokens is cut from a line in this way.
 pub fn tokens_are_as_long_as_can_be()
-    ensures { (line : List ℕ) → AreTokens 1 line (tokens line) }
+    ensures cut { (line : List ℕ) → AreTokens 1 line (tokens line) }
+    ensures one_cut { (line : List ℕ) (others : List Placed) → AreTokens 1 line others → others ≡ tokens line }
 {}
 
 /// A list of tokens is at most one line of the grammar.
