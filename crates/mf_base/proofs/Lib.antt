@@ -1,1 +1,2 @@
 mod KnownTexts
+mod Messages

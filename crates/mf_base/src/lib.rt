@@ -1,8 +1,8 @@
-//! What every layer needs: failed allocations, and writing with a count.
+//! What every layer needs: failed allocations, and writing.
 #![tactic(auto)]
 
 mod memory;
 mod output;
 
 pub use memory::OutOfMemory;
-pub use output::write_counted;
+pub use output::{write_counted, write_text};

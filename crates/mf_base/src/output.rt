@@ -1,6 +1,7 @@
-//! Writing that counts how many bytes a writer took before it failed.
+//! Writing that counts how many bytes a writer took before it failed, and of texts that may be lost.
 ghost use Rattle.std.specs.Io.KnownBytes.{Appends};
-ghost use Rattle.std.specs.Prelude.{◌<◌, IfErr, OnOk, length, take};
+ghost use Rattle.std.specs.Prelude.{◌≡◌, ◌<◌, IfErr, OnOk, length, take, true};
+ghost use Rattle.mf_base.specs.Messages.{GetsMessage};
 
 use std::io::Write;
 
@@ -19,4 +20,12 @@ pub fn write_counted<W: Write>(writer: &mut W, bytes: &[u8]) -> Result<(), usize
         }
     }
     Ok(())
+}
+
+/// Writes a text, such as a message or a piece of one, as far as the writer takes it. Whether it took all.
+pub fn write_text<W: Write>(writer: &mut W, text: &str) -> bool
+    ensures all { result ≡ true → Appends (W.contents writer.old) (W.contents writer.new) text.now }
+    ensures front { GetsMessage (W.contents writer.old) (W.contents writer.new) text.now }
+{
+    write_counted(writer, text.as_bytes()).is_ok()
 }

@@ -8,10 +8,11 @@ use Rattle.mf_desk.specs.Performances.{Performs, asked}
 use Rattle.mf_desk.specs.Streams.{Streams}
 use Rattle.mf_desk.specs.declared.outcome.Outcome.{Outcome}
 use Rattle.mf_desk.specs.declared.settings.Settings.{Settings}
+use Rattle.mf_session.specs.States.{most_bytes, most_operations}
 
 -- the limits of a script, and the numbers of its font
 abbrev pub settings : Settings
-settings = record { max_ops = 1000000; max_bytes = 16777216; font = record { ds = pos 0; cs = 0; hppp = pos 0; vppp = pos 0 } }
+settings = record { max_ops = most_operations; max_bytes = most_bytes; font = record { ds = pos 0; cs = 0; hppp = pos 0; vppp = pos 0 } }
 
 -- how often each viewer looks
 abbrev pub looks : ℕ

@@ -2,6 +2,7 @@
 #![tactic(auto)]
 
 mod fault;
+pub mod laws;
 pub mod program;
 
 pub use fault::ProgramFault;

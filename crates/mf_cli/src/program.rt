@@ -1,19 +1,21 @@
 //! The program that `main` calls: from its words and streams to its exit status.
 ghost use Rattle.std.specs.Io.KnownBytes.{Appends, IsAtEnd};
 ghost use Rattle.std.specs.Prelude.{◌≡◌, ◌<◌, ◌≤◌, ◌⊎◌, ℕ, IfErr, IfOk, OnOk, length, take};
+ghost use Rattle.mf_base.specs.Messages.{GetsMessage};
 ghost use Rattle.mf_words.specs.CommandLine.{IsCommandLine};
 ghost use Rattle.mf_cli.specs.Faults.{EndsBadly, ReportsFault};
-ghost use Rattle.mf_cli.specs.Messages.{GetsMessage, message_of, usage};
+ghost use Rattle.mf_cli.specs.Messages.{message_of, usage};
 ghost use Rattle.mf_cli.specs.Output.{EndsWell, looks, request_in, request_of, settings, words_of};
 ghost use Rattle.mf_cli.specs.Statuses.{status_of};
 ghost use Rattle.mf_desk.specs.Performances.{Performs, Tells, asked};
 ghost use Rattle.mf_desk.specs.Streams.{Passes, streams_of};
 
 use crate::fault::ProgramFault;
-use mf_base::write_counted;
+use mf_base::write_text;
 use mf_desk::{OpenGate, Outcome, RunFault, Settings};
 use mf_gf::{FontWords, GfBytes};
 use mf_options::WordsFault;
+use mf_session::{MAX_BYTES, MAX_OPS};
 use mf_words::{USAGE, Words, read_words};
 use std::alloc::Global;
 use std::fs;
@@ -24,8 +26,8 @@ use std::thread::Threads;
 
 /// The limits of a script, and the numbers of its font.
 const SETTINGS: Settings = Settings {
-    max_ops: 1_000_000,
-    max_bytes: 16_777_216,
+    max_ops: MAX_OPS,
+    max_bytes: MAX_BYTES,
     font: FontWords {
         ds: 0,
         cs: 0,
@@ -162,7 +164,7 @@ pub fn refuse_words<E: Write>(errors: &mut E) -> u8
     ensures status { result ≡ BAD_WORDS }
     ensures message { GetsMessage (E.contents errors.old) (E.contents errors.new) usage }
 {
-    write_message(errors, USAGE);
+    write_text(errors, USAGE);
     BAD_WORDS
 }
 
@@ -171,7 +173,7 @@ pub fn report<E: Write>(errors: &mut E, fault: ProgramFault) -> u8
     ensures status { result ≡ status_of fault }
     ensures message { GetsMessage (E.contents errors.old) (E.contents errors.new) (message_of fault) }
 {
-    write_message(errors, message_of(fault));
+    write_text(errors, message_of(fault));
     match fault {
         ProgramFault::Run(RunFault::OutOfMemory | RunFault::NoPlace | RunFault::NoLook) => WANTING,
         ProgramFault::Run(RunFault::FileTooLong | RunFault::ReadFault | RunFault::WriteFault(_)) =>
@@ -193,14 +195,5 @@ fn message_of(fault: ProgramFault) -> &'static str
         ProgramFault::Run(RunFault::WriteFault(_)) => "mfpic: WriteFault\n",
         ProgramFault::Run(RunFault::NoLook) => "mfpic: NoLook\n",
         ProgramFault::NoCharacters => "mfpic: NoCharacters\n",
-    }
-}
-
-/// Writes a message, as far as `errors` takes it.
-fn write_message<E: Write>(errors: &mut E, message: &str)
-    ensures { GetsMessage (E.contents errors.old) (E.contents errors.new) message.now }
-{
-    match write_counted(errors, message.as_bytes()) {
-        Ok(()) | Err(_) => (),
     }
 }

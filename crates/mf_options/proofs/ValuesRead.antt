@@ -162,5 +162,6 @@ module _ (c : Command) (m : ArgMatches) (p : IsParsedFrom c m) (plain : (shape_o
 pub are_values : (c : Command) (m : ArgMatches) → IsParsedFrom c m → is_simple_and_free (app_of c) ≡ true
     → AreValuesOf (shape_of c).rules (rows_of (found_of m))
 are_values c m p all id q ok =
-    let rules = both (shape_of c).is_plain (all_simple (shape_of c).rules) (both (has_simple_rules (shape_of c)) _ (both (is_buildable (app_of c)) _ (both (is_simple (app_of c)) _ all).0).0).0 in
+    let rules = both (shape_of c).is_plain (all_simple (shape_of c).rules)
+    (both (has_simple_rules (shape_of c)) _ (both (is_buildable (app_of c)) _ (both (is_simple (app_of c)) _ all).0).0).0 in
     value c m p rules.0 rules.1 id q ok

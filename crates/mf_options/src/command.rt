@@ -1,5 +1,5 @@
 //! A command line, made of its options, and what clap finds in its words.
-ghost use Rattle.std.specs.Prelude.{◌≡◌, ◌≤◌, [], IfOk, IsErrOf, OnOk, map, string_bytes, true};
+ghost use Rattle.std.specs.Prelude.{◌≡◌, [], IfOk, IsErrOf, OnOk, map, string_bytes, true};
 ghost use Rattle.clap.specs.Words.{app_of, fault_of, found_of, is_simple_and_free, matches_of, new_app, rows_of, with_rule};
 ghost use Rattle.mf_options.specs.Options.{file_rule, flag_rule, number_rule, without_flags};
 ghost use Rattle.mf_options.specs.Values.{AreValuesOf};

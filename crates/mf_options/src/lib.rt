@@ -4,7 +4,9 @@
 mod command;
 mod fault;
 mod values;
+mod words;
 
 pub use command::{find_matches, new_command, with_file, with_flag, with_number};
 pub use fault::WordsFault;
 pub use values::{file, flag, number};
+pub use words::words_of;

@@ -15,17 +15,17 @@ use Rattle.mf_session.specs.declared.refusal.Refusal.TheVariants.{Operation as R
 -- number
 abbrev pub refusal_of : ℕ → Pictures → Name → Op → Option Fault
 refusal_of max_ops s Current op = if rev s.accepted == max_ops then Some TooManyOperations else option_map Refused (op_fault (pic s.accepted) op)
-refusal_of max_ops s (Register letter) op = option_map Refused (op_fault (slice_index_or s.registers letter []) op)
+refusal_of max_ops s (Register number) op = option_map Refused (op_fault (slice_index_or s.registers number []) op)
 
 -- a clear of a picture is accepted: always for a register, and for `currentpicture` while it accepts operations
 abbrev pub IsClearable : ℕ → Pictures → Name → Type 0
 IsClearable max_ops s Current = rev s.accepted < max_ops
-IsClearable max_ops s (Register letter) = Unit {0}
+IsClearable max_ops s (Register number) = Unit {0}
 
 -- the pictures after an operation on one of them
 abbrev pub pictures_after : Pictures → Name → Op → Pictures
 pictures_after s Current op = record s { accepted = accepted_with s (Operation op) }
-pictures_after s (Register letter) op = record s { registers = slice_set s.registers letter (next_picture (slice_index_or s.registers letter []) op) }
+pictures_after s (Register number) op = record s { registers = slice_set s.registers number (next_picture (slice_index_or s.registers number []) op) }
 
 -- an operation that is not refused prints nothing and makes the new pictures; one that is refused prints why and changes nothing
 abbrev pub Becomes : Option Fault → Pictures → Pictures → List ℕ → Pictures → Type 0

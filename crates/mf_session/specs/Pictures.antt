@@ -24,7 +24,7 @@ accepted_with s change = s.accepted ++ entry (next s.published) change ∷ []
 -- the picture with this name
 abbrev pub picture : Pictures → Name → List Dot
 picture s Current = pic s.accepted
-picture s (Register letter) = slice_index_or s.registers letter []
+picture s (Register number) = slice_index_or s.registers number []
 
 -- the picture that a command reads
 abbrev pub source_picture : Pictures → Source → List Dot

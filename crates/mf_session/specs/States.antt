@@ -23,3 +23,11 @@ pub record Limits : Type 0 where
 -- the limits with these numbers, where no font file may have more than 2,147,483,647 bytes
 abbrev pub limits_of : ℕ → ℕ → Limits
 limits_of max_ops max_bytes = record { max_ops = max_ops; max_bytes = min max_bytes 2147483647 }
+
+-- the greatest number of operations that the programs let `currentpicture` accept
+abbrev pub most_operations : ℕ
+most_operations = 1000000
+
+-- the greatest number of bytes that the programs let a font file have
+abbrev pub most_bytes : ℕ
+most_bytes = 16777216

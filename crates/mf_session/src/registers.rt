@@ -44,25 +44,25 @@ impl Registers {
     }
 
     /// The picture of a register, by its number: from 0 for `a` to 25 for `z`.
-    pub fn picture(&self, letter: u8) -> &Picture
-        requires { letter < COUNT }
-        ensures { result.now ≡ slice_index_or self.now letter [] }
+    pub fn picture(&self, number: u8) -> &Picture
+        requires { number < COUNT }
+        ensures { result.now ≡ slice_index_or self.now number [] }
     {
-        &self.pictures[letter as usize]
+        &self.pictures[number as usize]
     }
 
     /// Performs an operation on the picture of a register. It is refused as `mf_ops::apply` refuses it, and then nothing changes.
-    pub fn apply(&mut self, alloc: Global, letter: u8, op: &Op) -> Result<(), OpFault>
-        requires { letter < COUNT }
-        ensures step { OnOk result (self.new ≡ slice_set self.old letter (next_picture (slice_index_or self.old letter []) op.now)) }
+    pub fn apply(&mut self, alloc: Global, number: u8, op: &Op) -> Result<(), OpFault>
+        requires { number < COUNT }
+        ensures step { OnOk result (self.new ≡ slice_set self.old number (next_picture (slice_index_or self.old number []) op.now)) }
         ensures unchanged { OnErr result (self.new ≡ self.old) }
-        ensures accepted { OnOk result (op_fault (slice_index_or self.old letter []) op.now ≡ None) }
-        ensures refused { IfErr result (λ fault. fault ≢ OpFault.OutOfMemory → op_fault (slice_index_or self.old letter []) op.now ≡ Some fault) }
-        ensures turning { (fault : CycleFault) → op_fault (slice_index_or self.old letter []) op.now ≡ Some (OpFault.Cycle fault)
+        ensures accepted { OnOk result (op_fault (slice_index_or self.old number []) op.now ≡ None) }
+        ensures refused { IfErr result (λ fault. fault ≢ OpFault.OutOfMemory → op_fault (slice_index_or self.old number []) op.now ≡ Some fault) }
+        ensures turning { (fault : CycleFault) → op_fault (slice_index_or self.old number []) op.now ≡ Some (OpFault.Cycle fault)
             → result ≡ Err (OpFault.Cycle fault) }
-        ensures out_of_field { op_fault (slice_index_or self.old letter []) op.now ≡ Some OpFault.OutOfField → result ≡ Err OpFault.OutOfField }
+        ensures out_of_field { op_fault (slice_index_or self.old number []) op.now ≡ Some OpFault.OutOfField → result ≡ Err OpFault.OutOfField }
         ensures clears { op.now ≡ ops.Clear → IsOk result }
     {
-        apply(alloc, &mut self.pictures[letter as usize], op)
+        apply(alloc, &mut self.pictures[number as usize], op)
     }
 }

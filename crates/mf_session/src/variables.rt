@@ -65,7 +65,7 @@ impl Variables {
     {
         match name {
             Name::Current => self.writer.working(),
-            Name::Register(letter) => self.registers.picture(*letter),
+            Name::Register(number) => self.registers.picture(*number),
         }
     }
 
@@ -118,7 +118,7 @@ impl Variables {
     {
         match name {
             Name::Current => self.operate_on_current(alloc, op),
-            Name::Register(letter) => self.operate_on_register(alloc, letter, op),
+            Name::Register(number) => self.operate_on_register(alloc, number, op),
         }
     }
 
@@ -140,17 +140,17 @@ impl Variables {
     fn operate_on_register(
         &mut self,
         alloc: Global,
-        letter: u8,
+        number: u8,
         op: Op,
     ) -> Result<Vec<u8>, OutOfMemory>
-        requires { letter < 26 }
-        ensures answer { IfOk result (λ text. OperatesOn (max_ops self.old) (pictures self.old) (names.Register letter) op text.items (pictures self.new)) }
+        requires { number < 26 }
+        ensures answer { IfOk result (λ text. OperatesOn (max_ops self.old) (pictures self.old) (names.Register number) op text.items (pictures self.new)) }
         ensures unchanged { OnErr result (pictures self.new ≡ pictures self.old) }
         ensures clears { op ≡ ops.Clear → IsOk result }
         ensures max_ops { max_ops self.new ≡ max_ops self.old }
         ensures identity { identity self.new ≡ identity self.old }
     {
-        match self.registers.apply(alloc, letter, &op) {
+        match self.registers.apply(alloc, number, &op) {
             Ok(()) => Ok(Vec::new(alloc)),
             Err(fault) => refused_operation(alloc, Fault::Refused(fault)),
         }

@@ -1,39 +1,29 @@
 -- The lines of a script are its first line and the lines of the rest.
-use Rattle.std.proofs.Common.{◌≡◌, ◌≢◌, ◌⊎◌, ◌-◌, ◌<◌, ℕ, true, false, cond, eqb, List, [], ◌∷◌, ◌++◌, get_or, length, take, inl, inr, refl, sym, ap, ◌∙◌, ⊎_elim, append-nil, length-append, take_all, arith}
+use Rattle.std.proofs.Common.{◌≡◌, ◌≢◌, ◌⊎◌, ◌-◌, ◌<◌, ℕ, Bool, true, false, cond, eqb, List, [], ◌∷◌, ◌++◌, get_or, length, take, inl, inr, refl, sym, ap, ◌∙◌, ⊎_elim, append-nil, length-append, take_all, arith}
 use Rattle.std.proofs.BufReadLemmas.{take_through-append, drop_through-append}
 use Rattle.std.proofs.lemmas.Bool.{eqb-true, eqb-false, ne_eqb, eq-eqb, cases_Bool, cond-false, cond-true}
 use Rattle.std.proofs.lemmas.List.{get_or_push, take-append-le}
-use Rattle.std.proofs.lemmas.List.Elements.{All-cons, All-get_or, All-head, All-nil, All-tail}
+use Rattle.std.proofs.lemmas.List.Elements.{All-cons, All-get_or, All-nil, All-weaker}
+use Rattle.std.proofs.lemmas.List.Splits.{length-slice_split, slice_split_at, slice_split_none}
 use Rattle.std.specs.Io.BufRead.{drop_through, take_through}
 use Rattle.std.specs.Prelude.{All, ◌==◌}
-use Rattle.std.specs.List.{slice_split, onto_first}
+use Rattle.std.specs.List.{slice_split}
 use Rattle.std.specs.Str.Lines.{lines, lines_of_parts, strip_carriage_return}
 use Rattle.mf_stage.specs.Lines.{without_ending}
 
 abbrev is_other : ℕ → Type 0
 is_other b = b ≢ 10
 
-abbrev parts_of : List ℕ → List (List ℕ)
-parts_of = slice_split (λ b. b == 10)
+abbrev is_feed : ℕ → Bool
+is_feed b = b == 10
 
--- there is always a first part
-parts_first : (bs : List ℕ) → (x : List ℕ) × (more : List (List ℕ)) × (parts_of bs ≡ x ∷ more)
-parts_first [] = ([], [], refl)
-parts_first (b ∷ bs) =
-    let (x, more, is) = parts_first bs in
-    elim (b == 10) as (λ v. (y : List ℕ) × (others : List (List ℕ)) × (cond v ([] ∷ parts_of bs) (onto_first b (parts_of bs)) ≡ y ∷ others)) [
-      | true ↦ ([], parts_of bs, refl)
-      | false ↦ (b ∷ x, more, ap (onto_first b) is)
-    ]
+no_feed : (bs : List ℕ) → All is_other bs → All (λ b. is_feed b ≡ false) bs
+no_feed bs unbroken = All-weaker is_other (λ b. is_feed b ≡ false) (λ b. ne_eqb b 10) bs unbroken
 
--- bytes without a line feed go to the front of the first part
-parts-front : (front rest first : List ℕ) (more : List (List ℕ)) → All is_other front → parts_of rest ≡ first ∷ more
-    → parts_of (front ++ rest) ≡ (front ++ first) ∷ more
-parts-front [] rest first more unbroken is = is
-parts-front (b ∷ front) rest first more unbroken is =
-    let all = parts_of (front ++ rest) in
-    ap (λ v. cond v ([] ∷ all) (onto_first b all)) (ne_eqb b 10 (All-head is_other b front unbroken))
-    ∙ ap (onto_first b) (parts-front front rest first more (All-tail is_other b front unbroken) is)
+lines_of_parts-first : (part : List ℕ) (parts : List (List ℕ)) → 0 < length parts
+    → lines_of_parts (part ∷ parts) ≡ strip_carriage_return part ∷ lines_of_parts parts
+lines_of_parts-first part [] some = absurd (omega (arith, some))
+lines_of_parts-first part (next ∷ parts) some = refl
 
 -- bytes have a first line feed or none
 cut : (bs : List ℕ) → ((front : List ℕ) × (rest : List ℕ) × (bs ≡ front ++ 10 ∷ rest) × All is_other front) ⊎ All is_other bs
@@ -64,14 +54,12 @@ unended line some unbroken =
 
 lines-feed : (front rest : List ℕ) → All is_other front → lines (front ++ 10 ∷ rest) ≡ strip_carriage_return front ∷ lines rest
 lines-feed front rest unbroken =
-    let (first, more, is) = parts_first rest in
-    ap lines_of_parts (parts-front front (10 ∷ rest) [] (parts_of rest) unbroken refl ∙ ap (λ l. l ∷ parts_of rest) (append-nil front))
-    ∙ rw is refl
+    ap lines_of_parts (slice_split_at is_feed front 10 rest (no_feed front unbroken) refl)
+    ∙ lines_of_parts-first front (slice_split is_feed rest) (omega (arith, length-slice_split is_feed rest))
 
 lines-whole : (line : List ℕ) → 0 < length line → All is_other line → lines line ≡ line ∷ []
 lines-whole line some unbroken =
-    ap (λ l. lines l) (sym (append-nil line)) ∙ ap lines_of_parts (parts-front line [] [] [] unbroken refl ∙ ap (λ l. l ∷ []) (append-nil line))
-    ∙ cond-false _ _ _ (ne_eqb (length line) 0 (λ none. omega (arith, some, none)))
+    ap lines_of_parts (slice_split_none is_feed line (no_feed line unbroken)) ∙ cond-false _ _ _ (ne_eqb (length line) 0 (λ none. omega (arith, some, none)))
 
 -- the first line, and then the lines of what is left
 pub next_lines : (input : List ℕ) → 0 < length input → lines input ≡ without_ending (take_through 10 input) ∷ lines (drop_through 10 input)

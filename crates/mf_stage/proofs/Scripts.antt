@@ -2,9 +2,6 @@
 use Rattle.std.proofs.Common.{◌≡◌, ◌++◌, ◌∷◌, [], ℕ, List, Option, None, Some, IfSome, refl, sym, ap, subst, ◌∙◌, append-nil, append_assoc}
 use Rattle.std.proofs.KnownBytes.{Appends-nil, Appends-trans}
 use Rattle.std.specs.Io.BufRead.{drop_through}
-use Rattle.std.specs.Io.Buffered.{reader_buffer, reader_capacity, reader_inner, reader_remaining}
-use Rattle.std.specs.Io.KnownBytes.{IsAtEnd, prepend_known}
-use Rattle.std.specs.declared.io.buffered.BufReader.{BufReader}
 use Rattle.std.specs.Str.Lines.{lines}
 use Rattle.mf_session.proofs.Performing.{Perform-append}
 use Rattle.mf_session.specs.States.{State}
@@ -27,16 +24,6 @@ abbrev pub IsUnderWay : Stage → Option (List ℕ) → Option (List ℕ) → St
 IsUnderWay before None left now held holds = Unit {0}
 IsUnderWay before (Some input) left now held holds =
     (s : State) → StandsFor before s → (rest : List ℕ) × (left ≡ Some rest) × HasBegun before s input rest now held holds
-
--- the buffer of a reader is empty at first
-pub remaining-start : {T A : Type 0} (remaining : T → Option (List ℕ)) (script : BufReader T A) (reader : T)
-    → reader_inner script ≡ reader → reader_buffer script ≡ [] → reader_capacity script ≡ 8192
-    → reader_remaining remaining script ≡ remaining reader
-remaining-start remaining script reader inner empty capacity = rw (capacity, empty, inner) (nothing_before (remaining reader))
-  where
-    nothing_before : (known : Option (List ℕ)) → prepend_known [] known ≡ known
-    nothing_before None = refl
-    nothing_before (Some bytes) = refl
 
 -- no line has been performed
 pub under_way-start : (stage : Stage) (input held : Option (List ℕ)) → IsUnderWay stage input input stage held held
@@ -94,16 +81,6 @@ under_way-next before now later (Some input) left remaining held holds last line
             (performs begun.performed.last begun.performed.stands);
       },
     )
-
--- nothing is left
-pub under_way-end : (before now : Stage) (input left held holds : Option (List ℕ)) → IsAtEnd left → IsUnderWay before input left now held holds
-    → IfSome input (λ bytes. (s : State) → StandsFor before s → HasPerformed (step_of before s now held holds) (lines bytes))
-under_way-end before now None left held holds at_end under_way = tt
-under_way-end before now (Some input) left held holds at_end under_way = λ s stands.
-    let (rest, is, begun) = under_way s stands in
-    let nothing : rest ≡ [] = subst IsAtEnd is at_end in
-    subst (λ ls. HasPerformed (step_of before s now held holds) ls)
-    (sym (begun.ahead ∙ ap (λ bytes. begun.done ++ lines bytes) nothing ∙ append-nil begun.done)) begun.performed
 
 -- what holds of known bytes
 pub known_is : (P : List ℕ → Type 0) (left : Option (List ℕ)) (rest : List ℕ) → left ≡ Some rest → IfSome left P → P rest

@@ -2,10 +2,9 @@
 use Rattle.std.specs.Prelude.{Option}
 use Rattle.logbook.specs.Pages.{Book}
 use Rattle.mf_session.specs.Sessions as sessions
-use Rattle.mf_session.specs.States.{Limits, State, limits_of}
+use Rattle.mf_session.specs.States.{Limits, State}
 use Rattle.mf_session.specs.declared.session.Session.{Session}
 use Rattle.mf_stage.specs.declared.plate.Plates.{Plates}
-use Rattle.mf_stage.specs.declared.settings.Settings.{Settings}
 use Rattle.mf_stage.specs.declared.stage.Stage.{Stage}
 
 -- the session that performs the script
@@ -27,7 +26,3 @@ limits stage = sessions.limits stage.session
 -- where its plates go, if they are asked for
 abbrev pub plates_of : Stage → Option Plates
 plates_of stage = stage.plates
-
--- the limits with these settings
-abbrev pub limits_set : Settings → Limits
-limits_set settings = limits_of settings.max_ops settings.max_bytes

@@ -3,10 +3,10 @@ ghost use Rattle.std.specs.Io.KnownBytes.{Appends};
 ghost use Rattle.std.specs.Prelude.{◌≡◌, ◌⊎◌, ◌<◌, ◌↔◌, ◌∷◌, [], Err, IfErr, IfOk, IsOk, None, OnOk};
 ghost use Rattle.mf_live.specs.Desks.{desk_identity};
 ghost use Rattle.mf_session.specs.Endings.{HasEnded};
-ghost use Rattle.mf_session.specs.States.{State, start};
+ghost use Rattle.mf_session.specs.States.{State, limits_of, start};
 ghost use Rattle.mf_stage.specs.Publications.{IsPlateWhere, IsPublication};
 ghost use Rattle.mf_stage.specs.Scripts.{IsPerformed, Performs, PerformsAll, StillStands, step_of};
-ghost use Rattle.mf_stage.specs.Stages.{StandsFor, identity, limits, limits_set, plates_of, session_of};
+ghost use Rattle.mf_stage.specs.Stages.{StandsFor, identity, limits, plates_of, session_of};
 
 use crate::fault::StageFault;
 use crate::line::{next_line, publishes, without_ending};
@@ -47,7 +47,7 @@ impl Stage {
         plates: Option<Plates>,
     ) -> Result<(Stage, Desk), StageFault>
         ensures start { IfOk result (λ made. StandsFor made.0 start) }
-        ensures limits { IfOk result (λ made. limits made.0 ≡ limits_set settings.now) }
+        ensures limits { IfOk result (λ made. limits made.0 ≡ limits_of settings.now.max_ops settings.now.max_bytes) }
         ensures identity { IfOk result (λ made. desk_identity made.1 ≡ identity made.0) }
         ensures plates { IfOk result (λ made. plates_of made.0 ≡ plates) }
         ensures too_long { (settings.now.max_bytes < 3) ↔ (result ≡ Err StageFault.FileTooLong) }
@@ -103,6 +103,7 @@ impl Stage {
         ensures identity { identity self.new ≡ identity self.old }
         ensures plates { plates_of self.new ≡ plates_of self.old }
     {
+        // A loop must end; no script has so many lines.
         'lines: for _ in 0..u64::MAX {
             let Some(line) = next_line(alloc, script)? else {
                 return Ok(());

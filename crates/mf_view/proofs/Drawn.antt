@@ -52,7 +52,8 @@ drawn-after held then holds style canvas drawn lists L was last gets =
 -- a look draws its own list after what was drawn, or what was drawn last has its revision
 pub drawn-look : {W : Type 0} (contents : W → Option (List ℕ)) (held : Option (List ℕ)) (s t : W) (before after : Easel) (shown : Option ℕ)
     → HasLooked (viewer_of before) (viewer_of after) → HasSameManner before after → shown ≡ newly_drawn (drawn_of before) (rev (looked_at_list after))
-    → drawn_of after ≡ Some (rev (looked_at_list after)) → Gets contents s t (drawing_of before (looked_at_list after)) shown → IfSome shown (IsAbove (drawn_of before))
+    → drawn_of after ≡ Some (rev (looked_at_list after))
+    → Gets contents s t (drawing_of before (looked_at_list after)) shown → IfSome shown (IsAbove (drawn_of before))
     → HasDrawn before held (contents s) → HasDrawn after held (contents t)
 drawn-look contents held s t before after None look manner answer drawn same rising was = record {
   lists = was.lists;
@@ -66,7 +67,8 @@ drawn-look contents held s t before after (Some shown) look manner answer drawn 
     record {
       lists = looked_at_list after ∷ was.lists;
       text = in-manner held (contents t) before after (looked_at_list after ∷ was.lists) manner
-          (drawn-after held (contents s) (contents t) (style_of before) (canvas_of before) (drawn_of before) was.lists (looked_at_list after) was.text was.last gets);
+          (drawn-after held (contents s) (contents t) (style_of before) (canvas_of before) (drawn_of before)
+          was.lists (looked_at_list after) was.text was.last gets);
       rise = (subst (λ n. IsAbove (last_revision was.lists) n) revision (subst (λ d. IsAbove d shown) was.last rising), was.rise);
       seen = All-cons (IsSeenOf (looked_at_list after)) (looked_at_list after) was.lists (whole-self (looked_at_list after))
           (seen-more (looked_at_list before) (looked_at_list after) was.lists look.extends.looked was.seen);

@@ -1,3 +1,4 @@
 mod Drawn
 mod Messages
+mod Reports
 mod Shown

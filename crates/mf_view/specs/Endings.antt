@@ -8,6 +8,7 @@ use Rattle.mf_frame.specs.declared.tile.Style.TheVariants.{Colored, Plain}
 use Rattle.mf_gf.specs.declared.file.GfFile.{GfFile}
 use Rattle.mf_view.specs.Performances.{Shows, Streams}
 use Rattle.mf_view_words.specs.Requests.{IsRequest}
+use Rattle.mf_view_words.specs.Texts.{help_text}
 use Rattle.mf_view_words.specs.declared.words.Request.{Request}
 use Rattle.mf_view_words.specs.declared.words.Request.TheVariants.{Help, Show, Version}
 use Rattle.mf_view_words.specs.declared.words.Words.{Words}
@@ -34,7 +35,7 @@ IsWatched words s =
 
 -- what was asked for is written: the help text, the version, or what a performance writes
 abbrev pub EndsAs : Request → Streams → Type 0
-EndsAs Help s = (s.tells ≡ s.told) × (text : List ℕ) × Appends s.held s.holds text
+EndsAs Help s = (s.tells ≡ s.told) × Appends s.held s.holds help_text
 EndsAs Version s = (s.tells ≡ s.told) × Appends s.held s.holds (codes "mfview 1.0\n")
 EndsAs (Show words) s = IsWatched words s
 

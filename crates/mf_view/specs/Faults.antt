@@ -1,10 +1,18 @@
--- What faults of the parts are to the program.
+-- What faults of the parts are to the program, and which fault ends a run.
+use Rattle.std.specs.Prelude.{◌≡◌, ℕ, List, None, Option}
+use Rattle.clap.specs.Words.{Text}
+use Rattle.mf_base.specs.Messages.{GetsMessage}
 use Rattle.mf_easel.specs.declared.fault.EaselFault.{EaselFault}
 use Rattle.mf_easel.specs.declared.fault.EaselFault.TheVariants as easels
 use Rattle.mf_stage.specs.declared.fault.StageFault.{StageFault}
 use Rattle.mf_stage.specs.declared.fault.StageFault.TheVariants as stages
 use Rattle.mf_view.specs.declared.fault.ProgramFault.{ProgramFault}
 use Rattle.mf_view.specs.declared.fault.ProgramFault.TheVariants as faults
+use Rattle.mf_view.specs.Messages.{message_of}
+use Rattle.mf_view.specs.Statuses.{status_of}
+use Rattle.mf_view_words.specs.Requests.{IsRequest}
+use Rattle.mf_view_words.specs.declared.words.Request.TheVariants.{Show}
+use Rattle.mf_view_words.specs.declared.words.Words.{Words}
 
 -- a fault of the performance of the script
 abbrev pub fault_of_stage : StageFault → ProgramFault
@@ -20,3 +28,15 @@ abbrev pub fault_of_easel : EaselFault → ProgramFault
 fault_of_easel easels.OutOfMemory = faults.OutOfMemory
 fault_of_easel easels.NoLook = faults.NoLook
 fault_of_easel easels.WriteFault = faults.WriteFault
+
+-- the program ended with some fault, which has this status, and a stream that held some bytes has got its message and nothing else
+pub record ReportsFault (status : ℕ) (held holds : Option (List ℕ)) : Type 0 where
+  pub fault : ProgramFault
+  pub status_is : status_of fault ≡ status
+  pub message : GetsMessage held holds (message_of fault)
+
+-- these words ask for a script to be performed with its transcript in the stream of messages
+pub record TellsTranscript (words : List Text) : Type 0 where
+  pub asked : Words
+  pub request : IsRequest words (Show asked)
+  pub nowhere_else : asked.transcript ≡ None

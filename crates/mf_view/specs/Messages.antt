@@ -1,6 +1,5 @@
 -- The messages of the program.
-use Rattle.std.specs.Prelude.{◌≡◌, ℕ, List, ◌++◌, Option, codes, decimal}
-use Rattle.std.specs.Io.KnownBytes.{Appends}
+use Rattle.std.specs.Prelude.{ℕ, List, ◌++◌, codes, decimal}
 use Rattle.mf_view.specs.declared.fault.ProgramFault.{ProgramFault}
 use Rattle.mf_view.specs.declared.fault.ProgramFault.TheVariants.{OutOfMemory, NoPlace, NoLook, TooSmall, FileTooLong, ReadFault, WriteFault, ImageTooLarge, PlateFault, NoCharacters}
 
@@ -20,7 +19,3 @@ message_of WriteFault = codes "mfview: WriteFault\n"
 message_of (ImageTooLarge revision) = codes "mfview: ImageTooLarge " ++ decimal revision ++ codes "\n"
 message_of (PlateFault revision) = codes "mfview: PlateFault " ++ decimal revision ++ codes "\n"
 message_of NoCharacters = codes "mfview: NoCharacters\n"
-
--- a writer that held some bytes has got the message as far as it took it, and nothing else
-abbrev pub GetsMessage : Option (List ℕ) → Option (List ℕ) → List ℕ → Type 0
-GetsMessage held holds message = (front : List ℕ) × (rest : List ℕ) × (message ≡ front ++ rest) × Appends held holds front

@@ -7,13 +7,13 @@ use Rattle.mf_frame.specs.declared.tile.Style.{Style}
 use Rattle.mf_gf.specs.declared.file.GfFile.{GfFile}
 use Rattle.mf_gf.specs.Keeping.{Keeps}
 use Rattle.mf_session.specs.Endings.{complete_list}
-use Rattle.mf_session.specs.States.{Limits, State, limits_of, start}
+use Rattle.mf_session.specs.States.{Limits, State, limits_of, most_bytes, most_operations, start}
 use Rattle.mf_session.specs.Transcript.{Perform}
 use Rattle.mf_view.specs.Drawings.{ShowsLast}
 
 -- the limits of a script
 abbrev pub script_limits : Limits
-script_limits = limits_of 1000000 16777216
+script_limits = limits_of most_operations most_bytes
 
 -- what a reader had, what a screen held and holds, and what the transcript told before and tells now, where this is known
 pub record Streams : Type 0 where

@@ -5,6 +5,7 @@
 mod drawing;
 mod fault;
 mod font;
+pub mod laws;
 mod pace;
 mod performance;
 pub mod program;

@@ -19,6 +19,7 @@ use mf_easel::{Easel, EaselFault};
 use mf_frame::{Canvas, Style};
 use mf_gf::GfFile;
 use mf_live::Ended;
+use mf_session::{MAX_BYTES, MAX_OPS};
 use mf_stage::{Pace, Plates, Settings, Stage, StageFault};
 use std::alloc::Global;
 use std::io::{Read, Write};
@@ -29,8 +30,8 @@ use std::thread::{Threads, join_mut};
 
 /// The limits of a script.
 const SETTINGS: Settings = Settings {
-    max_ops: 1_000_000,
-    max_bytes: 16_777_216,
+    max_ops: MAX_OPS,
+    max_bytes: MAX_BYTES,
 };
 
 /// How a performance is shown.

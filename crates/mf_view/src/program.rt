@@ -1,8 +1,10 @@
 //! The program that `main` calls: from its words and streams to its exit status.
 ghost use Rattle.std.specs.Io.KnownBytes.{Appends};
-ghost use Rattle.std.specs.Prelude.{◌≡◌, ◌++◌, ◌⊎◌, IfOk, OnOk, codes, decimal, map, option_map, string_bytes, true};
+ghost use Rattle.std.specs.Prelude.{◌≡◌, ◌++◌, ◌⊎◌, IfOk, None, OnOk, codes, decimal, map, option_map, string_bytes};
+ghost use Rattle.mf_base.specs.Messages.{GetsMessage};
 ghost use Rattle.mf_view.specs.Endings.{EndsWell, IsShownInto, IsWatched, size_in, style_in};
-ghost use Rattle.mf_view.specs.Messages.{GetsMessage, message_of, usage};
+ghost use Rattle.mf_view.specs.Faults.{ReportsFault, TellsTranscript};
+ghost use Rattle.mf_view.specs.Messages.{message_of, usage};
 ghost use Rattle.mf_view.specs.Performances.{streams_of};
 ghost use Rattle.mf_view.specs.Statuses.{status_of};
 ghost use Rattle.mf_view_words.specs.Requests.{IsCommandLine, IsWordsInRange};
@@ -12,7 +14,7 @@ use crate::font::{finish, font_words, write_font};
 use crate::pace::{Rest, Timed};
 use crate::performance::{Showing, perform};
 use itoa::Buffer;
-use mf_base::write_counted;
+use mf_base::write_text;
 use mf_frame::{Canvas, Style, TooSmall};
 use mf_gf::GfFile;
 use mf_options::WordsFault;
@@ -58,9 +60,13 @@ pub fn program<S: Wait + Threads + Files + Clock + Sync, R: Read, W: Write + Sen
     ensures refused { (IsCommandLine (map string_bytes words.items) → ⊥) → (result ≡ BAD_WORDS) ⊎ (result ≡ WANTING) }
     ensures unread { (IsCommandLine (map string_bytes words.items) → ⊥) → reader.new ≡ reader.old }
     ensures unwritten { (IsCommandLine (map string_bytes words.items) → ⊥) → screen.new ≡ screen.old }
+    ensures wanting { (IsCommandLine (map string_bytes words.items) → ⊥) → result ≡ WANTING
+        → GetsMessage (E.contents errors.old) (E.contents errors.new) (message_of ProgramFault.OutOfMemory) }
     ensures usage { result ≡ BAD_WORDS → GetsMessage (E.contents errors.old) (E.contents errors.new) usage }
     ensures done { result ≡ DONE → EndsWell (map string_bytes words.items)
         (streams_of R.remaining reader.old W.contents screen.old screen.new E.contents errors.old errors.new) }
+    ensures fault { (result ≡ STREAM_FAULT) ⊎ (result ≡ WANTING) ⊎ (result ≡ TOO_SMALL)
+        → TellsTranscript (map string_bytes words.items) ⊎ ReportsFault result (E.contents errors.old) (E.contents errors.new) }
 {
     let request = match read_words(alloc, words) {
         Ok(request) => request,
@@ -87,7 +93,9 @@ fn watch<S: Wait + Threads + Files + Clock + Sync, R: Read, W: Write + Send, E: 
     words: Words,
 ) -> Result<(), ProgramFault>
     requires { IsWordsInRange words }
-    ensures { OnOk result (IsWatched words (streams_of R.remaining reader.old W.contents screen.old screen.new E.contents errors.old errors.new)) }
+    ensures done { OnOk result
+        (IsWatched words (streams_of R.remaining reader.old W.contents screen.old screen.new E.contents errors.old errors.new)) }
+    ensures quiet { (words.transcript ≡ None) ⊎ (errors.new ≡ errors.old) }
 {
     let Words {
         columns,
@@ -155,8 +163,9 @@ fn perform_into<
     showing: Showing,
     transcript: Option<String>,
 ) -> Result<GfFile, ProgramFault>
-    ensures { IfOk result (IsShownInto (option_map string_bytes transcript) showing.style showing.canvas
+    ensures done { IfOk result (IsShownInto (option_map string_bytes transcript) showing.style showing.canvas
         (streams_of R.remaining reader.old W.contents screen.old screen.new E.contents errors.old errors.new)) }
+    ensures quiet { (transcript ≡ None) ⊎ (errors.new ≡ errors.old) }
 {
     let Some(path) = transcript else {
         return perform(rt, alloc, reader, screen, errors, pace, showing);
@@ -171,8 +180,9 @@ fn perform_into<
 fn answer<W: Write, E: Write>(screen: &mut W, errors: &mut E, text: &str) -> u8
     ensures statuses { (result ≡ DONE) ⊎ (result ≡ STREAM_FAULT) }
     ensures done { result ≡ DONE → (errors.new ≡ errors.old) × Appends (W.contents screen.old) (W.contents screen.new) text.now }
+    ensures fault { result ≡ STREAM_FAULT → ReportsFault result (E.contents errors.old) (E.contents errors.new) }
 {
-    if write_piece(screen, text) {
+    if write_text(screen, text) {
         return DONE;
     }
     report(errors, ProgramFault::WriteFault)
@@ -211,8 +221,8 @@ fn status_of(fault: ProgramFault) -> u8
     }
 }
 
-/// Writes the message of a fault, as far as `errors` takes it.
-fn write_message<E: Write>(errors: &mut E, fault: ProgramFault)
+/// Writes the message of a fault, as far as `errors` takes it. Whether it took all.
+fn write_message<E: Write>(errors: &mut E, fault: ProgramFault) -> bool
     ensures { GetsMessage (E.contents errors.old) (E.contents errors.new) (message_of fault) }
 {
     match fault {
@@ -237,31 +247,17 @@ fn write_message<E: Write>(errors: &mut E, fault: ProgramFault)
     }
 }
 
-/// Writes a text, as far as `errors` takes it.
-fn write_text<E: Write>(errors: &mut E, text: &str)
-    ensures { GetsMessage (E.contents errors.old) (E.contents errors.new) text.now }
-{
-    write_piece(errors, text);
-}
-
-/// Writes a text, a number and a line feed, as far as `errors` takes them. It allocates nothing, so that each fault can be told.
-fn write_numbered<E: Write>(errors: &mut E, text: &str, number: u32)
+/// Writes a text, a number and a line feed, as far as `errors` takes them. Whether it took all. It allocates nothing, so that each
+/// fault can be told.
+fn write_numbered<E: Write>(errors: &mut E, text: &str, number: u32) -> bool
     ensures { GetsMessage (E.contents errors.old) (E.contents errors.new) (text.now ++ decimal number ++ codes "\n") }
 {
     let mut buffer = Buffer::new();
-    if !write_piece(errors, text) {
-        return;
+    if !write_text(errors, text) {
+        return false;
     }
-    if !write_piece(errors, buffer.format(number)) {
-        return;
+    if !write_text(errors, buffer.format(number)) {
+        return false;
     }
-    write_piece(errors, "\n");
-}
-
-/// Writes a piece of a message, as far as `errors` takes it. Whether it took all.
-fn write_piece<E: Write>(errors: &mut E, piece: &str) -> bool
-    ensures all { result ≡ true → Appends (E.contents errors.old) (E.contents errors.new) piece.now }
-    ensures front { GetsMessage (E.contents errors.old) (E.contents errors.new) piece.now }
-{
-    write_counted(errors, piece.as_bytes()).is_ok()
+    write_text(errors, "\n")
 }

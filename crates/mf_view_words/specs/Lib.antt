@@ -1,3 +1,4 @@
 pub mod CommandLine
 pub mod Requests
+pub mod Texts
 pub mod Values

@@ -1,6 +1,6 @@
 //! The texts about the command line: the usage, the help, and the version.
 
-/// The usage text, which follows a message about bad words.
+/// The usage text, which is the message about refused words.
 pub const USAGE: &str = "usage: mfview [OPTION..] < SCRIPT (mfview --help lists the options)\n";
 
 /// The help text, which `--help` asks for.

@@ -1,5 +1,5 @@
 //! The words of the command line, and what they ask for.
-ghost use Rattle.std.specs.Prelude.{◌≡◌, IfOk, IsErrOf, OnOk, map, string_bytes};
+ghost use Rattle.std.specs.Prelude.{IfOk, IsErrOf, OnOk, map, string_bytes};
 ghost use Rattle.clap.specs.Words.{found_of, rows_of};
 ghost use Rattle.mf_view_words.specs.Requests.{AreWords, IsCommandLine, IsInRange, IsRequest, IsRequestIn, IsWordsInRange};
 ghost use Rattle.mf_view_words.specs.Values.{IsReadable};
@@ -12,11 +12,11 @@ use std::alloc::{AllocError, Global};
 /// How the words ask for a script to be performed and drawn.
 #[derive(Debug, Drop)]
 pub struct Words {
-    /// The columns of characters to draw in, in 1..1000; 80 where the words do not say.
+    /// The columns of characters to draw in, in 1..=1000; 80 where the words do not say.
     pub columns: u32,
-    /// The rows of characters to draw in, in 1..1000; 24 where the words do not say.
+    /// The rows of characters to draw in, in 1..=1000; 24 where the words do not say.
     pub rows: u32,
-    /// The pause after each publish in milliseconds, in 0..60000; 0 where the words do not say.
+    /// The pause after each publish in milliseconds, in 0..=60000; 0 where the words do not say.
     pub pause: u32,
     /// Whether one frame is written after another, without control codes.
     pub frames: bool,
@@ -28,9 +28,9 @@ pub struct Words {
     pub pgm: bool,
     /// The font file, exactly as the word gives it.
     pub gf: Option<String>,
-    /// The design size of the font in whole points, in 0..2047; 0 where the words do not say.
+    /// The design size of the font in whole points, in 0..=2047; 0 where the words do not say.
     pub design_size: u32,
-    /// The resolution of the font in dots per inch, in 0..100000; 0 where the words do not say.
+    /// The resolution of the font in dots per inch, in 0..=100000; 0 where the words do not say.
     pub resolution: u32,
 }
 

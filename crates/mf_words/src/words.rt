@@ -13,7 +13,7 @@ pub const USAGE: &str = "usage: mfpic [--viewers 0..16] [--gf FILE]\n";
 /// What the words of the command line ask for.
 #[derive(Debug, Drop)]
 pub struct Words {
-    /// The N of `--viewers N`, in 0..16; 0 where the words have none.
+    /// The N of `--viewers N`, in 0..=16; 0 where the words have none.
     pub viewers: u32,
     /// The FILE of `--gf FILE`, exactly as the word gives it.
     pub gf: Option<String>,

@@ -4,7 +4,7 @@
 use mf_cli::ProgramFault;
 use mf_cli::program::{program, refuse_words, report};
 use mf_desk::RunFault;
-use std::env;
+use mf_options::words_of;
 use std::io::{self, BufWriter, ErrorKind};
 use std::process::ExitCode;
 use std::rt::Stdout;
@@ -37,13 +37,4 @@ fn words_and_output(rt: &HostRuntime) -> io::Result<(Vec<String>, BufWriter<Stdo
     let words = words_of(rt)?;
     let output = BufWriter::with_capacity(rt.alloc(), OUTPUT_SIZE, rt.stdout())?;
     Ok((words, output))
-}
-
-/// The words of the command line. A word that is not UTF-8 is a fault.
-fn words_of(rt: &HostRuntime) -> io::Result<Vec<String>> {
-    let mut words = Vec::new(rt.alloc());
-    for word in env::args(rt)? {
-        words.push(word)?;
-    }
-    Ok(words)
 }

@@ -1,10 +1,10 @@
 //! The program `mfview`: performs a script of picture commands, and draws the picture while the script changes it.
 #![tactic(auto)]
 
+use mf_options::words_of;
 use mf_view::ProgramFault;
 use mf_view::program::{program, refuse_words, report};
-use std::env;
-use std::io::{self, ErrorKind};
+use std::io::ErrorKind;
 use std::process::ExitCode;
 
 fn main(rt: HostRuntime) -> ExitCode {
@@ -25,13 +25,4 @@ fn main(rt: HostRuntime) -> ExitCode {
         Err(_) => refuse_words(&mut errors),
     };
     ExitCode::from(status)
-}
-
-/// The words of the command line. A word that is not UTF-8 is a fault.
-fn words_of(rt: &HostRuntime) -> io::Result<Vec<String>> {
-    let mut words = Vec::new(rt.alloc());
-    for word in env::args(rt)? {
-        words.push(word)?;
-    }
-    Ok(words)
 }

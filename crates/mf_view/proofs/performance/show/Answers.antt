@@ -11,7 +11,8 @@ returns g c =
     let manner = same-manner _ _ _ c.draw-first.ensures.manner c.perform_beside-drawn.ensures.manner in
     let blank = drawn-nothing c.args.easel (g.W.Write.contents c.args.screen.now) c.requires.blank in
     let drawn = drawn-both _ _ _ _ _ _ _ _ _ c.draw-first.ensures.drawn c.perform_beside-drawn.ensures.drawn blank in
-    shown-whole _ _ _ _ _ _ c.args.stage c.perform_beside-drawn.new.stage _ c.perform_beside-drawn.result.performed c.conclude.result c.requires.limits c.requires.start
+    shown-whole _ _ _ _ _ _ c.args.stage c.perform_beside-drawn.new.stage _ c.perform_beside-drawn.result.performed
+    c.conclude.result c.requires.limits c.requires.start
     c.perform_beside-drawn.ensures.transcript
     c.conclude.ensures.script
     c.conclude.ensures.file

@@ -1,24 +1,24 @@
 use Rattle.std.proofs.Common.{◌++◌, codes, decimal}
 use Rattle.std.proofs.KnownBytes.{Appends-trans}
 use Rattle.std.specs.Io.KnownBytes.{Appends}
-use Rattle.mf_view.specs.Messages.{GetsMessage}
+use Rattle.mf_base.specs.Messages.{GetsMessage}
 use Rattle.mf_view.proofs.Messages.{message-after, message-front}
 use Rattle.mf_view.proofs.program.write_numbered.Goals as goal
 
-pub returns-then-not-write_piece : goal.returns-then-not-write_piece
-returns-then-not-write_piece g c =
+pub returns-then-not-write_text : goal.returns-then-not-write_text
+returns-then-not-write_text g c =
     message-front _ _ (c.args.text.now ++ decimal c.args.number) (codes "\n")
-    (message-front _ _ c.args.text.now (decimal c.args.number) c.write_piece.ensures.front)
+    (message-front _ _ c.args.text.now (decimal c.args.number) c.write_text.ensures.front)
 
-pub returns-then-not-write_piece-2 : goal.returns-then-not-write_piece-2
-returns-then-not-write_piece-2 g c =
-    let first = c.write_piece.ensures.all c.if-not-write_piece.false in
-    let second : GetsMessage _ _ (decimal c.args.number) = rw (← c.format.ensures.text) c.write_piece-2.ensures.front in
+pub returns-then-not-write_text-2 : goal.returns-then-not-write_text-2
+returns-then-not-write_text-2 g c =
+    let first = c.write_text.ensures.all c.if-not-write_text.false in
+    let second : GetsMessage _ _ (decimal c.args.number) = rw (← c.format.ensures.text) c.write_text-2.ensures.front in
     message-front _ _ (c.args.text.now ++ decimal c.args.number) (codes "\n") (message-after _ _ _ c.args.text.now (decimal c.args.number) first second)
 
 pub returns : goal.returns
 returns g c =
-    let first = c.write_piece.ensures.all c.if-not-write_piece.false in
-    let second : Appends _ _ (decimal c.args.number) = rw (← c.format.ensures.text) (c.write_piece-2.ensures.all c.if-not-write_piece-2.false) in
+    let first = c.write_text.ensures.all c.if-not-write_text.false in
+    let second : Appends _ _ (decimal c.args.number) = rw (← c.format.ensures.text) (c.write_text-2.ensures.all c.if-not-write_text-2.false) in
     message-after _ _ _ (c.args.text.now ++ decimal c.args.number) (codes "\n")
-    (Appends-trans _ _ _ c.args.text.now (decimal c.args.number) first second) c.write_piece-3.ensures.front
+    (Appends-trans _ _ _ c.args.text.now (decimal c.args.number) first second) c.write_text-3.ensures.front

@@ -1,5 +1,5 @@
-use Rattle.mf_view.proofs.Messages.{message-counted}
-use Rattle.mf_view.proofs.program.write_piece.Goals as goal
+use Rattle.mf_base.proofs.Messages.{message-counted}
+use Rattle.mf_base.proofs.output.write_text.Goals as goal
 
 pub returns-clause-front : goal.returns-clause-front
 returns-clause-front g c =

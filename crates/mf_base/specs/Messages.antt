@@ -1,0 +1,7 @@
+-- Messages, as far as a writer takes them.
+use Rattle.std.specs.Prelude.{◌≡◌, ℕ, List, ◌++◌, Option}
+use Rattle.std.specs.Io.KnownBytes.{Appends}
+
+-- a writer that held some bytes has got the message as far as it took it, and nothing else
+abbrev pub GetsMessage : Option (List ℕ) → Option (List ℕ) → List ℕ → Type 0
+GetsMessage held holds message = (front : List ℕ) × (rest : List ℕ) × (message ≡ front ++ rest) × Appends held holds front

@@ -1,0 +1,14 @@
+//! A law of the program. It is the contract of a function that does nothing, because the toolchain proves a statement only where
+//! the contract of a function names it.
+ghost use Rattle.std.specs.Prelude.{◌≡◌};
+
+use crate::program::{BAD_WORDS, DONE, STREAM_FAULT, TOO_SMALL, WANTING};
+
+/// The exit statuses are these numbers.
+pub fn statuses_are_these()
+    ensures done { DONE ≡ 0 }
+    ensures bad_words { BAD_WORDS ≡ 2 }
+    ensures stream_fault { STREAM_FAULT ≡ 3 }
+    ensures wanting { WANTING ≡ 4 }
+    ensures too_small { TOO_SMALL ≡ 5 }
+{}
