@@ -13,6 +13,10 @@ is_line_feed b = b == 10
 abbrev parts_of : List ℕ → List (List ℕ)
 parts_of = slice_split is_line_feed
 
+-- the parts of bytes after the first one, by whether this is a line feed
+abbrev parts_by : Bool → ℕ → List ℕ → List (List ℕ)
+parts_by feeds b bs = cond feeds ([] ∷ parts_of bs) (onto_first b (parts_of bs))
+
 -- the parts with one more byte at the end of the last
 abbrev onto_last : List (List ℕ) → ℕ → List (List ℕ)
 onto_last [] b = (b ∷ []) ∷ []
@@ -24,7 +28,7 @@ parts_first : (bs : List ℕ) → (x : List ℕ) × (more : List (List ℕ)) × 
 parts_first [] = ([], [], refl)
 parts_first (b ∷ bs) =
     let (x, more, is) = parts_first bs in
-    elim (is_line_feed b) as (λ v. (y : List ℕ) × (others : List (List ℕ)) × (cond v ([] ∷ parts_of bs) (onto_first b (parts_of bs)) ≡ y ∷ others)) [
+    elim (is_line_feed b) as (λ v. (y : List ℕ) × (others : List (List ℕ)) × (parts_by v b bs ≡ y ∷ others)) [
       | true ↦ ([], parts_of bs, refl)
       | false ↦ (b ∷ x, more, ap (onto_first b) is)
     ]
@@ -47,7 +51,7 @@ parts-line_feed (b ∷ bs) =
     let (x, more, is) = parts_first bs in
     let rest = parts-line_feed bs in
     elim (is_line_feed b)
-    as (λ v. cond v ([] ∷ parts_of (bs ++ 10 ∷ [])) (onto_first b (parts_of (bs ++ 10 ∷ []))) ≡ cond v ([] ∷ parts_of bs) (onto_first b (parts_of bs)) ++ [] ∷ []) [
+    as (λ v. parts_by v b (bs ++ 10 ∷ []) ≡ parts_by v b bs ++ [] ∷ []) [
       | true ↦ ap (λ ds. [] ∷ ds) rest
       | false ↦ ap (onto_first b) rest ∙ onto_first-append b (parts_of bs) ([] ∷ []) x more is
     ]
@@ -59,7 +63,7 @@ parts-other (b ∷ bs) c other =
     let (x, more, is) = parts_first bs in
     let rest = parts-other bs c other in
     elim (is_line_feed b)
-    as (λ v. cond v ([] ∷ parts_of (bs ++ c ∷ [])) (onto_first b (parts_of (bs ++ c ∷ []))) ≡ onto_last (cond v ([] ∷ parts_of bs) (onto_first b (parts_of bs))) c) [
+    as (λ v. parts_by v b (bs ++ c ∷ []) ≡ onto_last (parts_by v b bs) c) [
       | true ↦ ap (λ ds. [] ∷ ds) rest ∙ sym (onto_last-cons [] (parts_of bs) c x more is)
       | false ↦ ap (onto_first b) rest ∙ onto_first-onto_last b (parts_of bs) c
     ]

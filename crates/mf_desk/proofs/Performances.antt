@@ -77,7 +77,8 @@ module _ (settings : Settings) (viewers : ℕ) where
             let is_long =
             subst (λ n. IsLongFile n settings.font [] over.last.characters) (ap max_bytes_of same ∙ over.max_bytes_is)
             (too_long long over.last.characters (kept file same)) in
-            rw long (read, consumed, (over.text ++ viewer_lines viewers (glance run), out-more _ out, inr (all_read, record { complete = complete viewers _ refl; too_long = is_long }))))
+            let text = over.text ++ viewer_lines viewers (glance run) in
+            rw long (read, consumed, (text, out-more _ out, inr (all_read, record { complete = complete viewers _ refl; too_long = is_long }))))
             (λ wanting.
             let shown : IsShownText (limits_set settings) viewers read (over.text ++ viewer_lines viewers (glance run)) = record {
               shown = viewers;

@@ -142,23 +142,24 @@ CutsShort-text OutOfMemory held left holds later read bytes line others first be
       (Appends-trans held holds later after.text written after.out out),
   record { done = ended_lines read; more = others; last = after.last; first = before; performed = after.performed },
 )
-CutsShort-text (WriteFault count) held left holds later read bytes line others first behind progress after before with_line performs (written, out, (counted, (rest, (next, answer)))) = (
-  after.text ++ written,
-  Appends-trans held holds later after.text written after.out out,
-  (
-    length-append after.text written ∙ sym (counted ∙ ap (λ n. n + length written) after.counted),
-    (
-      rest,
-      record {
-        done = first;
-        more = behind;
-        last = next;
-        first = with_line;
-        performed = rw (append_assoc after.text written rest) (performs (written ++ rest) next answer);
-      },
-    ),
-  ),
-)
+CutsShort-text (WriteFault count) held left holds later read bytes line others first behind progress after before with_line performs
+    (written, out, (counted, (rest, (next, answer)))) = (
+      after.text ++ written,
+      Appends-trans held holds later after.text written after.out out,
+      (
+        length-append after.text written ∙ sym (counted ∙ ap (λ n. n + length written) after.counted),
+        (
+          rest,
+          record {
+            done = first;
+            more = behind;
+            last = next;
+            first = with_line;
+            performed = rw (append_assoc after.text written rest) (performs (written ++ rest) next answer);
+          },
+        ),
+      ),
+    )
 
 -- the text of a line that a line feed ends breaks off
 CutsShort-ended : (fault : RunFault) (held left holds later : Option (List ℕ)) (read more line : List ℕ)

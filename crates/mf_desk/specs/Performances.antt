@@ -1,7 +1,7 @@
 -- What a run answers, with viewers or without.
-use Rattle.std.specs.Prelude.{◌≡◌, ◌≤◌, ◌<◌, ◌⊎◌, ℕ, zero, suc, All, IfSome, List, [], ◌++◌, codes, decimal, length}
+use Rattle.std.specs.Prelude.{◌≡◌, ◌≤◌, ◌<◌, ◌⊎◌, ℕ, zero, suc, All, List, [], ◌++◌, codes, decimal, length}
 use Rattle.std.specs.Fmt.{signed_decimal}
-use Rattle.std.specs.Io.KnownBytes.{Appends, IsAtEnd}
+use Rattle.std.specs.Io.KnownBytes.{Appends, Consumes, IsAtEnd}
 use Rattle.std.specs.Str.Lines.{lines}
 use Rattle.logbook.specs.Pages.{Book}
 use Rattle.mf_gf.specs.Files.{IsLongFile, file_if_any, preamble}
@@ -66,9 +66,9 @@ pub record IsPerformance (a : Asked) (outcome : Outcome) (s : Streams) (input : 
   pub count : length outcome.seen.items ≡ a.viewers
   pub seen : All (λ v. HasSeen (complete_list complete.last.pictures) a.looks v.items) outcome.seen.items
 
--- the run did what it was asked for with what its reader had, where this is known
+-- the run did what it was asked for with the bytes that it has read; where the reader is at its end, they are all that it had
 abbrev pub Performs : Asked → Streams → Outcome → Type 0
-Performs a s outcome = IfSome s.unread (IsPerformance a outcome s)
+Performs a s outcome = (read : List ℕ) × Consumes s.unread s.left read × IsPerformance a outcome s read
 
 -- so did a run beside these viewers, however often each was to look when it was started
 abbrev pub PerformsBeside : Settings → Book → Watching → Streams → Outcome → Type 0

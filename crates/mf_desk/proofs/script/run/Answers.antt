@@ -1,12 +1,12 @@
 use Rattle.std.proofs.Common.{ℕ, List, Option, Err, ⊎_elim, inl, inr, refl, ap, subst, length}
 use Rattle.std.specs.Io.KnownBytes.{Appends}
-use Rattle.std.proofs.KnownBytes.{Appends-nil, Consumes-whole}
+use Rattle.std.proofs.KnownBytes.{Appends-nil}
 use Rattle.std.proofs.lemmas.List.Elements.{All-nil}
 use Rattle.std.proofs.lemmas.Result.{err_from_is_err_and}
 use Rattle.mf_desk.specs.declared.ended_run.EndedRun.{EndedRun}
 use Rattle.mf_desk.specs.declared.outcome.Outcome.{Outcome}
 use Rattle.mf_desk.specs.EndedRuns.{EndsWith, glance}
-use Rattle.mf_desk.specs.Performances.{IsPerformance, asked, viewer_lines}
+use Rattle.mf_desk.specs.Performances.{viewer_lines}
 use Rattle.mf_desk.specs.Streams.{streams}
 use Rattle.mf_desk.proofs.Performances.{Tells-script, Tells-nothing, Tells-no_room, Tells-unfinished, IsPerformance-over}
 use Rattle.mf_desk.proofs.ViewerLines.{lines-nobody}
@@ -61,12 +61,14 @@ returns-clause-transcript g c = λ looks.
     (g.R.Read.remaining c.complete.new.reader) held holds) run) c.in_ok-progress.ensures.limits c.in_ok-ended.ensures.over in
     let outcome : Outcome = record { gf = c.in_ok-gf.gf; seen = c.new-2.result } in
     let unread = g.R.Read.remaining c.args.reader.now in
-    let left = g.R.Read.remaining c.complete.new.reader in
-    Consumes-whole _ _ read (IsPerformance (asked settings 0 looks) outcome (streams unread left held holds)) consumed c.in_ok-ended.ensures.end
-    (IsPerformance-over settings 0 held holds holds read run over unread left looks outcome c.file.result c.file.ensures
-    (λ characters keeps.
-    ((λ long. let refused = (c.in_ok-gf.ensures.too_long characters keeps).0 long in absurd (cc)), c.in_ok-gf.ensures.some characters keeps))
-    (nobody holds run) (ap length c.new-2.ensures.items) (rw c.new-2.ensures.items (All-nil _)))
+    let left = g.R.Read.remaining c.complete.new.reader in (
+      read,
+      consumed,
+      IsPerformance-over settings 0 held holds holds read run over unread left looks outcome c.file.result c.file.ensures
+          (λ characters keeps.
+          ((λ long. let refused = (c.in_ok-gf.ensures.too_long characters keeps).0 long in absurd (cc)), c.in_ok-gf.ensures.some characters keeps))
+          (nobody holds run) (ap length c.new-2.ensures.items) (rw c.new-2.ensures.items (All-nil _)),
+    )
 
 pub returns-in_err-memory-clause-too_small : goal.returns-in_err-memory-clause-too_small
 returns-in_err-memory-clause-too_small g c =
