@@ -1,14 +1,15 @@
 -- Shades, and the shades of cells.
 use Rattle.std.proofs.Common.{◌≡◌, ℕ, zero, suc, ◌≤◌, ◌<◌, if◌then◌else◌, Bool, ◌&&◌, true, false, ℤ, pos, ◌+ℤ◌, ◌≤ℤ◌, ◌<ℤ◌, List, [], ◌∷◌, ◌++◌, refl, sym, ap, ◌∙◌, arith}
 use Rattle.std.specs.Bool.{nat_lt}
-use Rattle.std.specs.Ordering.{int_eq}
-use Rattle.std.proofs.lemmas.Bool.{false≢true, cond-true, cond-false, cond_both, and_parts, and_from, false_from_ne_true}
+use Rattle.std.specs.Ordering.{int_eq, ord_max}
+use Rattle.std.proofs.lemmas.Bool.{false≢true, cond-true, cond-false, cond_both, and_parts, and_from, false_from_ne_true, ltb-false}
 use Rattle.std.proofs.lemmas.Bool.Decides.{Decides-int_eq, Decides-ltb}
 use Rattle.std.proofs.lemmas.Int.{ints, by_lt_z}
 use Rattle.mf_rows.specs.Dots.{Dot}
 use Rattle.mf_rows.specs.Runs.{stretch}
 use Rattle.mf_frame.specs.declared.shade.Shade.{Shade}
 use Rattle.mf_frame.specs.declared.shade.Shade.TheVariants.{Blank, Negative, One, Two, More}
+use Rattle.mf_frame.specs.contracts.shade.ShadeOrd.TheImpl as ord
 use Rattle.mf_frame.specs.Cells.{cell_of, cell_shade, darker, depth, shade_of}
 use Rattle.mf_frame.proofs.Floors.{cell-next}
 
@@ -59,6 +60,34 @@ blank-darker One = refl
 blank-darker Two = refl
 blank-darker More = refl
 
+-- the greater shade is the darker one
+pub max-darker : (a b : Shade) → ord_max (ord.ghosts).cmp a b ≡ darker a b
+max-darker Blank Blank = refl
+max-darker Blank Negative = refl
+max-darker Blank One = refl
+max-darker Blank Two = refl
+max-darker Blank More = refl
+max-darker Negative Blank = refl
+max-darker Negative Negative = refl
+max-darker Negative One = refl
+max-darker Negative Two = refl
+max-darker Negative More = refl
+max-darker One Blank = refl
+max-darker One Negative = refl
+max-darker One One = refl
+max-darker One Two = refl
+max-darker One More = refl
+max-darker Two Blank = refl
+max-darker Two Negative = refl
+max-darker Two One = refl
+max-darker Two Two = refl
+max-darker Two More = refl
+max-darker More Blank = refl
+max-darker More Negative = refl
+max-darker More One = refl
+max-darker More Two = refl
+max-darker More More = refl
+
 -- the darker shade of two is no darker than what neither exceeds
 darker-below : (a b : Shade) (n : ℕ) → depth a ≤ n → depth b ≤ n → depth (darker a b) ≤ n
 darker-below a b n first second = cond_both (nat_lt (depth a) (depth b)) b a (λ s. depth s ≤ n) (λ _. second) (λ _. first)
@@ -68,7 +97,7 @@ pub darker-above : (a b : Shade) → (depth a ≤ depth (darker a b)) × (depth 
 darker-above a b =
     cond_both (nat_lt (depth a) (depth b)) b a (λ s. (depth a ≤ depth s) × (depth b ≤ depth s))
     (λ yes. let less = (Decides-ltb (depth a) (depth b)).0 yes in (omega arith, omega arith))
-    (λ no. (omega arith, by_place (depth b) (depth a) (λ less. omega arith) (λ same. omega arith) (λ more. absurd (false≢true (sym no ∙ (Decides-ltb (depth a) (depth b)).1 more)))))
+    (λ no. (omega arith, ltb-false (depth a) (depth b) no))
 
 darker-assoc : (a b c : Shade) → darker (darker a b) c ≡ darker a (darker b c)
 darker-assoc a b c =

@@ -28,18 +28,6 @@ pub record AreDarkenedTo (start end : ℕ) (shade : Shade) (old : List Shade) (p
   pub to : place ≤ end
   pub so_far : AreDarkened start place shade old new
 
-pub darkened_none : (start end : ℕ) (shade : Shade) (old : List Shade) → start ≤ end → AreDarkenedTo start end shade old start old
-darkened_none start end shade old order = record {
-  from = omega arith;
-  to = order;
-  so_far = record {
-    count = refl;
-    inside = λ k from to. absurd (omega arith);
-    before = λ k below. refl;
-    after = λ k above. refl;
-  };
-}
-
 pub darkened_more : (start end : ℕ) (shade : Shade) (old : List Shade) (place : ℕ) (shades new : List Shade) → place < end → end ≤ length old
     → new ≡ set shades place (darker (get_or shades place Blank) shade) → length new ≡ length shades
     → AreDarkenedTo start end shade old place shades → AreDarkenedTo start end shade old (place + 1) new
@@ -63,12 +51,6 @@ darkened_more start end shade old place shades new more room written kept so_far
         after = λ k above. other k (omega arith) ∙ done.after k (omega arith);
       };
     }
-
-pub darkened_all : (start end : ℕ) (shade : Shade) (old : List Shade) (place : ℕ) (new : List Shade) → end ≤ place
-    → AreDarkenedTo start end shade old place new → AreDarkened start end shade old new
-darkened_all start end shade old place new over so_far =
-    let same : place ≡ end = omega (arith, so_far.to) in
-    subst (λ p. AreDarkened start p shade old new) same so_far.so_far
 
 -- ---- a run
 

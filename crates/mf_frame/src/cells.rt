@@ -62,6 +62,6 @@ fn darken(shades: &mut Vec<Shade>, start: usize, end: usize, shade: Shade)
     ensures { AreDarkened start end shade shades.old.items shades.new.items }
 {
     for place in start..end {
-        shades[place] = shades[place].darker(shade);
+        shades[place] = shades[place].max(shade);
     }
 }

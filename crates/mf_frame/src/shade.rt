@@ -1,9 +1,9 @@
 //! Shades of cells.
 ghost use Rattle.std.specs.Prelude.{◌≡◌};
-ghost use Rattle.mf_frame.specs.Cells.{darker, depth, is_dark, shade_of};
+ghost use Rattle.mf_frame.specs.Cells.{is_dark, shade_of};
 
-/// The shades of cells, from light to dark.
-#[derive(Clone, Copy, Debug, PartialEq, Eq)]
+/// The shades of cells, from light to dark: a darker one is greater.
+#[derive(Clone, Copy, Debug, PartialEq, Eq, PartialOrd, Ord)]
 pub(crate) enum Shade {
     /// Weight 0.
     Blank,
@@ -31,16 +31,6 @@ impl Shade {
         }
     }
 
-    /// The darker one of two shades.
-    pub(crate) fn darker(self, other: Shade) -> Shade
-        ensures { result ≡ darker self other }
-    {
-        if self.depth() < other.depth() {
-            return other;
-        }
-        self
-    }
-
     /// Whether it is the shade of a positive weight.
     pub(crate) fn is_dark(self) -> bool
         ensures { result ≡ is_dark self }
@@ -48,19 +38,6 @@ impl Shade {
         match self {
             Shade::Blank | Shade::Negative => false,
             Shade::One | Shade::Two | Shade::More => true,
-        }
-    }
-
-    /// How dark it is.
-    fn depth(self) -> u8
-        ensures { result ≡ depth self }
-    {
-        match self {
-            Shade::Blank => 0,
-            Shade::Negative => 1,
-            Shade::One => 2,
-            Shade::Two => 3,
-            Shade::More => 4,
         }
     }
 }

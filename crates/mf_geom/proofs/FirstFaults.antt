@@ -67,6 +67,9 @@ pub is_reversal-true : (a b : Segment) → IsReversal a b → is_reversal a b �
 unfolding is_reversal
 is_reversal-true a b back = grind (arith, ints)
 
+not_reversal : (a b : Segment) → is_reversal a b ≡ false → IsReversal a b → ⊥
+not_reversal a b onward back = both_ways _ onward (is_reversal-true a b back)
+
 IsReversal-from_true : (a b : Segment) → is_reversal a b ≡ true → IsReversal a b
 unfolding is_reversal
 IsReversal-from_true a b passes = record { opposite = grind (arith, ints) }
@@ -188,8 +191,11 @@ judged-vertices : (ps : List Point) → IsRectilinearCycle ps → PassesCheck ps
 unfolding IsFault
 judged-vertices ps cycle =
     elim (search (length ps) (λ i. is_reversal (arriving ps i) (segment_at ps i))) [
-      | inl onward ↦ judged-turning ps (record { rectilinear = cycle; onward = λ i below back. both_ways _ (onward i below) (is_reversal-true _ _ back) })
-      | inr found ↦ inr (record { fault = Backtracks found.place; is = (cycle, record { below = found.below; here = IsReversal-from_true _ _ found.here; none_before = λ k before back. both_ways _ (found.before k before) (is_reversal-true _ _ back) }) })
+      | inl onward ↦ judged-turning ps (record { rectilinear = cycle; onward = λ i below. not_reversal _ _ (onward i below) })
+      | inr found ↦
+          let never = λ (k : ℕ) (before : k < found.place). not_reversal _ _ (found.before k before) in
+          let here = IsReversal-from_true _ _ found.here in
+          inr (record { fault = Backtracks found.place; is = (cycle, record { below = found.below; here = here; none_before = never }) })
     ]
 
 judged-segments : (ps : List Point) → StaysInRange ps → IsRectilinearCycle ps ⊎ IsMisformed ps

@@ -46,7 +46,8 @@ unfolding area sum_below shoelace_at point_at next_place clockwise
 area-clockwise = refl
 
 contour-clockwise : contour clockwise (pos 1) On (pos 0) (pos 0) ≡ pos 1
-unfolding contour turning turn_at turn arriving previous_place across up winding sum_below quarter_at quarter_along quadrant segment_at point_at next_place clockwise
+unfolding contour turning turn_at turn arriving previous_place across up
+    winding sum_below quarter_at quarter_along quadrant segment_at point_at next_place clockwise
 contour-clockwise = refl
 
 contour-clockwise_unchecked : contour clockwise (negsuc 1) Off (pos 0) (pos 0) ≡ pos 2

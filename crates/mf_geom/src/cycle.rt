@@ -138,7 +138,7 @@ impl Cycle {
     }
 
     /// The winding number round the pixel (x, y), in -4096..=4096: how often the cycle goes round it, positive
-    /// counterclockwise. It is 0 for a pixel outside the field.
+    /// counterclockwise (The METAFONTbook, chapters 13 and 24). It is 0 for a pixel outside the field.
     pub fn winding(&self, x: i32, y: i32) -> i32
         ensures value { result ≡ winding self.now x y }
         ensures lawful { IsRectilinearCycle self.now }

@@ -97,9 +97,6 @@ pub record ArePathsSoFar (rs : List Run) (least greatest : ℤ) (old : List ℕ)
   pub right : w ≤ℤ (greatest +ℤ pos 1)
   pub paths : text ++ paths_from rs w (extent w greatest) ≡ old ++ paths_from rs least (extent least greatest)
 
-pub no_paths : (rs : List Run) (least greatest : ℤ) (old : List ℕ) → least ≤ℤ greatest → ArePathsSoFar rs least greatest old least old
-no_paths rs least greatest old order = record { left = omega (arith, ints); right = omega (arith, ints); paths = refl }
-
 paths_from-next : (rs : List Run) (w : ℤ) (n : ℕ) → paths_from rs w (suc n) ≡ path w (flat_map (rectangle_of w) rs) ++ paths_from rs (w +ℤ pos 1) n
 unfolding paths_from
 paths_from-next rs w n = refl
@@ -129,6 +126,3 @@ pub path_of_some : (w : ℤ) (bs : List ℕ) → 0 < length bs
     → path w bs ≡ codes "<path id=\"weight" ++ signed_decimal w ++ codes "\" fill=\"" ++ color w ++ codes "\" d=\"\n" ++ bs ++ codes "\"/>\n"
 path_of_some w [] some = absurd (omega (arith, some))
 path_of_some w (b ∷ bs) some = refl
-
-pub path_of_none : (w : ℤ) (bs : List ℕ) → bs ≡ [] → path w bs ≡ []
-path_of_none w bs none = rw none refl

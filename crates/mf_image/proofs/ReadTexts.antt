@@ -11,7 +11,7 @@ use Rattle.mf_rows.specs.Order.{IsRun}
 use Rattle.mf_rows.specs.Runs.{stretch}
 use Rattle.mf_image.specs.declared.svg_image.Sheet.{Sheet}
 use Rattle.mf_image.specs.Reading.{after, after_first, continued, number, read}
-use Rattle.mf_image.specs.Svg.{axes, cover, opening, rectangle}
+use Rattle.mf_image.specs.Svg.{axes, cover, grid, opening, rectangle}
 
 -- ---- digits
 
@@ -113,85 +113,60 @@ pub record IsSmallSheet (s : Sheet) : Type 0 where
   pub width : IsSmall s.width
   pub height : IsSmall s.height
 
+grid_read : (w : ℤ) → IsEnd w grid
+unfolding read grid after
+grid_read w rest = refl
+
+-- a number and a mark after it are passed
+pair_end : (w z : ℤ) (mark t : List ℕ) → IsSmall z → IsPassed w mark → IsEnd w t → IsEnd w (signed_decimal z ++ (mark ++ t))
+pair_end w z mark t small passed end = end_after w (signed_decimal z) (mark ++ t) (number_passed w z small) (end_after w mark t passed end)
+
 pub opening_read : (w : ℤ) (s : Sheet) (rest : List ℕ) → IsSmallSheet s → read true w (opening s ++ rest) ≡ read true w rest
 unfolding opening read after
 opening_read w s rest small =
-    let t8 = codes "\">\n<pattern id=\"grid\" width=\"1\" height=\"1\" patternUnits=\"userSpaceOnUse\"><path d=\"M0 0h1M0 0v1\" stroke=\"#999\" stroke-width=\".06\"/></pattern>\n" in
-    let t7 = signed_decimal s.height ++ t8 in
-    let t6 = codes " " ++ t7 in
-    let t5 = signed_decimal s.width ++ t6 in
-    let t4 = codes " " ++ t5 in
-    let t3 = signed_decimal s.top ++ t4 in
-    let t2 = codes " " ++ t3 in
-    let t1 = signed_decimal s.left ++ t2 in
-    let e8 : IsEnd w t8 = λ rest. refl in
-    let e7 : IsEnd w t7 = end_after w (signed_decimal s.height) t8 (number_passed w s.height small.height) e8 in
-    let e6 : IsEnd w t6 = end_after w (codes " ") t7 (λ rest. refl) e7 in
-    let e5 : IsEnd w t5 = end_after w (signed_decimal s.width) t6 (number_passed w s.width small.width) e6 in
-    let e4 : IsEnd w t4 = end_after w (codes " ") t5 (λ rest. refl) e5 in
-    let e3 : IsEnd w t3 = end_after w (signed_decimal s.top) t4 (number_passed w s.top small.top) e4 in
-    let e2 : IsEnd w t2 = end_after w (codes " ") t3 (λ rest. refl) e3 in
-    let e1 : IsEnd w t1 = end_after w (signed_decimal s.left) t2 (number_passed w s.left small.left) e2 in
-    let text : opening s ++ rest ≡ codes "<svg xmlns=\"http://www.w3.org/2000/svg\" viewBox=\"" ++ (t1 ++ rest) = simp append_assoc in
-    let first : read true w (codes "<svg xmlns=\"http://www.w3.org/2000/svg\" viewBox=\"" ++ (t1 ++ rest)) ≡ read false w (t1 ++ rest) = refl in
-    ap (read true w) text ∙ first ∙ e1 rest
+    let line = signed_decimal s.left ++ (codes " " ++ (signed_decimal s.top ++ (codes " " ++ (signed_decimal s.width ++ (codes " "
+    ++ (signed_decimal s.height ++ grid)))))) in
+    let ends : IsEnd w line =
+    pair_end w s.left (codes " ") _ small.left (λ more. refl) (pair_end w s.top (codes " ") _ small.top (λ more. refl)
+    (pair_end w s.width (codes " ") _ small.width (λ more. refl) (end_after w (signed_decimal s.height) grid
+    (number_passed w s.height small.height) (grid_read w)))) in
+    let text : opening s ++ rest ≡ codes "<svg xmlns=\"http://www.w3.org/2000/svg\" viewBox=\"" ++ (line ++ rest) = simp append_assoc in
+    let first : read true w (codes "<svg xmlns=\"http://www.w3.org/2000/svg\" viewBox=\"" ++ (line ++ rest)) ≡ read false w (line ++ rest) = refl in
+    ap (read true w) text ∙ first ∙ ends rest
 
 pub cover_read : (w : ℤ) (s : Sheet) (fill rest : List ℕ) → IsSmallSheet s → IsPassed w fill → read true w (cover s fill ++ rest) ≡ read true w rest
 unfolding cover read after
 cover_read w s fill rest small filled =
-    let t10 = codes "\"/>\n" in
-    let t9 = fill ++ t10 in
-    let t8 = codes "\" fill=\"" ++ t9 in
-    let t7 = signed_decimal s.height ++ t8 in
-    let t6 = codes "\" height=\"" ++ t7 in
-    let t5 = signed_decimal s.width ++ t6 in
-    let t4 = codes "\" width=\"" ++ t5 in
-    let t3 = signed_decimal s.top ++ t4 in
-    let t2 = codes "\" y=\"" ++ t3 in
-    let t1 = signed_decimal s.left ++ t2 in
-    let e10 : IsEnd w t10 = λ rest. refl in
-    let e9 : IsEnd w t9 = end_after w (fill) t10 filled e10 in
-    let e8 : IsEnd w t8 = end_after w (codes "\" fill=\"") t9 (λ rest. refl) e9 in
-    let e7 : IsEnd w t7 = end_after w (signed_decimal s.height) t8 (number_passed w s.height small.height) e8 in
-    let e6 : IsEnd w t6 = end_after w (codes "\" height=\"") t7 (λ rest. refl) e7 in
-    let e5 : IsEnd w t5 = end_after w (signed_decimal s.width) t6 (number_passed w s.width small.width) e6 in
-    let e4 : IsEnd w t4 = end_after w (codes "\" width=\"") t5 (λ rest. refl) e5 in
-    let e3 : IsEnd w t3 = end_after w (signed_decimal s.top) t4 (number_passed w s.top small.top) e4 in
-    let e2 : IsEnd w t2 = end_after w (codes "\" y=\"") t3 (λ rest. refl) e3 in
-    let e1 : IsEnd w t1 = end_after w (signed_decimal s.left) t2 (number_passed w s.left small.left) e2 in
-    let text : cover s fill ++ rest ≡ codes "<rect x=\"" ++ (t1 ++ rest) = simp append_assoc in
-    let first : read true w (codes "<rect x=\"" ++ (t1 ++ rest)) ≡ read false w (t1 ++ rest) = refl in
-    ap (read true w) text ∙ first ∙ e1 rest
+    let line = signed_decimal s.left ++ (codes "\" y=\"" ++ (signed_decimal s.top ++ (codes "\" width=\"" ++ (signed_decimal s.width
+    ++ (codes "\" height=\"" ++ (signed_decimal s.height ++ (codes "\" fill=\"" ++ (fill ++ codes "\"/>\n")))))))) in
+    let ends : IsEnd w line =
+    pair_end w s.left (codes "\" y=\"") _ small.left (λ more. refl) (pair_end w s.top (codes "\" width=\"") _ small.top (λ more. refl)
+    (pair_end w s.width (codes "\" height=\"") _ small.width (λ more. refl) (pair_end w s.height (codes "\" fill=\"") _ small.height
+    (λ more. refl) (end_after w fill (codes "\"/>\n") filled (λ more. refl))))) in
+    let text : cover s fill ++ rest ≡ codes "<rect x=\"" ++ (line ++ rest) = simp append_assoc in
+    let first : read true w (codes "<rect x=\"" ++ (line ++ rest)) ≡ read false w (line ++ rest) = refl in
+    ap (read true w) text ∙ first ∙ ends rest
 
 pub axes_read : (w : ℤ) (s : Sheet) (rest : List ℕ) → IsSmallSheet s → read true w (axes s ++ rest) ≡ read true w rest
 unfolding axes read after
 axes_read w s rest small =
-    let t8 = codes "\" stroke=\"#c00\" stroke-width=\".12\"/>\n" in
-    let t7 = signed_decimal s.width ++ t8 in
-    let t6 = codes " 0h" ++ t7 in
-    let t5 = signed_decimal s.left ++ t6 in
-    let t4 = codes "M" ++ t5 in
-    let t3 = signed_decimal s.height ++ t4 in
-    let t2 = codes "v" ++ t3 in
-    let t1 = signed_decimal s.top ++ t2 in
-    let e8 : IsEnd w t8 = λ rest. refl in
-    let e7 : IsEnd w t7 = end_after w (signed_decimal s.width) t8 (number_passed w s.width small.width) e8 in
-    let e6 : IsEnd w t6 = end_after w (codes " 0h") t7 (λ rest. refl) e7 in
-    let e5 : IsEnd w t5 = end_after w (signed_decimal s.left) t6 (number_passed w s.left small.left) e6 in
-    let e4 : IsEnd w t4 = end_after w (codes "M") t5 (λ rest. refl) e5 in
-    let e3 : IsEnd w t3 = end_after w (signed_decimal s.height) t4 (number_passed w s.height small.height) e4 in
-    let e2 : IsEnd w t2 = end_after w (codes "v") t3 (λ rest. refl) e3 in
-    let e1 : IsEnd w t1 = end_after w (signed_decimal s.top) t2 (number_passed w s.top small.top) e2 in
-    let text : axes s ++ rest ≡ codes "<path d=\"M0 " ++ (t1 ++ rest) = simp append_assoc in
-    let first : read true w (codes "<path d=\"M0 " ++ (t1 ++ rest)) ≡ read false w (t1 ++ rest) = refl in
-    ap (read true w) text ∙ first ∙ e1 rest
+    let line = signed_decimal s.top ++ (codes "v" ++ (signed_decimal s.height ++ (codes "M" ++ (signed_decimal s.left ++ (codes " 0h"
+    ++ (signed_decimal s.width ++ codes "\" stroke=\"#c00\" stroke-width=\".12\"/>\n")))))) in
+    let ends : IsEnd w line =
+    pair_end w s.top (codes "v") _ small.top (λ more. refl) (pair_end w s.height (codes "M") _ small.height (λ more. refl)
+    (pair_end w s.left (codes " 0h") _ small.left (λ more. refl) (end_after w (signed_decimal s.width) _
+    (number_passed w s.width small.width) (λ more. refl)))) in
+    let text : axes s ++ rest ≡ codes "<path d=\"M0 " ++ (line ++ rest) = simp append_assoc in
+    let first : read true w (codes "<path d=\"M0 " ++ (line ++ rest)) ≡ read false w (line ++ rest) = refl in
+    ap (read true w) text ∙ first ∙ ends rest
 
 -- ---- a rectangle
 
 -- the line of a rectangle after its `M`
 abbrev sides : ℤ → ℤ → ℕ → List ℕ
 sides x top n =
-    signed_decimal x ++ (codes " " ++ (signed_decimal top ++ (codes "h" ++ (signed_decimal (pos n) ++ (codes "v1h-" ++ (signed_decimal (pos n) ++ codes "z\n"))))))
+    signed_decimal x ++ (codes " " ++ (signed_decimal top ++ (codes "h" ++ (signed_decimal (pos n)
+    ++ (codes "v1h-" ++ (signed_decimal (pos n) ++ codes "z\n"))))))
 
 -- what its width is, and what comes after it
 abbrev width_on : ℕ → List ℕ → List ℕ
@@ -203,23 +178,9 @@ sides_on x top n rest = simp append_assoc
 sides_passed : (w x top : ℤ) (n : ℕ) → IsSmall x → IsSmall top → IsSmall (pos n) → IsEnd w (sides x top n)
 unfolding read
 sides_passed w x top n column row width =
-    let t8 = codes "z\n" in
-    let t7 = signed_decimal (pos n) ++ t8 in
-    let t6 = codes "v1h-" ++ t7 in
-    let t5 = signed_decimal (pos n) ++ t6 in
-    let t4 = codes "h" ++ t5 in
-    let t3 = signed_decimal top ++ t4 in
-    let t2 = codes " " ++ t3 in
-    let t1 = signed_decimal x ++ t2 in
-    let e8 : IsEnd w t8 = λ rest. refl in
-    let e7 : IsEnd w t7 = end_after w (signed_decimal (pos n)) t8 (number_passed w (pos n) width) e8 in
-    let e6 : IsEnd w t6 = end_after w (codes "v1h-") t7 (λ rest. refl) e7 in
-    let e5 : IsEnd w t5 = end_after w (signed_decimal (pos n)) t6 (number_passed w (pos n) width) e6 in
-    let e4 : IsEnd w t4 = end_after w (codes "h") t5 (λ rest. refl) e5 in
-    let e3 : IsEnd w t3 = end_after w (signed_decimal top) t4 (number_passed w top row) e4 in
-    let e2 : IsEnd w t2 = end_after w (codes " ") t3 (λ rest. refl) e3 in
-    let e1 : IsEnd w t1 = end_after w (signed_decimal x) t2 (number_passed w x column) e2 in
-    e1
+    pair_end w x (codes " ") _ column (λ more. refl) (pair_end w top (codes "h") _ row (λ more. refl)
+    (pair_end w (pos n) (codes "v1h-") _ width (λ more. refl) (end_after w (signed_decimal (pos n)) (codes "z\n")
+    (number_passed w (pos n) width) (λ more. refl))))
 
 top_found : (x top : ℤ) (n : ℕ) (rest : List ℕ) → IsSmall x → after_first 32 (sides x top n ++ rest) ≡ signed_decimal top ++ 104 ∷ width_on n rest
 unfolding after_first
@@ -251,5 +212,6 @@ rectangle_read w r rest run =
     let len : unsigned_abs (number (after_first 104 text)) ≡ r.len =
     ap (λ t. unsigned_abs (number t)) (width_found r.x top r.len rest column row) ∙ ap unsigned_abs (number_read (pos r.len) 118 _ width refl) in
     let line : rectangle r ++ rest ≡ codes "M" ++ text = simp append_assoc in
-    let first : read true w (codes "M" ++ text) ≡ stretch (neg_ℤ (number (after_first 32 text) +ℤ pos 1)) (number text) w (unsigned_abs (number (after_first 104 text))) ++ read false w text = refl in
+    let first : read true w (codes "M" ++ text) ≡
+    stretch (neg_ℤ (number (after_first 32 text) +ℤ pos 1)) (number text) w (unsigned_abs (number (after_first 104 text))) ++ read false w text = refl in
     ap (read true w) line ∙ first ∙ rw (x, y, len) (ap (λ others. stretch r.y r.x w r.len ++ others) (sides_passed w r.x top r.len column row width rest))

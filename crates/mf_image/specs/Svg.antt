@@ -63,12 +63,17 @@ sheet_of b = record {
   height = pos (extent b.min_y b.max_y + 2);
 }
 
+-- the end of the line with the size of the image, and the pattern of the grid
+unfoldable pub grid : List ℕ
+grid =
+    codes "\">\n<pattern id=\"grid\" width=\"1\" height=\"1\" patternUnits=\"userSpaceOnUse\">"
+    ++ codes "<path d=\"M0 0h1M0 0v1\" stroke=\"#999\" stroke-width=\".06\"/></pattern>\n"
+
 -- the first two lines: the size of the image, and the pattern of the grid
 unfoldable pub opening : Sheet → List ℕ
 opening s =
     codes "<svg xmlns=\"http://www.w3.org/2000/svg\" viewBox=\"" ++ signed_decimal s.left ++ codes " " ++ signed_decimal s.top ++ codes " "
-    ++ signed_decimal s.width ++ codes " " ++ signed_decimal s.height
-    ++ codes "\">\n<pattern id=\"grid\" width=\"1\" height=\"1\" patternUnits=\"userSpaceOnUse\"><path d=\"M0 0h1M0 0v1\" stroke=\"#999\" stroke-width=\".06\"/></pattern>\n"
+    ++ signed_decimal s.width ++ codes " " ++ signed_decimal s.height ++ grid
 
 -- a rectangle over the whole sheet that is filled with this
 unfoldable pub cover : Sheet → List ℕ → List ℕ

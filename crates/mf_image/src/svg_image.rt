@@ -16,7 +16,8 @@ use std::alloc::Global;
 
 /// What ends the line with the size of the image, and the pattern of the grid.
 const GRID: &[u8] =
-    b"\">\n<pattern id=\"grid\" width=\"1\" height=\"1\" patternUnits=\"userSpaceOnUse\"><path d=\"M0 0h1M0 0v1\" stroke=\"#999\" stroke-width=\".06\"/></pattern>\n";
+    b"\">\n<pattern id=\"grid\" width=\"1\" height=\"1\" patternUnits=\"userSpaceOnUse\">\
+      <path d=\"M0 0h1M0 0v1\" stroke=\"#999\" stroke-width=\".06\"/></pattern>\n";
 
 /// The SVG image of a picture (Scalable Vector Graphics 1.1): for each weight a path of rectangles, one for each maximal run, the
 /// least weight first. A pixel is a unit square, and the image has the least box with a margin of one pixel. Over the paths lie a grid

@@ -1,5 +1,6 @@
 -- What a writer has accepted once an operation or the end mark is added.
-use Rattle.std.proofs.Common.{◌≡◌, ◌∙◌, ◌+◌, ◌≤◌, ◌||◌, Bool, true, false, ℕ, [], ◌∷◌, ◌++◌, refl, sym, ap}
+use Rattle.std.proofs.Common.{◌≡◌, ◌∙◌, ◌+◌, ◌≤◌, true, false, ℕ, [], ◌∷◌, ◌++◌, refl, sym, ap}
+use Rattle.std.proofs.lemmas.Bool.{or_from, or_right}
 use Rattle.mf_ops.specs.declared.op.Op.{Op}
 use Rattle.mf_live.specs.declared.holder.Holder.{Holder}
 use Rattle.mf_live.specs.Entries.{entry, Operation, End, rev, is_closed}
@@ -13,14 +14,6 @@ published_list-few h =
     let whole : rev (published_list h) ≤ rev (accepted_list h) = rev-whole (published_list h) (accepted_list h) (lawful h).whole in
     rw ((version h).notice.numbered, h.shown_is, h.numbered) whole
 
-or-false : (b : Bool) → b ≡ false → (b || false) ≡ false
-or-false true same = same
-or-false false same = refl
-
-or-true : (b : Bool) → (b || true) ≡ true
-or-true true = refl
-or-true false = refl
-
 module _ (old new : Holder) (n : ℕ) where
   -- one more operation has the next number, and does not close the list
   module _ (op : Op) (more : accepted_list new ≡ accepted_list old ++ entry n (Operation op) ∷ []) where
@@ -29,9 +22,9 @@ module _ (old new : Holder) (n : ℕ) where
 
     pub open-push : is_closed (accepted_list old) ≡ false → is_closed (accepted_list new) ≡ false
     open-push is_open =
-        ap is_closed more ∙ is_closed-append (accepted_list old) (entry n (Operation op) ∷ []) ∙ or-false (is_closed (accepted_list old)) is_open
+        ap is_closed more ∙ is_closed-append (accepted_list old) (entry n (Operation op) ∷ []) ∙ or_from (is_closed (accepted_list old)) false is_open refl
 
   -- the end mark closes the list
   module _ (more : accepted_list new ≡ accepted_list old ++ entry n End ∷ []) where
     pub closed-end : is_closed (accepted_list new) ≡ true
-    closed-end = ap is_closed more ∙ is_closed-append (accepted_list old) (entry n End ∷ []) ∙ or-true (is_closed (accepted_list old))
+    closed-end = ap is_closed more ∙ is_closed-append (accepted_list old) (entry n End ∷ []) ∙ or_right (is_closed (accepted_list old)) true refl

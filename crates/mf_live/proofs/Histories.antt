@@ -1,6 +1,5 @@
 -- The history of what a picture's writer holds: how long it is, and what one more event does to it.
-use Rattle.std.proofs.Common.{◌≡◌, ◌≤◌, ◌+◌, false, List, [], ◌∷◌, ◌++◌, length, ap, sym, ◌∙◌, append_assoc, arith, length-append}
-use Rattle.std.proofs.lemmas.List.{append-nil, nil_from_length}
+use Rattle.std.proofs.Common.{◌≡◌, ◌≤◌, ◌+◌, false, [], ◌∷◌, ◌++◌, length, ap, sym, ◌∙◌, append_assoc, arith, length-append}
 use Rattle.left_right.specs.Sides.{view}
 use Rattle.mf_live.specs.declared.event.Event.{Event}
 use Rattle.mf_live.specs.declared.holder.Holder.{Holder}
@@ -27,17 +26,6 @@ few_events h = omega (arith, h.short, h.since, few_entries h)
 
 pub few_unwritten : (h : Holder) → h.unwritten ≤ 4294967296
 few_unwritten h = omega (arith, h.since, few_entries h)
-
--- where nothing waits, everything that was accepted is published
-pub none_waits : (h : Holder) → h.unwritten ≡ 0 → published_list h ≡ accepted_list h
-none_waits h none =
-    let written : (view h.swap.desk.place).unwritten ≡ [] = nil_from_length (view h.swap.desk.place).unwritten (omega (arith, h.counted, none)) in
-    let log : events h ≡ events_of (version h) = ap (λ (more : List Event). events_of (version h) ++ more) written ∙ append-nil (events_of (version h)) in
-    ap published_of log ∙ sym (version h).notice.whole ∙ sym (ap accepted_of log)
-
--- where everything that was accepted is published, nothing waits
-pub some_wait : (h : Holder) → published_list h ≡ accepted_list h → h.unwritten ≡ 0
-some_wait h all = omega (arith, h.since, ap length h.shown_is, ap length all)
 
 -- the writer has one more event to write, by which the entry e is accepted
 pub record HasOneMore (h : Holder) (x : Version) (w : View) (e : Entry) : Type 0 where

@@ -9,9 +9,6 @@ prefix-self xs = ([], append-nil xs)
 pub prefix-trans : {A : Type 0} (xs ys zs : List A) → IsPrefix xs ys → IsPrefix ys zs → IsPrefix xs zs
 prefix-trans xs ys zs one other = (one.0 ++ other.0, sym (append_assoc xs one.0 other.0) ∙ ap (λ L. L ++ other.0) one.1 ∙ other.1)
 
-pub prefix-length : {A : Type 0} (xs ys : List A) → IsPrefix xs ys → length xs ≤ length ys
-prefix-length xs ys prefix = omega (arith, length-append xs prefix.0, ap length prefix.1)
-
 -- of two prefixes of one list, the shorter is a prefix of the longer
 pub prefix-shorter : {A : Type 0} (xs ys zs : List A) → IsPrefix xs zs → IsPrefix ys zs → length xs ≤ length ys → IsPrefix xs ys
 prefix-shorter [] ys zs one other shorter = (ys, refl)

@@ -1,9 +1,8 @@
 -- Whole prefixes of lists of entries.
-use Rattle.std.proofs.Common.{◌≡◌, ◌≤◌, ◌<◌, ◌-◌, ℕ, List, [], ◌++◌, length, take, drop, nat_lt, inl, inr, refl, sym, ◌∙◌, ap, arith}
+use Rattle.std.proofs.Common.{◌≡◌, ◌≤◌, ◌<◌, ◌-◌, ℕ, List, [], ◌++◌, length, nat_lt, inl, inr, refl, sym, ◌∙◌, ap, arith}
 use Rattle.std.proofs.Math.ListN.{get_or-append}
-use Rattle.std.proofs.Math.Seq.{take-append_seam}
 use Rattle.std.proofs.lemmas.Bool.{cases_lt, cond-true, cond-false, lt-ltb, le-ltb, cond_both}
-use Rattle.std.proofs.lemmas.List.{append_assoc, append-nil, length-append, length-map, map-append, nil_from_length, take-append-le, take-append-drop}
+use Rattle.std.proofs.lemmas.List.{append_assoc, append-nil, length-append, length-map, map-append, nil_from_length}
 use Rattle.mf_live.specs.Entries.{Entry}
 use Rattle.mf_live.specs.Prefixes.{IsWholePrefix, IsCutAmong, IsCut, labels, longer}
 
@@ -22,23 +21,9 @@ cut_among-append ns more n inside (inr (inr between)) =
     let after = get_or-append ns more 0 n inside in
     inr (inr (between.0, omega (arith, length-append ns more), λ same. between.2 (sym before ∙ same ∙ after)))
 
-cut_among-prefix : (ns more : List ℕ) (n : ℕ) → n ≤ length ns → IsCutAmong (ns ++ more) n → IsCutAmong ns n
-cut_among-prefix ns more n inside (inl first) = inl first
-cut_among-prefix ns more n inside (inr (inl last)) = inr (inl (omega (arith, length-append ns more)))
-cut_among-prefix ns more n inside (inr (inr between)) = elim (cases_lt n (length ns)) [
-  | inl below ↦
-      let before = get_or-append ns more 0 (n - 1) (omega arith) in
-      let after = get_or-append ns more 0 n below in
-      inr (inr (between.0, below, λ same. between.2 (before ∙ same ∙ sym after)))
-  | inr end ↦ inr (inl (omega arith))
-]
-
 -- the same for a cut of a list
 cut-append : (L more : List Entry) (n : ℕ) → n < length L → IsCut L n → IsCut (L ++ more) n
 cut-append L more n inside cut = rw (labels-append L more) (cut_among-append (labels L) (labels more) n (omega (arith, length-labels L)) cut)
-
-cut-prefix : (L more : List Entry) (n : ℕ) → n ≤ length L → IsCut (L ++ more) n → IsCut L n
-cut-prefix L more n inside cut = cut_among-prefix (labels L) (labels more) n (omega (arith, length-labels L)) (rw (labels-append L more) at cut)
 
 cut-end : (L : List Entry) (n : ℕ) → n ≡ length L → IsCut L n
 cut-end L n end = inr (inl (end ∙ sym (length-labels L)))
@@ -67,19 +52,6 @@ whole-trans A B C first second = record {
     | inr long ↦ rw (whole-same A B first long) second.cut
   ];
 }
-
--- of two whole prefixes, the shorter is a whole prefix of the longer
-pub whole-shorter : (a b L : List Entry) → IsWholePrefix a L → IsWholePrefix b L → length a ≤ length b → IsWholePrefix a b
-whole-shorter a b L one other shorter =
-    let prefix : a ≡ take (length a) b =
-    sym (take-append_seam a one.rest)
-    ∙ ap (λ list. take (length a) list) (sym one.whole ∙ other.whole)
-    ∙ take-append-le (length a) b other.rest shorter in
-    record {
-      rest = drop (length a) b;
-      whole = sym (ap (λ start. start ++ drop (length a) b) prefix ∙ take-append-drop (length a) b);
-      cut = cut-prefix b other.rest (length a) shorter (rw other.whole at one.cut);
-    }
 
 -- the longer of two whole prefixes is a whole prefix
 pub whole-longer : (a b L : List Entry) → IsWholePrefix a L → IsWholePrefix b L → IsWholePrefix (longer a b) L

@@ -29,7 +29,7 @@ pub struct Holder {
     pub(crate) unwritten: u64,
     ghost head_is: { head ≡ head_of (book_of swap.desk.shown.value) },
     ghost shown_is: { shown_by swap.desk.shown.value ≡ published_of (history swap.desk.shown.value (view swap.desk.place)) },
-    ghost lawful: { Happen most start (history swap.desk.shown.value (view swap.desk.place)) } by { Happen-prop most start (history swap.desk.shown.value (view swap.desk.place)) },
+    ghost lawful: { Happen most start (history swap.desk.shown.value (view swap.desk.place)) } by { Happen-prop most start _ },
     ghost alive: { (world_after start (history swap.desk.shown.value (view swap.desk.place))).dropped ≡ false },
     ghost counted: { unwritten ≡ length (view swap.desk.place).unwritten },
     ghost pictured: { working ≡ pic (accepted_of (history swap.desk.shown.value (view swap.desk.place))) },

@@ -5,7 +5,7 @@ use Rattle.std.proofs.lemmas.Bool.{cond-false}
 use Rattle.std.proofs.lemmas.Int.{ints, clamps, by_lt_z}
 use Rattle.mf_edges.specs.declared.stretch.Stretch.{Stretch}
 use Rattle.mf_edges.specs.Axes.{IsStretch, stretched_to, source_of, opposite}
-use Rattle.mf_edges.proofs.Sources.{stretched_to-next, source_of-reached, source_of-from, source_of-is}
+use Rattle.mf_edges.proofs.Sources.{mul-next, stretched_to-next, source_of-reached, source_of-from, source_of-is}
 use Rattle.mf_ops.specs.Moves.{IsFactor, HasPlace, scale_by, scale_source}
 
 pub not_negative : (n : ℕ) → int_lt (pos n) (pos 0) ≡ false
@@ -106,13 +106,10 @@ scale_source-reflection q =
     let one : IsFactor (negsuc 0) = record { least = omega (arith, ints); greatest = omega (arith, ints); nonzero = λ same. omega (arith, ints) } in
     scale_source-only (negsuc 0) (opposite q) q one record { start = omega (arith, ints, clamps); end = omega (arith, ints, clamps) }
 
-product-next : (f p : ℤ) → (p +ℤ pos 1) *ℤ f ≡ (p *ℤ f) +ℤ f
-product-next f p = omega (arith, ints, stretched_to-next (scale_by f) p)
-
 -- the part of p is not empty: it has a first and a last column
 ends-apart : (f p : ℤ) → IsFactor f → (int_min (p *ℤ f) ((p +ℤ pos 1) *ℤ f) +ℤ pos 1) ≤ℤ int_max (p *ℤ f) ((p +ℤ pos 1) *ℤ f)
 ends-apart f p factor =
-    let next = product-next f p in
+    let next = mul-next p f in
     by_lt_z (int_min (p *ℤ f) ((p +ℤ pos 1) *ℤ f)) (int_max (p *ℤ f) ((p +ℤ pos 1) *ℤ f))
     (λ lt. omega (arith, ints))
     (λ ge. absurd (factor.nonzero (omega (arith, ints, clamps))))

@@ -1,7 +1,7 @@
 //! Operations that change pictures: filling contours, adding and subtracting pictures, culling, clearing, shifting, scaling and
 //! turning. `apply` performs an operation on a picture, and `after` returns the picture after it.
 //!
-//! The columns and rows of pixels are -4095..4094, and their weights are in -32767..32767. An operation that would leave these
+//! The columns and rows of pixels are -4095..=4094, and their weights are in -32767..=32767. An operation that would leave these
 //! ranges is refused, and then nothing changes.
 #![tactic(auto)]
 

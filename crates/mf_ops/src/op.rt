@@ -30,20 +30,21 @@ pub enum Op {
     /// cycle around that pixel. Under `On` the weight is negated where the cycle turns clockwise (The METAFONTbook, chapter 13).
     Contour(Cycle, Weight, Check),
     /// `addto p also q` and `addto p also -q`: adds to each pixel its weight in another picture, or subtracts that weight. The
-    /// other picture may be a copy of the one that is changed.
+    /// other picture may be a copy of the one that is changed (The METAFONTbook, chapter 13).
     Also(Picture, Sign),
     /// `cull p keeping (a, b) withweight w` and `cull p dropping (a, b) withweight w`: gives each pixel either the weight of the
-    /// cull or 0, depending on whether its own weight lies in the range.
+    /// cull or 0, depending on whether its own weight lies in the range (The METAFONTbook, chapter 13).
     Cull(Cull),
-    /// `p := p shifted (dx, dy)`: moves each pixel by `dx` columns to the right and `dy` rows upwards. Both may be any `i32`.
+    /// `p := p shifted (dx, dy)`: moves each pixel by `dx` columns to the right and `dy` rows upwards. Both may be any `i32`
+    /// (The METAFONTbook, chapter 15).
     Shift(i32, i32),
     /// `p := p xscaled sx`, `yscaled sy`, `scaled s`: stretches each pixel by whole factors. A negative factor also reflects: the
-    /// factor -1 takes column x to column -x - 1.
+    /// factor -1 takes column x to column -x - 1 (The METAFONTbook, chapter 15).
     Scale(Scale),
     /// `p := p rotated d` for quarter turns counterclockwise about the point (0, 0): 90 degrees takes the pixel (x, y) to the
-    /// pixel (-y - 1, x).
+    /// pixel (-y - 1, x) (The METAFONTbook, chapter 15).
     Quarter(Quarter),
-    /// `p := nullpicture`: every weight becomes 0.
+    /// `p := nullpicture`: every weight becomes 0 (The METAFONTbook, chapter 13).
     Clear,
 }
 
@@ -53,7 +54,7 @@ pub enum OpFault {
     /// The turning check is on, and the cycle of a contour turns straight back (`Backtracks`) or has turning number 0
     /// (`TurningZero`).
     Cycle(CycleFault),
-    /// A pixel of nonzero weight would leave the field, columns and rows -4095..4094.
+    /// A pixel of nonzero weight would leave the field, columns and rows -4095..=4094.
     OutOfField,
     /// A weight would exceed 32767 in absolute value.
     WeightTooLarge,

@@ -10,7 +10,7 @@ use std::marker::Model;
 /// The greatest absolute value of a factor. A greater one would take every pixel out of the field.
 const MAX_FACTOR: i32 = MAX_COORDINATE;
 
-/// A factor that is 0, or not in -4095..4095.
+/// A factor that is 0, or not in -4095..=4095.
 #[derive(Clone, Copy, Debug, PartialEq, Eq)]
 pub struct BadScale;
 
@@ -28,7 +28,7 @@ impl fmt::Display for BadScale {
 impl Error for BadScale {}
 
 /// The factors of a scale: METAFONT's `xscaled`, `yscaled` and `scaled` (The METAFONTbook, chapter 15) for nonzero integers in
-/// -4095..4095. A negative factor also reflects.
+/// -4095..=4095. A negative factor also reflects.
 #[derive(Clone, Copy, Debug, PartialEq, Eq)]
 pub struct Scale {
     x: i32,
@@ -49,7 +49,7 @@ impl Model for Scale {
 
 impl Scale {
     /// The scale by these factors, `x` of columns and `y` of rows. Refused with `BadScale` where one of them is 0 or not in
-    /// -4095..4095.
+    /// -4095..=4095.
     pub fn new(x: i32, y: i32) -> Result<Scale, BadScale>
         ensures accepted { IsOk result ↔ AreFactors (record { x = x; y = y }) }
         ensures value { IfOk result (λ scale. scale ≡ record { x = x; y = y }) }

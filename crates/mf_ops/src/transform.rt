@@ -126,7 +126,7 @@ fn stays_inside(picture: &Picture, columns: &Stretch, rows: &Stretch) -> bool
     }
 }
 
-/// Whether both ends of a column, or row, lie in -4095..4095 after a stretch.
+/// Whether both ends of a column, or row, lie in -4095..=4095 after a stretch.
 fn lies_inside(stretch: &Stretch, place: i32) -> bool
     requires least { least_coordinate ≤ℤ place }
     requires greatest { place ≤ℤ last_in_field }
@@ -135,7 +135,7 @@ fn lies_inside(stretch: &Stretch, place: i32) -> bool
     is_in_reach(stretch, place) && is_in_reach(stretch, place + 1)
 }
 
-/// Whether a point lies in -4095..4095 after a stretch.
+/// Whether a point lies in -4095..=4095 after a stretch.
 fn is_in_reach(stretch: &Stretch, point: i32) -> bool
     requires least { least_coordinate ≤ℤ point }
     requires greatest { point ≤ℤ greatest_coordinate }

@@ -7,7 +7,7 @@ use Rattle.mf_rows.specs.declared.bounds.Box4.{Box4}
 use Rattle.mf_rows.specs.Bounds.{IsWithin, IsLeastBox}
 use Rattle.mf_rows.specs.Dots.{Dot, IsPicture}
 use Rattle.mf_rows.proofs.BoundsInField.{bounds_in_field}
-use Rattle.mf_rows.proofs.RunBoxes.{least_box_of_both}
+use Rattle.mf_rows.proofs.BoxesJoined.{least_box_of_both}
 use Rattle.mf_show.specs.Boxes.{IsBoxOfField, box_of, box_of_dot, box_of_dots}
 
 -- what holds for all dots holds for the one that some property finds

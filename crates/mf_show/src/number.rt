@@ -6,11 +6,11 @@ use itoa::Buffer;
 use mf_base::OutOfMemory;
 
 /// Appends a number in decimal, and the bytes that come after it. Refused with `OutOfMemory` where an allocation fails.
-pub fn push_number(text: &mut Vec<u8>, number: i32, behind: &[u8]) -> Result<(), OutOfMemory>
-    ensures { IfOk result (λ _. text.new.items ≡ text.old.items ++ signed_decimal number ++ behind.now) }
+pub fn push_number(text: &mut Vec<u8>, number: i32, after: &[u8]) -> Result<(), OutOfMemory>
+    ensures { IfOk result (λ _. text.new.items ≡ text.old.items ++ signed_decimal number ++ after.now) }
 {
     let mut buffer = Buffer::new();
     text.extend_from_slice(buffer.format(number).as_bytes())?;
-    text.extend_from_slice(behind)?;
+    text.extend_from_slice(after)?;
     Ok(())
 }

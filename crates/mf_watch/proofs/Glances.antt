@@ -12,7 +12,8 @@ use Rattle.mf_watch.specs.declared.glance.Glance.{Glance}
 use Rattle.mf_watch.specs.Watchers.{AreGlances, HasSeen, IsGlance, NeverFall, glance_at}
 
 -- the glance at the picture of a list
-pub glance-of : (L : List Entry) (revision : ℕ) (picture : List Dot) → revision ≡ rev L → picture ≡ pic L → record { revision = revision; total = total_of picture } ≡ glance_at L
+pub glance-of : (L : List Entry) (revision : ℕ) (picture : List Dot) → revision ≡ rev L
+    → picture ≡ pic L → record { revision = revision; total = total_of picture } ≡ glance_at L
 glance-of L revision picture number shown = rw (number, shown) refl
 
 -- nothing is seen before the first look

@@ -80,7 +80,7 @@ impl Ended {
         ensures told { told_list result ≡ ended_published_list self.old }
         ensures closed { is_closed (told_list result) ≡ true }
     {
-        self.swap.published().notice.again()
+        self.swap.published().notice.copy()
     }
 
     /// Ends the picture. It may wait for looks that are held, and looks may be refused from then on.

@@ -36,7 +36,7 @@ pub fn open_picture<R: Wait>(
     // There is room for one reader at least, since `left_right` makes no table without one.
     let mut holder = Holder::open(rt, alloc, places.max(1) as usize)?;
     seat_all(&mut holder, &mut viewers, places);
-    let known = holder.swap.published().notice.again();
+    let known = holder.swap.published().notice.copy();
     Ok((Writer { holder, max_ops }, Desk { viewers, known }))
 }
 
@@ -76,7 +76,7 @@ fn seat_one(holder: &mut Holder) -> Option<Viewer>
     reader.learn::<Takes>(note);
     Some(Viewer {
         reader,
-        known: holder.swap.published().notice.again(),
+        known: holder.swap.published().notice.copy(),
         missed: false,
     })
 }

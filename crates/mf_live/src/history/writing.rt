@@ -24,7 +24,7 @@ pub(crate) fn open_history() -> (Head, Prefix)
 
 impl Knowledge {
     /// A copy.
-    pub(crate) fn again(&self) -> Knowledge
+    pub(crate) fn copy(&self) -> Knowledge
         ensures { result ≡ self.now }
     {
         Knowledge {
@@ -35,12 +35,12 @@ impl Knowledge {
 
 impl Prefix {
     /// A copy.
-    pub(crate) fn again(&self) -> Prefix
+    pub(crate) fn copy(&self) -> Prefix
         ensures { result.knowledge ≡ self.now.knowledge }
     {
         Prefix {
             events: self.events,
-            knowledge: self.knowledge.again(),
+            knowledge: self.knowledge.copy(),
         }
     }
 
@@ -50,7 +50,7 @@ impl Prefix {
         ensures this { self.now.events ≤ other.now.events → IsPrefix self.now.knowledge.seen.log other.now.knowledge.seen.log }
         ensures that { other.now.events ≤ self.now.events → IsPrefix other.now.knowledge.seen.log self.now.knowledge.seen.log }
     {
-        let mut both = self.knowledge.again();
+        let mut both = self.knowledge.copy();
         both.seen.learn(&other.knowledge.seen);
     }
 }
@@ -66,7 +66,7 @@ fn try_write<N: Happening>(head: &Head, prefix: &mut Prefix, count: u64) -> bool
     ensures log { MatchBool result (prefix.new.knowledge.seen.log ≡ prefix.old.knowledge.seen.log ++ N.more)
         (prefix.new.knowledge.seen.log ≡ prefix.old.knowledge.seen.log) }
 {
-    let mut knowledge = prefix.knowledge.again();
+    let mut knowledge = prefix.knowledge.copy();
     let mut offer = knowledge.seen.plain::<Nothing, (), Asks>(&());
     let mut pen = knowledge.seen.no_pen();
     let found = head.compare_exchange::<Write<N>, Nothing>(

@@ -31,7 +31,7 @@ fn blank(alloc: Global, prefix: &Prefix) -> Version
     Version {
         picture: Picture::blank(alloc),
         notice: Notice {
-            prefix: prefix.again(),
+            prefix: prefix.copy(),
             number: 0,
         },
     }

@@ -94,7 +94,7 @@ impl Holder {
     {
         // The book comes before the swap, which may wait for a held look: until then a look shows the list before, which is
         // published, too.
-        let mut prefix = self.swap.published().notice.prefix.again();
+        let mut prefix = self.swap.published().notice.prefix.copy();
         write_publish::<Brand, R>(rt, &self.swap, &self.head, &mut prefix, self.unwritten + 1);
         let notice = Notice {
             prefix,

@@ -14,11 +14,11 @@ impl Notice {
     }
 
     /// A copy.
-    pub(crate) fn again(&self) -> Notice
+    pub(crate) fn copy(&self) -> Notice
         ensures { result.prefix.knowledge ≡ self.now.prefix.knowledge }
     {
         Notice {
-            prefix: self.prefix.again(),
+            prefix: self.prefix.copy(),
             number: self.number,
         }
     }

@@ -90,7 +90,7 @@ impl Writer {
         ensures identity { notice_identity result ≡ identity self.old }
         ensures told { told_list result ≡ published_list self.old }
     {
-        self.holder.swap.published().notice.again()
+        self.holder.swap.published().notice.copy()
     }
 
     /// Ends the picture without an end mark. It may wait for looks that are held, and looks may be refused from then on.

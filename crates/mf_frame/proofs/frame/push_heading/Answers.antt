@@ -7,4 +7,5 @@ pub returns : goal.returns
 returns c =
     let total = to_z-of_z w64 c.args.total c.ranges.total in
     IfOk-equal _ _ _ _ c.push_number_end.ensures
-    (rw (c.in_ok-push-4.ensures, c.in_ok-push-3.ensures, c.in_ok-push-2.ensures, c.in_ok-push.ensures, c.as_bytes.ensures.value, c.as_bytes-2.ensures.value, c.format.ensures.text, c.format-2.ensures.text, total) (simp append_assoc))
+    (rw (c.in_ok-push-4.ensures, c.in_ok-push-3.ensures, c.in_ok-push-2.ensures, c.in_ok-push.ensures)
+    (rw (c.as_bytes.ensures.value, c.as_bytes-2.ensures.value, c.format.ensures.text, c.format-2.ensures.text, total) (simp append_assoc)))

@@ -17,4 +17,7 @@ returns c =
     let bottom : to_z w32 (of_z w32 b.min_y) ≡ b.min_y = omega (arith, ints, box.bottom, box.top, box.rows) in
     let top : to_z w32 (of_z w32 b.max_y) ≡ b.max_y = omega (arith, ints, box.bottom, box.top, box.rows) in
     IfOk-equal _ _ _ _ c.push_number_end.ensures
-    (rw (c.in_ok-push-2.ensures, c.in_ok-push.ensures, c.in_ok-push_range-2.ensures, c.in_ok-push_range.ensures, c.as_bytes.ensures.value, c.format.ensures.text, scale, left, right, bottom, top) (eight_parts c.args.text.now.items (codes "columns ") (range b.min_x b.max_x) (codes "  rows ") (range b.min_y b.max_y) (codes "  scale ") (signed_decimal c.args.scale) (number_end c.args.style)))
+    (rw (c.in_ok-push-2.ensures, c.in_ok-push.ensures, c.in_ok-push_range-2.ensures, c.in_ok-push_range.ensures)
+    (rw (c.as_bytes.ensures.value, c.format.ensures.text, scale, left, right, bottom, top)
+    (eight_parts c.args.text.now.items (codes "columns ") (range b.min_x b.max_x) (codes "  rows ") (range b.min_y b.max_y)
+    (codes "  scale ") (signed_decimal c.args.scale) (number_end c.args.style))))

@@ -23,5 +23,6 @@ returns c =
     let to = c.ends.result.1 in
     let first = product-passed from.x to.y (search rules) (search rules) c.product.ensures.value in
     let second = product-passed to.x from.y (search rules) (search rules) c.product-2.ensures.value in
-    let difference : to_z w32 (of_z w32 (to_z w32 (of_z w32 c.product.result) -ℤ to_z w32 (of_z w32 c.product-2.result))) ≡ c.product.result -ℤ c.product-2.result = omega (arith, ints) in
+    let difference : to_z w32 (of_z w32 (to_z w32 (of_z w32 c.product.result) -ℤ to_z w32 (of_z w32 c.product-2.result)))
+    ≡ c.product.result -ℤ c.product-2.result = omega (arith, ints) in
     record { value = rw (difference, first, second, c.ends.ensures.from, c.ends.ensures.to); least = omega (arith, ints); greatest = omega (arith, ints) }

@@ -15,7 +15,9 @@ returns-clause-value c =
     let leaving = c.step_along-leaving.result in
     let first = product-passed arriving.across leaving.up (search rules) (search rules) c.product.ensures.value in
     let second = product-passed arriving.up leaving.across (search rules) (search rules) c.product-2.ensures.value in
-    let cross : to_z w32 (of_z w32 (to_z w32 (of_z w32 c.product.result) -ℤ to_z w32 (of_z w32 c.product-2.result))) ≡ c.product.result -ℤ c.product-2.result =
+    let cross : to_z w32 (of_z w32 (to_z w32 (of_z w32 c.product.result) -ℤ to_z w32 (of_z w32 c.product-2.result)))
+    ≡ c.product.result -ℤ c.product-2.result =
     omega (arith, ints) in
     let sign : to_z w32 (of_z w32 c.signum.result) ≡ c.signum.result = omega (arith, ints) in
-    rw (sign, c.signum.ensures.value, cross, first, second, c.step_along-arriving.ensures.across, c.step_along-arriving.ensures.up, c.step_along-leaving.ensures.across, c.step_along-leaving.ensures.up, c.previous_place.ensures.value)
+    rw (sign, c.signum.ensures.value, cross, first, second, c.step_along-arriving.ensures.across, c.step_along-arriving.ensures.up)
+    (rw (c.step_along-leaving.ensures.across, c.step_along-leaving.ensures.up, c.previous_place.ensures.value))

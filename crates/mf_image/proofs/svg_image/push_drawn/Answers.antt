@@ -6,4 +6,6 @@ use Rattle.mf_image.proofs.svg_image.push_drawn.Goals as goal
 
 pub returns : goal.returns
 returns c =
-    rw (path_of_some c.args.weight c.args.rectangles.now c.requires, c.in_ok-extend_from_slice-5.ensures.items, c.in_ok-extend_from_slice-4.ensures.items, c.in_ok-extend_from_slice-3.ensures.items, c.in_ok-extend_from_slice-2.ensures.items, c.as_bytes.ensures.value, c.color.ensures, c.in_ok-push_number.ensures, c.in_ok-extend_from_slice.ensures.items, to_z-of_z w32 c.args.weight c.ranges.weight) (simp append_assoc)
+    rw (path_of_some c.args.weight c.args.rectangles.now c.requires, c.in_ok-extend_from_slice-5.ensures.items, c.in_ok-extend_from_slice-4.ensures.items)
+    (rw (c.in_ok-extend_from_slice-3.ensures.items, c.in_ok-extend_from_slice-2.ensures.items, c.as_bytes.ensures.value, c.color.ensures)
+    (rw (c.in_ok-push_number.ensures, c.in_ok-extend_from_slice.ensures.items, to_z-of_z w32 c.args.weight c.ranges.weight) (simp append_assoc)))

@@ -1,7 +1,7 @@
-use Rattle.std.proofs.Common.{ℤ, pos, List, arith}
+use Rattle.std.proofs.Common.{ℤ, pos, List}
 use Rattle.std.proofs.lemmas.Bool.{cond_both}
-use Rattle.std.proofs.lemmas.Int.{ints}
 use Rattle.mf_edges.specs.LawfulWeights.{IsLawfulWeight}
+use Rattle.mf_edges.proofs.EdgeSums.{zero_lawful}
 use Rattle.mf_rows.specs.Dots.{Dot, IsPicture, start_of_field, weight_at}
 use Rattle.mf_rows.proofs.DotsLemmas.{dots_from-lawful}
 use Rattle.mf_rows.proofs.WeightsLemmas.{lawful_weight_at}
@@ -14,9 +14,6 @@ use Rattle.mf_ops.specs.declared.quarter.Quarter.TheVariants.{Once, Twice, Thric
 use Rattle.mf_ops.proofs.Faults.{accepted-lawful, also_not_out, clear_stays, contour_not_out, cull_stays, not_too_large-lawful, quarter_stays}
 use Rattle.mf_ops.proofs.laws.never_refused.Goals as goal
 
-zero_is_lawful : IsLawfulWeight (pos 0)
-zero_is_lawful = record { least = omega (arith, ints); greatest = omega (arith, ints) }
-
 -- a move gives each pixel the weight that some pixel had
 lawful_at : (ds : List Dot) → IsPicture ds → (x y : ℤ) → IsLawfulWeight (weight_at ds x y)
 lawful_at ds picture x y = lawful_weight_at ds x y (dots_from-lawful start_of_field ds picture.dots)
@@ -27,7 +24,7 @@ lawful_turned Twice ds picture x y = lawful_at ds picture _ _
 lawful_turned Thrice ds picture x y = lawful_at ds picture _ _
 
 pub returns-clause-clear : goal.returns-clause-clear
-returns-clause-clear c ds = accepted-lawful ds ops.Clear (clear_stays ds) (λ x y. zero_is_lawful)
+returns-clause-clear c ds = accepted-lawful ds ops.Clear (clear_stays ds) (λ x y. zero_lawful)
 
 pub returns-clause-turn : goal.returns-clause-turn
 returns-clause-turn c ds q picture = accepted-lawful ds (ops.Quarter q) (quarter_stays ds q) (lawful_turned q ds picture)
@@ -35,12 +32,12 @@ returns-clause-turn c ds q picture = accepted-lawful ds (ops.Quarter q) (quarter
 pub returns-clause-keeping : goal.returns-clause-keeping
 returns-clause-keeping c ds a b w lawful =
     accepted-lawful ds (ops.Cull (Keeping a b w)) (cull_stays ds (Keeping a b w))
-    (λ x y. cond_both (is_within a b (weight_at ds x y)) w (pos 0) IsLawfulWeight (λ _. lawful) (λ _. zero_is_lawful))
+    (λ x y. cond_both (is_within a b (weight_at ds x y)) w (pos 0) IsLawfulWeight (λ _. lawful) (λ _. zero_lawful))
 
 pub returns-clause-dropping : goal.returns-clause-dropping
 returns-clause-dropping c ds a b w lawful =
     accepted-lawful ds (ops.Cull (Dropping a b w)) (cull_stays ds (Dropping a b w))
-    (λ x y. cond_both (is_within a b (weight_at ds x y)) (pos 0) w IsLawfulWeight (λ _. zero_is_lawful) (λ _. lawful))
+    (λ x y. cond_both (is_within a b (weight_at ds x y)) (pos 0) w IsLawfulWeight (λ _. zero_lawful) (λ _. lawful))
 
 pub returns-clause-shift : goal.returns-clause-shift
 returns-clause-shift c ds dx dy picture = not_too_large-lawful ds (ops.Shift dx dy) (λ x y. lawful_at ds picture _ _)

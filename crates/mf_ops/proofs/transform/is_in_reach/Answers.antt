@@ -4,8 +4,8 @@ use Rattle.std.proofs.lemmas.Bool.{both_ways}
 use Rattle.std.proofs.lemmas.Int.{ints, to_z-of_z, unsigned_abs-mul, fits_signed_from_abs}
 use Rattle.std.specs.Int.RustNames.{unsigned_abs}
 use Rattle.mf_geom.specs.Coordinates.{least_coordinate, greatest_coordinate, IsCoordinate}
-use Rattle.mf_edges.specs.declared.stretch.Stretch.{Stretch}
 use Rattle.mf_edges.specs.Axes.{stretched_to}
+use Rattle.mf_ops.proofs.transform.is_in_reach.Goals.{After-from-3}
 use Rattle.mf_ops.proofs.transform.is_in_reach.Goals as goal
 
 size-at_most : (p : ℤ) → least_coordinate ≤ℤ p → p ≤ℤ greatest_coordinate → unsigned_abs p ≤ 4095
@@ -31,54 +31,49 @@ left : (x : ℤ) → int_le least_coordinate x ≡ false → IsTrue (int_le leas
 left x fails = (λ test. absurd (both_ways _ fails test), λ point. grind (arith, ints))
 
 -- the code reads the point as an integer, and computes with it in 64 bits
-module _ (s : Stretch) (p x y z : ℤ) (least : least_coordinate ≤ℤ p) (greatest : p ≤ℤ greatest_coordinate)
-    (factor : FitsSigned w32 s.factor) (offset : FitsSigned w32 s.offset)
-    (x_is : x ≡ to_z w32 (of_z w32 p)) (y_is : y ≡ to_z w32 (of_z w32 s.factor)) (z_is : z ≡ to_z w32 (of_z w32 s.offset)) where
-  product-size : unsigned_abs (p *ℤ s.factor) ≤ 8793945538560
-  product-size = rw unsigned_abs-mul (mul-le-mul (size-at_most p least greatest) (size-fits s.factor factor))
+module _ (c : After-from-3) where
+  abbrev factor : ℤ
+  factor = c.args.stretch.now.factor
 
-  product-is : to_z w64 (of_z w64 (to_z w64 (of_z w64 x) *ℤ to_z w64 (of_z w64 y))) ≡ p *ℤ s.factor
+  abbrev product : ℤ
+  product = to_z w64 (of_z w64 (to_z w64 (of_z w64 c.from.result) *ℤ to_z w64 (of_z w64 c.from-2.result)))
+
+  abbrev moved : ℤ
+  moved = stretched_to c.args.stretch.now c.args.point
+
+  factor-fits : FitsSigned w32 factor
+  factor-fits = search rules
+
+  offset-fits : FitsSigned w32 c.args.stretch.now.offset
+  offset-fits = search rules
+
+  product-size : unsigned_abs (c.args.point *ℤ factor) ≤ 8793945538560
+  product-size = rw unsigned_abs-mul (mul-le-mul (size-at_most c.args.point c.requires.least c.requires.greatest) (size-fits factor factor-fits))
+
+  product-is : product ≡ c.args.point *ℤ factor
   product-is =
-      let point : to_z w64 (of_z w64 x) ≡ p = omega (arith, ints) in
-      let times : to_z w64 (of_z w64 y) ≡ s.factor = omega (arith, ints) in
-      rw (point, times) (to_z-of_z w64 (p *ℤ s.factor) (fits_signed_from_abs w64 (p *ℤ s.factor) (omega (arith, product-size))))
+      let point : to_z w64 (of_z w64 c.from.result) ≡ c.args.point = omega (arith, ints, c.from.ensures, c.requires.least, c.requires.greatest) in
+      let times : to_z w64 (of_z w64 c.from-2.result) ≡ factor = omega (arith, ints, c.from-2.ensures, factor-fits.sfits) in
+      rw (point, times) (to_z-of_z w64 (c.args.point *ℤ factor) (fits_signed_from_abs w64 (c.args.point *ℤ factor) (omega (arith, product-size))))
 
-  sum-is : to_z w64 (of_z w64 (to_z w64 (of_z w64 x) *ℤ to_z w64 (of_z w64 y))) +ℤ to_z w64 (of_z w64 z) ≡ stretched_to s p
+  sum-is : product +ℤ to_z w64 (of_z w64 c.from-3.result) ≡ moved
   sum-is =
-      let moved : to_z w64 (of_z w64 z) ≡ s.offset = omega (arith, ints) in
-      λ t. product-is t +ℤ moved t
+      let offset : to_z w64 (of_z w64 c.from-3.result) ≡ c.args.stretch.now.offset = omega (arith, ints, c.from-3.ensures, offset-fits.sfits) in
+      λ t. product-is t +ℤ offset t
 
-  sum-fits : FitsSigned w64 (stretched_to s p)
+  sum-fits : FitsSigned w64 moved
   sum-fits =
-      let product = from_size (p *ℤ s.factor) product-size in
-      fits-between (stretched_to s p) (omega (arith, ints, product.0)) (omega (arith, ints, product.1))
+      let size = from_size (c.args.point *ℤ factor) product-size in
+      fits-between moved (omega (arith, ints, size.0, offset-fits.sfits)) (omega (arith, ints, size.1, offset-fits.sfits))
 
-  new-is : to_z w64 (of_z w64 (to_z w64 (of_z w64 (to_z w64 (of_z w64 x) *ℤ to_z w64 (of_z w64 y))) +ℤ to_z w64 (of_z w64 z))) ≡ stretched_to s p
-  new-is = rw sum-is (to_z-of_z w64 (stretched_to s p) sum-fits)
+  new-is : to_z w64 (of_z w64 (product +ℤ to_z w64 (of_z w64 c.from-3.result))) ≡ moved
+  new-is = rw sum-is (to_z-of_z w64 moved sum-fits)
 
 pub overflow_add-new : goal.overflow_add-new
-overflow_add-new c =
-    let s = c.args.stretch.now in
-    let p = c.args.point in
-    let factor : FitsSigned w32 s.factor = search rules in
-    let offset : FitsSigned w32 s.offset = search rules in
-    let sum = sum-is s p _ _ _ c.requires.least c.requires.greatest factor offset c.from.ensures c.from-2.ensures c.from-3.ensures in
-    rw sum (sum-fits s p _ _ _ c.requires.least c.requires.greatest factor offset c.from.ensures c.from-2.ensures c.from-3.ensures)
+overflow_add-new c = let sum = (goal.at.overflow_add-new c).After-from-3 in rw (sum-is sum) (sum-fits sum)
 
 pub returns-then-new : goal.returns-then-new
-returns-then-new c =
-    let s = c.args.stretch.now in
-    let p = c.args.point in
-    let factor : FitsSigned w32 s.factor = search rules in
-    let offset : FitsSigned w32 s.offset = search rules in
-    let new = new-is s p _ _ _ c.requires.least c.requires.greatest factor offset c.from.ensures c.from-2.ensures c.from-3.ensures in
-    rw new (not_left _ (rw new at c.if-new.true))
+returns-then-new c = let new = new-is (goal.at.returns-then-new c).After-from-3 in rw new (not_left _ (rw new at c.if-new.true))
 
 pub returns-else-new : goal.returns-else-new
-returns-else-new c =
-    let s = c.args.stretch.now in
-    let p = c.args.point in
-    let factor : FitsSigned w32 s.factor = search rules in
-    let offset : FitsSigned w32 s.offset = search rules in
-    let new = new-is s p _ _ _ c.requires.least c.requires.greatest factor offset c.from.ensures c.from-2.ensures c.from-3.ensures in
-    rw new (left _ (rw new at c.if-new.false))
+returns-else-new c = let new = new-is (goal.at.returns-else-new c).After-from-3 in rw new (left _ (rw new at c.if-new.false))

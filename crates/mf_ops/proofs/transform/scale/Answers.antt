@@ -1,10 +1,11 @@
-use Rattle.std.proofs.Common.{refl, ap, ◌∙◌}
+use Rattle.std.proofs.Common.{IsTrue, refl, ap, ◌∙◌}
 use Rattle.std.proofs.lemmas.Bool.{both_ways}
 use Rattle.mf_ops.specs.Moves.{scale_by}
 use Rattle.mf_ops.specs.declared.op.Op.TheVariants.{Scale}
-use Rattle.mf_ops.proofs.Faults.{made-from_weights, op_fault-leaves, not_out}
+use Rattle.mf_ops.proofs.Faults.{IsForWeights, made-from_weights, op_fault-leaves, not_out}
 use Rattle.mf_ops.proofs.Leaving.{stays_in_field-scale, leaves-scale}
 use Rattle.mf_ops.proofs.Scaling.{factor_passed, stretches_made, IsStretch-made, HasWeights-scale, PixelsStayInside-scale}
+use Rattle.mf_ops.proofs.transform.scale.Goals.{After-stays_inside}
 use Rattle.mf_ops.proofs.transform.scale.Goals as goal
 
 pub returns-then-not-stays_inside-clause-refused : goal.returns-then-not-stays_inside-clause-refused
@@ -38,16 +39,16 @@ returns c =
     let made = made-from_weights ds (Scale s) _ stays picture has in
     record { step = made.0; accepted = made.1; refused = tt; out_of_field = λ out. absurd (not_out ds (Scale s) stays out) }
 
-pub returns-in_err-reflected-clause-out_of_field : goal.returns-in_err-reflected-clause-out_of_field
-returns-in_err-reflected-clause-out_of_field c out =
+stays : (c : After-stays_inside) → IsTrue c.stays_inside.result → IsForWeights c.args.picture.now (Scale c.args.scale)
+stays c inside =
     let columns = c.stretch.ensures ∙ ap scale_by (factor_passed _ _ c.x-x.ensures.factor c.x-x.ensures.value) in
     let rows = c.stretch-2.ensures ∙ ap scale_by (factor_passed _ _ c.y-y.ensures.factor c.y-y.ensures.value) in
-    let stays = stays_in_field-scale c.args.picture.now c.args.scale (rw (columns, rows) at (c.stays_inside.ensures.0 c.if-not-stays_inside.false)) in
-    absurd (not_out _ (Scale c.args.scale) stays out)
+    stays_in_field-scale c.args.picture.now c.args.scale (rw (columns, rows) at (c.stays_inside.ensures.0 inside))
+
+pub returns-in_err-reflected-clause-out_of_field : goal.returns-in_err-reflected-clause-out_of_field
+returns-in_err-reflected-clause-out_of_field c out =
+    absurd (not_out _ _ (stays (goal.at.returns-in_err-reflected-clause-out_of_field c).After-stays_inside c.if-not-stays_inside.false) out)
 
 pub returns-in_err-stretch-clause-out_of_field : goal.returns-in_err-stretch-clause-out_of_field
 returns-in_err-stretch-clause-out_of_field c out =
-    let columns = c.stretch.ensures ∙ ap scale_by (factor_passed _ _ c.x-x.ensures.factor c.x-x.ensures.value) in
-    let rows = c.stretch-2.ensures ∙ ap scale_by (factor_passed _ _ c.y-y.ensures.factor c.y-y.ensures.value) in
-    let stays = stays_in_field-scale c.args.picture.now c.args.scale (rw (columns, rows) at (c.stays_inside.ensures.0 c.if-not-stays_inside.false)) in
-    absurd (not_out _ (Scale c.args.scale) stays out)
+    absurd (not_out _ _ (stays (goal.at.returns-in_err-stretch-clause-out_of_field c).After-stays_inside c.if-not-stays_inside.false) out)

@@ -15,11 +15,10 @@ returns-then-fits-clause-value c =
     c.at-window.ensures ∙ ap (window_at c.args.bounds.now) (scale_found _ _ _ more fits c.loop-scale.invariant)
 
 pub returns-then-fits-clause-lawful : goal.returns-then-fits-clause-lawful
-returns-then-fits-clause-lawful c =
-    let fits = sym (rw (c.at-window.ensures, c.columns-columns.ensures.value, c.picture_lines-lines.ensures.value) at c.if-fits.ensures) in
-    let more : to_z w32 c.loop-scale.scale-bits <ℤ greatest_coordinate = omega (arith, ints, c.loop-scale-test.true) in
-    let value = c.at-window.ensures ∙ ap (window_at c.args.bounds.now) (scale_found _ _ _ more fits c.loop-scale.invariant) in
-    rw value (lawful_window _ _ c.columns-columns.ensures.lawful c.requires)
+returns-then-fits-clause-lawful c = rw (returns-then-fits-clause-value c) (lawful_window _ _ c.columns-columns.ensures.lawful c.requires)
+
+pub returns-then-fits-clause-lines : goal.returns-then-fits-clause-lines
+returns-then-fits-clause-lines c = rw (returns-then-fits-clause-value c) (few_lines _ _ c.columns-columns.ensures.lawful c.requires)
 
 pub loop-scale-preserved : goal.loop-scale-preserved
 loop-scale-preserved c =
@@ -35,20 +34,7 @@ returns-clause-value c =
     c.at.ensures ∙ ap (window_at c.args.bounds.now) (scale_last _ _ _ last c.loop-scale.invariant)
 
 pub returns-clause-lawful : goal.returns-clause-lawful
-returns-clause-lawful c =
-    let last : to_z w32 c.loop-scale.scale-bits ≡ greatest_coordinate = omega (arith, ints, c.loop-scale-test.false, c.loop-scale.invariant.greatest) in
-    let value = c.at.ensures ∙ ap (window_at c.args.bounds.now) (scale_last _ _ _ last c.loop-scale.invariant) in
-    rw value (lawful_window _ _ c.columns-columns.ensures.lawful c.requires)
-
-pub returns-then-fits-clause-lines : goal.returns-then-fits-clause-lines
-returns-then-fits-clause-lines c =
-    let fits = sym (rw (c.at-window.ensures, c.columns-columns.ensures.value, c.picture_lines-lines.ensures.value) at c.if-fits.ensures) in
-    let more : to_z w32 c.loop-scale.scale-bits <ℤ greatest_coordinate = omega (arith, ints, c.loop-scale-test.true) in
-    let value = c.at-window.ensures ∙ ap (window_at c.args.bounds.now) (scale_found _ _ _ more fits c.loop-scale.invariant) in
-    rw value (few_lines _ _ c.columns-columns.ensures.lawful c.requires)
+returns-clause-lawful c = rw (returns-clause-value c) (lawful_window _ _ c.columns-columns.ensures.lawful c.requires)
 
 pub returns-clause-lines : goal.returns-clause-lines
-returns-clause-lines c =
-    let last : to_z w32 c.loop-scale.scale-bits ≡ greatest_coordinate = omega (arith, ints, c.loop-scale-test.false, c.loop-scale.invariant.greatest) in
-    let value = c.at.ensures ∙ ap (window_at c.args.bounds.now) (scale_last _ _ _ last c.loop-scale.invariant) in
-    rw value (few_lines _ _ c.columns-columns.ensures.lawful c.requires)
+returns-clause-lines c = rw (returns-clause-value c) (few_lines _ _ c.columns-columns.ensures.lawful c.requires)

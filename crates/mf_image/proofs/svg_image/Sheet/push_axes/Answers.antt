@@ -14,4 +14,5 @@ returns c =
     let width : to_z w32 (of_z w32 s.width) ≡ s.width = omega (arith, ints) in
     let height : to_z w32 (of_z w32 s.height) ≡ s.height = omega (arith, ints) in
     IfOk-equal _ _ _ _ c.push_number-4.ensures
-    (rw (c.in_ok-push_number-3.ensures, c.in_ok-push_number-2.ensures, c.in_ok-push_number.ensures, c.in_ok-extend_from_slice.ensures.items, left, top, width, height) (simp append_assoc))
+    (rw (c.in_ok-push_number-3.ensures, c.in_ok-push_number-2.ensures, c.in_ok-push_number.ensures)
+    (rw (c.in_ok-extend_from_slice.ensures.items, left, top, width, height) (simp append_assoc)))

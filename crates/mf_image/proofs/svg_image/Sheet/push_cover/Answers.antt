@@ -12,4 +12,6 @@ returns c =
     let top : to_z w32 (of_z w32 s.top) ≡ s.top = omega (arith, ints) in
     let width : to_z w32 (of_z w32 s.width) ≡ s.width = omega (arith, ints) in
     let height : to_z w32 (of_z w32 s.height) ≡ s.height = omega (arith, ints) in
-    rw (c.in_ok-extend_from_slice-3.ensures.items, c.in_ok-extend_from_slice-2.ensures.items, c.in_ok-push_number-4.ensures, c.in_ok-push_number-3.ensures, c.in_ok-push_number-2.ensures, c.in_ok-push_number.ensures, c.in_ok-extend_from_slice.ensures.items, left, top, width, height) (simp append_assoc)
+    rw (c.in_ok-extend_from_slice-3.ensures.items, c.in_ok-extend_from_slice-2.ensures.items, c.in_ok-push_number-4.ensures)
+    (rw (c.in_ok-push_number-3.ensures, c.in_ok-push_number-2.ensures, c.in_ok-push_number.ensures)
+    (rw (c.in_ok-extend_from_slice.ensures.items, left, top, width, height) (simp append_assoc)))

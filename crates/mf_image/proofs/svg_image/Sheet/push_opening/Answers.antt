@@ -2,11 +2,11 @@ use Rattle.std.proofs.Common.{◌≡◌, to_z, of_z, w32, arith}
 use Rattle.std.proofs.lemmas.Int.{ints}
 use Rattle.std.proofs.lemmas.List.{append_assoc}
 use Rattle.std.proofs.lemmas.Result.{IfOk-equal}
-use Rattle.mf_image.specs.Svg.{opening}
+use Rattle.mf_image.specs.Svg.{grid, opening}
 use Rattle.mf_image.proofs.svg_image.Sheet.push_opening.Goals as goal
 
 pub returns : goal.returns
-unfolding opening
+unfolding opening grid
 returns c =
     let s = c.args.self.now in
     let left : to_z w32 (of_z w32 s.left) ≡ s.left = omega (arith, ints) in
@@ -14,4 +14,5 @@ returns c =
     let width : to_z w32 (of_z w32 s.width) ≡ s.width = omega (arith, ints) in
     let height : to_z w32 (of_z w32 s.height) ≡ s.height = omega (arith, ints) in
     IfOk-equal _ _ _ _ c.push_number-4.ensures
-    (rw (c.in_ok-push_number-3.ensures, c.in_ok-push_number-2.ensures, c.in_ok-push_number.ensures, c.in_ok-extend_from_slice.ensures.items, left, top, width, height) (simp append_assoc))
+    (rw (c.in_ok-push_number-3.ensures, c.in_ok-push_number-2.ensures, c.in_ok-push_number.ensures)
+    (rw (c.in_ok-extend_from_slice.ensures.items, left, top, width, height) (simp append_assoc)))

@@ -20,19 +20,15 @@ returns-clause-sheet c =
 pub returns-clause-small : goal.returns-clause-small
 returns-clause-small c =
     let b = c.args.bounds.now in
-    let columns : c.extent.result ≡ extent b.min_x b.max_x = omega (arith, ints, c.extent.ensures) in
-    let rows : c.extent-2.result ≡ extent b.min_y b.max_y = omega (arith, ints, c.extent-2.ensures) in
     let narrow = is_within b.min_x b.max_x c.requires.left c.requires.right c.requires.columns in
     let low = is_within b.min_y b.max_y c.requires.bottom c.requires.top c.requires.rows in
-    let width : to_z w32 (of_z w32 (to_z w32 c.extent.result +ℤ pos 2)) ≡ pos (extent b.min_x b.max_x + 2) = rw columns (side _ narrow) in
-    let height : to_z w32 (of_z w32 (to_z w32 c.extent-2.result +ℤ pos 2)) ≡ pos (extent b.min_y b.max_y + 2) = rw rows (side _ low) in
-    record {
+    rw (returns-clause-sheet c) (record {
       left = omega (arith, ints);
       right = omega (arith, ints);
       top = omega (arith, ints);
       bottom = omega (arith, ints);
-      narrow = omega (arith, ints, width, narrow);
-      wide = omega (arith, ints, width, narrow);
-      low = omega (arith, ints, height, low);
-      high = omega (arith, ints, height, low);
-    }
+      narrow = omega (arith, ints, narrow);
+      wide = omega (arith, ints, narrow);
+      low = omega (arith, ints, low);
+      high = omega (arith, ints, low);
+    })

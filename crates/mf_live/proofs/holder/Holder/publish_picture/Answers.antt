@@ -1,4 +1,4 @@
-use Rattle.std.proofs.Common.{◌≡◌, ◌∙◌, ◌++◌, List, [], length, ap, subst, sym, arith}
+use Rattle.std.proofs.Common.{◌≡◌, ◌∙◌, ◌++◌, List, length, ap, subst, sym, arith}
 use Rattle.std.proofs.lemmas.List.{append-nil}
 use Rattle.left_right.specs.Sides.{view}
 use Rattle.mf_live.specs.declared.event.Event.{Event}
@@ -11,6 +11,7 @@ use Rattle.mf_live.specs.Rule.{book_of, events_of, history, shown_by, knowledge_
 use Rattle.mf_live.specs.World.{Happen, start, world_after, accepted_of, published_of}
 use Rattle.mf_live.proofs.Histories.{few_events, few_unwritten}
 use Rattle.mf_live.proofs.Publishing.{written, all_written, accepted-publish, published-publish, alive-publish, Happen-publish, Happen-written, length-publish}
+use Rattle.mf_live.proofs.holder.Holder.publish_picture.Goals.{After-show, After-write_publish}
 use Rattle.mf_live.proofs.holder.Holder.publish_picture.Goals as goal
 
 pub overflow_add-self : goal.overflow_add-self
@@ -18,50 +19,55 @@ overflow_add-self g c = omega (arith, few_unwritten c.args.self.now)
 
 pub write_publish-requires-clause-room : goal.write_publish-requires-clause-room
 write_publish-requires-clause-room g c =
-    let known = c.again-prefix.ensures ∙ ap knowledge_of c.published.ensures in
-    omega (arith, c.again-prefix.result.counted, ap (λ (t : Knowledge). length t.seen.log) known, few_events c.args.self.now, few_unwritten c.args.self.now)
+    let known = c.copy-prefix.ensures ∙ ap knowledge_of c.published.ensures in
+    omega (arith, c.copy-prefix.result.counted, ap (λ (t : Knowledge). length t.seen.log) known, few_events c.args.self.now, few_unwritten c.args.self.now)
 
 pub write_publish-requires-clause-lawful : goal.write_publish-requires-clause-lawful
 write_publish-requires-clause-lawful g c =
     let h = c.args.self.now in
-    let known = c.again-prefix.ensures ∙ ap knowledge_of c.published.ensures in
+    let known = c.copy-prefix.ensures ∙ ap knowledge_of c.published.ensures in
     subst (λ (t : Knowledge). Happen most (world_after start t.seen.log) (written h)) (sym known) (Happen-written h)
 
 pub write_publish-requires-clause-alive : goal.write_publish-requires-clause-alive
 write_publish-requires-clause-alive g c =
     let h = c.args.self.now in
-    let known = c.again-prefix.ensures ∙ ap knowledge_of c.published.ensures in
+    let known = c.copy-prefix.ensures ∙ ap knowledge_of c.published.ensures in
     ap (λ (t : Knowledge). (world_after start (t.seen.log ++ written h)).dropped) known ∙ alive-publish h
+
+log : (g : _) (c : After-write_publish g) → c.write_publish.new.prefix.knowledge.seen.log ≡ all_written c.args.self.now
+log g c =
+    let known = c.copy-prefix.ensures ∙ ap knowledge_of c.published.ensures in
+    c.write_publish.ensures.log ∙ ap (λ (t : Knowledge). t.seen.log ++ written c.args.self.now) known
 
 pub invariant_of-notice : goal.invariant_of-notice
 invariant_of-notice g c =
     let h = c.args.self.now in
-    let known = c.again-prefix.ensures ∙ ap knowledge_of c.published.ensures in
-    let log : c.write_publish.new.prefix.knowledge.seen.log ≡ all_written h =
-    c.write_publish.ensures.log ∙ ap (λ (t : Knowledge). t.seen.log ++ written h) known in
-    let all : published_of c.write_publish.new.prefix.knowledge.seen.log ≡ accepted_list h = ap published_of log ∙ published-publish h in
+    let log = log g (goal.at.invariant_of-notice g c).After-write_publish in
+    let all = ap published_of log ∙ published-publish h in
     record { whole = ap accepted_of log ∙ accepted-publish h ∙ sym all; numbered = h.numbered ∙ ap rev (sym all) }
 
 pub invariant_of-show : goal.invariant_of-show
 invariant_of-show g c =
-    let h = c.args.self.now in
-    let known = c.again-prefix.ensures ∙ ap knowledge_of c.published.ensures in
-    let log : c.write_publish.new.prefix.knowledge.seen.log ≡ all_written h =
-    c.write_publish.ensures.log ∙ ap (λ (t : Knowledge). t.seen.log ++ written h) known in
-    record { pictured = c.requires.picture ∙ ap pic (sym (ap published_of log ∙ published-publish h)) }
+    let log = log g (goal.at.invariant_of-show g c).After-write_publish in
+    record { pictured = c.requires.picture ∙ ap pic (sym (ap published_of log ∙ published-publish c.args.self.now)) }
+
+happened : (g : _) (c : After-show g) → c.write_publish.new.prefix.knowledge.seen.log ≡ all_written c.args.self.now
+    → (events_of c.show.new.swap.desk.shown.value ≡ all_written c.args.self.now)
+    × (history c.show.new.swap.desk.shown.value (view c.show.new.swap.desk.place) ≡ all_written c.args.self.now)
+happened g c log =
+    let shows = ap events_of c.show.ensures.shown ∙ log in
+    let none = ap (λ (v : View). v.unwritten) c.show.ensures.view in
+    (shows, (λ i. shows i ++ none i) ∙ append-nil (all_written c.args.self.now))
 
 pub invariant_of-self : goal.invariant_of-self
 invariant_of-self g c =
     let h = c.args.self.now in
     let swap = c.show.new.swap in
-    let known = c.again-prefix.ensures ∙ ap knowledge_of c.published.ensures in
-    let log : c.write_publish.new.prefix.knowledge.seen.log ≡ all_written h =
-    c.write_publish.ensures.log ∙ ap (λ (t : Knowledge). t.seen.log ++ written h) known in
+    let known = c.copy-prefix.ensures ∙ ap knowledge_of c.published.ensures in
     let book : book_of swap.desk.shown.value ≡ book_of (version h) =
     ap book_of c.show.ensures.shown ∙ c.write_publish.ensures.book ∙ ap (λ (t : Knowledge). t.seen.book) known in
-    let shows : events_of swap.desk.shown.value ≡ all_written h = ap events_of c.show.ensures.shown ∙ log in
-    let none : (view swap.desk.place).unwritten ≡ [] = ap (λ (v : View). v.unwritten) c.show.ensures.view in
-    let happened : history swap.desk.shown.value (view swap.desk.place) ≡ all_written h = (λ i. shows i ++ none i) ∙ append-nil (all_written h) in
+    let path = goal.at.invariant_of-self g c in
+    let (shows, happened) = happened g path.After-show (log g path.After-write_publish) in
     let accepts : accepted_of (history swap.desk.shown.value (view swap.desk.place)) ≡ accepted_list h = ap accepted_of happened ∙ accepted-publish h in
     let tells : shown_by swap.desk.shown.value ≡ accepted_list h = ap published_of shows ∙ published-publish h in
     record {
@@ -69,7 +75,7 @@ invariant_of-self g c =
       shown_is = ap published_of (shows ∙ sym happened);
       lawful = subst (Happen most start) (sym happened) (Happen-publish h);
       alive = ap (λ (es : List Event). (world_after start es).dropped) happened ∙ alive-publish h;
-      counted = sym (ap length none);
+      counted = sym (ap (λ (v : View). length v.unwritten) c.show.ensures.view);
       pictured = h.pictured ∙ ap pic (sym accepts);
       numbered = h.numbered ∙ ap rev (sym accepts);
       since = omega (arith, ap length accepts, ap length tells);
@@ -78,20 +84,10 @@ invariant_of-self g c =
 
 pub returns-clause-accepted : goal.returns-clause-accepted
 returns-clause-accepted g c =
-    let h = c.args.self.now in
-    let known = c.again-prefix.ensures ∙ ap knowledge_of c.published.ensures in
-    let log : c.write_publish.new.prefix.knowledge.seen.log ≡ all_written h =
-    c.write_publish.ensures.log ∙ ap (λ (t : Knowledge). t.seen.log ++ written h) known in
-    let shows = ap events_of c.show.ensures.shown ∙ log in
-    let none = ap (λ (v : View). v.unwritten) c.show.ensures.view in
-    ap accepted_of ((λ i. shows i ++ none i) ∙ append-nil (all_written h)) ∙ accepted-publish h
+    let path = goal.at.returns-clause-accepted g c in
+    ap accepted_of (happened g path.After-show (log g path.After-write_publish)).1 ∙ accepted-publish c.args.self.now
 
 pub returns-clause-published : goal.returns-clause-published
 returns-clause-published g c =
-    let h = c.args.self.now in
-    let known = c.again-prefix.ensures ∙ ap knowledge_of c.published.ensures in
-    let log : c.write_publish.new.prefix.knowledge.seen.log ≡ all_written h =
-    c.write_publish.ensures.log ∙ ap (λ (t : Knowledge). t.seen.log ++ written h) known in
-    let shows = ap events_of c.show.ensures.shown ∙ log in
-    let none = ap (λ (v : View). v.unwritten) c.show.ensures.view in
-    ap published_of ((λ i. shows i ++ none i) ∙ append-nil (all_written h)) ∙ published-publish h
+    let path = goal.at.returns-clause-published g c in
+    ap published_of (happened g path.After-show (log g path.After-write_publish)).1 ∙ published-publish c.args.self.now

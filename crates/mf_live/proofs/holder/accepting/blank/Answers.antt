@@ -6,10 +6,10 @@ use Rattle.mf_live.proofs.holder.accepting.blank.Goals as goal
 
 pub invariant_of-result : goal.invariant_of-result
 invariant_of-result c =
-    let none : c.again.result.knowledge.seen.log ≡ [] = ap (λ (t : Knowledge). t.seen.log) c.again.ensures ∙ c.requires in
+    let none : c.copy.result.knowledge.seen.log ≡ [] = ap (λ (t : Knowledge). t.seen.log) c.copy.ensures ∙ c.requires in
     record { whole = ap accepted_of none ∙ sym (ap published_of none); numbered = sym (rev-blank _ (ap published_of none)) }
 
 pub invariant_of-result-2 : goal.invariant_of-result-2
 invariant_of-result-2 c =
-    let none : c.again.result.knowledge.seen.log ≡ [] = ap (λ (t : Knowledge). t.seen.log) c.again.ensures ∙ c.requires in
+    let none : c.copy.result.knowledge.seen.log ≡ [] = ap (λ (t : Knowledge). t.seen.log) c.copy.ensures ∙ c.requires in
     record { pictured = c.blank.ensures ∙ sym (pic-blank _ (ap published_of none)) }

@@ -9,12 +9,16 @@ returns-clause-watcher g c = λ picture looks more before.
     let L = viewers.shown_list c.in-Ok.held in
     let glance = c.of-glance.ensures ∙ glance-of L _ _ c.revision.ensures c.picture.ensures in
     let pushed = c.in-Ok-push.ensures.items ∙ ap (λ g. c.args.self.seen.items ++ g ∷ []) glance in
-    let seen = AreGlances-push (viewers.seen_list c.args.self.viewer) L _ looks c.args.self.seen.items c.in-Ok.ensures.published c.in-Ok.ensures.extends.seen before.record_is in
+    let seen = AreGlances-push (viewers.seen_list c.args.self.viewer) L _ looks c.args.self.seen.items
+    c.in-Ok.ensures.published c.in-Ok.ensures.extends.seen before.record_is in
     record {
       identity_is = c.leave.ensures.identity ∙ c.in-Ok.ensures.identity ∙ before.identity_is;
       record_is = subst (λ list. AreGlances list (looks + 1) c.push.new.self.items) (sym c.leave.ensures.seen)
           (subst (λ gs. AreGlances L (looks + 1) gs) (sym pushed) seen);
-      last_is = inr (c.args.self.seen.items, c.in-Ok-push.ensures.items ∙ ap (λ g. c.args.self.seen.items ++ g ∷ []) (glance ∙ ap glance_at (sym c.leave.ensures.looked)));
+      last_is = inr (
+        c.args.self.seen.items,
+        c.in-Ok-push.ensures.items ∙ ap (λ g. c.args.self.seen.items ++ g ∷ []) (glance ∙ ap glance_at (sym c.leave.ensures.looked)),
+      );
       room = omega (arith, before.room, c.push.ensures.capacity, c.in-Ok-push.ensures.len);
     }
 

@@ -7,7 +7,9 @@ use Rattle.mf_watch.proofs.watcher.Watcher.look_last.Goals as goal
 pub returns-clause-seen : goal.returns-clause-seen
 returns-clause-seen c = λ looks record_is.
     let L = viewers.told_list c.args.notice in
-    let glance = c.of-glance.ensures ∙ glance-of L _ _ (c.revision.ensures ∙ c.in_ok-sheet.ensures.revision) (c.picture.ensures ∙ c.in_ok-sheet.ensures.picture) in
+    let glance = c.of-glance.ensures ∙ glance-of L _ _ (c.revision.ensures ∙ c.in_ok-sheet.ensures.revision)
+    (c.picture.ensures ∙ c.in_ok-sheet.ensures.picture) in
     let pushed = c.in-Ok.ensures.items ∙ ap (λ g. c.args.self.now.seen.items ++ g ∷ []) glance in
-    let seen = HasSeen-push (viewers.seen_list c.args.self.now.viewer) L _ looks c.args.self.now.seen.items c.in_ok-sheet.ensures.looked.published c.in_ok-sheet.ensures.extends.seen record_is in
+    let seen = HasSeen-push (viewers.seen_list c.args.self.now.viewer) L _ looks c.args.self.now.seen.items
+    c.in_ok-sheet.ensures.looked.published c.in_ok-sheet.ensures.extends.seen record_is in
     subst (λ gs. HasSeen L looks gs) (sym pushed) seen

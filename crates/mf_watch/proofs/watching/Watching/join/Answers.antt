@@ -21,7 +21,8 @@ loop-thread-preserved-in-Ok-push g c =
           let (ready, owe) = kept picture looks started in
           let Ready = IsWatcher picture looks 1 in
           let (same_picture, same_looks) = All-head (Owes picture looks) thread rest (All-same (Owes picture looks) (thread ∷ rest) threads (sym first) owe) in
-          let this_ready : Ready watcher = subst (λ n. IsWatcher picture n 1 watcher) same_looks (subst (λ p. IsWatcher p thread.promise.looks 1 watcher) same_picture c.in-Ok.ensures) in (
+          let this_ready : Ready watcher = subst (λ n. IsWatcher picture n 1 watcher) same_looks
+          (subst (λ p. IsWatcher p thread.promise.looks 1 watcher) same_picture c.in-Ok.ensures) in (
             All-same Ready c.push.new.self.items (old ++ watcher ∷ []) pushed (All-push Ready old watcher ready this_ready),
             All-rest (Owes picture looks) thread rest threads first owe,
           ),
@@ -38,7 +39,8 @@ loop-thread-preserved g c =
     let first = c.in-Some.ensures.steps.0 in
     let threads = into_iter_items c.loop-thread.thread-iterator in
     let rest = into_iter_items c.next.new.self in (
-      (λ picture looks started. ((kept picture looks started).0, All-rest (Owes picture looks) c.in-Some.thread rest threads first (kept picture looks started).1)),
+      (λ picture looks started.
+          ((kept picture looks started).0, All-rest (Owes picture looks) c.in-Some.thread rest threads first (kept picture looks started).1)),
       omega (arith, room, ap length first),
       λ none_missed. search rules,
       omega (arith, fewer, ap length first),
