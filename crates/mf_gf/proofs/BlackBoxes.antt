@@ -1,20 +1,24 @@
--- The box of the black pixels of a picture, widened by one black run after another.
-use Rattle.std.proofs.Common.{◌≡◌, ℕ, zero, suc, ◌≤◌, ℤ, pos, ◌+ℤ◌, Option, None, Some, List, [], ◌∷◌, ◌++◌, refl, sym, ap, ◌∙◌, arith}
+-- The box of the black pixels of a picture, from the least box round its pixels of positive weight.
+use Rattle.std.proofs.Common.{◌≡◌, Bool, true, false, not, ℤ, pos, ◌+ℤ◌, ◌-ℤ◌, ◌≤ℤ◌, List, [], ◌∷◌, FitsSigned, to_z, of_z, w32, refl, sym, ap, subst, ◌∙◌, arith}
+use Rattle.std.specs.Prelude.{int_lt, if◌then◌else◌}
 use Rattle.std.specs.Int.{int_max, int_min}
-use Rattle.std.specs.Option.{unwrap_or}
+use Rattle.std.specs.Ordering.{int_eq}
 use Rattle.std.proofs.lemmas.Int.{ints, clamps}
-use Rattle.mf_rows.specs.declared.run.Run.{Run}
-use Rattle.mf_rows.specs.Dots.{Dot, IsPicture}
-use Rattle.mf_rows.specs.Order.{IsRun}
-use Rattle.mf_rows.specs.Runs.{stretch, dots_of, runs_of}
-use Rattle.mf_rows.proofs.PassedRuns.{ArePassed, next_is_lawful, one_more_passed, all_passed}
-use Rattle.mf_gf.specs.Ahead.{blacks}
+use Rattle.std.proofs.lemmas.List.Elements.{All-cons, All-contains, All-nil}
+use Rattle.mf_rows.specs.declared.bounds.Box4.{Box4}
+use Rattle.mf_rows.specs.Bounds.{IsBoxRound, IsLeastBox, IsWithin, is_positive_at}
+use Rattle.mf_rows.specs.Dots.{Dot, IsPicture, start_of_field, weight_at}
+use Rattle.mf_rows.specs.Widening.{widened}
+use Rattle.mf_rows.proofs.BoundsInField.{bounds_in_field}
+use Rattle.mf_rows.proofs.BoxesJoined.{box_of_some, least_box_of_both}
+use Rattle.mf_rows.proofs.LeastBoxes.{blank_of_weights, least_of_weights}
 use Rattle.mf_gf.specs.declared.boxes.CharacterBox.{CharacterBox}
-use Rattle.mf_gf.specs.Boxes.{no_box, box_of_pixel, box_of_run, join, widen, box_of}
+use Rattle.mf_gf.specs.Boxes.{no_box, box_of_pixel, join, box_of, pixel_box}
 use Rattle.mf_gf.specs.Pixels.{black}
-use Rattle.mf_gf.proofs.BlackDots.{black-blacks, blacks_in_order}
+use Rattle.mf_gf.proofs.BlackDots.{black_picture}
+use Rattle.mf_gf.proofs.BlackWeights.{black_at}
 
--- ---- the box of two lists of pixels
+-- ---- the box of pixels is the least one
 
 min_assoc : (a b c : ℤ) → int_min a (int_min b c) ≡ int_min (int_min a b) c
 min_assoc a b c = omega (arith, ints, clamps)
@@ -30,74 +34,103 @@ join-assoc a b c = λ i. record {
   max_n = max_assoc a.max_n b.max_n c.max_n i;
 }
 
-pub box_of-append : (d : Dot) (ds : List Dot) (e : Dot) (es : List Dot) → box_of (d ∷ ds ++ e ∷ es) ≡ join (box_of (d ∷ ds)) (box_of (e ∷ es))
+pixel_box-join : (a b : CharacterBox) → pixel_box (join a b) ≡ widened (pixel_box a) (pixel_box b)
+pixel_box-join a b =
+    let last : (int_max a.max_m b.max_m -ℤ pos 1) ≡ int_max (a.max_m -ℤ pos 1) (b.max_m -ℤ pos 1) = omega (arith, ints, clamps) in
+    ap (λ m. record { min_x = int_min a.min_m b.min_m; max_x = m; min_y = int_min a.min_n b.min_n; max_y = int_max a.max_n b.max_n }) last
+
+least_of_pixel : (d : Dot) → IsLeastBox (d ∷ []) (pixel_box (box_of_pixel d))
+least_of_pixel d = record {
+  within = All-cons (IsWithin (pixel_box (box_of_pixel d))) d []
+      (record { left = omega (arith, ints); right = omega (arith, ints); bottom = omega (arith, ints); top = omega (arith, ints) })
+      (All-nil (IsWithin (pixel_box (box_of_pixel d))));
+  left = (0, d, omega arith, refl, refl);
+  right = (0, d, omega arith, refl, omega (arith, ints));
+  bottom = (0, d, omega arith, refl, refl);
+  top = (0, d, omega arith, refl, refl);
+}
+
+pub least_box : (d : Dot) (ds : List Dot) → IsLeastBox (d ∷ ds) (pixel_box (box_of (d ∷ ds)))
 unfolding box_of
-box_of-append d [] e es = refl
-box_of-append d (f ∷ ds) e es =
-    ap (join (box_of_pixel d)) (box_of-append f ds e es) ∙ join-assoc (box_of_pixel d) (box_of (f ∷ ds)) (box_of (e ∷ es))
+least_box d [] = least_of_pixel d
+least_box d (e ∷ ds) =
+    subst (λ (b : Box4). IsLeastBox (d ∷ e ∷ ds) b) (sym (pixel_box-join (box_of_pixel d) (box_of (e ∷ ds))))
+    (least_box_of_both (d ∷ []) (e ∷ ds) (pixel_box (box_of_pixel d)) (pixel_box (box_of (e ∷ ds))) (least_of_pixel d) (least_box e ds))
 
--- ---- the box of a run
+-- ---- there is one least box
 
-join_next : (y x : ℤ) (n : ℕ)
-    → join (box_of_pixel (record { y = y; x = x; weight = pos 1 })) (box_of_run (record { y = y; x = x +ℤ pos 1; len = n; weight = pos 1 }))
-    ≡ box_of_run (record { y = y; x = x; len = suc n; weight = pos 1 })
-join_next y x n =
-    let left : int_min x (x +ℤ pos 1) ≡ x = omega (arith, ints, clamps) in
-    let right : int_max (x +ℤ pos 1) ((x +ℤ pos 1) +ℤ pos n) ≡ x +ℤ pos (suc n) = omega (arith, ints, clamps) in
-    let bottom : int_min y y ≡ y = omega (arith, ints, clamps) in
-    let top : int_max y y ≡ y = omega (arith, ints, clamps) in
+-- no side of a least box is beyond that of another
+least_left : (ds : List Dot) (a b : Box4) → IsLeastBox ds a → IsLeastBox ds b → (b.min_x ≤ℤ a.min_x) × (a.max_x ≤ℤ b.max_x)
+least_left ds a b first second =
+    let left = All-contains (IsWithin b) ds first.left.1 second.within (first.left.0, first.left.2, first.left.3) in
+    let right = All-contains (IsWithin b) ds first.right.1 second.within (first.right.0, first.right.2, first.right.3) in
+    (omega (arith, ints, left.left, first.left.4), omega (arith, ints, right.right, first.right.4))
+
+least_low : (ds : List Dot) (a b : Box4) → IsLeastBox ds a → IsLeastBox ds b → (b.min_y ≤ℤ a.min_y) × (a.max_y ≤ℤ b.max_y)
+least_low ds a b first second =
+    let bottom = All-contains (IsWithin b) ds first.bottom.1 second.within (first.bottom.0, first.bottom.2, first.bottom.3) in
+    let top = All-contains (IsWithin b) ds first.top.1 second.within (first.top.0, first.top.2, first.top.3) in
+    (omega (arith, ints, bottom.bottom, first.bottom.4), omega (arith, ints, top.top, first.top.4))
+
+-- the box of a character whose pixels have this least box
+abbrev pub character_box : Box4 → CharacterBox
+character_box b = record { min_m = b.min_x; max_m = b.max_x +ℤ pos 1; min_n = b.min_y; max_n = b.max_y }
+
+box_from_least : (ds : List Dot) (b : Box4) → IsLeastBox ds b → box_of ds ≡ character_box b
+box_from_least [] b least = absurd (box_of_some b least)
+box_from_least (d ∷ ds) b least =
+    let own = box_of (d ∷ ds) in
+    let first = least_box d ds in
+    let columns = least_left (d ∷ ds) (pixel_box own) b first least in
+    let columns_back = least_left (d ∷ ds) b (pixel_box own) least first in
+    let rows = least_low (d ∷ ds) (pixel_box own) b first least in
+    let rows_back = least_low (d ∷ ds) b (pixel_box own) least first in
+    let left : own.min_m ≡ b.min_x = omega (arith, ints, columns.0, columns_back.0) in
+    let right : own.max_m ≡ b.max_x +ℤ pos 1 = omega (arith, ints, columns.1, columns_back.1) in
+    let bottom : own.min_n ≡ b.min_y = omega (arith, ints, rows.0, rows_back.0) in
+    let top : own.max_n ≡ b.max_y = omega (arith, ints, rows.1, rows_back.1) in
     λ i. record { min_m = left i; max_m = right i; min_n = bottom i; max_n = top i }
 
-box_of-stretch : (y x w : ℤ) (n : ℕ) → box_of (stretch y x w (suc n)) ≡ box_of_run (record { y = y; x = x; len = suc n; weight = w })
-unfolding box_of stretch
-box_of-stretch y x w zero = refl
-box_of-stretch y x w (suc n) =
-    ap (join (box_of_pixel (record { y = y; x = x; weight = w }))) (box_of-stretch y (x +ℤ pos 1) w n) ∙ join_next y x (suc n)
+-- ---- the black pixels of a picture
 
--- ---- the box of the black runs of a picture
+test_is : (b : Bool) → b ≡ not (int_eq (if b then pos 1 else pos 0) (pos 0))
+test_is true = refl
+test_is false = refl
 
--- the box of some pixels, or no box where there are none
-abbrev pub some_box : List Dot → Option CharacterBox
-some_box [] = None
-some_box (d ∷ ds) = Some (box_of (d ∷ ds))
+positive_is : (ds : List Dot) → IsPicture ds → (x y : ℤ) → is_positive_at ds x y ≡ not (int_eq (weight_at (black ds) x y) (pos 0))
+unfolding is_positive_at
+positive_is ds picture x y =
+    test_is (int_lt (pos 0) (weight_at ds x y)) ∙ ap (λ w. not (int_eq w (pos 0))) (sym (black_at start_of_field ds x y picture.dots))
 
-some_box-stretch : (ds : List Dot) (y x w : ℤ) (n : ℕ) → 1 ≤ n
-    → some_box (ds ++ stretch y x w n) ≡ Some (widen (some_box ds) (box_of_run (record { y = y; x = x; len = n; weight = w })))
-unfolding stretch
-some_box-stretch ds y x w zero some = absurd (omega arith)
-some_box-stretch [] y x w (suc n) some = ap Some (box_of-stretch y x w n)
-some_box-stretch (d ∷ ds) y x w (suc n) some =
-    ap Some (box_of-append d ds (record { y = y; x = x; weight = w }) (stretch y (x +ℤ pos 1) w n) ∙ ap (join (box_of (d ∷ ds))) (box_of-stretch y x w n))
+least_black : (ds : List Dot) (b : Box4) → IsPicture ds → IsBoxRound (is_positive_at ds) b → IsLeastBox (black ds) b
+least_black ds b picture box = least_of_weights (is_positive_at ds) (black ds) b (black_picture ds picture) (positive_is ds picture) box
 
--- b is the box of the pixels that come before those of the remaining runs
-pub record IsBoxBefore (ds : List Dot) (rs : List Run) (b : Option CharacterBox) : Type 0 where
-  pub passed : List Dot
-  pub passes : ArePassed ds rs passed
-  pub box : b ≡ some_box passed
+pub black_box : (ds : List Dot) (b : Box4) → IsPicture ds → IsBoxRound (is_positive_at ds) b → box_of (black ds) ≡ character_box b
+black_box ds b picture box = box_from_least (black ds) b (least_black ds b picture box)
 
-pub box_none : (ds : List Dot) (rs : List Run) (b : Option CharacterBox) → IsPicture ds → rs ≡ runs_of ds → b ≡ None → IsBoxBefore (black ds) (blacks rs) b
-box_none ds rs b picture all none =
-    rw all (record { passed = []; passes = record { split = sym (black-blacks ds); runs = (blacks_in_order ds picture).runs }; box = none })
-
-pub next_run : (ds : List Dot) (rs : List Run) (r : Run) (others : List Run) (b : Option CharacterBox) → rs ≡ r ∷ others → IsBoxBefore ds rs b → IsRun r
-next_run ds rs r others b first so_far = next_is_lawful ds rs r others so_far.passed first so_far.passes
-
-pub box_more : (ds : List Dot) (rs : List Run) (r : Run) (others : List Run) (b : Option CharacterBox) → rs ≡ r ∷ others → IsBoxBefore ds rs b
-    → IsBoxBefore ds others (Some (widen b (box_of_run r)))
-unfolding dots_of
-box_more ds rs r others b first so_far =
-    let run = next_run ds rs r others b first so_far in
-    record {
-      passed = so_far.passed ++ dots_of r;
-      passes = one_more_passed ds rs r others so_far.passed first so_far.passes;
-      box = ap (λ before. Some (widen before (box_of_run r))) so_far.box ∙ sym (some_box-stretch so_far.passed r.y r.x r.weight r.len run.some);
-    }
-
-unwrapped : (ds : List Dot) → unwrap_or (some_box ds) no_box ≡ box_of ds
+pub no_black_box : (ds : List Dot) → IsPicture ds → ((x y : ℤ) → is_positive_at ds x y ≡ false) → box_of (black ds) ≡ no_box
 unfolding box_of
-unwrapped [] = refl
-unwrapped (d ∷ ds) = refl
+no_black_box ds picture none = ap box_of (blank_of_weights (is_positive_at ds) (black ds) (black_picture ds picture) (positive_is ds picture) none)
 
-pub box_all : (ds : List Dot) (rs : List Run) (b : Option CharacterBox) → rs ≡ [] → IsBoxBefore ds rs b → unwrap_or b no_box ≡ box_of ds
-box_all ds rs b none so_far =
-    ap (λ found. unwrap_or found no_box) so_far.box ∙ unwrapped so_far.passed ∙ ap box_of (all_passed ds rs so_far.passed none so_far.passes)
+-- the numbers of such a box fit
+pub record BoxFits (b : Box4) : Type 0 where
+  pub left : to_z w32 (of_z w32 b.min_x) ≡ b.min_x
+  pub right : to_z w32 (of_z w32 b.max_x) ≡ b.max_x
+  pub behind : to_z w32 (of_z w32 (b.max_x +ℤ pos 1)) ≡ b.max_x +ℤ pos 1
+  pub fits : FitsSigned w32 (b.max_x +ℤ pos 1)
+  pub bottom : to_z w32 (of_z w32 b.min_y) ≡ b.min_y
+  pub top : to_z w32 (of_z w32 b.max_y) ≡ b.max_y
+
+pub box_fits : (ds : List Dot) (b : Box4) → IsPicture ds → IsBoxRound (is_positive_at ds) b → BoxFits b
+box_fits ds b picture box =
+    let sides = bounds_in_field (black ds) b (black_picture ds picture) (least_black ds b picture box) in
+    let low = sides.0 in
+    let high = sides.1 in
+    record {
+      left = omega (arith, ints, low.left, low.right);
+      right = omega (arith, ints, high.left, high.right);
+      behind = omega (arith, ints, high.left, high.right);
+      fits = omega (arith, ints, high.left, high.right);
+      bottom = omega (arith, ints, low.bottom, low.top);
+      top = omega (arith, ints, high.bottom, high.top);
+    }

@@ -64,10 +64,6 @@ black-from low (d ∷ ds) dots =
 pub black_picture : (ds : List Dot) → IsPicture ds → IsPicture (black ds)
 black_picture ds picture = record { dots = black-from start_of_field ds picture.dots }
 
--- the stretches of black pixels lie in the field
-pub stretches-lawful : (ds : List Dot) → IsPicture ds → All IsRun (runs_of (black ds))
-stretches-lawful ds picture = (total_none (black ds) (runs_of (black ds)) (black_picture ds picture) refl).passes.runs
-
 -- ---- the black runs of a picture
 
 -- the weight of a run is 1

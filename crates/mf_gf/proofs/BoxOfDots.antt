@@ -123,7 +123,11 @@ head-begin code p b rest fits p_fits reach =
     let both = and_parts (int_eq p (negsuc 0)) (is_short b) short in
     let none = sym ((Decides-int_eq p (negsuc 0)).0 both.0) in
     let back = short-reads_back b both.1 in
-    λ t. Some (record { code = pos code; earlier = none t; box = record { min_m = back.left t; max_m = back.right t; min_n = back.bottom t; max_n = back.top t } }))
+    λ t. Some (record {
+      code = pos code;
+      earlier = none t;
+      box = record { min_m = back.left t; max_m = back.right t; min_n = back.bottom t; max_n = back.top t };
+    }))
     (λ long.
     let numbers = word b.min_m ++ word b.max_m ++ word b.min_n ++ word b.max_n ++ rest in
     let code_is = word-reads_back (pos code) (word p ++ numbers) (record { least = omega (arith, ints); greatest = omega (arith, ints) }) in

@@ -1,6 +1,7 @@
 pub mod BlackBoxes
 pub mod BlackDots
 mod BlackRuns
+mod BlackWeights
 mod BoxOfDots
 mod BoxesInReach
 mod CharactersRead

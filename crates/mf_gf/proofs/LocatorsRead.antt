@@ -1,6 +1,7 @@
 -- The locators of a file, read back: they are those of the last characters with their codes.
 use Rattle.std.proofs.Common.{◌≡◌, ◌+◌, ◌<◌, ◌≤◌, ◌==◌, ◌||◌, ℕ, zero, suc, Bool, true, false, pos, if◌then◌else◌, List, [], ◌∷◌, ◌++◌, Option, None, Some, option_map, refl, ap, sym, subst, ◌∙◌, append_assoc, eqb-true, eq-eqb, ⊎_elim, eq-or-lt_of_le, arith}
 use Rattle.std.specs.List.{All, AllPairs, list_any}
+use Rattle.std.proofs.lemmas.Bool.{or_right}
 use Rattle.std.proofs.lemmas.List.Elements.{All-cons, All-nil, All-weaker}
 use Rattle.std.proofs.lemmas.List.Kept.{AllPairs-cons}
 use Rattle.byteorder.specs.Numbers.{big_number-reads_back}
@@ -15,10 +16,6 @@ use Rattle.mf_gf.proofs.Escapements.{short_dx-is}
 pub split : (P : Bool → Type 0) (test : Bool) → (test ≡ true → P true) → (test ≡ false → P false) → P test
 split P true at_true at_false = at_true refl
 split P false at_true at_false = at_false refl
-
-or_true : (test : Bool) → (test || true) ≡ true
-or_true true = refl
-or_true false = refl
 
 -- ---- one locator
 
@@ -175,7 +172,7 @@ found_here code s (Some t) others is same =
 found_later : (code : ℕ) (last : Option Shipment) (others : List Locator) → list_any (has_code code) others ≡ true
     → list_any (has_code code) (with_last last others) ≡ true
 found_later code None others later = later
-found_later code (Some t) others later = ap (λ test. (t.character.code == code) || test) later ∙ or_true (t.character.code == code)
+found_later code (Some t) others later = or_right (t.character.code == code) (list_any (has_code code) others) later
 
 pub lasts_have : (shipped : List Shipment) (code : ℕ) (s : Shipment) (first n : ℕ) → last_of code shipped ≡ Some s
     → first ≤ code → code < first + n → list_any (has_code code) (lasts_from first n shipped) ≡ true

@@ -6,7 +6,6 @@ use Rattle.std.proofs.lemmas.List.{reverse-append}
 use mathlib.Core.List.{reverse-cons}
 use Rattle.byteorder.specs.Endian.{big_number}
 use Rattle.byteorder.specs.Numbers.{big_number-reads_back}
-use Rattle.mf_gf.specs.declared.boxes.CharacterBox.{CharacterBox}
 use Rattle.mf_gf.specs.declared.file.FontWords.{FontWords}
 use Rattle.mf_gf.specs.declared.locator.Locator.{Locator}
 use Rattle.mf_gf.specs.Files.{Character, Shipment, body, box_of_all, bytes_so_far, ending, file_of, last_of, locator_of, locators_from, padding, post, shipments}
@@ -38,10 +37,6 @@ place_found before place count short =
     ∙ padding_passed count (reverse named ++ reverse before)
     ∙ four_back _ _ _ _ (reverse before)
     ∙ ap (λ n. Some n) (big_number-reads_back 4 place [] (omega (arith, short)))
-
--- post has 37 bytes
-length-post : (words : FontWords) (b : CharacterBox) (place : ℕ) → length (post words b place) ≡ 37
-length-post words b place = refl
 
 abbrev after_post : List ℕ → Option ℕ → Option (List Locator)
 after_post file found = elim found [

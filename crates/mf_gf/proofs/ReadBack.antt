@@ -56,7 +56,8 @@ writes_new_row n fits =
     record {
       some = omega arith;
       read = λ rest.
-          rw (lt-leb b 63 (omega arith), lt-leb b 66 (omega arith), ne_eqb b 69 (λ same. omega arith), ne_eqb b 70 (λ same. omega arith), le-leb 71 b (omega arith), lt-leb b 73 (omega arith), le-leb 74 b (omega arith), le-leb b 238 (omega arith), offset) refl;
+          rw (lt-leb b 63 (omega arith), lt-leb b 66 (omega arith), ne_eqb b 69 (λ same. omega arith), ne_eqb b 70 (λ same. omega arith))
+          (rw (le-leb 71 b (omega arith), lt-leb b 73 (omega arith), le-leb 74 b (omega arith), le-leb b 238 (omega arith), offset) refl);
     }
 
 -- these bytes are read as these commands, whatever comes after them

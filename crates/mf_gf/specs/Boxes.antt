@@ -2,7 +2,6 @@
 use Rattle.std.specs.Prelude.{pos, ◌+ℤ◌, ◌-ℤ◌, List, [], ◌∷◌, Option, None, Some}
 use Rattle.std.specs.Int.{int_max, int_min}
 use Rattle.mf_rows.specs.declared.bounds.Box4.{Box4}
-use Rattle.mf_rows.specs.declared.run.Run.{Run}
 use Rattle.mf_rows.specs.Dots.{Dot}
 use Rattle.mf_gf.specs.declared.boxes.CharacterBox.{CharacterBox}
 
@@ -13,9 +12,6 @@ no_box = record { min_m = pos 0; max_m = pos 0; min_n = pos 0; max_n = pos 0 }
 -- the box of a pixel: m may be at its left and its right edge
 abbrev pub box_of_pixel : Dot → CharacterBox
 box_of_pixel d = record { min_m = d.x; max_m = d.x +ℤ pos 1; min_n = d.y; max_n = d.y }
-
-abbrev pub box_of_run : Run → CharacterBox
-box_of_run r = record { min_m = r.x; max_m = r.x +ℤ pos r.len; min_n = r.y; max_n = r.y }
 
 -- the least box around two boxes
 abbrev pub join : CharacterBox → CharacterBox → CharacterBox

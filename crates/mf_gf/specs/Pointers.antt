@@ -36,7 +36,12 @@ read_item (b ∷ bytes) =
       rest = drop 17 bytes;
     })
     else (if b == 246 then Some (record {
-      locator = Some (record { code = slice_index bytes 0; dx = pos (65536 * slice_index bytes 1); width = word_at 2 bytes; place = big_number 4 (drop 6 bytes) });
+      locator = Some (record {
+        code = slice_index bytes 0;
+        dx = pos (65536 * slice_index bytes 1);
+        width = word_at 2 bytes;
+        place = big_number 4 (drop 6 bytes);
+      });
       rest = drop 10 bytes;
     })
     else (if b == 249 then Some (record { locator = None; rest = bytes }) else None))

@@ -1,12 +1,10 @@
 //! Boxes of characters.
 ghost use Rattle.std.specs.Prelude.{◌≡◌};
-ghost use Rattle.mf_gf.specs.Boxes.{box_of, box_of_run, join, no_box, widen};
+ghost use Rattle.mf_gf.specs.Boxes.{box_of, join, no_box, widen};
 ghost use Rattle.mf_gf.specs.Pixels.{black};
 ghost use Rattle.mf_rows.specs.Dots.{IsPicture};
-ghost use Rattle.mf_rows.specs.Order.{IsRun};
 
-use crate::stretches::next_black;
-use mf_rows::{Picture, Run};
+use mf_rows::Picture;
 
 /// The box of a character, in pixels: `min_m..=max_m` are the columns of its black pixels and one more column at the right, where
 /// the painting position is after the last pixel; `min_n..=max_n` are their rows.
@@ -28,19 +26,6 @@ impl CharacterBox {
             max_m: 0,
             min_n: 0,
             max_n: 0,
-        }
-    }
-
-    /// The box of a stretch.
-    fn of_run(run: &Run) -> CharacterBox
-        requires { IsRun run.now }
-        ensures { result ≡ box_of_run run.now }
-    {
-        CharacterBox {
-            min_m: run.x,
-            max_m: run.x + run.len as i32,
-            min_n: run.y,
-            max_n: run.y,
         }
     }
 
@@ -67,16 +52,18 @@ impl CharacterBox {
     }
 
     /// The box of the black pixels of a picture: those of positive weight.
-    #[inline(never)]
     pub(crate) fn of_black(picture: &Picture) -> CharacterBox
         ensures value { result ≡ box_of (black picture.now) }
         ensures lawful { IsPicture picture.now }
     {
-        let mut runs = picture.runs();
-        let mut bounds = None;
-        while let Some(run) = next_black(&mut runs) {
-            bounds = Some(CharacterBox::widen(bounds, CharacterBox::of_run(&run)));
+        let Some(bounds) = picture.black_bounds() else {
+            return CharacterBox::none();
+        };
+        CharacterBox {
+            min_m: bounds.min_x,
+            max_m: bounds.max_x + 1,
+            min_n: bounds.min_y,
+            max_n: bounds.max_y,
         }
-        bounds.unwrap_or(CharacterBox::none())
     }
 }

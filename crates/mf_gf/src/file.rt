@@ -12,7 +12,7 @@ mod tail;
 const GF_ID: u8 = 131;
 
 /// The numbers of a font, which are in the postamble: its design size `ds` in 1/1048576 point, its checksum `cs`, and the pixels
-/// per point, horizontally `hppp` and vertically `vppp`, in 1/65536.
+/// per point, horizontally `hppp` and vertically `vppp`, in 1/65536 (gftype.web).
 #[derive(Clone, Copy, Debug, PartialEq, Eq)]
 pub struct FontWords {
     pub ds: i32,

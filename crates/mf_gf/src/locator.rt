@@ -8,7 +8,7 @@ use crate::spelling::Spelling;
 /// char_loc, the command for the locator of a character (gftype.web).
 const CHAR_LOC: u8 = 245;
 
-/// char_loc0, the command for the locator of a character whose escapement is a whole number of pixels in 0..255 (gftype.web).
+/// char_loc0, the command for the locator of a character whose escapement is a whole number of pixels in 0..=255 (gftype.web).
 const CHAR_LOC0: u8 = 246;
 
 /// One pixel in the units of `dx`, which are 1/65536 pixel (gftype.web).
@@ -25,7 +25,7 @@ pub(crate) struct Locator {
 }
 
 impl Locator {
-    /// Spells the locator: as char_loc0 where the escapement is a whole number of pixels in 0..255, else as char_loc.
+    /// Spells the locator: as char_loc0 where the escapement is a whole number of pixels in 0..=255, else as char_loc.
     pub(crate) fn spell(&self, out: &mut Spelling)
         ensures held { (text : List ℕ) → Holds out.old text → Holds out.new (text ++ locator_text self.now) }
         ensures room { out.new.room ≡ out.old.room }
@@ -42,7 +42,7 @@ impl Locator {
         out.put_unsigned(self.place);
     }
 
-    /// The escapement in pixels, if it is a whole number of pixels in 0..255.
+    /// The escapement in pixels, if it is a whole number of pixels in 0..=255.
     fn whole_pixels(&self) -> Option<u8>
         ensures { result ≡ short_dx self.now.dx }
     {

@@ -21,7 +21,8 @@ struct Place {
     column: i32,
 }
 
-/// Spells stretches of black pixels one after another, starting from the left end of the top row of their box.
+/// Spells stretches of black pixels one after another, starting from the left end of the top row of their box. A
+/// function of its own, with all that it does for a stretch inlined: so the registers are for the walk over the runs.
 #[inline(never)]
 pub(crate) fn spell_rows(out: &mut Spelling, stretches: Stretches<'_>, bounds: &CharacterBox)
     requires order { AreInOrder (blacks_ahead stretches) }

@@ -9,7 +9,7 @@ use mf_rows::{Picture, Run, Runs};
 
 /// An iterator over the stretches of black pixels of a picture: the maximal runs of pixels of positive weight, each returned with
 /// weight 1. Rows are in order from the top, and the stretches of a row from the left. It passes the runs of the picture once and
-/// allocates nothing.
+/// allocates nothing. Its steps are inlined, as those of the walk over the runs are, whose state then stays in registers.
 #[derive(Drop)]
 pub(crate) struct Stretches<'a> {
     /// The next run of positive weight, and the runs after it.

@@ -21,7 +21,7 @@ const SKIP1: u8 = 71;
 const NEW_ROW_0: u8 = 74;
 
 impl Spelling {
-    /// Appends a command that paints `length` pixels.
+    /// Appends a command that paints `length` pixels. Most stretches have at most 63, so only their command is inlined.
     #[inline(always)]
     pub(crate) fn paint(&mut self, length: u32)
         requires { length < 2 ^ 16 }

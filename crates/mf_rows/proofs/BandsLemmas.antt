@@ -1,5 +1,5 @@
 -- Bands of rows: from band to band the lowest rows fall, so a row is found by binary search.
-use Rattle.std.proofs.Common.{◌≡◌, ◌≢◌, ℕ, zero, suc, ◌+◌, ◌<◌, ◌≤◌, ℤ, pos, ◌-ℤ◌, ◌≤ℤ◌, ◌<ℤ◌, List, [], ◌∷◌, ◌++◌, Bool, true, false, length, take, drop, get_or, refl, subst, sym, append-nil, ap, ◌∙◌, arith}
+use Rattle.std.proofs.Common.{◌≡◌, ◌≢◌, ℕ, zero, suc, ◌+◌, ◌<◌, ◌≤◌, ℤ, pos, ◌+ℤ◌, ◌-ℤ◌, ◌≤ℤ◌, ◌<ℤ◌, List, [], ◌∷◌, ◌++◌, Bool, true, false, length, take, drop, get_or, refl, subst, sym, append-nil, ap, ◌∙◌, arith}
 use Rattle.std.specs.List.{All, AllWithin}
 use Rattle.std.specs.List.Sorted.{IsPartitionedBy}
 use Rattle.std.proofs.lemmas.Int.{ints}
@@ -232,6 +232,16 @@ heads_above_split y n es hs le passed =
     All-map (λ r. y <ℤ r.y) (row_at es) (take n hs)
     (All-weaker (λ h. head_stands_above y h ≡ true) (λ h. y <ℤ h.y) (λ h above. grind (arith, ints))
     (take n hs) (All-take_within (λ h. head_stands_above y h ≡ true) hs n le passed))
+
+-- where the first row is not above row y, none is
+pub none_above_first : (y : ℤ) (es : List Edge) (hs : List Head) (h : Head) → AreRows (rows_at es hs) → 0 < length hs → h ≡ get_or hs 0 h
+    → h.y ≤ℤ y → All (λ r. r.y ≤ℤ y) (rows_at es hs)
+none_above_first y es [] h lawful some first le = absurd (omega arith)
+none_above_first y es (g ∷ hs) h lawful some first le =
+    let here : g.y ≤ℤ y = subst (λ k. k.y ≤ℤ y) first le in
+    let rows = lawful.rows in
+    All-weaker (λ r. r.y <ℤ (g.y +ℤ pos 1)) (λ r. r.y ≤ℤ y) (λ r lt. omega (arith, ints)) (rows_at es (g ∷ hs))
+    (rows_from-below g.y (g.y +ℤ pos 1) (rows_at es (g ∷ hs)) (rows.0, omega (arith, ints), rows.2) (omega (arith, ints)))
 
 pub heads_others_split : (y : ℤ) (n : ℕ) (es : List Edge) (hs : List Head)
     → AllWithin (λ h. head_stands_above y h ≡ false) hs n (length hs) → All (λ r. r.y ≤ℤ y) (rows_at es (drop n hs))

@@ -3,6 +3,7 @@ mod BandSumsLemmas
 mod BlankPictures
 mod BlankRowsLemmas
 pub mod BoundsInField
+pub mod BoxesJoined
 mod BuildingLemmas
 mod CornersLemmas
 pub mod DotsLemmas
@@ -13,11 +14,15 @@ mod FieldBandsLemmas
 pub mod FieldTotals
 mod GroupsLemmas
 mod GroupsMade
+mod GroupSums
+pub mod LeastBoxes
 mod LongestRuns
 pub mod MaximalRuns
 pub mod PassedRuns
 mod PictureGroups
 mod PictureRows
+mod PixelBoxes
+mod PixelColumns
 pub mod PlacesLemmas
 mod RemainingRuns
 mod RowChangesLemmas
@@ -27,7 +32,6 @@ mod RowRuns
 mod RowStretches
 mod RowSums
 mod RowSumSteps
-pub mod RunBoxes
 pub mod RunDots
 mod RunEdges
 pub mod RunsLemmas

@@ -1,7 +1,12 @@
 -- The least box of a picture.
-use Rattle.std.specs.Prelude.{◌≡◌, ◌≤ℤ◌, All, Any, List}
+use Rattle.std.specs.Prelude.{◌≡◌, ◌≤ℤ◌, ℤ, pos, Bool, true, false, not, int_lt, All, Any, List, Option, None, Some}
+use Rattle.std.specs.Int.{int_max, int_min}
+use Rattle.std.specs.Ordering.{int_eq}
 use Rattle.mf_rows.specs.declared.bounds.Box4.{Box4}
-use Rattle.mf_rows.specs.Dots.{Dot}
+use Rattle.mf_rows.specs.declared.bounds.Columns.{Columns}
+use Rattle.mf_rows.specs.declared.bounds.Pixels.{Pixels}
+use Rattle.mf_rows.specs.declared.bounds.Pixels.TheVariants.{Nonzero, Black}
+use Rattle.mf_rows.specs.Dots.{Dot, weight_at}
 
 -- a dot lies in the box, ends included
 pub record IsWithin (b : Box4) (d : Dot) : Type 0 where
@@ -17,3 +22,37 @@ pub record IsLeastBox (ds : List Dot) (b : Box4) : Type 0 where
   pub right : Any (λ d. d.x ≡ b.max_x) ds
   pub bottom : Any (λ d. d.y ≡ b.min_y) ds
   pub top : Any (λ d. d.y ≡ b.max_y) ds
+
+-- the pixel (x, y) lies in the box, ends included
+pub record IsIn (b : Box4) (x y : ℤ) : Type 0 where
+  pub left : b.min_x ≤ℤ x
+  pub right : x ≤ℤ b.max_x
+  pub bottom : b.min_y ≤ℤ y
+  pub top : y ≤ℤ b.max_y
+
+-- the box is the least one round the pixels at which f is true: they lie in it, and there is one at each of its sides
+pub record IsBoxRound (f : ℤ → ℤ → Bool) (b : Box4) : Type 0 where
+  pub within : (x y : ℤ) → f x y ≡ true → IsIn b x y
+  pub left : (y : ℤ) × (f b.min_x y ≡ true)
+  pub right : (y : ℤ) × (f b.max_x y ≡ true)
+  pub bottom : (x : ℤ) × (f x b.min_y ≡ true)
+  pub top : (x : ℤ) × (f x b.max_y ≡ true)
+
+-- the least box round the pixels at which f is true, or none where there are none
+abbrev pub AreBounds : (ℤ → ℤ → Bool) → Option Box4 → Type 0
+AreBounds f None = (x y : ℤ) → f x y ≡ false
+AreBounds f (Some b) = IsBoxRound f b
+
+-- the weight of the pixel (x, y) is positive
+unfoldable pub is_positive_at : List Dot → ℤ → ℤ → Bool
+is_positive_at ds x y = int_lt (pos 0) (weight_at ds x y)
+
+-- a pixel of weight w is one of these
+abbrev pub is_among : Pixels → ℤ → Bool
+is_among Nonzero w = not (int_eq w (pos 0))
+is_among Black w = int_lt (pos 0) w
+
+-- the least box round a box above row y, if there is one, and columns of that row
+abbrev pub with_columns : Option Box4 → ℤ → Columns → Box4
+with_columns None y c = record { min_x = c.first; max_x = c.last; min_y = y; max_y = y }
+with_columns (Some b) y c = record { min_x = int_min b.min_x c.first; max_x = int_max b.max_x c.last; min_y = y; max_y = b.max_y }

@@ -1,5 +1,5 @@
 -- Groups of bands: the field has a place for each, and a group has the bands of 512 rows of the field.
-use Rattle.std.specs.Prelude.{ℤ, ◌-ℤ◌, List, [], ◌∷◌, Option, Some, None, flat_map}
+use Rattle.std.specs.Prelude.{◌≡◌, ℕ, ◌+◌, ℤ, pos, ◌+ℤ◌, ◌-ℤ◌, ◌*ℤ◌, List, [], ◌∷◌, ◌++◌, Option, Some, None, flat_map}
 use Rattle.std.specs.Arc.{arc_value}
 use Rattle.std.specs.Borrow.{Bor}
 use Rattle.std.specs.declared.alloc.Global.{Global}
@@ -7,7 +7,7 @@ use Rattle.std.specs.declared.sync.Arc.{Arc}
 use Rattle.mf_geom.specs.Coordinates.{last_in_field}
 use Rattle.mf_rows.specs.declared.group.Group.{Group}
 use Rattle.mf_rows.specs.declared.group.TheConstants.{GROUP_HEIGHT}
-use Rattle.mf_rows.specs.Bands.{rows_of_bands, AreAbove}
+use Rattle.mf_rows.specs.Bands.{rows_of_bands, AreAbove, AreBelow}
 use Rattle.mf_rows.specs.EdgeRows.{EdgeRow, AreRowsFrom}
 
 -- the rows of the group at a place, where there is one
@@ -37,3 +37,13 @@ AreLayersFrom top (g ∷ gs) = IsLayer top (rows_at_place g) × AreLayersFrom (t
 -- the groups of a picture, from the top of the field down
 pub record AreGroups (gs : List (Option (Arc Group Global))) : Type 0 where
   pub layers : AreLayersFrom last_in_field gs
+
+-- the highest row of the field that belongs to the group at place i
+abbrev pub top_of_place : ℕ → ℤ
+top_of_place i = last_in_field -ℤ (GROUP_HEIGHT *ℤ pos i)
+
+-- rows are split into those that belong to the groups up to place i, and those that belong to later groups
+pub record IsSplitAtPlace (i : ℕ) (rs own others : List EdgeRow) : Type 0 where
+  pub all : rs ≡ own ++ others
+  pub above : AreAbove (top_of_place (i + 1)) own
+  pub below : AreBelow (top_of_place (i + 1) +ℤ pos 1) others

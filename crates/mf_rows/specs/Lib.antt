@@ -13,6 +13,7 @@ pub mod Moves
 pub mod NewEdges
 pub mod Order
 pub mod Owned
+pub mod PixelsOfRows
 pub mod Places
 pub mod Rest
 pub mod RowChanges

@@ -1,12 +1,6 @@
--- Boxes that grow to hold one run after another.
-use Rattle.std.specs.Prelude.{pos, ◌+ℤ◌, ◌-ℤ◌}
+-- Boxes that grow to hold others.
 use Rattle.std.specs.Int.{int_max, int_min}
 use Rattle.mf_rows.specs.declared.bounds.Box4.{Box4}
-use Rattle.mf_rows.specs.declared.run.Run.{Run}
-
--- the box of a run
-abbrev pub box_of_run : Run → Box4
-box_of_run r = record { min_x = r.x; max_x = (r.x +ℤ pos r.len) -ℤ pos 1; min_y = r.y; max_y = r.y }
 
 -- the least box round two boxes
 abbrev pub widened : Box4 → Box4 → Box4

@@ -32,6 +32,7 @@ pub(crate) fn sum_of_bands(
         → IsUnlawfulSomewhere (weight_in_all (rows_of_bands left.now) (rows_of_bands right.now))) }
 {
     let mut sum = Vec::new(alloc);
+    sum.reserve(left.len() + right.len())?;
     let (mut left, mut right) = (left, right);
     while let Some(number) = end_of_step(left, right) {
         let (first_left, rest_left) = left.split_at(count_up_to(left, number));

@@ -12,7 +12,7 @@ use crate::row::Row;
 use crate::row_list::MANY_EDGES;
 use crate::writer::RowWriter;
 use mf_base::OutOfMemory;
-use mf_edges::{Edge, FIELD_START, add_edge};
+use mf_edges::{Edge, FIELD_START, add_edge, reach_of};
 use std::alloc::Global;
 use std::cmp::Reverse;
 
@@ -80,9 +80,10 @@ fn push_strip(
         let kept = NewEdges::copy_of(alloc, edges)?;
         return rows.push_copies(kept.row(top - 1), bottom, top);
     }
+    // The reach is worked out once for all rows of the strip.
     let strip = Row {
         y: top - 1,
-        reach: None,
+        reach: Some(reach_of(edges) as u16),
         edges,
         own: None,
     };

@@ -8,6 +8,7 @@ mod bounds;
 mod builder;
 mod corner;
 mod group;
+mod group_sum;
 mod groups;
 pub mod laws;
 mod new_edges;

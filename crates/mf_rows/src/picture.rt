@@ -3,10 +3,11 @@ ghost use Rattle.std.specs.Prelude.{◌≡◌, ◌≢◌, [], IsNone, IsOk, IfSo
 ghost use Rattle.mf_rows.specs.Bands.{edge_rows};
 ghost use Rattle.mf_rows.specs.EdgeRows.{AreRows};
 
-use crate::bounds::Box4;
+use crate::bounds::{Box4, Pixels, bounds_of};
 use crate::corner::{Corner, rows_of_corners};
 use crate::group::Group;
-use crate::groups::{find_row, groups_of, rows_of, share, sum_of_groups};
+use crate::group_sum::{sum_of_groups, sum_with_bands};
+use crate::groups::{find_row, groups_of, rows_of, share};
 use crate::row::Row;
 use crate::row_change::changed_rows;
 use crate::row_move::{mirrored_rows, stretched_rows};
@@ -46,7 +47,7 @@ impl Model for Picture {
 }
 
 impl Picture {
-    ghost use Rattle.mf_rows.specs.Bounds.{IsLeastBox};
+    ghost use Rattle.mf_rows.specs.Bounds.{AreBounds, IsLeastBox, is_positive_at};
     ghost use Rattle.mf_rows.specs.Corners.{AreCorners, with_corners_at};
     ghost use Rattle.mf_rows.specs.Dots.{IsPicture, weight_at, total_of};
     ghost use Rattle.mf_rows.specs.EdgeRows.{picture_of_rows};
@@ -114,19 +115,22 @@ impl Picture {
         sum
     }
 
-    /// The least box of the pixels of nonzero weight, `None` where the picture is blank. It walks the runs, so its cost
-    /// grows with the number of edges.
+    /// The least box of the pixels of nonzero weight, `None` where the picture is blank. It looks at both ends of each row.
     pub fn bounds(&self) -> Option<Box4>
         ensures blank { IsNone result ↔ (self.now ≡ []) }
         ensures least { IfSome result (IsLeastBox self.now) }
         ensures lawful { IsPicture self.now }
     {
-        let mut runs = self.runs();
-        let mut bounds = runs.next()?.as_box();
-        for run in runs {
-            bounds = run.widened(bounds);
-        }
-        Some(bounds)
+        bounds_of(&self.groups, Pixels::Nonzero)
+    }
+
+    /// The least box of the pixels of positive weight, which are black in a character, `None` where there are none. It looks at the
+    /// edges of each row from both ends, up to the first and the last of these pixels.
+    pub fn black_bounds(&self) -> Option<Box4>
+        ensures bounds { AreBounds (is_positive_at self.now) result }
+        ensures lawful { IsPicture self.now }
+    {
+        bounds_of(&self.groups, Pixels::Black)
     }
 
     /// The maximal runs of one nonzero weight: rows from the top down, columns from left to right.
@@ -137,7 +141,7 @@ impl Picture {
         Runs::over(&self.groups)
     }
 
-    /// The k-th of the maximal runs that `runs` gives, counted from 0; `None` after the last.
+    /// The k-th of the maximal runs that `runs` gives, counted from 0; `None` after the last. It walks the runs before it.
     pub fn run(&self, k: usize) -> Option<Run>
         ensures value { result ≡ slice_get (runs_of self.now) k }
         ensures lawful { IsPicture self.now }
@@ -261,8 +265,9 @@ impl Picture {
         ensures lawful { OnOk result (IsPicture self.new) }
         ensures too_large { IfErr result (λ fault. fault ≢ AddFault.OutOfMemory → IsUnlawfulSomewhere (with_corners_at self.old corners.items)) }
     {
-        let added = Picture::from_rows(alloc, rows_of_corners(alloc, corners)?)?;
-        self.add(alloc, &added)
+        let bands = rows_of_corners(alloc, corners)?.finish()?;
+        self.groups = sum_with_bands(alloc, &self.groups, &bands)?;
+        Ok(())
     }
 
     /// The picture after its columns are stretched. Where all of them stay in place, it shares the groups of this one.

@@ -133,7 +133,7 @@ impl RowList {
         ensures unchanged { OnErr result (self.new ≡ self.old) }
     {
         let Some(last) = self.heads.last() else {
-            return Ok(());
+            unreachable!()
         };
         let reach = last.reach;
         let place = last.place.share()?;

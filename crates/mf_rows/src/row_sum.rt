@@ -28,6 +28,7 @@ pub(crate) fn sum_of_rows(
     ensures too_large { IfErr result (λ fault. fault ≢ AddFault.OutOfMemory
         → IsUnlawfulSomewhere (weight_in_all (slice_rows left.entry) (slice_rows right.entry))) }
 {
+    // No band has more rows than its height, so most sums need no more room.
     let mut sum = RowList::with_room(
         alloc,
         (left.len() + right.len()).min(BAND_HEIGHT as usize),

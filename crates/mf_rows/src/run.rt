@@ -1,13 +1,11 @@
 //! Runs of pixels.
-ghost use Rattle.std.specs.Prelude.{◌≡◌, ◌≢◌, ◌↔◌, IsTrue, pos, ◌+ℤ◌, ◌-ℤ◌, ◌≤ℤ◌};
+ghost use Rattle.std.specs.Prelude.{◌≡◌, ◌≢◌, ◌↔◌, IsTrue, pos, ◌+ℤ◌, ◌≤ℤ◌};
 ghost use Rattle.mf_geom.specs.Coordinates.{least_coordinate, greatest_coordinate, last_in_field};
 ghost use Rattle.mf_edges.specs.LawfulWeights.{IsLawfulWeight};
 ghost use Rattle.mf_rows.specs.Dots.{total_of};
 ghost use Rattle.mf_rows.specs.Order.{IsRun};
 ghost use Rattle.mf_rows.specs.Runs.{dots_of};
-ghost use Rattle.mf_rows.specs.Widening.{box_of_run, widened};
 
-use crate::bounds::Box4;
 use mf_edges::{FIELD_END, FIELD_START, is_lawful_weight};
 
 /// A run: `len` pixels of row `y`, from column `x` to the right, all of one weight. A run that a picture gives is
@@ -35,40 +33,6 @@ impl Run {
         ensures { result ≡ total_of (dots_of self.now) }
     {
         i64::from(self.len) * i64::from(self.weight)
-    }
-
-    /// The box of its pixels.
-    pub(crate) fn as_box(&self) -> Box4
-        requires { IsRun self.now }
-        ensures { result ≡ box_of_run self.now }
-    {
-        Box4 {
-            min_x: self.x,
-            max_x: self.last_column(),
-            min_y: self.y,
-            max_y: self.y,
-        }
-    }
-
-    /// The least box round its pixels and another box.
-    pub(crate) fn widened(&self, bounds: Box4) -> Box4
-        requires { IsRun self.now }
-        ensures { result ≡ widened bounds (box_of_run self.now) }
-    {
-        Box4 {
-            min_x: bounds.min_x.min(self.x),
-            max_x: bounds.max_x.max(self.last_column()),
-            min_y: bounds.min_y.min(self.y),
-            max_y: bounds.max_y.max(self.y),
-        }
-    }
-
-    /// The column of its last pixel.
-    fn last_column(&self) -> i32
-        requires { IsRun self.now }
-        ensures { result ≡ (self.now.x +ℤ pos self.now.len) -ℤ pos 1 }
-    {
-        self.x + (self.len - 1) as i32
     }
 
     /// Whether all its columns lie in the field.

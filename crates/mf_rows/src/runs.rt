@@ -10,6 +10,7 @@ use std::sync::Arc;
 
 /// An iterator over the maximal runs of a picture: rows from the top down, columns from left to right. To callers it is
 /// the list of the runs that are still to come. It walks the edges once, and allocates nothing.
+/// A step is inlined, as those of `Walk` are.
 #[derive(Drop)]
 pub struct Runs<'a> {
     walk: Walk<'a>,

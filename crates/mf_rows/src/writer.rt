@@ -22,7 +22,7 @@ pub(crate) struct RowWriter {
     bands: Vec<Arc<Band>>,
     /// The number of the band that is being written, and its rows.
     number: i32,
-    open: RowList,
+    rows: RowList,
 }
 
 impl Model for RowWriter {
@@ -34,9 +34,9 @@ impl Model for RowWriter {
     ghost use Rattle.mf_rows.specs.Bands.{rows_of_bands};
     ghost use Rattle.mf_rows.specs.FieldBands.{AreOfBand};
 
-    ghost view = { λ w. rows_of_bands w.bands.items ++ w.open };
+    ghost view = { λ w. rows_of_bands w.bands.items ++ w.rows };
 
-    ghost invariant = { λ w. AreOfBand w.number w.open };
+    ghost invariant = { λ w. AreOfBand w.number w.rows };
 }
 
 impl RowWriter {
@@ -52,7 +52,7 @@ impl RowWriter {
             alloc,
             bands: Vec::new(alloc),
             number: 0,
-            open: RowList::new(alloc),
+            rows: RowList::new(alloc),
         }
     }
 
@@ -69,24 +69,24 @@ impl RowWriter {
                 BAND_HEIGHT as usize,
                 row.edges.len().min(MANY_EDGES),
             )?;
-            let rows = replace(&mut self.open, next);
+            let rows = replace(&mut self.rows, next);
             close_band(self.alloc, &mut self.bands, self.number, rows)?;
             self.number = own;
         }
-        self.open.push(y, row)?;
+        self.rows.push(y, row)?;
         Ok(())
     }
 
-    /// Appends row y, which lies in the field, with the edges and the reach of a row that is the last one too, whose edges it
-    /// shares if it is in the same band.
+    /// Appends row y, which lies in the field, with the edges and the reach of a row. Requires that the last row has these edges.
+    /// In the same band the two rows share them.
     fn push_again(&mut self, y: i32, row: &Row<'_>) -> Result<(), OutOfMemory>
         requires bottom { least_coordinate ≤ℤ y }
         requires top { y ≤ℤ last_in_field }
         requires last { last_edges self.old ≡ row.now.edges.now }
         ensures { OnOk result (self.new ≡ self.old ++ record { y = y; edges = row.now.edges.now } ∷ []) }
     {
-        if !self.open.is_empty() && band_of(y) == self.number {
-            self.open.push_again(y)?;
+        if !self.rows.is_empty() && band_of(y) == self.number {
+            self.rows.push_again(y)?;
             return Ok(());
         }
         self.push(y, row)
@@ -135,9 +135,9 @@ impl RowWriter {
             alloc,
             mut bands,
             number,
-            open,
+            rows,
         } = self;
-        close_band(alloc, &mut bands, number, open)?;
+        close_band(alloc, &mut bands, number, rows)?;
         Ok(bands)
     }
 }

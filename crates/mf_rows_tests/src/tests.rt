@@ -2,6 +2,7 @@
 
 mod assertions;
 mod band_sums;
+mod black;
 mod borders;
 mod chance;
 mod corners;

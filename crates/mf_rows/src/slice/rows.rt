@@ -114,14 +114,17 @@ impl<'a> RowSlice<'a> {
     }
 }
 
-/// The number of rows above row y, which are the first ones.
+/// The number of rows above row y, which are the first ones. A sum asks this for row after row, so mostly there are none.
 fn count_rows_above(rows: RowSlice<'_>, y: i32) -> usize
     requires { AreRows (slice_rows rows) }
     ensures within { result ≤ length rows.entry.heads.now }
     ensures above { AreAbove y (rows_at rows.entry.edges.now (take result rows.entry.heads.now)) }
     ensures others { All (λ row. row.y ≤ℤ y) (rows_at rows.entry.edges.now (drop result rows.entry.heads.now)) }
 {
-    rows.heads.partition_point(|head| head.y > y)
+    match rows.heads.first() {
+        Some(first) if first.y <= y => 0,
+        _ => rows.heads.partition_point(|head| head.y > y),
+    }
 }
 
 /// The row of a head.

@@ -36,6 +36,22 @@ impl Pixel {
             weight: self.weight,
         }
     }
+
+    /// The least box round a box, if there is one, and this pixel.
+    fn widened(&self, bounds: Option<Box4>) -> Box4 {
+        let bounds = bounds.unwrap_or(Box4 {
+            min_x: self.x,
+            max_x: self.x,
+            min_y: self.y,
+            max_y: self.y,
+        });
+        Box4 {
+            min_x: bounds.min_x.min(self.x),
+            max_x: bounds.max_x.max(self.x),
+            min_y: bounds.min_y.min(self.y),
+            max_y: bounds.max_y.max(self.y),
+        }
+    }
 }
 
 /// The pixels of a picture: rows from the top down, columns from left to right.
@@ -94,20 +110,22 @@ impl SlowPicture {
 
     /// The least box of the pixels.
     pub(crate) fn bounds(&self) -> Option<Box4> {
-        let first = self.pixels.first()?;
-        let mut bounds = Box4 {
-            min_x: first.x,
-            max_x: first.x,
-            min_y: first.y,
-            max_y: first.y,
-        };
+        let mut bounds = None;
         for pixel in &self.pixels {
-            bounds.min_x = bounds.min_x.min(pixel.x);
-            bounds.max_x = bounds.max_x.max(pixel.x);
-            bounds.min_y = bounds.min_y.min(pixel.y);
-            bounds.max_y = bounds.max_y.max(pixel.y);
+            bounds = Some(pixel.widened(bounds));
         }
-        Some(bounds)
+        bounds
+    }
+
+    /// The least box of the pixels of positive weight.
+    fn black_bounds(&self) -> Option<Box4> {
+        let mut bounds = None;
+        for pixel in &self.pixels {
+            if pixel.weight > 0 {
+                bounds = Some(pixel.widened(bounds));
+            }
+        }
+        bounds
     }
 
     /// The maximal runs: each begins at a pixel whose left neighbour has another weight.
@@ -153,6 +171,12 @@ impl SlowPicture {
             picture.bounds(),
             self.bounds(),
             ("bounds in case", case),
+        );
+        assert_same(
+            rt,
+            picture.black_bounds(),
+            self.black_bounds(),
+            ("black bounds in case", case),
         );
         let runs = self
             .runs(rt.alloc())

@@ -37,7 +37,8 @@ loop-stretch-preserved c =
     let row : to_z w32 (of_z w32 r.y) ≡ r.y = omega (arith, ints, run.bottom, run.top) in
     let column : to_z w32 (of_z w32 (to_z w32 (of_z w32 r.x) +ℤ to_z w32 r.len)) ≡ r.x +ℤ pos r.len = omega (arith, ints, run.left, run.right) in
     let goes = rw left at c.go_to.ensures.held in
-    rw (row, column) (one_more_spelled _ _ _ _ _ _ _ r _ _ _ c.in-Some.ensures.steps goes c.paint.ensures.held c.go_to.ensures.room c.paint.ensures.room c.loop-stretch.invariant)
+    rw (row, column) (one_more_spelled _ _ _ _ _ _ _ r _ _ _ c.in-Some.ensures.steps goes c.paint.ensures.held c.go_to.ensures.room
+    c.paint.ensures.room c.loop-stretch.invariant)
 
 pub returns-clause-held : goal.returns-clause-held
 returns-clause-held c = all_spelled _ _ _ _ _ _ _ c.in-None.ensures.steps.0 c.loop-stretch.invariant

@@ -10,7 +10,7 @@ use Rattle.mf_rows.proofs.band_sum.sum_of_bands.Goals.{After-split_at-in-Some}
 use Rattle.mf_rows.proofs.band_sum.sum_of_bands.Goals as goal
 
 pub loop-number-init : goal.loop-number-init
-loop-number-init c = rw c.new-sum.ensures.items (sum_none (rows_of_bands c.args.left.now) (rows_of_bands c.args.right.now) c.requires.left c.requires.right)
+loop-number-init c = rw (c.in_ok-reserve.ensures.items, c.new-sum.ensures.items) (sum_none (rows_of_bands c.args.left.now) (rows_of_bands c.args.right.now) c.requires.left c.requires.right)
 
 pub count_up_to-requires : goal.count_up_to-requires
 count_up_to-requires c = rows_left _ _ _ _ _ c.loop-number.invariant
@@ -39,7 +39,7 @@ split_right c =
 pub returns-in_err-push_sum-clause-too_large : goal.returns-in_err-push_sum-clause-too_large
 returns-in_err-push_sum-clause-too_large c =
     let step = (goal.at.returns-in_err-push_sum-clause-too_large c).After-split_at-in-Some in
-    let p = err_from_is_err_and c.from_residual.result c.from_residual.ensures.1 in
+    let p = err_from_is_err_and c.from_residual-in_err-push_sum.result c.from_residual-in_err-push_sum.ensures.1 in
     rw (p.1, p.2) (λ fault. unlawful_in_step _ _ _ _ _ c.loop-number.invariant _ _ _ _ _ (split_left step)
     (split_right step) (c.in_err-push_sum.ensures.too_large fault))
 

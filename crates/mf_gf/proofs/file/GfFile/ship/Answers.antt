@@ -1,10 +1,11 @@
-use Rattle.std.proofs.Common.{◌≡◌, ◌≤◌, rules, length, ap, sym, subst, ◌∙◌, w32, to_z, of_z, arith}
+use Rattle.std.proofs.Common.{◌≡◌, ◌≤◌, ℕ, List, [], ◌∷◌, ◌++◌, rules, length, ap, sym, subst, ◌∙◌, w32, to_z, of_z, arith}
 use Rattle.std.proofs.lemmas.Int.{ints}
-use Rattle.mf_gf.specs.Files.{shipments}
-use Rattle.mf_gf.specs.Keeping.{character}
+use Rattle.mf_gf.specs.Files.{Character, bytes_so_far, shipments}
+use Rattle.mf_gf.specs.Keeping.{Keeps, character}
 use Rattle.mf_gf.specs.Pixels.{black}
 use Rattle.mf_gf.specs.Spelling.{pointer, spell}
 use Rattle.mf_gf.proofs.Shipped.{bytes_so_far-kept, keeps-more, spell_some}
+use Rattle.mf_gf.proofs.file.GfFile.ship.Goals.{After-last_place-earlier}
 use Rattle.mf_gf.proofs.file.GfFile.ship.Goals as goal
 
 pub append-requires-clause-some : goal.append-requires-clause-some
@@ -22,26 +23,21 @@ returns-clause-shipped c = λ comment characters keeps.
     keeps-more c.args.self.now c.append.new.self comment characters (character c.args.code c.args.dx c.args.width c.args.picture.now)
     (rw (dx, width, place, c.of_black-bounds.ensures.value, spelled) at c.in_ok-append.ensures.appended) keeps
 
+whole : (c : After-last_place-earlier) (comment : List ℕ) (characters : List Character) → Keeps c.args.self.now comment characters
+    → bytes_so_far comment (characters ++ character c.args.code c.args.dx c.args.width c.args.picture.now ∷ [])
+    ≡ c.args.self.now.bytes.items ++ spell c.args.code (pointer c.last_place-earlier.result) (black c.args.picture.now)
+whole c comment characters keeps =
+    bytes_so_far-kept c.args.self.now comment characters (character c.args.code c.args.dx c.args.width c.args.picture.now) c.last_place-earlier.result
+    keeps (c.last_place-earlier.ensures (shipments comment characters) keeps.locators)
+
 pub returns-in_err-spelled-clause-too_long : goal.returns-in_err-spelled-clause-too_long
 returns-in_err-spelled-clause-too_long c = λ comment characters keeps.
-    let this = character c.args.code c.args.dx c.args.width c.args.picture.now in
-    let whole =
-    bytes_so_far-kept c.args.self.now comment characters this c.last_place-earlier.result keeps
-    (c.last_place-earlier.ensures (shipments comment characters) keeps.locators) in
-    rw whole (search rules)
+    rw (whole (goal.at.returns-in_err-spelled-clause-too_long c).After-last_place-earlier comment characters keeps) (search rules)
 
 pub returns-in_err-append-clause-too_long : goal.returns-in_err-append-clause-too_long
 returns-in_err-append-clause-too_long c = λ comment characters keeps.
-    let this = character c.args.code c.args.dx c.args.width c.args.picture.now in
-    let whole =
-    bytes_so_far-kept c.args.self.now comment characters this c.last_place-earlier.result keeps
-    (c.last_place-earlier.ensures (shipments comment characters) keeps.locators) in
-    rw whole (search rules)
+    rw (whole (goal.at.returns-in_err-append-clause-too_long c).After-last_place-earlier comment characters keeps) (search rules)
 
 pub returns-clause-too_long : goal.returns-clause-too_long
 returns-clause-too_long c = λ comment characters keeps.
-    let this = character c.args.code c.args.dx c.args.width c.args.picture.now in
-    let whole =
-    bytes_so_far-kept c.args.self.now comment characters this c.last_place-earlier.result keeps
-    (c.last_place-earlier.ensures (shipments comment characters) keeps.locators) in
-    rw whole (search rules)
+    rw (whole (goal.at.returns-clause-too_long c).After-last_place-earlier comment characters keeps) (search rules)

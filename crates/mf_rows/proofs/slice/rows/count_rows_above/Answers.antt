@@ -2,10 +2,11 @@ use Rattle.std.proofs.Common.{◌≡◌, true, false, to_z, of_z, w32, subst, ar
 use Rattle.std.specs.List.Sorted.{IsPartitionPoint}
 use Rattle.std.proofs.lemmas.Int.{ints}
 use Rattle.std.proofs.lemmas.Fn.{always_returns_same}
-use Rattle.mf_rows.proofs.BandsLemmas.{head_stands_above, IsPartitionedBy-head_stands_above, heads_above_split, heads_others_split}
+use Rattle.mf_rows.proofs.BandsLemmas.{head_stands_above, IsPartitionedBy-head_stands_above, heads_above_split, heads_others_split, none_above_first}
 use Rattle.mf_rows.proofs.slice.rows.count_rows_above.Goals as goal
+use Rattle.mf_rows.proofs.slice.rows.count_rows_above.Goals.{After-partition_point}
 
-split : (c : goal.After-partition_point)
+split : (c : After-partition_point)
     → IsPartitionPoint (λ head. head_stands_above c.args.y head ≡ true) (λ head. head_stands_above c.args.y head ≡ false) c.args.rows.heads.now c.partition_point.result
 split c =
     let heads = c.args.rows.heads.now in
@@ -14,8 +15,13 @@ split c =
     (c.partition_point.ensures.partitioned (head_stands_above (to_z w32 (of_z w32 c.args.y)))
     (search (rules, always_returns_same)) (IsPartitionedBy-head_stands_above _ c.args.rows.edges.now heads c.requires))
 
-pub returns-clause-above : goal.returns-clause-above
-returns-clause-above c = heads_above_split c.args.y _ c.args.rows.edges.now c.args.rows.heads.now c.partition_point.ensures.bound (split c).0
+pub returns-in_default-clause-above : goal.returns-in_default-clause-above
+returns-in_default-clause-above c = heads_above_split c.args.y _ c.args.rows.edges.now c.args.rows.heads.now c.partition_point.ensures.bound (split c).0
 
-pub returns-clause-others : goal.returns-clause-others
-returns-clause-others c = heads_others_split c.args.y _ c.args.rows.edges.now c.args.rows.heads.now (split c).1
+pub returns-in_default-clause-others : goal.returns-in_default-clause-others
+returns-in_default-clause-others c = heads_others_split c.args.y _ c.args.rows.edges.now c.args.rows.heads.now (split c).1
+
+pub returns-in-Some-clause-others : goal.returns-in-Some-clause-others
+returns-in-Some-clause-others c =
+    let item = c.in-Some.ensures.item in
+    none_above_first c.args.y c.args.rows.edges.now c.args.rows.heads.now c.in-Some.first.now c.requires item.3.0 item.1 (omega (arith, ints, c.if-first-y.true))

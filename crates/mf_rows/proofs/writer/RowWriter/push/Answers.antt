@@ -7,9 +7,9 @@ use Rattle.mf_rows.specs.FieldBands.{IsOfBand, AreOfBand}
 use Rattle.mf_rows.proofs.writer.RowWriter.push.Goals as goal
 use Rattle.mf_rows.proofs.writer.RowWriter.push.Goals.{In_ok-push, then-own-self+in_ok-next+in_ok-close_band, else-own-self}
 
--- the band of the row is open, and no row is lost
-opened : (c : In_ok-push) → (rows_of_bands c.if-own-self.self-inside.bands.items ++ c.if-own-self.self-inside.«open» ≡ c.args.self.now)
-    × AreOfBand c.if-own-self.self-inside.number c.if-own-self.self-inside.«open» × IsOfBand c.if-own-self.self-inside.number c.args.y
+-- the band of the row is being written, and no row is lost
+opened : (c : In_ok-push) → (rows_of_bands c.if-own-self.self-inside.bands.items ++ c.if-own-self.self-inside.rows ≡ c.args.self.now)
+    × AreOfBand c.if-own-self.self-inside.number c.if-own-self.self-inside.rows × IsOfBand c.if-own-self.self-inside.number c.args.y
 opened c =
     let own = to_z w32 (of_z w32 c.band_of-own.result) in
     let y_is : to_z w32 (of_z w32 c.args.y) ≡ c.args.y = omega (arith, ints) in
@@ -30,7 +30,7 @@ invariant_of-self-2 c =
     let y_is : to_z w32 (of_z w32 c.args.y) ≡ c.args.y = omega (arith, ints) in
     let before = opened c in
     rw (c.in_ok-push.ensures.pushed, y_is)
-    (All-push (λ row. IsOfBand c.if-own-self.self-inside.number row.y) c.if-own-self.self-inside.«open» row before.1 before.2)
+    (All-push (λ row. IsOfBand c.if-own-self.self-inside.number row.y) c.if-own-self.self-inside.rows row before.1 before.2)
 
 pub returns : goal.returns
 returns c =
@@ -38,5 +38,5 @@ returns c =
     let y_is : to_z w32 (of_z w32 c.args.y) ≡ c.args.y = omega (arith, ints) in
     let before = opened c in
     rw (c.in_ok-push.ensures.pushed, y_is)
-    (sym (append_assoc (rows_of_bands c.if-own-self.self-inside.bands.items) c.if-own-self.self-inside.«open» (row ∷ []))
+    (sym (append_assoc (rows_of_bands c.if-own-self.self-inside.bands.items) c.if-own-self.self-inside.rows (row ∷ []))
     ∙ ap (λ rs. rs ++ row ∷ []) before.0)

@@ -16,11 +16,11 @@ push_again-requires c = λ none. false≢true (sym c.if-not-is_empty.true ∙ c.
 pub invariant_of-self : goal.invariant_of-self
 invariant_of-self c = rw c.in_err-push_again.ensures.unchanged c.self.invariant
 
--- the edges of the open band's last row are those of the row
-last_is : (c : In_ok-push_again) → last_edges c.self.inside.«open» ≡ c.args.row.now.edges.now
+-- the edges of the last row of the band that is being written are those of the row
+last_is : (c : In_ok-push_again) → last_edges c.self.inside.rows ≡ c.args.row.now.edges.now
 last_is c =
-    let some : c.self.inside.«open» ≢ [] = λ none. false≢true (sym c.if-not-is_empty.true ∙ c.is_empty.ensures.1 none) in
-    sym (last_edges-back (rows_of_bands c.self.inside.bands.items) c.self.inside.«open» some) ∙ rw c.self.view_is c.requires.last
+    let some : c.self.inside.rows ≢ [] = λ none. false≢true (sym c.if-not-is_empty.true ∙ c.is_empty.ensures.1 none) in
+    sym (last_edges-back (rows_of_bands c.self.inside.bands.items) c.self.inside.rows some) ∙ rw c.self.view_is c.requires.last
 
 pub invariant_of-self-then-band_of-self : goal.invariant_of-self-then-band_of-self
 invariant_of-self-then-band_of-self c =
@@ -28,11 +28,11 @@ invariant_of-self-then-band_of-self c =
     let y_is : to_z w32 (of_z w32 c.args.y) ≡ c.args.y = omega (arith, ints) in
     let same : c.band_of.result ≡ c.self.inside.number = omega (arith, ints, c.if-band_of-self.true) in
     rw (c.in_ok-push_again.ensures.pushed, y_is, last_is c)
-    (All-push (λ row. IsOfBand c.self.inside.number row.y) c.self.inside.«open» row c.self.invariant (rw (← same, ← y_is) c.band_of.ensures))
+    (All-push (λ row. IsOfBand c.self.inside.number row.y) c.self.inside.rows row c.self.invariant (rw (← same, ← y_is) c.band_of.ensures))
 
 pub returns-then-band_of-self : goal.returns-then-band_of-self
 returns-then-band_of-self c =
     let row : EdgeRow = record { y = c.args.y; edges = c.args.row.now.edges.now } in
     let y_is : to_z w32 (of_z w32 c.args.y) ≡ c.args.y = omega (arith, ints) in
     rw (c.in_ok-push_again.ensures.pushed, y_is, last_is c)
-    (sym (append_assoc (rows_of_bands c.self.inside.bands.items) c.self.inside.«open» (row ∷ [])) ∙ ap (λ rs. rs ++ row ∷ []) c.self.view_is)
+    (sym (append_assoc (rows_of_bands c.self.inside.bands.items) c.self.inside.rows (row ∷ [])) ∙ ap (λ rs. rs ++ row ∷ []) c.self.view_is)

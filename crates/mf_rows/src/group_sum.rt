@@ -1,0 +1,119 @@
+//! The sum of groups, and of groups and bands.
+ghost use Rattle.std.specs.Prelude.{◌≡◌, ◌≢◌, IfOk, IfErr};
+ghost use Rattle.mf_rows.specs.Bands.{rows_of_bands};
+ghost use Rattle.mf_rows.specs.EdgeRows.{AreRows};
+ghost use Rattle.mf_rows.specs.Groups.{AreGroups, group_found, rows_at_place, rows_of_groups};
+ghost use Rattle.mf_rows.specs.Sums.{weight_in_all, HaveRowWeights, IsUnlawfulSomewhere};
+
+use crate::band::Band;
+use crate::band_sum::sum_of_bands;
+use crate::group::{GROUP_COUNT, Group};
+use crate::groups::{group_at, group_of, share_group, split_at_place};
+use mf_edges::AddFault;
+use std::alloc::Global;
+use std::sync::Arc;
+
+/// The groups of the sum of two lists. Where only one of them has a group, or a band, it is shared. Refused with
+/// `WeightTooLarge` where a weight would exceed 32767 in absolute value, and with `OutOfMemory` where an allocation fails.
+pub(crate) fn sum_of_groups(
+    alloc: Global,
+    left: &[Option<Arc<Group>>],
+    right: &[Option<Arc<Group>>],
+) -> Result<Vec<Option<Arc<Group>>>, AddFault>
+    requires left { AreGroups left.now }
+    requires right { AreGroups right.now }
+    ensures groups { IfOk result (λ sum. AreGroups sum.items) }
+    ensures weights { IfOk result (λ sum. HaveRowWeights (weight_in_all (rows_of_groups left.now) (rows_of_groups right.now)) (rows_of_groups sum.items)) }
+    ensures too_large { IfErr result (λ fault. fault ≢ AddFault.OutOfMemory
+        → IsUnlawfulSomewhere (weight_in_all (rows_of_groups left.now) (rows_of_groups right.now))) }
+{
+    let count = left.len().max(right.len());
+    let mut sum = Vec::new(alloc);
+    sum.reserve(count)?;
+    for place in 0..count {
+        sum.push(sum_at(alloc, group_at(left, place), group_at(right, place))?)?;
+    }
+    Ok(sum)
+}
+
+/// The sum of the groups at one place.
+fn sum_at(
+    alloc: Global,
+    left: Option<&Arc<Group>>,
+    right: Option<&Arc<Group>>,
+) -> Result<Option<Arc<Group>>, AddFault>
+    requires left { AreRows (group_found left) }
+    requires right { AreRows (group_found right) }
+    ensures rows { IfOk result (λ sum. AreRows (rows_at_place sum)) }
+    ensures weights { IfOk result (λ sum. HaveRowWeights (weight_in_all (group_found left.entry) (group_found right.entry)) (rows_at_place sum)) }
+    ensures too_large { IfErr result (λ fault. fault ≢ AddFault.OutOfMemory
+        → IsUnlawfulSomewhere (weight_in_all (group_found left.entry) (group_found right.entry))) }
+{
+    match (left, right) {
+        (Some(left), Some(right)) => {
+            let bands = sum_of_bands(alloc, &left.bands, &right.bands)?;
+            Ok(group_of(alloc, bands)?)
+        }
+        (Some(group), None) => Ok(share_group(Some(group))?),
+        (None, group) => Ok(share_group(group)?),
+    }
+}
+
+/// The groups of the sum of groups and bands, whose own groups are not made. Where only one of both has a band, it is shared, and
+/// so is a group at whose place there are no bands. Refused with `WeightTooLarge` where a weight would exceed 32767 in absolute
+/// value, and with `OutOfMemory` where an allocation fails.
+pub(crate) fn sum_with_bands(
+    alloc: Global,
+    groups: &[Option<Arc<Group>>],
+    bands: &[Arc<Band>],
+) -> Result<Vec<Option<Arc<Group>>>, AddFault>
+    requires groups { AreGroups groups.now }
+    requires bands { AreRows (rows_of_bands bands.now) }
+    ensures groups { IfOk result (λ sum. AreGroups sum.items) }
+    ensures weights { IfOk result (λ sum. HaveRowWeights (weight_in_all (rows_of_groups groups.now) (rows_of_bands bands.now)) (rows_of_groups sum.items)) }
+    ensures too_large { IfErr result (λ fault. fault ≢ AddFault.OutOfMemory
+        → IsUnlawfulSomewhere (weight_in_all (rows_of_groups groups.now) (rows_of_bands bands.now))) }
+{
+    let mut sum = Vec::new(alloc);
+    sum.reserve(GROUP_COUNT)?;
+    let mut rest = bands;
+    for place in 0..GROUP_COUNT {
+        if rest.is_empty() && groups.len() <= place {
+            break;
+        }
+        let (own, others) = split_at_place(rest, place);
+        sum.push(sum_with_own(alloc, group_at(groups, place), own)?)?;
+        rest = others;
+    }
+    Ok(sum)
+}
+
+/// The sum of the group at a place, where there is one, and of the bands there.
+fn sum_with_own(
+    alloc: Global,
+    group: Option<&Arc<Group>>,
+    bands: &[Arc<Band>],
+) -> Result<Option<Arc<Group>>, AddFault>
+    requires group { AreRows (group_found group) }
+    requires bands { AreRows (rows_of_bands bands.now) }
+    ensures rows { IfOk result (λ sum. AreRows (rows_at_place sum)) }
+    ensures weights { IfOk result (λ sum. HaveRowWeights (weight_in_all (group_found group.entry) (rows_of_bands bands.now)) (rows_at_place sum)) }
+    ensures too_large { IfErr result (λ fault. fault ≢ AddFault.OutOfMemory
+        → IsUnlawfulSomewhere (weight_in_all (group_found group.entry) (rows_of_bands bands.now))) }
+{
+    if bands.is_empty() {
+        return Ok(share_group(group)?);
+    }
+    let sum = sum_of_bands(alloc, bands_found(group), bands)?;
+    Ok(group_of(alloc, sum)?)
+}
+
+/// The bands of a group that was found, none where none was.
+fn bands_found(group: Option<&Arc<Group>>) -> &[Arc<Band>]
+    ensures { rows_of_bands result.now ≡ group_found group.entry }
+{
+    match group {
+        Some(group) => &group.bands,
+        None => &[],
+    }
+}
