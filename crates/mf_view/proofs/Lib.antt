@@ -1,4 +1,5 @@
 mod Drawn
+mod FontsAsked
 mod Messages
 mod Reports
 mod Shown

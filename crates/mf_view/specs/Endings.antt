@@ -1,11 +1,14 @@
 -- What the program has written where it ends well.
-use Rattle.std.specs.Prelude.{◌≡◌, Bool, true, false, ℕ, List, Option, None, Some, codes, min, option_map, string_bytes}
+use Rattle.std.specs.Prelude.{◌≡◌, ◌≢◌, Bool, true, false, ℕ, List, [], Option, None, Some, IsSome, codes, min, option_map, string_bytes}
 use Rattle.std.specs.Io.KnownBytes.{Appends}
 use Rattle.clap.specs.Words.{Text}
 use Rattle.mf_frame.specs.Canvases.{Size}
 use Rattle.mf_frame.specs.declared.tile.Style.{Style}
 use Rattle.mf_frame.specs.declared.tile.Style.TheVariants.{Colored, Plain}
 use Rattle.mf_gf.specs.declared.file.GfFile.{GfFile}
+use Rattle.mf_gf.specs.Files.{Character, IsLongFile}
+use Rattle.mf_gf.specs.Keeping.{Keeps, max_bytes_of}
+use Rattle.mf_view.specs.Fonts.{font_words}
 use Rattle.mf_view.specs.Performances.{Shows, Streams}
 use Rattle.mf_view_words.specs.Requests.{IsRequest}
 use Rattle.mf_view_words.specs.Texts.{help_text}
@@ -28,10 +31,17 @@ IsShownInto None style canvas s file = Shows style canvas s file
 IsShownInto (Some path) style canvas s file =
     (s.tells ≡ s.told) × (empty : Option (List ℕ)) × (full : Option (List ℕ)) × Shows style canvas (record s { told = empty; tells = full }) file
 
--- the script was performed and shown as the words ask for it
-abbrev pub IsWatched : Words → Streams → Type 0
-IsWatched words s =
-    (file : GfFile) × IsShownInto (option_map string_bytes words.transcript) (style_in words.frames) (size_in words.columns words.rows) s file
+-- the font file of a script is not too long, and where the words ask for it, it has a character
+pub record HasFont (words : Words) (file : GfFile) : Type 0 where
+  pub some : (characters : List Character) → Keeps file [] characters → IsSome words.gf → characters ≢ []
+  pub fits : (characters : List Character) → Keeps file [] characters
+      → IsLongFile (max_bytes_of file) (font_words words.design_size words.resolution) [] characters → ⊥
+
+-- the script was performed and shown as the words ask for it, and so is its font file
+pub record IsWatched (words : Words) (s : Streams) : Type 0 where
+  pub file : GfFile
+  pub shown : IsShownInto (option_map string_bytes words.transcript) (style_in words.frames) (size_in words.columns words.rows) s file
+  pub font : HasFont words file
 
 -- what was asked for is written: the help text, the version, or what a performance writes
 abbrev pub EndsAs : Request → Streams → Type 0

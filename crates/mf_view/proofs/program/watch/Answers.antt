@@ -1,6 +1,9 @@
-use Rattle.std.proofs.Common.{option_map, string_bytes}
+use Rattle.std.proofs.Common.{[], is_some, ap, sym, option_map, string_bytes, ◌∙◌}
+use Rattle.std.proofs.lemmas.Bool.{false≢true}
+use Rattle.mf_gf.specs.Files.{file_if_any}
 use Rattle.mf_view.specs.Performances.{streams_of}
-use Rattle.mf_view.proofs.Shown.{on-ok-known, shown-as}
+use Rattle.mf_view.proofs.FontsAsked.{on-ok-from}
+use Rattle.mf_view.proofs.Shown.{shown-as}
 use Rattle.mf_view.proofs.program.watch.Goals as goal
 
 pub returns-in-Some-clause-done : goal.returns-in-Some-clause-done
@@ -8,12 +11,25 @@ returns-in-Some-clause-done g c =
     let s =
     streams_of g.R.Read.remaining c.args.reader.now g.W.Write.contents c.args.screen.now c.perform_into.new.screen
     g.E.Write.contents c.args.errors.now c.perform_into.new.errors in
-    on-ok-known c.write_font.result _
-    (c.in_ok-file.file, shown-as (option_map string_bytes c.args.words.transcript) _ _ _ _ s c.in_ok-file.file c.in_ok-showing.ensures c.in_ok-file.ensures.done)
+    on-ok-from c.write_font.result _ (λ ok. record {
+      file = c.in_ok-file.file;
+      shown = shown-as (option_map string_bytes c.args.words.transcript) _ _ _ _ s c.in_ok-file.file c.in_ok-showing.ensures c.in_ok-file.ensures.done;
+      font = record {
+        some = λ characters keeps asked none.
+            ok _ (c.write_font.ensures.none (c.in_ok-bytes.ensures.some characters keeps ∙ ap (file_if_any c.font_words.result []) none));
+        fits = λ characters keeps long. let refused = (c.in_ok-bytes.ensures.too_long characters keeps).0 (rw c.font_words.ensures long) in cc;
+      };
+    })
 
 pub returns-in-None-clause-done : goal.returns-in-None-clause-done
 returns-in-None-clause-done g c =
     let s =
     streams_of g.R.Read.remaining c.args.reader.now g.W.Write.contents c.args.screen.now c.perform_into.new.screen
-    g.E.Write.contents c.args.errors.now c.perform_into.new.errors in
-    (c.in_ok-file.file, shown-as (option_map string_bytes c.args.words.transcript) _ _ _ _ s c.in_ok-file.file c.in_ok-showing.ensures c.in_ok-file.ensures.done)
+    g.E.Write.contents c.args.errors.now c.perform_into.new.errors in record {
+      file = c.in_ok-file.file;
+      shown = shown-as (option_map string_bytes c.args.words.transcript) _ _ _ _ s c.in_ok-file.file c.in_ok-showing.ensures c.in_ok-file.ensures.done;
+      font = record {
+        some = λ characters keeps asked none. false≢true (sym (ap is_some c.in-None.is) ∙ asked);
+        fits = λ characters keeps long. let refused = (c.in_ok-bytes.ensures.too_long characters keeps).0 (rw c.font_words.ensures long) in cc;
+      };
+    }
