@@ -1,5 +1,5 @@
 //! The sum of two rows of edges.
-ghost use Rattle.std.specs.Prelude.{◌≡◌, ◌≢◌, ◌≤◌, ◌<ℤ◌, IfOk, IfErr, OnOk, OnErr, All, drop, length, take};
+ghost use Rattle.std.specs.Prelude.{◌≡◌, ◌≢◌, ◌≤◌, ◌<ℤ◌, ◌++◌, IfOk, IfErr, OnOk, OnErr, All, drop, length, take};
 ghost use Rattle.mf_geom.specs.Coordinates.{least_coordinate};
 ghost use Rattle.mf_edges.specs.LawfulWeights.{IsLawfulWeight};
 ghost use Rattle.mf_edges.specs.Edges.{AreEdges, AreEdgesFrom};
@@ -32,7 +32,7 @@ pub fn push_sum_of_edges(sum: &mut Vec<Edge>, left: &[Edge], right: &[Edge]) -> 
     while let Some((change, changes)) = right.split_first() {
         let passed = pass_edges(left, change.x, weight)?;
         let (kept, others) = left.split_at(passed.count);
-        sum.extend_from_slice(kept)?;
+        append(sum, kept)?;
         let (edge, rest) = split_at(others, change.x);
         let more = edge + change.weight;
         weight = passed.weight + more;
@@ -71,7 +71,7 @@ pub fn push_with_changes(
     let (mut left, mut right) = (left, right);
     while let Some((change, changes)) = right.split_first() {
         let (kept, others) = left.split_at(count_left_of(left, change.x));
-        edges.extend_from_slice(kept)?;
+        append(edges, kept)?;
         let (edge, rest) = split_at(others, change.x);
         push_unless_zero(
             edges,
@@ -84,6 +84,20 @@ pub fn push_with_changes(
     }
     edges.extend_from_slice(left)?;
     Ok(())
+}
+
+/// Appends edges to a list of edges. Where two rows have many edges there is mostly one between two changes, or none, and a push costs
+/// less than a copy of a slice.
+#[inline(always)]
+fn append(list: &mut Vec<Edge>, edges: &[Edge]) -> Result<(), OutOfMemory>
+    ensures appended { OnOk result (list.new.items ≡ list.old.items ++ edges.now) }
+    ensures unchanged { OnErr result (list.new.items ≡ list.old.items) }
+{
+    match edges {
+        [] => Ok(()),
+        [edge] => Ok(list.push(*edge)?),
+        _ => Ok(list.extend_from_slice(edges)?),
+    }
 }
 
 /// The number of edges to the left of column x, which are the first ones.
