@@ -10,7 +10,7 @@ ghost use Rattle.mf_watch.specs.Watching.{AreStarted, viewer_count};
 use crate::fault::RunFault;
 use crate::outcome::Outcome;
 use crate::progress::Progress;
-use crate::script::{CHUNK_SIZE, finished};
+use crate::script::{CHUNK_SIZE, finish};
 use crate::settings::Settings;
 use mf_watch::{Gate, Watching};
 use std::alloc::Global;
@@ -101,6 +101,6 @@ fn perform_watched<S: Wait + Threads, R: Read, W: Write>(
     let shown = ended.show(alloc, writer, joined);
     let file = ended.file(rt);
     let seen = shown?;
-    let gf = finished(file, settings.font)?;
+    let gf = finish(file, settings.font)?;
     Ok(Outcome { gf, seen })
 }

@@ -41,7 +41,7 @@ pub fn run<S: Wait, R: Read, W: Write>(
     let mut memory = vec![in alloc; 0u8; CHUNK_SIZE]?;
     let (progress, _) = Progress::new(rt, alloc, settings, 0)?;
     let ended = progress.complete(rt, alloc, reader, writer, memory.as_mut_slice())?;
-    let gf = finished(ended.file(rt), settings.font)?;
+    let gf = finish(ended.file(rt), settings.font)?;
     Ok(Outcome {
         gf,
         seen: Vec::new(alloc),
@@ -50,7 +50,7 @@ pub fn run<S: Wait, R: Read, W: Write>(
 
 /// The font file of the shipped characters, if there are any. Refused with `FileTooLong` where it would have more bytes than it
 /// may have, and with `OutOfMemory` where an allocation fails.
-pub fn finished(file: GfFile, font: FontWords) -> Result<Option<GfBytes>, RunFault>
+pub fn finish(file: GfFile, font: FontWords) -> Result<Option<GfBytes>, RunFault>
     ensures some { IfOk result (λ gf. (characters : List Character) → Keeps file [] characters → gf ≡ file_if_any font [] characters) }
     ensures too_long { (characters : List Character) → Keeps file [] characters
         → IsLongFile (max_bytes_of file) font [] characters ↔ (result ≡ Err RunFault.FileTooLong) }
