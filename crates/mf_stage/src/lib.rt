@@ -3,14 +3,14 @@
 #![tactic(auto)]
 
 mod fault;
+mod limits;
 mod line;
 mod pace;
 mod plate;
-mod settings;
 mod stage;
 
 pub use fault::StageFault;
+pub use limits::Limits;
 pub use pace::Pace;
 pub use plate::{Image, Plate, Plates};
-pub use settings::Settings;
 pub use stage::{Publication, Stage};

@@ -1,8 +1,8 @@
-//! The limits of a stage.
+//! The limits of a script.
 
-/// The limits of a script.
+/// How much a script may do.
 #[derive(Clone, Copy, Debug, PartialEq, Eq)]
-pub struct Settings {
+pub struct Limits {
     /// The greatest number of operations that `currentpicture` accepts.
     pub max_ops: u32,
     /// The greatest number of bytes of the font file; more than 2,147,483,647 count as that. With fewer than 3 nothing is

@@ -9,10 +9,10 @@ ghost use Rattle.mf_stage.specs.Scripts.{IsPerformed, Performs, PerformsAll, Sti
 ghost use Rattle.mf_stage.specs.Stages.{StandsFor, identity, limits, plates_of, session_of};
 
 use crate::fault::StageFault;
+use crate::limits::Limits;
 use crate::line::{next_line, publishes, without_ending};
 use crate::pace::Pace;
 use crate::plate::{Plate, Plates};
-use crate::settings::Settings;
 use mf_gf::{GfFault, GfFile};
 use mf_live::{Desk, Ended};
 use mf_session::Session;
@@ -43,17 +43,17 @@ impl Stage {
     pub fn new<S: Wait>(
         rt: &S,
         alloc: Global,
-        settings: &Settings,
+        script_limits: &Limits,
         plates: Option<Plates>,
     ) -> Result<(Stage, Desk), StageFault>
         ensures start { IfOk result (λ made. StandsFor made.0 start) }
-        ensures limits { IfOk result (λ made. limits made.0 ≡ limits_of settings.now.max_ops settings.now.max_bytes) }
+        ensures limits { IfOk result (λ made. limits made.0 ≡ limits_of script_limits.now.max_ops script_limits.now.max_bytes) }
         ensures identity { IfOk result (λ made. desk_identity made.1 ≡ identity made.0) }
         ensures plates { IfOk result (λ made. plates_of made.0 ≡ plates) }
-        ensures too_long { (settings.now.max_bytes < 3) ↔ (result ≡ Err StageFault.FileTooLong) }
+        ensures too_long { (script_limits.now.max_bytes < 3) ↔ (result ≡ Err StageFault.FileTooLong) }
         ensures fault { IfErr result (λ fault. (fault ≡ StageFault.FileTooLong) ⊎ (fault ≡ StageFault.OutOfMemory)) }
     {
-        match Session::new(rt, alloc, 1, settings.max_ops, settings.max_bytes) {
+        match Session::new(rt, alloc, 1, script_limits.max_ops, script_limits.max_bytes) {
             Ok((session, desk)) => Ok((Stage { session, plates }, desk)),
             Err(GfFault::FileTooLong) => Err(StageFault::FileTooLong),
             Err(_) => Err(StageFault::OutOfMemory),

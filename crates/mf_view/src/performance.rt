@@ -20,7 +20,7 @@ use mf_frame::{Canvas, Style};
 use mf_gf::GfFile;
 use mf_live::Ended;
 use mf_session::{MAX_BYTES, MAX_OPS};
-use mf_stage::{Pace, Plates, Settings, Stage, StageFault};
+use mf_stage::{Limits, Pace, Plates, Stage, StageFault};
 use std::alloc::Global;
 use std::io::{Read, Write};
 use std::rt::Files;
@@ -29,7 +29,7 @@ use std::sync::atomic::{AtomicBool, Ordering};
 use std::thread::{Threads, join_mut};
 
 /// The limits of a script.
-const SETTINGS: Settings = Settings {
+const LIMITS: Limits = Limits {
     max_ops: MAX_OPS,
     max_bytes: MAX_BYTES,
 };
@@ -81,7 +81,7 @@ pub fn perform<
         style,
         plates,
     } = showing;
-    let (stage, mut desk) = Stage::new(rt, alloc, &SETTINGS, plates)?;
+    let (stage, mut desk) = Stage::new(rt, alloc, &LIMITS, plates)?;
     match desk.viewer() {
         Ok(viewer) => {
             let easel = Easel::new(viewer, canvas, style);

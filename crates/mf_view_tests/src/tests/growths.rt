@@ -3,13 +3,13 @@ use super::assertions::assert_same;
 use mf_easel::{Easel, EaselFault};
 use mf_frame::{Canvas, Style};
 use mf_live::Desk;
-use mf_stage::{Plates, Settings, Stage, StageFault};
+use mf_stage::{Limits, Plates, Stage, StageFault};
 use mf_testing::{Sink, grow_again, refuse_growths};
 use std::alloc::Global;
 use std::process::Abort;
 use std::sync::Wait;
 
-const SETTINGS: Settings = Settings {
+const LIMITS: Limits = Limits {
     max_ops: 10,
     max_bytes: 1000,
 };
@@ -21,7 +21,7 @@ const FRAME: &str = "▀▀\nrevision 1  totalweight 2\ncolumns 1..2  rows 1..1 
 
 /// A stage whose picture has two pixels.
 fn stage_and_desk<R: Abort + Wait>(rt: &R, alloc: Global, plates: Option<Plates>) -> (Stage, Desk) {
-    let made = Stage::new(rt, alloc, &SETTINGS, plates);
+    let made = Stage::new(rt, alloc, &LIMITS, plates);
     let (mut stage, desk) = made.expect(rt, "there is room for a stage");
     answer(rt, alloc, &mut stage, CONTOUR);
     (stage, desk)
