@@ -199,11 +199,14 @@ impl RowList {
         Ok(())
     }
 
-    /// Gives back the room that cancelled edges have left.
+    /// Gives back the room for edges that is left, where it is more than an eighth: a list that grows has up to twice the room that it
+    /// needs, and a picture that was moved or culled keeps its lists.
     pub(crate) fn give_back_room(&mut self)
         ensures { self.new ≡ self.old }
     {
-        give_back_room(&mut self.edges);
+        if self.edges.len() < self.edges.capacity() / 8 * 7 {
+            self.edges.shrink_to_fit();
+        }
     }
 }
 
