@@ -149,21 +149,6 @@ impl Picture {
         self.runs().nth(k)
     }
 
-    /// The sum of this picture and another, as `add` makes it: the weight of each pixel is the sum of both. Both are
-    /// unchanged. It shares the bands that only one of them has. Refused with `WeightTooLarge` where a weight would
-    /// exceed 32767 in absolute value, and with `OutOfMemory` where an allocation fails; never refused where both are
-    /// blank.
-    pub fn plus(&self, alloc: Global, other: &Picture) -> Result<Picture, AddFault>
-        ensures weights { IfOk result (HasWeights (sum_at self.now other.now)) }
-        ensures blank { self.now ≡ [] → other.now ≡ [] → IsOk result }
-        ensures lawful { IfOk result IsPicture }
-        ensures too_large { IfErr result (λ fault. fault ≢ AddFault.OutOfMemory → IsUnlawfulSomewhere (sum_at self.now other.now)) }
-    {
-        let mut sum = self.copy(alloc)?;
-        sum.add(alloc, other)?;
-        Ok(sum)
-    }
-
     /// Adds another picture to this one, as `addto .. also` does (The METAFONTbook, chapter 13; mf.web: `merge_edges`):
     /// the weight of each pixel is then the sum of both, and the other picture is unchanged. Bands that only one of
     /// them has stay as they are, or are shared. Refused with `WeightTooLarge` where a weight would exceed 32767 in

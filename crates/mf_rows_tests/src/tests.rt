@@ -21,7 +21,9 @@ mod sums;
 
 use assertions::{assert_holds, assert_same};
 use mf_base::OutOfMemory;
+use mf_edges::AddFault;
 use mf_rows::{Box4, Picture, RowBuilder, Run};
+use std::alloc::Global;
 use std::fmt::Debug;
 use std::process::Abort;
 
@@ -51,6 +53,13 @@ fn push_all(rt: &impl Abort, builder: &mut RowBuilder, runs: &[Run]) {
 /// The picture that was made; there must have been room for it.
 fn made(rt: &impl Abort, picture: Result<Picture, OutOfMemory>) -> Picture {
     picture.expect(rt, "there is room for the picture")
+}
+
+/// The sum of two pictures: the second one is added to a copy of the first.
+fn sum_of(alloc: Global, left: &Picture, right: &Picture) -> Result<Picture, AddFault> {
+    let mut sum = left.copy(alloc)?;
+    sum.add(alloc, right)?;
+    Ok(sum)
 }
 
 /// The picture of these runs, each of which must fit.

@@ -1,7 +1,7 @@
 //! Sums of pictures that have bands, or groups, at the same places and at others.
 
 use super::slow::{SlowPicture, both_forms};
-use super::{assert_runs_in, copy_of, made, make_run, picture_of};
+use super::{assert_runs_in, copy_of, made, make_run, picture_of, sum_of};
 use crate::tests::assertions::assert_same;
 use mf_base::OutOfMemory;
 use mf_edges::{AddFault, Choice, WeightMap};
@@ -81,7 +81,7 @@ fn assert_sum<R: Abort + AllocGlobal>(
 ) -> Picture {
     let (one, other) = (picture_of(rt, left), picture_of(rt, right));
     let (_, slow) = both_forms(rt, runs);
-    let sum = one.plus(rt.alloc(), &other);
+    let sum = sum_of(rt.alloc(), &one, &other);
     slow.assert_answers_of(rt, 0, &sum.expect(rt, "the sum is made"));
     let mut sum = copy_of(rt, &other);
     assert_same(rt, sum.add(rt.alloc(), &one), Ok(()), "the sum");
@@ -175,7 +175,7 @@ fn assert_refused<R: Abort + AllocGlobal>(rt: &R, y: i32) {
     let (mut one, slow_one) = forms_down_to(rt, 3, y, 32767);
     let (mut other, slow_other) = forms_down_to(rt, -3, y, 1);
     let refusal = Err(AddFault::WeightTooLarge);
-    assert_same(rt, one.plus(rt.alloc(), &other).err(), refusal.err(), y);
+    assert_same(rt, sum_of(rt.alloc(), &one, &other).err(), refusal.err(), y);
     assert_same(rt, one.add(rt.alloc(), &other), refusal, y);
     slow_one.assert_answers_of(rt, 0, &one);
     assert_same(rt, other.add(rt.alloc(), &one), refusal, y);

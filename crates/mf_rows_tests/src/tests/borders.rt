@@ -4,7 +4,7 @@
 use super::moves::{assert_stays_inside, columns_mirrored, rows_mirrored, stretch, turned};
 use super::rectangle_sums::assert_sum;
 use super::rectangles::{Rectangle, at_once, make_rectangle, negated};
-use super::{assert_all_runs, assert_bounds, assert_weights, made, make_run};
+use super::{assert_all_runs, assert_bounds, assert_weights, made, make_run, sum_of};
 use mf_base::OutOfMemory;
 use mf_edges::{FIELD_END, FIELD_START, Stretch, WeightMap};
 use mf_rows::{Box4, Picture, Run};
@@ -119,7 +119,7 @@ fn assert_cancels<R: Abort + AllocGlobal>(rt: &R, rectangle: Rectangle) {
     let picture = at_once(rt, &[rectangle]);
     let negative = made(rt, picture.map_weights(rt.alloc(), &WeightMap::Negate));
     assert_shows(rt, &negative, negated(rectangle));
-    let none = picture.plus(rt.alloc(), &negative);
+    let none = sum_of(rt.alloc(), &picture, &negative);
     let none = none.expect(rt, "opposite weights cancel");
     assert_all_runs(rt, 0, &none, &[]);
     assert_bounds(rt, &none, None);

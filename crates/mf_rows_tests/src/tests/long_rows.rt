@@ -8,7 +8,7 @@ use super::slow::{SlowPicture, both_forms};
 use super::sums::choice;
 use super::{
     assert_all_runs, assert_bounds, assert_total, assert_weights, copy_of, made, make_run,
-    picture_of,
+    picture_of, sum_of,
 };
 use crate::tests::assertions::assert_same;
 use mf_base::OutOfMemory;
@@ -79,7 +79,7 @@ const SUMS: [(Stripes, Stripes); 7] = [
 fn assert_stripes_added<R: Abort + AllocGlobal>(rt: &R, y: i32, left: Stripes, right: Stripes) {
     let (one, other) = (striped(rt, y, left), striped(rt, y, right));
     let stripes = (left.0.wrapping_add(right.0), left.1.wrapping_add(right.1));
-    let sum = one.plus(rt.alloc(), &other).expect(rt, "the sum is made");
+    let sum = sum_of(rt.alloc(), &one, &other).expect(rt, "the sum is made");
     assert_striped(rt, &sum, y, stripes);
     let mut sum = copy_of(rt, &other);
     assert_same(rt, sum.add(rt.alloc(), &one), Ok(()), (left, right));
@@ -225,11 +225,11 @@ fn assert_pair<R: Abort + AllocGlobal>(
     (right, slow_right): &(Picture, SlowPicture),
 ) {
     let slow = slow_sum(rt.alloc(), slow_left, slow_right, 1).expect(rt, "there is room");
-    let sum = left.plus(rt.alloc(), right).expect(rt, "the sum is made");
+    let sum = sum_of(rt.alloc(), left, right).expect(rt, "the sum is made");
     assert_runs_of(rt, 0, &sum, &slow);
     let slow = slow_sum(rt.alloc(), slow_left, slow_right, -1).expect(rt, "there is room");
     let negative = made(rt, right.map_weights(rt.alloc(), &WeightMap::Negate));
-    let sum = left.plus(rt.alloc(), &negative);
+    let sum = sum_of(rt.alloc(), left, &negative);
     assert_runs_of(rt, 1, &sum.expect(rt, "the sum is made"), &slow);
 }
 

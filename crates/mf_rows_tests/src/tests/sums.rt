@@ -5,7 +5,7 @@ ghost use Rattle.mf_edges.specs.WeightMaps.{IsWeightMap};
 
 use super::generated::{ROWS, SMALL_WEIGHTS, STARTS, WEIGHTS, forms_of_weights, random_forms};
 use super::slow::SlowPicture;
-use super::{assert_equality, assert_total, made};
+use super::{assert_equality, assert_total, made, sum_of};
 use crate::tests::assertions::assert_holds;
 use mf_base::OutOfMemory;
 use mf_edges::{AddFault, Choice, WeightMap};
@@ -48,7 +48,7 @@ fn assert_sum<R: Abort + AllocGlobal>(
     right: &Picture,
     slow: &Option<SlowPicture>,
 ) {
-    match (left.plus(rt.alloc(), right), slow) {
+    match (sum_of(rt.alloc(), left, right), slow) {
         (Ok(sum), Some(slow)) => slow.assert_answers_of(rt, case, &sum),
         (Err(AddFault::WeightTooLarge), None) => {}
         _ => panic!(rt; "the refusal in case {case}"),
@@ -101,9 +101,7 @@ fn sums_are_those_of_their_slow_forms(rt: HostRuntime) {
 fn assert_negated<R: Abort + AllocGlobal>(rt: &R, picture: &Picture, slow: &SlowPicture) {
     let negated = made(rt, picture.map_weights(rt.alloc(), &WeightMap::Negate));
     assert_total(rt, &negated, slow.total().wrapping_neg());
-    let none = picture
-        .plus(rt.alloc(), &negated)
-        .expect(rt, "opposite weights cancel");
+    let none = sum_of(rt.alloc(), picture, &negated).expect(rt, "opposite weights cancel");
     assert_equality(
         rt,
         &none,

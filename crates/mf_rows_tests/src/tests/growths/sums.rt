@@ -39,19 +39,6 @@ fn assert_out_of_memory<T>(rt: &impl Abort, answer: &Result<T, AddFault>) {
 }
 
 #[test]
-fn a_sum_is_made(rt: HostRuntime) {
-    let (picture, other) = (picture_of(&rt, APART), picture_of(&rt, ADDED));
-    refuse_growths(rt.alloc());
-    let sum = picture.plus(rt.alloc(), &other);
-    grow_again(rt.alloc());
-    assert_out_of_memory(&rt, &sum);
-    assert_runs(&rt, &picture, APART);
-    assert_runs(&rt, &other, ADDED);
-    let sum = sum.or_else(|_| picture.plus(rt.alloc(), &other));
-    assert_runs(&rt, &sum.expect(&rt, "there is room for the sum"), SUM);
-}
-
-#[test]
 fn a_picture_is_added(rt: HostRuntime) {
     let (mut picture, other) = (picture_of(&rt, APART), picture_of(&rt, ADDED));
     refuse_growths(rt.alloc());
