@@ -1,5 +1,5 @@
 -- The reach of the sum of two rows, and changes that are added in reach.
-use Rattle.std.proofs.Common.{◌≡◌, ◌≤◌, nat_abs, Bool, true, false, ℕ, zero, suc, ℤ, take, drop, length, int_le, int_lt, T, Fits, w16, FitsSigned, to_z, of_z, w32, neg_ℤ, pos, ◌+ℤ◌, ◌≤ℤ◌, ◌<ℤ◌, List, [], ◌∷◌, ◌++◌, subst, append-nil, append_assoc, arith}
+use Rattle.std.proofs.Common.{◌≡◌, ◌≤◌, ◌<◌, nat_abs, Bool, true, false, ℕ, zero, suc, ℤ, take, drop, get_or, length, int_le, int_lt, T, Fits, w16, FitsSigned, to_z, of_z, w32, neg_ℤ, pos, ◌+ℤ◌, ◌≤ℤ◌, ◌<ℤ◌, List, [], ◌∷◌, ◌++◌, subst, append-nil, append_assoc, arith}
 use Rattle.std.specs.List.{All, AllWithin}
 use Rattle.std.specs.List.Sorted.{IsPartitionedBy}
 use Rattle.std.proofs.lemmas.Int.{ints}
@@ -119,6 +119,11 @@ pub right_split : (x : ℤ) (n : ℕ) (es : List Edge) → AllWithin (λ e. is_l
 right_split x n es failed =
     begin_from x (drop n es) (All-weaker (λ e. is_left_of x e ≡ false) (λ e. x ≤ℤ e.x) (λ e right. grind (arith, ints))
     (drop n es) (All-drop_within (λ e. is_left_of x e ≡ false) es n failed))
+
+-- where the first edge is not to the left of a column, the edges begin from there
+pub begin_from_first : (x : ℤ) (es : List Edge) (e : Edge) → 0 < length es → e ≡ get_or es 0 e → x ≤ℤ e.x → BeginFrom x es
+begin_from_first x [] e some first from = tt
+begin_from_first x (f ∷ es) e some first from = subst (λ d. x ≤ℤ d.x) first from
 
 -- the sum of two reaches is a reach of the sum
 pub reach_of_sum : (es fs sum : List Edge) (a b : ℤ) → StaysInReach a es → StaysInReach b fs

@@ -32,7 +32,7 @@ pub fn push_sum_of_edges(sum: &mut Vec<Edge>, left: &[Edge], right: &[Edge]) -> 
     while let Some((change, changes)) = right.split_first() {
         let passed = pass_edges(left, change.x, weight)?;
         let (kept, others) = left.split_at(passed.count);
-        append(sum, kept)?;
+        push_edges(sum, kept)?;
         let (edge, rest) = split_at(others, change.x);
         let more = edge + change.weight;
         weight = passed.weight + more;
@@ -71,7 +71,7 @@ pub fn push_with_changes(
     let (mut left, mut right) = (left, right);
     while let Some((change, changes)) = right.split_first() {
         let (kept, others) = left.split_at(count_left_of(left, change.x));
-        append(edges, kept)?;
+        push_edges(edges, kept)?;
         let (edge, rest) = split_at(others, change.x);
         push_unless_zero(
             edges,
@@ -86,28 +86,32 @@ pub fn push_with_changes(
     Ok(())
 }
 
-/// Appends edges to a list of edges. Where two rows have many edges there is mostly one between two changes, or none, and a push costs
-/// less than a copy of a slice.
+/// Appends edges to a list of edges. Refused with `OutOfMemory` where an allocation fails; the list is then unchanged. Where two
+/// rows have many edges there is mostly one between two changes, or none, and a push costs less than a copy of a slice.
 #[inline(always)]
-fn append(list: &mut Vec<Edge>, edges: &[Edge]) -> Result<(), OutOfMemory>
-    ensures appended { OnOk result (list.new.items ≡ list.old.items ++ edges.now) }
-    ensures unchanged { OnErr result (list.new.items ≡ list.old.items) }
+pub fn push_edges(edges: &mut Vec<Edge>, others: &[Edge]) -> Result<(), OutOfMemory>
+    ensures pushed { OnOk result (edges.new.items ≡ edges.old.items ++ others.now) }
+    ensures unchanged { OnErr result (edges.new.items ≡ edges.old.items) }
 {
-    match edges {
+    match others {
         [] => Ok(()),
-        [edge] => Ok(list.push(*edge)?),
-        _ => Ok(list.extend_from_slice(edges)?),
+        [edge] => Ok(edges.push(*edge)?),
+        _ => Ok(edges.extend_from_slice(others)?),
     }
 }
 
-/// The number of edges to the left of column x, which are the first ones.
+/// The number of edges to the left of column x, which are the first ones. Of two changes that stand together, the second
+/// mostly has none to its left.
 fn count_left_of(edges: &[Edge], x: i32) -> usize
     requires { AreEdgesFrom least_coordinate edges.now }
     ensures within { result ≤ length edges.now }
     ensures left { All (λ edge. edge.x <ℤ x) (take result edges.now) }
     ensures others { BeginFrom x (drop result edges.now) }
 {
-    edges.partition_point(|edge| edge.x < x)
+    match edges.first() {
+        Some(first) if first.x < x => edges.partition_point(|edge| edge.x < x),
+        _ => 0,
+    }
 }
 
 /// The edges that were passed: their number, and the weight after the last of them.

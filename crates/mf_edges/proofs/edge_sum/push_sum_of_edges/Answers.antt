@@ -59,7 +59,7 @@ loop-change-preserved c =
     let split = rw c.split_at.ensures.back at c.split_at-edge.ensures in
     let j = joint _ _ _ _ _ _ _ _ _ _ _ _ c.in-Some.ensures.cases.0 c.loop-change.invariant.is c.in_ok-passed.ensures.passed c.in_ok-passed.ensures.stops split in
     let lawful = rw (j.edge_is, j.change_is, j.more_is, j.weight_is, j.total_is) at (c.is_lawful_weight.ensures.0 c.if-not-is_lawful_weight.false) in
-    rw (c.in_ok-push_unless_zero.ensures.pushed, c.in_ok-append.ensures.appended, c.split_at.ensures.front)
+    rw (c.in_ok-push_unless_zero.ensures.pushed, c.in_ok-push_edges.ensures.pushed, c.split_at.ensures.front)
     (rw (j.column_is, j.edge_is, j.change_is, j.more_is, j.weight_is, j.total_is)
     (appended_twice _ _ _ _ _ _ c.loop-change.invariant (change_more _ _ _ _ c.in-Some.change.now _ _ j.so_far j.from _ _ j.split lawful)))
 
@@ -68,19 +68,19 @@ returns-in_err-passed-clause-kept c =
     let fault = err_from_is_err_and c.from_residual-in_err-passed.result c.from_residual-in_err-passed.ensures.1 in
     rw fault.1 (some_appended _ _ _ c.loop-change.invariant)
 
-pub returns-in_err-append-clause-kept : goal.returns-in_err-append-clause-kept
-returns-in_err-append-clause-kept c =
-    let fault = err_from_is_err_and c.from_residual-in_err-append.result c.from_residual-in_err-append.ensures.1 in
-    rw (fault.1, c.in_err-append.ensures.unchanged) (some_appended _ _ _ c.loop-change.invariant)
+pub returns-in_err-push_edges-clause-kept : goal.returns-in_err-push_edges-clause-kept
+returns-in_err-push_edges-clause-kept c =
+    let fault = err_from_is_err_and c.from_residual-in_err-push_edges.result c.from_residual-in_err-push_edges.ensures.1 in
+    rw (fault.1, c.in_err-push_edges.ensures.unchanged) (some_appended _ _ _ c.loop-change.invariant)
 
 pub returns-then-not-is_lawful_weight-clause-kept : goal.returns-then-not-is_lawful_weight-clause-kept
 returns-then-not-is_lawful_weight-clause-kept c =
-    rw c.in_ok-append.ensures.appended (some_more_appended _ _ _ _ c.loop-change.invariant)
+    rw c.in_ok-push_edges.ensures.pushed (some_more_appended _ _ _ _ c.loop-change.invariant)
 
 pub returns-in_err-push_unless_zero-clause-kept : goal.returns-in_err-push_unless_zero-clause-kept
 returns-in_err-push_unless_zero-clause-kept c =
     let fault = err_from_is_err_and c.from_residual-in_err-push_unless_zero.result c.from_residual-in_err-push_unless_zero.ensures.1 in
-    rw (fault.1, c.in_err-push_unless_zero.ensures.unchanged, c.in_ok-append.ensures.appended) (some_more_appended _ _ _ _ c.loop-change.invariant)
+    rw (fault.1, c.in_err-push_unless_zero.ensures.unchanged, c.in_ok-push_edges.ensures.pushed) (some_more_appended _ _ _ _ c.loop-change.invariant)
 
 pub returns-in_err-extend_from_slice-clause-kept : goal.returns-in_err-extend_from_slice-clause-kept
 returns-in_err-extend_from_slice-clause-kept c =

@@ -50,19 +50,19 @@ loop-change-preserved c =
     let v_is = difference_is v split.difference in
     let w_is = difference_is f.weight difference in
     let sum_is = to_z-of_z (more_fits v f.weight split.difference difference) in
-    rw (c.in_ok-push_unless_zero.ensures.pushed, c.in_ok-append.ensures.appended, c.split_at.ensures.front, x_is, v_is, w_is, sum_is)
+    rw (c.in_ok-push_unless_zero.ensures.pushed, c.in_ok-push_edges.ensures.pushed, c.split_at.ensures.front, x_is, v_is, w_is, sum_is)
     (appended_twice _ _ _ _ _ _ c.loop-change.invariant
     (in_reach_more _ _ lawful _ _ _ f c.in-Some.changes.now _ c.in-Some.ensures.cases.0 c.loop-change.invariant.is left from v _ split))
 
-pub returns-in_err-append-clause-kept : goal.returns-in_err-append-clause-kept
-returns-in_err-append-clause-kept c =
-    let fault = err_from_is_err_and c.from_residual-in_err-append.result c.from_residual-in_err-append.ensures.1 in
-    rw (fault.1, c.in_err-append.ensures.unchanged) (some_appended _ _ _ c.loop-change.invariant)
+pub returns-in_err-push_edges-clause-kept : goal.returns-in_err-push_edges-clause-kept
+returns-in_err-push_edges-clause-kept c =
+    let fault = err_from_is_err_and c.from_residual-in_err-push_edges.result c.from_residual-in_err-push_edges.ensures.1 in
+    rw (fault.1, c.in_err-push_edges.ensures.unchanged) (some_appended _ _ _ c.loop-change.invariant)
 
 pub returns-in_err-push_unless_zero-clause-kept : goal.returns-in_err-push_unless_zero-clause-kept
 returns-in_err-push_unless_zero-clause-kept c =
     let fault = err_from_is_err_and c.from_residual-in_err-push_unless_zero.result c.from_residual-in_err-push_unless_zero.ensures.1 in
-    rw (fault.1, c.in_err-push_unless_zero.ensures.unchanged, c.in_ok-append.ensures.appended) (some_more_appended _ _ _ _ c.loop-change.invariant)
+    rw (fault.1, c.in_err-push_unless_zero.ensures.unchanged, c.in_ok-push_edges.ensures.pushed) (some_more_appended _ _ _ _ c.loop-change.invariant)
 
 pub returns-in_err-extend_from_slice-clause-kept : goal.returns-in_err-extend_from_slice-clause-kept
 returns-in_err-extend_from_slice-clause-kept c =
