@@ -5,6 +5,7 @@ mod BlankRowsLemmas
 pub mod BoundsInField
 pub mod BoxesJoined
 mod BuildingLemmas
+mod CopiesLemmas
 mod CornersLemmas
 pub mod DotsLemmas
 pub mod EdgeRowsLemmas

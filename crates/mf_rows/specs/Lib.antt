@@ -3,6 +3,7 @@ pub mod Bands
 pub mod BlankRows
 pub mod Bounds
 pub mod Building
+pub mod Copies
 pub mod Corners
 pub mod Dots
 pub mod EdgeRows

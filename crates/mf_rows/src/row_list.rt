@@ -11,6 +11,8 @@ use std::alloc::Global;
 use std::marker::Model;
 use std::sync::Arc;
 
+mod copies;
+
 /// A row of at most this many edges is added to another by binary search, without looking at the weights between the
 /// other's edges, where the reaches of both leave room: a contour changes a row at few places, so it costs about a copy
 /// of the row. With more edges, or with no room, the rows are merged and all weights are checked.

@@ -46,16 +46,15 @@ pub(crate) fn sum_of_rows(
     Ok(sum)
 }
 
-/// Appends rows to a list of rows.
+/// Appends rows to a list of rows. A sum asks this for row after row, so mostly there are none.
+#[inline]
 pub(crate) fn push_rows(list: &mut RowList, rows: RowSlice<'_>) -> Result<(), OutOfMemory>
     ensures { OnOk result (list.new ≡ list.old ++ slice_rows rows.entry) }
 {
-    let mut rows = rows;
-    while let Some((row, rest)) = rows.split_first() {
-        list.push(row.y, &row)?;
-        rows = rest;
+    if rows.is_empty() {
+        return Ok(());
     }
-    Ok(())
+    list.push_all(rows)
 }
 
 /// Appends the sum of a row and of the row of the same height, if there is one, to a list of rows, unless the sum is

@@ -9,7 +9,7 @@ mod rows;
 /// Some rows of a list, from the top down, and the edges of that list.
 #[derive(Clone, Copy, Debug)]
 pub(crate) struct RowSlice<'a> {
-    heads: &'a [Head],
-    edges: &'a [Edge],
+    pub(crate) heads: &'a [Head],
+    pub(crate) edges: &'a [Edge],
     ghost placed: { AreHeads edges.now heads.now } by { AreHeads-prop edges.now heads.now },
 }

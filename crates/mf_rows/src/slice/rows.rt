@@ -1,5 +1,5 @@
 //! The rows of a part of a list: the first one, those above a height, the one at a height.
-ghost use Rattle.std.specs.Prelude.{◌≡◌, [], ◌∷◌, ◌++◌, ◌≤◌, IsNone, IfSome, All, length, take, drop, ◌≤ℤ◌};
+ghost use Rattle.std.specs.Prelude.{◌≡◌, [], ◌∷◌, ◌++◌, ◌≤◌, IsNone, IfSome, IsTrue, ◌↔◌, All, length, take, drop, ◌≤ℤ◌};
 ghost use Rattle.mf_rows.specs.Bands.{edge_row, slice_rows, last_height, HasRow, HasNoRow, AreAbove};
 ghost use Rattle.mf_rows.specs.EdgeRows.{AreRows, AreRowsFrom};
 ghost use Rattle.mf_rows.specs.Merging.{row_found, IsSplitAtHeight};
@@ -36,6 +36,13 @@ impl<'a> RowSlice<'a> {
         ensures { result ≡ length (slice_rows self.entry) }
     {
         self.heads.len()
+    }
+
+    /// Whether there is no row.
+    pub(crate) fn is_empty(self) -> bool
+        ensures { IsTrue result ↔ (slice_rows self.entry ≡ []) }
+    {
+        self.heads.is_empty()
     }
 
     /// The number of the edges of these rows that are in the list, where those that rows share count once for each.

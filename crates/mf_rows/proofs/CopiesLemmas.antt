@@ -1,0 +1,148 @@
+-- Copies of edges: a part of a part, places that have moved, and the rows that have them.
+use Rattle.std.proofs.Common.{◌≡◌, ℕ, get_or, ◌-◌, ◌+◌, ◌≤◌, ◌<◌, ◌^◌, List, [], ◌∷◌, ◌++◌, length, take, drop, sym, ap, subst, ◌∙◌, length-append, append-nil, append_assoc, arith}
+use Rattle.std.proofs.Math.Seq.{drop-append_seam}
+use Rattle.std.specs.List.{All}
+use Rattle.std.proofs.lemmas.List.{drop-take, drop-drop, take-take, take_more, take_all, map_push}
+use Rattle.std.proofs.lemmas.List.Elements.{All-weaker, All-push}
+use Rattle.std.proofs.lemmas.List.Edits.{length-between}
+use Rattle.mf_edges.specs.declared.edge.Edge.{Edge}
+use Rattle.mf_rows.specs.declared.row_list.Head.{Head}
+use Rattle.mf_rows.specs.declared.row_list.Place.{Place}
+use Rattle.mf_rows.specs.declared.row_list.Place.TheVariants as place
+use Rattle.mf_rows.specs.Copies.{IsWithin, IsMovable, IsMoved, IsCopied}
+use Rattle.mf_rows.specs.EdgeRows.{EdgeRow}
+use Rattle.mf_rows.specs.RowLists.{edges_between, edges_at, row_at, rows_at, IsRange, IsThere, IsPlaceOf, IsHead, AreHeads}
+use Rattle.mf_rows.proofs.RowListLemmas.{nothing_more, heads_push, rows_push}
+
+-- ---- heads one after another
+
+pub head_at : (es : List Edge) (hs : List Head) → AreHeads es hs → (n : ℕ) (h : Head) → n < length hs → h ≡ get_or hs n h → IsHead es h
+head_at es hs heads n h inside item = subst (IsHead es) (sym item) (heads n h inside)
+
+take_next : (hs : List Head) (n : ℕ) (h : Head) → n < length hs → h ≡ get_or hs n h → take (n + 1) hs ≡ take n hs ++ h ∷ []
+take_next hs n h inside item = take_more hs n h inside ∙ ap (λ (g : Head). take n hs ++ g ∷ []) (sym item)
+
+-- ---- places within places
+
+within_wider : (i j k l : ℕ) → k ≤ i → j ≤ l → (p : Place) → IsWithin i j p → IsWithin k l p
+within_wider i j k l first last (place.Among m n) within = (omega (arith, within.0), omega (arith, within.1))
+within_wider i j k l first last (place.Own own) within = tt
+
+pub within_more : (i j k l : ℕ) → k ≤ i → j ≤ l → (hs : List Head) (n : ℕ) (h : Head) → n < length hs → h ≡ get_or hs n h
+    → All (λ g. IsWithin i j g.place) (take n hs) → IsWithin k l h.place → All (λ g. IsWithin k l g.place) (take (n + 1) hs)
+within_more i j k l first last hs n h inside item so_far here =
+    subst (All (λ g. IsWithin k l g.place)) (sym (take_next hs n h inside item))
+    (All-push (λ g. IsWithin k l g.place) (take n hs) h
+    (All-weaker (λ g. IsWithin i j g.place) (λ g. IsWithin k l g.place) (λ g. within_wider i j k l first last g.place) (take n hs) so_far) here)
+
+pub within_all : (i j l : ℕ) → j ≤ l → (hs : List Head) (n : ℕ) → length hs ≤ n
+    → All (λ g. IsWithin i j g.place) (take n hs) → All (λ g. IsWithin i l g.place) hs
+within_all i j l last hs n all so_far =
+    All-weaker (λ g. IsWithin i j g.place) (λ g. IsWithin i l g.place) (λ g. within_wider i j i l (omega arith) last g.place) hs
+    (subst (All (λ g. IsWithin i j g.place)) (take_all n hs all) so_far)
+
+-- ---- a part of a part
+
+between_part : (es : List Edge) (i j k l : ℕ) → i ≤ k → k ≤ l → l ≤ j → edges_between (edges_between es i j) (k - i) (l - i) ≡ edges_between es k l
+between_part es i j k l first order last =
+    let count : (l - i) - (k - i) ≡ l - k = omega arith in
+    let both : j - i ≡ (k - i) + (j - k) = omega arith in
+    let start : i + (k - i) ≡ k = omega arith in
+    let inner : drop (k - i) (take (j - i) (drop i es)) ≡ take (j - k) (drop k es) =
+    ap (λ n. drop (k - i) (take n (drop i es))) both
+    ∙ drop-take (k - i) (j - k) (drop i es)
+    ∙ ap (λ fs. take (j - k) fs) (drop-drop (k - i) i es ∙ ap (λ n. drop n es) start) in
+    ap (λ n. take n (drop (k - i) (take (j - i) (drop i es)))) count
+    ∙ ap (λ fs. take (l - k) fs) inner
+    ∙ take-take (l - k) (j - k) (drop k es) (omega arith)
+
+-- ---- edges are copied
+
+module _ (es : List Edge) (hs : List Head) (i : ℕ) (ds : List Edge) (j : ℕ) (copied : IsCopied es hs i ds j) where
+  edges_moved : (k l : ℕ) → i ≤ k → k ≤ l → l ≤ copied.end → edges_between ds ((k - i) + j) ((l - i) + j) ≡ edges_between es k l
+  edges_moved k l first order last =
+      let count : ℕ = copied.end - i in
+      let copy : List Edge = edges_between ds j (j + count) in
+      let low : ((k - i) + j) - j ≡ k - i = omega arith in
+      let high : ((l - i) + j) - j ≡ l - i = omega arith in
+      sym (between_part ds j (j + count) ((k - i) + j) ((l - i) + j) (omega arith) (omega arith) (omega arith))
+      ∙ ap (λ n. edges_between copy n (((l - i) + j) - j)) low
+      ∙ ap (λ n. edges_between copy (k - i) n) high
+      ∙ ap (λ fs. edges_between fs (k - i) (l - i)) copied.same
+      ∙ between_part es i copied.end k l first order last
+
+  pub place_movable : (p : Place) → IsThere es p → IsWithin i copied.end p → IsMovable i j p
+  place_movable (place.Among k l) there within =
+      let order = there.order in
+      (within.0, order, omega (arith, within.0, within.1, copied.fits))
+  place_movable (place.Own own) there within = tt
+
+  place_moved : (p q : Place) → IsThere es p → IsWithin i copied.end p → IsMoved i j p q → IsPlaceOf ds q (edges_at es p)
+  place_moved (place.Among k l) q there within moved =
+      let order = there.order in
+      let range = copied.there.within in
+      subst (λ r. IsPlaceOf ds r (edges_between es k l)) (sym moved) (record {
+        there = record { order = omega (arith, within.0); within = omega (arith, within.0, within.1) };
+        edges = edges_moved k l within.0 order within.1;
+      })
+  place_moved (place.Own own) (place.Among k l) there within moved = absurd moved
+  place_moved (place.Own own) (place.Own other) there within moved = record { there = tt; edges = ap (λ v. v.items) moved }
+
+-- these heads are those before and those of rows whose edges were copied
+pub record AreMoved (es ds : List Edge) (before after others : List Head) : Type 0 where
+  pub heads : AreHeads ds after
+  pub rows : rows_at ds after ≡ rows_at ds before ++ rows_at es others
+
+pub moved_none : (es ds : List Edge) (before : List Head) → AreHeads ds before → AreMoved es ds before before []
+moved_none es ds before heads = record { heads = heads; rows = sym (append-nil (rows_at ds before)) }
+
+module _ (es : List Edge) (hs : List Head) (i : ℕ) (ds : List Edge) (j : ℕ) (copied : IsCopied es hs i ds j) (placed : AreHeads es hs) where
+  module _ (n : ℕ) (h : Head) (inside : n < length hs) (item : h ≡ get_or hs n h) where
+    head_is : IsHead es h
+    head_is = head_at es hs placed n h inside item
+
+    within_is : IsWithin i copied.end h.place
+    within_is = subst (λ (g : Head). IsWithin i copied.end g.place) (sym item) (copied.within n h inside)
+
+    pub head_movable : IsMovable i j h.place
+    head_movable = place_movable es hs i ds j copied h.place head_is.there within_is
+
+    pub moved_next : (before heads : List Head) → AreMoved es ds before heads (take n hs) → (p : Place) → IsMoved i j h.place p
+        → AreMoved es ds before (heads ++ record { y = h.y; reach = h.reach; place = p } ∷ []) (take (n + 1) hs)
+    moved_next before heads so_far p moved =
+        let g : Head = record { y = h.y; reach = h.reach; place = p } in
+        let at = place_moved es hs i ds j copied h.place p head_is.there within_is moved in
+        let more = take_next hs n h inside item in
+        record {
+          heads = heads_push ds ds (nothing_more ds) heads so_far.heads g (edges_at es h.place) at head_is.reached;
+          rows = rows_push ds ds (nothing_more ds) heads so_far.heads g (edges_at es h.place) at
+              ∙ ap (λ (rs : List EdgeRow). rs ++ row_at es h ∷ []) so_far.rows
+              ∙ append_assoc (rows_at ds before) (rows_at es (take n hs)) (row_at es h ∷ [])
+              ∙ ap (λ (rs : List EdgeRow). rows_at ds before ++ rs) (sym (map_push (row_at es) (take n hs) h) ∙ ap (rows_at es) (sym more));
+        }
+
+pub moved_all : (es ds : List Edge) (before after hs : List Head) (n : ℕ) → length hs ≤ n → AreMoved es ds before after (take n hs)
+    → rows_at ds after ≡ rows_at ds before ++ rows_at es hs
+moved_all es ds before after hs n all so_far = so_far.rows ∙ ap (λ (gs : List Head). rows_at ds before ++ rows_at es gs) (take_all n hs all)
+
+-- ---- edges are appended to others
+
+pub copied_behind : (es fs ds : List Edge) (hs : List Head) (i end : ℕ) → IsRange es i end → All (λ h. IsWithin i end h.place) hs
+    → ds ≡ fs ++ edges_between es i end → length ds < 2 ^ 64 → IsCopied es hs i ds (length fs)
+copied_behind es fs ds hs i end range within all fits =
+    let part : List Edge = edges_between es i end in
+    let order = range.order in
+    let inside = range.within in
+    let count : length part ≡ end - i = length-between es i end inside in
+    let long : length ds ≡ length fs + length part = ap (λ (gs : List Edge). length gs) all ∙ length-append fs part in
+    record {
+      end = end;
+      within = within;
+      there = record { order = omega arith; within = omega arith };
+      fits = omega arith;
+      same =
+          ap (λ n. take n (drop (length fs) ds)) (omega arith)
+          ∙ ap (λ (gs : List Edge). take (end - i) (drop (length fs) gs)) all
+          ∙ ap (λ (gs : List Edge). take (end - i) gs) (drop-append_seam fs part)
+          ∙ take_all (end - i) part (omega arith);
+    }
