@@ -28,11 +28,12 @@ pub(crate) fn sum_of_rows(
     ensures too_large { IfErr result (λ fault. fault ≢ AddFault.OutOfMemory
         → IsUnlawfulSomewhere (weight_in_all (slice_rows left.entry) (slice_rows right.entry))) }
 {
-    // No band has more rows than its height, so most sums need no more room.
+    // No band has more rows than its height. The rows of what is added often share edges, and those of a sum seldom do. So most
+    // sums need no more room.
     let mut sum = RowList::with_room(
         alloc,
         (left.len() + right.len()).min(BAND_HEIGHT as usize),
-        left.edge_count().saturating_add(right.edge_count()),
+        left.list_len().saturating_add(right.edge_count()),
     )?;
     let (mut left, mut right) = (left, right);
     while let Some((added, rest_right)) = right.split_first() {

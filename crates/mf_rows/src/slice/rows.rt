@@ -45,6 +45,11 @@ impl<'a> RowSlice<'a> {
         self.heads.is_empty()
     }
 
+    /// The number of the edges in the list of which these rows are a part, where those that rows share count once.
+    pub(crate) fn list_len(self) -> usize {
+        self.edges.len()
+    }
+
     /// The number of the edges of these rows that are in the list, where those that rows share count once for each.
     pub(crate) fn edge_count(self) -> usize {
         let mut count = 0usize;
