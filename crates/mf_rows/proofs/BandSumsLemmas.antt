@@ -1,5 +1,5 @@
 -- The sum of two lists of bands, step by step.
-use Rattle.std.proofs.Common.{◌≡◌, ◌≢◌, ◌⊎◌, ℕ, zero, suc, ◌+◌, ◌<◌, ◌≤◌, ℤ, pos, ◌+ℤ◌, ◌-ℤ◌, ◌≤ℤ◌, ◌<ℤ◌, List, [], ◌∷◌, ◌++◌, length, take, drop, sym, subst, ap, ◌∙◌, inl, inr, ⊎_elim, arith}
+use Rattle.std.proofs.Common.{◌≡◌, ◌≢◌, ◌⊎◌, ℕ, zero, suc, ◌+◌, ◌<◌, ℤ, pos, ◌+ℤ◌, ◌-ℤ◌, ◌≤ℤ◌, ◌<ℤ◌, List, [], ◌∷◌, ◌++◌, length, take, drop, sym, subst, ap, ◌∙◌, inl, inr, ⊎_elim, arith}
 use Rattle.std.specs.Arc.{arc_value}
 use Rattle.std.specs.Int.{int_min}
 use Rattle.std.specs.declared.alloc.Global.{Global}
@@ -10,7 +10,7 @@ use Rattle.std.proofs.lemmas.List.Elements.{All-head, All-append, All-weaker}
 use Rattle.mf_geom.specs.Coordinates.{last_in_field}
 use Rattle.mf_rows.specs.declared.band.Band.{Band}
 use Rattle.mf_rows.specs.Bands.{rows_of_bands, AreBelow}
-use Rattle.mf_rows.specs.BandSums.{lowest_of, AreUpTo, AreBehind, AreNumberedBehind, BeginUpTo, IsStep, HasSum}
+use Rattle.mf_rows.specs.BandSums.{lowest_of, AreUpTo, AreBehind, AreNumberedBehind, AreSplitAtBand, IsSplitAtBand, BeginUpTo, IsStep, HasSum}
 use Rattle.mf_edges.specs.LawfulWeights.{IsLawfulWeight}
 use Rattle.mf_rows.specs.EdgeRows.{EdgeRow, AreRowsFrom, AreRows, weight_in_rows}
 use Rattle.mf_rows.specs.Sums.{weight_in_all, HaveRowWeights, IsUnlawfulSomewhere}
@@ -42,14 +42,6 @@ has_sum-left before rs ss after rows none all = record {
 
 -- ---- lists of bands that are split
 
--- bands are split into those up to band n and those after it
-pub record IsSplitAtBand (n : ℤ) (bs first rest : List (Arc Band Global)) : Type 0 where
-  pub all : rows_of_bands bs ≡ rows_of_bands first ++ rows_of_bands rest
-  pub up_to : AreUpTo n (rows_of_bands first)
-  pub behind : AreBehind n (rows_of_bands rest)
-  pub no_longer : length rest ≤ length bs
-  pub shorter : BeginUpTo n bs → length rest < length bs
-
 -- where the first band has a number of at most n, it is not after band n
 fewer_behind : (n : ℤ) (k : ℕ) (bs : List (Arc Band Global)) → AreNumberedBehind n (drop k bs) → BeginUpTo n bs → length (drop k bs) < length bs
 fewer_behind n k [] behind begin = absurd begin
@@ -61,9 +53,7 @@ fewer_behind n (suc k) (b ∷ bs) behind begin = omega (arith, length-drop k bs)
 pub split_at_band : (n : ℤ) (k : ℕ) (bs first rest : List (Arc Band Global)) → first ≡ take k bs → rest ≡ drop k bs
     → AreUpTo n (rows_of_bands (take k bs)) → AreBehind n (rows_of_bands (drop k bs)) → AreNumberedBehind n (drop k bs) → IsSplitAtBand n bs first rest
 split_at_band n k bs first rest first_is rest_is up_to behind others = rw (first_is, rest_is) (record {
-  all = rows_of_bands-split k bs;
-  up_to = up_to;
-  behind = behind;
+  rows = record { all = rows_of_bands-split k bs; up_to = up_to; behind = behind };
   no_longer = omega (arith, length-drop k bs);
   shorter = fewer_behind n k bs others;
 })
@@ -73,12 +63,11 @@ pub fewer_bands : {n : ℤ} {bs cs first_left rest_left first_right rest_right :
 fewer_bands step left right =
     ⊎_elim (λ begin. omega (arith, left.shorter begin, right.no_longer)) (λ begin. omega (arith, right.shorter begin, left.no_longer)) step.reached
 
-pub rows_of_first : (k : ℕ) (bs first : List (Arc Band Global)) → first ≡ take k bs → AreRows (rows_of_bands bs) → AreRows (rows_of_bands first)
-rows_of_first k bs first first_is rows =
-    rw first_is (record {
-      rows = rows_from-front last_in_field (rows_of_bands (take k bs)) (rows_of_bands (drop k bs))
-          (subst (AreRowsFrom last_in_field) (rows_of_bands-split k bs) rows.rows);
-    })
+pub rows_of_first : {n : ℤ} {rs first rest : List EdgeRow} → AreSplitAtBand n rs first rest → AreRows rs → AreRows first
+rows_of_first split rows = record { rows = rows_from-front last_in_field _ _ (subst (AreRowsFrom last_in_field) split.all rows.rows) }
+
+pub rows_of_rest : {n : ℤ} {rs first rest : List EdgeRow} → AreSplitAtBand n rs first rest → AreRows rs → AreRows rest
+rows_of_rest split rows = record { rows = rows_from-back last_in_field _ _ (subst (AreRowsFrom last_in_field) split.all rows.rows) }
 
 -- ---- what is left
 
@@ -118,66 +107,65 @@ rows_from-both top y (r ∷ rs) rows below =
     let in_reach : r.y ≤ℤ top = rows.1 in
     (rows.0, omega (arith, ints, clamps), rows.2)
 
-module _ (whole_left whole_right sum : List EdgeRow) (bs cs : List (Arc Band Global))
-    (so_far : IsRowSumSoFar whole_left whole_right sum (rows_of_bands bs) (rows_of_bands cs)) (n : ℤ)
-    (first_left rest_left first_right rest_right : List (Arc Band Global))
-    (split_left : IsSplitAtBand n bs first_left rest_left) (split_right : IsSplitAtBand n cs first_right rest_right) where
-  from_top_left : AreRowsFrom so_far.top (rows_of_bands first_left ++ rows_of_bands rest_left)
+module _ (whole_left whole_right sum rs ss : List EdgeRow) (so_far : IsRowSumSoFar whole_left whole_right sum rs ss) (n : ℤ)
+    (first_left rest_left first_right rest_right : List EdgeRow)
+    (split_left : AreSplitAtBand n rs first_left rest_left) (split_right : AreSplitAtBand n ss first_right rest_right) where
+  from_top_left : AreRowsFrom so_far.top (first_left ++ rest_left)
   from_top_left = subst (AreRowsFrom so_far.top) split_left.all so_far.left
 
-  from_top_right : AreRowsFrom so_far.top (rows_of_bands first_right ++ rows_of_bands rest_right)
+  from_top_right : AreRowsFrom so_far.top (first_right ++ rest_right)
   from_top_right = subst (AreRowsFrom so_far.top) split_right.all so_far.right
 
-  below_left : (y : ℤ) → so_far.top <ℤ y → AreBelow y (rows_of_bands first_left)
+  below_left : (y : ℤ) → so_far.top <ℤ y → AreBelow y first_left
   below_left y lt =
-      rows_from-below so_far.top y (rows_of_bands first_left) (rows_from-front so_far.top (rows_of_bands first_left) (rows_of_bands rest_left) from_top_left) lt
+      rows_from-below so_far.top y first_left (rows_from-front so_far.top first_left rest_left from_top_left) lt
 
-  below_right : (y : ℤ) → so_far.top <ℤ y → AreBelow y (rows_of_bands first_right)
+  below_right : (y : ℤ) → so_far.top <ℤ y → AreBelow y first_right
   below_right y lt =
-      rows_from-below so_far.top y (rows_of_bands first_right)
-      (rows_from-front so_far.top (rows_of_bands first_right) (rows_of_bands rest_right) from_top_right) lt
+      rows_from-below so_far.top y first_right
+      (rows_from-front so_far.top first_right rest_right from_top_right) lt
 
-  weight_in_all-parts : (x y : ℤ) → weight_in_all (rows_of_bands bs) (rows_of_bands cs) x y
-      ≡ weight_in_all (rows_of_bands first_left) (rows_of_bands first_right) x y +ℤ weight_in_all (rows_of_bands rest_left) (rows_of_bands rest_right) x y
+  weight_in_all-parts : (x y : ℤ) → weight_in_all rs ss x y
+      ≡ weight_in_all first_left first_right x y +ℤ weight_in_all rest_left rest_right x y
   unfolding weight_in_all
   weight_in_all-parts x y =
-      let left = weight_in_rows-append (rows_of_bands first_left) (rows_of_bands rest_left) x y in
-      let right = weight_in_rows-append (rows_of_bands first_right) (rows_of_bands rest_right) x y in
+      let left = weight_in_rows-append first_left rest_left x y in
+      let right = weight_in_rows-append first_right rest_right x y in
       rw (split_left.all, split_right.all) (omega (arith, ints))
 
-  -- where the first bands have a weight, neither the sum so far nor the other bands have a row
-  weight_in_all-step : (x y : ℤ) → weight_in_all (rows_of_bands first_left) (rows_of_bands first_right) x y ≢ pos 0
-      → weight_in_all whole_left whole_right x y ≡ weight_in_all (rows_of_bands first_left) (rows_of_bands first_right) x y
+  -- where the first rows have a weight, neither the sum so far nor the other rows have a row
+  weight_in_all-step : (x y : ℤ) → weight_in_all first_left first_right x y ≢ pos 0
+      → weight_in_all whole_left whole_right x y ≡ weight_in_all first_left first_right x y
   unfolding weight_in_all
   weight_in_all-step x y some =
       by_lt_z so_far.top y
       (λ over.
-      let none_left = weight_in_rows-below (rows_of_bands first_left) x y (below_left y over) in
-      let none_right = weight_in_rows-below (rows_of_bands first_right) x y (below_right y over) in
+      let none_left = weight_in_rows-below first_left x y (below_left y over) in
+      let none_right = weight_in_rows-below first_right x y (below_right y over) in
       absurd (some (omega (arith, ints))))
       (λ in_reach. by_lt_z y (lowest_of n)
       (λ under.
       let higher =
       λ (rs : List EdgeRow) (up_to : AreUpTo n rs). All-weaker (λ r. (lowest_of n -ℤ pos 1) <ℤ r.y) (λ r. y <ℤ r.y) (λ r lt. omega (arith, ints)) rs up_to in
-      let none_left = weight_in_rows-above (rows_of_bands first_left) x y (higher (rows_of_bands first_left) split_left.up_to) in
-      let none_right = weight_in_rows-above (rows_of_bands first_right) x y (higher (rows_of_bands first_right) split_right.up_to) in
+      let none_left = weight_in_rows-above first_left x y (higher first_left split_left.up_to) in
+      let none_right = weight_in_rows-above first_right x y (higher first_right split_right.up_to) in
       absurd (some (omega (arith, ints))))
       (λ reached.
       let lower =
       λ (rs : List EdgeRow) (behind : AreBehind n rs). All-weaker (λ r. r.y <ℤ lowest_of n) (λ r. r.y <ℤ y) (λ r lt. omega (arith, ints)) rs behind in
       let none_before = weight_in_rows-above sum x y (All-weaker (λ r. so_far.top <ℤ r.y) (λ r. y <ℤ r.y) (λ r lt. omega (arith, ints)) sum so_far.above) in
-      let none_left = weight_in_rows-below (rows_of_bands rest_left) x y (lower (rows_of_bands rest_left) split_left.behind) in
-      let none_right = weight_in_rows-below (rows_of_bands rest_right) x y (lower (rows_of_bands rest_right) split_right.behind) in
+      let none_left = weight_in_rows-below rest_left x y (lower rest_left split_left.behind) in
+      let none_right = weight_in_rows-below rest_right x y (lower rest_right split_right.behind) in
       let all = so_far.weights x y in
       let parts = weight_in_all-parts x y in
       omega (arith, ints)))
 
-  pub unlawful_in_step : IsUnlawfulSomewhere (weight_in_all (rows_of_bands first_left) (rows_of_bands first_right))
+  pub unlawful_in_step : IsUnlawfulSomewhere (weight_in_all first_left first_right)
       → IsUnlawfulSomewhere (weight_in_all whole_left whole_right)
   unlawful_in_step unlawful =
       let x = unlawful.x in
       let y = unlawful.y in
-      let some : weight_in_all (rows_of_bands first_left) (rows_of_bands first_right) x y ≢ pos 0 =
+      let some : weight_in_all first_left first_right x y ≢ pos 0 =
       λ blank. unlawful.unlawful (record { least = omega (arith, ints); greatest = omega (arith, ints) }) in
       record {
         x = x;
@@ -186,9 +174,9 @@ module _ (whole_left whole_right sum : List EdgeRow) (bs cs : List (Arc Band Glo
         unlawful = λ lawful. unlawful.unlawful (subst IsLawfulWeight (weight_in_all-step x y some) lawful);
       }
 
-  pub sum_more_bands : (after : List EdgeRow) → HasSum sum (rows_of_bands first_left) (rows_of_bands first_right) after
-      → IsRowSumSoFar whole_left whole_right after (rows_of_bands rest_left) (rows_of_bands rest_right)
-  sum_more_bands after step =
+  pub sum_more_step : (after : List EdgeRow) → HasSum sum first_left first_right after
+      → IsRowSumSoFar whole_left whole_right after rest_left rest_right
+  sum_more_step after step =
       let top = int_min so_far.top (lowest_of n -ℤ pos 1) in
       let lower : top ≤ℤ so_far.top = omega (arith, ints, clamps) in
       let lower_than_band : top ≤ℤ (lowest_of n -ℤ pos 1) = omega (arith, ints, clamps) in
@@ -202,10 +190,10 @@ module _ (whole_left whole_right sum : List EdgeRow) (bs cs : List (Arc Band Glo
             (All-weaker (λ r. so_far.top <ℤ r.y) (λ r. top <ℤ r.y) (λ r lt. omega (arith, ints, lower)) sum so_far.above)
             (All-weaker (λ r. (lowest_of n -ℤ pos 1) <ℤ r.y) (λ r. top <ℤ r.y) (λ r lt. omega (arith, ints, lower_than_band)) step.more
             (step.within.above (lowest_of n -ℤ pos 1) split_left.up_to split_right.up_to));
-        left = rows_from-both so_far.top (lowest_of n) (rows_of_bands rest_left)
-            (rows_from-back so_far.top (rows_of_bands first_left) (rows_of_bands rest_left) from_top_left) split_left.behind;
-        right = rows_from-both so_far.top (lowest_of n) (rows_of_bands rest_right)
-            (rows_from-back so_far.top (rows_of_bands first_right) (rows_of_bands rest_right) from_top_right) split_right.behind;
+        left = rows_from-both so_far.top (lowest_of n) rest_left
+            (rows_from-back so_far.top first_left rest_left from_top_left) split_left.behind;
+        right = rows_from-both so_far.top (lowest_of n) rest_right
+            (rows_from-back so_far.top first_right rest_right from_top_right) split_right.behind;
         weights = λ x y.
             let old = so_far.weights x y in
             let parts = weight_in_all-parts x y in

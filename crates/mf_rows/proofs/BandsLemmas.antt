@@ -22,7 +22,7 @@ use Rattle.mf_edges.proofs.Falls.{Falls, IsPartitionedBy-falls, All-take_within,
 
 -- ---- lists of rows
 
-All-front : (P : EdgeRow → Type 0) (rs ss : List EdgeRow) → All P (rs ++ ss) → All P rs
+pub All-front : (P : EdgeRow → Type 0) (rs ss : List EdgeRow) → All P (rs ++ ss) → All P rs
 All-front P [] ss all = All-nil P
 All-front P (r ∷ rs) ss all = All-cons P r rs (All-head P r (rs ++ ss) all) (All-front P rs ss (All-tail P r (rs ++ ss) all))
 

@@ -36,7 +36,7 @@ All-rows_of_bands N P holds (b ∷ bs) all =
     (All-rows_of_bands N P holds bs (All-tail (λ (c : Arc Band Global). N (arc_value c).number) b bs all))
 
 -- the rows between the ends of a band belong to it
-between_ends : (n : ℤ) (rs : List EdgeRow) → AreAbove (lowest_of n -ℤ pos 1) rs → AreBelow (lowest_of n +ℤ pos 16) rs → AreOfBand n rs
+pub between_ends : (n : ℤ) (rs : List EdgeRow) → AreAbove (lowest_of n -ℤ pos 1) rs → AreBelow (lowest_of n +ℤ pos 16) rs → AreOfBand n rs
 between_ends n [] above below = All-nil (λ r. IsOfBand n r.y)
 between_ends n (r ∷ rs) above below =
     let bottom = All-head (λ r. (lowest_of n -ℤ pos 1) <ℤ r.y) r rs above in
@@ -45,23 +45,17 @@ between_ends n (r ∷ rs) above below =
     (record { top = omega (arith, ints, top); bottom = omega (arith, ints, bottom) })
     (between_ends n rs (All-tail (λ r. (lowest_of n -ℤ pos 1) <ℤ r.y) r rs above) (All-tail (λ r. r.y <ℤ (lowest_of n +ℤ pos 16)) r rs below))
 
-above_end : (n : ℤ) (band : Band) → band.number ≡ n → AreAbove (lowest_of n -ℤ pos 1) (rows_in band)
-above_end n band is =
-    All-weaker (λ r. IsOfBand band.number r.y) (λ r. (lowest_of n -ℤ pos 1) <ℤ r.y)
-    (λ r own. let own : IsOfBand n r.y = rw (← is) own in omega (arith, ints, own.bottom)) (rows_in band) (rows_of_band band)
+-- what holds of the heights of a band holds of its rows
+pub All-of_band : (n : ℤ) (P : ℤ → Type 0) → ((y : ℤ) → IsOfBand n y → P y) → (rs : List EdgeRow) → AreOfBand n rs → All (λ r. P r.y) rs
+All-of_band n P holds rs of_band = All-weaker (λ r. IsOfBand n r.y) (λ r. P r.y) (λ r own. holds r.y own) rs of_band
 
-below_end : (n : ℤ) (band : Band) → band.number ≡ n → AreBelow (lowest_of n +ℤ pos 16) (rows_in band)
-below_end n band is =
-    All-weaker (λ r. IsOfBand band.number r.y) (λ r. r.y <ℤ (lowest_of n +ℤ pos 16))
-    (λ r own. let own : IsOfBand n r.y = rw (← is) own in omega (arith, ints, own.top)) (rows_in band) (rows_of_band band)
-
--- and so do the rows of the sum of two bands of its number
-pub sum_of_band : (n : ℤ) (left right : Band) (rs : List EdgeRow) → left.number ≡ n → right.number ≡ n
-    → StayWithin (rows_in left) (rows_in right) rs → AreOfBand n rs
-sum_of_band n left right rs of_left of_right within =
-    between_ends n rs
-    (within.above (lowest_of n -ℤ pos 1) (above_end n left of_left) (above_end n right of_right))
-    (within.below (lowest_of n +ℤ pos 16) (below_end n left of_left) (below_end n right of_right))
+-- and so are the rows of the sum of rows of it
+pub sum_is_of_band : (n : ℤ) (rs ss sum : List EdgeRow) → AreOfBand n rs → AreOfBand n ss → StayWithin rs ss sum → AreOfBand n sum
+sum_is_of_band n rs ss sum left right within =
+    let above = All-of_band n (λ y. (lowest_of n -ℤ pos 1) <ℤ y) (λ y own. omega (arith, ints, own.bottom)) in
+    let below = All-of_band n (λ y. y <ℤ (lowest_of n +ℤ pos 16)) (λ y own. omega (arith, ints, own.top)) in
+    between_ends n sum (within.above (lowest_of n -ℤ pos 1) (above rs left) (above ss right))
+    (within.below (lowest_of n +ℤ pos 16) (below rs left) (below ss right))
 
 -- ---- the place at which bands are split
 

@@ -1,3 +1,4 @@
+mod BandRowSums
 mod BandsLemmas
 mod BandSumsLemmas
 mod BlankPictures

@@ -102,6 +102,12 @@ place_of_own es row own is = record { there = tt; edges = is }
 pub nothing_more : (es : List Edge) → HasMoreEdges es es
 nothing_more es = record { more = []; all = sym (append-nil es) }
 
+-- a head with its edges at their place appends a row
+pub row_of_push : (es : List Edge) (hs : List Head) (h : Head) (row : List Edge) → IsPlaceOf es h.place row
+    → rows_at es (hs ++ h ∷ []) ≡ rows_at es hs ++ record { y = h.y; edges = row } ∷ []
+row_of_push es hs h row placed =
+    map_push (row_at es) hs h ∙ ap (λ (fs : List Edge). rows_at es hs ++ record { y = h.y; edges = fs } ∷ []) placed.edges
+
 -- the edges of the sum of two rows that were appended
 abbrev pub more_of_sum : (es ls rs ds : List Edge) (reach : Option ℕ) → HasReachedSum es ls rs ds reach → HasMoreEdges es ds
 more_of_sum es ls rs ds reach pushed = record { more = pushed.sum.more; all = pushed.sum.all }

@@ -1,13 +1,18 @@
 -- Strips of rows with the same edges, pushed from the top down.
-use Rattle.std.proofs.Common.{◌≡◌, ◌≢◌, ℕ, zero, suc, ℤ, pos, ◌+ℤ◌, ◌-ℤ◌, ◌≤ℤ◌, ◌<ℤ◌, List, [], ◌∷◌, ◌++◌, refl, sym, ◌∙◌, append_assoc, append-nil, to_z, of_z, w32, arith}
+use Rattle.std.proofs.Common.{◌≡◌, ◌≢◌, ℕ, zero, suc, ℤ, pos, ◌+ℤ◌, ◌-ℤ◌, ◌≤ℤ◌, ◌<ℤ◌, List, [], ◌∷◌, ◌++◌, Option, refl, sym, subst, ◌∙◌, append_assoc, append-nil, to_z, of_z, w32, arith}
 use Rattle.std.specs.Int.RustNames.{unsigned_abs}
 use Rattle.std.proofs.lemmas.Int.{ints}
 use Rattle.mf_geom.specs.Coordinates.{least_coordinate, greatest_coordinate}
 use Rattle.mf_edges.specs.declared.edge.Edge.{Edge}
 use Rattle.mf_edges.specs.Edges.{AreEdges}
 use Rattle.mf_rows.specs.EdgeRows.{EdgeRow}
+use Rattle.mf_edges.specs.Reaches.{HasReach}
+use Rattle.mf_rows.specs.declared.row_list.Head.{Head}
+use Rattle.mf_rows.specs.declared.row_list.Place.{Place}
+use Rattle.mf_rows.specs.RowLists.{rows_at, IsPlaceOf, AreHeads}
 use Rattle.mf_rows.specs.RowMoves.{strip}
 use Rattle.mf_rows.specs.Strips.{ReachDownTo, HasStrip}
+use Rattle.mf_rows.proofs.RowListLemmas.{heads_push, nothing_more, row_of_push}
 use Rattle.mf_rows.proofs.StripsLemmas.{no_strip, pushed_row}
 
 -- the old rows are followed by the first `down` rows of a strip
@@ -61,6 +66,43 @@ next_place bottom top down low high least greatest = record {
   row = omega (arith, ints);
   least = omega (arith, ints);
 }
+
+-- ---- heads of a strip
+
+-- the old heads are followed by heads of the first `down` rows of a strip, with this reach and place
+pub record AreHeadsSoFar (old : List Head) (reach : Option ℕ) (p : Place) (bottom top down : ℤ) (new : List Head) : Type 0 where
+  pub heads : (es row : List Edge) → AreHeads es old → IsPlaceOf es p row → HasReach reach row → AreHeads es new
+  pub rows : (es row : List Edge) → IsPlaceOf es p row → AreCopiesSoFar (rows_at es old) row bottom top down (rows_at es new)
+
+pub heads_none : (old : List Head) (reach : Option ℕ) (p : Place) (bottom top : ℤ) → AreHeadsSoFar old reach p bottom top (pos 0) old
+heads_none old reach p bottom top = record {
+  heads = λ es row heads placed reached. heads;
+  rows = λ es row placed. copies_none (rows_at es old) row bottom top;
+}
+
+-- the next head goes below them
+module _ (old : List Head) (reach : Option ℕ) (p : Place) (bottom top down : ℤ) (new : List Head) (in_reach : (down +ℤ pos 1) ≤ℤ (top -ℤ bottom))
+    (so_far : AreHeadsSoFar old reach p bottom top down new) (q : Place)
+    (shared : (es row : List Edge) → IsPlaceOf es p row → IsPlaceOf es q row) where
+  abbrev pub next_head : Head
+  next_head = record { y = top -ℤ (down +ℤ pos 1); reach = reach; place = q }
+
+  pub heads_more : AreHeadsSoFar old reach p bottom top (down +ℤ pos 1) (new ++ next_head ∷ [])
+  heads_more = record {
+    heads = λ es row heads placed reached.
+        heads_push es es (nothing_more es) new (so_far.heads es row heads placed reached) next_head row (shared es row placed) reached;
+    rows = λ es row placed.
+        subst (AreCopiesSoFar (rows_at es old) row bottom top (down +ℤ pos 1)) (sym (row_of_push es new next_head row (shared es row placed)))
+        (copies_more (rows_at es old) row bottom top down (rows_at es new) in_reach (so_far.rows es row placed));
+  }
+
+pub heads_all : (old : List Head) (reach : Option ℕ) (p : Place) (bottom top down : ℤ) (new : List Head) → top -ℤ bottom ≡ down
+    → AreHeadsSoFar old reach p bottom top down new → (es row : List Edge) → IsPlaceOf es p row
+    → rows_at es new ≡ rows_at es old ++ strip bottom row (unsigned_abs (top -ℤ bottom))
+heads_all old reach p bottom top down new end so_far es row placed =
+    copies_all (rows_at es old) row bottom top down (rows_at es new) end (so_far.rows es row placed)
+
+-- ---- strips below other rows
 
 -- a strip with edges goes below the rows that are there
 pushed_strip : (old rows : List EdgeRow) (es : List Edge) (n : ℕ) (bottom high top : ℤ)

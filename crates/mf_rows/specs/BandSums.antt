@@ -1,5 +1,5 @@
 -- The sum of two lists of bands, made in steps that end at the lower end of a band of the field.
-use Rattle.std.specs.Prelude.{◌≡◌, ◌⊎◌, ℤ, pos, ◌-ℤ◌, ◌*ℤ◌, ◌≤ℤ◌, ◌<ℤ◌, All, List, [], ◌∷◌, ◌++◌, if◌then◌else◌}
+use Rattle.std.specs.Prelude.{◌≡◌, ◌⊎◌, ◌<◌, ◌≤◌, ℤ, pos, ◌-ℤ◌, ◌*ℤ◌, ◌≤ℤ◌, ◌<ℤ◌, All, List, [], ◌∷◌, ◌++◌, length, if◌then◌else◌}
 use Rattle.std.specs.Int.{int_max}
 use Rattle.std.specs.Ordering.{int_eq}
 use Rattle.std.specs.Arc.{arc_value}
@@ -8,7 +8,7 @@ use Rattle.std.specs.declared.sync.Arc.{Arc}
 use Rattle.mf_geom.specs.Coordinates.{greatest_coordinate}
 use Rattle.mf_rows.specs.declared.bands.TheConstants.{BAND_HEIGHT}
 use Rattle.mf_rows.specs.declared.band.Band.{Band}
-use Rattle.mf_rows.specs.Bands.{AreAbove, AreBelow}
+use Rattle.mf_rows.specs.Bands.{rows_of_bands, AreAbove, AreBelow}
 use Rattle.mf_rows.specs.EdgeRows.{EdgeRow, AreRows}
 use Rattle.mf_rows.specs.Sums.{HaveRowWeights, StayWithin, weight_in_all}
 
@@ -32,6 +32,18 @@ AreNumberedBehind n bs = All (λ (b : Arc Band Global). n <ℤ (arc_value b).num
 abbrev pub BeginUpTo : ℤ → List (Arc Band Global) → Type 0
 BeginUpTo n [] = ⊥
 BeginUpTo n (b ∷ bs) = (arc_value b).number ≤ℤ n
+
+-- rows are split into those of bands up to band n and those of bands after it
+pub record AreSplitAtBand (n : ℤ) (rs first rest : List EdgeRow) : Type 0 where
+  pub all : rs ≡ first ++ rest
+  pub up_to : AreUpTo n first
+  pub behind : AreBehind n rest
+
+-- bands are split into those up to band n and those after it
+pub record IsSplitAtBand (n : ℤ) (bs first rest : List (Arc Band Global)) : Type 0 where
+  pub rows : AreSplitAtBand n (rows_of_bands bs) (rows_of_bands first) (rows_of_bands rest)
+  pub no_longer : length rest ≤ length bs
+  pub shorter : BeginUpTo n bs → length rest < length bs
 
 -- the number up to which bands are added in one step, from the numbers of the first ones: theirs where it is the same,
 -- else the one before the greater of them

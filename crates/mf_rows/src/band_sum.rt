@@ -6,7 +6,7 @@ ghost use Rattle.mf_rows.specs.EdgeRows.{AreRows};
 ghost use Rattle.mf_rows.specs.Sums.{weight_in_all, HaveRowWeights, IsUnlawfulSomewhere};
 
 use crate::band::Band;
-use crate::bands::{close_band, count_up_to, push_shared};
+use crate::bands::{close_band, push_shared, split_bands};
 use crate::row_list::RowList;
 use crate::row_sum::{push_rows, sum_of_rows};
 use crate::slice::RowSlice;
@@ -35,8 +35,8 @@ pub(crate) fn sum_of_bands(
     sum.reserve(left.len() + right.len())?;
     let (mut left, mut right) = (left, right);
     while let Some(number) = end_of_step(left, right) {
-        let (first_left, rest_left) = left.split_at(count_up_to(left, number));
-        let (first_right, rest_right) = right.split_at(count_up_to(right, number));
+        let (first_left, rest_left) = split_bands(left, number);
+        let (first_right, rest_right) = split_bands(right, number);
         push_sum(alloc, &mut sum, first_left, first_right)?;
         (left, right) = (rest_left, rest_right);
     }
@@ -108,7 +108,7 @@ fn push_sum_of_rows(
 }
 
 /// The rows of bands, in one list.
-fn all_rows(alloc: Global, bands: &[Arc<Band>]) -> Result<RowList, OutOfMemory>
+pub(crate) fn all_rows(alloc: Global, bands: &[Arc<Band>]) -> Result<RowList, OutOfMemory>
     ensures { IfOk result (λ rows. rows ≡ rows_of_bands bands.now) }
 {
     let mut rows = RowList::new(alloc);

@@ -1,9 +1,9 @@
 //! Lists of bands: an operation makes new bands where it changes something, and shares the others.
-ghost use Rattle.std.specs.Prelude.{◌≡◌, [], ◌++◌, ◌≤◌, IsNone, IsOk, IfSome, OnOk, ◌≤ℤ◌, length, take, drop, All};
+ghost use Rattle.std.specs.Prelude.{◌≡◌, [], ◌++◌, ◌≤◌, IsNone, IsOk, IfSome, OnOk, pos, ◌≤ℤ◌, length, take, drop, All};
 ghost use Rattle.std.specs.Arc.{arc_value};
 ghost use Rattle.mf_geom.specs.Coordinates.{least_coordinate, last_in_field};
-ghost use Rattle.mf_rows.specs.Bands.{bottom_of, rows_in, rows_of_bands, HasRow, HasNoRow, HasSameRow, AreAbove};
-ghost use Rattle.mf_rows.specs.BandSums.{AreUpTo, AreBehind, AreNumberedBehind};
+ghost use Rattle.mf_rows.specs.Bands.{bottom_of, rows_in, rows_of_bands, slice_rows, HasRow, HasNoRow, HasSameRow, AreAbove};
+ghost use Rattle.mf_rows.specs.BandSums.{AreUpTo, AreBehind, AreNumberedBehind, AreSplitAtBand, IsSplitAtBand};
 ghost use Rattle.mf_rows.specs.EdgeRows.{AreRows};
 ghost use Rattle.mf_rows.specs.FieldBands.{IsOfBand, AreOfBand};
 
@@ -49,8 +49,26 @@ pub(crate) fn count_above(bands: &[Arc<Band>], y: i32) -> usize
     bands.partition_point(|band| band.bottom() > y)
 }
 
+/// These bands, split into those up to the one of this number and those after it.
+pub(crate) fn split_bands(bands: &[Arc<Band>], number: i32) -> (&[Arc<Band>], &[Arc<Band>])
+    requires { AreRows (rows_of_bands bands.now) }
+    ensures { IsSplitAtBand number bands.now result.0.now result.1.now }
+{
+    bands.split_at(count_up_to(bands, number))
+}
+
+/// These rows, split into those of the bands up to the one of this number and those of bands after it.
+pub(crate) fn split_rows(rows: RowSlice<'_>, number: i32) -> (RowSlice<'_>, RowSlice<'_>)
+    requires rows { AreRows (slice_rows rows) }
+    requires least { pos 0 ≤ℤ number }
+    requires greatest { number ≤ℤ pos 511 }
+    ensures { AreSplitAtBand number (slice_rows rows.entry) (slice_rows result.0) (slice_rows result.1) }
+{
+    rows.split_above(FIELD_END - 1 - BAND_HEIGHT * (number + 1))
+}
+
 /// The number of bands whose number is at most this one, which are the first ones.
-pub(crate) fn count_up_to(bands: &[Arc<Band>], number: i32) -> usize
+fn count_up_to(bands: &[Arc<Band>], number: i32) -> usize
     requires { AreRows (rows_of_bands bands.now) }
     ensures within { result ≤ length bands.now }
     ensures above { AreUpTo number (rows_of_bands (take result bands.now)) }

@@ -9,8 +9,7 @@ ghost use Rattle.mf_rows.specs.Sums.{HaveFieldWeights};
 
 use crate::new_edges::NewEdges;
 use crate::row::Row;
-use crate::row_list::MANY_EDGES;
-use crate::writer::RowWriter;
+use crate::row_list::{MANY_EDGES, RowList};
 use mf_base::OutOfMemory;
 use mf_edges::{Edge, FIELD_START, add_edge, reach_of};
 use std::alloc::Global;
@@ -29,14 +28,14 @@ pub struct Corner {
 }
 
 /// The rows in which each pixel of the field has the weight that these corners add to it.
-pub(crate) fn rows_of_corners(alloc: Global, corners: Vec<Corner>) -> Result<RowWriter, OutOfMemory>
+pub(crate) fn rows_of_corners(alloc: Global, corners: Vec<Corner>) -> Result<RowList, OutOfMemory>
     requires { AreCorners corners.items }
     ensures rows { IfOk result (λ rows. AreRows rows) }
     ensures weights { IfOk result (λ rows. HaveFieldWeights (added_by_all corners.items) rows) }
 {
     let mut corners = corners;
     corners.sort_unstable_by_key(|corner| Reverse(corner.y));
-    let mut rows = RowWriter::new(alloc);
+    let mut rows = RowList::with_room(alloc, height_of(&corners), corners.len())?;
     let mut edges = Vec::new(alloc);
     for (place, corner) in corners.iter().enumerate() {
         add_edge(&mut edges, corner.x, corner.weight)?;
@@ -44,6 +43,14 @@ pub(crate) fn rows_of_corners(alloc: Global, corners: Vec<Corner>) -> Result<Row
         push_strip(alloc, &mut rows, &edges, next, corner.y)?;
     }
     Ok(rows)
+}
+
+/// The number of heights from the first of these corners to the last.
+fn height_of(corners: &[Corner]) -> usize {
+    match (corners.first(), corners.last()) {
+        (Some(first), Some(last)) => first.y.abs_diff(last.y) as usize,
+        _ => 0,
+    }
 }
 
 /// The height of the corner after a place; after the last one, the bottom of the field.
@@ -61,7 +68,7 @@ fn next_height(corners: &[Corner], place: usize) -> i32
 /// edges, it appends none.
 fn push_strip(
     alloc: Global,
-    rows: &mut RowWriter,
+    rows: &mut RowList,
     edges: &[Edge],
     bottom: i32,
     top: i32,

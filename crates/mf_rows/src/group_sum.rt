@@ -1,14 +1,16 @@
 //! The sum of groups, and of groups and bands.
 ghost use Rattle.std.specs.Prelude.{◌≡◌, ◌≢◌, IfOk, IfErr};
-ghost use Rattle.mf_rows.specs.Bands.{rows_of_bands};
+ghost use Rattle.mf_rows.specs.Bands.{rows_of_bands, slice_rows};
 ghost use Rattle.mf_rows.specs.EdgeRows.{AreRows};
 ghost use Rattle.mf_rows.specs.Groups.{AreGroups, group_found, rows_at_place, rows_of_groups};
 ghost use Rattle.mf_rows.specs.Sums.{weight_in_all, HaveRowWeights, IsUnlawfulSomewhere};
 
 use crate::band::Band;
+use crate::band_row_sum::sum_of_bands_and_rows;
 use crate::band_sum::sum_of_bands;
 use crate::group::{GROUP_COUNT, Group};
-use crate::groups::{group_at, group_of, share_group, split_at_place};
+use crate::groups::{group_at, group_of, share_group, split_rows_at_place};
+use crate::slice::RowSlice;
 use mf_edges::AddFault;
 use std::alloc::Global;
 use std::sync::Arc;
@@ -59,52 +61,51 @@ fn sum_at(
     }
 }
 
-/// The groups of the sum of groups and bands, whose own groups are not made. Where only one of both has a band, it is shared, and
-/// so is a group at whose place there are no bands. Refused with `WeightTooLarge` where a weight would exceed 32767 in absolute
-/// value, and with `OutOfMemory` where an allocation fails.
-pub(crate) fn sum_with_bands(
+/// The groups of the sum of groups and rows. A group, or a band, that no row reaches is shared. Refused with `WeightTooLarge` where a
+/// weight would exceed 32767 in absolute value, and with `OutOfMemory` where an allocation fails.
+pub(crate) fn sum_with_rows(
     alloc: Global,
     groups: &[Option<Arc<Group>>],
-    bands: &[Arc<Band>],
+    rows: RowSlice<'_>,
 ) -> Result<Vec<Option<Arc<Group>>>, AddFault>
     requires groups { AreGroups groups.now }
-    requires bands { AreRows (rows_of_bands bands.now) }
+    requires rows { AreRows (slice_rows rows) }
     ensures groups { IfOk result (λ sum. AreGroups sum.items) }
-    ensures weights { IfOk result (λ sum. HaveRowWeights (weight_in_all (rows_of_groups groups.now) (rows_of_bands bands.now)) (rows_of_groups sum.items)) }
+    ensures weights { IfOk result (λ sum. HaveRowWeights (weight_in_all (rows_of_groups groups.now) (slice_rows rows.entry)) (rows_of_groups sum.items)) }
     ensures too_large { IfErr result (λ fault. fault ≢ AddFault.OutOfMemory
-        → IsUnlawfulSomewhere (weight_in_all (rows_of_groups groups.now) (rows_of_bands bands.now))) }
+        → IsUnlawfulSomewhere (weight_in_all (rows_of_groups groups.now) (slice_rows rows.entry))) }
 {
     let mut sum = Vec::new(alloc);
     sum.reserve(GROUP_COUNT)?;
-    let mut rest = bands;
+    let mut rest = rows;
     for place in 0..GROUP_COUNT {
         if rest.is_empty() && groups.len() <= place {
             break;
         }
-        let (own, others) = split_at_place(rest, place);
+        let (own, others) = split_rows_at_place(rest, place);
         sum.push(sum_with_own(alloc, group_at(groups, place), own)?)?;
         rest = others;
     }
     Ok(sum)
 }
 
-/// The sum of the group at a place, where there is one, and of the bands there.
+/// The sum of the group at a place, where there is one, and of the rows there.
 fn sum_with_own(
     alloc: Global,
     group: Option<&Arc<Group>>,
-    bands: &[Arc<Band>],
+    rows: RowSlice<'_>,
 ) -> Result<Option<Arc<Group>>, AddFault>
     requires group { AreRows (group_found group) }
-    requires bands { AreRows (rows_of_bands bands.now) }
+    requires rows { AreRows (slice_rows rows) }
     ensures rows { IfOk result (λ sum. AreRows (rows_at_place sum)) }
-    ensures weights { IfOk result (λ sum. HaveRowWeights (weight_in_all (group_found group.entry) (rows_of_bands bands.now)) (rows_at_place sum)) }
+    ensures weights { IfOk result (λ sum. HaveRowWeights (weight_in_all (group_found group.entry) (slice_rows rows.entry)) (rows_at_place sum)) }
     ensures too_large { IfErr result (λ fault. fault ≢ AddFault.OutOfMemory
-        → IsUnlawfulSomewhere (weight_in_all (group_found group.entry) (rows_of_bands bands.now))) }
+        → IsUnlawfulSomewhere (weight_in_all (group_found group.entry) (slice_rows rows.entry))) }
 {
-    if bands.is_empty() {
+    if rows.is_empty() {
         return Ok(share_group(group)?);
     }
-    let sum = sum_of_bands(alloc, bands_found(group), bands)?;
+    let sum = sum_of_bands_and_rows(alloc, bands_found(group), rows)?;
     Ok(group_of(alloc, sum)?)
 }
 

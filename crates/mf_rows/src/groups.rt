@@ -1,14 +1,15 @@
 //! Lists of groups: at each place the group of the field that belongs there, or none.
 ghost use Rattle.std.specs.Prelude.{◌≡◌, ◌<◌, IsNone, IfSome, IfOk, None, map, slice_index_or};
-ghost use Rattle.mf_rows.specs.Bands.{edge_rows, rows_of_bands, HasRow, HasNoRow};
+ghost use Rattle.mf_rows.specs.Bands.{edge_rows, rows_of_bands, slice_rows, HasRow, HasNoRow};
 ghost use Rattle.mf_rows.specs.EdgeRows.{AreRows};
 ghost use Rattle.mf_rows.specs.Groups.{AreGroups, IsSplitAtPlace, group_found, rows_at_place, rows_of_groups};
 
 use crate::band::Band;
-use crate::bands::{count_up_to, find_row_in, push_shared};
+use crate::bands::{find_row_in, push_shared, split_bands, split_rows};
 use crate::group::{BANDS_IN_GROUP, GROUP_COUNT, GROUP_HEIGHT, Group};
 use crate::row::Row;
 use crate::rows::Rows;
+use crate::slice::RowSlice;
 use mf_base::OutOfMemory;
 use mf_edges::{FIELD_END, FIELD_START};
 use std::alloc::Global;
@@ -118,5 +119,14 @@ pub(crate) fn split_at_place(bands: &[Arc<Band>], place: usize) -> (&[Arc<Band>]
     requires place { place < GROUP_COUNT }
     ensures { IsSplitAtPlace place (rows_of_bands bands.now) (rows_of_bands result.0.now) (rows_of_bands result.1.now) }
 {
-    bands.split_at(count_up_to(bands, BANDS_IN_GROUP * (place as i32 + 1) - 1))
+    split_bands(bands, BANDS_IN_GROUP * (place as i32 + 1) - 1)
+}
+
+/// These rows, split into those of the group at a place and of earlier ones, and those of later ones.
+pub(crate) fn split_rows_at_place(rows: RowSlice<'_>, place: usize) -> (RowSlice<'_>, RowSlice<'_>)
+    requires rows { AreRows (slice_rows rows) }
+    requires place { place < GROUP_COUNT }
+    ensures { IsSplitAtPlace place (slice_rows rows.entry) (slice_rows result.0) (slice_rows result.1) }
+{
+    split_rows(rows, BANDS_IN_GROUP * (place as i32 + 1) - 1)
 }

@@ -2,6 +2,7 @@
 #![tactic(auto)]
 
 mod band;
+mod band_row_sum;
 mod band_sum;
 mod bands;
 mod bounds;

@@ -6,7 +6,7 @@ ghost use Rattle.mf_rows.specs.EdgeRows.{AreRows};
 use crate::bounds::{Box4, Pixels, bounds_of};
 use crate::corner::{Corner, rows_of_corners};
 use crate::group::Group;
-use crate::group_sum::{sum_of_groups, sum_with_bands};
+use crate::group_sum::{sum_of_groups, sum_with_rows};
 use crate::groups::{find_row, groups_of, rows_of, share};
 use crate::row::Row;
 use crate::row_change::changed_rows;
@@ -14,6 +14,7 @@ use crate::row_move::{mirrored_rows, stretched_rows};
 use crate::rows::Rows;
 use crate::run::Run;
 use crate::runs::Runs;
+use crate::slice::RowSlice;
 use crate::turn::turned_rows;
 use crate::writer::RowWriter;
 use mf_base::OutOfMemory;
@@ -250,8 +251,8 @@ impl Picture {
         ensures lawful { OnOk result (IsPicture self.new) }
         ensures too_large { IfErr result (λ fault. fault ≢ AddFault.OutOfMemory → IsUnlawfulSomewhere (with_corners_at self.old corners.items)) }
     {
-        let bands = rows_of_corners(alloc, corners)?.finish()?;
-        self.groups = sum_with_bands(alloc, &self.groups, &bands)?;
+        let rows = rows_of_corners(alloc, corners)?;
+        self.groups = sum_with_rows(alloc, &self.groups, RowSlice::of(&rows))?;
         Ok(())
     }
 

@@ -1,8 +1,12 @@
 //! Lists of rows whose edges stand one after another.
-ghost use Rattle.std.specs.Prelude.{◌≡◌, ◌≢◌, List, [], ◌∷◌, ◌++◌, ◌↔◌, IsTrue, IfOk, IfErr, OnOk, OnErr};
+ghost use Rattle.std.specs.Prelude.{◌≡◌, ◌≢◌, List, [], ◌∷◌, ◌++◌, ◌↔◌, IsTrue, IfOk, IfErr, OnOk, OnErr, ◌≤ℤ◌, ◌-ℤ◌};
 ghost use Rattle.mf_edges.specs.Edges.{AreEdges};
+ghost use Rattle.mf_edges.specs.Reaches.{HasReach};
 ghost use Rattle.mf_edges.specs.Sums.{weight_in_both, HasMoreEdges, IsUnlawfulColumn};
-ghost use Rattle.mf_rows.specs.RowLists.{AreHeads, IsPlaceOf, HasReachedSum, last_edges};
+ghost use Rattle.std.specs.Int.RustNames.{unsigned_abs};
+ghost use Rattle.mf_geom.specs.Coordinates.{least_coordinate, greatest_coordinate};
+ghost use Rattle.mf_rows.specs.RowMoves.{strip};
+ghost use Rattle.mf_rows.specs.RowLists.{AreHeads, IsPlaceOf, HasReachedSum, last_edges, rows_at};
 
 use crate::row::Row;
 use mf_base::OutOfMemory;
@@ -34,6 +38,7 @@ pub(crate) enum Place {
 
 impl Place {
     /// The same place, which is shared.
+    #[inline(always)]
     fn share(&self) -> Result<Place, OutOfMemory>
         ensures { IfOk result (λ place. (edges row : List Edge) → IsPlaceOf edges self.now row → IsPlaceOf edges place row) }
     {
@@ -143,6 +148,23 @@ impl RowList {
         Ok(())
     }
 
+    /// Appends a row with the edges of this one at each height from `top - 1` down to `bottom`. They share these edges.
+    #[inline(always)]
+    pub(crate) fn push_copies(
+        &mut self,
+        row: Row<'_>,
+        bottom: i32,
+        top: i32,
+    ) -> Result<(), OutOfMemory>
+        requires bottom { least_coordinate ≤ℤ bottom }
+        requires order { bottom ≤ℤ top }
+        requires top { top ≤ℤ greatest_coordinate }
+        ensures { OnOk result (self.new ≡ self.old ++ strip bottom row.entry.edges.now (unsigned_abs (top -ℤ bottom))) }
+    {
+        let place = place_of(&mut self.edges, &self.heads, &row)?;
+        push_heads(&mut self.heads, row.reach, &place, bottom, top)
+    }
+
     /// Appends the sum of two rows of the same height, unless it is blank. Refused with `WeightTooLarge` where a weight
     /// would exceed 32767 in absolute value, and with `OutOfMemory` where an allocation fails.
     pub(crate) fn push_sum(
@@ -212,8 +234,35 @@ impl RowList {
     }
 }
 
+/// Appends a head with this reach and place at each height from `top - 1` down to `bottom`.
+#[inline(always)]
+fn push_heads(
+    heads: &mut Vec<Head>,
+    reach: Option<u16>,
+    place: &Place,
+    bottom: i32,
+    top: i32,
+) -> Result<(), OutOfMemory>
+    requires bottom { least_coordinate ≤ℤ bottom }
+    requires order { bottom ≤ℤ top }
+    requires top { top ≤ℤ greatest_coordinate }
+    ensures heads { (edges row : List Edge) → AreHeads edges heads.old.items → IsPlaceOf edges place.now row → HasReach reach row → AreHeads edges heads.new.items }
+    ensures rows { OnOk result ((edges row : List Edge) → IsPlaceOf edges place.now row
+        → rows_at edges heads.new.items ≡ rows_at edges heads.old.items ++ strip bottom row (unsigned_abs (top -ℤ bottom))) }
+{
+    for down in 0..top - bottom {
+        heads.push(Head {
+            y: top - 1 - down,
+            reach,
+            place: place.share()?,
+        })?;
+    }
+    Ok(())
+}
+
 /// The place of the edges of a row: its own list, or else that of the last row's edges where they are the same; else they are
 /// appended.
+#[inline(always)]
 fn place_of(edges: &mut Vec<Edge>, heads: &[Head], row: &Row<'_>) -> Result<Place, OutOfMemory>
     requires { AreHeads edges.old.items heads.now }
     ensures kept { HasMoreEdges edges.old.items edges.new.items }

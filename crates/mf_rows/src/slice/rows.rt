@@ -61,6 +61,21 @@ impl<'a> RowSlice<'a> {
         count
     }
 
+    /// The number of the edges of these rows that are in the list, where neighbours that share them count once.
+    pub(crate) fn own_edge_count(self) -> usize {
+        let mut count = 0usize;
+        let mut last = 0;
+        for head in self.heads {
+            if let Place::Among { start, end } = head.place {
+                if end != last {
+                    count = count.saturating_add(end - start);
+                }
+                last = end;
+            }
+        }
+        count
+    }
+
     /// The height of the last row, 0 where there is none.
     pub(crate) fn last_height(self) -> i32
         ensures { result ≡ last_height (slice_rows self.entry) }

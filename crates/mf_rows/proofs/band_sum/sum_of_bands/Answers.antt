@@ -5,53 +5,38 @@ use Rattle.mf_rows.specs.Bands.{rows_of_bands}
 use Rattle.mf_rows.specs.EdgeRows.{AreRows}
 use Rattle.mf_rows.specs.Sums.{weight_in_all, HaveRowWeights}
 use Rattle.mf_rows.proofs.RowSums.{sum_none, rows_left, rows_right}
-use Rattle.mf_rows.proofs.BandSumsLemmas.{IsSplitAtBand, split_at_band, fewer_bands, rows_of_first, rows_with_bands, weights_with_rest, unlawful_in_step, sum_more_bands}
-use Rattle.mf_rows.proofs.band_sum.sum_of_bands.Goals.{After-split_at-in-Some}
+use Rattle.mf_rows.proofs.BandSumsLemmas.{fewer_bands, rows_of_first, rows_with_bands, weights_with_rest, unlawful_in_step, sum_more_step}
 use Rattle.mf_rows.proofs.band_sum.sum_of_bands.Goals as goal
 
 pub loop-number-init : goal.loop-number-init
 loop-number-init c = rw (c.in_ok-reserve.ensures.items, c.new-sum.ensures.items) (sum_none (rows_of_bands c.args.left.now) (rows_of_bands c.args.right.now) c.requires.left c.requires.right)
 
-pub count_up_to-requires : goal.count_up_to-requires
-count_up_to-requires c = rows_left _ _ _ _ _ c.loop-number.invariant
+pub split_bands-requires : goal.split_bands-requires
+split_bands-requires c = rows_left _ _ _ _ _ c.loop-number.invariant
 
-pub count_up_to-requires-in-Some : goal.count_up_to-requires-in-Some
-count_up_to-requires-in-Some c = rows_right _ _ _ _ _ c.loop-number.invariant
+pub split_bands-requires-in-Some : goal.split_bands-requires-in-Some
+split_bands-requires-in-Some c = rows_right _ _ _ _ _ c.loop-number.invariant
 
 pub push_sum-requires-clause-left : goal.push_sum-requires-clause-left
-push_sum-requires-clause-left c = rows_of_first _ _ _ c.split_at.ensures.front (rows_left _ _ _ _ _ c.loop-number.invariant)
+push_sum-requires-clause-left c = rows_of_first c.split_bands.ensures.rows (rows_left _ _ _ _ _ c.loop-number.invariant)
 
 pub push_sum-requires-clause-right : goal.push_sum-requires-clause-right
-push_sum-requires-clause-right c = rows_of_first _ _ _ c.split_at-in-Some.ensures.front (rows_right _ _ _ _ _ c.loop-number.invariant)
-
--- the bands of both lists as they are split in a step
-split_left : (c : After-split_at-in-Some) → IsSplitAtBand c.in-Some.number c.loop-number.left.now c.split_at.result.0.now c.split_at.result.1.now
-split_left c =
-    let number_is : to_z w32 (of_z w32 c.in-Some.number) ≡ c.in-Some.number = omega (arith, ints) in
-    rw number_is at (split_at_band _ _ c.loop-number.left.now _ _ c.split_at.ensures.front c.split_at.ensures.back c.count_up_to.ensures.above c.count_up_to.ensures.below c.count_up_to.ensures.others)
-
-split_right : (c : After-split_at-in-Some)
-    → IsSplitAtBand c.in-Some.number c.loop-number.right.now c.split_at-in-Some.result.0.now c.split_at-in-Some.result.1.now
-split_right c =
-    let number_is : to_z w32 (of_z w32 c.in-Some.number) ≡ c.in-Some.number = omega (arith, ints) in
-    rw number_is at (split_at_band _ _ c.loop-number.right.now _ _ c.split_at-in-Some.ensures.front c.split_at-in-Some.ensures.back c.count_up_to-in-Some.ensures.above c.count_up_to-in-Some.ensures.below c.count_up_to-in-Some.ensures.others)
+push_sum-requires-clause-right c = rows_of_first c.split_bands-in-Some.ensures.rows (rows_right _ _ _ _ _ c.loop-number.invariant)
 
 pub returns-in_err-push_sum-clause-too_large : goal.returns-in_err-push_sum-clause-too_large
 returns-in_err-push_sum-clause-too_large c =
-    let step = (goal.at.returns-in_err-push_sum-clause-too_large c).After-split_at-in-Some in
     let p = err_from_is_err_and c.from_residual-in_err-push_sum.result c.from_residual-in_err-push_sum.ensures.1 in
-    rw (p.1, p.2) (λ fault. unlawful_in_step _ _ _ _ _ c.loop-number.invariant _ _ _ _ _ (split_left step)
-    (split_right step) (c.in_err-push_sum.ensures.too_large fault))
+    rw (p.1, p.2) (λ fault. unlawful_in_step _ _ _ _ _ c.loop-number.invariant _ _ _ _ _ c.split_bands.ensures.rows
+    c.split_bands-in-Some.ensures.rows (c.in_err-push_sum.ensures.too_large fault))
 
 pub loop-number-smaller : goal.loop-number-smaller
 loop-number-smaller c =
-    let step = (goal.at.loop-number-smaller c).After-split_at-in-Some in
-    fewer_bands c.in-Some.ensures.step (split_left step) (split_right step)
+    let fits : to_z w32 (of_z w32 c.in-Some.number) ≡ c.in-Some.number = omega (arith, ints) in
+    fewer_bands c.in-Some.ensures.step (rw fits at c.split_bands.ensures) (rw fits at c.split_bands-in-Some.ensures)
 
 pub loop-number-preserved : goal.loop-number-preserved
 loop-number-preserved c =
-    let step = (goal.at.loop-number-preserved c).After-split_at-in-Some in
-    sum_more_bands _ _ _ _ _ c.loop-number.invariant _ _ _ _ _ (split_left step) (split_right step) _ c.in_ok-push_sum.ensures.pushed
+    sum_more_step _ _ _ _ _ c.loop-number.invariant _ _ _ _ _ c.split_bands.ensures.rows c.split_bands-in-Some.ensures.rows _ c.in_ok-push_sum.ensures.pushed
 
 pub returns-clause-rows : goal.returns-clause-rows
 returns-clause-rows c =

@@ -17,7 +17,7 @@ loop-place-init c =
     let corners = corners_permuted c.args.corners.items sorted c.sort_unstable_by_key.ensures.permutation c.requires in
     let by_height : IsSortedBy (λ (k l : Corner). is_lt (int_cmp l.y k.y)) sorted =
     c.sort_unstable_by_key.ensures.sorted (λ corner. record { 0 = corner.y }) (answers_always _ _ _ (λ f a r g called. search rules)) in
-    rw (c.deref-corner-items.ensures.value, c.new-edges.ensures.items, c.new-rows.ensures)
+    rw (c.deref-corner-items.ensures.value, c.new-edges.ensures.items, c.in_ok-rows.ensures)
     (swept_none sorted corners (falling_from_sorted sorted corners.corners by_height))
 
 pub add_edge-requires : goal.add_edge-requires
@@ -45,7 +45,7 @@ push_strip-requires c =
     let swept = swept_at all place any _ _ c.loop-place-test.true c.loop-place.invariant in
     let corner = All-head IsCorner k left swept.corners in
     let read = corner_read_back k corner in
-    let same = c.deref.ensures.value ∙ sym c.deref-corner-items.ensures.value in
+    let same = c.deref-in-loop-place.ensures.value ∙ sym c.deref-corner-items.ensures.value in
     let next =
     height_read_back left c.next_height-next.result (All-tail IsCorner k left swept.corners)
     (c.next_height-next.ensures ∙ ap (λ ks. first_height_of (drop (place + 1) ks)) same) in
@@ -59,7 +59,7 @@ push_strip-requires c =
       bottom = rw next (level_in_field all k left _ _ _ corners swept sorted added);
       order = rw (next, read.y) (level_order all k left _ _ _ corners swept sorted added);
       top = rw read.y corner.top;
-      edges = rw (next, read.y, c.deref-in-loop-place.ensures.value) (level_edges all k left _ _ _ corners swept sorted added);
+      edges = rw (next, read.y, c.deref-in-loop-place-2.ensures.value) (level_edges all k left _ _ _ corners swept sorted added);
       rows = rw read.y swept.rows;
     }
 
@@ -73,7 +73,7 @@ loop-place-preserved c =
     let swept = swept_at all place any _ _ c.loop-place-test.true c.loop-place.invariant in
     let corner = All-head IsCorner k left swept.corners in
     let read = corner_read_back k corner in
-    let same = c.deref.ensures.value ∙ sym c.deref-corner-items.ensures.value in
+    let same = c.deref-in-loop-place.ensures.value ∙ sym c.deref-corner-items.ensures.value in
     let next =
     height_read_back left c.next_height-next.result (All-tail IsCorner k left swept.corners)
     (c.next_height-next.ensures ∙ ap (λ ks. first_height_of (drop (place + 1) ks)) same) in
@@ -82,7 +82,7 @@ loop-place-preserved c =
     (corners_permuted c.args.corners.items c.sort_unstable_by_key.new.self.items c.sort_unstable_by_key.ensures.permutation c.requires) in
     let added : HaveWeights (with_edge_in c.loop-place.edges.items k.x k.weight) c.add_edge.new.edges.items =
     rw (read.x, read.weight) at c.in_ok-add_edge.ensures.weights in
-    let strip = rw (next, read.y, c.deref-in-loop-place.ensures.value) at c.in_ok-push_strip.ensures in
+    let strip = rw (next, read.y, c.deref-in-loop-place-2.ensures.value) at c.in_ok-push_strip.ensures in
     swept_more all k left _ _ _ corners swept c.in_ok-add_edge.ensures.sorted added _ strip
 
 pub returns : goal.returns

@@ -6,8 +6,8 @@ use Rattle.mf_rows.proofs.picture.Picture.add_corners.Goals as goal
 
 pub returns-in_err-self-inside-clause-too_large : goal.returns-in_err-self-inside-clause-too_large
 returns-in_err-self-inside-clause-too_large c =
-    let added = c.in_ok-rows_of_corners.ensures in
-    let unlawful = rw (c.deref.ensures.value, c.deref-2.ensures.value, c.in_ok-bands.ensures) at c.in_err-self-inside.ensures.too_large in
+    let added = c.in_ok-rows.ensures in
+    let unlawful = rw (c.deref.ensures.value, c.of.ensures) at c.in_err-self-inside.ensures.too_large in
     let p = err_from_is_err_and c.from_residual-in_err-self-inside.result c.from_residual-in_err-self-inside.ensures.1 in
     rw (p.1, p.2, ← c.self.view_is)
     (λ fault. unlawful_with_corners _ _ added.rows added.weights
@@ -15,8 +15,8 @@ returns-in_err-self-inside-clause-too_large c =
 
 pub returns-clause-weights : goal.returns-clause-weights
 returns-clause-weights c =
-    let added = c.in_ok-rows_of_corners.ensures in
-    let weights = rw (c.deref.ensures.value, c.deref-2.ensures.value, c.in_ok-bands.ensures) at c.in_ok-self-inside.ensures.weights in
+    let added = c.in_ok-rows.ensures in
+    let weights = rw (c.deref.ensures.value, c.of.ensures) at c.in_ok-self-inside.ensures.weights in
     let sum = rows_of_groups_are_rows _ c.in_ok-self-inside.ensures.groups in
     rw (← c.self.view_is)
     (weights_with_corners _ _ added.rows added.weights (weights_with_sum _ _ _ (rows_of_groups_are_rows _ c.self.invariant) added.rows sum weights))
