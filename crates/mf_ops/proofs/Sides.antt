@@ -1,7 +1,9 @@
 -- The sides of a contour add its weight times the winding number.
-use Rattle.std.proofs.Common.{◌≡◌, ◌≢◌, ◌&&◌, Bool, not, cond, int_le, int_lt, ℕ, ◌+◌, ◌*◌, ◌<◌, ◌≤◌, ℤ, pos, negsuc, neg_ℤ, ◌+ℤ◌, ◌-ℤ◌, ◌*ℤ◌, ◌≤ℤ◌, List, [], ◌∷◌, ◌++◌, length, All, refl, sym, ap, ◌∙◌, inl, inr, arith, length-append, add-one}
+use Rattle.std.proofs.Common.{◌≡◌, ◌≢◌, ◌&&◌, Bool, not, cond, int_le, int_lt, ℕ, ◌+◌, ◌*◌, ◌<◌, ◌≤◌, ℤ, pos, negsuc, neg_ℤ, ◌+ℤ◌, ◌-ℤ◌, ◌*ℤ◌, ◌≤ℤ◌, List, [], ◌∷◌, ◌++◌, length, reverse, All, refl, sym, ap, ◌∙◌, inl, inr, arith, length-append, add-one}
 use Rattle.std.proofs.lemmas.Int.{ints}
 use Rattle.std.proofs.lemmas.List.Elements.{All-nil, All-cons, All-append}
+use Rattle.std.proofs.lemmas.List.{reverse-append, length-reverse}
+use Rattle.std.proofs.lemmas.List.Sorted.{IsPermutation-reverse, All-permutation}
 use Rattle.mf_geom.specs.Coordinates.{greatest_coordinate}
 use Rattle.mf_geom.specs.declared.check.Check.TheVariants.{Off}
 use Rattle.mf_geom.specs.declared.point.Point.{Point}
@@ -20,16 +22,24 @@ use Rattle.mf_ops.specs.Sides.{HasSide, AddWinding}
 use Rattle.mf_ops.specs.Step.{step_at}
 use Rattle.mf_ops.specs.declared.op.Op.TheVariants.{Contour}
 
--- the corners of the edges that leave the first n vertices of a cycle
-pub record AreSides (ps : List Point) (w : ℤ) (n : ℕ) (ks : List Corner) : Type 0 where
-  pub few : length ks ≤ 2 * n
-  pub corners : All IsCorner ks
-  pub added : (x y : ℤ) → added_by_all ks x y ≡ w *ℤ sum_below n (crossing_at ps x y)
+-- the corners of the edges that leave the first n vertices of a cycle, in two lists
+pub record AreSides (ps : List Point) (w : ℤ) (n : ℕ) (ks ls : List Corner) : Type 0 where
+  pub few : length ks + length ls ≤ 2 * n
+  pub firsts : All IsCorner ks
+  pub seconds : All IsCorner ls
+  pub added : (x y : ℤ) → added_by_all ks x y +ℤ added_by_all ls x y ≡ w *ℤ sum_below n (crossing_at ps x y)
 
 added_by_all-append : (ks ls : List Corner) (x y : ℤ) → added_by_all (ks ++ ls) x y ≡ added_by_all ks x y +ℤ added_by_all ls x y
 unfolding added_by_all
 added_by_all-append [] ls x y = omega (arith, ints)
 added_by_all-append (k ∷ ks) ls x y = let rest = added_by_all-append ks ls x y in omega (arith, ints)
+
+added_by_all-reverse : (ks : List Corner) (x y : ℤ) → added_by_all (reverse ks) x y ≡ added_by_all ks x y
+unfolding added_by_all
+added_by_all-reverse [] x y = refl
+added_by_all-reverse (k ∷ ks) x y =
+    let turned : reverse (k ∷ ks) ≡ reverse ks ++ k ∷ [] = reverse-append (k ∷ []) ks in
+    rw turned (omega (arith, ints, added_by_all-append (reverse ks) (k ∷ []) x y, added_by_all-reverse ks x y))
 
 int_le-not_lt : (a x : ℤ) → int_le a x ≡ not (int_lt x a)
 int_le-not_lt a x = grind (arith, ints)
@@ -99,37 +109,78 @@ pub IsInRange-ends : (ps : List Point) (n : ℕ) → IsRectilinearCycle ps → n
 unfolding segment_at
 IsInRange-ends ps n cycle below = (cycle.range.in_range n below, cycle.range.in_range (next_place ps n) (next_place-below ps n below))
 
-pub AreSides-none : (ps : List Point) (w : ℤ) → AreSides ps w 0 []
+pub AreSides-none : (ps : List Point) (w : ℤ) → AreSides ps w 0 [] []
 unfolding added_by_all sum_below
-AreSides-none ps w = record { few = omega arith; corners = All-nil IsCorner; added = λ x y. omega (arith, ints) }
-
-pub AreSides-more : (ps : List Point) (w : ℤ) (n : ℕ) (ks ls : List Corner) → AreSides ps w n ks → HasSide w (segment_at ps n) ks ls → AreSides ps w (n + 1) ls
-unfolding sum_below crossing_at
-AreSides-more ps w n ks ls sides side = record {
-  few = omega (arith, sides.few, side.few);
-  corners = side.corners;
-  added = λ x y.
-      let e = segment_at ps n in
-      rw add-one (side.added x y ∙ (λ t. sides.added x y t +ℤ w *ℤ crossing x y e) ∙ sym (mul-add w (sum_below n (crossing_at ps x y)) (crossing x y e)));
+AreSides-none ps w = record {
+  few = omega arith;
+  firsts = All-nil IsCorner;
+  seconds = All-nil IsCorner;
+  added = λ x y. omega (arith, ints);
 }
 
--- the sides of the complete cycle add nothing to the right of the field
-pub AreCorners-sides : (ps : List Point) (w : ℤ) (ks : List Corner) → IsRectilinearCycle ps → AreSides ps w (length ps) ks → AreCorners ks
+-- the next edge may go to the first list
+pub AreSides-first : (ps : List Point) (w : ℤ) (n : ℕ) (ks more ls : List Corner) → AreSides ps w n ks ls → HasSide w (segment_at ps n) ks more
+    → AreSides ps w (n + 1) more ls
+unfolding sum_below crossing_at
+AreSides-first ps w n ks more ls sides side = record {
+  few = omega (arith, sides.few, side.few);
+  firsts = side.corners;
+  seconds = sides.seconds;
+  added = λ x y.
+      let e = segment_at ps n in
+      let grown = mul-add w (sum_below n (crossing_at ps x y)) (crossing x y e) in
+      rw add-one (omega (arith, ints, side.added x y, sides.added x y, grown));
+}
+
+AreSides-swapped : (ps : List Point) (w : ℤ) (n : ℕ) (ks ls : List Corner) → AreSides ps w n ks ls → AreSides ps w n ls ks
+AreSides-swapped ps w n ks ls sides = record {
+  few = omega (arith, sides.few);
+  firsts = sides.seconds;
+  seconds = sides.firsts;
+  added = λ x y. omega (arith, ints, sides.added x y);
+}
+
+-- or to the second one
+pub AreSides-second : (ps : List Point) (w : ℤ) (n : ℕ) (ks ls more : List Corner) → AreSides ps w n ks ls → HasSide w (segment_at ps n) ls more
+    → AreSides ps w (n + 1) ks more
+AreSides-second ps w n ks ls more sides side =
+    AreSides-swapped ps w (n + 1) more ks (AreSides-first ps w n ls more ks (AreSides-swapped ps w n ks ls sides) side)
+
+-- the corners of both lists may stand in one, those of the first from the last one back
+pub AreSides-joined : (ps : List Point) (w : ℤ) (n : ℕ) (ks ls : List Corner) → AreSides ps w n ks ls → AreSides ps w n (reverse ks ++ ls) []
+unfolding added_by_all
+AreSides-joined ps w n ks ls sides = record {
+  few = omega (arith, length-append (reverse ks) ls, length-reverse ks, sides.few);
+  firsts = All-append IsCorner (reverse ks) ls (All-permutation IsCorner ks (reverse ks) (IsPermutation-reverse ks) sides.firsts) sides.seconds;
+  seconds = All-nil IsCorner;
+  added = λ x y. omega (arith, ints, added_by_all-append (reverse ks) ls x y, added_by_all-reverse ks x y, sides.added x y);
+}
+
+-- the sides of the complete cycle add the weight times the crossings of all its edges
+added_by_all-sides : (ps : List Point) (w : ℤ) (ks : List Corner) → AreSides ps w (length ps) ks [] → (x y : ℤ)
+    → added_by_all ks x y ≡ w *ℤ sum_below (length ps) (crossing_at ps x y)
+unfolding added_by_all
+added_by_all-sides ps w ks sides x y = omega (arith, ints, sides.added x y)
+
+-- they add nothing to the right of the field
+pub AreCorners-sides : (ps : List Point) (w : ℤ) (ks : List Corner) → IsRectilinearCycle ps → AreSides ps w (length ps) ks [] → AreCorners ks
 AreCorners-sides ps w ks cycle sides =
     let sized = cycle.range.sized in
     record {
       few = omega (arith, sides.few, sized.greatest);
-      corners = sides.corners;
+      corners = sides.firsts;
       closed = λ y.
           let balanced =
           crossings-beside ps greatest_coordinate y (pos 1)
           (λ i below. let point = cycle.range.in_range i below in passed-reached greatest_coordinate (point_at ps i).x point.x.greatest) in
-          sides.added greatest_coordinate y ∙ ap (λ n. w *ℤ n) balanced ∙ omega (arith, ints);
+          added_by_all-sides ps w ks sides greatest_coordinate y ∙ ap (λ n. w *ℤ n) balanced ∙ omega (arith, ints);
     }
 
 -- together they add the weight times the winding number
-pub AddWinding-sides : (ps : List Point) (w : ℤ) (ks : List Corner) → IsRectilinearCycle ps → AreSides ps w (length ps) ks → AddWinding ps w ks
-AddWinding-sides ps w ks cycle sides = record { added = λ x y. sides.added x y ∙ ap (λ n. w *ℤ n) (sym (winding-crossings ps x y cycle)) }
+pub AddWinding-sides : (ps : List Point) (w : ℤ) (ks : List Corner) → IsRectilinearCycle ps → AreSides ps w (length ps) ks [] → AddWinding ps w ks
+AddWinding-sides ps w ks cycle sides = record {
+  added = λ x y. added_by_all-sides ps w ks sides x y ∙ ap (λ n. w *ℤ n) (sym (winding-crossings ps x y cycle));
+}
 
 -- so a picture to which the sides of a contour were added has the weights of the step with the turning check off
 pub with_corners_at-contour : (ds : List Dot) (ps : List Point) (w : ℤ) (ks : List Corner) → AddWinding ps w ks → (x y : ℤ)

@@ -74,7 +74,9 @@ pub fn fill(alloc: Global, picture: &mut Picture, cycle: &Cycle, weight: i32) ->
     Ok(picture.add_corners(alloc, corners)?)
 }
 
-/// The corners that add the weight times the winding number of the cycle to each pixel.
+/// The corners that add the weight times the winding number of the cycle to each pixel: those of the vertical edges that lead up,
+/// from the last one back, then those of the edges that lead down, from the first one on. So the heights fall as long as the cycle
+/// rises or falls, and to sort the corners by height is to merge a few long runs.
 fn corners_of(alloc: Global, cycle: &Cycle, weight: i32) -> Result<Vec<Corner>, OutOfMemory>
     requires least { negsuc 2 ≤ℤ weight }
     requires greatest { weight ≤ℤ pos 3 }
@@ -82,12 +84,19 @@ fn corners_of(alloc: Global, cycle: &Cycle, weight: i32) -> Result<Vec<Corner>, 
     ensures added { IfOk result (λ corners. AddWinding cycle.now weight corners.items) }
 {
     let count = cycle.points().len();
-    let mut corners = Vec::new(alloc);
+    let mut rising = Vec::with_capacity(alloc, count)?;
+    let mut falling = Vec::with_capacity(alloc, count)?;
     for place in 0..count {
         let (from, to) = cycle.edge(place);
-        push_side(&mut corners, from, to, weight)?;
+        if from.y < to.y {
+            push_side(&mut rising, from, to, weight)?;
+        } else {
+            push_side(&mut falling, from, to, weight)?;
+        }
     }
-    Ok(corners)
+    rising.reverse();
+    rising.extend_from_slice(&falling)?;
+    Ok(rising)
 }
 
 /// Appends the corners of an edge of the path: two where it is vertical, and none where it is horizontal.
