@@ -34,7 +34,8 @@ pub(crate) fn rows_of_corners(alloc: Global, corners: Vec<Corner>) -> Result<Row
     ensures weights { IfOk result (λ rows. HaveFieldWeights (added_by_all corners.items) rows) }
 {
     let mut corners = corners;
-    corners.sort_unstable_by_key(|corner| Reverse(corner.y));
+    // The corners of a path have long runs of falling heights, which a stable sort finds and merges.
+    corners.sort_by_key(|corner| Reverse(corner.y))?;
     let mut rows = RowList::with_room(alloc, height_of(&corners), corners.len())?;
     let mut edges = Vec::new(alloc);
     for (place, corner) in corners.iter().enumerate() {

@@ -13,10 +13,10 @@ use Rattle.mf_rows.proofs.corner.rows_of_corners.Goals as goal
 
 pub loop-place-init : goal.loop-place-init
 loop-place-init c =
-    let sorted = c.sort_unstable_by_key.new.self.items in
-    let corners = corners_permuted c.args.corners.items sorted c.sort_unstable_by_key.ensures.permutation c.requires in
+    let sorted = c.sort_by_key.new.self.items in
+    let corners = corners_permuted c.args.corners.items sorted c.sort_by_key.ensures.permutation c.requires in
     let by_height : IsSortedBy (λ (k l : Corner). is_lt (int_cmp l.y k.y)) sorted =
-    c.sort_unstable_by_key.ensures.sorted (λ corner. record { 0 = corner.y }) (answers_always _ _ _ (λ f a r g called. search rules)) in
+    c.in_ok-sort_by_key.ensures.sorted (λ corner. record { 0 = corner.y }) (answers_always _ _ _ (λ f a r g called. search rules)) in
     rw (c.deref-corner-items.ensures.value, c.new-edges.ensures.items, c.in_ok-rows.ensures)
     (swept_none sorted corners (falling_from_sorted sorted corners.corners by_height))
 
@@ -51,7 +51,7 @@ push_strip-requires c =
     (c.next_height-next.ensures ∙ ap (λ ks. first_height_of (drop (place + 1) ks)) same) in
     let corners : AreCorners all =
     rw c.deref-corner-items.ensures.value
-    (corners_permuted c.args.corners.items c.sort_unstable_by_key.new.self.items c.sort_unstable_by_key.ensures.permutation c.requires) in
+    (corners_permuted c.args.corners.items c.sort_by_key.new.self.items c.sort_by_key.ensures.permutation c.requires) in
     let added : HaveWeights (with_edge_in c.loop-place.edges.items k.x k.weight) c.add_edge.new.edges.items =
     rw (read.x, read.weight) at c.in_ok-add_edge.ensures.weights in
     let sorted = c.in_ok-add_edge.ensures.sorted in
@@ -79,7 +79,7 @@ loop-place-preserved c =
     (c.next_height-next.ensures ∙ ap (λ ks. first_height_of (drop (place + 1) ks)) same) in
     let corners : AreCorners all =
     rw c.deref-corner-items.ensures.value
-    (corners_permuted c.args.corners.items c.sort_unstable_by_key.new.self.items c.sort_unstable_by_key.ensures.permutation c.requires) in
+    (corners_permuted c.args.corners.items c.sort_by_key.new.self.items c.sort_by_key.ensures.permutation c.requires) in
     let added : HaveWeights (with_edge_in c.loop-place.edges.items k.x k.weight) c.add_edge.new.edges.items =
     rw (read.x, read.weight) at c.in_ok-add_edge.ensures.weights in
     let strip = rw (next, read.y, c.deref-in-loop-place-2.ensures.value) at c.in_ok-push_strip.ensures in
@@ -90,7 +90,7 @@ returns c =
     let all = c.deref-corner-items.result.now in
     let none : drop c.loop-place.place all ≡ [] = drop_all c.loop-place.place all c.loop-place-test.false in
     let done = swept_all all _ _ (rw none at c.loop-place.invariant) in
-    let moved : IsPermutation c.args.corners.items all = rw c.deref-corner-items.ensures.value c.sort_unstable_by_key.ensures.permutation in
+    let moved : IsPermutation c.args.corners.items all = rw c.deref-corner-items.ensures.value c.sort_by_key.ensures.permutation in
     record {
       rows = done.0;
       weights = record { weights = λ x y inside. done.1.weights x y inside ∙ added_by_permuted c.args.corners.items all x y moved };
