@@ -26,7 +26,8 @@ use std::sync::Wait;
 const TOTAL_LINE: usize = 33;
 
 impl Session {
-    /// Performs a command, and answers with what it prints.
+    /// Performs a command, and answers with what it prints. All operations go through one call: memory for what a call is given is
+    /// zeroed before any command is performed, so a call in each case would cost each line.
     pub(crate) fn perform<R: Wait>(
         &mut self,
         rt: &R,
@@ -43,31 +44,27 @@ impl Session {
         ensures limits { limits self.new ≡ limits self.old }
         ensures identity { identity self.new ≡ identity self.old }
     {
-        match command {
-            Command::Nothing => Ok(Vec::new(alloc)),
-            Command::Turning(check) => Ok(self.set_check(alloc, check)),
-            Command::Contour(name, cycle, weight) => {
-                self.variables
-                    .operate(alloc, name, Op::Contour(cycle, weight, self.check))
+        let (name, op) = match command {
+            Command::Nothing => return Ok(Vec::new(alloc)),
+            Command::Turning(check) => return Ok(self.set_check(alloc, check)),
+            Command::Also(name, source, sign) => {
+                return self.variables.add(alloc, name, source, sign);
             }
-            Command::Also(name, source, sign) => self.variables.add(alloc, name, source, sign),
-            Command::Cull(name, cull) => self.variables.operate(alloc, name, Op::Cull(cull)),
-            Command::Clear(name) => self.variables.operate(alloc, name, Op::Clear),
-            Command::Shift(name, right, up) => self
-                .variables
-                .operate(alloc, name, Op::Shift(right, up)),
-            Command::Scale(name, factors) => self
-                .variables
-                .operate(alloc, name, Op::Scale(factors)),
-            Command::Quarter(name, quarter) => self
-                .variables
-                .operate(alloc, name, Op::Quarter(quarter)),
-            Command::Total(source) => total(alloc, self.variables.source(&source)),
-            Command::Show(source) => show_runs(alloc, self.variables.source(&source)),
-            Command::Proof(source) => proof(alloc, self.variables.source(&source)),
-            Command::Ship(source, code, dx, width) => self.ship(alloc, source, code, dx, width),
-            Command::Publish => self.variables.publish(rt, alloc),
-        }
+            Command::Total(source) => return total(alloc, self.variables.source(&source)),
+            Command::Show(source) => return show_runs(alloc, self.variables.source(&source)),
+            Command::Proof(source) => return proof(alloc, self.variables.source(&source)),
+            Command::Ship(source, code, dx, width) => {
+                return self.ship(alloc, source, code, dx, width);
+            }
+            Command::Publish => return self.variables.publish(rt, alloc),
+            Command::Contour(name, cycle, weight) => (name, Op::Contour(cycle, weight, self.check)),
+            Command::Cull(name, cull) => (name, Op::Cull(cull)),
+            Command::Clear(name) => (name, Op::Clear),
+            Command::Shift(name, right, up) => (name, Op::Shift(right, up)),
+            Command::Scale(name, factors) => (name, Op::Scale(factors)),
+            Command::Quarter(name, quarter) => (name, Op::Quarter(quarter)),
+        };
+        self.variables.operate(alloc, name, op)
     }
 
     /// Sets the turning check. It prints nothing.
