@@ -78,6 +78,7 @@ impl Tokens<'_> {
     }
 
     /// Passes a source: `nullpicture`, or a name.
+    #[inline(always)]
     pub fn source(&mut self) -> Result<Source, SyntaxFault>
         ensures { Passes rests.source self.old self.new result }
     {
@@ -224,6 +225,7 @@ impl Tokens<'_> {
     }
 
     /// Passes the end of a line after its command: `;`, or nothing.
+    #[inline(always)]
     pub fn end(&mut self) -> Result<(), SyntaxFault>
         ensures { Closes self.old result }
     {
