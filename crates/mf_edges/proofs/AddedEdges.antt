@@ -82,11 +82,24 @@ step_at_edge : (low : ℤ) (es : List Edge) (at : ℕ) (d : Edge) → AreEdgesFr
 step_at_edge low [] at d from lt = absurd (omega (arith, lt))
 step_at_edge low (e ∷ es) zero d from lt =
     let after : e.x <ℤ (e.x +ℤ pos 1) = omega (arith, ints) in
-    omega (arith, ints, weight_in-left e es e.x (omega (arith, ints)), weight_in-right e es (e.x -ℤ pos 1) (omega (arith, ints)), weight_in-before (e.x +ℤ pos 1) es e.x from.2 after, weight_in-before (e.x +ℤ pos 1) es (e.x -ℤ pos 1) from.2 (omega (arith, ints)))
+    omega (
+      arith,
+      ints,
+      weight_in-left e es e.x (omega (arith, ints)),
+      weight_in-right e es (e.x -ℤ pos 1) (omega (arith, ints)),
+      weight_in-before (e.x +ℤ pos 1) es e.x from.2 after,
+      weight_in-before (e.x +ℤ pos 1) es (e.x -ℤ pos 1) from.2 (omega (arith, ints)),
+    )
 step_at_edge low (e ∷ es) (suc at) d from lt =
     let here = get_or es at d in
     let right = (edges_from-at (e.x +ℤ pos 1) es at d from.2 (omega arith)).1 in
-    omega (arith, ints, step_at_edge (e.x +ℤ pos 1) es at d from.2 (omega arith), weight_in-left e es here.x (omega (arith, ints, right)), weight_in-left e es (here.x -ℤ pos 1) (omega (arith, ints, right)))
+    omega (
+      arith,
+      ints,
+      step_at_edge (e.x +ℤ pos 1) es at d from.2 (omega arith),
+      weight_in-left e es here.x (omega (arith, ints, right)),
+      weight_in-left e es (here.x -ℤ pos 1) (omega (arith, ints, right)),
+    )
 
 -- so the weight fits, and a lawful weight may be added to it
 pub edge_is_small : (es : List Edge) (at : ℕ) (d : Edge) → AreOpenEdges es → at < length es → d ≡ get_or es at d

@@ -130,7 +130,8 @@ module _ (es before left : List Edge) (e : Edge) (new : List Edge) (last : left 
 mirrored_of : (es : List Edge) → AreEdges es → AreChanged Mirror es (all_flipped es)
 unfolding changed_in
 mirrored_of es row =
-    let weights : (x : ℤ) → weight_in (all_flipped es) x ≡ weight_in es (opposite x) = λ x. let sum = flipped-weights least_coordinate es x row.sorted in omega (arith, ints, row.closed) in
+    let weights : (x : ℤ) → weight_in (all_flipped es) x ≡ weight_in es (opposite x) =
+    λ x. let sum = flipped-weights least_coordinate es x row.sorted in omega (arith, ints, row.closed) in
     record {
       edges = record {
         sorted = flipped-sorted least_coordinate es row.sorted;

@@ -198,7 +198,10 @@ module _ (all : List Corner) (k : Corner) (left : List Corner) (es fs : List Edg
   unfolding added_by_all
   below_corner x y below = omega (arith, ints, swept.below x y below, added_below k x y below, weight_added x)
 
-  small : (x : ℤ) → record { least : negsuc 24575 ≤ℤ (weight_in fs x -ℤ pos (3 * length left)); greatest : (weight_in fs x +ℤ pos (3 * length left)) ≤ℤ pos 24576 }
+  small : (x : ℤ) → record {
+    least : negsuc 24575 ≤ℤ (weight_in fs x -ℤ pos (3 * length left));
+    greatest : (weight_in fs x +ℤ pos (3 * length left)) ≤ℤ pos 24576;
+  }
   small x =
       let part = part_is_small (int_le k.x x) k.weight corner.least corner.greatest in
       record { least = omega (arith, ints, swept.least x, weight_added x, part); greatest = omega (arith, ints, swept.greatest x, weight_added x, part) }

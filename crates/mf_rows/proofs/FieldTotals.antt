@@ -42,7 +42,8 @@ total_of-rows f bottom zero = refl
 total_of-rows f bottom (suc n) =
     let top = row_of f (bottom +ℤ pos (suc n)) least_coordinate 8190 in
     let next : (bottom +ℤ pos (suc n)) -ℤ pos 1 ≡ bottom +ℤ pos n = omega (arith, ints) in
-    let others : total_of (rows_of f ((bottom +ℤ pos (suc n)) -ℤ pos 1) n) ≡ sum_below n (λ j. total_of (row_of f (bottom +ℤ pos (suc j)) least_coordinate 8190)) = (λ t. total_of (rows_of f (next t) n)) ∙ total_of-rows f bottom n in
+    let others : total_of (rows_of f ((bottom +ℤ pos (suc n)) -ℤ pos 1) n) ≡ sum_below n
+    (λ j. total_of (row_of f (bottom +ℤ pos (suc j)) least_coordinate 8190)) = (λ t. total_of (rows_of f (next t) n)) ∙ total_of-rows f bottom n in
     total_of-append top (rows_of f ((bottom +ℤ pos (suc n)) -ℤ pos 1) n) ∙ omega (arith, ints, others)
 
 pub total_of-picture_of : (f : ℤ → ℤ → ℤ) → total_of (picture_of f) ≡ sum_over_field f
@@ -50,7 +51,8 @@ unfolding picture_of sum_over_field
 total_of-picture_of f =
     let height : (j : ℕ) → negsuc 4095 +ℤ pos (suc j) ≡ least_coordinate +ℤ pos j = λ j. omega (arith, ints) in
     total_of-rows f (negsuc 4095) 8190
-    ∙ (λ t. sum_below 8190 (λ j. (total_of-row f (negsuc 4095 +ℤ pos (suc j)) least_coordinate 8190 ∙ ap (λ y. sum_below 8190 (λ i. f (least_coordinate +ℤ pos i) y)) (height j)) t))
+    ∙ (λ t. sum_below 8190 (λ j. (total_of-row f (negsuc 4095 +ℤ pos (suc j)) least_coordinate 8190 ∙
+    ap (λ y. sum_below 8190 (λ i. f (least_coordinate +ℤ pos i) y)) (height j)) t))
 
 -- a picture is the picture of its own weights
 pub total_of-picture : (ds : List Dot) → IsPicture ds → total_of ds ≡ sum_over_field (weight_at ds)

@@ -34,7 +34,8 @@ rows_split (g ∷ gs) zero = refl
 rows_split [] (suc i) = refl
 rows_split (g ∷ gs) (suc i) = rows_split gs i
 
-pub split_at_group : (gs : Groups) (i : ℕ) → AreGroups gs → IsSplitAtPlace i (rows_of_groups (drop i gs)) (rows_in_place gs i) (rows_of_groups (drop (i + 1) gs))
+pub split_at_group : (gs : Groups) (i : ℕ) → AreGroups gs
+    → IsSplitAtPlace i (rows_of_groups (drop i gs)) (rows_in_place gs i) (rows_of_groups (drop (i + 1) gs))
 split_at_group gs i groups =
     let next : suc i ≡ i + 1 = omega arith in
     let layer = layer_at last_in_field gs i groups.layers in

@@ -20,7 +20,8 @@ use Rattle.mf_rows.proofs.BoxesJoined.{any_right, box_of_some}
 
 is_nonzero : (w : ℤ) → w ≢ pos 0 → not (int_eq w (pos 0)) ≡ true
 is_nonzero w apart =
-    cond_both (int_eq w (pos 0)) true true (λ _. not (int_eq w (pos 0)) ≡ true) (λ zero. absurd (apart ((Decides-int_eq w (pos 0)).0 zero))) (λ other. ap not other)
+    cond_both (int_eq w (pos 0)) true true (λ _. not (int_eq w (pos 0)) ≡ true) (λ zero. absurd (apart ((Decides-int_eq w (pos 0)).0 zero)))
+    (λ other. ap not other)
 
 nonzero_is : (w : ℤ) → not (int_eq w (pos 0)) ≡ true → w ≢ pos 0
 nonzero_is w found zero = false≢true (sym (ap not ((Decides-int_eq w (pos 0)).1 zero)) ∙ found)
@@ -78,11 +79,13 @@ nonzero_in_rows rs rows x y = ap (λ w. not (int_eq w (pos 0))) (sym (weight_at-
 least_in_rows : (rs : List EdgeRow) (b : Box4) → AreRows rs → IsBoxRound (among_rows Nonzero rs) b → IsLeastBox (picture_of_rows rs) b
 least_in_rows rs b rows box = least_of_weights _ _ b (lawful_picture_of_rows rs rows) (nonzero_in_rows rs rows) box
 
-pub least_if_some : (rs : List EdgeRow) (bounds : Option Box4) → AreRows rs → AreBounds (among_rows Nonzero rs) bounds → IfSome bounds (IsLeastBox (picture_of_rows rs))
+pub least_if_some : (rs : List EdgeRow) (bounds : Option Box4) → AreRows rs → AreBounds (among_rows Nonzero rs) bounds
+    → IfSome bounds (IsLeastBox (picture_of_rows rs))
 least_if_some rs None rows box = tt
 least_if_some rs (Some b) rows box = least_in_rows rs b rows box
 
-pub none_if_blank : (rs : List EdgeRow) (bounds : Option Box4) → AreRows rs → AreBounds (among_rows Nonzero rs) bounds → IsNone bounds ↔ (picture_of_rows rs ≡ [])
+pub none_if_blank : (rs : List EdgeRow) (bounds : Option Box4) → AreRows rs → AreBounds (among_rows Nonzero rs) bounds
+    → IsNone bounds ↔ (picture_of_rows rs ≡ [])
 none_if_blank rs None rows box = (λ _. blank_of_weights _ _ (lawful_picture_of_rows rs rows) (nonzero_in_rows rs rows) box, λ _. refl)
 none_if_blank rs (Some b) rows box =
     (λ none. absurd (false≢true (sym none)), λ blank. absurd (box_of_some b (subst (λ ds. IsLeastBox ds b) blank (least_in_rows rs b rows box))))
@@ -102,5 +105,6 @@ same_bounds f g (Some b) same box = record {
   top = (box.top.0, sym (same _ _) ∙ box.top.1);
 }
 
-pub black_in_rows : (rs : List EdgeRow) (bounds : Option Box4) → AreRows rs → AreBounds (among_rows Black rs) bounds → AreBounds (is_positive_at (picture_of_rows rs)) bounds
+pub black_in_rows : (rs : List EdgeRow) (bounds : Option Box4) → AreRows rs → AreBounds (among_rows Black rs) bounds
+    → AreBounds (is_positive_at (picture_of_rows rs)) bounds
 black_in_rows rs bounds rows box = same_bounds _ _ bounds (positive_in_rows rs rows) box

@@ -59,7 +59,14 @@ pub weights_with_sum : (rs ss sum : List EdgeRow) → AreRows rs → AreRows ss 
 unfolding sum_at weight_in_all
 weights_with_sum rs ss sum left right rows has = record {
   weights = λ x y inside.
-      omega (arith, ints, weight_at-picture_of_rows rs x y left, weight_at-picture_of_rows ss x y right, weight_at-picture_of_rows sum x y rows, has.weights x y);
+      omega (
+        arith,
+        ints,
+        weight_at-picture_of_rows rs x y left,
+        weight_at-picture_of_rows ss x y right,
+        weight_at-picture_of_rows sum x y rows,
+        has.weights x y,
+      );
 }
 
 pub unlawful_with_sum : (rs ss : List EdgeRow) → AreRows rs → AreRows ss → IsUnlawfulSomewhere (weight_in_all rs ss)

@@ -43,8 +43,14 @@ dots_of-runs_of (d ∷ ds) = dots_of-with_dot d (runs_of ds) ∙ ap (λ others. 
 maximal_lengthened : (d : Dot) (r : Run) (rs : List Run) → IsFollowedBy (run_from d 0) r → AreMaximal (r ∷ rs) → AreMaximal (run_from d r.len ∷ rs)
 unfolding run_from
 maximal_lengthened d r [] joined maximal = tt
-maximal_lengthened d r (s ∷ rs) joined maximal =
-    (λ followed. maximal.0 (record { row = sym joined.row ∙ followed.row; column = omega (arith, ints, joined.column, followed.column); weight = sym joined.weight ∙ followed.weight }), maximal.1)
+maximal_lengthened d r (s ∷ rs) joined maximal = (
+  λ followed. maximal.0 (record {
+    row = sym joined.row ∙ followed.row;
+    column = omega (arith, ints, joined.column, followed.column);
+    weight = sym joined.weight ∙ followed.weight;
+  }),
+  maximal.1,
+)
 
 maximal_with_dot : (d : Dot) (rs : List Run) → AreMaximal rs → AreMaximal (with_dot d rs)
 unfolding with_dot

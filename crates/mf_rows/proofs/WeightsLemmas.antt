@@ -82,7 +82,15 @@ row_from f y x (suc n) es columns lawful later =
     (row_from f y (x +ℤ pos 1) n es (next_columns x y n columns) lawful (subst (λ u. AreDotsFrom (place u y) es) (omega (arith, ints)) later)) in
     cond_both (int_eq (f x y) (pos 0)) others (first ∷ others) (λ row. AreDotsFrom (place x y) (row ++ es))
     (λ blank. dots_from-lower (place x y) (place x y +ℤ pos 1) (others ++ es) (omega (arith, ints)) behind)
-    (λ dotted. (record { in_field = inside; lawful = lawful x y inside; nonzero = not_from_Decides (int_eq (f x y) (pos 0)) (Decides-int_eq (f x y) (pos 0)) dotted }, omega (arith, ints), behind))
+    (λ dotted. (
+      record {
+        in_field = inside;
+        lawful = lawful x y inside;
+        nonzero = not_from_Decides (int_eq (f x y) (pos 0)) (Decides-int_eq (f x y) (pos 0)) dotted;
+      },
+      omega (arith, ints),
+      behind,
+    ))
 
 rows_from : (f : ℤ → ℤ → ℤ) (y : ℤ) (n : ℕ) → (negsuc 4095 +ℤ pos n) ≤ℤ y → y ≤ℤ last_in_field
     → ((u v : ℤ) → IsInField u v → IsLawfulWeight (f u v)) → AreDotsFrom (place least_coordinate y) (rows_of f y n)

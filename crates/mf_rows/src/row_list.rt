@@ -246,7 +246,8 @@ fn push_heads(
     requires bottom { least_coordinate ≤ℤ bottom }
     requires order { bottom ≤ℤ top }
     requires top { top ≤ℤ greatest_coordinate }
-    ensures heads { (edges row : List Edge) → AreHeads edges heads.old.items → IsPlaceOf edges place.now row → HasReach reach row → AreHeads edges heads.new.items }
+    ensures heads { (edges row : List Edge) → AreHeads edges heads.old.items → IsPlaceOf edges place.now row → HasReach reach row
+        → AreHeads edges heads.new.items }
     ensures rows { OnOk result ((edges row : List Edge) → IsPlaceOf edges place.now row
         → rows_at edges heads.new.items ≡ rows_at edges heads.old.items ++ strip bottom row (unsigned_abs (top -ℤ bottom))) }
 {

@@ -85,7 +85,14 @@ number-ends : (text : List ℕ) (i value : ℕ) → IsNumberTo text i value → 
     → token.Number value ≡ number_token (take_while is_ascii_digit text)
 unfolding number_token
 number-ends text i value to ends =
-    rw (sym ends, le-leb (length (take i text)) 9 (omega (arith, to.few, length-take-le i text (omega (arith, to.in_prefix, prefix_len-le-length is_ascii_digit text))))) (ap token.Number to.value_is)
+    rw (
+      sym ends,
+      le-leb (length (take i text)) 9 (omega (
+        arith,
+        to.few,
+        length-take-le i text (omega (arith, to.in_prefix, prefix_len-le-length is_ascii_digit text)),
+      )),
+    ) (ap token.Number to.value_is)
 
 pub number-stops : (text : List ℕ) (i value : ℕ) → IsNumberTo text i value → is_ascii_digit (get_or text i 0) ≡ false → i ≡ prefix_len is_ascii_digit text
 number-stops text i value to other = digits_end text i to.in_prefix other

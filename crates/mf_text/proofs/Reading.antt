@@ -309,7 +309,8 @@ pub record IsInPath (old now : Tokens) (kept : paths.Path) : Type 0 where
 
 corners_or : (p : Path) (next : Path → Rest) (past : ℕ) (ps : List Placed)
     → from (Corners p.first p.others next) (record { tokens = ps; past = past })
-    ≡ from (Or (token.Mark mark.Open) (corner (one_more (p.first ∷ p.others) next)) (One (token.Word word.Cycle) (next p))) (record { tokens = ps; past = past })
+    ≡ from (Or (token.Mark mark.Open) (corner (one_more (p.first ∷ p.others) next)) (One (token.Word word.Cycle) (next p)))
+    (record { tokens = ps; past = past })
 unfolding follow
 corners_or path next past [] = refl
 corners_or path next past (p ∷ ps) = refl
@@ -320,7 +321,8 @@ pub corners_go_on : (p : Path) (now after : Tokens) (passes : Bool)
     → (more : Bool) → passes ≡ more → (next : Path → Rest) → from (Corners p.first p.others next) (ahead now)
     ≡ (if more then from (corner (one_more (p.first ∷ p.others) next)) (ahead after) else from (One (token.Word word.Cycle) (next p)) (ahead after))
 corners_go_on p now after passes read more is next =
-    corners_or p next now.column (remaining_tokens now) ∙ rw (sym is) (read (corner (one_more (p.first ∷ p.others) next)) (One (token.Word word.Cycle) (next p)))
+    corners_or p next now.column (remaining_tokens now) ∙
+    rw (sym is) (read (corner (one_more (p.first ∷ p.others) next)) (One (token.Word word.Cycle) (next p)))
 
 pub path_wrong : (before after : Tokens) (r : Result paths.Path SyntaxFault) (fault : SyntaxFault) → IsErrAnd r (λ y. y ≡ fault)
     → ((next : Path → Rest) → from (path next) (ahead before) ≡ Err fault.column) → PassesPath before after r

@@ -124,7 +124,8 @@ spell_form (Move name transform) = spell_name name ++ spell_mark mark.Becomes ++
 spell_form (ShowTotal source) = spell_word word.Show ++ spell_word word.TotalWeight ++ spell_source source
 spell_form (ShowPicture source) = spell_word word.Show ++ spell_source source
 spell_form (ShowProof source) = spell_word word.Proof ++ spell_source source
-spell_form (ShipOut source code dx width) = spell_word word.Shipout ++ spell_source source ++ spell_word word.Code ++ spell_code code ++ spell_word word.Dx ++ spell_int dx ++ spell_word word.Width ++ spell_int width
+spell_form (ShipOut source code dx width) = spell_word word.Shipout ++ spell_source source ++ spell_word word.Code ++ spell_code code
+    ++ spell_word word.Dx ++ spell_int dx ++ spell_word word.Width ++ spell_int width
 spell_form (SetCheck n) = spell_word word.TurningCheck ++ spell_mark mark.Becomes ++ spell_int n
 spell_form PublishAll = spell_word word.Publish
 

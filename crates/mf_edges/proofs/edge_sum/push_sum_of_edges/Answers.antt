@@ -34,19 +34,22 @@ split_at-edge-requires c =
 pub overflow_add-more : goal.overflow_add-more
 overflow_add-more c =
     let split = rw c.split_at.ensures.back at c.split_at-edge.ensures in
-    let j = joint _ _ _ _ _ _ _ _ _ _ _ _ c.in-Some.ensures.cases.0 c.loop-change.invariant.is c.in_ok-passed.ensures.passed c.in_ok-passed.ensures.stops split in
+    let j = joint _ _ _ _ _ _ _ _ _ _ _ _ c.in-Some.ensures.cases.0 c.loop-change.invariant.is c.in_ok-passed.ensures.passed
+    c.in_ok-passed.ensures.stops split in
     rw (j.edge_is, j.change_is) j.more_fits
 
 pub overflow_add-weight : goal.overflow_add-weight
 overflow_add-weight c =
     let split = rw c.split_at.ensures.back at c.split_at-edge.ensures in
-    let j = joint _ _ _ _ _ _ _ _ _ _ _ _ c.in-Some.ensures.cases.0 c.loop-change.invariant.is c.in_ok-passed.ensures.passed c.in_ok-passed.ensures.stops split in
+    let j = joint _ _ _ _ _ _ _ _ _ _ _ _ c.in-Some.ensures.cases.0 c.loop-change.invariant.is c.in_ok-passed.ensures.passed
+    c.in_ok-passed.ensures.stops split in
     rw (j.edge_is, j.change_is, j.more_is, j.weight_is) j.total_fits
 
 pub returns-then-not-is_lawful_weight-clause-too_large : goal.returns-then-not-is_lawful_weight-clause-too_large
 returns-then-not-is_lawful_weight-clause-too_large c =
     let split = rw c.split_at.ensures.back at c.split_at-edge.ensures in
-    let j = joint _ _ _ _ _ _ _ _ _ _ _ _ c.in-Some.ensures.cases.0 c.loop-change.invariant.is c.in_ok-passed.ensures.passed c.in_ok-passed.ensures.stops split in
+    let j = joint _ _ _ _ _ _ _ _ _ _ _ _ c.in-Some.ensures.cases.0 c.loop-change.invariant.is c.in_ok-passed.ensures.passed
+    c.in_ok-passed.ensures.stops split in
     let asked = rw (j.edge_is, j.change_is, j.more_is, j.weight_is, j.total_is) at c.is_lawful_weight.ensures.1 in
     let at = change_at_column _ _ _ _ c.in-Some.change.now _ _ j.so_far j.from _ _ j.split in
     λ _. record {
@@ -57,7 +60,8 @@ returns-then-not-is_lawful_weight-clause-too_large c =
 pub loop-change-preserved : goal.loop-change-preserved
 loop-change-preserved c =
     let split = rw c.split_at.ensures.back at c.split_at-edge.ensures in
-    let j = joint _ _ _ _ _ _ _ _ _ _ _ _ c.in-Some.ensures.cases.0 c.loop-change.invariant.is c.in_ok-passed.ensures.passed c.in_ok-passed.ensures.stops split in
+    let j = joint _ _ _ _ _ _ _ _ _ _ _ _ c.in-Some.ensures.cases.0 c.loop-change.invariant.is c.in_ok-passed.ensures.passed
+    c.in_ok-passed.ensures.stops split in
     let lawful = rw (j.edge_is, j.change_is, j.more_is, j.weight_is, j.total_is) at (c.is_lawful_weight.ensures.0 c.if-not-is_lawful_weight.false) in
     rw (c.in_ok-push_unless_zero.ensures.pushed, c.in_ok-push_edges.ensures.pushed, c.split_at.ensures.front)
     (rw (j.column_is, j.edge_is, j.change_is, j.more_is, j.weight_is, j.total_is)

@@ -9,7 +9,8 @@ use Rattle.mf_rows.proofs.BandSumsLemmas.{fewer_bands, rows_of_first, rows_with_
 use Rattle.mf_rows.proofs.band_sum.sum_of_bands.Goals as goal
 
 pub loop-number-init : goal.loop-number-init
-loop-number-init c = rw (c.in_ok-reserve.ensures.items, c.new-sum.ensures.items) (sum_none (rows_of_bands c.args.left.now) (rows_of_bands c.args.right.now) c.requires.left c.requires.right)
+loop-number-init c = rw (c.in_ok-reserve.ensures.items, c.new-sum.ensures.items)
+    (sum_none (rows_of_bands c.args.left.now) (rows_of_bands c.args.right.now) c.requires.left c.requires.right)
 
 pub split_bands-requires : goal.split_bands-requires
 split_bands-requires c = rows_left _ _ _ _ _ c.loop-number.invariant

@@ -10,14 +10,16 @@ loop-row-init c = rw (c.new-closed.ensures, c.deref-row-items.ensures.value) ref
 
 pub push-requires : goal.push-requires
 push-requires c =
-    let next = closed_next c.loop-row.closed c.deref-row-items.result.now c.loop-row.row-index c.row-item.result c.loop-row-test.true c.row-item.is c.loop-row.invariant in
+    let next = closed_next c.loop-row.closed c.deref-row-items.result.now c.loop-row.row-index c.row-item.result c.loop-row-test.true c.row-item.is
+    c.loop-row.invariant in
     let row = closed_row _ _ _ _ c.requires next in
     record { bottom = omega (arith, ints, row.bottom, row.top); top = omega (arith, ints, row.bottom, row.top) }
 
 pub loop-row-preserved : goal.loop-row-preserved
 loop-row-preserved c =
     let left = open_rows (drop (c.loop-row.row-index + 1) c.deref-row-items.result.now) in
-    let next = closed_next c.loop-row.closed c.deref-row-items.result.now c.loop-row.row-index c.row-item.result c.loop-row-test.true c.row-item.is c.loop-row.invariant in
+    let next = closed_next c.loop-row.closed c.deref-row-items.result.now c.loop-row.row-index c.row-item.result c.loop-row-test.true c.row-item.is
+    c.loop-row.invariant in
     let row = closed_row _ _ _ _ c.requires next in
     let y_is : to_z w32 (of_z w32 c.row-item.result.y) ≡ c.row-item.result.y = omega (arith, ints, row.bottom, row.top) in
     rw (c.in_ok-push.ensures, c.deref.ensures.value, y_is) (append_assoc c.loop-row.closed (open_row c.row-item.result ∷ []) left ∙ next)

@@ -12,7 +12,8 @@ pub loop-place-preserved : goal.loop-place-preserved
 loop-place-preserved c =
     let shared : rows_of_bands c.push_shared.new.bands.items ≡ rows_of_bands c.split_at_place.result.0.now =
     c.in_ok-push_shared.ensures.rows ∙ rw c.new-shared.ensures.items refl in
-    rw c.in_ok-push.ensures.items (grouped_more c.loop-place.place _ _ _ _ _ c.loop-place.invariant c.split_at_place.ensures _ (c.in_ok-group_of.ensures ∙ shared))
+    rw c.in_ok-push.ensures.items (grouped_more c.loop-place.place _ _ _ _ _ c.loop-place.invariant c.split_at_place.ensures _
+    (c.in_ok-group_of.ensures ∙ shared))
 
 pub returns-clause-rows : goal.returns-clause-rows
 returns-clause-rows c =

@@ -14,7 +14,8 @@ pub push-requires : goal.push-requires
 push-requires c =
     let row = c.in-Some.row.now in
     let rest = c.next.new.self.iter.rest.now in
-    let last = mirror_last (edge_rows rest) (edge_row row) (mirror_next c.loop-row.row-iterator.iter.rest.now rest row c.in-Some.ensures.steps c.loop-row.invariant) in
+    let last = mirror_last (edge_rows rest) (edge_row row) (mirror_next c.loop-row.row-iterator.iter.rest.now rest row c.in-Some.ensures.steps
+    c.loop-row.invariant) in
     record { bottom = omega (arith, ints, last.bottom, last.top); top = omega (arith, ints, last.bottom, last.top) }
 
 pub loop-row-preserved : goal.loop-row-preserved

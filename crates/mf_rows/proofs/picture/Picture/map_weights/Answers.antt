@@ -16,6 +16,7 @@ returns-clause-weights c =
     let mapped = c.in_ok-changed.changed in
     let weights = rw c.deref.ensures.value at c.in_ok-changed.ensures.weights in
     let has =
-    rw c.in_ok-rows.ensures.picture at (weights_mapped c.args.map.now (edge_rows c.in_ok-rows.rows.items) mapped c.in_ok-rows.ensures.rows c.in_ok-changed.ensures.rows weights) in
+    rw c.in_ok-rows.ensures.picture at (weights_mapped c.args.map.now (edge_rows c.in_ok-rows.rows.items) mapped c.in_ok-rows.ensures.rows
+    c.in_ok-changed.ensures.rows weights) in
     IfOk-weaker c.from_rows.result (λ picture. picture ≡ picture_of_rows mapped) (HasWeights (mapped_at c.args.map.now c.args.self.now))
     (λ picture is. rw is has) c.from_rows.ensures.value

@@ -12,6 +12,7 @@ returns-clause-weights c =
     let mirrored = c.in_ok-changed.changed in
     let weights = rw c.deref.ensures.value at c.in_ok-changed.ensures.weights in
     let has =
-    rw c.in_ok-rows.ensures.picture at (weights_of_columns_mirrored (edge_rows c.in_ok-rows.rows.items) mirrored c.in_ok-rows.ensures.rows c.in_ok-changed.ensures.rows weights) in
+    rw c.in_ok-rows.ensures.picture at (weights_of_columns_mirrored (edge_rows c.in_ok-rows.rows.items) mirrored c.in_ok-rows.ensures.rows
+    c.in_ok-changed.ensures.rows weights) in
     IfOk-weaker c.from_rows.result (λ picture. picture ≡ picture_of_rows mirrored) (HasWeights (columns_mirrored_at c.args.self.now))
     (λ picture is. rw is has) c.from_rows.ensures.value

@@ -23,8 +23,11 @@ returns-clause-weights c =
     let has =
     subst (HasWeights (columns_stretched_at c.args.columns.now c.args.self.now)) (sym c.in_ok-changed.ensures.picture) c.in_ok-wide.ensures.weights in
     let has_stretched =
-    subst (λ rows. HaveRowWeights (stretched_in_rows c.args.rows.now (edge_rows rows)) stretched) c.deref.ensures.value c.in_ok-stretched_rows.ensures.weights in
+    subst (λ rows. HaveRowWeights (stretched_in_rows c.args.rows.now (edge_rows rows)) stretched) c.deref.ensures.value
+    c.in_ok-stretched_rows.ensures.weights in
     let weights =
-    weights_stretched c.args.columns.now c.args.rows.now c.args.self.now changed c.in_ok-changed.ensures.rows stretched c.in_ok-wide.ensures.lawful c.in_ok-stretched_rows.ensures.rows has has_stretched in
-    IfOk-weaker c.from_rows.result (λ picture. picture ≡ picture_of_rows stretched) (HasWeights (stretched_at c.args.columns.now c.args.rows.now c.args.self.now))
+    weights_stretched c.args.columns.now c.args.rows.now c.args.self.now changed c.in_ok-changed.ensures.rows stretched c.in_ok-wide.ensures.lawful
+    c.in_ok-stretched_rows.ensures.rows has has_stretched in
+    IfOk-weaker c.from_rows.result (λ picture. picture ≡ picture_of_rows stretched)
+    (HasWeights (stretched_at c.args.columns.now c.args.rows.now c.args.self.now))
     (λ picture is. rw is weights) c.from_rows.ensures.value

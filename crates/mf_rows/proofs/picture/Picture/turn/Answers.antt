@@ -12,6 +12,7 @@ returns-clause-weights c =
     let turned = c.in_ok-turned_rows.field-0 in
     let weights = rw c.deref.ensures.value at c.in_ok-turned_rows.ensures.weights in
     let has =
-    rw c.in_ok-rows.ensures.picture at (weights_turned (edge_rows c.in_ok-rows.rows.items) turned c.in_ok-rows.ensures.rows c.in_ok-turned_rows.ensures.rows weights) in
+    rw c.in_ok-rows.ensures.picture at (weights_turned (edge_rows c.in_ok-rows.rows.items) turned c.in_ok-rows.ensures.rows
+    c.in_ok-turned_rows.ensures.rows weights) in
     IfOk-weaker c.from_rows.result (λ picture. picture ≡ picture_of_rows turned) (HasWeights (turned_at c.args.self.now))
     (λ picture is. rw is has) c.from_rows.ensures.value

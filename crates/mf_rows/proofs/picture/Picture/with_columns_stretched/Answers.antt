@@ -14,7 +14,8 @@ use Rattle.mf_rows.proofs.picture.Picture.with_columns_stretched.Goals as goal
 
 pub returns-then-columns-eq0-clause-weights : goal.returns-then-columns-eq0-clause-weights
 returns-then-columns-eq0-clause-weights c =
-    let same = columns_same c.args.columns.now c.args.self.now c.copy.ensures.lawful c.requires.inside c.requires.columns c.if-columns-eq1.true c.if-columns-eq0.true in
+    let same = columns_same c.args.columns.now c.args.self.now c.copy.ensures.lawful c.requires.inside c.requires.columns c.if-columns-eq1.true
+    c.if-columns-eq0.true in
     IfOk-weaker c.copy.result (λ copy. copy ≡ c.args.self.now) (HasWeights (columns_stretched_at c.args.columns.now c.args.self.now))
     (λ copy is. rw is same) c.copy.ensures.value
 
@@ -30,6 +31,7 @@ returns-clause-weights c =
     let changed = c.in_ok-changed.changed in
     let weights = rw c.deref.ensures.value at c.in_ok-changed.ensures.weights in
     let has =
-    rw c.in_ok-rows.ensures.picture at (weights_of_columns_stretched c.args.columns.now (edge_rows c.in_ok-rows.rows.items) changed c.in_ok-rows.ensures.rows c.in_ok-changed.ensures.rows weights) in
+    rw c.in_ok-rows.ensures.picture at (weights_of_columns_stretched c.args.columns.now (edge_rows c.in_ok-rows.rows.items) changed
+    c.in_ok-rows.ensures.rows c.in_ok-changed.ensures.rows weights) in
     IfOk-weaker c.from_rows.result (λ picture. picture ≡ picture_of_rows changed) (HasWeights (columns_stretched_at c.args.columns.now c.args.self.now))
     (λ picture is. rw is has) c.from_rows.ensures.value

@@ -6,7 +6,8 @@ use Rattle.mf_rows.proofs.row.columns.last_column.Goals as goal
 
 pub loop-edge-init : goal.loop-edge-init
 loop-edge-init c =
-    rw (c.into_iter-edge-iterator.ensures.into_iter_gives, c.rev-edge-items.ensures.source, c.iter.ensures.rest) (none_at_right c.args.pixels c.args.edges.now c.requires)
+    rw (c.into_iter-edge-iterator.ensures.into_iter_gives, c.rev-edge-items.ensures.source, c.iter.ensures.rest)
+    (none_at_right c.args.pixels c.args.edges.now c.requires)
 
 pub overflow_sub-weight : goal.overflow_sub-weight
 overflow_sub-weight c =

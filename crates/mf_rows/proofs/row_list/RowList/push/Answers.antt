@@ -13,9 +13,11 @@ pub invariant_of-self-in_err-push : goal.invariant_of-self-in_err-push
 invariant_of-self-in_err-push c = rw c.in_err-push.ensures.items (heads_kept _ _ c.place_of.ensures.kept _ c.self.invariant)
 
 pub invariant_of-self-2 : goal.invariant_of-self-2
-invariant_of-self-2 c = rw c.in_ok-push.ensures.items (heads_push _ _ c.place_of.ensures.kept _ c.self.invariant _ c.args.row.now.edges.now c.in_ok-place.ensures.place c.args.row.now.reached)
+invariant_of-self-2 c = rw c.in_ok-push.ensures.items (heads_push _ _ c.place_of.ensures.kept _ c.self.invariant _ c.args.row.now.edges.now
+    c.in_ok-place.ensures.place c.args.row.now.reached)
 
 pub returns-clause-pushed : goal.returns-clause-pushed
 returns-clause-pushed c =
     let y_is : to_z w32 (of_z w32 c.args.y) ≡ c.args.y = omega (arith, ints) in
-    rw (c.in_ok-push.ensures.items, ← c.self.view_is, y_is) (rows_push _ _ c.place_of.ensures.kept _ c.self.invariant _ c.args.row.now.edges.now c.in_ok-place.ensures.place)
+    rw (c.in_ok-push.ensures.items, ← c.self.view_is, y_is) (rows_push _ _ c.place_of.ensures.kept _ c.self.invariant _ c.args.row.now.edges.now
+    c.in_ok-place.ensures.place)

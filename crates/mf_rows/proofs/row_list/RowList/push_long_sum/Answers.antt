@@ -50,6 +50,11 @@ returns-clause-pushed c =
     let y_is : to_z w32 (of_z w32 c.args.right.now.y) ≡ c.args.right.now.y = omega (arith, ints) in
     let es = c.self.inside.edges.items in
     let head : Head = record { y = c.args.right.now.y; reach = c.in_ok-reach.reach; place = place.Own c.in_ok-new.field-0 } in
-    rw (c.in_ok-push.ensures.items, y_is, rows_push es es (nothing_more es) c.self.inside.heads.items c.self.invariant head sum.more (place_of_own es _ _ own), c.self.view_is)
+    rw (
+      c.in_ok-push.ensures.items,
+      y_is,
+      rows_push es es (nothing_more es) c.self.inside.heads.items c.self.invariant head sum.more (place_of_own es _ _ own),
+      c.self.view_is,
+    )
     (sum_of_both-some c.args.right.now.y (edge_row c.args.left.now) (edge_row c.args.right.now)
     c.requires.left c.requires.right c.args.self.now sum.more some sum.edges sum.weights)

@@ -7,7 +7,8 @@ use Rattle.mf_rows.proofs.slice.rows.count_rows_above.Goals as goal
 use Rattle.mf_rows.proofs.slice.rows.count_rows_above.Goals.{After-partition_point}
 
 split : (c : After-partition_point)
-    → IsPartitionPoint (λ head. head_stands_above c.args.y head ≡ true) (λ head. head_stands_above c.args.y head ≡ false) c.args.rows.heads.now c.partition_point.result
+    → IsPartitionPoint (λ head. head_stands_above c.args.y head ≡ true) (λ head. head_stands_above c.args.y head ≡ false) c.args.rows.heads.now
+    c.partition_point.result
 split c =
     let heads = c.args.rows.heads.now in
     let y_is : to_z w32 (of_z w32 c.args.y) ≡ c.args.y = omega (arith, ints) in
@@ -24,4 +25,5 @@ returns-in_default-clause-others c = heads_others_split c.args.y _ c.args.rows.e
 pub returns-in-Some-clause-others : goal.returns-in-Some-clause-others
 returns-in-Some-clause-others c =
     let item = c.in-Some.ensures.item in
-    none_above_first c.args.y c.args.rows.edges.now c.args.rows.heads.now c.in-Some.first.now c.requires item.3.0 item.1 (omega (arith, ints, c.if-first-y.true))
+    none_above_first c.args.y c.args.rows.edges.now c.args.rows.heads.now c.in-Some.first.now c.requires item.3.0 item.1
+    (omega (arith, ints, c.if-first-y.true))

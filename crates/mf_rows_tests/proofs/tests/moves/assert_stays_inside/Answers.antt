@@ -61,7 +61,8 @@ module _ (ds : List Dot) (b : Box4) (picture : IsPicture ds) (box : IsLeastBox d
         let first_row : negsuc 999 ≤ℤ b.min_y = omega (arith, ints, from_bottom, least.bottom, least.top) in
         let last_row : b.max_y ≤ℤ pos 999 = omega (arith, ints, to_top, greatest.bottom, greatest.top) in
         record {
-          across = λ k d lt. let within = box.within k d lt in place_between columns b.min_x _ b.max_x small_columns first_column within.left within.right last_column;
+          across = λ k d lt. let within = box.within k d lt in place_between columns b.min_x _ b.max_x small_columns first_column within.left
+              within.right last_column;
           up = λ k d lt. let within = box.within k d lt in place_between rows b.min_y _ b.max_y small_rows first_row within.bottom within.top last_row;
         }
 

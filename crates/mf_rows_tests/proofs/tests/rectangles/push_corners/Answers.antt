@@ -53,7 +53,12 @@ with_four ks l b r t w v corners room left bottom right top least greatest oppos
       (All-from_recursion IsCorner (four l b r t w v) (upper, (lower, (upper_right, (lower_right, tt)))));
   closed = λ y.
       rw (added_by_all-append ks (four l b r t w v) greatest_coordinate y, corners.closed y)
-      (omega (arith, ints, pair_cancels l r y t w v left.greatest right.greatest opposite, pair_cancels l r y b v w left.greatest right.greatest (omega (arith, ints, opposite))));
+      (omega (
+        arith,
+        ints,
+        pair_cancels l r y t w v left.greatest right.greatest opposite,
+        pair_cancels l r y b v w left.greatest right.greatest (omega (arith, ints, opposite)),
+      ));
 }
 
 pub returns : goal.returns

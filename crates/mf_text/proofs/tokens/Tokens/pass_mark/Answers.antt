@@ -10,4 +10,5 @@ returns-then-takes_mark-clause-read c this =
 pub returns-clause-read : goal.returns-clause-read
 returns-clause-read c this =
     let took = c.takes_mark.ensures in
-    missed (token.Mark c.args.mark) c.args.self.now c.takes_mark.new.self c.takes_mark.result took.read took.took this c.if-takes_mark.false c.fault.result c.fault.ensures
+    missed (token.Mark c.args.mark) c.args.self.now c.takes_mark.new.self c.takes_mark.result took.read took.took this c.if-takes_mark.false
+    c.fault.result c.fault.ensures

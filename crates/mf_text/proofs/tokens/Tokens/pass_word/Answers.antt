@@ -10,4 +10,5 @@ returns-then-takes_word c this =
 pub returns : goal.returns
 returns c this =
     let took = c.takes_word.ensures in
-    missed (token.Word c.args.word) c.args.self.now c.takes_word.new.self c.takes_word.result took.read took.took this c.if-takes_word.false c.fault.result c.fault.ensures
+    missed (token.Word c.args.word) c.args.self.now c.takes_word.new.self c.takes_word.result took.read took.took this c.if-takes_word.false
+    c.fault.result c.fault.ensures

@@ -27,7 +27,8 @@ pub returns-in_err-pass_word : goal.returns-in_err-pass_word
 returns-in_err-pass_word c =
     let so_far = c.corners.invariant in
     let path = ended_with so_far.corners c.in_ok-corner.field-0 in
-    path_wrong c.args.self.now c.pass_word.new.self c.from_residual-in_err-pass_word.result c.in_err-pass_word.field-0.0 c.from_residual-in_err-pass_word.ensures.1
+    path_wrong c.args.self.now c.pass_word.new.self c.from_residual-in_err-pass_word.result c.in_err-pass_word.field-0.0
+    c.from_residual-in_err-pass_word.ensures.1
     (λ next. so_far.read next ∙ c.in_ok-corner.ensures.read (one_more so_far.corners next)
     ∙ corners_go_on path c.corner.new.self c.takes_mark.new.self c.takes_mark.result c.takes_mark.ensures.read false (search rules) next
     ∙ c.in_err-pass_word.ensures _)

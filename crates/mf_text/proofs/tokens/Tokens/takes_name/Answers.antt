@@ -16,13 +16,15 @@ returns-in-Some c =
 
 -- where no letter is taken, the word is sought where the letter was
 took : (c : After-takes_word) → TakesToken (token.Word CurrentPicture) c.args.self.now c.takes_word.new.self c.takes_word.result
-took c = subst (λ (t : Tokens). TakesToken (token.Word CurrentPicture) t c.takes_word.new.self c.takes_word.result) c.in_default.ensures.1 c.takes_word.ensures.took
+took c = subst (λ (t : Tokens). TakesToken (token.Word CurrentPicture) t c.takes_word.new.self c.takes_word.result) c.in_default.ensures.1
+    c.takes_word.ensures.took
 
 pub returns-then-takes_word : goal.returns-then-takes_word
 returns-then-takes_word c =
     let word = took c.before in
     let taken =
-    current_taken (remaining_tokens c.args.self.now) (ahead c.takes_word.new.self) (sym word.next ∙ c.if-takes_word.true) (word.after_is c.if-takes_word.true) in
+    current_taken (remaining_tokens c.args.self.now) (ahead c.takes_word.new.self) (sym word.next ∙ c.if-takes_word.true)
+    (word.after_is c.if-takes_word.true) in
     record { took = taken; read = λ this other. name_chosen this other c.args.self.now.column (remaining_tokens c.args.self.now) _ _ taken }
 
 pub returns : goal.returns
