@@ -1,15 +1,16 @@
 -- The lines of a script are its first line and the lines of the rest.
-use Rattle.std.proofs.Common.{◌≡◌, ◌≢◌, ◌⊎◌, ◌-◌, ◌<◌, ℕ, Bool, true, false, cond, eqb, List, [], ◌∷◌, ◌++◌, get_or, length, take, inl, inr, refl, sym, ap, ◌∙◌, ⊎_elim, append-nil, length-append, take_all, arith}
+use Rattle.std.proofs.Common.{◌≡◌, ◌≢◌, ◌⊎◌, ◌-◌, ◌<◌, ℕ, Bool, false, eqb, List, [], ◌∷◌, ◌++◌, get_or, length, take, inl, inr, refl, sym, ap, ◌∙◌, ⊎_elim, append-nil, length-append, append_assoc, subst, take_all, arith}
 use Rattle.std.proofs.BufReadLemmas.{take_through-append, drop_through-append}
 use Rattle.std.proofs.lemmas.Bool.{eqb-true, eqb-false, ne_eqb, eq-eqb, cases_Bool, cond-false, cond-true}
-use Rattle.std.proofs.lemmas.List.{get_or_push, take-append-le}
-use Rattle.std.proofs.lemmas.List.Elements.{All-cons, All-get_or, All-nil, All-weaker}
+use Rattle.std.proofs.lemmas.List.{get_or-take, get_or_at, get_or_push, length-take-le, take-append-le}
+use Rattle.std.proofs.lemmas.List.Elements.{All-append, All-cons, All-get_or, All-nil, All-weaker}
 use Rattle.std.proofs.lemmas.List.Splits.{length-slice_split, slice_split_at, slice_split_none}
+use Rattle.std.specs.Io.{StopsAt}
 use Rattle.std.specs.Io.BufRead.{drop_through, take_through}
 use Rattle.std.specs.Prelude.{All, ◌==◌}
 use Rattle.std.specs.List.{slice_split}
 use Rattle.std.specs.Str.Lines.{lines, lines_of_parts, strip_carriage_return}
-use Rattle.mf_stage.specs.Lines.{without_ending}
+use Rattle.mf_stage.specs.Lines.{IsLine, without_ending}
 
 abbrev is_other : ℕ → Type 0
 is_other b = b ≢ 10
@@ -77,3 +78,41 @@ next_lines input some = ⊎_elim
     lines-whole input some none ∙ sym (ap (λ l. without_ending l ∷ lines (drop_through 10 input)) read
     ∙ ap (λ l. without_ending input ∷ lines l) left ∙ ap (λ l. l ∷ []) (unended input some none)))
     (cut input)
+
+-- nothing follows the line feed of a line as it is read
+alone : (front rest : List ℕ) → StopsAt (front ++ 10 ∷ rest) 10 → rest ≡ []
+alone front [] stops = refl
+alone front (b ∷ rest) stops =
+    let line = front ++ 10 ∷ b ∷ rest in
+    let last = length line - 1 in
+    let inside : length front < last = omega (arith, length-append front (10 ∷ b ∷ rest)) in
+    let kept : length front < length (take last line) = omega (arith, inside, length-take-le last line (omega arith)) in
+    let feed : get_or (take last line) (length front) 0 ≡ 10 = get_or-take last line (length front) 0 inside ∙ get_or_at front 10 (b ∷ rest) 0 (length front) refl in
+    absurd (All-get_or is_other (take last line) (length front) 0 kept stops feed)
+
+stripped_return : (line : List ℕ) → strip_carriage_return (line ++ 13 ∷ []) ≡ line
+stripped_return line =
+    let long = line ++ 13 ∷ [] in
+    let last : length long - 1 ≡ length line = omega (arith, length-append line (13 ∷ [])) in
+    let is_return : get_or long (length long - 1) 0 ≡ 13 = get_or_push line 13 0 (length long - 1) (sym last) in
+    cond-true _ _ _ (eq-eqb (get_or long (length long - 1) 0) 13 is_return)
+    ∙ ap (λ n. take n long) last ∙ take-append-le (length line) line (13 ∷ []) (omega arith) ∙ take_all (length line) line (omega arith)
+
+-- a line as it is read is the first line of some bytes, whatever follows them
+pub spelled_line : (line : List ℕ) → IsLine line → (bytes : List ℕ) × ((rest : List ℕ) → lines (bytes ++ rest) ≡ without_ending line ∷ lines rest)
+spelled_line line read = ⊎_elim
+    (λ feed.
+    let front = feed.0 in
+    let only = alone front feed.1 (subst (λ l. StopsAt l 10) feed.2 read.stops) in
+    let is : line ≡ front ++ 10 ∷ [] = feed.2 ∙ ap (λ l. front ++ 10 ∷ l) only in (
+      front ++ 10 ∷ [],
+      λ rest. ap lines (append_assoc front (10 ∷ []) rest) ∙ lines-feed front rest feed.3
+          ∙ ap (λ l. l ∷ lines rest) (sym (ap without_ending is ∙ ended front)),
+    ))
+    (λ none.
+    let returned : All is_other (line ++ 13 ∷ []) = All-append is_other line (13 ∷ []) none (All-cons is_other 13 [] (λ same. cc) (All-nil is_other)) in (
+      (line ++ 13 ∷ []) ++ 10 ∷ [],
+      λ rest. ap lines (append_assoc (line ++ 13 ∷ []) (10 ∷ []) rest) ∙ lines-feed (line ++ 13 ∷ []) rest returned
+          ∙ ap (λ l. l ∷ lines rest) (stripped_return line ∙ sym (unended line read.some none)),
+    ))
+    (cut line)

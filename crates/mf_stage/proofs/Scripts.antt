@@ -2,37 +2,40 @@
 use Rattle.std.proofs.Common.{◌≡◌, ◌++◌, ◌∷◌, [], ℕ, List, Option, None, Some, IfSome, refl, sym, ap, subst, ◌∙◌, append-nil, append_assoc}
 use Rattle.std.proofs.KnownBytes.{Appends-nil, Appends-trans}
 use Rattle.std.specs.Io.BufRead.{drop_through}
+use Rattle.std.specs.Io.KnownBytes.{IsAtEnd}
 use Rattle.std.specs.Str.Lines.{lines}
 use Rattle.mf_session.proofs.Performing.{Perform-append}
 use Rattle.mf_session.specs.States.{State}
 use Rattle.mf_session.specs.Transcript.{Perform}
-use Rattle.mf_stage.proofs.Cuts.{next_lines}
-use Rattle.mf_stage.specs.Lines.{Reads, without_ending}
-use Rattle.mf_stage.specs.Scripts.{HasPerformed, IsPerformed, Step, step_of}
-use Rattle.mf_stage.specs.Stages.{StandsFor, limits}
+use Rattle.mf_stage.proofs.Cuts.{next_lines, spelled_line}
+use Rattle.mf_stage.specs.Lines.{IsLine, Reads, without_ending}
+use Rattle.mf_stage.specs.Scripts.{HasPerformed, IsPerformed, Performs, PerformsAll, Step, step_of}
+use Rattle.mf_stage.specs.Stages.{limits}
 use Rattle.mf_stage.specs.declared.stage.Publication.{Publication}
 use Rattle.mf_stage.specs.declared.stage.Stage.{Stage}
 
--- of a script the first lines have been performed, and these bytes are left
-pub record HasBegun (before : Stage) (s : State) (input rest : List ℕ) (now : Stage) (held holds : Option (List ℕ)) : Type 0 where
+-- the first lines of a script have been performed: those that some bytes spell, whatever follows them; where the bytes of the script
+-- are known, so are those that are left, which have the other lines
+pub record IsUnderWay (before : Stage) (unread left : Option (List ℕ)) (now : Stage) (held holds : Option (List ℕ)) : Type 0 where
   pub done : List (List ℕ)
-  pub ahead : lines input ≡ done ++ lines rest
-  pub performed : HasPerformed (step_of before s now held holds) done
+  pub bytes : List ℕ
+  pub spelled : (rest : List ℕ) → lines (bytes ++ rest) ≡ done ++ lines rest
+  pub ahead : IfSome unread (λ input. (rest : List ℕ) × (left ≡ Some rest) × (lines input ≡ done ++ lines rest))
+  pub performed : Performs before done now held holds
 
--- where the bytes of the script are known, so are those that are left
-abbrev pub IsUnderWay : Stage → Option (List ℕ) → Option (List ℕ) → Stage → Option (List ℕ) → Option (List ℕ) → Type 0
-IsUnderWay before None left now held holds = Unit {0}
-IsUnderWay before (Some input) left now held holds =
-    (s : State) → StandsFor before s → (rest : List ℕ) × (left ≡ Some rest) × HasBegun before s input rest now held holds
+ahead-start : (unread : Option (List ℕ)) → IfSome unread (λ input. (rest : List ℕ) × (unread ≡ Some rest) × (lines input ≡ [] ++ lines rest))
+ahead-start None = tt
+ahead-start (Some input) = (input, refl, refl)
 
 -- no line has been performed
-pub under_way-start : (stage : Stage) (input held : Option (List ℕ)) → IsUnderWay stage input input stage held held
-under_way-start stage None held = tt
-under_way-start stage (Some input) held = λ s stands. (
-  input,
-  refl,
-  record { done = []; ahead = refl; performed = record { text = []; last = s; performed = (refl, refl); stands = stands; out = Appends-nil held } },
-)
+pub under_way-start : (stage : Stage) (unread held : Option (List ℕ)) → IsUnderWay stage unread unread stage held held
+under_way-start stage unread held = record {
+  done = [];
+  bytes = [];
+  spelled = λ rest. refl;
+  ahead = ahead-start unread;
+  performed = λ s stands. record { text = []; last = s; performed = (refl, refl); stands = stands; out = Appends-nil held };
+}
 
 -- one line is performed
 pub performed-one : (step : Step) (line : List ℕ) (made : Option Publication) → IsPerformed step line made → HasPerformed step (line ∷ [])
@@ -59,29 +62,55 @@ performed-more before now later s done more held holds last same first second =
       out = Appends-trans held holds last first.text second.text first.out second.out;
     }
 
--- the next line is read and performed
-pub under_way-next : (before now later : Stage) (input left remaining held holds last : Option (List ℕ)) (line : List ℕ)
-    → limits now ≡ limits before → IsUnderWay before input left now held holds
-    → ((rest : List ℕ) → left ≡ Some rest → Reads rest line remaining)
-    → ((s : State) → StandsFor now s → HasPerformed (step_of now s later holds last) (without_ending line ∷ []))
-    → IsUnderWay before input remaining later held last
-under_way-next before now later None left remaining held holds last line same under_way reads performs = tt
-under_way-next before now later (Some input) left remaining held holds last line same under_way reads performs = λ s stands.
-    let (rest, is, begun) = under_way s stands in
-    let read = reads rest is in
-    let done = begun.done in
+-- what holds of known bytes
+pub known_is : (P : List ℕ → Type 0) (left : Option (List ℕ)) (rest : List ℕ) → left ≡ Some rest → IfSome left P → P rest
+known_is P left rest is known = subst (λ l. IfSome l P) is known
+
+ahead-next : (unread left remaining : Option (List ℕ)) (done : List (List ℕ)) (line : List ℕ)
+    → IfSome unread (λ input. (rest : List ℕ) × (left ≡ Some rest) × (lines input ≡ done ++ lines rest))
+    → IfSome left (λ rest. Reads rest line remaining)
+    → IfSome unread (λ input. (rest : List ℕ) × (remaining ≡ Some rest) × (lines input ≡ (done ++ without_ending line ∷ []) ++ lines rest))
+ahead-next None left remaining done line ahead reads = tt
+ahead-next (Some input) left remaining done line (rest, is, before) reads =
+    let read = known_is (λ input. Reads input line remaining) left rest is reads in
     let others = lines (drop_through 10 rest) in
     let next : lines rest ≡ without_ending line ∷ others = next_lines rest read.some ∙ ap (λ l. without_ending l ∷ others) (sym read.line_is) in (
       drop_through 10 rest,
       read.left_is,
-      record {
-        done = done ++ without_ending line ∷ [];
-        ahead = begun.ahead ∙ ap (λ ls. done ++ ls) next ∙ sym (append_assoc done (without_ending line ∷ []) others);
-        performed = performed-more before now later s done (without_ending line ∷ []) held holds last same begun.performed
-            (performs begun.performed.last begun.performed.stands);
-      },
+      before ∙ ap (λ ls. done ++ ls) next ∙ sym (append_assoc done (without_ending line ∷ []) others),
     )
 
--- what holds of known bytes
-pub known_is : (P : List ℕ → Type 0) (left : Option (List ℕ)) (rest : List ℕ) → left ≡ Some rest → IfSome left P → P rest
-known_is P left rest is known = subst (λ l. IfSome l P) is known
+-- the next line is read and performed
+pub under_way-next : (before now later : Stage) (unread left remaining held holds last : Option (List ℕ)) (line : List ℕ)
+    → limits now ≡ limits before → IsUnderWay before unread left now held holds
+    → IsLine line → IfSome left (λ rest. Reads rest line remaining) → Performs now (without_ending line ∷ []) later holds last
+    → IsUnderWay before unread remaining later held last
+under_way-next before now later unread left remaining held holds last line same was whole reads performs =
+    let one = without_ending line ∷ [] in
+    let (more, spells) = spelled_line line whole in
+    record {
+      done = was.done ++ one;
+      bytes = was.bytes ++ more;
+      spelled = λ rest. ap lines (append_assoc was.bytes more rest) ∙ was.spelled (more ++ rest)
+          ∙ ap (λ ls. was.done ++ ls) (spells rest) ∙ sym (append_assoc was.done one (lines rest));
+      ahead = ahead-next unread left remaining was.done line was.ahead reads;
+      performed = λ s stands.
+          let first = was.performed s stands in
+          performed-more before now later s was.done one held holds last same first (performs first.last first.stands);
+    }
+
+-- nothing is left of the script
+ended : (unread left : Option (List ℕ)) (done : List (List ℕ)) (bytes : List ℕ) → ((rest : List ℕ) → lines (bytes ++ rest) ≡ done ++ lines rest)
+    → IfSome unread (λ input. (rest : List ℕ) × (left ≡ Some rest) × (lines input ≡ done ++ lines rest)) → IsAtEnd left
+    → (input : List ℕ) × IfSome unread (λ known. input ≡ known) × (lines input ≡ done)
+ended None left done bytes spelled ahead end = (bytes, tt, ap lines (sym (append-nil bytes)) ∙ spelled [] ∙ append-nil done)
+ended (Some input) left done bytes spelled (rest, is, before) end =
+    let none : rest ≡ [] = subst IsAtEnd is end in
+    (input, refl, before ∙ ap (λ l. done ++ lines l) none ∙ append-nil done)
+
+-- all lines of the script have been performed
+pub under_way-end : (before now : Stage) (unread left held holds : Option (List ℕ)) → IsUnderWay before unread left now held holds → IsAtEnd left
+    → PerformsAll before unread now held holds
+under_way-end before now unread left held holds was end =
+    let (input, known, all) = ended unread left was.done was.bytes was.spelled was.ahead end in
+    record { input = input; known = known; performed = subst (λ ls. Performs before ls now held holds) (sym all) was.performed }

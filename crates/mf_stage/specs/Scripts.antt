@@ -1,5 +1,5 @@
 -- What a stage does with the lines of a script.
-use Rattle.std.specs.Prelude.{ℕ, IfSome, List, Option}
+use Rattle.std.specs.Prelude.{◌≡◌, ℕ, IfSome, List, Option}
 use Rattle.std.specs.Io.KnownBytes.{Appends}
 use Rattle.std.specs.Str.Lines.{lines}
 use Rattle.mf_session.specs.Answers.{Answers}
@@ -43,9 +43,11 @@ pub record HasPerformed (step : Step) (done : List (List ℕ)) : Type 0 where
 abbrev pub Performs : Stage → List (List ℕ) → Stage → Option (List ℕ) → Option (List ℕ) → Type 0
 Performs before done after held holds = (s : State) → StandsFor before s → HasPerformed (step_of before s after held holds) done
 
--- the stage has performed all lines of a script, where it is known what its reader had
-abbrev pub PerformsAll : Stage → Option (List ℕ) → Stage → Option (List ℕ) → Option (List ℕ) → Type 0
-PerformsAll before unread after held holds = IfSome unread (λ input. Performs before (lines input) after held holds)
+-- the stage has performed all lines of a script: of what its reader had, where this is known, and else of some bytes
+pub record PerformsAll (before : Stage) (unread : Option (List ℕ)) (after : Stage) (held holds : Option (List ℕ)) : Type 0 where
+  pub input : List ℕ
+  pub known : IfSome unread (λ bytes. input ≡ bytes)
+  pub performed : Performs before (lines input) after held holds
 
 -- the stage represents a state if it represented one before
 abbrev pub StillStands : Stage → Stage → Type 0

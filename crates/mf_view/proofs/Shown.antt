@@ -1,5 +1,5 @@
 -- What a performance has written, from what its parts have.
-use Rattle.std.proofs.Common.{◌≡◌, ℕ, List, Option, None, Some, Result, Ok, Err, IfErr, IfOk, OnOk, subst}
+use Rattle.std.proofs.Common.{◌≡◌, ℕ, List, Option, Result, Ok, Err, IfErr, IfOk, OnOk, subst}
 use Rattle.std.specs.Str.Lines.{lines}
 use Rattle.core.specs.Result.{result_and}
 use Rattle.mf_easel.specs.Easels.{HasSameManner, canvas_of, style_of}
@@ -39,17 +39,19 @@ shown-file : (style : Style) (canvas : Size) (held holds told tells : Option (Li
     → ((s : State) → StandsFor after s → IsFileOf (session_of after) s file)
     → ((s : State) → StandsFor after s → ShowsLast style canvas (complete_list s.pictures) held holds)
     → Shows style canvas (five unread held holds told tells) file
-shown-file style canvas held holds told tells before after file None limited begins performed of_file shown = tt
-shown-file style canvas held holds told tells before after file (Some input) limited begins performed of_file shown =
-    let done = performed start begins in
-    record {
-      text = done.text;
-      last = done.last;
-      performed = subst (λ limits. Perform limits start (lines input) done.text done.last) limited done.performed;
-      out = done.out;
-      shown = shown done.last done.stands;
-      file_is = (of_file done.last done.stands).keeps;
-    }
+shown-file style canvas held holds told tells before after file unread limited begins script of_file shown =
+    let done = script.performed start begins in (
+      script.input,
+      script.known,
+      record {
+        text = done.text;
+        last = done.last;
+        performed = subst (λ limits. Perform limits start (lines script.input) done.text done.last) limited done.performed;
+        out = done.out;
+        shown = shown done.last done.stands;
+        file_is = (of_file done.last done.stands).keeps;
+      },
+    )
 
 -- a stage on which nothing was performed represents a state after a script
 pub stands-after : (before after : Stage) (performed : Result (Unit {0}) StageFault) → StandsFor before start

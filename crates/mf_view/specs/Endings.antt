@@ -1,5 +1,5 @@
 -- What the program has written where it ends well.
-use Rattle.std.specs.Prelude.{◌≡◌, ◌≢◌, Bool, true, false, ℕ, List, [], Option, None, Some, IsSome, codes, min, option_map, string_bytes}
+use Rattle.std.specs.Prelude.{◌≡◌, ◌≢◌, ◌⊎◌, Bool, true, false, ℕ, List, [], Option, None, Some, IsSome, codes, min, option_map, string_bytes}
 use Rattle.std.specs.Io.KnownBytes.{Appends}
 use Rattle.clap.specs.Words.{Text}
 use Rattle.mf_frame.specs.Canvases.{Size}
@@ -42,6 +42,10 @@ pub record IsWatched (words : Words) (s : Streams) : Type 0 where
   pub file : GfFile
   pub shown : IsShownInto (option_map string_bytes words.transcript) (style_in words.frames) (size_in words.columns words.rows) s file
   pub font : HasFont words file
+
+-- these words ask for the help text or for the version, and not for a script
+abbrev pub AsksForText : List Text → Type 0
+AsksForText words = IsRequest words Help ⊎ IsRequest words Version
 
 -- what was asked for is written: the help text, the version, or what a performance writes
 abbrev pub EndsAs : Request → Streams → Type 0

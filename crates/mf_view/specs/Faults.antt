@@ -1,11 +1,12 @@
 -- What faults of the parts are to the program, and which fault ends a run.
-use Rattle.std.specs.Prelude.{◌≡◌, ℕ, List, None, Option}
+use Rattle.std.specs.Prelude.{◌≡◌, ◌⊎◌, ℕ, IsSome, List, None, Option}
 use Rattle.clap.specs.Words.{Text}
 use Rattle.mf_base.specs.Messages.{GetsMessage}
 use Rattle.mf_easel.specs.declared.fault.EaselFault.{EaselFault}
 use Rattle.mf_easel.specs.declared.fault.EaselFault.TheVariants as easels
 use Rattle.mf_stage.specs.declared.fault.StageFault.{StageFault}
 use Rattle.mf_stage.specs.declared.fault.StageFault.TheVariants as stages
+use Rattle.mf_frame.specs.Canvases.{IsLargeEnough}
 use Rattle.mf_view.specs.declared.fault.ProgramFault.{ProgramFault}
 use Rattle.mf_view.specs.declared.fault.ProgramFault.TheVariants as faults
 use Rattle.mf_view.specs.Messages.{message_of}
@@ -29,14 +30,42 @@ fault_of_easel easels.OutOfMemory = faults.OutOfMemory
 fault_of_easel easels.NoLook = faults.NoLook
 fault_of_easel easels.WriteFault = faults.WriteFault
 
--- the program ended with some fault, which has this status, and a stream that held some bytes has got its message and nothing else
-pub record ReportsFault (status : ℕ) (held holds : Option (List ℕ)) : Type 0 where
-  pub fault : ProgramFault
-  pub status_is : status_of fault ≡ status
-  pub message : GetsMessage held holds (message_of fault)
+-- the script or the drawing can end with this fault
+abbrev pub IsOfSides : ProgramFault → Type 0
+IsOfSides faults.NoPlace = ⊥
+IsOfSides faults.TooSmall = ⊥
+IsOfSides faults.NoCharacters = ⊥
+IsOfSides _ = Unit {0}
+
+-- these words ask for a script to be drawn in fewer than 48 columns or fewer than 6 rows
+pub record LacksRoom (words : List Text) : Type 0 where
+  pub asked : Words
+  pub request : IsRequest words (Show asked)
+  pub small : IsLargeEnough asked.columns asked.rows → ⊥
+
+-- these words ask for a font file
+pub record AsksForFont (words : List Text) : Type 0 where
+  pub asked : Words
+  pub request : IsRequest words (Show asked)
+  pub some : IsSome asked.gf
+
+-- a run with these words can end with this fault: with `TooSmall` only where they lack room, and with `NoCharacters` only where
+-- they ask for a font file
+abbrev pub MayEnd : List Text → ProgramFault → Type 0
+MayEnd words faults.TooSmall = LacksRoom words
+MayEnd words faults.NoCharacters = AsksForFont words
+MayEnd words _ = Unit {0}
 
 -- these words ask for a script to be performed with its transcript in the stream of messages
 pub record TellsTranscript (words : List Text) : Type 0 where
   pub asked : Words
   pub request : IsRequest words (Show asked)
   pub nowhere_else : asked.transcript ≡ None
+
+-- with these words the program ended with some fault, which has this status; the stream of messages, which held some bytes, has got
+-- its message and nothing else, unless they ask for the transcript there
+pub record ReportsFault (words : List Text) (status : ℕ) (held holds : Option (List ℕ)) : Type 0 where
+  pub fault : ProgramFault
+  pub status_is : status_of fault ≡ status
+  pub may : MayEnd words fault
+  pub told : TellsTranscript words ⊎ GetsMessage held holds (message_of fault)

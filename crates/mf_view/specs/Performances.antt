@@ -1,5 +1,5 @@
 -- What a performance has written.
-use Rattle.std.specs.Prelude.{ℕ, IfSome, List, [], Option}
+use Rattle.std.specs.Prelude.{◌≡◌, ℕ, IfSome, List, [], Option}
 use Rattle.std.specs.Io.KnownBytes.{Appends}
 use Rattle.std.specs.Str.Lines.{lines}
 use Rattle.mf_frame.specs.Canvases.{Size}
@@ -43,6 +43,6 @@ pub record IsShown (style : Style) (canvas : Size) (s : Streams) (file : GfFile)
   pub shown : ShowsLast style canvas (complete_list last.pictures) s.held s.holds
   pub file_is : Keeps file [] last.characters
 
--- the script that the reader had was performed and shown, where this script is known
+-- a script was performed and shown: the one that the reader had, where this is known, and else some bytes
 abbrev pub Shows : Style → Size → Streams → GfFile → Type 0
-Shows style canvas s file = IfSome s.unread (IsShown style canvas s file)
+Shows style canvas s file = (input : List ℕ) × IfSome s.unread (λ known. input ≡ known) × IsShown style canvas s file input

@@ -1,5 +1,5 @@
 //! The performance of a script beside the viewer that draws its picture.
-ghost use Rattle.std.specs.Prelude.{◌≡◌, Err, IfErr, IfOk, IsErr, None, OnOk};
+ghost use Rattle.std.specs.Prelude.{◌≡◌, ◌⊎◌, Err, IfErr, IfOk, IsErr, None, OnOk};
 ghost use denote.Param.Send.{IsSync, IsSend};
 ghost use Rattle.mf_easel.specs.Easels as easels;
 ghost use Rattle.mf_live.specs.Writers.{ended_identity, ended_published_list};
@@ -8,7 +8,7 @@ ghost use Rattle.mf_session.specs.States.{State, start};
 ghost use Rattle.mf_stage.specs.Stages as stages;
 ghost use Rattle.mf_stage.specs.Stages.{StandsFor, limits};
 ghost use Rattle.mf_stage.specs.Scripts.{PerformsAll, StillStands};
-ghost use Rattle.mf_view.specs.Faults.{fault_of_stage};
+ghost use Rattle.mf_view.specs.Faults.{IsOfSides, fault_of_stage};
 ghost use Rattle.mf_view.specs.Drawings.{DrawsMore, EndsDrawing, IsSameEasel};
 ghost use Rattle.mf_view.specs.Performances.{Shows, script_limits, streams_of};
 
@@ -73,8 +73,11 @@ pub fn perform<
     pace: &P,
     showing: Showing,
 ) -> Result<GfFile, ProgramFault>
-    ensures { IfOk result (Shows showing.style showing.canvas
+    ensures shown { IfOk result (Shows showing.style showing.canvas
         (streams_of R.remaining reader.old W.contents screen.old screen.new T.contents transcript.old transcript.new)) }
+    ensures fault { IfErr result (λ fault. IsOfSides fault ⊎ (fault ≡ ProgramFault.NoPlace)) }
+    ensures no_place { result ≡ Err ProgramFault.NoPlace
+        → (reader.new ≡ reader.old) × (screen.new ≡ screen.old) × (transcript.new ≡ transcript.old) }
 {
     let Showing {
         canvas,
@@ -115,8 +118,9 @@ fn show<
     requires start { StandsFor stage start }
     requires limits { limits stage ≡ script_limits }
     requires blank { easels.drawn_of easel ≡ None }
-    ensures { IfOk result (Shows (easels.style_of easel) (easels.canvas_of easel)
+    ensures shown { IfOk result (Shows (easels.style_of easel) (easels.canvas_of easel)
         (streams_of R.remaining reader.old W.contents screen.old screen.new T.contents transcript.old transcript.new)) }
+    ensures fault { IfErr result IsOfSides }
 {
     let mut stage = stage;
     let mut easel = easel;
@@ -145,6 +149,7 @@ fn conclude<S: Wait + Files, W: Write>(
     ensures file { IfOk result (λ file. (s : State) → StandsFor stage s → IsFileOf (stages.session_of stage) s file) }
     ensures shown { OnOk result ((s : State) → StandsFor stage s
         → EndsDrawing drawn easel (complete_list s.pictures) (W.contents screen.old) (W.contents screen.new)) }
+    ensures fault { IfErr result IsOfSides }
 {
     match performed {
         Ok(()) => end(rt, alloc, stage, easel, screen, drawn),
@@ -216,6 +221,7 @@ fn end<S: Wait + Files, W: Write>(
     ensures file { IfOk result (λ file. (s : State) → StandsFor stage s → IsFileOf (stages.session_of stage) s file) }
     ensures shown { OnOk result ((s : State) → StandsFor stage s
         → EndsDrawing drawn easel (complete_list s.pictures) (W.contents screen.old) (W.contents screen.new)) }
+    ensures fault { IfErr result IsOfSides }
 {
     let (mut ended, file) = stage.finish(rt, alloc)?;
     let shown = show_last(alloc, easel, screen, &mut ended, drawn);

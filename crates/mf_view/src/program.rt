@@ -1,9 +1,10 @@
 //! The program that `main` calls: from its words and streams to its exit status.
 ghost use Rattle.std.specs.Io.KnownBytes.{Appends};
-ghost use Rattle.std.specs.Prelude.{◌≡◌, ◌++◌, ◌⊎◌, IfOk, None, OnOk, codes, decimal, map, option_map, string_bytes};
+ghost use Rattle.std.specs.Prelude.{◌≡◌, ◌++◌, ◌⊎◌, ◌↔◌, Err, IfErr, IfOk, IsOk, IsSome, None, OnOk, codes, decimal, map, option_map, string_bytes};
 ghost use Rattle.mf_base.specs.Messages.{GetsMessage};
-ghost use Rattle.mf_view.specs.Endings.{EndsWell, IsShownInto, IsWatched, size_in, style_in};
-ghost use Rattle.mf_view.specs.Faults.{ReportsFault, TellsTranscript};
+ghost use Rattle.mf_view.specs.Endings.{AsksForText, EndsWell, IsShownInto, IsWatched, size_in, style_in};
+ghost use Rattle.mf_view.specs.Faults.{IsOfSides, LacksRoom, ReportsFault};
+ghost use Rattle.mf_frame.specs.Canvases.{IsLargeEnough};
 ghost use Rattle.mf_view.specs.Messages.{message_of, usage};
 ghost use Rattle.mf_view.specs.Performances.{streams_of};
 ghost use Rattle.mf_view.specs.Statuses.{status_of};
@@ -66,7 +67,11 @@ pub fn program<S: Wait + Threads + Files + Clock + Sync, R: Read, W: Write + Sen
     ensures done { result ≡ DONE → EndsWell (map string_bytes words.items)
         (streams_of R.remaining reader.old W.contents screen.old screen.new E.contents errors.old errors.new) }
     ensures fault { (result ≡ STREAM_FAULT) ⊎ (result ≡ WANTING) ⊎ (result ≡ TOO_SMALL)
-        → TellsTranscript (map string_bytes words.items) ⊎ ReportsFault result (E.contents errors.old) (E.contents errors.new) }
+        → ReportsFault (map string_bytes words.items) result (E.contents errors.old) (E.contents errors.new) }
+    ensures text_alone { AsksForText (map string_bytes words.items) → reader.new ≡ reader.old }
+    ensures too_small { IsCommandLine (map string_bytes words.items) → LacksRoom (map string_bytes words.items)
+        → (result ≡ TOO_SMALL) ⊎ (result ≡ WANTING) }
+    ensures untouched { LacksRoom (map string_bytes words.items) → (reader.new ≡ reader.old) × (screen.new ≡ screen.old) }
 {
     let request = match read_words(alloc, words) {
         Ok(request) => request,
@@ -96,6 +101,9 @@ fn watch<S: Wait + Threads + Files + Clock + Sync, R: Read, W: Write + Send, E: 
     ensures done { OnOk result
         (IsWatched words (streams_of R.remaining reader.old W.contents screen.old screen.new E.contents errors.old errors.new)) }
     ensures quiet { (words.transcript ≡ None) ⊎ (errors.new ≡ errors.old) }
+    ensures too_small { (IsLargeEnough words.columns words.rows → ⊥) ↔ (result ≡ Err ProgramFault.TooSmall) }
+    ensures untouched { result ≡ Err ProgramFault.TooSmall → (reader.new ≡ reader.old) × (screen.new ≡ screen.old) }
+    ensures no_characters { result ≡ Err ProgramFault.NoCharacters → IsSome words.gf }
 {
     let Words {
         columns,
@@ -129,7 +137,8 @@ fn showing(
     plates: Option<String>,
     pgm: bool,
 ) -> Result<Showing, TooSmall>
-    ensures { IfOk result (λ made. (made.style ≡ style_in frames) × (made.canvas ≡ size_in columns rows)) }
+    ensures accepted { IsOk result ↔ IsLargeEnough columns rows }
+    ensures asked { IfOk result (λ made. (made.style ≡ style_in frames) × (made.canvas ≡ size_in columns rows)) }
 {
     let canvas = Canvas::new(columns, rows)?;
     Ok(Showing {
@@ -166,6 +175,7 @@ fn perform_into<
     ensures done { IfOk result (IsShownInto (option_map string_bytes transcript) showing.style showing.canvas
         (streams_of R.remaining reader.old W.contents screen.old screen.new E.contents errors.old errors.new)) }
     ensures quiet { (transcript ≡ None) ⊎ (errors.new ≡ errors.old) }
+    ensures fault { IfErr result (λ fault. IsOfSides fault ⊎ (fault ≡ ProgramFault.NoPlace)) }
 {
     let Some(path) = transcript else {
         return perform(rt, alloc, reader, screen, errors, pace, showing);
@@ -180,7 +190,7 @@ fn perform_into<
 fn answer<W: Write, E: Write>(screen: &mut W, errors: &mut E, text: &str) -> u8
     ensures statuses { (result ≡ DONE) ⊎ (result ≡ STREAM_FAULT) }
     ensures done { result ≡ DONE → (errors.new ≡ errors.old) × Appends (W.contents screen.old) (W.contents screen.new) text.now }
-    ensures fault { result ≡ STREAM_FAULT → ReportsFault result (E.contents errors.old) (E.contents errors.new) }
+    ensures fault { result ≡ STREAM_FAULT → GetsMessage (E.contents errors.old) (E.contents errors.new) (message_of ProgramFault.WriteFault) }
 {
     if write_text(screen, text) {
         return DONE;

@@ -6,8 +6,8 @@ pub conclude-requires-clause-stands : goal.conclude-requires-clause-stands
 conclude-requires-clause-stands g c =
     stands-after c.args.stage c.perform_beside-drawn.new.stage c.perform_beside-drawn.result.performed c.requires.start c.perform_beside-drawn.ensures.stands
 
-pub returns : goal.returns
-returns g c =
+pub returns-clause-shown : goal.returns-clause-shown
+returns-clause-shown g c =
     let manner = same-manner _ _ _ c.draw-first.ensures.manner c.perform_beside-drawn.ensures.manner in
     let blank = drawn-nothing c.args.easel (g.W.Write.contents c.args.screen.now) c.requires.blank in
     let drawn = drawn-both _ _ _ _ _ _ _ _ _ c.draw-first.ensures.drawn c.perform_beside-drawn.ensures.drawn blank in

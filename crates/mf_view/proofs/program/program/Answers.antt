@@ -1,7 +1,22 @@
-use Rattle.std.proofs.Common.{inr}
+use Rattle.std.proofs.Common.{Err, ap, ◌∙◌}
 use Rattle.mf_view.specs.declared.fault.ProgramFault.TheVariants.{OutOfMemory}
-use Rattle.mf_view.proofs.Reports.{reported}
+use Rattle.mf_view.proofs.Reports.{answered, may_end, reported, reported-after}
 use Rattle.mf_view.proofs.program.program.Goals as goal
 
 pub returns-in-Err-OutOfMemory-clause-fault : goal.returns-in-Err-OutOfMemory-clause-fault
-returns-in-Err-OutOfMemory-clause-fault g c = λ _. inr (reported OutOfMemory _ _ _ c.report.ensures.status c.report.ensures.message)
+returns-in-Err-OutOfMemory-clause-fault g c = λ _. reported _ OutOfMemory _ _ _ c.report.ensures.status tt c.report.ensures.message
+
+pub returns-in-Err-clause-fault : goal.returns-in-Err-clause-fault
+returns-in-Err-clause-fault g c = λ _.
+    let request = rw c.in-Show.is at c.in-Ok.ensures.value in
+    let asked = c.in-Show.words in
+    let may = may_end _ asked request c.in-Err.fault
+    (λ is. c.watch.ensures.too_small.1 (c.in-Err.is ∙ ap Err is)) (λ is. c.watch.ensures.no_characters (c.in-Err.is ∙ ap Err is)) in
+    reported-after _ asked request g.E.Write.contents c.args.errors.now c.watch.new.errors c.in-Err.fault _ _
+    c.watch.ensures.quiet c.report-in-Err.ensures.status may c.report-in-Err.ensures.message
+
+pub returns-in-Help-clause-fault : goal.returns-in-Help-clause-fault
+returns-in-Help-clause-fault g c = λ bad. answered _ _ _ _ c.answer.ensures.statuses bad c.answer.ensures.fault
+
+pub returns-in-Version-clause-fault : goal.returns-in-Version-clause-fault
+returns-in-Version-clause-fault g c = λ bad. answered _ _ _ _ c.answer-in-Version.ensures.statuses bad c.answer-in-Version.ensures.fault

@@ -13,7 +13,7 @@ returns-in-Some-clause-done g c =
     g.E.Write.contents c.args.errors.now c.perform_into.new.errors in
     on-ok-from c.write_font.result _ (λ ok. record {
       file = c.in_ok-file.file;
-      shown = shown-as (option_map string_bytes c.args.words.transcript) _ _ _ _ s c.in_ok-file.file c.in_ok-showing.ensures c.in_ok-file.ensures.done;
+      shown = shown-as (option_map string_bytes c.args.words.transcript) _ _ _ _ s c.in_ok-file.file c.in_ok-showing.ensures.asked c.in_ok-file.ensures.done;
       font = record {
         some = λ characters keeps asked none.
             ok _ (c.write_font.ensures.none (c.in_ok-bytes.ensures.some characters keeps ∙ ap (file_if_any c.font_words.result []) none));
@@ -27,7 +27,7 @@ returns-in-None-clause-done g c =
     streams_of g.R.Read.remaining c.args.reader.now g.W.Write.contents c.args.screen.now c.perform_into.new.screen
     g.E.Write.contents c.args.errors.now c.perform_into.new.errors in record {
       file = c.in_ok-file.file;
-      shown = shown-as (option_map string_bytes c.args.words.transcript) _ _ _ _ s c.in_ok-file.file c.in_ok-showing.ensures c.in_ok-file.ensures.done;
+      shown = shown-as (option_map string_bytes c.args.words.transcript) _ _ _ _ s c.in_ok-file.file c.in_ok-showing.ensures.asked c.in_ok-file.ensures.done;
       font = record {
         some = λ characters keeps asked none. false≢true (sym (ap is_some c.in-None.is) ∙ asked);
         fits = λ characters keeps long. let refused = (c.in_ok-bytes.ensures.too_long characters keeps).0 (rw c.font_words.ensures long) in cc;

@@ -1,6 +1,6 @@
 use Rattle.std.proofs.Common.{◌∷◌, [], refl, ap, subst, ◌∙◌}
-use Rattle.mf_stage.proofs.Scripts.{known_is, under_way-next, under_way-start}
-use Rattle.mf_stage.specs.Lines.{Reads, without_ending}
+use Rattle.mf_stage.proofs.Scripts.{under_way-end, under_way-next, under_way-start}
+use Rattle.mf_stage.specs.Lines.{without_ending}
 use Rattle.mf_stage.specs.Scripts.{HasPerformed, step_of}
 use Rattle.mf_stage.proofs.stage.Stage.perform_lines.Goals as goal
 
@@ -20,9 +20,15 @@ lines-preserved g c =
       done.limits ∙ limits_are,
       done.identity ∙ identity_is,
       done.plates ∙ plates_are,
-      under_way-next c.args.self.now c.lines.self c.perform_line.new.self _
+      under_way-next c.args.self.now c.lines.self c.perform_line.new.self (g.B.Read.remaining c.args.script.now)
           (g.B.Read.remaining c.lines.script) remaining (g.W.Write.contents c.args.transcript.now) held holds line limits_are under_way
-          (λ rest is. known_is (λ input. Reads input line remaining) _ rest is read)
+          (rw c.in-Some.is at c.in_ok-line.ensures.whole) read
           (λ s stands. subst (λ l. HasPerformed (step_of c.lines.self s c.perform_line.new.self held holds) (l ∷ [])) bare (done.performed s stands)),
       λ s stands. let (now, represented) = represents s stands in let next = done.performed now represented in (next.last, next.stands),
     )
+
+pub returns-in_default-clause-transcript : goal.returns-in_default-clause-transcript
+returns-in_default-clause-transcript g c =
+    let (limits_are, identity_is, plates_are, under_way, represents) = c.lines.invariant in
+    under_way-end c.args.self.now c.lines.self (g.B.Read.remaining c.args.script.now) (g.B.Read.remaining c.lines.script)
+    (g.W.Write.contents c.args.transcript.now) (g.W.Write.contents c.lines.transcript) under_way (c.in_ok-line.ensures.end c.in_default.is)
