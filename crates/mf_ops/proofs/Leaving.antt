@@ -5,7 +5,7 @@ use Rattle.std.proofs.lemmas.Int.{ints}
 use Rattle.std.proofs.lemmas.List.Elements.{All-nil, All-cons, All-contains}
 use Rattle.std.proofs.lemmas.List.Folds.{list_any_none}
 use Rattle.std.specs.List.{All, Any, list_any}
-use Rattle.mf_geom.specs.Coordinates.{least_coordinate, last_in_field, IsCoordinate, is_coordinate}
+use Rattle.mf_geom.specs.Coordinates.{IsCoordinate, is_coordinate}
 use borrow.Author.Differences.{up, down}
 use Rattle.mf_rows.proofs.DotsLemmas.{dots_from-lawful}
 use Rattle.mf_rows.specs.Bounds.{IsLeastBox}
@@ -14,8 +14,7 @@ use Rattle.mf_edges.specs.declared.stretch.Stretch.{Stretch}
 use Rattle.mf_rows.specs.Dots.{Dot, IsPicture, start_of_field}
 use Rattle.mf_edges.specs.Axes.{PlaceStaysInside, stretched_to}
 use Rattle.mf_rows.specs.Moves.{PixelsStayInside}
-use Rattle.mf_ops.specs.Moves.{Factors, scale_by, shift_by, stays_inside}
-use Rattle.mf_ops.specs.Step.{leaves}
+use Rattle.mf_ops.specs.Moves.{Factors, IsInAxis, scale_by, shift_by, stays_inside}
 use Rattle.mf_ops.proofs.Faults.{IsForWeights}
 use Rattle.mf_ops.specs.declared.op.Op.TheVariants.{Shift, Scale}
 
@@ -53,27 +52,15 @@ PixelsStayInside-none_leaves columns rows (d ∷ ds) none =
       up = All-cons (λ e. PlaceStaysInside rows e.y) d ds ((stays_inside-true rows d.y).0 tests.1) rest.up;
     }
 
-some_leaves : (columns rows : Stretch) (ds : List Dot) → ¬ PixelsStayInside columns rows ds → list_any (leaves_by columns rows) ds ≡ true
+pub some_leaves : (columns rows : Stretch) (ds : List Dot) → ¬ PixelsStayInside columns rows ds → list_any (leaves_by columns rows) ds ≡ true
 some_leaves columns rows ds outside = true_from_ne_false _ (λ none. outside (PixelsStayInside-none_leaves columns rows ds none))
 
 -- a shift stretches by factor 1, and a scale has offset 0
 pub stays_in_field-shift : (ds : List Dot) (dx dy : ℤ) → PixelsStayInside (shift_by dx) (shift_by dy) ds → IsForWeights ds (Shift dx dy)
-stays_in_field-shift ds dx dy inside = record {
-  turns = record { none = refl };
-  stays = record { none_leaves = none_leaves (shift_by dx) (shift_by dy) ds inside };
-}
-
-pub leaves-shift : (ds : List Dot) (dx dy : ℤ) → (PixelsStayInside (shift_by dx) (shift_by dy) ds → ⊥) → list_any (leaves (Shift dx dy)) ds ≡ true
-leaves-shift ds dx dy outside = some_leaves (shift_by dx) (shift_by dy) ds outside
+stays_in_field-shift ds dx dy inside = record { turns = record { none = refl }; stays = record { none_leaves = none_leaves _ _ ds inside } }
 
 pub stays_in_field-scale : (ds : List Dot) (s : Factors) → PixelsStayInside (scale_by s.x) (scale_by s.y) ds → IsForWeights ds (Scale s)
-stays_in_field-scale ds s inside = record {
-  turns = record { none = refl };
-  stays = record { none_leaves = none_leaves (scale_by s.x) (scale_by s.y) ds inside };
-}
-
-pub leaves-scale : (ds : List Dot) (s : Factors) → (PixelsStayInside (scale_by s.x) (scale_by s.y) ds → ⊥) → list_any (leaves (Scale s)) ds ≡ true
-leaves-scale ds s outside = some_leaves (scale_by s.x) (scale_by s.y) ds outside
+stays_in_field-scale ds s inside = record { turns = record { none = refl }; stays = record { none_leaves = none_leaves _ _ ds inside } }
 
 -- multiplying by an integer keeps the order of two numbers, or reverses it
 mul-le : (n : ℕ) (a b : ℤ) → a ≤ℤ b → (a *ℤ pos n) ≤ℤ (b *ℤ pos n)
@@ -136,28 +123,23 @@ sides_from_StayInside columns rows ds b box inside =
       top = at_side (PlaceStaysInside rows) (λ d. d.y) ds b.max_y inside.up box.top;
     }
 
--- a column or row of the field
-pub record IsInRange (p : ℤ) : Type 0 where
-  pub least : least_coordinate ≤ℤ p
-  pub greatest : p ≤ℤ last_in_field
-
 -- the sides of the least box of a picture are columns and rows of the field
 pub record AreSidesInField (b : Box4) : Type 0 where
-  pub left : IsInRange b.min_x
-  pub right : IsInRange b.max_x
-  pub bottom : IsInRange b.min_y
-  pub top : IsInRange b.max_y
+  pub left : IsInAxis b.min_x
+  pub right : IsInAxis b.max_x
+  pub bottom : IsInAxis b.min_y
+  pub top : IsInAxis b.max_y
 
 sides_in_field : (ds : List Dot) (b : Box4) → IsPicture ds → IsLeastBox ds b → AreSidesInField b
 sides_in_field ds b picture box =
     let dots = dots_from-lawful start_of_field ds picture.dots in
-    let columns : All (λ d. IsInRange d.x) ds = λ k d lt. let dot = dots k d lt in record { least = dot.in_field.left; greatest = dot.in_field.right } in
-    let rows : All (λ d. IsInRange d.y) ds = λ k d lt. let dot = dots k d lt in record { least = dot.in_field.bottom; greatest = dot.in_field.top } in
+    let columns : All (λ d. IsInAxis d.x) ds = λ k d lt. let dot = dots k d lt in record { least = dot.in_field.left; greatest = dot.in_field.right } in
+    let rows : All (λ d. IsInAxis d.y) ds = λ k d lt. let dot = dots k d lt in record { least = dot.in_field.bottom; greatest = dot.in_field.top } in
     record {
-      left = at_side IsInRange (λ d. d.x) ds b.min_x columns box.left;
-      right = at_side IsInRange (λ d. d.x) ds b.max_x columns box.right;
-      bottom = at_side IsInRange (λ d. d.y) ds b.min_y rows box.bottom;
-      top = at_side IsInRange (λ d. d.y) ds b.max_y rows box.top;
+      left = at_side IsInAxis (λ d. d.x) ds b.min_x columns box.left;
+      right = at_side IsInAxis (λ d. d.x) ds b.max_x columns box.right;
+      bottom = at_side IsInAxis (λ d. d.y) ds b.min_y rows box.bottom;
+      top = at_side IsInAxis (λ d. d.y) ds b.max_y rows box.top;
     }
 
 -- so the 32-bit integers of the code represent them exactly
@@ -169,7 +151,7 @@ read_back b = record {
   max_y = to_z w32 (of_z w32 b.max_y);
 }
 
-read_back-place : (p : ℤ) → IsInRange p → to_z w32 (of_z w32 p) ≡ p
+read_back-place : (p : ℤ) → IsInAxis p → to_z w32 (of_z w32 p) ≡ p
 read_back-place p place = omega (arith, ints, place.least, place.greatest)
 
 pub IsLeastBox-read_back : (ds : List Dot) (b : Box4) → IsPicture ds → IsLeastBox ds b → IsLeastBox ds (read_back b)

@@ -2,7 +2,7 @@
 -- plane: the new weight of a pixel is the old weight of the pixel whose moved square contains it.
 use Rattle.std.specs.Prelude.{◌≢◌, ◌&&◌, Bool, ℤ, pos, neg_ℤ, nat_abs, ◌+ℤ◌, ◌-ℤ◌, ◌*ℤ◌, ◌≤ℤ◌, int_lt}
 use Rattle.std.specs.Int.{int_max, int_min}
-use Rattle.mf_geom.specs.Coordinates.{least_coordinate, greatest_coordinate, is_coordinate}
+use Rattle.mf_geom.specs.Coordinates.{least_coordinate, greatest_coordinate, last_in_field, is_coordinate}
 use Rattle.mf_edges.specs.Axes.{source_of, stretched_to}
 use Rattle.mf_edges.specs.declared.stretch.Stretch.{Stretch}
 use Rattle.mf_ops.specs.Reflections.{on_side}
@@ -13,6 +13,11 @@ use Rattle.mf_ops.specs.declared.quarter.Quarter.TheVariants.{Once, Twice, Thric
 pub record Factors : Type 0 where
   pub x : ℤ
   pub y : ℤ
+
+-- a column, or row, of the field
+pub record IsInAxis (p : ℤ) : Type 0 where
+  pub least : least_coordinate ≤ℤ p
+  pub greatest : p ≤ℤ last_in_field
 
 -- f may be a factor of a scale: it is in -4095..4095 and not 0
 pub record IsFactor (f : ℤ) : Type 0 where

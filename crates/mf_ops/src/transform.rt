@@ -1,10 +1,11 @@
 //! Shifts, scales and turns.
-ghost use Rattle.std.specs.Prelude.{◌≡◌, ◌≢◌, ◌↔◌, None, Some, Err, IfOk, IfErr, OnOk, IsTrue, ◌≤ℤ◌};
-ghost use Rattle.mf_geom.specs.Coordinates.{least_coordinate, greatest_coordinate, last_in_field, IsCoordinate};
+ghost use Rattle.std.specs.Prelude.{◌≡◌, ◌≢◌, ◌↔◌, None, Some, Err, IfOk, IfErr, OnOk, IsTrue};
+ghost use Rattle.mf_geom.specs.Coordinates.{IsCoordinate};
 ghost use Rattle.mf_rows.specs.Dots.{IsPicture};
 ghost use Rattle.mf_edges.specs.Axes.{PlaceStaysInside, stretched_to};
 ghost use Rattle.mf_rows.specs.Moves.{PixelsStayInside};
 ghost use Rattle.mf_rows.specs.Sums.{HasWeights};
+ghost use Rattle.mf_ops.specs.Moves.{IsInAxis};
 ghost use Rattle.mf_ops.specs.Reflections.{reflection_at};
 ghost use Rattle.mf_ops.specs.Step.{next_picture, op_fault};
 ghost use Rattle.mf_ops.specs.declared.op.Op.TheVariants as ops;
@@ -128,8 +129,7 @@ fn stays_inside(picture: &Picture, columns: &Stretch, rows: &Stretch) -> bool
 
 /// Whether both ends of a column, or row, lie in -4095..=4095 after a stretch.
 fn lies_inside(stretch: &Stretch, place: i32) -> bool
-    requires least { least_coordinate ≤ℤ place }
-    requires greatest { place ≤ℤ last_in_field }
+    requires { IsInAxis place }
     ensures { IsTrue result ↔ PlaceStaysInside stretch.now place }
 {
     is_in_reach(stretch, place) && is_in_reach(stretch, place + 1)
@@ -137,8 +137,7 @@ fn lies_inside(stretch: &Stretch, place: i32) -> bool
 
 /// Whether a point lies in -4095..=4095 after a stretch.
 fn is_in_reach(stretch: &Stretch, point: i32) -> bool
-    requires least { least_coordinate ≤ℤ point }
-    requires greatest { point ≤ℤ greatest_coordinate }
+    requires { IsCoordinate point }
     ensures { IsTrue result ↔ IsCoordinate (stretched_to stretch.now point) }
 {
     let new = i64::from(point) * i64::from(stretch.factor) + i64::from(stretch.offset);

@@ -23,30 +23,18 @@ lawful_turned Once ds picture x y = lawful_at ds picture _ _
 lawful_turned Twice ds picture x y = lawful_at ds picture _ _
 lawful_turned Thrice ds picture x y = lawful_at ds picture _ _
 
-pub returns-clause-clear : goal.returns-clause-clear
-returns-clause-clear c ds = accepted-lawful ds ops.Clear (clear_stays ds) (λ x y. zero_lawful)
-
-pub returns-clause-turn : goal.returns-clause-turn
-returns-clause-turn c ds q picture = accepted-lawful ds (ops.Quarter q) (quarter_stays ds q) (lawful_turned q ds picture)
-
-pub returns-clause-keeping : goal.returns-clause-keeping
-returns-clause-keeping c ds a b w lawful =
-    accepted-lawful ds (ops.Cull (Keeping a b w)) (cull_stays ds (Keeping a b w))
-    (λ x y. cond_both (is_within a b (weight_at ds x y)) w (pos 0) IsLawfulWeight (λ _. lawful) (λ _. zero_lawful))
-
-pub returns-clause-dropping : goal.returns-clause-dropping
-returns-clause-dropping c ds a b w lawful =
-    accepted-lawful ds (ops.Cull (Dropping a b w)) (cull_stays ds (Dropping a b w))
-    (λ x y. cond_both (is_within a b (weight_at ds x y)) (pos 0) w IsLawfulWeight (λ _. zero_lawful) (λ _. lawful))
-
-pub returns-clause-shift : goal.returns-clause-shift
-returns-clause-shift c ds dx dy picture = not_too_large-lawful ds (ops.Shift dx dy) (λ x y. lawful_at ds picture _ _)
-
-pub returns-clause-scale : goal.returns-clause-scale
-returns-clause-scale c ds s picture = not_too_large-lawful ds (ops.Scale s) (λ x y. lawful_at ds picture (scale_source s.x x) (scale_source s.y y))
-
-pub returns-clause-contour : goal.returns-clause-contour
-returns-clause-contour c = contour_not_out
-
-pub returns-clause-also : goal.returns-clause-also
-returns-clause-also c = also_not_out
+pub returns : goal.returns
+returns c = record {
+  clear = λ ds. accepted-lawful ds ops.Clear (clear_stays ds) (λ x y. zero_lawful);
+  turn = λ ds q picture. accepted-lawful ds (ops.Quarter q) (quarter_stays ds q) (lawful_turned q ds picture);
+  keeping = λ ds a b w lawful.
+      accepted-lawful ds (ops.Cull (Keeping a b w)) (cull_stays ds (Keeping a b w))
+      (λ x y. cond_both (is_within a b (weight_at ds x y)) w (pos 0) IsLawfulWeight (λ _. lawful) (λ _. zero_lawful));
+  dropping = λ ds a b w lawful.
+      accepted-lawful ds (ops.Cull (Dropping a b w)) (cull_stays ds (Dropping a b w))
+      (λ x y. cond_both (is_within a b (weight_at ds x y)) (pos 0) w IsLawfulWeight (λ _. zero_lawful) (λ _. lawful));
+  shift = λ ds dx dy picture. not_too_large-lawful ds (ops.Shift dx dy) (λ x y. lawful_at ds picture _ _);
+  scale = λ ds s picture. not_too_large-lawful ds (ops.Scale s) (λ x y. lawful_at ds picture (scale_source s.x x) (scale_source s.y y));
+  contour = contour_not_out;
+  also = also_not_out;
+}

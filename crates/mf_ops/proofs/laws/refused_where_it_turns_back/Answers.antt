@@ -7,15 +7,13 @@ use Rattle.mf_geom.specs.declared.check.Check.TheVariants.{On}
 use Rattle.mf_ops.proofs.Faults.{op_fault-turn, turning_fault-refused, not_turning}
 use Rattle.mf_ops.proofs.laws.refused_where_it_turns_back.Goals as goal
 
-pub returns-clause-checked : goal.returns-clause-checked
-returns-clause-checked c ds ps w fault cycle =
-    let same = cycle_fault_of-rectilinear ps cycle in (
-      λ refused. fault-cycle_fault_of ps fault (same ∙ turning_fault-refused ds ps w fault refused),
-      λ is. op_fault-turn ds (Contour ps w On) (Cycle fault) (ap (option_map Cycle) (sym same ∙ cycle_fault_of-fault ps fault is)),
-    )
-
-pub returns-clause-unchecked : goal.returns-clause-unchecked
-returns-clause-unchecked c ds ps w = record { none = refl }
-
-pub returns-clause-lawful : goal.returns-clause-lawful
-returns-clause-lawful c = not_turning
+pub returns : goal.returns
+returns c = record {
+  checked = λ ds ps w fault cycle.
+      let same = cycle_fault_of-rectilinear ps cycle in (
+        λ refused. fault-cycle_fault_of ps fault (same ∙ turning_fault-refused ds ps w fault refused),
+        λ is. op_fault-turn ds (Contour ps w On) (Cycle fault) (ap (option_map Cycle) (sym same ∙ cycle_fault_of-fault ps fault is)),
+      );
+  unchecked = λ ds ps w. record { none = refl };
+  lawful = not_turning;
+}

@@ -24,8 +24,8 @@ total ps w check cycle =
     ∙ (λ t. sum_over_field (λ x y. alone x y t))
     ∙ sum_over_field-contour ps w check cycle
 
-pub returns-clause-checked : goal.returns-clause-checked
-returns-clause-checked c ps w = total ps w On
-
-pub returns-clause-unchecked : goal.returns-clause-unchecked
-returns-clause-unchecked c ps w = total ps w Off
+pub returns : goal.returns
+returns c = record {
+  checked = λ ps w. total ps w On;
+  unchecked = λ ps w. total ps w Off;
+}

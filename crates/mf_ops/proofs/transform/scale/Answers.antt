@@ -3,7 +3,7 @@ use Rattle.std.proofs.lemmas.Bool.{both_ways}
 use Rattle.mf_ops.specs.Moves.{scale_by}
 use Rattle.mf_ops.specs.declared.op.Op.TheVariants.{Scale}
 use Rattle.mf_ops.proofs.Faults.{IsForWeights, made-from_weights, op_fault-leaves, not_out}
-use Rattle.mf_ops.proofs.Leaving.{stays_in_field-scale, leaves-scale}
+use Rattle.mf_ops.proofs.Leaving.{some_leaves, stays_in_field-scale}
 use Rattle.mf_ops.proofs.Scaling.{factor_passed, stretches_made, IsStretch-made, HasWeights-scale, PixelsStayInside-scale}
 use Rattle.mf_ops.proofs.transform.scale.Goals.{After-stays_inside}
 use Rattle.mf_ops.proofs.transform.scale.Goals as goal
@@ -13,7 +13,7 @@ returns-then-not-stays_inside-clause-refused c other =
     let columns = c.stretch.ensures ∙ ap scale_by (factor_passed _ _ c.x-x.ensures.factor c.x-x.ensures.value) in
     let rows = c.stretch-2.ensures ∙ ap scale_by (factor_passed _ _ c.y-y.ensures.factor c.y-y.ensures.value) in
     op_fault-leaves c.args.picture.now (Scale c.args.scale) (record { none = refl })
-    (leaves-scale c.args.picture.now c.args.scale (λ inside. both_ways _ c.if-not-stays_inside.true (c.stays_inside.ensures.1 (rw (columns, rows) inside))))
+    (some_leaves _ _ _ (λ inside. both_ways _ c.if-not-stays_inside.true (c.stays_inside.ensures.1 (rw (columns, rows) inside))))
 
 pub stretch-requires-5 : goal.stretch-requires-5
 stretch-requires-5 c =

@@ -4,29 +4,17 @@ use Rattle.mf_ops.proofs.Leaving.{PixelsStayInside-from_sides, sides_from_StayIn
 use Rattle.mf_ops.proofs.transform.stays_inside.Goals as goal
 use Rattle.mf_ops.proofs.transform.stays_inside.Goals.{then-lies_inside, else-lies_inside, then-lies_inside-2, else-lies_inside-2}
 
-pub lies_inside-requires-clause-least : goal.lies_inside-requires-clause-least
-lies_inside-requires-clause-least c = (sides_read_back _ _ c.bounds.ensures.lawful c.in-Some.ensures.least).left.least
+pub lies_inside-requires : goal.lies_inside-requires
+lies_inside-requires c = (sides_read_back _ _ c.bounds.ensures.lawful c.in-Some.ensures.least).left
 
-pub lies_inside-requires-clause-greatest : goal.lies_inside-requires-clause-greatest
-lies_inside-requires-clause-greatest c = (sides_read_back _ _ c.bounds.ensures.lawful c.in-Some.ensures.least).left.greatest
+pub lies_inside-requires-then-lies_inside : goal.lies_inside-requires-then-lies_inside
+lies_inside-requires-then-lies_inside c = (sides_read_back _ _ c.bounds.ensures.lawful c.in-Some.ensures.least).right
 
-pub lies_inside-requires-then-lies_inside-clause-least : goal.lies_inside-requires-then-lies_inside-clause-least
-lies_inside-requires-then-lies_inside-clause-least c = (sides_read_back _ _ c.bounds.ensures.lawful c.in-Some.ensures.least).right.least
+pub lies_inside-requires-then-lies_inside-2 : goal.lies_inside-requires-then-lies_inside-2
+lies_inside-requires-then-lies_inside-2 c = (sides_read_back _ _ c.bounds.ensures.lawful c.in-Some.ensures.least).bottom
 
-pub lies_inside-requires-then-lies_inside-clause-greatest : goal.lies_inside-requires-then-lies_inside-clause-greatest
-lies_inside-requires-then-lies_inside-clause-greatest c = (sides_read_back _ _ c.bounds.ensures.lawful c.in-Some.ensures.least).right.greatest
-
-pub lies_inside-requires-then-lies_inside-2-clause-least : goal.lies_inside-requires-then-lies_inside-2-clause-least
-lies_inside-requires-then-lies_inside-2-clause-least c = (sides_read_back _ _ c.bounds.ensures.lawful c.in-Some.ensures.least).bottom.least
-
-pub lies_inside-requires-then-lies_inside-2-clause-greatest : goal.lies_inside-requires-then-lies_inside-2-clause-greatest
-lies_inside-requires-then-lies_inside-2-clause-greatest c = (sides_read_back _ _ c.bounds.ensures.lawful c.in-Some.ensures.least).bottom.greatest
-
-pub lies_inside-requires-then-lies_inside-3-clause-least : goal.lies_inside-requires-then-lies_inside-3-clause-least
-lies_inside-requires-then-lies_inside-3-clause-least c = (sides_read_back _ _ c.bounds.ensures.lawful c.in-Some.ensures.least).top.least
-
-pub lies_inside-requires-then-lies_inside-3-clause-greatest : goal.lies_inside-requires-then-lies_inside-3-clause-greatest
-lies_inside-requires-then-lies_inside-3-clause-greatest c = (sides_read_back _ _ c.bounds.ensures.lawful c.in-Some.ensures.least).top.greatest
+pub lies_inside-requires-then-lies_inside-3 : goal.lies_inside-requires-then-lies_inside-3
+lies_inside-requires-then-lies_inside-3 c = (sides_read_back _ _ c.bounds.ensures.lawful c.in-Some.ensures.least).top
 
 pub returns-then-lies_inside-3 : goal.returns-then-lies_inside-3
 returns-then-lies_inside-3 c =
