@@ -2,7 +2,6 @@ pub mod ImageBoxes
 pub mod Levels
 pub mod PathTexts
 pub mod PgmPixels
-pub mod PixelBytes
 pub mod ReadPaths
 pub mod ReadTexts
 pub mod ReadWeights

@@ -11,7 +11,7 @@ use Rattle.mf_rows.specs.Order.{IsRun}
 use Rattle.mf_rows.specs.Runs.{runs_of}
 use Rattle.mf_rows.proofs.Totals.{total_none}
 use Rattle.mf_show.specs.Grid.{extent}
-use Rattle.mf_show.proofs.GridTexts.{extent-next, extent-none}
+use Rattle.mf_show.proofs.ShownRows.{extent-next, extent-none}
 use Rattle.std.specs.Fmt.{signed_decimal}
 use Rattle.mf_edges.specs.LawfulWeights.{least_weight, greatest_weight}
 use Rattle.mf_image.specs.Svg.{color, greatest_weight_of, least_weight_of, path, paths, paths_from, rectangle_of, weights_of}

@@ -1,11 +1,11 @@
 -- The PGM image of a picture (Netpbm's portable graymap): a byte for each pixel of its least box, rows in order from the top.
-use Rattle.std.specs.Prelude.{◌+◌, ◌-◌, ℕ, zero, suc, ℤ, pos, negsuc, ◌+ℤ◌, ◌-ℤ◌, int_lt, List, [], ◌∷◌, ◌++◌, codes, if◌then◌else◌}
+use Rattle.std.specs.Prelude.{◌+◌, ◌-◌, ℕ, ℤ, pos, negsuc, int_lt, List, [], ◌++◌, codes, if◌then◌else◌}
 use Rattle.std.specs.Fmt.{signed_decimal}
 use Rattle.std.specs.Int.RustNames.{unsigned_abs}
 use Rattle.std.specs.Ordering.{int_eq}
 use Rattle.mf_rows.specs.declared.bounds.Box4.{Box4}
-use Rattle.mf_rows.specs.Dots.{Dot, weight_at}
-use Rattle.mf_show.specs.Grid.{extent}
+use Rattle.mf_rows.specs.Dots.{Dot}
+use Rattle.mf_show.specs.Grid.{extent, shown_box, shown_row}
 use Rattle.mf_image.specs.Boxes.{image_box}
 
 -- the byte of a weight: 255 for 0; 120, 80 and 40 for 1, 2 and 3; 39 to 1 for 4 to 42, and 0 above; 200 to 253 for -1 to -54, and 254
@@ -28,18 +28,12 @@ pgm_head b =
     ++ signed_decimal (pos (extent b.min_y b.max_y)) ++ codes "\n255\n"
 
 -- the bytes of n pixels of row y, from column x on
-unfoldable pub row_bytes : List Dot → ℤ → ℤ → ℕ → List ℕ
-row_bytes ds y x zero = []
-row_bytes ds y x (suc n) = level (weight_at ds x y) ∷ row_bytes ds y (x +ℤ pos 1) n
-
--- the bytes of n rows from row y downwards, each with the given number of columns from column x on
-unfoldable pub rows_bytes : List Dot → ℤ → ℕ → ℤ → ℕ → List ℕ
-rows_bytes ds x columns y zero = []
-rows_bytes ds x columns y (suc n) = row_bytes ds y x columns ++ rows_bytes ds x columns (y -ℤ pos 1) n
+abbrev pub row_bytes : List Dot → ℤ → ℤ → ℕ → List ℕ
+row_bytes ds y x n = shown_row level ds y x n
 
 -- the bytes of the pixels of a box
 abbrev pub box_bytes : List Dot → Box4 → List ℕ
-box_bytes ds b = rows_bytes ds b.min_x (extent b.min_x b.max_x) b.max_y (extent b.min_y b.max_y)
+box_bytes ds b = shown_box level [] ds b
 
 -- the PGM image of a picture
 unfoldable pub pgm_bytes : List Dot → List ℕ

@@ -18,19 +18,27 @@ character w =
 abbrev pub extent : ℤ → ℤ → ℕ
 extent first last = unsigned_abs ((last -ℤ first) +ℤ pos 1)
 
--- the characters of n pixels of row y, from column x on
-unfoldable pub row_text : List Dot → ℤ → ℤ → ℕ → List ℕ
-row_text ds y x zero = []
-row_text ds y x (suc n) = character (weight_at ds x y) ∷ row_text ds y (x +ℤ pos 1) n
+-- what shows n pixels of row y, from column x on: a number for each, from its weight
+unfoldable pub shown_row : (ℤ → ℕ) → List Dot → ℤ → ℤ → ℕ → List ℕ
+shown_row show ds y x zero = []
+shown_row show ds y x (suc n) = show (weight_at ds x y) ∷ shown_row show ds y (x +ℤ pos 1) n
 
--- the lines of n rows from row y downwards, each with the given number of columns from column x on
-unfoldable pub rows_text : List Dot → ℤ → ℕ → ℤ → ℕ → List ℕ
-rows_text ds x columns y zero = []
-rows_text ds x columns y (suc n) = row_text ds y x columns ++ codes "\n" ++ rows_text ds x columns (y -ℤ pos 1) n
+-- what shows n rows from row y downwards: each has the given number of columns from column x on, and this end
+unfoldable pub shown_rows : (ℤ → ℕ) → List ℕ → List Dot → ℤ → ℕ → ℤ → ℕ → List ℕ
+shown_rows show end ds x columns y zero = []
+shown_rows show end ds x columns y (suc n) = shown_row show ds y x columns ++ end ++ shown_rows show end ds x columns (y -ℤ pos 1) n
+
+-- what shows all rows of a box
+abbrev pub shown_box : (ℤ → ℕ) → List ℕ → List Dot → Box4 → List ℕ
+shown_box show end ds b = shown_rows show end ds b.min_x (extent b.min_x b.max_x) b.max_y (extent b.min_y b.max_y)
+
+-- the characters of n pixels of row y, from column x on
+abbrev pub row_text : List Dot → ℤ → ℤ → ℕ → List ℕ
+row_text ds y x n = shown_row character ds y x n
 
 -- the lines of all rows of a box
 abbrev pub box_text : List Dot → Box4 → List ℕ
-box_text ds b = rows_text ds b.min_x (extent b.min_x b.max_x) b.max_y (extent b.min_y b.max_y)
+box_text ds b = shown_box character (codes "\n") ds b
 
 -- the text is the grid text of a picture: that of its least box, or `blank` where it has none
 pub record IsGridText (ds : List Dot) (text : List ℕ) : Type 0 where

@@ -1,6 +1,7 @@
 use Rattle.std.proofs.Common.{◌≡◌, ◌≤ℤ◌, pos, ◌-ℤ◌, to_z, of_z, w32, arith}
 use Rattle.std.proofs.lemmas.Int.{ints}
-use Rattle.mf_show.proofs.GridTexts.{box_none, box_more, box_all}
+use Rattle.mf_show.proofs.GridTexts.{grid_none, grid_more}
+use Rattle.mf_show.proofs.ShownRows.{box_all}
 use Rattle.mf_show.proofs.LeastBoxes.{least_box_of_field}
 use Rattle.mf_show.proofs.grid.drawn.Goals as goal
 
@@ -10,19 +11,12 @@ overflow_step-y c = let box = least_box_of_field _ _ c.over-weights.ensures.lawf
 pub loop-y-init : goal.loop-y-init
 loop-y-init c =
     let box = least_box_of_field _ _ c.over-weights.ensures.lawful c.requires in
-    box_none _ _ _ _ _ c.over-weights.ensures.lawful box (omega (arith, ints)) c.new-text.ensures.items c.over-weights.ensures.runs
+    grid_none _ _ _ _ _ c.over-weights.ensures.lawful box (omega (arith, ints)) c.new-text.ensures.items c.over-weights.ensures.runs
 
-pub push_row-requires-clause-order : goal.push_row-requires-clause-order
-push_row-requires-clause-order c = c.loop-y.invariant.order
-
-pub push_row-requires-clause-least : goal.push_row-requires-clause-least
-push_row-requires-clause-least c = let box = least_box_of_field _ _ c.over-weights.ensures.lawful c.requires in omega (arith, ints)
-
-pub push_row-requires-clause-greatest : goal.push_row-requires-clause-greatest
-push_row-requires-clause-greatest c = let box = least_box_of_field _ _ c.over-weights.ensures.lawful c.requires in omega (arith, ints)
-
-pub push_row-requires-clause-columns : goal.push_row-requires-clause-columns
-push_row-requires-clause-columns c = let box = least_box_of_field _ _ c.over-weights.ensures.lawful c.requires in omega (arith, ints)
+pub push_row-requires : goal.push_row-requires
+push_row-requires c =
+    let box = least_box_of_field _ _ c.over-weights.ensures.lawful c.requires in
+    record { order = c.loop-y.invariant.order; least = omega (arith, ints); greatest = omega (arith, ints); columns = omega (arith, ints) }
 
 pub loop-y-preserved : goal.loop-y-preserved
 loop-y-preserved c =
@@ -30,15 +24,15 @@ loop-y-preserved c =
     let box = least_box_of_field _ _ c.over-weights.ensures.lawful c.requires in
     let so_far = c.loop-y.invariant in
     let inside : bounds.min_y ≤ℤ (to_z w32 c.loop-y.y-bits -ℤ pos 1) = omega (arith, ints, c.loop-y-test.true) in
-    let row : to_z w32 (of_z w32 (to_z w32 c.loop-y.y-bits -ℤ pos 1)) ≡ to_z w32 c.loop-y.y-bits -ℤ pos 1 = omega (arith, ints, so_far.top) in
+    let row : to_z w32 (of_z w32 (to_z w32 c.loop-y.y-bits -ℤ pos 1)) ≡ to_z w32 c.loop-y.y-bits -ℤ pos 1 = omega (arith, ints, so_far.box.top) in
     let left : to_z w32 (of_z w32 bounds.min_x) ≡ bounds.min_x = omega (arith, ints) in
     let right : to_z w32 (of_z w32 bounds.max_x) ≡ bounds.max_x = omega (arith, ints) in
     let pushed = rw (row, left, right) at c.in_ok-push_row.ensures.text in
     let later = rw (right, row) at c.in_ok-push_row.ensures.later in
-    rw row (box_more _ _ _ _ _ _ _ box inside pushed c.in_ok-push_row.ensures.order later so_far)
+    rw row (grid_more _ _ _ _ _ _ _ box inside pushed c.in_ok-push_row.ensures.order later so_far)
 
 pub returns : goal.returns
 returns c =
     let box = least_box_of_field _ _ c.over-weights.ensures.lawful c.requires in
-    let h = c.loop-y.invariant in
-    box_all _ _ _ _ _ (omega (arith, ints, h.bottom, c.loop-y-test.false)) h
+    let h = c.loop-y.invariant.box in
+    box_all _ _ _ _ _ _ _ (omega (arith, ints, h.bottom, c.loop-y-test.false)) h

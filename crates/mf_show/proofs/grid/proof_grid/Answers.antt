@@ -6,17 +6,15 @@ use Rattle.mf_show.proofs.GridTexts.{grid_of_box, too_large, not_too_large}
 use Rattle.mf_show.proofs.LeastBoxes.{least_box_of_field}
 use Rattle.mf_show.proofs.grid.proof_grid.Goals as goal
 
-pub extent-columns-requires-clause-least : goal.extent-columns-requires-clause-least
-extent-columns-requires-clause-least c = let box = least_box_of_field _ _ c.bounds.ensures.lawful c.in-Some.ensures.least in omega (arith, ints)
+pub extent-columns-requires : goal.extent-columns-requires
+extent-columns-requires c =
+    let box = least_box_of_field _ _ c.bounds.ensures.lawful c.in-Some.ensures.least in
+    record { least = omega (arith, ints); greatest = omega (arith, ints); order = omega (arith, ints) }
 
-pub extent-columns-requires-clause-greatest : goal.extent-columns-requires-clause-greatest
-extent-columns-requires-clause-greatest c = let box = least_box_of_field _ _ c.bounds.ensures.lawful c.in-Some.ensures.least in omega (arith, ints)
-
-pub extent-rows-requires-clause-least : goal.extent-rows-requires-clause-least
-extent-rows-requires-clause-least c = let box = least_box_of_field _ _ c.bounds.ensures.lawful c.in-Some.ensures.least in omega (arith, ints)
-
-pub extent-rows-requires-clause-greatest : goal.extent-rows-requires-clause-greatest
-extent-rows-requires-clause-greatest c = let box = least_box_of_field _ _ c.bounds.ensures.lawful c.in-Some.ensures.least in omega (arith, ints)
+pub extent-rows-requires : goal.extent-rows-requires
+extent-rows-requires c =
+    let box = least_box_of_field _ _ c.bounds.ensures.lawful c.in-Some.ensures.least in
+    record { least = omega (arith, ints); greatest = omega (arith, ints); order = omega (arith, ints) }
 
 pub returns-then-columns-gt-MAX_SIDE-clause-too_large : goal.returns-then-columns-gt-MAX_SIDE-clause-too_large
 returns-then-columns-gt-MAX_SIDE-clause-too_large c =

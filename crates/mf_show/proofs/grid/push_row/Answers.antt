@@ -1,17 +1,18 @@
 use Rattle.std.proofs.Common.{◌≡◌, ◌∷◌, [], ◌++◌, ◌≤ℤ◌, pos, ◌+ℤ◌, to_z, of_z, w32, ap, ◌∙◌, arith}
 use Rattle.std.proofs.lemmas.Int.{ints, to_z-of_z}
 use Rattle.mf_show.specs.Grid.{character}
-use Rattle.mf_show.proofs.GridTexts.{row_none, row_more, row_all}
+use Rattle.mf_show.proofs.GridTexts.{line_none, line_more}
+use Rattle.mf_show.proofs.ShownRows.{row_all}
 use Rattle.mf_show.proofs.grid.push_row.Goals as goal
 
 pub loop-x-init : goal.loop-x-init
-loop-x-init c = row_none _ _ _ _ _ (omega (arith, ints)) c.requires.order
+loop-x-init c = line_none _ _ _ _ _ (omega (arith, ints)) c.requires.order
 
 pub weight-requires-clause-order : goal.weight-requires-clause-order
 weight-requires-clause-order c = c.loop-x.invariant.order
 
 pub weight-requires-clause-left : goal.weight-requires-clause-left
-weight-requires-clause-left c = omega (arith, ints, c.loop-x.invariant.left)
+weight-requires-clause-left c = omega (arith, ints, c.loop-x.invariant.row.left)
 
 pub loop-x-preserved : goal.loop-x-preserved
 loop-x-preserved c =
@@ -20,16 +21,16 @@ loop-x-preserved c =
     let next : to_z w32 (of_z w32 (x +ℤ pos 1)) ≡ x +ℤ pos 1 = omega (arith, ints) in
     let weight : to_z w32 (of_z w32 c.weight.result) ≡ c.weight.result = omega (arith, ints) in
     let shown = c.character.ensures ∙ ap character (weight ∙ c.weight.ensures.weight) in
-    rw next (row_more _ _ _ _ _ _ _ _ _ _ _ column c.in_ok-push.ensures.items shown c.weight.ensures.order c.weight.ensures.later c.loop-x.invariant)
+    rw next (line_more _ _ _ _ _ _ _ _ _ _ _ column c.in_ok-push.ensures.items shown c.weight.ensures.order c.weight.ensures.later c.loop-x.invariant)
 
 pub returns-clause-text : goal.returns-clause-text
 returns-clause-text c =
     let last = to_z w32 (of_z w32 c.args.last) in
-    let over : to_z w32 c.loop-x.x-bits ≡ last +ℤ pos 1 = omega (arith, ints, c.loop-x-test.false, c.loop-x.invariant.right) in
+    let over : to_z w32 c.loop-x.x-bits ≡ last +ℤ pos 1 = omega (arith, ints, c.loop-x-test.false, c.loop-x.invariant.row.right) in
     let at_y = to_z-of_z w32 c.args.y c.ranges.y in
     let from = to_z-of_z w32 c.args.first c.ranges.first in
     let to = to_z-of_z w32 c.args.last c.ranges.last in
-    let row = rw (at_y, from, to) at (row_all _ _ _ _ _ _ _ _ over c.loop-x.invariant) in
+    let row = rw (at_y, from, to) at (row_all _ _ _ _ _ _ _ _ over c.loop-x.invariant.row) in
     c.in_ok-push-2.ensures.items ∙ ap (λ text. text ++ 10 ∷ []) row
 
 pub returns-clause-order : goal.returns-clause-order
@@ -37,5 +38,5 @@ returns-clause-order c = c.loop-x.invariant.order
 
 pub returns-clause-later : goal.returns-clause-later
 returns-clause-later c =
-    let over : to_z w32 c.loop-x.x-bits ≡ c.args.last +ℤ pos 1 = omega (arith, ints, c.loop-x-test.false, c.loop-x.invariant.right) in
+    let over : to_z w32 c.loop-x.x-bits ≡ c.args.last +ℤ pos 1 = omega (arith, ints, c.loop-x-test.false, c.loop-x.invariant.row.right) in
     rw (over, to_z-of_z w32 c.args.y c.ranges.y) at c.loop-x.invariant.same

@@ -1,12 +1,16 @@
-use Rattle.mf_show.specs.Grid.{extent}
-use Rattle.mf_show.proofs.GridPixels.{end_at, pixel_at, rows_length}
+use Rattle.std.proofs.Common.{ℕ, ◌+◌, codes, refl, arith}
+use Rattle.mf_rows.specs.declared.bounds.Box4.{Box4}
+use Rattle.mf_show.specs.Grid.{character, extent}
+use Rattle.mf_show.proofs.ShownPixels.{end_at, pixel_at, rows_length}
 use Rattle.mf_show.proofs.laws.grid_has_each_pixel.Goals as goal
 
-pub returns-clause-pixels : goal.returns-clause-pixels
-returns-clause-pixels c ds b i j = pixel_at ds b.min_x (extent b.min_x b.max_x) b.max_y (extent b.min_y b.max_y) i j
+-- how many columns a box has
+abbrev columns : Box4 → ℕ
+columns b = extent b.min_x b.max_x
 
-pub returns-clause-line_feeds : goal.returns-clause-line_feeds
-returns-clause-line_feeds c ds b j = end_at ds b.min_x (extent b.min_x b.max_x) b.max_y (extent b.min_y b.max_y) j
-
-pub returns-clause-whole : goal.returns-clause-whole
-returns-clause-whole c ds b = rows_length ds b.min_x (extent b.min_x b.max_x) b.max_y (extent b.min_y b.max_y)
+pub returns : goal.returns
+returns c = record {
+  pixels = λ ds b i j. pixel_at character (codes "\n") ds b.min_x (columns b) (columns b + 1) refl b.max_y (extent b.min_y b.max_y) i j;
+  line_feeds = λ ds b j row. end_at character (codes "\n") ds b.min_x (columns b) (columns b + 1) refl b.max_y (extent b.min_y b.max_y) j row (omega arith);
+  whole = λ ds b. rows_length character (codes "\n") ds b.min_x (columns b) (columns b + 1) refl b.max_y (extent b.min_y b.max_y);
+}
