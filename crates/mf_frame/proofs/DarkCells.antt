@@ -3,7 +3,7 @@ use Rattle.std.proofs.Common.{◌≡◌, ◌⊎◌, inl, inr, ⊎_elim, ◌≤�
 use Rattle.std.specs.Bool.{nat_lt}
 use Rattle.std.specs.Ordering.{int_eq}
 use Rattle.std.proofs.lemmas.Bool.{false≢true, cond-false, cond_both, and_from, and_parts}
-use Rattle.std.proofs.lemmas.Bool.Decides.{Decides-int_eq}
+use Rattle.std.proofs.lemmas.Bool.Decides.{Decides-int_eq, Decides-ltb}
 use Rattle.std.proofs.lemmas.Int.{ints, by_lt_z}
 use Rattle.mf_rows.specs.Dots.{Dot, AreDotsFrom, place, weight_at}
 use Rattle.mf_rows.proofs.DotsLemmas.{IsAt, weight_at-before, weight_at-elsewhere, weight_at-here}
@@ -16,18 +16,10 @@ use Rattle.mf_frame.proofs.Windows.{by_test}
 -- ---- shades
 
 deep_from_dark : (a : Shade) → is_dark a ≡ true → 2 ≤ depth a
-deep_from_dark Blank dark = absurd (false≢true dark)
-deep_from_dark Negative dark = absurd (false≢true dark)
-deep_from_dark One dark = omega arith
-deep_from_dark Two dark = omega arith
-deep_from_dark More dark = omega arith
+deep_from_dark a dark = (Decides-ltb 1 (depth a)).0 dark
 
 dark_from_deep : (a : Shade) → 2 ≤ depth a → is_dark a ≡ true
-dark_from_deep Blank deep = absurd (omega arith)
-dark_from_deep Negative deep = absurd (omega arith)
-dark_from_deep One deep = refl
-dark_from_deep Two deep = refl
-dark_from_deep More deep = refl
+dark_from_deep a deep = (Decides-ltb 1 (depth a)).1 deep
 
 dark-left : (a b : Shade) → is_dark a ≡ true → is_dark (darker a b) ≡ true
 dark-left a b dark = let deep = deep_from_dark a dark in let above = darker-above a b in dark_from_deep (darker a b) (omega (arith, deep, above.0))

@@ -28,65 +28,40 @@ shade_at (suc (suc zero)) = One
 shade_at (suc (suc (suc zero))) = Two
 shade_at (suc (suc (suc (suc n)))) = More
 
+-- what holds for each of the five holds for all shades
+by_shade : (P : Shade → Type 0) → P Blank → P Negative → P One → P Two → P More → (a : Shade) → P a
+by_shade P blank negative one two more Blank = blank
+by_shade P blank negative one two more Negative = negative
+by_shade P blank negative one two more One = one
+by_shade P blank negative one two more Two = two
+by_shade P blank negative one two more More = more
+
 shade_at-depth : (a : Shade) → shade_at (depth a) ≡ a
 unfolding shade_at
-shade_at-depth Blank = refl
-shade_at-depth Negative = refl
-shade_at-depth One = refl
-shade_at-depth Two = refl
-shade_at-depth More = refl
+shade_at-depth = by_shade (λ a. shade_at (depth a) ≡ a) refl refl refl refl refl
 
 same_depth : (a b : Shade) → depth a ≡ depth b → a ≡ b
 same_depth a b same = sym (shade_at-depth a) ∙ ap shade_at same ∙ shade_at-depth b
 
 pub darker-same : (a : Shade) → darker a a ≡ a
-darker-same Blank = refl
-darker-same Negative = refl
-darker-same One = refl
-darker-same Two = refl
-darker-same More = refl
+darker-same = by_shade (λ a. darker a a ≡ a) refl refl refl refl refl
 
 pub darker-blank : (a : Shade) → darker a Blank ≡ a
-darker-blank Blank = refl
-darker-blank Negative = refl
-darker-blank One = refl
-darker-blank Two = refl
-darker-blank More = refl
+darker-blank = by_shade (λ a. darker a Blank ≡ a) refl refl refl refl refl
 
 blank-darker : (a : Shade) → darker Blank a ≡ a
-blank-darker Blank = refl
-blank-darker Negative = refl
-blank-darker One = refl
-blank-darker Two = refl
-blank-darker More = refl
+blank-darker = by_shade (λ a. darker Blank a ≡ a) refl refl refl refl refl
 
 -- the greater shade is the darker one
-pub max-darker : (a b : Shade) → ord_max (ord.ghosts).cmp a b ≡ darker a b
-max-darker Blank Blank = refl
-max-darker Blank Negative = refl
-max-darker Blank One = refl
-max-darker Blank Two = refl
-max-darker Blank More = refl
-max-darker Negative Blank = refl
-max-darker Negative Negative = refl
-max-darker Negative One = refl
-max-darker Negative Two = refl
-max-darker Negative More = refl
-max-darker One Blank = refl
-max-darker One Negative = refl
-max-darker One One = refl
-max-darker One Two = refl
-max-darker One More = refl
-max-darker Two Blank = refl
-max-darker Two Negative = refl
-max-darker Two One = refl
-max-darker Two Two = refl
-max-darker Two More = refl
-max-darker More Blank = refl
-max-darker More Negative = refl
-max-darker More One = refl
-max-darker More Two = refl
-max-darker More More = refl
+abbrev GreaterIsDarker : Shade → Shade → Type 0
+GreaterIsDarker a b = ord_max (ord.ghosts).cmp a b ≡ darker a b
+
+pub max-darker : (a b : Shade) → GreaterIsDarker a b
+max-darker Blank = by_shade (GreaterIsDarker Blank) refl refl refl refl refl
+max-darker Negative = by_shade (GreaterIsDarker Negative) refl refl refl refl refl
+max-darker One = by_shade (GreaterIsDarker One) refl refl refl refl refl
+max-darker Two = by_shade (GreaterIsDarker Two) refl refl refl refl refl
+max-darker More = by_shade (GreaterIsDarker More) refl refl refl refl refl
 
 -- the darker shade of two is no darker than what neither exceeds
 darker-below : (a b : Shade) (n : ℕ) → depth a ≤ n → depth b ≤ n → depth (darker a b) ≤ n

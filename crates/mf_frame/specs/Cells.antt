@@ -1,6 +1,6 @@
 -- Cells of a picture, and their shades. The cell (i, j) at scale s is the square of the pixels whose columns are s * i to
 -- s * i + s - 1, and whose rows are s * j to s * j + s - 1.
-use Rattle.std.specs.Prelude.{◌≡◌, ◌<◌, ◌≤◌, ℕ, ◌+◌, ◌*◌, ◌&&◌, Bool, true, false, ℤ, pos, ◌+ℤ◌, ◌-ℤ◌, ◌*ℤ◌, ◌≤ℤ◌, ◌<ℤ◌, int_lt, nat_lt, List, [], ◌∷◌, length, get_or, if◌then◌else◌}
+use Rattle.std.specs.Prelude.{◌≡◌, ◌<◌, ◌≤◌, ℕ, ◌+◌, ◌*◌, ◌&&◌, Bool, ℤ, pos, ◌+ℤ◌, ◌-ℤ◌, ◌*ℤ◌, ◌≤ℤ◌, ◌<ℤ◌, int_lt, nat_lt, List, [], ◌∷◌, length, get_or, if◌then◌else◌}
 use Rattle.std.specs.Int.{int_div_euclid}
 use Rattle.std.specs.Int.RustNames.{unsigned_abs}
 use Rattle.std.specs.List.{All}
@@ -35,11 +35,7 @@ depth More = 4
 
 -- a shade is dark: it is that of a positive weight
 abbrev pub is_dark : Shade → Bool
-is_dark Blank = false
-is_dark Negative = false
-is_dark One = true
-is_dark Two = true
-is_dark More = true
+is_dark a = nat_lt (depth Negative) (depth a)
 
 -- the darker one of two shades
 abbrev pub darker : Shade → Shade → Shade

@@ -1,11 +1,11 @@
 -- Tiles: the characters of a frame, each of which shows two cells, one above the other.
-use Rattle.std.specs.Prelude.{ℕ, ◌&&◌, ◌||◌, Bool, true, false, ℤ, pos, List, [], ◌∷◌, ◌++◌, codes, if◌then◌else◌}
+use Rattle.std.specs.Prelude.{ℕ, ◌==◌, ◌&&◌, ◌||◌, Bool, ℤ, pos, List, [], ◌∷◌, ◌++◌, codes, if◌then◌else◌}
 use Rattle.std.specs.Ordering.{int_eq}
 use Rattle.mf_frame.specs.declared.shade.Shade.{Shade}
 use Rattle.mf_frame.specs.declared.shade.Shade.TheVariants.{Blank, Negative, One, Two, More}
 use Rattle.mf_frame.specs.declared.tile.Style.{Style}
 use Rattle.mf_frame.specs.declared.tile.Style.TheVariants.{Colored, Plain}
-use Rattle.mf_frame.specs.Cells.{is_dark}
+use Rattle.mf_frame.specs.Cells.{depth, is_dark}
 
 -- the UTF-8 bytes of the characters ▀, ▄, █, ░, ▏ and ▁
 abbrev pub upper_half : List ℕ
@@ -31,18 +31,10 @@ abbrev pub escape : List ℕ
 escape = 27 ∷ []
 
 abbrev pub is_blank : Shade → Bool
-is_blank Blank = true
-is_blank Negative = false
-is_blank One = false
-is_blank Two = false
-is_blank More = false
+is_blank a = depth a == depth Blank
 
 abbrev pub is_negative : Shade → Bool
-is_negative Blank = false
-is_negative Negative = true
-is_negative One = false
-is_negative Two = false
-is_negative More = false
+is_negative a = depth a == depth Negative
 
 -- a tile is next to an axis: that of y is the left border of column 0, that of x the lower border of line 0
 abbrev pub is_at_axis : ℤ → ℤ → Bool
