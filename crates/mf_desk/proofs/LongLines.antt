@@ -5,21 +5,16 @@ use Rattle.std.proofs.lemmas.List.{take_all, take-append-le, length-take-le}
 use Rattle.std.specs.Str.Lines.{strip_carriage_return}
 use Rattle.mf_text.specs.Lines.{IsRefused}
 use Rattle.mf_text.specs.declared.fault.TextFault.{TextFault}
-use Rattle.mf_text.specs.declared.fault.TextFault.TheVariants.{Cycle, BadWeight, BadCull, BadScale, BadTurn, OutOfMemory, LineTooLong, NotAscii, Syntax}
+use Rattle.mf_text.specs.declared.fault.TextFault.TheVariants.{LineTooLong, NotAscii, Syntax}
 use Rattle.mf_session.specs.Answers.{Answers, IsPerformed, IsRefusedLine}
 use Rattle.mf_session.specs.States.{State, Limits}
 
 -- a line that is too long has no other refusal
 refused-too_long : (xs ys : List ℕ) (fault : TextFault) → 65536 < length xs → 65536 < length ys → IsRefused xs fault → IsRefused ys fault
-refused-too_long xs ys (Cycle fault) long longer refused = absurd (omega (arith, refused.line_is.text.short))
-refused-too_long xs ys BadWeight long longer refused = absurd (omega (arith, refused.line_is.text.short))
-refused-too_long xs ys BadCull long longer refused = absurd (omega (arith, refused.line_is.text.short))
-refused-too_long xs ys BadScale long longer refused = absurd (omega (arith, refused.line_is.text.short))
-refused-too_long xs ys BadTurn long longer refused = absurd (omega (arith, refused.line_is.text.short))
-refused-too_long xs ys OutOfMemory long longer refused = absurd (omega (arith, refused.line_is.text.short))
 refused-too_long xs ys LineTooLong long longer refused = longer
 refused-too_long xs ys NotAscii long longer refused = absurd (omega (arith, refused.short))
 refused-too_long xs ys (Syntax column) long longer refused = absurd (omega (arith, refused.text.short))
+refused-too_long xs ys fault long longer refused = absurd (omega (arith, refused.line_is.text.short))
 
 -- so all lines that are too long have the same answer
 Answers-too_long : (limits : Limits) (s t : State) (xs ys text : List ℕ) → 65536 < length xs → 65536 < length ys

@@ -9,7 +9,7 @@ use Rattle.mf_gf.specs.declared.file.GfFile.{GfFile}
 use Rattle.mf_live.specs.Writers.{ended_published_list}
 use Rattle.mf_desk.specs.declared.ended_run.EndedRun.{EndedRun}
 use Rattle.mf_desk.specs.declared.fault.RunFault.{RunFault}
-use Rattle.mf_desk.specs.declared.fault.RunFault.TheVariants.{OutOfMemory, NoPlace, FileTooLong, ReadFault, WriteFault, NoLook}
+use Rattle.mf_desk.specs.declared.fault.RunFault.TheVariants.{OutOfMemory, NoPlace, FileTooLong, ReadFault, WriteFault}
 use Rattle.mf_desk.specs.declared.outcome.Outcome.{Outcome}
 use Rattle.mf_desk.specs.declared.settings.Settings.{Settings}
 use Rattle.mf_desk.specs.EndedRuns.{IsOver, glance}
@@ -25,12 +25,10 @@ module _ (settings : Settings) (viewers : ℕ) where
   pub Tells-script : (l : Limits) (fault : RunFault) (s : Streams) → l ≡ limits_set settings → Passes s (Breaks l fault)
       → Passes s (Tells settings viewers fault)
   Tells-script l OutOfMemory s same (read, consumed, (written, out, breaks)) = (read, consumed, (written, out, inl (rw (← same) breaks)))
-  Tells-script l NoPlace s same (read, consumed, (written, out, breaks)) = absurd breaks
-  Tells-script l FileTooLong s same (read, consumed, (written, out, breaks)) = absurd breaks
   Tells-script l ReadFault s same (read, consumed, (written, out, breaks)) = (read, consumed, (written, out, rw (← same) breaks))
   Tells-script l (WriteFault count) s same (read, consumed, (written, out, (counted, (rest, first)))) =
       (read, consumed, (written, out, (counted, (rest, inl (rw (← same) first)))))
-  Tells-script l NoLook s same (read, consumed, (written, out, breaks)) = absurd breaks
+  Tells-script l fault s same (read, consumed, (written, out, breaks)) = absurd breaks
 
   -- nothing was read or written
   pub Tells-nothing : (unread held : Option (List ℕ)) → Passes (streams unread unread held held) (Tells settings viewers OutOfMemory)

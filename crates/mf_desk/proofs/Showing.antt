@@ -7,7 +7,7 @@ use Rattle.mf_live.specs.declared.sheet.SheetFault.TheVariants as sheet
 use Rattle.mf_desk.specs.declared.ended_run.EndedRun.{EndedRun}
 use Rattle.mf_desk.specs.declared.fault.RunFault.{RunFault}
 use Rattle.mf_desk.specs.declared.settings.Settings.{Settings}
-use Rattle.mf_desk.specs.declared.fault.RunFault.TheVariants.{OutOfMemory, NoPlace, FileTooLong, ReadFault, WriteFault, NoLook}
+use Rattle.mf_desk.specs.declared.fault.RunFault.TheVariants.{OutOfMemory, WriteFault, NoLook}
 use Rattle.mf_desk.specs.EndedRuns.{IsLineOf, IsOver, IsSameEnd, glance}
 use Rattle.mf_desk.specs.Fault.{BreaksOff}
 use Rattle.mf_desk.specs.Performances.{IsShownText, Tells, limits_set, viewer_line, viewer_lines}
@@ -128,9 +128,7 @@ module _ (settings : Settings) (viewers : ℕ) (held left holds : Option (List �
       let line = line_is ∙ ap (viewer_line shown) (same_glance run now is.same) in
       Tells-cut now shown (shown + 1) count rest written before later (omega arith) is out counted
       (ap (λ more. viewer_lines shown (glance run) ++ more) line ∙ sym (lines-more shown (glance run)))
-  Tells-line NoPlace now shown before later few is same breaks = let (written, out, none) = breaks (λ look. cc) in absurd none
-  Tells-line FileTooLong now shown before later few is same breaks = let (written, out, none) = breaks (λ look. cc) in absurd none
-  Tells-line ReadFault now shown before later few is same breaks = let (written, out, none) = breaks (λ look. cc) in absurd none
+  Tells-line fault now shown before later few is same breaks = let (written, out, none) = breaks (λ look. cc) in absurd none
 
   -- flushing these lines fails
   pub Tells-unflushed : (now : EndedRun) (shown : ℕ) (before later : Option (List ℕ)) → shown ≤ viewers → IsShown run now shown holds before

@@ -13,25 +13,24 @@ use Rattle.mf_desk.specs.declared.line_buffer.TheConstants.{MAX_KEPT}
 use Rattle.mf_desk.specs.declared.performer.Performer.{Performer}
 use Rattle.mf_desk.specs.declared.progress.Progress.{Progress}
 
--- the run after these bytes of the script, with a writer that held some bytes and now holds others: the lines that a line feed
--- ended have been performed and their texts written, and of the unended line enough is kept
-pub record IsAfter (held : Option (List ℕ)) (read : List ℕ) (progress : Progress) (holds : Option (List ℕ)) : Type 0 where
+-- these lines of the script have been performed and their texts written, to a writer that held some bytes and now holds others
+pub record HasPerformed (held : Option (List ℕ)) (ls : List (List ℕ)) (performer : Performer) (holds : Option (List ℕ)) : Type 0 where
   pub text : List ℕ
   pub last : State
-  pub performed : Perform (limits progress.performer.session) start (ended_lines read) text last
-  pub stands : StandsFor progress.performer.session last
-  pub line : progress.line ≡ take MAX_KEPT (unended read)
-  pub out : Appends held holds text
-  pub counted : progress.performer.written ≡ length text
-
--- the run at the end of the script: all lines have been performed, and their texts written
-pub record IsThrough (held : Option (List ℕ)) (read : List ℕ) (performer : Performer) (holds : Option (List ℕ)) : Type 0 where
-  pub text : List ℕ
-  pub last : State
-  pub performed : Perform (limits performer.session) start (lines read) text last
+  pub performed : Perform (limits performer.session) start ls text last
   pub stands : StandsFor performer.session last
   pub out : Appends held holds text
   pub counted : performer.written ≡ length text
+
+-- the run after these bytes of the script: the lines that a line feed ended have been performed, and of the unended line enough is
+-- kept
+pub record IsAfter (held : Option (List ℕ)) (read : List ℕ) (progress : Progress) (holds : Option (List ℕ)) : Type 0 where
+  pub done : HasPerformed held (ended_lines read) progress.performer holds
+  pub line : progress.line ≡ take MAX_KEPT (unended read)
+
+-- the run at the end of the script: all lines have been performed
+abbrev pub IsThrough : Option (List ℕ) → List ℕ → Performer → Option (List ℕ) → Type 0
+IsThrough held read performer holds = HasPerformed held (lines read) performer holds
 
 -- everything that the reader had was read and performed
 abbrev pub ReadsThrough : Streams → Performer → Type 0

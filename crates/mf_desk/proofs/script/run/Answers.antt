@@ -16,28 +16,44 @@ use Rattle.mf_desk.proofs.script.run.Goals as goal
 nobody : (holds : Option (List ℕ)) (run : EndedRun) → Appends holds holds (viewer_lines 0 (glance run))
 nobody holds run = rw (lines-nobody (glance run)) (Appends-nil holds)
 
-pub returns-in_err-memory-clause-fault : goal.returns-in_err-memory-clause-fault
-returns-in_err-memory-clause-fault g c =
+pub returns-in_err-memory : goal.returns-in_err-memory
+returns-in_err-memory g c =
     let wanting = err_from_is_err_and c.from_residual.result c.from_residual.ensures.1 in
-    rw (wanting.1, wanting.2) (Tells-nothing c.args.settings.now 0 _ _)
+    rw (wanting.1, wanting.2) record {
+      transcript = tt;
+      end = tt;
+      fault = Tells-nothing c.args.settings.now 0 _ _;
+      too_small = λ small. inr refl;
+      untouched = λ small. (refl, refl);
+    }
 
-pub returns-in_err-progress-clause-fault : goal.returns-in_err-progress-clause-fault
-returns-in_err-progress-clause-fault g c =
+pub returns-in_err-progress : goal.returns-in_err-progress
+returns-in_err-progress g c =
     let settings = c.args.settings.now in
     let passed_on = err_from_is_err_and c.from_residual-in_err-progress.result c.from_residual-in_err-progress.ensures.1 in
-    rw (passed_on.1, passed_on.2)
-    (⊎_elim
-    (λ long. rw long (Tells-no_room settings 0 _ _ (c.in_err-progress.ensures.too_long.1 (ap Err long))))
-    (λ wanting. rw wanting (Tells-nothing settings 0 _ _))
-    c.in_err-progress.ensures.fault)
+    let refused = c.in_err-progress.ensures in
+    rw (passed_on.1, passed_on.2) record {
+      transcript = tt;
+      end = tt;
+      fault = ⊎_elim (λ long. rw long (Tells-no_room settings 0 _ _ (refused.too_long.1 (ap Err long))))
+          (λ wanting. rw wanting (Tells-nothing settings 0 _ _)) refused.fault;
+      too_small = λ small. ⊎_elim (λ long. inl (ap Err long)) (λ wanting. inr (ap Err wanting)) refused.fault;
+      untouched = λ small. (refl, refl);
+    }
 
-pub returns-in_err-ended-clause-fault : goal.returns-in_err-ended-clause-fault
-returns-in_err-ended-clause-fault g c =
+pub returns-in_err-ended : goal.returns-in_err-ended
+returns-in_err-ended g c =
     let passed_on = err_from_is_err_and c.from_residual-in_err-ended.result c.from_residual-in_err-ended.ensures.1 in
-    rw (passed_on.1, passed_on.2) (Tells-script c.args.settings.now 0 _ _ _ c.in_ok-progress.ensures.limits c.in_err-ended.ensures.fault)
+    rw (passed_on.1, passed_on.2) record {
+      transcript = tt;
+      end = tt;
+      fault = Tells-script c.args.settings.now 0 _ _ _ c.in_ok-progress.ensures.limits c.in_err-ended.ensures.fault;
+      too_small = λ small. let refused = c.in_ok-progress.ensures.too_long.0 small in absurd (cc);
+      untouched = λ small. let refused = c.in_ok-progress.ensures.too_long.0 small in absurd (cc);
+    }
 
-pub returns-in_err-gf-clause-fault : goal.returns-in_err-gf-clause-fault
-returns-in_err-gf-clause-fault g c =
+pub returns-in_err-gf : goal.returns-in_err-gf
+returns-in_err-gf g c =
     let settings = c.args.settings.now in
     let held = g.W.Write.contents c.args.writer.now in
     let holds = g.W.Write.contents c.complete.new.writer in
@@ -46,60 +62,37 @@ returns-in_err-gf-clause-fault g c =
     subst (λ l. EndsWith l (streams (g.R.Read.remaining c.args.reader.now)
     (g.R.Read.remaining c.complete.new.reader) held holds) run) c.in_ok-progress.ensures.limits c.in_ok-ended.ensures.over in
     let passed_on = err_from_is_err_and c.from_residual-in_err-gf.result c.from_residual-in_err-gf.ensures.1 in
-    rw (passed_on.1, passed_on.2)
-    (Tells-unfinished settings 0 held holds holds read run over _ _ consumed c.in_ok-ended.ensures.end (nobody holds run) c.file.result _ c.file.ensures
-    (λ long characters keeps. (c.in_err-gf.ensures.too_long characters keeps).1 (ap Err long)) c.in_err-gf.ensures.fault)
+    rw (passed_on.1, passed_on.2) record {
+      transcript = tt;
+      end = tt;
+      fault = Tells-unfinished settings 0 held holds holds read run over _ _ consumed c.in_ok-ended.ensures.end (nobody holds run) c.file.result _ c.file.ensures
+          (λ long characters keeps. (c.in_err-gf.ensures.too_long characters keeps).1 (ap Err long)) c.in_err-gf.ensures.fault;
+      too_small = λ small. let refused = c.in_ok-progress.ensures.too_long.0 small in absurd (cc);
+      untouched = λ small. let refused = c.in_ok-progress.ensures.too_long.0 small in absurd (cc);
+    }
 
-pub returns-clause-transcript : goal.returns-clause-transcript
-returns-clause-transcript g c = λ looks.
-    let settings = c.args.settings.now in
-    let held = g.W.Write.contents c.args.writer.now in
-    let holds = g.W.Write.contents c.complete.new.writer in
-    let run = c.in_ok-ended.ended in
-    let (read, consumed, over) =
-    subst (λ l. EndsWith l (streams (g.R.Read.remaining c.args.reader.now)
-    (g.R.Read.remaining c.complete.new.reader) held holds) run) c.in_ok-progress.ensures.limits c.in_ok-ended.ensures.over in
-    let outcome : Outcome = record { gf = c.in_ok-gf.gf; seen = c.new-2.result } in
-    let unread = g.R.Read.remaining c.args.reader.now in
-    let left = g.R.Read.remaining c.complete.new.reader in (
-      read,
-      consumed,
-      IsPerformance-over settings 0 held holds holds read run over unread left looks outcome c.file.result c.file.ensures
-          (λ characters keeps.
-          ((λ long. let refused = (c.in_ok-gf.ensures.too_long characters keeps).0 long in absurd (cc)), c.in_ok-gf.ensures.some characters keeps))
-          (nobody holds run) (ap length c.new-2.ensures.items) (rw c.new-2.ensures.items (All-nil _)),
-    )
-
-pub returns-in_err-memory-clause-too_small : goal.returns-in_err-memory-clause-too_small
-returns-in_err-memory-clause-too_small g c =
-    let wanting = err_from_is_err_and c.from_residual.result c.from_residual.ensures.1 in
-    rw (wanting.1, wanting.2) (λ small. inr refl)
-
-pub returns-in_err-progress-clause-too_small : goal.returns-in_err-progress-clause-too_small
-returns-in_err-progress-clause-too_small g c =
-    let passed_on = err_from_is_err_and c.from_residual-in_err-progress.result c.from_residual-in_err-progress.ensures.1 in
-    rw (passed_on.1, passed_on.2) (λ small. ⊎_elim (λ long. inl (ap Err long)) (λ wanting. inr (ap Err wanting)) c.in_err-progress.ensures.fault)
-
-pub returns-in_err-ended-clause-too_small : goal.returns-in_err-ended-clause-too_small
-returns-in_err-ended-clause-too_small g c = λ small. let refused = c.in_ok-progress.ensures.too_long.0 small in absurd (cc)
-
-pub returns-in_err-gf-clause-too_small : goal.returns-in_err-gf-clause-too_small
-returns-in_err-gf-clause-too_small g c = λ small. let refused = c.in_ok-progress.ensures.too_long.0 small in absurd (cc)
-
-pub returns-clause-too_small : goal.returns-clause-too_small
-returns-clause-too_small g c = λ small. let refused = c.in_ok-progress.ensures.too_long.0 small in absurd (cc)
-
-pub returns-in_err-memory-clause-untouched : goal.returns-in_err-memory-clause-untouched
-returns-in_err-memory-clause-untouched g c = λ small. (refl, refl)
-
-pub returns-in_err-progress-clause-untouched : goal.returns-in_err-progress-clause-untouched
-returns-in_err-progress-clause-untouched g c = λ small. (refl, refl)
-
-pub returns-in_err-ended-clause-untouched : goal.returns-in_err-ended-clause-untouched
-returns-in_err-ended-clause-untouched g c = λ small. let refused = c.in_ok-progress.ensures.too_long.0 small in absurd (cc)
-
-pub returns-in_err-gf-clause-untouched : goal.returns-in_err-gf-clause-untouched
-returns-in_err-gf-clause-untouched g c = λ small. let refused = c.in_ok-progress.ensures.too_long.0 small in absurd (cc)
-
-pub returns-clause-untouched : goal.returns-clause-untouched
-returns-clause-untouched g c = λ small. let refused = c.in_ok-progress.ensures.too_long.0 small in absurd (cc)
+pub returns : goal.returns
+returns g c = record {
+  transcript = λ looks.
+      let settings = c.args.settings.now in
+      let held = g.W.Write.contents c.args.writer.now in
+      let holds = g.W.Write.contents c.complete.new.writer in
+      let run = c.in_ok-ended.ended in
+      let (read, consumed, over) =
+      subst (λ l. EndsWith l (streams (g.R.Read.remaining c.args.reader.now)
+      (g.R.Read.remaining c.complete.new.reader) held holds) run) c.in_ok-progress.ensures.limits c.in_ok-ended.ensures.over in
+      let outcome : Outcome = record { gf = c.in_ok-gf.gf; seen = c.new-2.result } in
+      let unread = g.R.Read.remaining c.args.reader.now in
+      let left = g.R.Read.remaining c.complete.new.reader in (
+        read,
+        consumed,
+        IsPerformance-over settings 0 held holds holds read run over unread left looks outcome c.file.result c.file.ensures
+            (λ characters keeps.
+            ((λ long. let refused = (c.in_ok-gf.ensures.too_long characters keeps).0 long in absurd (cc)), c.in_ok-gf.ensures.some characters keeps))
+            (nobody holds run) (ap length c.new-2.ensures.items) (rw c.new-2.ensures.items (All-nil _)),
+      );
+  end = c.in_ok-ended.ensures.end;
+  fault = tt;
+  too_small = λ small. let refused = c.in_ok-progress.ensures.too_long.0 small in absurd (cc);
+  untouched = λ small. let refused = c.in_ok-progress.ensures.too_long.0 small in absurd (cc);
+}

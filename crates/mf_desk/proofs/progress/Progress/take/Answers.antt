@@ -1,7 +1,7 @@
 use Rattle.std.proofs.Common.{◌≡◌, ◌+◌, ◌<◌, ◌==◌, ◌++◌, ◌∷◌, [], List, ℕ, true, length, get_or, take, drop, sym, ap, ◌∙◌, subst, arith, append-nil, append_assoc, refl, length-append, take-append-drop}
 use Rattle.std.proofs.lemmas.Bool.{eqb-true, eq-eqb}
 use Rattle.std.proofs.lemmas.List.{drop_more, get_or-take, get_or_default, length-take-le, take_rest}
-use Rattle.std.proofs.lemmas.Result.{err_from_is_err_and, IfErr-weaker}
+use Rattle.std.proofs.lemmas.Result.{err_from_is_err_and, on_ok_weaker, IfErr-weaker}
 use Rattle.mf_desk.specs.Progress.{IsAfter}
 use Rattle.mf_session.specs.Sessions.{limits}
 use Rattle.mf_desk.proofs.Stages.{CutsShort}
@@ -16,6 +16,10 @@ around rest at within is =
 -- the bytes so far, a line, the rest, and what is read after them
 regrouped : (read done line rest more : List ℕ) → read ++ done ++ line ++ (rest ++ more) ≡ read ++ (done ++ (line ++ rest)) ++ more
 regrouped read done line rest more = simp append_assoc
+
+-- the bytes that were taken and the rest are all of them
+all_taken : (read done rest bytes : List ℕ) → bytes ≡ done ++ rest → read ++ done ++ rest ≡ read ++ bytes
+all_taken read done rest bytes are = append_assoc read done rest ∙ ap (λ all. read ++ all) (sym are)
 
 pub returns-in_err-take_line-clause-fault : goal.returns-in_err-take_line-clause-fault
 returns-in_err-take_line-clause-fault g c =
@@ -55,14 +59,19 @@ lines-preserved g c =
 pub keep-requires : goal.keep-requires
 keep-requires g c = λ k d within is. c.in_default.ensures k (omega arith) within (eq-eqb _ 10 (get_or_default c.lines.rest.now k 0 d within ∙ is))
 
+pub returns-clause-after : goal.returns-clause-after
+returns-clause-after g c =
+    let (done, bytes_are, few, goes_on, same, identity_is) = c.lines.invariant in
+    on_ok_weaker c.keep.result (λ kept held read after.
+    subst (λ all. IsAfter held all c.keep.new.self (g.W.Write.contents c.lines.writer)) (all_taken read done c.lines.rest.now c.args.bytes.now bytes_are)
+    (kept _ held (read ++ done) (goes_on held read after))) c.keep.ensures.after
+
 pub returns-clause-fault : goal.returns-clause-fault
 returns-clause-fault g c =
     let (done, bytes_are, few, goes_on, same, identity_is) = c.lines.invariant in
-    let rest = c.lines.rest.now in
-    let whole : (read : List ℕ) → read ++ done ++ rest ≡ read ++ c.args.bytes.now =
-    λ read. append_assoc read done rest ∙ ap (λ all. read ++ all) (sym bytes_are) in
     rw (← same) (IfErr-weaker c.keep.result _ _ (λ fault cut_short held left read more after.
-    subst (λ all. CutsShort (limits c.lines.self.performer.session) fault left (all ++ more) held (g.W.Write.contents c.lines.writer)) (whole read)
+    subst (λ all. CutsShort (limits c.lines.self.performer.session) fault left (all ++ more) held (g.W.Write.contents c.lines.writer))
+    (all_taken read done c.lines.rest.now c.args.bytes.now bytes_are)
     (cut_short _ held left (read ++ done) more (goes_on held read after))) c.keep.ensures.fault)
 
 pub lines-init : goal.lines-init
