@@ -100,13 +100,7 @@ cycle_turns_or_fails ps w (Some f) is = inr (f, ap (option_map Cycle) is)
 turns_or_fails : (op : Op) → TurnsOrFails op
 unfolding TurnsOrFails
 turns_or_fails (Contour ps w On) = cycle_turns_or_fails ps w (turning_fault ps) refl
-turns_or_fails (Contour ps w Off) = inl (record { none = refl })
-turns_or_fails (Also es s) = inl (record { none = refl })
-turns_or_fails (Cull c) = inl (record { none = refl })
-turns_or_fails (ops.Shift dx dy) = inl (record { none = refl })
-turns_or_fails (ops.Scale s) = inl (record { none = refl })
-turns_or_fails (ops.Quarter q) = inl (record { none = refl })
-turns_or_fails Clear = inl (record { none = refl })
+turns_or_fails op = inl (record { none = refl })
 
 -- a fault that is not one of the cycle is one of the pixels
 from_pixels : (ds : List Dot) (op : Op) (found : Option OpFault) → ((f : CycleFault) → Some (Cycle f) ≢ found) → op_fault ds op ≡ found
@@ -220,20 +214,9 @@ stays_everywhere ds op turns none = record { turns = turns; stays = record { non
 pub contour_stays : (ds : List Dot) (ps : List Point) (w : ℤ) (check : Check) → TurnsLawfully (Contour ps w check) → IsForWeights ds (Contour ps w check)
 contour_stays ds ps w check turns = stays_everywhere ds (Contour ps w check) turns (never ds)
 
-pub unchecked_stays : (ds : List Dot) (ps : List Point) (w : ℤ) → IsForWeights ds (Contour ps w Off)
-unchecked_stays ds ps w = contour_stays ds ps w Off (record { none = refl })
-
-pub also_stays : (ds es : List Dot) (s : Sign) → IsForWeights ds (Also es s)
-also_stays ds es s = stays_everywhere ds (Also es s) (record { none = refl }) (never ds)
-
-pub cull_stays : (ds : List Dot) (c : CullRule) → IsForWeights ds (Cull c)
-cull_stays ds c = stays_everywhere ds (Cull c) (record { none = refl }) (never ds)
-
-pub quarter_stays : (ds : List Dot) (q : Quarter) → IsForWeights ds (ops.Quarter q)
-quarter_stays ds q = stays_everywhere ds (ops.Quarter q) (record { none = refl }) (never ds)
-
-pub clear_stays : (ds : List Dot) → IsForWeights ds Clear
-clear_stays ds = stays_everywhere ds Clear (record { none = refl }) (never ds)
+-- so where they do not turn, only the weights decide
+pub stays_anyway : (ds : List Dot) (op : Op) → turn_fault op ≡ None → (leaves op ≡ (λ d. false)) → IsForWeights ds op
+stays_anyway ds op none leaves_none = stays_everywhere ds op (record { none = none }) (ap (λ test. list_any test ds) leaves_none ∙ never ds)
 
 -- so they are not refused with OutOfField
 weight_fault-not_out : (large : Bool) → cond large (Some WeightTooLarge) None ≢ Some OutOfField
@@ -249,16 +232,16 @@ contour_not_out ds ps w check out =
     not_out ds (Contour ps w check) (contour_stays ds ps w check found.0) out
 
 pub also_not_out : (ds es : List Dot) (s : Sign) → op_fault ds (Also es s) ≢ Some OutOfField
-also_not_out ds es s = not_out ds (Also es s) (also_stays ds es s)
+also_not_out ds es s = not_out ds (Also es s) (stays_anyway ds (Also es s) refl refl)
 
 pub cull_not_out : (ds : List Dot) (c : CullRule) → op_fault ds (Cull c) ≢ Some OutOfField
-cull_not_out ds c = not_out ds (Cull c) (cull_stays ds c)
+cull_not_out ds c = not_out ds (Cull c) (stays_anyway ds (Cull c) refl refl)
 
 pub quarter_not_out : (ds : List Dot) (q : Quarter) → op_fault ds (ops.Quarter q) ≢ Some OutOfField
-quarter_not_out ds q = not_out ds (ops.Quarter q) (quarter_stays ds q)
+quarter_not_out ds q = not_out ds (ops.Quarter q) (stays_anyway ds (ops.Quarter q) refl refl)
 
 pub clear_not_out : (ds : List Dot) → op_fault ds Clear ≢ Some OutOfField
-clear_not_out ds = not_out ds Clear (clear_stays ds)
+clear_not_out ds = not_out ds Clear (stays_anyway ds Clear refl refl)
 
 -- what each answer says about the two tests
 none_where_lawful : (out large : Bool) → cond out (Some OutOfField) (cond large (Some WeightTooLarge) None) ≡ None → (out ≡ false) × (large ≡ false)

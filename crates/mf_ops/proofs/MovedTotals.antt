@@ -1,5 +1,5 @@
 -- The total weight of a picture that was shifted, scaled or turned.
-use Rattle.std.proofs.Common.{◌≡◌, ℕ, zero, suc, ◌*◌, Bool, true, false, not, ◌&&◌, None, ℤ, pos, negsuc, neg_ℤ, ◌+ℤ◌, ◌-ℤ◌, ◌*ℤ◌, ◌≤ℤ◌, ◌<ℤ◌, nat_abs, List, [], ◌∷◌, refl, sym, ◌∙◌, ap, subst, arith}
+use Rattle.std.proofs.Common.{◌≡◌, ℕ, zero, suc, ◌*◌, Bool, true, false, not, ◌&&◌, None, ℤ, pos, negsuc, ◌+ℤ◌, ◌-ℤ◌, ◌*ℤ◌, ◌≤ℤ◌, ◌<ℤ◌, nat_abs, List, [], ◌∷◌, refl, sym, ◌∙◌, ap, subst, arith}
 use Rattle.std.specs.Int.RustNames.{unsigned_abs}
 use Rattle.std.specs.List.{list_any}
 use Rattle.std.specs.Ordering.{int_eq}
@@ -23,7 +23,7 @@ use Rattle.mf_ops.specs.declared.quarter.Quarter.TheVariants.{Once, Twice, Thric
 use Rattle.mf_ops.proofs.AxisSums.{IsMove, sum_over_field-moved, sum_over_field-turn_once}
 use Rattle.mf_ops.proofs.Faults.{stays-accepted}
 use Rattle.mf_ops.proofs.Leaving.{is_coordinate-true, stays_inside-true}
-use Rattle.mf_ops.proofs.Places.{mul-neg, opposite-opposite, scale_source-negative, scale_source-positive, source_of-end, source_of-start}
+use Rattle.mf_ops.proofs.Places.{IsStretch-size, end-negative, opposite-opposite, scale_source-negative, scale_source-positive, source_of-end, source_of-start, start-negative}
 
 sum_over_field-turn_by : (q : Quarter) (f : ℤ → ℤ → ℤ) → sum_over_field (turn_by q f) ≡ sum_over_field f
 sum_over_field-turn_by Once f = sum_over_field-turn_once f
@@ -78,19 +78,15 @@ times n = scale_by (pos (suc n))
 
 -- so the ends of a column change places
 times-opposite_start : (n : ℕ) (p : ℤ) → stretched_to (times n) (opposite p) ≡ ((p +ℤ pos 1) *ℤ negsuc n) +ℤ pos 0
-times-opposite_start n p =
-    let start : opposite p ≡ neg_ℤ (p +ℤ pos 1) = omega (arith, ints) in
-    ap (stretched_to (times n)) start ∙ ap (λ a. a +ℤ pos 0) (sym (mul-neg (p +ℤ pos 1) (pos (suc n))))
+times-opposite_start n p = ap (λ a. a +ℤ pos 0) (sym (end-negative n p))
 
 times-opposite_end : (n : ℕ) (p : ℤ) → stretched_to (times n) (opposite p) +ℤ pos (suc n) ≡ (p *ℤ negsuc n) +ℤ pos 0
-times-opposite_end n p =
-    let end : opposite p +ℤ pos 1 ≡ neg_ℤ p = omega (arith, ints) in
-    sym (stretched_to-next (times n) (opposite p)) ∙ ap (stretched_to (times n)) end ∙ ap (λ a. a +ℤ pos 0) (sym (mul-neg p (pos (suc n))))
+times-opposite_end n p = sym (stretched_to-next (times n) (opposite p)) ∙ ap (λ a. a +ℤ pos 0) (sym (start-negative n p))
 
 scale_move : (f : ℤ) → IsFactor f → IsMove (nat_abs f) (scale_source f) (stays (scale_by f))
 scale_move (pos zero) factor = absurd (factor.nonzero refl)
 scale_move (pos (suc n)) factor =
-    let stretch : IsStretch (times n) = record { least = omega (arith, ints); greatest = factor.greatest } in
+    let stretch = IsStretch-size (pos (suc n)) factor in
     subst (λ source. IsMove (suc n) source (stays (times n))) (λ t q. sym (scale_source-positive (suc n) q) t) record {
       first = stretched_to (times n);
       start = λ q. source_of-start (times n) q stretch;
@@ -103,7 +99,7 @@ scale_move (pos (suc n)) factor =
           (ends.start.least, rw (← next) ends.end.greatest);
     }
 scale_move (negsuc n) factor =
-    let stretch : IsStretch (times n) = record { least = omega (arith, ints); greatest = omega (arith, ints, factor.least) } in
+    let stretch = IsStretch-size (negsuc n) factor in
     subst (λ source. IsMove (suc n) source (stays (scale_by (negsuc n)))) (λ t q. sym (scale_source-negative n q) t) record {
       first = λ p. stretched_to (times n) (opposite p);
       start = λ q. rw (opposite-opposite (source_of (times n) q)) (source_of-start (times n) q stretch);

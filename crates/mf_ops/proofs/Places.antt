@@ -1,5 +1,5 @@
 -- Which column, or row, a scale takes to the part of the axis that contains a given one.
-use Rattle.std.proofs.Common.{◌≡◌, ℕ, suc, ℤ, pos, negsuc, neg_ℤ, ◌+ℤ◌, ◌-ℤ◌, ◌*ℤ◌, ◌≤ℤ◌, ◌<ℤ◌, refl, ap, ◌∙◌, false, int_lt, arith}
+use Rattle.std.proofs.Common.{◌≡◌, ℕ, zero, suc, ℤ, pos, negsuc, neg_ℤ, ◌+ℤ◌, ◌-ℤ◌, ◌*ℤ◌, ◌≤ℤ◌, ◌<ℤ◌, nat_abs, refl, ap, ◌∙◌, false, int_lt, arith}
 use Rattle.std.specs.Int.{int_max, int_min}
 use Rattle.std.proofs.lemmas.Bool.{cond-false}
 use Rattle.std.proofs.lemmas.Int.{ints, clamps, by_lt_z}
@@ -21,15 +21,15 @@ pub scale_source-negative : (n : ℕ) (q : ℤ) → scale_source (negsuc n) q �
 unfolding scale_source
 scale_source-negative n q = refl
 
-pub mul-neg : (a b : ℤ) → a *ℤ neg_ℤ b ≡ neg_ℤ a *ℤ b
+mul-neg : (a b : ℤ) → a *ℤ neg_ℤ b ≡ neg_ℤ a *ℤ b
 mul-neg a b = grind (arith, ints)
 
-start-negative : (n : ℕ) (p : ℤ) → p *ℤ negsuc n ≡ (opposite p +ℤ pos 1) *ℤ pos (suc n)
+pub start-negative : (n : ℕ) (p : ℤ) → p *ℤ negsuc n ≡ (opposite p +ℤ pos 1) *ℤ pos (suc n)
 start-negative n p =
     let side : neg_ℤ p ≡ opposite p +ℤ pos 1 = omega (arith, ints) in
     mul-neg p (pos (suc n)) ∙ (λ t. side t *ℤ pos (suc n))
 
-end-negative : (n : ℕ) (p : ℤ) → (p +ℤ pos 1) *ℤ negsuc n ≡ opposite p *ℤ pos (suc n)
+pub end-negative : (n : ℕ) (p : ℤ) → (p +ℤ pos 1) *ℤ negsuc n ≡ opposite p *ℤ pos (suc n)
 end-negative n p =
     let side : neg_ℤ (p +ℤ pos 1) ≡ opposite p = omega (arith, ints) in
     mul-neg (p +ℤ pos 1) (pos (suc n)) ∙ (λ t. side t *ℤ pos (suc n))
@@ -72,32 +72,32 @@ only-positive f p q stretch has =
     let next = stretched_to-next (scale_by f) p in
     source_of-is (scale_by f) p q stretch (omega (arith, ints, clamps)) (omega (arith, ints, clamps))
 
-positive_factor : (n : ℕ) → IsFactor (pos n) → IsStretch (scale_by (pos n))
-positive_factor n factor =
-    by_lt_z (pos 0) (pos n)
-    (λ lt. record { least = omega (arith, ints); greatest = factor.greatest })
-    (λ ge. absurd (factor.nonzero (omega (arith, ints))))
+-- the scale by the absolute value of a factor, which is a stretch
+abbrev pub by_size : ℤ → Stretch
+by_size f = scale_by (pos (nat_abs f))
 
-opposite_factor : (n : ℕ) → IsFactor (negsuc n) → IsStretch (scale_by (pos (suc n)))
-opposite_factor n factor = let least = factor.least in record { least = omega (arith, ints); greatest = omega (arith, ints) }
+pub IsStretch-size : (f : ℤ) → IsFactor f → IsStretch (by_size f)
+IsStretch-size (pos zero) is_factor = absurd (is_factor.nonzero refl)
+IsStretch-size (pos (suc n)) is_factor = let greatest = is_factor.greatest in record { least = omega (arith, ints); greatest = omega (arith, ints) }
+IsStretch-size (negsuc n) is_factor = let least = is_factor.least in record { least = omega (arith, ints); greatest = omega (arith, ints) }
 
 pub opposite-opposite : (p : ℤ) → opposite (opposite p) ≡ p
 opposite-opposite p = omega (arith, ints)
 
 -- the part of the source contains the column
 pub scale_source-covered : (f q : ℤ) → IsFactor f → HasPlace f (scale_source f q) q
-scale_source-covered (pos n) q factor = rw (scale_source-positive n q) (covered-positive (pos n) q (positive_factor n factor))
+scale_source-covered (pos n) q factor = rw (scale_source-positive n q) (covered-positive (pos n) q (IsStretch-size (pos n) factor))
 scale_source-covered (negsuc n) q factor =
     let p = source_of (scale_by (pos (suc n))) q in
     let back = opposite-opposite p in
-    let covered = covered-positive (pos (suc n)) q (opposite_factor n factor) in
+    let covered = covered-positive (pos (suc n)) q (IsStretch-size (negsuc n) factor) in
     rw (scale_source-negative n q) (HasPlace-negative n (opposite p) q (rw back covered))
 
 -- no other part contains it
 pub scale_source-only : (f p q : ℤ) → IsFactor f → HasPlace f p q → scale_source f q ≡ p
-scale_source-only (pos n) p q factor has = scale_source-positive n q ∙ only-positive (pos n) p q (positive_factor n factor) has
+scale_source-only (pos n) p q factor has = scale_source-positive n q ∙ only-positive (pos n) p q (IsStretch-size (pos n) factor) has
 scale_source-only (negsuc n) p q factor has =
-    let only = only-positive (pos (suc n)) (opposite p) q (opposite_factor n factor) (HasPlace-from_negative n p q has) in
+    let only = only-positive (pos (suc n)) (opposite p) q (IsStretch-size (negsuc n) factor) (HasPlace-from_negative n p q has) in
     scale_source-negative n q ∙ ap opposite only ∙ opposite-opposite p
 
 -- a reflection takes a column to the other side of 0

@@ -1,5 +1,5 @@
 -- Pictures that are scaled: a negative factor reflects, and the absolute values of the factors stretch.
-use Rattle.std.proofs.Common.{◌≡◌, ◌≢◌, Bool, zero, suc, ℤ, pos, negsuc, neg_ℤ, nat_abs, ◌+ℤ◌, ◌*ℤ◌, ◌≤ℤ◌, int_lt, List, get_or, refl, sym, subst, ◌∙◌, ap, arith}
+use Rattle.std.proofs.Common.{◌≡◌, ◌≢◌, Bool, ℤ, pos, negsuc, nat_abs, ◌+ℤ◌, ◌≤ℤ◌, int_lt, List, get_or, sym, subst, ◌∙◌, ap, arith}
 use Rattle.std.proofs.lemmas.Bool.{cond-false}
 use Rattle.std.proofs.lemmas.Int.{ints, by_lt_z}
 use Rattle.std.specs.List.{All}
@@ -7,7 +7,7 @@ use Rattle.mf_geom.specs.Coordinates.{least_coordinate, greatest_coordinate, las
 use Rattle.mf_geom.specs.Field.{IsInField}
 use Rattle.mf_edges.specs.declared.stretch.Stretch.{Stretch}
 use Rattle.mf_rows.specs.Dots.{Dot, IsPicture, start_of_field, weight_at}
-use Rattle.mf_edges.specs.Axes.{IsStretch, PlaceStaysInside, opposite, stretched_to, source_of}
+use Rattle.mf_edges.specs.Axes.{IsStretch, PlaceStaysInside, opposite, source_of}
 use Rattle.mf_rows.specs.Moves.{PixelsStayInside, stretched_at}
 use Rattle.mf_rows.specs.Sums.{HasWeights}
 use Rattle.mf_rows.proofs.DotsLemmas.{dots_from-lawful, weight_at-dot}
@@ -15,20 +15,11 @@ use Rattle.mf_edges.proofs.Sources.{source_of-reached, source_of-from}
 use Rattle.mf_ops.specs.Moves.{Factors, AreFactors, IsFactor, scale_by, scale_source}
 use Rattle.mf_ops.specs.Reflections.{on_side, reflection_at}
 use Rattle.mf_ops.specs.Step.{step_at}
-use Rattle.mf_ops.proofs.Places.{mul-neg, not_negative}
+use Rattle.mf_ops.proofs.Places.{IsStretch-size, by_size, end-negative, not_negative, opposite-opposite, start-negative}
 use Rattle.mf_ops.specs.declared.op.Op.TheVariants.{Scale}
 use mir.Syntax.{w32}
 use mir.Val.{to_z, of_z}
 use Rattle.mf_rows.proofs.StretchBounds.{holds_at_weight}
-
--- the scale by the absolute value of a factor
-abbrev by_size : ℤ → Stretch
-by_size f = scale_by (pos (nat_abs f))
-
-IsStretch-size : (f : ℤ) → IsFactor f → IsStretch (by_size f)
-IsStretch-size (pos zero) is_factor = absurd (is_factor.nonzero refl)
-IsStretch-size (pos (suc n)) is_factor = let greatest = is_factor.greatest in record { least = omega (arith, ints); greatest = omega (arith, ints) }
-IsStretch-size (negsuc n) is_factor = let least = is_factor.least in record { least = omega (arith, ints); greatest = omega (arith, ints) }
 
 pub factor_passed : (z f : ℤ) → IsFactor z → z ≡ f → to_z w32 (of_z w32 z) ≡ f
 factor_passed z f is_factor value =
@@ -107,13 +98,11 @@ HasWeights-scale ds middle new s a b columns rows sized_columns sized_rows x y r
 PlaceStaysInside-size : (f p : ℤ) → PlaceStaysInside (scale_by f) (on_side (int_lt f (pos 0)) p) → PlaceStaysInside (by_size f) p
 PlaceStaysInside-size (pos n) p inside = subst (PlaceStaysInside (scale_by (pos n))) (cond-false _ (opposite p) p (not_negative n)) inside
 PlaceStaysInside-size (negsuc n) p inside =
-    let start : opposite p ≡ neg_ℤ (p +ℤ pos 1) = omega (arith, ints) in
-    let end : opposite p +ℤ pos 1 ≡ neg_ℤ p = omega (arith, ints) in
-    let start_is : stretched_to (scale_by (negsuc n)) (opposite p) ≡ stretched_to (by_size (negsuc n)) (p +ℤ pos 1) =
-    λ t. (((λ u. start u *ℤ negsuc n) ∙ sym (mul-neg (p +ℤ pos 1) (negsuc n))) t) +ℤ pos 0 in
-    let end_is : stretched_to (scale_by (negsuc n)) (opposite p +ℤ pos 1) ≡ stretched_to (by_size (negsuc n)) p =
-    λ t. (((λ u. end u *ℤ negsuc n) ∙ sym (mul-neg p (negsuc n))) t) +ℤ pos 0 in
-    record { start = subst IsCoordinate end_is inside.end; end = subst IsCoordinate start_is inside.start }
+    let back = opposite-opposite p in
+    record {
+      start = subst (λ a. IsCoordinate (a +ℤ pos 0)) (rw back at (end-negative n (opposite p))) inside.end;
+      end = subst (λ a. IsCoordinate (a +ℤ pos 0)) (rw back at (start-negative n (opposite p))) inside.start;
+    }
 
 -- each dot of the reflected picture comes from a pixel of nonzero weight
 reflected_dots : (columns rows : Bool) (ds middle : List Dot) → IsPicture middle → HasWeights (reflection_at columns rows ds) middle

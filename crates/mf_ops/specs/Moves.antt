@@ -63,6 +63,7 @@ degrees Once = pos 90
 degrees Twice = pos 180
 degrees Thrice = pos 270
 
--- whether a stretch takes column, or row, p to a part of the field, that is, whether both of its ends keep a coordinate
+-- whether a stretch takes column, or row, p to a part of the field, that is, whether both of its ends keep a coordinate: the fact
+-- `PlaceStaysInside` as a value, since a refusal is computed
 abbrev pub stays_inside : Stretch → ℤ → Bool
 stays_inside s p = is_coordinate (stretched_to s p) && is_coordinate (stretched_to s (p +ℤ pos 1))

@@ -56,7 +56,7 @@ MayLeave Clear = ⊥
 pub record StaysInField (ds : List Dot) (op : Op) : Type 0 where
   pub none_leaves : list_any (leaves op) ds ≡ false
 
--- whether a weight exceeds 32767 in absolute value
+-- whether a weight exceeds 32767 in absolute value: what `IsLawfulWeight` denies, as a value, since a refusal is computed
 abbrev pub is_too_large : ℤ → Bool
 is_too_large w = not (int_le least_weight w && int_le w greatest_weight)
 

@@ -3,7 +3,7 @@ use Rattle.std.proofs.lemmas.Result.{err_from_is_err_and}
 use Rattle.mf_ops.specs.declared.op.Op.TheVariants.{Also}
 use Rattle.mf_ops.specs.declared.sign.Sign.TheVariants.{Plus}
 use Rattle.mf_ops.proofs.Adding.{sum_at-plus}
-use Rattle.mf_ops.proofs.Faults.{HasWeights-same, IsUnlawfulSomewhere-same, made-from_weights, op_fault-sum_fault, also_stays}
+use Rattle.mf_ops.proofs.Faults.{HasWeights-same, IsUnlawfulSomewhere-same, made-from_weights, op_fault-sum_fault, stays_anyway}
 use Rattle.mf_ops.proofs.add.add_plus.Goals as goal
 
 pub returns-in_err-add-clause-refused : goal.returns-in_err-add-clause-refused
@@ -11,7 +11,7 @@ returns-in_err-add-clause-refused c =
     let ds = c.args.picture.now in
     let es = c.args.other.now in
     let passed_on = err_from_is_err_and c.from_residual.result c.from_residual.ensures.1 in
-    rw (passed_on.1, passed_on.2) (op_fault-sum_fault ds (Also es Plus) _ (also_stays ds es Plus)
+    rw (passed_on.1, passed_on.2) (op_fault-sum_fault ds (Also es Plus) _ (stays_anyway ds (Also es Plus) refl refl)
     (λ other. IsUnlawfulSomewhere-same _ _ (sum_at-plus ds es) (c.in_err-add.ensures.too_large other)))
 
 pub returns : goal.returns
@@ -20,5 +20,5 @@ returns c =
     let es = c.args.other.now in
     let has = HasWeights-same _ _ _ (sum_at-plus ds es) c.in_ok-add.ensures.weights in
     let picture = c.in_ok-add.ensures.lawful in
-    let made = made-from_weights ds (Also es Plus) _ (also_stays ds es Plus) picture has in
+    let made = made-from_weights ds (Also es Plus) _ (stays_anyway ds (Also es Plus) refl refl) picture has in
     record { step = made.0; accepted = made.1; unchanged = tt; refused = tt; blank = λ blank. refl }

@@ -1,9 +1,9 @@
-use Rattle.std.proofs.Common.{◌≡◌, to_z, of_z, w32, arith}
+use Rattle.std.proofs.Common.{◌≡◌, to_z, of_z, w32, arith, refl}
 use Rattle.std.proofs.lemmas.Int.{ints}
 use Rattle.std.proofs.lemmas.Result.{err_from_is_err_and}
 use Rattle.mf_geom.specs.declared.check.Check.TheVariants.{Off}
 use Rattle.mf_ops.specs.declared.op.Op.TheVariants.{Contour}
-use Rattle.mf_ops.proofs.Faults.{HasWeights-same, IsUnlawfulSomewhere-same, made-from_weights, op_fault-sum_fault, unchecked_stays}
+use Rattle.mf_ops.proofs.Faults.{HasWeights-same, IsUnlawfulSomewhere-same, made-from_weights, op_fault-sum_fault, stays_anyway}
 use Rattle.mf_ops.proofs.Sides.{with_corners_at-contour}
 use Rattle.mf_ops.proofs.fill.fill.Goals as goal
 
@@ -15,7 +15,7 @@ returns-in_err-add_corners-clause-refused c =
     let same = with_corners_at-contour ds c.args.cycle.now c.args.weight _ (rw weight_is at c.in_ok-corners.ensures.added) in
     let passed_on = err_from_is_err_and c.from_residual-in_err-add_corners.result c.from_residual-in_err-add_corners.ensures.1 in
     rw (passed_on.1, passed_on.2)
-    (op_fault-sum_fault ds op _ (unchecked_stays ds _ _) (λ other. IsUnlawfulSomewhere-same _ _ same (c.in_err-add_corners.ensures.too_large other)))
+    (op_fault-sum_fault ds op _ (stays_anyway ds op refl refl) (λ other. IsUnlawfulSomewhere-same _ _ same (c.in_err-add_corners.ensures.too_large other)))
 
 pub returns : goal.returns
 returns c =
@@ -25,5 +25,5 @@ returns c =
     let same = with_corners_at-contour ds c.args.cycle.now c.args.weight _ (rw weight_is at c.in_ok-corners.ensures.added) in
     let has = HasWeights-same _ _ _ same c.in_ok-add_corners.ensures.weights in
     let picture = c.in_ok-add_corners.ensures.lawful in
-    let made = made-from_weights ds op _ (unchecked_stays ds _ _) picture has in
+    let made = made-from_weights ds op _ (stays_anyway ds op refl refl) picture has in
     record { step = made.0; accepted = made.1; unchanged = tt; refused = tt }

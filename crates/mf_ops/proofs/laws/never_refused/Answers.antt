@@ -1,4 +1,4 @@
-use Rattle.std.proofs.Common.{ℤ, pos, List}
+use Rattle.std.proofs.Common.{ℤ, pos, List, refl}
 use Rattle.std.proofs.lemmas.Bool.{cond_both}
 use Rattle.mf_edges.specs.LawfulWeights.{IsLawfulWeight}
 use Rattle.mf_edges.proofs.EdgeSums.{zero_lawful}
@@ -11,7 +11,7 @@ use Rattle.mf_ops.specs.declared.cull.CullRule.TheVariants.{Keeping, Dropping}
 use Rattle.mf_ops.specs.declared.op.Op.TheVariants as ops
 use Rattle.mf_ops.specs.declared.quarter.Quarter.{Quarter}
 use Rattle.mf_ops.specs.declared.quarter.Quarter.TheVariants.{Once, Twice, Thrice}
-use Rattle.mf_ops.proofs.Faults.{accepted-lawful, also_not_out, clear_stays, contour_not_out, cull_stays, not_too_large-lawful, quarter_stays}
+use Rattle.mf_ops.proofs.Faults.{accepted-lawful, also_not_out, contour_not_out, not_too_large-lawful, stays_anyway}
 use Rattle.mf_ops.proofs.laws.never_refused.Goals as goal
 
 -- a move gives each pixel the weight that some pixel had
@@ -25,13 +25,13 @@ lawful_turned Thrice ds picture x y = lawful_at ds picture _ _
 
 pub returns : goal.returns
 returns c = record {
-  clear = λ ds. accepted-lawful ds ops.Clear (clear_stays ds) (λ x y. zero_lawful);
-  turn = λ ds q picture. accepted-lawful ds (ops.Quarter q) (quarter_stays ds q) (lawful_turned q ds picture);
+  clear = λ ds. accepted-lawful ds ops.Clear (stays_anyway ds ops.Clear refl refl) (λ x y. zero_lawful);
+  turn = λ ds q picture. accepted-lawful ds (ops.Quarter q) (stays_anyway ds (ops.Quarter q) refl refl) (lawful_turned q ds picture);
   keeping = λ ds a b w lawful.
-      accepted-lawful ds (ops.Cull (Keeping a b w)) (cull_stays ds (Keeping a b w))
+      accepted-lawful ds (ops.Cull (Keeping a b w)) (stays_anyway ds (ops.Cull (Keeping a b w)) refl refl)
       (λ x y. cond_both (is_within a b (weight_at ds x y)) w (pos 0) IsLawfulWeight (λ _. lawful) (λ _. zero_lawful));
   dropping = λ ds a b w lawful.
-      accepted-lawful ds (ops.Cull (Dropping a b w)) (cull_stays ds (Dropping a b w))
+      accepted-lawful ds (ops.Cull (Dropping a b w)) (stays_anyway ds (ops.Cull (Dropping a b w)) refl refl)
       (λ x y. cond_both (is_within a b (weight_at ds x y)) (pos 0) w IsLawfulWeight (λ _. zero_lawful) (λ _. lawful));
   shift = λ ds dx dy picture. not_too_large-lawful ds (ops.Shift dx dy) (λ x y. lawful_at ds picture _ _);
   scale = λ ds s picture. not_too_large-lawful ds (ops.Scale s) (λ x y. lawful_at ds picture (scale_source s.x x) (scale_source s.y y));
