@@ -245,15 +245,13 @@ clear_not_out ds = not_out ds Clear (stays_anyway ds Clear refl refl)
 
 -- what each answer says about the two tests
 none_where_lawful : (out large : Bool) → cond out (Some OutOfField) (cond large (Some WeightTooLarge) None) ≡ None → (out ≡ false) × (large ≡ false)
-none_where_lawful true large none = cc
-none_where_lawful false true none = cc
 none_where_lawful false false none = (refl, refl)
+none_where_lawful out large none = cc
 
 some_where_too_large : (out large : Bool) → cond out (Some OutOfField) (cond large (Some WeightTooLarge) None) ≡ Some WeightTooLarge
     → (out ≡ false) × (large ≡ true)
-some_where_too_large true large some = cc
 some_where_too_large false true some = (refl, refl)
-some_where_too_large false false some = cc
+some_where_too_large out large some = cc
 
 some_where_out : (out large : Bool) → cond out (Some OutOfField) (cond large (Some WeightTooLarge) None) ≡ Some OutOfField → out ≡ true
 some_where_out true large some = refl

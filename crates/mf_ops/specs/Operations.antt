@@ -3,7 +3,7 @@ use Rattle.std.specs.Prelude.{◌≡◌, ℕ, List, [], ◌∷◌, length, None}
 use Rattle.mf_rows.specs.Dots.{Dot}
 use Rattle.mf_ops.specs.Step.{next_picture, op_fault}
 use Rattle.mf_ops.specs.declared.op.Op.{Op}
-use Rattle.mf_ops.specs.declared.op.Op.TheVariants.{Contour, Also, Cull, Shift, Scale, Quarter, Clear}
+use Rattle.mf_ops.specs.declared.op.Op.TheVariants.{Contour, Also}
 
 -- the picture that operations, performed in order, make of the picture ds
 unfoldable pub after_all : List Dot → List Op → List Dot
@@ -31,8 +31,4 @@ pub record AreAccepted (ops : List Op) : Type 0 where
 abbrev pub HoldsNoList : Op → Type 0
 HoldsNoList (Contour ps w check) = ⊥
 HoldsNoList (Also es s) = es ≡ []
-HoldsNoList (Cull c) = Unit {0}
-HoldsNoList (Shift dx dy) = Unit {0}
-HoldsNoList (Scale s) = Unit {0}
-HoldsNoList (Quarter q) = Unit {0}
-HoldsNoList Clear = Unit {0}
+HoldsNoList op = Unit {0}

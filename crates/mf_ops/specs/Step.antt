@@ -3,7 +3,7 @@ use Rattle.std.specs.Prelude.{◌≡◌, ◌≢◌, ◌&&◌, Bool, false, not, 
 use Rattle.std.specs.List.{list_any}
 use Rattle.std.specs.Option.{option_map, option_or}
 use Rattle.mf_edges.specs.LawfulWeights.{least_weight, greatest_weight}
-use Rattle.mf_geom.specs.declared.check.Check.TheVariants.{Off, On}
+use Rattle.mf_geom.specs.declared.check.Check.TheVariants.{On}
 use Rattle.mf_geom.specs.Faults.{turning_fault}
 use Rattle.mf_geom.specs.Field.{IsInField}
 use Rattle.mf_geom.specs.Winding.{contour}
@@ -34,23 +34,15 @@ next_picture ds op = picture_of (step_at ds op)
 
 -- whether an operation takes a pixel out of the field; a turn maps the field to itself
 abbrev pub leaves : Op → Dot → Bool
-leaves (Contour ps w check) d = false
-leaves (Also es s) d = false
-leaves (Cull c) d = false
 leaves (Shift dx dy) d = not (stays_inside (shift_by dx) d.x && stays_inside (shift_by dy) d.y)
 leaves (Scale s) d = not (stays_inside (scale_by s.x) d.x && stays_inside (scale_by s.y) d.y)
-leaves (Quarter q) d = false
-leaves Clear d = false
+leaves op d = false
 
 -- the operation may take a pixel out of the field: it is a shift or a scale
 abbrev pub MayLeave : Op → Type 0
-MayLeave (Contour ps w check) = ⊥
-MayLeave (Also es s) = ⊥
-MayLeave (Cull c) = ⊥
 MayLeave (Shift dx dy) = Unit {0}
 MayLeave (Scale s) = Unit {0}
-MayLeave (Quarter q) = ⊥
-MayLeave Clear = ⊥
+MayLeave op = ⊥
 
 -- the operation takes no pixel of the picture ds out of the field
 pub record StaysInField (ds : List Dot) (op : Op) : Type 0 where
@@ -71,13 +63,7 @@ pixel_fault ds op = if list_any (leaves op) ds then Some OutOfField else weight_
 -- the refusal of an operation for the way its cycle turns, if there is one: only contours under the turning check are refused so
 abbrev pub turn_fault : Op → Option OpFault
 turn_fault (Contour ps w On) = option_map OpFault.Cycle (turning_fault ps)
-turn_fault (Contour ps w Off) = None
-turn_fault (Also es s) = None
-turn_fault (Cull c) = None
-turn_fault (Shift dx dy) = None
-turn_fault (Scale s) = None
-turn_fault (Quarter q) = None
-turn_fault Clear = None
+turn_fault op = None
 
 -- the operation is not a contour, or its cycle passes its turning check
 pub record TurnsLawfully (op : Op) : Type 0 where
