@@ -8,10 +8,10 @@ use Rattle.mf_text.specs.Token as token
 use Rattle.mf_text.specs.declared.token.Word.TheVariants as word
 use Rattle.mf_text.specs.Ahead.{Ahead, ahead_after, column_at, column_of}
 use Rattle.mf_text.specs.Grammar.{Line, spell_line}
-use Rattle.mf_text.specs.Rests.{Place, Before, CodeNumber, ends, follow, from, report_column, step, line, Placed, Token}
+use Rattle.mf_text.specs.Rests.{One, Or, Place, Before, CodeNumber, ends, follow, from, report_column, step, line, Placed, Token}
 use Rattle.mf_text.specs.Syntax.{StartsLine, IsSyntaxFault, IsWrongAt, is_negative_code, report_place}
 use Rattle.mf_text.specs.Tokens.{kinds}
-use Rattle.mf_text.proofs.Rests.{GoesOn, is_code_number, is_code_number_at, line_read, place_ends, reads}
+use Rattle.mf_text.proofs.Rests.{GoesOn, is_code_number, is_code_number_at, line_to, place_ends, reads}
 use Rattle.mf_text.proofs.Sound.{coded, spelled, spells_line}
 
 -- ---- lines are what is read
@@ -20,11 +20,13 @@ pub read_is_line : (ts : List Token) (l : Line) → reads (Some (Before line)) t
 read_is_line ts l is = sym (spelled ts [] (Before line) l spells_line is)
 
 pub line_is_read : (ts : List Token) (l : Line) → ts ≡ spell_line l → reads (Some (Before line)) ts ≡ Some l
-line_is_read ts l is = ap (reads (Some (Before line))) is ∙ line_read l
+line_is_read ts l is =
+    let some = line_to l in
+    ap (reads (Some (Before line))) (is ∙ spelled some.tokens [] (Before line) l spells_line some.read) ∙ some.read
 
 -- a list of tokens is at most one line
 pub same_line : (l m : Line) → spell_line l ≡ spell_line m → l ≡ m
-same_line l m same = same_Some l m (sym (line_read l) ∙ line_is_read (spell_line l) m same)
+same_line l m same = same_Some l m (sym (line_is_read (spell_line l) l refl) ∙ line_is_read (spell_line l) m same)
 
 goes_on_or_not : (p : Option Place) (ts : List Token) → GoesOn p ts ⊎ (GoesOn p ts → ⊥)
 unfolding reads

@@ -1,6 +1,6 @@
 -- What a line gives at its next token, and after phrases.
-use Rattle.std.proofs.Common.{◌≡◌, ◌≢◌, inl, inr, ℕ, true, false, List, [], ◌∷◌, ◌++◌, map, Option, Some, None, Result, Ok, Err, ok_or, Bool, if◌then◌else◌, refl, sym, ap, subst, ◌∙◌}
-use Rattle.std.specs.Option.{option_or}
+use Rattle.std.proofs.Common.{◌≡◌, ◌≢◌, inl, inr, ℕ, ◌<◌, true, false, List, [], ◌∷◌, ◌++◌, length, map, Option, Some, None, Result, Ok, Err, ok_or, Bool, if◌then◌else◌, refl, sym, ap, subst, ◌∙◌, arith}
+use Rattle.std.specs.Option.{option_map, option_or}
 use Rattle.std.specs.Result.{IsErrAnd}
 use Rattle.std.proofs.lemmas.Bool.{cases_Bool, false≢true}
 use Rattle.std.proofs.lemmas.List.{map-append}
@@ -11,32 +11,99 @@ use Rattle.mf_text.specs.declared.token.Mark.TheVariants as mark
 use Rattle.mf_text.specs.declared.token.Word.TheVariants as word
 use Rattle.mf_text.specs.declared.tokens.Tokens.{Tokens}
 use Rattle.mf_text.specs.Ahead.{Ahead, column_of}
-use Rattle.mf_text.specs.Grammar.{Line, Path, path_value, Point, Code, Name, Current, Register, Int, Pair, pair_value}
-use Rattle.mf_text.specs.Reads.{HasPoints, TakesToken, Passes, PassesPath, TakesValue, after_first, ahead, is_next, remaining_tokens, next_value, with_rest}
-use Rattle.mf_text.specs.Rests.{Rest, ACode, AName, ANumber, Corners, One, Or, OrName, Place, Before, CodeNumber, Ends, before, code_in, corner, end_of, path, follow, from, number_in, report_column, step_from, name_token}
-use Rattle.mf_text.specs.Token.{Placed, Token, is_token, letter_in, name_in, value_in}
+use Rattle.mf_text.specs.Grammar.{Line, Path, path_value, Point, Code, Name, Current, Register, Pair, pair_value}
+use Rattle.mf_text.specs.Reads.{HasPoints, Passes, PassesPath, TakesToken, TakesValue, ahead, remaining_tokens, next_value, then_value, with_rest}
+use Rattle.mf_text.specs.Rests.{Kind, Of, This, Codes, Rest, Take, OrTake, MinusCode, Corners, One, Or, Place, Before, CodeNumber, Ends, before, corner, path, follow, from, name_token, report_column, step_from, value}
+use Rattle.mf_text.specs.Token.{Placed, Token, letter_in, name_in, this_in, value_in}
 use Rattle.mf_text.specs.Token as token
-use Rattle.mf_text.proofs.Words.{same_token, token_is}
+use Rattle.mf_text.proofs.Rests.{name_of, named, this_only}
 
 -- before a rest, the column of the last token does not matter
-pub from_any : (r : Rest) (last past : ℕ) (ps : List Placed) → follow (Ok (Before r)) last past ps ≡ from r (record { tokens = ps; past = past })
+from_any : (r : Rest) (last past : ℕ) (ps : List Placed) → follow (Ok (Before r)) last past ps ≡ from r (record { tokens = ps; past = past })
 unfolding follow
 from_any r last past [] = refl
 from_any r last past (p ∷ ps) = refl
 
 -- where `?` returns, the result is the fault
-pub exit : {A : Type 0} (r : Result A SyntaxFault) (fault : SyntaxFault) → IsErrAnd r (λ y. y ≡ fault) → r ≡ Err fault
+exit : {A : Type 0} (r : Result A SyntaxFault) (fault : SyntaxFault) → IsErrAnd r (λ y. y ≡ fault) → r ≡ Err fault
 exit (Ok x) fault none = absurd none
 exit (Err e) fault same = ap Err same
 
 -- ---- a value of the next token
 
--- where no value is taken, the first token has none
-pub lacks : {A : Type 0} (f : Token → Option A) (p : Placed) (ps : List Placed) → next_value f (p ∷ ps) ≡ None → f p.token ≡ None
-lacks {A} f p ps is = by_value (f p.token) is where
-  by_value : (v : Option A) → with_rest (record { tokens = ps; past = p.after }) v ≡ None → v ≡ None
-  by_value None none = refl
-  by_value (Some x) other = absurd (none-some (x, record { tokens = ps; past = p.after }) (sym other))
+-- what a line gives after a value, if there is one
+abbrev pub on_value : {A : Type 0} → (A → Rest) → Result Line ℕ → Option (A × Ahead) → Result Line ℕ
+on_value next otherwise None = otherwise
+on_value next otherwise (Some (a, after)) = from (next a) after
+
+module _ (k : Kind) (next : Of k → Rest) where
+  taken : (past : ℕ) (ps : List Placed)
+      → from (Take k next) (record { tokens = ps; past = past }) ≡ on_value next (Err (column_of ps past)) (next_value (value k) ps)
+  unfolding follow
+  taken past [] = refl
+  taken past (p ∷ ps) = by_value (value k p.token) where
+    by_value : (v : Option (Of k)) → follow (ok_or (before next v) p.column) p.column p.after ps
+        ≡ on_value next (Err p.column) (with_rest (record { tokens = ps; past = p.after }) v)
+    by_value None = refl
+    by_value (Some a) = from_any (next a) p.column p.after ps
+
+  -- what a line gives where a token of a kind was passed
+  pub passed : (old new : Tokens) (a : Of k) → TakesValue (value k) old new (Some a) → from (Take k next) (ahead old) ≡ from (next a) (ahead new)
+  passed old new a is = taken old.column (remaining_tokens old) ∙ ap (on_value next (Err (column_of (remaining_tokens old) old.column))) is
+
+  -- what a line gives where there is none
+  pub missed : (old new : Tokens) → TakesValue (value k) old new None → (fault : SyntaxFault) → fault.column ≡ column_of (remaining_tokens new) new.column
+      → from (Take k next) (ahead old) ≡ Err fault.column
+  missed old new (none, same) fault column_is =
+      taken old.column (remaining_tokens old) ∙ ap (on_value next (Err (column_of (remaining_tokens old) old.column))) none
+      ∙ ap (λ (t : Tokens). Err (column_of (remaining_tokens t) t.column)) (sym same) ∙ ap Err (sym column_is)
+
+  or_taken : (other : Rest) (past : ℕ) (ps : List Placed) → from (OrTake k next other) (record { tokens = ps; past = past })
+      ≡ on_value next (from other (record { tokens = ps; past = past })) (next_value (value k) ps)
+  unfolding follow
+  or_taken other past [] = refl
+  or_taken other past (p ∷ ps) = by_value (value k p.token) where
+    by_value : (v : Option (Of k)) → follow (ok_or (option_or (before next v) (step_from other p.token)) p.column) p.column p.after ps
+        ≡ on_value next (follow (ok_or (step_from other p.token) p.column) p.column p.after ps) (with_rest (record { tokens = ps; past = p.after }) v)
+    by_value None = refl
+    by_value (Some a) = from_any (next a) p.column p.after ps
+
+  -- what a line gives where such a token may come
+  pub takes_read : (other : Rest) (old new : Tokens) (r : Option (Of k)) → TakesValue (value k) old new r
+      → from (OrTake k next other) (ahead old) ≡ then_value next other (ahead new) r
+  takes_read other old new None (none, same) =
+      or_taken other old.column (remaining_tokens old) ∙ ap (on_value next (from other (ahead old))) none
+      ∙ ap (λ (t : Tokens). from other (ahead t)) (sym same)
+  takes_read other old new (Some a) is = or_taken other old.column (remaining_tokens old) ∙ ap (on_value next (from other (ahead old))) is
+
+-- ---- a given token
+
+module _ (u : Token) (this : Rest) where
+  one_is : (past : ℕ) (ps : List Placed)
+      → from (One u this) (record { tokens = ps; past = past }) ≡ from (Take (This u) (λ _. this)) (record { tokens = ps; past = past })
+  unfolding follow
+  one_is past [] = refl
+  one_is past (p ∷ ps) = refl
+
+  pub one_passed : (old new : Tokens) → TakesToken u old new true → from (One u this) (ahead old) ≡ from this (ahead new)
+  one_passed old new took = one_is old.column (remaining_tokens old) ∙ passed (This u) (λ _. this) old new tt took
+
+  pub one_missed : (old new : Tokens) → TakesToken u old new false → (fault : SyntaxFault) → fault.column ≡ column_of (remaining_tokens new) new.column
+      → from (One u this) (ahead old) ≡ Err fault.column
+  one_missed old new took fault column_is = one_is old.column (remaining_tokens old) ∙ missed (This u) (λ _. this) old new took fault column_is
+
+  or_is : (other : Rest) (past : ℕ) (ps : List Placed)
+      → from (Or u this other) (record { tokens = ps; past = past }) ≡ from (OrTake (This u) (λ _. this) other) (record { tokens = ps; past = past })
+  unfolding follow
+  or_is other past [] = refl
+  or_is other past (p ∷ ps) = refl
+
+  pub or_read : (other : Rest) (old new : Tokens) (was_next : Bool) → TakesToken u old new was_next
+      → from (Or u this other) (ahead old) ≡ (if was_next then from this (ahead new) else from other (ahead new))
+  or_read other old new true took = or_is other old.column (remaining_tokens old) ∙ takes_read (This u) (λ _. this) other old new (Some tt) took
+  or_read other old new false took = or_is other old.column (remaining_tokens old) ∙ takes_read (This u) (λ _. this) other old new None took
+
+-- ---- the value of the next token
 
 -- what holds where the first token has this value
 at_first : {A : Type 0} (f : Token → Option A) (a : A) (P : List Placed → Ahead → Type 0)
@@ -50,113 +117,65 @@ at_first {A} f a P there (p ∷ ps) after is = by_value (f p.token) refl is wher
       let pairs = same_Some (x, record { tokens = ps; past = p.after }) (a, after) same in
       subst (P (p ∷ ps)) (ap (λ (v : A × Ahead). v.1) pairs) (there p ps (found ∙ ap (λ (v : A × Ahead). Some v.0) pairs))
 
--- the rest goes on with a value of the first of these tokens, and no line ends before it
-pub record Follows {A : Type 0} (rest : Rest) (f : Token → Option A) (next : A → Rest) (ps : List Placed) : Type 0 where
-  pub steps : (p : Placed) (qs : List Placed) → ps ≡ p ∷ qs → step_from rest p.token ≡ before next (f p.token)
-  pub endless : end_of rest ≡ None
+-- where no value is taken, the first token has none
+lacks : {A : Type 0} (f : Token → Option A) (p : Placed) (ps : List Placed) → next_value f (p ∷ ps) ≡ None → f p.token ≡ None
+lacks {A} f p ps is = by_value (f p.token) is where
+  by_value : (v : Option A) → with_rest (record { tokens = ps; past = p.after }) v ≡ None → v ≡ None
+  by_value None none = refl
+  by_value (Some x) other = absurd (none-some (x, record { tokens = ps; past = p.after }) (sym other))
 
-module _ {A : Type 0} (rest : Rest) (f : Token → Option A) (next : A → Rest) (past : ℕ) where
-  at_value : (p : Placed) (ps : List Placed) (v : Option A) → step_from rest p.token ≡ before next (f p.token) → f p.token ≡ v
-      → from rest (record { tokens = p ∷ ps; past = past }) ≡ follow (ok_or (before next v) p.column) p.column p.after ps
-  unfolding follow
-  at_value p ps v step is = ap (λ (s : Option Place). follow (ok_or s p.column) p.column p.after ps) (step ∙ ap (before next) is)
-
-  pub goes_on_with : (ps : List Placed) → Follows rest f next ps → (a : A) (after : Ahead) → next_value f ps ≡ Some (a, after)
-      → from rest (record { tokens = ps; past = past }) ≡ from (next a) after
-  goes_on_with ps follows a after is =
-      at_first f a (λ qs on. Follows rest f next qs → from rest (record { tokens = qs; past = past }) ≡ from (next a) on)
-      (λ p qs value given. at_value p qs (Some a) (given.steps p qs refl) value ∙ from_any (next a) p.column p.after qs) ps after is follows
-
-  pub goes_wrong_there : (ps : List Placed) → Follows rest f next ps → next_value f ps ≡ None
-      → from rest (record { tokens = ps; past = past }) ≡ Err (column_of ps past)
-  unfolding follow
-  goes_wrong_there [] follows is = ap (λ (l : Option Line). ok_or l past) follows.endless
-  goes_wrong_there (p ∷ ps) follows is = at_value p ps None (follows.steps p ps refl) (lacks f p ps is)
-
--- a phrase that is the value of one token
-pub value_passed : {A : Type 0} (phrase : (A → Rest) → Rest) (f : Token → Option A) (before after : Tokens)
-    → ((next : A → Rest) → Follows (phrase next) f next (remaining_tokens before))
-    → (a : A) → TakesValue f before after (Some a) → Passes phrase before after (Ok a)
-value_passed phrase f before after follows a took next =
-    goes_on_with (phrase next) f next before.column (remaining_tokens before) (follows next) a (ahead after) took
-
-pub value_lacking : {A : Type 0} (phrase : (A → Rest) → Rest) (f : Token → Option A) (before same after : Tokens)
-    → ((next : A → Rest) → Follows (phrase next) f next (remaining_tokens before))
-    → TakesValue f before same None → (fault : SyntaxFault) → fault.column ≡ column_of (remaining_tokens same) same.column
-    → Passes phrase before after (Err fault)
-value_lacking phrase f before same after follows took fault column_is next =
-    goes_wrong_there (phrase next) f next before.column (remaining_tokens before) (follows next) took.0
-    ∙ ap (λ (t : Tokens). Err (column_of (remaining_tokens t) t.column)) (sym took.1) ∙ ap Err (sym column_is)
-
-pub name_follows : (next : Name → Rest) (ps : List Placed) → Follows (AName next) name_in next ps
-name_follows next ps = record { steps = λ p qs is. refl; endless = refl }
-
-pub number_follows : (negative : Bool) (next : Int → Rest) (ps : List Placed) → Follows (ANumber negative next) (number_in negative) next ps
-number_follows negative next ps = record { steps = λ p qs is. refl; endless = refl }
-
--- the number of an int, after `-` or not
-pub number_after : (negative : Bool) (next : Int → Rest) (after : Ahead)
-    → (if negative then from (ANumber true next) after else from (ANumber false next) after) ≡ from (ANumber negative next) after
-number_after true next after = refl
-number_after false next after = refl
-
--- a code without `-`
-pub code_follows : (next : Code → Rest) (ps : List Placed) → is_next (token.Mark mark.Minus) ps ≡ false → Follows (ACode next) (code_in false) next ps
-code_follows next ps differs = record {
-  steps = λ p qs is. ap (λ (b : Bool). if b then Some (CodeNumber next) else before next (code_in false p.token))
-      (ap (is_next (token.Mark mark.Minus)) (sym is) ∙ differs);
-  endless = refl;
-}
+-- fewer tokens remain after one
+pub fewer : {A : Type 0} (f : Token → Option A) (a : A) (ps : List Placed) (after : Ahead) → next_value f ps ≡ Some (a, after) → length after.tokens < length ps
+fewer f a ps after is = at_first f a (λ qs on. length on.tokens < length qs) (λ p qs value. omega arith) ps after is
 
 -- where each token with the value a also has the value b, taking a takes b
-pub taken_as : {A B : Type 0} (f : Token → Option A) (g : Token → Option B) (a : A) (b : B) → ((t : Token) → f t ≡ Some a → g t ≡ Some b)
+taken_as : {A B : Type 0} (f : Token → Option A) (g : Token → Option B) (a : A) (b : B) → ((t : Token) → f t ≡ Some a → g t ≡ Some b)
     → (ps : List Placed) (after : Ahead) → next_value f ps ≡ Some (a, after) → next_value g ps ≡ Some (b, after)
 taken_as f g a b same ps after is =
     at_first f a (λ qs on. next_value g qs ≡ Some (b, on))
     (λ p qs value. ap (with_rest (record { tokens = qs; past = p.after })) (same p.token value)) ps after is
 
--- ---- a given word or mark
+-- ---- names
 
-module _ (u : Token) (this other : Rest) (past : ℕ) where
-  pub chosen : (p : Placed) (ps : List Placed) → is_token p.token u ≡ true
-      → from (Or u this other) (record { tokens = p ∷ ps; past = past }) ≡ from this (record { tokens = ps; past = p.after })
-  unfolding follow
-  chosen p ps same =
-      ap (λ (b : Bool). follow (ok_or (if b then Some (Before this) else step_from other p.token) p.column) p.column p.after ps) same
-      ∙ from_any this p.column p.after ps
+letter_name : (t : Token) (n : ℕ) → letter_in t ≡ Some n → name_in t ≡ Some (Register n)
+letter_name (token.Letter m) n is = ap (λ k. Some (Register k)) (same_Some m n is)
+letter_name t n is = absurd (none-some n is)
 
-  pub not_chosen : (ps : List Placed) → is_next u ps ≡ false
-      → from (Or u this other) (record { tokens = ps; past = past }) ≡ from other (record { tokens = ps; past = past })
-  unfolding follow
-  not_chosen [] differs = refl
-  not_chosen (p ∷ ps) differs =
-      ap (λ (b : Bool). follow (ok_or (if b then Some (Before this) else step_from other p.token) p.column) p.column p.after ps) differs
+pub letter_taken : (ps : List Placed) (n : ℕ) (after : Ahead) → next_value letter_in ps ≡ Some (n, after) → next_value name_in ps ≡ Some (Register n, after)
+letter_taken ps n after is = taken_as letter_in name_in n (Register n) (λ t. letter_name t n) ps after is
 
-  pub here : (ps : List Placed) (after : Ahead) → is_next u ps ≡ true → after_first ps ≡ Some after
-      → from (One u this) (record { tokens = ps; past = past }) ≡ from this after
-  unfolding follow
-  here [] after none is = absurd (false≢true none)
-  here (p ∷ ps) after same is =
-      ap (λ (b : Bool). follow (ok_or (if b then Some (Before this) else None) p.column) p.column p.after ps) same
-      ∙ from_any this p.column p.after ps ∙ ap (from this) (same_Some (record { tokens = ps; past = p.after }) after is)
+pub current_taken : (ps : List Placed) (after : Ahead) → next_value (this_in (token.Word word.CurrentPicture)) ps ≡ Some (tt, after)
+    → next_value name_in ps ≡ Some (Current, after)
+current_taken ps after is =
+    taken_as (this_in (token.Word word.CurrentPicture)) name_in tt Current (λ t this. ap name_in (this_only (token.Word word.CurrentPicture) t this)) ps after is
 
-  pub not_here : (ps : List Placed) → is_next u ps ≡ false → from (One u this) (record { tokens = ps; past = past }) ≡ Err (column_of ps past)
-  unfolding follow
-  not_here [] differs = refl
-  not_here (p ∷ ps) differs = ap (λ (b : Bool). follow (ok_or (if b then Some (Before this) else None) p.column) p.column p.after ps) differs
+no_name : (t : Token) → this_in (token.Word word.CurrentPicture) t ≡ None → letter_in t ≡ None → name_in t ≡ None
+no_name (token.Word word.CurrentPicture) other none = absurd (none-some tt (sym other))
+no_name (token.Letter n) other none = absurd (none-some n (sym none))
+no_name t other none = refl
 
--- a token that must come was passed, or is not next
-module _ (u : Token) (old new : Tokens) (passes : Bool)
-    (read : (this other : Rest) → from (Or u this other) (ahead old) ≡ (if passes then from this (ahead new) else from other (ahead new)))
-    (took : TakesToken u old new passes) (this : Rest) where
-  pub passed : passes ≡ true → from (One u this) (ahead old) ≡ from this (ahead new)
-  passed is = here u this this old.column (remaining_tokens old) (ahead new) (sym took.next ∙ is) (took.after_is is)
+pub no_name_taken : (ps : List Placed) → next_value (this_in (token.Word word.CurrentPicture)) ps ≡ None → next_value letter_in ps ≡ None
+    → next_value name_in ps ≡ None
+no_name_taken [] other none = refl
+no_name_taken (p ∷ ps) other none =
+    ap (with_rest (record { tokens = ps; past = p.after })) (no_name p.token (lacks (this_in (token.Word word.CurrentPicture)) p ps other) (lacks letter_in p ps none))
 
-  pub missed : passes ≡ false → (fault : SyntaxFault) → fault.column ≡ column_of (remaining_tokens new) new.column
-      → from (One u this) (ahead old) ≡ Err fault.column
-  missed is fault column_is =
-      not_here u this this old.column (remaining_tokens old) (sym took.next ∙ is)
-      ∙ ap (λ (t : Tokens). Err (column_of (remaining_tokens t) t.column)) (sym (took.same is)) ∙ ap Err (sym column_is)
+-- a given name is the next token exactly where it is the name that the token is
+pub this_name : (name : Name) (ps : List Placed) (after : Ahead) → next_value name_in ps ≡ Some (name, after)
+    → next_value (this_in (name_token name)) ps ≡ Some (tt, after)
+this_name name ps after is = taken_as name_in (this_in (name_token name)) name tt (λ t. named t name) ps after is
+
+pub other_name : (name : Name) (old after : Tokens) (r : Option Name) → TakesValue name_in old after r
+    → (r ≡ Some name → ⊥) → TakesValue (this_in (name_token name)) old old None
+other_name name old after r took other = (by_this (next_value (this_in (name_token name)) (remaining_tokens old)) refl, refl) where
+  taken_is : (r : Option Name) → TakesValue name_in old after r → (v : Ahead) → next_value name_in (remaining_tokens old) ≡ Some (name, v) → r ≡ Some name
+  taken_is None none v is = absurd (none-some (name, v) (sym none.0 ∙ is))
+  taken_is (Some x) some v is = ap (λ (w : Name × Ahead). Some w.0) (same_Some (x, ahead after) (name, v) (sym some ∙ is))
+
+  by_this : (v : Option (Unit {0} × Ahead)) → next_value (this_in (name_token name)) (remaining_tokens old) ≡ v → v ≡ None
+  by_this None is = refl
+  by_this (Some (tt, v)) is = absurd (other (taken_is r took v
+      (taken_as (this_in (name_token name)) name_in tt name (λ t this. ap name_in (this_only (name_token name) t this) ∙ name_of name) (remaining_tokens old) v is)))
 
 -- ---- the end of a line
 
@@ -169,126 +188,56 @@ unfolding follow
 line_goes_on line past [] some = absurd (some refl)
 line_goes_on line past (p ∷ ps) some = refl
 
--- ---- a name, where one may come
-
-pub name_chosen : (this : Name → Rest) (other : Rest) (past : ℕ) (ps : List Placed) (name : Name) (after : Ahead) → next_value name_in ps ≡ Some (name, after)
-    → from (OrName this other) (record { tokens = ps; past = past }) ≡ from (this name) after
-unfolding follow
-name_chosen this other past ps name after is =
-    at_first name_in name (λ qs on. from (OrName this other) (record { tokens = qs; past = past }) ≡ from (this name) on) (λ p qs value.
-    ap (λ (v : Option Name). follow (ok_or (option_or (before this v) (step_from other p.token)) p.column) p.column p.after qs) value
-    ∙ from_any (this name) p.column p.after qs) ps after is
-
-pub name_not_chosen : (this : Name → Rest) (other : Rest) (past : ℕ) (ps : List Placed) → next_value name_in ps ≡ None
-    → from (OrName this other) (record { tokens = ps; past = past }) ≡ from other (record { tokens = ps; past = past })
-unfolding follow
-name_not_chosen this other past [] is = refl
-name_not_chosen this other past (p ∷ ps) is =
-    ap (λ (v : Option Name). follow (ok_or (option_or (before this v) (step_from other p.token)) p.column) p.column p.after ps) (lacks name_in p ps is)
-
-pub current_taken : (ps : List Placed) (after : Ahead) → is_next (token.Word word.CurrentPicture) ps ≡ true
-    → after_first ps ≡ Some after → next_value name_in ps ≡ Some (Current, after)
-current_taken [] after is after_is = absurd (false≢true is)
-current_taken (p ∷ ps) after is after_is =
-    ap (λ t. with_rest (record { tokens = ps; past = p.after }) (name_in t)) (token_is p.token (token.Word word.CurrentPicture) is)
-    ∙ ap (λ (a : Ahead). Some (Current, a)) (same_Some (record { tokens = ps; past = p.after }) after after_is)
-
--- a letter is a name
-letter_name : (t : Token) (n : ℕ) → letter_in t ≡ Some n → name_in t ≡ Some (Register n)
-letter_name (token.Letter m) n is = ap (λ k. Some (Register k)) (same_Some m n is)
-letter_name t n is = absurd (none-some n is)
-
-pub letter_taken : (ps : List Placed) (n : ℕ) (after : Ahead) → next_value letter_in ps ≡ Some (n, after) → next_value name_in ps ≡ Some (Register n, after)
-letter_taken ps n after is = taken_as letter_in name_in n (Register n) (λ t. letter_name t n) ps after is
-
-no_name : (t : Token) → is_token t (token.Word word.CurrentPicture) ≡ false → letter_in t ≡ None → name_in t ≡ None
-no_name (token.Word word.CurrentPicture) other none = absurd (false≢true (sym other))
-no_name (token.Letter n) other none = absurd (none-some n (sym none))
-no_name t other none = refl
-
-pub no_name_taken : (ps : List Placed) → is_next (token.Word word.CurrentPicture) ps ≡ false → next_value letter_in ps ≡ None → next_value name_in ps ≡ None
-no_name_taken [] other none = refl
-no_name_taken (p ∷ ps) other none = ap (with_rest (record { tokens = ps; past = p.after })) (no_name p.token other (lacks letter_in p ps none))
-
--- a token that is this name is the token of the name
-name_is : (t : Token) (name : Name) → name_in t ≡ Some name → t ≡ name_token name
-name_is (token.Word word.CurrentPicture) name is = ap name_token (same_Some Current name is)
-name_is (token.Letter n) name is = ap name_token (same_Some (Register n) name is)
-name_is t name is = absurd (none-some name is)
-
-name_of : (name : Name) → name_in (name_token name) ≡ Some name
-name_of Current = refl
-name_of (Register n) = refl
-
--- a name that is taken is passed as this name
-pub name_passed : (name : Name) (this : Rest) (past : ℕ) (ps : List Placed) (after : Ahead) → next_value name_in ps ≡ Some (name, after)
-    → from (One (name_token name) this) (record { tokens = ps; past = past }) ≡ from this after
-name_passed name this past ps after is =
-    at_first name_in name (λ qs on. from (One (name_token name) this) (record { tokens = qs; past = past }) ≡ from this on) (λ p qs value.
-    here (name_token name) this this past (p ∷ qs) (record { tokens = qs; past = p.after })
-    (ap (λ u. is_token u (name_token name)) (name_is p.token name value) ∙ same_token (name_token name)) refl) ps after is
-
--- a name that is not taken as this name is not next
-pub name_missed : (name : Name) (old after : Tokens) (r : Option Name) → TakesValue name_in old after r
-    → (r ≡ Some name → ⊥) → is_next (name_token name) (remaining_tokens old) ≡ false
-name_missed name old after r took other = differs (remaining_tokens old) (λ v is. other (taken_is r took v is)) where
-  taken_is : (r : Option Name) → TakesValue name_in old after r → (v : Ahead) → next_value name_in (remaining_tokens old) ≡ Some (name, v) → r ≡ Some name
-  taken_is None none v is = absurd (none-some (name, v) (sym none.0 ∙ is))
-  taken_is (Some x) some v is = ap (λ (w : Name × Ahead). Some w.0) (same_Some (x, ahead after) (name, v) (sym some ∙ is))
-
-  differs : (ps : List Placed) → ((v : Ahead) → next_value name_in ps ≡ Some (name, v) → ⊥) → is_next (name_token name) ps ≡ false
-  differs [] never = refl
-  differs (p ∷ ps) never = elim (cases_Bool (is_token p.token (name_token name))) [
-    | inr not_same ↦ not_same
-    | inl same ↦ absurd (never (record { tokens = ps; past = p.after })
-        (ap (λ t. with_rest (record { tokens = ps; past = p.after }) (name_in t))
-        (token_is p.token (name_token name) same) ∙ ap (with_rest (record { tokens = ps; past = p.after })) (name_of name)))
-  ]
-
 -- ---- the number of a code after its `-`
 
--- what a line gives at the `-` of a code
-pub at_minus : (next : Code → Rest) (past : ℕ) (ps : List Placed) (after : Ahead) → is_next (token.Mark mark.Minus) ps ≡ true → after_first ps ≡ Some after
-    → from (ACode next) (record { tokens = ps; past = past }) ≡ follow (Ok (CodeNumber next)) (column_of ps past) after.past after.tokens
+-- what a line gives at the `-` of a code, if it is there
+abbrev on_minus : (Code → Rest) → ℕ → Result Line ℕ → Option (Unit {0} × Ahead) → Result Line ℕ
+on_minus next first otherwise None = otherwise
+on_minus next first otherwise (Some (one, after)) = follow (Ok (CodeNumber next)) first after.past after.tokens
+
+minus_read : (next : Code → Rest) (other : Rest) (past : ℕ) (ps : List Placed) → from (MinusCode next other) (record { tokens = ps; past = past })
+    ≡ on_minus next (column_of ps past) (from other (record { tokens = ps; past = past })) (next_value (this_in (token.Mark mark.Minus)) ps)
 unfolding follow
-at_minus next past [] after same is = absurd (none-some after is)
-at_minus next past (p ∷ ps) after same is =
-    ap (λ (b : Bool). follow (ok_or (if b then Some (CodeNumber next) else before next (code_in false p.token)) p.column) p.column p.after ps) same
-    ∙ ap (λ (a : Ahead). follow (Ok (CodeNumber next)) p.column a.past a.tokens) (same_Some (record { tokens = ps; past = p.after }) after is)
+minus_read next other past [] = refl
+minus_read next other past (p ∷ ps) = by_value (this_in (token.Mark mark.Minus) p.token) where
+  by_value : (v : Option (Unit {0})) → follow (ok_or (option_or (option_map (λ _. CodeNumber next) v) (step_from other p.token)) p.column) p.column p.after ps
+      ≡ on_minus next p.column (follow (ok_or (step_from other p.token) p.column) p.column p.after ps) (with_rest (record { tokens = ps; past = p.after }) v)
+  by_value None = refl
+  by_value (Some one) = refl
 
-module _ (next : Code → Rest) (first past : ℕ) where
-  -- a number is reported at the `-`, and any other token where it is
-  shown_number : (t : Token) (n column : ℕ) → value_in t ≡ Some n → report_column (CodeNumber next) t first column ≡ first
-  shown_number (token.Number m) n column is = refl
-  shown_number t n column is = absurd (none-some n is)
+pub minus_passed : (next : Code → Rest) (other : Rest) (old new : Tokens) → TakesToken (token.Mark mark.Minus) old new true
+    → from (MinusCode next other) (ahead old)
+    ≡ follow (Ok (CodeNumber next)) (column_of (remaining_tokens old) old.column) new.column (remaining_tokens new)
+minus_passed next other old new took =
+    minus_read next other old.column (remaining_tokens old)
+    ∙ ap (on_minus next (column_of (remaining_tokens old) old.column) (from other (ahead old))) took
 
-  shown_other : (t : Token) (column : ℕ) → value_in t ≡ None → (code_in true t ≡ None) × (report_column (CodeNumber next) t first column ≡ column)
-  shown_other (token.Number m) column is = absurd (none-some m (sym is))
-  shown_other t column is = (refl, refl)
+pub minus_missed : (next : Code → Rest) (other : Rest) (old new : Tokens) → TakesToken (token.Mark mark.Minus) old new false
+    → from (MinusCode next other) (ahead old) ≡ from other (ahead old)
+minus_missed next other old new took =
+    minus_read next other old.column (remaining_tokens old)
+    ∙ ap (on_minus next (column_of (remaining_tokens old) old.column) (from other (ahead old))) took.0
 
-  pub code_read : (ps : List Placed) (code : Code) (after : Ahead) → next_value (code_in true) ps ≡ Some (code, after)
-      → follow (Ok (CodeNumber next)) first past ps ≡ from (next code) after
-  unfolding follow
-  code_read ps code after is =
-      at_first (code_in true) code (λ qs on. follow (Ok (CodeNumber next)) first past qs ≡ from (next code) on) (λ p qs value.
-      ap (λ (v : Option Code). follow (ok_or (before next v) (report_column (CodeNumber next) p.token first p.column)) p.column p.after qs) value
-      ∙ from_any (next code) p.column p.after qs) ps after is
+-- a number is reported at the `-`, and any other token where it is
+abbrev pub on_number : ℕ → ℕ → Option (ℕ × Ahead) → Result Line ℕ
+on_number first column None = Err column
+on_number first column (Some n) = Err first
 
-  pub code_bad : (ps : List Placed) (n : ℕ) (after : Ahead) → next_value (code_in true) ps ≡ None
-      → next_value value_in ps ≡ Some (n, after) → follow (Ok (CodeNumber next)) first past ps ≡ Err first
-  unfolding follow
-  code_bad ps n after none is =
-      at_first value_in n (λ qs on. next_value (code_in true) qs ≡ None → follow (Ok (CodeNumber next)) first past qs ≡ Err first) (λ p qs value lacking.
-      ap (λ (v : Option Code). follow (ok_or (before next v) (report_column (CodeNumber next) p.token first p.column)) p.column p.after qs)
-      (lacks (code_in true) p qs lacking) ∙ ap Err (shown_number p.token n p.column value)) ps after is none
+pub number_read : (next : Code → Rest) (first past : ℕ) (ps : List Placed) → follow (Ok (CodeNumber next)) first past ps
+    ≡ on_value next (on_number first (column_of ps past) (next_value value_in ps)) (next_value (value (Codes true)) ps)
+unfolding follow
+number_read next first past [] = refl
+number_read next first past (p ∷ ps) = by_token p.token where
+  by_code : (v : Option Code) → follow (ok_or (before next v) first) p.column p.after ps
+      ≡ on_value next (Err first) (with_rest (record { tokens = ps; past = p.after }) v)
+  by_code None = refl
+  by_code (Some code) = from_any (next code) p.column p.after ps
 
-  pub code_missing : (ps : List Placed) → next_value value_in ps ≡ None → follow (Ok (CodeNumber next)) first past ps ≡ Err (column_of ps past)
-  unfolding follow
-  code_missing [] none = refl
-  code_missing (p ∷ ps) none =
-      let other = shown_other p.token p.column (lacks value_in p ps none) in
-      ap (λ (v : Option Code). follow (ok_or (before next v) (report_column (CodeNumber next) p.token first p.column)) p.column p.after ps) other.0
-      ∙ ap Err other.1
+  by_token : (t : Token) → follow (ok_or (before next (value (Codes true) t)) (report_column (CodeNumber next) t first p.column)) p.column p.after ps
+      ≡ on_value next (on_number first p.column (with_rest (record { tokens = ps; past = p.after }) (value_in t)))
+      (with_rest (record { tokens = ps; past = p.after }) (value (Codes true) t))
+  by_token (token.Number n) = by_code (value (Codes true) (token.Number n))
+  by_token t = refl
 
 -- ---- the corners of a path
 

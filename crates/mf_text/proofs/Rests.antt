@@ -1,13 +1,84 @@
--- The rests of lines: what is spelled is read, each rest can be ended by some tokens, and the number of a code after its `-`.
-use Rattle.std.proofs.Common.{◌≡◌, ℕ, zero, suc, Bool, true, false, List, [], ◌∷◌, ◌++◌, Option, Some, None, if◌then◌else◌, refl, sym, ap, subst, ◌∙◌, append_assoc, append-nil, flat_map}
-use Rattle.std.specs.Option.{option_and_then}
+-- The rests of lines: the tokens that they take, that each line can be read, and that each rest can be ended.
+use Rattle.std.proofs.Common.{◌≡◌, inl, inr, ℕ, zero, suc, Bool, true, false, List, [], ◌∷◌, ◌++◌, Option, Some, None, refl, sym, ap, subst, ◌∙◌, append_assoc, append-nil}
+use Rattle.std.specs.Option.{option_and_then, option_or}
+use Rattle.std.proofs.lemmas.Bool.{cases_Bool}
+use Rattle.std.proofs.lemmas.Option.{none-some, same_Some}
 use Rattle.mf_text.specs.declared.token.Mark.TheVariants as mark
 use Rattle.mf_text.specs.Token as token
 use Rattle.mf_text.specs.declared.token.Word.TheVariants as word
-use Rattle.mf_text.specs.Grammar.{Line, Path, spell_int, spell_code, spell_pair, spell_name, spell_source, spell_corner, spell_path, spell_signed, Sign, Code, Name, Current, Register, Source, Null, Named, Int, Pair, Form, Nothing, AddContour, AddPicture, CullKeeping, CullDropping, Clear, Move, ShowTotal, ShowPicture, ShowProof, ShipOut, SetCheck, PublishAll, Transform, Shifted, Scaled, XScaled, YScaled, Rotated, spell_form, spell_end, spell_line, spell_weight, spell_transform, Plus, Minus, Word}
-use Rattle.mf_text.specs.Rests.{Rest, Ends, One, Or, AName, OrName, ANumber, ACode, Corners, Place, Before, CodeNumber, before, corner, ends, if_token, int, pair, path, source, step, step_from, Token, code_of, int_of, addto, assignment, cull, line, line_end, name_token, of_int, of_range, of_source, shipout, show, transform, turning_check, weighable}
-use Rattle.mf_text.proofs.ReadInts.{int_of-back, code_of-back}
-use Rattle.mf_text.proofs.Words.{same_token}
+use Rattle.mf_text.specs.Grammar.{Line, Path, Code, Name, Current, Register, Source, Null, Named, Int, Pair, Form, Nothing, AddContour, AddPicture, CullKeeping, CullDropping, Clear, Move, ShowTotal, ShowPicture, ShowProof, ShipOut, SetCheck, PublishAll, Shifted, Scaled, XScaled, YScaled, Rotated, Transform, Sign, Plus, Minus}
+use Rattle.mf_text.specs.Rests.{Kind, Of, This, Names, Numbers, Codes, Rest, Ends, Take, OrTake, MinusCode, Corners, One, Or, ACode, Place, Before, CodeNumber, before, corner, ends, inner, int, pair, path, source, step, step_from, value, Token, code_of, int_of, line, line_end, name_token, assignment, of_int, of_source, transform, weighable, name_in, this_in}
+use Rattle.mf_text.specs.Token.{is_token}
+use Rattle.mf_text.proofs.ReadInts.{int_of-back, int_of-is, code_of-back, code_of-is}
+use Rattle.mf_text.proofs.Words.{same_token, token_is}
+
+-- ---- tokens of a kind
+
+-- the token of a kind that says this
+abbrev pub token_of : (k : Kind) → Of k → Token
+token_of (This u) a = u
+token_of Names name = name_token name
+token_of (Numbers negative) n = token.Number n.magnitude
+token_of (Codes negative) c = token.Number c.int.magnitude
+
+-- a number has the sign that its kind says
+abbrev pub HasSign : (k : Kind) → Of k → Type 0
+HasSign (This u) a = Unit {0}
+HasSign Names name = Unit {0}
+HasSign (Numbers negative) n = n.negative ≡ negative
+HasSign (Codes negative) c = c.int.negative ≡ negative
+
+this_same : (u : Token) → this_in u u ≡ Some tt
+this_same u = rw (same_token u) refl
+
+pub this_only : (u t : Token) → this_in u t ≡ Some tt → t ≡ u
+this_only u t is = elim (cases_Bool (is_token t u)) [
+  | inl same ↦ token_is t u same
+  | inr other ↦ (let none : this_in u t ≡ None = rw other refl in absurd (none-some tt (sym none ∙ is)))
+]
+
+pub name_of : (name : Name) → name_in (name_token name) ≡ Some name
+name_of Current = refl
+name_of (Register n) = refl
+
+name_is : (t : Token) (name : Name) → name_in t ≡ Some name → t ≡ name_token name
+name_is (token.Word word.CurrentPicture) name is = ap name_token (same_Some Current name is)
+name_is (token.Letter n) name is = ap name_token (same_Some (Register n) name is)
+name_is t name is = absurd (none-some name is)
+
+pub named : (t : Token) (name : Name) → name_in t ≡ Some name → this_in (name_token name) t ≡ Some tt
+named t name is = ap (this_in (name_token name)) (name_is t name is) ∙ this_same (name_token name)
+
+value_back : (k : Kind) (a : Of k) → HasSign k a → value k (token_of k a) ≡ Some a
+value_back (This u) a sign = this_same u
+value_back Names name sign = name_of name
+value_back (Numbers negative) n sign = ap (λ b. int_of b n.magnitude) (sym sign) ∙ int_of-back n
+value_back (Codes negative) c sign =
+    ap (λ b. option_and_then code_of (int_of b c.int.magnitude)) (sym sign) ∙ ap (option_and_then code_of) (int_of-back c.int) ∙ code_of-back c
+
+-- a token says this
+pub record Says (k : Kind) (t : Token) (a : Of k) : Type 0 where
+  pub sign : HasSign k a
+  pub is : t ≡ token_of k a
+
+code_says : (negative : Bool) (m : ℕ) (c : Code) (i : Option Int) → int_of negative m ≡ i → option_and_then code_of i ≡ Some c
+    → Says (Codes negative) (token.Number m) c
+code_says negative m c None of is = absurd (none-some c is)
+code_says negative m c (Some n) of is =
+    let number = int_of-is negative m n of in
+    let same = code_of-is n c is in
+    record { sign = ap (λ (i : Int). i.negative) same ∙ number.0; is = ap token.Number (sym (ap (λ (i : Int). i.magnitude) same ∙ number.1)) }
+
+pub value_is : (k : Kind) (t : Token) (a : Of k) → value k t ≡ Some a → Says k t a
+value_is (This u) t a is = record { sign = tt; is = this_only u t is }
+value_is Names t name is = record { sign = tt; is = name_is t name is }
+value_is (Numbers negative) (token.Number m) n is =
+    let number = int_of-is negative m n is in record { sign = number.0; is = ap token.Number (sym number.1) }
+value_is (Numbers negative) t n is = absurd (none-some n is)
+value_is (Codes negative) (token.Number m) c is = code_says negative m c (int_of negative m) refl is
+value_is (Codes negative) t c is = absurd (none-some c is)
+
+-- ---- each line can be read
 
 -- the line that these tokens are read as from a place, if there is one
 unfoldable pub reads : Option Place → List Token → Option Line
@@ -15,204 +86,123 @@ reads None ts = None
 reads (Some p) [] = ends p
 reads (Some p) (t ∷ ts) = reads (step p t) ts
 
--- ---- what is spelled is read
+-- from a place, some tokens are read as this line
+pub record Reaches (p : Place) (l : Line) : Type 0 where
+  pub tokens : List Token
+  pub read : reads (Some p) tokens ≡ Some l
 
--- these tokens lead from one rest to another
-pub record Leads (r : Rest) (ts : List Token) (s : Rest) : Type 0 where
-  pub by : (us : List Token) → reads (Some (Before r)) (ts ++ us) ≡ reads (Some (Before s)) us
-
-pub on : {r s q : Rest} {ts us : List Token} → Leads r ts s → Leads s us q → Leads r (ts ++ us) q
-on {r} {s} {q} {ts} {us} first second = record { by = λ vs. ap (reads (Some (Before r))) (append_assoc ts us vs) ∙ first.by (us ++ vs) ∙ second.by vs }
-
-pub if_same : (u : Token) (this : Rest) (other : Option Place) → if_token u u this other ≡ Some (Before this)
-if_same u this other = ap (λ b. if b then Some (Before this) else other) (same_token u)
-
-pub one_read : (u : Token) (this : Rest) → Leads (One u this) (u ∷ []) this
+on : {p q : Place} {l : Line} (t : Token) → step p t ≡ Some q → Reaches q l → Reaches p l
 unfolding reads
-one_read u this = record { by = λ us. ap (λ p. reads p us) (if_same u this None) }
+on t is after = record { tokens = t ∷ after.tokens; read = ap (λ s. reads s after.tokens) is ∙ after.read }
 
-pub or_read : (u : Token) (this other : Rest) → Leads (Or u this other) (u ∷ []) this
+abbrev To : Rest → Line → Type 0
+To r l = Reaches (Before r) l
+
+one_to : {u : Token} {this : Rest} {l : Line} → To this l → To (One u this) l
+one_to {u} {this} after = on u (ap (before (λ _. this)) (this_same u)) after
+
+or_to : {u : Token} {this other : Rest} {l : Line} → To this l → To (Or u this other) l
+or_to {u} {this} {other} after = on u (ap (λ v. option_or (before (λ _. this) v) (step_from other u)) (this_same u)) after
+
+take_to : {k : Kind} {next : Of k → Rest} {l : Line} (a : Of k) → HasSign k a → To (next a) l → To (Take k next) l
+take_to {k} {next} a sign after = on (token_of k a) (ap (before next) (value_back k a sign)) after
+
+source_to : {next : Source → Rest} {l : Source → Line} → ((s : Source) → To (next s) (l s)) → (s : Source) → To (source next) (l s)
+source_to each Null = or_to (each Null)
+source_to each (Named Current) = on (token.Word word.CurrentPicture) refl (each (Named Current))
+source_to each (Named (Register n)) = on (token.Letter n) refl (each (Named (Register n)))
+
+int_to : {next : Int → Rest} {l : Line} (n : Int) → To (next n) l → To (int next) l
+int_to {next} n after = elim (cases_Bool n.negative) [
+  | inl is ↦ or_to (take_to n is after)
+  | inr is ↦ on (token.Number n.magnitude) (ap (before next) (value_back (Numbers false) n is)) after
+]
+
+code_to : {next : Code → Rest} {l : Line} (c : Code) → To (next c) l → To (ACode next) l
+code_to {next} c after = elim (cases_Bool c.int.negative) [
+  | inl is ↦ on (token.Mark mark.Minus) refl (on {p = CodeNumber next} (token.Number c.int.magnitude) (ap (before next) (value_back (Codes true) c is)) after)
+  | inr is ↦ on (token.Number c.int.magnitude) (ap (before next) (value_back (Codes false) c is)) after
+]
+
+inner_to : {next : Pair → Rest} {l : Pair → Line} → ((p : Pair) → To (next p) (l p)) → (p : Pair) → To (inner next) (l p)
+inner_to each p = int_to p.across (one_to (int_to p.up (one_to (each p))))
+
+corner_to : {next : Pair → Rest} {l : Pair → Line} → ((p : Pair) → To (next p) (l p)) → (p : Pair) → To (corner next) (l p)
+corner_to each p = inner_to (λ q. one_to {u = token.Mark mark.Join} (each q)) p
+
+corners_to : (next : Path → Rest) (l : Path → Line) (each : (p : Path) → To (next p) (l p)) (first : Pair) (others more : List Pair)
+    → To (Corners first others next) (l (record { first = first; others = others ++ more }))
+corners_to next l each first others [] =
+    subst (λ ps. To (Corners first others next) (l (record { first = first; others = ps }))) (sym (append-nil others))
+    (on (token.Word word.Cycle) refl (each (record { first = first; others = others })))
+corners_to next l each first others (p ∷ ps) =
+    subst (λ qs. To (Corners first others next) (l (record { first = first; others = qs }))) (append_assoc others (p ∷ []) ps)
+    (on (token.Mark mark.Open) refl (corner_to (λ q. corners_to next l each first (others ++ q ∷ []) ps) p))
+
+path_to : {next : Path → Rest} {l : Path → Line} → ((p : Path) → To (next p) (l p)) → (p : Path) → To (path next) (l p)
+path_to {next} {l} each p = one_to (corner_to (λ first. corners_to next l each first [] p.others) p.first)
+
+end_to : (form : Form) (ended : Bool) → To (line_end form) (record { form = form; ended = ended })
 unfolding reads
-or_read u this other = record { by = λ us. ap (λ p. reads p us) (if_same u this (step_from other u)) }
+end_to form true = or_to (record { tokens = []; read = refl })
+end_to form false = record { tokens = []; read = refl }
 
-pub name_read : (next : Name → Rest) (name : Name) → Leads (AName next) (spell_name name) (next name)
+weight_to : (form : Option Int → Form) (w : Option Int) (ended : Bool) → To (weighable form) (record { form = form w; ended = ended })
 unfolding reads
-name_read next Current = record { by = λ us. refl }
-name_read next (Register letter) = record { by = λ us. refl }
+weight_to form None true = on (token.Mark mark.Semicolon) refl (record { tokens = []; read = refl })
+weight_to form None false = record { tokens = []; read = refl }
+weight_to form (Some n) ended = or_to (int_to n (end_to (form (Some n)) ended))
 
-pub source_read : (next : Source → Rest) (s : Source) → Leads (source next) (spell_source s) (next s)
+-- after a name, `:=` and the same name
+again_to : (name : Name) {l : Line} → To (transform name) l → To (assignment name) l
+again_to Current after = one_to (on (token.Word word.CurrentPicture) refl after)
+again_to (Register n) after =
+    one_to (on (token.Letter n) (ap (before (λ _. transform (Register n))) (this_same (token.Letter n))) after)
+
+assignment_to : (name : Name) {l : Line} → To (assignment name) l → To line l
+assignment_to Current after = on (token.Word word.CurrentPicture) refl after
+assignment_to (Register n) after = on (token.Letter n) refl after
+
+motion_to : (name : Name) (motion : Transform) (ended : Bool) → To (transform name) (record { form = Move name motion; ended = ended })
+motion_to name (Shifted by) ended = or_to (one_to (inner_to (λ p. end_to (Move name (Shifted p)) ended) by))
+motion_to name (Scaled n) ended = on (token.Word word.Scaled) refl (int_to n (end_to _ ended))
+motion_to name (XScaled n) ended = on (token.Word word.XScaled) refl (int_to n (end_to _ ended))
+motion_to name (YScaled n) ended = on (token.Word word.YScaled) refl (int_to n (end_to _ ended))
+motion_to name (Rotated n) ended = on (token.Word word.Rotated) refl (int_to n (end_to _ ended))
+
+form_to : (form : Form) (ended : Bool) → To line (record { form = form; ended = ended })
 unfolding reads
-source_read next Null = record { by = λ us. refl }
-source_read next (Named Current) = record { by = λ us. refl }
-source_read next (Named (Register letter)) = record { by = λ us. refl }
+form_to Nothing true = on (token.Mark mark.Semicolon) refl (record { tokens = []; read = refl })
+form_to Nothing false = record { tokens = []; read = refl }
+form_to (AddContour name p w) ended = or_to (take_to name tt (or_to (path_to (λ q. weight_to (AddContour name q) w ended) p)))
+form_to (AddPicture name sign s) ended = or_to (take_to name tt (on (token.Word word.Also) refl (by_sign sign s))) where
+  by_sign : (g : Sign) (s : Source) → To (Or (token.Mark mark.Minus) (of_source (AddPicture name Minus)) (of_source (AddPicture name Plus)))
+      (record { form = AddPicture name g s; ended = ended })
+  by_sign Minus s = or_to (source_to (λ t. end_to (AddPicture name Minus t) ended) s)
+  by_sign Plus Null = on (token.Word word.NullPicture) refl (end_to _ ended)
+  by_sign Plus (Named Current) = on (token.Word word.CurrentPicture) refl (end_to _ ended)
+  by_sign Plus (Named (Register n)) = on (token.Letter n) refl (end_to _ ended)
+form_to (CullKeeping name range w) ended =
+    on (token.Word word.Cull) refl (take_to name tt (or_to (one_to (inner_to (λ p. weight_to (CullKeeping name p) w ended) range))))
+form_to (CullDropping name range w) ended =
+    on (token.Word word.Cull) refl (take_to name tt (on (token.Word word.Dropping) refl (one_to (inner_to (λ p. weight_to (CullDropping name p) w ended) range))))
+form_to (Clear name) ended = assignment_to name (one_to (or_to (end_to _ ended)))
+form_to (Move name motion) ended = assignment_to name (again_to name (motion_to name motion ended))
+form_to (ShowTotal s) ended = on (token.Word word.Show) refl (or_to (source_to (λ t. end_to (ShowTotal t) ended) s))
+form_to (ShowPicture Null) ended = on (token.Word word.Show) refl (on (token.Word word.NullPicture) refl (end_to _ ended))
+form_to (ShowPicture (Named Current)) ended = on (token.Word word.Show) refl (on (token.Word word.CurrentPicture) refl (end_to _ ended))
+form_to (ShowPicture (Named (Register n))) ended = on (token.Word word.Show) refl (on (token.Letter n) refl (end_to _ ended))
+form_to (ShowProof s) ended = on (token.Word word.Proof) refl (source_to (λ t. end_to (ShowProof t) ended) s)
+form_to (ShipOut s code dx width) ended =
+    on (token.Word word.Shipout) refl (source_to after_source s) where
+      after_source : (t : Source) → To (One (token.Word word.Code) (ACode (λ c. One (token.Word word.Dx) (int (λ x. One (token.Word word.Width) (of_int (ShipOut t c x)))))))
+          (record { form = ShipOut t code dx width; ended = ended })
+      after_source t = one_to (code_to code (one_to (int_to dx (one_to (int_to width (end_to _ ended))))))
+form_to (SetCheck n) ended = on (token.Word word.TurningCheck) refl (one_to (int_to n (end_to _ ended)))
+form_to PublishAll ended = on (token.Word word.Publish) refl (end_to _ ended)
 
-signed_read : (next : Int → Rest) (negative : Bool) (n : ℕ) (us : List Token)
-    → reads (Some (Before (int next))) ((if negative then token.Mark mark.Minus ∷ token.Number n ∷ [] else token.Number n ∷ []) ++ us)
-    ≡ reads (before next (int_of negative n)) us
-unfolding reads
-signed_read next true n us = refl
-signed_read next false n us = refl
-
-pub int_read : (next : Int → Rest) (n : Int) → Leads (int next) (spell_int n) (next n)
-int_read next n = record { by = λ us. signed_read next n.negative n.magnitude us ∙ ap (λ i. reads (before next i) us) (int_of-back n) }
-
-signed_code_read : (next : Code → Rest) (negative : Bool) (n : ℕ) (us : List Token)
-    → reads (Some (Before (ACode next))) ((if negative then token.Mark mark.Minus ∷ token.Number n ∷ [] else token.Number n ∷ []) ++ us)
-    ≡ reads (before next (option_and_then code_of (int_of negative n))) us
-unfolding reads
-signed_code_read next true n us = refl
-signed_code_read next false n us = refl
-
-pub code_read : (next : Code → Rest) (code : Code) → Leads (ACode next) (spell_code code) (next code)
-code_read next code = record {
-  by = λ us.
-      signed_code_read next code.int.negative code.int.magnitude us ∙ ap (λ i. reads (before next (option_and_then code_of i)) us) (int_of-back code.int)
-      ∙ ap (λ c. reads (before next c) us) (code_of-back code);
-}
-
-pub pair_read : (next : Pair → Rest) (p : Pair) → Leads (pair next) (spell_pair p) (next p)
-pair_read next p = on (on (on (on (one_read _ _) (int_read _ p.across)) (one_read _ _)) (int_read _ p.up)) (one_read _ _)
-
-corner_read : (next : Pair → Rest) (p : Pair) → Leads (One (token.Mark mark.Open) (corner next)) (spell_corner p) (next p)
-corner_read next p = on (pair_read (λ q. One (token.Mark mark.Join) (next q)) p) (one_read _ _)
-
-abbrev one_more : Pair → List Pair → (Path → Rest) → Pair → Rest
-one_more first others next p = Corners first (others ++ p ∷ []) next
-
-next_corner_read : (first : Pair) (others : List Pair) (next : Path → Rest) (p : Pair)
-    → Leads (Corners first others next) (spell_corner p) (one_more first others next p)
-unfolding reads
-next_corner_read first others next p = record { by = (corner_read (one_more first others next) p).by }
-
-corners_read : (first : Pair) (others : List Pair) (next : Path → Rest) (ps : List Pair)
-    → Leads (Corners first others next) (flat_map spell_corner ps) (Corners first (others ++ ps) next)
-corners_read first others next [] = record { by = λ us. ap (λ all. reads (Some (Before (Corners first all next))) us) (sym (append-nil others)) }
-corners_read first others next (p ∷ ps) =
-    subst (λ all. Leads (Corners first others next) (flat_map spell_corner (p ∷ ps)) (Corners first all next)) (append_assoc others (p ∷ []) ps)
-    (on (next_corner_read first others next p) (corners_read first (others ++ p ∷ []) next ps))
-
-cycle_read : (first : Pair) (others : List Pair) (next : Path → Rest)
-    → Leads (Corners first others next) (token.Word word.Cycle ∷ []) (next (record { first = first; others = others }))
-unfolding reads
-cycle_read first others next = record { by = λ us. refl }
-
-pub path_read : (next : Path → Rest) (p : Path) → Leads (path next) (spell_path p) (next p)
-path_read next p = on (on (corner_read (λ first. Corners first [] next) p.first) (corners_read p.first [] next p.others)) (cycle_read p.first p.others next)
-
--- ---- each line is read as itself
-
--- the line that these tokens are read as, if there is one
-abbrev read_line : List Token → Option Line
-read_line ts = reads (Some (Before line)) ts
-
-end_read : (form : Form) (ended : Bool) → reads (Some (Before (line_end form))) (spell_end ended) ≡ Some (record { form = form; ended = ended })
-unfolding reads
-end_read form true = refl
-end_read form false = refl
-
-line_end_read : (form : Form) (ended : Bool) (ts : List Token) → Leads line ts (line_end form)
-    → read_line (ts ++ spell_end ended) ≡ Some (record { form = form; ended = ended })
-line_end_read form ended ts leads = leads.by (spell_end ended) ∙ end_read form ended
-
-weight_end_read : (form : Option Int → Form) (n : Option Int) (ended : Bool)
-    → reads (Some (Before (weighable form))) (spell_weight n ++ spell_end ended) ≡ Some (record { form = form n; ended = ended })
-unfolding reads
-weight_end_read form None true = refl
-weight_end_read form None false = refl
-weight_end_read form (Some n) ended =
-    ap (reads (Some (Before (weighable form)))) (append_assoc (token.Word word.WithWeight ∷ []) (spell_int n) (spell_end ended))
-    ∙ (int_read (λ i. line_end (form (Some i))) n).by (spell_end ended) ∙ end_read (form (Some n)) ended
-
-weighed_read : (form : Option Int → Form) (n : Option Int) (ended : Bool) (ts : List Token) → Leads line ts (weighable form)
-    → read_line ((ts ++ spell_weight n) ++ spell_end ended) ≡ Some (record { form = form n; ended = ended })
-weighed_read form n ended ts leads =
-    ap read_line (append_assoc ts (spell_weight n) (spell_end ended)) ∙ leads.by (spell_weight n ++ spell_end ended) ∙ weight_end_read form n ended
-
--- ---- choices
-
-choice_read : (r s : Rest) (t : Token) → step_from r t ≡ Some (Before s) → Leads r (t ∷ []) s
-unfolding reads
-choice_read r s t is = record { by = λ us. ap (λ p. reads p us) is }
-
-assignment_read : (name : Name) → Leads line (spell_name name) (assignment name)
-assignment_read Current = choice_read _ _ (token.Word word.CurrentPicture) refl
-assignment_read (Register letter) = choice_read _ _ (token.Letter letter) refl
-
-signed_source_read : (name : Name) (sign : Sign) (s : Source)
-    → Leads (Or (token.Mark mark.Minus) (of_source (AddPicture name Minus)) (of_source (AddPicture name Plus))) (spell_signed sign s)
-    (line_end (AddPicture name sign s))
-signed_source_read name Minus s = on (or_read _ _ _) (source_read (λ p. line_end (AddPicture name Minus p)) s)
-signed_source_read name Plus Null = choice_read _ _ (token.Word word.NullPicture) refl
-signed_source_read name Plus (Named Current) = choice_read _ _ (token.Word word.CurrentPicture) refl
-signed_source_read name Plus (Named (Register letter)) = choice_read _ _ (token.Letter letter) refl
-
-show_read : (s : Source) → Leads show (spell_source s) (line_end (ShowPicture s))
-show_read Null = choice_read _ _ (token.Word word.NullPicture) refl
-show_read (Named Current) = choice_read _ _ (token.Word word.CurrentPicture) refl
-show_read (Named (Register letter)) = choice_read _ _ (token.Letter letter) refl
-
-again_read : (name : Name)
-    → Leads (Or (token.Word word.NullPicture) (line_end (Clear name)) (One (name_token name) (transform name))) (spell_name name) (transform name)
-again_read Current = choice_read _ _ (token.Word word.CurrentPicture) refl
-again_read (Register letter) = choice_read _ _ (token.Letter letter) (if_same (token.Letter letter) (transform (Register letter)) None)
-
-word_read : (w : Word) (r s : Rest) → step_from r (token.Word w) ≡ Some (Before s) → Leads r (token.Word w ∷ []) s
-word_read w r s is = choice_read r s (token.Word w) is
-
-again_name_read : (name : Name) → Leads line ((spell_name name ++ token.Mark mark.Becomes ∷ []) ++ spell_name name) (transform name)
-again_name_read name = on (on (assignment_read name) (one_read _ _)) (again_read name)
-
--- ---- forms
-
-motion_read : (name : Name) (motion : Transform) → Leads (transform name) (spell_transform motion) (line_end (Move name motion))
-motion_read name (Shifted by) =
-    let next : Pair → Rest = λ p. line_end (Move name (Shifted p)) in on (word_read word.Shifted (transform name) (pair next) refl) (pair_read next by)
-motion_read name (Scaled n) = on (word_read word.Scaled (transform name) (of_int (λ i. Move name (Scaled i))) refl) (int_read _ n)
-motion_read name (XScaled n) = on (word_read word.XScaled (transform name) (of_int (λ i. Move name (XScaled i))) refl) (int_read _ n)
-motion_read name (YScaled n) = on (word_read word.YScaled (transform name) (of_int (λ i. Move name (YScaled i))) refl) (int_read _ n)
-motion_read name (Rotated n) = on (word_read word.Rotated (transform name) (of_int (λ i. Move name (Rotated i))) refl) (int_read _ n)
-
--- the rest of a line that ships a character, after its code
-abbrev after_code : Source → Code → Rest
-after_code s code = One (token.Word word.Dx) (int (λ dx. One (token.Word word.Width) (of_int (ShipOut s code dx))))
-
-form_read : (form : Form) (ended : Bool) → read_line (spell_form form ++ spell_end ended) ≡ Some (record { form = form; ended = ended })
-unfolding reads
-form_read Nothing true = refl
-form_read Nothing false = refl
-form_read (AddContour name p weight) ended =
-    weighed_read (AddContour name p) weight ended _
-    (on (on (on (word_read word.Addto line addto refl) (name_read _ name)) (word_read word.Contour _ _ refl)) (path_read _ p))
-form_read (AddPicture name sign s) ended =
-    line_end_read _ ended _
-    (on (on (on (word_read word.Addto line addto refl) (name_read _ name)) (word_read word.Also _ _ refl)) (signed_source_read name sign s))
-form_read (CullKeeping name range weight) ended =
-    weighed_read (CullKeeping name range) weight ended _
-    (on (on (on (word_read word.Cull line cull refl) (name_read _ name)) (word_read word.Keeping _ (of_range (CullKeeping name)) refl))
-    (pair_read (λ p. weighable (CullKeeping name p)) range))
-form_read (CullDropping name range weight) ended =
-    weighed_read (CullDropping name range) weight ended _
-    (on (on (on (word_read word.Cull line cull refl) (name_read _ name)) (word_read word.Dropping _ (of_range (CullDropping name)) refl))
-    (pair_read (λ p. weighable (CullDropping name p)) range))
-form_read (Clear name) ended = line_end_read _ ended _ (on (on (assignment_read name) (one_read _ _)) (or_read _ _ _))
-form_read (Move name motion) ended = line_end_read _ ended _ (on (again_name_read name) (motion_read name motion))
-form_read (ShowTotal s) ended =
-    line_end_read _ ended _ (on (on (word_read word.Show line show refl) (or_read _ _ _)) (source_read (λ p. line_end (ShowTotal p)) s))
-form_read (ShowPicture s) ended = line_end_read _ ended _ (on (word_read word.Show line show refl) (show_read s))
-form_read (ShowProof s) ended =
-    line_end_read _ ended _ (on (word_read word.Proof line (of_source ShowProof) refl) (source_read (λ p. line_end (ShowProof p)) s))
-form_read (ShipOut s code dx width) ended =
-    line_end_read _ ended _
-    (on (on (on (on (on (on (on (word_read word.Shipout line shipout refl)
-    (source_read (λ p. One (token.Word word.Code) (ACode (λ c. after_code p c))) s)) (one_read _ _))
-    (code_read (after_code s) code)) (one_read _ _)) (int_read (λ n. One (token.Word word.Width) (of_int (ShipOut s code n))) dx))
-    (one_read _ _)) (int_read (λ n. line_end (ShipOut s code dx n)) width))
-form_read (SetCheck n) ended =
-    line_end_read _ ended _ (on (on (word_read word.TurningCheck line turning_check refl) (one_read _ _)) (int_read (λ i. line_end (SetCheck i)) n))
-form_read PublishAll ended = line_end_read _ ended _ (word_read word.Publish line (line_end PublishAll) refl)
-
-pub line_read : (l : Line) → read_line (spell_line l) ≡ Some l
-line_read l = form_read l.form l.ended
+pub line_to : (l : Line) → Reaches (Before line) l
+line_to l = form_to l.form l.ended
 
 -- ---- each rest can be ended by some tokens
 
@@ -220,26 +210,38 @@ line_read l = form_read l.form l.ended
 abbrev pub GoesOn : Option Place → List Token → Type 0
 GoesOn p ts = (rest : List Token) × ((tree : Line) × (reads p (ts ++ rest) ≡ Some tree))
 
--- a place can be ended if the place after one more token can
-further : (p : Place) (t : Token) (q : Place) → step p t ≡ Some q → GoesOn (Some q) [] → GoesOn (Some p) []
-unfolding reads
-further p t q is (rest, (tree, read)) = (t ∷ rest, (tree, ap (λ s. reads s rest) is ∙ read))
+-- some token is of a kind
+some_value : (k : Kind) → (t : Token) × ((a : Of k) × (value k t ≡ Some a))
+unfolding int_of code_of
+some_value (This u) = (u, (tt, this_same u))
+some_value Names = (token.Letter 0, (Register 0, refl))
+some_value (Numbers negative) = (token.Number 0, (_, refl))
+some_value (Codes true) = (token.Number 0, (_, refl))
+some_value (Codes false) = (token.Number 0, (_, refl))
 
-rest_ends : (r : Rest) → GoesOn (Some (Before r)) []
-unfolding reads int_of code_of
-rest_ends (Ends l) = ([], (l, refl))
-rest_ends (One u this) = further (Before (One u this)) u (Before this) (if_same u this None) (rest_ends this)
-rest_ends (Or u this other) = further (Before (Or u this other)) u (Before this) (if_same u this (step_from other u)) (rest_ends this)
-rest_ends (AName next) = further (Before (AName next)) (token.Word word.CurrentPicture) (Before (next Current)) refl (rest_ends (next Current))
-rest_ends (OrName next other) = further (Before (OrName next other)) (token.Word word.CurrentPicture) (Before (next Current)) refl (rest_ends (next Current))
-rest_ends (ANumber negative next) = further (Before (ANumber negative next)) (token.Number 0) _ refl (rest_ends (next _))
-rest_ends (ACode next) = further (Before (ACode next)) (token.Number 0) _ refl (rest_ends (next _))
-rest_ends (Corners first others next) = further (Before (Corners first others next)) (token.Word word.Cycle) _ refl (rest_ends (next _))
+rest_ends : (r : Rest) → (l : Line) × To r l
+unfolding reads
+rest_ends (Ends l) = (l, record { tokens = []; read = refl })
+rest_ends (One u this) = let end = rest_ends this in (end.0, one_to end.1)
+rest_ends (Or u this other) = let end = rest_ends this in (end.0, or_to end.1)
+rest_ends (Take k next) = let some = some_value k in let end = rest_ends (next some.1.0) in (end.0, on some.0 (ap (before next) some.1.1) end.1)
+rest_ends (OrTake k next other) =
+    let some = some_value k in
+    let end = rest_ends (next some.1.0) in
+    (end.0, on some.0 (ap (λ v. option_or (before next v) (step_from other some.0)) some.1.1) end.1)
+rest_ends (MinusCode next other) =
+    let some = some_value (Codes true) in
+    let end = rest_ends (next some.1.0) in
+    (end.0, on (token.Mark mark.Minus) refl (on {p = CodeNumber next} some.0 (ap (before next) some.1.1) end.1))
+rest_ends (Corners first others next) = let end = rest_ends (next (record { first = first; others = others })) in (end.0, on (token.Word word.Cycle) refl end.1)
 
 pub place_ends : (p : Place) → GoesOn (Some p) []
-unfolding int_of code_of
-place_ends (Before r) = rest_ends r
-place_ends (CodeNumber next) = further (CodeNumber next) (token.Number 0) _ refl (rest_ends (next _))
+place_ends (Before r) = let end = rest_ends r in (end.1.tokens, (end.0, end.1.read))
+place_ends (CodeNumber next) =
+    let some = some_value (Codes true) in
+    let end = rest_ends (next some.1.0) in
+    let on_to : Reaches (CodeNumber next) end.0 = on some.0 (ap (before next) some.1.1) end.1 in
+    (on_to.tokens, (end.0, on_to.read))
 
 -- ---- the number of a code after its `-`
 

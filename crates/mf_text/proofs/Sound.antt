@@ -1,18 +1,15 @@
 -- Tokens that are read as a line are the spelling of that line.
-use Rattle.std.proofs.Common.{◌≡◌, ℕ, zero, suc, ◌+◌, Bool, true, false, List, [], ◌∷◌, ◌++◌, length, Option, Some, None, nat_lt, refl, sym, ap, subst, ◌∙◌, append_assoc, append-nil, flat_map, length-append, arith}
-use Rattle.std.specs.Option.{IfSome, option_and_then, option_or}
-use Rattle.std.proofs.lemmas.Bool.{cond_both, false≢true}
+use Rattle.std.proofs.Common.{◌≡◌, ℕ, zero, suc, ◌+◌, Bool, true, false, List, [], ◌∷◌, ◌++◌, length, Option, Some, None, refl, sym, ap, subst, ◌∙◌, append_assoc, append-nil, flat_map, length-append, arith}
+use Rattle.std.specs.Option.{IfSome, option_map, option_or}
+use Rattle.std.proofs.lemmas.Bool.{false≢true}
 use Rattle.std.proofs.lemmas.Option.{none-some, same_Some}
 use Rattle.mf_text.specs.declared.token.Mark.TheVariants as mark
 use Rattle.mf_text.specs.Token as token
 use Rattle.mf_text.specs.declared.token.Word.TheVariants as word
-use Rattle.mf_text.specs.Codes.{code_of, byte_code}
 use Rattle.mf_text.specs.Grammar.{Form, Nothing, AddContour, AddPicture, CullKeeping, CullDropping, Clear, Move, ShowTotal, ShowPicture, ShowProof, ShipOut, SetCheck, PublishAll, Shifted, Scaled, XScaled, YScaled, Rotated, Line, Path, spell_form, spell_weight, spell_int, spell_code, spell_pair, spell_name, spell_source, spell_corner, spell_path, spell_line, Plus, Minus, Code, Name, Current, Register, Source, Null, Named, Int, Pair}
-use Rattle.mf_text.specs.Ints.{int_of, short_int, is_byte}
-use Rattle.mf_text.specs.Rests.{Rest, Ends, One, Or, AName, OrName, ANumber, ACode, Corners, Place, Before, CodeNumber, before, code_in, corner, end_of, ends, if_token, inner, int, number_in, pair, path, source, step, step_from, assignment, line, line_end, name_token, transform, weighable, Token, is_token, name_in}
+use Rattle.mf_text.specs.Rests.{Kind, Of, This, Names, Codes, Rest, Ends, Take, OrTake, MinusCode, Corners, One, Or, ACode, Place, Before, CodeNumber, before, corner, end_of, ends, if_kind, inner, int, pair, path, source, step, step_from, assignment, line, line_end, name_token, this_in, transform, value, weighable, Token}
 use Rattle.mf_text.specs.Syntax.{is_negative_code}
-use Rattle.mf_text.proofs.Rests.{is_code_number, is_code_number_at, reads}
-use Rattle.mf_text.proofs.Words.{token_is}
+use Rattle.mf_text.proofs.Rests.{HasSign, token_of, this_only, value_is, is_code_number, is_code_number_at, reads}
 
 -- `shipout`, a source and `code`
 abbrev to_code : Token → List Token
@@ -23,10 +20,11 @@ abbrev Spells : List Token → Rest → Type 0
 Spells past (Ends l) = spell_line l ≡ past
 Spells past (One u this) = Spells (past ++ u ∷ []) this
 Spells past (Or u this other) = Spells (past ++ u ∷ []) this × Spells past other
-Spells past (AName next) = (name : Name) → Spells (past ++ spell_name name) (next name)
-Spells past (OrName next other) = ((name : Name) → Spells (past ++ spell_name name) (next name)) × Spells past other
-Spells past (ANumber negative next) = (n : Int) → n.negative ≡ negative → Spells (past ++ token.Number n.magnitude ∷ []) (next n)
-Spells past (ACode next) = ((s : Token) × (past ≡ to_code s)) × ((c : Code) → Spells (past ++ spell_code c) (next c))
+Spells past (Take k next) = (a : Of k) → HasSign k a → Spells (past ++ token_of k a ∷ []) (next a)
+Spells past (OrTake k next other) = ((a : Of k) → HasSign k a → Spells (past ++ token_of k a ∷ []) (next a)) × Spells past other
+Spells past (MinusCode next other) =
+    (((s : Token) × (past ≡ to_code s)) × ((c : Code) → c.int.negative ≡ true → Spells ((past ++ token.Mark mark.Minus ∷ []) ++ token.Number c.int.magnitude ∷ []) (next c)))
+    × Spells past other
 Spells past (Corners first others next) =
     (more : List Pair) → Spells (past ++ (flat_map spell_corner more ++ token.Word word.Cycle ∷ [])) (next (record { first = first; others = others ++ more }))
 
@@ -39,55 +37,28 @@ SpellsAt past (CodeNumber next) =
 
 -- ---- a step
 
-token_step : (past : List Token) (t u : Token) (this : Rest) (other : Option Place) → Spells (past ++ u ∷ []) this
-    → IfSome other (SpellsAt (past ++ t ∷ [])) → IfSome (if_token t u this other) (SpellsAt (past ++ t ∷ []))
-token_step past t u this other first second =
-    cond_both (is_token t u) (Some (Before this)) other (λ o. IfSome o (SpellsAt (past ++ t ∷ [])))
-    (λ same. subst (λ v. Spells (past ++ v ∷ []) this) (sym (token_is t u same)) first) (λ _. second)
+-- after a token of a kind
+value_step : (past : List Token) (k : Kind) (next : Of k → Rest) (t : Token) (v : Option (Of k)) → value k t ≡ v
+    → ((a : Of k) → HasSign k a → Spells (past ++ token_of k a ∷ []) (next a)) → IfSome (before next v) (SpellsAt (past ++ t ∷ []))
+value_step past k next t None is spells = tt
+value_step past k next t (Some a) is spells =
+    let says = value_is k t a is in subst (λ u. Spells (past ++ u ∷ []) (next a)) (sym says.is) (spells a says.sign)
 
-value_step : {A : Type 0} (past : List Token) (next : A → Rest) (a : Option A) → IfSome a (λ x. Spells past (next x))
-    → IfSome (before next a) (SpellsAt past)
-value_step past next None spells = tt
-value_step past next (Some x) spells = spells
+-- or in another way
+or_step : (past : List Token) (one other : Option Place) → IfSome one (SpellsAt past) → IfSome other (SpellsAt past) → IfSome (option_or one other) (SpellsAt past)
+or_step past None other first second = second
+or_step past (Some p) other first second = first
 
-name_step : (past : List Token) (next : Name → Rest) (other : Option Place) (t : Token) → ((name : Name) → Spells (past ++ spell_name name) (next name))
-    → IfSome other (SpellsAt (past ++ t ∷ [])) → IfSome (option_or (before next (name_in t)) other) (SpellsAt (past ++ t ∷ []))
-name_step past next other (token.Word word.CurrentPicture) spells second = spells Current
-name_step past next other (token.Letter n) spells second = spells (Register n)
-name_step past next other t spells second = second
+kind_step : (past : List Token) (k : Kind) (next : Of k → Rest) (t : Token) (other : Option Place)
+    → ((a : Of k) → HasSign k a → Spells (past ++ token_of k a ∷ []) (next a)) → IfSome other (SpellsAt (past ++ t ∷ []))
+    → IfSome (if_kind k next t other) (SpellsAt (past ++ t ∷ []))
+kind_step past k next t other spells second =
+    or_step (past ++ t ∷ []) (before next (value k t)) other (value_step past k next t (value k t) refl spells) second
 
--- what the int of a number has, if it has nine digits at most
-if_int : (P : Int → Type 0) (negative : Bool) (k : ℕ) → ((n : Int) → n.negative ≡ negative → n.magnitude ≡ k → P n) → IfSome (int_of negative k) P
-unfolding int_of
-if_int P negative k has = by_short (nat_lt k 1000000000) refl where
-  by_short : (short : Bool) (is : nat_lt k 1000000000 ≡ short) → IfSome (short_int negative k short is) P
-  by_short true is = has _ refl refl
-  by_short false is = tt
-
-if_code : (P : Code → Type 0) (n : Option Int) → IfSome n (λ i. (c : Code) → c.int ≡ i → P c) → IfSome (option_and_then code_of n) P
-unfolding code_of
-if_code P None has = tt
-if_code P (Some n) has = by_byte (is_byte n) refl where
-  by_byte : (byte : Bool) (is : is_byte n ≡ byte) → IfSome (byte_code n byte is) P
-  by_byte true is = has _ refl
-  by_byte false is = tt
-
-number_step : (past : List Token) (negative : Bool) (next : Int → Rest) (t : Token)
-    → ((n : Int) → n.negative ≡ negative → Spells (past ++ token.Number n.magnitude ∷ []) (next n))
-    → IfSome (before next (number_in negative t)) (SpellsAt (past ++ t ∷ []))
-number_step past negative next (token.Number k) spells =
-    value_step _ next (int_of negative k)
-    (if_int _ negative k (λ n sign size. subst (λ m. Spells (past ++ token.Number m ∷ []) (next n)) size (spells n sign)))
-number_step past negative next t spells = tt
-
-code_step : (past : List Token) (negative : Bool) (next : Code → Rest) (t : Token)
-    → ((c : Code) → c.int.negative ≡ negative → Spells (past ++ token.Number c.int.magnitude ∷ []) (next c))
-    → IfSome (before next (code_in negative t)) (SpellsAt (past ++ t ∷ []))
-code_step past negative next (token.Number k) spells =
-    value_step _ next (option_and_then code_of (int_of negative k)) (if_code _ (int_of negative k) (if_int _ negative k (λ n sign size c is.
-    subst (λ m. Spells (past ++ token.Number m ∷ []) (next c)) (ap (λ (i : Int). i.magnitude) is ∙ size)
-    (spells c (ap (λ (i : Int). i.negative) is ∙ sign)))))
-code_step past negative next t spells = tt
+minus_step : (past : List Token) (next : Code → Rest) (t : Token) (v : Option (Unit {0})) → this_in (token.Mark mark.Minus) t ≡ v
+    → SpellsAt (past ++ token.Mark mark.Minus ∷ []) (CodeNumber next) → IfSome (option_map (λ _. CodeNumber next) v) (SpellsAt (past ++ t ∷ []))
+minus_step past next t None is spells = tt
+minus_step past next t (Some one) is spells = subst (λ u. SpellsAt (past ++ u ∷ []) (CodeNumber next)) (sym (this_only (token.Mark mark.Minus) t is)) spells
 
 -- ---- phrases
 
@@ -98,21 +69,22 @@ record Sound (past : List Token) (r : Rest) : Type 0 where
 sound_at : {past other : List Token} {r : Rest} → past ≡ other → Sound past r → Sound other r
 sound_at {r = r} is sound = subst (λ ts. Sound ts r) is sound
 
-sound_as : {past : List Token} {r s : Rest} → r ≡ s → Sound past r → Sound past s
-sound_as {past} is sound = subst (Sound past) is sound
-
 sound_one : {past : List Token} {u : Token} {this : Rest} → Sound (past ++ u ∷ []) this → Sound past (One u this)
 sound_one this = record { by = this.by }
 
 sound_or : {past : List Token} {u : Token} {this other : Rest} → Sound (past ++ u ∷ []) this → Sound past other → Sound past (Or u this other)
 sound_or this other = record { by = (this.by, other.by) }
 
-sound_name : {past : List Token} {next : Name → Rest} → ((name : Name) → Sound (past ++ spell_name name) (next name)) → Sound past (AName next)
-sound_name each = record { by = λ name. (each name).by }
+name_tokens : (past : List Token) (name : Name) → past ++ spell_name name ≡ past ++ name_token name ∷ []
+name_tokens past Current = refl
+name_tokens past (Register letter) = refl
+
+sound_name : {past : List Token} {next : Name → Rest} → ((name : Name) → Sound (past ++ spell_name name) (next name)) → Sound past (Take Names next)
+sound_name {past} each = record { by = λ name _. (sound_at (name_tokens past name) (each name)).by }
 
 sound_or_name : {past : List Token} {next : Name → Rest} {other : Rest} → ((name : Name) → Sound (past ++ spell_name name) (next name))
-    → Sound past other → Sound past (OrName next other)
-sound_or_name each other = record { by = (λ name. (each name).by, other.by) }
+    → Sound past other → Sound past (OrTake Names next other)
+sound_or_name each other = record { by = ((sound_name each).by, other.by) }
 
 sound_source : {past : List Token} {next : Source → Rest} → ((s : Source) → Sound (past ++ spell_source s) (next s)) → Sound past (source next)
 sound_source each = sound_or (each Null) (sound_name (λ name. each (Named name)))
@@ -128,6 +100,12 @@ plain_tokens past n is = rw is refl
 sound_int : {past : List Token} {next : Int → Rest} → ((n : Int) → Sound (past ++ spell_int n) (next n)) → Sound past (int next)
 sound_int {past} each = record {
   by = (λ n is. (sound_at (minus_tokens past n is) (each n)).by, λ n is. (sound_at (plain_tokens past n is) (each n)).by);
+}
+
+sound_code : {past : List Token} {next : Code → Rest} → ((s : Token) × (past ≡ to_code s)) → ((c : Code) → Sound (past ++ spell_code c) (next c))
+    → Sound past (ACode next)
+sound_code {past} place each = record {
+  by = ((place, λ c is. (sound_at (minus_tokens past c.int is) (each c)).by), λ c is. (sound_at (plain_tokens past c.int is) (each c)).by);
 }
 
 pair_tokens : (past a b : List Token) (begin comma close : Token)
@@ -163,7 +141,7 @@ module _ (past : List Token) (first : Pair) (others : List Pair) (next : Path �
   one_more : Sound (past ++ token.Mark mark.Open ∷ []) (corner (λ p. Corners first (others ++ p ∷ []) next))
   one_more = sound_corner past (λ p. Corners first (others ++ p ∷ []) next) (λ p. record {
     by = λ more.
-        (sound_as (ap (λ ps. next (record { first = first; others = ps })) (sym (append_assoc others (p ∷ []) more)))
+        (subst (λ ps. Sound ((past ++ spell_corner p) ++ (flat_map spell_corner more ++ token.Word word.Cycle ∷ [])) (next (record { first = first; others = ps }))) (sym (append_assoc others (p ∷ []) more))
         (sound_at (path_tokens past (spell_corner p) (flat_map spell_corner more) (token.Word word.Cycle ∷ [])) (record { by = spells (p ∷ more) }))).by;
   })
 
@@ -175,35 +153,30 @@ module _ (past : List Token) (first : Pair) (others : List Pair) (next : Path �
 
 rest_step : (past : List Token) (r : Rest) (t : Token) → Spells past r → IfSome (step_from r t) (SpellsAt (past ++ t ∷ []))
 rest_step past (Ends l) t spells = tt
-rest_step past (One u this) t spells = token_step past t u this None spells tt
-rest_step past (Or u this other) t spells = token_step past t u this (step_from other t) spells.0 (rest_step past other t spells.1)
-rest_step past (AName next) t spells = either_none (before next (name_in t)) (name_step past next None t spells tt) where
-  either_none : (o : Option Place) → IfSome (option_or o None) (SpellsAt (past ++ t ∷ [])) → IfSome o (SpellsAt (past ++ t ∷ []))
-  either_none None is = tt
-  either_none (Some p) is = is
-rest_step past (OrName next other) t spells = name_step past next (step_from other t) t spells.0 (rest_step past other t spells.1)
-rest_step past (ANumber negative next) t spells = number_step past negative next t spells
-rest_step past (ACode next) t spells =
-    cond_both (is_token t (token.Mark mark.Minus)) (Some (CodeNumber next)) (before next (code_in false t)) (λ o. IfSome o (SpellsAt (past ++ t ∷ [])))
-    (λ same. subst (λ v. SpellsAt (past ++ v ∷ []) (CodeNumber next)) (sym (token_is t (token.Mark mark.Minus) same)) (
-      (spells.0.0, ap (λ ts. ts ++ token.Mark mark.Minus ∷ []) spells.0.1),
-      λ c is. subst (λ ts. Spells ts (next c)) (minus_tokens past c.int is) (spells.1 c),
-    ))
-    (λ _. code_step past false next t (λ c is. subst (λ ts. Spells ts (next c)) (plain_tokens past c.int is) (spells.1 c)))
+rest_step past (One u this) t spells = value_step past (This u) (λ _. this) t (value (This u) t) refl (λ _ _. spells)
+rest_step past (Or u this other) t spells = kind_step past (This u) (λ _. this) t (step_from other t) (λ _ _. spells.0) (rest_step past other t spells.1)
+rest_step past (Take k next) t spells = value_step past k next t (value k t) refl spells
+rest_step past (OrTake k next other) t spells = kind_step past k next t (step_from other t) spells.0 (rest_step past other t spells.1)
+rest_step past (MinusCode next other) t spells =
+    or_step (past ++ t ∷ []) (option_map (λ _. CodeNumber next) (this_in (token.Mark mark.Minus) t)) (step_from other t)
+    (minus_step past next t (this_in (token.Mark mark.Minus) t) refl
+    ((spells.0.0.0, ap (λ ts. ts ++ token.Mark mark.Minus ∷ []) spells.0.0.1), spells.0.1))
+    (rest_step past other t spells.1)
 rest_step past (Corners first others next) t spells =
-    token_step past t (token.Mark mark.Open) _ _ (one_more past first others next spells).by
-    (token_step past t (token.Word word.Cycle) _ None (no_more past first others next spells) tt)
+    kind_step past (This (token.Mark mark.Open)) _ t _ (λ _ _. (one_more past first others next spells).by)
+    (value_step past (This (token.Word word.Cycle)) _ t (value (This (token.Word word.Cycle)) t) refl (λ _ _. no_more past first others next spells))
 
 place_step : (past : List Token) (p : Place) (t : Token) → SpellsAt past p → IfSome (step p t) (SpellsAt (past ++ t ∷ []))
 place_step past (Before r) t spells = rest_step past r t spells
-place_step past (CodeNumber next) t spells = code_step past true next t spells.1
+place_step past (CodeNumber next) t spells = value_step past (Codes true) next t (value (Codes true) t) refl spells.1
 
 end_spelled : (past : List Token) (p : Place) (l : Line) → SpellsAt past p → ends p ≡ Some l → spell_line l ≡ past
 end_spelled past (Before r) l spells is = by_rest r spells is where
   by_rest : (s : Rest) → Spells past s → end_of s ≡ Some l → spell_line l ≡ past
   by_rest (Ends m) spells is = ap spell_line (sym (same_Some m l is)) ∙ spells
   by_rest (Or u this other) spells is = by_rest other spells.1 is
-  by_rest (OrName next other) spells is = by_rest other spells.1 is
+  by_rest (OrTake k next other) spells is = by_rest other spells.1 is
+  by_rest (MinusCode next other) spells is = by_rest other spells.1 is
   by_rest s spells is = absurd (none-some l is)
 end_spelled past (CodeNumber next) l spells is = absurd (none-some l is)
 
@@ -268,23 +241,15 @@ sound_transform name =
     (sound_or (sound_int (λ n. sound_end (Move name (YScaled n)) (tokens _ (spell_int n))))
     (sound_one (sound_int (λ n. sound_end (Move name (Rotated n)) (tokens _ (spell_int n))))))))
 
-again_token : (past : List Token) (name : Name) → past ++ spell_name name ≡ past ++ name_token name ∷ []
-again_token past Current = refl
-again_token past (Register letter) = refl
-
 sound_assignment : (name : Name) → Sound (spell_name name) (assignment name)
 sound_assignment name =
-    sound_one (sound_or (sound_end (Clear name) refl) (sound_one (sound_at (again_token _ name) (sound_transform name))))
+    sound_one (sound_or (sound_end (Clear name) refl) (sound_one (sound_at (name_tokens _ name) (sound_transform name))))
 
 -- a source is one token
 source_token : (s : Source) → (t : Token) × (token.Word word.Shipout ∷ [] ++ spell_source s ++ token.Word word.Code ∷ [] ≡ to_code t)
 source_token Null = (token.Word word.NullPicture, refl)
 source_token (Named Current) = (token.Word word.CurrentPicture, refl)
 source_token (Named (Register letter)) = (token.Letter letter, refl)
-
-sound_code : {past : List Token} {next : Code → Rest} → ((s : Token) × (past ≡ to_code s)) → ((c : Code) → Sound (past ++ spell_code c) (next c))
-    → Sound past (ACode next)
-sound_code is each = record { by = (is, λ c. (each c).by) }
 
 sound_line : Sound [] line
 sound_line =

@@ -1,12 +1,12 @@
 -- What the reader of a line does: it passes a phrase, or finds the column at which the line goes wrong.
-use Rattle.std.specs.Prelude.{◌≡◌, ◌≤◌, ◌<◌, ℕ, length, Bool, true, false, List, [], ◌∷◌, Option, None, Some, Result, Ok, Err}
+use Rattle.std.specs.Prelude.{◌≡◌, ◌≤◌, ◌<◌, ℕ, length, Bool, false, List, [], ◌∷◌, Option, None, Some, Result, Ok, Err, if◌then◌else◌}
 use Rattle.mf_text.specs.declared.fault.TextFault.TheVariants.{Syntax}
 use Rattle.mf_text.specs.declared.fault.SyntaxFault.{SyntaxFault}
 use Rattle.mf_text.specs.declared.tokens.Tokens.{Tokens}
 use Rattle.mf_text.specs.declared.path.Path as paths
 use Rattle.mf_text.specs.Grammar.{Form, Line, Path, path_value, Name, Point}
 use Rattle.mf_text.specs.Meaning.{IsAnswerOf, Command, TextFault}
-use Rattle.mf_text.specs.Rests.{Rest, path, from, line_end, Ahead, Token, Placed, is_token}
+use Rattle.mf_text.specs.Rests.{Rest, path, from, line_end, Ahead, Token, Placed, this_in}
 use Rattle.mf_text.specs.Tokens.{tokens_from}
 
 -- the tokens of a line that remain to be read
@@ -20,22 +20,6 @@ ahead t = record { tokens = remaining_tokens t; past = t.column }
 -- no more tokens remain after than before
 abbrev pub IsWithin : Tokens → Tokens → Type 0
 IsWithin after before = length (remaining_tokens after) ≤ length (remaining_tokens before)
-
--- the next token is this one
-abbrev pub is_next : Token → List Placed → Bool
-is_next t [] = false
-is_next t (p ∷ ps) = is_token p.token t
-
--- what is ahead after the next token
-abbrev pub after_first : List Placed → Option Ahead
-after_first [] = None
-after_first (p ∷ ps) = Some (record { tokens = ps; past = p.after })
-
--- this token was passed where it is the next one, and otherwise nothing was
-pub record TakesToken (t : Token) (before after : Tokens) (was_next : Bool) : Type 0 where
-  pub next : was_next ≡ is_next t (remaining_tokens before)
-  pub after_is : was_next ≡ true → after_first (remaining_tokens before) ≡ Some (ahead after)
-  pub same : was_next ≡ false → after ≡ before
 
 -- a value, if there is one, and what is ahead after it
 abbrev pub with_rest : {A : Type 0} → Ahead → Option A → Option (A × Ahead)
@@ -52,6 +36,10 @@ abbrev pub TakesValue : {A : Type 0} → (Token → Option A) → Tokens → Tok
 TakesValue f before after None = (next_value f (remaining_tokens before) ≡ None) × (after ≡ before)
 TakesValue f before after (Some a) = next_value f (remaining_tokens before) ≡ Some (a, ahead after)
 
+-- this token was passed where it is the next one, and otherwise nothing was
+abbrev pub TakesToken : Token → Tokens → Tokens → Bool → Type 0
+TakesToken u before after was_next = TakesValue (this_in u) before after (if was_next then Some tt else None)
+
 -- what a line gives after a phrase: what its rest gives, or the column of the fault
 abbrev pub then_from : {A : Type 0} → (A → Rest) → Ahead → Result A SyntaxFault → Result Line ℕ
 then_from next after (Ok a) = from (next a) after
@@ -62,10 +50,10 @@ abbrev pub then_end : Line → Result (Unit {0}) SyntaxFault → Result Line ℕ
 then_end line (Ok done) = Ok line
 then_end line (Err fault) = Err fault.column
 
--- what a line gives where a name may come: what the rest after the name gives, or else another rest
-abbrev pub then_name : (Name → Rest) → Rest → Ahead → Option Name → Result Line ℕ
-then_name this other after (Some name) = from (this name) after
-then_name this other after None = from other after
+-- what a line gives where a value may come: what the rest after the value gives, or else another rest
+abbrev pub then_value : {A : Type 0} → (A → Rest) → Rest → Ahead → Option A → Result Line ℕ
+then_value this other after (Some a) = from (this a) after
+then_value this other after None = from other after
 
 -- a phrase was passed, or the line goes wrong in it, whatever may follow the phrase
 abbrev pub Passes : {A : Type 0} → ((A → Rest) → Rest) → Tokens → Tokens → Result A SyntaxFault → Type 0

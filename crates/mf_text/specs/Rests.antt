@@ -1,5 +1,5 @@
 -- The rests of lines: what may follow in a line, token by token, and the line that it ends as. The grammar is one of them.
-use Rattle.std.specs.Prelude.{ℕ, List, [], ◌∷◌, ◌++◌, Bool, true, false, Option, None, Some, Result, Ok, Err, ok_or, if◌then◌else◌}
+use Rattle.std.specs.Prelude.{ℕ, List, [], ◌∷◌, ◌++◌, Bool, true, false, Option, None, Some, Result, Ok, Err, ok_or}
 use Rattle.std.specs.Option.{option_map, option_and_then, option_or}
 use Rattle.mf_text.specs.declared.token.Mark.TheVariants as mark
 use Rattle.mf_text.specs.declared.token.Word.TheVariants as word
@@ -7,8 +7,29 @@ pub use Rattle.mf_text.specs.Ahead.{Ahead}
 unfoldable pub use Rattle.mf_text.specs.Codes.{code_of}
 use Rattle.mf_text.specs.Grammar.{Form, Nothing, AddContour, AddPicture, CullKeeping, CullDropping, Clear, Move, ShowTotal, ShowPicture, ShowProof, ShipOut, SetCheck, PublishAll, Shifted, Scaled, XScaled, YScaled, Rotated, Path, Line, Code, Plus, Minus, Name, Current, Register, Source, Null, Named, Int, Pair}
 unfoldable pub use Rattle.mf_text.specs.Ints.{int_of}
-pub use Rattle.mf_text.specs.Token.{Token, Placed, is_token, name_in, value_in}
+pub use Rattle.mf_text.specs.Token.{Token, Placed, name_in, this_in, value_in}
 use Rattle.mf_text.specs.Token as token
+
+-- a kind of tokens: this token, names, or the numbers of ints or of codes, which are negative where this is true
+pub data Kind : Type 0 where
+  This : Token → Kind
+  Names : Kind
+  Numbers : Bool → Kind
+  Codes : Bool → Kind
+
+-- what a token of a kind says; of a given token there is nothing to say
+abbrev pub Of : Kind → Type 0
+Of (This u) = Unit {0}
+Of Names = Name
+Of (Numbers negative) = Int
+Of (Codes negative) = Code
+
+-- what a token says, if it is of this kind
+abbrev pub value : (k : Kind) → Token → Option (Of k)
+value (This u) t = this_in u t
+value Names t = name_in t
+value (Numbers negative) t = option_and_then (int_of negative) (value_in t)
+value (Codes negative) t = option_and_then code_of (option_and_then (int_of negative) (value_in t))
 
 -- what may follow in a line
 pub data Rest : Type 0 where
@@ -17,13 +38,11 @@ pub data Rest : Type 0 where
   -- this token; this token, or else what may come instead
   One : Token → Rest → Rest
   Or : Token → Rest → Rest → Rest
-  -- a name; a name, or else what may come instead
-  AName : (Name → Rest) → Rest
-  OrName : (Name → Rest) → Rest → Rest
-  -- the number of an int, which is negative where this is true
-  ANumber : Bool → (Int → Rest) → Rest
-  -- an int that is a code
-  ACode : (Code → Rest) → Rest
+  -- a token of this kind; one of this kind, or else what may come instead
+  Take : (k : Kind) → (Of k → Rest) → Rest
+  OrTake : (k : Kind) → (Of k → Rest) → Rest → Rest
+  -- `-` and the number of a code, or else what may come instead
+  MinusCode : (Code → Rest) → Rest → Rest
   -- one more corner or `cycle`, after these corners
   Corners : Pair → List Pair → (Path → Rest) → Rest
 
@@ -34,13 +53,17 @@ pub data Place : Type 0 where
 
 -- ---- phrases
 
+-- an int that is a code
+abbrev pub ACode : (Code → Rest) → Rest
+ACode next = MinusCode next (Take (Codes false) next)
+
 -- a source
 abbrev pub source : (Source → Rest) → Rest
-source next = Or (token.Word word.NullPicture) (next Null) (AName (λ name. next (Named name)))
+source next = Or (token.Word word.NullPicture) (next Null) (Take Names (λ name. next (Named name)))
 
 -- an int
 abbrev pub int : (Int → Rest) → Rest
-int next = Or (token.Mark mark.Minus) (ANumber true next) (ANumber false next)
+int next = Or (token.Mark mark.Minus) (Take (Numbers true) next) (Take (Numbers false) next)
 
 -- the rest of a pair after its `(`
 abbrev pub inner : (Pair → Rest) → Rest
@@ -87,12 +110,12 @@ of_range form = pair (λ range. weighable (form range))
 -- after `addto`
 abbrev pub addto : Rest
 addto =
-    AName (λ name. Or (token.Word word.Contour) (path (λ p. weighable (AddContour name p)))
+    Take Names (λ name. Or (token.Word word.Contour) (path (λ p. weighable (AddContour name p)))
     (One (token.Word word.Also) (Or (token.Mark mark.Minus) (of_source (AddPicture name Minus)) (of_source (AddPicture name Plus)))))
 
 -- after `cull`
 abbrev pub cull : Rest
-cull = AName (λ name. Or (token.Word word.Keeping) (of_range (CullKeeping name)) (One (token.Word word.Dropping) (of_range (CullDropping name))))
+cull = Take Names (λ name. Or (token.Word word.Keeping) (of_range (CullKeeping name)) (One (token.Word word.Dropping) (of_range (CullDropping name))))
 
 -- after `show`
 abbrev pub show : Rest
@@ -132,49 +155,41 @@ abbrev pub line : Rest
 line =
     Or (token.Word word.Addto) addto (Or (token.Word word.Cull) cull (Or (token.Word word.Show) show (Or (token.Word word.Proof) (of_source ShowProof)
     (Or (token.Word word.Shipout) shipout (Or (token.Word word.TurningCheck) turning_check (Or (token.Word word.Publish) (line_end PublishAll)
-    (OrName assignment (line_end Nothing))))))))
+    (OrTake Names assignment (line_end Nothing))))))))
 
 -- ---- a step
-
--- the int that a token is the number of, if it is a number
-abbrev pub number_in : Bool → Token → Option Int
-number_in negative t = option_and_then (int_of negative) (value_in t)
-
--- the code that a token is the number of, if it is the number of one
-abbrev pub code_in : Bool → Token → Option Code
-code_in negative t = option_and_then code_of (number_in negative t)
 
 -- the place before what follows a value, if there is a value
 abbrev pub before : {A : Type 0} → (A → Rest) → Option A → Option Place
 before next a = option_map (λ x. Before (next x)) a
 
--- the place after this token if it comes, or else another place
-abbrev pub if_token : Token → Token → Rest → Option Place → Option Place
-if_token t u this other = if is_token t u then Some (Before this) else other
+-- the place after a token if it is of this kind, or else another place
+abbrev pub if_kind : (k : Kind) → (Of k → Rest) → Token → Option Place → Option Place
+if_kind k next t other = option_or (before next (value k t)) other
 
 -- the place after a token, if the rest allows the token
 abbrev pub step_from : Rest → Token → Option Place
 step_from (Ends l) t = None
-step_from (One u this) t = if_token t u this None
-step_from (Or u this other) t = if_token t u this (step_from other t)
-step_from (AName next) t = before next (name_in t)
-step_from (OrName next other) t = option_or (before next (name_in t)) (step_from other t)
-step_from (ANumber negative next) t = before next (number_in negative t)
-step_from (ACode next) t = if is_token t (token.Mark mark.Minus) then Some (CodeNumber next) else before next (code_in false t)
+step_from (One u this) t = before (λ _. this) (value (This u) t)
+step_from (Or u this other) t = if_kind (This u) (λ _. this) t (step_from other t)
+step_from (Take k next) t = before next (value k t)
+step_from (OrTake k next other) t = if_kind k next t (step_from other t)
+step_from (MinusCode next other) t = option_or (option_map (λ _. CodeNumber next) (this_in (token.Mark mark.Minus) t)) (step_from other t)
 step_from (Corners first others next) t =
-    if_token t (token.Mark mark.Open) (corner (λ p. Corners first (others ++ p ∷ []) next))
-    (if_token t (token.Word word.Cycle) (next (record { first = first; others = others })) None)
+    if_kind (This (token.Mark mark.Open)) (λ _. corner (λ p. Corners first (others ++ p ∷ []) next)) t
+    (before (λ _. next (record { first = first; others = others })) (value (This (token.Word word.Cycle)) t))
 
 -- the place after a token, if the token may come at this place
 abbrev pub step : Place → Token → Option Place
 step (Before r) t = step_from r t
-step (CodeNumber next) t = before next (code_in true t)
+step (CodeNumber next) t = before next (value (Codes true) t)
 
 -- the line that can end before this rest, if there is one
 abbrev pub end_of : Rest → Option Line
 end_of (Ends l) = Some l
 end_of (Or u this other) = end_of other
-end_of (OrName next other) = end_of other
+end_of (OrTake k next other) = end_of other
+end_of (MinusCode next other) = end_of other
 end_of r = None
 
 -- the line that can end at this place, if there is one

@@ -1,5 +1,5 @@
 -- What a token of a line is.
-use Rattle.std.specs.Prelude.{ℕ, ◌==◌, Bool, true, false, Option, None, Some}
+use Rattle.std.specs.Prelude.{ℕ, ◌==◌, Bool, true, false, Option, None, Some, if◌then◌else◌}
 use Rattle.mf_text.specs.declared.command.Name.{Name}
 use Rattle.mf_text.specs.declared.command.Name.TheVariants.{Current, Register}
 use Rattle.mf_text.specs.declared.token.Mark.{Mark as Marks}
@@ -31,6 +31,10 @@ pub record Placed : Type 0 where
   pub token : Token
   pub column : ℕ
   pub after : ℕ
+
+-- whether a token is this one
+abbrev pub this_in : Token → Token → Option (Unit {0})
+this_in u t = if is_token t u then Some tt else None
 
 -- the number of the letter that a token is, if it is one
 abbrev pub letter_in : Token → Option ℕ

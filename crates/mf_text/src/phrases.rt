@@ -2,9 +2,9 @@
 //! wrong.
 ghost use Rattle.std.specs.Prelude.{◌≡◌, Ok, IfOk};
 ghost use Rattle.mf_text.specs.Grammar.{Line};
-ghost use Rattle.mf_text.specs.Reads.{Closes, IsWithin, Passes, PassesPath, TakesValue, ahead, remaining_tokens, then_end, then_from, then_name};
+ghost use Rattle.mf_text.specs.Reads.{Closes, IsWithin, Passes, PassesPath, TakesValue, ahead, remaining_tokens, then_end, then_from, then_value};
 ghost use Rattle.mf_text.specs.Rests as rests;
-ghost use Rattle.mf_text.specs.Rests.{CodeNumber, Ends, Rest, follow, from};
+ghost use Rattle.mf_text.specs.Rests.{CodeNumber, Codes, Ends, Names, Numbers, OrTake, Rest, Take, follow, from, value};
 ghost use Rattle.mf_text.specs.Token as token;
 ghost use Rattle.mf_text.specs.Token.{name_in};
 
@@ -44,7 +44,7 @@ impl Tokens<'_> {
     /// Passes a name, if it is the next token.
     pub fn takes_name(&mut self) -> Option<Name>
         ensures took { TakesValue name_in self.old self.new result }
-        ensures read { (this : Name → Rest) → (other : Rest) → from (rests.OrName this other) (ahead self.old) ≡ then_name this other (ahead self.new) result }
+        ensures read { (this : Name → Rest) → (other : Rest) → from (OrTake Names this other) (ahead self.old) ≡ then_value this other (ahead self.new) result }
     {
         if let Some(letter) = self.takes_letter() {
             return Some(Name::Register(letter));
@@ -57,7 +57,7 @@ impl Tokens<'_> {
 
     /// Passes a name, which must come next.
     pub fn name(&mut self) -> Result<Name, SyntaxFault>
-        ensures { Passes rests.AName self.old self.new result }
+        ensures { Passes (Take Names) self.old self.new result }
     {
         match self.takes_name() {
             Some(name) => Ok(name),
@@ -91,7 +91,7 @@ impl Tokens<'_> {
     /// Passes the number of an int, if it is the next token. `negative` says whether `-` comes before it.
     #[inline(always)]
     fn takes_int(&mut self, negative: bool) -> Option<Int>
-        ensures { TakesValue (rests.number_in negative) self.old self.new result }
+        ensures { TakesValue (value (Numbers negative)) self.old self.new result }
     {
         let mut after = *self;
         let int = Int::new(negative, after.takes_number()?)?;
@@ -102,7 +102,7 @@ impl Tokens<'_> {
     /// Passes the number of an int, which must come next. `negative` says whether `-` comes before it.
     #[inline(always)]
     fn number(&mut self, negative: bool) -> Result<Int, SyntaxFault>
-        ensures read { Passes (rests.ANumber negative) self.old self.new result }
+        ensures read { Passes (Take (Numbers negative)) self.old self.new result }
         ensures within { IfOk result (λ _. IsWithin self.new self.old) }
     {
         match self.takes_int(negative) {
@@ -124,7 +124,7 @@ impl Tokens<'_> {
     /// Passes the number of a code, if it is the next token and the int is in 0..=255. `negative` says whether `-` comes before
     /// it.
     fn takes_code(&mut self, negative: bool) -> Option<Code>
-        ensures { TakesValue (rests.code_in negative) self.old self.new result }
+        ensures { TakesValue (value (Codes negative)) self.old self.new result }
     {
         let mut after = *self;
         let code = Code::new(after.takes_int(negative)?)?;

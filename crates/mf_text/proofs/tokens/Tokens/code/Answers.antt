@@ -1,34 +1,31 @@
-use Rattle.std.proofs.Common.{◌∙◌, ◌≡◌, false, Err, Ok, ap, sym}
+use Rattle.std.proofs.Common.{◌∙◌, ◌≡◌, true, false, Ok, Some, None, ap, refl, sym, subst}
 use Rattle.mf_text.specs.declared.token.Mark.TheVariants as mark
 use Rattle.mf_text.specs.declared.tokens.Tokens.{Tokens}
-use Rattle.mf_text.specs.Reads.{ahead, is_next, remaining_tokens, next_value}
-use Rattle.mf_text.specs.Rests.{ACode, CodeNumber, code_in, follow}
+use Rattle.mf_text.specs.Reads.{TakesToken, TakesValue, ahead, remaining_tokens}
+use Rattle.mf_text.specs.Rests.{Codes, CodeNumber, Take, follow, value}
 use Rattle.mf_text.specs.Token as token
-use Rattle.mf_text.proofs.Reading.{at_minus, code_follows, goes_on_with, goes_wrong_there}
+use Rattle.mf_text.proofs.Reading.{minus_missed, minus_passed, missed, passed}
 use Rattle.mf_text.proofs.tokens.Tokens.code.Goals as goal
 
 pub returns-then-takes_mark : goal.returns-then-takes_mark
 returns-then-takes_mark c next =
     let old = c.args.self.now in
     let new = c.takes_mark.new.self in
-    let took = c.takes_mark.ensures.took in
-    at_minus next old.column (remaining_tokens old) (ahead new) (sym took.next ∙ c.if-takes_mark.true) (took.after_is c.if-takes_mark.true)
+    minus_passed next (Take (Codes false) next) old new (subst (TakesToken (token.Mark mark.Minus) old new) c.if-takes_mark.true c.takes_mark.ensures.took)
     ∙ ap (λ k. follow (Ok (CodeNumber next)) k new.column (remaining_tokens new)) (sym c.fault-first.ensures) ∙ c.negative_code.ensures next
 
 pub returns-in-Some : goal.returns-in-Some
 returns-in-Some c next =
     let old = c.args.self.now in
-    let took = c.takes_mark.ensures.took in
-    let other : is_next (token.Mark mark.Minus) (remaining_tokens old) ≡ false = sym took.next ∙ c.if-takes_mark.false in
-    goes_on_with (ACode next) (code_in false) next old.column (remaining_tokens old)
-    (code_follows next (remaining_tokens old) other) c.in-Some.code (ahead c.takes_code.new.self)
-    (ap (λ (t : Tokens). next_value (code_in false) (remaining_tokens t)) (sym (took.same c.if-takes_mark.false)) ∙ c.in-Some.ensures)
+    let took = subst (TakesToken (token.Mark mark.Minus) old c.takes_mark.new.self) c.if-takes_mark.false c.takes_mark.ensures.took in
+    minus_missed next (Take (Codes false) next) old c.takes_mark.new.self took
+    ∙ passed (Codes false) next old c.takes_code.new.self c.in-Some.code
+    (subst (λ (t : Tokens). TakesValue (value (Codes false)) t c.takes_code.new.self (Some c.in-Some.code)) took.1 c.in-Some.ensures)
 
 pub returns-in-None : goal.returns-in-None
 returns-in-None c next =
     let old = c.args.self.now in
-    let took = c.takes_mark.ensures.took in
-    let other : is_next (token.Mark mark.Minus) (remaining_tokens old) ≡ false = sym took.next ∙ c.if-takes_mark.false in
-    goes_wrong_there (ACode next) (code_in false) next old.column (remaining_tokens old) (code_follows next (remaining_tokens old) other)
-    (ap (λ (t : Tokens). next_value (code_in false) (remaining_tokens t)) (sym (took.same c.if-takes_mark.false)) ∙ c.in-None.ensures.0)
-    ∙ ap Err (sym c.fault-first.ensures)
+    let took = subst (TakesToken (token.Mark mark.Minus) old c.takes_mark.new.self) c.if-takes_mark.false c.takes_mark.ensures.took in
+    let none = subst (λ (t : Tokens). TakesValue (value (Codes false)) t c.takes_code.new.self None) took.1 c.in-None.ensures in
+    minus_missed next (Take (Codes false) next) old c.takes_mark.new.self took
+    ∙ missed (Codes false) next old old (none.0, refl) c.fault-first.result c.fault-first.ensures

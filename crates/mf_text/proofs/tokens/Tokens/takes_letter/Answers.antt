@@ -6,7 +6,7 @@ use Rattle.mf_text.proofs.tokens.Tokens.takes_letter.Goals as goal
 pub returns-in_err-letter : goal.returns-in_err-letter
 returns-in_err-letter c =
     rw c.from_residual.ensures
-    (value_missed c.args.self.now _ _ (sym c.skip_blanks.ensures.same) c.skip_blanks.ensures.clear letter_in refl c.in_err-letter.ensures, refl)
+    (value_missed c.args.self.now _ _ (sym c.skip_blanks.ensures.same) c.skip_blanks.ensures.clear letter_in refl c.in_err-letter.ensures)
 
 pub returns : goal.returns
 returns c =

@@ -6,7 +6,7 @@ use Rattle.mf_text.proofs.tokens.Tokens.takes_number.Goals as goal
 pub returns-in_err-value : goal.returns-in_err-value
 returns-in_err-value c =
     rw c.from_residual.ensures
-    (value_missed c.args.self.now _ _ (sym c.skip_rare_blanks.ensures.same) c.skip_rare_blanks.ensures.clear value_in refl c.in_err-value.ensures, refl)
+    (value_missed c.args.self.now _ _ (sym c.skip_rare_blanks.ensures.same) c.skip_rare_blanks.ensures.clear value_in refl c.in_err-value.ensures)
 
 pub returns : goal.returns
 returns c =
