@@ -11,9 +11,9 @@ use Rattle.mf_text.specs.declared.token.Mark.TheVariants as mark
 use Rattle.mf_text.specs.declared.token.Word.TheVariants as word
 use Rattle.mf_text.specs.declared.tokens.Tokens.{Tokens}
 use Rattle.mf_text.specs.Ahead.{Ahead, column_of}
-use Rattle.mf_text.specs.Grammar.{Line, Path, path_value, Point, Code, Name, Current, Register, Pair, pair_value}
-use Rattle.mf_text.specs.Reads.{HasPoints, Passes, PassesPath, TakesToken, TakesValue, ahead, remaining_tokens, next_value, then_value, with_rest}
-use Rattle.mf_text.specs.Rests.{Kind, Of, This, Codes, Rest, Take, OrTake, MinusCode, Corners, One, Or, Place, Before, CodeNumber, Ends, before, corner, path, follow, from, name_token, report_column, step_from, value}
+use Rattle.mf_text.specs.Grammar.{Line, Path, path_value, Point, Code, Name, Current, Register, Int, Pair, pair_value}
+use Rattle.mf_text.specs.Reads.{HasPoints, Passes, PassesPath, TakesToken, TakesValue, ahead, remaining_tokens, next_value, with_rest}
+use Rattle.mf_text.specs.Rests.{Kind, Of, This, Numbers, Codes, Rest, Take, OrTake, MinusCode, Corners, One, Or, Place, Before, CodeNumber, Ends, before, corner, path, follow, from, name_token, report_column, step_from, value}
 use Rattle.mf_text.specs.Token.{Placed, Token, letter_in, name_in, this_in, value_in}
 use Rattle.mf_text.specs.Token as token
 use Rattle.mf_text.proofs.Rests.{name_of, named, this_only}
@@ -32,7 +32,7 @@ exit (Err e) fault same = ap Err same
 -- ---- a value of the next token
 
 -- what a line gives after a value, if there is one
-abbrev pub on_value : {A : Type 0} → (A → Rest) → Result Line ℕ → Option (A × Ahead) → Result Line ℕ
+abbrev on_value : {A : Type 0} → (A → Rest) → Result Line ℕ → Option (A × Ahead) → Result Line ℕ
 on_value next otherwise None = otherwise
 on_value next otherwise (Some (a, after)) = from (next a) after
 
@@ -52,11 +52,11 @@ module _ (k : Kind) (next : Of k → Rest) where
   passed old new a is = taken old.column (remaining_tokens old) ∙ ap (on_value next (Err (column_of (remaining_tokens old) old.column))) is
 
   -- what a line gives where there is none
-  pub missed : (old new : Tokens) → TakesValue (value k) old new None → (fault : SyntaxFault) → fault.column ≡ column_of (remaining_tokens new) new.column
-      → from (Take k next) (ahead old) ≡ Err fault.column
-  missed old new (none, same) fault column_is =
+  pub missed : (old new : Tokens) → TakesValue (value k) old new None
+      → from (Take k next) (ahead old) ≡ Err (column_of (remaining_tokens new) new.column)
+  missed old new (none, same) =
       taken old.column (remaining_tokens old) ∙ ap (on_value next (Err (column_of (remaining_tokens old) old.column))) none
-      ∙ ap (λ (t : Tokens). Err (column_of (remaining_tokens t) t.column)) (sym same) ∙ ap Err (sym column_is)
+      ∙ ap (λ (t : Tokens). Err (column_of (remaining_tokens t) t.column)) (sym same)
 
   or_taken : (other : Rest) (past : ℕ) (ps : List Placed) → from (OrTake k next other) (record { tokens = ps; past = past })
       ≡ on_value next (from other (record { tokens = ps; past = past })) (next_value (value k) ps)
@@ -69,12 +69,14 @@ module _ (k : Kind) (next : Of k → Rest) where
     by_value (Some a) = from_any (next a) p.column p.after ps
 
   -- what a line gives where such a token may come
-  pub takes_read : (other : Rest) (old new : Tokens) (r : Option (Of k)) → TakesValue (value k) old new r
-      → from (OrTake k next other) (ahead old) ≡ then_value next other (ahead new) r
-  takes_read other old new None (none, same) =
+  pub or_passed : (other : Rest) (old new : Tokens) (a : Of k) → TakesValue (value k) old new (Some a)
+      → from (OrTake k next other) (ahead old) ≡ from (next a) (ahead new)
+  or_passed other old new a is = or_taken other old.column (remaining_tokens old) ∙ ap (on_value next (from other (ahead old))) is
+
+  pub or_missed : (other : Rest) (old new : Tokens) → TakesValue (value k) old new None → from (OrTake k next other) (ahead old) ≡ from other (ahead new)
+  or_missed other old new (none, same) =
       or_taken other old.column (remaining_tokens old) ∙ ap (on_value next (from other (ahead old))) none
       ∙ ap (λ (t : Tokens). from other (ahead t)) (sym same)
-  takes_read other old new (Some a) is = or_taken other old.column (remaining_tokens old) ∙ ap (on_value next (from other (ahead old))) is
 
 -- ---- a given token
 
@@ -88,9 +90,8 @@ module _ (u : Token) (this : Rest) where
   pub one_passed : (old new : Tokens) → TakesToken u old new true → from (One u this) (ahead old) ≡ from this (ahead new)
   one_passed old new took = one_is old.column (remaining_tokens old) ∙ passed (This u) (λ _. this) old new tt took
 
-  pub one_missed : (old new : Tokens) → TakesToken u old new false → (fault : SyntaxFault) → fault.column ≡ column_of (remaining_tokens new) new.column
-      → from (One u this) (ahead old) ≡ Err fault.column
-  one_missed old new took fault column_is = one_is old.column (remaining_tokens old) ∙ missed (This u) (λ _. this) old new took fault column_is
+  pub one_missed : (old new : Tokens) → TakesToken u old new false → from (One u this) (ahead old) ≡ Err (column_of (remaining_tokens new) new.column)
+  one_missed old new took = one_is old.column (remaining_tokens old) ∙ missed (This u) (λ _. this) old new took
 
   or_is : (other : Rest) (past : ℕ) (ps : List Placed)
       → from (Or u this other) (record { tokens = ps; past = past }) ≡ from (OrTake (This u) (λ _. this) other) (record { tokens = ps; past = past })
@@ -98,10 +99,11 @@ module _ (u : Token) (this : Rest) where
   or_is other past [] = refl
   or_is other past (p ∷ ps) = refl
 
-  pub or_read : (other : Rest) (old new : Tokens) (was_next : Bool) → TakesToken u old new was_next
-      → from (Or u this other) (ahead old) ≡ (if was_next then from this (ahead new) else from other (ahead new))
-  or_read other old new true took = or_is other old.column (remaining_tokens old) ∙ takes_read (This u) (λ _. this) other old new (Some tt) took
-  or_read other old new false took = or_is other old.column (remaining_tokens old) ∙ takes_read (This u) (λ _. this) other old new None took
+  pub this_passed : (other : Rest) (old new : Tokens) → TakesToken u old new true → from (Or u this other) (ahead old) ≡ from this (ahead new)
+  this_passed other old new took = or_is other old.column (remaining_tokens old) ∙ or_passed (This u) (λ _. this) other old new tt took
+
+  pub this_missed : (other : Rest) (old new : Tokens) → TakesToken u old new false → from (Or u this other) (ahead old) ≡ from other (ahead new)
+  this_missed other old new took = or_is other old.column (remaining_tokens old) ∙ or_missed (This u) (λ _. this) other old new took
 
 -- ---- the value of the next token
 
@@ -134,6 +136,14 @@ taken_as : {A B : Type 0} (f : Token → Option A) (g : Token → Option B) (a :
 taken_as f g a b same ps after is =
     at_first f a (λ qs on. next_value g qs ≡ Some (b, on))
     (λ p qs value. ap (with_rest (record { tokens = qs; past = p.after })) (same p.token value)) ps after is
+
+-- ---- an int
+
+-- the number of an int, after `-` or not
+pub number_after : (negative : Bool) (next : Int → Rest) (after : Ahead)
+    → (if negative then from (Take (Numbers true) next) after else from (Take (Numbers false) next) after) ≡ from (Take (Numbers negative) next) after
+number_after true next after = refl
+number_after false next after = refl
 
 -- ---- names
 
@@ -219,11 +229,11 @@ minus_missed next other old new took =
     ∙ ap (on_minus next (column_of (remaining_tokens old) old.column) (from other (ahead old))) took.0
 
 -- a number is reported at the `-`, and any other token where it is
-abbrev pub on_number : ℕ → ℕ → Option (ℕ × Ahead) → Result Line ℕ
+abbrev on_number : ℕ → ℕ → Option (ℕ × Ahead) → Result Line ℕ
 on_number first column None = Err column
 on_number first column (Some n) = Err first
 
-pub number_read : (next : Code → Rest) (first past : ℕ) (ps : List Placed) → follow (Ok (CodeNumber next)) first past ps
+number_read : (next : Code → Rest) (first past : ℕ) (ps : List Placed) → follow (Ok (CodeNumber next)) first past ps
     ≡ on_value next (on_number first (column_of ps past) (next_value value_in ps)) (next_value (value (Codes true)) ps)
 unfolding follow
 number_read next first past [] = refl
@@ -238,6 +248,30 @@ number_read next first past (p ∷ ps) = by_token p.token where
       (with_rest (record { tokens = ps; past = p.after }) (value (Codes true) t))
   by_token (token.Number n) = by_code (value (Codes true) (token.Number n))
   by_token t = refl
+
+module _ (next : Code → Rest) (first : ℕ) (old : Tokens) where
+  abbrev left : List Placed
+  left = remaining_tokens old
+
+  pub code_passed : (code : Code) (new : Tokens) → TakesValue (value (Codes true)) old new (Some code)
+      → follow (Ok (CodeNumber next)) first old.column left ≡ from (next code) (ahead new)
+  code_passed code new took =
+      number_read next first old.column left ∙ ap (on_value next (on_number first (column_of left old.column) (next_value value_in left))) took
+
+  code_missed : (same : Tokens) → TakesValue (value (Codes true)) old same None → (v : Option (ℕ × Ahead)) → next_value value_in (remaining_tokens same) ≡ v
+      → follow (Ok (CodeNumber next)) first old.column left ≡ on_number first (column_of left old.column) v
+  code_missed same (none, is) v found =
+      number_read next first old.column left ∙ ap (on_value next (on_number first (column_of left old.column) (next_value value_in left))) none
+      ∙ ap (on_number first (column_of left old.column)) (ap (λ (t : Tokens). next_value value_in (remaining_tokens t)) (sym is) ∙ found)
+
+  pub code_bad : (same after : Tokens) (n : ℕ) → TakesValue (value (Codes true)) old same None → TakesValue value_in same after (Some n)
+      → follow (Ok (CodeNumber next)) first old.column left ≡ Err first
+  code_bad same after n none found = code_missed same none _ found
+
+  pub code_missing : (same after : Tokens) → TakesValue (value (Codes true)) old same None → TakesValue value_in same after None
+      → follow (Ok (CodeNumber next)) first old.column left ≡ Err (column_of (remaining_tokens same) same.column)
+  code_missing same after none lacking =
+      code_missed same none None lacking.0 ∙ ap (λ (t : Tokens). Err (column_of (remaining_tokens t) t.column)) (sym none.1)
 
 -- ---- the corners of a path
 

@@ -24,12 +24,14 @@ pub fn words_are_written()
 
 /// The tokens of a line are its bytes, cut from the left: each is as long as possible, only blanks come between them, and after
 /// the last one only blanks and perhaps a comment. No other list of tokens is cut from a line in this way.
+#[tactic(auto, using(crate::proofs::TokenTexts::are_tokens, crate::proofs::OneCut::one_cut))]
 pub fn tokens_are_as_long_as_can_be()
     ensures cut { (line : List ℕ) → AreTokens 1 line (tokens line) }
     ensures one_cut { (line : List ℕ) (others : List Placed) → AreTokens 1 line others → others ≡ tokens line }
 {}
 
 /// A list of tokens is at most one line of the grammar.
+#[tactic(auto, using(crate::proofs::LineReading::same_line))]
 pub fn one_line()
     ensures { (l m : Line) → spell_line l ≡ spell_line m → l ≡ m }
 {}
@@ -50,6 +52,7 @@ pub fn wrong_is_no_line()
 {}
 
 /// Some line of the grammar starts with given tokens, or none does.
+#[tactic(auto, using(crate::proofs::LineReading::starts_or_not))]
 pub fn starts_or_not()
     ensures { (ts : List Token) → StartsLine ts ⊎ (StartsLine ts → ⊥) }
 {}

@@ -20,6 +20,7 @@ use std::alloc::Global;
 
 impl Tokens<'_> {
     /// Passes this word, which must come next.
+    #[tactic(auto, using(crate::proofs::Reading::one_passed, crate::proofs::Reading::one_missed))]
     pub fn pass_word(&mut self, word: Word) -> Result<(), SyntaxFault>
         ensures { (this : Rest) → from (rests.One (token.Word word) this) (ahead self.old) ≡ then_from (λ _. this) (ahead self.new) result }
     {
@@ -31,6 +32,7 @@ impl Tokens<'_> {
 
     /// Passes this mark, which must come next.
     #[inline(always)]
+    #[tactic(auto, using(crate::proofs::Reading::one_passed, crate::proofs::Reading::one_missed))]
     pub fn pass_mark(&mut self, mark: Mark) -> Result<(), SyntaxFault>
         ensures read { (this : Rest) → from (rests.One (token.Mark mark) this) (ahead self.old) ≡ then_from (λ _. this) (ahead self.new) result }
         ensures within { IfOk result (λ _. IsWithin self.new self.old) }
@@ -42,6 +44,7 @@ impl Tokens<'_> {
     }
 
     /// Passes a name, if it is the next token.
+    #[tactic(auto, using(crate::proofs::Reading::letter_taken, crate::proofs::Reading::current_taken, crate::proofs::Reading::no_name_taken, crate::proofs::Reading::or_passed, crate::proofs::Reading::or_missed))]
     pub fn takes_name(&mut self) -> Option<Name>
         ensures took { TakesValue name_in self.old self.new result }
         ensures read { (this : Name → Rest) → (other : Rest) → from (OrTake Names this other) (ahead self.old) ≡ then_value this other (ahead self.new) result }
@@ -56,6 +59,7 @@ impl Tokens<'_> {
     }
 
     /// Passes a name, which must come next.
+    #[tactic(auto, using(crate::proofs::Reading::passed, crate::proofs::Reading::missed))]
     pub fn name(&mut self) -> Result<Name, SyntaxFault>
         ensures { Passes (Take Names) self.old self.new result }
     {
@@ -66,6 +70,7 @@ impl Tokens<'_> {
     }
 
     /// Passes this name, which must come next.
+    #[tactic(auto, using(crate::proofs::Reading::one_passed, crate::proofs::Reading::one_missed, crate::proofs::Reading::this_name, crate::proofs::Reading::other_name))]
     pub fn pass_name(&mut self, name: Name) -> Result<(), SyntaxFault>
         ensures { (this : Rest) → from (rests.One (rests.name_token name) this) (ahead self.old) ≡ then_from (λ _. this) (ahead self.new) result }
     {
@@ -101,6 +106,7 @@ impl Tokens<'_> {
 
     /// Passes the number of an int, which must come next. `negative` says whether `-` comes before it.
     #[inline(always)]
+    #[tactic(auto, using(crate::proofs::Reading::passed, crate::proofs::Reading::missed))]
     fn number(&mut self, negative: bool) -> Result<Int, SyntaxFault>
         ensures read { Passes (Take (Numbers negative)) self.old self.new result }
         ensures within { IfOk result (λ _. IsWithin self.new self.old) }
@@ -113,6 +119,7 @@ impl Tokens<'_> {
 
     /// Passes an int: a number, or `-` and a number.
     #[inline(always)]
+    #[tactic(auto, using(crate::proofs::Reading::number_after))]
     pub fn int(&mut self) -> Result<Int, SyntaxFault>
         ensures read { Passes rests.int self.old self.new result }
         ensures within { IfOk result (λ _. IsWithin self.new self.old) }
@@ -133,6 +140,7 @@ impl Tokens<'_> {
     }
 
     /// Passes the int of a code. An int out of range is reported at its first token.
+    #[tactic(auto, using(crate::proofs::Reading::minus_passed, crate::proofs::Reading::minus_missed, crate::proofs::Reading::passed, crate::proofs::Reading::missed))]
     pub fn code(&mut self) -> Result<Code, SyntaxFault>
         ensures { Passes rests.ACode self.old self.new result }
     {
@@ -148,6 +156,7 @@ impl Tokens<'_> {
 
     /// Passes the number of a code after its `-`. A number out of range is reported at the `-`, which `first` is. This is a
     /// rule of its own: a line may go on with `-` after `code`, since `-0` is a code.
+    #[tactic(auto, using(crate::proofs::Reading::code_passed, crate::proofs::Reading::code_bad, crate::proofs::Reading::code_missing))]
     fn negative_code(&mut self, first: SyntaxFault) -> Result<Code, SyntaxFault>
         ensures { (next : Code → Rest)
             → follow (Ok (CodeNumber next)) first.column self.old.column (remaining_tokens self.old) ≡ then_from next (ahead self.new) result }
@@ -234,6 +243,7 @@ impl Tokens<'_> {
     }
 
     /// Checks that no token is left.
+    #[tactic(auto, using(crate::proofs::Reading::line_ends, crate::proofs::Reading::line_goes_on))]
     pub fn finish(&mut self) -> Result<(), SyntaxFault>
         ensures { (line : Line) → from (Ends line) (ahead self.old) ≡ then_end line result }
     {

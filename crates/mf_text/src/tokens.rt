@@ -48,6 +48,7 @@ impl<'a> Tokens<'a> {
 
     /// Passes the blanks at the front.
     #[inline(always)]
+    #[tactic(auto, using(crate::proofs::LineTokens::tokens_at_blank))]
     fn skip_blanks(&mut self)
         ensures same { remaining_tokens self.new ≡ remaining_tokens self.old }
         ensures clear { IsClear self.new.rest.now }
@@ -87,6 +88,7 @@ impl<'a> Tokens<'a> {
 
     /// Passes this word, if it is the next token, and returns whether it was. The word is compared with the bytes, and no table
     /// is searched for the word that is there: only a few words may come at any place.
+    #[tactic(auto, using(crate::proofs::FirstTokens::token_missed, crate::proofs::FirstTokens::token_taken, crate::proofs::Reading::this_passed, crate::proofs::Reading::this_missed))]
     pub fn takes_word(&mut self, word: Word) -> bool
         ensures read { (this other : Rest)
             → from (Or (token.Word word) this other) (ahead self.old) ≡ (if result then from this (ahead self.new) else from other (ahead self.new)) }
@@ -106,6 +108,7 @@ impl<'a> Tokens<'a> {
     /// Passes this mark, if it is the next token, and returns whether it was. The mark is compared with the bytes, too: most
     /// tokens of a contour are marks, and a search of their table would look at several entries for each.
     #[inline(always)]
+    #[tactic(auto, using(crate::proofs::FirstTokens::token_missed, crate::proofs::FirstTokens::token_taken, crate::proofs::Reading::this_passed, crate::proofs::Reading::this_missed))]
     pub fn takes_mark(&mut self, mark: Mark) -> bool
         ensures read { (this other : Rest)
             → from (Or (token.Mark mark) this other) (ahead self.old) ≡ (if result then from this (ahead self.new) else from other (ahead self.new)) }
@@ -126,6 +129,7 @@ impl<'a> Tokens<'a> {
 
     /// Passes a single letter `a`..`z`, if it is the next token, and returns its number, 0 for `a`.
     #[inline(always)]
+    #[tactic(auto, using(crate::proofs::FirstTokens::value_missed, crate::proofs::FirstTokens::value_taken))]
     pub fn takes_letter(&mut self) -> Option<u8>
         ensures { TakesValue letter_in self.old self.new result }
     {
@@ -138,6 +142,7 @@ impl<'a> Tokens<'a> {
 
     /// Passes a number of at most nine digits, if it is the next token, and returns its value.
     #[inline(always)]
+    #[tactic(auto, using(crate::proofs::FirstTokens::value_missed, crate::proofs::FirstTokens::value_taken))]
     pub fn takes_number(&mut self) -> Option<u32>
         ensures { TakesValue value_in self.old self.new result }
     {
@@ -161,6 +166,7 @@ impl<'a> Tokens<'a> {
 
     /// Whether the line ends here or a comment begins here. Requires that no blank is at the front.
     #[inline(always)]
+    #[tactic(auto, using(crate::proofs::LineTokens::tokens_at_end, crate::proofs::LineTokens::tokens_at_comment, crate::proofs::LineTokens::tokens_at_token))]
     fn is_at_end(&self) -> bool
         requires { IsClear self.now.rest.now }
         ensures ended { result ≡ true → remaining_tokens self.now ≡ [] }
@@ -219,6 +225,7 @@ fn blanks_at(text: &[u8]) -> usize
 /// How many bytes this word takes, if it is the token at the front. It is not if another letter follows it, since a token is as
 /// long as possible.
 #[inline(always)]
+#[tactic(auto, using(crate::proofs::Words::word_lacking, crate::proofs::Words::word_longer, crate::proofs::Words::word_found))]
 fn word_at(word: Word, text: &[u8]) -> Option<usize>
     ensures { FindsToken (token.Word word) text.now result }
 {
@@ -234,6 +241,7 @@ fn word_at(word: Word, text: &[u8]) -> Option<usize>
 
 /// How many bytes this mark takes, if it is the token at the front.
 #[inline(always)]
+#[tactic(auto, using(crate::proofs::Marks::mark_lacking, crate::proofs::Marks::mark_longer, crate::proofs::Marks::mark_found))]
 fn mark_at(mark: Mark, text: &[u8]) -> Option<usize>
     ensures { FindsToken (token.Mark mark) text.now result }
 {
@@ -279,6 +287,7 @@ fn begins_with(text: &[u8], written: &[u8]) -> bool
 
 /// The number of the letter `a`..`z` at the front, 0 for `a`, and how many bytes it takes, if no other letter follows it.
 #[inline(always)]
+#[tactic(auto, using(crate::proofs::Words::small_lacking, crate::proofs::Words::letters_longer, crate::proofs::Words::letter_found))]
 fn letter_at(text: &[u8]) -> Option<(u8, usize)>
     ensures { Finds letter_in text.now result }
 {

@@ -1,31 +1,19 @@
-use Rattle.std.proofs.Common.{sym, refl, false, true, arith}
-use Rattle.std.proofs.lemmas.Bool.{false≢true}
+use Rattle.std.proofs.Common.{◌<◌, length, sym, refl, arith}
+use Rattle.mf_text.specs.Reads.{remaining_tokens}
 use Rattle.mf_text.specs.Token as token
 use Rattle.mf_text.specs.Token.{this_in}
-use Rattle.mf_text.proofs.FirstTokens.{token_missed, token_taken}
-use Rattle.mf_text.proofs.Reading.{fewer, or_read}
+use Rattle.mf_text.proofs.FirstTokens.{token_taken}
+use Rattle.mf_text.proofs.Reading.{fewer}
 use Rattle.mf_text.proofs.tokens.Tokens.takes_mark.Goals as goal
+use Rattle.mf_text.proofs.tokens.Tokens.takes_mark.Goals.{After-after}
 
-pub returns-in-Some : goal.returns-in-Some
-returns-in-Some c =
-    let took =
-    token_taken c.args.self.now _ _ (sym c.skip_rare_blanks.ensures.same) c.skip_rare_blanks.ensures.clear (token.Mark c.args.mark) refl
-    c.after.result c.in-Some.bytes c.in-Some.ensures c.after.ensures.rest c.after.ensures.column in
-    let less = fewer (this_in (token.Mark c.args.mark)) tt _ _ took in
-    record {
-      read = λ this other. or_read (token.Mark c.args.mark) this other c.args.self.now c.after.result true took;
-      took = took;
-      within = omega (arith, less);
-      fewer = λ _. less;
-    }
+less : (c : After-after) → length (remaining_tokens c.after.result) < length (remaining_tokens c.args.self.now)
+less c = fewer (this_in (token.Mark c.args.mark)) tt _ _
+    (token_taken c.args.self.now _ _ (sym c.skip_rare_blanks.ensures.same) c.skip_rare_blanks.ensures.clear (token.Mark c.args.mark) refl
+    c.after.result c.in-Some.bytes c.in-Some.ensures c.after.ensures.rest c.after.ensures.column)
 
-pub returns-in-None : goal.returns-in-None
-returns-in-None c =
-    let took =
-    token_missed c.args.self.now _ _ (sym c.skip_rare_blanks.ensures.same) c.skip_rare_blanks.ensures.clear (token.Mark c.args.mark) refl c.in-None.ensures in
-    record {
-      read = λ this other. or_read (token.Mark c.args.mark) this other c.args.self.now c.args.self.now false took;
-      took = took;
-      within = omega arith;
-      fewer = λ some. absurd (false≢true some);
-    }
+pub returns-in-Some-clause-within : goal.returns-in-Some-clause-within
+returns-in-Some-clause-within c = omega (arith, less c)
+
+pub returns-in-Some-clause-fewer : goal.returns-in-Some-clause-fewer
+returns-in-Some-clause-fewer c _ = less c
