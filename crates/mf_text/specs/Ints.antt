@@ -16,11 +16,11 @@ pair_value p = record { x = int_value p.across; y = int_value p.up }
 abbrev pub is_byte : Int → Bool
 is_byte n = int_le (pos 0) (int_value n) && int_le (int_value n) (pos 255)
 
--- the int of a number, where it is known whether the number has at most nine digits
-abbrev pub short_int : Bool → (n : ℕ) (short : Bool) → nat_lt n 1000000000 ≡ short → Option Int
-short_int negative n true is = Some (record { negative = negative; magnitude = n; short = is })
-short_int negative n false is = None
+-- what can be made where this is true
+abbrev pub where_true : {A : Type 0} → (b : Bool) → (b ≡ true → A) → Option A
+where_true true make = Some (make refl)
+where_true false make = None
 
 -- the int of a number, with `-` before it or not, if the number has at most nine digits
 unfoldable pub int_of : Bool → ℕ → Option Int
-int_of negative n = short_int negative n (nat_lt n 1000000000) refl
+int_of negative n = where_true (nat_lt n 1000000000) (λ short. record { negative = negative; magnitude = n; short = short })

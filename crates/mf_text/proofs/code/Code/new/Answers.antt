@@ -1,9 +1,12 @@
 use Rattle.std.proofs.Common.{sym, ◌∙◌}
-use Rattle.mf_text.proofs.ReadInts.{code_of-some, code_of-none}
+use Rattle.mf_text.specs.Codes.{code_of}
+use Rattle.mf_text.proofs.ReadInts.{where_some, where_none}
 use Rattle.mf_text.proofs.code.Code.new.Goals as goal
 
 pub returns-then-is_byte : goal.returns-then-is_byte
-returns-then-is_byte c = sym (code_of-some c.args.int _)
+unfolding code_of
+returns-then-is_byte c = sym (where_some _ _ _)
 
 pub returns : goal.returns
-returns c = sym (code_of-none c.args.int (sym c.is_byte.ensures ∙ c.if-is_byte.false))
+unfolding code_of
+returns c = sym (where_none _ _ (sym c.is_byte.ensures ∙ c.if-is_byte.false))
