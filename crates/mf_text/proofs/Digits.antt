@@ -4,7 +4,7 @@ use Rattle.std.specs.Char.{digit_value, is_ascii_digit}
 use Rattle.std.specs.List.{prefix_len, take_while}
 use Rattle.std.specs.Str.Parse.{AllDigits, digits_value}
 use Rattle.std.proofs.Math.Nat.{eq-or-lt_of_le}
-use Rattle.std.proofs.lemmas.Bool.{cases_Bool, cond_both, le-leb, lt-leb, ltb-false, ltb-true}
+use Rattle.std.proofs.lemmas.Bool.{cond_both, false_from_ne_true, le-leb, lt-leb, ltb-false, ltb-true, true_from_ne_false}
 use Rattle.std.proofs.lemmas.Bool.Decides.{nat_tests}
 use Rattle.std.proofs.lemmas.Int.Digits.{digits_more, digits_value_more}
 use Rattle.std.proofs.lemmas.List.{length-take-le}
@@ -109,10 +109,8 @@ number-long text i value to last inside digit =
 
 has_digit : (bs : List ℕ) → 0 < prefix_len is_ascii_digit bs → first_is is_ascii_digit bs ≡ true
 has_digit [] some = absurd (omega arith)
-has_digit (b ∷ bs) some = elim (cases_Bool (is_ascii_digit b)) [
-  | inl digit ↦ digit
-  | inr other ↦ absurd (let none : prefix_len is_ascii_digit (b ∷ bs) ≡ 0 = rw other refl in omega (arith, none))
-]
+has_digit (b ∷ bs) some =
+    true_from_ne_false _ (λ other. let none : prefix_len is_ascii_digit (b ∷ bs) ≡ 0 = rw other refl in omega (arith, none))
 
 -- the number that is found once all of its digits are passed
 pub number-found : (text : List ℕ) (i value : ℕ) → IsNumberTo text i value → i ≡ prefix_len is_ascii_digit text
@@ -123,10 +121,9 @@ number-found text i value to ends =
     (λ none. digits_lacking text (no_digit text (omega (arith, ltb-false 0 i none, ends)))) where
       no_digit : (bs : List ℕ) → prefix_len is_ascii_digit bs ≡ 0 → first_is is_ascii_digit bs ≡ false
       no_digit [] none = refl
-      no_digit (b ∷ bs) none = elim (cases_Bool (is_ascii_digit b)) [
-        | inr other ↦ other
-        | inl digit ↦ absurd (let some : prefix_len is_ascii_digit (b ∷ bs) ≡ 1 + prefix_len is_ascii_digit bs = rw digit refl in omega (arith, some))
-      ]
+      no_digit (b ∷ bs) none =
+          false_from_ne_true _ (λ digit.
+          let some : prefix_len is_ascii_digit (b ∷ bs) ≡ 1 + prefix_len is_ascii_digit bs = rw digit refl in omega (arith, some))
 
       found : first_token text ≡ record { token = number_token (take_while is_ascii_digit text); bytes = length (take_while is_ascii_digit text) }
           → Finds value_in text (Some (value, i))

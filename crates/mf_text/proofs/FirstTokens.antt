@@ -1,6 +1,6 @@
 -- The token at the front of bytes that do not start with a blank, and what is ahead there.
-use Rattle.std.proofs.Common.{◌≡◌, inl, inr, ℕ, ◌+◌, ◌<◌, ◌≤◌, true, false, eqb, List, [], ◌∷◌, drop, length, Option, None, Some, refl, sym, ap, ◌∙◌, arith}
-use Rattle.std.proofs.lemmas.Bool.{cases_Bool, eqb-true, false≢true}
+use Rattle.std.proofs.Common.{◌≡◌, inl, inr, ℕ, ◌+◌, ◌≤◌, true, false, eqb, List, [], ◌∷◌, drop, length, Option, None, Some, refl, sym, ap, ◌∙◌, arith}
+use Rattle.std.proofs.lemmas.Bool.{cases_Bool, eqb-true}
 use Rattle.mf_text.specs.declared.tokens.Tokens.{Tokens}
 use Rattle.mf_text.specs.Bytes.{IsClear}
 use Rattle.mf_text.specs.Ahead.{Ahead}

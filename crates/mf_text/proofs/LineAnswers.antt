@@ -7,7 +7,7 @@ use Rattle.mf_text.specs.Grammar.{Line, Nothing}
 use Rattle.mf_text.specs.Lines.{IsText, IsLineOf, Gives, HasBadValues, IsRefused, line_ahead}
 use Rattle.mf_text.specs.Meaning.{Value, Points, Angle, Meaning, Is, If, Turns, IsAnswerOf, IsUnlawful, Refuses, meaning, Command, TextFault}
 use Rattle.mf_text.specs.Reads.{Answers, ahead, remaining_tokens}
-use Rattle.mf_text.specs.Rests.{Or, follow, from, line}
+use Rattle.mf_text.specs.Rests.{follow, from, line}
 use Rattle.mf_text.specs.Tokens.{tokens}
 use Rattle.mf_text.proofs.LineReading.{goes_wrong, is_line}
 

@@ -8,7 +8,7 @@ use Rattle.mf_text.specs.Token as token
 use Rattle.mf_text.specs.declared.token.Word.TheVariants as word
 use Rattle.mf_text.specs.Ahead.{Ahead, ahead_after, column_at, column_of}
 use Rattle.mf_text.specs.Grammar.{Line, spell_line}
-use Rattle.mf_text.specs.Rests.{One, Or, Place, Before, CodeNumber, ends, follow, from, report_column, step, line, Placed, Token}
+use Rattle.mf_text.specs.Rests.{Place, Before, CodeNumber, ends, follow, from, report_column, step, line, Placed, Token}
 use Rattle.mf_text.specs.Syntax.{StartsLine, IsSyntaxFault, IsWrongAt, is_negative_code, report_place}
 use Rattle.mf_text.specs.Tokens.{kinds}
 use Rattle.mf_text.proofs.Rests.{GoesOn, is_code_number, is_code_number_at, line_to, place_ends, reads}

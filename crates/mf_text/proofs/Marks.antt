@@ -2,7 +2,7 @@
 use Rattle.std.proofs.Common.{◌≡◌, inl, inr, ℕ, Bool, true, false, bytes_eq, eqb, if◌then◌else◌, ltb, List, [], ◌∷◌, ◌++◌, Some, ◌≤◌, length, take, drop, refl, sym, ap, ◌∙◌, rules}
 use Rattle.std.specs.Char.{is_ascii_alphabetic, is_ascii_digit}
 use Rattle.std.specs.List.{list_all, prefix_len, starts_with}
-use Rattle.std.proofs.lemmas.Bool.{and_parts, cases_Bool, cond_both, false≢true}
+use Rattle.std.proofs.lemmas.Bool.{and_parts, cases_Bool, cond_both, false_from_ne_true, false≢true}
 use Rattle.mf_text.specs.declared.token.Mark.TheVariants as mark
 use Rattle.mf_text.specs.Token as token
 use Rattle.mf_text.specs.Tokens.{FindsToken, Taken, first_token, is_longer, mark_among, mark_text, marks, Mark, Token, is_token}
@@ -41,11 +41,7 @@ is_mark m bs =
     (λ _ is. are_written marks m bs all_written is))
 
 lacking : (m : Mark) (bs : List ℕ) → starts_with eqb bs (mark_text m) ≡ false → is_token (first_token bs).token (token.Mark m) ≡ false
-lacking m bs lacks =
-    elim (cases_Bool (is_token (first_token bs).token (token.Mark m))) [
-      | inr other ↦ other
-      | inl is ↦ absurd (false≢true (sym lacks ∙ is_mark m bs is))
-    ]
+lacking m bs lacks = false_from_ne_true _ (λ is. false≢true (sym lacks ∙ is_mark m bs is))
 
 -- the text of a mark is found as that mark, unless a longer mark is there
 counts : (m : Mark) (xs : List ℕ) → is_longer m (mark_text m ++ xs) ≡ false
@@ -86,10 +82,8 @@ module _ (m : Mark) (bs : List ℕ) (is : (first_token bs).token ≡ token.Mark 
   mark_there = is_mark m bs (ap (λ t. is_token t (token.Mark m)) is ∙ same_token (token.Mark m))
 
   pub no_longer : is_longer m bs ≡ false
-  no_longer = elim (cases_Bool (is_longer m bs)) [
-    | inr short ↦ short
-    | inl longer ↦ absurd (false≢true (sym (mark_longer m bs longer) ∙ ap (λ t. is_token t (token.Mark m)) is ∙ same_token (token.Mark m)))
-  ]
+  no_longer =
+      false_from_ne_true _ (λ longer. false≢true (sym (mark_longer m bs longer) ∙ ap (λ t. is_token t (token.Mark m)) is ∙ same_token (token.Mark m)))
 
   pub mark_bytes : (first_token bs).bytes ≡ length (mark_text m)
   mark_bytes = ap (λ (t : Taken). t.bytes) (first m bs mark_there no_longer)

@@ -3,7 +3,7 @@ use Rattle.std.proofs.Common.{◌≡◌, inl, inr, ℕ, ◌+◌, ◌<◌, Bool, 
 use Rattle.std.specs.Char.{is_ascii_alphabetic, is_ascii_digit}
 use Rattle.std.specs.List.{All, list_all, starts_with, take_while}
 use Rattle.std.proofs.Math.Seq.{drop-append_seam}
-use Rattle.std.proofs.lemmas.Bool.{and_parts, cases_Bool, eqb-true, false≢true, ne_eqb}
+use Rattle.std.proofs.lemmas.Bool.{and_parts, eqb-true, false_from_ne_true, false≢true, ne_eqb}
 use Rattle.std.proofs.lemmas.Bool.Decides.{Decides-eqb}
 use Rattle.std.proofs.lemmas.List.Elements.{All-head, All-tail}
 use Rattle.std.proofs.lemmas.List.Sums.{take_while-cons}
@@ -17,7 +17,7 @@ use Rattle.mf_text.specs.Tokens.{Taken, first_is, first_token, mark_among, mark_
 use Rattle.mf_text.specs.TokenTexts.{AMark, AreTokens, Digits, IsEnd, IsMarkText, IsOtherByte, IsRow, IsTokenText, Letters, OtherByte}
 use Rattle.mf_text.proofs.LineTokens.{tokens-step, tokens_at_comment}
 use Rattle.mf_text.proofs.Marks.{mark_found}
-use Rattle.mf_text.proofs.Words.{digits_first, letters_first, same_bytes, token_is}
+use Rattle.mf_text.proofs.Words.{digits_first, letters_first, row_text, same_bytes, token_is}
 
 -- the text has a byte, and its first one is no blank and begins no comment
 record BeginsToken (text : List ℕ) : Type 0 where
@@ -34,17 +34,7 @@ record IsFirst (t : Token) (text rest : List ℕ) : Type 0 where
 -- ---- rows of letters and of digits
 
 other_byte : (p : ℕ → Bool) (b c : ℕ) → p b ≡ true → p c ≡ false → eqb b c ≡ false
-other_byte p b c is none = elim (cases_Bool (eqb b c)) [
-  | inr other ↦ other
-  | inl same ↦ absurd (false≢true (sym none ∙ ap p (sym (eqb-true b c same)) ∙ is))
-]
-
-row_text : (p : ℕ → Bool) (text rest : List ℕ) → All (λ b. p b ≡ true) text → first_is p rest ≡ false → take_while p (text ++ rest) ≡ text
-row_text p [] [] all ends = refl
-row_text p [] (b ∷ bs) all ends = take_while-cons p b bs ∙ rw ends refl
-row_text p (b ∷ bs) rest all ends =
-    take_while-cons p b (bs ++ rest)
-    ∙ rw (All-head (λ c. p c ≡ true) b bs all) (ap (λ (xs : List ℕ). b ∷ xs) (row_text p bs rest (All-tail (λ c. p c ≡ true) b bs all) ends))
+other_byte p b c is none = false_from_ne_true _ (λ same. false≢true (sym none ∙ ap p (sym (eqb-true b c same)) ∙ is))
 
 module _ (p : ℕ → Bool) (space : p 32 ≡ false) (tab : p 9 ≡ false) (percent : p 37 ≡ false) (f : List ℕ → Token)
     (first : (bs : List ℕ) → first_is p bs ≡ true → first_token bs ≡ record { token = f (take_while p bs); bytes = length (take_while p bs) }) where
@@ -67,12 +57,7 @@ module _ (p : ℕ → Bool) (space : p 32 ≡ false) (tab : p 9 ≡ false) (perc
 
 mark_begins : (m : Mark) → BeginsToken (mark_text m)
 mark_begins mark.Becomes = record { clear = refl; no_comment = refl; some = omega arith }
-mark_begins mark.Close = record { clear = refl; no_comment = refl; some = omega arith }
-mark_begins mark.Comma = record { clear = refl; no_comment = refl; some = omega arith }
-mark_begins mark.Join = record { clear = refl; no_comment = refl; some = omega arith }
-mark_begins mark.Minus = record { clear = refl; no_comment = refl; some = omega arith }
-mark_begins mark.Open = record { clear = refl; no_comment = refl; some = omega arith }
-mark_begins mark.Semicolon = record { clear = refl; no_comment = refl; some = omega arith }
+mark_begins m = record { clear = refl; no_comment = refl; some = omega arith }
 
 mark_first : (m : Mark) (text rest : List ℕ) → IsMarkText m text rest → IsFirst (token.Mark m) text rest
 mark_first m text rest is =

@@ -1,8 +1,7 @@
 -- What a line gives at its next token, and after phrases.
-use Rattle.std.proofs.Common.{◌≡◌, ◌≢◌, inl, inr, ℕ, ◌<◌, true, false, List, [], ◌∷◌, ◌++◌, length, map, Option, Some, None, Result, Ok, Err, ok_or, Bool, if◌then◌else◌, refl, sym, ap, subst, ◌∙◌, arith}
+use Rattle.std.proofs.Common.{◌≡◌, ◌≢◌, ℕ, ◌<◌, true, false, List, [], ◌∷◌, ◌++◌, length, map, Option, Some, None, Result, Ok, Err, ok_or, Bool, if◌then◌else◌, refl, sym, ap, subst, ◌∙◌, arith}
 use Rattle.std.specs.Option.{option_map, option_or}
 use Rattle.std.specs.Result.{IsErrAnd}
-use Rattle.std.proofs.lemmas.Bool.{cases_Bool, false≢true}
 use Rattle.std.proofs.lemmas.List.{map-append}
 use Rattle.std.proofs.lemmas.Option.{none-some, same_Some}
 use Rattle.mf_text.specs.declared.fault.SyntaxFault.{SyntaxFault}
@@ -12,8 +11,8 @@ use Rattle.mf_text.specs.declared.token.Word.TheVariants as word
 use Rattle.mf_text.specs.declared.tokens.Tokens.{Tokens}
 use Rattle.mf_text.specs.Ahead.{Ahead, column_of}
 use Rattle.mf_text.specs.Grammar.{Line, Path, path_value, Point, Code, Name, Current, Register, Int, Pair, pair_value}
-use Rattle.mf_text.specs.Reads.{HasPoints, Passes, PassesPath, TakesToken, TakesValue, ahead, remaining_tokens, next_value, with_rest}
-use Rattle.mf_text.specs.Rests.{Kind, Of, This, Numbers, Codes, Rest, Take, OrTake, MinusCode, Corners, One, Or, Place, Before, CodeNumber, Ends, before, corner, path, follow, from, name_token, report_column, step_from, value}
+use Rattle.mf_text.specs.Reads.{HasPoints, PassesPath, TakesToken, TakesValue, ahead, remaining_tokens, next_value, with_rest}
+use Rattle.mf_text.specs.Rests.{Kind, Of, This, Numbers, Codes, Rest, Take, OrTake, MinusCode, Corners, One, Or, Before, CodeNumber, Ends, before, corner, path, follow, from, name_token, report_column, step_from, value}
 use Rattle.mf_text.specs.Token.{Placed, Token, letter_in, name_in, this_in, value_in}
 use Rattle.mf_text.specs.Token as token
 use Rattle.mf_text.proofs.Rests.{name_of, named, this_only}

@@ -1,13 +1,13 @@
 -- The rests of lines: the tokens that they take, that each line can be read, and that each rest can be ended.
 use Rattle.std.proofs.Common.{◌≡◌, inl, inr, ℕ, zero, suc, Bool, true, false, List, [], ◌∷◌, ◌++◌, Option, Some, None, refl, sym, ap, subst, ◌∙◌, append_assoc, append-nil}
 use Rattle.std.specs.Option.{option_and_then, option_or}
-use Rattle.std.proofs.lemmas.Bool.{cases_Bool}
+use Rattle.std.proofs.lemmas.Bool.{cases_Bool, true_from_ne_false}
 use Rattle.std.proofs.lemmas.Option.{none-some, same_Some}
 use Rattle.mf_text.specs.declared.token.Mark.TheVariants as mark
 use Rattle.mf_text.specs.Token as token
 use Rattle.mf_text.specs.declared.token.Word.TheVariants as word
 use Rattle.mf_text.specs.Grammar.{Line, Path, Code, Name, Current, Register, Source, Null, Named, Int, Pair, Form, Nothing, AddContour, AddPicture, CullKeeping, CullDropping, Clear, Move, ShowTotal, ShowPicture, ShowProof, ShipOut, SetCheck, PublishAll, Shifted, Scaled, XScaled, YScaled, Rotated, Transform, Sign, Plus, Minus}
-use Rattle.mf_text.specs.Rests.{Kind, Of, This, Names, Numbers, Codes, Rest, Ends, Take, OrTake, MinusCode, Corners, One, Or, ACode, Place, Before, CodeNumber, before, corner, ends, inner, int, pair, path, source, step, step_from, value, Token, code_of, int_of, line, line_end, name_token, assignment, of_int, of_source, transform, weighable, name_in, this_in}
+use Rattle.mf_text.specs.Rests.{Kind, Of, This, Names, Numbers, Codes, Rest, Ends, Take, OrTake, MinusCode, Corners, One, Or, ACode, Place, Before, CodeNumber, before, corner, ends, inner, int, path, source, step, step_from, value, Token, code_of, int_of, line, line_end, name_token, assignment, of_int, of_source, transform, weighable, name_in, this_in}
 use Rattle.mf_text.specs.Token.{is_token}
 use Rattle.mf_text.proofs.ReadInts.{int_of-back, int_of-is, code_of-back, code_of-is}
 use Rattle.mf_text.proofs.Words.{same_token, token_is}
@@ -32,10 +32,8 @@ this_same : (u : Token) → this_in u u ≡ Some tt
 this_same u = rw (same_token u) refl
 
 pub this_only : (u t : Token) → this_in u t ≡ Some tt → t ≡ u
-this_only u t is = elim (cases_Bool (is_token t u)) [
-  | inl same ↦ token_is t u same
-  | inr other ↦ (let none : this_in u t ≡ None = rw other refl in absurd (none-some tt (sym none ∙ is)))
-]
+this_only u t is =
+    token_is t u (true_from_ne_false _ (λ other. let none : this_in u t ≡ None = rw other refl in none-some tt (sym none ∙ is)))
 
 pub name_of : (name : Name) → name_in (name_token name) ≡ Some name
 name_of Current = refl

@@ -4,19 +4,19 @@ use Rattle.std.specs.Char.{is_ascii_alphabetic, is_ascii_digit}
 use Rattle.std.specs.List.{list_all, prefix_len, starts_with, take_while, All}
 use Rattle.std.specs.Option.{option_map_or}
 use Rattle.std.specs.Str.Parse.{digits_value}
-use Rattle.std.proofs.lemmas.Bool.{and_parts, cases_Bool, cond_both, false≢true, le-leb, leb-true}
+use Rattle.std.proofs.lemmas.Bool.{and_parts, cond_both, false_from_ne_true, false≢true, le-leb, leb-true}
 use Rattle.std.proofs.lemmas.Bool.Decides.{Decides-eqb, nat_tests}
 use Rattle.std.proofs.lemmas.List.{take-append-drop, take_rest}
 use Rattle.std.proofs.lemmas.Option.{none-some, same_Some}
 use Rattle.std.proofs.lemmas.Slice.Eq.{bytes_eq-Decides, starts_is}
 use Rattle.std.proofs.lemmas.List.Folds.{length-prefix_len}
-use Rattle.std.proofs.lemmas.List.Sums.{take_while-cons}
+use Rattle.std.proofs.lemmas.List.Sums.{AllPass-from_list_all, take_while-cons}
 use Rattle.mf_text.specs.Grammar.{Mark, Word}
 use Rattle.mf_text.specs.declared.token.Word.TheVariants as word
 use Rattle.mf_text.specs.Token.{Token, is_token, letter_in, value_in}
 use Rattle.mf_text.specs.Token as token
 use Rattle.mf_text.specs.Tokens.{Finds, FindsToken, Taken, first_token, first_is, is_letter, mark_among, marks, number_token, word_among, word_text, word_token, words}
-use Rattle.std.proofs.lemmas.List.Elements.{All-cons, All-nil}
+use Rattle.std.proofs.lemmas.List.Elements.{All-cons, All-head, All-nil, All-tail}
 use Rattle.mf_text.specs.TokenTexts.{IsRow}
 
 -- ---- rows of bytes
@@ -94,13 +94,13 @@ module _ (P : Token → Type 0) (unknown : P token.Unknown) where
 abbrev pub letters : List ℕ → List ℕ
 letters bs = take_while is_ascii_alphabetic bs
 
--- letters that no letter follows are the letters at the front
-letters_of : (ls bs : List ℕ) → list_all is_ascii_alphabetic ls ≡ true → first_is is_ascii_alphabetic bs ≡ false → letters (ls ++ bs) ≡ ls
-letters_of [] [] all ends = refl
-letters_of [] (b ∷ bs) all ends = take_while-cons is_ascii_alphabetic b bs ∙ rw ends refl
-letters_of (l ∷ ls) bs all ends =
-    let parts = and_parts (is_ascii_alphabetic l) (list_all is_ascii_alphabetic ls) all in
-    take_while-cons is_ascii_alphabetic l (ls ++ bs) ∙ rw parts.0 (ap (λ (xs : List ℕ). l ∷ xs) (letters_of ls bs parts.1 ends))
+-- bytes of one kind that no other of them follows are the row at the front
+pub row_text : (p : ℕ → Bool) (text rest : List ℕ) → All (λ b. p b ≡ true) text → first_is p rest ≡ false → take_while p (text ++ rest) ≡ text
+row_text p [] [] all ends = refl
+row_text p [] (b ∷ bs) all ends = take_while-cons p b bs ∙ rw ends refl
+row_text p (b ∷ bs) rest all ends =
+    take_while-cons p b (bs ++ rest)
+    ∙ rw (All-head (λ c. p c ≡ true) b bs all) (ap (λ (xs : List ℕ). b ∷ xs) (row_text p bs rest (All-tail (λ c. p c ≡ true) b bs all) ends))
 
 -- no letter follows the letters at the front
 letters_end : (bs : List ℕ) → first_is is_ascii_alphabetic (drop (length (letters bs)) bs) ≡ false
@@ -161,23 +161,18 @@ is_word w bs =
 
 lacking : (w : Word) (bs : List ℕ) → starts_with eqb bs (word_text w) ≡ false → is_token (first_token bs).token (token.Word w) ≡ false
 lacking w bs lacks =
-    elim (cases_Bool (is_token (first_token bs).token (token.Word w))) [
-      | inr other ↦ other
-      | inl is ↦
-          (let parts : bs ≡ word_text w ++ drop (length (letters bs)) bs = sym
-          (ap (λ ls. ls ++ drop (length (letters bs)) bs) (sym (is_word w bs is)) ∙ joined) in
-          absurd (false≢true (sym lacks ∙ (starts_is Decides-eqb bs (word_text w) (starts_with eqb bs (word_text w)) refl).1 _ parts)))
-    ] where
+    false_from_ne_true _ (λ is.
+    let parts : bs ≡ word_text w ++ drop (length (letters bs)) bs = sym
+    (ap (λ ls. ls ++ drop (length (letters bs)) bs) (sym (is_word w bs is)) ∙ joined) in
+    false≢true (sym lacks ∙ (starts_is Decides-eqb bs (word_text w) (starts_with eqb bs (word_text w)) refl).1 _ parts)) where
       joined : letters bs ++ drop (length (letters bs)) bs ≡ bs
       joined = rw (length-prefix_len is_ascii_alphabetic bs) (take-append-drop (prefix_len is_ascii_alphabetic bs) bs)
 
 longer_word : (w : Word) (bs : List ℕ) → first_is is_ascii_alphabetic (drop (length (word_text w)) bs) ≡ true
     → is_token (first_token bs).token (token.Word w) ≡ false
 longer_word w bs longer =
-    elim (cases_Bool (is_token (first_token bs).token (token.Word w))) [
-      | inr other ↦ other
-      | inl is ↦ absurd (false≢true (sym (letters_end bs) ∙ ap (λ ls. first_is is_ascii_alphabetic (drop (length ls) bs)) (is_word w bs is) ∙ longer))
-    ]
+    false_from_ne_true _ (λ is.
+    false≢true (sym (letters_end bs) ∙ ap (λ ls. first_is is_ascii_alphabetic (drop (length ls) bs)) (is_word w bs is) ∙ longer))
 
 first_is-append : (ls bs : List ℕ) → first_is is_ascii_alphabetic ls ≡ true → first_is is_ascii_alphabetic (ls ++ bs) ≡ true
 first_is-append [] bs is = absurd (false≢true is)
@@ -187,7 +182,7 @@ word_first : (w : Word) (bs : List ℕ) → starts_with eqb bs (word_text w) ≡
     → first_token bs ≡ record { token = token.Word w; bytes = length (word_text w) }
 word_first w bs begun ends =
     let parts = starts-drop bs (word_text w) begun in
-    let all : letters bs ≡ word_text w = ap letters parts ∙ letters_of (word_text w) _ (written w).letters ends in
+    let all : letters bs ≡ word_text w = ap letters parts ∙ row_text is_ascii_alphabetic (word_text w) _ (AllPass-from_list_all is_ascii_alphabetic (word_text w) (written w).letters) ends in
     letters_first bs (subst (λ xs. first_is is_ascii_alphabetic xs ≡ true) (sym parts) (first_is-append (word_text w) _ (written w).starts))
     ∙ ap (λ ls. record { token = word_token ls; bytes = length ls }) all ∙ ap (λ t. record { token = t; bytes = length (word_text w) }) (written w).word
 
@@ -220,7 +215,7 @@ letter_first : (b : ℕ) (bs : List ℕ) → leb 97 b ≡ true → leb b 122 ≡
 unfolding word_token
 letter_first b bs least greatest ends =
     let letter : is_ascii_alphabetic b ≡ true = grind (arith, nat_tests) in
-    let one : letters (b ∷ bs) ≡ b ∷ [] = letters_of (b ∷ []) bs (rw letter refl) ends in
+    let one : letters (b ∷ bs) ≡ b ∷ [] = row_text is_ascii_alphabetic (b ∷ []) bs (All-cons (λ c. is_ascii_alphabetic c ≡ true) b [] letter (All-nil (λ c. is_ascii_alphabetic c ≡ true))) ends in
     letters_first (b ∷ bs) letter ∙ ap (λ ls. record { token = word_token ls; bytes = length ls }) one ∙ rw (least, greatest) refl
 
 -- a row of letters other than a single small one has no letter as its token
@@ -248,10 +243,8 @@ no_small bs other = letters_lacking bs (long bs other) where
 pub small_lacking : (bs : List ℕ) → (1 ≤ length bs → 97 ≤ get_or bs 0 0 → get_or bs 0 0 ≤ 122 → ⊥) → letter_in (first_token bs).token ≡ None
 small_lacking [] never = no_small [] refl
 small_lacking (b ∷ bs) never =
-    no_small (b ∷ bs) (elim (cases_Bool (leb 97 b && leb b 122)) [
-      | inr other ↦ other
-      | inl small ↦ (let parts = and_parts (leb 97 b) (leb b 122) small in absurd (never (omega arith) (leb-true 97 b parts.0) (leb-true b 122 parts.1)))
-    ])
+    no_small (b ∷ bs) (false_from_ne_true _ (λ small.
+    let parts = and_parts (leb 97 b) (leb b 122) small in never (omega arith) (leb-true 97 b parts.0) (leb-true b 122 parts.1)))
 
 two_letters : (b : ℕ) (bs : List ℕ) → first_is is_ascii_alphabetic bs ≡ true → letter_in (first_token (b ∷ bs)).token ≡ None
 two_letters b [] longer = absurd (false≢true longer)

@@ -4,7 +4,7 @@ use Rattle.mf_text.specs.declared.fault.TextFault.TheVariants.{Syntax}
 use Rattle.mf_text.specs.declared.fault.SyntaxFault.{SyntaxFault}
 use Rattle.mf_text.specs.declared.tokens.Tokens.{Tokens}
 use Rattle.mf_text.specs.declared.path.Path as paths
-use Rattle.mf_text.specs.Grammar.{Form, Line, Path, path_value, Name, Point}
+use Rattle.mf_text.specs.Grammar.{Form, Line, Path, path_value, Point}
 use Rattle.mf_text.specs.Meaning.{IsAnswerOf, Command, TextFault}
 use Rattle.mf_text.specs.Rests.{Rest, path, from, line_end, Ahead, Token, Placed, this_in}
 use Rattle.mf_text.specs.Tokens.{tokens_from}
