@@ -45,6 +45,7 @@ impl Tokens<'_> {
 
     /// Passes a name, if it is the next token.
     #[tactic(auto, using(crate::proofs::Reading::letter_taken, crate::proofs::Reading::current_taken, crate::proofs::Reading::no_name_taken, crate::proofs::Reading::or_passed, crate::proofs::Reading::or_missed))]
+    #[inline(always)]
     pub fn takes_name(&mut self) -> Option<Name>
         ensures took { TakesValue name_in self.old self.new result }
         ensures read { (this : Name → Rest) → (other : Rest) → from (OrTake Names this other) (ahead self.old) ≡ then_value this other (ahead self.new) result }
@@ -60,6 +61,7 @@ impl Tokens<'_> {
 
     /// Passes a name, which must come next.
     #[tactic(auto, using(crate::proofs::Reading::passed, crate::proofs::Reading::missed))]
+    #[inline(always)]
     pub fn name(&mut self) -> Result<Name, SyntaxFault>
         ensures { Passes (Take Names) self.old self.new result }
     {
