@@ -103,8 +103,19 @@ impl Variables {
         ensures max_ops { max_ops self.new ≡ max_ops self.old }
         ensures identity { identity self.new ≡ identity self.old }
     {
-        let operand = self.source(&source).copy(alloc)?;
+        let operand = self.operand(alloc, source)?;
         self.operate(alloc, name, Op::Also(operand, sign))
+    }
+
+    /// A picture equal to the one that a command reads. For `nullpicture` nothing is copied.
+    fn operand(&self, alloc: Global, source: Source) -> Result<Picture, OutOfMemory>
+        requires { IsSource source }
+        ensures { IfOk result (λ operand. operand ≡ source_picture (pictures self.now) source) }
+    {
+        match source {
+            Source::Null => Ok(Picture::blank(alloc)),
+            Source::Named(name) => self.picture(&name).copy(alloc),
+        }
     }
 
     /// Changes a picture by an operation, and answers with what that prints.
