@@ -57,8 +57,30 @@ impl Performer {
     }
 
     /// Performs a line and writes its text. Refused with `OutOfMemory`, or with `WriteFault`, which counts all bytes that were
-    /// written in the run.
+    /// written in the run. An empty line prints nothing and changes nothing, so nothing is done for it.
     pub fn perform<S: Wait, W: Write>(
+        &mut self,
+        rt: &S,
+        alloc: Global,
+        writer: &mut W,
+        line: &[u8],
+    ) -> Result<(), RunFault>
+        requires { self.old.written + 2 ^ 64 ≤ 2 ^ 127 }
+        ensures written { OnOk result ((s : State) → StandsFor self.old.session s
+            → Gets (W.contents writer.old) (W.contents writer.new) (IsWritten self.old s line.now self.new)) }
+        ensures at_most { OnOk result (self.new.written ≤ self.old.written + 2 ^ 64) }
+        ensures limits { limits self.new.session ≡ limits self.old.session }
+        ensures identity { identity self.new.session ≡ identity self.old.session }
+        ensures fault { IfErr result (λ fault. BreaksText self.old line.now fault (W.contents writer.old) (W.contents writer.new)) }
+    {
+        if line.is_empty() {
+            return Ok(());
+        }
+        self.perform_line(rt, alloc, writer, line)
+    }
+
+    /// Performs a line and writes its text, as `perform` does, also where the line is empty.
+    fn perform_line<S: Wait, W: Write>(
         &mut self,
         rt: &S,
         alloc: Global,

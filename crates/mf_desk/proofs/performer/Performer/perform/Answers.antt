@@ -1,24 +1,32 @@
-use Rattle.std.proofs.Common.{[], refl, take, drop, sym, ap, subst, ◌+◌, ◌∙◌, take-append-drop, arith}
+use Rattle.std.proofs.Common.{[], inl, false, refl, subst, sym, arith}
 use Rattle.std.proofs.KnownBytes.{Appends-nil}
-use Rattle.std.proofs.lemmas.List.{length-take-le}
-use Rattle.std.proofs.lemmas.Result.{err_from_is_err_and}
+use Rattle.std.proofs.lemmas.Bool.{eqb-true}
+use Rattle.std.proofs.lemmas.List.{nil_from_length}
+use Rattle.mf_text.specs.Grammar.{Nothing as NoForm}
+use Rattle.mf_text.specs.Tokens.{tokens_from, tokens_within}
+use Rattle.mf_text.specs.declared.command.Command.TheVariants.{Nothing}
 use Rattle.mf_session.specs.Answers.{Answers}
 use Rattle.mf_session.specs.Sessions.{limits}
+use Rattle.mf_session.specs.States.{Limits, State}
 use Rattle.mf_desk.proofs.performer.Performer.perform.Goals as goal
 
-pub returns-in_err-text-clause-fault : goal.returns-in_err-text-clause-fault
-returns-in_err-text-clause-fault g c =
-    let wanting = err_from_is_err_and c.from_residual.result c.from_residual.ensures.1 in
-    rw (wanting.1, wanting.2) (λ s stands. ([], Appends-nil _, refl))
+-- an empty line prints nothing and changes nothing
+empty-answers : (bounds : Limits) (s : State) → Answers bounds s [] [] s
+unfolding tokens_from tokens_within
+empty-answers bounds s =
+    inl (record {
+      command = Nothing;
+      given = record {
+        line = record { form = NoForm; ended = false };
+        line_is = record { text = record { short = omega arith; text = refl }; spelled = refl };
+        command_is = refl;
+      };
+      answer = (refl, refl);
+    })
 
-pub returns-clause-fault : goal.returns-clause-fault
-returns-clause-fault g c = λ s stands.
-    let text = c.as_slice.result.now in
-    let count = c.in-Err.count in
+pub returns-then-is_empty-clause-written : goal.returns-then-is_empty-clause-written
+returns-then-is_empty-clause-written g c = λ s stands.
     let before = c.args.self.now in
-    let answered = c.in_ok-text.ensures.answer s stands in
-    let answer =
-    subst (λ t. Answers (limits before.session) s c.args.line.now t answered.next)
-    (sym c.as_slice.ensures.value ∙ sym (take-append-drop count text)) answered.answer in
-    let counted = ap (λ more. before.written + more) (sym (length-take-le count text (omega (arith, c.in-Err.ensures.within)))) in
-    (take count text, c.in-Err.ensures.front, (counted, (drop count text, (answered.next, answer))))
+    let none = nil_from_length c.args.line.now (eqb-true _ 0 (sym c.if-is_empty.ensures)) in
+    let answer = subst (λ line. Answers (limits before.session) s line [] s) (sym none) (empty-answers (limits before.session) s) in
+    ([], Appends-nil _, record { next = s; answer = answer; stands = stands; counted = omega arith; short = omega arith })
