@@ -4,11 +4,16 @@ use Rattle.std.specs.List.{All}
 use Rattle.std.proofs.lemmas.Int.{ints}
 use Rattle.std.proofs.lemmas.List.{length-append}
 use Rattle.std.proofs.lemmas.List.Elements.{All-nil, All-head, All-weaker}
+use Rattle.std.specs.declared.alloc.Global.{Global}
+use Rattle.std.specs.declared.sync.Arc.{Arc}
+use Rattle.mf_rows.specs.declared.band.Band.{Band}
 use Rattle.mf_geom.specs.Coordinates.{least_coordinate, last_in_field}
 use Rattle.mf_rows.specs.Bands.{AreBelow}
 use Rattle.mf_rows.specs.BandSums.{lowest_of, AreSplitAtBand}
-use Rattle.mf_rows.specs.EdgeRows.{EdgeRow, AreRowsFrom}
+use Rattle.mf_rows.specs.BandNumbers.{numbers_of, RiseWithin, HaveRisingNumbers, RiseBefore, RiseFrom, IsSplitAtBand}
+use Rattle.mf_rows.specs.EdgeRows.{EdgeRow, AreRowsFrom, AreRows}
 use Rattle.mf_rows.specs.FieldBands.{IsOfBand, AreOfBand}
+use Rattle.mf_rows.proofs.BandNumbersLemmas.{rise-wider, rise-ends, rise-append, first_up_to, rest_from}
 use Rattle.mf_rows.proofs.BandsLemmas.{All-front}
 use Rattle.mf_rows.proofs.BandSumsLemmas.{has_sum-left, rows_of_first, sum_more_step}
 use Rattle.mf_rows.proofs.EdgeRowsLemmas.{rows_from-below}
@@ -60,12 +65,6 @@ module _ (whole_left whole_right sum rs ss : List EdgeRow) (so_far : IsRowSumSoF
           sum_more_step _ _ _ _ _ so_far (n -ℤ pos 1) before others [] ss split none_before after
           (has_sum-left sum before [] after (rows_of_first split (rows_left _ _ _ _ _ so_far)) refl all)
 
-      pub own_are_of_band : (own rest : List EdgeRow) → AreSplitAtBand n others own rest → AreOfBand n own
-      own_are_of_band own rest own_split =
-          between_ends n own own_split.up_to
-          (All-weaker (λ r. r.y <ℤ lowest_of (n -ℤ pos 1)) (λ r. r.y <ℤ (lowest_of n +ℤ pos 16)) (λ r lt. omega (arith, ints, lt)) own
-          (All-front (λ r. r.y <ℤ lowest_of (n -ℤ pos 1)) own rest (subst (AreBelow (lowest_of (n -ℤ pos 1))) own_split.all split.behind)))
-
     module _ (own rest : List EdgeRow) (split : AreSplitAtBand n ss own rest) where
       pub added_are_of_band : AreOfBand n own
       added_are_of_band =
@@ -74,3 +73,58 @@ module _ (whole_left whole_right sum rs ss : List EdgeRow) (so_far : IsRowSumSoF
 
       pub fewer_rows : length rest < length ss
       fewer_rows = fewer_behind_first n ss own rest r below first (omega (arith, ints, of_band.bottom)) split
+
+-- ---- the numbers of the bands
+
+-- the numbers of the sum so far are less than `next`, and those of the bands that are left, and of the bands of the rows, are not
+pub record AreNumberedBeforeRows (sum bs : List (Arc Band Global)) (rs : List EdgeRow) : Type 0 where
+  pub next : ℤ
+  pub before : RiseBefore next sum
+  pub left : RiseFrom next bs
+  pub rows : AreBelow (lowest_of (next -ℤ pos 1)) rs
+
+pub numbered_before_rows : (bs : List (Arc Band Global)) (rs : List EdgeRow) → HaveRisingNumbers bs → AreRows rs → AreNumberedBeforeRows [] bs rs
+numbered_before_rows bs rs rising rows = record {
+  next = pos 0;
+  before = omega (arith, ints);
+  left = rising;
+  rows = rows_from-below last_in_field (lowest_of (pos 0 -ℤ pos 1)) rs rows.rows (omega (arith, ints));
+}
+
+module _ (sum bs : List (Arc Band Global)) (rs : List EdgeRow) (numbers : AreNumberedBeforeRows sum bs rs) where
+  pub left_rise : HaveRisingNumbers bs
+  left_rise = rise-wider numbers.next (pos 512) (pos 0) (pos 512) (numbers_of bs)
+      (rise-ends (pos 0) numbers.next (numbers_of sum) numbers.before) (omega (arith, ints)) numbers.left
+
+  pub all_with_left : (after : List (Arc Band Global)) → numbers_of after ≡ numbers_of sum ++ numbers_of bs → HaveRisingNumbers after
+  all_with_left after all = subst (RiseWithin (pos 0) (pos 512)) (sym all)
+      (rise-append (pos 0) numbers.next (pos 512) (numbers_of sum) (numbers_of bs) numbers.before numbers.left)
+
+  module _ (n : ℤ) (r : EdgeRow) (below : List EdgeRow) (first : rs ≡ r ∷ below) (of_band : IsOfBand n r.y) (in_field : least_coordinate ≤ℤ r.y)
+      (before others : List (Arc Band Global)) (split : IsSplitAtBand (n -ℤ pos 1) bs before others) where
+    reached : numbers.next ≤ℤ n
+    reached =
+        let lower = All-head (λ r. r.y <ℤ lowest_of (numbers.next -ℤ pos 1)) r below (subst (AreBelow (lowest_of (numbers.next -ℤ pos 1))) first numbers.rows) in
+        omega (arith, ints, lower, of_band.bottom)
+
+    pub others_from : RiseFrom n others
+    others_from = subst (λ m. RiseFrom m others) (omega (arith, ints)) (rest_from split numbers.next numbers.left (omega (arith, ints, of_band.top, in_field)))
+
+    pub rise_with_before : (after : List (Arc Band Global)) → numbers_of after ≡ numbers_of sum ++ numbers_of before → RiseBefore n after
+    rise_with_before after all =
+        let own = first_up_to split numbers.next numbers.left (omega (arith, ints, reached)) in
+        subst (RiseWithin (pos 0) n) (sym all)
+        (rise-append (pos 0) numbers.next n (numbers_of sum) (numbers_of before) numbers.before
+        (subst (λ m. RiseWithin numbers.next m (numbers_of before)) (omega (arith, ints)) own))
+
+    -- the band with the sum in band n was appended
+    pub numbered_after : (own rest after : List (Arc Band Global)) (added left : List EdgeRow) → IsSplitAtBand n others own rest → AreSplitAtBand n rs added left
+        → RiseBefore (n +ℤ pos 1) after → AreNumberedBeforeRows after rest left
+    numbered_after own rest after added left own_split added_split more =
+        let same : lowest_of n ≡ lowest_of ((n +ℤ pos 1) -ℤ pos 1) = omega (arith, ints) in
+        record {
+          next = n +ℤ pos 1;
+          before = more;
+          left = rest_from own_split n others_from (omega (arith, ints, of_band.top, in_field));
+          rows = subst (λ y. AreBelow y left) same added_split.behind;
+        }

@@ -1,20 +1,18 @@
 -- The sum of two lists of bands, step by step.
-use Rattle.std.proofs.Common.{◌≡◌, ◌≢◌, ◌⊎◌, ℕ, zero, suc, ◌+◌, ◌<◌, ℤ, pos, ◌+ℤ◌, ◌-ℤ◌, ◌≤ℤ◌, ◌<ℤ◌, List, [], ◌∷◌, ◌++◌, length, take, drop, sym, subst, ap, ◌∙◌, inl, inr, ⊎_elim, arith}
-use Rattle.std.specs.Arc.{arc_value}
+use Rattle.std.proofs.Common.{◌≡◌, ◌≢◌, ◌⊎◌, ℤ, pos, ◌+ℤ◌, ◌-ℤ◌, ◌≤ℤ◌, ◌<ℤ◌, List, [], ◌∷◌, ◌++◌, sym, subst, ap, ◌∙◌, inl, inr, ⊎_elim, arith}
 use Rattle.std.specs.Int.{int_min}
 use Rattle.std.specs.declared.alloc.Global.{Global}
 use Rattle.std.specs.declared.sync.Arc.{Arc}
 use Rattle.std.proofs.lemmas.Int.{ints, clamps, by_lt_z}
-use Rattle.std.proofs.lemmas.List.{append-nil, length-drop}
+use Rattle.std.proofs.lemmas.List.{append-nil}
 use Rattle.std.proofs.lemmas.List.Elements.{All-head, All-append, All-weaker}
 use Rattle.mf_geom.specs.Coordinates.{last_in_field}
 use Rattle.mf_rows.specs.declared.band.Band.{Band}
 use Rattle.mf_rows.specs.Bands.{rows_of_bands, AreBelow}
-use Rattle.mf_rows.specs.BandSums.{lowest_of, AreUpTo, AreBehind, AreNumberedBehind, AreSplitAtBand, IsSplitAtBand, BeginUpTo, IsStep, HasSum}
+use Rattle.mf_rows.specs.BandSums.{lowest_of, AreUpTo, AreBehind, AreSplitAtBand, HasSum}
 use Rattle.mf_edges.specs.LawfulWeights.{IsLawfulWeight}
 use Rattle.mf_rows.specs.EdgeRows.{EdgeRow, AreRowsFrom, AreRows, weight_in_rows}
 use Rattle.mf_rows.specs.Sums.{weight_in_all, HaveRowWeights, IsUnlawfulSomewhere}
-use Rattle.mf_rows.proofs.BandsLemmas.{rows_of_bands-split}
 use Rattle.mf_rows.proofs.EdgeRowsLemmas.{weight_in_rows-append, weight_in_rows-above, weight_in_rows-below, rows_from-below, rows_from-front, rows_from-back, rows_from-append}
 use Rattle.mf_rows.proofs.RowSums.{IsRowSumSoFar, rows_behind}
 
@@ -40,28 +38,7 @@ has_sum-left before rs ss after rows none all = record {
   within = record { above = λ y left right. left; below = λ y left right. left };
 }
 
--- ---- lists of bands that are split
-
--- where the first band has a number of at most n, it is not after band n
-fewer_behind : (n : ℤ) (k : ℕ) (bs : List (Arc Band Global)) → AreNumberedBehind n (drop k bs) → BeginUpTo n bs → length (drop k bs) < length bs
-fewer_behind n k [] behind begin = absurd begin
-fewer_behind n zero (b ∷ bs) behind begin =
-    let later : n <ℤ (arc_value b).number = All-head (λ (b : Arc Band Global). n <ℤ (arc_value b).number) b bs behind in
-    absurd (omega (arith, ints))
-fewer_behind n (suc k) (b ∷ bs) behind begin = omega (arith, length-drop k bs)
-
-pub split_at_band : (n : ℤ) (k : ℕ) (bs first rest : List (Arc Band Global)) → first ≡ take k bs → rest ≡ drop k bs
-    → AreUpTo n (rows_of_bands (take k bs)) → AreBehind n (rows_of_bands (drop k bs)) → AreNumberedBehind n (drop k bs) → IsSplitAtBand n bs first rest
-split_at_band n k bs first rest first_is rest_is up_to behind others = rw (first_is, rest_is) (record {
-  rows = record { all = rows_of_bands-split k bs; up_to = up_to; behind = behind };
-  no_longer = omega (arith, length-drop k bs);
-  shorter = fewer_behind n k bs others;
-})
-
-pub fewer_bands : {n : ℤ} {bs cs first_left rest_left first_right rest_right : List (Arc Band Global)} → IsStep bs cs n
-    → IsSplitAtBand n bs first_left rest_left → IsSplitAtBand n cs first_right rest_right → length rest_left + length rest_right < length bs + length cs
-fewer_bands step left right =
-    ⊎_elim (λ begin. omega (arith, left.shorter begin, right.no_longer)) (λ begin. omega (arith, right.shorter begin, left.no_longer)) step.reached
+-- ---- rows that are split
 
 pub rows_of_first : {n : ℤ} {rs first rest : List EdgeRow} → AreSplitAtBand n rs first rest → AreRows rs → AreRows first
 rows_of_first split rows = record { rows = rows_from-front last_in_field _ _ (subst (AreRowsFrom last_in_field) split.all rows.rows) }

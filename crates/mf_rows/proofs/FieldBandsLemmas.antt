@@ -1,23 +1,23 @@
--- Bands of the field: from band to band their numbers rise, so the bands up to a number are found by binary search.
-use Rattle.std.proofs.Common.{◌≡◌, ◌≢◌, ℕ, ◌<◌, ◌≤◌, ℤ, pos, ◌+ℤ◌, ◌-ℤ◌, ◌≤ℤ◌, ◌<ℤ◌, List, [], ◌∷◌, Bool, true, false, length, take, drop, get_or, inl, inr, subst, arith, ◌∙◌}
-use Rattle.std.specs.Int.{int_max}
+-- Bands of the field, and the bands up to a number, which are found by binary search.
+use Rattle.std.proofs.Common.{◌≡◌, ℕ, ◌≤◌, ℤ, pos, ◌+ℤ◌, ◌-ℤ◌, ◌≤ℤ◌, ◌<ℤ◌, List, [], ◌∷◌, ◌++◌, Bool, true, false, length, take, drop, append-nil, sym, ap, subst, arith, ◌∙◌}
 use Rattle.std.specs.List.{All, AllWithin}
 use Rattle.std.specs.List.Sorted.{IsPartitionedBy}
-use Rattle.std.proofs.lemmas.Int.{ints, clamps, by_lt_z}
+use Rattle.std.proofs.lemmas.Int.{ints}
+use Rattle.std.proofs.lemmas.List.Concat.{flat_map-append}
 use Rattle.std.proofs.lemmas.List.Elements.{All-nil, All-cons, All-head, All-tail, All-append, All-weaker}
 use Rattle.std.specs.Arc.{arc_value}
 use Rattle.std.specs.declared.alloc.Global.{Global}
 use Rattle.std.specs.declared.sync.Arc.{Arc}
-use Rattle.mf_geom.specs.Coordinates.{last_in_field}
 use lib.Signed.{le_z}
 use Rattle.mf_rows.specs.declared.band.Band.{Band}
-use Rattle.mf_rows.specs.Bands.{AreAbove, AreBelow, rows_in, bottom_of, rows_of_bands}
-use Rattle.mf_rows.specs.BandSums.{lowest_of, AreUpTo, AreBehind, AreNumberedBehind, BeginUpTo, IsStep, EndsStep, end_of}
-use Rattle.mf_rows.specs.EdgeRows.{EdgeRow, AreRows}
+use Rattle.mf_rows.specs.BandNumbers.{number_of, numbers_of, HaveRisingNumbers, IsOnlyBand, IsSplitAtBand}
+use Rattle.mf_rows.specs.Bands.{AreAbove, AreBelow, rows_in, rows_of_bands}
+use Rattle.mf_rows.specs.BandSums.{lowest_of, AreSplitAtBand}
+use Rattle.mf_rows.specs.EdgeRows.{EdgeRow}
 use Rattle.mf_rows.specs.FieldBands.{IsOfBand, AreOfBand}
 use Rattle.mf_rows.specs.Sums.{StayWithin}
 use Rattle.mf_edges.proofs.Falls.{IsPartitionedBy-falls, All-take_within, All-drop_within}
-use Rattle.mf_rows.proofs.BandsLemmas.{at_bottom, bands_fall}
+use Rattle.mf_rows.proofs.BandNumbersLemmas.{numbers_fall, rise-ends}
 
 -- ---- the rows of bands
 
@@ -61,74 +61,45 @@ sum_is_of_band n rs ss sum left right within =
 
 -- whether a band has a number of at most n
 abbrev pub is_up_to : ℤ → Arc Band Global → Bool
-is_up_to n band = le_z (arc_value band).number n
+is_up_to n band = le_z (number_of band) n
 
--- of two bands, the higher one has no greater number
-higher_number : (lower higher y z : ℤ) → IsOfBand lower y → IsOfBand higher z → y ≤ℤ z → higher ≤ℤ lower
-higher_number lower higher y z of_lower of_higher le = omega (arith, ints, of_lower.bottom, of_higher.top)
+-- each lesser number passes, too
+lesser_up_to : (n m l : ℤ) → (pos 0 -ℤ m) ≤ℤ (pos 0 -ℤ l) → le_z m n ≡ true → le_z l n ≡ true
+lesser_up_to n m l le up_to = grind (arith, ints)
 
-up_to_from : (n lower higher : ℤ) → higher ≤ℤ lower → le_z lower n ≡ true → le_z higher n ≡ true
-up_to_from n lower higher le up_to = grind (arith, ints)
+pub IsPartitionedBy-is_up_to : (n : ℤ) (bs : List (Arc Band Global)) → HaveRisingNumbers bs → IsPartitionedBy (is_up_to n) bs
+IsPartitionedBy-is_up_to n bs rising =
+    IsPartitionedBy-falls (λ b. pos 0 -ℤ number_of b) (is_up_to n) (λ a b le. lesser_up_to n (number_of a) (number_of b) le) bs
+    (numbers_fall (pos 0) (pos 512) bs rising)
 
-higher_up_to : (n : ℤ) (a b : Arc Band Global) → bottom_of (arc_value a) ≤ℤ bottom_of (arc_value b) → is_up_to n a ≡ true → is_up_to n b ≡ true
-higher_up_to n a b le up_to =
-    let lower = at_bottom (IsOfBand (arc_value a).number) (arc_value a) (rows_of_band (arc_value a)) in
-    let higher = at_bottom (IsOfBand (arc_value b).number) (arc_value b) (rows_of_band (arc_value b)) in
-    up_to_from n (arc_value a).number (arc_value b).number (higher_number _ _ (bottom_of (arc_value a)) (bottom_of (arc_value b)) lower higher le) up_to
-
-pub IsPartitionedBy-is_up_to : (n : ℤ) (bs : List (Arc Band Global)) → AreRows (rows_of_bands bs) → IsPartitionedBy (is_up_to n) bs
-IsPartitionedBy-is_up_to n bs lawful =
-    IsPartitionedBy-falls (λ b. bottom_of (arc_value b)) (is_up_to n) (higher_up_to n) bs (bands_fall last_in_field bs lawful.rows)
-
--- what the place says of the rows before it, and of the bands and rows from it on
+-- what the place says of the bands before it, and of those from it on
 pub up_to_split : (n : ℤ) (k : ℕ) (bs : List (Arc Band Global)) → k ≤ length bs
-    → AllWithin (λ b. is_up_to n b ≡ true) bs 0 k → AreUpTo n (rows_of_bands (take k bs))
+    → AllWithin (λ b. is_up_to n b ≡ true) bs 0 k → All (λ b. number_of b ≤ℤ n) (take k bs)
 up_to_split n k bs le passed =
-    All-rows_of_bands (λ m. le_z m n ≡ true) (λ y. (lowest_of n -ℤ pos 1) <ℤ y)
-    (λ m y up_to of_band. grind (arith, ints)) (take k bs) (All-take_within (λ b. is_up_to n b ≡ true) bs k le passed)
+    All-weaker (λ b. is_up_to n b ≡ true) (λ b. number_of b ≤ℤ n) (λ b up_to. grind (arith, ints))
+    (take k bs) (All-take_within (λ b. is_up_to n b ≡ true) bs k le passed)
 
-pub behind_split : (n : ℤ) (k : ℕ) (bs : List (Arc Band Global)) → AllWithin (λ b. is_up_to n b ≡ false) bs k (length bs)
-    → AreBehind n (rows_of_bands (drop k bs))
+pub behind_split : (n : ℤ) (k : ℕ) (bs : List (Arc Band Global))
+    → AllWithin (λ b. is_up_to n b ≡ false) bs k (length bs) → All (λ b. n <ℤ number_of b) (drop k bs)
 behind_split n k bs failed =
-    All-rows_of_bands (λ m. le_z m n ≡ false) (λ y. y <ℤ lowest_of n) (λ m y behind of_band. grind (arith, ints))
+    All-weaker (λ b. is_up_to n b ≡ false) (λ b. n <ℤ number_of b) (λ b behind. grind (arith, ints))
     (drop k bs) (All-drop_within (λ b. is_up_to n b ≡ false) bs k failed)
 
-pub numbered_behind_split : (n : ℤ) (k : ℕ) (bs : List (Arc Band Global))
-    → AllWithin (λ b. is_up_to n b ≡ false) bs k (length bs) → AreNumberedBehind n (drop k bs)
-numbered_behind_split n k bs failed =
-    All-weaker (λ b. is_up_to n b ≡ false) (λ b. n <ℤ (arc_value b).number) (λ b behind. grind (arith, ints))
-    (drop k bs) (All-drop_within (λ b. is_up_to n b ≡ false) bs k failed)
+-- the rows of bands that are split
+pub rows_split_at : {n : ℤ} {bs first rest : List (Arc Band Global)} → IsSplitAtBand n bs first rest
+    → AreSplitAtBand n (rows_of_bands bs) (rows_of_bands first) (rows_of_bands rest)
+rows_split_at {n} {bs} {first} {rest} split = record {
+  all = ap rows_of_bands split.all ∙ flat_map-append (λ (band : Arc Band Global). rows_in (arc_value band)) first rest;
+  up_to = All-rows_of_bands (λ m. m ≤ℤ n) (λ y. (lowest_of n -ℤ pos 1) <ℤ y)
+      (λ m y up_to of_band. omega (arith, ints, up_to, of_band.bottom)) first split.up_to;
+  behind = All-rows_of_bands (λ m. n <ℤ m) (λ y. y <ℤ lowest_of n) (λ m y behind of_band. omega (arith, ints, behind, of_band.top)) rest split.behind;
+}
 
--- ---- the end of a step
-
-begin_up_to : (n : ℤ) (bs : List (Arc Band Global)) (b : Arc Band Global) → 0 < length bs → b ≡ get_or bs 0 b → (arc_value b).number ≤ℤ n → BeginUpTo n bs
-begin_up_to n [] b some read up_to = absurd (omega arith)
-begin_up_to n (a ∷ bs) b some read up_to = subst (λ (c : Arc Band Global). (arc_value c).number ≤ℤ n) read up_to
-
--- a step up to the number before the greater of two first numbers reaches the band with the other number
-pub step_before_greater : (bs cs : List (Arc Band Global)) (b c : Arc Band Global) (n : ℤ) → 0 < length bs
-    → b ≡ get_or bs 0 b → 0 < length cs → c ≡ get_or cs 0 c → (arc_value b).number ≢ (arc_value c).number
-    → n ≡ int_max (arc_value b).number (arc_value c).number -ℤ pos 1 → IsStep bs cs n
-step_before_greater bs cs b c n some b_is more c_is apart n_is =
-    record {
-      reached = by_lt_z (arc_value b).number (arc_value c).number
-          (λ lt. inl (begin_up_to n bs b some b_is (omega (arith, ints, clamps))))
-          (λ le. inr (begin_up_to n cs c more c_is (omega (arith, ints, clamps))));
-    }
-
--- a step ends as its first bands say
-end_from_first : (bs cs : List (Arc Band Global)) (b c : Arc Band Global) (n : ℤ) → 0 < length bs → b ≡ get_or bs 0 b
-    → 0 < length cs → c ≡ get_or cs 0 c → n ≡ end_of (arc_value b).number (arc_value c).number → EndsStep bs cs n
-end_from_first [] cs b c n some b_is more c_is n_is = absurd (omega arith)
-end_from_first (a ∷ bs) [] b c n some b_is more c_is n_is = absurd (omega arith)
-end_from_first (a ∷ bs) (d ∷ cs) b c n some b_is more c_is n_is =
-    subst (λ (z : Arc Band Global). n ≡ end_of (arc_value z).number (arc_value d).number) b_is
-    (subst (λ (z : Arc Band Global). n ≡ end_of (arc_value b).number (arc_value z).number) c_is n_is)
-
-end_of-apart : (m n : ℤ) → m ≢ n → int_max m n -ℤ pos 1 ≡ end_of m n
-end_of-apart m n apart = grind (arith, ints, clamps)
-
-pub ends_before_greater : (bs cs : List (Arc Band Global)) (b c : Arc Band Global) (n : ℤ) → 0 < length bs
-    → b ≡ get_or bs 0 b → 0 < length cs → c ≡ get_or cs 0 c → (arc_value b).number ≢ (arc_value c).number
-    → n ≡ int_max (arc_value b).number (arc_value c).number -ℤ pos 1 → EndsStep bs cs n
-ends_before_greater bs cs b c n some b_is more c_is apart n_is = end_from_first bs cs b c n some b_is more c_is (n_is ∙ end_of-apart _ _ apart)
+-- the rows of band n, where there is no other
+pub rows_of_only : (n : ℤ) (bs : List (Arc Band Global)) → IsOnlyBand n bs → AreOfBand n (rows_of_bands bs)
+rows_of_only n [] only = All-nil (λ r. IsOfBand n r.y)
+rows_of_only n (b ∷ []) only = subst (λ m. AreOfBand m (rows_of_bands (b ∷ []))) (omega (arith, ints, only.0, only.1))
+    (subst (AreOfBand (number_of b)) (sym (append-nil (rows_in (arc_value b)))) (rows_of_band (arc_value b)))
+rows_of_only n (b ∷ c ∷ bs) only =
+    let last = rise-ends (number_of c +ℤ pos 1) (n +ℤ pos 1) (numbers_of bs) only.1.1 in
+    absurd (omega (arith, ints, only.0, only.1.0, last))

@@ -1,3 +1,4 @@
+mod BandNumbersLemmas
 mod BandRowSums
 mod BandsLemmas
 mod BandSumsLemmas
@@ -45,3 +46,4 @@ mod TurnChanges
 mod TurnEdges
 mod TurnedRows
 pub mod WeightsLemmas
+mod WrittenBands

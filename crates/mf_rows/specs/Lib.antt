@@ -1,3 +1,4 @@
+pub mod BandNumbers
 pub mod BandSums
 pub mod Bands
 pub mod BlankRows

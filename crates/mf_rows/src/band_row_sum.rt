@@ -1,5 +1,6 @@
 //! The sum of bands and rows.
-ghost use Rattle.std.specs.Prelude.{◌≡◌, ◌≢◌, IfOk, IfErr, OnOk};
+ghost use Rattle.std.specs.Prelude.{◌≡◌, ◌≢◌, IfOk, IfErr, OnOk, pos, ◌+ℤ◌};
+ghost use Rattle.mf_rows.specs.BandNumbers.{HaveRisingNumbers, RiseBefore, band_found};
 ghost use Rattle.mf_rows.specs.Bands.{rows_of_bands, slice_rows};
 ghost use Rattle.mf_rows.specs.BandSums.{HasSum};
 ghost use Rattle.mf_rows.specs.EdgeRows.{AreRows};
@@ -7,8 +8,9 @@ ghost use Rattle.mf_rows.specs.FieldBands.{AreOfBand};
 ghost use Rattle.mf_rows.specs.Sums.{weight_in_all, HaveRowWeights, IsUnlawfulSomewhere, StayWithin};
 
 use crate::band::Band;
-use crate::band_sum::all_rows;
-use crate::bands::{BAND_HEIGHT, band_of, close_band, push_shared, split_bands, split_rows};
+use crate::bands::{
+    BAND_HEIGHT, band_of, close_band, push_shared, split_bands, split_first_band, split_rows,
+};
 use crate::group::BANDS_IN_GROUP;
 use crate::row_list::RowList;
 use crate::row_sum::{push_rows, sum_of_rows};
@@ -27,7 +29,9 @@ pub(crate) fn sum_of_bands_and_rows(
 ) -> Result<Vec<Arc<Band>>, AddFault>
     requires bands { AreRows (rows_of_bands bands.now) }
     requires rows { AreRows (slice_rows rows) }
+    requires rising { HaveRisingNumbers bands.now }
     ensures rows { IfOk result (λ sum. AreRows (rows_of_bands sum.items)) }
+    ensures rising { IfOk result (λ sum. HaveRisingNumbers sum.items) }
     ensures weights { IfOk result (λ sum. HaveRowWeights (weight_in_all (rows_of_bands bands.now) (slice_rows rows.entry)) (rows_of_bands sum.items)) }
     ensures too_large { IfErr result (λ fault. fault ≢ AddFault.OutOfMemory
         → IsUnlawfulSomewhere (weight_in_all (rows_of_bands bands.now) (slice_rows rows.entry))) }
@@ -40,8 +44,8 @@ pub(crate) fn sum_of_bands_and_rows(
         let (own_rows, rest_rows) = split_rows(rows, number);
         let (before, others) = split_bands(bands, number - 1);
         push_shared(&mut sum, before)?;
-        let (own_bands, rest_bands) = split_bands(others, number);
-        push_sum(alloc, &mut sum, number, own_bands, own_rows)?;
+        let (own_band, rest_bands) = split_first_band(others, number);
+        push_sum(alloc, &mut sum, number, own_band, own_rows)?;
         (bands, rows) = (rest_bands, rest_rows);
     }
     push_shared(&mut sum, bands)?;
@@ -54,45 +58,46 @@ fn room_for(bands: &[Arc<Band>], rows: RowSlice<'_>) -> usize {
     bands.len().saturating_add(new).min(BANDS_IN_GROUP as usize)
 }
 
-/// Appends a band of this number, with the sum of bands of this number and of rows that belong to it, to a list of bands.
+/// Appends the band of a number, with the sum of the old band, where there is one, and of rows that belong to it, to a list of bands
+/// with lesser numbers.
 fn push_sum(
     alloc: Global,
     sum: &mut Vec<Arc<Band>>,
     number: i32,
-    bands: &[Arc<Band>],
+    band: Option<&Arc<Band>>,
     rows: RowSlice<'_>,
 ) -> Result<(), AddFault>
-    requires bands { AreRows (rows_of_bands bands.now) }
+    requires band { AreRows (rows_of_bands (band_found band)) }
     requires rows { AreRows (slice_rows rows) }
-    requires bands_of_band { AreOfBand number (rows_of_bands bands.now) }
-    requires rows_of_band { AreOfBand number (slice_rows rows) }
-    ensures pushed { OnOk result (HasSum (rows_of_bands sum.old.items) (rows_of_bands bands.now) (slice_rows rows.entry) (rows_of_bands sum.new.items)) }
+    requires band_of_number { AreOfBand number (rows_of_bands (band_found band)) }
+    requires rows_of_number { AreOfBand number (slice_rows rows) }
+    requires before { RiseBefore number sum.old.items }
+    ensures pushed { OnOk result (HasSum (rows_of_bands sum.old.items) (rows_of_bands (band_found band.entry)) (slice_rows rows.entry) (rows_of_bands sum.new.items)) }
+    ensures rising { OnOk result (RiseBefore (number +ℤ pos 1) sum.new.items) }
     ensures too_large { IfErr result (λ fault. fault ≢ AddFault.OutOfMemory
-        → IsUnlawfulSomewhere (weight_in_all (rows_of_bands bands.now) (slice_rows rows.entry))) }
+        → IsUnlawfulSomewhere (weight_in_all (rows_of_bands (band_found band.entry)) (slice_rows rows.entry))) }
 {
-    let rows = sum_with_bands(alloc, bands, rows)?;
+    let rows = sum_with_band(alloc, band, rows)?;
     Ok(close_band(alloc, sum, number, rows)?)
 }
 
-/// The rows of the sum of bands and rows.
-fn sum_with_bands(
+/// The rows of the sum of a band, where there is one, and rows.
+fn sum_with_band(
     alloc: Global,
-    bands: &[Arc<Band>],
+    band: Option<&Arc<Band>>,
     rows: RowSlice<'_>,
 ) -> Result<RowList, AddFault>
-    requires bands { AreRows (rows_of_bands bands.now) }
+    requires band { AreRows (rows_of_bands (band_found band)) }
     requires rows { AreRows (slice_rows rows) }
     ensures rows { IfOk result (λ sum. AreRows sum) }
-    ensures weights { IfOk result (λ sum. HaveRowWeights (weight_in_all (rows_of_bands bands.now) (slice_rows rows.entry)) sum) }
-    ensures within { IfOk result (λ sum. StayWithin (rows_of_bands bands.now) (slice_rows rows.entry) sum) }
+    ensures weights { IfOk result (λ sum. HaveRowWeights (weight_in_all (rows_of_bands (band_found band.entry)) (slice_rows rows.entry)) sum) }
+    ensures within { IfOk result (λ sum. StayWithin (rows_of_bands (band_found band.entry)) (slice_rows rows.entry) sum) }
     ensures too_large { IfErr result (λ fault. fault ≢ AddFault.OutOfMemory
-        → IsUnlawfulSomewhere (weight_in_all (rows_of_bands bands.now) (slice_rows rows.entry))) }
+        → IsUnlawfulSomewhere (weight_in_all (rows_of_bands (band_found band.entry)) (slice_rows rows.entry))) }
 {
-    match bands {
-        [] => Ok(copy_of(alloc, rows)?),
-        [band] => sum_of_rows(alloc, RowSlice::of(&band.rows), rows),
-        // No picture has two bands of one number, but no invariant says so.
-        _ => sum_of_rows(alloc, RowSlice::of(&all_rows(alloc, bands)?), rows),
+    match band {
+        Some(band) => sum_of_rows(alloc, RowSlice::of(&band.rows), rows),
+        None => Ok(copy_of(alloc, rows)?),
     }
 }
 

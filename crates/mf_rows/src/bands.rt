@@ -1,9 +1,10 @@
 //! Lists of bands: an operation makes new bands where it changes something, and shares the others.
-ghost use Rattle.std.specs.Prelude.{◌≡◌, [], ◌++◌, ◌≤◌, IsNone, IsOk, IfSome, OnOk, pos, ◌≤ℤ◌, length, take, drop, All};
+ghost use Rattle.std.specs.Prelude.{◌≡◌, [], ◌++◌, ◌≤◌, IsNone, IsOk, IfSome, OnOk, pos, ◌≤ℤ◌, ◌<ℤ◌, length, take, drop, All};
 ghost use Rattle.std.specs.Arc.{arc_value};
 ghost use Rattle.mf_geom.specs.Coordinates.{least_coordinate, last_in_field};
 ghost use Rattle.mf_rows.specs.Bands.{bottom_of, rows_in, rows_of_bands, slice_rows, HasRow, HasNoRow, HasSameRow, AreAbove};
-ghost use Rattle.mf_rows.specs.BandSums.{AreUpTo, AreBehind, AreNumberedBehind, AreSplitAtBand, IsSplitAtBand};
+ghost use Rattle.mf_rows.specs.BandNumbers.{HaveRisingNumbers, IsSplitAtBand, RiseFrom, band_found, number_of, number_of_rows, numbers_of};
+ghost use Rattle.mf_rows.specs.BandSums.{AreSplitAtBand};
 ghost use Rattle.mf_rows.specs.EdgeRows.{AreRows};
 ghost use Rattle.mf_rows.specs.FieldBands.{IsOfBand, AreOfBand};
 
@@ -51,10 +52,24 @@ pub(crate) fn count_above(bands: &[Arc<Band>], y: i32) -> usize
 
 /// These bands, split into those up to the one of this number and those after it.
 pub(crate) fn split_bands(bands: &[Arc<Band>], number: i32) -> (&[Arc<Band>], &[Arc<Band>])
-    requires { AreRows (rows_of_bands bands.now) }
+    requires { HaveRisingNumbers bands.now }
     ensures { IsSplitAtBand number bands.now result.0.now result.1.now }
 {
     bands.split_at(count_up_to(bands, number))
+}
+
+/// The band of this number, where these bands begin with it, and the bands after it. Requires that no band has a lesser number.
+pub(crate) fn split_first_band(
+    bands: &[Arc<Band>],
+    number: i32,
+) -> (Option<&Arc<Band>>, &[Arc<Band>])
+    requires { RiseFrom number bands.now }
+    ensures { IsSplitAtBand number bands.now (band_found result.0) result.1.now }
+{
+    match bands.split_first() {
+        Some((band, rest)) if band.number == number => (Some(band), rest),
+        _ => (None, bands),
+    }
 }
 
 /// These rows, split into those of the bands up to the one of this number and those of bands after it.
@@ -69,11 +84,10 @@ pub(crate) fn split_rows(rows: RowSlice<'_>, number: i32) -> (RowSlice<'_>, RowS
 
 /// The number of bands whose number is at most this one, which are the first ones.
 fn count_up_to(bands: &[Arc<Band>], number: i32) -> usize
-    requires { AreRows (rows_of_bands bands.now) }
+    requires { HaveRisingNumbers bands.now }
     ensures within { result ≤ length bands.now }
-    ensures above { AreUpTo number (rows_of_bands (take result bands.now)) }
-    ensures below { AreBehind number (rows_of_bands (drop result bands.now)) }
-    ensures others { AreNumberedBehind number (drop result bands.now) }
+    ensures up_to { All (λ band. number_of band ≤ℤ number) (take result bands.now) }
+    ensures behind { All (λ band. number <ℤ number_of band) (drop result bands.now) }
 {
     bands.partition_point(|band| band.number <= number)
 }
@@ -84,6 +98,7 @@ pub(crate) fn push_shared(
     others: &[Arc<Band>],
 ) -> Result<(), OutOfMemory>
     ensures rows { OnOk result (rows_of_bands bands.new.items ≡ rows_of_bands bands.old.items ++ rows_of_bands others.now) }
+    ensures numbers { OnOk result (numbers_of bands.new.items ≡ numbers_of bands.old.items ++ numbers_of others.now) }
     ensures none { others.now ≡ [] → IsOk result }
 {
     bands.reserve(others.len())?;
@@ -101,7 +116,8 @@ pub(crate) fn close_band(
     rows: RowList,
 ) -> Result<(), OutOfMemory>
     requires { AreOfBand number rows }
-    ensures { OnOk result (rows_of_bands bands.new.items ≡ rows_of_bands bands.old.items ++ rows) }
+    ensures rows { OnOk result (rows_of_bands bands.new.items ≡ rows_of_bands bands.old.items ++ rows) }
+    ensures numbers { OnOk result (numbers_of bands.new.items ≡ numbers_of bands.old.items ++ number_of_rows number rows) }
 {
     if rows.is_empty() {
         return Ok(());

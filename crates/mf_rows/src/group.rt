@@ -1,4 +1,6 @@
 //! Groups of bands.
+ghost use Rattle.std.specs.Prelude.{◌≢◌, []};
+ghost use Rattle.mf_rows.specs.BandNumbers.{HaveRisingNumbers, HaveRisingNumbers-prop};
 
 use crate::band::Band;
 use crate::bands::BAND_HEIGHT;
@@ -18,4 +20,6 @@ pub(crate) const GROUP_COUNT: usize = 16;
 #[derive(Debug, Drop)]
 pub(crate) struct Group {
     pub(crate) bands: Vec<Arc<Band>>,
+    ghost some: { bands.items ≢ [] },
+    ghost rising: { HaveRisingNumbers bands.items } by { HaveRisingNumbers-prop bands.items },
 }

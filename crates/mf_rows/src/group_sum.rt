@@ -1,5 +1,6 @@
 //! The sum of groups, and of groups and bands.
 ghost use Rattle.std.specs.Prelude.{◌≡◌, ◌≢◌, IfOk, IfErr};
+ghost use Rattle.mf_rows.specs.BandNumbers.{HaveRisingNumbers};
 ghost use Rattle.mf_rows.specs.Bands.{rows_of_bands, slice_rows};
 ghost use Rattle.mf_rows.specs.EdgeRows.{AreRows};
 ghost use Rattle.mf_rows.specs.Groups.{AreGroups, group_found, rows_at_place, rows_of_groups};
@@ -111,7 +112,8 @@ fn sum_with_own(
 
 /// The bands of a group that was found, none where none was.
 fn bands_found(group: Option<&Arc<Group>>) -> &[Arc<Band>]
-    ensures { rows_of_bands result.now ≡ group_found group.entry }
+    ensures rows { rows_of_bands result.now ≡ group_found group.entry }
+    ensures rising { HaveRisingNumbers result.now }
 {
     match group {
         Some(group) => &group.bands,

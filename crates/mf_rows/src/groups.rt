@@ -1,5 +1,6 @@
 //! Lists of groups: at each place the group of the field that belongs there, or none.
 ghost use Rattle.std.specs.Prelude.{◌≡◌, ◌<◌, IsNone, IfSome, IfOk, None, map, slice_index_or};
+ghost use Rattle.mf_rows.specs.BandNumbers.{HaveRisingNumbers};
 ghost use Rattle.mf_rows.specs.Bands.{edge_rows, rows_of_bands, slice_rows, HasRow, HasNoRow};
 ghost use Rattle.mf_rows.specs.EdgeRows.{AreRows};
 ghost use Rattle.mf_rows.specs.Groups.{AreGroups, IsSplitAtPlace, group_found, rows_at_place, rows_of_groups};
@@ -80,6 +81,7 @@ pub(crate) fn group_of(
     alloc: Global,
     bands: Vec<Arc<Band>>,
 ) -> Result<Option<Arc<Group>>, OutOfMemory>
+    requires { HaveRisingNumbers bands.items }
     ensures { IfOk result (λ group. rows_at_place group ≡ rows_of_bands bands.items) }
 {
     if bands.is_empty() {
@@ -93,7 +95,8 @@ pub(crate) fn groups_of(
     alloc: Global,
     bands: &[Arc<Band>],
 ) -> Result<Vec<Option<Arc<Group>>>, OutOfMemory>
-    requires { AreRows (rows_of_bands bands.now) }
+    requires rows { AreRows (rows_of_bands bands.now) }
+    requires rising { HaveRisingNumbers bands.now }
     ensures groups { IfOk result (λ groups. AreGroups groups.items) }
     ensures rows { IfOk result (λ groups. rows_of_groups groups.items ≡ rows_of_bands bands.now) }
 {
@@ -115,9 +118,11 @@ pub(crate) fn groups_of(
 
 /// These bands, split into those of the group at a place and of earlier ones, and those of later ones.
 pub(crate) fn split_at_place(bands: &[Arc<Band>], place: usize) -> (&[Arc<Band>], &[Arc<Band>])
-    requires rows { AreRows (rows_of_bands bands.now) }
+    requires rising { HaveRisingNumbers bands.now }
     requires place { place < GROUP_COUNT }
-    ensures { IsSplitAtPlace place (rows_of_bands bands.now) (rows_of_bands result.0.now) (rows_of_bands result.1.now) }
+    ensures rows { IsSplitAtPlace place (rows_of_bands bands.now) (rows_of_bands result.0.now) (rows_of_bands result.1.now) }
+    ensures own { HaveRisingNumbers result.0.now }
+    ensures others { HaveRisingNumbers result.1.now }
 {
     split_bands(bands, BANDS_IN_GROUP * (place as i32 + 1) - 1)
 }

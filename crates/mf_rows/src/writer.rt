@@ -8,7 +8,6 @@ use crate::band::Band;
 use crate::bands::{BAND_HEIGHT, band_of, close_band};
 use crate::row::Row;
 use crate::row_list::{MANY_EDGES, RowList};
-use crate::slice::RowSlice;
 use mf_base::OutOfMemory;
 use std::alloc::Global;
 use std::marker::Model;
@@ -31,17 +30,18 @@ impl Model for RowWriter {
 
     ghost Value = { List EdgeRow };
 
+    ghost use Rattle.mf_rows.specs.BandNumbers.{IsWriting};
     ghost use Rattle.mf_rows.specs.Bands.{rows_of_bands};
-    ghost use Rattle.mf_rows.specs.FieldBands.{AreOfBand};
 
     ghost view = { λ w. rows_of_bands w.bands.items ++ w.rows };
 
-    ghost invariant = { λ w. AreOfBand w.number w.rows };
+    ghost invariant = { λ w. IsWriting w.number w.bands.items w.rows };
 }
 
 impl RowWriter {
-    ghost use Rattle.mf_rows.specs.Bands.{slice_rows, rows_of_bands};
-    ghost use Rattle.mf_rows.specs.Rest.{AreEdgeRows};
+    ghost use Rattle.mf_rows.specs.BandNumbers.{HaveRisingNumbers};
+    ghost use Rattle.mf_rows.specs.Bands.{rows_of_bands};
+    ghost use Rattle.mf_rows.specs.EdgeRows.{AreRows};
     ghost use Rattle.mf_rows.specs.RowLists.{last_edges};
 
     /// No rows. Allocates nothing.
@@ -63,17 +63,22 @@ impl RowWriter {
         ensures { OnOk result (self.new ≡ self.old ++ record { y = y; edges = row.now.edges.now } ∷ []) }
     {
         let own = band_of(y);
-        if own != self.number {
-            let next = RowList::with_room(
-                self.alloc,
-                BAND_HEIGHT as usize,
-                row.edges.len().min(MANY_EDGES),
-            )?;
-            let rows = replace(&mut self.rows, next);
-            close_band(self.alloc, &mut self.bands, self.number, rows)?;
-            self.number = own;
+        if own == self.number {
+            self.rows.push(y, row)?;
+            return Ok(());
         }
-        self.rows.push(y, row)?;
+        let mut next = RowList::with_room(
+            self.alloc,
+            BAND_HEIGHT as usize,
+            row.edges.len().min(MANY_EDGES),
+        )?;
+        next.push(y, row)?;
+        // The bands come back once the one that ends here is among them: without it, the new one might have the number of the last.
+        let mut bands = replace(&mut self.bands, Vec::new(self.alloc));
+        let number = replace(&mut self.number, own);
+        let rows = replace(&mut self.rows, next);
+        close_band(self.alloc, &mut bands, number, rows)?;
+        self.bands = bands;
         Ok(())
     }
 
@@ -114,22 +119,10 @@ impl RowWriter {
         Ok(())
     }
 
-    /// Appends rows.
-    pub(crate) fn push_rows(&mut self, rows: RowSlice<'_>) -> Result<(), OutOfMemory>
-        requires { AreEdgeRows (slice_rows rows) }
-        ensures { OnOk result (self.new ≡ self.old ++ slice_rows rows.entry) }
-    {
-        let mut rows = rows;
-        while let Some((row, rest)) = rows.split_first() {
-            self.push(row.y, &row)?;
-            rows = rest;
-        }
-        Ok(())
-    }
-
     /// The bands of all rows.
     pub(crate) fn finish(self) -> Result<Vec<Arc<Band>>, OutOfMemory>
-        ensures { IfOk result (λ bands. rows_of_bands bands.items ≡ self) }
+        ensures rows { IfOk result (λ bands. rows_of_bands bands.items ≡ self) }
+        ensures rising { AreRows self → IfOk result (λ bands. HaveRisingNumbers bands.items) }
     {
         let RowWriter {
             alloc,

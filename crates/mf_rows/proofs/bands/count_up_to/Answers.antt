@@ -2,7 +2,7 @@ use Rattle.std.proofs.Common.{◌≡◌, true, false, to_z, of_z, w32, subst, ar
 use Rattle.std.specs.List.Sorted.{IsPartitionPoint}
 use Rattle.std.proofs.lemmas.Int.{ints}
 use Rattle.std.proofs.lemmas.Fn.{always_returns_same}
-use Rattle.mf_rows.proofs.FieldBandsLemmas.{is_up_to, IsPartitionedBy-is_up_to, up_to_split, behind_split, numbered_behind_split}
+use Rattle.mf_rows.proofs.FieldBandsLemmas.{is_up_to, IsPartitionedBy-is_up_to, up_to_split, behind_split}
 use Rattle.mf_rows.proofs.bands.count_up_to.Goals as goal
 
 split : (c : goal.After-partition_point)
@@ -14,11 +14,8 @@ split c =
     (c.partition_point.ensures.partitioned (is_up_to (to_z w32 (of_z w32 c.args.number)))
     (search (rules, always_returns_same)) (IsPartitionedBy-is_up_to _ bands c.requires))
 
-pub returns-clause-above : goal.returns-clause-above
-returns-clause-above c = up_to_split c.args.number _ c.args.bands.now c.partition_point.ensures.bound (split c).0
+pub returns-clause-up_to : goal.returns-clause-up_to
+returns-clause-up_to c = up_to_split c.args.number _ c.args.bands.now c.partition_point.ensures.bound (split c).0
 
-pub returns-clause-below : goal.returns-clause-below
-returns-clause-below c = behind_split c.args.number _ c.args.bands.now (split c).1
-
-pub returns-clause-others : goal.returns-clause-others
-returns-clause-others c = numbered_behind_split c.args.number _ c.args.bands.now (split c).1
+pub returns-clause-behind : goal.returns-clause-behind
+returns-clause-behind c = behind_split c.args.number _ c.args.bands.now (split c).1

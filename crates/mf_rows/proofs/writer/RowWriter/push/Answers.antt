@@ -1,42 +1,44 @@
-use Rattle.std.proofs.Common.{◌≡◌, ◌++◌, ◌∷◌, [], w32, to_z, of_z, ap, sym, ◌∙◌, arith, append-nil, append_assoc}
+use Rattle.std.proofs.Common.{◌≡◌, ◌≢◌, ◌++◌, ◌∷◌, [], w32, to_z, of_z, ap, sym, refl, ◌∙◌, arith}
 use Rattle.std.proofs.lemmas.Int.{ints}
-use Rattle.std.proofs.lemmas.List.Elements.{All-nil, All-push}
+use Rattle.mf_rows.specs.BandNumbers.{number_of_rows, numbers_of}
 use Rattle.mf_rows.specs.Bands.{rows_of_bands}
 use Rattle.mf_rows.specs.EdgeRows.{EdgeRow}
-use Rattle.mf_rows.specs.FieldBands.{IsOfBand, AreOfBand}
+use Rattle.mf_rows.specs.FieldBands.{IsOfBand}
+use Rattle.mf_rows.proofs.WrittenBands.{writing_more, writing_first, writing_next}
 use Rattle.mf_rows.proofs.writer.RowWriter.push.Goals as goal
-use Rattle.mf_rows.proofs.writer.RowWriter.push.Goals.{In_ok-push, then-own-self+in_ok-next+in_ok-close_band, else-own-self}
 
--- the band of the row is being written, and no row is lost
-opened : (c : In_ok-push) → (rows_of_bands c.if-own-self.self-inside.bands.items ++ c.if-own-self.self-inside.rows ≡ c.args.self.now)
-    × AreOfBand c.if-own-self.self-inside.number c.if-own-self.self-inside.rows × IsOfBand c.if-own-self.self-inside.number c.args.y
-opened c =
+pub invariant_of-self-then-own-self : goal.invariant_of-self-then-own-self
+invariant_of-self-then-own-self c =
+    let row : EdgeRow = record { y = c.args.y; edges = c.args.row.now.edges.now } in
+    let y_is : to_z w32 (of_z w32 c.args.y) ≡ c.args.y = omega (arith, ints) in
+    let same : c.band_of-own.result ≡ c.self.inside.number = omega (arith, ints, c.if-own-self.true) in
+    rw (c.in_ok-push.ensures.pushed, y_is)
+    (writing_more c.self.inside.number c.self.inside.bands.items c.self.inside.rows row c.self.invariant (rw (← same, ← y_is) c.band_of-own.ensures))
+
+-- where memory is refused, the last row is there alone
+pub invariant_of-self-in_err-close_band : goal.invariant_of-self-in_err-close_band
+invariant_of-self-in_err-close_band c =
+    let row : EdgeRow = record { y = c.args.y; edges = c.args.row.now.edges.now } in
     let own = to_z w32 (of_z w32 c.band_of-own.result) in
     let y_is : to_z w32 (of_z w32 c.args.y) ≡ c.args.y = omega (arith, ints) in
     let own_is : own ≡ c.band_of-own.result = omega (arith, ints) in
     let of_own_band : IsOfBand own c.args.y = rw (own_is, ← y_is) c.band_of-own.ensures in
-    elim c.if-own-self.branch [
-      | then-own-self+in_ok-next+in_ok-close_band w ↦
-          rw (w.self-inside-is, w.in_ok-close_band.ensures, w.replace-rows.ensures.value, w.replace-rows.ensures.after, w.in_ok-next.ensures, append-nil)
-          (c.self.view_is, All-nil (λ row. IsOfBand own row.y), of_own_band)
-      | else-own-self w ↦
-          let same : c.self.inside.number ≡ own = omega (arith, ints, w.if-own-self.false) in
-          rw w.self-inside-is (c.self.view_is, c.self.invariant, rw same of_own_band)
-    ]
+    rw (c.replace-number.ensures.after, c.replace-bands.ensures.after, c.new.ensures.items, c.replace-rows.ensures.after, c.in_ok-push-2.ensures.pushed, c.in_ok-next.ensures, y_is)
+    (writing_first own row [] of_own_band (λ rows. omega (arith, ints, of_own_band.bottom, c.requires.top)))
 
+-- else the bands before it are there, too
 pub invariant_of-self-2 : goal.invariant_of-self-2
 invariant_of-self-2 c =
     let row : EdgeRow = record { y = c.args.y; edges = c.args.row.now.edges.now } in
+    let own = to_z w32 (of_z w32 c.band_of-own.result) in
     let y_is : to_z w32 (of_z w32 c.args.y) ≡ c.args.y = omega (arith, ints) in
-    let before = opened c in
-    rw (c.in_ok-push.ensures.pushed, y_is)
-    (All-push (λ row. IsOfBand c.if-own-self.self-inside.number row.y) c.if-own-self.self-inside.rows row before.1 before.2)
-
-pub returns : goal.returns
-returns c =
-    let row : EdgeRow = record { y = c.args.y; edges = c.args.row.now.edges.now } in
-    let y_is : to_z w32 (of_z w32 c.args.y) ≡ c.args.y = omega (arith, ints) in
-    let before = opened c in
-    rw (c.in_ok-push.ensures.pushed, y_is)
-    (sym (append_assoc (rows_of_bands c.if-own-self.self-inside.bands.items) c.if-own-self.self-inside.rows (row ∷ []))
-    ∙ ap (λ rs. rs ++ row ∷ []) before.0)
+    let own_is : own ≡ c.band_of-own.result = omega (arith, ints) in
+    let of_own_band : IsOfBand own c.args.y = rw (own_is, ← y_is) c.band_of-own.ensures in
+    let number_is : to_z w32 (of_z w32 c.self.inside.number) ≡ c.self.inside.number = omega (arith, ints) in
+    let other : own ≢ c.self.inside.number = λ same. c.if-own-self.false (ap (of_z w32) (sym own_is ∙ same)) in
+    let all : rows_of_bands c.close_band.new.bands.items ≡ rows_of_bands c.self.inside.bands.items ++ c.self.inside.rows =
+    c.in_ok-close_band.ensures.rows ∙ rw (c.replace-bands.ensures.value, c.replace-rows.ensures.value) refl in
+    let numbers : numbers_of c.close_band.new.bands.items ≡ numbers_of c.self.inside.bands.items ++ number_of_rows c.self.inside.number c.self.inside.rows =
+    c.in_ok-close_band.ensures.numbers ∙ rw (c.replace-bands.ensures.value, c.replace-rows.ensures.value, c.replace-number.ensures.value, number_is) refl in
+    rw (c.replace-number.ensures.after, c.replace-rows.ensures.after, c.in_ok-push-2.ensures.pushed, c.in_ok-next.ensures, y_is)
+    (writing_next c.self.inside.number own c.self.inside.bands.items c.self.inside.rows row _ c.self.invariant all numbers of_own_band other)

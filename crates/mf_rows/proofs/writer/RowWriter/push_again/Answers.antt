@@ -1,12 +1,11 @@
 use Rattle.std.proofs.Common.{◌≡◌, ◌≢◌, ◌++◌, ◌∷◌, [], w32, to_z, of_z, ap, sym, ◌∙◌, arith, append_assoc}
 use Rattle.std.proofs.lemmas.Bool.{false≢true}
 use Rattle.std.proofs.lemmas.Int.{ints}
-use Rattle.std.proofs.lemmas.List.Elements.{All-push}
 use Rattle.mf_rows.specs.Bands.{rows_of_bands}
 use Rattle.mf_rows.specs.EdgeRows.{EdgeRow}
-use Rattle.mf_rows.specs.FieldBands.{IsOfBand}
 use Rattle.mf_rows.specs.RowLists.{last_edges}
 use Rattle.mf_rows.proofs.RowListLemmas.{last_edges-back}
+use Rattle.mf_rows.proofs.WrittenBands.{writing_more}
 use Rattle.mf_rows.proofs.writer.RowWriter.push_again.Goals as goal
 use Rattle.mf_rows.proofs.writer.RowWriter.push_again.Goals.{In_ok-push_again}
 
@@ -28,7 +27,7 @@ invariant_of-self-then-band_of-self c =
     let y_is : to_z w32 (of_z w32 c.args.y) ≡ c.args.y = omega (arith, ints) in
     let same : c.band_of.result ≡ c.self.inside.number = omega (arith, ints, c.if-band_of-self.true) in
     rw (c.in_ok-push_again.ensures.pushed, y_is, last_is c)
-    (All-push (λ row. IsOfBand c.self.inside.number row.y) c.self.inside.rows row c.self.invariant (rw (← same, ← y_is) c.band_of.ensures))
+    (writing_more c.self.inside.number c.self.inside.bands.items c.self.inside.rows row c.self.invariant (rw (← same, ← y_is) c.band_of.ensures))
 
 pub returns-then-band_of-self : goal.returns-then-band_of-self
 returns-then-band_of-self c =
