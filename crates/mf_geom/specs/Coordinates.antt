@@ -18,11 +18,11 @@ last_in_field = greatest_coordinate -ℤ pos 1
 abbrev pub field_size : ℕ
 field_size = 2 * unsigned_abs greatest_coordinate
 
--- a point may have this coordinate
+-- a point may have this coordinate: a record, since proofs cite each bound by itself
 pub record IsCoordinate (a : ℤ) : Type 0 where
   pub least : least_coordinate ≤ℤ a
   pub greatest : a ≤ℤ greatest_coordinate
 
--- whether a point may have this coordinate
+-- whether a point may have this coordinate: the same as a value, for the definitions that compute a fault
 abbrev pub is_coordinate : ℤ → Bool
 is_coordinate a = int_le least_coordinate a && int_le a greatest_coordinate

@@ -15,6 +15,9 @@ unfoldable pub first_place : ℕ → (ℕ → Bool) → Option ℕ
 first_place zero test = None
 first_place (suc n) test = option_or (first_place n test) (if test n then Some n else None)
 
+-- The next three tests say of a point and of segments what `IsInRange`, `IsRectilinear` and `IsReversal` say as facts: a fault is
+-- computed from values, and proofs about cycles cite the parts of the facts. The law `one_fault` compares the two.
+
 -- whether a point is out of range
 unfoldable pub is_out_of_range : Point → Bool
 is_out_of_range p = not (is_coordinate p.x && is_coordinate p.y)
