@@ -90,7 +90,8 @@ performed-ended held holds read line progress after whole more next answer =
 -- a line feed is read, and its line has been performed
 IsAfter-ended : (held holds later : Option (List ℕ)) (read line : List ℕ) (old new : Progress) (after : IsAfter held read old holds)
     → StandsForEnded old after.done.last read line
-    → Gets holds later (IsWritten old.performer after.done.last line new.performer) → limits new.performer.session ≡ limits old.performer.session → new.line ≡ []
+    → Gets holds later (IsWritten old.performer after.done.last line new.performer)
+    → limits new.performer.session ≡ limits old.performer.session → new.line ≡ []
     → IsAfter held (read ++ 10 ∷ []) new later
 IsAfter-ended held holds later read line old new after whole written same empty =
     record {
@@ -129,7 +130,8 @@ pub CutsShort-between : (held left holds : Option (List ℕ)) (read bytes more :
 CutsShort-between held left holds read bytes more progress after =
     let (others, before) = ended_lines-front read (bytes ++ more) in
     let first = ap ended_lines (append_assoc read bytes more) ∙ before in
-    (after.done.text, after.done.out, record { done = ended_lines read; more = others; last = after.done.last; first = inl first; performed = after.done.performed })
+    let done = after.done in
+    (done.text, done.out, record { done = ended_lines read; more = others; last = done.last; first = inl first; performed = done.performed })
 
 -- the text of a line breaks off; the first completely read lines are the performed ones, and then this one
 CutsShort-text : (fault : RunFault) (held left holds later : Option (List ℕ)) (read bytes line : List ℕ)

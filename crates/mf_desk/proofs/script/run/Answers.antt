@@ -65,8 +65,8 @@ returns-in_err-gf g c =
     rw (passed_on.1, passed_on.2) record {
       transcript = tt;
       end = tt;
-      fault = Tells-unfinished settings 0 held holds holds read run over _ _ consumed c.in_ok-ended.ensures.end (nobody holds run) c.file.result _ c.file.ensures
-          (λ long characters keeps. (c.in_err-gf.ensures.too_long characters keeps).1 (ap Err long)) c.in_err-gf.ensures.fault;
+      fault = Tells-unfinished settings 0 held holds holds read run over _ _ consumed c.in_ok-ended.ensures.end (nobody holds run)
+          c.file.result _ c.file.ensures (λ long characters keeps. (c.in_err-gf.ensures.too_long characters keeps).1 (ap Err long)) c.in_err-gf.ensures.fault;
       too_small = λ small. let refused = c.in_ok-progress.ensures.too_long.0 small in absurd (cc);
       untouched = λ small. let refused = c.in_ok-progress.ensures.too_long.0 small in absurd (cc);
     }
