@@ -14,7 +14,8 @@ unfolding pgm_bytes
 image_pixel ds i j column row =
     let b = image_box ds in
     let w = extent b.min_x b.max_x in
-    get_or-append-add (pgm_head b) (box_bytes ds b) (j * w + i) 0 ∙ pixel_at level [] ds b.min_x w w (omega arith) b.max_y (extent b.min_y b.max_y) i j column row
+    get_or-append-add (pgm_head b) (box_bytes ds b) (j * w + i) 0
+    ∙ pixel_at level [] ds b.min_x w w (omega arith) b.max_y (extent b.min_y b.max_y) i j column row
 
 pub image_length : (ds : List Dot) → length (pgm_bytes ds)
     ≡ length (pgm_head (image_box ds)) + extent (image_box ds).min_y (image_box ds).max_y * extent (image_box ds).min_x (image_box ds).max_x
@@ -22,4 +23,5 @@ unfolding pgm_bytes
 image_length ds =
     let b = image_box ds in
     let w = extent b.min_x b.max_x in
-    length-append (pgm_head b) (box_bytes ds b) ∙ ap (λ k. length (pgm_head b) + k) (rows_length level [] ds b.min_x w w (omega arith) b.max_y (extent b.min_y b.max_y))
+    length-append (pgm_head b) (box_bytes ds b)
+    ∙ ap (λ k. length (pgm_head b) + k) (rows_length level [] ds b.min_x w w (omega arith) b.max_y (extent b.min_y b.max_y))

@@ -70,7 +70,8 @@ unfolding shown_rows
 shown_rows-next show end ds x y columns n = refl
 
 pub box_more : (show : ℤ → ℕ) (end : List ℕ) (ds : List Dot) (b : Box4) (head : List ℕ) (y : ℤ) (text new : List ℕ) → b.min_y ≤ℤ y
-    → new ≡ text ++ shown_row show ds y b.min_x (extent b.min_x b.max_x) ++ end → IsBoxSoFar show end ds b head y text → IsBoxSoFar show end ds b head (y -ℤ pos 1) new
+    → new ≡ text ++ shown_row show ds y b.min_x (extent b.min_x b.max_x) ++ end → IsBoxSoFar show end ds b head y text
+    → IsBoxSoFar show end ds b head (y -ℤ pos 1) new
 box_more show end ds b head y text new row pushed so_far =
     let columns = extent b.min_x b.max_x in
     let line = shown_row show ds y b.min_x columns in
@@ -83,8 +84,8 @@ box_more show end ds b head y text new row pushed so_far =
       rows = rw pushed (simp append_assoc) ∙ ap (λ all. text ++ all) (sym rows) ∙ so_far.rows;
     }
 
-pub box_all : (show : ℤ → ℕ) (end : List ℕ) (ds : List Dot) (b : Box4) (head : List ℕ) (y : ℤ) (text : List ℕ) → y +ℤ pos 1 ≡ b.min_y → IsBoxSoFar show end ds b head y text
-    → text ≡ head ++ shown_box show end ds b
+pub box_all : (show : ℤ → ℕ) (end : List ℕ) (ds : List Dot) (b : Box4) (head : List ℕ) (y : ℤ) (text : List ℕ) → y +ℤ pos 1 ≡ b.min_y
+    → IsBoxSoFar show end ds b head y text → text ≡ head ++ shown_box show end ds b
 unfolding shown_rows
 box_all show end ds b head y text over so_far =
     let none : extent b.min_y y ≡ 0 = omega (arith, ints) in
