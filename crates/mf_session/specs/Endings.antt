@@ -46,3 +46,8 @@ pub record IsKept (session : Session) (s : State) (same : Session) : Type 0 wher
 abbrev pub IsHandedBack : Session → State → EndFault → Type 0
 IsHandedBack session s (Kept same) = IsKept session s same
 IsHandedBack session s (Halfway closing file) = IsHalfway session s closing file
+
+-- a session came back, and not an end that is still to be published
+abbrev pub IsSession : EndFault → Type 0
+IsSession (Kept same) = Unit {0}
+IsSession (Halfway closing file) = ⊥

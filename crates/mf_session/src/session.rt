@@ -38,7 +38,7 @@ impl Session {
     ghost use Rattle.mf_text.specs.Registers.{IsName};
     ghost use Rattle.mf_text.specs.declared.command.Command.TheVariants as commands;
     ghost use Rattle.mf_session.specs.Changes.{IsClearable};
-    ghost use Rattle.mf_session.specs.Endings.{HasEnded, IsHandedBack};
+    ghost use Rattle.mf_session.specs.Endings.{HasEnded, IsHandedBack, IsSession};
     ghost use Rattle.mf_session.specs.Pictures.{picture};
     ghost use Rattle.mf_session.specs.Sessions.{IsAnswered, StandsFor, identity, limits};
     ghost use Rattle.mf_session.specs.States.{State, limits_of, start};
@@ -119,11 +119,11 @@ impl Session {
 
     /// Ends the script: sets the end mark of `currentpicture`, publishes everything that it has accepted, and hands out the font
     /// file of the shipped characters. It may wait for looks that are held. Where an allocation fails, the session comes back as
-    /// it was (`Kept`). The clauses also allow `Halfway`, where the end mark is set and can be published later, but that never
-    /// happens.
+    /// it was (`Kept`).
     pub fn finish<R: Wait>(self, rt: &R) -> Result<(Ended, GfFile), EndFault>
         ensures ended { IfOk result (λ made. (s : State) → StandsFor self s → HasEnded self s made.0 made.1) }
         ensures handed_back { IfErr result (λ fault. (s : State) → StandsFor self s → IsHandedBack self s fault) }
+        ensures kept { IfErr result IsSession }
     {
         let Session {
             variables,
