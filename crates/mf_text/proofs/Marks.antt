@@ -6,7 +6,7 @@ use Rattle.std.proofs.lemmas.Bool.{and_parts, cases_Bool, cond_both, false_from_
 use Rattle.mf_text.specs.declared.token.Mark.TheVariants as mark
 use Rattle.mf_text.specs.Token as token
 use Rattle.mf_text.specs.Tokens.{FindsToken, Taken, first_token, is_longer, mark_among, mark_text, marks, Mark, Token, is_token}
-use Rattle.mf_text.proofs.Words.{starts-drop, of_letters, of_numbers, same_bytes, same_token}
+use Rattle.mf_text.proofs.Words.{starts-drop, of_first, of_letters, of_numbers, same_bytes, same_token}
 
 same_mark : (m n : Mark) → is_token (token.Mark m) (token.Mark n) ≡ true → m ≡ n
 same_mark m n same = search rules
@@ -30,15 +30,10 @@ all_written : list_all (λ e. bytes_eq e.0 (mark_text e.1)) marks ≡ true
 all_written = refl
 
 is_mark : (m : Mark) (bs : List ℕ) → is_token (first_token bs).token (token.Mark m) ≡ true → starts_with eqb bs (mark_text m) ≡ true
-unfolding first_token
 is_mark m bs =
-    let f : Token → Type 0 = λ t. is_token t (token.Mark m) ≡ false in
-    let P : Taken → Type 0 = λ t. is_token t.token (token.Mark m) ≡ true → starts_with eqb bs (mark_text m) ≡ true in
-    cond_both (ltb 0 (length (take (prefix_len is_ascii_alphabetic bs) bs))) _ _ P
-    (λ _ is. absurd (false≢true (sym (of_letters f refl (λ w. refl) _ (λ _. refl)) ∙ is)))
-    (λ _. cond_both (ltb 0 (length (take (prefix_len is_ascii_digit bs) bs))) _ _ P
-    (λ _ is. absurd (false≢true (sym (of_numbers f refl (λ n. refl) _) ∙ is)))
-    (λ _ is. are_written marks m bs all_written is))
+    let P : Token → Type 0 = λ t. is_token t (token.Mark m) ≡ true → starts_with eqb bs (mark_text m) ≡ true in
+    let no : false ≡ true → starts_with eqb bs (mark_text m) ≡ true = λ is. absurd (false≢true is) in
+    of_first P no bs (of_letters P no (λ w. no) _ (λ _. no)) (λ _. of_numbers P no (λ n. no) _) (are_written marks m bs all_written)
 
 lacking : (m : Mark) (bs : List ℕ) → starts_with eqb bs (mark_text m) ≡ false → is_token (first_token bs).token (token.Mark m) ≡ false
 lacking m bs lacks = false_from_ne_true _ (λ is. false≢true (sym lacks ∙ is_mark m bs is))

@@ -89,6 +89,15 @@ module _ (P : Token → Type 0) (unknown : P token.Unknown) where
   unfolding word_token
   of_letters word letters letter = cond_both (is_letter letters) _ _ P letter (λ _. known word (word_among words letters))
 
+  -- or of the token at the front, whichever it is
+  pub of_first : (bs : List ℕ) → P (word_token (take_while is_ascii_alphabetic bs))
+      → (ltb 0 (length (take_while is_ascii_digit bs)) ≡ true → P (number_token (take_while is_ascii_digit bs))) → P (mark_among marks bs).token
+      → P (first_token bs).token
+  unfolding first_token
+  of_first bs word number mark =
+      cond_both (ltb 0 (length (take_while is_ascii_alphabetic bs))) _ _ (λ (t : Taken). P t.token) (λ _. word)
+      (λ _. cond_both (ltb 0 (length (take_while is_ascii_digit bs))) _ _ (λ (t : Taken). P t.token) number (λ _. mark))
+
 -- ---- letters at the front
 
 abbrev pub letters : List ℕ → List ℕ
@@ -151,13 +160,10 @@ word_is w ls =
 
 -- where a word is at the front, the letters there are its text
 is_word : (w : Word) (bs : List ℕ) → is_token (first_token bs).token (token.Word w) ≡ true → letters bs ≡ word_text w
-unfolding first_token
 is_word w bs =
-    let P : Taken → Type 0 = λ t. is_token t.token (token.Word w) ≡ true → letters bs ≡ word_text w in
-    cond_both (ltb 0 (length (take (prefix_len is_ascii_alphabetic bs) bs))) _ _ P (λ _ is. word_is w (letters bs) is)
-    (λ _. cond_both (ltb 0 (length (take (prefix_len is_ascii_digit bs) bs))) _ _ P
-    (λ _ is. absurd (false≢true (sym (of_numbers (λ t. is_token t (token.Word w) ≡ false) refl (λ n. refl) _) ∙ is)))
-    (λ _ is. absurd (false≢true (sym (of_marks (λ t. is_token t (token.Word w) ≡ false) refl (λ m. refl) bs marks) ∙ is))))
+    let P : Token → Type 0 = λ t. is_token t (token.Word w) ≡ true → letters bs ≡ word_text w in
+    let no : false ≡ true → letters bs ≡ word_text w = λ is. absurd (false≢true is) in
+    of_first P no bs (word_is w (letters bs)) (λ _. of_numbers P no (λ n. no) _) (of_marks P no (λ m. no) bs marks)
 
 lacking : (w : Word) (bs : List ℕ) → starts_with eqb bs (word_text w) ≡ false → is_token (first_token bs).token (token.Word w) ≡ false
 lacking w bs lacks =
@@ -223,12 +229,9 @@ none_of : (ls : List ℕ) → is_letter ls ≡ false → letter_in (word_token l
 none_of ls long = of_letters (λ t. letter_in t ≡ None) refl (λ w. refl) ls (λ one. absurd (false≢true (sym long ∙ one)))
 
 letters_lacking : (bs : List ℕ) → is_letter (letters bs) ≡ false → letter_in (first_token bs).token ≡ None
-unfolding first_token
 letters_lacking bs long =
-    let P : Taken → Type 0 = λ t. letter_in t.token ≡ None in
-    cond_both (ltb 0 (length (take (prefix_len is_ascii_alphabetic bs) bs))) _ _ P (λ _. none_of (letters bs) long)
-    (λ _. cond_both (ltb 0 (length (take (prefix_len is_ascii_digit bs) bs))) _ _ P (λ _. of_numbers (λ t. letter_in t ≡ None) refl (λ n. refl) _)
-    (λ _. of_marks (λ t. letter_in t ≡ None) refl (λ m. refl) bs marks))
+    let P : Token → Type 0 = λ t. letter_in t ≡ None in
+    of_first P refl bs (none_of (letters bs) long) (λ _. of_numbers P refl (λ n. refl) _) (of_marks P refl (λ m. refl) bs marks)
 
 no_small : (bs : List ℕ) → first_is (λ b. leb 97 b && leb b 122) bs ≡ false → letter_in (first_token bs).token ≡ None
 no_small bs other = letters_lacking bs (long bs other) where
@@ -281,13 +284,10 @@ digits_first (b ∷ bs) is =
     rw (letter, some) refl
 
 pub digits_lacking : (bs : List ℕ) → first_is is_ascii_digit bs ≡ false → value_in (first_token bs).token ≡ None
-unfolding first_token
 digits_lacking bs none =
-    let P : Taken → Type 0 = λ t. value_in t.token ≡ None in
-    cond_both (ltb 0 (length (take (prefix_len is_ascii_alphabetic bs) bs))) _ _ P
-    (λ _. of_letters (λ t. value_in t ≡ None) refl (λ w. refl) (letters bs) (λ _. refl))
-    (λ _. cond_both (ltb 0 (length (take (prefix_len is_ascii_digit bs) bs))) _ _ P (λ some. absurd (false≢true (sym (no_digits bs none) ∙ some)))
-    (λ _. of_marks (λ t. value_in t ≡ None) refl (λ m. refl) bs marks)) where
+    let P : Token → Type 0 = λ t. value_in t ≡ None in
+    of_first P refl bs (of_letters P refl (λ w. refl) (letters bs) (λ _. refl)) (λ some. absurd (false≢true (sym (no_digits bs none) ∙ some)))
+    (of_marks P refl (λ m. refl) bs marks) where
       no_digits : (xs : List ℕ) → first_is is_ascii_digit xs ≡ false → ltb 0 (length (take (prefix_len is_ascii_digit xs) xs)) ≡ false
       no_digits [] other = refl
       no_digits (x ∷ xs) other = rw other refl
