@@ -25,7 +25,7 @@ const FEW_EDGES: usize = 8;
 /// Rows of corners and changed rows with more edges than this, and sums of two rows that have more together, get lists of their own
 /// behind an `Arc`. A band that is made anew for other rows then shares such a list, where it copies the edges of shorter rows:
 /// copying few edges costs less than asking for memory, and copying many costs more.
-pub(crate) const MANY_EDGES: usize = 64;
+pub(crate) const MANY_EDGES: usize = 128;
 
 /// Where a row of a list has its edges.
 #[derive(Debug, Drop)]
@@ -293,7 +293,8 @@ fn place_of(edges: &mut Vec<Edge>, heads: &[Head], row: &Row<'_>) -> Result<Plac
 /// are added within the limit, the reach is the sum of both reaches, so it grows with each contour. Once there is no room
 /// left, all weights are checked, no reach is kept, and the next sum finds the least reach anew. Refused with
 /// `WeightTooLarge` where a weight would exceed 32767 in absolute value, and with `OutOfMemory` where an allocation fails;
-/// some edges may then have been appended.
+/// some edges may then have been appended. A sum of bands asks this for row after row, so it is inlined: both rows stay in registers.
+#[inline(always)]
 fn push_sum_of_both(
     edges: &mut Vec<Edge>,
     left: &Row<'_>,

@@ -1,4 +1,4 @@
-//! Rows with as many edges as a row can have, and rows with about as many as stay in the list of their band, which is 64.
+//! Rows with as many edges as a row can have, and rows with about as many as stay in the list of their band, which is 128.
 
 ghost use Rattle.mf_edges.specs.WeightMaps.{IsWeightMap};
 
@@ -146,14 +146,14 @@ fn rows_of_all_edges_are_culled(rt: HostRuntime) {
 /// last run of weight 1. Where the number of edges is odd, one more pixel, of weight 2, touches that run.
 type Teeth = (i32, u32, i32);
 
-/// Rows of one picture each: of many edges between short ones; equal ones of 64 and of 65 edges; ones that differ in the last edge
-/// alone; and ones of 64 and more edges in turn, across a border between groups.
+/// Rows of one picture each: of many edges between short ones; equal ones of 64 and of 65 edges, which have 128 to 130 with their
+/// likes; ones that differ in the last edge alone; and ones of 128 and more edges in turn, across a border between groups.
 const LISTS: [&[Teeth]; 6] = [
-    &[(4, 2, 1), (3, 65, 1), (2, 4, 1), (1, 63, 1)],
+    &[(4, 2, 1), (3, 129, 1), (2, 4, 1), (1, 63, 1)],
     &[(4, 64, 1), (3, 64, 1), (2, 65, 1), (1, 65, 1)],
-    &[(4, 64, 1), (3, 64, 2), (2, 64, 1)],
-    &[(3, 66, 1), (2, 66, 2), (1, 66, 1)],
-    &[(1, 64, 1), (-1, 65, 1), (-2, 64, 1)],
+    &[(4, 128, 1), (3, 128, 2), (2, 128, 1)],
+    &[(3, 130, 1), (2, 130, 2), (1, 130, 1)],
+    &[(1, 128, 1), (-1, 129, 1), (-2, 128, 1)],
     &[(3, 4, 1), (2, 3, 1), (1, 64, 2)],
 ];
 
@@ -195,7 +195,7 @@ fn slow_sum(
 ) -> Result<SlowPicture, OutOfMemory> {
     let mut sum = SlowPicture::blank(alloc);
     for y in (-3..6).rev() {
-        for x in -1..72 {
+        for x in -1..136 {
             let added = right.weight(x, y).wrapping_mul(factor);
             sum.push_pixel(x, y, left.weight(x, y).wrapping_add(added))?;
         }
@@ -275,12 +275,12 @@ fn rows_of_about_as_many_edges_as_a_band_keeps_are_reflected(rt: HostRuntime) {
     }
 }
 
-/// Columns and weights of pixels that are added one after another to a row of 64 edges, which then has 66, 68, 66, 64, 62 and 64.
-const STEPS: [(i32, i32); 6] = [(66, 1), (68, 3), (66, -1), (68, -3), (4, -1), (4, 1)];
+/// Columns and weights of pixels that are added one after another to a row of 128 edges, which then has 130, 132, 130, 128, 126 and 128.
+const STEPS: [(i32, i32); 6] = [(130, 1), (132, 3), (130, -1), (132, -3), (4, -1), (4, 1)];
 
 #[test]
-fn a_row_of_64_edges_grows_and_shrinks(rt: HostRuntime) {
-    let (mut picture, mut slow) = forms_of(&rt, &[(-1, 64, 1)]);
+fn a_row_of_128_edges_grows_and_shrinks(rt: HostRuntime) {
+    let (mut picture, mut slow) = forms_of(&rt, &[(-1, 128, 1)]);
     for (x, weight) in STEPS {
         let (pixel, slow_pixel) = both_forms(&rt, &[make_run(-1, x, 1, weight)]);
         assert_same(&rt, picture.add(rt.alloc(), &pixel), Ok(()), (x, weight));
