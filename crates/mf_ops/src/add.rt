@@ -11,6 +11,7 @@ use std::alloc::Global;
 
 /// Adds another picture to a picture, or subtracts it. A refusal leaves the picture as it was; adding or subtracting a blank
 /// picture is never refused.
+#[inline(always)]
 pub fn add(alloc: Global, picture: &mut Picture, other: &Picture, sign: Sign) -> Result<(), OpFault>
     ensures step { OnOk result (picture.new ≡ next_picture picture.old (Also other.now sign)) }
     ensures unchanged { OnErr result (picture.new ≡ picture.old) }

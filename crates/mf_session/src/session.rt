@@ -95,6 +95,8 @@ impl Session {
     /// with `OutOfMemory` where an allocation fails: then nothing has changed, and the line can be performed again. That never
     /// happens to a line with no command, to one that sets the turning check, or to a clear that is accepted: these allocate
     /// nothing.
+    // As a function of its own, it costs each line some thirty instructions more.
+    #[inline(always)]
     pub fn command<R: Wait>(
         &mut self,
         rt: &R,
