@@ -1,9 +1,8 @@
 -- Lists of numbers that rise, and the bands that have them.
-use Rattle.std.proofs.Common.{◌≡◌, ◌≢◌, ◌⊎◌, ℤ, pos, ◌+◌, ◌<◌, ◌+ℤ◌, ◌-ℤ◌, ◌≤ℤ◌, ◌<ℤ◌, List, [], ◌∷◌, ◌++◌, length, refl, sym, subst, ap, ◌∙◌, ⊎_elim, arith}
+use Rattle.std.proofs.Common.{◌≡◌, ◌≢◌, ◌⊎◌, ℤ, pos, ◌+◌, ◌<◌, ◌+ℤ◌, ◌-ℤ◌, ◌≤ℤ◌, ◌<ℤ◌, to_z, of_z, w32, List, [], ◌∷◌, ◌++◌, length, refl, sym, subst, ap, ◌∙◌, ⊎_elim, arith}
 use Rattle.std.specs.List.{All}
 use Rattle.std.proofs.lemmas.Int.{ints, clamps}
 use Rattle.std.proofs.lemmas.List.{length-append, map-append, append-nil}
-use Rattle.std.proofs.lemmas.List.Concat.{flat_map-append}
 use Rattle.std.proofs.lemmas.List.Elements.{All-nil, All-cons, All-head, All-tail}
 use Rattle.std.specs.declared.alloc.Global.{Global}
 use Rattle.std.specs.declared.sync.Arc.{Arc}
@@ -104,6 +103,12 @@ module _ {n : ℤ} {bs first rest : List (Arc Band Global)} (split : IsSplitAtBa
   pub only_first : RiseFrom n bs → IsOnlyBand n first
   only_first rise = first_up_to n rise (omega (arith, ints))
 
+pub others_from : (low : ℤ) {n : ℤ} {bs before others : List (Arc Band Global)} → IsSplitAtBand (n -ℤ pos 1) bs before others → RiseFrom low bs → n <ℤ pos 512
+    → RiseFrom n others
+others_from low {n} {bs} {before} {others} split rise lt =
+    let next : (n -ℤ pos 1) +ℤ pos 1 ≡ n = omega (arith, ints) in
+    subst (λ m. RiseFrom m others) next (rest_from split low rise (omega (arith, ints, lt)))
+
 -- the first band has number n, or none has
 pub split_at_own : (n : ℤ) (bs : List (Arc Band Global)) (b : Arc Band Global) (rest : List (Arc Band Global)) → bs ≡ b ∷ rest → RiseFrom n bs
     → number_of b ≡ n → IsSplitAtBand n bs (b ∷ []) rest
@@ -151,61 +156,61 @@ fewer_bands n (b ∷ bs) (c ∷ cs) (f ∷ fl) rl fr rr lesser left right =
 fewer_bands n (b ∷ bs) (c ∷ cs) [] rl (f ∷ fr) rr lesser left right =
     omega (arith, ap length left.all, ap length right.all, length-append (f ∷ fr) rr)
 
--- the numbers of the sum so far are less than n, and those of the bands that are left are not
-pub record AreNumberedAt (n : ℤ) (sum bs cs : List (Arc Band Global)) : Type 0 where
+-- the numbers of the sum so far are less than `next`, and those of the bands that are left are not
+pub record AreNumberedSoFar (sum bs cs : List (Arc Band Global)) : Type 0 where
+  pub next : ℤ
+  pub before : RiseBefore next sum
+  pub left : RiseFrom next bs
+  pub right : RiseFrom next cs
+
+pub nothing_numbered : (bs cs : List (Arc Band Global)) → HaveRisingNumbers bs → HaveRisingNumbers cs → AreNumberedSoFar [] bs cs
+nothing_numbered bs cs left right = record { next = pos 0; before = omega (arith, ints); left = left; right = right }
+
+-- it goes on with number n
+pub record IsNextNumber (n : ℤ) (sum bs cs : List (Arc Band Global)) : Type 0 where
+  pub lesser : IsLesserFirst bs cs n
+  pub greatest : n <ℤ pos 512
   pub before : RiseBefore n sum
   pub left : RiseFrom n bs
   pub right : RiseFrom n cs
 
-pub record AreNumberedSoFar (sum bs cs : List (Arc Band Global)) : Type 0 where
-  pub next : ℤ
-  pub numbers : AreNumberedAt next sum bs cs
-
-pub numbered_none : (bs cs : List (Arc Band Global)) → HaveRisingNumbers bs → HaveRisingNumbers cs → AreNumberedSoFar [] bs cs
-numbered_none bs cs left right = record {
-  next = pos 0;
-  numbers = record { before = omega (arith, ints); left = left; right = right };
-}
-
--- so it is in order to go on with the lesser number
-pub at_lesser : (n : ℤ) (sum bs cs : List (Arc Band Global)) → IsLesserFirst bs cs n → AreNumberedSoFar sum bs cs → AreNumberedAt n sum bs cs
-at_lesser n sum [] cs lesser so_far = absurd lesser
-at_lesser n sum (b ∷ bs) [] lesser so_far = absurd lesser
-at_lesser n sum (b ∷ bs) (c ∷ cs) lesser so_far =
-    let numbers = so_far.numbers in
-    record {
-      before = rise-wider (pos 0) so_far.next (pos 0) n (numbers_of sum) (omega (arith, ints)) (omega (arith, ints, clamps, lesser, numbers.left.0, numbers.right.0)) numbers.before;
-      left = (omega (arith, ints, clamps, lesser), numbers.left.1);
-      right = (omega (arith, ints, clamps, lesser), numbers.right.1);
-    }
-
-pub lesser_in_field : (n : ℤ) (sum bs cs : List (Arc Band Global)) → IsLesserFirst bs cs n → AreNumberedSoFar sum bs cs → (pos 0 ≤ℤ n) × (n <ℤ pos 512)
-lesser_in_field n sum [] cs lesser so_far = absurd lesser
-lesser_in_field n sum (b ∷ bs) [] lesser so_far = absurd lesser
-lesser_in_field n sum (b ∷ bs) (c ∷ cs) lesser so_far =
-    let numbers = at_lesser n sum (b ∷ bs) (c ∷ cs) lesser so_far in
-    let least = rise-ends (pos 0) n (numbers_of sum) numbers.before in
-    let left = rise-ends (number_of b +ℤ pos 1) (pos 512) (numbers_of bs) numbers.left.1 in
-    (least, omega (arith, ints, numbers.left.0, left))
+-- the lesser number as a 32-bit number
+pub next_number : (n : ℤ) {sum bs cs : List (Arc Band Global)} → IsLesserFirst bs cs n → AreNumberedSoFar sum bs cs
+    → IsNextNumber (to_z w32 (of_z w32 n)) sum bs cs
+next_number n {bs = []} lesser so_far = absurd lesser
+next_number n {bs = b ∷ bs} {cs = []} lesser so_far = absurd lesser
+next_number n {sum = sum} {bs = b ∷ bs} {cs = c ∷ cs} lesser so_far =
+    let reached : so_far.next ≤ℤ n = omega (arith, ints, clamps, lesser, so_far.left.0, so_far.right.0) in
+    let least = rise-ends (pos 0) so_far.next (numbers_of sum) so_far.before in
+    let greatest : n <ℤ pos 512 = omega (arith, ints, clamps, lesser, rise-ends (number_of b +ℤ pos 1) (pos 512) (numbers_of bs) so_far.left.1) in
+    let fits : n ≡ to_z w32 (of_z w32 n) = omega (arith, ints, reached, least, greatest) in
+    subst (λ m. IsNextNumber m sum (b ∷ bs) (c ∷ cs)) fits (record {
+      lesser = lesser;
+      greatest = greatest;
+      before = rise-wider (pos 0) so_far.next (pos 0) n (numbers_of sum) (omega (arith, ints)) reached so_far.before;
+      left = (omega (arith, ints, clamps, lesser), so_far.left.1);
+      right = (omega (arith, ints, clamps, lesser), so_far.right.1);
+    })
 
 -- the sum of the bands of number n was appended
-pub numbered_next : (n : ℤ) (sum bs cs first_left rest_left first_right rest_right : List (Arc Band Global)) → AreNumberedAt n sum bs cs → n <ℤ pos 512
-    → IsSplitAtBand n bs first_left rest_left → IsSplitAtBand n cs first_right rest_right → (after : List (Arc Band Global)) → RiseBefore (n +ℤ pos 1) after
+pub numbered_more : {n : ℤ} {sum bs cs first_left rest_left first_right rest_right after : List (Arc Band Global)} → IsNextNumber n sum bs cs
+    → IsSplitAtBand n bs first_left rest_left → IsSplitAtBand n cs first_right rest_right → RiseBefore (n +ℤ pos 1) after
     → AreNumberedSoFar after rest_left rest_right
-numbered_next n sum bs cs first_left rest_left first_right rest_right numbers lt left right after more = record {
+numbered_more {n = n} next left right more = record {
   next = n +ℤ pos 1;
-  numbers = record { before = more; left = rest_from left n numbers.left lt; right = rest_from right n numbers.right lt };
+  before = more;
+  left = rest_from left n next.left next.greatest;
+  right = rest_from right n next.right next.greatest;
 }
 
 -- at the end of one list, the bands of the other follow
 pub all_numbered : (sum bs cs after : List (Arc Band Global)) → AreNumberedSoFar sum bs cs → (bs ≡ []) ⊎ (cs ≡ [])
     → numbers_of after ≡ (numbers_of sum ++ numbers_of bs) ++ numbers_of cs → HaveRisingNumbers after
 all_numbered sum bs cs after so_far end all =
-    let numbers = so_far.numbers in
     let next = so_far.next in
-    let with_rest = λ (ds : List (Arc Band Global)) (rise : RiseFrom next ds). rise-append (pos 0) next (pos 512) (numbers_of sum) (numbers_of ds) numbers.before rise in
+    let with_rest = λ (ds : List (Arc Band Global)) (rise : RiseFrom next ds). rise-append (pos 0) next (pos 512) (numbers_of sum) (numbers_of ds) so_far.before rise in
     subst (RiseWithin (pos 0) (pos 512)) (sym all)
     (⊎_elim (λ none. subst (RiseWithin (pos 0) (pos 512))
-    (sym (ap (λ ns. (numbers_of sum ++ ns) ++ numbers_of cs) (ap numbers_of none) ∙ ap (λ ns. ns ++ numbers_of cs) (append-nil (numbers_of sum)))) (with_rest cs numbers.right))
+    (sym (ap (λ ns. (numbers_of sum ++ ns) ++ numbers_of cs) (ap numbers_of none) ∙ ap (λ ns. ns ++ numbers_of cs) (append-nil (numbers_of sum)))) (with_rest cs so_far.right))
     (λ none. subst (RiseWithin (pos 0) (pos 512))
-    (sym (ap (λ ns. (numbers_of sum ++ numbers_of bs) ++ ns) (ap numbers_of none) ∙ append-nil (numbers_of sum ++ numbers_of bs))) (with_rest bs numbers.left)) end)
+    (sym (ap (λ ns. (numbers_of sum ++ numbers_of bs) ++ ns) (ap numbers_of none) ∙ append-nil (numbers_of sum ++ numbers_of bs))) (with_rest bs so_far.left)) end)

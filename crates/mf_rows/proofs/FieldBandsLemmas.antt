@@ -1,23 +1,28 @@
 -- Bands of the field, and the bands up to a number, which are found by binary search.
-use Rattle.std.proofs.Common.{◌≡◌, ℕ, ◌≤◌, ℤ, pos, ◌+ℤ◌, ◌-ℤ◌, ◌≤ℤ◌, ◌<ℤ◌, List, [], ◌∷◌, ◌++◌, Bool, true, false, length, take, drop, append-nil, sym, ap, subst, arith, ◌∙◌}
+use Rattle.std.proofs.Common.{◌≡◌, ℕ, ◌≤◌, ℤ, pos, ◌+ℤ◌, ◌-ℤ◌, ◌≤ℤ◌, ◌<ℤ◌, List, [], ◌∷◌, ◌++◌, Bool, true, false, length, take, drop, append-nil, sym, ap, subst, to_z, of_z, w32, Option, Some, None, IfSome, IsNone, arith, ◌∙◌}
 use Rattle.std.specs.List.{All, AllWithin}
 use Rattle.std.specs.List.Sorted.{IsPartitionedBy}
+use Rattle.std.proofs.lemmas.Bool.{false≢true}
 use Rattle.std.proofs.lemmas.Int.{ints}
 use Rattle.std.proofs.lemmas.List.Concat.{flat_map-append}
 use Rattle.std.proofs.lemmas.List.Elements.{All-nil, All-cons, All-head, All-tail, All-append, All-weaker}
 use Rattle.std.specs.Arc.{arc_value}
+use Rattle.std.specs.Borrow.{Bor}
 use Rattle.std.specs.declared.alloc.Global.{Global}
 use Rattle.std.specs.declared.sync.Arc.{Arc}
 use lib.Signed.{le_z}
 use Rattle.mf_rows.specs.declared.band.Band.{Band}
-use Rattle.mf_rows.specs.BandNumbers.{number_of, numbers_of, HaveRisingNumbers, IsOnlyBand, IsSplitAtBand}
-use Rattle.mf_rows.specs.Bands.{AreAbove, AreBelow, rows_in, rows_of_bands}
+use Rattle.mf_rows.specs.BandNumbers.{number_of, numbers_of, HaveRisingNumbers, IsOnlyBand, IsSplitAtBand, band_found}
+use Rattle.mf_rows.specs.Bands.{AreAbove, AreBelow, HasNoRow, HasSameRow, rows_in, rows_of_bands}
 use Rattle.mf_rows.specs.BandSums.{lowest_of, AreSplitAtBand}
-use Rattle.mf_rows.specs.EdgeRows.{EdgeRow}
+use Rattle.mf_rows.specs.EdgeRows.{EdgeRow, AreRowsFrom, AreRows, weight_in_rows}
 use Rattle.mf_rows.specs.FieldBands.{IsOfBand, AreOfBand}
 use Rattle.mf_rows.specs.Sums.{StayWithin}
 use Rattle.mf_edges.proofs.Falls.{IsPartitionedBy-falls, All-take_within, All-drop_within}
 use Rattle.mf_rows.proofs.BandNumbersLemmas.{numbers_fall, rise-ends}
+use Rattle.mf_rows.proofs.BandsLemmas.{weight_between}
+use Rattle.mf_rows.proofs.EdgeRowsLemmas.{rows_from-front, rows_from-back}
+use Rattle.mf_geom.specs.Coordinates.{least_coordinate, last_in_field}
 
 -- ---- the rows of bands
 
@@ -103,3 +108,46 @@ rows_of_only n (b ∷ []) only = subst (λ m. AreOfBand m (rows_of_bands (b ∷ 
 rows_of_only n (b ∷ c ∷ bs) only =
     let last = rise-ends (number_of c +ℤ pos 1) (n +ℤ pos 1) (numbers_of bs) only.1.1 in
     absurd (omega (arith, ints, only.0, only.1.0, last))
+
+-- ---- the band that may have row y
+
+-- band n, whose number fits into 32 bits, has row y
+pub record IsOwnBand (n y : ℤ) : Type 0 where
+  pub of_band : IsOfBand n y
+  pub before : to_z w32 (of_z w32 (n -ℤ pos 1)) ≡ n -ℤ pos 1
+  pub greatest : n <ℤ pos 512
+
+pub own_band : {number y : ℤ} → least_coordinate ≤ℤ y → y ≤ℤ last_in_field → IsOfBand number (to_z w32 (of_z w32 y))
+    → IsOwnBand (to_z w32 (of_z w32 number)) y
+own_band {number} {y} bottom top of_band =
+    let y_is : to_z w32 (of_z w32 y) ≡ y = omega (arith, ints, bottom, top) in
+    let own : IsOfBand number y = subst (IsOfBand number) y_is of_band in
+    let fits : number ≡ to_z w32 (of_z w32 number) = omega (arith, ints, bottom, top, own.top, own.bottom) in
+    subst (λ n. IsOwnBand n y) fits (record {
+      of_band = own;
+      before = omega (arith, ints, bottom, top, own.top, own.bottom);
+      greatest = omega (arith, ints, bottom, own.top);
+    })
+
+pub same_row_in_band : {n y : ℤ} {bs before others own rest : List (Arc Band Global)} → AreRows (rows_of_bands bs) → IsOfBand n y
+    → IsSplitAtBand (n -ℤ pos 1) bs before others → IsSplitAtBand n others own rest → HasSameRow (rows_of_bands bs) y (rows_of_bands own)
+same_row_in_band {n} {y} {bs} {before} {others} {own} {rest} lawful of_band split own_split =
+    let above = rows_of_bands before in
+    let rs = rows_of_bands own in
+    let below = rows_of_bands rest in
+    let first = rows_split_at split in
+    let second = rows_split_at own_split in
+    let all : rows_of_bands bs ≡ above ++ (rs ++ below) = first.all ∙ ap (λ rs. above ++ rs) second.all in
+    let higher = All-weaker (λ r. (lowest_of (n -ℤ pos 1) -ℤ pos 1) <ℤ r.y) (λ r. y <ℤ r.y) (λ r lt. omega (arith, ints, lt, of_band.top)) above first.up_to in
+    let lower = All-weaker (λ r. r.y <ℤ lowest_of n) (λ r. r.y <ℤ y) (λ r lt. omega (arith, ints, lt, of_band.bottom)) below second.behind in
+    let from_here = rows_from-back last_in_field above (rs ++ below) (subst (AreRowsFrom last_in_field) all lawful.rows) in
+    record {
+      lawful = record { rows = rows_from-front last_in_field rs below from_here };
+      weights = λ x. ap (λ ss. weight_in_rows ss x y) all ∙ weight_between above rs below x y higher lower;
+    }
+
+pub row_in_found : (rs : List EdgeRow) (y : ℤ) (found : Option (Bor (Arc Band Global))) → HasSameRow rs y (rows_of_bands (band_found found))
+    → IfSome found (λ band. HasSameRow rs y (rows_in (arc_value band.now))) × (IsNone found → HasNoRow rs y)
+unfolding weight_in_rows
+row_in_found rs y None same = (tt, λ none. record { weights = same.weights })
+row_in_found rs y (Some band) same = (subst (HasSameRow rs y) (append-nil (rows_in (arc_value band.now))) same, λ none. absurd (false≢true (sym none)))

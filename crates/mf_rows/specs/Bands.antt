@@ -1,5 +1,5 @@
 -- The rows that are kept in bands.
-use Rattle.std.specs.Prelude.{◌≡◌, ℤ, pos, ◌<ℤ◌, All, List, [], ◌∷◌, map, flat_map}
+use Rattle.std.specs.Prelude.{◌≡◌, ℤ, pos, ◌<ℤ◌, All, List, map, flat_map}
 use Rattle.std.specs.Arc.{arc_value}
 use Rattle.std.specs.declared.alloc.Global.{Global}
 use Rattle.std.specs.declared.sync.Arc.{Arc}
@@ -26,16 +26,6 @@ slice_rows slice = rows_at slice.edges.now slice.heads.now
 -- the rows of a band
 abbrev pub rows_in : Band → List EdgeRow
 rows_in band = band.rows
-
--- the height of the last of these rows, 0 where there are none
-abbrev pub last_height : List EdgeRow → ℤ
-last_height [] = pos 0
-last_height (r ∷ []) = r.y
-last_height (r ∷ s ∷ rs) = last_height (s ∷ rs)
-
--- the lowest row of a band
-abbrev pub bottom_of : Band → ℤ
-bottom_of band = last_height (rows_in band)
 
 -- the rows of bands, one band after another
 abbrev pub rows_of_bands : List (Arc Band Global) → List EdgeRow

@@ -3,7 +3,6 @@ ghost use Rattle.std.specs.Prelude.{◌≢◌, []};
 ghost use Rattle.mf_rows.specs.FieldBands.{AreOfBand, AreOfBand-prop};
 
 use crate::row_list::RowList;
-use crate::slice::RowSlice;
 
 /// The rows of one band of the field that are not blank, from the top down. They are never written once the band is
 /// made, so pictures share it: a band that changes is made anew, since published pictures and registers may share the old
@@ -15,16 +14,4 @@ pub(crate) struct Band {
     pub(crate) rows: RowList,
     ghost some: { rows ≢ [] },
     ghost of_band: { AreOfBand number rows } by { AreOfBand-prop number rows },
-}
-
-impl Band {
-    ghost use Rattle.std.specs.Prelude.{◌≡◌};
-    ghost use Rattle.mf_rows.specs.Bands.{bottom_of};
-
-    /// Its lowest row.
-    pub(crate) fn bottom(&self) -> i32
-        ensures { result ≡ bottom_of self.now }
-    {
-        RowSlice::of(&self.rows).last_height()
-    }
 }

@@ -2,7 +2,7 @@
 ghost use Rattle.std.specs.Prelude.{◌≡◌, [], ◌++◌, ◌≤◌, IsNone, IsOk, IfSome, OnOk, pos, ◌≤ℤ◌, ◌<ℤ◌, length, take, drop, All};
 ghost use Rattle.std.specs.Arc.{arc_value};
 ghost use Rattle.mf_geom.specs.Coordinates.{least_coordinate, last_in_field};
-ghost use Rattle.mf_rows.specs.Bands.{bottom_of, rows_in, rows_of_bands, slice_rows, HasRow, HasNoRow, HasSameRow, AreAbove};
+ghost use Rattle.mf_rows.specs.Bands.{rows_in, rows_of_bands, slice_rows, HasRow, HasNoRow, HasSameRow};
 ghost use Rattle.mf_rows.specs.BandNumbers.{HaveRisingNumbers, IsSplitAtBand, RiseFrom, band_found, number_of, number_of_rows, numbers_of};
 ghost use Rattle.mf_rows.specs.BandSums.{AreSplitAtBand};
 ghost use Rattle.mf_rows.specs.EdgeRows.{AreRows};
@@ -21,33 +21,30 @@ use std::sync::Arc;
 /// cheaper, and higher ones ask for memory less often.
 pub(crate) const BAND_HEIGHT: i32 = 16;
 
-/// Row y of these bands, where it is not blank.
+/// Row y of these bands, which lies in the field, where it is not blank.
 pub(crate) fn find_row_in(bands: &[Arc<Band>], y: i32) -> Option<Row<'_>>
-    requires { AreRows (rows_of_bands bands.now) }
+    requires rows { AreRows (rows_of_bands bands.now) }
+    requires rising { HaveRisingNumbers bands.now }
+    requires bottom { least_coordinate ≤ℤ y }
+    requires top { y ≤ℤ last_in_field }
     ensures found { IfSome result (λ row. HasRow (rows_of_bands bands.now) y row.edges.now) }
     ensures blank { IsNone result → HasNoRow (rows_of_bands bands.now) y }
 {
     RowSlice::of(&find_band(bands, y)?.rows).find(y)
 }
 
-/// The only band that may have row y.
-fn find_band(bands: &[Arc<Band>], y: i32) -> Option<&Band>
-    requires { AreRows (rows_of_bands bands.now) }
-    ensures found { IfSome result (λ band. HasSameRow (rows_of_bands bands.now) y (rows_in band.now)) }
+/// The only band that may have row y, which lies in the field.
+fn find_band(bands: &[Arc<Band>], y: i32) -> Option<&Arc<Band>>
+    requires rows { AreRows (rows_of_bands bands.now) }
+    requires rising { HaveRisingNumbers bands.now }
+    requires bottom { least_coordinate ≤ℤ y }
+    requires top { y ≤ℤ last_in_field }
+    ensures found { IfSome result (λ band. HasSameRow (rows_of_bands bands.now) y (rows_in (arc_value band.now))) }
     ensures blank { IsNone result → HasNoRow (rows_of_bands bands.now) y }
 {
-    let band = bands.get(count_above(bands, y))?;
-    Some(band)
-}
-
-/// The number of bands that lie entirely above row y, which are the first ones.
-pub(crate) fn count_above(bands: &[Arc<Band>], y: i32) -> usize
-    requires { AreRows (rows_of_bands bands.now) }
-    ensures within { result ≤ length bands.now }
-    ensures above { AreAbove y (rows_of_bands (take result bands.now)) }
-    ensures others { All (λ band. bottom_of (arc_value band) ≤ℤ y) (drop result bands.now) }
-{
-    bands.partition_point(|band| band.bottom() > y)
+    let number = band_of(y);
+    let (_, others) = split_bands(bands, number - 1);
+    split_first_band(others, number).0
 }
 
 /// These bands, split into those up to the one of this number and those after it.

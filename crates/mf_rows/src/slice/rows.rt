@@ -1,6 +1,6 @@
 //! The rows of a part of a list: the first one, those above a height, the one at a height.
 ghost use Rattle.std.specs.Prelude.{◌≡◌, [], ◌∷◌, ◌++◌, ◌≤◌, IsNone, IfSome, IsTrue, ◌↔◌, All, length, take, drop, ◌≤ℤ◌};
-ghost use Rattle.mf_rows.specs.Bands.{edge_row, slice_rows, last_height, HasRow, HasNoRow, AreAbove};
+ghost use Rattle.mf_rows.specs.Bands.{edge_row, slice_rows, HasRow, HasNoRow, AreAbove};
 ghost use Rattle.mf_rows.specs.EdgeRows.{AreRows, AreRowsFrom};
 ghost use Rattle.mf_rows.specs.Merging.{row_found, IsSplitAtHeight};
 ghost use Rattle.mf_rows.specs.RowLists.{row_at, rows_at, IsHead};
@@ -74,16 +74,6 @@ impl<'a> RowSlice<'a> {
             }
         }
         count
-    }
-
-    /// The height of the last row, 0 where there is none.
-    pub(crate) fn last_height(self) -> i32
-        ensures { result ≡ last_height (slice_rows self.entry) }
-    {
-        match self.heads.last() {
-            Some(head) => head.y,
-            None => 0,
-        }
     }
 
     /// The first row, and the rows below it.

@@ -1,11 +1,10 @@
-use Rattle.std.proofs.Common.{◌≡◌, pos, ◌<ℤ◌, to_z, of_z, w32, refl, sym, subst, ap, ◌∙◌, ◌++◌, arith}
-use Rattle.std.proofs.lemmas.Int.{ints}
+use Rattle.std.proofs.Common.{refl, sym, subst, ap, ◌∙◌, ◌++◌}
 use Rattle.std.proofs.lemmas.Result.{err_from_is_err_and}
 use Rattle.mf_rows.specs.BandNumbers.{numbers_of}
 use Rattle.mf_rows.specs.Bands.{rows_of_bands}
 use Rattle.mf_rows.specs.EdgeRows.{AreRows}
 use Rattle.mf_rows.specs.Sums.{weight_in_all, HaveRowWeights}
-use Rattle.mf_rows.proofs.BandNumbersLemmas.{at_lesser, lesser_in_field, only_first, fewer_bands, numbered_none, numbered_next, all_numbered}
+use Rattle.mf_rows.proofs.BandNumbersLemmas.{next_number, only_first, fewer_bands, nothing_numbered, numbered_more, all_numbered}
 use Rattle.mf_rows.proofs.RowSums.{sum_none, rows_left, rows_right}
 use Rattle.mf_rows.proofs.BandSumsLemmas.{rows_of_first, rows_with_bands, weights_with_rest, unlawful_in_step, sum_more_step}
 use Rattle.mf_rows.proofs.FieldBandsLemmas.{rows_split_at}
@@ -14,18 +13,14 @@ use Rattle.mf_rows.proofs.band_sum.sum_of_bands.Goals as goal
 pub loop-number-init : goal.loop-number-init
 loop-number-init c = rw (c.in_ok-reserve.ensures.items, c.new-sum.ensures.items) (record {
   so_far = sum_none (rows_of_bands c.args.left.now) (rows_of_bands c.args.right.now) c.requires.left c.requires.right;
-  numbers = numbered_none _ _ c.requires.left_rises c.requires.right_rises;
+  numbers = nothing_numbered _ _ c.requires.left_rises c.requires.right_rises;
 })
 
 pub split_first_band-requires : goal.split_first_band-requires
-split_first_band-requires c =
-    let fits : to_z w32 (of_z w32 c.in-Some.number) ≡ c.in-Some.number = omega (arith, ints) in
-    rw fits (at_lesser c.in-Some.number _ _ _ c.in-Some.ensures.number c.loop-number.invariant.numbers).left
+split_first_band-requires c = (next_number c.in-Some.number c.in-Some.ensures.number c.loop-number.invariant.numbers).left
 
 pub split_first_band-requires-in-Some : goal.split_first_band-requires-in-Some
-split_first_band-requires-in-Some c =
-    let fits : to_z w32 (of_z w32 c.in-Some.number) ≡ c.in-Some.number = omega (arith, ints) in
-    rw fits (at_lesser c.in-Some.number _ _ _ c.in-Some.ensures.number c.loop-number.invariant.numbers).right
+split_first_band-requires-in-Some c = (next_number c.in-Some.number c.in-Some.ensures.number c.loop-number.invariant.numbers).right
 
 pub push_sum-requires-clause-left : goal.push_sum-requires-clause-left
 push_sum-requires-clause-left c = rows_of_first (rows_split_at c.split_first_band.ensures) (rows_left _ _ _ _ _ c.loop-number.invariant.so_far)
@@ -35,19 +30,13 @@ push_sum-requires-clause-right c =
     rows_of_first (rows_split_at c.split_first_band-in-Some.ensures) (rows_right _ _ _ _ _ c.loop-number.invariant.so_far)
 
 pub push_sum-requires-clause-number_of_left : goal.push_sum-requires-clause-number_of_left
-push_sum-requires-clause-number_of_left c =
-    let fits : to_z w32 (of_z w32 c.in-Some.number) ≡ c.in-Some.number = omega (arith, ints) in
-    rw fits (only_first (rw fits at c.split_first_band.ensures) (at_lesser c.in-Some.number _ _ _ c.in-Some.ensures.number c.loop-number.invariant.numbers).left)
+push_sum-requires-clause-number_of_left c = only_first c.split_first_band.ensures (next_number c.in-Some.number c.in-Some.ensures.number c.loop-number.invariant.numbers).left
 
 pub push_sum-requires-clause-number_of_right : goal.push_sum-requires-clause-number_of_right
-push_sum-requires-clause-number_of_right c =
-    let fits : to_z w32 (of_z w32 c.in-Some.number) ≡ c.in-Some.number = omega (arith, ints) in
-    rw fits (only_first (rw fits at c.split_first_band-in-Some.ensures) (at_lesser c.in-Some.number _ _ _ c.in-Some.ensures.number c.loop-number.invariant.numbers).right)
+push_sum-requires-clause-number_of_right c = only_first c.split_first_band-in-Some.ensures (next_number c.in-Some.number c.in-Some.ensures.number c.loop-number.invariant.numbers).right
 
 pub push_sum-requires-clause-before : goal.push_sum-requires-clause-before
-push_sum-requires-clause-before c =
-    let fits : to_z w32 (of_z w32 c.in-Some.number) ≡ c.in-Some.number = omega (arith, ints) in
-    rw fits (at_lesser c.in-Some.number _ _ _ c.in-Some.ensures.number c.loop-number.invariant.numbers).before
+push_sum-requires-clause-before c = (next_number c.in-Some.number c.in-Some.ensures.number c.loop-number.invariant.numbers).before
 
 pub returns-in_err-push_sum-clause-too_large : goal.returns-in_err-push_sum-clause-too_large
 returns-in_err-push_sum-clause-too_large c =
@@ -57,21 +46,15 @@ returns-in_err-push_sum-clause-too_large c =
 
 pub loop-number-smaller : goal.loop-number-smaller
 loop-number-smaller c =
-    let fits : to_z w32 (of_z w32 c.in-Some.number) ≡ c.in-Some.number = omega (arith, ints) in
-    fewer_bands c.in-Some.number _ _ _ _ _ _ c.in-Some.ensures.number (rw fits at c.split_first_band.ensures) (rw fits at c.split_first_band-in-Some.ensures)
+    fewer_bands _ _ _ _ _ _ _ (next_number c.in-Some.number c.in-Some.ensures.number c.loop-number.invariant.numbers).lesser c.split_first_band.ensures c.split_first_band-in-Some.ensures
 
 pub loop-number-preserved : goal.loop-number-preserved
-loop-number-preserved c =
-    let n = c.in-Some.number in
-    let fits : to_z w32 (of_z w32 n) ≡ n = omega (arith, ints) in
-    let lesser = c.in-Some.ensures.number in
-    let numbers = c.loop-number.invariant.numbers in
-    record {
-      so_far = sum_more_step _ _ _ _ _ c.loop-number.invariant.so_far _ _ _ _ _ (rows_split_at c.split_first_band.ensures)
-          (rows_split_at c.split_first_band-in-Some.ensures) _ c.in_ok-push_sum.ensures.pushed;
-      numbers = numbered_next n _ _ _ _ _ _ _ (at_lesser n _ _ _ lesser numbers) (lesser_in_field n _ _ _ lesser numbers).1
-          (rw fits at c.split_first_band.ensures) (rw fits at c.split_first_band-in-Some.ensures) _ (rw fits at c.in_ok-push_sum.ensures.rising);
-    }
+loop-number-preserved c = record {
+  so_far = sum_more_step _ _ _ _ _ c.loop-number.invariant.so_far _ _ _ _ _ (rows_split_at c.split_first_band.ensures)
+      (rows_split_at c.split_first_band-in-Some.ensures) _ c.in_ok-push_sum.ensures.pushed;
+  numbers = numbered_more (next_number c.in-Some.number c.in-Some.ensures.number c.loop-number.invariant.numbers) c.split_first_band.ensures c.split_first_band-in-Some.ensures
+      c.in_ok-push_sum.ensures.rising;
+}
 
 pub returns-clause-rows : goal.returns-clause-rows
 returns-clause-rows c =

@@ -18,8 +18,8 @@ returns-in_err-group-clause-blank c = λ none.
     absent_in_place c.args.groups.now c.args.y _ c.requires (record { top = omega (arith, ints); bottom = omega (arith, ints) })
     (no_group_there _ c.args.y c.in_err-group.ensures)
 
-pub find_row_in-requires : goal.find_row_in-requires
-find_row_in-requires c =
+pub find_row_in-requires-clause-rows : goal.find_row_in-requires-clause-rows
+find_row_in-requires-clause-rows c =
     rw (c.deref-2.ensures.value, c.deref.ensures, c.in_ok-group.ensures) (rows_in_place_are_rows c.args.groups.now _ c.requires)
 
 pub returns-clause-found : goal.returns-clause-found
