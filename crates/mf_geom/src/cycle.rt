@@ -1,5 +1,5 @@
 //! Cycles: closed rectilinear paths.
-ghost use Rattle.std.specs.Prelude.{◌≡◌, ◌↔◌, ◌<◌, pos, negsuc, ◌≤ℤ◌, length, IsOk, IfOk, IfErr};
+ghost use Rattle.std.specs.Prelude.{◌≡◌, ◌↔◌, ◌<◌, pos, negsuc, ◌≤ℤ◌, length, Some, IsOk, IfOk, IfErr};
 
 use crate::point::Point;
 use crate::{path, segment, winding};
@@ -70,7 +70,8 @@ impl Model for Cycle {
 }
 
 impl Cycle {
-    ghost use Rattle.mf_geom.specs.Lawful.{IsFault, IsRectilinearCycle, NeverReverses};
+    ghost use Rattle.mf_geom.specs.Faults.{form_fault, turning_fault};
+    ghost use Rattle.mf_geom.specs.Lawful.{IsRectilinearCycle, NeverReverses};
     ghost use Rattle.mf_geom.specs.Path.{segment_at};
     ghost use Rattle.mf_geom.specs.Turning.{turning};
     ghost use Rattle.mf_geom.specs.Area.{area};
@@ -79,10 +80,11 @@ impl Cycle {
     /// The cycle through these points, in this order. It keeps the list and allocates nothing. Refused with
     /// `TooFewPoints`, `TooManyPoints`, `PointOutOfRange` or `NotRectilinear`: with the first of them that applies,
     /// since all points are checked for one before any is checked for the next. A refusal gives the list back.
+    #[tactic(auto, using(crate::proofs::FirstFaults::is_cycle, crate::proofs::FirstFaults::no_form_fault))]
     pub fn new(points: Vec<Point>) -> Result<Cycle, (CycleFault, Vec<Point>)>
         ensures accepted { IsOk result ↔ IsRectilinearCycle points.items }
         ensures kept { IfOk result (λ cycle. cycle ≡ points.items) }
-        ensures refused { IfErr result (λ back. IsFault points.items back.0) }
+        ensures refused { IfErr result (λ back. form_fault points.items ≡ Some back.0) }
         ensures unchanged { IfErr result (λ back. back.1 ≡ points) }
     {
         match path::form_fault(&points) {
@@ -124,11 +126,11 @@ impl Cycle {
     /// cycle that turns counterclockwise. Refused with `Backtracks` and the first vertex at which the path turns
     /// straight back, since such a cycle has no turning number; never refused with `TurningZero`: a turning number of 0
     /// is an answer. Allocates nothing.
-    #[tactic(auto, unfolding(crate::specs::Lawful::IsFault))]
+    #[tactic(auto, using(crate::proofs::FirstFaults::never_reverses, crate::proofs::FirstFaults::no_reversal))]
     pub fn turning(&self) -> Result<i32, CycleFault>
         ensures value { IfOk result (λ number. number ≡ turning self.now) }
         ensures onward { IsOk result ↔ NeverReverses self.now }
-        ensures refused { IfErr result (IsFault self.now) }
+        ensures refused { IfErr result (λ fault. turning_fault self.now ≡ Some fault) }
         ensures lawful { IsRectilinearCycle self.now }
     {
         match path::first_reversal(&self.points) {

@@ -1,10 +1,11 @@
 //! Closed paths as slices of their points: why one is not a cycle, where it turns straight back, its turning number and
 //! its area.
-ghost use Rattle.std.specs.Prelude.{◌≡◌, ◌↔◌, ℕ, ◌<◌, ◌≤◌, length, true, false, IfNone, IfSome, IsTrue};
+ghost use Rattle.std.specs.Prelude.{◌≡◌, ◌↔◌, ℕ, ◌<◌, ◌≤◌, true, false, IfNone, IfSome, IsTrue};
 ghost use Rattle.mf_geom.specs.declared.path.TheConstants.{MAX_POINTS};
 ghost use Rattle.mf_geom.specs.Area.{area};
-ghost use Rattle.mf_geom.specs.Lawful.{IsFault, IsFirst, IsRectilinearCycle, HasLawfulLength, StaysInRange};
-ghost use Rattle.mf_geom.specs.Path.{point_at, segment_at, arriving, IsInRange, IsRectilinear, IsReversal};
+ghost use Rattle.mf_geom.specs.Faults.{first_not_rectilinear, first_out_of_range, first_reversal, form_fault};
+ghost use Rattle.mf_geom.specs.Lawful.{HasLawfulLength, StaysInRange};
+ghost use Rattle.mf_geom.specs.Path.{IsInRange};
 ghost use Rattle.mf_geom.specs.Turning.{turning};
 
 use crate::cycle::CycleFault;
@@ -18,11 +19,9 @@ const MIN_POINTS: usize = 2;
 pub const MAX_POINTS: usize = 4096;
 
 /// Why a closed path is not a cycle; `None` where it is one.
-#[tactic(auto, unfolding(crate::specs::Lawful::IsFault))]
+#[tactic(auto, unfolding(crate::specs::Faults::form_fault))]
 pub fn form_fault(points: &[Point]) -> Option<CycleFault>
-    ensures none { IfNone result (IsRectilinearCycle points.now) }
-    ensures some { IfSome result (IsFault points.now) }
-    ensures no_cycle { IfSome result (λ _. ¬ IsRectilinearCycle points.now) }
+    ensures { result ≡ form_fault points.now }
 {
     if points.len() < MIN_POINTS {
         return Some(CycleFault::TooFewPoints);
@@ -66,8 +65,8 @@ pub fn area(points: &[Point]) -> i64
 /// The index of the first point out of range.
 fn first_out_of_range(points: &[Point]) -> Option<u32>
     requires { HasLawfulLength points.now }
-    ensures none { IfNone result ((k : ℕ) → k < length points.now → IsInRange (point_at points.now k)) }
-    ensures some { IfSome result (IsFirst (length points.now) (λ k. ¬ IsInRange (point_at points.now k))) }
+    ensures value { result ≡ first_out_of_range points.now }
+    ensures in_range { IfNone result (StaysInRange points.now) }
 {
     first_place(points.len(), |place| !is_in_range(points[place]))
 }
@@ -75,8 +74,7 @@ fn first_out_of_range(points: &[Point]) -> Option<u32>
 /// The index of the first segment that is not rectilinear.
 fn first_not_rectilinear(points: &[Point]) -> Option<u32>
     requires { StaysInRange points.now }
-    ensures none { IfNone result ((k : ℕ) → k < length points.now → IsRectilinear (segment_at points.now k)) }
-    ensures some { IfSome result (IsFirst (length points.now) (λ k. ¬ IsRectilinear (segment_at points.now k))) }
+    ensures { result ≡ first_not_rectilinear points.now }
 {
     first_place(points.len(), |segment| !is_rectilinear(points, segment))
 }
@@ -84,8 +82,7 @@ fn first_not_rectilinear(points: &[Point]) -> Option<u32>
 /// The first vertex at which the path turns straight back.
 pub fn first_reversal(points: &[Point]) -> Option<u32>
     requires { StaysInRange points.now }
-    ensures none { IfNone result ((k : ℕ) → k < length points.now → IsReversal (arriving points.now k) (segment_at points.now k) → ⊥) }
-    ensures some { IfSome result (IsFirst (length points.now) (λ k. IsReversal (arriving points.now k) (segment_at points.now k))) }
+    ensures { result ≡ first_reversal points.now }
 {
     first_place(points.len(), |vertex| is_reversal(points, vertex))
 }

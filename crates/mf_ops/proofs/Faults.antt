@@ -10,9 +10,7 @@ use Rattle.mf_geom.specs.declared.check.Check.{Check}
 use Rattle.mf_geom.specs.declared.check.Check.TheVariants.{Off, On}
 use Rattle.mf_geom.specs.declared.cycle.CycleFault.{CycleFault}
 use Rattle.mf_geom.specs.Faults.{turning_fault}
-use Rattle.mf_geom.specs.Lawful.{IsFault, IsRectilinearCycle, PassesCheck}
 use Rattle.mf_geom.specs.Winding.{filling_weight, contour}
-use Rattle.mf_geom.proofs.FirstFaults.{cycle_fault_of-cycle, cycle_fault_of-fault, cycle_fault_of-rectilinear}
 use Rattle.mf_geom.specs.Field.{IsInField}
 use Rattle.mf_edges.specs.declared.fault.AddFault.{AddFault}
 use Rattle.mf_edges.specs.declared.fault.AddFault.TheVariants as add
@@ -23,16 +21,12 @@ use Rattle.mf_rows.specs.Weights.{picture_of}
 use Rattle.mf_rows.proofs.WeightsLemmas.{IsDotOf, weight_at-picture_of, lawful_picture_of, picture_of-from_weights, picture_of-dots}
 use Rattle.mf_ops.specs.Faults.{sum_fault}
 use Rattle.mf_ops.specs.Sides.{FillsWith}
-use Rattle.mf_ops.specs.Step.{is_too_large, step_at, next_picture, leaves, StaysInField, TurnsLawfully, weight_fault, pixel_fault, turn_fault, op_fault}
-use Rattle.mf_ops.specs.Moves.{Factors}
-use Rattle.mf_ops.specs.declared.cull.CullRule.{CullRule}
+use Rattle.mf_ops.specs.Step.{is_too_large, step_at, next_picture, leaves, MayLeave, StaysInField, TurnsLawfully, weight_fault, pixel_fault, turn_fault, op_fault}
 use Rattle.mf_ops.specs.declared.op.Op.{Op}
 use Rattle.mf_ops.specs.declared.op.Op.TheVariants as ops
 use Rattle.mf_ops.specs.declared.op.Op.TheVariants.{Contour, Also, Cull, Clear}
 use Rattle.mf_ops.specs.declared.op.OpFault.{OpFault}
 use Rattle.mf_ops.specs.declared.op.OpFault.TheVariants.{Cycle, OutOfField, WeightTooLarge, OutOfMemory}
-use Rattle.mf_ops.specs.declared.quarter.Quarter.{Quarter}
-use Rattle.mf_ops.specs.declared.sign.Sign.{Sign}
 use Rattle.mf_geom.specs.declared.point.Point.{Point}
 
 is_too_large-false : (w : ℤ) → (is_too_large w ≡ false) ↔ IsLawfulWeight w
@@ -75,13 +69,6 @@ next_picture-from_weights ds op new picture has = picture_of-from_weights new (s
 pub op_fault-turn : (ds : List Dot) (op : Op) (fault : OpFault) → turn_fault op ≡ Some fault → op_fault ds op ≡ Some fault
 unfolding op_fault
 op_fault-turn ds op fault found = ap (λ (turn : Option OpFault). option_or turn (pixel_fault ds op)) found
-
--- the fault of a cycle, by its definition, is the one that the turning check finds
-pub turning_fault-is : (ps : List Point) (fault : CycleFault) → IsRectilinearCycle ps → IsFault ps fault → turning_fault ps ≡ Some fault
-turning_fault-is ps fault cycle is = sym (cycle_fault_of-rectilinear ps cycle) ∙ cycle_fault_of-fault ps fault is
-
-pub turning_fault-none : (ps : List Point) → PassesCheck ps → turning_fault ps ≡ None
-turning_fault-none ps passes = sym (cycle_fault_of-rectilinear ps passes.onward.rectilinear) ∙ cycle_fault_of-cycle ps passes
 
 -- where the turning check finds none, the pixels decide
 op_fault-pixels : (ds : List Dot) (op : Op) → TurnsLawfully op → op_fault ds op ≡ pixel_fault ds op
@@ -133,24 +120,6 @@ refused_from ds ps w fault (Some f) is refused =
 pub turning_fault-refused : (ds : List Dot) (ps : List Point) (w : ℤ) (fault : CycleFault)
     → op_fault ds (Contour ps w On) ≡ Some (Cycle fault) → turning_fault ps ≡ Some fault
 turning_fault-refused ds ps w fault refused = refused_from ds ps w fault (turning_fault ps) refl refused
-
-pub also_turns : (ds es : List Dot) (s : Sign) (f : CycleFault) → op_fault ds (Also es s) ≢ Some (Cycle f)
-also_turns ds es s f = not_turning ds (Also es s) f (record { none = refl })
-
-pub cull_turns : (ds : List Dot) (c : CullRule) (f : CycleFault) → op_fault ds (Cull c) ≢ Some (Cycle f)
-cull_turns ds c f = not_turning ds (Cull c) f (record { none = refl })
-
-pub shift_turns : (ds : List Dot) (dx dy : ℤ) (f : CycleFault) → op_fault ds (ops.Shift dx dy) ≢ Some (Cycle f)
-shift_turns ds dx dy f = not_turning ds (ops.Shift dx dy) f (record { none = refl })
-
-pub scale_turns : (ds : List Dot) (s : Factors) (f : CycleFault) → op_fault ds (ops.Scale s) ≢ Some (Cycle f)
-scale_turns ds s f = not_turning ds (ops.Scale s) f (record { none = refl })
-
-pub quarter_turns : (ds : List Dot) (q : Quarter) (f : CycleFault) → op_fault ds (ops.Quarter q) ≢ Some (Cycle f)
-quarter_turns ds q f = not_turning ds (ops.Quarter q) f (record { none = refl })
-
-pub clear_turns : (ds : List Dot) (f : CycleFault) → op_fault ds Clear ≢ Some (Cycle f)
-clear_turns ds f = not_turning ds Clear f (record { none = refl })
 
 -- a contour that passes its check is filled with the weight that the check gives it
 pub FillsWith-checked : (ps : List Point) (w : ℤ) (check : Check) → turn_fault (Contour ps w check) ≡ None
@@ -211,9 +180,6 @@ never (d ∷ ds) = never ds
 stays_everywhere : (ds : List Dot) (op : Op) → TurnsLawfully op → list_any (leaves op) ds ≡ false → IsForWeights ds op
 stays_everywhere ds op turns none = record { turns = turns; stays = record { none_leaves = none } }
 
-pub contour_stays : (ds : List Dot) (ps : List Point) (w : ℤ) (check : Check) → TurnsLawfully (Contour ps w check) → IsForWeights ds (Contour ps w check)
-contour_stays ds ps w check turns = stays_everywhere ds (Contour ps w check) turns (never ds)
-
 -- so where they do not turn, only the weights decide
 pub stays_anyway : (ds : List Dot) (op : Op) → turn_fault op ≡ None → (leaves op ≡ (λ d. false)) → IsForWeights ds op
 stays_anyway ds op none leaves_none = stays_everywhere ds op (record { none = none }) (ap (λ test. list_any test ds) leaves_none ∙ never ds)
@@ -226,22 +192,13 @@ weight_fault-not_out false same = cc
 pub not_out : (ds : List Dot) (op : Op) → IsForWeights ds op → op_fault ds op ≢ Some OutOfField
 not_out ds op stays out = weight_fault-not_out _ (sym (op_fault-inside ds op stays) ∙ out)
 
-pub contour_not_out : (ds : List Dot) (ps : List Point) (w : ℤ) (check : Check) → op_fault ds (Contour ps w check) ≢ Some OutOfField
-contour_not_out ds ps w check out =
-    let found = from_pixels ds (Contour ps w check) (Some OutOfField) (λ f same. cc) out in
-    not_out ds (Contour ps w check) (contour_stays ds ps w check found.0) out
-
-pub also_not_out : (ds es : List Dot) (s : Sign) → op_fault ds (Also es s) ≢ Some OutOfField
-also_not_out ds es s = not_out ds (Also es s) (stays_anyway ds (Also es s) refl refl)
-
-pub cull_not_out : (ds : List Dot) (c : CullRule) → op_fault ds (Cull c) ≢ Some OutOfField
-cull_not_out ds c = not_out ds (Cull c) (stays_anyway ds (Cull c) refl refl)
-
-pub quarter_not_out : (ds : List Dot) (q : Quarter) → op_fault ds (ops.Quarter q) ≢ Some OutOfField
-quarter_not_out ds q = not_out ds (ops.Quarter q) (stays_anyway ds (ops.Quarter q) refl refl)
-
-pub clear_not_out : (ds : List Dot) → op_fault ds Clear ≢ Some OutOfField
-clear_not_out ds = not_out ds Clear (stays_anyway ds Clear refl refl)
+-- so only a shift or a scale is refused with OutOfField
+pub may_leave : (ds : List Dot) (op : Op) → op_fault ds op ≡ Some OutOfField → MayLeave op
+may_leave ds (ops.Shift dx dy) out = tt
+may_leave ds (ops.Scale s) out = tt
+may_leave ds op out =
+    let found = from_pixels ds op (Some OutOfField) (λ f same. cc) out in
+    not_out ds op (stays_everywhere ds op found.0 (never ds)) out
 
 -- what each answer says about the two tests
 none_where_lawful : (out large : Bool) → cond out (Some OutOfField) (cond large (Some WeightTooLarge) None) ≡ None → (out ≡ false) × (large ≡ false)

@@ -18,7 +18,7 @@ use Rattle.mf_edges.specs.Axes.{opposite, PlaceStaysInside}
 use Rattle.mf_rows.proofs.DotsLemmas.{IsAt, weight_at-dot, dots_from-lawful, weight_at-outside}
 use Rattle.mf_ops.specs.Cull.{IsLawfulCull, culled_weight}
 use Rattle.mf_ops.specs.Moves.{Factors, AreFactors, IsFactor, IsInAxis, HasPlace, scale_by, scale_source, shift_by, stays_inside, turn_once, turn_by}
-use Rattle.mf_ops.specs.Step.{step_at, leaves, op_fault, LiesOutside, MayLeave, TurnsLawfully}
+use Rattle.mf_ops.specs.Step.{step_at, leaves, op_fault, LiesOutside, TurnsLawfully}
 use Rattle.mf_ops.specs.declared.cull.CullRule.{CullRule}
 use Rattle.mf_ops.specs.declared.cull.CullRule.TheVariants.{Keeping, Dropping}
 use Rattle.mf_ops.specs.declared.op.Op.{Op}
@@ -29,7 +29,7 @@ use Rattle.mf_ops.specs.declared.quarter.Quarter.{Quarter}
 use Rattle.mf_ops.specs.declared.quarter.Quarter.TheVariants.{Once, Twice, Thrice}
 use Rattle.mf_ops.specs.declared.sign.Sign.{Sign}
 use Rattle.mf_ops.specs.declared.sign.Sign.TheVariants.{Plus, Minus}
-use Rattle.mf_ops.proofs.Faults.{leaves-refused, op_fault-leaves, contour_not_out, also_not_out, cull_not_out, quarter_not_out, clear_not_out}
+use Rattle.mf_ops.proofs.Faults.{leaves-refused, op_fault-leaves}
 use Rattle.mf_ops.proofs.Leaving.{stays_inside-true}
 use Rattle.mf_ops.proofs.Places.{scale_source-covered, scale_source-only, HasPlace-first, HasPlace-last}
 
@@ -243,13 +243,3 @@ cull-inside ds c picture lawful at = at.nonzero (rw (weight_at-outside ds at.x a
 
 pub clear-inside : (ds : List Dot) → LiesOutside (step_at ds Clear) → ⊥
 clear-inside ds at = at.nonzero refl
-
--- so only a shift or a scale is refused with OutOfField
-pub may_leave-refused : (ds : List Dot) (op : Op) → op_fault ds op ≡ Some OutOfField → MayLeave op
-may_leave-refused ds (Contour ps w check) refused = contour_not_out ds ps w check refused
-may_leave-refused ds (Also es s) refused = also_not_out ds es s refused
-may_leave-refused ds (Cull c) refused = cull_not_out ds c refused
-may_leave-refused ds (Shift dx dy) refused = tt
-may_leave-refused ds (Scale s) refused = tt
-may_leave-refused ds (ops.Quarter q) refused = quarter_not_out ds q refused
-may_leave-refused ds Clear refused = clear_not_out ds refused

@@ -1,5 +1,5 @@
 -- Which column, or row, a scale takes to the part of the axis that contains a given one.
-use Rattle.std.proofs.Common.{◌≡◌, ℕ, zero, suc, ℤ, pos, negsuc, neg_ℤ, ◌+ℤ◌, ◌-ℤ◌, ◌*ℤ◌, ◌≤ℤ◌, ◌<ℤ◌, nat_abs, refl, ap, ◌∙◌, false, int_lt, arith}
+use Rattle.std.proofs.Common.{◌≡◌, ◌↔◌, ℕ, zero, suc, ℤ, pos, negsuc, neg_ℤ, ◌+ℤ◌, ◌-ℤ◌, ◌*ℤ◌, ◌≤ℤ◌, ◌<ℤ◌, nat_abs, refl, ap, ◌∙◌, false, int_lt, arith}
 use Rattle.std.specs.Int.{int_max, int_min}
 use Rattle.std.proofs.lemmas.Bool.{cond-false}
 use Rattle.std.proofs.lemmas.Int.{ints, clamps, by_lt_z}
@@ -35,17 +35,13 @@ end-negative n p =
     mul-neg (p +ℤ pos 1) (pos (suc n)) ∙ (λ t. side t *ℤ pos (suc n))
 
 -- so the part of p is the part of the opposite place under the opposite factor
-HasPlace-negative : (n : ℕ) (p q : ℤ) → HasPlace (pos (suc n)) (opposite p) q → HasPlace (negsuc n) p q
-HasPlace-negative n p q has =
+HasPlace-negative : (n : ℕ) (p q : ℤ) → HasPlace (pos (suc n)) (opposite p) q ↔ HasPlace (negsuc n) p q
+HasPlace-negative n p q =
     let start = start-negative n p in
-    let end = end-negative n p in
-    record { start = omega (arith, ints, clamps); end = omega (arith, ints, clamps) }
-
-HasPlace-from_negative : (n : ℕ) (p q : ℤ) → HasPlace (negsuc n) p q → HasPlace (pos (suc n)) (opposite p) q
-HasPlace-from_negative n p q has =
-    let start = start-negative n p in
-    let end = end-negative n p in
-    record { start = omega (arith, ints, clamps); end = omega (arith, ints, clamps) }
+    let end = end-negative n p in (
+      λ has. record { start = omega (arith, ints, clamps); end = omega (arith, ints, clamps) },
+      λ has. record { start = omega (arith, ints, clamps); end = omega (arith, ints, clamps) },
+    )
 
 -- the part of the source of q begins at q or before it, and ends behind it
 pub source_of-start : (s : Stretch) (q : ℤ) → IsStretch s → stretched_to s (source_of s q) ≤ℤ q
@@ -91,13 +87,13 @@ scale_source-covered (negsuc n) q factor =
     let p = source_of (scale_by (pos (suc n))) q in
     let back = opposite-opposite p in
     let covered = covered-positive (pos (suc n)) q (IsStretch-size (negsuc n) factor) in
-    rw (scale_source-negative n q) (HasPlace-negative n (opposite p) q (rw back covered))
+    rw (scale_source-negative n q) ((HasPlace-negative n (opposite p) q).0 (rw back covered))
 
 -- no other part contains it
 pub scale_source-only : (f p q : ℤ) → IsFactor f → HasPlace f p q → scale_source f q ≡ p
 scale_source-only (pos n) p q factor has = scale_source-positive n q ∙ only-positive (pos n) p q (IsStretch-size (pos n) factor) has
 scale_source-only (negsuc n) p q factor has =
-    let only = only-positive (pos (suc n)) (opposite p) q (IsStretch-size (negsuc n) factor) (HasPlace-from_negative n p q has) in
+    let only = only-positive (pos (suc n)) (opposite p) q (IsStretch-size (negsuc n) factor) ((HasPlace-negative n p q).1 has) in
     scale_source-negative n q ∙ ap opposite only ∙ opposite-opposite p
 
 -- a reflection takes a column to the other side of 0

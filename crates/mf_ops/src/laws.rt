@@ -9,7 +9,8 @@ ghost use Rattle.mf_geom.specs.declared.cycle.CycleFault.{CycleFault};
 ghost use Rattle.mf_geom.specs.declared.point.Point.{Point};
 ghost use Rattle.mf_geom.specs.Area.{area};
 ghost use Rattle.mf_geom.specs.Field.{IsInField};
-ghost use Rattle.mf_geom.specs.Lawful.{IsFault, IsRectilinearCycle};
+ghost use Rattle.mf_geom.specs.Faults.{turning_fault};
+ghost use Rattle.mf_geom.specs.Lawful.{IsRectilinearCycle};
 ghost use Rattle.mf_geom.specs.Turning.{turning};
 ghost use Rattle.mf_edges.specs.LawfulWeights.{IsLawfulWeight};
 ghost use Rattle.mf_rows.specs.Dots.{Dot, IsPicture, total_of, weight_at};
@@ -47,8 +48,8 @@ pub fn refused_where_too_large()
 /// at which it does) or, failing that, where its turning number is 0, whatever its pixels are. No other operation is refused for
 /// a cycle.
 pub fn refused_where_it_turns_back()
-    ensures checked { (ds : List Dot) (ps : List Point) (w : ℤ) (fault : CycleFault) → IsRectilinearCycle ps →
-        (op_fault ds (Contour ps w On) ≡ Some (OpFault.Cycle fault)) ↔ IsFault ps fault }
+    ensures checked { (ds : List Dot) (ps : List Point) (w : ℤ) (fault : CycleFault) →
+        (op_fault ds (Contour ps w On) ≡ Some (OpFault.Cycle fault)) ↔ turning_fault ps ≡ Some fault }
     ensures unchecked { (ds : List Dot) (ps : List Point) (w : ℤ) → TurnsLawfully (Contour ps w Off) }
     ensures lawful { (ds : List Dot) (op : Op) (fault : CycleFault) → TurnsLawfully op → op_fault ds op ≢ Some (OpFault.Cycle fault) }
 {}

@@ -135,7 +135,7 @@ impl Op {
 /// - `OutOfMemory`, where an allocation fails. It may come instead of `WeightTooLarge`, but of none of the others.
 ///
 /// A clear is never refused, nor is a cull of a blank picture, nor adding a blank picture to a blank one or subtracting it.
-#[tactic(auto, using(crate::proofs::Faults::contour_not_out, crate::proofs::Faults::also_not_out, crate::proofs::Faults::cull_not_out, crate::proofs::Faults::quarter_not_out, crate::proofs::Faults::clear_not_out, crate::proofs::Faults::also_turns, crate::proofs::Faults::cull_turns, crate::proofs::Faults::shift_turns, crate::proofs::Faults::scale_turns, crate::proofs::Faults::quarter_turns, crate::proofs::Faults::clear_turns))]
+#[tactic(auto, using(crate::proofs::Faults::may_leave, crate::proofs::Faults::not_turning))]
 pub fn after(alloc: Global, picture: &Picture, op: &Op) -> Result<Picture, OpFault>
     ensures step { IfOk result (λ new. new ≡ next_picture picture.now op.now) }
     ensures accepted { OnOk result (op_fault picture.now op.now ≡ None) }
@@ -168,7 +168,7 @@ pub fn after(alloc: Global, picture: &Picture, op: &Op) -> Result<Picture, OpFau
 
 /// Performs an operation on a picture. Contours and other pictures are added to it in place. The refusals are those of `after`,
 /// and leave the picture as it was. Adding or subtracting a blank picture is never refused.
-#[tactic(auto, using(crate::proofs::Faults::contour_not_out, crate::proofs::Faults::also_not_out, crate::proofs::Faults::also_turns))]
+#[tactic(auto, using(crate::proofs::Faults::may_leave, crate::proofs::Faults::not_turning))]
 pub fn apply(alloc: Global, picture: &mut Picture, op: &Op) -> Result<(), OpFault>
     ensures step { OnOk result (picture.new ≡ next_picture picture.old op.now) }
     ensures unchanged { OnErr result (picture.new ≡ picture.old) }

@@ -3,7 +3,6 @@ use Rattle.std.proofs.Common.{◌≡◌, ◌≢◌, inl, inr, ℕ, suc, ◌<◌,
 use Rattle.std.proofs.lemmas.Bool.{cases_lt}
 use Rattle.std.proofs.lemmas.Int.{ints}
 use Rattle.std.proofs.lemmas.List.{take-append-drop, take-take}
-use Rattle.mf_geom.proofs.FirstFaults.{cycle_fault_of-fault}
 use Rattle.mf_ops.specs.declared.quarter.Quarter.TheVariants.{Once, Twice, Thrice}
 use Rattle.mf_text.specs.declared.command.Command.TheVariants as command
 use Rattle.mf_text.specs.declared.fault.TextFault.TheVariants as faults
@@ -30,8 +29,8 @@ one_meant (Turns name angle) one other p q = p.is ∙ ap (command.Quarter name) 
 
 one_unlawful : (value : Value) (one other : TextFault) → IsUnlawful value one → IsUnlawful value other → one ≡ other
 one_unlawful (Points points) one other p q =
-    let first = cycle_fault_of-fault points p.is.cause p.is.fault in
-    let second = cycle_fault_of-fault points q.is.cause q.is.fault in
+    let first = p.is.fault in
+    let second = q.is.fault in
     let same : p.is.cause ≡ q.is.cause = cc in
     p.is.is ∙ ap faults.Cycle same ∙ sym q.is.is
 one_unlawful value one other p q = p.is ∙ sym q.is

@@ -6,7 +6,7 @@ use Rattle.std.proofs.lemmas.Bool.{cases_Bool, cases_lt}
 use Rattle.std.proofs.lemmas.Int.{ints, by_lt_z}
 use Rattle.std.proofs.lemmas.Option.{none-some}
 use Rattle.mf_geom.specs.Coordinates.{least_coordinate, greatest_coordinate}
-use Rattle.mf_geom.proofs.FirstFaults.{cycle-form_fault, fault-cycle_fault_of, form_fault-none}
+use Rattle.mf_geom.proofs.FirstFaults.{is_cycle, no_form_fault}
 use Rattle.mf_geom.specs.Faults.{form_fault}
 use Rattle.mf_ops.specs.Moves.{AreFactors, Factors, IsFactor, degrees}
 use Rattle.mf_ops.specs.declared.quarter.Quarter.TheVariants.{Once, Twice, Thrice}
@@ -85,12 +85,12 @@ abbrev IsChecked : Value → Type 0
 IsChecked value = IsLawful value ⊎ ((fault : TextFault) × IsUnlawful value fault)
 
 cycle_or_not : (points : List Point) (found : Option CycleFault) → form_fault points ≡ found → IsChecked (Points points)
-cycle_or_not points None is = inl (cycle-form_fault points is)
+cycle_or_not points None is = inl (is_cycle points is)
 cycle_or_not points (Some cause) is = inr (
   faults.Cycle cause,
   record {
-    unlawful = λ cycle. none-some cause (sym (form_fault-none points cycle) ∙ is);
-    is = record { cause = cause; fault = fault-cycle_fault_of points cause (rw is refl); is = refl };
+    unlawful = λ cycle. none-some cause (sym (no_form_fault points cycle) ∙ is);
+    is = record { cause = cause; fault = is; is = refl };
   },
 )
 

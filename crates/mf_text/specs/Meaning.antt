@@ -1,6 +1,7 @@
 -- What a form gives: a command, or a refusal of its values.
-use Rattle.std.specs.Prelude.{◌≡◌, ◌⊎◌, ℤ, pos, int_lt, List, Result, Ok, Err, if◌then◌else◌}
-pub use Rattle.mf_geom.specs.Lawful.{IsRectilinearCycle, IsFault}
+use Rattle.std.specs.Prelude.{◌≡◌, ◌⊎◌, ℤ, pos, int_lt, List, Some, Result, Ok, Err, if◌then◌else◌}
+pub use Rattle.mf_geom.specs.Faults.{form_fault}
+pub use Rattle.mf_geom.specs.Lawful.{IsRectilinearCycle}
 pub use Rattle.mf_geom.specs.declared.check.Check.{Check}
 use Rattle.mf_geom.specs.declared.check.Check.TheVariants.{Off, On}
 pub use Rattle.mf_ops.specs.ContourWeight.{IsContourWeight}
@@ -85,7 +86,7 @@ IsLawful (Angle angle) = (quarter : Quarter) × (degrees quarter ≡ angle)
 -- this refusal is the fault of the points, so it is not one of the turning check
 pub record HasCycleFault (points : List Point) (refused : TextFault) : Type 0 where
   pub cause : CycleFault
-  pub fault : IsFault points cause
+  pub fault : form_fault points ≡ Some cause
   pub is : refused ≡ faults.Cycle cause
 
 -- this is the refusal of the value, if it is not lawful

@@ -1,9 +1,9 @@
 use Rattle.std.proofs.Common.{rules}
-use Rattle.mf_geom.proofs.FirstPlaces.{first-none, first-some}
+use Rattle.mf_geom.proofs.FirstFaults.{is_not_rectilinear-false, is_not_rectilinear-true}
+use Rattle.mf_geom.proofs.FirstPlaces.{first_place-is}
 use Rattle.mf_geom.proofs.path.first_not_rectilinear.Goals as goal
 
 pub returns : goal.returns
-returns c = record {
-  none = first-none _ _ c.first_place.ensures.none (λ k at_false. search rules);
-  some = first-some _ _ c.first_place.ensures.some (λ k at_true. search rules) (λ k at_false. search rules);
-}
+returns c =
+    first_place-is _ _ _ c.first_place.ensures.none c.first_place.ensures.some
+    (λ k at_true. is_not_rectilinear-true _ (search rules)) (λ k at_false. is_not_rectilinear-false _ (search rules))

@@ -1,9 +1,9 @@
 use Rattle.std.proofs.Common.{rules}
-use Rattle.mf_geom.proofs.FirstPlaces.{first-none, first-some}
+use Rattle.mf_geom.proofs.FirstFaults.{is_reversal-false, is_reversal-true}
+use Rattle.mf_geom.proofs.FirstPlaces.{first_place-is}
 use Rattle.mf_geom.proofs.path.first_reversal.Goals as goal
 
 pub returns : goal.returns
-returns c = record {
-  none = first-none _ _ c.first_place.ensures.none (λ k at_false. search rules);
-  some = first-some _ _ c.first_place.ensures.some (λ k at_true. search rules) (λ k at_false. search rules);
-}
+returns c =
+    first_place-is _ _ _ c.first_place.ensures.none c.first_place.ensures.some
+    (λ k at_true. is_reversal-true _ _ (search rules)) (λ k at_false. is_reversal-false _ _ (search rules))

@@ -1,19 +1,13 @@
-use Rattle.std.proofs.Common.{◌≡◌, refl, pos, arith}
+use Rattle.std.proofs.Common.{◌≡◌, ◌∙◌, refl, pos, arith}
 use Rattle.std.proofs.lemmas.Int.{ints}
-use Rattle.mf_geom.specs.Lawful.{IsFault}
 use Rattle.mf_geom.specs.Turning.{turning}
-use Rattle.mf_geom.specs.declared.cycle.CycleFault.TheVariants.{TurningZero}
-use Rattle.mf_ops.proofs.Faults.{turning_fault-is, turning_fault-none}
+use Rattle.mf_geom.proofs.FirstFaults.{turning_fault-none, turning_fault-onward}
 use Rattle.mf_ops.proofs.fill.turned_weight.Goals as goal
 
-pub returns-in-Err-clause-refused : goal.returns-in-Err-clause-refused
-returns-in-Err-clause-refused c = turning_fault-is c.args.cycle.now c.in-Err.fault c.in-Err.ensures.lawful c.in-Err.ensures.refused
-
 pub returns-in-Ok-clause-refused : goal.returns-in-Ok-clause-refused
-unfolding IsFault
 returns-in-Ok-clause-refused c =
     let none : turning c.args.cycle.now ≡ pos 0 = omega (arith, ints, c.in-Ok.ensures.value, c.if-turning-eq0.true) in
-    turning_fault-is c.args.cycle.now TurningZero c.in-Ok.ensures.lawful (c.in-Ok.ensures.onward.0 refl, none)
+    turning_fault-onward c.args.cycle.now (c.in-Ok.ensures.onward.0 refl) ∙ rw none refl
 
 pub returns-in-Ok-2-clause-passes : goal.returns-in-Ok-2-clause-passes
 returns-in-Ok-2-clause-passes c =

@@ -11,7 +11,7 @@ use Rattle.mf_ops.specs.declared.cull.CullRule.TheVariants.{Keeping, Dropping}
 use Rattle.mf_ops.specs.declared.op.Op.TheVariants as ops
 use Rattle.mf_ops.specs.declared.quarter.Quarter.{Quarter}
 use Rattle.mf_ops.specs.declared.quarter.Quarter.TheVariants.{Once, Twice, Thrice}
-use Rattle.mf_ops.proofs.Faults.{accepted-lawful, also_not_out, contour_not_out, not_too_large-lawful, stays_anyway}
+use Rattle.mf_ops.proofs.Faults.{accepted-lawful, may_leave, not_too_large-lawful, stays_anyway}
 use Rattle.mf_ops.proofs.laws.never_refused.Goals as goal
 
 -- a move gives each pixel the weight that some pixel had
@@ -35,6 +35,6 @@ returns c = record {
       (λ x y. cond_both (is_within a b (weight_at ds x y)) (pos 0) w IsLawfulWeight (λ _. zero_lawful) (λ _. lawful));
   shift = λ ds dx dy picture. not_too_large-lawful ds (ops.Shift dx dy) (λ x y. lawful_at ds picture _ _);
   scale = λ ds s picture. not_too_large-lawful ds (ops.Scale s) (λ x y. lawful_at ds picture (scale_source s.x x) (scale_source s.y y));
-  contour = contour_not_out;
-  also = also_not_out;
+  contour = λ ds ps w check. may_leave ds (ops.Contour ps w check);
+  also = λ ds es s. may_leave ds (ops.Also es s);
 }

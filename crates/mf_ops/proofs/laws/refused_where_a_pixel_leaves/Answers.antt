@@ -1,4 +1,5 @@
-use Rattle.mf_ops.proofs.OutOfField.{shift-refused, shift-outside, scale-refused, scale-outside, contour-inside, also-inside, cull-inside, turn-inside, clear-inside, may_leave-refused}
+use Rattle.mf_ops.proofs.OutOfField.{shift-refused, shift-outside, scale-refused, scale-outside, contour-inside, also-inside, cull-inside, turn-inside, clear-inside}
+use Rattle.mf_ops.proofs.Faults.{may_leave}
 use Rattle.mf_ops.proofs.laws.refused_where_a_pixel_leaves.Goals as goal
 
 pub returns : goal.returns
@@ -10,5 +11,5 @@ returns c = record {
   cull = cull-inside;
   turn = turn-inside;
   clear = clear-inside;
-  only = may_leave-refused;
+  only = may_leave;
 }

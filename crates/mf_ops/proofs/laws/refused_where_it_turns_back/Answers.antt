@@ -1,6 +1,5 @@
-use Rattle.std.proofs.Common.{refl, sym, ap, ◌∙◌}
+use Rattle.std.proofs.Common.{refl, ap}
 use Rattle.std.specs.Option.{option_map}
-use Rattle.mf_geom.proofs.FirstFaults.{cycle_fault_of-fault, cycle_fault_of-rectilinear, fault-cycle_fault_of}
 use Rattle.mf_ops.specs.declared.op.Op.TheVariants.{Contour}
 use Rattle.mf_ops.specs.declared.op.OpFault.TheVariants.{Cycle}
 use Rattle.mf_geom.specs.declared.check.Check.TheVariants.{On}
@@ -9,11 +8,10 @@ use Rattle.mf_ops.proofs.laws.refused_where_it_turns_back.Goals as goal
 
 pub returns : goal.returns
 returns c = record {
-  checked = λ ds ps w fault cycle.
-      let same = cycle_fault_of-rectilinear ps cycle in (
-        λ refused. fault-cycle_fault_of ps fault (same ∙ turning_fault-refused ds ps w fault refused),
-        λ is. op_fault-turn ds (Contour ps w On) (Cycle fault) (ap (option_map Cycle) (sym same ∙ cycle_fault_of-fault ps fault is)),
-      );
+  checked = λ ds ps w fault. (
+    turning_fault-refused ds ps w fault,
+    λ is. op_fault-turn ds (Contour ps w On) (Cycle fault) (ap (option_map Cycle) is),
+  );
   unchecked = λ ds ps w. record { none = refl };
   lawful = not_turning;
 }

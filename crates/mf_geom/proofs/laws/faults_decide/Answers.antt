@@ -1,0 +1,8 @@
+use Rattle.mf_geom.proofs.FirstFaults.{PassesCheck-from_none, is_cycle, no_form_fault, turning_fault-none}
+use Rattle.mf_geom.proofs.laws.faults_decide.Goals as goal
+
+pub returns : goal.returns
+returns c = record {
+  formed = λ ps. (no_form_fault ps, is_cycle ps);
+  passes = λ ps cycle. (turning_fault-none ps, PassesCheck-from_none ps cycle);
+}
