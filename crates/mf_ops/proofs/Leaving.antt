@@ -75,13 +75,13 @@ mul-ge n a b le =
     let times : (up a + down b) * (n + 1) ≤ (up b + down a) * (n + 1) = mul-le-mul_right (n + 1) parts in
     omega (arith, ints)
 
--- so where two points stay in reach, so do those between them
-IsPointInReach-between : (f o a p b : ℤ) → a ≤ℤ p → p ≤ℤ b → IsCoordinate ((a *ℤ f) +ℤ o) → IsCoordinate ((b *ℤ f) +ℤ o) → IsCoordinate ((p *ℤ f) +ℤ o)
-IsPointInReach-between (pos n) o a p b after before first last =
+-- so where two points stay in range, so do those between them
+IsCoordinate-between : (f o a p b : ℤ) → a ≤ℤ p → p ≤ℤ b → IsCoordinate ((a *ℤ f) +ℤ o) → IsCoordinate ((b *ℤ f) +ℤ o) → IsCoordinate ((p *ℤ f) +ℤ o)
+IsCoordinate-between (pos n) o a p b after before first last =
     let above = mul-le n a p after in
     let below = mul-le n p b before in
     record { least = omega (arith, ints, first.least); greatest = omega (arith, ints, last.greatest) }
-IsPointInReach-between (negsuc n) o a p b after before first last =
+IsCoordinate-between (negsuc n) o a p b after before first last =
     let below = mul-ge n a p after in
     let above = mul-ge n p b before in
     record { least = omega (arith, ints, last.least); greatest = omega (arith, ints, first.greatest) }
@@ -89,8 +89,8 @@ IsPointInReach-between (negsuc n) o a p b after before first last =
 PlaceStaysInside-between : (s : Stretch) (a p b : ℤ) → a ≤ℤ p → p ≤ℤ b → PlaceStaysInside s a → PlaceStaysInside s b → PlaceStaysInside s p
 PlaceStaysInside-between s a p b after before first last =
     record {
-      start = IsPointInReach-between s.factor s.offset a p b after before first.start last.start;
-      end = IsPointInReach-between s.factor s.offset (a +ℤ pos 1) (p +ℤ pos 1) (b +ℤ pos 1) (omega (arith, ints)) (omega (arith, ints)) first.end last.end;
+      start = IsCoordinate-between s.factor s.offset a p b after before first.start last.start;
+      end = IsCoordinate-between s.factor s.offset (a +ℤ pos 1) (p +ℤ pos 1) (b +ℤ pos 1) (omega (arith, ints)) (omega (arith, ints)) first.end last.end;
     }
 
 -- what holds for the column, or row, of each dot holds for a side of the least box

@@ -22,7 +22,7 @@ use Rattle.mf_ops.specs.Sides.{HasSide, AddWinding}
 use Rattle.mf_ops.specs.Step.{step_at}
 use Rattle.mf_ops.specs.declared.op.Op.TheVariants.{Contour}
 
--- the corners of the edges that leave the first n vertices of a cycle, in two lists
+-- the corners of the segments that leave the first n vertices of a cycle, in two lists
 pub record AreSides (ps : List Point) (w : ℤ) (n : ℕ) (ks ls : List Corner) : Type 0 where
   pub few : length ks + length ls ≤ 2 * n
   pub firsts : All IsCorner ks
@@ -44,17 +44,17 @@ added_by_all-reverse (k ∷ ks) x y =
 int_le-not_lt : (a x : ℤ) → int_le a x ≡ not (int_lt x a)
 int_le-not_lt a x = grind (arith, ints)
 
--- what the ends of a vertical edge add, in truth values: whether the pixel is left of the edge, and whether it is below each end
+-- what the ends of a vertical segment add, in truth values: whether the pixel is left of the segment, and whether it is below each end
 ends-crossing : (beyond under under' : Bool) (w : ℤ)
     → cond (not beyond && under) w (pos 0) +ℤ cond (not beyond && under') (neg_ℤ w) (pos 0)
     ≡ w *ℤ (cond beyond (pos 0) (pos 1) *ℤ (cond under' (pos 0) (pos 1) -ℤ cond under (pos 0) (pos 1)))
 ends-crossing beyond under under' w = grind (arith, ints)
 
--- the ends of an edge as corners, the second with the negated weight
+-- the ends of a segment as corners, the second with the negated weight
 abbrev pub ends_of : ℤ → Segment → List Corner
 ends_of w e = record { x = e.from.x; y = e.from.y; weight = w } ∷ record { x = e.to.x; y = e.to.y; weight = neg_ℤ w } ∷ []
 
--- the ends of a vertical edge add the weight times its crossing
+-- the ends of a vertical segment add the weight times its crossing
 added_by_all-ends : (w x y : ℤ) (e : Segment) → e.to.x ≡ e.from.x → added_by_all (ends_of w e) x y ≡ w *ℤ crossing x y e
 unfolding crossing passed added_by_all added_by
 added_by_all-ends w x y e vertical =
@@ -87,7 +87,7 @@ lawful_ends w e least greatest from to =
     } in
     All-cons IsCorner first (second ∷ []) first_lawful (All-cons IsCorner second [] second_lawful (All-nil IsCorner))
 
--- so a vertical edge is a side with its two ends as corners
+-- so a vertical segment is a side with its two ends as corners
 pub HasSide-vertical : (w : ℤ) (e : Segment) (ks : List Corner) → negsuc 2 ≤ℤ w → w ≤ℤ pos 3 → IsInRange e.from → IsInRange e.to
     → e.to.x ≡ e.from.x → All IsCorner ks → HasSide w e ks (ks ++ ends_of w e)
 HasSide-vertical w e ks least greatest from to vertical corners = record {
@@ -96,7 +96,7 @@ HasSide-vertical w e ks least greatest from to vertical corners = record {
   added = λ x y. added_by_all-append ks (ends_of w e) x y ∙ (λ t. added_by_all ks x y +ℤ added_by_all-ends w x y e vertical t);
 }
 
--- a horizontal edge needs no corners
+-- a horizontal segment needs no corners
 pub HasSide-horizontal : (w : ℤ) (e : Segment) (ks : List Corner) → IsRectilinear e → e.to.x ≢ e.from.x → All IsCorner ks → HasSide w e ks ks
 unfolding IsRectilinear across up
 HasSide-horizontal w e ks (inl horizontal) apart corners =
@@ -104,7 +104,7 @@ HasSide-horizontal w e ks (inl horizontal) apart corners =
     record { few = omega arith; corners = corners; added = λ x y. rw (crossing-horizontal x y e same_height) (omega (arith, ints)) }
 HasSide-horizontal w e ks (inr vertical) apart corners = absurd (apart (let run = vertical.0 in omega (arith, ints)))
 
--- the ends of an edge are in reach
+-- the ends of a segment are in range
 pub IsInRange-ends : (ps : List Point) (n : ℕ) → IsRectilinearCycle ps → n < length ps → IsInRange (segment_at ps n).from × IsInRange (segment_at ps n).to
 unfolding segment_at
 IsInRange-ends ps n cycle below = (cycle.range.in_range n below, cycle.range.in_range (next_place ps n) (next_place-below ps n below))
@@ -118,7 +118,7 @@ AreSides-none ps w = record {
   added = λ x y. omega (arith, ints);
 }
 
--- the next edge may go to the first list
+-- the next segment may go to the first list
 pub AreSides-first : (ps : List Point) (w : ℤ) (n : ℕ) (ks more ls : List Corner) → AreSides ps w n ks ls → HasSide w (segment_at ps n) ks more
     → AreSides ps w (n + 1) more ls
 unfolding sum_below crossing_at
@@ -156,7 +156,7 @@ AreSides-joined ps w n ks ls sides = record {
   added = λ x y. omega (arith, ints, added_by_all-append (reverse ks) ls x y, added_by_all-reverse ks x y, sides.added x y);
 }
 
--- the sides of the complete cycle add the weight times the crossings of all its edges
+-- the sides of the complete cycle add the weight times the crossings of all its segments
 added_by_all-sides : (ps : List Point) (w : ℤ) (ks : List Corner) → AreSides ps w (length ps) ks [] → (x y : ℤ)
     → added_by_all ks x y ≡ w *ℤ sum_below (length ps) (crossing_at ps x y)
 unfolding added_by_all

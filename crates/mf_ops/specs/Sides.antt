@@ -1,4 +1,4 @@
--- Filling a contour: the weight with which its cycle is filled, and the sides of the cycle, its vertical edges, as corners.
+-- Filling a contour: the weight with which its cycle is filled, and the sides of the cycle, its vertical segments, as corners.
 use Rattle.std.specs.Prelude.{◌≡◌, ◌≢◌, Some, ◌+◌, ◌≤◌, ℤ, ◌+ℤ◌, ◌*ℤ◌, All, List, length}
 use Rattle.mf_geom.specs.declared.point.Point.{Point}
 use Rattle.mf_geom.specs.Crossing.{crossing}
@@ -14,7 +14,7 @@ use Rattle.mf_ops.specs.declared.op.Op.{Op}
 use Rattle.mf_ops.specs.declared.op.Op.TheVariants.{Contour}
 use Rattle.mf_ops.specs.declared.op.OpFault.TheVariants.{Cycle}
 
--- the new corners are at most two more than the old ones, and add to each pixel also the weight w times the crossing of the edge
+-- the new corners are at most two more than the old ones, and add to each pixel also the weight w times the crossing of the segment
 -- e
 pub record HasSide (w : ℤ) (e : Segment) (old new : List Corner) : Type 0 where
   pub few : length new ≤ length old + 2

@@ -1,4 +1,4 @@
-//! Filling a contour: the vertical edges of its cycle become corners, and these are added to the picture.
+//! Filling a contour: the sides of its cycle become corners, and these are added to the picture.
 ghost use Rattle.std.specs.Prelude.{◌≡◌, ◌≢◌, None, Some, IfOk, IfErr, OnOk, OnErr, pos, negsuc, ◌*ℤ◌, ◌≤ℤ◌, All, List};
 ghost use Rattle.std.specs.Int.{int_signum};
 ghost use Rattle.mf_geom.specs.Path.{IsInRange, IsRectilinear};
@@ -74,8 +74,8 @@ pub fn fill(alloc: Global, picture: &mut Picture, cycle: &Cycle, weight: i32) ->
     Ok(picture.add_corners(alloc, corners)?)
 }
 
-/// The corners that add the weight times the winding number of the cycle to each pixel: those of the vertical edges that lead up,
-/// from the last one back, then those of the edges that lead down, from the first one on. So the heights fall as long as the cycle
+/// The corners that add the weight times the winding number of the cycle to each pixel: those of the sides that lead up,
+/// from the last one back, then those of the sides that lead down, from the first one on. So the heights fall as long as the cycle
 /// rises or falls, and to sort the corners by height is to merge a few long runs.
 fn corners_of(alloc: Global, cycle: &Cycle, weight: i32) -> Result<Vec<Corner>, OutOfMemory>
     requires least { negsuc 2 ≤ℤ weight }
@@ -99,7 +99,7 @@ fn corners_of(alloc: Global, cycle: &Cycle, weight: i32) -> Result<Vec<Corner>, 
     Ok(rising)
 }
 
-/// Appends the corners of an edge of the path: two where it is vertical, and none where it is horizontal.
+/// Appends the corners of a segment of the path: two where it is vertical, and none where it is horizontal.
 fn push_side(
     corners: &mut Vec<Corner>,
     from: Point,
@@ -107,7 +107,7 @@ fn push_side(
     weight: i32,
 ) -> Result<(), OutOfMemory>
     requires corners { All IsCorner corners.old.items }
-    requires edge { IsRectilinear (record { from = from; to = to }) }
+    requires segment { IsRectilinear (record { from = from; to = to }) }
     requires from { IsInRange from }
     requires to { IsInRange to }
     requires least { negsuc 2 ≤ℤ weight }

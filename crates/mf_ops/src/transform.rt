@@ -20,7 +20,7 @@ use mf_rows::Picture;
 use std::alloc::Global;
 
 /// The greatest absolute value of a coordinate, as an `i64`: moved points are computed in 64 bits, so that nothing overflows.
-const REACH: i64 = MAX_COORDINATE as i64;
+const FARTHEST: i64 = MAX_COORDINATE as i64;
 
 /// Returns the picture shifted to the right by `right` columns and upwards by `up` rows.
 pub fn shift(alloc: Global, picture: &Picture, right: i32, up: i32) -> Result<Picture, OpFault>
@@ -132,16 +132,16 @@ fn lies_inside(stretch: &Stretch, place: i32) -> bool
     requires { IsInAxis place }
     ensures { IsTrue result ↔ PlaceStaysInside stretch.now place }
 {
-    is_in_reach(stretch, place) && is_in_reach(stretch, place + 1)
+    stays_in_range(stretch, place) && stays_in_range(stretch, place + 1)
 }
 
-/// Whether a point lies in -4095..=4095 after a stretch.
-fn is_in_reach(stretch: &Stretch, point: i32) -> bool
+/// Whether a point stays in -4095..=4095 under a stretch.
+fn stays_in_range(stretch: &Stretch, point: i32) -> bool
     requires { IsCoordinate point }
     ensures { IsTrue result ↔ IsCoordinate (stretched_to stretch.now point) }
 {
     let new = i64::from(point) * i64::from(stretch.factor) + i64::from(stretch.offset);
-    -REACH <= new && new <= REACH
+    -FARTHEST <= new && new <= FARTHEST
 }
 
 /// The stretch that multiplies by `factor` and then adds `offset`.

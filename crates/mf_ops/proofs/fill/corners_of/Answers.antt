@@ -19,7 +19,7 @@ push_side-requires c =
     let ends = IsInRange-ends ps c.loop-place.place cycle below in
     rw (c.edge.ensures.from, c.edge.ensures.to) record {
       corners = c.loop-place.invariant.firsts;
-      edge = cycle.rectilinear c.loop-place.place below;
+      segment = cycle.rectilinear c.loop-place.place below;
       from = ends.0;
       to = ends.1;
       least = omega (arith, ints);
@@ -36,7 +36,7 @@ push_side-requires-else-from-to c =
     let ends = IsInRange-ends ps c.loop-place.place cycle below in
     rw (c.edge.ensures.from, c.edge.ensures.to) record {
       corners = c.loop-place.invariant.seconds;
-      edge = cycle.rectilinear c.loop-place.place below;
+      segment = cycle.rectilinear c.loop-place.place below;
       from = ends.0;
       to = ends.1;
       least = omega (arith, ints);

@@ -5,8 +5,8 @@ use Rattle.std.proofs.lemmas.Int.{ints, to_z-of_z, unsigned_abs-mul, fits_signed
 use Rattle.std.specs.Int.RustNames.{unsigned_abs}
 use Rattle.mf_geom.specs.Coordinates.{least_coordinate, greatest_coordinate, IsCoordinate}
 use Rattle.mf_edges.specs.Axes.{stretched_to}
-use Rattle.mf_ops.proofs.transform.is_in_reach.Goals.{After-from-3}
-use Rattle.mf_ops.proofs.transform.is_in_reach.Goals as goal
+use Rattle.mf_ops.proofs.transform.stays_in_range.Goals.{After-from-3}
+use Rattle.mf_ops.proofs.transform.stays_in_range.Goals as goal
 
 size-at_most : (p : ℤ) → least_coordinate ≤ℤ p → p ≤ℤ greatest_coordinate → unsigned_abs p ≤ 4095
 size-at_most (pos n) least greatest = omega (arith, ints)
