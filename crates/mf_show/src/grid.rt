@@ -33,7 +33,7 @@ pub fn proof_grid(alloc: Global, picture: &Picture) -> Result<Vec<u8>, GridFault
     if columns > MAX_SIDE || rows > MAX_SIDE {
         return Err(GridFault::ProofTooLarge);
     }
-    Ok(drawn(alloc, picture, &bounds)?)
+    Ok(box_text(alloc, picture, &bounds)?)
 }
 
 /// The text of the blank picture.
@@ -54,7 +54,7 @@ pub fn extent(first: i32, last: i32) -> u32
 }
 
 /// The grid text of a picture whose least box is this one.
-fn drawn(alloc: Global, picture: &Picture, bounds: &Box4) -> Result<Vec<u8>, OutOfMemory>
+fn box_text(alloc: Global, picture: &Picture, bounds: &Box4) -> Result<Vec<u8>, OutOfMemory>
     requires { IsLeastBox picture.now bounds.now }
     ensures { IfOk result (λ text. text.items ≡ box_text picture.now bounds.now) }
 {

@@ -23,16 +23,16 @@ returns-then-columns-gt-MAX_SIDE-clause-too_large c =
     let rows : c.extent-rows.result ≡ extent b.min_y b.max_y = omega (arith, ints) in
     (λ _. refl, λ _. too_large _ b _ _ c.in-Some.ensures.least columns rows c.then-columns-gt-MAX_SIDE.either)
 
-pub returns-in_err-drawn-clause-too_large : goal.returns-in_err-drawn-clause-too_large
-returns-in_err-drawn-clause-too_large c =
+pub returns-in_err-box_text-clause-too_large : goal.returns-in_err-box_text-clause-too_large
+returns-in_err-box_text-clause-too_large c =
     let b = c.in-Some.bounds in
     let narrow : extent b.min_x b.max_x ≤ 128 = omega (arith, ints) in
     let low : extent b.min_y b.max_y ≤ 128 = omega (arith, ints) in
-    let fault = err_from_is_err_and c.from_residual-in_err-drawn.result c.from_residual-in_err-drawn.ensures.1 in
+    let fault = err_from_is_err_and c.from_residual-in_err-box_text.result c.from_residual-in_err-box_text.ensures.1 in
     (λ large. absurd (not_too_large _ b c.in-Some.ensures.least narrow low large), λ same. absurd (cc (fault.1, fault.2, same)))
 
 pub returns-clause-text : goal.returns-clause-text
-returns-clause-text c = grid_of_box _ _ _ c.in-Some.ensures.least c.in_ok-drawn.ensures
+returns-clause-text c = grid_of_box _ _ _ c.in-Some.ensures.least c.in_ok-box_text.ensures
 
 pub returns-clause-too_large : goal.returns-clause-too_large
 returns-clause-too_large c =

@@ -3,7 +3,7 @@ use Rattle.std.proofs.lemmas.Int.{ints}
 use Rattle.mf_show.proofs.GridTexts.{grid_none, grid_more}
 use Rattle.mf_show.proofs.ShownRows.{box_all}
 use Rattle.mf_show.proofs.LeastBoxes.{least_box_of_field}
-use Rattle.mf_show.proofs.grid.drawn.Goals as goal
+use Rattle.mf_show.proofs.grid.box_text.Goals as goal
 
 pub overflow_step-y : goal.overflow_step-y
 overflow_step-y c = let box = least_box_of_field _ _ c.over-weights.ensures.lawful c.requires in omega (arith, ints)
