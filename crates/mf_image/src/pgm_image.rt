@@ -25,11 +25,11 @@ pub fn pgm(alloc: Global, picture: &Picture) -> Result<Vec<u8>, ImageFault>
     let Some(bounds) = image_box(picture) else {
         return Err(ImageFault::ImageTooLarge);
     };
-    Ok(drawn(alloc, picture, &bounds)?)
+    Ok(pgm_bytes(alloc, picture, &bounds)?)
 }
 
 /// The PGM image of a picture in its box.
-fn drawn(alloc: Global, picture: &Picture, bounds: &Box4) -> Result<Vec<u8>, OutOfMemory>
+fn pgm_bytes(alloc: Global, picture: &Picture, bounds: &Box4) -> Result<Vec<u8>, OutOfMemory>
     requires { IsImageBox picture.now bounds.now }
     ensures { IfOk result (λ bytes. bytes.items ≡ pgm_bytes picture.now) }
 {

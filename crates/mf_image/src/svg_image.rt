@@ -31,7 +31,7 @@ pub fn svg(alloc: Global, picture: &Picture) -> Result<Vec<u8>, ImageFault>
     let Some(bounds) = image_box(picture) else {
         return Err(ImageFault::ImageTooLarge);
     };
-    Ok(drawn(alloc, picture, &bounds)?)
+    Ok(svg_text(alloc, picture, &bounds)?)
 }
 
 /// The part of the plane that an image shows, in pixels and in SVG's coordinates.
@@ -103,7 +103,7 @@ impl Sheet {
 }
 
 /// The SVG image of a picture in its box.
-fn drawn(alloc: Global, picture: &Picture, bounds: &Box4) -> Result<Vec<u8>, OutOfMemory>
+fn svg_text(alloc: Global, picture: &Picture, bounds: &Box4) -> Result<Vec<u8>, OutOfMemory>
     requires { IsImageBox picture.now bounds.now }
     ensures { IfOk result (λ text. text.items ≡ svg_text picture.now) }
 {

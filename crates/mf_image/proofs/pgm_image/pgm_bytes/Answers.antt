@@ -3,7 +3,7 @@ use Rattle.std.proofs.lemmas.Int.{ints}
 use Rattle.std.proofs.lemmas.List.{append-nil}
 use Rattle.mf_image.specs.Pgm.{box_bytes, pgm_bytes, pgm_head}
 use Rattle.mf_show.proofs.ShownRows.{box_none, box_more, box_all}
-use Rattle.mf_image.proofs.pgm_image.drawn.Goals as goal
+use Rattle.mf_image.proofs.pgm_image.pgm_bytes.Goals as goal
 
 pub loop-y-init : goal.loop-y-init
 loop-y-init c =

@@ -1,6 +1,6 @@
 use Rattle.std.proofs.lemmas.List.{append_assoc}
 use Rattle.mf_image.specs.Svg.{image, svg_text}
-use Rattle.mf_image.proofs.svg_image.drawn.Goals as goal
+use Rattle.mf_image.proofs.svg_image.svg_text.Goals as goal
 
 pub returns : goal.returns
 unfolding image svg_text

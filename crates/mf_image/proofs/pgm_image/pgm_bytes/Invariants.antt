@@ -1,7 +1,7 @@
 use Rattle.std.proofs.Common.{pos, ◌-ℤ◌, []}
 use Rattle.mf_image.specs.Pgm.{level, pgm_head}
 use Rattle.mf_show.proofs.ShownRows.{IsBoxSoFar}
-use Rattle.mf_image.proofs.pgm_image.drawn.Given as goal
+use Rattle.mf_image.proofs.pgm_image.pgm_bytes.Given as goal
 
 abbrev pub invariant-loop-y : goal.invariant-loop-y
 invariant-loop-y l = IsBoxSoFar level [] l.picture l.bounds (pgm_head l.bounds) (l.y -ℤ pos 1) l.bytes.items
