@@ -1,3 +1,4 @@
+mod Broken
 mod Commands
 mod Cuts
 mod Lines

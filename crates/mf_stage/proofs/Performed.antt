@@ -28,7 +28,7 @@ plate_where wanted plates shown revision ds made is number picture plate =
     (made, refl, subst (λ n. IsPlate plates n (pic shown) made) number (subst (λ e. IsPlate plates revision e made) picture plate))
 
 -- after a line that publishes, everything that was accepted is published
-published-all : (limits : Limits) (s : State) (line text : List ℕ) (t : State) → Answers limits s line text t
+pub published-all : (limits : Limits) (s : State) (line text : List ℕ) (t : State) → Answers limits s line text t
     → Gives line Publish → t.pictures.published ≡ t.pictures.accepted
 published-all limits s line text t (inl performed) given =
     let answer = subst (λ command. AnswersTo limits s command text t) (gives_one line performed.command Publish performed.given given) performed.answer in

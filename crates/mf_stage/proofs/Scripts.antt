@@ -80,6 +80,22 @@ ahead-next (Some input) left remaining done line (rest, is, before) reads =
       before ∙ ap (λ ls. done ++ ls) next ∙ sym (append_assoc done (without_ending line ∷ []) others),
     )
 
+-- the next line is read: the first lines of the script are one more
+pub under_way-line : (unread left remaining : Option (List ℕ)) (done : List (List ℕ)) (bytes line : List ℕ)
+    → ((rest : List ℕ) → lines (bytes ++ rest) ≡ done ++ lines rest)
+    → IfSome unread (λ input. (rest : List ℕ) × (left ≡ Some rest) × (lines input ≡ done ++ lines rest))
+    → IsLine line → IfSome left (λ rest. Reads rest line remaining)
+    → (longer : List ℕ) × ((rest : List ℕ) → lines (longer ++ rest) ≡ (done ++ without_ending line ∷ []) ++ lines rest)
+    × IfSome unread (λ input. (rest : List ℕ) × (remaining ≡ Some rest) × (lines input ≡ (done ++ without_ending line ∷ []) ++ lines rest))
+under_way-line unread left remaining done bytes line spelled ahead whole reads =
+    let one = without_ending line ∷ [] in
+    let (more, spells) = spelled_line line whole in (
+      bytes ++ more,
+      λ rest. ap lines (append_assoc bytes more rest) ∙ spelled (more ++ rest)
+          ∙ ap (λ ls. done ++ ls) (spells rest) ∙ sym (append_assoc done one (lines rest)),
+      ahead-next unread left remaining done line ahead reads,
+    )
+
 -- the next line is read and performed
 pub under_way-next : (before now later : Stage) (unread left remaining held holds last : Option (List ℕ)) (line : List ℕ)
     → limits now ≡ limits before → IsUnderWay before unread left now held holds
@@ -87,13 +103,12 @@ pub under_way-next : (before now later : Stage) (unread left remaining held hold
     → IsUnderWay before unread remaining later held last
 under_way-next before now later unread left remaining held holds last line same was whole reads performs =
     let one = without_ending line ∷ [] in
-    let (more, spells) = spelled_line line whole in
+    let (longer, spelled, ahead) = under_way-line unread left remaining was.done was.bytes line was.spelled was.ahead whole reads in
     record {
       done = was.done ++ one;
-      bytes = was.bytes ++ more;
-      spelled = λ rest. ap lines (append_assoc was.bytes more rest) ∙ was.spelled (more ++ rest)
-          ∙ ap (λ ls. was.done ++ ls) (spells rest) ∙ sym (append_assoc was.done one (lines rest));
-      ahead = ahead-next unread left remaining was.done line was.ahead reads;
+      bytes = longer;
+      spelled = spelled;
+      ahead = ahead;
       performed = λ s stands.
           let first = was.performed s stands in
           performed-more before now later s was.done one held holds last same first (performs first.last first.stands);

@@ -8,6 +8,7 @@ mod line;
 mod pace;
 mod plate;
 mod stage;
+mod transcript;
 
 pub use fault::StageFault;
 pub use limits::Limits;

@@ -1,6 +1,6 @@
 //! The lines of a script, as they are read.
 ghost use Rattle.std.specs.Io.KnownBytes.{IsAtEnd};
-ghost use Rattle.std.specs.Prelude.{◌≡◌, ◌≢◌, ◌↔◌, false, true, IfOk, IfSome, None};
+ghost use Rattle.std.specs.Prelude.{◌≡◌, ◌≢◌, ◌⊎◌, ◌↔◌, false, true, IfErr, IfOk, IfSome, None};
 ghost use Rattle.mf_stage.specs.Lines.{IsLine, Reads, without_ending};
 ghost use Rattle.mf_text.specs.Lines.{Gives};
 ghost use Rattle.mf_text.specs.declared.command.Command.TheVariants as commands;
@@ -18,6 +18,7 @@ pub fn next_line<B: BufRead>(alloc: Global, script: &mut B) -> Result<Option<Vec
     ensures line { IfOk result (λ made. IfSome made (λ line. IfSome (B.remaining script.old) (λ input. Reads input line.items (B.remaining script.new)))) }
     ensures whole { IfOk result (λ made. IfSome made (λ line. IsLine line.items)) }
     ensures end { IfOk result (λ made. made ≡ None → IsAtEnd (B.remaining script.old)) }
+    ensures fault { IfErr result (λ fault. (fault ≡ StageFault.OutOfMemory) ⊎ (fault ≡ StageFault.ReadFault)) }
 {
     let mut line = Vec::new(alloc);
     match script.read_until(b'\n', &mut line) {
@@ -28,7 +29,9 @@ pub fn next_line<B: BufRead>(alloc: Global, script: &mut B) -> Result<Option<Vec
 }
 
 /// The fault of the script where a read fails.
-fn fault_of_read(fault: &Error) -> StageFault {
+fn fault_of_read(fault: &Error) -> StageFault
+    ensures { (result ≡ StageFault.OutOfMemory) ⊎ (result ≡ StageFault.ReadFault) }
+{
     match fault.kind() {
         ErrorKind::OutOfMemory => StageFault::OutOfMemory,
         _ => StageFault::ReadFault,

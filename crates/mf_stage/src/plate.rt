@@ -1,6 +1,7 @@
 //! Plates: the image files of a picture.
 ghost use Rattle.std.specs.Io.KnownBytes.{Appends};
-ghost use Rattle.std.specs.Prelude.{◌≡◌, IfOk, OnOk, string_bytes};
+ghost use Rattle.std.specs.Prelude.{◌≡◌, IfErr, IfOk, OnOk, string_bytes};
+ghost use Rattle.mf_stage.specs.Faults.{IsOfImage};
 ghost use Rattle.mf_stage.specs.Plates.{IsPgm, IsPgmWhere, IsPlate, IsSvg, fault_of_image, path_of, seven_digits};
 
 use crate::fault::StageFault;
@@ -42,7 +43,8 @@ impl Plates {
         revision: u32,
         picture: &Picture,
     ) -> Result<Plate, StageFault>
-        ensures { IfOk result (IsPlate self.now revision picture.now) }
+        ensures made { IfOk result (IsPlate self.now revision picture.now) }
+        ensures fault { IfErr result (IsOfImage revision) }
     {
         let svg = self.svg(alloc, revision, picture)?;
         let pgm = self.pgm_if_wanted(alloc, revision, picture)?;
@@ -56,7 +58,8 @@ impl Plates {
         revision: u32,
         picture: &Picture,
     ) -> Result<Option<Image>, StageFault>
-        ensures { IfOk result (IsPgmWhere self.now.pgm self.now revision picture.now) }
+        ensures made { IfOk result (IsPgmWhere self.now.pgm self.now revision picture.now) }
+        ensures fault { IfErr result (IsOfImage revision) }
     {
         if !self.pgm {
             return Ok(None);
@@ -66,7 +69,8 @@ impl Plates {
 
     /// The SVG image of this picture, which has this revision.
     fn svg(&self, alloc: Global, revision: u32, picture: &Picture) -> Result<Image, StageFault>
-        ensures { IfOk result (IsSvg self.now revision picture.now) }
+        ensures made { IfOk result (IsSvg self.now revision picture.now) }
+        ensures fault { IfErr result (IsOfImage revision) }
     {
         let path = self.path(alloc, revision, "svg")?;
         match svg(alloc, picture) {
@@ -77,7 +81,8 @@ impl Plates {
 
     /// The PGM image of this picture, which has this revision.
     fn pgm(&self, alloc: Global, revision: u32, picture: &Picture) -> Result<Image, StageFault>
-        ensures { IfOk result (IsPgm self.now revision picture.now) }
+        ensures made { IfOk result (IsPgm self.now revision picture.now) }
+        ensures fault { IfErr result (IsOfImage revision) }
     {
         let path = self.path(alloc, revision, "pgm")?;
         match pgm(alloc, picture) {

@@ -1,9 +1,10 @@
 //! A stage: a session that performs a script, and what is made of each publish.
-ghost use Rattle.std.specs.Io.KnownBytes.{Appends};
-ghost use Rattle.std.specs.Prelude.{◌≡◌, ◌⊎◌, ◌<◌, ◌↔◌, ◌∷◌, [], Err, IfErr, IfOk, IsOk, None, OnOk};
+ghost use Rattle.std.specs.Prelude.{◌≡◌, ◌⊎◌, ◌<◌, ◌↔◌, ◌∷◌, [], Err, IfErr, IfOk, IsOk, IsSomeAnd, None, OnOk};
 ghost use Rattle.mf_live.specs.Desks.{desk_identity};
 ghost use Rattle.mf_session.specs.Endings.{HasEnded};
+ghost use Rattle.mf_live.specs.Entries.{rev};
 ghost use Rattle.mf_session.specs.States.{State, limits_of, start};
+ghost use Rattle.mf_stage.specs.Faults.{BreaksOff, BreaksScript, IsOfImage, IsOfPlate};
 ghost use Rattle.mf_stage.specs.Publications.{IsPlateWhere, IsPublication};
 ghost use Rattle.mf_stage.specs.Scripts.{IsPerformed, Performs, PerformsAll, StillStands, step_of};
 ghost use Rattle.mf_stage.specs.Stages.{StandsFor, identity, limits, plates_of, session_of};
@@ -13,12 +14,13 @@ use crate::limits::Limits;
 use crate::line::{next_line, publishes, without_ending};
 use crate::pace::Pace;
 use crate::plate::{Plate, Plates};
+use crate::transcript::write_text;
 use mf_gf::{GfFault, GfFile};
 use mf_live::{Desk, Ended};
 use mf_session::Session;
 use mf_text::Name;
 use std::alloc::Global;
-use std::io::{self, BufRead, BufReader, Read, Write};
+use std::io::{BufRead, BufReader, Read, Write};
 use std::rt::Files;
 use std::sync::Wait;
 
@@ -76,6 +78,8 @@ impl Stage {
         pace: &P,
     ) -> Result<(), StageFault>
         ensures transcript { OnOk result (PerformsAll self.old (R.remaining reader) self.new (W.contents transcript.old) (W.contents transcript.new)) }
+        ensures begun { IfErr result (λ fault.
+            BreaksScript self.old (R.remaining reader) fault self.new (W.contents transcript.old) (W.contents transcript.new)) }
         ensures stands { OnOk result (StillStands self.old self.new) }
         ensures limits { limits self.new ≡ limits self.old }
         ensures identity { identity self.new ≡ identity self.old }
@@ -98,6 +102,8 @@ impl Stage {
     ) -> Result<(), StageFault>
         ensures transcript { OnOk result
             (PerformsAll self.old (B.remaining script.old) self.new (W.contents transcript.old) (W.contents transcript.new)) }
+        ensures begun { IfErr result (λ fault.
+            BreaksScript self.old (B.remaining script.old) fault self.new (W.contents transcript.old) (W.contents transcript.new)) }
         ensures stands { OnOk result (StillStands self.old self.new) }
         ensures limits { limits self.new ≡ limits self.old }
         ensures identity { identity self.new ≡ identity self.old }
@@ -123,6 +129,8 @@ impl Stage {
         pace: &P,
     ) -> Result<(), StageFault>
         ensures performed { OnOk result (Performs self.old (line.now ∷ []) self.new (W.contents transcript.old) (W.contents transcript.new)) }
+        ensures begun { IfErr result (λ fault.
+            BreaksOff self.old (line.now ∷ []) fault self.new (W.contents transcript.old) (W.contents transcript.new)) }
         ensures limits { limits self.new ≡ limits self.old }
         ensures identity { identity self.new ≡ identity self.old }
         ensures plates { plates_of self.new ≡ plates_of self.old }
@@ -142,6 +150,8 @@ impl Stage {
     ) -> Result<Option<Publication>, StageFault>
         ensures performed { IfOk result (λ made. (s : State) → StandsFor self.old s
             → IsPerformed (step_of self.old s self.new (W.contents transcript.old) (W.contents transcript.new)) line.now made) }
+        ensures begun { IfErr result (λ fault.
+            BreaksOff self.old (line.now ∷ []) fault self.new (W.contents transcript.old) (W.contents transcript.new)) }
         ensures limits { limits self.new ≡ limits self.old }
         ensures identity { identity self.new ≡ identity self.old }
         ensures plates { plates_of self.new ≡ plates_of self.old }
@@ -159,7 +169,8 @@ impl Stage {
 
     /// The publication of everything that `currentpicture` has accepted.
     fn publication(&self, alloc: Global) -> Result<Publication, StageFault>
-        ensures { IfOk result (λ made. (s : State) → StandsFor self.now s → IsPublication (plates_of self.now) s.pictures.accepted made) }
+        ensures made { IfOk result (λ made. (s : State) → StandsFor self.now s → IsPublication (plates_of self.now) s.pictures.accepted made) }
+        ensures fault { IfErr result (λ fault. (s : State) → StandsFor self.now s → IsOfImage (rev s.pictures.accepted) fault) }
     {
         let revision = self.session.revision();
         let plate = self.plate(alloc)?;
@@ -168,7 +179,8 @@ impl Stage {
 
     /// The plate of `currentpicture`, if plates are asked for.
     fn plate(&self, alloc: Global) -> Result<Option<Plate>, StageFault>
-        ensures { IfOk result (λ made. (s : State) → StandsFor self.now s → IsPlateWhere (plates_of self.now) s.pictures.accepted made) }
+        ensures made { IfOk result (λ made. (s : State) → StandsFor self.now s → IsPlateWhere (plates_of self.now) s.pictures.accepted made) }
+        ensures fault { IfErr result (λ fault. (s : State) → StandsFor self.now s → IsOfImage (rev s.pictures.accepted) fault) }
     {
         let Some(plates) = &self.plates else {
             return Ok(None);
@@ -187,6 +199,7 @@ impl Stage {
         alloc: Global,
     ) -> Result<(Ended, GfFile), StageFault>
         ensures ended { IfOk result (λ made. (s : State) → StandsFor self s → HasEnded (session_of self) s made.0 made.1) }
+        ensures fault { IfErr result (λ fault. (s : State) → StandsFor self s → IsOfPlate (rev s.pictures.accepted) fault) }
     {
         match self.write_last(rt, alloc) {
             Ok(()) => self.close(rt),
@@ -198,7 +211,9 @@ impl Stage {
     }
 
     /// Writes the plate of the last revision, if plates are asked for.
-    fn write_last<S: Files>(&self, rt: &S, alloc: Global) -> Result<(), StageFault> {
+    fn write_last<S: Files>(&self, rt: &S, alloc: Global) -> Result<(), StageFault>
+        ensures { IfErr result (λ fault. (s : State) → StandsFor self.now s → IsOfPlate (rev s.pictures.accepted) fault) }
+    {
         let last = self.publication(alloc)?;
         last.write(rt)
     }
@@ -246,7 +261,8 @@ fn announce<S: Files, P: Pace>(
     made: Option<Publication>,
     pace: &P,
 ) -> Result<(), StageFault>
-    ensures { made ≡ None → IsOk result }
+    ensures none { made ≡ None → IsOk result }
+    ensures fault { IfErr result (λ fault. IsSomeAnd made (λ publication. fault ≡ StageFault.PlateFault publication.revision)) }
 {
     let Some(publication) = made else {
         return Ok(());
@@ -254,23 +270,4 @@ fn announce<S: Files, P: Pace>(
     publication.write(rt)?;
     pace.note_publish(publication.revision);
     Ok(())
-}
-
-/// Writes a text and flushes it. Refused with `WriteFault`.
-fn write_text<W: Write>(transcript: &mut W, text: &[u8]) -> Result<(), StageFault>
-    ensures text { OnOk result (Appends (W.contents transcript.old) (W.contents transcript.new) text.now) }
-    ensures fault { IfErr result (λ fault. fault ≡ StageFault.WriteFault) }
-{
-    match write_and_flush(transcript, text) {
-        Ok(()) => Ok(()),
-        Err(_) => Err(StageFault::WriteFault),
-    }
-}
-
-/// Writes bytes and flushes them.
-fn write_and_flush<W: Write>(out: &mut W, bytes: &[u8]) -> io::Result<()>
-    ensures { OnOk result (Appends (W.contents out.old) (W.contents out.new) bytes.now) }
-{
-    out.write_all(bytes)?;
-    out.flush()
 }

@@ -1,8 +1,35 @@
-use Rattle.std.proofs.Common.{refl, subst}
+use Rattle.std.proofs.Common.{inl, refl, subst}
+use Rattle.std.proofs.lemmas.Result.{err_from_is_err_and}
 use Rattle.std.specs.Io.KnownBytes.{Appends}
+use Rattle.mf_base.specs.Messages.{GetsMessage}
+use Rattle.mf_stage.proofs.Broken.{line-cut, line-published, nothing-done, published-as}
 use Rattle.mf_stage.specs.declared.stage.Stage.{Stage}
 use Rattle.mf_stage.proofs.Performed.{performed-published}
 use Rattle.mf_stage.proofs.stage.Stage.answer.Goals as goal
+
+pub returns-in_err-text-clause-begun : goal.returns-in_err-text-clause-begun
+returns-in_err-text-clause-begun g c =
+    let wanting = err_from_is_err_and c.from_residual-in_err-text.result c.from_residual-in_err-text.ensures.1 in
+    rw (wanting.1, wanting.2) (λ s stands. nothing-done c.args.self.now _ s c.args.line.now _ (c.in_err-text.ensures.unchanged s stands))
+
+pub returns-in_err-write_text-clause-begun : goal.returns-in_err-write_text-clause-begun
+returns-in_err-write_text-clause-begun g c =
+    let failed = err_from_is_err_and c.from_residual-in_err-write_text.result c.from_residual-in_err-write_text.ensures.1 in
+    rw (failed.1, failed.2, c.in_err-write_text.ensures.fault) (λ s stands.
+    let answered = c.in_ok-text.ensures.answer s stands in
+    let gets = subst (GetsMessage _ _) c.as_slice.ensures.value c.in_err-write_text.ensures.front in
+    line-cut c.args.self.now _ s answered.next c.args.line.now c.in_ok-text.text.items _ _ answered.answer answered.stands gets)
+
+pub returns-in_err-publication-clause-begun : goal.returns-in_err-publication-clause-begun
+returns-in_err-publication-clause-begun g c =
+    let failed = err_from_is_err_and c.from_residual-in_err-publication.result c.from_residual-in_err-publication.ensures.1 in
+    rw (failed.1, failed.2) (λ s stands.
+    let answered = c.in_ok-text.ensures.answer s stands in
+    let given = c.in_ok-publishes.ensures.0 c.if-publishes.true in
+    line-published c.args.self.now _ s answered.next c.args.line.now c.in_ok-text.text.items _ _ _ _ answered.answer answered.stands
+    (subst (Appends _ _) c.as_slice.ensures.value c.in_ok-write_text.ensures.text)
+    (published-as _ s answered.next c.args.line.now c.in_ok-text.text.items answered.answer given)
+    (inl (c.in_err-publication.ensures.fault answered.next answered.stands)))
 
 pub returns-then-publishes-clause-performed : goal.returns-then-publishes-clause-performed
 returns-then-publishes-clause-performed g c = λ s stands.
@@ -13,4 +40,4 @@ returns-then-publishes-clause-performed g c = λ s stands.
     let answered = c.in_ok-text.ensures.answer s stands in
     let out = subst (Appends held holds) c.as_slice.ensures.value c.in_ok-write_text.ensures.text in
     performed-published before after s c.args.line.now c.in_ok-text.text.items held holds c.in_ok-publishes.publishes c.in_ok-publishes.ensures answered out
-    c.in_ok-publication.publication c.if-publishes.true refl (c.in_ok-publication.ensures answered.next answered.stands)
+    c.in_ok-publication.publication c.if-publishes.true refl (c.in_ok-publication.ensures.made answered.next answered.stands)

@@ -1,0 +1,213 @@
+-- Scripts that a fault has broken off.
+use Rattle.std.proofs.Common.{◌≡◌, ◌⊎◌, ◌++◌, ◌∷◌, [], ℕ, List, Option, None, Some, IfSome, inl, inr, refl, sym, ap, subst, ◌∙◌, append-nil, append_assoc}
+use Rattle.std.proofs.KnownBytes.{Appends-nil, Appends-trans}
+use Rattle.std.specs.Io.KnownBytes.{Appends}
+use Rattle.std.specs.Prelude.{IsSomeAnd}
+use Rattle.std.specs.Str.Lines.{lines}
+use Rattle.mf_base.specs.Messages.{GetsMessage}
+use Rattle.mf_live.specs.Entries.{rev}
+use Rattle.mf_session.proofs.Performing.{Perform-append}
+use Rattle.mf_session.specs.Answers.{Answers}
+use Rattle.mf_session.specs.States.{Limits, State}
+use Rattle.mf_session.specs.Transcript.{Perform}
+use Rattle.mf_stage.proofs.Performed.{published-all}
+use Rattle.mf_stage.proofs.Scripts.{IsUnderWay, under_way-line, under_way-start}
+use Rattle.mf_stage.specs.Faults.{BreaksOff, BreaksScript, IsBrokenOff, IsCutText, IsFirstText, IsOfPlate, IsPublishedAs, Tells, due}
+use Rattle.mf_stage.specs.Lines.{IsLine, Reads, without_ending}
+use Rattle.mf_stage.specs.Scripts.{HasPerformed, IsPerformed, step_of}
+use Rattle.mf_stage.specs.Stages.{StandsFor, limits}
+use Rattle.mf_stage.specs.declared.fault.StageFault.{StageFault}
+use Rattle.mf_stage.specs.declared.fault.StageFault.TheVariants.{OutOfMemory, FileTooLong, ReadFault, WriteFault, ImageTooLarge, PlateFault}
+use Rattle.mf_stage.specs.declared.stage.Publication.{Publication}
+use Rattle.mf_stage.specs.declared.stage.Stage.{Stage}
+use Rattle.mf_text.specs.Lines.{Gives}
+use Rattle.mf_text.specs.declared.command.Command.TheVariants.{Publish}
+
+regroup : (a b c d : List (List ℕ)) → (a ++ (b ++ c)) ++ d ≡ (a ++ b) ++ (c ++ d)
+regroup a b c d = simp append_assoc
+
+tells-between : (limits : Limits) (s last : State) (whole : List (List ℕ)) (fault : StageFault) (written : List ℕ) → (fault ≡ OutOfMemory) ⊎ (fault ≡ ReadFault)
+    → IsFirstText (due limits s whole) last written → Tells (due limits s whole) last fault written
+tells-between limits s last whole fault written (inl is) first = subst (λ f. Tells (due limits s whole) last f written) (sym is) first
+tells-between limits s last whole fault written (inr is) first = subst (λ f. Tells (due limits s whole) last f written) (sym is) first
+
+module _ (limits : Limits) (s t : State) (done mid more : List (List ℕ)) (text : List ℕ) (before : Perform limits s done text t) where
+  -- lines that were performed go before the first of others
+  first-after : (last : State) (written : List ℕ) → IsFirstText (due limits t mid) last written
+      → IsFirstText (due limits s ((done ++ mid) ++ more)) last (text ++ written)
+  first-after last written f = record {
+    done = done ++ f.done;
+    more = f.more ++ more;
+    first = ap (λ m. (done ++ m) ++ more) f.first ∙ regroup done f.done f.more more;
+    performed = Perform-append limits s t last done f.done text written before f.performed;
+  }
+
+  cut-after : (last : State) (written : List ℕ) → IsCutText (due limits t mid) last written
+      → IsCutText (due limits s ((done ++ mid) ++ more)) last (text ++ written)
+  cut-after last written f = record {
+    done = done ++ f.done;
+    line = f.line;
+    more = f.more ++ more;
+    first = ap (λ m. (done ++ m) ++ more) f.first ∙ regroup done f.done (f.line ∷ f.more) more;
+    texts = text ++ f.texts;
+    between = f.between;
+    performed = Perform-append limits s t f.between done f.done text f.texts before f.performed;
+    front = f.front;
+    rest = f.rest;
+    answer = f.answer;
+    written_is = ap (λ w. text ++ w) f.written_is ∙ sym (append_assoc text f.texts f.front);
+  }
+
+  tells-after : (last : State) (fault : StageFault) (written : List ℕ) → Tells (due limits t mid) last fault written
+      → Tells (due limits s ((done ++ mid) ++ more)) last fault (text ++ written)
+  tells-after last OutOfMemory written told = first-after last written told
+  tells-after last FileTooLong written told = told
+  tells-after last ReadFault written told = first-after last written told
+  tells-after last WriteFault written told = cut-after last written told
+  tells-after last (ImageTooLarge revision) written (first, published) = (first-after last written first, published)
+  tells-after last (PlateFault revision) written (first, published) = (first-after last written first, published)
+
+-- what is written where a fault comes in a line, whose stage represented the state t
+broken-after : (before now after : Stage) (s : State) (done mid more : List (List ℕ)) (fault : StageFault) (held holds last : Option (List ℕ))
+    → limits now ≡ limits before → (first : HasPerformed (step_of before s now held holds) done)
+    → IsBrokenOff (step_of now first.last after holds last) mid fault
+    → IsBrokenOff (step_of before s after held last) ((done ++ mid) ++ more) fault
+broken-after before now after s done mid more fault held holds last same first broken =
+    record {
+      last = broken.last;
+      written = first.text ++ broken.written;
+      stands = broken.stands;
+      out = Appends-trans held holds last first.text broken.written first.out broken.out;
+      told = tells-after (limits before) s first.last done mid more first.text first.performed broken.last fault broken.written
+          (subst (λ l. Tells (due l first.last mid) broken.last fault broken.written) same broken.told);
+    }
+
+-- the first lines of a script, and the others
+first_lines : (unread left : Option (List ℕ)) (done : List (List ℕ)) (bytes : List ℕ) → ((rest : List ℕ) → lines (bytes ++ rest) ≡ done ++ lines rest)
+    → IfSome unread (λ input. (rest : List ℕ) × (left ≡ Some rest) × (lines input ≡ done ++ lines rest))
+    → (input : List ℕ) × IfSome unread (λ known. input ≡ known) × ((more : List (List ℕ)) × (lines input ≡ done ++ more))
+first_lines None left done bytes spelled ahead = (bytes, tt, ([], ap lines (sym (append-nil bytes)) ∙ spelled []))
+first_lines (Some input) left done bytes spelled (rest, is, before) = (input, refl, (lines rest, before))
+
+-- a fault comes where no line is being performed
+pub under_way-broken : (before now : Stage) (unread left held holds : Option (List ℕ)) (fault : StageFault)
+    → IsUnderWay before unread left now held holds → (fault ≡ OutOfMemory) ⊎ (fault ≡ ReadFault)
+    → BreaksScript before unread fault now held holds
+under_way-broken before now unread left held holds fault was between =
+    let (input, known, (more, first)) = first_lines unread left was.done was.bytes was.spelled was.ahead in
+    record {
+      input = input;
+      known = known;
+      broken = λ s stands.
+          let performed = was.performed s stands in
+          record {
+            last = performed.last;
+            written = performed.text;
+            stands = performed.stands;
+            out = performed.out;
+            told = tells-between (limits before) s performed.last (lines input) fault performed.text between
+                (record { done = was.done; more = more; first = first; performed = performed.performed });
+          };
+    }
+
+-- a fault comes before the first line
+pub unbegun : (stage : Stage) (unread held : Option (List ℕ)) → BreaksScript stage unread OutOfMemory stage held held
+unbegun stage unread held = under_way-broken stage stage unread unread held held OutOfMemory (under_way-start stage unread held) (inl refl)
+
+-- a fault comes in the next line
+pub under_way-cut : (before now later : Stage) (unread left remaining held holds last : Option (List ℕ)) (line : List ℕ) (fault : StageFault)
+    → limits now ≡ limits before → IsUnderWay before unread left now held holds
+    → IsLine line → IfSome left (λ rest. Reads rest line remaining) → BreaksOff now (without_ending line ∷ []) fault later holds last
+    → BreaksScript before unread fault later held last
+under_way-cut before now later unread left remaining held holds last line fault same was whole reads breaks =
+    let one = without_ending line ∷ [] in
+    let next = under_way-line unread left remaining was.done was.bytes line was.spelled was.ahead whole reads in
+    let (input, known, (more, first)) = first_lines unread remaining (was.done ++ one) next.0 next.1 next.2 in
+    record {
+      input = input;
+      known = known;
+      broken = λ s stands.
+          let performed = was.performed s stands in
+          subst (λ ls. IsBrokenOff (step_of before s later held last) ls fault) (sym first)
+          (broken-after before now later s was.done one more fault held holds last same performed (breaks performed.last performed.stands));
+    }
+
+-- an allocation failed before anything was done for a line
+pub nothing-done : (before after : Stage) (s : State) (line : List ℕ) (held : Option (List ℕ)) → StandsFor after s
+    → IsBrokenOff (step_of before s after held held) (line ∷ []) OutOfMemory
+nothing-done before after s line held stands = record {
+  last = s;
+  written = [];
+  stands = stands;
+  out = Appends-nil held;
+  told = record { done = []; more = line ∷ []; first = refl; performed = (refl, refl) };
+}
+
+-- the text of a line was cut
+pub line-cut : (before after : Stage) (s next : State) (line text : List ℕ) (held holds : Option (List ℕ))
+    → Answers (limits before) s line text next → StandsFor after next → GetsMessage held holds text
+    → IsBrokenOff (step_of before s after held holds) (line ∷ []) WriteFault
+line-cut before after s next line text held holds answer stands (front, rest, is, out) = record {
+  last = next;
+  written = front;
+  stands = stands;
+  out = out;
+  told = record {
+    done = [];
+    line = line;
+    more = [];
+    first = refl;
+    texts = [];
+    between = s;
+    performed = (refl, refl);
+    front = front;
+    rest = rest;
+    answer = subst (λ t. Answers (limits before) s line t next) is answer;
+    written_is = refl;
+  };
+}
+
+-- a line was performed and its text was written
+line-first : (limits : Limits) (s next : State) (line text : List ℕ) → Answers limits s line text next → IsFirstText (due limits s (line ∷ [])) next text
+line-first limits s next line text answer =
+    record { done = line ∷ []; more = []; first = refl; performed = (text, [], next, answer, (refl, refl), sym (append-nil text)) }
+
+-- where a line publishes, all that was accepted is published
+pub published-as : (limits : Limits) (s next : State) (line text : List ℕ) → Answers limits s line text next → Gives line Publish
+    → IsPublishedAs (rev next.pictures.accepted) next
+published-as limits s next line text answer given =
+    let all = published-all limits s line text next answer given in
+    record { all = all; revision_is = ap rev all }
+
+tells-published : (limits : Limits) (s next : State) (whole : List (List ℕ)) (fault : StageFault) (text : List ℕ) (revision : ℕ)
+    → IsFirstText (due limits s whole) next text → IsPublishedAs revision next → IsOfPlate revision fault
+    → Tells (due limits s whole) next fault text
+tells-published limits s next whole fault text revision first published (inl (inl is)) =
+    subst (λ f. Tells (due limits s whole) next f text) (sym is) first
+tells-published limits s next whole fault text revision first published (inl (inr is)) =
+    subst (λ f. Tells (due limits s whole) next f text) (sym is) (first, published)
+tells-published limits s next whole fault text revision first published (inr is) =
+    subst (λ f. Tells (due limits s whole) next f text) (sym is) (first, published)
+
+-- a line was performed and its text was written, and then the plate of what it has published fails
+pub line-published : (before after : Stage) (s next : State) (line text : List ℕ) (held holds : Option (List ℕ)) (fault : StageFault) (revision : ℕ)
+    → Answers (limits before) s line text next → StandsFor after next → Appends held holds text → IsPublishedAs revision next
+    → IsOfPlate revision fault → IsBrokenOff (step_of before s after held holds) (line ∷ []) fault
+line-published before after s next line text held holds fault revision answer stands out published is = record {
+  last = next;
+  written = text;
+  stands = stands;
+  out = out;
+  told = tells-published (limits before) s next (line ∷ []) fault text revision (line-first (limits before) s next line text answer) published is;
+}
+
+-- the same of a plate that was made and not written
+pub line-unwritten : (before after : Stage) (s : State) (line : List ℕ) (held holds : Option (List ℕ)) (fault : StageFault) (made : Option Publication)
+    → IsPerformed (step_of before s after held holds) line made → IsSomeAnd made (λ publication. fault ≡ PlateFault publication.revision)
+    → IsBrokenOff (step_of before s after held holds) (line ∷ []) fault
+line-unwritten before after s line held holds fault None done is = absurd is
+line-unwritten before after s line held holds fault (Some publication) done is =
+    let (given, of_list) = done.made_is in
+    let all = published-all (limits before) s line done.text done.next done.answer given in
+    line-published before after s done.next line done.text held holds fault publication.revision done.answer done.stands done.out
+    (record { all = all; revision_is = sym of_list.revision }) (inr is)

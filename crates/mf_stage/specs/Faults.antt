@@ -1,0 +1,89 @@
+-- What has been performed and written where a fault ends a script.
+use Rattle.std.specs.Prelude.{◌≡◌, ◌⊎◌, ℕ, IfSome, List, ◌∷◌, ◌++◌, Option}
+use Rattle.std.specs.Io.KnownBytes.{Appends}
+use Rattle.std.specs.Str.Lines.{lines}
+use Rattle.mf_live.specs.Entries.{rev}
+use Rattle.mf_session.specs.Answers.{Answers}
+use Rattle.mf_session.specs.States.{Limits, State}
+use Rattle.mf_session.specs.Transcript.{Perform}
+use Rattle.mf_stage.specs.Scripts.{Step, step_of}
+use Rattle.mf_stage.specs.Stages.{StandsFor, limits}
+use Rattle.mf_stage.specs.declared.fault.StageFault.{StageFault}
+use Rattle.mf_stage.specs.declared.fault.StageFault.TheVariants.{OutOfMemory, FileTooLong, ReadFault, WriteFault, ImageTooLarge, PlateFault}
+use Rattle.mf_stage.specs.declared.stage.Stage.{Stage}
+
+-- lines that are to be performed from a state on
+pub record Due : Type 0 where
+  pub limits : Limits
+  pub from : State
+  pub whole : List (List ℕ)
+
+-- lines with these three, in this order
+abbrev pub due : Limits → State → List (List ℕ) → Due
+due limits from whole = record { limits = limits; from = from; whole = whole }
+
+-- the first of these lines have led to this state, and these are their texts
+pub record IsFirstText (d : Due) (last : State) (written : List ℕ) : Type 0 where
+  pub done : List (List ℕ)
+  pub more : List (List ℕ)
+  pub first : d.whole ≡ done ++ more
+  pub performed : Perform d.limits d.from done written last
+
+-- the first of these lines have led to this state, and the text of the last of them is cut: these are the texts of all lines before it,
+-- and a front of its own
+pub record IsCutText (d : Due) (last : State) (written : List ℕ) : Type 0 where
+  pub done : List (List ℕ)
+  pub line : List ℕ
+  pub more : List (List ℕ)
+  pub first : d.whole ≡ done ++ line ∷ more
+  pub texts : List ℕ
+  pub between : State
+  pub performed : Perform d.limits d.from done texts between
+  pub front : List ℕ
+  pub rest : List ℕ
+  pub answer : Answers d.limits between line (front ++ rest) last
+  pub written_is : written ≡ texts ++ front
+
+-- in this state all that was accepted is published, with this revision
+pub record IsPublishedAs (revision : ℕ) (s : State) : Type 0 where
+  pub all : s.pictures.published ≡ s.pictures.accepted
+  pub revision_is : rev s.pictures.published ≡ revision
+
+-- what a fault says of these lines, the first of which have led to this state, and of what was written: after `WriteFault` the text of
+-- the last line that was performed may be cut, and after each other fault the texts of all of them have been written; after the faults
+-- of an image these lines have published its revision
+abbrev pub Tells : Due → State → StageFault → List ℕ → Type 0
+Tells d last OutOfMemory written = IsFirstText d last written
+Tells d last FileTooLong written = ⊥
+Tells d last ReadFault written = IsFirstText d last written
+Tells d last WriteFault written = IsCutText d last written
+Tells d last (ImageTooLarge revision) written = IsFirstText d last written × IsPublishedAs revision last
+Tells d last (PlateFault revision) written = IsFirstText d last written × IsPublishedAs revision last
+
+-- in this step a fault has broken these lines off: the stage represents the state to which the first of them have led, and has written
+-- what the fault says
+pub record IsBrokenOff (step : Step) (whole : List (List ℕ)) (fault : StageFault) : Type 0 where
+  pub last : State
+  pub written : List ℕ
+  pub stands : StandsFor step.after last
+  pub out : Appends step.held step.holds written
+  pub told : Tells (due (limits step.before) step.state whole) last fault written
+
+-- the fault has broken these lines off, whatever state the stage represented; the writer, which held some bytes, now holds others
+abbrev pub BreaksOff : Stage → List (List ℕ) → StageFault → Stage → Option (List ℕ) → Option (List ℕ) → Type 0
+BreaksOff before whole fault after held holds =
+    (s : State) → StandsFor before s → IsBrokenOff (step_of before s after held holds) whole fault
+
+-- the fault has broken a script off: that of which its reader had the bytes, where these are known, and else that of some bytes
+pub record BreaksScript (before : Stage) (unread : Option (List ℕ)) (fault : StageFault) (after : Stage) (held holds : Option (List ℕ)) : Type 0 where
+  pub input : List ℕ
+  pub known : IfSome unread (λ bytes. input ≡ bytes)
+  pub broken : BreaksOff before (lines input) fault after held holds
+
+-- with this fault the picture of this revision has no image
+abbrev pub IsOfImage : ℕ → StageFault → Type 0
+IsOfImage revision fault = (fault ≡ OutOfMemory) ⊎ (fault ≡ ImageTooLarge revision)
+
+-- with this fault the plate of this revision is not written
+abbrev pub IsOfPlate : ℕ → StageFault → Type 0
+IsOfPlate revision fault = IsOfImage revision fault ⊎ (fault ≡ PlateFault revision)
