@@ -1,3 +1,4 @@
+mod Begun
 mod Drawn
 mod FontsAsked
 mod Messages

@@ -1,3 +1,4 @@
+pub mod Begun
 pub mod Drawings
 pub mod Endings
 pub mod Faults

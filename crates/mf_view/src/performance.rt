@@ -2,12 +2,15 @@
 ghost use Rattle.std.specs.Prelude.{◌≡◌, ◌⊎◌, Err, IfErr, IfOk, IsErr, None, OnOk};
 ghost use denote.Param.Send.{IsSync, IsSend};
 ghost use Rattle.mf_easel.specs.Easels as easels;
+ghost use Rattle.mf_live.specs.Entries.{rev};
 ghost use Rattle.mf_live.specs.Writers.{ended_identity, ended_published_list};
 ghost use Rattle.mf_session.specs.Endings.{IsFileOf, complete_list};
 ghost use Rattle.mf_session.specs.States.{State, start};
+ghost use Rattle.mf_stage.specs.Faults.{BreaksScript};
 ghost use Rattle.mf_stage.specs.Stages as stages;
 ghost use Rattle.mf_stage.specs.Stages.{StandsFor, limits};
 ghost use Rattle.mf_stage.specs.Scripts.{PerformsAll, StillStands};
+ghost use Rattle.mf_view.specs.Begun.{HasBegun, IsOfEnd};
 ghost use Rattle.mf_view.specs.Faults.{IsOfSides, fault_of_stage};
 ghost use Rattle.mf_view.specs.Drawings.{DrawsMore, EndsDrawing, IsSameEasel};
 ghost use Rattle.mf_view.specs.Performances.{Shows, script_limits, streams_of};
@@ -75,6 +78,7 @@ pub fn perform<
 ) -> Result<GfFile, ProgramFault>
     ensures shown { IfOk result (Shows showing.style showing.canvas
         (streams_of R.remaining reader.old W.contents screen.old screen.new T.contents transcript.old transcript.new)) }
+    ensures begun { IfErr result (HasBegun (R.remaining reader.old) (T.contents transcript.old) (T.contents transcript.new)) }
     ensures fault { IfErr result (λ fault. IsOfSides fault ⊎ (fault ≡ ProgramFault.NoPlace)) }
     ensures no_place { result ≡ Err ProgramFault.NoPlace
         → (reader.new ≡ reader.old) × (screen.new ≡ screen.old) × (transcript.new ≡ transcript.old) }
@@ -120,6 +124,7 @@ fn show<
     requires blank { easels.drawn_of easel ≡ None }
     ensures shown { IfOk result (Shows (easels.style_of easel) (easels.canvas_of easel)
         (streams_of R.remaining reader.old W.contents screen.old screen.new T.contents transcript.old transcript.new)) }
+    ensures begun { IfErr result (HasBegun (R.remaining reader.old) (T.contents transcript.old) (T.contents transcript.new)) }
     ensures fault { IfErr result IsOfSides }
 {
     let mut stage = stage;
@@ -145,6 +150,7 @@ fn conclude<S: Wait + Files, W: Write>(
     requires identity { easels.identity easel ≡ stages.identity stage }
     requires stands { OnOk performed ((s : State) × StandsFor stage s) }
     ensures script { IfErr performed (λ fault. result ≡ Err (fault_of_stage fault)) }
+    ensures late { OnOk performed (IfErr result (λ fault. (s : State) → StandsFor stage s → IsOfEnd (rev s.pictures.accepted) fault)) }
     ensures drawing { IfErr drawn (λ _. IsErr result) }
     ensures file { IfOk result (λ file. (s : State) → StandsFor stage s → IsFileOf (stages.session_of stage) s file) }
     ensures shown { OnOk result ((s : State) → StandsFor stage s
@@ -184,6 +190,8 @@ fn perform_beside<
     ensures stands { OnOk result.performed (StillStands stage.old stage.new) }
     ensures transcript { OnOk result.performed
         (PerformsAll stage.old (R.remaining reader.old) stage.new (T.contents transcript.old) (T.contents transcript.new)) }
+    ensures begun { IfErr result.performed (λ fault.
+        BreaksScript stage.old (R.remaining reader.old) fault stage.new (T.contents transcript.old) (T.contents transcript.new)) }
 {
     let ended = AtomicBool::new(false);
     let (drawn, performed) = join_mut(
@@ -196,7 +204,9 @@ fn perform_beside<
         &mut || -> Result<(), StageFault>
             ensures { (stages.identity stage.exit.now ≡ stages.identity stage.entry.now)
                 × OnOk result (StillStands stage.entry.now stage.exit.now) × OnOk result (PerformsAll stage.entry.now
-                (R.remaining reader.entry.now) stage.exit.now (T.contents transcript.entry.now) (T.contents transcript.exit.now)) }
+                (R.remaining reader.entry.now) stage.exit.now (T.contents transcript.entry.now) (T.contents transcript.exit.now))
+                × IfErr result (λ fault. BreaksScript stage.entry.now (R.remaining reader.entry.now) fault stage.exit.now
+                (T.contents transcript.entry.now) (T.contents transcript.exit.now)) }
         {
             let performed = stage.perform(rt, alloc, &mut *reader, transcript, pace);
             ended.store(true, Ordering::SeqCst);
@@ -218,6 +228,7 @@ fn end<S: Wait + Files, W: Write>(
     requires identity { easels.identity easel ≡ stages.identity stage }
     requires stands { (s : State) × StandsFor stage s }
     ensures drawing { IfErr drawn (λ _. IsErr result) }
+    ensures late { IfErr result (λ fault. (s : State) → StandsFor stage s → IsOfEnd (rev s.pictures.accepted) fault) }
     ensures file { IfOk result (λ file. (s : State) → StandsFor stage s → IsFileOf (stages.session_of stage) s file) }
     ensures shown { OnOk result ((s : State) → StandsFor stage s
         → EndsDrawing drawn easel (complete_list s.pictures) (W.contents screen.old) (W.contents screen.new)) }

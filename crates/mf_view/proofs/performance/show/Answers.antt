@@ -1,3 +1,4 @@
+use Rattle.mf_view.proofs.Begun.{begun-whole}
 use Rattle.mf_view.proofs.Drawn.{drawn-nothing, same-manner}
 use Rattle.mf_view.proofs.Shown.{drawn-both, shown-end, shown-whole, stands-after}
 use Rattle.mf_view.proofs.performance.show.Goals as goal
@@ -17,3 +18,8 @@ returns-clause-shown g c =
     c.conclude.ensures.script
     c.conclude.ensures.file
     (shown-end _ _ c.perform_beside-drawn.new.stage _ _ _ c.and-drawn.result c.conclude.result manner (rw c.and-drawn.ensures drawn) c.conclude.ensures.shown)
+
+pub returns-clause-begun : goal.returns-clause-begun
+returns-clause-begun g c =
+    begun-whole c.args.stage c.perform_beside-drawn.new.stage _ _ _ c.perform_beside-drawn.result.performed c.conclude.result c.requires.limits c.requires.start
+    c.perform_beside-drawn.ensures.transcript c.perform_beside-drawn.ensures.begun c.conclude.ensures.script c.conclude.ensures.late

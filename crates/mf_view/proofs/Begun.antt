@@ -1,0 +1,133 @@
+-- Performances that end with a fault.
+use Rattle.std.proofs.Common.{◌≡◌, ◌⊎◌, ℕ, List, [], Option, None, Some, IfSome, Result, Ok, Err, IfErr, OnOk, inl, inr, refl, sym, ap, subst, ◌∙◌, append-nil}
+use Rattle.std.proofs.KnownBytes.{Appends-nil}
+use Rattle.std.specs.Str.Lines.{lines}
+use Rattle.mf_easel.specs.declared.fault.EaselFault.{EaselFault}
+use Rattle.mf_easel.specs.declared.fault.EaselFault.TheVariants as easels
+use Rattle.mf_gf.specs.declared.file.GfFile.{GfFile}
+use Rattle.mf_live.specs.Entries.{rev}
+use Rattle.mf_session.specs.States.{State, start}
+use Rattle.mf_session.specs.Transcript.{Perform}
+use Rattle.mf_stage.specs.Faults.{BreaksScript, IsFirstText, IsOfPlate, due}
+use Rattle.mf_stage.specs.Faults as stage
+use Rattle.mf_stage.specs.Scripts.{PerformsAll}
+use Rattle.mf_stage.specs.Stages.{StandsFor, limits}
+use Rattle.mf_stage.specs.declared.fault.StageFault.{StageFault}
+use Rattle.mf_stage.specs.declared.fault.StageFault.TheVariants as stages
+use Rattle.mf_stage.specs.declared.stage.Stage.{Stage}
+use Rattle.mf_view.specs.Begun.{HasBegun, IsOfEnd, IsWholeText, Tells}
+use Rattle.mf_view.specs.Faults.{fault_of_easel, fault_of_stage}
+use Rattle.mf_view.specs.Performances.{script_limits}
+use Rattle.mf_view.specs.declared.fault.ProgramFault.{ProgramFault}
+use Rattle.mf_view.specs.declared.fault.ProgramFault.TheVariants.{OutOfMemory, NoPlace, NoLook, TooSmall, FileTooLong, ReadFault, WriteFault, ImageTooLarge, PlateFault, NoCharacters}
+
+-- what a fault of the stage says is what the same fault of the program says
+tells-stage : (d : stage.Due) (last : State) (cause : StageFault) (written : List ℕ) → stage.Tells d last cause written
+    → Tells d last (fault_of_stage cause) written
+tells-stage d last stages.OutOfMemory written told = told
+tells-stage d last stages.FileTooLong written told = told
+tells-stage d last stages.ReadFault written told = told
+tells-stage d last stages.WriteFault written told = inl told
+tells-stage d last (stages.ImageTooLarge revision) written (first, published) = (first, sym (ap rev published.all) ∙ published.revision_is)
+tells-stage d last (stages.PlateFault revision) written (first, published) = (first, sym (ap rev published.all) ∙ published.revision_is)
+
+-- all lines are the first lines
+all-first : (d : stage.Due) (last : State) (written : List ℕ) → IsWholeText d last written → IsFirstText d last written
+all-first d last written whole = record { done = d.whole; more = []; first = sym (append-nil d.whole); performed = whole }
+
+-- what is said after a complete script
+tells-end : (d : stage.Due) (last : State) (fault : ProgramFault) (written : List ℕ) → IsWholeText d last written
+    → IsOfEnd (rev last.pictures.accepted) fault → Tells d last fault written
+tells-end d last OutOfMemory written whole of_end = all-first d last written whole
+tells-end d last NoPlace written whole of_end = absurd of_end
+tells-end d last NoLook written whole of_end = whole
+tells-end d last TooSmall written whole of_end = of_end
+tells-end d last FileTooLong written whole of_end = of_end
+tells-end d last ReadFault written whole of_end = absurd of_end
+tells-end d last WriteFault written whole of_end = inr whole
+tells-end d last (ImageTooLarge revision) written whole of_end = (all-first d last written whole, of_end)
+tells-end d last (PlateFault revision) written whole of_end = (all-first d last written whole, of_end)
+tells-end d last NoCharacters written whole of_end = of_end
+
+-- a fault of the last plate, or of the end
+pub end-plate : (revision : ℕ) (cause : StageFault) → IsOfPlate revision cause → IsOfEnd revision (fault_of_stage cause)
+end-plate revision cause (inl (inl is)) = subst (λ f. IsOfEnd revision (fault_of_stage f)) (sym is) tt
+end-plate revision cause (inl (inr is)) = subst (λ f. IsOfEnd revision (fault_of_stage f)) (sym is) refl
+end-plate revision cause (inr is) = subst (λ f. IsOfEnd revision (fault_of_stage f)) (sym is) refl
+
+-- a fault of the drawing
+pub end-easel : (revision : ℕ) (cause : EaselFault) → IsOfEnd revision (fault_of_easel cause)
+end-easel revision easels.OutOfMemory = tt
+end-easel revision easels.NoLook = tt
+end-easel revision easels.WriteFault = tt
+
+begun-script : (before after : Stage) (unread told tells : Option (List ℕ)) (cause : StageFault) → limits before ≡ script_limits → StandsFor before start
+    → BreaksScript before unread cause after told tells → HasBegun unread told tells (fault_of_stage cause)
+begun-script before after unread told tells cause limited begins broken =
+    let stopped = broken.broken start begins in
+    record {
+      input = broken.input;
+      known = broken.known;
+      last = stopped.last;
+      written = stopped.written;
+      out = stopped.out;
+      tells_is = tells-stage (due script_limits start (lines broken.input)) stopped.last cause stopped.written
+          (subst (λ l. stage.Tells (due l start (lines broken.input)) stopped.last cause stopped.written) limited stopped.told);
+    }
+
+begun-end : (before after : Stage) (unread told tells : Option (List ℕ)) (fault : ProgramFault) → limits before ≡ script_limits → StandsFor before start
+    → PerformsAll before unread after told tells → ((s : State) → StandsFor after s → IsOfEnd (rev s.pictures.accepted) fault)
+    → HasBegun unread told tells fault
+begun-end before after unread told tells fault limited begins script late =
+    let done = script.performed start begins in
+    record {
+      input = script.input;
+      known = script.known;
+      last = done.last;
+      written = done.text;
+      out = done.out;
+      tells_is = tells-end (due script_limits start (lines script.input)) done.last fault done.text
+          (subst (λ l. Perform l start (lines script.input) done.text done.last) limited done.performed) (late done.last done.stands);
+    }
+
+-- a performance ends with the fault of its script, or with one after it
+pub begun-whole : (before after : Stage) (unread told tells : Option (List ℕ)) (performed : Result (Unit {0}) StageFault) (r : Result GfFile ProgramFault)
+    → limits before ≡ script_limits → StandsFor before start
+    → OnOk performed (PerformsAll before unread after told tells)
+    → IfErr performed (λ cause. BreaksScript before unread cause after told tells)
+    → IfErr performed (λ cause. r ≡ Err (fault_of_stage cause))
+    → OnOk performed (IfErr r (λ fault. (s : State) → StandsFor after s → IsOfEnd (rev s.pictures.accepted) fault))
+    → IfErr r (HasBegun unread told tells)
+begun-whole before after unread told tells (Ok done) (Ok file) limited begins script broken is late = tt
+begun-whole before after unread told tells (Ok done) (Err fault) limited begins script broken is late =
+    begun-end before after unread told tells fault limited begins script late
+begun-whole before after unread told tells (Err cause) r limited begins script broken is late =
+    subst (λ r. IfErr r (HasBegun unread told tells)) (sym is) (begun-script before after unread told tells cause limited begins broken)
+
+some-bytes : (unread : Option (List ℕ)) → (input : List ℕ) × IfSome unread (λ bytes. input ≡ bytes)
+some-bytes None = ([], tt)
+some-bytes (Some bytes) = (bytes, refl)
+
+-- nothing was read or written
+unbegun-memory : (unread told : Option (List ℕ)) → HasBegun unread told told OutOfMemory
+unbegun-memory unread told =
+    let (input, known) = some-bytes unread in
+    record {
+      input = input;
+      known = known;
+      last = start;
+      written = [];
+      out = Appends-nil told;
+      tells_is = record { done = []; more = lines input; first = refl; performed = (refl, refl) };
+    }
+
+pub unbegun-place : (unread told : Option (List ℕ)) → HasBegun unread told told NoPlace
+unbegun-place unread told =
+    let (input, known) = some-bytes unread in
+    record { input = input; known = known; last = start; written = []; out = Appends-nil told; tells_is = refl }
+
+-- no stage could be made
+pub unbegun-stage : (unread told : Option (List ℕ)) (cause : StageFault) → (cause ≡ stages.FileTooLong) ⊎ (cause ≡ stages.OutOfMemory)
+    → (cause ≡ stages.FileTooLong → ⊥) → HasBegun unread told told (fault_of_stage cause)
+unbegun-stage unread told cause (inl is) long_enough = absurd (long_enough is)
+unbegun-stage unread told cause (inr is) long_enough = subst (λ f. HasBegun unread told told (fault_of_stage f)) (sym is) (unbegun-memory unread told)

@@ -1,0 +1,49 @@
+-- What a performance has written of its transcript where it ends with a fault.
+use Rattle.std.specs.Prelude.{◌≡◌, ◌⊎◌, ℕ, IfSome, List, [], Option}
+use Rattle.std.specs.Io.KnownBytes.{Appends}
+use Rattle.std.specs.Str.Lines.{lines}
+use Rattle.mf_live.specs.Entries.{rev}
+use Rattle.mf_session.specs.States.{State, start}
+use Rattle.mf_session.specs.Transcript.{Perform}
+use Rattle.mf_stage.specs.Faults.{Due, IsCutText, IsFirstText, due}
+use Rattle.mf_view.specs.Performances.{script_limits}
+use Rattle.mf_view.specs.declared.fault.ProgramFault.{ProgramFault}
+use Rattle.mf_view.specs.declared.fault.ProgramFault.TheVariants.{OutOfMemory, NoPlace, NoLook, TooSmall, FileTooLong, ReadFault, WriteFault, ImageTooLarge, PlateFault, NoCharacters}
+
+-- this is the text of all these lines, which have led to this state
+abbrev pub IsWholeText : Due → State → List ℕ → Type 0
+IsWholeText d last written = Perform d.limits d.from d.whole written last
+
+-- what a fault says of the lines of a script, the first of which have led to this state, and of what was written of their transcript: only
+-- after `WriteFault` the text of a line may be cut; after `NoLook`, and where the screen has failed, the transcript is complete; after the
+-- faults of an image the revision is that of the picture in this state
+abbrev pub Tells : Due → State → ProgramFault → List ℕ → Type 0
+Tells d last OutOfMemory written = IsFirstText d last written
+Tells d last NoPlace written = written ≡ []
+Tells d last NoLook written = IsWholeText d last written
+Tells d last TooSmall written = ⊥
+Tells d last FileTooLong written = ⊥
+Tells d last ReadFault written = IsFirstText d last written
+Tells d last WriteFault written = IsCutText d last written ⊎ IsWholeText d last written
+Tells d last (ImageTooLarge revision) written = IsFirstText d last written × (rev last.pictures.accepted ≡ revision)
+Tells d last (PlateFault revision) written = IsFirstText d last written × (rev last.pictures.accepted ≡ revision)
+Tells d last NoCharacters written = ⊥
+
+-- a fault has ended the performance of a script: of the one that the reader had, where this is known, and else of some bytes; the
+-- transcript, which told some bytes before, tells what the fault says
+pub record HasBegun (unread told tells : Option (List ℕ)) (fault : ProgramFault) : Type 0 where
+  pub input : List ℕ
+  pub known : IfSome unread (λ bytes. input ≡ bytes)
+  pub last : State
+  pub written : List ℕ
+  pub out : Appends told tells written
+  pub tells_is : Tells (due script_limits start (lines input)) last fault written
+
+-- with this fault a performance can end whose script was performed to its end, where the last picture has this revision
+abbrev pub IsOfEnd : ℕ → ProgramFault → Type 0
+IsOfEnd last OutOfMemory = Unit {0}
+IsOfEnd last NoLook = Unit {0}
+IsOfEnd last WriteFault = Unit {0}
+IsOfEnd last (ImageTooLarge revision) = last ≡ revision
+IsOfEnd last (PlateFault revision) = last ≡ revision
+IsOfEnd last _ = ⊥
