@@ -61,6 +61,12 @@ pub fn look_has_whole_publishes(look: &Look)
         → HasWholePublishes (viewers.shown_list look.now) (published_of (viewers.look_events look.now ++ since)) }
 {}
 
+/// A notice tells a list that the events which it knows have published: all of these can happen in their order, they have accepted
+/// nothing more, and the writer is still there after them. So a viewer that learns of a notice learns of a published list.
+pub fn notice_is_published(notice: &Notice)
+    ensures { viewers.IsPublished (viewers.notice_events notice.now) (viewers.told_list notice.now) }
+{}
+
 /// Take a look and a notice of one picture: the events that one of them knows are a prefix of those that the other knows, and the
 /// list of the one is a whole prefix of the list of the other. So a look at a picture that was closed shows nothing that its
 /// writer has not published: the notice of the end has all of that.
