@@ -91,8 +91,8 @@ def frame(picture: Picture, revision: int, columns: int, rows: int, is_plain: bo
     if is_plain:
         return "".join(f"{line}\n" for line in drawn + below)
     above = [""] * (rows - MARGIN - len(drawn))
-    ends = [f"{ESCAPE}[K"] * len(above) + [f"{ESCAPE}[0m{ESCAPE}[K"] * len(drawn) + [f"{ESCAPE}[K"] * len(below)
-    return "".join(f"{line}{end}\n" for line, end in zip(above + drawn + below, ends))
+    # A line is erased before it is drawn: after a character in the last column, a terminal may erase that one.
+    return "".join(f"{ESCAPE}[K{line}\n" for line in [*above, *(f"{line}{ESCAPE}[0m" for line in drawn), *below])
 
 
 def over(rows: int) -> str:

@@ -70,7 +70,7 @@ ends_with 3 'mfview: WriteFault' bash -c './mfview --transcript /dev/null < exam
 ends_with 3 'mfview: WriteFault' bash -c './mfview --transcript /none/told < examples/tee.mfp'
 ends_with 3 'mfview: PlateFault 1' bash -c './mfview --transcript /dev/null --plates /none < examples/tee.mfp'
 ends_with 3 'mfview: NoCharacters' bash -c './mfview --transcript /dev/null --gf /dev/null < examples/tee.mfp'
-ends_with 5 'mfview: TooSmall' ./mfview --columns 47
+ends_with 5 'mfview: TooSmall' ./mfview --columns 49
 ends_with 5 'mfview: TooSmall' ./mfview --rows 5
 ends_with 0 '' bash -c './mfview --frames --transcript /dev/null --gf "$FONT" < examples/font.mfp'
 cmp "$FONT" examples/font.gf || fails 'another font file'

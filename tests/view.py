@@ -10,12 +10,15 @@ and with a folder of plates unless a picture is too large for an image. Then
 - the frames must be frames of published pictures whose revisions rise, and the last one that of the last picture;
 - there must be an image for each published revision, and for no other, that reads back as its picture.
 
+And two pictures whose frames reach the right end of a small terminal must be seen whole there.
+
 The models are `pixel_model.py` and `frame_model.py`, which share nothing with the program but its rules. The last line counts the
 scripts that passed. The gate runs this script (see `check`).
 """
 
 import dataclasses
 import pathlib
+import re
 import subprocess
 import sys
 import tempfile
@@ -28,11 +31,22 @@ from random_scripts import answer, spelled
 
 ROOT = pathlib.Path(__file__).resolve().parent.parent
 # Sizes of terminals: the least one, the usual one, and a wide one.
-SIZES = [(48, 6), (80, 24), (200, 50)]
+SIZES = [(50, 6), (80, 24), (200, 50)]
 # Design sizes in points and resolutions in dots per inch.
 FONTS = [(0, 0), (10, 300), (2047, 100_000)]
 PUBLISH = "publish"
 PADDING = 223
+# A small terminal, and two scripts whose last frames have a line that is as wide as it, each with that line: one of tiles, and the
+# longest line of numbers.
+SMALL = (50, 10)
+WIDEST = {
+    "addto currentpicture contour (0,0)--(50,0)--(50,4)--(0,4)--cycle": "▀" * 50,
+    "addto currentpicture contour (-4095,-4095)--(-999,-4095)--(-999,-999)--(-4095,-999)--cycle": (
+        "columns -4095..-1000  rows -4095..-1000  scale 228"
+    ),
+}
+# A control sequence, or a character.
+SIGN = re.compile("\x1b\\[[0-9;]*[A-Za-z]|.", re.DOTALL)
 
 
 @dataclasses.dataclass
@@ -122,6 +136,31 @@ def difference(
         return difference_of_frames(ran.stdout.decode(), made, size, is_plain)
 
 
+def seen_in_a_terminal(frame: str, columns: int) -> list[str]:
+    """The lines of text of a frame, from the top, as a terminal such as xterm shows them: after a character in the last column the
+    cursor stays on it until the next one comes, which begins another line, and to erase the rest of a line erases it, too."""
+    lines, column = [[" "] * columns], 0
+    for sign in SIGN.findall(frame):
+        if sign == "\n" or sign.isprintable() and column == columns:
+            lines, column = [*lines, [" "] * columns], 0
+        if sign == "\x1b[K":
+            start = min(column, columns - 1)
+            lines[-1][start:] = " " * (columns - start)
+        elif sign.isprintable():
+            lines[-1][column] = sign
+            column += 1
+    return ["".join(line) for line in lines]
+
+
+def difference_where_wide(program: str, script: str, line: str) -> str | None:
+    """How the last frame of a script lacks this line in a small terminal, or has too many lines."""
+    columns, rows = SMALL
+    words = [program, "--columns", str(columns), "--rows", str(rows)]
+    ran = subprocess.run(words, input=script, capture_output=True, timeout=600, check=True, encoding="utf-8")
+    found = seen_in_a_terminal(ran.stdout.rpartition(frame_model.over(rows))[2].removesuffix("\n"), columns)
+    return None if len(found) == rows - 1 and line in found else f"a terminal of {columns} columns shows {found}"
+
+
 def main() -> int:
     words = sys.argv[1:]
     program = words[0] if words else str(ROOT / "crates/mfview/out/mfview")
@@ -134,7 +173,11 @@ def main() -> int:
         if found := difference(program, made, size, is_plain, FONTS[number // 2 % len(FONTS)]):
             wrong += 1
             print(f"script {number}, {size[0]} columns and {size[1]} rows: {found}\n{made.script!r}", flush=True)
-    print(f"{scripts - wrong} passed, {wrong} failed")
+    for script, line in WIDEST.items():
+        if found := difference_where_wide(program, script, line):
+            wrong += 1
+            print(f"{found}\n{script}", flush=True)
+    print(f"{scripts + len(WIDEST) - wrong} passed, {wrong} failed")
     return int(wrong > 0)
 
 

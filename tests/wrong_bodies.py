@@ -227,9 +227,9 @@ def print_trial(crate: str, trial: Trial) -> None:
 
 def build_below(names: list[str]) -> None:
     """Builds the libraries that these crates use, if they have changed."""
-    prover = Prover()
-    below = {it for name in names for it in prover.below(name)}
     try:
+        prover = Prover()
+        below = {it for name in names for it in prover.below(name)}
         for name in prove_in_order(prover, [it for it in prover.libraries if it in below]):
             print(f"{name}: built", file=sys.stderr, flush=True)
     except Failure as failure:

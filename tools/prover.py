@@ -38,6 +38,8 @@ class Prover:
     """The prover, for the crates of the repository."""
 
     def __init__(self) -> None:
+        if not shutil.which("rt"):
+            raise Failure("rt, the command of the Rattle toolchain, is not on the path")
         page = subprocess.run(["rt", "doc"], stdout=subprocess.PIPE, check=True, encoding="utf-8").stdout
         self.toolchain = pathlib.Path(page.strip()).parent
         self.version = subprocess.run(["rt", "version"], stdout=subprocess.PIPE, check=True).stdout

@@ -11,8 +11,8 @@ use Rattle.mf_frame.specs.declared.tile.Style.{Style}
 use Rattle.mf_frame.specs.declared.tile.Style.TheVariants.{Colored}
 use Rattle.mf_frame.specs.declared.window.Window.{Window}
 use Rattle.mf_frame.specs.Cells.{cell_shade, shade_in, IsCellOf, AreCells}
-use Rattle.mf_frame.specs.Frames.{empty_lines, lowest_lines, tile_at, tiles, window_line, window_lines}
-use Rattle.mf_frame.specs.Tiles.{number_end, tile}
+use Rattle.mf_frame.specs.Frames.{empty_line, empty_lines, lowest_lines, tile_at, tiles, window_line, window_lines}
+use Rattle.mf_frame.specs.Tiles.{tile}
 
 -- ---- empty lines
 
@@ -24,17 +24,17 @@ pub record AreEmptySoFar (count : ℕ) (old : List ℕ) (n : ℕ) (text : List �
 pub empty_none : (count : ℕ) (old : List ℕ) → AreEmptySoFar count old 0 old
 empty_none count old = let all : count - 0 ≡ count = omega arith in record { to = omega arith; lines = rw all refl }
 
-empty-next : (n : ℕ) → empty_lines Colored (suc n) ≡ number_end Colored ++ empty_lines Colored n
+empty-next : (n : ℕ) → empty_lines Colored (suc n) ≡ empty_line Colored ++ empty_lines Colored n
 unfolding empty_lines
 empty-next n = refl
 
-pub empty_more : (count : ℕ) (old : List ℕ) (n : ℕ) (text new : List ℕ) → n < count → new ≡ text ++ number_end Colored → AreEmptySoFar count old n text
+pub empty_more : (count : ℕ) (old : List ℕ) (n : ℕ) (text new : List ℕ) → n < count → new ≡ text ++ empty_line Colored → AreEmptySoFar count old n text
     → AreEmptySoFar count old (n + 1) new
 empty_more count old n text new more written so_far =
     let left : count - n ≡ suc (count - (n + 1)) = omega arith in
     record {
       to = omega arith;
-      lines = rw written (append_assoc text (number_end Colored) (empty_lines Colored (count - (n + 1))))
+      lines = rw written (append_assoc text (empty_line Colored) (empty_lines Colored (count - (n + 1))))
           ∙ ap (λ all. text ++ all) (sym (empty-next (count - (n + 1)))) ∙ rw (← left) so_far.lines;
     }
 
@@ -156,5 +156,8 @@ pub drawn_lines : (style : Style) (w : Window) (ds : List Dot) (shades : List Sh
 drawn_lines style w ds shades cells = same_lines style (shade_in w shades) (cell_shade w.scale ds) w w.lines cells.cells (omega arith)
 
 -- parts written one after another
-pub eight_parts : (t a b c d e f g : List ℕ) → ((((t ++ a ++ b) ++ c ++ d) ++ e) ++ f) ++ g ≡ t ++ (a ++ b ++ c ++ d ++ e ++ f ++ g)
-eight_parts t a b c d e f g = simp append_assoc
+pub three_parts : (t a b c : List ℕ) → ((t ++ a) ++ b) ++ c ≡ t ++ (a ++ b ++ c)
+three_parts t a b c = simp append_assoc
+
+pub nine_parts : (t s a b c d e f g : List ℕ) → (((((t ++ s) ++ a ++ b) ++ c ++ d) ++ e) ++ f) ++ g ≡ t ++ (s ++ a ++ b ++ c ++ d ++ e ++ f ++ g)
+nine_parts t s a b c d e f g = simp append_assoc

@@ -10,7 +10,7 @@ use Rattle.mf_frame.specs.declared.tile.Style.TheVariants.{Colored, Plain}
 use Rattle.mf_frame.specs.declared.window.Window.{Window}
 use Rattle.mf_frame.specs.Canvases.{Size}
 use Rattle.mf_frame.specs.Cells.{cell_shade}
-use Rattle.mf_frame.specs.Tiles.{tile, tile_end, number_end}
+use Rattle.mf_frame.specs.Tiles.{tile, tile_end, line_start}
 use Rattle.mf_frame.specs.Windows.{scale_of, window_at}
 
 -- the tile of column i in line k, where f has the shades of cells: those of rows 2 * k + 1 and 2 * k
@@ -24,7 +24,7 @@ tiles style f k i (suc n) = tile_at style f k i ++ tiles style f k (i +ℤ pos 1
 
 -- line k of a window
 abbrev pub window_line : Style → (ℤ → ℤ → Shade) → Window → ℤ → List ℕ
-window_line style f w k = tiles style f k w.column w.columns ++ tile_end style
+window_line style f w k = line_start style ++ tiles style f k w.column w.columns ++ tile_end style
 
 -- the n lowest lines of a window, from the highest of them downwards
 unfoldable pub lowest_lines : Style → (ℤ → ℤ → Shade) → Window → ℕ → List ℕ
@@ -35,10 +35,14 @@ lowest_lines style f w (suc n) = window_line style f w (w.line +ℤ pos n) ++ lo
 abbrev pub window_lines : Style → (ℤ → ℤ → Shade) → Window → List ℕ
 window_lines style f w = lowest_lines style f w w.lines
 
+-- an empty line
+abbrev pub empty_line : Style → List ℕ
+empty_line style = line_start style ++ codes "\n"
+
 -- n empty lines
 unfoldable pub empty_lines : Style → ℕ → List ℕ
 empty_lines style zero = []
-empty_lines style (suc n) = number_end style ++ empty_lines style n
+empty_lines style (suc n) = empty_line style ++ empty_lines style n
 
 -- the empty lines above n lines of a picture: none in a plain frame, and as many as make a colored one as high as its canvas
 abbrev pub padding : Style → Size → ℕ → List ℕ
@@ -48,7 +52,7 @@ padding Colored canvas n = empty_lines Colored ((canvas.rows - 3) - n)
 -- the line with the revision and the total weight
 abbrev pub heading : Style → ℕ → ℤ → List ℕ
 heading style revision total =
-    codes "revision " ++ decimal revision ++ codes "  totalweight " ++ signed_decimal total ++ number_end style
+    line_start style ++ codes "revision " ++ decimal revision ++ codes "  totalweight " ++ signed_decimal total ++ codes "\n"
 
 -- two numbers, the ends of a range
 abbrev pub range : ℤ → ℤ → List ℕ
@@ -57,7 +61,7 @@ range first last = signed_decimal first ++ codes ".." ++ signed_decimal last
 -- the line with a box and its scale
 abbrev pub measures : Style → Box4 → ℤ → List ℕ
 measures style b s =
-    codes "columns " ++ range b.min_x b.max_x ++ codes "  rows " ++ range b.min_y b.max_y ++ codes "  scale " ++ signed_decimal s ++ number_end style
+    line_start style ++ codes "columns " ++ range b.min_x b.max_x ++ codes "  rows " ++ range b.min_y b.max_y ++ codes "  scale " ++ signed_decimal s ++ codes "\n"
 
 -- the frame of a picture with this least box and window
 unfoldable pub box_frame : Style → Size → ℕ → List Dot → Box4 → Window → List ℕ
@@ -67,7 +71,7 @@ box_frame style canvas revision ds b w =
 -- the frame of the blank picture
 unfoldable pub blank_frame : Style → Size → ℕ → List Dot → List ℕ
 blank_frame style canvas revision ds =
-    padding style canvas 0 ++ heading style revision (total_of ds) ++ codes "blank  scale 1" ++ number_end style
+    padding style canvas 0 ++ heading style revision (total_of ds) ++ line_start style ++ codes "blank  scale 1\n"
 
 -- the frame of a picture with this least box
 abbrev pub frame_of : Style → Size → ℕ → List Dot → Option Box4 → List ℕ

@@ -79,16 +79,13 @@ abbrev pub tile : Style → Shade → Shade → ℤ → ℤ → List ℕ
 tile Plain upper lower column line = plain_tile upper lower column line
 tile Colored upper lower column line = colored_tile upper lower column line
 
--- what erases the rest of a line and ends it
-abbrev pub cleared_end : List ℕ
-cleared_end = escape ++ codes "[K\n"
+-- the start of a line: in colors, what erases the line that stood there. (At the end of a line that is as wide as the terminal,
+-- it would erase the last character.)
+abbrev pub line_start : Style → List ℕ
+line_start Plain = []
+line_start Colored = escape ++ codes "[K"
 
--- the end of a line of numbers
-abbrev pub number_end : Style → List ℕ
-number_end Plain = codes "\n"
-number_end Colored = cleared_end
-
--- the end of a line of tiles
+-- the end of a line of tiles, after which the colors are those of the terminal again
 abbrev pub tile_end : Style → List ℕ
 tile_end Plain = codes "\n"
-tile_end Colored = escape ++ codes "[0m" ++ cleared_end
+tile_end Colored = escape ++ codes "[0m\n"

@@ -6,8 +6,9 @@ use std::error::Error;
 use std::fmt;
 use std::marker::Model;
 
-/// The least number of columns of a canvas, so that a line of numbers fits.
-const MIN_COLUMNS: u32 = 48;
+/// The least number of columns of a canvas. So many characters has the longest line of numbers, as
+/// `columns -4095..-1000  rows -4095..-1000  scale 228`.
+const MIN_COLUMNS: u32 = 50;
 
 /// The least number of rows of a canvas: three lines of a picture, the two below them, and the cursor's.
 const MIN_ROWS: u32 = 6;
@@ -15,7 +16,7 @@ const MIN_ROWS: u32 = 6;
 /// The greatest number of columns, and of rows, that a canvas uses.
 const MAX_SIDE: u32 = 1000;
 
-/// A canvas that has fewer than 48 columns or fewer than 6 rows.
+/// A canvas that has fewer than 50 columns or fewer than 6 rows.
 #[derive(Clone, Copy, Debug, PartialEq, Eq)]
 pub struct TooSmall;
 
@@ -32,7 +33,7 @@ impl fmt::Display for TooSmall {
 
 impl Error for TooSmall {}
 
-/// The characters that a frame may fill: 48 to 1,000 columns and 6 to 1,000 rows.
+/// The characters that a frame may fill: 50 to 1,000 columns and 6 to 1,000 rows.
 #[derive(Clone, Copy, Debug, PartialEq, Eq)]
 pub struct Canvas {
     columns: u32,
@@ -53,7 +54,7 @@ impl Model for Canvas {
 
 impl Canvas {
     /// The canvas of a terminal with this number of columns and rows, of which more than 1,000 count as 1,000. Refused with
-    /// `TooSmall` where there are fewer than 48 columns or fewer than 6 rows.
+    /// `TooSmall` where there are fewer than 50 columns or fewer than 6 rows.
     pub fn new(columns: u32, rows: u32) -> Result<Canvas, TooSmall>
         ensures accepted { IsOk result ↔ IsLargeEnough columns rows }
         ensures value { IfOk result (λ canvas. canvas ≡ record { columns = min columns 1000; rows = min rows 1000 }) }

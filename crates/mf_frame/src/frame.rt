@@ -10,7 +10,7 @@ ghost use Rattle.mf_frame.specs.Windows.{IsWindow, scale_of, window_at};
 use crate::canvas::Canvas;
 use crate::cells::cells_of;
 use crate::shade::Shade;
-use crate::tile::{Style, push, push_number_end, push_tile, push_tile_end};
+use crate::tile::{Style, push, push_line_start, push_tile, push_tile_end};
 use crate::window::Window;
 use itoa::Buffer;
 use mf_base::OutOfMemory;
@@ -74,8 +74,8 @@ fn draw_blank(
     let mut text = Vec::new(alloc);
     push_padding(&mut text, style, canvas, 0)?;
     push_heading(&mut text, style, revision, total)?;
-    push(&mut text, b"blank  scale 1")?;
-    push_number_end(&mut text, style)?;
+    push_line_start(&mut text, style)?;
+    push(&mut text, b"blank  scale 1\n")?;
     Ok(text)
 }
 
@@ -100,7 +100,8 @@ fn push_empty_lines(text: &mut Vec<u8>, count: u32) -> Result<(), OutOfMemory>
     ensures { IfOk result (λ _. text.new.items ≡ text.old.items ++ empty_lines Colored count) }
 {
     for _ in 0..count {
-        push_number_end(text, Style::Colored)?;
+        push_line_start(text, Style::Colored)?;
+        push(text, b"\n")?;
     }
     Ok(())
 }
@@ -140,6 +141,7 @@ fn push_line(
     let lower = 2 * above as usize * columns;
     let upper = lower + columns;
     let line = window.line + above as i32;
+    push_line_start(text, style)?;
     for place in 0..columns {
         let column = window.column + place as i32;
         push_tile(
@@ -164,11 +166,12 @@ fn push_heading(
     ensures { IfOk result (λ _. text.new.items ≡ text.old.items ++ heading style revision total) }
 {
     let mut buffer = Buffer::new();
+    push_line_start(text, style)?;
     push(text, b"revision ")?;
     push(text, buffer.format(revision).as_bytes())?;
     push(text, b"  totalweight ")?;
     push(text, buffer.format(total).as_bytes())?;
-    push_number_end(text, style)
+    push(text, b"\n")
 }
 
 /// Appends the line with a box and its scale.
@@ -181,12 +184,13 @@ fn push_measures(
     requires { IsBoxOfField bounds.now }
     ensures { IfOk result (λ _. text.new.items ≡ text.old.items ++ measures style bounds.now scale) }
 {
+    push_line_start(text, style)?;
     push_range(text, b"columns ", bounds.min_x, bounds.max_x)?;
     push_range(text, b"  rows ", bounds.min_y, bounds.max_y)?;
     let mut buffer = Buffer::new();
     push(text, b"  scale ")?;
     push(text, buffer.format(scale).as_bytes())?;
-    push_number_end(text, style)
+    push(text, b"\n")
 }
 
 /// Appends a name and the two ends of a range.

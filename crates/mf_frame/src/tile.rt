@@ -1,6 +1,6 @@
 //! Tiles, the characters of a frame. Each shows two cells, one above the other.
 ghost use Rattle.std.specs.Prelude.{◌≡◌, ◌++◌, ◌&&◌, IfOk};
-ghost use Rattle.mf_frame.specs.Tiles.{axis_mark, color_of, colored_tile, colors, is_blank, light_tile, number_end, plain_tile, tile, tile_end};
+ghost use Rattle.mf_frame.specs.Tiles.{axis_mark, color_of, colored_tile, colors, is_blank, light_tile, line_start, plain_tile, tile, tile_end};
 
 use crate::shade::Shade;
 use mf_base::OutOfMemory;
@@ -31,23 +31,24 @@ pub(crate) fn push_tile(
     }
 }
 
+/// Appends the start of a line. In colors, that erases what stood there before. It comes first, since after a character in the last
+/// column of the terminal it would erase that one.
+pub(crate) fn push_line_start(text: &mut Vec<u8>, style: Style) -> Result<(), OutOfMemory>
+    ensures { IfOk result (λ _. text.new.items ≡ text.old.items ++ line_start style) }
+{
+    match style {
+        Style::Plain => push(text, b""),
+        Style::Colored => push(text, b"\x1B[K"),
+    }
+}
+
 /// Appends the end of a line of tiles.
 pub(crate) fn push_tile_end(text: &mut Vec<u8>, style: Style) -> Result<(), OutOfMemory>
     ensures { IfOk result (λ _. text.new.items ≡ text.old.items ++ tile_end style) }
 {
     match style {
         Style::Plain => push(text, b"\n"),
-        Style::Colored => push(text, b"\x1B[0m\x1B[K\n"),
-    }
-}
-
-/// Appends the end of a line of numbers.
-pub(crate) fn push_number_end(text: &mut Vec<u8>, style: Style) -> Result<(), OutOfMemory>
-    ensures { IfOk result (λ _. text.new.items ≡ text.old.items ++ number_end style) }
-{
-    match style {
-        Style::Plain => push(text, b"\n"),
-        Style::Colored => push(text, b"\x1B[K\n"),
+        Style::Colored => push(text, b"\x1B[0m\n"),
     }
 }
 

@@ -37,7 +37,7 @@ IsOfSides faults.TooSmall = ⊥
 IsOfSides faults.NoCharacters = ⊥
 IsOfSides _ = Unit {0}
 
--- these words ask for a script to be drawn in fewer than 48 columns or fewer than 6 rows
+-- these words ask for a script to be drawn in fewer than 50 columns or fewer than 6 rows
 pub record LacksRoom (words : List Text) : Type 0 where
   pub asked : Words
   pub request : IsRequest words (Show asked)

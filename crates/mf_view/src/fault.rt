@@ -15,7 +15,7 @@ pub enum ProgramFault {
     NoPlace,
     /// A look was refused.
     NoLook,
-    /// The terminal has fewer than 48 columns or fewer than 6 rows.
+    /// The terminal has fewer than 50 columns or fewer than 6 rows.
     TooSmall,
     /// The font file of the shipped characters would have more bytes than it may have.
     FileTooLong,

@@ -6,9 +6,9 @@ use std::process::Abort;
 
 /// Columns and rows, each with the number of lines of a colored frame, or none where they are too few.
 const SIZES: &[(u32, u32, Option<u32>)] = &[
-    (48, 6, Some(5)),
-    (47, 6, None),
-    (48, 5, None),
+    (50, 6, Some(5)),
+    (49, 6, None),
+    (50, 5, None),
     (0, 0, None),
     (80, 24, Some(23)),
     (4000, 4000, Some(999)),

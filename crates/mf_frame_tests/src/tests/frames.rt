@@ -46,9 +46,9 @@ pub(super) fn built(rt: &impl Abort, alloc: Global, runs: &[(i32, i32, u32, i32)
     builder.finish().expect(rt, "there is room for the picture")
 }
 
-/// The least canvas: 48 columns, and three lines of a picture.
+/// The least canvas: 50 columns, and three lines of a picture.
 pub(super) fn least_canvas(rt: &impl Abort) -> Canvas {
-    Canvas::new(48, 6).expect(rt, "the canvas is large enough")
+    Canvas::new(50, 6).expect(rt, "the canvas is large enough")
 }
 
 /// Asserts that the picture of these runs has this frame on the least canvas.
@@ -78,7 +78,7 @@ fn the_blank_picture_is_drawn(rt: HostRuntime) {
     let alloc = rt.alloc();
     let plain = "revision 7  totalweight 0\nblank  scale 1\n";
     assert_frame(&rt, alloc, &[], Style::Plain, plain);
-    let colored = "\x1B[K\n\x1B[K\n\x1B[K\nrevision 7  totalweight 0\x1B[K\nblank  scale 1\x1B[K\n";
+    let colored = "\x1B[K\n\x1B[K\n\x1B[K\n\x1B[Krevision 7  totalweight 0\n\x1B[Kblank  scale 1\n";
     assert_frame(&rt, alloc, &[], Style::Colored, colored);
 }
 
@@ -91,7 +91,7 @@ const PLAIN_SIGNS: &str =
 
 /// The colors of a tile are those of its upper and its lower half: 255 blank, 208 negative, 238, 25 and 16 for 1, 2 and more.
 const COLORED_SIGNS: &str =
-    "\x1B[K\n\x1B[38;5;255;48;5;238m▀\x1B[38;5;250;48;5;255m▁\x1B[38;5;255;48;5;16m▀\x1B[38;5;250;48;5;255m▁\x1B[0m\x1B[K\n\x1B[38;5;255;48;5;255m▀\x1B[38;5;208;48;5;255m▀\x1B[38;5;250;48;5;255m▏\x1B[38;5;255;48;5;25m▀\x1B[0m\x1B[K\nrevision 7  totalweight 4\x1B[K\ncolumns -2..1  rows -2..0  scale 1\x1B[K\n";
+    "\x1B[K\n\x1B[K\x1B[38;5;255;48;5;238m▀\x1B[38;5;250;48;5;255m▁\x1B[38;5;255;48;5;16m▀\x1B[38;5;250;48;5;255m▁\x1B[0m\n\x1B[K\x1B[38;5;255;48;5;255m▀\x1B[38;5;208;48;5;255m▀\x1B[38;5;250;48;5;255m▏\x1B[38;5;255;48;5;25m▀\x1B[0m\n\x1B[Krevision 7  totalweight 4\n\x1B[Kcolumns -2..1  rows -2..0  scale 1\n";
 
 #[test]
 fn signs_and_axes_are_drawn(rt: HostRuntime) {
@@ -100,11 +100,12 @@ fn signs_and_axes_are_drawn(rt: HostRuntime) {
     assert_frame(&rt, alloc, SIGNS, Style::Colored, COLORED_SIGNS);
 }
 
-/// A hundred columns fit on 48 at scale 3: columns 0 to 99 are cells 0 to 33. Row 0 is in the row 0 of cells, the lower half.
-const LONG: Runs = &[(0, 0, 100, 1)];
+/// A hundred and one columns fit on 50 at scale 3: columns 0 to 100 are cells 0 to 33. Row 0 is in the row 0 of cells, the lower
+/// half.
+const LONG: Runs = &[(0, 0, 101, 1)];
 
 const PLAIN_LONG: &str =
-    "▄▄▄▄▄▄▄▄▄▄▄▄▄▄▄▄▄▄▄▄▄▄▄▄▄▄▄▄▄▄▄▄▄▄\nrevision 7  totalweight 100\ncolumns 0..99  rows 0..0  scale 3\n";
+    "▄▄▄▄▄▄▄▄▄▄▄▄▄▄▄▄▄▄▄▄▄▄▄▄▄▄▄▄▄▄▄▄▄▄\nrevision 7  totalweight 101\ncolumns 0..100  rows 0..0  scale 3\n";
 
 #[test]
 fn a_wide_picture_is_scaled_down(rt: HostRuntime) {

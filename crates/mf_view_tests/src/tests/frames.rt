@@ -46,12 +46,12 @@ const PLAIN: &str = "revision 0  totalweight 0\n\
 const PIXEL: &[u8] = b"addto currentpicture contour (1,1)--(2,1)--(2,2)--(1,2)--cycle\n";
 
 const COLORED: &str = "\x1b[K\n\x1b[K\n\x1b[K\n\
-                       revision 0  totalweight 0\x1b[K\n\
-                       blank  scale 1\x1b[K\n\
+                       \x1b[Krevision 0  totalweight 0\n\
+                       \x1b[Kblank  scale 1\n\
                        \x1b[5A\x1b[K\n\x1b[K\n\
-                       \x1b[38;5;238;48;5;255m▀\x1b[0m\x1b[K\n\
-                       revision 1  totalweight 1\x1b[K\n\
-                       columns 1..1  rows 1..1  scale 1\x1b[K\n";
+                       \x1b[K\x1b[38;5;238;48;5;255m▀\x1b[0m\n\
+                       \x1b[Krevision 1  totalweight 1\n\
+                       \x1b[Kcolumns 1..1  rows 1..1  scale 1\n";
 
 /// Asserts what a script draws and prints where each publish is held until it is drawn.
 fn assert_draws<S: Abort + Wait + Threads + Files + Sync>(
@@ -64,7 +64,7 @@ fn assert_draws<S: Abort + Wait + Threads + Files + Sync>(
     told: &str,
 ) {
     let (mut reader, mut screen, mut transcript) = (script, Vec::new(alloc), Vec::new(alloc));
-    let canvas = Canvas::new(48, rows).expect(rt, "the terminal is large enough");
+    let canvas = Canvas::new(50, rows).expect(rt, "the terminal is large enough");
     let showing = Showing {
         canvas,
         style,

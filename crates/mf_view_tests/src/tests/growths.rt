@@ -41,7 +41,7 @@ fn a_look_is_drawn(rt: HostRuntime) {
     let (mut stage, mut desk) = stage_and_desk(&rt, alloc, None);
     answer(&rt, alloc, &mut stage, b"publish");
     let viewer = desk.viewer().expect(&rt, "there is a place");
-    let canvas = Canvas::new(48, 6).expect(&rt, "the terminal is large enough");
+    let canvas = Canvas::new(50, 6).expect(&rt, "the terminal is large enough");
     let mut easel = Easel::new(viewer, canvas, Style::Plain);
     let mut screen = Sink::reserved(alloc, 1000).expect(&rt, "there is room for a frame");
     refuse_growths(alloc);
