@@ -131,7 +131,7 @@ fn show<
     let mut easel = easel;
     let first = draw(alloc, &mut easel, screen, pace);
     let Sides { drawn, performed } = perform_beside(
-        rt, alloc, &mut stage, &mut easel, reader, screen, transcript, pace,
+        rt, alloc, &mut stage, &mut easel, first, reader, screen, transcript, pace,
     );
     let drawn = first.and(drawn);
     conclude(rt, alloc, stage, easel, screen, performed, drawn)
@@ -166,7 +166,8 @@ fn conclude<S: Wait + Files, W: Write>(
     }
 }
 
-/// Performs the script while the easel looks and draws in a thread of its own.
+/// Performs the script while the easel looks and draws in a thread of its own, unless its first frame has failed: a frame that was
+/// cut is the last one.
 fn perform_beside<
     S: Wait + Threads + Files + Sync,
     R: Read,
@@ -178,6 +179,7 @@ fn perform_beside<
     alloc: Global,
     stage: &mut Stage,
     easel: &mut Easel,
+    first: Result<(), EaselFault>,
     reader: &mut R,
     screen: &mut W,
     transcript: &mut T,
@@ -186,6 +188,7 @@ fn perform_beside<
     ensures stage_identity { stages.identity stage.new ≡ stages.identity stage.old }
     ensures easel_identity { easels.identity easel.new ≡ easels.identity easel.old }
     ensures manner { easels.HasSameManner easel.old easel.new }
+    ensures stopped { IfErr first (λ fault. (result.drawn ≡ Err fault) × (screen.new ≡ screen.old)) }
     ensures drawn { OnOk result.drawn (DrawsMore easel.old easel.new (W.contents screen.old) (W.contents screen.new)) }
     ensures stands { OnOk result.performed (StillStands stage.old stage.new) }
     ensures transcript { OnOk result.performed
@@ -199,8 +202,14 @@ fn perform_beside<
         &mut || -> Result<(), EaselFault>
             requires { IsSync S.row × IsSync P.row × IsSend W.row }
             ensures { IsSameEasel easel.entry.now easel.exit.now
+                × IfErr first (λ fault. (result ≡ Err fault) × (screen.exit.now ≡ screen.entry.now))
                 × OnOk result (DrawsMore easel.entry.now easel.exit.now (W.contents screen.entry.now) (W.contents screen.exit.now)) }
-        { draw_on(rt, alloc, easel, screen, pace, &ended) },
+        {
+            match first {
+                Ok(()) => draw_on(rt, alloc, easel, screen, pace, &ended),
+                Err(fault) => Err(fault),
+            }
+        },
         &mut || -> Result<(), StageFault>
             ensures { (stages.identity stage.exit.now ≡ stages.identity stage.entry.now)
                 × OnOk result (StillStands stage.entry.now stage.exit.now) × OnOk result (PerformsAll stage.entry.now

@@ -2,10 +2,11 @@
 use super::assertions::assert_same;
 use super::paces::Held;
 use mf_frame::{Canvas, Style};
-use mf_testing::{Pieces, Sink};
+use mf_testing::{FailsOnce, Pieces, Sink};
 use mf_view::program::{STREAM_FAULT, TOO_SMALL, WANTING, report};
 use mf_view::{ProgramFault, Showing, perform};
 use std::alloc::Global;
+use std::io::Write;
 use std::process::Abort;
 use std::rt::Files;
 use std::sync::Wait;
@@ -14,6 +15,32 @@ use std::thread::Threads;
 const SCRIPT: &[u8] = b"show totalweight a\npublish\nshow totalweight b\n";
 
 const TOLD: &[u8] = b"totalweight 0\npublished 0\ntotalweight 0\n";
+
+/// Performs a script, and returns its fault.
+fn fault_of<S: Abort + Wait + Threads + Files + Sync, W: Write + Send>(
+    rt: &S,
+    alloc: Global,
+    mut reader: Pieces<'_>,
+    screen: &mut W,
+    transcript: &mut Vec<u8>,
+) -> Option<ProgramFault> {
+    let canvas = Canvas::new(80, 24).expect(rt, "the terminal is large enough");
+    let showing = Showing {
+        canvas,
+        style: Style::Plain,
+        plates: None,
+    };
+    perform(
+        rt,
+        alloc,
+        &mut reader,
+        screen,
+        transcript,
+        &Held::new(),
+        showing,
+    )
+    .err()
+}
 
 /// Asserts the fault of a script of which reading fails after these bytes, on a screen with so much room, and what is told by then.
 fn assert_fails<S: Abort + Wait + Threads + Files + Sync>(
@@ -24,27 +51,9 @@ fn assert_fails<S: Abort + Wait + Threads + Files + Sync>(
     fault: ProgramFault,
     told: &[u8],
 ) {
-    let (mut reader, mut screen, mut transcript) = (
-        reader,
-        Sink::failing(alloc, room),
-        Vec::new(alloc),
-    );
-    let canvas = Canvas::new(80, 24).expect(rt, "the terminal is large enough");
-    let showing = Showing {
-        canvas,
-        style: Style::Plain,
-        plates: None,
-    };
-    let performed = perform(
-        rt,
-        alloc,
-        &mut reader,
-        &mut screen,
-        &mut transcript,
-        &Held::new(),
-        showing,
-    );
-    assert_same(rt, performed.err(), Some(fault), "fault");
+    let (mut screen, mut transcript) = (Sink::failing(alloc, room), Vec::new(alloc));
+    let found = fault_of(rt, alloc, reader, &mut screen, &mut transcript);
+    assert_same(rt, found, Some(fault), "fault");
     assert_same(rt, transcript.as_slice(), told, "told");
 }
 
@@ -70,6 +79,23 @@ fn the_screen_fails(rt: HostRuntime) {
         ProgramFault::WriteFault,
         TOLD,
     );
+}
+
+/// This screen fails in the first frame, and would then take more.
+#[test]
+fn no_frame_comes_after_one_that_was_cut(rt: HostRuntime) {
+    let alloc = rt.alloc();
+    let (mut screen, mut transcript) = (FailsOnce::new(alloc, 10), Vec::new(alloc));
+    let found = fault_of(
+        &rt,
+        alloc,
+        Pieces::whole(SCRIPT),
+        &mut screen,
+        &mut transcript,
+    );
+    assert_same(&rt, found, Some(ProgramFault::WriteFault), "fault");
+    assert_same(&rt, screen.calls_after(), 0, "calls after the fault");
+    assert_same(&rt, transcript.as_slice(), TOLD, "told");
 }
 
 /// Each fault with its message and its status.
