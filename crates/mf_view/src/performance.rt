@@ -207,7 +207,7 @@ fn perform_beside<
         {
             match first {
                 Ok(()) => draw_on(rt, alloc, easel, screen, pace, &ended),
-                Err(fault) => Err(fault),
+                Err(cut) => Err(cut),
             }
         },
         &mut || -> Result<(), StageFault>
