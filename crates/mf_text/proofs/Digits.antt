@@ -1,10 +1,10 @@
 -- Rows of at most nine digits, and their numbers.
-use Rattle.std.proofs.Common.{◌≡◌, ◌≢◌, inl, inr, ℕ, ◌+◌, ◌-◌, ◌*◌, ◌^◌, ◌<◌, ◌≤◌, true, false, nat_lt, if◌then◌else◌, None, Some, List, [], ◌∷◌, length, get_or, take, refl, ap, sym, subst, ◌∙◌, arith}
+use Rattle.std.proofs.Common.{◌≡◌, ◌≢◌, inl, inr, ℕ, ◌+◌, ◌-◌, ◌*◌, ◌^◌, ◌<◌, ◌≤◌, true, false, nat_lt, if◌then◌else◌, None, Some, List, length, get_or, take, refl, ap, sym, subst, ◌∙◌, arith}
 use Rattle.std.specs.Char.{digit_value, is_ascii_digit}
 use Rattle.std.specs.List.{prefix_len, take_while}
 use Rattle.std.specs.Str.Parse.{AllDigits, digits_value}
 use Rattle.std.proofs.Math.Nat.{eq-or-lt_of_le}
-use Rattle.std.proofs.lemmas.Bool.{cond_both, false_from_ne_true, le-leb, lt-leb, ltb-false, ltb-true, true_from_ne_false}
+use Rattle.std.proofs.lemmas.Bool.{cond_both, le-leb, ltb-false, ltb-true}
 use Rattle.std.proofs.lemmas.Bool.Decides.{nat_tests}
 use Rattle.std.proofs.lemmas.Int.Digits.{digits_more, digits_value_more}
 use Rattle.std.proofs.lemmas.List.{length-take-le}
@@ -14,8 +14,9 @@ use Rattle.std.proofs.lemmas.Str.{digit_value_digit}
 use Rattle.std.proofs.lemmas.Str.Parse.{numerals_by_value, tells_digits, digits_value_short, digit_from_value}
 use Rattle.mf_text.specs.Token.{value_in}
 use Rattle.mf_text.specs.Token as token
-use Rattle.mf_text.specs.Tokens.{Finds, Taken, first_token, first_is, number_token}
-use Rattle.mf_text.proofs.Words.{digits_first, digits_lacking}
+use Rattle.mf_text.specs.Tokens.{Finds, Taken, first_token, number_token}
+use Rattle.mf_text.proofs.Found.{number_lacking}
+use Rattle.mf_text.proofs.TokenTexts.{digits_first}
 
 digit_below_ten : (c : ℕ) → is_ascii_digit c ≡ true → digit_value c < 10
 digit_below_ten c e = grind (arith, nat_tests)
@@ -100,31 +101,12 @@ number-stops text i value to other = digits_end text i to.in_prefix other
 pub number-whole : (text : List ℕ) (i value : ℕ) → IsNumberTo text i value → length text ≤ i → i ≡ prefix_len is_ascii_digit text
 number-whole text i value to ended = omega (arith, to.in_prefix, ended, prefix_len-le-length is_ascii_digit text)
 
-number-long : (text : List ℕ) (i value : ℕ) → IsNumberTo text i value → i ≡ 9 → i < length text → is_ascii_digit (get_or text i 0) ≡ true
-    → token.Unknown ≡ number_token (take_while is_ascii_digit text)
-unfolding number_token
-number-long text i value to last inside digit =
-    let long = digit_goes_on text i to.in_prefix inside digit in
-    rw (lt-leb (length (take_while is_ascii_digit text)) 9 (omega (arith, last, long, length-prefix_len is_ascii_digit text))) refl
-
-has_digit : (bs : List ℕ) → 0 < prefix_len is_ascii_digit bs → first_is is_ascii_digit bs ≡ true
-has_digit [] some = absurd (omega arith)
-has_digit (b ∷ bs) some =
-    true_from_ne_false _ (λ other. let none : prefix_len is_ascii_digit (b ∷ bs) ≡ 0 = rw other refl in omega (arith, none))
-
 -- the number that is found once all of its digits are passed
 pub number-found : (text : List ℕ) (i value : ℕ) → IsNumberTo text i value → i ≡ prefix_len is_ascii_digit text
     → Finds value_in text (if nat_lt 0 i then Some (value, i) else None)
 number-found text i value to ends =
-    cond_both (nat_lt 0 i) (Some (value, i)) None (Finds value_in text)
-    (λ some. found (digits_first text (has_digit text (omega (arith, ltb-true 0 i some, ends)))))
-    (λ none. digits_lacking text (no_digit text (omega (arith, ltb-false 0 i none, ends)))) where
-      no_digit : (bs : List ℕ) → prefix_len is_ascii_digit bs ≡ 0 → first_is is_ascii_digit bs ≡ false
-      no_digit [] none = refl
-      no_digit (b ∷ bs) none =
-          false_from_ne_true _ (λ digit.
-          let some : prefix_len is_ascii_digit (b ∷ bs) ≡ 1 + prefix_len is_ascii_digit bs = rw digit refl in omega (arith, some))
-
+    cond_both (nat_lt 0 i) (Some (value, i)) None (Finds value_in text) (λ some. found (digits_first text (omega (arith, ltb-true 0 i some, ends))))
+    (λ none. number_lacking text (λ some few. omega (arith, some, ltb-false 0 i none, ends))) where
       found : first_token text ≡ record { token = number_token (take_while is_ascii_digit text); bytes = length (take_while is_ascii_digit text) }
           → Finds value_in text (Some (value, i))
       found first =
@@ -135,8 +117,7 @@ number-found text i value to ends =
           )
 
 -- with a tenth digit there is no number
-pub number-lacking : (text : List ℕ) (i value : ℕ) → IsNumberTo text i value → i ≡ 9 → i < length text
+pub number-long : (text : List ℕ) (i value : ℕ) → IsNumberTo text i value → i ≡ 9 → i < length text
     → is_ascii_digit (get_or text i 0) ≡ true → value_in (first_token text).token ≡ None
-number-lacking text i value to last inside digit =
-    ap (λ (t : Taken). value_in t.token) (digits_first text (has_digit text (omega (arith, last, to.in_prefix))))
-    ∙ ap value_in (sym (number-long text i value to last inside digit))
+number-long text i value to last inside digit =
+    number_lacking text (λ some few. omega (arith, few, last, digit_goes_on text i to.in_prefix inside digit))

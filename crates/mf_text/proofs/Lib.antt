@@ -1,11 +1,11 @@
+pub mod Cuts
 pub mod Digits
 pub mod FirstTokens
+pub mod Found
 pub mod LineAnswers
 pub mod LineReading
 pub mod LineTokens
-pub mod Marks
 pub mod OneAnswer
-pub mod OneCut
 pub mod ReadInts
 pub mod Reading
 pub mod Registers
@@ -13,4 +13,3 @@ pub mod Rests
 pub mod SomeAnswer
 pub mod Sound
 pub mod TokenTexts
-pub mod Words

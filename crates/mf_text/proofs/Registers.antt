@@ -1,16 +1,15 @@
 -- The registers that a line names are letters.
-use Rattle.std.proofs.Common.{◌≡◌, ℕ, ◌<◌, true, leb, ◌-◌, get_or, List, [], ◌∷◌, ◌++◌, subst, sym, arith}
+use Rattle.std.proofs.Common.{ℕ, ◌<◌, List, [], ◌∷◌, ◌++◌, subst, arith}
 use Rattle.std.specs.List.{AllByRecursion}
-use Rattle.std.proofs.lemmas.Bool.{and_parts, false≢true, leb-true}
 use Rattle.mf_text.specs.Token as token
 use Rattle.mf_text.specs.Grammar.{Form, AddContour, AddPicture, CullKeeping, CullDropping, Clear, Move, ShowTotal, ShowPicture, ShowProof, ShipOut, Shifted, spell_name, spell_source, spell_signed, spell_form, spell_end, Sign, Plus, Minus, Name, Current, Register, Source, Null, Named}
 use Rattle.mf_text.specs.Lines.{Gives}
 use Rattle.mf_text.specs.Meaning.{Meaning, Is, If, Turns, Means, meaning, Command}
 use Rattle.mf_text.specs.Registers.{IsName, IsSource, HasNames}
-use Rattle.mf_text.specs.Tokens.{is_letter, kinds, tokens, Placed, Token}
-use Rattle.mf_text.specs.TokenTexts.{AMark, AreTokens, Digits, IsTokenText, Letters, OtherByte}
-use Rattle.mf_text.proofs.TokenTexts.{are_tokens}
-use Rattle.mf_text.proofs.Words.{of_letters, of_numbers}
+use Rattle.mf_text.specs.Tokens.{kinds, tokens, Placed, Token}
+use Rattle.mf_text.specs.TokenTexts.{AreTokens}
+use Rattle.mf_text.proofs.Cuts.{are_tokens}
+use Rattle.mf_text.proofs.TokenTexts.{IsSaid, text_says}
 
 -- ---- every letter of a line is one of 26
 
@@ -22,20 +21,14 @@ IsLetter _ = Unit {0}
 abbrev AreLetters : List Token → Type 0
 AreLetters ts = AllByRecursion IsLetter ts
 
-small_number : (text : List ℕ) → is_letter text ≡ true → get_or text 0 0 - 97 < 26
-small_number [] is = absurd (false≢true is)
-small_number (b ∷ []) is = let bounds = and_parts (leb 97 b) (leb b 122) is in omega (arith, leb-true 97 b bounds.0, leb-true b 122 bounds.1)
-small_number (b ∷ c ∷ bs) is = absurd (false≢true is)
-
-token_letter : (t : Token) (text rest : List ℕ) → IsTokenText t text rest → IsLetter t
-token_letter t text rest (Letters row is) = subst IsLetter (sym is) (of_letters IsLetter tt (λ w. tt) text (small_number text))
-token_letter t text rest (Digits row is) = subst IsLetter (sym is) (of_numbers IsLetter tt (λ n. tt) text)
-token_letter t text rest (AMark m written is) = subst IsLetter (sym is) tt
-token_letter t text rest (OtherByte other is) = subst IsLetter (sym is) tt
+token_letter : (t : Token) (bs : List ℕ) → IsSaid t bs → IsLetter t
+token_letter (token.Letter n) bs is = omega (arith, is.least, is.greatest, is.number)
+token_letter t bs is = tt
 
 all_letters : (column : ℕ) (bytes : List ℕ) (ps : List Placed) → AreTokens column bytes ps → AreLetters (kinds ps)
 all_letters column bytes [] cut = tt
-all_letters column bytes (p ∷ ps) (cut, later) = (token_letter p.token cut.text cut.rest cut.token, all_letters p.after cut.rest ps later)
+all_letters column bytes (p ∷ ps) (cut, later) =
+    (token_letter p.token (cut.text ++ cut.rest) (text_says p.token cut.text cut.rest cut.token), all_letters p.after cut.rest ps later)
 
 -- ---- the names of a form whose letters have numbers below 26
 

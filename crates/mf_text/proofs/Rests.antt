@@ -8,9 +8,8 @@ use Rattle.mf_text.specs.Token as token
 use Rattle.mf_text.specs.declared.token.Word.TheVariants as word
 use Rattle.mf_text.specs.Grammar.{Line, Path, Code, Name, Current, Register, Source, Null, Named, Int, Pair, Form, Nothing, AddContour, AddPicture, CullKeeping, CullDropping, Clear, Move, ShowTotal, ShowPicture, ShowProof, ShipOut, SetCheck, PublishAll, Shifted, Scaled, XScaled, YScaled, Rotated, Transform, Sign, Plus, Minus}
 use Rattle.mf_text.specs.Rests.{Kind, Of, This, Names, Numbers, Codes, Rest, Ends, Take, OrTake, MinusCode, Corners, One, Or, ACode, Place, Before, CodeNumber, before, corner, ends, inner, int, path, source, step, step_from, value, Token, code_of, int_of, line, line_end, name_token, assignment, of_int, of_source, transform, weighable, name_in, this_in}
-use Rattle.mf_text.specs.Token.{is_token}
 use Rattle.mf_text.proofs.ReadInts.{int_of-back, int_of-is, code_of-back, code_of-is}
-use Rattle.mf_text.proofs.Words.{same_token, token_is}
+use Rattle.mf_text.proofs.TokenTexts.{same_token, token_is}
 
 -- ---- tokens of a kind
 

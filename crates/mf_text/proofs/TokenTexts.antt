@@ -1,145 +1,260 @@
--- The tokens of a line are its bytes, each cut as long as possible.
-use Rattle.std.proofs.Common.{◌≡◌, inl, inr, ℕ, zero, suc, ◌+◌, ◌≤◌, Bool, true, false, eqb, List, [], ◌∷◌, length, take, drop, refl, sym, ap, subst, ◌∙◌, arith}
+-- The token at the front of bytes, and the text that it has there.
+use Rattle.std.proofs.Common.{◌≡◌, ◌⊎◌, inl, inr, ℕ, suc, ◌+◌, ◌-◌, ◌<◌, ◌≤◌, Bool, true, false, not, bytes_eq, eqb, leb, List, [], ◌∷◌, ◌++◌, Option, None, Some, length, get_or, take, drop, if◌then◌else◌, refl, sym, ap, subst, ◌∙◌, arith, rules}
 use Rattle.std.specs.Char.{is_ascii_alphabetic, is_ascii_digit}
-use Rattle.std.specs.List.{starts_with, take_while}
-use Rattle.std.proofs.Math.Seq.{take-append_seam}
-use Rattle.std.proofs.lemmas.Bool.{cases_Bool, cond_both, eqb-true, false≢true}
-use Rattle.std.proofs.lemmas.List.{take-append-drop, length-take-le}
-use Rattle.std.proofs.lemmas.List.Elements.{All-cons, All-nil}
+use Rattle.std.specs.List.{All, list_all, prefix_len, starts_with, take_while}
+use Rattle.std.specs.Option.{option_map_or}
+use Rattle.std.proofs.lemmas.Bool.{and_parts, cases_Bool, cases_lt, cond_both, false≢true, leb-true, lt-ltb, true_from_ne_false}
+use Rattle.std.proofs.lemmas.Bool.Decides.{Decides-eqb, nat_tests}
+use Rattle.std.proofs.lemmas.List.{take-append-drop}
+use Rattle.std.proofs.lemmas.List.Elements.{All-cons, All-head, All-nil, All-tail}
 use Rattle.std.proofs.lemmas.List.Folds.{length-prefix_len}
+use Rattle.std.proofs.lemmas.List.Sums.{AllPass-from_list_all, take_while-cons}
+use Rattle.std.proofs.lemmas.Option.{none-some, same_Some}
+use Rattle.std.proofs.lemmas.Slice.Eq.{bytes_eq-Decides, starts_is}
+use Rattle.mf_text.specs.declared.token.Mark.TheVariants as mark
+use Rattle.mf_text.specs.declared.token.Word.TheVariants as word
 use Rattle.mf_text.specs.Token as token
-use Rattle.mf_text.specs.Tokens.{Taken, first_token, first_is, is_longer, mark_among, mark_text, marks, number_token, token_at, tokens_from, tokens_within, word_token, is_blank, Placed, Token}
-use Rattle.mf_text.specs.TokenTexts.{AMark, AreTokens, Digits, IsEnd, IsRow, IsTokenText, Letters, OtherByte}
-use Rattle.mf_text.proofs.LineTokens.{first_taken, rest_shorter}
-use Rattle.mf_text.proofs.Marks.{mark_bytes, mark_there, no_longer, none_there, one_byte}
-use Rattle.mf_text.proofs.Words.{starts-drop, row, digits_first, letters_first, of_marks}
+use Rattle.mf_text.specs.Tokens.{Taken, first_token, first_is, is_letter, is_longer, mark_among, mark_text, marks, number_token, word_among, word_text, word_token, words, is_token, Mark, Token, Word}
+use Rattle.mf_text.specs.TokenTexts.{AMark, Digits, IsRow, IsTokenText, Letters, OtherByte}
+
+pub same_token : (t : Token) → is_token t t ≡ true
+same_token t = search rules
+
+pub token_is : (t u : Token) → is_token t u ≡ true → t ≡ u
+token_is t u same = search rules
+
+-- ---- rows of bytes of one kind
+
+-- bytes of one kind that no other of them follows are the row at the front
+row_text : (p : ℕ → Bool) (text rest : List ℕ) → All (λ b. p b ≡ true) text → first_is p rest ≡ false → take_while p (text ++ rest) ≡ text
+row_text p [] [] all ends = refl
+row_text p [] (b ∷ bs) all ends = take_while-cons p b bs ∙ rw ends refl
+row_text p (b ∷ bs) rest all ends =
+    take_while-cons p b (bs ++ rest)
+    ∙ rw (All-head (λ c. p c ≡ true) b bs all) (ap (λ (xs : List ℕ). b ∷ xs) (row_text p bs rest (All-tail (λ c. p c ≡ true) b bs all) ends))
+
+pub row_count : (p : ℕ → Bool) (text rest : List ℕ) → IsRow p text rest → prefix_len p (text ++ rest) ≡ length text
+row_count p text rest row = sym (length-prefix_len p (text ++ rest)) ∙ ap length (row_text p text rest row.all row.longest)
+
+-- the row at the front has bytes of its kind, and no other of them follows
+front_row : (p : ℕ → Bool) (bs : List ℕ) → All (λ b. p b ≡ true) (take_while p bs) × (first_is p (drop (prefix_len p bs) bs) ≡ false)
+front_row p [] = (All-nil (λ c. p c ≡ true), refl)
+front_row p (b ∷ bs) =
+    let later = front_row p bs in
+    let longer : 1 + prefix_len p bs ≡ suc (prefix_len p bs) = omega arith in
+    cond_both (p b) (1 + prefix_len p bs) 0 (λ n. All (λ c. p c ≡ true) (take n (b ∷ bs)) × (first_is p (drop n (b ∷ bs)) ≡ false))
+    (λ is. rw longer (All-cons (λ c. p c ≡ true) b (take_while p bs) is later.0, later.1)) (λ none. (All-nil (λ c. p c ≡ true), none))
+
+pub row : (p : ℕ → Bool) (bs : List ℕ) → 0 < prefix_len p bs → IsRow p (take_while p bs) (drop (prefix_len p bs) bs)
+row p bs some =
+    let found = front_row p bs in record { some = omega (arith, some, length-prefix_len p bs); all = found.0; longest = found.1 }
+
+-- where the row at the front is empty, no byte of its kind is there
+no_row : (p : ℕ → Bool) (bs : List ℕ) → prefix_len p bs ≤ 0 → first_is p bs ≡ false
+no_row p [] none = refl
+no_row p (b ∷ bs) none = cond_both (p b) (1 + prefix_len p bs) 0 (λ n. n ≤ 0 → p b ≡ false) (λ _ some. absurd (omega arith)) (λ is _. is) none
+
+-- ---- the token of a text
+
+letters_first : (bs : List ℕ) → 0 < prefix_len is_ascii_alphabetic bs
+    → first_token bs ≡ record { token = word_token (take_while is_ascii_alphabetic bs); bytes = length (take_while is_ascii_alphabetic bs) }
+unfolding first_token
+letters_first bs some = rw (lt-ltb 0 _ (row is_ascii_alphabetic bs some).some) refl
+
+pub digits_first : (bs : List ℕ) → 0 < prefix_len is_ascii_digit bs
+    → first_token bs ≡ record { token = number_token (take_while is_ascii_digit bs); bytes = length (take_while is_ascii_digit bs) }
+unfolding first_token
+digits_first [] some = absurd (omega arith)
+digits_first (b ∷ bs) some =
+    let digit : is_ascii_digit b ≡ true =
+    true_from_ne_false _ (λ other. let none : prefix_len is_ascii_digit (b ∷ bs) ≡ 0 = rw other refl in omega (arith, none, some)) in
+    let letter : is_ascii_alphabetic b ≡ false = grind (arith, nat_tests) in
+    rw (letter, lt-ltb 0 _ (row is_ascii_digit (b ∷ bs) some).some) refl
+
+-- the text of a mark is found as that mark, unless a longer mark is there
+counts : (m : Mark) (rest : List ℕ) → is_longer m (mark_text m ++ rest) ≡ false
+    → first_token (mark_text m ++ rest) ≡ record { token = token.Mark m; bytes = length (mark_text m) }
+unfolding first_token mark_among
+counts mark.Minus rest short =
+    ap (λ (b : Bool). if b then record { token = token.Mark mark.Join; bytes = 2 } else record { token = token.Mark mark.Minus; bytes = 1 }) short
+counts m rest short = refl
+
+-- where neither a letter, a digit nor a mark is at the front, the token there is unknown
+unknown_first : (bs : List ℕ) → first_is is_ascii_alphabetic bs ≡ false → first_is is_ascii_digit bs ≡ false
+    → ((m : Mark) → starts_with eqb bs (mark_text m) ≡ false) → first_token bs ≡ record { token = token.Unknown; bytes = 1 }
+unfolding first_token mark_among
+unknown_first [] no_letter no_digit none = refl
+unknown_first (b ∷ bs) no_letter no_digit none =
+    rw (no_letter, no_digit, none mark.Becomes, none mark.Close, none mark.Comma, none mark.Join, none mark.Minus, none mark.Open, none mark.Semicolon) refl
+
+row_first : (p : ℕ → Bool) (f : List ℕ → Token)
+    → ((bs : List ℕ) → 0 < prefix_len p bs → first_token bs ≡ record { token = f (take_while p bs); bytes = length (take_while p bs) })
+    → (t : Token) (text rest : List ℕ) → IsRow p text rest → t ≡ f text → first_token (text ++ rest) ≡ record { token = t; bytes = length text }
+row_first p f first t text rest row is =
+    first (text ++ rest) (omega (arith, row.some, row_count p text rest row))
+    ∙ ap (λ ts. record { token = f ts; bytes = length ts }) (row_text p text rest row.all row.longest)
+    ∙ ap (λ u. record { token = u; bytes = length text }) (sym is)
+
+-- a text at the front is that of the token there
+pub text_first : (t : Token) (text rest : List ℕ) → IsTokenText t text rest → first_token (text ++ rest) ≡ record { token = t; bytes = length text }
+text_first t text rest (Letters row is) = row_first is_ascii_alphabetic word_token letters_first t text rest row is
+text_first t text rest (Digits row is) = row_first is_ascii_digit number_token digits_first t text rest row is
+text_first t text rest (AMark m at is) =
+    rw (is, at.written) (counts m rest (subst (λ ts. is_longer m (ts ++ rest) ≡ false) at.written at.longest))
+text_first t text rest (OtherByte other is) = rw (is, other.one) (unknown_first (other.byte ∷ rest) other.no_letter other.no_digit other.no_mark)
 
 -- ---- the text of a token
 
--- a token whose text is a row of bytes of one kind
-row_text : (p : ℕ → Bool) (bs : List ℕ) → first_is p bs ≡ true → (make : List ℕ → Token)
-    → first_token bs ≡ record { token = make (take_while p bs); bytes = length (take_while p bs) }
-    → IsRow p (take (first_token bs).bytes bs) (drop (first_token bs).bytes bs) × ((first_token bs).token ≡ make (take (first_token bs).bytes bs))
-row_text p bs some make first =
-    let count = ap (λ (f : Taken). f.bytes) first ∙ length-prefix_len p bs in (
-      subst (λ n. IsRow p (take n bs) (drop n bs)) (sym count) (row p bs some),
-      ap (λ (f : Taken). f.token) first ∙ ap (λ n. make (take n bs)) (sym count),
-    )
+pub starts-drop : (bs text : List ℕ) → starts_with eqb bs text ≡ true → bs ≡ text ++ drop (length text) bs
+starts-drop bs text is = (starts_is Decides-eqb bs text (starts_with eqb bs text) refl).0 is
 
--- the token is a mark or unknown
-abbrev is_other : Token → Bool
-is_other (token.Mark m) = true
-is_other token.Unknown = true
-is_other t = false
+pub starts-append : (bs text rest : List ℕ) → bs ≡ text ++ rest → starts_with eqb bs text ≡ true
+starts-append bs text rest is = (starts_is Decides-eqb bs text (starts_with eqb bs text) refl).1 rest is
 
-module _ (b : ℕ) (bs : List ℕ) (letter : is_ascii_alphabetic b ≡ false) (digit : is_ascii_digit b ≡ false)
-    (blank : is_blank b ≡ false) (comment : eqb b 37 ≡ false) where
-  abbrev xs : List ℕ
-  xs = b ∷ bs
-
-  first_other : first_token xs ≡ mark_among marks xs
-  unfolding first_token
-  first_other = rw (letter, digit) refl
-
-  other_text : (t : Token) → (first_token xs).token ≡ t → is_other t ≡ true → IsTokenText t (take (first_token xs).bytes xs) (drop (first_token xs).bytes xs)
-  other_text (token.Mark m) is other =
-      let begun = mark_there m xs is in
-      let count : (first_token xs).bytes ≡ length (mark_text m) = mark_bytes m xs is in
-      let parts = starts-drop xs (mark_text m) begun in
-      let text : take (first_token xs).bytes xs ≡ mark_text m =
-      ap (λ n. take n xs) count ∙ ap (take (length (mark_text m))) parts ∙ take-append_seam (mark_text m) (drop (length (mark_text m)) xs) in
-      AMark m (record { written = text; longest = ap (is_longer m) (take-append-drop (first_token xs).bytes xs) ∙ no_longer m xs is }) refl
-  other_text token.Unknown is other =
-      let one : (first_token xs).bytes ≡ 1 = ap (λ (f : Taken). f.bytes) first_other ∙ one_byte xs marks (sym (ap (λ (f : Taken). f.token) first_other) ∙ is) in
-      OtherByte (record {
-        byte = b;
-        one = ap (λ n. take n xs) one;
-        no_letter = letter;
-        no_digit = digit;
-        no_blank = blank;
-        no_comment = λ same. false≢true (sym comment ∙ ap (λ n. eqb n 37) same);
-        no_mark = λ m. ap (λ n. starts_with eqb (b ∷ drop n xs) (mark_text m)) one ∙ none_there m xs is;
-      }) refl
-  other_text t is none = absurd (false≢true none)
-
-first-text : (b : ℕ) (bs : List ℕ) → is_blank b ≡ false → eqb b 37 ≡ false
-    → IsTokenText (first_token (b ∷ bs)).token (take (first_token (b ∷ bs)).bytes (b ∷ bs)) (drop (first_token (b ∷ bs)).bytes (b ∷ bs))
-first-text b bs blank comment =
-    elim (cases_Bool (is_ascii_alphabetic b)) [
-      | inl letter ↦ (let text = row_text is_ascii_alphabetic (b ∷ bs) letter word_token (letters_first (b ∷ bs) letter) in Letters text.0 text.1)
-      | inr no_letter ↦ elim (cases_Bool (is_ascii_digit b)) [
-        | inl digit ↦ (let text = row_text is_ascii_digit (b ∷ bs) digit number_token (digits_first (b ∷ bs) digit) in Digits text.0 text.1)
-        | inr no_digit ↦
-            other_text b bs no_letter no_digit blank comment (first_token (b ∷ bs)).token refl
-            (ap (λ (f : Taken). is_other f.token) (first_other b bs no_letter no_digit blank comment)
-            ∙ of_marks (λ t. is_other t ≡ true) refl (λ m. refl) (b ∷ bs) marks)
+among : (bs : List ℕ) (entries : List (List ℕ × Mark))
+    → ((m : Mark) × (starts_with eqb bs (mark_text m) ≡ true)) ⊎ (list_all (λ e. not (starts_with eqb bs (mark_text e.1))) entries ≡ true)
+among bs [] = inr refl
+among bs (entry ∷ entries) =
+    elim (cases_Bool (starts_with eqb bs (mark_text entry.1))) [
+      | inl begun ↦ inl (entry.1, begun)
+      | inr other ↦ elim (among bs entries) [
+        | inl some ↦ inl some
+        | inr none ↦ inr (rw other none)
       ]
     ]
 
--- ---- a line, token by token
+none_among : (bs : List ℕ) (m : Mark) → list_all (λ e. not (starts_with eqb bs (mark_text e.1))) marks ≡ true → starts_with eqb bs (mark_text m) ≡ false
+none_among bs mark.Becomes none = grind arith
+none_among bs m none = grind arith
 
-abbrev blank_byte : ℕ → Type 0
-blank_byte b = is_blank b ≡ true
+-- the text of this mark, or of a longer one
+mark_there : (bs : List ℕ) (m : Mark) → starts_with eqb bs (mark_text m) ≡ true → (longer : Bool) → is_longer m bs ≡ longer
+    → (n : Mark) × ((starts_with eqb bs (mark_text n) ≡ true) × (is_longer n bs ≡ false))
+mark_there bs m begun false short = (m, (begun, short))
+mark_there bs mark.Minus begun true longer = (mark.Join, (longer, refl))
+mark_there bs m begun true longer = absurd (false≢true longer)
 
-more-blank : (column b : ℕ) (bs : List ℕ) (ps : List Placed) → is_blank b ≡ true → AreTokens (column + 1) bs ps → AreTokens column (b ∷ bs) ps
-more-blank column b bs [] blank end = record {
-  blanks = b ∷ end.blanks;
-  rest = end.rest;
-  parts = ap (λ cs. b ∷ cs) end.parts;
-  blank = All-cons blank_byte b end.blanks blank end.blank;
-  end = end.end;
-}
-more-blank column b bs (p ∷ ps) blank (cut, later) = (
-  record {
-    blanks = b ∷ cut.blanks;
-    text = cut.text;
-    rest = cut.rest;
-    parts = ap (λ cs. b ∷ cs) cut.parts;
-    blank = All-cons blank_byte b cut.blanks blank cut.blank;
-    column_is = omega (arith, cut.column_is);
-    after_is = cut.after_is;
-    token = cut.token;
-  },
-  later,
-)
+-- the token at the front has this text
+pub record HasText (bs : List ℕ) : Type 0 where
+  pub kind : Token
+  pub text : List ℕ
+  pub rest : List ℕ
+  pub parts : bs ≡ text ++ rest
+  pub is : IsTokenText kind text rest
 
-no_more : (column : ℕ) (rest : List ℕ) → IsEnd rest → AreTokens column rest []
-no_more column rest end = record { blanks = []; rest = rest; parts = refl; blank = All-nil blank_byte; end = end }
+pub data Front (bs : List ℕ) : Type 0 where
+  Text : HasText bs → Front bs
+  Other : first_is is_ascii_alphabetic bs ≡ false → first_is is_ascii_digit bs ≡ false → ((m : Mark) → starts_with eqb bs (mark_text m) ≡ false) → Front bs
 
-one-token : (column b : ℕ) (bs : List ℕ) (ps : List Placed) → is_blank b ≡ false → eqb b 37 ≡ false
-    → AreTokens (column + (first_token (b ∷ bs)).bytes) (drop (first_token (b ∷ bs)).bytes (b ∷ bs)) ps
-    → AreTokens column (b ∷ bs) (token_at column (first_token (b ∷ bs)) ∷ ps)
-one-token column b bs ps blank comment later =
-    let first = first_token (b ∷ bs) in
-    let xs : List ℕ = b ∷ bs in
-    let takes = first_taken b bs in (
-      record {
-        blanks = [];
-        text = take first.bytes xs;
-        rest = drop first.bytes xs;
-        parts = sym (take-append-drop first.bytes xs);
-        blank = All-nil blank_byte;
-        column_is = omega arith;
-        after_is = ap (λ n. column + n) (sym (length-take-le first.bytes xs takes.within));
-        token = first-text b bs blank comment;
-      },
-      later,
-    )
+front_mark : (bs : List ℕ) (m : Mark) → starts_with eqb bs (mark_text m) ≡ true → is_longer m bs ≡ false → HasText bs
+front_mark bs m begun short =
+    let parts = starts-drop bs (mark_text m) begun in record {
+      kind = token.Mark m;
+      text = mark_text m;
+      rest = drop (length (mark_text m)) bs;
+      parts = parts;
+      is = AMark m (record { written = refl; longest = ap (is_longer m) (sym parts) ∙ short }) refl;
+    }
 
-cut-within : (n column : ℕ) (bs : List ℕ) → length bs ≤ n → AreTokens column bs (tokens_within n column bs)
-unfolding tokens_within
-cut-within zero column [] short = no_more column [] tt
-cut-within zero column (b ∷ bs) short = absurd (omega arith)
-cut-within (suc n) column [] short = no_more column [] tt
-cut-within (suc n) column (b ∷ bs) short =
-    let first = first_token (b ∷ bs) in
-    cond_both (is_blank b) _ _ (AreTokens column (b ∷ bs))
-    (λ blank. more-blank column b bs (tokens_within n (column + 1) bs) blank (cut-within n (column + 1) bs (omega arith)))
-    (λ clear. cond_both (eqb b 37) _ _ (AreTokens column (b ∷ bs)) (λ comment. no_more column (b ∷ bs) (eqb-true b 37 comment))
-    (λ token. one-token column b bs (tokens_within n (column + first.bytes) (drop first.bytes (b ∷ bs))) clear token
-    (cut-within n (column + first.bytes) (drop first.bytes (b ∷ bs)) (omega (arith, rest_shorter b bs)))))
+front_row_text : (p : ℕ → Bool) (t : Token) (bs : List ℕ) → IsTokenText t (take_while p bs) (drop (prefix_len p bs) bs) → HasText bs
+front_row_text p t bs is = record { kind = t; text = _; rest = _; parts = sym (take-append-drop (prefix_len p bs) bs); is = is }
 
--- the tokens of a line are its bytes, cut in this way
-pub are_tokens : (line : List ℕ) → AreTokens 1 line (tokens_from 1 line)
-unfolding tokens_from
-are_tokens line = cut-within (length line) 1 line (omega arith)
+pub front : (bs : List ℕ) → Front bs
+front bs =
+    elim (cases_lt 0 (prefix_len is_ascii_alphabetic bs)) [
+      | inl letter ↦ Text (front_row_text is_ascii_alphabetic _ bs (Letters (row is_ascii_alphabetic bs letter) refl))
+      | inr no_letter ↦ elim (cases_lt 0 (prefix_len is_ascii_digit bs)) [
+        | inl digit ↦ Text (front_row_text is_ascii_digit _ bs (Digits (row is_ascii_digit bs digit) refl))
+        | inr no_digit ↦ elim (among bs marks) [
+          | inl some ↦ (let found = mark_there bs some.0 some.1 (is_longer some.0 bs) refl in Text (front_mark bs found.0 found.1.0 found.1.1))
+          | inr none ↦ Other (no_row is_ascii_alphabetic bs no_letter) (no_row is_ascii_digit bs no_digit) (λ m. none_among bs m none)
+        ]
+      ]
+    ]
+
+-- ---- what a token says of the bytes that it is at the front of
+
+-- a word is written with at least one letter, and no earlier word of the table is written in the same way
+record IsWritten (w : Word) : Type 0 where
+  letters : list_all is_ascii_alphabetic (word_text w) ≡ true
+  some : 0 < length (word_text w)
+  word : word_token (word_text w) ≡ token.Word w
+
+written : (w : Word) → IsWritten w
+unfolding word_token word_among
+written word.Addto = record { letters = refl; some = omega arith; word = refl }
+written w = record { letters = refl; some = omega arith; word = refl }
+
+-- the text of a word, which no other letter follows
+pub word_letters : (w : Word) (rest : List ℕ) → first_is is_ascii_alphabetic rest ≡ false → IsTokenText (token.Word w) (word_text w) rest
+word_letters w rest ends =
+    let is = written w in
+    Letters (record { some = is.some; all = AllPass-from_list_all is_ascii_alphabetic (word_text w) is.letters; longest = ends }) (sym is.word)
+
+same_bytes : (xs ys : List ℕ) → bytes_eq xs ys ≡ true → xs ≡ ys
+same_bytes xs ys same = search (rules, bytes_eq-Decides)
+
+-- where each entry of a table has the text of its word, a word that is found has its text
+are_written : (entries : List (List ℕ × Word)) (w : Word) (ls : List ℕ)
+    → list_all (λ e. bytes_eq e.0 (word_text e.1)) entries ≡ true → word_among entries ls ≡ Some w
+    → ls ≡ word_text w
+unfolding word_among
+are_written [] w ls all is = absurd (none-some w is)
+are_written (entry ∷ entries) w ls all is =
+    let parts = and_parts (bytes_eq entry.0 (word_text entry.1)) (list_all (λ e. bytes_eq e.0 (word_text e.1)) entries) all in
+    cond_both (bytes_eq ls entry.0) (Some entry.1) (word_among entries ls) (λ o. o ≡ Some w → ls ≡ word_text w)
+    (λ same found. same_bytes ls entry.0 same ∙ same_bytes entry.0 (word_text entry.1) parts.0 ∙ ap word_text (same_Some entry.1 w found))
+    (λ _. are_written entries w ls parts.1) is
+
+-- a single letter `a`..`z` is at the front, with this number
+pub record IsSmall (n : ℕ) (bs : List ℕ) : Type 0 where
+  pub some : 1 ≤ length bs
+  pub least : 97 ≤ get_or bs 0 0
+  pub greatest : get_or bs 0 0 ≤ 122
+  pub number : n ≡ get_or bs 0 0 - 97
+  pub longest : first_is is_ascii_alphabetic (drop 1 bs) ≡ false
+
+-- what is at the front where this token is
+abbrev pub IsSaid : Token → List ℕ → Type 0
+IsSaid (token.Word w) bs = (rest : List ℕ) × ((bs ≡ word_text w ++ rest) × (first_is is_ascii_alphabetic rest ≡ false))
+IsSaid (token.Letter n) bs = IsSmall n bs
+IsSaid (token.Number n) bs = (0 < prefix_len is_ascii_digit bs) × (prefix_len is_ascii_digit bs ≤ 9)
+IsSaid (token.Mark m) bs = (starts_with eqb bs (mark_text m) ≡ true) × (is_longer m bs ≡ false)
+IsSaid token.Unknown bs = Unit {0}
+
+letters_say : (text rest : List ℕ) → first_is is_ascii_alphabetic rest ≡ false → IsSaid (word_token text) (text ++ rest)
+unfolding word_token
+letters_say text rest ends =
+    cond_both (is_letter text) _ _ (λ t. IsSaid t (text ++ rest)) (single text) (λ _. known (word_among words text) refl) where
+      single : (ls : List ℕ) → is_letter ls ≡ true → IsSmall (get_or ls 0 0 - 97) (ls ++ rest)
+      single [] is = absurd (false≢true is)
+      single (b ∷ []) is =
+          let bounds = and_parts (leb 97 b) (leb b 122) is in
+          record { some = omega arith; least = leb-true 97 b bounds.0; greatest = leb-true b 122 bounds.1; number = refl; longest = ends }
+      single (b ∷ c ∷ bs) is = absurd (false≢true is)
+
+      known : (o : Option Word) → word_among words text ≡ o → IsSaid (option_map_or token.Word o token.Unknown) (text ++ rest)
+      known None is = tt
+      known (Some w) is = (rest, (ap (λ ls. ls ++ rest) (are_written words w text refl is), ends))
+
+digits_say : (text rest : List ℕ) → IsRow is_ascii_digit text rest → IsSaid (number_token text) (text ++ rest)
+unfolding number_token
+digits_say text rest row =
+    let count = row_count is_ascii_digit text rest row in
+    cond_both (leb (length text) 9) _ _ (λ t. IsSaid t (text ++ rest))
+    (λ few. (omega (arith, count, row.some), omega (arith, count, leb-true (length text) 9 few))) (λ _. tt)
+
+pub text_says : (t : Token) (text rest : List ℕ) → IsTokenText t text rest → IsSaid t (text ++ rest)
+text_says t text rest (Letters row is) = subst (λ u. IsSaid u (text ++ rest)) (sym is) (letters_say text rest row.longest)
+text_says t text rest (Digits row is) = subst (λ u. IsSaid u (text ++ rest)) (sym is) (digits_say text rest row)
+text_says t text rest (AMark m at is) =
+    subst (λ u. IsSaid u (text ++ rest)) (sym is) (starts-append (text ++ rest) (mark_text m) rest (ap (λ ts. ts ++ rest) at.written), at.longest)
+text_says t text rest (OtherByte other is) = subst (λ u. IsSaid u (text ++ rest)) (sym is) tt
+
+pub said : (bs : List ℕ) → IsSaid (first_token bs).token bs
+said bs = elim (front bs) [
+  | Text at ↦
+      subst (λ xs. IsSaid (first_token xs).token xs) (sym at.parts)
+      (subst (λ (f : Taken). IsSaid f.token (at.text ++ at.rest)) (sym (text_first at.kind at.text at.rest at.is)) (text_says at.kind at.text at.rest at.is))
+  | Other no_letter no_digit none ↦ subst (λ (f : Taken). IsSaid f.token bs) (sym (unknown_first bs no_letter no_digit none)) tt
+]

@@ -225,7 +225,7 @@ fn blanks_at(text: &[u8]) -> usize
 /// How many bytes this word takes, if it is the token at the front. It is not if another letter follows it, since a token is as
 /// long as possible.
 #[inline(always)]
-#[tactic(auto, using(crate::proofs::Words::word_lacking, crate::proofs::Words::word_longer))]
+#[tactic(auto, using(crate::proofs::Found::word_lacking, crate::proofs::Found::word_longer))]
 fn word_at(word: Word, text: &[u8]) -> Option<usize>
     ensures { FindsToken (token.Word word) text.now result }
 {
@@ -241,7 +241,7 @@ fn word_at(word: Word, text: &[u8]) -> Option<usize>
 
 /// How many bytes this mark takes, if it is the token at the front.
 #[inline(always)]
-#[tactic(auto, using(crate::proofs::Marks::mark_lacking, crate::proofs::Marks::mark_longer))]
+#[tactic(auto, using(crate::proofs::Found::mark_lacking, crate::proofs::Found::mark_longer))]
 fn mark_at(mark: Mark, text: &[u8]) -> Option<usize>
     ensures { FindsToken (token.Mark mark) text.now result }
 {
@@ -287,7 +287,7 @@ fn begins_with(text: &[u8], written: &[u8]) -> bool
 
 /// The number of the letter `a`..`z` at the front, 0 for `a`, and how many bytes it takes, if no other letter follows it.
 #[inline(always)]
-#[tactic(auto, using(crate::proofs::Words::small_lacking, crate::proofs::Words::letters_longer))]
+#[tactic(auto, using(crate::proofs::Found::small_lacking, crate::proofs::Found::letters_longer))]
 fn letter_at(text: &[u8]) -> Option<(u8, usize)>
     ensures { Finds letter_in text.now result }
 {

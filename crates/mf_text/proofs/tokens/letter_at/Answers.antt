@@ -1,5 +1,5 @@
 use Rattle.std.proofs.Common.{◌∙◌, sym, arith}
-use Rattle.mf_text.proofs.Words.{letter_found}
+use Rattle.mf_text.proofs.Found.{letter_found}
 use Rattle.mf_text.proofs.tokens.letter_at.Goals as goal
 
 pub returns : goal.returns

@@ -1,5 +1,5 @@
 use Rattle.std.proofs.Common.{sym, ◌∙◌, rules}
-use Rattle.mf_text.proofs.Marks.{mark_found}
+use Rattle.mf_text.proofs.Found.{mark_found}
 use Rattle.mf_text.proofs.tokens.mark_at.Goals as goal
 
 pub returns : goal.returns

@@ -1,5 +1,5 @@
 use Rattle.std.proofs.Common.{◌≡◌, ◌∙◌, length, sym, arith}
-use Rattle.mf_text.proofs.Digits.{number-found, number-lacking, number-more, number-none, number-stops, number-whole}
+use Rattle.mf_text.proofs.Digits.{number-found, number-long, number-more, number-none, number-stops, number-whole}
 use Rattle.mf_text.proofs.tokens.number_at.Goals as goal
 
 pub loop-digits-init : goal.loop-digits-init
@@ -13,7 +13,7 @@ returns-then-not-is_ascii_digit c =
 
 pub returns-then-digits-eq-MAX_DIGITS : goal.returns-then-digits-eq-MAX_DIGITS
 returns-then-digits-eq-MAX_DIGITS c =
-    number-lacking _ _ _ c.loop-digits.invariant c.if-digits-eq-MAX_DIGITS.true c.loop-digits-test.true
+    number-long _ _ _ c.loop-digits.invariant c.if-digits-eq-MAX_DIGITS.true c.loop-digits-test.true
     (sym c.is_ascii_digit.ensures.value ∙ c.if-not-is_ascii_digit.false)
 
 pub overflow_mul-value : goal.overflow_mul-value

@@ -1,5 +1,5 @@
 use Rattle.std.proofs.Common.{sym, ◌∙◌, rules}
-use Rattle.mf_text.proofs.Words.{word_found}
+use Rattle.mf_text.proofs.Found.{word_found}
 use Rattle.mf_text.proofs.tokens.word_at.Goals as goal
 
 pub returns : goal.returns

@@ -1,0 +1,162 @@
+-- The tokens of a line are its bytes, each cut as long as possible, and no other list of tokens is cut from it so.
+use Rattle.std.proofs.Common.{◌≡◌, ℕ, zero, suc, ◌+◌, ◌<◌, ◌≤◌, Bool, true, false, eqb, List, [], ◌∷◌, ◌++◌, length, drop, refl, sym, ap, subst, ◌∙◌, arith}
+use Rattle.std.specs.Char.{is_ascii_alphabetic, is_ascii_digit}
+use Rattle.std.specs.List.{All}
+use Rattle.std.proofs.Math.Seq.{drop-append_seam}
+use Rattle.std.proofs.lemmas.Bool.{cond_both, eqb-true, false_from_ne_true, false≢true, ne_eqb}
+use Rattle.std.proofs.lemmas.List.Elements.{All-cons, All-head, All-nil, All-tail}
+use Rattle.mf_text.specs.declared.token.Mark.TheVariants as mark
+use Rattle.mf_text.specs.Token as token
+use Rattle.mf_text.specs.Tokens.{Taken, first_token, first_is, mark_text, token_at, tokens_from, tokens_within, is_blank, Mark, Placed, Token}
+use Rattle.mf_text.specs.TokenTexts.{AMark, AreTokens, Digits, IsEnd, IsRow, IsTokenText, Letters, OtherByte}
+use Rattle.mf_text.proofs.LineTokens.{rest_shorter, tokens-step, tokens_at_comment}
+use Rattle.mf_text.proofs.TokenTexts.{Front, HasText, Other, Text, front, text_first}
+
+-- ---- the first byte of a token
+
+-- the text has a byte, and its first one is no blank and begins no comment
+record BeginsToken (text : List ℕ) : Type 0 where
+  clear : first_is is_blank text ≡ false
+  no_comment : first_is (λ b. eqb b 37) text ≡ false
+  some : 0 < length text
+
+other_byte : (p : ℕ → Bool) (b c : ℕ) → p b ≡ true → p c ≡ false → eqb b c ≡ false
+other_byte p b c is none = false_from_ne_true _ (λ same. false≢true (sym none ∙ ap p (sym (eqb-true b c same)) ∙ is))
+
+row_begins : (p : ℕ → Bool) (text rest : List ℕ) → p 32 ≡ false → p 9 ≡ false → p 37 ≡ false → IsRow p text rest → BeginsToken text
+row_begins p [] rest space tab percent row = absurd (omega (arith, row.some))
+row_begins p (b ∷ bs) rest space tab percent row =
+    let is = All-head (λ c. p c ≡ true) b bs row.all in record {
+      clear = rw (other_byte p b 32 is space, other_byte p b 9 is tab) refl;
+      no_comment = other_byte p b 37 is percent;
+      some = row.some;
+    }
+
+mark_begins : (m : Mark) → BeginsToken (mark_text m)
+mark_begins mark.Becomes = record { clear = refl; no_comment = refl; some = omega arith }
+mark_begins m = record { clear = refl; no_comment = refl; some = omega arith }
+
+begins : (t : Token) (text rest : List ℕ) → IsTokenText t text rest → BeginsToken text
+begins t text rest (Letters row is) = row_begins is_ascii_alphabetic text rest refl refl refl row
+begins t text rest (Digits row is) = row_begins is_ascii_digit text rest refl refl refl row
+begins t text rest (AMark m at is) = subst BeginsToken (sym at.written) (mark_begins m)
+begins t text rest (OtherByte other is) =
+    subst BeginsToken (sym other.one) (record { clear = other.no_blank; no_comment = ne_eqb other.byte 37 other.no_comment; some = omega arith })
+
+-- ---- a line is cut into its tokens
+
+abbrev blank_byte : ℕ → Type 0
+blank_byte b = is_blank b ≡ true
+
+more-blank : (column b : ℕ) (bs : List ℕ) (ps : List Placed) → is_blank b ≡ true → AreTokens (column + 1) bs ps → AreTokens column (b ∷ bs) ps
+more-blank column b bs [] blank end = record {
+  blanks = b ∷ end.blanks;
+  rest = end.rest;
+  parts = ap (λ cs. b ∷ cs) end.parts;
+  blank = All-cons blank_byte b end.blanks blank end.blank;
+  end = end.end;
+}
+more-blank column b bs (p ∷ ps) blank (cut, later) = (
+  record {
+    blanks = b ∷ cut.blanks;
+    text = cut.text;
+    rest = cut.rest;
+    parts = ap (λ cs. b ∷ cs) cut.parts;
+    blank = All-cons blank_byte b cut.blanks blank cut.blank;
+    column_is = omega (arith, cut.column_is);
+    after_is = cut.after_is;
+    token = cut.token;
+  },
+  later,
+)
+
+no_more : (column : ℕ) (rest : List ℕ) → IsEnd rest → AreTokens column rest []
+no_more column rest end = record { blanks = []; rest = rest; parts = refl; blank = All-nil blank_byte; end = end }
+
+one-token : (column : ℕ) (bs : List ℕ) (ps : List Placed) → HasText bs
+    → AreTokens (column + (first_token bs).bytes) (drop (first_token bs).bytes bs) ps → AreTokens column bs (token_at column (first_token bs) ∷ ps)
+one-token column bs ps at later =
+    let first : first_token bs ≡ record { token = at.kind; bytes = length at.text } = ap first_token at.parts ∙ text_first at.kind at.text at.rest at.is in
+    let rest_is : at.rest ≡ drop (length at.text) bs = sym (ap (drop (length at.text)) at.parts ∙ drop-append_seam at.text at.rest) in
+    subst (λ (f : Taken). AreTokens (column + f.bytes) (drop f.bytes bs) ps → AreTokens column bs (token_at column f ∷ ps)) (sym first)
+    (λ after. (
+      record {
+        blanks = [];
+        text = at.text;
+        rest = drop (length at.text) bs;
+        parts = at.parts ∙ ap (λ ys. at.text ++ ys) rest_is;
+        blank = All-nil blank_byte;
+        column_is = omega arith;
+        after_is = refl;
+        token = subst (IsTokenText at.kind at.text) rest_is at.is;
+      },
+      after,
+    )) later
+
+-- a byte that is no blank and begins no comment begins a token
+has_text : (b : ℕ) (bs : List ℕ) → is_blank b ≡ false → eqb b 37 ≡ false → Front (b ∷ bs) → HasText (b ∷ bs)
+has_text b bs blank comment (Text at) = at
+has_text b bs blank comment (Other no_letter no_digit none) = record {
+  kind = token.Unknown;
+  text = b ∷ [];
+  rest = bs;
+  parts = refl;
+  is = OtherByte (record {
+    byte = b;
+    one = refl;
+    no_letter = no_letter;
+    no_digit = no_digit;
+    no_blank = blank;
+    no_comment = λ same. false≢true (sym comment ∙ ap (λ n. eqb n 37) same);
+    no_mark = none;
+  }) refl;
+}
+
+cut-within : (n column : ℕ) (bs : List ℕ) → length bs ≤ n → AreTokens column bs (tokens_within n column bs)
+unfolding tokens_within
+cut-within zero column [] short = no_more column [] tt
+cut-within zero column (b ∷ bs) short = absurd (omega arith)
+cut-within (suc n) column [] short = no_more column [] tt
+cut-within (suc n) column (b ∷ bs) short =
+    cond_both (is_blank b) _ _ (AreTokens column (b ∷ bs)) (λ blank. more-blank column b bs _ blank (cut-within n (column + 1) bs (omega arith)))
+    (λ clear. cond_both (eqb b 37) _ _ (AreTokens column (b ∷ bs)) (λ comment. no_more column (b ∷ bs) (eqb-true b 37 comment))
+    (λ token. one-token column (b ∷ bs) _ (has_text b bs clear token (front (b ∷ bs))) (cut-within n _ _ (omega (arith, rest_shorter b bs)))))
+
+-- the tokens of a line are its bytes, cut in this way
+pub are_tokens : (line : List ℕ) → AreTokens 1 line (tokens_from 1 line)
+unfolding tokens_from
+are_tokens line = cut-within (length line) 1 line (omega arith)
+
+-- ---- in one way only
+
+blanks_passed : (column : ℕ) (blanks rest : List ℕ) → All blank_byte blanks → tokens_from column (blanks ++ rest) ≡ tokens_from (column + length blanks) rest
+unfolding tokens_from tokens_within
+blanks_passed column [] rest all = ap (λ n. tokens_from n rest) (omega arith)
+blanks_passed column (b ∷ bs) rest all =
+    let later = blanks_passed (column + 1) bs rest (All-tail blank_byte b bs all) in
+    let same : column + 1 + length bs ≡ column + length (b ∷ bs) = omega arith in
+    rw (All-head blank_byte b bs all) (later ∙ ap (λ n. tokens_from n rest) same)
+
+none_left : (column : ℕ) (rest : List ℕ) → IsEnd rest → tokens_from column rest ≡ []
+unfolding tokens_from tokens_within
+none_left column [] end = refl
+none_left column (b ∷ bs) end = tokens_at_comment column (b ∷ bs) (omega arith) end
+
+one_passed : (p : Placed) (text rest : List ℕ) → IsTokenText p.token text rest → BeginsToken text → p.after ≡ p.column + length text
+    → tokens_from p.column (text ++ rest) ≡ p ∷ tokens_from p.after rest
+one_passed p [] rest is begun after = absurd (omega (arith, begun.some))
+one_passed p (b ∷ bs) rest is begun after =
+    tokens-step p.column b (bs ++ rest) begun.clear begun.no_comment
+    ∙ rw (text_first p.token (b ∷ bs) rest is, drop-append_seam (b ∷ bs) rest, sym after) refl
+
+-- bytes are cut into these tokens alone
+pub one_cut : (column : ℕ) (bs : List ℕ) (ps : List Placed) → AreTokens column bs ps → ps ≡ tokens_from column bs
+one_cut column bs [] end =
+    sym (ap (tokens_from column) end.parts ∙ blanks_passed column end.blanks end.rest end.blank ∙ none_left (column + length end.blanks) end.rest end.end)
+one_cut column bs (p ∷ ps) (cut, later) =
+    let xs : List ℕ = cut.text ++ cut.rest in
+    ap (λ (qs : List Placed). p ∷ qs) (one_cut p.after cut.rest ps later)
+    ∙ sym (one_passed p cut.text cut.rest cut.token (begins p.token cut.text cut.rest cut.token) cut.after_is)
+    ∙ ap (λ n. tokens_from n xs) cut.column_is
+    ∙ sym (blanks_passed column cut.blanks xs cut.blank)
+    ∙ sym (ap (tokens_from column) cut.parts)
