@@ -10,7 +10,7 @@ use Rattle.mf_text.specs.Token as token
 use Rattle.mf_text.specs.Tokens.{Taken, first_token, first_is, mark_text, token_at, tokens_from, tokens_within, is_blank, Mark, Placed, Token}
 use Rattle.mf_text.specs.TokenTexts.{AMark, AreTokens, Digits, IsEnd, IsRow, IsTokenText, Letters, OtherByte}
 use Rattle.mf_text.proofs.LineTokens.{rest_shorter, tokens-step, tokens_at_comment}
-use Rattle.mf_text.proofs.TokenTexts.{Front, HasText, Other, Text, front, text_first}
+use Rattle.mf_text.proofs.TokenTexts.{Front, Other, Text, front, text_first}
 
 -- ---- the first byte of a token
 
@@ -73,44 +73,41 @@ more-blank column b bs (p ∷ ps) blank (cut, later) = (
 no_more : (column : ℕ) (rest : List ℕ) → IsEnd rest → AreTokens column rest []
 no_more column rest end = record { blanks = []; rest = rest; parts = refl; blank = All-nil blank_byte; end = end }
 
-one-token : (column : ℕ) (bs : List ℕ) (ps : List Placed) → HasText bs
+one-token : (column : ℕ) (bs : List ℕ) (ps : List Placed) (t : Token) (text rest : List ℕ) → bs ≡ text ++ rest → IsTokenText t text rest
     → AreTokens (column + (first_token bs).bytes) (drop (first_token bs).bytes bs) ps → AreTokens column bs (token_at column (first_token bs) ∷ ps)
-one-token column bs ps at later =
-    let first : first_token bs ≡ record { token = at.kind; bytes = length at.text } = ap first_token at.parts ∙ text_first at.kind at.text at.rest at.is in
-    let rest_is : at.rest ≡ drop (length at.text) bs = sym (ap (drop (length at.text)) at.parts ∙ drop-append_seam at.text at.rest) in
-    subst (λ (f : Taken). AreTokens (column + f.bytes) (drop f.bytes bs) ps → AreTokens column bs (token_at column f ∷ ps)) (sym first)
+one-token column bs ps t text rest parts is later =
+    let rest_is : rest ≡ drop (length text) bs = sym (ap (drop (length text)) parts ∙ drop-append_seam text rest) in
+    subst (λ (f : Taken). AreTokens (column + f.bytes) (drop f.bytes bs) ps → AreTokens column bs (token_at column f ∷ ps))
+    (sym (ap first_token parts ∙ text_first t text rest is))
     (λ after. (
       record {
         blanks = [];
-        text = at.text;
-        rest = drop (length at.text) bs;
-        parts = at.parts ∙ ap (λ ys. at.text ++ ys) rest_is;
+        text = text;
+        rest = drop (length text) bs;
+        parts = parts ∙ ap (λ ys. text ++ ys) rest_is;
         blank = All-nil blank_byte;
         column_is = omega arith;
         after_is = refl;
-        token = subst (IsTokenText at.kind at.text) rest_is at.is;
+        token = subst (IsTokenText t text) rest_is is;
       },
       after,
     )) later
 
 -- a byte that is no blank and begins no comment begins a token
-has_text : (b : ℕ) (bs : List ℕ) → is_blank b ≡ false → eqb b 37 ≡ false → Front (b ∷ bs) → HasText (b ∷ bs)
-has_text b bs blank comment (Text at) = at
-has_text b bs blank comment (Other no_letter no_digit none) = record {
-  kind = token.Unknown;
-  text = b ∷ [];
-  rest = bs;
-  parts = refl;
-  is = OtherByte (record {
-    byte = b;
-    one = refl;
-    no_letter = no_letter;
-    no_digit = no_digit;
-    no_blank = blank;
-    no_comment = λ same. false≢true (sym comment ∙ ap (λ n. eqb n 37) same);
-    no_mark = none;
-  }) refl;
-}
+first-token : (column b : ℕ) (bs : List ℕ) (ps : List Placed) → is_blank b ≡ false → eqb b 37 ≡ false → Front (b ∷ bs)
+    → AreTokens (column + (first_token (b ∷ bs)).bytes) (drop (first_token (b ∷ bs)).bytes (b ∷ bs)) ps
+    → AreTokens column (b ∷ bs) (token_at column (first_token (b ∷ bs)) ∷ ps)
+first-token column b bs ps blank comment (Text t text rest parts is) = one-token column (b ∷ bs) ps t text rest parts is
+first-token column b bs ps blank comment (Other no_letter no_digit none) =
+    one-token column (b ∷ bs) ps token.Unknown (b ∷ []) bs refl (OtherByte (record {
+      byte = b;
+      one = refl;
+      no_letter = no_letter;
+      no_digit = no_digit;
+      no_blank = blank;
+      no_comment = λ same. false≢true (sym comment ∙ ap (λ n. eqb n 37) same);
+      no_mark = none;
+    }) refl)
 
 cut-within : (n column : ℕ) (bs : List ℕ) → length bs ≤ n → AreTokens column bs (tokens_within n column bs)
 unfolding tokens_within
@@ -120,7 +117,7 @@ cut-within (suc n) column [] short = no_more column [] tt
 cut-within (suc n) column (b ∷ bs) short =
     cond_both (is_blank b) _ _ (AreTokens column (b ∷ bs)) (λ blank. more-blank column b bs _ blank (cut-within n (column + 1) bs (omega arith)))
     (λ clear. cond_both (eqb b 37) _ _ (AreTokens column (b ∷ bs)) (λ comment. no_more column (b ∷ bs) (eqb-true b 37 comment))
-    (λ token. one-token column (b ∷ bs) _ (has_text b bs clear token (front (b ∷ bs))) (cut-within n _ _ (omega (arith, rest_shorter b bs)))))
+    (λ token. first-token column b bs _ clear token (front (b ∷ bs)) (cut-within n _ _ (omega (arith, rest_shorter b bs)))))
 
 -- the tokens of a line are its bytes, cut in this way
 pub are_tokens : (line : List ℕ) → AreTokens 1 line (tokens_from 1 line)

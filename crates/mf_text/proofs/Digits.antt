@@ -1,5 +1,5 @@
 -- Rows of at most nine digits, and their numbers.
-use Rattle.std.proofs.Common.{◌≡◌, ◌≢◌, inl, inr, ℕ, ◌+◌, ◌-◌, ◌*◌, ◌^◌, ◌<◌, ◌≤◌, true, false, nat_lt, if◌then◌else◌, None, Some, List, length, get_or, take, refl, ap, sym, subst, ◌∙◌, arith}
+use Rattle.std.proofs.Common.{◌≡◌, ◌≢◌, inl, inr, ℕ, ◌+◌, ◌-◌, ◌*◌, ◌^◌, ◌<◌, ◌≤◌, true, false, nat_lt, if◌then◌else◌, None, Some, List, length, get_or, take, ap, sym, subst, ◌∙◌, arith}
 use Rattle.std.specs.Char.{digit_value, is_ascii_digit}
 use Rattle.std.specs.List.{prefix_len, take_while}
 use Rattle.std.specs.Str.Parse.{AllDigits, digits_value}
@@ -18,12 +18,6 @@ use Rattle.mf_text.specs.Tokens.{Finds, Taken, first_token, number_token}
 use Rattle.mf_text.proofs.Found.{number_lacking}
 use Rattle.mf_text.proofs.TokenTexts.{digits_first}
 
-digit_below_ten : (c : ℕ) → is_ascii_digit c ≡ true → digit_value c < 10
-digit_below_ten c e = grind (arith, nat_tests)
-
-pub short_value : (ds : List ℕ) → AllDigits 10 ds → length ds ≤ 9 → digits_value 10 ds < 10 ^ 9
-short_value ds all short = digits_value_short (numerals_by_value (AllDigits 10) tells_digits) ds 9 all short
-
 -- ---- the number of the digits at the front of a text
 
 -- the first i bytes are digits, at most nine of them, with this value
@@ -32,9 +26,6 @@ pub record IsNumberTo (text : List ℕ) (i value : ℕ) : Type 0 where
   pub in_prefix : i ≤ prefix_len is_ascii_digit text
   pub digits : AllDigits 10 (take i text)
   pub value_is : value ≡ digits_value 10 (take i text)
-
-pub number-none : (text : List ℕ) → IsNumberTo text 0 0
-number-none text = record { few = omega arith; in_prefix = omega arith; digits = tt; value_is = refl }
 
 -- a digit at i continues the digits before it
 digit_goes_on : (text : List ℕ) (i : ℕ) → i ≤ prefix_len is_ascii_digit text → i < length text → is_ascii_digit (get_or text i 0) ≡ true
@@ -48,7 +39,7 @@ digit_goes_on text i in_prefix inside digit =
     ]
 
 -- a byte at i that is not a digit ends the digits before it
-digits_end : (text : List ℕ) (i : ℕ) → i ≤ prefix_len is_ascii_digit text → is_ascii_digit (get_or text i 0) ≡ false
+pub digits_end : (text : List ℕ) (i : ℕ) → i ≤ prefix_len is_ascii_digit text → is_ascii_digit (get_or text i 0) ≡ false
     → i ≡ prefix_len is_ascii_digit text
 digits_end text i in_prefix other =
     elim (eq-or-lt_of_le in_prefix) [
@@ -65,15 +56,16 @@ pub record GoesOn (text : List ℕ) (i value : ℕ) : Type 0 where
 pub number-more : (text : List ℕ) (i value : ℕ) → IsNumberTo text i value → i < length text → is_ascii_digit (get_or text i 0) ≡ true → i ≢ 9
     → GoesOn text i value
 number-more text i value to inside digit not_last =
-    let below = digit_below_ten (get_or text i 0) digit in
+    let below : digit_value (get_or text i 0) < 10 = grind (arith, nat_tests) in
     let ranged = digit_from_value (get_or text i 0) below in
     let worth = digit_value_digit (get_or text i 0) ranged in
     let longer = digits_more 10 text i inside to.digits below in
+    let few : length (take (i + 1) text) ≤ 9 = omega (arith, to.few, not_last, length-take-le (i + 1) text (omega arith)) in
     let value_is : 10 * value + (get_or text i 0 - 48) ≡ digits_value 10 (take (i + 1) text) =
     omega (arith, worth, digits_value_more 10 text i inside, to.value_is, ranged.0) in
     record {
       digit = ranged.0;
-      fits = omega (arith, value_is, short_value (take (i + 1) text) longer (omega (arith, to.few, not_last, length-take-le (i + 1) text (omega arith))));
+      fits = omega (arith, value_is, digits_value_short (numerals_by_value (AllDigits 10) tells_digits) (take (i + 1) text) 9 longer few);
       more = record {
         few = omega (arith, to.few, not_last);
         in_prefix = omega (arith, digit_goes_on text i to.in_prefix inside digit);
@@ -94,9 +86,6 @@ number-ends text i value to ends =
         length-take-le i text (omega (arith, to.in_prefix, prefix_len-le-length is_ascii_digit text)),
       )),
     ) (ap token.Number to.value_is)
-
-pub number-stops : (text : List ℕ) (i value : ℕ) → IsNumberTo text i value → is_ascii_digit (get_or text i 0) ≡ false → i ≡ prefix_len is_ascii_digit text
-number-stops text i value to other = digits_end text i to.in_prefix other
 
 pub number-whole : (text : List ℕ) (i value : ℕ) → IsNumberTo text i value → length text ≤ i → i ≡ prefix_len is_ascii_digit text
 number-whole text i value to ended = omega (arith, to.in_prefix, ended, prefix_len-le-length is_ascii_digit text)

@@ -7,24 +7,17 @@ use Rattle.mf_text.specs.Grammar.{Code, Int}
 use Rattle.mf_text.specs.Codes.{code_of}
 use Rattle.mf_text.specs.Ints.{int_of, where_true}
 
-module _ {A : Type 0} (b : Bool) (make : b ≡ true → A) where
-  pub where_some : (is : b ≡ true) → where_true b make ≡ Some (make is)
-  where_some is = by_test b make is where
-    by_test : (c : Bool) (made : c ≡ true → A) (so : c ≡ true) → where_true c made ≡ Some (made so)
-    by_test true made so = ap (λ s. Some (made s)) (Bool-set true true refl so)
-    by_test false made so = absurd (false≢true so)
+pub where_some : {A : Type 0} (b : Bool) (make : b ≡ true → A) (is : b ≡ true) → where_true b make ≡ Some (make is)
+where_some true make is = ap (λ so. Some (make so)) (Bool-set true true refl is)
+where_some false make is = absurd (false≢true is)
 
-  pub where_none : b ≡ false → where_true b make ≡ None
-  where_none is = by_test b make is where
-    by_test : (c : Bool) (made : c ≡ true → A) → c ≡ false → where_true c made ≡ None
-    by_test true made so = absurd (false≢true (sym so))
-    by_test false made so = refl
+pub where_none : {A : Type 0} (b : Bool) (make : b ≡ true → A) → b ≡ false → where_true b make ≡ None
+where_none true make is = absurd (false≢true (sym is))
+where_none false make is = refl
 
-  where_made : (a : A) → where_true b make ≡ Some a → (is : b ≡ true) × (a ≡ make is)
-  where_made a = by_test b make where
-    by_test : (c : Bool) (made : c ≡ true → A) → where_true c made ≡ Some a → (so : c ≡ true) × (a ≡ made so)
-    by_test true made is = (refl, sym (same_Some (made refl) a is))
-    by_test false made is = absurd (none-some a is)
+where_made : {A : Type 0} (b : Bool) (make : b ≡ true → A) (a : A) → where_true b make ≡ Some a → (is : b ≡ true) × (a ≡ make is)
+where_made true make a is = (refl, sym (same_Some (make refl) a is))
+where_made false make a is = absurd (none-some a is)
 
 -- the int of the sign and the number of an int is that int
 pub int_of-back : (n : Int) → int_of n.negative n.magnitude ≡ Some n

@@ -134,39 +134,27 @@ mark_there bs m begun false short = (m, (begun, short))
 mark_there bs mark.Minus begun true longer = (mark.Join, (longer, refl))
 mark_there bs m begun true longer = absurd (false≢true longer)
 
--- the token at the front has this text
-pub record HasText (bs : List ℕ) : Type 0 where
-  pub kind : Token
-  pub text : List ℕ
-  pub rest : List ℕ
-  pub parts : bs ≡ text ++ rest
-  pub is : IsTokenText kind text rest
-
+-- the token at the front has this text; or there is none, but a blank, the start of a comment or another byte
 pub data Front (bs : List ℕ) : Type 0 where
-  Text : HasText bs → Front bs
+  Text : (t : Token) (text rest : List ℕ) → bs ≡ text ++ rest → IsTokenText t text rest → Front bs
   Other : first_is is_ascii_alphabetic bs ≡ false → first_is is_ascii_digit bs ≡ false → ((m : Mark) → starts_with eqb bs (mark_text m) ≡ false) → Front bs
 
-front_mark : (bs : List ℕ) (m : Mark) → starts_with eqb bs (mark_text m) ≡ true → is_longer m bs ≡ false → HasText bs
-front_mark bs m begun short =
-    let parts = starts-drop bs (mark_text m) begun in record {
-      kind = token.Mark m;
-      text = mark_text m;
-      rest = drop (length (mark_text m)) bs;
-      parts = parts;
-      is = AMark m (record { written = refl; longest = ap (is_longer m) (sym parts) ∙ short }) refl;
-    }
+front_row_text : (p : ℕ → Bool) (t : Token) (bs : List ℕ) → IsTokenText t (take_while p bs) (drop (prefix_len p bs) bs) → Front bs
+front_row_text p t bs is = Text t _ _ (sym (take-append-drop (prefix_len p bs) bs)) is
 
-front_row_text : (p : ℕ → Bool) (t : Token) (bs : List ℕ) → IsTokenText t (take_while p bs) (drop (prefix_len p bs) bs) → HasText bs
-front_row_text p t bs is = record { kind = t; text = _; rest = _; parts = sym (take-append-drop (prefix_len p bs) bs); is = is }
+front_mark : (bs : List ℕ) (m : Mark) → starts_with eqb bs (mark_text m) ≡ true → is_longer m bs ≡ false → Front bs
+front_mark bs m begun short =
+    let parts = starts-drop bs (mark_text m) begun in
+    Text (token.Mark m) (mark_text m) _ parts (AMark m (record { written = refl; longest = ap (is_longer m) (sym parts) ∙ short }) refl)
 
 pub front : (bs : List ℕ) → Front bs
 front bs =
     elim (cases_lt 0 (prefix_len is_ascii_alphabetic bs)) [
-      | inl letter ↦ Text (front_row_text is_ascii_alphabetic _ bs (Letters (row is_ascii_alphabetic bs letter) refl))
+      | inl letter ↦ front_row_text is_ascii_alphabetic _ bs (Letters (row is_ascii_alphabetic bs letter) refl)
       | inr no_letter ↦ elim (cases_lt 0 (prefix_len is_ascii_digit bs)) [
-        | inl digit ↦ Text (front_row_text is_ascii_digit _ bs (Digits (row is_ascii_digit bs digit) refl))
+        | inl digit ↦ front_row_text is_ascii_digit _ bs (Digits (row is_ascii_digit bs digit) refl)
         | inr no_digit ↦ elim (among bs marks) [
-          | inl some ↦ (let found = mark_there bs some.0 some.1 (is_longer some.0 bs) refl in Text (front_mark bs found.0 found.1.0 found.1.1))
+          | inl some ↦ (let found = mark_there bs some.0 some.1 (is_longer some.0 bs) refl in front_mark bs found.0 found.1.0 found.1.1)
           | inr none ↦ Other (no_row is_ascii_alphabetic bs no_letter) (no_row is_ascii_digit bs no_digit) (λ m. none_among bs m none)
         ]
       ]
@@ -252,9 +240,9 @@ text_says t text rest (AMark m at is) =
 text_says t text rest (OtherByte other is) = subst (λ u. IsSaid u (text ++ rest)) (sym is) tt
 
 pub said : (bs : List ℕ) → IsSaid (first_token bs).token bs
-said bs = elim (front bs) [
-  | Text at ↦
-      subst (λ xs. IsSaid (first_token xs).token xs) (sym at.parts)
-      (subst (λ (f : Taken). IsSaid f.token (at.text ++ at.rest)) (sym (text_first at.kind at.text at.rest at.is)) (text_says at.kind at.text at.rest at.is))
-  | Other no_letter no_digit none ↦ subst (λ (f : Taken). IsSaid f.token bs) (sym (unknown_first bs no_letter no_digit none)) tt
-]
+said bs = by_front (front bs) where
+  by_front : Front bs → IsSaid (first_token bs).token bs
+  by_front (Text t text rest parts is) =
+      subst (λ xs. IsSaid (first_token xs).token xs) (sym parts)
+      (subst (λ (f : Taken). IsSaid f.token (text ++ rest)) (sym (text_first t text rest is)) (text_says t text rest is))
+  by_front (Other no_letter no_digit none) = subst (λ (f : Taken). IsSaid f.token bs) (sym (unknown_first bs no_letter no_digit none)) tt

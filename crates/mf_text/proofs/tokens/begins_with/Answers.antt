@@ -1,20 +1,16 @@
-use Rattle.std.proofs.Common.{◌≡◌, ◌<◌, ℕ, Bool, true, false, ◌&&◌, eqb, List, [], ◌∷◌, length, drop_of_length-le, refl, sym, ap, ◌∙◌, arith}
+use Rattle.std.proofs.Common.{eqb, length, length-append, drop, drop_of_length-le, refl, sym, ap, ◌∙◌, arith}
 use Rattle.std.specs.List.{starts_with}
-use Rattle.std.proofs.lemmas.Bool.{eq-eqb, ne_eqb}
+use Rattle.std.proofs.lemmas.Bool.{eq-eqb, false_from_ne_true, ne_eqb}
 use Rattle.std.proofs.lemmas.List.{drop_more}
+use Rattle.mf_text.proofs.TokenTexts.{starts-drop}
 use Rattle.mf_text.proofs.tokens.begins_with.Goals as goal
 
-never : (b : Bool) → (b && false) ≡ false
-never true = refl
-never false = refl
-
-too_short : (xs ys : List ℕ) → length xs < length ys → starts_with eqb xs ys ≡ false
-too_short xs [] short = absurd (omega arith)
-too_short [] (y ∷ ys) short = refl
-too_short (x ∷ xs) (y ∷ ys) short = rw (too_short xs ys (omega arith)) (never (eqb y x))
-
 pub returns-then-text-written-clause-value : goal.returns-then-text-written-clause-value
-returns-then-text-written-clause-value c = sym (too_short _ _ c.if-text-written.true)
+returns-then-text-written-clause-value c =
+    let text = c.args.text.now in
+    let written = c.args.written.now in
+    sym (false_from_ne_true (starts_with eqb text written) (λ is.
+    omega (arith, ap length (starts-drop text written is), length-append written (drop (length written) text), c.if-text-written.true)))
 
 pub returns-then-text-place-clause-value : goal.returns-then-text-place-clause-value
 returns-then-text-place-clause-value c =

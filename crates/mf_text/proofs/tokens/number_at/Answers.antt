@@ -1,15 +1,12 @@
 use Rattle.std.proofs.Common.{◌≡◌, ◌∙◌, length, sym, arith}
-use Rattle.mf_text.proofs.Digits.{number-found, number-long, number-more, number-none, number-stops, number-whole}
+use Rattle.mf_text.proofs.Digits.{digits_end, number-found, number-long, number-more, number-whole}
 use Rattle.mf_text.proofs.tokens.number_at.Goals as goal
-
-pub loop-digits-init : goal.loop-digits-init
-loop-digits-init c = number-none c.args.text.now
 
 pub returns-then-not-is_ascii_digit : goal.returns-then-not-is_ascii_digit
 returns-then-not-is_ascii_digit c =
     rw c.number_of.ensures
     (number-found _ _ _ c.loop-digits.invariant
-    (number-stops _ _ _ c.loop-digits.invariant (sym c.is_ascii_digit.ensures.value ∙ c.if-not-is_ascii_digit.true)))
+    (digits_end c.args.text.now _ c.loop-digits.invariant.in_prefix (sym c.is_ascii_digit.ensures.value ∙ c.if-not-is_ascii_digit.true)))
 
 pub returns-then-digits-eq-MAX_DIGITS : goal.returns-then-digits-eq-MAX_DIGITS
 returns-then-digits-eq-MAX_DIGITS c =
