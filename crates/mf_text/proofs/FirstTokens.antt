@@ -9,15 +9,6 @@ use Rattle.mf_text.specs.Token.{Token, Unknown, is_token, this_in}
 use Rattle.mf_text.specs.Tokens.{first_token, mark_among, token_at, tokens_from}
 use Rattle.mf_text.proofs.LineTokens.{tokens_at_comment, tokens_at_end, tokens-step}
 
--- where nothing remains or a comment begins, the token at the front is unknown
-none_first : first_token [] ≡ record { token = Unknown; bytes = 1 }
-unfolding first_token mark_among
-none_first = refl
-
-comment_first : (b : ℕ) (bs : List ℕ) → eqb b 37 ≡ true → first_token (b ∷ bs) ≡ record { token = Unknown; bytes = 1 }
-unfolding first_token mark_among
-comment_first b bs is = rw (eqb-true b 37 is) refl
-
 -- the token at the front is the first that remains, unless none does
 data IsFirst (column : ℕ) (text : List ℕ) : Type 0 where
   Ended : tokens_from column text ≡ [] → (first_token text).token ≡ Unknown → IsFirst column text
@@ -25,10 +16,11 @@ data IsFirst (column : ℕ) (text : List ℕ) : Type 0 where
       → IsFirst column text
 
 first : (column : ℕ) (text : List ℕ) → IsClear text → IsFirst column text
-first column [] clear = Ended (tokens_at_end column [] (omega arith)) (rw none_first refl)
+unfolding first_token mark_among
+first column [] clear = Ended (tokens_at_end column [] (omega arith)) refl
 first column (b ∷ bs) clear =
     elim (cases_Bool (eqb b 37)) [
-      | inl comment ↦ Ended (tokens_at_comment column (b ∷ bs) (omega arith) (eqb-true b 37 comment)) (rw (comment_first b bs comment) refl)
+      | inl comment ↦ Ended (tokens_at_comment column (b ∷ bs) (omega arith) (eqb-true b 37 comment)) (rw (eqb-true b 37 comment) refl)
       | inr token ↦ Starts (tokens-step column b bs clear token)
     ]
 

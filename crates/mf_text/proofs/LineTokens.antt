@@ -91,8 +91,7 @@ pub tokens_at_blank : (column : ℕ) (text : List ℕ) → 1 ≤ length text →
 tokens_at_blank column [] long blank = absurd (omega arith)
 tokens_at_blank column (b ∷ bs) long blank = rw (take_rest (b ∷ bs) 1) (sym (tokens-blank column b bs blank))
 
-pub tokens_at_token : (column : ℕ) (text : List ℕ) (t : Token) (n : ℕ) → IsClear text → 1 ≤ length text → get_or text 0 0 ≢ 37
-    → t ≡ (first_token text).token → n ≡ (first_token text).bytes
-    → tokens_from column text ≡ record { token = t; column = column; after = column + n } ∷ tokens_from (column + n) (take (length text - n) (drop n text))
-tokens_at_token column [] t n clear long token is_t is_n = absurd (omega arith)
-tokens_at_token column (b ∷ bs) t n clear long token is_t is_n = rw (take_rest (b ∷ bs) n, is_t, is_n) (tokens-step column b bs clear (ne_eqb b 37 token))
+pub tokens_at_token : (column : ℕ) (text : List ℕ) → IsClear text → 1 ≤ length text → get_or text 0 0 ≢ 37
+    → tokens_from column text ≡ token_at column (first_token text) ∷ tokens_from (column + (first_token text).bytes) (drop (first_token text).bytes text)
+tokens_at_token column [] clear long token = absurd (omega arith)
+tokens_at_token column (b ∷ bs) clear long token = tokens-step column b bs clear (ne_eqb b 37 token)

@@ -23,11 +23,6 @@ unfolding follow
 from_any r last past [] = refl
 from_any r last past (p ∷ ps) = refl
 
--- where `?` returns, the result is the fault
-exit : {A : Type 0} (r : Result A SyntaxFault) (fault : SyntaxFault) → IsErrAnd r (λ y. y ≡ fault) → r ≡ Err fault
-exit (Ok x) fault none = absurd none
-exit (Err e) fault same = ap Err same
-
 -- ---- a value of the next token
 
 -- what a line gives after a value, if there is one
@@ -308,7 +303,8 @@ corners_go_on p now after passes read more is next =
 
 pub path_wrong : (before after : Tokens) (r : Result paths.Path SyntaxFault) (fault : SyntaxFault) → IsErrAnd r (λ y. y ≡ fault)
     → ((next : Path → Rest) → from (path next) (ahead before) ≡ Err fault.column) → PassesPath before after r
-path_wrong before after r fault is wrong = subst (PassesPath before after) (sym (exit r fault is)) wrong
+path_wrong before after (Ok kept) fault none wrong = absurd none
+path_wrong before after (Err e) fault same wrong = λ next. wrong next ∙ ap (λ (f : SyntaxFault). Err f.column) (sym same)
 
 pub points_more : (kept : paths.Path) (corners : List Pair) (p : Pair) (v : Point) → v ≡ pair_value p → HasPoints kept (map pair_value corners ++ v ∷ [])
     → HasPoints kept (path_value (ended_with corners p))
