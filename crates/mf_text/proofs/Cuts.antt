@@ -1,47 +1,14 @@
 -- The tokens of a line are its bytes, each cut as long as possible, and no other list of tokens is cut from it so.
-use Rattle.std.proofs.Common.{◌≡◌, ℕ, zero, suc, ◌+◌, ◌<◌, ◌≤◌, Bool, true, false, eqb, List, [], ◌∷◌, ◌++◌, length, drop, refl, sym, ap, subst, ◌∙◌, arith}
-use Rattle.std.specs.Char.{is_ascii_alphabetic, is_ascii_digit}
+use Rattle.std.proofs.Common.{◌≡◌, ℕ, zero, suc, ◌+◌, ◌≤◌, true, false, eqb, List, [], ◌∷◌, ◌++◌, length, drop, refl, sym, ap, subst, ◌∙◌, arith}
 use Rattle.std.specs.List.{All}
 use Rattle.std.proofs.Math.Seq.{drop-append_seam}
-use Rattle.std.proofs.lemmas.Bool.{cond_both, eqb-true, false_from_ne_true, false≢true, ne_eqb}
+use Rattle.std.proofs.lemmas.Bool.{cond_both, eqb-true, false≢true}
 use Rattle.std.proofs.lemmas.List.Elements.{All-cons, All-head, All-nil, All-tail}
-use Rattle.mf_text.specs.declared.token.Mark.TheVariants as mark
 use Rattle.mf_text.specs.Token as token
-use Rattle.mf_text.specs.Tokens.{Taken, first_token, first_is, mark_text, token_at, tokens_from, tokens_within, is_blank, Mark, Placed, Token}
-use Rattle.mf_text.specs.TokenTexts.{AMark, AreTokens, Digits, IsEnd, IsRow, IsTokenText, Letters, OtherByte}
+use Rattle.mf_text.specs.Tokens.{Taken, first_token, token_at, tokens_from, tokens_within, is_blank, Placed, Token}
+use Rattle.mf_text.specs.TokenTexts.{AreTokens, IsEnd, IsTokenText, OtherByte}
 use Rattle.mf_text.proofs.LineTokens.{rest_shorter, tokens-step, tokens_at_comment}
-use Rattle.mf_text.proofs.TokenTexts.{Front, Other, Text, front, text_first}
-
--- ---- the first byte of a token
-
--- the text has a byte, and its first one is no blank and begins no comment
-record BeginsToken (text : List ℕ) : Type 0 where
-  clear : first_is is_blank text ≡ false
-  no_comment : first_is (λ b. eqb b 37) text ≡ false
-  some : 0 < length text
-
-other_byte : (p : ℕ → Bool) (b c : ℕ) → p b ≡ true → p c ≡ false → eqb b c ≡ false
-other_byte p b c is none = false_from_ne_true _ (λ same. false≢true (sym none ∙ ap p (sym (eqb-true b c same)) ∙ is))
-
-row_begins : (p : ℕ → Bool) (text rest : List ℕ) → p 32 ≡ false → p 9 ≡ false → p 37 ≡ false → IsRow p text rest → BeginsToken text
-row_begins p [] rest space tab percent row = absurd (omega (arith, row.some))
-row_begins p (b ∷ bs) rest space tab percent row =
-    let is = All-head (λ c. p c ≡ true) b bs row.all in record {
-      clear = rw (other_byte p b 32 is space, other_byte p b 9 is tab) refl;
-      no_comment = other_byte p b 37 is percent;
-      some = row.some;
-    }
-
-mark_begins : (m : Mark) → BeginsToken (mark_text m)
-mark_begins mark.Becomes = record { clear = refl; no_comment = refl; some = omega arith }
-mark_begins m = record { clear = refl; no_comment = refl; some = omega arith }
-
-begins : (t : Token) (text rest : List ℕ) → IsTokenText t text rest → BeginsToken text
-begins t text rest (Letters row is) = row_begins is_ascii_alphabetic text rest refl refl refl row
-begins t text rest (Digits row is) = row_begins is_ascii_digit text rest refl refl refl row
-begins t text rest (AMark m at is) = subst BeginsToken (sym at.written) (mark_begins m)
-begins t text rest (OtherByte other is) =
-    subst BeginsToken (sym other.one) (record { clear = other.no_blank; no_comment = ne_eqb other.byte 37 other.no_comment; some = omega arith })
+use Rattle.mf_text.proofs.TokenTexts.{BeginsToken, Front, Other, Text, begins, front, text_first}
 
 -- ---- a line is cut into its tokens
 

@@ -1,13 +1,10 @@
 -- The tokens of a line, one at a time.
-use Rattle.std.proofs.Common.{◌≡◌, ◌≢◌, ℕ, zero, suc, ◌+◌, ◌-◌, ◌<◌, ◌≤◌, Bool, true, false, cond, eqb, ltb, List, [], ◌∷◌, length, get_or, take, drop, refl, sym, arith, length-drop}
-use Rattle.std.specs.Char.{is_ascii_alphabetic, is_ascii_digit}
-use Rattle.std.specs.List.{prefix_len}
-use Rattle.std.proofs.lemmas.Bool.{ltb-true, ne_eqb}
+use Rattle.std.proofs.Common.{◌≡◌, ◌≢◌, ℕ, zero, suc, ◌+◌, ◌-◌, ◌<◌, ◌≤◌, true, false, eqb, List, [], ◌∷◌, length, get_or, take, drop, refl, sym, ap, subst, ◌∙◌, arith, length-append, length-drop}
+use Rattle.std.proofs.lemmas.Bool.{ne_eqb}
 use Rattle.std.proofs.lemmas.List.{take_rest}
-use Rattle.std.proofs.lemmas.List.Folds.{length-prefix_len}
-use Rattle.std.proofs.lemmas.List.Sums.{prefix_len-le-length}
 use Rattle.mf_text.specs.Bytes.{is_blank, IsClear}
-use Rattle.mf_text.specs.Tokens.{Taken, token_at, marks, mark_among, first_token, tokens_within, tokens_from, Token}
+use Rattle.mf_text.specs.Tokens.{Taken, token_at, first_token, tokens_within, tokens_from}
+use Rattle.mf_text.proofs.TokenTexts.{Front, Other, Text, begins, front, text_first, unknown_first}
 
 -- ---- how many bytes a token takes
 
@@ -16,25 +13,14 @@ pub record TakesSome (n : ℕ) (t : Taken) : Type 0 where
   pub some : 0 < t.bytes
   pub within : t.bytes ≤ n
 
-if_taken : (n : ℕ) (c : Bool) (x y : Taken) → (c ≡ true → TakesSome n x) → TakesSome n y → TakesSome n (cond c x y)
-if_taken n true x y p q = p refl
-if_taken n false x y p q = q
-
-found : (n : ℕ) (t : Taken) → 0 < t.bytes → t.bytes ≤ n → TakesSome n t
-found n t p q = record { some = p; within = q }
-
-mark_taken : (b : ℕ) (bs : List ℕ) → TakesSome (suc (length bs)) (mark_among marks (b ∷ bs))
-unfolding mark_among
-mark_taken b [] = search (if_taken, found, arith) depth 20
-mark_taken b (other ∷ bs) = search (if_taken, found, arith) depth 20
-
 pub first_taken : (b : ℕ) (bs : List ℕ) → TakesSome (suc (length bs)) (first_token (b ∷ bs))
-unfolding first_token
-first_taken b bs =
-    let row : (p : ℕ → Bool) (t : Token) → ltb 0 (length (take (prefix_len p (b ∷ bs)) (b ∷ bs))) ≡ true
-    → TakesSome (suc (length bs)) (record { token = t; bytes = length (take (prefix_len p (b ∷ bs)) (b ∷ bs)) }) =
-    λ p t e. record { some = ltb-true _ _ e; within = omega (arith, length-prefix_len p (b ∷ bs), prefix_len-le-length p (b ∷ bs)) } in
-    if_taken _ _ _ _ (row is_ascii_alphabetic _) (if_taken _ _ _ _ (row is_ascii_digit _) (mark_taken b bs))
+first_taken b bs = by_front (front (b ∷ bs)) where
+  by_front : Front (b ∷ bs) → TakesSome (suc (length bs)) (first_token (b ∷ bs))
+  by_front (Text t text rest parts is) =
+      subst (TakesSome (suc (length bs))) (sym (ap first_token parts ∙ text_first t text rest is))
+      (record { some = (begins t text rest is).some; within = omega (arith, ap length parts, length-append text rest) })
+  by_front (Other no_letter no_digit none) =
+      subst (TakesSome (suc (length bs))) (sym (unknown_first (b ∷ bs) no_letter no_digit none)) (record { some = omega arith; within = omega arith })
 
 -- ---- a line from its front
 

@@ -3,7 +3,7 @@ use Rattle.std.proofs.Common.{◌≡◌, ◌⊎◌, inl, inr, ℕ, suc, ◌+◌,
 use Rattle.std.specs.Char.{is_ascii_alphabetic, is_ascii_digit}
 use Rattle.std.specs.List.{All, list_all, prefix_len, starts_with, take_while}
 use Rattle.std.specs.Option.{option_map_or}
-use Rattle.std.proofs.lemmas.Bool.{and_parts, cases_Bool, cases_lt, cond_both, false≢true, leb-true, lt-ltb, true_from_ne_false}
+use Rattle.std.proofs.lemmas.Bool.{and_parts, cases_Bool, cases_lt, cond_both, eqb-true, false_from_ne_true, false≢true, leb-true, lt-ltb, ne_eqb, true_from_ne_false}
 use Rattle.std.proofs.lemmas.Bool.Decides.{Decides-eqb, nat_tests}
 use Rattle.std.proofs.lemmas.List.{take-append-drop}
 use Rattle.std.proofs.lemmas.List.Elements.{All-cons, All-head, All-nil, All-tail}
@@ -14,7 +14,7 @@ use Rattle.std.proofs.lemmas.Slice.Eq.{bytes_eq-Decides, starts_is}
 use Rattle.mf_text.specs.declared.token.Mark.TheVariants as mark
 use Rattle.mf_text.specs.declared.token.Word.TheVariants as word
 use Rattle.mf_text.specs.Token as token
-use Rattle.mf_text.specs.Tokens.{Taken, first_token, first_is, is_letter, is_longer, mark_among, mark_text, marks, number_token, word_among, word_text, word_token, words, is_token, Mark, Token, Word}
+use Rattle.mf_text.specs.Tokens.{Taken, first_token, first_is, is_blank, is_letter, is_longer, mark_among, mark_text, marks, number_token, word_among, word_text, word_token, words, is_token, Mark, Token, Word}
 use Rattle.mf_text.specs.TokenTexts.{AMark, Digits, IsRow, IsTokenText, Letters, OtherByte}
 
 pub same_token : (t : Token) → is_token t t ≡ true
@@ -80,7 +80,7 @@ counts mark.Minus rest short =
 counts m rest short = refl
 
 -- where neither a letter, a digit nor a mark is at the front, the token there is unknown
-unknown_first : (bs : List ℕ) → first_is is_ascii_alphabetic bs ≡ false → first_is is_ascii_digit bs ≡ false
+pub unknown_first : (bs : List ℕ) → first_is is_ascii_alphabetic bs ≡ false → first_is is_ascii_digit bs ≡ false
     → ((m : Mark) → starts_with eqb bs (mark_text m) ≡ false) → first_token bs ≡ record { token = token.Unknown; bytes = 1 }
 unfolding first_token mark_among
 unknown_first [] no_letter no_digit none = refl
@@ -159,6 +159,37 @@ front bs =
         ]
       ]
     ]
+
+-- ---- the first byte of a token
+
+-- the text has a byte, and its first one is no blank and begins no comment
+pub record BeginsToken (text : List ℕ) : Type 0 where
+  pub clear : first_is is_blank text ≡ false
+  pub no_comment : first_is (λ b. eqb b 37) text ≡ false
+  pub some : 0 < length text
+
+other_byte : (p : ℕ → Bool) (b c : ℕ) → p b ≡ true → p c ≡ false → eqb b c ≡ false
+other_byte p b c is none = false_from_ne_true _ (λ same. false≢true (sym none ∙ ap p (sym (eqb-true b c same)) ∙ is))
+
+row_begins : (p : ℕ → Bool) (text rest : List ℕ) → p 32 ≡ false → p 9 ≡ false → p 37 ≡ false → IsRow p text rest → BeginsToken text
+row_begins p [] rest space tab percent row = absurd (omega (arith, row.some))
+row_begins p (b ∷ bs) rest space tab percent row =
+    let is = All-head (λ c. p c ≡ true) b bs row.all in record {
+      clear = rw (other_byte p b 32 is space, other_byte p b 9 is tab) refl;
+      no_comment = other_byte p b 37 is percent;
+      some = row.some;
+    }
+
+mark_begins : (m : Mark) → BeginsToken (mark_text m)
+mark_begins mark.Becomes = record { clear = refl; no_comment = refl; some = omega arith }
+mark_begins m = record { clear = refl; no_comment = refl; some = omega arith }
+
+pub begins : (t : Token) (text rest : List ℕ) → IsTokenText t text rest → BeginsToken text
+begins t text rest (Letters row is) = row_begins is_ascii_alphabetic text rest refl refl refl row
+begins t text rest (Digits row is) = row_begins is_ascii_digit text rest refl refl refl row
+begins t text rest (AMark m at is) = subst BeginsToken (sym at.written) (mark_begins m)
+begins t text rest (OtherByte other is) =
+    subst BeginsToken (sym other.one) (record { clear = other.no_blank; no_comment = ne_eqb other.byte 37 other.no_comment; some = omega arith })
 
 -- ---- what a token says of the bytes that it is at the front of
 
