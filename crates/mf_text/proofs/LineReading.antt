@@ -1,5 +1,5 @@
 -- What tokens give: they are a line, or go wrong where no line continues them.
-use Rattle.std.proofs.Common.{◌≡◌, ◌⊎◌, ◌&&◌, inl, inr, ℕ, zero, suc, ◌<◌, ◌≤◌, Bool, true, false, List, [], ◌∷◌, ◌++◌, eqb, length, take, Option, Some, None, Result, Ok, Err, ok_or, if◌then◌else◌, refl, sym, ap, subst, ◌∙◌, arith}
+use Rattle.std.proofs.Common.{◌≡◌, ◌⊎◌, ◌&&◌, inl, inr, ℕ, zero, suc, ◌<◌, ◌≤◌, Bool, true, false, List, [], ◌∷◌, ◌++◌, eqb, length, take, Option, Some, None, Ok, Err, ok_or, if◌then◌else◌, refl, sym, ap, subst, ◌∙◌, arith}
 use Rattle.std.proofs.lemmas.Bool.{and_parts, eqb-true, false≢true}
 use Rattle.std.proofs.lemmas.List.{length-map}
 use Rattle.std.proofs.lemmas.Option.{none-some, same_Some}
@@ -68,9 +68,6 @@ record Stops (p : Place) (last past : ℕ) (ps : List Placed) (column : ℕ) : T
   column_is : column ≡ (if is_code_number_at (Some p) (kinds ps) place then last_column last ps place else column_of
       (ahead_after place ps past).tokens (ahead_after place ps past).past)
 
-same_Err : (m n : ℕ) (r : Result Line ℕ) → r ≡ Err m → r ≡ Err n → n ≡ m
-same_Err m n r p q = cc
-
 at_end : (p : Place) (last past column : ℕ) (end : Option Line) → ends p ≡ end → ok_or end past ≡ Err column → Stops p last past [] column
 unfolding reads is_code_number_at
 at_end p last past column None is wrong = record {
@@ -81,7 +78,7 @@ at_end p last past column None is wrong = record {
     wrong = λ more. absurd (omega (arith, more));
     unended = λ whole l read. none-some l (sym is ∙ read);
   };
-  column_is = same_Err past column (Err past) refl wrong;
+  column_is = (let is_err : Err past ≡ Err column = wrong in cc);
 }
 at_end p last past column (Some l) is wrong = absurd (let no = wrong in cc)
 
@@ -110,8 +107,7 @@ at_token p last past t ps column None is wrong behind_it = record {
     wrong = λ more on. none-some on.1.0 (ap (λ q. reads q on.0) (sym is) ∙ on.1.1);
     unended = λ whole. absurd (omega (arith, whole));
   };
-  column_is = same_Err (report_column p t.token last t.column) column (Err (report_column p t.token last t.column)) refl wrong
-      ∙ report_column-is p t.token last t.column;
+  column_is = (let is_err : Err (report_column p t.token last t.column) ≡ Err column = wrong in cc (report_column-is p t.token last t.column));
 }
 at_token p last past t ps column (Some s) is wrong behind_it = let stops = behind_it s wrong in record {
   place = suc stops.place;
@@ -149,9 +145,6 @@ last_before [] k last past within = absurd (omega (arith, within))
 last_before (p ∷ ps) zero last past within = refl
 last_before (p ∷ ps) (suc k) last past within = last_before ps k p.column p.after (omega (arith, within))
 
-report_place-three : (ts : List Token) (k : ℕ) → is_negative_code ts ≡ true → k ≡ 4 → report_place ts k ≡ 3
-report_place-three ts k negative fourth = rw (negative, fourth) refl
-
 module _ (ahead : Ahead) (column : ℕ) (found : Stops (Before line) ahead.past ahead.past ahead.tokens column) where
   abbrev ts : List Token
   ts = kinds ahead.tokens
@@ -176,8 +169,9 @@ module _ (ahead : Ahead) (column : ℕ) (found : Stops (Before line) ahead.past 
       let coded = coded ts [] (Before line) found.place spells_line shows in
       let fourth : found.place ≡ 4 = omega (arith, coded.1) in
       let long : 4 ≤ length ahead.tokens = omega (arith, fourth, found.at.within, length-map ahead.tokens (λ (p : Placed). p.token)) in
+      let third : report_place ts found.place ≡ 3 = rw (coded.0, fourth) refl in
       found.column_is ∙ ap chosen shows ∙ ap (last_column ahead.past ahead.tokens) fourth ∙ last_before ahead.tokens 3 _ ahead.past (omega (arith, long))
-      ∙ ap (column_at ahead) (sym (report_place-three ts found.place coded.0 fourth))
+      ∙ ap (column_at ahead) (sym third)
 
   shows_there : is_shown ≡ false → (bad : Bool) → (is_negative_code ts && eqb found.place 4) ≡ bad → column ≡ column_at ahead (report_place ts found.place)
   shows_there plain false good = found.column_is ∙ ap chosen plain ∙ ap (λ b. column_at ahead (if b then 3 else found.place)) (sym good)

@@ -31,15 +31,17 @@ on_value next otherwise None = otherwise
 on_value next otherwise (Some (a, after)) = from (next a) after
 
 module _ (k : Kind) (next : Of k → Rest) where
+  value_read : (column : ℕ) (p : Placed) (ps : List Placed) (v : Option (Of k)) → follow (ok_or (before next v) column) p.column p.after ps
+      ≡ on_value next (Err column) (with_rest (record { tokens = ps; past = p.after }) v)
+  unfolding follow
+  value_read column p ps None = refl
+  value_read column p ps (Some a) = from_any (next a) p.column p.after ps
+
   taken : (past : ℕ) (ps : List Placed)
       → from (Take k next) (record { tokens = ps; past = past }) ≡ on_value next (Err (column_of ps past)) (next_value (value k) ps)
   unfolding follow
   taken past [] = refl
-  taken past (p ∷ ps) = by_value (value k p.token) where
-    by_value : (v : Option (Of k)) → follow (ok_or (before next v) p.column) p.column p.after ps
-        ≡ on_value next (Err p.column) (with_rest (record { tokens = ps; past = p.after }) v)
-    by_value None = refl
-    by_value (Some a) = from_any (next a) p.column p.after ps
+  taken past (p ∷ ps) = value_read p.column p ps (value k p.token)
 
   -- what a line gives where a token of a kind was passed
   pub passed : (old new : Tokens) (a : Of k) → TakesValue (value k) old new (Some a) → from (Take k next) (ahead old) ≡ from (next a) (ahead new)
@@ -232,15 +234,10 @@ number_read : (next : Code → Rest) (first past : ℕ) (ps : List Placed) → f
 unfolding follow
 number_read next first past [] = refl
 number_read next first past (p ∷ ps) = by_token p.token where
-  by_code : (v : Option Code) → follow (ok_or (before next v) first) p.column p.after ps
-      ≡ on_value next (Err first) (with_rest (record { tokens = ps; past = p.after }) v)
-  by_code None = refl
-  by_code (Some code) = from_any (next code) p.column p.after ps
-
   by_token : (t : Token) → follow (ok_or (before next (value (Codes true) t)) (report_column (CodeNumber next) t first p.column)) p.column p.after ps
       ≡ on_value next (on_number first p.column (with_rest (record { tokens = ps; past = p.after }) (value_in t)))
       (with_rest (record { tokens = ps; past = p.after }) (value (Codes true) t))
-  by_token (token.Number n) = by_code (value (Codes true) (token.Number n))
+  by_token (token.Number n) = value_read (Codes true) next first p ps (value (Codes true) (token.Number n))
   by_token t = refl
 
 module _ (next : Code → Rest) (first : ℕ) (old : Tokens) where

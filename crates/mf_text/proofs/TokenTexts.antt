@@ -246,11 +246,10 @@ unfolding word_token
 letters_say text rest ends =
     cond_both (is_letter text) _ _ (λ t. IsSaid t (text ++ rest)) (single text) (λ _. known (word_among words text) refl) where
       single : (ls : List ℕ) → is_letter ls ≡ true → IsSmall (get_or ls 0 0 - 97) (ls ++ rest)
-      single [] is = absurd (false≢true is)
       single (b ∷ []) is =
           let bounds = and_parts (leb 97 b) (leb b 122) is in
           record { some = omega arith; least = leb-true 97 b bounds.0; greatest = leb-true b 122 bounds.1; number = refl; longest = ends }
-      single (b ∷ c ∷ bs) is = absurd (false≢true is)
+      single ls is = absurd (false≢true is)
 
       known : (o : Option Word) → word_among words text ≡ o → IsSaid (option_map_or token.Word o token.Unknown) (text ++ rest)
       known None is = tt
