@@ -268,6 +268,8 @@ def main():
     parser.add_argument("--growth", action="store_true")
     parser.add_argument("--looks", action="store_true")
     arguments = parser.parse_args()
+    if not shutil.which(arguments.program):
+        sys.exit(f"there is no program {arguments.program}: `./mfpic < /dev/null` builds it")
     if arguments.processor:
         Runner.clock = staticmethod(processor_seconds)
     if arguments.looks:

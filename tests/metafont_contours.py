@@ -113,6 +113,8 @@ def difference(case, printed, log):
 
 
 def main():
+    if len(sys.argv) != 4:
+        sys.exit(__doc__)
     program, count, seed = sys.argv[1], int(sys.argv[2]), int(sys.argv[3])
     wanted, differ, kinds = cases(count, seed), 0, collections.Counter()
     with tempfile.TemporaryDirectory() as name:

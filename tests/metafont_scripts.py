@@ -314,6 +314,8 @@ def shortened(program, lines, folder):
 
 
 def main():
+    if len(sys.argv) != 4:
+        sys.exit(__doc__)
     program, count, chance = sys.argv[1], int(sys.argv[2]), Scripts(int(sys.argv[3]))
     if not shutil.which(METAFONT):
         print(f"0 scripts compared: {METAFONT} is not installed")

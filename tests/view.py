@@ -19,6 +19,7 @@ scripts that passed. The gate runs this script (see `check`).
 import dataclasses
 import pathlib
 import re
+import shutil
 import subprocess
 import sys
 import tempfile
@@ -164,6 +165,8 @@ def difference_where_wide(program: str, script: str, line: str) -> str | None:
 def main() -> int:
     words = sys.argv[1:]
     program = words[0] if words else str(ROOT / "crates/mfview/out/mfview")
+    if not shutil.which(program):
+        sys.exit(f"there is no program {program}: `./mfview < /dev/null` builds it")
     scripts = int(words[1]) if len(words) > 1 else 200
     chance = Chance(int(words[2]) if len(words) > 2 else 1)
     wrong = 0

@@ -11,8 +11,7 @@ refusal.
 A run must exit by itself, as docs/user/PROGRAM.md says of `OutOfMemory`: with status 4 and one message, after printing what the
 lines before the refused allocation print, and with the old font file untouched. Or it does what it does with ample memory, if
 nothing depends on that one allocation: one for the points of a line that is refused as `Syntax` or `TooManyPoints`, one that
-would give back spare room, one for a guess at what refused words mean, or one for a list of bands, which is then tried with less
-room.
+would give back spare room, or one for a guess at what refused words mean.
 
 Tests are run in the same way, by the programs of tests that `rt ci` has built (crates/NAME/out/NAME_tests), and must pass. Tests
 in modules `growths` make one call while allocations are refused, check what is left after it, and make the call again. In these

@@ -256,6 +256,8 @@ class Script:
             raise Untranslated(f"METAFONT ships {code} after the last character of the font")
         character = self.font.characters[self.shipped]
         locator = self.font.locator(character)
+        if character.code >= CODES:
+            raise Untranslated(f"the character {character.code} has a code above {CODES - 1}, which a script cannot ship")
         if character.code != rounded(scaled(code)) % CODES:
             raise Untranslated(f"METAFONT ships {code}, and the font has the character {character.code} in this place")
         if locator.last == self.shipped and locator.dx != scaled(dx) * PIXEL:
@@ -271,6 +273,8 @@ class Script:
 
     def finished(self) -> str:
         """The complete script."""
+        if not self.shipped:
+            raise Untranslated("no character is shipped: METAFONT must have read tools/mf2mfp.mf before the font")
         if self.shipped != len(self.font.characters):
             raise Untranslated(f"METAFONT ships {self.shipped} characters, and the font has {len(self.font.characters)}")
         return "\n".join(self.lines) + "\n"
