@@ -60,7 +60,7 @@ UNTRANSLATED = (
     ("if totalweight(currentpicture shifted (1, 1)) > 0: fi;", "METAFONT's operation {totalweight(picture)}"),
     ("for i = 1 upto 24: w[i] := nullpicture; endfor", "there is no register left for the picture w23"),
     ("currentpicture := currentpicture rotated 45;", "METAFONT found an error"),
-    ("charext := 1;", "METAFONT ships 65, and the font has the character 321 in this place"),
+    ("charext := 1;", "the character 321 has a code above 255, which a script cannot ship"),
     ("chardy := 2;", "the character 65 has an escapement upwards"),
     ("def shipit = shipout nullpicture hide(chardx := 7) enddef;", "the escapement of the character 65 is 37 here"),
     ("proofing := -1;", "METAFONT ships 65 after the last character of the font"),
