@@ -48,7 +48,7 @@ pub is_reversal-true : (a b : Segment) → IsReversal a b → is_reversal a b �
 unfolding is_reversal
 is_reversal-true a b back = grind (arith, ints)
 
-IsReversal-from_true : (a b : Segment) → is_reversal a b ≡ true → IsReversal a b
+pub IsReversal-from_true : (a b : Segment) → is_reversal a b ≡ true → IsReversal a b
 unfolding is_reversal
 IsReversal-from_true a b passes = record { opposite = grind (arith, ints) }
 
@@ -66,12 +66,12 @@ stays_in_range ps None sized is = record { sized = sized; in_range = λ i below.
 stays_in_range ps (Some i) sized is = tt
 
 -- what is left to check once the length is lawful
-form_fault-sized : (ps : List Point) → HasLawfulLength ps
+pub form_fault-sized : (ps : List Point) → HasLawfulLength ps
     → form_fault ps ≡ option_or (option_map PointOutOfRange (first_out_of_range ps)) (option_map NotRectilinear (first_not_rectilinear ps))
 unfolding form_fault
 form_fault-sized ps sized = grind (arith, nat_tests)
 
-form_fault-few : (ps : List Point) → length ps < 2 → form_fault ps ≡ Some TooFewPoints
+pub form_fault-few : (ps : List Point) → length ps < 2 → form_fault ps ≡ Some TooFewPoints
 unfolding form_fault
 form_fault-few ps few = grind (arith, nat_tests)
 
@@ -85,6 +85,9 @@ no_form_fault ps cycle =
     let straight : first_not_rectilinear ps ≡ None = first_place-none _ _ (λ i below. is_not_rectilinear-false _ (cycle.rectilinear i below)) in
     form_fault-sized ps cycle.range.sized ∙ rw (inside, straight) refl
 
+pub is_cycle-straight : (ps : List Point) → StaysInRange ps → first_not_rectilinear ps ≡ None → IsRectilinearCycle ps
+is_cycle-straight ps range straight = record { range = range; rectilinear = λ i below. IsRectilinear-from_false _ (none_passes _ _ straight i below) }
+
 pub is_cycle : (ps : List Point) → form_fault ps ≡ None → IsRectilinearCycle ps
 is_cycle ps none =
     elim (cases_lt (length ps) 2) [
@@ -95,11 +98,8 @@ is_cycle ps none =
             | inr greatest ↦
                 let sized : HasLawfulLength ps = record { least = omega arith; greatest = omega arith } in
                 let parts = neither (option_map PointOutOfRange (first_out_of_range ps)) _ (sym (form_fault-sized ps sized) ∙ none) in
-                let straight = none_mapped NotRectilinear (first_not_rectilinear ps) parts.1 in
-                record {
-                  range = stays_in_range ps None sized (sym (none_mapped PointOutOfRange _ parts.0));
-                  rectilinear = λ i below. IsRectilinear-from_false _ (none_passes _ _ straight i below);
-                }
+                let range = stays_in_range ps None sized (sym (none_mapped PointOutOfRange _ parts.0)) in
+                is_cycle-straight ps range (none_mapped NotRectilinear _ parts.1)
           ]
     ]
 

@@ -1,4 +1,4 @@
--- Why a list of points is not a cycle, and why a cycle fails the turning check.
+-- Why a list of points is not a cycle, and why a cycle fails the turning check: `IsFault`, as functions that compute.
 use Rattle.std.specs.Prelude.{ℕ, zero, suc, Bool, not, ◌&&◌, pos, ◌+ℤ◌, ◌*ℤ◌, List, length, Option, None, Some, option_map, int_lt, nat_lt, if◌then◌else◌}
 use Rattle.std.specs.Option.{option_or}
 use Rattle.std.specs.Ordering.{int_eq}
@@ -16,7 +16,7 @@ first_place zero test = None
 first_place (suc n) test = option_or (first_place n test) (if test n then Some n else None)
 
 -- The next three tests say of a point and of segments what `IsInRange`, `IsRectilinear` and `IsReversal` say as facts: a fault is
--- computed from values, and proofs about cycles cite the parts of the facts. The law `faults_decide` compares the two.
+-- computed from values, and proofs about cycles cite the parts of the facts. The law `one_fault` compares the two.
 
 -- whether a point is out of range
 unfoldable pub is_out_of_range : Point → Bool

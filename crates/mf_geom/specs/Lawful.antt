@@ -1,6 +1,8 @@
--- Which lists of points are cycles, and which cycles pass the turning check.
-use Rattle.std.specs.Prelude.{◌≢◌, ℕ, ◌<◌, ◌≤◌, pos, List, length}
+-- Which lists of points are cycles, which cycles pass the turning check, and why any other list is refused.
+use Rattle.std.specs.Prelude.{◌≡◌, ◌≢◌, ℕ, ◌<◌, ◌≤◌, pos, List, length}
 use Rattle.mf_geom.specs.declared.point.Point.{Point}
+use Rattle.mf_geom.specs.declared.cycle.CycleFault.{CycleFault}
+use Rattle.mf_geom.specs.declared.cycle.CycleFault.TheVariants.{TooFewPoints, TooManyPoints, PointOutOfRange, NotRectilinear, Backtracks, TurningZero}
 use Rattle.mf_geom.specs.Path.{point_at, segment_at, arriving, IsInRange, IsRectilinear, IsReversal}
 use Rattle.mf_geom.specs.Turning.{turning}
 
@@ -36,3 +38,19 @@ pub record NeverReverses (ps : List Point) : Type 0 where
 pub record PassesCheck (ps : List Point) : Type 0 where
   pub onward : NeverReverses ps
   pub turns : turning ps ≢ pos 0
+
+-- i is the first index below n for which P holds
+pub record IsFirst (n : ℕ) (P : ℕ → Type 0) (i : ℕ) : Type 0 where
+  pub below : i < n
+  pub here : P i
+  pub none_before : (k : ℕ) → k < i → P k → ⊥
+
+-- the list is refused with this fault: the first that applies, in the order of the cases, at the first index where it
+-- does; the last two are from the turning check, and a cycle may have them
+unfoldable pub IsFault : List Point → CycleFault → Type 0
+IsFault ps TooFewPoints = length ps < fewest_points
+IsFault ps TooManyPoints = most_points < length ps
+IsFault ps (PointOutOfRange i) = HasLawfulLength ps × IsFirst (length ps) (λ k. ¬ IsInRange (point_at ps k)) i
+IsFault ps (NotRectilinear i) = StaysInRange ps × IsFirst (length ps) (λ k. ¬ IsRectilinear (segment_at ps k)) i
+IsFault ps (Backtracks i) = IsRectilinearCycle ps × IsFirst (length ps) (λ k. IsReversal (arriving ps k) (segment_at ps k)) i
+IsFault ps TurningZero = NeverReverses ps × (turning ps ≡ pos 0)

@@ -1,14 +1,16 @@
 //! Laws of the definitions. Each is the contract of a function that does nothing: the toolchain proves a statement only
 //! where a function's contract names it.
-ghost use Rattle.std.specs.Prelude.{◌≡◌, ◌↔◌, ℤ, pos, ◌*ℤ◌, List, length, None};
+ghost use Rattle.std.specs.Prelude.{◌≡◌, ◌↔◌, ℤ, pos, ◌*ℤ◌, List, length, Some, None};
+ghost use Rattle.std.specs.Option.{option_or};
 ghost use Rattle.std.specs.Int.{int_signum};
 ghost use Rattle.mf_geom.specs.declared.point.Point.{Point};
 ghost use Rattle.mf_geom.specs.Area.{shoelace_at, area};
 ghost use Rattle.mf_geom.specs.declared.check.Check.TheVariants.{Off, On};
+ghost use Rattle.mf_geom.specs.declared.cycle.CycleFault.{CycleFault};
 ghost use Rattle.mf_geom.specs.Crossing.{crossing_at};
 ghost use Rattle.mf_geom.specs.Faults.{form_fault, turning_fault};
 ghost use Rattle.mf_geom.specs.Field.{IsInField, sum_over_field};
-ghost use Rattle.mf_geom.specs.Lawful.{IsRectilinearCycle, NeverReverses, PassesCheck};
+ghost use Rattle.mf_geom.specs.Lawful.{IsFault, IsRectilinearCycle, NeverReverses, PassesCheck};
 ghost use Rattle.mf_geom.specs.Sum.{sum_below};
 ghost use Rattle.mf_geom.specs.Turning.{turn_at, turning};
 ghost use Rattle.mf_geom.specs.Winding.{quarter_at, winding, contour};
@@ -50,9 +52,11 @@ pub fn area_is_whole()
         sum_below (length ps) (shoelace_at ps) ≡ pos 2 *ℤ area ps }
 {}
 
-/// A list of points is a cycle exactly where its form has no fault, and a cycle passes the turning check exactly where that
-/// finds no fault.
-pub fn faults_decide()
+/// A list of points either is a cycle that passes the turning check or has exactly one fault: the first that applies, at the
+/// first index where it does. It is a cycle exactly where its form has no fault, and a cycle passes the turning check exactly
+/// where that finds no fault.
+pub fn one_fault()
+    ensures refused { (ps : List Point) (fault : CycleFault) → IsFault ps fault ↔ option_or (form_fault ps) (turning_fault ps) ≡ Some fault }
     ensures formed { (ps : List Point) → IsRectilinearCycle ps ↔ form_fault ps ≡ None }
     ensures passes { (ps : List Point) → IsRectilinearCycle ps → PassesCheck ps ↔ turning_fault ps ≡ None }
 {}
