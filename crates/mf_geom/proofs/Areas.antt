@@ -6,36 +6,36 @@ use Rattle.mf_geom.specs.Coordinates.{least_coordinate, greatest_coordinate, fie
 use Rattle.mf_geom.specs.declared.check.Check.{Check}
 use Rattle.mf_geom.specs.declared.point.Point.{Point}
 use Rattle.mf_geom.specs.Area.{shoelace_at, area}
-use Rattle.mf_geom.specs.Crossing.{passed, crossing, crossing_at}
+use Rattle.mf_geom.specs.Crossing.{unit_step, crossing, crossing_at}
 use Rattle.mf_geom.specs.Field.{sum_over_field}
 use Rattle.mf_geom.specs.Lawful.{IsRectilinearCycle}
 use Rattle.mf_geom.specs.Path.{Segment, point_at, next_place, segment_at, across, up, IsInRange, IsRectilinear}
 use Rattle.mf_geom.specs.Sum.{sum_below}
 use Rattle.mf_geom.specs.Winding.{winding, filling_weight, contour}
-use Rattle.mf_geom.proofs.Crossings.{passed-reached, passed-beyond, winding-crossings}
+use Rattle.mf_geom.proofs.Crossings.{unit_step-reached, unit_step-beyond, winding-crossings}
 use Rattle.mf_geom.proofs.Products.{mul-sub, mul-self, sub-mul, int_div-mul}
 use Rattle.mf_geom.proofs.Sums.{next_place-below, sum_below-same, sum_below-sub, sum_below-mul_and_differences, sum_over_field-mul, sum_over_field-product, sum_over_field-sum}
 
--- of the n numbers from a on, n - k have passed a + k
-sum_below-passed_after : (n k : ℕ) (a : ℤ) → sum_below n (λ i. passed (a +ℤ pos i) (a +ℤ pos k)) ≡ pos (n - k)
+-- of the n numbers from a on, n - k are at least a + k
+sum_below-unit_step_after : (n k : ℕ) (a : ℤ) → sum_below n (λ i. unit_step (a +ℤ pos i) (a +ℤ pos k)) ≡ pos (n - k)
 unfolding sum_below
-sum_below-passed_after zero k a = omega (arith, ints)
-sum_below-passed_after (suc n) k a =
-    let before = sum_below-passed_after n k a in
-    let beyond : n < k → passed (a +ℤ pos n) (a +ℤ pos k) ≡ pos 0 = λ lt. passed-beyond (a +ℤ pos n) (a +ℤ pos k) (omega (arith, ints)) in
-    let reached : k ≤ n → passed (a +ℤ pos n) (a +ℤ pos k) ≡ pos 1 = λ le. passed-reached (a +ℤ pos n) (a +ℤ pos k) (omega (arith, ints)) in
+sum_below-unit_step_after zero k a = omega (arith, ints)
+sum_below-unit_step_after (suc n) k a =
+    let before = sum_below-unit_step_after n k a in
+    let beyond : n < k → unit_step (a +ℤ pos n) (a +ℤ pos k) ≡ pos 0 = λ lt. unit_step-beyond (a +ℤ pos n) (a +ℤ pos k) (omega (arith, ints)) in
+    let reached : k ≤ n → unit_step (a +ℤ pos n) (a +ℤ pos k) ≡ pos 1 = λ le. unit_step-reached (a +ℤ pos n) (a +ℤ pos k) (omega (arith, ints)) in
     elim (cases_lt n k) [ inl lt ↦ let none = beyond lt in omega (arith, ints) | inr le ↦ let one = reached le in omega (arith, ints) ]
 
--- of the n numbers from a on, those from p on have passed p
-sum_below-passed : (n : ℕ) (a p : ℤ) → a ≤ℤ p → p ≤ℤ (a +ℤ pos n) → sum_below n (λ i. passed (a +ℤ pos i) p) ≡ (a +ℤ pos n) -ℤ p
-sum_below-passed n a p from to =
+-- of the n numbers from a on, those from p on are at least p
+sum_below-unit_step : (n : ℕ) (a p : ℤ) → a ≤ℤ p → p ≤ℤ (a +ℤ pos n) → sum_below n (λ i. unit_step (a +ℤ pos i) p) ≡ (a +ℤ pos n) -ℤ p
+sum_below-unit_step n a p from to =
     let k = nat_abs (p -ℤ a) in
     let further : p ≡ a +ℤ pos k = omega (arith, ints) in
-    (λ t. sum_below n (λ i. passed (a +ℤ pos i) (further t))) ∙ sum_below-passed_after n k a ∙ omega (arith, ints)
+    (λ t. sum_below n (λ i. unit_step (a +ℤ pos i) (further t))) ∙ sum_below-unit_step_after n k a ∙ omega (arith, ints)
 
-pub sum_below-passed_in_field : (p : ℤ) → least_coordinate ≤ℤ p → p ≤ℤ greatest_coordinate
-    → sum_below field_size (λ i. passed (least_coordinate +ℤ pos i) p) ≡ greatest_coordinate -ℤ p
-sum_below-passed_in_field p = sum_below-passed field_size least_coordinate p
+pub sum_below-unit_step_in_field : (p : ℤ) → least_coordinate ≤ℤ p → p ≤ℤ greatest_coordinate
+    → sum_below field_size (λ i. unit_step (least_coordinate +ℤ pos i) p) ≡ greatest_coordinate -ℤ p
+sum_below-unit_step_in_field p = sum_below-unit_step field_size least_coordinate p
 
 -- what a segment adds to the sum of the winding numbers: the area between it and the right side of the field, positive
 -- where the segment leads down
@@ -45,13 +45,13 @@ strip e = (greatest_coordinate -ℤ e.from.x) *ℤ (e.from.y -ℤ e.to.y)
 sum_over_field-crossing : (e : Segment) → IsInRange e.from → IsInRange e.to → sum_over_field (λ x y. crossing x y e) ≡ strip e
 unfolding crossing
 sum_over_field-crossing e from to =
-    let columns = sum_below-passed_in_field e.from.x from.x.least from.x.greatest in
-    let rows_from = sum_below-passed_in_field e.from.y from.y.least from.y.greatest in
-    let rows_to = sum_below-passed_in_field e.to.y to.y.least to.y.greatest in
-    let passed_at : ℤ → ℕ → ℤ = λ p j. passed (least_coordinate +ℤ pos j) p in
-    let rows = sum_below-sub field_size (passed_at e.to.y) (passed_at e.from.y) in
-    let height : sum_below field_size (passed_at e.to.y) -ℤ sum_below field_size (passed_at e.from.y) ≡ e.from.y -ℤ e.to.y = omega (arith, ints) in
-    sum_over_field-product (λ x. passed x e.from.x) (λ y. passed y e.to.y -ℤ passed y e.from.y)
+    let columns = sum_below-unit_step_in_field e.from.x from.x.least from.x.greatest in
+    let rows_from = sum_below-unit_step_in_field e.from.y from.y.least from.y.greatest in
+    let rows_to = sum_below-unit_step_in_field e.to.y to.y.least to.y.greatest in
+    let unit_step_at : ℤ → ℕ → ℤ = λ p j. unit_step (least_coordinate +ℤ pos j) p in
+    let rows = sum_below-sub field_size (unit_step_at e.to.y) (unit_step_at e.from.y) in
+    let height : sum_below field_size (unit_step_at e.to.y) -ℤ sum_below field_size (unit_step_at e.from.y) ≡ e.from.y -ℤ e.to.y = omega (arith, ints) in
+    sum_over_field-product (λ x. unit_step x e.from.x) (λ y. unit_step y e.to.y -ℤ unit_step y e.from.y)
     ∙ (λ t. columns t *ℤ (rows ∙ height) t)
 
 -- what remains of a segment's part of the shoelace sum, as a value at each of its ends

@@ -4,7 +4,7 @@ use Rattle.std.proofs.Common.{◌≡◌, ℕ, ◌<◌, Bool, ℤ, pos, ◌+ℤ�
 use Rattle.std.proofs.lemmas.Int.{ints}
 use Rattle.mf_geom.specs.declared.point.Point.{Point}
 use Rattle.mf_geom.specs.Path.{Segment, point_at, next_place, segment_at, across, up, IsRectilinear}
-use Rattle.mf_geom.specs.Crossing.{passed, crossing, crossing_at}
+use Rattle.mf_geom.specs.Crossing.{unit_step, crossing, crossing_at}
 use Rattle.mf_geom.specs.Lawful.{IsRectilinearCycle}
 use Rattle.mf_geom.specs.Sum.{sum_below}
 use Rattle.mf_geom.specs.Winding.{Quadrant, right_up, left_up, left_down, right_down, quadrant, quarter, quarter_along, quarter_at, winding}
@@ -38,7 +38,7 @@ quarter-level right right' above = grind (arith, ints)
 -- difference of the two quadrants, except for the jump at the ray
 quarter_along-crossing : (x y : ℤ) (e : Segment) → IsRectilinear e
     → quarter_along x y e ≡ pos 4 *ℤ crossing x y e +ℤ (quarters_to (quadrant x y e.to) -ℤ quarters_to (quadrant x y e.from))
-unfolding quarter_along crossing passed quadrant IsRectilinear across up
+unfolding quarter_along crossing unit_step quadrant IsRectilinear across up
 quarter_along-crossing x y e (inl level) =
     let same_height : e.to.y ≡ e.from.y = let rise = level.1 in omega (arith, ints) in
     rw same_height (quarter-level (int_lt x e.from.x) (int_lt x e.to.x) (int_lt y e.from.y))
@@ -60,20 +60,20 @@ unfolding winding
 winding-crossings ps x y cycle =
     ap (λ s. int_div s (pos 4)) (quarters-crossings ps x y cycle) ∙ int_div-mul 4 (sum_below (length ps) (crossing_at ps x y)) (omega arith)
 
-pub passed-reached : (x a : ℤ) → a ≤ℤ x → passed x a ≡ pos 1
-unfolding passed
-passed-reached x a at_most = grind (arith, ints)
+pub unit_step-reached : (x a : ℤ) → a ≤ℤ x → unit_step x a ≡ pos 1
+unfolding unit_step
+unit_step-reached x a at_most = grind (arith, ints)
 
-pub passed-beyond : (x a : ℤ) → x <ℤ a → passed x a ≡ pos 0
-unfolding passed
-passed-beyond x a beyond = grind (arith, ints)
+pub unit_step-beyond : (x a : ℤ) → x <ℤ a → unit_step x a ≡ pos 0
+unfolding unit_step
+unit_step-beyond x a beyond = grind (arith, ints)
 
 -- a cycle that lies on one side of the pixel's column crosses the ray upwards as often as downwards
-pub crossings-beside : (ps : List Point) (x y side : ℤ) → ((i : ℕ) → i < length ps → passed x (point_at ps i).x ≡ side)
+pub crossings-beside : (ps : List Point) (x y side : ℤ) → ((i : ℕ) → i < length ps → unit_step x (point_at ps i).x ≡ side)
     → sum_below (length ps) (crossing_at ps x y) ≡ pos 0
 unfolding crossing_at crossing segment_at
 crossings-beside ps x y side same_side =
-    let place : ℕ → ℤ = λ i. passed y (point_at ps i).y in
+    let place : ℕ → ℤ = λ i. unit_step y (point_at ps i).y in
     let steps : ℕ → ℤ = λ i. place (next_place ps i) -ℤ place i in
     sum_below-same (length ps) (crossing_at ps x y) (λ i. side *ℤ steps i) (λ i below. ap (λ s. s *ℤ steps i) (same_side i below))
     ∙ sum_below-mul (length ps) side steps
@@ -81,12 +81,12 @@ crossings-beside ps x y side same_side =
     ∙ omega (arith, ints)
 
 -- a cycle that lies on one side of the pixel's row never crosses the ray
-pub crossings-over : (ps : List Point) (x y side : ℤ) → ((i : ℕ) → i < length ps → passed y (point_at ps i).y ≡ side)
+pub crossings-over : (ps : List Point) (x y side : ℤ) → ((i : ℕ) → i < length ps → unit_step y (point_at ps i).y ≡ side)
     → sum_below (length ps) (crossing_at ps x y) ≡ pos 0
 unfolding crossing_at crossing segment_at
 crossings-over ps x y side same_side =
     sum_below-same (length ps) (crossing_at ps x y) (λ i. pos 0) (λ i below.
     let from = same_side i below in
     let to = same_side (next_place ps i) (next_place-below ps i below) in
-    (λ t. passed x (point_at ps i).x *ℤ (to t -ℤ from t)) ∙ mul-self (passed x (point_at ps i).x) side)
+    (λ t. unit_step x (point_at ps i).x *ℤ (to t -ℤ from t)) ∙ mul-self (unit_step x (point_at ps i).x) side)
     ∙ sum_below-zero (length ps)

@@ -1,6 +1,6 @@
 //! How often a closed path winds round a pixel.
 ghost use Rattle.std.specs.Prelude.{◌≡◌, ◌<◌, pos, negsuc, ◌≤ℤ◌, length};
-ghost use Rattle.mf_geom.specs.Crossing.{passed, crossing_at};
+ghost use Rattle.mf_geom.specs.Crossing.{unit_step, crossing_at};
 ghost use Rattle.mf_geom.specs.Lawful.{IsRectilinearCycle, StaysInRange};
 ghost use Rattle.mf_geom.specs.Winding.{winding};
 
@@ -35,13 +35,13 @@ fn crossing(points: &[Point], segment: usize, x: i32, y: i32) -> i32
     if x < from.x {
         return 0;
     }
-    passed(y, to.y) - passed(y, from.y)
+    unit_step(y, to.y) - unit_step(y, from.y)
 }
 
-/// 1 where `a` is at most `x`, and 0 where it is greater.
-#[tactic(auto, unfolding(crate::specs::Crossing::passed))]
-fn passed(x: i32, a: i32) -> i32
-    ensures value { result ≡ passed x a }
+/// The unit step: 1 where `a` is at most `x`, and 0 where it is greater.
+#[tactic(auto, unfolding(crate::specs::Crossing::unit_step))]
+fn unit_step(x: i32, a: i32) -> i32
+    ensures value { result ≡ unit_step x a }
     ensures least { pos 0 ≤ℤ result }
     ensures greatest { result ≤ℤ pos 1 }
 {

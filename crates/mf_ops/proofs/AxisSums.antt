@@ -7,11 +7,11 @@ use Rattle.std.proofs.lemmas.Bool.{cases_eq, cases_Bool, and_left, and_right, bo
 use Rattle.std.proofs.lemmas.Bool.Decides.{Decides-int_eq}
 use Rattle.std.proofs.lemmas.Int.{ints, by_lt_z}
 use Rattle.mf_geom.specs.Coordinates.{least_coordinate, greatest_coordinate, last_in_field}
-use Rattle.mf_geom.specs.Crossing.{passed}
+use Rattle.mf_geom.specs.Crossing.{unit_step}
 use Rattle.mf_geom.specs.Field.{sum_over_field}
 use Rattle.mf_geom.specs.Sum.{sum_below}
-use Rattle.mf_geom.proofs.Areas.{sum_below-passed_in_field}
-use Rattle.mf_geom.proofs.Crossings.{passed-reached, passed-beyond}
+use Rattle.mf_geom.proofs.Areas.{sum_below-unit_step_in_field}
+use Rattle.mf_geom.proofs.Crossings.{unit_step-reached, unit_step-beyond}
 use Rattle.mf_geom.proofs.Sums.{sum_below-same, sum_below-zero, sum_below-next, sum_below-sub, sum_below-mul, sum_below-swap}
 use Rattle.mf_edges.specs.Axes.{opposite}
 use borrow.Author.Differences.{up, down, product_is}
@@ -99,34 +99,34 @@ pub record IsMove (n : ℕ) (source : ℤ → ℤ) (kept : ℤ → Bool) : Type 
 
 -- 1 at the n columns from s on, and 0 elsewhere
 abbrev among : ℕ → ℤ → ℤ → ℤ
-among n s q = passed q s -ℤ passed q (s +ℤ pos n)
+among n s q = unit_step q s -ℤ unit_step q (s +ℤ pos n)
 
 among-inside : (n : ℕ) (s q : ℤ) → s ≤ℤ q → q <ℤ (s +ℤ pos n) → among n s q ≡ pos 1
 among-inside n s q start end =
-    let reached = passed-reached q s start in
-    let beyond = passed-beyond q (s +ℤ pos n) end in
+    let reached = unit_step-reached q s start in
+    let beyond = unit_step-beyond q (s +ℤ pos n) end in
     omega (arith, ints)
 
 among-outside : (n : ℕ) (s q : ℤ) → (s ≤ℤ q → q <ℤ (s +ℤ pos n) → ⊥) → among n s q ≡ pos 0
 among-outside n s q outside =
     by_lt_z q s
     (λ left.
-    let start = passed-beyond q s left in
-    let end = passed-beyond q (s +ℤ pos n) (omega (arith, ints)) in
+    let start = unit_step-beyond q s left in
+    let end = unit_step-beyond q (s +ℤ pos n) (omega (arith, ints)) in
     omega (arith, ints))
     (λ right.
     by_lt_z q (s +ℤ pos n)
     (λ inside. absurd (outside right inside))
     (λ behind.
-    let start = passed-reached q s right in
-    let end = passed-reached q (s +ℤ pos n) behind in
+    let start = unit_step-reached q s right in
+    let end = unit_step-reached q (s +ℤ pos n) behind in
     omega (arith, ints)))
 
 axis_sum-among : (n : ℕ) (s : ℤ) → least_coordinate ≤ℤ s → (s +ℤ pos n) ≤ℤ greatest_coordinate → axis_sum (among n s) ≡ pos n
 axis_sum-among n s start end =
-    let from_start = sum_below-passed_in_field s start (omega (arith, ints)) in
-    let from_end = sum_below-passed_in_field (s +ℤ pos n) (omega (arith, ints)) end in
-    sum_below-sub 8190 (λ i. passed (least_coordinate +ℤ pos i) s) (λ i. passed (least_coordinate +ℤ pos i) (s +ℤ pos n)) ∙ omega (arith, ints)
+    let from_start = sum_below-unit_step_in_field s start (omega (arith, ints)) in
+    let from_end = sum_below-unit_step_in_field (s +ℤ pos n) (omega (arith, ints)) end in
+    sum_below-sub 8190 (λ i. unit_step (least_coordinate +ℤ pos i) s) (λ i. unit_step (least_coordinate +ℤ pos i) (s +ℤ pos n)) ∙ omega (arith, ints)
 
 times_twice : (m n : ℕ) (a : ℤ) → pos n *ℤ (pos m *ℤ a) ≡ pos (m * n) *ℤ a
 times_twice m n a =

@@ -7,12 +7,12 @@ use Rattle.std.proofs.lemmas.List.Sorted.{IsPermutation-reverse, All-permutation
 use Rattle.mf_geom.specs.Coordinates.{greatest_coordinate}
 use Rattle.mf_geom.specs.declared.check.Check.TheVariants.{Off}
 use Rattle.mf_geom.specs.declared.point.Point.{Point}
-use Rattle.mf_geom.specs.Crossing.{passed, crossing, crossing_at}
+use Rattle.mf_geom.specs.Crossing.{unit_step, crossing, crossing_at}
 use Rattle.mf_geom.specs.Lawful.{IsRectilinearCycle}
 use Rattle.mf_geom.specs.Path.{Segment, point_at, next_place, segment_at, across, up, IsInRange, IsRectilinear}
 use Rattle.mf_geom.specs.Sum.{sum_below}
 use Rattle.mf_geom.specs.Winding.{contour}
-use Rattle.mf_geom.proofs.Crossings.{winding-crossings, passed-reached, crossings-beside}
+use Rattle.mf_geom.proofs.Crossings.{winding-crossings, unit_step-reached, crossings-beside}
 use Rattle.mf_geom.proofs.Products.{mul-add, mul-self}
 use Rattle.mf_geom.proofs.Sums.{next_place-below}
 use Rattle.mf_rows.specs.declared.corner.Corner.{Corner}
@@ -56,14 +56,14 @@ ends_of w e = record { x = e.from.x; y = e.from.y; weight = w } ∷ record { x =
 
 -- the ends of a vertical segment add the weight times its crossing
 added_by_all-ends : (w x y : ℤ) (e : Segment) → e.to.x ≡ e.from.x → added_by_all (ends_of w e) x y ≡ w *ℤ crossing x y e
-unfolding crossing passed added_by_all added_by
+unfolding crossing unit_step added_by_all added_by
 added_by_all-ends w x y e vertical =
     let ends = ends-crossing (int_lt x e.from.x) (int_lt y e.from.y) (int_lt y e.to.y) w in
     rw (vertical, int_le-not_lt) (omega (arith, ints, ends))
 
 crossing-horizontal : (x y : ℤ) (e : Segment) → e.to.y ≡ e.from.y → crossing x y e ≡ pos 0
 unfolding crossing
-crossing-horizontal x y e horizontal = rw (horizontal, mul-self (passed x e.from.x) (passed y e.from.y)) refl
+crossing-horizontal x y e horizontal = rw (horizontal, mul-self (unit_step x e.from.x) (unit_step y e.from.y)) refl
 
 lawful_ends : (w : ℤ) (e : Segment) → negsuc 2 ≤ℤ w → w ≤ℤ pos 3 → IsInRange e.from → IsInRange e.to → All IsCorner (ends_of w e)
 lawful_ends w e least greatest from to =
@@ -172,7 +172,7 @@ AreCorners-sides ps w ks cycle sides =
       closed = λ y.
           let balanced =
           crossings-beside ps greatest_coordinate y (pos 1)
-          (λ i below. let point = cycle.range.in_range i below in passed-reached greatest_coordinate (point_at ps i).x point.x.greatest) in
+          (λ i below. let point = cycle.range.in_range i below in unit_step-reached greatest_coordinate (point_at ps i).x point.x.greatest) in
           added_by_all-sides ps w ks sides greatest_coordinate y ∙ ap (λ n. w *ℤ n) balanced ∙ omega (arith, ints);
     }
 

@@ -208,9 +208,12 @@ pub all_numbered : (sum bs cs after : List (Arc Band Global)) → AreNumberedSoF
     → numbers_of after ≡ (numbers_of sum ++ numbers_of bs) ++ numbers_of cs → HaveRisingNumbers after
 all_numbered sum bs cs after so_far end all =
     let next = so_far.next in
-    let with_rest = λ (ds : List (Arc Band Global)) (rise : RiseFrom next ds). rise-append (pos 0) next (pos 512) (numbers_of sum) (numbers_of ds) so_far.before rise in
+    let with_rest = λ (ds : List (Arc Band Global)) (rise : RiseFrom next ds).
+    rise-append (pos 0) next (pos 512) (numbers_of sum) (numbers_of ds) so_far.before rise in
     subst (RiseWithin (pos 0) (pos 512)) (sym all)
     (⊎_elim (λ none. subst (RiseWithin (pos 0) (pos 512))
-    (sym (ap (λ ns. (numbers_of sum ++ ns) ++ numbers_of cs) (ap numbers_of none) ∙ ap (λ ns. ns ++ numbers_of cs) (append-nil (numbers_of sum)))) (with_rest cs so_far.right))
+    (sym (ap (λ ns. (numbers_of sum ++ ns) ++ numbers_of cs) (ap numbers_of none) ∙ ap (λ ns. ns ++ numbers_of cs) (append-nil (numbers_of sum))))
+    (with_rest cs so_far.right))
     (λ none. subst (RiseWithin (pos 0) (pos 512))
-    (sym (ap (λ ns. (numbers_of sum ++ numbers_of bs) ++ ns) (ap numbers_of none) ∙ append-nil (numbers_of sum ++ numbers_of bs))) (with_rest bs so_far.left)) end)
+    (sym (ap (λ ns. (numbers_of sum ++ numbers_of bs) ++ ns) (ap numbers_of none) ∙ append-nil (numbers_of sum ++ numbers_of bs)))
+    (with_rest bs so_far.left)) end)

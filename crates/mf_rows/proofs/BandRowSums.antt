@@ -89,7 +89,8 @@ module _ {whole_left whole_right : List EdgeRow} {sum bs : List (Arc Band Global
 
       reached : so_far.next ≤ℤ n
       reached =
-          let lower = All-head (λ r. r.y <ℤ lowest_of (so_far.next -ℤ pos 1)) r below (subst (AreBelow (lowest_of (so_far.next -ℤ pos 1))) first so_far.added) in
+          let added = subst (AreBelow (lowest_of (so_far.next -ℤ pos 1))) first so_far.added in
+          let lower = All-head (λ r. r.y <ℤ lowest_of (so_far.next -ℤ pos 1)) r below added in
           omega (arith, ints, lower, own.of_band.bottom)
 
       module _ {before others : List (Arc Band Global)} (split : IsSplitAtBand (n -ℤ pos 1) bs before others) where
@@ -108,7 +109,8 @@ module _ {whole_left whole_right : List EdgeRow} {sum bs : List (Arc Band Global
             (subst (λ m. RiseWithin so_far.next m (numbers_of before)) last first_part))
 
         -- the band with the sum in band n was appended
-        pub added_more : {of_number rest after : List (Arc Band Global)} {middle added left : List EdgeRow} → IsSplitAtBand n others of_number rest → AreSplitAtBand n ss added left
+        pub added_more : {of_number rest after : List (Arc Band Global)} {middle added left : List EdgeRow}
+            → IsSplitAtBand n others of_number rest → AreSplitAtBand n ss added left
             → middle ≡ rows_of_bands sum ++ rows_of_bands before → HasSum middle (rows_of_bands of_number) added (rows_of_bands after)
             → RiseBefore (n +ℤ pos 1) after → IsSumSoFar whole_left whole_right after rest left
         added_more {left = left} own_split added_split all more rising =

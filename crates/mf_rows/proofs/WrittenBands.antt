@@ -40,7 +40,8 @@ module _ (n : ℤ) (bs : List (Arc Band Global)) (rs : List EdgeRow) (writing : 
   -- where no row was written there is no band
   none_finished : (high : ℤ) → rs ≡ [] → pos 0 ≤ℤ high → RiseBefore high cs
   none_finished high none le =
-      subst (RiseWithin (pos 0) high) (sym (numbers ∙ ap (λ ns. ns ++ number_of_rows n rs) (ap numbers_of (writing.begun none)) ∙ ap (number_of_rows n) none)) le
+      subst (RiseWithin (pos 0) high)
+      (sym (numbers ∙ ap (λ ns. ns ++ number_of_rows n rs) (ap numbers_of (writing.begun none)) ∙ ap (number_of_rows n) none)) le
 
   some_finished : (high : ℤ) → AreRows (rows_of_bands bs ++ rs) → (n +ℤ pos 1) ≤ℤ high → RiseBefore high cs
   some_finished high rows le =

@@ -72,7 +72,8 @@ fn push_sum(
     requires band_of_number { AreOfBand number (rows_of_bands (band_found band)) }
     requires rows_of_number { AreOfBand number (slice_rows rows) }
     requires before { RiseBefore number sum.old.items }
-    ensures pushed { OnOk result (HasSum (rows_of_bands sum.old.items) (rows_of_bands (band_found band.entry)) (slice_rows rows.entry) (rows_of_bands sum.new.items)) }
+    ensures pushed { OnOk result (HasSum (rows_of_bands sum.old.items)
+        (rows_of_bands (band_found band.entry)) (slice_rows rows.entry) (rows_of_bands sum.new.items)) }
     ensures rising { OnOk result (RiseBefore (number +ℤ pos 1) sum.new.items) }
     ensures too_large { IfErr result (λ fault. fault ≢ AddFault.OutOfMemory
         → IsUnlawfulSomewhere (weight_in_all (rows_of_bands (band_found band.entry)) (slice_rows rows.entry))) }

@@ -68,7 +68,8 @@ fn push_sum(
     requires number_of_left { IsOnlyBand number (band_found left) }
     requires number_of_right { IsOnlyBand number (band_found right) }
     requires before { RiseBefore number sum.old.items }
-    ensures pushed { OnOk result (HasSum (rows_of_bands sum.old.items) (rows_of_bands (band_found left.entry)) (rows_of_bands (band_found right.entry)) (rows_of_bands sum.new.items)) }
+    ensures pushed { OnOk result (HasSum (rows_of_bands sum.old.items)
+        (rows_of_bands (band_found left.entry)) (rows_of_bands (band_found right.entry)) (rows_of_bands sum.new.items)) }
     ensures rising { OnOk result (RiseBefore (number +ℤ pos 1) sum.new.items) }
     ensures too_large { IfErr result (λ fault. fault ≢ AddFault.OutOfMemory
         → IsUnlawfulSomewhere (weight_in_all (rows_of_bands (band_found left.entry)) (rows_of_bands (band_found right.entry)))) }

@@ -30,10 +30,12 @@ push_sum-requires-clause-right c =
     rows_of_first (rows_split_at c.split_first_band-in-Some.ensures) (rows_right _ _ _ _ _ c.loop-number.invariant.so_far)
 
 pub push_sum-requires-clause-number_of_left : goal.push_sum-requires-clause-number_of_left
-push_sum-requires-clause-number_of_left c = only_first c.split_first_band.ensures (next_number c.in-Some.number c.in-Some.ensures.number c.loop-number.invariant.numbers).left
+push_sum-requires-clause-number_of_left c =
+    only_first c.split_first_band.ensures (next_number c.in-Some.number c.in-Some.ensures.number c.loop-number.invariant.numbers).left
 
 pub push_sum-requires-clause-number_of_right : goal.push_sum-requires-clause-number_of_right
-push_sum-requires-clause-number_of_right c = only_first c.split_first_band-in-Some.ensures (next_number c.in-Some.number c.in-Some.ensures.number c.loop-number.invariant.numbers).right
+push_sum-requires-clause-number_of_right c =
+    only_first c.split_first_band-in-Some.ensures (next_number c.in-Some.number c.in-Some.ensures.number c.loop-number.invariant.numbers).right
 
 pub push_sum-requires-clause-before : goal.push_sum-requires-clause-before
 push_sum-requires-clause-before c = (next_number c.in-Some.number c.in-Some.ensures.number c.loop-number.invariant.numbers).before
@@ -46,14 +48,15 @@ returns-in_err-push_sum-clause-too_large c =
 
 pub loop-number-smaller : goal.loop-number-smaller
 loop-number-smaller c =
-    fewer_bands _ _ _ _ _ _ _ (next_number c.in-Some.number c.in-Some.ensures.number c.loop-number.invariant.numbers).lesser c.split_first_band.ensures c.split_first_band-in-Some.ensures
+    fewer_bands _ _ _ _ _ _ _ (next_number c.in-Some.number c.in-Some.ensures.number c.loop-number.invariant.numbers).lesser
+    c.split_first_band.ensures c.split_first_band-in-Some.ensures
 
 pub loop-number-preserved : goal.loop-number-preserved
 loop-number-preserved c = record {
   so_far = sum_more_step _ _ _ _ _ c.loop-number.invariant.so_far _ _ _ _ _ (rows_split_at c.split_first_band.ensures)
       (rows_split_at c.split_first_band-in-Some.ensures) _ c.in_ok-push_sum.ensures.pushed;
-  numbers = numbered_more (next_number c.in-Some.number c.in-Some.ensures.number c.loop-number.invariant.numbers) c.split_first_band.ensures c.split_first_band-in-Some.ensures
-      c.in_ok-push_sum.ensures.rising;
+  numbers = numbered_more (next_number c.in-Some.number c.in-Some.ensures.number c.loop-number.invariant.numbers)
+      c.split_first_band.ensures c.split_first_band-in-Some.ensures c.in_ok-push_sum.ensures.rising;
 }
 
 pub returns-clause-rows : goal.returns-clause-rows

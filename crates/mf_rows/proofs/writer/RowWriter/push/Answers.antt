@@ -23,7 +23,15 @@ invariant_of-self-in_err-close_band c =
     let y_is : to_z w32 (of_z w32 c.args.y) ≡ c.args.y = omega (arith, ints) in
     let own_is : own ≡ c.band_of-own.result = omega (arith, ints) in
     let of_own_band : IsOfBand own c.args.y = rw (own_is, ← y_is) c.band_of-own.ensures in
-    rw (c.replace-number.ensures.after, c.replace-bands.ensures.after, c.new.ensures.items, c.replace-rows.ensures.after, c.in_ok-push-2.ensures.pushed, c.in_ok-next.ensures, y_is)
+    rw (
+      c.replace-number.ensures.after,
+      c.replace-bands.ensures.after,
+      c.new.ensures.items,
+      c.replace-rows.ensures.after,
+      c.in_ok-push-2.ensures.pushed,
+      c.in_ok-next.ensures,
+      y_is,
+    )
     (writing_first own row [] of_own_band (λ rows. omega (arith, ints, of_own_band.bottom, c.requires.top)))
 
 -- else the bands before it are there, too
