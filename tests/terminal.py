@@ -3,7 +3,7 @@
 
     tests/terminal.py [PROGRAM]
 
-PROGRAM is by default ./mfview. The terminal is one of tmux, whose server runs for this script alone. Then
+PROGRAM is by default crates/mfview/out/mfview. The terminal is one of tmux, whose server runs for this script alone. Then
 
 - the frame of the last picture must stay on the screen, the same as `--frames` writes it, and the prompt must come back below it;
 - while a script is typed slowly, the frames must be those of its published pictures, and their revisions must rise;
@@ -17,6 +17,7 @@ import contextlib
 import os
 import pathlib
 import re
+import shutil
 import subprocess
 import sys
 import tempfile
@@ -273,7 +274,9 @@ def check_interrupt(terminal: Terminal, program: str, folder: pathlib.Path) -> N
 
 
 def main() -> int:
-    program = sys.argv[1] if len(sys.argv) > 1 else "./mfview"
+    program = sys.argv[1] if len(sys.argv) > 1 else str(ROOT / "crates/mfview/out/mfview")
+    if not shutil.which(program):
+        sys.exit(f"there is no program {program}: `./mfview < /dev/null` builds it")
     checks: list[tuple[str, Callable[[Terminal, pathlib.Path], None]]] = [
         (name, lambda terminal, folder, name=name: check_example(terminal, program, folder, name)) for name in EXAMPLES
     ]

@@ -178,6 +178,13 @@ def stretch(across: fractions.Fraction, up: fractions.Fraction) -> list[str]:
     return [f"{word} {factor}" for word, factor in factors.items() if factor != 1]
 
 
+def check_proofs(font: Font, codes: list[int]) -> None:
+    """Refuses codes of proofs that no character of the font has."""
+    lacking = sorted(set(codes) - {character.code for character in font.characters})
+    if lacking:
+        raise Untranslated(f"the font has no character {', '.join(map(str, lacking))}, whose proof is asked for")
+
+
 class Script:
     """The script that is being made. Pictures have METAFONT's names here; each but `currentpicture` has a register."""
 
@@ -387,7 +394,7 @@ class Log:
         """Reads something that is done to a picture."""
         source = self.being_made()
         if not source.is_begun() and not self.is_shown:
-            raise Untranslated(f"it is not known what picture is {step.word} {step.operand}")
+            raise Untranslated(f"it is not known what picture is {'subtracted' if step == NEGATED else f'{step.word} {step.operand}'}")
         source.steps.append(step)
 
     def read_restored(self, token: str) -> None:
@@ -488,6 +495,7 @@ def main() -> int:
     path = words.font
     try:
         font = read_font(path.read_bytes())
+        check_proofs(font, words.proof)
         path = words.log
         script = translated(path.read_text(encoding="latin-1"), Script(font, set(words.proof)))
     except (OSError, NotGf, Untranslated) as fault:
