@@ -8,8 +8,8 @@ pub const HELP: &str = "usage: mfview [OPTION..] < SCRIPT
 
 Performs a script, and draws currentpicture in the terminal while the script changes it.
 
-  --columns N          draws in N columns of characters, 1..1000 (80)
-  --rows N             draws in N rows of characters, 1..1000 (24)
+  --columns N          draws in N columns of characters, 50..1000 (80)
+  --rows N             draws in N rows of characters, 6..1000 (24)
   --pause MS           waits MS milliseconds after each publish, 0..60000 (0)
   --frames             writes one frame after another, without control codes
   --transcript FILE    writes the transcript to FILE instead of standard error
