@@ -13,7 +13,7 @@ use Rattle.mf_rows.proofs.BoundsInField.{bounds_in_field}
 use Rattle.mf_rows.proofs.BoxesJoined.{box_of_some, least_box_of_both}
 use Rattle.mf_rows.proofs.LeastBoxes.{blank_of_weights, least_of_weights}
 use Rattle.mf_gf.specs.declared.boxes.CharacterBox.{CharacterBox}
-use Rattle.mf_gf.specs.Boxes.{no_box, box_of_pixel, join, box_of, pixel_box}
+use Rattle.mf_gf.specs.Boxes.{no_box, box_of_pixel, join, box_of_pixels, pixel_box}
 use Rattle.mf_gf.specs.Pixels.{black}
 use Rattle.mf_gf.proofs.BlackDots.{black_picture}
 use Rattle.mf_gf.proofs.BlackWeights.{black_at}
@@ -50,12 +50,12 @@ least_of_pixel d = record {
   top = (0, d, omega arith, refl, refl);
 }
 
-pub least_box : (d : Dot) (ds : List Dot) → IsLeastBox (d ∷ ds) (pixel_box (box_of (d ∷ ds)))
-unfolding box_of
+pub least_box : (d : Dot) (ds : List Dot) → IsLeastBox (d ∷ ds) (pixel_box (box_of_pixels (d ∷ ds)))
+unfolding box_of_pixels
 least_box d [] = least_of_pixel d
 least_box d (e ∷ ds) =
-    subst (λ (b : Box4). IsLeastBox (d ∷ e ∷ ds) b) (sym (pixel_box-join (box_of_pixel d) (box_of (e ∷ ds))))
-    (least_box_of_both (d ∷ []) (e ∷ ds) (pixel_box (box_of_pixel d)) (pixel_box (box_of (e ∷ ds))) (least_of_pixel d) (least_box e ds))
+    subst (λ (b : Box4). IsLeastBox (d ∷ e ∷ ds) b) (sym (pixel_box-join (box_of_pixel d) (box_of_pixels (e ∷ ds))))
+    (least_box_of_both (d ∷ []) (e ∷ ds) (pixel_box (box_of_pixel d)) (pixel_box (box_of_pixels (e ∷ ds))) (least_of_pixel d) (least_box e ds))
 
 -- ---- there is one least box
 
@@ -76,10 +76,10 @@ least_low ds a b first second =
 abbrev pub character_box : Box4 → CharacterBox
 character_box b = record { min_m = b.min_x; max_m = b.max_x +ℤ pos 1; min_n = b.min_y; max_n = b.max_y }
 
-box_from_least : (ds : List Dot) (b : Box4) → IsLeastBox ds b → box_of ds ≡ character_box b
+box_from_least : (ds : List Dot) (b : Box4) → IsLeastBox ds b → box_of_pixels ds ≡ character_box b
 box_from_least [] b least = absurd (box_of_some b least)
 box_from_least (d ∷ ds) b least =
-    let own = box_of (d ∷ ds) in
+    let own = box_of_pixels (d ∷ ds) in
     let first = least_box d ds in
     let columns = least_left (d ∷ ds) (pixel_box own) b first least in
     let columns_back = least_left (d ∷ ds) b (pixel_box own) least first in
@@ -105,12 +105,12 @@ positive_is ds picture x y =
 least_black : (ds : List Dot) (b : Box4) → IsPicture ds → IsBoxRound (is_positive_at ds) b → IsLeastBox (black ds) b
 least_black ds b picture box = least_of_weights (is_positive_at ds) (black ds) b (black_picture ds picture) (positive_is ds picture) box
 
-pub black_box : (ds : List Dot) (b : Box4) → IsPicture ds → IsBoxRound (is_positive_at ds) b → box_of (black ds) ≡ character_box b
+pub black_box : (ds : List Dot) (b : Box4) → IsPicture ds → IsBoxRound (is_positive_at ds) b → box_of_pixels (black ds) ≡ character_box b
 black_box ds b picture box = box_from_least (black ds) b (least_black ds b picture box)
 
-pub no_black_box : (ds : List Dot) → IsPicture ds → ((x y : ℤ) → is_positive_at ds x y ≡ false) → box_of (black ds) ≡ no_box
-unfolding box_of
-no_black_box ds picture none = ap box_of (blank_of_weights (is_positive_at ds) (black ds) (black_picture ds picture) (positive_is ds picture) none)
+pub no_black_box : (ds : List Dot) → IsPicture ds → ((x y : ℤ) → is_positive_at ds x y ≡ false) → box_of_pixels (black ds) ≡ no_box
+unfolding box_of_pixels
+no_black_box ds picture none = ap box_of_pixels (blank_of_weights (is_positive_at ds) (black ds) (black_picture ds picture) (positive_is ds picture) none)
 
 -- the numbers of such a box fit
 pub record BoxFits (b : Box4) : Type 0 where

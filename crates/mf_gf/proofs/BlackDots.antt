@@ -13,7 +13,7 @@ use Rattle.mf_rows.specs.Runs.{stretch, dots_of, runs_of}
 use Rattle.mf_rows.proofs.DotsLemmas.{dots_from-lower}
 use Rattle.mf_rows.proofs.RunsLemmas.{dots_of-runs_of}
 use Rattle.mf_rows.proofs.Totals.{total_none}
-use Rattle.mf_gf.specs.Ahead.{blacks, AreInOrder}
+use Rattle.mf_gf.specs.Ahead.{blacks, AreBlackRuns}
 use Rattle.mf_gf.specs.Pixels.{black}
 
 -- ---- all dots of a run are black, or none is
@@ -100,7 +100,7 @@ blacks-ones (r ∷ rs) =
     (λ yes. All-cons IsBlack first (blacks rs) refl (blacks-ones rs))
     (λ no. blacks-ones rs)
 
-pub blacks_in_order : (ds : List Dot) → IsPicture ds → AreInOrder (blacks (runs_of ds))
+pub blacks_in_order : (ds : List Dot) → IsPicture ds → AreBlackRuns (blacks (runs_of ds))
 blacks_in_order ds picture = record {
   runs = blacks-lawful (runs_of ds) (total_none ds (runs_of ds) picture refl).passes.runs;
   ones = blacks-ones (runs_of ds);

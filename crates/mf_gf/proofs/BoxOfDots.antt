@@ -11,7 +11,7 @@ use Rattle.byteorder.specs.Endian.{big_number, twos_complement}
 use Rattle.byteorder.specs.Numbers.{big_number-reads_back}
 use Rattle.mf_rows.specs.Dots.{Dot, IsDot, AreDotsFrom, place}
 use Rattle.mf_gf.specs.declared.boxes.CharacterBox.{CharacterBox}
-use Rattle.mf_gf.specs.Boxes.{box_of, box_of_pixel, join}
+use Rattle.mf_gf.specs.Boxes.{box_of_pixels, box_of_pixel, join}
 use Rattle.mf_gf.specs.Numbers.{IsWord, word}
 use Rattle.mf_gf.specs.Painting as painting
 use Rattle.mf_gf.specs.Painting.{pixels_from, pixels_in, head_of}
@@ -58,14 +58,14 @@ box_round_more b d ds dot others =
           (λ e stands. record { column = omega (arith, ints, clamps, stands); row = omega (arith, ints, clamps, stands) }) ds others.dots);
     }
 
-pub box_round_dots : (low : ℤ) (ds : List Dot) → AreDotsFrom low ds → IsBoxRound (box_of ds) ds
-unfolding box_of
+pub box_round_dots : (low : ℤ) (ds : List Dot) → AreDotsFrom low ds → IsBoxRound (box_of_pixels ds) ds
+unfolding box_of_pixels
 box_round_dots low [] dots = record {
   small = record { left = omega (arith, ints); right = omega (arith, ints); bottom = omega (arith, ints); top = omega (arith, ints) };
-  dots = All-nil (StandsIn (box_of []));
+  dots = All-nil (StandsIn (box_of_pixels []));
 }
 box_round_dots low (d ∷ []) dots = box_round_pixel d dots.0
-box_round_dots low (d ∷ e ∷ ds) dots = box_round_more (box_of (e ∷ ds)) d (e ∷ ds) dots.0 (box_round_dots (place d.x d.y +ℤ pos 1) (e ∷ ds) dots.2)
+box_round_dots low (d ∷ e ∷ ds) dots = box_round_more (box_of_pixels (e ∷ ds)) d (e ∷ ds) dots.0 (box_round_dots (place d.x d.y +ℤ pos 1) (e ∷ ds) dots.2)
 
 -- so a pen that starts at the left end and the top of the box can paint the pixels
 pub dots_from_box : (low : ℤ) (b : CharacterBox) (ds : List Dot) → AreDotsFrom low ds → IsBoxRound b ds → AreDotsFrom (place b.min_m b.max_n) ds

@@ -11,8 +11,8 @@ use Rattle.mf_rows.specs.Runs.{dots_of, runs_of}
 use Rattle.mf_rows.proofs.RunsLemmas.{dots_of-runs_of}
 use Rattle.mf_gf.specs.declared.boxes.CharacterBox.{CharacterBox}
 use Rattle.mf_gf.specs.declared.stretches.Stretches.{Stretches}
-use Rattle.mf_gf.specs.Ahead.{AreInOrder, blacks_ahead, stretches_left}
-use Rattle.mf_gf.specs.Boxes.{box_of, box_of_pixel}
+use Rattle.mf_gf.specs.Ahead.{AreBlackRuns, blacks_ahead, stretches_left}
+use Rattle.mf_gf.specs.Boxes.{box_of_pixels, box_of_pixel}
 use Rattle.mf_gf.proofs.SpelledRows.{picture_from}
 
 pub record IsBoxInReach (b : CharacterBox) : Type 0 where
@@ -39,8 +39,8 @@ pixel_in_reach d dot =
       );
     }
 
-pub box_from : (low : ℤ) (ds : List Dot) → AreDotsFrom low ds → IsBoxInReach (box_of ds)
-unfolding box_of
+pub box_from : (low : ℤ) (ds : List Dot) → AreDotsFrom low ds → IsBoxInReach (box_of_pixels ds)
+unfolding box_of_pixels
 box_from low [] dots =
     let zero : IsCoordinate (pos 0) = record { least = omega (arith, ints); greatest = omega (arith, ints) } in
     record { columns = (zero, zero); rows = (zero, zero) }
@@ -54,12 +54,12 @@ box_from low (d ∷ e ∷ ds) dots =
     }
 
 -- where the stretches of these dots are those ahead of an iterator, the dots are a picture
-picture_ahead : (s : Stretches) (ds : List Dot) → AreInOrder (blacks_ahead s) → stretches_left s ≡ runs_of ds → IsPicture ds
+picture_ahead : (s : Stretches) (ds : List Dot) → AreBlackRuns (blacks_ahead s) → stretches_left s ≡ runs_of ds → IsPicture ds
 picture_ahead s ds order ahead =
     let dots = flat_map dots_of (blacks_ahead s) in
     let same : dots ≡ ds = sym (dots_of-runs_of dots) ∙ ap (flat_map dots_of) ahead ∙ dots_of-runs_of ds in
     subst IsPicture same (picture_from order.low dots order.dots)
 
-pub bounds_in_reach : (s : Stretches) (ds : List Dot) (b : CharacterBox) → b ≡ box_of ds → AreInOrder (blacks_ahead s)
+pub bounds_in_reach : (s : Stretches) (ds : List Dot) (b : CharacterBox) → b ≡ box_of_pixels ds → AreBlackRuns (blacks_ahead s)
     → stretches_left s ≡ runs_of ds → IsBoxInReach b
 bounds_in_reach s ds b bounds order ahead = subst IsBoxInReach (sym bounds) (box_from _ ds (picture_ahead s ds order ahead).dots)

@@ -8,8 +8,8 @@ use Rattle.std.proofs.lemmas.List.Elements.{All-head, All-tail}
 use mathlib.Core.List.{reverse-cons}
 use Rattle.mf_rows.specs.Dots.{Dot, start_of_field}
 use Rattle.mf_rows.specs.Runs.{runs_of}
-use Rattle.mf_gf.specs.Boxes.{box_of}
-use Rattle.mf_gf.specs.Files.{Character, FileSoFar, Shipment, bytes_so_far, last_of, last_place, shipments, spell_after, with_character, with_characters}
+use Rattle.mf_gf.specs.Boxes.{box_of_pixels}
+use Rattle.mf_gf.specs.Files.{Character, FileSoFar, Shipment, bytes_so_far, last_shipment, last_place, shipments, spell_after, with_character, with_characters}
 use Rattle.mf_gf.specs.Numbers.{IsWord}
 use Rattle.mf_gf.specs.Painting.{head_of, paint}
 use Rattle.mf_gf.specs.Pixels.{IsPixelSet}
@@ -24,10 +24,10 @@ use Rattle.mf_gf.proofs.Shipped.{shipment_after}
 -- ---- one character
 
 pub head-spell : (code : ℕ) (p : ℤ) (ds : List Dot) (rest : List ℕ) → code < 256 → IsWord p → IsPixelSet ds
-    → head_of (spell code p ds ++ rest) ≡ Some (record { code = pos code; earlier = p; box = box_of ds })
+    → head_of (spell code p ds ++ rest) ≡ Some (record { code = pos code; earlier = p; box = box_of_pixels ds })
 unfolding spell
 head-spell code p ds rest fits p_fits set =
-    let b = box_of ds in
+    let b = box_of_pixels ds in
     let all = rows b.min_m b.max_n b.min_m (runs_of ds) in
     ap (λ bytes. head_of (bytes ++ rest)) (append_assoc (begin code p b) all (69 ∷ []))
     ∙ ap head_of (append_assoc (begin code p b) (all ++ 69 ∷ []) rest)
@@ -98,21 +98,21 @@ pub record LastStands (bytes : List ℕ) (s : Shipment) : Type 0 where
   pub stands : StandsAt bytes s p
 
 pub last_stands : (bytes : List ℕ) (code : ℕ) (s : Shipment) (shipped : List Shipment) → AllStand bytes shipped
-    → last_of code shipped ≡ Some s → LastStands bytes s
-unfolding last_of
+    → last_shipment code shipped ≡ Some s → LastStands bytes s
+unfolding last_shipment
 last_stands bytes code s [] stand is = absurd (cc)
 last_stands bytes code s (t ∷ shipped) stand is =
-    split (λ test. (if test then Some t else last_of code shipped) ≡ Some s → LastStands bytes s) (t.character.code == code)
+    split (λ test. (if test then Some t else last_shipment code shipped) ≡ Some s → LastStands bytes s) (t.character.code == code)
     (λ yes found. let same : t ≡ s = cc in subst (LastStands bytes) same (record { p = pointer (last_place t.character.code shipped); stands = stand.0 }))
     (λ no found. last_stands bytes code s shipped stand.1 found) is
 
 -- p is a signed number of four bytes
 pointer_fits : (bytes : List ℕ) (code : ℕ) (shipped : List Shipment) → length bytes < 2147483648
     → AllStand bytes shipped → IsWord (pointer (last_place code shipped))
-unfolding last_of
+unfolding last_shipment
 pointer_fits bytes code [] short stand = record { least = omega (arith, ints); greatest = omega (arith, ints) }
 pointer_fits bytes code (s ∷ shipped) short stand =
-    split (λ test. IsWord (pointer (option_map (λ (it : Shipment). it.place) (if test then Some s else last_of code shipped)))) (s.character.code == code)
+    split (λ test. IsWord (pointer (option_map (λ (it : Shipment). it.place) (if test then Some s else last_shipment code shipped)))) (s.character.code == code)
     (λ yes. let before = stand.0.before in record { least = omega (arith, ints); greatest = omega (arith, ints, before, short) })
     (λ no. pointer_fits bytes code shipped short stand.1)
 
@@ -127,13 +127,13 @@ of_code code characters = filter (λ (c : Character). c.code == code) characters
 -- p leads from the last character with a code to all of them
 pub leads_back : (before file : List ℕ) (code : ℕ) (shipped : List Shipment) → length before < 2147483648 → AllStand before shipped → AllStand file shipped
     → LeadsBack file (pointer (last_place code shipped)) (of_code code (map character_of shipped))
-unfolding last_of LeadsBack
+unfolding last_shipment LeadsBack
 leads_back before file code [] short stand whole = refl
 leads_back before file code (s ∷ shipped) short stand whole =
     let own = s.character.code in
     split
     (λ test.
-    LeadsBack file (pointer (option_map (λ (it : Shipment). it.place) (if test then Some s else last_of code shipped)))
+    LeadsBack file (pointer (option_map (λ (it : Shipment). it.place) (if test then Some s else last_shipment code shipped)))
     (if test then s.character ∷ of_code code (map character_of shipped) else of_code code (map character_of shipped)))
     (own == code)
     (λ yes.
@@ -154,13 +154,13 @@ pub record BeginsWith (cs : List Character) (c : Character) : Type 0 where
   pub others : List Character
   pub all : cs ≡ c ∷ others
 
-pub last_is_first : (code : ℕ) (s : Shipment) (shipped : List Shipment) → last_of code shipped ≡ Some s
+pub last_is_first : (code : ℕ) (s : Shipment) (shipped : List Shipment) → last_shipment code shipped ≡ Some s
     → BeginsWith (of_code code (map character_of shipped)) s.character
-unfolding last_of
+unfolding last_shipment
 last_is_first code s [] is = absurd (cc)
 last_is_first code s (t ∷ shipped) is =
     let others = of_code code (map character_of shipped) in
-    split (λ test. (if test then Some t else last_of code shipped) ≡ Some s → BeginsWith (if test then t.character ∷ others else others) s.character)
+    split (λ test. (if test then Some t else last_shipment code shipped) ≡ Some s → BeginsWith (if test then t.character ∷ others else others) s.character)
     (t.character.code == code)
     (λ yes found. let same : t ≡ s = cc in record { others = others; all = ap (λ (it : Shipment). it.character ∷ others) same })
     (λ no found. last_is_first code s shipped found) is
@@ -181,12 +181,12 @@ characters_shipped comment cs = characters_with _ cs ∙ append-nil (reverse cs)
 
 -- whether a code has a last character
 abbrev pub has_last : ℕ → List Shipment → Bool
-has_last code shipped = is_some (last_of code shipped)
+has_last code shipped = is_some (last_shipment code shipped)
 
 has_last-cons : (code : ℕ) (s : Shipment) (shipped : List Shipment) → has_last code (s ∷ shipped) ≡ ((s.character.code == code) || has_last code shipped)
-unfolding last_of
+unfolding last_shipment
 has_last-cons code s shipped =
-    split (λ test. is_some (if test then Some s else last_of code shipped) ≡ (test || has_last code shipped))
+    split (λ test. is_some (if test then Some s else last_shipment code shipped) ≡ (test || has_last code shipped))
     (s.character.code == code) (λ yes. refl) (λ no. refl)
 
 or_swap : (a b c : Bool) → ((a || b) || c) ≡ (b || (a || c))
@@ -210,5 +210,5 @@ has_last-with code f (c ∷ cs) =
 
 pub has_last-shipped : (code : ℕ) (comment : List ℕ) (cs : List Character)
     → has_last code (shipments comment cs) ≡ list_any (λ (c : Character). c.code == code) cs
-unfolding last_of
+unfolding last_shipment
 has_last-shipped code comment cs = has_last-with code _ cs

@@ -11,7 +11,7 @@ use Rattle.mf_rows.specs.Order.{IsRun}
 use Rattle.mf_rows.specs.Runs.{stretch, dots_of, continues, run_from, with_dot, runs_of, IsFollowedBy, AreMaximal}
 use Rattle.mf_rows.proofs.MaximalRuns.{runs_of-dots_of}
 use Rattle.mf_rows.proofs.RunsLemmas.{dots_of-runs_of, maximal_runs_of, runs_of-first}
-use Rattle.mf_gf.specs.Ahead.{AreInOrder, with_next}
+use Rattle.mf_gf.specs.Ahead.{AreBlackRuns, with_next}
 use Rattle.mf_gf.proofs.BlackDots.{IsBlack}
 
 -- ---- runs in order
@@ -21,7 +21,7 @@ dots_behind : (low : ℤ) (ds es : List Dot) → AreDotsFrom low (ds ++ es) → 
 dots_behind low [] es dots = (low, dots)
 dots_behind low (d ∷ ds) es dots = dots_behind (place d.x d.y +ℤ pos 1) ds es dots.2
 
-pub order_behind : (r : Run) (rs : List Run) → AreInOrder (r ∷ rs) → AreInOrder rs
+pub order_behind : (r : Run) (rs : List Run) → AreBlackRuns (r ∷ rs) → AreBlackRuns rs
 order_behind r rs ordered =
     let behind = dots_behind ordered.low (dots_of r) (flat_map dots_of rs) ordered.dots in
     record { runs = All-tail IsRun r rs ordered.runs; ones = All-tail IsBlack r rs ordered.ones; low = behind.0; dots = behind.1 }
@@ -30,7 +30,7 @@ order_behind r rs ordered =
 
 -- a stretch and the runs ahead together have the dots of all these runs
 pub record IsBegun (all : List Run) (r : Run) (rs : List Run) : Type 0 where
-  pub order : AreInOrder (r ∷ rs)
+  pub order : AreBlackRuns (r ∷ rs)
   pub same : flat_map dots_of (r ∷ rs) ≡ flat_map dots_of all
 
 -- two stretches side by side are one

@@ -7,7 +7,7 @@ use Rattle.std.proofs.lemmas.List.{append-nil, take_more, get_or-set_same, get_o
 use Rattle.mf_gf.specs.declared.locator.Locator.{Locator}
 use Rattle.mf_gf.specs.declared.locators.Locators.{Locators}
 use Rattle.mf_gf.specs.declared.spelling.Spelling.{Spelling}
-use Rattle.mf_gf.specs.Files.{Shipment, last_of, locator_if, locator_of, locators_from}
+use Rattle.mf_gf.specs.Files.{Shipment, last_shipment, locator_if, locator_of, locators_from}
 use Rattle.mf_gf.specs.Keeping.{HasLasts, table_text}
 use Rattle.mf_gf.specs.Spellings.{Holds}
 
@@ -29,7 +29,7 @@ next_code_held s text items code d within held =
 
 -- the locator of the last character of a code
 abbrev pub last_locator : ℕ → List Shipment → Option Locator
-last_locator code shipped = option_map locator_of (last_of code shipped)
+last_locator code shipped = option_map locator_of (last_shipment code shipped)
 
 -- the locators of n codes are those of the last characters with these codes
 lasts_text : (shipped : List Shipment) (items : List (Option Locator)) (code n : ℕ) → length items ≡ n
@@ -53,11 +53,11 @@ table_text-is table shipped lasts =
 pub lasts-set : (items : List (Option Locator)) (s : Shipment) (shipped : List Shipment) → length items ≡ 256 → s.character.code < 256
     → ((code : ℕ) → code < 256 → slice_index_or items code None ≡ last_locator code shipped)
     → (code : ℕ) → code < 256 → slice_index_or (set items s.character.code (Some (locator_of s))) code None ≡ last_locator code (s ∷ shipped)
-unfolding last_of
+unfolding last_shipment
 lasts-set items s shipped same fits lasts code code_fits =
     let own = s.character.code in
     let changed = set items own (Some (locator_of s)) in
-    cond_both (own == code) (Some s) (last_of code shipped) (λ last. slice_index_or changed code None ≡ option_map locator_of last)
+    cond_both (own == code) (Some s) (last_shipment code shipped) (λ last. slice_index_or changed code None ≡ option_map locator_of last)
     (λ yes. ap (λ c. slice_index_or changed c None) (sym (eqb-true own code yes))
     ∙ get_or-set_same items own (Some (locator_of s)) None (omega (arith, same, fits)))
     (λ no. get_or-set_other items own code (Some (locator_of s)) None (λ equal. false≢true (sym no ∙ eq-eqb own code (sym equal))) ∙ lasts code code_fits)

@@ -6,7 +6,7 @@ use Rattle.std.proofs.lemmas.List.Elements.{All-cons, All-nil, All-weaker}
 use Rattle.std.proofs.lemmas.List.Kept.{AllPairs-cons}
 use Rattle.byteorder.specs.Numbers.{big_number-reads_back}
 use Rattle.mf_gf.specs.declared.locator.Locator.{Locator}
-use Rattle.mf_gf.specs.Files.{Shipment, ending, last_of, locator_head, locator_if, locator_of, locator_text, locators_from, short_dx}
+use Rattle.mf_gf.specs.Files.{Shipment, ending, last_shipment, locator_head, locator_if, locator_of, locator_text, locators_from, short_dx}
 use Rattle.mf_gf.specs.Numbers.{IsWord, word}
 use Rattle.mf_gf.specs.Pointers.{Item, locators_within, read_item}
 use Rattle.mf_gf.proofs.BoxOfDots.{word-reads_back}
@@ -58,7 +58,7 @@ with_last (Some s) ls = locator_of s ∷ ls
 -- the locators of n codes, from this code on
 unfoldable pub lasts_from : ℕ → ℕ → List Shipment → List Locator
 lasts_from code zero shipped = []
-lasts_from code (suc n) shipped = with_last (last_of code shipped) (lasts_from (code + 1) n shipped)
+lasts_from code (suc n) shipped = with_last (last_shipment code shipped) (lasts_from (code + 1) n shipped)
 
 -- the locators from an item on, given what was read of it
 abbrev read_on : ℕ → Option Item → Option (List Locator)
@@ -80,8 +80,8 @@ unfolding locators_within read_item
 end_within zero place before some = absurd (omega (arith, some))
 end_within (suc n) place before some = refl
 
-module _ (shipped : List Shipment) (fits : (code : ℕ) (s : Shipment) → last_of code shipped ≡ Some s → IsReadable (locator_of s)) (place before : ℕ) where
-  one_read : (code n m : ℕ) (last : Option Shipment) → suc n < m → last_of code shipped ≡ last
+module _ (shipped : List Shipment) (fits : (code : ℕ) (s : Shipment) → last_shipment code shipped ≡ Some s → IsReadable (locator_of s)) (place before : ℕ) where
+  one_read : (code n m : ℕ) (last : Option Shipment) → suc n < m → last_shipment code shipped ≡ last
       → ((k : ℕ) → n < k → locators_within k (locators_from (code + 1) n shipped ++ ending place before) ≡ Some (lasts_from (code + 1) n shipped))
       → locators_within m (locator_if (option_map locator_of last) ++ locators_from (code + 1) n shipped ++ ending place before)
       ≡ Some (with_last last (lasts_from (code + 1) n shipped))
@@ -98,29 +98,29 @@ module _ (shipped : List Shipment) (fits : (code : ℕ) (s : Shipment) → last_
   pub within-reads : (code n m : ℕ) → n < m → locators_within m (locators_from code n shipped ++ ending place before) ≡ Some (lasts_from code n shipped)
   unfolding locators_from lasts_from
   within-reads code zero m few = end_within m place before (omega (arith, few))
-  within-reads code (suc n) m few = one_read code n m (last_of code shipped) few refl (λ k less. within-reads (code + 1) n k less)
+  within-reads code (suc n) m few = one_read code n m (last_shipment code shipped) few refl (λ k less. within-reads (code + 1) n k less)
 
 -- ---- what the locators are
 
-pub last_of-code : (code : ℕ) (s : Shipment) (shipped : List Shipment) → last_of code shipped ≡ Some s → s.character.code ≡ code
-unfolding last_of
-last_of-code code s [] is = absurd (cc)
-last_of-code code s (t ∷ shipped) is =
-    split (λ test. (if test then Some t else last_of code shipped) ≡ Some s → s.character.code ≡ code) (t.character.code == code)
+pub last_shipment-code : (code : ℕ) (s : Shipment) (shipped : List Shipment) → last_shipment code shipped ≡ Some s → s.character.code ≡ code
+unfolding last_shipment
+last_shipment-code code s [] is = absurd (cc)
+last_shipment-code code s (t ∷ shipped) is =
+    split (λ test. (if test then Some t else last_shipment code shipped) ≡ Some s → s.character.code ≡ code) (t.character.code == code)
     (λ yes found. let same : t ≡ s = cc in ap (λ (it : Shipment). it.character.code) (sym same) ∙ eqb-true t.character.code code yes)
-    (λ no found. last_of-code code s shipped found) is
+    (λ no found. last_shipment-code code s shipped found) is
 
 -- l is the locator of the last character with its code, which is at least the first code
 pub record IsLastFrom (shipped : List Shipment) (code : ℕ) (l : Locator) : Type 0 where
   pub least : code ≤ l.code
   pub shipment : Shipment
   pub is : l ≡ locator_of shipment
-  pub last : last_of l.code shipped ≡ Some shipment
+  pub last : last_shipment l.code shipped ≡ Some shipment
 
-one_last : (shipped : List Shipment) (code : ℕ) (s : Shipment) → last_of code shipped ≡ Some s → IsLastFrom shipped code (locator_of s)
+one_last : (shipped : List Shipment) (code : ℕ) (s : Shipment) → last_shipment code shipped ≡ Some s → IsLastFrom shipped code (locator_of s)
 one_last shipped code s is =
-    let same = last_of-code code s shipped is in
-    record { least = omega (arith, same); shipment = s; is = refl; last = subst (λ c. last_of c shipped ≡ Some s) (sym same) is }
+    let same = last_shipment-code code s shipped is in
+    record { least = omega (arith, same); shipment = s; is = refl; last = subst (λ c. last_shipment c shipped ≡ Some s) (sym same) is }
 
 later_too : (shipped : List Shipment) (code : ℕ) (others : List Locator) → All (IsLastFrom shipped (code + 1)) others → All (IsLastFrom shipped code) others
 later_too shipped code others =
@@ -128,7 +128,7 @@ later_too shipped code others =
     (λ l from. record { least = omega (arith, from.least); shipment = from.shipment; is = from.is; last = from.last }) others
 
 with_one : (shipped : List Shipment) (code : ℕ) (last : Option Shipment) (others : List Locator)
-    → last_of code shipped ≡ last → All (IsLastFrom shipped (code + 1)) others
+    → last_shipment code shipped ≡ last → All (IsLastFrom shipped (code + 1)) others
     → All (IsLastFrom shipped code) (with_last last others)
 with_one shipped code None others is later = later_too shipped code others later
 with_one shipped code (Some s) others is later =
@@ -137,18 +137,19 @@ with_one shipped code (Some s) others is later =
 pub lasts_are_last : (shipped : List Shipment) (code n : ℕ) → All (IsLastFrom shipped code) (lasts_from code n shipped)
 unfolding lasts_from
 lasts_are_last shipped code zero = All-nil (IsLastFrom shipped code)
-lasts_are_last shipped code (suc n) = with_one shipped code (last_of code shipped) (lasts_from (code + 1) n shipped) refl (lasts_are_last shipped (code + 1) n)
+lasts_are_last shipped code (suc n) =
+    with_one shipped code (last_shipment code shipped) (lasts_from (code + 1) n shipped) refl (lasts_are_last shipped (code + 1) n)
 
 -- the codes of the locators rise
 abbrev IsBefore : Locator → Locator → Type 0
 IsBefore l later = l.code < later.code
 
 rise_on : (shipped : List Shipment) (code : ℕ) (last : Option Shipment) (others : List Locator)
-    → last_of code shipped ≡ last → All (IsLastFrom shipped (code + 1)) others
+    → last_shipment code shipped ≡ last → All (IsLastFrom shipped (code + 1)) others
     → AllPairs IsBefore others → AllPairs IsBefore (with_last last others)
 rise_on shipped code None others is later pairs = pairs
 rise_on shipped code (Some s) others is later pairs =
-    let same = last_of-code code s shipped is in
+    let same = last_shipment-code code s shipped is in
     AllPairs-cons IsBefore (locator_of s) others
     (All-weaker (IsLastFrom shipped (code + 1)) (IsBefore (locator_of s)) (λ k from. omega (arith, same, from.least)) others later) pairs
 
@@ -156,7 +157,8 @@ pub lasts_rise : (shipped : List Shipment) (code n : ℕ) → AllPairs IsBefore 
 unfolding lasts_from
 lasts_rise shipped code zero = λ i j d before within. absurd (omega (arith, within))
 lasts_rise shipped code (suc n) =
-    rise_on shipped code (last_of code shipped) (lasts_from (code + 1) n shipped) refl (lasts_are_last shipped (code + 1) n) (lasts_rise shipped (code + 1) n)
+    rise_on shipped code (last_shipment code shipped) (lasts_from (code + 1) n shipped) refl
+    (lasts_are_last shipped (code + 1) n) (lasts_rise shipped (code + 1) n)
 
 -- where a code has a last character, it has a locator
 abbrev has_code : ℕ → Locator → Bool
@@ -174,14 +176,14 @@ found_later : (code : ℕ) (last : Option Shipment) (others : List Locator) → 
 found_later code None others later = later
 found_later code (Some t) others later = or_right (t.character.code == code) (list_any (has_code code) others) later
 
-pub lasts_have : (shipped : List Shipment) (code : ℕ) (s : Shipment) (first n : ℕ) → last_of code shipped ≡ Some s
+pub lasts_have : (shipped : List Shipment) (code : ℕ) (s : Shipment) (first n : ℕ) → last_shipment code shipped ≡ Some s
     → first ≤ code → code < first + n → list_any (has_code code) (lasts_from first n shipped) ≡ true
 unfolding lasts_from
 lasts_have shipped code s first zero is least most = absurd (omega (arith, least, most))
 lasts_have shipped code s first (suc n) is least most =
     ⊎_elim
-    (λ same. found_here code s (last_of first shipped) (lasts_from (first + 1) n shipped)
-    (ap (λ c. last_of c shipped) same ∙ is) (last_of-code code s shipped is))
-    (λ further. found_later code (last_of first shipped) (lasts_from (first + 1) n shipped)
+    (λ same. found_here code s (last_shipment first shipped) (lasts_from (first + 1) n shipped)
+    (ap (λ c. last_shipment c shipped) same ∙ is) (last_shipment-code code s shipped is))
+    (λ further. found_later code (last_shipment first shipped) (lasts_from (first + 1) n shipped)
     (lasts_have shipped code s (first + 1) n is (omega (arith, further)) (omega (arith, most))))
     (eq-or-lt_of_le least)

@@ -5,7 +5,7 @@ use Rattle.std.proofs.lemmas.List.Elements.{All-weaker}
 use Rattle.mf_rows.specs.Dots.{Dot, start_of_field}
 use Rattle.mf_rows.specs.Runs.{runs_of}
 use Rattle.mf_rows.proofs.RunsLemmas.{dots_of-runs_of}
-use Rattle.mf_gf.specs.Boxes.{box_of}
+use Rattle.mf_gf.specs.Boxes.{box_of_pixels}
 use Rattle.mf_gf.specs.Painting.{paint}
 use Rattle.mf_gf.specs.Pixels.{IsPixelSet}
 use Rattle.mf_gf.specs.Spelling.{begin, rows, spell}
@@ -17,7 +17,7 @@ use Rattle.mf_gf.proofs.DrawnRows.{pixels_from-rows}
 pub paint-spell : (code : ℕ) (p : ℤ) (ds : List Dot) → IsPixelSet ds → paint (spell code p ds) ≡ Some ds
 unfolding spell
 paint-spell code p ds set =
-    let b = box_of ds in
+    let b = box_of_pixels ds in
     let all = rows b.min_m b.max_n b.min_m (runs_of ds) in
     let round = box_round_dots start_of_field ds set.picture.dots in
     let small = round.small in

@@ -8,7 +8,7 @@ use Rattle.byteorder.specs.Endian.{big_number}
 use Rattle.byteorder.specs.Numbers.{big_number-reads_back}
 use Rattle.mf_gf.specs.declared.file.FontWords.{FontWords}
 use Rattle.mf_gf.specs.declared.locator.Locator.{Locator}
-use Rattle.mf_gf.specs.Files.{Character, Shipment, body, box_of_all, bytes_so_far, ending, file_of, last_of, locator_of, locators_from, padding, post, shipments}
+use Rattle.mf_gf.specs.Files.{Character, Shipment, body, box_of_all, bytes_so_far, ending, file_of, last_shipment, locator_of, locators_from, padding, post, shipments}
 use Rattle.mf_gf.specs.Numbers.{word}
 use Rattle.mf_gf.specs.Pointers.{locators_after, locators_of, locators_within, post_place, post_place_back}
 use Rattle.mf_gf.proofs.LocatorsRead.{IsReadable, lasts_from, within-reads}
@@ -46,7 +46,7 @@ after_post file found = elim found [
 
 -- what a reader finds after post
 pub locators_found : (words : FontWords) (comment : List ℕ) (cs : List Character) → length (bytes_so_far comment cs) < 2147483648
-    → ((code : ℕ) (s : Shipment) → last_of code (shipments comment cs) ≡ Some s → IsReadable (locator_of s))
+    → ((code : ℕ) (s : Shipment) → last_shipment code (shipments comment cs) ≡ Some s → IsReadable (locator_of s))
     → locators_of (file_of words comment cs) ≡ Some (lasts_from 0 256 (shipments comment cs))
 unfolding file_of
 locators_found words comment cs short fits =

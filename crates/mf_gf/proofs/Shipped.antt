@@ -3,7 +3,7 @@ use Rattle.std.proofs.Common.{◌≡◌, ◌≤◌, ℕ, ℤ, List, [], ◌∷�
 use Rattle.mf_rows.specs.Dots.{Dot}
 use Rattle.mf_gf.specs.declared.file.FontWords.{FontWords}
 use Rattle.mf_gf.specs.declared.file.GfFile.{GfFile}
-use Rattle.mf_gf.specs.Boxes.{box_of, join, widen}
+use Rattle.mf_gf.specs.Boxes.{box_of_pixels, join, widen}
 use Rattle.mf_gf.specs.Files.{Character, FileSoFar, Shipment, body, box_of_all, bytes_so_far, ending, file_of, file_so_far, last_place, locator_of, locators_from, post, shipments, spell_after, with_character, with_characters}
 use Rattle.mf_gf.specs.Keeping.{HasLasts, IsAppended, Keeps, bounds_of}
 use Rattle.mf_gf.specs.Spelling.{pointer, spell}
@@ -41,18 +41,19 @@ pub shipments-more : (comment : List ℕ) (cs : List Character) (c : Character)
     → shipments comment (cs ++ c ∷ []) ≡ shipment_after (bytes_so_far comment cs) c ∷ shipments comment cs
 shipments-more comment cs c = ap (λ (f : FileSoFar). f.shipped) (file_so_far-more comment cs c)
 
-pub box_of_all-more : (b : Character) (cs : List Character) (c : Character) → box_of_all (b ∷ cs ++ c ∷ []) ≡ join (box_of_all (b ∷ cs)) (box_of c.black)
+pub box_of_all-more : (b : Character) (cs : List Character) (c : Character) → box_of_all (b ∷ cs ++ c ∷ []) ≡ join (box_of_all (b ∷ cs)) (box_of_pixels c.black)
 unfolding box_of_all
 box_of_all-more b [] c = refl
-box_of_all-more b (d ∷ cs) c = ap (join (box_of b.black)) (box_of_all-more d cs c) ∙ join-assoc (box_of b.black) (box_of_all (d ∷ cs)) (box_of c.black)
+box_of_all-more b (d ∷ cs) c =
+    ap (join (box_of_pixels b.black)) (box_of_all-more d cs c) ∙ join-assoc (box_of_pixels b.black) (box_of_all (d ∷ cs)) (box_of_pixels c.black)
 
-bounds_of-more : (cs : List Character) (c : Character) → bounds_of (cs ++ c ∷ []) ≡ Some (widen (bounds_of cs) (box_of c.black))
+bounds_of-more : (cs : List Character) (c : Character) → bounds_of (cs ++ c ∷ []) ≡ Some (widen (bounds_of cs) (box_of_pixels c.black))
 unfolding box_of_all
 bounds_of-more [] c = refl
 bounds_of-more (b ∷ cs) c = ap (λ box. Some box) (box_of_all-more b cs c)
 
 pub keeps-more : (before after : GfFile) (comment : List ℕ) (cs : List Character) (c : Character)
-    → IsAppended before after (locator_of (shipment_after before.bytes.items c)) (box_of c.black) (spell_after (file_so_far comment cs) c)
+    → IsAppended before after (locator_of (shipment_after before.bytes.items c)) (box_of_pixels c.black) (spell_after (file_so_far comment cs) c)
     → Keeps before comment cs → Keeps after comment (cs ++ c ∷ [])
 keeps-more before after comment cs c appended keeps = record {
   bytes = appended.bytes ∙ ap (λ bytes. bytes ++ spell_after (file_so_far comment cs) c) keeps.bytes ∙ sym (bytes_so_far-more comment cs c);
@@ -60,7 +61,7 @@ keeps-more before after comment cs c appended keeps = record {
       subst (HasLasts after.locators) (ap (λ bytes. shipment_after bytes c ∷ shipments comment cs) keeps.bytes ∙ sym (shipments-more comment cs c))
       (appended.locators (shipment_after before.bytes.items c) (shipments comment cs) refl keeps.locators);
   count = let one_more = length-append cs (c ∷ []) in let counted = appended.count in let count = keeps.count in omega (arith, one_more, counted, count);
-  bounds = appended.bounds ∙ ap (λ bounds. Some (widen bounds (box_of c.black))) keeps.bounds ∙ sym (bounds_of-more cs c);
+  bounds = appended.bounds ∙ ap (λ bounds. Some (widen bounds (box_of_pixels c.black))) keeps.bounds ∙ sym (bounds_of-more cs c);
 }
 
 -- a file begins with its preamble and its characters

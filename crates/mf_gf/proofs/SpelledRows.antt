@@ -13,7 +13,7 @@ use Rattle.mf_rows.proofs.PlacesLemmas.{start_of_field-le}
 use Rattle.mf_rows.proofs.Totals.{total_none}
 use Rattle.mf_gf.specs.declared.boxes.CharacterBox.{CharacterBox}
 use Rattle.mf_gf.specs.declared.spelling.Spelling.{Spelling}
-use Rattle.mf_gf.specs.Boxes.{box_of}
+use Rattle.mf_gf.specs.Boxes.{box_of_pixels}
 use Rattle.mf_gf.specs.Spelling.{approach, begin, paint, rows, spell}
 use Rattle.mf_gf.specs.Spellings.{Holds}
 use Rattle.mf_gf.proofs.Writing.{Writes, write_both, write_same}
@@ -89,7 +89,7 @@ module _ (before : Spelling) (left : ℤ) (text : List ℕ) (out : Spelling) (ro
       ∙ ap (λ rs. so_far.written ++ rows left row column rs) (sym none) ∙ so_far.rest)
       so_far.writes
 
-pub spell-is : (code : ℕ) (p : ℤ) (ds : List Dot) (b : CharacterBox) (rs : List Run) → b ≡ box_of ds → rs ≡ runs_of ds
+pub spell-is : (code : ℕ) (p : ℤ) (ds : List Dot) (b : CharacterBox) (rs : List Run) → b ≡ box_of_pixels ds → rs ≡ runs_of ds
     → begin code p b ++ rows b.min_m b.max_n b.min_m rs ++ 69 ∷ [] ≡ spell code p ds
 unfolding spell
 spell-is code p ds b rs bounds all = rw (bounds, all) refl

@@ -16,7 +16,7 @@ with_next None rs = []
 with_next (Some r) rs = r ∷ rs
 
 -- the runs are lawful, have weight 1 and are in reading order
-pub record AreInOrder (rs : List Run) : Type 0 where
+pub record AreBlackRuns (rs : List Run) : Type 0 where
   pub runs : All IsRun rs
   pub ones : All (λ (r : Run). r.weight ≡ pos 1) rs
   pub low : ℤ

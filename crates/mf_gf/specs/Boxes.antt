@@ -28,10 +28,10 @@ widen None b = b
 widen (Some before) b = join before b
 
 -- the box of a set of pixels: the least one around them
-unfoldable pub box_of : List Dot → CharacterBox
-box_of [] = no_box
-box_of (d ∷ []) = box_of_pixel d
-box_of (d ∷ e ∷ ds) = join (box_of_pixel d) (box_of (e ∷ ds))
+unfoldable pub box_of_pixels : List Dot → CharacterBox
+box_of_pixels [] = no_box
+box_of_pixels (d ∷ []) = box_of_pixel d
+box_of_pixels (d ∷ e ∷ ds) = join (box_of_pixel d) (box_of_pixels (e ∷ ds))
 
 -- the box of the pixels in a box: the last column is the one before the right end
 abbrev pub pixel_box : CharacterBox → Box4

@@ -6,7 +6,7 @@ use Rattle.mf_rows.specs.Dots.{Dot}
 use Rattle.mf_gf.specs.declared.boxes.CharacterBox.{CharacterBox}
 use Rattle.mf_gf.specs.declared.file.FontWords.{FontWords}
 use Rattle.mf_gf.specs.declared.locator.Locator.{Locator}
-use Rattle.mf_gf.specs.Boxes.{box_of, join, no_box}
+use Rattle.mf_gf.specs.Boxes.{box_of_pixels, join, no_box}
 use Rattle.mf_gf.specs.Numbers.{word}
 use Rattle.mf_gf.specs.Spelling.{pointer, spell}
 
@@ -28,12 +28,12 @@ pub record Shipment : Type 0 where
   pub place : ℕ
 
 -- the last character with a code, if there is one; the list has the character shipped last first
-unfoldable pub last_of : ℕ → List Shipment → Option Shipment
-last_of code shipped = find (λ (s : Shipment). s.character.code == code) shipped
+unfoldable pub last_shipment : ℕ → List Shipment → Option Shipment
+last_shipment code shipped = find (λ (s : Shipment). s.character.code == code) shipped
 
 -- the place of the last character with a code, if there is one
 abbrev pub last_place : ℕ → List Shipment → Option ℕ
-last_place code shipped = option_map (λ (s : Shipment). s.place) (last_of code shipped)
+last_place code shipped = option_map (λ (s : Shipment). s.place) (last_shipment code shipped)
 
 -- a file so far: its bytes, and the characters shipped, the last one first
 pub record FileSoFar : Type 0 where
@@ -96,13 +96,13 @@ locator_if (Some l) = locator_text l
 -- the bytes of the locators of n codes from this one on, codes rising: each is that of the last character with its code
 unfoldable pub locators_from : ℕ → ℕ → List Shipment → List ℕ
 locators_from code zero shipped = []
-locators_from code (suc n) shipped = locator_if (option_map locator_of (last_of code shipped)) ++ locators_from (code + 1) n shipped
+locators_from code (suc n) shipped = locator_if (option_map locator_of (last_shipment code shipped)) ++ locators_from (code + 1) n shipped
 
 -- the least box around the boxes of all characters, as these are written
 unfoldable pub box_of_all : List Character → CharacterBox
 box_of_all [] = no_box
-box_of_all (c ∷ []) = box_of c.black
-box_of_all (c ∷ d ∷ cs) = join (box_of c.black) (box_of_all (d ∷ cs))
+box_of_all (c ∷ []) = box_of_pixels c.black
+box_of_all (c ∷ d ∷ cs) = join (box_of_pixels c.black) (box_of_all (d ∷ cs))
 
 -- the postamble: post, its own place, the numbers of the font, and the box of all characters
 abbrev pub post : FontWords → CharacterBox → ℕ → List ℕ

@@ -4,7 +4,7 @@
 use Rattle.std.specs.Prelude.{◌≡◌, ◌<◌, ◌+◌, ◌*◌, ◌==◌, ◌↔◌, ℕ, zero, suc, ℤ, pos, negsuc, All, AllPairs, Any, List, [], ◌∷◌, length, take, drop, reverse, filter, slice_index, Option, None, Some, option_map, if◌then◌else◌}
 use Rattle.byteorder.specs.Endian.{big_number}
 use Rattle.mf_gf.specs.declared.locator.Locator.{Locator}
-use Rattle.mf_gf.specs.Boxes.{box_of}
+use Rattle.mf_gf.specs.Boxes.{box_of_pixels}
 use Rattle.mf_gf.specs.Files.{Character, bytes_so_far}
 use Rattle.mf_gf.specs.Numbers.{IsWord, word_at}
 use Rattle.mf_gf.specs.Painting.{head_of, paint}
@@ -69,7 +69,7 @@ locators_of file = elim (post_place file) [
 
 -- a character begins at a place with this p: its head says so, and its bytes paint its pixels
 pub record IsCharacterAt (file : List ℕ) (place : ℕ) (c : Character) (p : ℤ) : Type 0 where
-  pub head : head_of (drop place file) ≡ Some (record { code = pos c.code; earlier = p; box = box_of c.black })
+  pub head : head_of (drop place file) ≡ Some (record { code = pos c.code; earlier = p; box = box_of_pixels c.black })
   pub count : ℕ
   pub painted : paint (take count (drop place file)) ≡ Some c.black
 

@@ -7,7 +7,7 @@ use Rattle.mf_rows.specs.declared.run.Run.{Run}
 use Rattle.mf_rows.specs.Dots.{Dot}
 use Rattle.mf_rows.specs.Runs.{runs_of}
 use Rattle.mf_gf.specs.declared.boxes.CharacterBox.{CharacterBox}
-use Rattle.mf_gf.specs.Boxes.{box_of}
+use Rattle.mf_gf.specs.Boxes.{box_of_pixels}
 use Rattle.mf_gf.specs.Numbers.{word}
 
 -- an opcode with a parameter of one byte, or the next opcode with one of two bytes
@@ -70,4 +70,4 @@ begin code p b = if int_eq p (negsuc 0) && is_short b then short_begin code b el
 
 -- the bytes of a character with these black pixels; p is the place of the last earlier character with this code, or -1
 unfoldable pub spell : ℕ → ℤ → List Dot → List ℕ
-spell code p ds = begin code p (box_of ds) ++ rows (box_of ds).min_m (box_of ds).max_n (box_of ds).min_m (runs_of ds) ++ (69 ∷ [])
+spell code p ds = begin code p (box_of_pixels ds) ++ rows (box_of_pixels ds).min_m (box_of_pixels ds).max_n (box_of_pixels ds).min_m (runs_of ds) ++ (69 ∷ [])

@@ -1,6 +1,6 @@
 //! Boxes of characters.
 ghost use Rattle.std.specs.Prelude.{◌≡◌};
-ghost use Rattle.mf_gf.specs.Boxes.{box_of, join, no_box, widen};
+ghost use Rattle.mf_gf.specs.Boxes.{box_of_pixels, join, no_box, widen};
 ghost use Rattle.mf_gf.specs.Pixels.{black};
 ghost use Rattle.mf_rows.specs.Dots.{IsPicture};
 
@@ -53,7 +53,7 @@ impl CharacterBox {
 
     /// The box of the black pixels of a picture: those of positive weight.
     pub(crate) fn of_black(picture: &Picture) -> CharacterBox
-        ensures value { result ≡ box_of (black picture.now) }
+        ensures value { result ≡ box_of_pixels (black picture.now) }
         ensures lawful { IsPicture picture.now }
     {
         let Some(bounds) = picture.black_bounds() else {

@@ -1,7 +1,7 @@
 //! The bytes of a character.
 ghost use Rattle.std.specs.Prelude.{◌≡◌, ◌&&◌, ◌-ℤ◌, ◌++◌, List, ℕ, true};
 ghost use Rattle.mf_geom.specs.Coordinates.{IsCoordinate};
-ghost use Rattle.mf_gf.specs.Boxes.{box_of};
+ghost use Rattle.mf_gf.specs.Boxes.{box_of_pixels};
 ghost use Rattle.mf_gf.specs.Numbers.{word};
 ghost use Rattle.mf_gf.specs.Pixels.{black};
 ghost use Rattle.mf_gf.specs.Spelling.{begin, is_byte, is_short, long_begin, pointer, short_begin, spell};
@@ -31,7 +31,7 @@ pub(crate) fn spell(
     picture: &Picture,
     bounds: &CharacterBox,
 )
-    requires { bounds.now ≡ box_of (black picture.now) }
+    requires { bounds.now ≡ box_of_pixels (black picture.now) }
     ensures held { (text : List ℕ) → Holds out.old text → Holds out.new (text ++ spell code (pointer earlier) (black picture.now)) }
     ensures room { out.new.room ≡ out.old.room }
 {

@@ -1,7 +1,7 @@
 //! Laws of GF files. Each is the contract of a function that does nothing, because the toolchain proves a statement only where
 //! the contract of a function names it.
 ghost use Rattle.std.specs.Prelude.{◌≡◌, ◌↔◌, ◌<◌, ◌<ℤ◌, ◌∷◌, [], ◌++◌, length, ℕ, ℤ, pos, List, Some};
-ghost use Rattle.mf_gf.specs.Boxes.{box_of, join, pixel_box};
+ghost use Rattle.mf_gf.specs.Boxes.{box_of_pixels, join, pixel_box};
 ghost use Rattle.mf_gf.specs.Files.{Character, IsPadded, IsShortDx, box_of_all, bytes_so_far, file_of, last_place, shipments, short_dx};
 ghost use Rattle.mf_gf.specs.declared.file.FontWords.{FontWords};
 ghost use Rattle.mf_gf.specs.Numbers.{IsWord};
@@ -22,7 +22,7 @@ pub fn painted_back()
 /// and with the box of its pixels. This holds for every p of four bytes.
 pub fn head_read_back()
     ensures { (code : ℕ) (p : ℤ) (ds : List Dot) → code < 256 → IsWord p → IsPixelSet ds →
-        head_of (spell code p ds) ≡ Some (record { code = pos code; earlier = p; box = box_of ds }) }
+        head_of (spell code p ds) ≡ Some (record { code = pos code; earlier = p; box = box_of_pixels ds }) }
 {}
 
 /// The black pixels of a picture are exactly those of positive weight.
@@ -33,7 +33,7 @@ pub fn black_pixels_are_a_set()
 
 /// The box of a character is the least one around its black pixels.
 pub fn box_is_least()
-    ensures { (d : Dot) (ds : List Dot) → IsLeastBox (d ∷ ds) (pixel_box (box_of (d ∷ ds))) }
+    ensures { (d : Dot) (ds : List Dot) → IsLeastBox (d ∷ ds) (pixel_box (box_of_pixels (d ∷ ds))) }
 {}
 
 /// An escapement is written in one byte exactly where it is 65536 times that byte.
@@ -51,7 +51,8 @@ pub fn one_character_more()
         → bytes_so_far comment (cs ++ c ∷ []) ≡ bytes_so_far comment cs ++ spell c.code (pointer (last_place c.code (shipments comment cs))) c.black }
     ensures place { (comment : List ℕ) (cs : List Character) (c : Character)
         → shipments comment (cs ++ c ∷ []) ≡ record { character = c; place = length (bytes_so_far comment cs) } ∷ shipments comment cs }
-    ensures bounds { (b : Character) (cs : List Character) (c : Character) → box_of_all (b ∷ cs ++ c ∷ []) ≡ join (box_of_all (b ∷ cs)) (box_of c.black) }
+    ensures bounds { (b : Character) (cs : List Character) (c : Character)
+        → box_of_all (b ∷ cs ++ c ∷ []) ≡ join (box_of_all (b ∷ cs)) (box_of_pixels c.black) }
 {}
 
 /// A reader of a finished file finds all of its characters. The codes of the locators rise; there is a locator for each code that

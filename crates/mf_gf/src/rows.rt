@@ -1,7 +1,7 @@
 //! The rows of a character: the commands that paint its stretches of black pixels.
 ghost use Rattle.std.specs.Prelude.{◌≡◌, ◌++◌, List, ℕ};
 ghost use Rattle.mf_geom.specs.Coordinates.{IsCoordinate};
-ghost use Rattle.mf_gf.specs.Ahead.{AreInOrder, blacks_ahead, stretches_left};
+ghost use Rattle.mf_gf.specs.Ahead.{AreBlackRuns, blacks_ahead, stretches_left};
 ghost use Rattle.mf_gf.specs.Spelling.{approach, rows};
 ghost use Rattle.mf_gf.specs.Spellings.{Holds};
 ghost use Rattle.mf_rows.specs.Order.{IsRun};
@@ -25,7 +25,7 @@ struct Place {
 /// function of its own, with all that it does for a stretch inlined: so the registers are for the walk over the runs.
 #[inline(never)]
 pub(crate) fn spell_rows(out: &mut Spelling, stretches: Stretches<'_>, bounds: &CharacterBox)
-    requires order { AreInOrder (blacks_ahead stretches) }
+    requires order { AreBlackRuns (blacks_ahead stretches) }
     requires left { IsCoordinate bounds.now.min_m }
     requires top { IsCoordinate bounds.now.max_n }
     ensures held { (text : List ℕ) → Holds out.old text

@@ -1,6 +1,6 @@
 //! The stretches of black pixels of a picture, one after another.
 ghost use Rattle.std.specs.Prelude.{◌≡◌, ◌∷◌, flat_map};
-ghost use Rattle.mf_gf.specs.Ahead.{AreInOrder, blacks, blacks_ahead, stretches_left, with_next};
+ghost use Rattle.mf_gf.specs.Ahead.{AreBlackRuns, blacks, blacks_ahead, stretches_left, with_next};
 ghost use Rattle.mf_gf.specs.Pixels.{black};
 ghost use Rattle.mf_rows.specs.Dots.{IsPicture};
 ghost use Rattle.mf_rows.specs.Runs.{dots_of, runs_of};
@@ -20,7 +20,7 @@ pub(crate) struct Stretches<'a> {
 impl<'a> Stretches<'a> {
     /// An iterator over the stretches of a picture.
     pub(crate) fn over(picture: &'a Picture) -> Stretches<'a>
-        ensures order { AreInOrder (blacks_ahead result) }
+        ensures order { AreBlackRuns (blacks_ahead result) }
         ensures stretches { stretches_left result ≡ runs_of (black picture.now) }
         ensures lawful { IsPicture picture.now }
     {
@@ -33,8 +33,8 @@ impl<'a> Stretches<'a> {
     /// after these.
     #[inline(always)]
     fn lengthen(&mut self, begun: Run) -> Run
-        requires order { AreInOrder (begun ∷ blacks self.old.runs) }
-        ensures order { AreInOrder (blacks_ahead self.new) }
+        requires order { AreBlackRuns (begun ∷ blacks self.old.runs) }
+        ensures order { AreBlackRuns (blacks_ahead self.new) }
         ensures stretch { runs_of (flat_map dots_of (begun ∷ blacks self.old.runs)) ≡ result ∷ stretches_left self.new }
     {
         let mut stretch = begun;
@@ -53,11 +53,11 @@ impl<'a> Stretches<'a> {
 
 impl Iterator for Stretches<'_> {
     ghost use Rattle.std.specs.Iterator.{YieldsFirst, item_count};
-    ghost use Rattle.mf_gf.specs.Ahead.{AreInOrder, blacks_ahead, stretches_left};
+    ghost use Rattle.mf_gf.specs.Ahead.{AreBlackRuns, blacks_ahead, stretches_left};
 
     type Item = Run;
 
-    ghost can_next = { λ s. AreInOrder (blacks_ahead s) };
+    ghost can_next = { λ s. AreBlackRuns (blacks_ahead s) };
 
     ghost next_gives = { YieldsFirst stretches_left };
 

@@ -1,6 +1,6 @@
 //! How a file is made, up to its end.
 ghost use Rattle.std.specs.Prelude.{◌≡◌, ◌⊎◌, ◌<◌, ◌≤◌, ◌↔◌, ◌++◌, ◌∷◌, [], Err, IfErr, IfOk, OnErr, OnOk, List, ℕ, length, min};
-ghost use Rattle.mf_gf.specs.Boxes.{box_of};
+ghost use Rattle.mf_gf.specs.Boxes.{box_of_pixels};
 ghost use Rattle.mf_gf.specs.Spelling as spelling;
 ghost use Rattle.mf_gf.specs.Spelling.{pointer};
 ghost use Rattle.mf_gf.specs.Files.{Character, bytes_so_far, preamble};
@@ -106,7 +106,7 @@ impl GfFile {
         picture: &Picture,
         bounds: &CharacterBox,
     ) -> Result<Vec<u8>, GfFault>
-        requires { bounds.now ≡ box_of (black picture.now) }
+        requires { bounds.now ≡ box_of_pixels (black picture.now) }
         ensures bytes { IfOk result (λ bytes. bytes.items ≡ spelling.spell code (pointer earlier) (black picture.now)) }
         ensures too_long { (self.now.max_bytes < length (self.now.bytes.items ++ spelling.spell code (pointer earlier) (black picture.now)))
             ↔ (result ≡ Err GfFault.FileTooLong) }

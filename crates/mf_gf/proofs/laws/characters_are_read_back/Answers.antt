@@ -4,7 +4,7 @@ use Rattle.std.proofs.lemmas.List.Elements.{All-weaker}
 use Rattle.std.proofs.lemmas.List.Folds.{Any-from_list_any, list_any-from_Any}
 use Rattle.mf_gf.specs.declared.file.FontWords.{FontWords}
 use Rattle.mf_gf.specs.declared.locator.Locator.{Locator}
-use Rattle.mf_gf.specs.Files.{Character, Shipment, bytes_so_far, file_of, last_of, locator_of, shipments}
+use Rattle.mf_gf.specs.Files.{Character, Shipment, bytes_so_far, file_of, last_shipment, locator_of, shipments}
 use Rattle.mf_gf.specs.Pointers.{AreShippable, HasCode, LeadsBack, LeadsToAll, characters_of}
 use Rattle.mf_gf.specs.Spelling.{pointer}
 use Rattle.mf_gf.proofs.CharactersRead.{AllStand, all_before, all_stand, character_of, characters_shipped, has_last, has_last-shipped, last_is_first, last_stands, leads_back, of_code}
@@ -31,7 +31,7 @@ module _ (words : FontWords) (comment : List ℕ) (cs : List Character) (shippab
   stand : AllStand (bytes_so_far comment cs) shipped
   stand = all_stand comment cs shippable.each
 
-  readable : (code : ℕ) (s : Shipment) → last_of code shipped ≡ Some s → IsReadable (locator_of s)
+  readable : (code : ℕ) (s : Shipment) → last_shipment code shipped ≡ Some s → IsReadable (locator_of s)
   readable code s is =
       let there = (last_stands (bytes_so_far comment cs) code s shipped stand is).stands in
       record { dx = there.shippable.dx; width = there.shippable.width; place = omega (arith, there.before, shippable.short) }
@@ -64,7 +64,7 @@ module _ (words : FontWords) (comment : List ℕ) (cs : List Character) (shippab
   shipped_is_found : (code : ℕ) → HasCode code cs → Any (λ (l : Locator). l.code ≡ code) locators
   shipped_is_found code (k, d, within, at, same) =
       let last =
-      some_last (last_of code shipped)
+      some_last (last_shipment code shipped)
       (has_last-shipped code comment cs ∙ list_any-from_Any (λ (c : Character). c.code == code) cs (k, d, within, at, eq-eqb _ _ same)) in
       let fits = (shippable.each k d within).code in
       let small : code < 256 = omega (arith, ap (λ (it : Character). it.code) at, same, fits) in
@@ -74,7 +74,7 @@ module _ (words : FontWords) (comment : List ℕ) (cs : List Character) (shippab
   found_is_shipped : (code : ℕ) → Any (λ (l : Locator). l.code ≡ code) locators → HasCode code cs
   found_is_shipped code (k, l, within, at, same) =
       let from = subst (IsLastFrom shipped 0) at (lasts_are_last shipped 0 256 k l within) in
-      let some : has_last code shipped ≡ true = ap (λ n. is_some (last_of n shipped)) (sym same) ∙ ap is_some from.last in
+      let some : has_last code shipped ≡ true = ap (λ n. is_some (last_shipment n shipped)) (sym same) ∙ ap is_some from.last in
       let there = Any-from_list_any (λ (c : Character). c.code == code) cs (sym (has_last-shipped code comment cs) ∙ some) in
       (there.0, there.1, there.2, there.3, eqb-true _ _ there.4)
 
