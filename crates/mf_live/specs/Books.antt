@@ -15,8 +15,8 @@ pub record IsLawfulBook (cells : List Cell) (events : List Event) : Type 0 where
   pub lawful : Happen most start events
 
 -- the word that counts the events of a book
-abbrev pub head_of : Book → Named
-head_of b = record { tracked = true; key = 0; book = b }
+abbrev pub counter_of : Book → Named
+counter_of b = record { tracked = true; key = 0; book = b }
 
 -- where the step found the number that it expected, it has added these events to all that had been seen; else others were there
 -- already

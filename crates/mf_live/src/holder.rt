@@ -1,7 +1,7 @@
 //! What the writer of a picture holds.
 ghost use Rattle.std.specs.Prelude.{◌≡◌, ◌+◌, ◌*◌, ◌≤◌, false, length};
 ghost use Rattle.left_right.specs.Sides.{view};
-ghost use Rattle.mf_live.specs.Books.{most, head_of};
+ghost use Rattle.mf_live.specs.Books.{most, counter_of};
 ghost use Rattle.mf_live.specs.Entries.{pic, rev};
 ghost use Rattle.mf_live.specs.Happening.{Happen-prop};
 ghost use Rattle.mf_live.specs.Rule.{book_of, events_of, shown_by, history};
@@ -27,7 +27,7 @@ pub struct Holder {
     pub(crate) revision: u32,
     /// How many entries wait to be published. Each has one event that is not in the book yet.
     pub(crate) unwritten: u64,
-    ghost head_is: { head ≡ head_of (book_of swap.desk.shown.value) },
+    ghost head_is: { head ≡ counter_of (book_of swap.desk.shown.value) },
     ghost shown_is: { shown_by swap.desk.shown.value ≡ published_of (history swap.desk.shown.value (view swap.desk.place)) },
     ghost lawful: { Happen most start (history swap.desk.shown.value (view swap.desk.place)) } by { Happen-prop most start _ },
     ghost alive: { (world_after start (history swap.desk.shown.value (view swap.desk.place))).dropped ≡ false },

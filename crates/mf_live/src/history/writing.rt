@@ -1,7 +1,7 @@
 //! Opening, copying and writing histories.
 ghost use Rattle.std.specs.Prelude.{◌≡◌, ◌+◌, ◌^◌, ◌<◌, ◌≤◌, ◌++◌, [], false, length, MatchBool};
 ghost use mathlib.Core.List.{IsPrefix};
-ghost use Rattle.mf_live.specs.Books.{most, head_of};
+ghost use Rattle.mf_live.specs.Books.{most, counter_of};
 ghost use Rattle.mf_live.specs.World.{Happen, start, world_after};
 
 use super::{Knowledge, Prefix};
@@ -11,7 +11,7 @@ use std::sync::Wait;
 
 /// A new history, in which nothing has happened, and the word that counts its events.
 pub(crate) fn open_history() -> (Head, Prefix)
-    ensures head { result.0 ≡ head_of result.1.knowledge.seen.book }
+    ensures head { result.0 ≡ counter_of result.1.knowledge.seen.book }
     ensures empty { result.1.knowledge.seen.log ≡ [] }
 {
     let (seen, mut first, _second) = Seen::open(Start::alone(), 0, 0);
@@ -57,7 +57,7 @@ impl Prefix {
 
 /// Writes events after everything that is known, unless others are there already. Answers whether it has.
 fn try_write<N: Happening>(head: &Head, prefix: &mut Prefix, count: u64) -> bool
-    requires head { head.now ≡ head_of prefix.old.knowledge.seen.book }
+    requires head { head.now ≡ counter_of prefix.old.knowledge.seen.book }
     requires count { count ≡ length N.more }
     requires room { prefix.old.events + count < 2 ^ 64 }
     requires lawful { Happen most (world_after start prefix.old.knowledge.seen.log) N.more }
@@ -89,7 +89,7 @@ fn try_write<N: Happening>(head: &Head, prefix: &mut Prefix, count: u64) -> bool
 /// Writes events into a history. Only the writer of a picture writes there, so the first try succeeds; but no type says so, so
 /// the loop needs the right to wait.
 pub(crate) fn write<N: Happening, R: Wait>(rt: &R, head: &Head, prefix: &mut Prefix, count: u64)
-    requires head { head.now ≡ head_of prefix.old.knowledge.seen.book }
+    requires head { head.now ≡ counter_of prefix.old.knowledge.seen.book }
     requires count { count ≡ length N.more }
     requires room { prefix.old.events + count < 2 ^ 64 }
     requires lawful { Happen most (world_after start prefix.old.knowledge.seen.log) N.more }

@@ -3,7 +3,7 @@ use Rattle.left_right.specs.Sides.{view}
 use Rattle.mf_live.specs.declared.event.Event.{Event}
 use Rattle.mf_live.specs.declared.history.Knowledge.{Knowledge}
 use Rattle.mf_live.specs.declared.view.View.{View}
-use Rattle.mf_live.specs.Books.{most, head_of}
+use Rattle.mf_live.specs.Books.{most, counter_of}
 use Rattle.mf_live.specs.Rule.{events_of, history, knowledge_of}
 use Rattle.mf_live.specs.World.{Happen, start, world_after, accepted_of, published_of}
 use Rattle.mf_live.proofs.Blank.{pic-blank, rev-blank}
@@ -18,7 +18,7 @@ invariant_of-result g c =
     let written : (view swap.desk.place).unwritten ≡ [] = ap (λ (v : View). v.unwritten) c.show.ensures.view in
     let happened : history swap.desk.shown.value (view swap.desk.place) ≡ [] = λ i. shows i ++ written i in
     record {
-      head_is = c.open_history-head.ensures.head ∙ sym (ap (λ (t : Knowledge). head_of t.seen.book) same);
+      head_is = c.open_history-head.ensures.head ∙ sym (ap (λ (t : Knowledge). counter_of t.seen.book) same);
       shown_is = ap published_of (shows ∙ sym happened);
       lawful = subst (Happen most start) (sym happened) tt;
       alive = ap (λ (es : List Event). (world_after start es).dropped) happened;

@@ -4,7 +4,7 @@ use Rattle.left_right.specs.Sides.{view}
 use Rattle.mf_live.specs.declared.event.Event.{Event}
 use Rattle.mf_live.specs.declared.history.Knowledge.{Knowledge}
 use Rattle.mf_live.specs.declared.view.View.{View}
-use Rattle.mf_live.specs.Books.{most, head_of}
+use Rattle.mf_live.specs.Books.{most, counter_of}
 use Rattle.mf_live.specs.Entries.{pic, rev}
 use Rattle.mf_live.specs.Holders.{accepted_list, version}
 use Rattle.mf_live.specs.Rule.{book_of, events_of, history, shown_by, knowledge_of}
@@ -71,7 +71,7 @@ invariant_of-self g c =
     let accepts : accepted_of (history swap.desk.shown.value (view swap.desk.place)) ≡ accepted_list h = ap accepted_of happened ∙ accepted-publish h in
     let tells : shown_by swap.desk.shown.value ≡ accepted_list h = ap published_of shows ∙ published-publish h in
     record {
-      head_is = h.head_is ∙ ap head_of (sym book);
+      head_is = h.head_is ∙ ap counter_of (sym book);
       shown_is = ap published_of (shows ∙ sym happened);
       lawful = subst (Happen most start) (sym happened) (Happen-publish h);
       alive = ap (λ (es : List Event). (world_after start es).dropped) happened ∙ alive-publish h;
