@@ -1,14 +1,14 @@
 -- The boxes of images.
 use Rattle.std.proofs.Common.{◌≡◌, ◌+◌, ◌+ℤ◌, to_z, of_z, w32, ℕ, ℤ, ◌<◌, ◌≤◌, ◌⊎◌, inl, inr, pos, ◌≤ℤ◌, List, [], ◌∷◌, refl, sym, arith}
 use Rattle.std.proofs.lemmas.Int.{ints}
-use Rattle.mf_geom.specs.Coordinates.{least_coordinate, last_in_field}
+use Rattle.mf_geom.specs.Coordinates.{field_size, least_coordinate, last_in_field}
 use Rattle.mf_rows.specs.declared.bounds.Box4.{Box4}
 use Rattle.mf_rows.specs.Bounds.{IsLeastBox}
 use Rattle.mf_rows.specs.Dots.{Dot, IsPicture}
 use Rattle.mf_show.specs.Boxes.{box_of_dots}
 use Rattle.mf_show.specs.Grid.{extent}
 use Rattle.mf_show.proofs.LeastBoxes.{least_box_of_dots, least_box_of_field, least_box_of_some, same_least_box}
-use Rattle.mf_image.specs.Boxes.{IsImageBox, IsTooLarge, image_box, origin}
+use Rattle.mf_image.specs.Boxes.{IsImageBox, IsLargeBox, IsTooLargeForImage, greatest_side, image_box, origin}
 
 least_is_image_box : (ds : List Dot) (b : Box4) → IsLeastBox ds b → b ≡ image_box ds
 unfolding image_box
@@ -35,33 +35,30 @@ box_of_blank ds blank =
       };
     }
 
-large_origin : (4096 < extent origin.min_x origin.max_x) ⊎ (4096 < extent origin.min_y origin.max_y) → ⊥
-large_origin (inl wide) = omega (arith, ints, wide)
-large_origin (inr high) = omega (arith, ints, high)
-
-pub blank_is_small : (ds : List Dot) → ds ≡ [] → IsTooLarge ds → ⊥
-unfolding image_box
-blank_is_small ds blank large = large_origin (rw blank at large)
-
-large_box : (b : Box4) → extent b.min_x b.max_x ≤ 4096 → extent b.min_y b.max_y ≤ 4096 → (4096 < extent b.min_x b.max_x) ⊎ (4096 < extent b.min_y b.max_y) → ⊥
+large_box : (b : Box4) → extent b.min_x b.max_x ≤ greatest_side → extent b.min_y b.max_y ≤ greatest_side → IsLargeBox b → ⊥
 large_box b narrow low (inl wide) = omega (arith, narrow, wide)
 large_box b narrow low (inr high) = omega (arith, low, high)
 
-pub is_small : (ds : List Dot) (b : Box4) → b ≡ image_box ds → extent b.min_x b.max_x ≤ 4096 → extent b.min_y b.max_y ≤ 4096 → IsTooLarge ds → ⊥
+pub blank_is_small : (ds : List Dot) → ds ≡ [] → IsTooLargeForImage ds → ⊥
+unfolding image_box
+blank_is_small ds blank large = large_box origin (omega (arith, ints)) (omega (arith, ints)) (rw blank at large)
+
+pub is_small : (ds : List Dot) (b : Box4) → b ≡ image_box ds → extent b.min_x b.max_x ≤ greatest_side → extent b.min_y b.max_y ≤ greatest_side
+    → IsTooLargeForImage ds → ⊥
 is_small ds b is narrow low large = large_box b narrow low (rw (sym is) at large)
 
 pub is_large : (ds : List Dot) (b : Box4) (columns rows : ℕ) → b ≡ image_box ds → columns ≡ extent b.min_x b.max_x → rows ≡ extent b.min_y b.max_y
-    → (4096 < columns) ⊎ ((columns ≤ 4096) × (4096 < rows)) → IsTooLarge ds
+    → (greatest_side < columns) ⊎ ((columns ≤ greatest_side) × (greatest_side < rows)) → IsTooLargeForImage ds
 is_large ds b columns rows is wide high (inl more) = inl (rw (← is, ← wide) more)
 is_large ds b columns rows is wide high (inr more) = inr (rw (← is, ← high) more.1)
 
 -- ---- the sides of a sheet
 
-pub is_within : (first last : ℤ) → least_coordinate ≤ℤ first → last ≤ℤ last_in_field → first ≤ℤ last → extent first last ≤ 8190
+pub is_within : (first last : ℤ) → least_coordinate ≤ℤ first → last ≤ℤ last_in_field → first ≤ℤ last → extent first last ≤ field_size
 is_within first last left right order = omega (arith, ints)
 
-pub side : (n : ℕ) → n ≤ 8190 → to_z w32 (of_z w32 (to_z w32 n +ℤ pos 2)) ≡ pos (n + 2)
+pub side : (n : ℕ) → n ≤ field_size → to_z w32 (of_z w32 (to_z w32 n +ℤ pos 2)) ≡ pos (n + 2)
 side n small = omega (arith, ints)
 
-pub signed : (n : ℕ) → n ≤ 8190 → to_z w32 n ≡ pos n
+pub signed : (n : ℕ) → n ≤ field_size → to_z w32 n ≡ pos n
 signed n small = omega (arith, ints)

@@ -14,7 +14,7 @@ use Rattle.mf_show.specs.Grid.{extent}
 use Rattle.mf_show.proofs.ShownRows.{extent-next, extent-none}
 use Rattle.std.specs.Fmt.{signed_decimal}
 use Rattle.mf_edges.specs.LawfulWeights.{least_weight, greatest_weight}
-use Rattle.mf_image.specs.Svg.{color, greatest_weight_of, least_weight_of, path, paths, paths_from, rectangle_of, weights_of}
+use Rattle.mf_image.specs.Svg.{color, greatest_weight_of, least_weight_of, path_of_weight, paths, paths_from, rectangle_of, weights_of}
 
 -- ---- the span of weights
 
@@ -97,20 +97,21 @@ pub record ArePathsSoFar (rs : List Run) (least greatest : ℤ) (old : List ℕ)
   pub right : w ≤ℤ (greatest +ℤ pos 1)
   pub paths : text ++ paths_from rs w (extent w greatest) ≡ old ++ paths_from rs least (extent least greatest)
 
-paths_from-next : (rs : List Run) (w : ℤ) (n : ℕ) → paths_from rs w (suc n) ≡ path w (flat_map (rectangle_of w) rs) ++ paths_from rs (w +ℤ pos 1) n
+paths_from-next : (rs : List Run) (w : ℤ) (n : ℕ) → paths_from rs w (suc n) ≡ path_of_weight w (flat_map (rectangle_of w) rs) ++ paths_from rs (w +ℤ pos 1) n
 unfolding paths_from
 paths_from-next rs w n = refl
 
 pub one_more_path : (rs : List Run) (least greatest : ℤ) (old : List ℕ) (w : ℤ) (text new : List ℕ) → w ≤ℤ greatest
-    → new ≡ text ++ path w (flat_map (rectangle_of w) rs) → ArePathsSoFar rs least greatest old w text → ArePathsSoFar rs least greatest old (w +ℤ pos 1) new
+    → new ≡ text ++ path_of_weight w (flat_map (rectangle_of w) rs) → ArePathsSoFar rs least greatest old w text
+    → ArePathsSoFar rs least greatest old (w +ℤ pos 1) new
 one_more_path rs least greatest old w text new within pushed so_far =
     let rest = paths_from rs (w +ℤ pos 1) (extent (w +ℤ pos 1) greatest) in
-    let next : paths_from rs w (extent w greatest) ≡ path w (flat_map (rectangle_of w) rs) ++ rest =
+    let next : paths_from rs w (extent w greatest) ≡ path_of_weight w (flat_map (rectangle_of w) rs) ++ rest =
     ap (paths_from rs w) (extent-next w greatest within) ∙ paths_from-next rs w (extent (w +ℤ pos 1) greatest) in
     record {
       left = omega (arith, ints, so_far.left);
       right = omega (arith, ints);
-      paths = rw pushed (append_assoc text (path w (flat_map (rectangle_of w) rs)) rest) ∙ ap (λ more. text ++ more) (sym next) ∙ so_far.paths;
+      paths = rw pushed (append_assoc text (path_of_weight w (flat_map (rectangle_of w) rs)) rest) ∙ ap (λ more. text ++ more) (sym next) ∙ so_far.paths;
     }
 
 pub all_paths : (rs : List Run) (least greatest : ℤ) (old : List ℕ) (w : ℤ) (text : List ℕ) → w ≡ greatest +ℤ pos 1 → least ≡ least_weight_of rs
@@ -123,6 +124,6 @@ all_paths rs least greatest old w text over low high so_far =
 -- ---- a path
 
 pub path_of_some : (w : ℤ) (bs : List ℕ) → 0 < length bs
-    → path w bs ≡ codes "<path id=\"weight" ++ signed_decimal w ++ codes "\" fill=\"" ++ color w ++ codes "\" d=\"\n" ++ bs ++ codes "\"/>\n"
+    → path_of_weight w bs ≡ codes "<path id=\"weight" ++ signed_decimal w ++ codes "\" fill=\"" ++ color w ++ codes "\" d=\"\n" ++ bs ++ codes "\"/>\n"
 path_of_some w [] some = absurd (omega (arith, some))
 path_of_some w (b ∷ bs) some = refl

@@ -21,7 +21,7 @@ use Rattle.mf_show.proofs.LeastBoxes.{least_box_of_dots, least_box_of_field}
 use Rattle.mf_image.specs.declared.svg_image.Sheet.{Sheet}
 use Rattle.mf_image.specs.Boxes.{image_box}
 use Rattle.mf_image.specs.Reading.{after, number, read, read_svg}
-use Rattle.mf_image.specs.Svg.{axes, color, cover, opening, greatest_weight_of, image, least_weight_of, path, paths, paths_from, rectangle, rectangle_of, sheet_of, svg_text, weights_of}
+use Rattle.mf_image.specs.Svg.{axes, color, cover, opening, greatest_weight_of, image, least_weight_of, path_of_weight, paths, paths_from, rectangle, rectangle_of, sheet_of, svg_text, weights_of}
 use Rattle.mf_image.proofs.ImageBoxes.{box_of_blank}
 use Rattle.mf_image.proofs.ReadTexts.{IsEnd, IsPassed, IsSmall, IsSmallSheet, axes_read, cover_read, end_after, number_passed, number_read, opening_read, rectangle_read}
 use Rattle.mf_image.proofs.ReadWeights.{dots_with, dots_with-append, dots_with-other, dots_with-same, found, gathered, weight_of_runs}
@@ -82,7 +82,7 @@ path_read : (w v : ℤ) (text : List ℕ) (dots : List Dot) (rest : List ℕ) (l
     → ((b : ℕ) (bs : List ℕ) → text ≡ b ∷ bs → IsSmall w)
     → ((more : List ℕ) → read true w (text ++ more) ≡ dots ++ read true w more)
     → ((u : ℤ) → read true u rest ≡ later)
-    → read true v (path w text ++ rest) ≡ dots ++ later
+    → read true v (path_of_weight w text ++ rest) ≡ dots ++ later
 unfolding read after
 path_read w v [] dots rest later small drawn others =
     let none : dots ≡ [] = sym (append-nil dots) ∙ sym (drawn []) in
@@ -98,7 +98,7 @@ path_read w v (b ∷ bs) dots rest later small drawn others =
     let e4 : IsEnd w (signed_decimal w ++ t3) = end_after w (signed_decimal w) t3 (number_passed w w weight) e3 in
     let body = (b ∷ bs) ++ (codes "\"/>\n" ++ rest) in
     let line = (signed_decimal w ++ t3) ++ body in
-    let text : path w (b ∷ bs) ++ rest ≡ codes "<path id=\"weight" ++ line = simp append_assoc in
+    let text : path_of_weight w (b ∷ bs) ++ rest ≡ codes "<path id=\"weight" ++ line = simp append_assoc in
     let named : number line ≡ w =
     ap number (append_assoc (signed_decimal w) t3 body) ∙ number_read w 34 ((codes " fill=\"" ++ t2) ++ body) weight refl in
     let first : read true v (codes "<path id=\"weight" ++ line) ≡ read false (number line) line = refl in
@@ -113,7 +113,7 @@ paths_read rs w zero v rest runs none = none v
 paths_read rs w (suc n) v rest runs none =
     let text = flat_map (rectangle_of w) rs in
     let others = paths_from rs (w +ℤ pos 1) n in
-    ap (read true v) (append_assoc (path w text) others rest)
+    ap (read true v) (append_assoc (path_of_weight w text) others rest)
     ∙ path_read w v text (dots_with w (flat_map dots_of rs)) (others ++ rest) (gathered (flat_map dots_of rs) (w +ℤ pos 1) n)
     (λ b bs some. some_weight w rs b bs runs some) (λ more. rectangles_read w rs more runs)
     (λ u. paths_read rs (w +ℤ pos 1) n u rest runs none)

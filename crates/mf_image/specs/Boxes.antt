@@ -1,5 +1,5 @@
 -- The box of an image: the least box of its picture.
-use Rattle.std.specs.Prelude.{◌≡◌, ◌<◌, ◌⊎◌, pos, List, [], ◌∷◌}
+use Rattle.std.specs.Prelude.{◌≡◌, ◌<◌, ◌⊎◌, ℕ, pos, List, [], ◌∷◌}
 use Rattle.mf_rows.specs.declared.bounds.Box4.{Box4}
 use Rattle.mf_rows.specs.Dots.{Dot}
 use Rattle.mf_show.specs.Boxes.{IsBoxOfField, box_of_dots}
@@ -14,9 +14,17 @@ unfoldable pub image_box : List Dot → Box4
 image_box [] = origin
 image_box (d ∷ ds) = box_of_dots d ds
 
--- the box is wider or higher than 4096 pixels
-abbrev pub IsTooLarge : List Dot → Type 0
-IsTooLarge ds = (4096 < extent (image_box ds).min_x (image_box ds).max_x) ⊎ (4096 < extent (image_box ds).min_y (image_box ds).max_y)
+-- the greatest number of columns, and of rows, of an image
+abbrev pub greatest_side : ℕ
+greatest_side = 4096
+
+-- a box has more columns or rows than an image may have
+abbrev pub IsLargeBox : Box4 → Type 0
+IsLargeBox b = (greatest_side < extent b.min_x b.max_x) ⊎ (greatest_side < extent b.min_y b.max_y)
+
+-- so has the box of the image of a picture
+abbrev pub IsTooLargeForImage : List Dot → Type 0
+IsTooLargeForImage ds = IsLargeBox (image_box ds)
 
 -- the box is that of a picture's image
 pub record IsImageBox (ds : List Dot) (b : Box4) : Type 0 where

@@ -5,7 +5,7 @@ use Rattle.std.specs.Int.RustNames.{unsigned_abs}
 use Rattle.std.specs.Ordering.{int_eq}
 use Rattle.mf_rows.specs.declared.bounds.Box4.{Box4}
 use Rattle.mf_rows.specs.Dots.{Dot}
-use Rattle.mf_show.specs.Grid.{extent, shown_box, shown_row}
+use Rattle.mf_show.specs.Grid.{extent, shown_box}
 use Rattle.mf_image.specs.Boxes.{image_box}
 
 -- the byte of a weight: 255 for 0; 120, 80 and 40 for 1, 2 and 3; 39 to 1 for 4 to 42, and 0 above; 200 to 253 for -1 to -54, and 254
@@ -26,10 +26,6 @@ pgm_head b =
     codes "P5\n# left " ++ signed_decimal b.min_x ++ codes " top " ++ signed_decimal b.max_y ++ codes "\n" ++ signed_decimal
     (pos (extent b.min_x b.max_x)) ++ codes " "
     ++ signed_decimal (pos (extent b.min_y b.max_y)) ++ codes "\n255\n"
-
--- the bytes of n pixels of row y, from column x on
-abbrev pub row_bytes : List Dot → ℤ → ℤ → ℕ → List ℕ
-row_bytes ds y x n = shown_row level ds y x n
 
 -- the bytes of the pixels of a box
 abbrev pub box_bytes : List Dot → Box4 → List ℕ

@@ -30,14 +30,14 @@ color w =
     else (if int_lt w (pos 3) then codes "#05a" else codes "#000"))
 
 -- the path of a weight with these rectangles, or nothing where there is none
-abbrev pub path : ℤ → List ℕ → List ℕ
-path w [] = []
-path w (b ∷ bs) = codes "<path id=\"weight" ++ signed_decimal w ++ codes "\" fill=\"" ++ color w ++ codes "\" d=\"\n" ++ (b ∷ bs) ++ codes "\"/>\n"
+abbrev pub path_of_weight : ℤ → List ℕ → List ℕ
+path_of_weight w [] = []
+path_of_weight w (b ∷ bs) = codes "<path id=\"weight" ++ signed_decimal w ++ codes "\" fill=\"" ++ color w ++ codes "\" d=\"\n" ++ (b ∷ bs) ++ codes "\"/>\n"
 
 -- the paths of n weights from w on: each has the rectangles of the runs of its weight
 unfoldable pub paths_from : List Run → ℤ → ℕ → List ℕ
 paths_from rs w zero = []
-paths_from rs w (suc n) = path w (flat_map (rectangle_of w) rs) ++ paths_from rs (w +ℤ pos 1) n
+paths_from rs w (suc n) = path_of_weight w (flat_map (rectangle_of w) rs) ++ paths_from rs (w +ℤ pos 1) n
 
 -- the weights of runs
 abbrev pub weights_of : List Run → List ℤ

@@ -1,6 +1,6 @@
 //! The box of an image.
 ghost use Rattle.std.specs.Prelude.{◌↔◌, IfSome, IsNone};
-ghost use Rattle.mf_image.specs.Boxes.{IsImageBox, IsTooLarge};
+ghost use Rattle.mf_image.specs.Boxes.{IsImageBox, IsTooLargeForImage};
 
 use mf_rows::{Box4, Picture};
 use mf_show::extent;
@@ -20,7 +20,7 @@ const ORIGIN: Box4 = Box4 {
 /// wider or higher than an image may be.
 pub(crate) fn image_box(picture: &Picture) -> Option<Box4>
     ensures bounds { IfSome result (IsImageBox picture.now) }
-    ensures too_large { IsTooLarge picture.now ↔ IsNone result }
+    ensures too_large { IsTooLargeForImage picture.now ↔ IsNone result }
 {
     let Some(bounds) = picture.bounds() else {
         return Some(ORIGIN);

@@ -2,9 +2,9 @@
 ghost use Rattle.std.specs.Prelude.{◌≡◌, ◌↔◌, ◌≤ℤ◌, ◌++◌, Err, IfOk};
 ghost use Rattle.mf_geom.specs.Coordinates.{least_coordinate, last_in_field};
 ghost use Rattle.mf_show.specs.Boxes.{IsBoxOfField};
-ghost use Rattle.mf_show.specs.Grid.{extent};
-ghost use Rattle.mf_image.specs.Boxes.{IsImageBox, IsTooLarge};
-ghost use Rattle.mf_image.specs.Pgm.{level, pgm_bytes, pgm_head, row_bytes};
+ghost use Rattle.mf_show.specs.Grid.{extent, shown_row};
+ghost use Rattle.mf_image.specs.Boxes.{IsImageBox, IsTooLargeForImage};
+ghost use Rattle.mf_image.specs.Pgm.{level, pgm_bytes, pgm_head};
 
 use crate::bounds::image_box;
 use crate::fault::ImageFault;
@@ -20,7 +20,7 @@ use std::alloc::Global;
 /// with `OutOfMemory` where an allocation fails.
 pub fn pgm(alloc: Global, picture: &Picture) -> Result<Vec<u8>, ImageFault>
     ensures bytes { IfOk result (λ bytes. bytes.items ≡ pgm_bytes picture.now) }
-    ensures too_large { IsTooLarge picture.now ↔ (result ≡ Err ImageFault.ImageTooLarge) }
+    ensures too_large { IsTooLargeForImage picture.now ↔ (result ≡ Err ImageFault.ImageTooLarge) }
 {
     let Some(bounds) = image_box(picture) else {
         return Err(ImageFault::ImageTooLarge);
@@ -66,7 +66,7 @@ fn push_row(
     requires least { least_coordinate ≤ℤ first }
     requires greatest { last ≤ℤ last_in_field }
     requires columns { first ≤ℤ last }
-    ensures { IfOk result (λ _. bytes.new.items ≡ bytes.old.items ++ row_bytes picture.now y first (extent first last)) }
+    ensures { IfOk result (λ _. bytes.new.items ≡ bytes.old.items ++ shown_row level picture.now y first (extent first last)) }
 {
     for x in first..last + 1 {
         bytes.push(level(picture.weight(x, y)))?;

@@ -4,8 +4,8 @@ ghost use Rattle.mf_edges.specs.LawfulWeights.{least_weight, greatest_weight};
 ghost use Rattle.mf_rows.specs.Order.{IsRun};
 ghost use Rattle.mf_rows.specs.Runs.{runs_of};
 ghost use Rattle.mf_show.specs.Boxes.{IsBoxOfField};
-ghost use Rattle.mf_image.specs.Boxes.{IsImageBox, IsTooLarge};
-ghost use Rattle.mf_image.specs.Svg.{IsSmall, axes, color, cover, greatest_weight_of, least_weight_of, opening, path, paths, rectangle, rectangle_of, sheet_of, svg_text};
+ghost use Rattle.mf_image.specs.Boxes.{IsImageBox, IsTooLargeForImage};
+ghost use Rattle.mf_image.specs.Svg.{IsSmall, axes, color, cover, greatest_weight_of, least_weight_of, opening, path_of_weight, paths, rectangle, rectangle_of, sheet_of, svg_text};
 
 use crate::bounds::image_box;
 use crate::fault::ImageFault;
@@ -26,7 +26,7 @@ const GRID: &[u8] =
 /// wider or higher than 4,096 pixels, and with `OutOfMemory` where an allocation fails.
 pub fn svg(alloc: Global, picture: &Picture) -> Result<Vec<u8>, ImageFault>
     ensures text { IfOk result (λ text. text.items ≡ svg_text picture.now) }
-    ensures too_large { IsTooLarge picture.now ↔ (result ≡ Err ImageFault.ImageTooLarge) }
+    ensures too_large { IsTooLargeForImage picture.now ↔ (result ≡ Err ImageFault.ImageTooLarge) }
 {
     let Some(bounds) = image_box(picture) else {
         return Err(ImageFault::ImageTooLarge);
@@ -153,7 +153,7 @@ fn push_path(
     picture: &Picture,
     weight: i32,
 ) -> Result<(), OutOfMemory>
-    ensures { IfOk result (λ _. text.new.items ≡ text.old.items ++ path weight (flat_map (rectangle_of weight) (runs_of picture.now))) }
+    ensures { IfOk result (λ _. text.new.items ≡ text.old.items ++ path_of_weight weight (flat_map (rectangle_of weight) (runs_of picture.now))) }
 {
     let mut rectangles = Vec::new(alloc);
     push_rectangles(&mut rectangles, picture, weight)?;
@@ -166,7 +166,7 @@ fn push_path(
 /// Appends the path of a weight with these rectangles. Requires one of them at least.
 fn push_drawn(text: &mut Vec<u8>, weight: i32, rectangles: &[u8]) -> Result<(), OutOfMemory>
     requires { 0 < length rectangles.now }
-    ensures { IfOk result (λ _. text.new.items ≡ text.old.items ++ path weight rectangles.now) }
+    ensures { IfOk result (λ _. text.new.items ≡ text.old.items ++ path_of_weight weight rectangles.now) }
 {
     text.extend_from_slice(b"<path id=\"weight")?;
     push_number(text, weight, b"\" fill=\"")?;

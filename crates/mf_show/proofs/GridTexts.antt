@@ -9,36 +9,38 @@ use Rattle.mf_rows.specs.Dots.{Dot, IsPicture, place, weight_at}
 use Rattle.mf_rows.specs.Runs.{dots_of, runs_of}
 use Rattle.mf_rows.proofs.RunsLemmas.{dots_of-runs_of}
 use Rattle.mf_show.specs.Boxes.{IsBoxOfField}
-use Rattle.mf_show.specs.Grid.{character, extent, shown_row, row_text, box_text, IsGridText, IsTooLarge}
+use Rattle.mf_show.specs.Grid.{grid_character, extent, shown_row, row_text, box_text, IsGridText, IsTooLarge}
 use Rattle.mf_show.specs.RunsAhead.{AreInOrder, AreSameFrom}
 use Rattle.mf_show.proofs.LeastBoxes.{same_least_box, least_box_of_some, some_least_box}
-use Rattle.mf_show.proofs.ShownRows.{IsBoxSoFar, IsRowSoFar, box_more, box_none, row_more, row_none}
+use Rattle.mf_show.proofs.ShownRows.{IsBoxSoFar, IsRowSoFar, ShownBox, ShownRow, box_more, box_none, row_more, row_none}
 use Rattle.mf_show.proofs.PassedPixels.{all_in_order, same_all}
 
 -- ---- a row
 
+-- row y of a grid, from one column to another, after an old text, where these runs are ahead
+abbrev pub grid_row : ℤ → ℤ → ℤ → List ℕ → List Run → ShownRow
+grid_row y first last old all = record { show = grid_character; ds = flat_map dots_of all; y = y; first = first; last = last; old = old }
+
 -- the row is written up to the column before x, and the runs that are left show its pixels from x on
-pub record IsLineSoFar (y first last : ℤ) (old : List ℕ) (all : List Run) (x : ℤ) (text : List ℕ) (rs : List Run) : Type 0 where
-  pub row : IsRowSoFar character (flat_map dots_of all) y first last old x text
+pub record IsLineSoFar (r : ShownRow) (x : ℤ) (text : List ℕ) (rs : List Run) : Type 0 where
+  pub row : IsRowSoFar r x text
   pub order : AreInOrder rs
-  pub same : AreSameFrom (place x y) (flat_map dots_of all) (flat_map dots_of rs)
+  pub same : AreSameFrom (place x r.y) r.ds (flat_map dots_of rs)
 
-pub line_none : (y first last : ℤ) (old : List ℕ) (all : List Run) → first ≤ℤ last → AreInOrder all → IsLineSoFar y first last old all first old all
-line_none y first last old all columns ordered = record {
-  row = row_none character (flat_map dots_of all) y first last old columns;
-  order = ordered;
-  same = same_all (place first y) (flat_map dots_of all);
-}
+pub line_none : (y first last : ℤ) (old : List ℕ) (all : List Run) → first ≤ℤ last → AreInOrder all
+    → IsLineSoFar (grid_row y first last old all) first old all
+line_none y first last old all columns ordered =
+    record { row = row_none (grid_row y first last old all) columns; order = ordered; same = same_all (place first y) (flat_map dots_of all) }
 
-pub line_more : (y first last : ℤ) (old : List ℕ) (all : List Run) (x : ℤ) (text new : List ℕ) (k : ℕ) (rs others : List Run) → x ≤ℤ last
-    → new ≡ text ++ k ∷ [] → k ≡ character (weight_at (flat_map dots_of rs) x y) → AreInOrder others
-    → AreSameFrom (place x y) (flat_map dots_of rs) (flat_map dots_of others) → IsLineSoFar y first last old all x text rs
-    → IsLineSoFar y first last old all (x +ℤ pos 1) new others
+pub line_more : (r : ShownRow) (x : ℤ) (text new : List ℕ) (k : ℕ) (rs others : List Run) → x ≤ℤ r.last → new ≡ text ++ k ∷ []
+    → k ≡ r.show (weight_at (flat_map dots_of rs) x r.y) → AreInOrder others
+    → AreSameFrom (place x r.y) (flat_map dots_of rs) (flat_map dots_of others) → IsLineSoFar r x text rs
+    → IsLineSoFar r (x +ℤ pos 1) new others
 unfolding place
-line_more y first last old all x text new k rs others column pushed shown ordered later so_far =
-    let weight = so_far.same.same x y (omega (arith, ints)) in
+line_more r x text new k rs others column pushed shown ordered later so_far =
+    let weight = so_far.same.same x r.y (omega (arith, ints)) in
     record {
-      row = row_more character (flat_map dots_of all) y first last old x text new k column pushed (shown ∙ ap character weight) so_far.row;
+      row = row_more r x text new k column pushed (shown ∙ ap r.show weight) so_far.row;
       order = ordered;
       same = record { same = λ u v from. later.same u v (omega (arith, ints)) ∙ so_far.same.same u v (omega (arith, ints)) };
     }
@@ -53,16 +55,20 @@ row_text-same ds es y x (suc n) same =
     let others = row_text-same ds es y (x +ℤ pos 1) n (record { same = λ u v from. same.same u v (omega (arith, ints)) }) in
     rw (weight, others) refl
 
+-- the grid of a box
+abbrev pub grid_box : List Dot → Box4 → ShownBox
+grid_box ds b = record { show = grid_character; end = codes "\n"; ds = ds; bounds = b; head = [] }
+
 -- the box is written down to the row above row y, and the runs that are left show its pixels from row y on
 pub record IsGridSoFar (ds : List Dot) (b : Box4) (y : ℤ) (text : List ℕ) (rs : List Run) : Type 0 where
-  pub box : IsBoxSoFar character (codes "\n") ds b [] y text
+  pub box : IsBoxSoFar (grid_box ds b) y text
   pub order : AreInOrder rs
   pub same : AreSameFrom (place b.min_x y) ds (flat_map dots_of rs)
 
 pub grid_none : (ds : List Dot) (b : Box4) (y : ℤ) (text : List ℕ) (rs : List Run) → IsPicture ds → IsBoxOfField b → y ≡ b.max_y → text ≡ []
     → rs ≡ runs_of ds → IsGridSoFar ds b y text rs
 grid_none ds b y text rs picture box start empty all = record {
-  box = box_none character (codes "\n") ds b [] y text box start empty;
+  box = box_none (grid_box ds b) y text box start empty;
   order = all_in_order ds rs picture all;
   same = rw (all, dots_of-runs_of ds) (same_all (place b.min_x y) ds);
 }
@@ -75,7 +81,7 @@ unfolding place
 grid_more ds b y text new rs others box row pushed ordered later so_far =
     let line = row_text-same ds (flat_map dots_of rs) y b.min_x (extent b.min_x b.max_x) so_far.same in
     record {
-      box = box_more character (codes "\n") ds b [] y text new row (rw line at pushed) so_far.box;
+      box = box_more (grid_box ds b) y text new row (rw line at pushed) so_far.box;
       order = ordered;
       same = record {
         same = λ u v from. later.same u v (omega (arith, ints, box.left, box.right)) ∙ so_far.same.same u v (omega (arith, ints));

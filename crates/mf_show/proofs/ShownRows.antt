@@ -18,75 +18,89 @@ extent-lower first y le = omega (arith, ints)
 
 -- ---- a row
 
--- the text so far is the old text and that of row y from the first column up to the one before x; those from x to the last are
--- missing
-pub record IsRowSoFar (show : ℤ → ℕ) (ds : List Dot) (y first last : ℤ) (old : List ℕ) (x : ℤ) (text : List ℕ) : Type 0 where
-  pub left : first ≤ℤ x
-  pub right : x ≤ℤ (last +ℤ pos 1)
-  pub row : text ++ shown_row show ds y x (extent x last) ≡ old ++ shown_row show ds y first (extent first last)
+-- a row that is shown after an old text: how, of which dots, and from which column to which
+pub record ShownRow : Type 0 where
+  pub show : ℤ → ℕ
+  pub ds : List Dot
+  pub y : ℤ
+  pub first : ℤ
+  pub last : ℤ
+  pub old : List ℕ
 
-pub row_none : (show : ℤ → ℕ) (ds : List Dot) (y first last : ℤ) (old : List ℕ) → first ≤ℤ last → IsRowSoFar show ds y first last old first old
-row_none show ds y first last old columns = record { left = omega (arith, ints); right = omega (arith, ints); row = refl }
+-- what shows the row from a column on
+abbrev row_from : ShownRow → ℤ → List ℕ
+row_from r x = shown_row r.show r.ds r.y x (extent x r.last)
 
-shown_row-next : (show : ℤ → ℕ) (ds : List Dot) (y x : ℤ) (n : ℕ) → shown_row show ds y x (suc n) ≡ show (weight_at ds x y) ∷ shown_row show ds y (x +ℤ pos 1) n
+-- the text so far is the old text and that of the row up to the column before x; the columns from x on are missing
+pub record IsRowSoFar (r : ShownRow) (x : ℤ) (text : List ℕ) : Type 0 where
+  pub left : r.first ≤ℤ x
+  pub right : x ≤ℤ (r.last +ℤ pos 1)
+  pub row : text ++ row_from r x ≡ r.old ++ row_from r r.first
+
+pub row_none : (r : ShownRow) → r.first ≤ℤ r.last → IsRowSoFar r r.first r.old
+row_none r columns = record { left = omega (arith, ints); right = omega (arith, ints); row = refl }
+
+row_from-next : (r : ShownRow) (x : ℤ) → x ≤ℤ r.last → row_from r x ≡ r.show (weight_at r.ds x r.y) ∷ row_from r (x +ℤ pos 1)
 unfolding shown_row
-shown_row-next show ds y x n = refl
+row_from-next r x column = ap (shown_row r.show r.ds r.y x) (extent-next x r.last column)
 
-pub row_more : (show : ℤ → ℕ) (ds : List Dot) (y first last : ℤ) (old : List ℕ) (x : ℤ) (text new : List ℕ) (k : ℕ) → x ≤ℤ last → new ≡ text ++ k ∷ []
-    → k ≡ show (weight_at ds x y) → IsRowSoFar show ds y first last old x text → IsRowSoFar show ds y first last old (x +ℤ pos 1) new
-row_more show ds y first last old x text new k column pushed shown so_far =
-    let rest = shown_row show ds y (x +ℤ pos 1) (extent (x +ℤ pos 1) last) in
-    let row : shown_row show ds y x (extent x last) ≡ show (weight_at ds x y) ∷ rest =
-    ap (shown_row show ds y x) (extent-next x last column) ∙ shown_row-next show ds y x (extent (x +ℤ pos 1) last) in
-    record {
-      left = omega (arith, ints, so_far.left);
-      right = omega (arith, ints);
-      row =
-          rw (pushed, shown) (append_assoc text (show (weight_at ds x y) ∷ []) rest)
-          ∙ ap (λ more. text ++ more) (sym row) ∙ so_far.row;
-    }
+pub row_more : (r : ShownRow) (x : ℤ) (text new : List ℕ) (k : ℕ) → x ≤ℤ r.last → new ≡ text ++ k ∷ [] → k ≡ r.show (weight_at r.ds x r.y)
+    → IsRowSoFar r x text → IsRowSoFar r (x +ℤ pos 1) new
+row_more r x text new k column pushed shown so_far = record {
+  left = omega (arith, ints, so_far.left);
+  right = omega (arith, ints);
+  row =
+      rw (pushed, shown) (append_assoc text (r.show (weight_at r.ds x r.y) ∷ []) (row_from r (x +ℤ pos 1)))
+      ∙ ap (λ more. text ++ more) (sym (row_from-next r x column)) ∙ so_far.row;
+}
 
-pub row_all : (show : ℤ → ℕ) (ds : List Dot) (y first last : ℤ) (old : List ℕ) (x : ℤ) (text : List ℕ) → x ≡ last +ℤ pos 1
-    → IsRowSoFar show ds y first last old x text → text ≡ old ++ shown_row show ds y first (extent first last)
+pub row_all : (r : ShownRow) (x : ℤ) (text : List ℕ) → x ≡ r.last +ℤ pos 1 → IsRowSoFar r x text → text ≡ r.old ++ row_from r r.first
 unfolding shown_row
-row_all show ds y first last old x text over so_far =
-    sym (append-nil text) ∙ ap (λ n. text ++ shown_row show ds y x n) (sym (extent-none x last over)) ∙ so_far.row
+row_all r x text over so_far =
+    sym (append-nil text) ∙ ap (λ n. text ++ shown_row r.show r.ds r.y x n) (sym (extent-none x r.last over)) ∙ so_far.row
 
 -- ---- a box
 
--- the text so far is the head and the rows of a box from its top row down to the one above row y; those from y down are missing
-pub record IsBoxSoFar (show : ℤ → ℕ) (end : List ℕ) (ds : List Dot) (b : Box4) (head : List ℕ) (y : ℤ) (text : List ℕ) : Type 0 where
-  pub bottom : b.min_y ≤ℤ (y +ℤ pos 1)
-  pub top : y ≤ℤ b.max_y
-  pub rows : text ++ shown_rows show end ds b.min_x (extent b.min_x b.max_x) y (extent b.min_y y) ≡ head ++ shown_box show end ds b
+-- a box that is shown after a head: how, of which dots, and what ends each row
+pub record ShownBox : Type 0 where
+  pub show : ℤ → ℕ
+  pub end : List ℕ
+  pub ds : List Dot
+  pub bounds : Box4
+  pub head : List ℕ
 
-pub box_none : (show : ℤ → ℕ) (end : List ℕ) (ds : List Dot) (b : Box4) (head : List ℕ) (y : ℤ) (text : List ℕ) → IsBoxOfField b → y ≡ b.max_y → text ≡ head
-    → IsBoxSoFar show end ds b head y text
-box_none show end ds b head y text box start begun = record { bottom = omega (arith, ints, box.rows); top = omega (arith, ints); rows = rw (start, begun) refl }
+-- what shows a row of the box, and its rows from row y down
+abbrev row_in : ShownBox → ℤ → List ℕ
+row_in s y = shown_row s.show s.ds y s.bounds.min_x (extent s.bounds.min_x s.bounds.max_x)
 
-shown_rows-next : (show : ℤ → ℕ) (end : List ℕ) (ds : List Dot) (x y : ℤ) (columns n : ℕ)
-    → shown_rows show end ds x columns y (suc n) ≡ shown_row show ds y x columns ++ end ++ shown_rows show end ds x columns (y -ℤ pos 1) n
+abbrev rows_down : ShownBox → ℤ → ℕ → List ℕ
+rows_down s = shown_rows s.show s.end s.ds s.bounds.min_x (extent s.bounds.min_x s.bounds.max_x)
+
+-- the text so far is the head and the rows of the box from its top row down to the one above row y; those from y down are missing
+pub record IsBoxSoFar (s : ShownBox) (y : ℤ) (text : List ℕ) : Type 0 where
+  pub bottom : s.bounds.min_y ≤ℤ (y +ℤ pos 1)
+  pub top : y ≤ℤ s.bounds.max_y
+  pub rows : text ++ rows_down s y (extent s.bounds.min_y y) ≡ s.head ++ shown_box s.show s.end s.ds s.bounds
+
+pub box_none : (s : ShownBox) (y : ℤ) (text : List ℕ) → IsBoxOfField s.bounds → y ≡ s.bounds.max_y → text ≡ s.head → IsBoxSoFar s y text
+box_none s y text box start begun = record { bottom = omega (arith, ints, box.rows); top = omega (arith, ints); rows = rw (start, begun) refl }
+
+rows_down-next : (s : ShownBox) (y : ℤ) → s.bounds.min_y ≤ℤ y
+    → rows_down s y (extent s.bounds.min_y y) ≡ row_in s y ++ s.end ++ rows_down s (y -ℤ pos 1) (extent s.bounds.min_y (y -ℤ pos 1))
 unfolding shown_rows
-shown_rows-next show end ds x y columns n = refl
+rows_down-next s y row = ap (rows_down s y) (extent-lower s.bounds.min_y y row)
 
-pub box_more : (show : ℤ → ℕ) (end : List ℕ) (ds : List Dot) (b : Box4) (head : List ℕ) (y : ℤ) (text new : List ℕ) → b.min_y ≤ℤ y
-    → new ≡ text ++ shown_row show ds y b.min_x (extent b.min_x b.max_x) ++ end → IsBoxSoFar show end ds b head y text
-    → IsBoxSoFar show end ds b head (y -ℤ pos 1) new
-box_more show end ds b head y text new row pushed so_far =
-    let columns = extent b.min_x b.max_x in
-    let line = shown_row show ds y b.min_x columns in
-    let below = shown_rows show end ds b.min_x columns (y -ℤ pos 1) (extent b.min_y (y -ℤ pos 1)) in
-    let rows : shown_rows show end ds b.min_x columns y (extent b.min_y y) ≡ line ++ end ++ below =
-    ap (shown_rows show end ds b.min_x columns y) (extent-lower b.min_y y row) ∙ shown_rows-next show end ds b.min_x y columns (extent b.min_y (y -ℤ pos 1)) in
-    record {
-      bottom = omega (arith, ints);
-      top = omega (arith, ints, so_far.top);
-      rows = rw pushed (simp append_assoc) ∙ ap (λ all. text ++ all) (sym rows) ∙ so_far.rows;
-    }
+pub box_more : (s : ShownBox) (y : ℤ) (text new : List ℕ) → s.bounds.min_y ≤ℤ y → new ≡ text ++ row_in s y ++ s.end
+    → IsBoxSoFar s y text → IsBoxSoFar s (y -ℤ pos 1) new
+box_more s y text new row pushed so_far = record {
+  bottom = omega (arith, ints);
+  top = omega (arith, ints, so_far.top);
+  rows = rw pushed (simp append_assoc) ∙ ap (λ all. text ++ all) (sym (rows_down-next s y row)) ∙ so_far.rows;
+}
 
-pub box_all : (show : ℤ → ℕ) (end : List ℕ) (ds : List Dot) (b : Box4) (head : List ℕ) (y : ℤ) (text : List ℕ) → y +ℤ pos 1 ≡ b.min_y
-    → IsBoxSoFar show end ds b head y text → text ≡ head ++ shown_box show end ds b
+pub box_all : (s : ShownBox) (y : ℤ) (text : List ℕ) → y +ℤ pos 1 ≡ s.bounds.min_y → IsBoxSoFar s y text
+    → text ≡ s.head ++ shown_box s.show s.end s.ds s.bounds
 unfolding shown_rows
-box_all show end ds b head y text over so_far =
-    let none : extent b.min_y y ≡ 0 = omega (arith, ints) in
-    sym (append-nil text) ∙ ap (λ n. text ++ shown_rows show end ds b.min_x (extent b.min_x b.max_x) y n) (sym none) ∙ so_far.rows
+box_all s y text over so_far =
+    let none : extent s.bounds.min_y y ≡ 0 = omega (arith, ints) in
+    sym (append-nil text) ∙ ap (λ n. text ++ rows_down s y n) (sym none) ∙ so_far.rows

@@ -7,8 +7,8 @@ use Rattle.mf_rows.specs.Bounds.{IsLeastBox}
 use Rattle.mf_rows.specs.Dots.{Dot, weight_at}
 
 -- the character of a weight: `.` for 0, `1` to `9` for themselves, `+` above 9, `a` to `i` for -1 to -9, and `-` below -9
-abbrev pub character : ℤ → ℕ
-character w =
+abbrev pub grid_character : ℤ → ℕ
+grid_character w =
     if int_eq w (pos 0) then 46
     else (if int_lt (pos 9) w then 43
     else (if int_lt w (negsuc 8) then 45
@@ -34,11 +34,11 @@ shown_box show end ds b = shown_rows show end ds b.min_x (extent b.min_x b.max_x
 
 -- the characters of n pixels of row y, from column x on
 abbrev pub row_text : List Dot → ℤ → ℤ → ℕ → List ℕ
-row_text ds y x n = shown_row character ds y x n
+row_text ds y x n = shown_row grid_character ds y x n
 
 -- the lines of all rows of a box
 abbrev pub box_text : List Dot → Box4 → List ℕ
-box_text ds b = shown_box character (codes "\n") ds b
+box_text ds b = shown_box grid_character (codes "\n") ds b
 
 -- the text is the grid text of a picture: that of its least box, or `blank` where it has none
 pub record IsGridText (ds : List Dot) (text : List ℕ) : Type 0 where

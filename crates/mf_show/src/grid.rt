@@ -3,7 +3,7 @@ ghost use Rattle.std.specs.Prelude.{◌≡◌, ◌≤ℤ◌, ◌+ℤ◌, ◌++�
 ghost use Rattle.mf_geom.specs.Coordinates.{least_coordinate, last_in_field};
 ghost use Rattle.mf_rows.specs.Bounds.{IsLeastBox};
 ghost use Rattle.mf_rows.specs.Dots.{place};
-ghost use Rattle.mf_show.specs.Grid.{IsGridText, IsTooLarge, extent, box_text, row_text, character};
+ghost use Rattle.mf_show.specs.Grid.{IsGridText, IsTooLarge, extent, box_text, row_text, grid_character};
 ghost use Rattle.mf_show.specs.RunsAhead.{runs_ahead, dots_ahead, AreInOrder, AreSameFrom};
 
 mod weights;
@@ -83,15 +83,15 @@ fn push_row(
     ensures later { IfOk result (λ _. AreSameFrom (place (last +ℤ pos 1) y) (dots_ahead weights.old) (dots_ahead weights.new)) }
 {
     for x in first..last + 1 {
-        text.push(character(weights.weight(x, y)))?;
+        text.push(grid_character(weights.weight(x, y)))?;
     }
     text.push(b'\n')?;
     Ok(())
 }
 
 /// The character that represents a weight.
-fn character(weight: i32) -> u8
-    ensures { result ≡ character weight }
+fn grid_character(weight: i32) -> u8
+    ensures { result ≡ grid_character weight }
 {
     match weight {
         0 => b'.',

@@ -1,5 +1,6 @@
 use Rattle.std.proofs.Common.{◌≡◌, ◌≤◌, refl, arith}
 use Rattle.std.proofs.lemmas.Int.{ints}
+use Rattle.mf_image.specs.Boxes.{greatest_side}
 use Rattle.mf_show.specs.Grid.{extent}
 use Rattle.mf_show.proofs.LeastBoxes.{least_box_of_field}
 use Rattle.mf_image.proofs.ImageBoxes.{blank_is_small, box_of_blank, box_of_picture, is_large, is_small}
@@ -31,6 +32,6 @@ pub returns : goal.returns
 returns c =
     let b = c.in-Some.bounds in
     let box = box_of_picture _ b c.bounds.ensures.lawful c.in-Some.ensures.least in
-    let narrow : extent b.min_x b.max_x ≤ 4096 = omega (arith, ints) in
-    let low : extent b.min_y b.max_y ≤ 4096 = omega (arith, ints) in
+    let narrow : extent b.min_x b.max_x ≤ greatest_side = omega (arith, ints) in
+    let low : extent b.min_y b.max_y ≤ greatest_side = omega (arith, ints) in
     record { bounds = box; too_large = (λ large. absurd (is_small _ b box.is narrow low large), λ same. absurd (cc same)) }

@@ -7,7 +7,7 @@ use Rattle.mf_image.proofs.pgm_image.pgm_bytes.Goals as goal
 
 pub loop-y-init : goal.loop-y-init
 loop-y-init c =
-    box_none _ _ _ _ _ _ _ c.requires.field (omega (arith, ints))
+    box_none _ _ _ c.requires.field (omega (arith, ints))
     (c.in_ok-push_head.ensures ∙ ap (λ old. old ++ pgm_head c.args.bounds.now) c.new-bytes.ensures.items)
 
 pub loop-y-preserved : goal.loop-y-preserved
@@ -20,11 +20,11 @@ loop-y-preserved c =
     let left : to_z w32 (of_z w32 bounds.min_x) ≡ bounds.min_x = omega (arith, ints) in
     let right : to_z w32 (of_z w32 bounds.max_x) ≡ bounds.max_x = omega (arith, ints) in
     let pushed = rw (row, left, right) at c.in_ok-push_row.ensures ∙ sym (append-nil _) in
-    rw row (box_more _ _ _ _ _ _ _ _ inside pushed so_far)
+    rw row (box_more _ _ _ _ inside pushed so_far)
 
 pub returns : goal.returns
 unfolding pgm_bytes
 returns c =
     let ds = c.args.picture.now in
-    box_all _ _ _ _ _ _ _ (omega (arith, ints, c.loop-y.invariant.bottom, c.loop-y-test.false)) c.loop-y.invariant
+    box_all _ _ _ (omega (arith, ints, c.loop-y.invariant.bottom, c.loop-y-test.false)) c.loop-y.invariant
     ∙ ap (λ b. pgm_head b ++ box_bytes ds b) c.requires.is

@@ -4,4 +4,5 @@ use Rattle.mf_show.proofs.ShownRows.{IsBoxSoFar}
 use Rattle.mf_image.proofs.pgm_image.pgm_bytes.Given as goal
 
 abbrev pub invariant-loop-y : goal.invariant-loop-y
-invariant-loop-y l = IsBoxSoFar level [] l.picture l.bounds (pgm_head l.bounds) (l.y -ℤ pos 1) l.bytes.items
+invariant-loop-y l = IsBoxSoFar
+    (record { show = level; end = []; ds = l.picture; bounds = l.bounds; head = pgm_head l.bounds }) (l.y -ℤ pos 1) l.bytes.items

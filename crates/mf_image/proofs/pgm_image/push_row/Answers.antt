@@ -5,7 +5,7 @@ use Rattle.mf_show.proofs.ShownRows.{row_none, row_more, row_all}
 use Rattle.mf_image.proofs.pgm_image.push_row.Goals as goal
 
 pub loop-x-init : goal.loop-x-init
-loop-x-init c = row_none _ _ _ _ _ _ (omega (arith, ints))
+loop-x-init c = row_none _ (omega (arith, ints))
 
 pub loop-x-preserved : goal.loop-x-preserved
 loop-x-preserved c =
@@ -14,7 +14,7 @@ loop-x-preserved c =
     let next : to_z w32 (of_z w32 (x +ℤ pos 1)) ≡ x +ℤ pos 1 = omega (arith, ints) in
     let weight : to_z w32 (of_z w32 c.weight.result) ≡ c.weight.result = omega (arith, ints) in
     let shown = c.level.ensures ∙ ap level (weight ∙ c.weight.ensures.weight) in
-    rw next (row_more _ _ _ _ _ _ _ _ _ _ column c.in_ok-push.ensures.items shown c.loop-x.invariant)
+    rw next (row_more _ _ _ _ _ column c.in_ok-push.ensures.items shown c.loop-x.invariant)
 
 pub returns : goal.returns
 returns c =
@@ -23,4 +23,4 @@ returns c =
     let at_y = to_z-of_z w32 c.args.y c.ranges.y in
     let from = to_z-of_z w32 c.args.first c.ranges.first in
     let to = to_z-of_z w32 c.args.last c.ranges.last in
-    rw (at_y, from, to) at (row_all _ _ _ _ _ _ _ _ over c.loop-x.invariant)
+    rw (at_y, from, to) at (row_all _ _ _ over c.loop-x.invariant)

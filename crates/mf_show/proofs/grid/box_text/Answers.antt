@@ -35,4 +35,4 @@ pub returns : goal.returns
 returns c =
     let box = least_box_of_field _ _ c.over-weights.ensures.lawful c.requires in
     let h = c.loop-y.invariant.box in
-    box_all _ _ _ _ _ _ _ (omega (arith, ints, h.bottom, c.loop-y-test.false)) h
+    box_all _ _ _ (omega (arith, ints, h.bottom, c.loop-y-test.false)) h

@@ -1,6 +1,6 @@
 use Rattle.std.proofs.Common.{◌≡◌, ◌∷◌, [], ◌++◌, ◌≤ℤ◌, pos, ◌+ℤ◌, to_z, of_z, w32, ap, ◌∙◌, arith}
 use Rattle.std.proofs.lemmas.Int.{ints, to_z-of_z}
-use Rattle.mf_show.specs.Grid.{character}
+use Rattle.mf_show.specs.Grid.{grid_character}
 use Rattle.mf_show.proofs.GridTexts.{line_none, line_more}
 use Rattle.mf_show.proofs.ShownRows.{row_all}
 use Rattle.mf_show.proofs.grid.push_row.Goals as goal
@@ -20,8 +20,8 @@ loop-x-preserved c =
     let column : x ≤ℤ to_z w32 (of_z w32 c.args.last) = omega (arith, ints, c.loop-x-test.true) in
     let next : to_z w32 (of_z w32 (x +ℤ pos 1)) ≡ x +ℤ pos 1 = omega (arith, ints) in
     let weight : to_z w32 (of_z w32 c.weight.result) ≡ c.weight.result = omega (arith, ints) in
-    let shown = c.character.ensures ∙ ap character (weight ∙ c.weight.ensures.weight) in
-    rw next (line_more _ _ _ _ _ _ _ _ _ _ _ column c.in_ok-push.ensures.items shown c.weight.ensures.order c.weight.ensures.later c.loop-x.invariant)
+    let shown = c.grid_character.ensures ∙ ap grid_character (weight ∙ c.weight.ensures.weight) in
+    rw next (line_more _ _ _ _ _ _ _ column c.in_ok-push.ensures.items shown c.weight.ensures.order c.weight.ensures.later c.loop-x.invariant)
 
 pub returns-clause-text : goal.returns-clause-text
 returns-clause-text c =
@@ -30,7 +30,7 @@ returns-clause-text c =
     let at_y = to_z-of_z w32 c.args.y c.ranges.y in
     let from = to_z-of_z w32 c.args.first c.ranges.first in
     let to = to_z-of_z w32 c.args.last c.ranges.last in
-    let row = rw (at_y, from, to) at (row_all _ _ _ _ _ _ _ _ over c.loop-x.invariant.row) in
+    let row = rw (at_y, from, to) at (row_all _ _ _ over c.loop-x.invariant.row) in
     c.in_ok-push-2.ensures.items ∙ ap (λ text. text ++ 10 ∷ []) row
 
 pub returns-clause-order : goal.returns-clause-order
