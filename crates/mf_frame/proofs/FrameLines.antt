@@ -46,41 +46,55 @@ empty_all count old n text over so_far =
 
 -- ---- a line of tiles
 
--- the first tiles of a line are written after the old text
-pub record AreTilesSoFar (style : Style) (f : ℤ → ℤ → Shade) (k first : ℤ) (columns : ℕ) (old : List ℕ) (n : ℕ) (text : List ℕ) : Type 0 where
-  pub to : n ≤ columns
-  pub line : text ++ tiles style f k (first +ℤ pos n) (columns - n) ≡ old ++ tiles style f k first columns
+-- what of a window is written after an old text: in which style, and with which shades of its cells
+pub record WindowText : Type 0 where
+  pub style : Style
+  pub shades : ℤ → ℤ → Shade
+  pub window : Window
+  pub old : List ℕ
 
-pub tiles_none : (style : Style) (f : ℤ → ℤ → Shade) (k first : ℤ) (columns : ℕ) (old : List ℕ) → AreTilesSoFar style f k first columns old 0 old
-tiles_none style f k first columns old =
-    let same : first +ℤ pos 0 ≡ first = omega (arith, ints) in
-    let all : columns - 0 ≡ columns = omega arith in
+-- n tiles of line k, from a place in it on
+abbrev tiles_from : WindowText → ℤ → ℕ → ℕ → List ℕ
+tiles_from t k place n = tiles t.style t.shades k (t.window.column +ℤ pos place) n
+
+-- all tiles of line k
+abbrev tiles_of : WindowText → ℤ → List ℕ
+tiles_of t k = tiles t.style t.shades k t.window.column t.window.columns
+
+-- the first n tiles of line k are written after the old text
+pub record AreTilesSoFar (t : WindowText) (k : ℤ) (n : ℕ) (text : List ℕ) : Type 0 where
+  pub to : n ≤ t.window.columns
+  pub line : text ++ tiles_from t k n (t.window.columns - n) ≡ t.old ++ tiles_of t k
+
+pub tiles_none : (t : WindowText) (k : ℤ) → AreTilesSoFar t k 0 t.old
+tiles_none t k =
+    let same : t.window.column +ℤ pos 0 ≡ t.window.column = omega (arith, ints) in
+    let all : t.window.columns - 0 ≡ t.window.columns = omega arith in
     record { to = omega arith; line = rw (same, all) refl }
 
-tiles-next : (style : Style) (f : ℤ → ℤ → Shade) (k i : ℤ) (n : ℕ) → tiles style f k i (suc n) ≡ tile_at style f k i ++ tiles style f k (i +ℤ pos 1) n
+tiles_from-next : (t : WindowText) (k : ℤ) (place n : ℕ)
+    → tiles_from t k place (suc n) ≡ tile_at t.style t.shades k (t.window.column +ℤ pos place) ++ tiles_from t k (place + 1) n
 unfolding tiles
-tiles-next style f k i n = refl
+tiles_from-next t k place n =
+    let next : (t.window.column +ℤ pos place) +ℤ pos 1 ≡ t.window.column +ℤ pos (place + 1) = omega (arith, ints) in
+    rw next refl
 
-pub tiles_more : (style : Style) (f : ℤ → ℤ → Shade) (k first : ℤ) (columns : ℕ) (old : List ℕ) (n : ℕ) (text new : List ℕ) → n < columns
-    → new ≡ text ++ tile_at style f k (first +ℤ pos n) → AreTilesSoFar style f k first columns old n text
-    → AreTilesSoFar style f k first columns old (n + 1) new
-tiles_more style f k first columns old n text new more written so_far =
-    let left : columns - n ≡ suc (columns - (n + 1)) = omega arith in
-    let next : (first +ℤ pos n) +ℤ pos 1 ≡ first +ℤ pos (n + 1) = omega (arith, ints) in
-    let rest = tiles style f k (first +ℤ pos (n + 1)) (columns - (n + 1)) in
-    let here : tiles style f k (first +ℤ pos n) (columns - n) ≡ tile_at style f k (first +ℤ pos n) ++ rest =
-    ap (tiles style f k (first +ℤ pos n)) left ∙ tiles-next style f k (first +ℤ pos n) (columns - (n + 1))
-    ∙ ap (λ i. tile_at style f k (first +ℤ pos n) ++ tiles style f k i (columns - (n + 1))) next in
+pub tiles_more : (t : WindowText) (k : ℤ) (n : ℕ) (text new : List ℕ) → n < t.window.columns
+    → new ≡ text ++ tile_at t.style t.shades k (t.window.column +ℤ pos n) → AreTilesSoFar t k n text → AreTilesSoFar t k (n + 1) new
+tiles_more t k n text new more written so_far =
+    let rest = t.window.columns - (n + 1) in
+    let left : t.window.columns - n ≡ suc rest = omega arith in
+    let here = ap (tiles_from t k n) left ∙ tiles_from-next t k n rest in
     record {
       to = omega arith;
-      line = rw written (append_assoc text (tile_at style f k (first +ℤ pos n)) rest) ∙ ap (λ all. text ++ all) (sym here) ∙ so_far.line;
+      line = rw written (append_assoc text (tile_at t.style t.shades k (t.window.column +ℤ pos n)) (tiles_from t k (n + 1) rest))
+          ∙ ap (λ all. text ++ all) (sym here) ∙ so_far.line;
     }
 
-pub tiles_all : (style : Style) (f : ℤ → ℤ → Shade) (k first : ℤ) (columns : ℕ) (old : List ℕ) (n : ℕ) (text : List ℕ) → columns ≤ n
-    → AreTilesSoFar style f k first columns old n text → text ≡ old ++ tiles style f k first columns
+pub tiles_all : (t : WindowText) (k : ℤ) (n : ℕ) (text : List ℕ) → t.window.columns ≤ n → AreTilesSoFar t k n text → text ≡ t.old ++ tiles_of t k
 unfolding tiles
-tiles_all style f k first columns old n text over so_far =
-    let none : columns - n ≡ 0 = omega arith in
+tiles_all t k n text over so_far =
+    let none : t.window.columns - n ≡ 0 = omega arith in
     sym (append-nil text) ∙ rw none at so_far.line
 
 -- the two cells that the code shows in a tile are those of the tile
@@ -100,31 +114,32 @@ tile_here style w shades above place column line here there =
 
 -- ---- the lines of a window
 
--- the lines from the highest down to this one are written after the old text
-pub record AreLinesSoFar (style : Style) (f : ℤ → ℤ → Shade) (w : Window) (old : List ℕ) (n : ℕ) (text : List ℕ) : Type 0 where
-  pub to : n ≤ w.lines
-  pub lines : text ++ lowest_lines style f w n ≡ old ++ window_lines style f w
+-- the lines above the n lowest are written after the old text
+pub record AreLinesSoFar (t : WindowText) (n : ℕ) (text : List ℕ) : Type 0 where
+  pub to : n ≤ t.window.lines
+  pub lines : text ++ lowest_lines t.style t.shades t.window n ≡ t.old ++ window_lines t.style t.shades t.window
 
-pub lines_none : (style : Style) (f : ℤ → ℤ → Shade) (w : Window) (old : List ℕ) → AreLinesSoFar style f w old w.lines old
-lines_none style f w old = record { to = omega arith; lines = refl }
+pub lines_none : (t : WindowText) → AreLinesSoFar t t.window.lines t.old
+lines_none t = record { to = omega arith; lines = refl }
 
-lowest-next : (style : Style) (f : ℤ → ℤ → Shade) (w : Window) (n : ℕ)
-    → lowest_lines style f w (suc n) ≡ window_line style f w (w.line +ℤ pos n) ++ lowest_lines style f w n
+lowest-next : (t : WindowText) (n : ℕ) → lowest_lines t.style t.shades t.window (suc n)
+    ≡ window_line t.style t.shades t.window (t.window.line +ℤ pos n) ++ lowest_lines t.style t.shades t.window n
 unfolding lowest_lines
-lowest-next style f w n = refl
+lowest-next t n = refl
 
-pub lines_more : (style : Style) (f : ℤ → ℤ → Shade) (w : Window) (old : List ℕ) (n : ℕ) (text new : List ℕ)
-    → new ≡ text ++ window_line style f w (w.line +ℤ pos n) → AreLinesSoFar style f w old (suc n) text → AreLinesSoFar style f w old n new
-lines_more style f w old n text new written so_far =
-    let line = window_line style f w (w.line +ℤ pos n) in
+pub lines_more : (t : WindowText) (above n : ℕ) (text new : List ℕ) → above ≡ suc n
+    → new ≡ text ++ window_line t.style t.shades t.window (t.window.line +ℤ pos n) → AreLinesSoFar t above text → AreLinesSoFar t n new
+lines_more t above n text new next written so_far =
+    let line = window_line t.style t.shades t.window (t.window.line +ℤ pos n) in
+    let rest = ap (lowest_lines t.style t.shades t.window) next ∙ lowest-next t n in
     record {
       to = omega (arith, so_far.to);
-      lines = rw written (append_assoc text line (lowest_lines style f w n)) ∙ ap (λ all. text ++ all) (sym (lowest-next style f w n)) ∙ so_far.lines;
+      lines = rw written (append_assoc text line (lowest_lines t.style t.shades t.window n)) ∙ ap (λ all. text ++ all) (sym rest) ∙ so_far.lines;
     }
 
-pub lines_all : (style : Style) (f : ℤ → ℤ → Shade) (w : Window) (old text : List ℕ) → AreLinesSoFar style f w old 0 text → text ≡ old ++ window_lines style f w
+pub lines_all : (t : WindowText) (n : ℕ) (text : List ℕ) → n ≡ 0 → AreLinesSoFar t n text → text ≡ t.old ++ window_lines t.style t.shades t.window
 unfolding lowest_lines
-lines_all style f w old text so_far = sym (append-nil text) ∙ so_far.lines
+lines_all t n text none so_far = sym (append-nil text) ∙ rw none at so_far.lines
 
 -- ---- equal cells make equal lines
 

@@ -13,7 +13,7 @@ use Rattle.mf_show.specs.Grid.{extent}
 use Rattle.mf_frame.specs.declared.window.Window.{Window}
 use Rattle.mf_frame.specs.Canvases.{Size, IsSize}
 use Rattle.mf_frame.specs.Cells.{cell_of}
-use Rattle.mf_frame.specs.Windows.{line_of, window_at, fits_on, first_fitting, scale_of, IsScale, IsWindow}
+use Rattle.mf_frame.specs.Windows.{lesser_scales, line_of, window_at, fits_on, first_fitting, scale_of, IsScale, IsWindow}
 use Rattle.mf_frame.proofs.Floors.{IsCellInField, cell-le, cell_in_field, cell_at_greatest, line-within, line-le}
 
 line_in_field : (j : ℤ) → IsCellInField j → IsCellInField (line_of j)
@@ -189,15 +189,15 @@ first-least canvas b s (suc n) t from to =
 
 pub scale-fits : (canvas : Size) (b : Box4) → IsSize canvas → IsBoxOfField b → fits_on canvas (window_at b (scale_of canvas b)) ≡ true
 unfolding scale_of
-scale-fits canvas b size box = first-fits canvas b (pos 1) 4094 size box (omega (arith, ints))
+scale-fits canvas b size box = first-fits canvas b (pos 1) lesser_scales size box (omega (arith, ints))
 
 pub scale-least : (canvas : Size) (b : Box4) (s : ℤ) → pos 1 ≤ℤ s → s <ℤ scale_of canvas b → fits_on canvas (window_at b s) ≡ false
 unfolding scale_of
-scale-least canvas b s = first-least canvas b (pos 1) 4094 s
+scale-least canvas b s = first-least canvas b (pos 1) lesser_scales s
 
 pub is_scale : (canvas : Size) (b : Box4) → IsScale (scale_of canvas b)
 unfolding scale_of
-is_scale canvas b = record { least = first-from canvas b (pos 1) 4094; greatest = omega (arith, ints, first-to canvas b (pos 1) 4094) }
+is_scale canvas b = record { least = first-from canvas b (pos 1) lesser_scales; greatest = omega (arith, ints, first-to canvas b (pos 1) lesser_scales) }
 
 -- the window of a box at its scale
 pub lawful_window : (canvas : Size) (b : Box4) → IsSize canvas → IsBoxOfField b → IsWindow (window_at b (scale_of canvas b))

@@ -45,9 +45,9 @@ empty_lines style zero = []
 empty_lines style (suc n) = empty_line style ++ empty_lines style n
 
 -- the empty lines above n lines of a picture: none in a plain frame, and as many as make a colored one as high as its canvas
-abbrev pub padding : Style → Size → ℕ → List ℕ
-padding Plain canvas n = []
-padding Colored canvas n = empty_lines Colored ((canvas.rows - 3) - n)
+abbrev pub empty_lines_above : Style → Size → ℕ → List ℕ
+empty_lines_above Plain canvas n = []
+empty_lines_above Colored canvas n = empty_lines Colored ((canvas.rows - 3) - n)
 
 -- the line with the revision and the total weight
 abbrev pub heading : Style → ℕ → ℤ → List ℕ
@@ -61,17 +61,18 @@ range first last = signed_decimal first ++ codes ".." ++ signed_decimal last
 -- the line with a box and its scale
 abbrev pub measures : Style → Box4 → ℤ → List ℕ
 measures style b s =
-    line_start style ++ codes "columns " ++ range b.min_x b.max_x ++ codes "  rows " ++ range b.min_y b.max_y ++ codes "  scale " ++ signed_decimal s ++ codes "\n"
+    line_start style ++ codes "columns " ++ range b.min_x b.max_x ++ codes "  rows " ++ range b.min_y b.max_y
+    ++ codes "  scale " ++ signed_decimal s ++ codes "\n"
 
 -- the frame of a picture with this least box and window
 unfoldable pub box_frame : Style → Size → ℕ → List Dot → Box4 → Window → List ℕ
 box_frame style canvas revision ds b w =
-    padding style canvas w.lines ++ window_lines style (cell_shade w.scale ds) w ++ heading style revision (total_of ds) ++ measures style b w.scale
+    empty_lines_above style canvas w.lines ++ window_lines style (cell_shade w.scale ds) w ++ heading style revision (total_of ds) ++ measures style b w.scale
 
 -- the frame of the blank picture
 unfoldable pub blank_frame : Style → Size → ℕ → List Dot → List ℕ
 blank_frame style canvas revision ds =
-    padding style canvas 0 ++ heading style revision (total_of ds) ++ line_start style ++ codes "blank  scale 1\n"
+    empty_lines_above style canvas 0 ++ heading style revision (total_of ds) ++ line_start style ++ codes "blank  scale 1\n"
 
 -- the frame of a picture with this least box
 abbrev pub frame_of : Style → Size → ℕ → List Dot → Option Box4 → List ℕ

@@ -30,8 +30,8 @@ lower_border = 226 ∷ 150 ∷ 129 ∷ []
 abbrev pub escape : List ℕ
 escape = 27 ∷ []
 
-abbrev pub is_blank : Shade → Bool
-is_blank a = depth a == depth Blank
+abbrev pub is_blank_shade : Shade → Bool
+is_blank_shade a = depth a == depth Blank
 
 abbrev pub is_negative : Shade → Bool
 is_negative a = depth a == depth Negative
@@ -71,7 +71,7 @@ colors front back = escape ++ codes "[38;5;" ++ front ++ codes ";48;5;" ++ back 
 -- a tile in colors: its upper half in the front, its lower half behind, or the axis where both are blank
 abbrev pub colored_tile : Shade → Shade → ℤ → ℤ → List ℕ
 colored_tile upper lower column line =
-    if (is_blank upper && is_blank lower) && is_at_axis column line then colors (codes "250") (codes "255") ++ axis_mark column line
+    if (is_blank_shade upper && is_blank_shade lower) && is_at_axis column line then colors (codes "250") (codes "255") ++ axis_mark column line
     else (colors (color_of upper) (color_of lower) ++ upper_half)
 
 -- a tile of a style

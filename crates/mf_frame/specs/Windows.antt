@@ -1,6 +1,7 @@
 -- The window of cells that a frame shows, and its scale.
-use Rattle.std.specs.Prelude.{◌≤◌, ◌≤ℤ◌, ℕ, zero, suc, ◌-◌, ◌&&◌, Bool, ℤ, pos, ◌+ℤ◌, nat_le, if◌then◌else◌}
+use Rattle.std.specs.Prelude.{◌≤◌, ◌≤ℤ◌, ℕ, zero, suc, ◌-◌, ◌&&◌, Bool, ℤ, pos, ◌+ℤ◌, ◌-ℤ◌, nat_le, if◌then◌else◌}
 use Rattle.std.specs.Int.{int_div_euclid}
+use Rattle.std.specs.Int.RustNames.{unsigned_abs}
 use Rattle.mf_geom.specs.Coordinates.{least_coordinate, greatest_coordinate, last_in_field}
 use Rattle.mf_rows.specs.declared.bounds.Box4.{Box4}
 use Rattle.mf_show.specs.Grid.{extent}
@@ -31,11 +32,15 @@ unfoldable pub first_fitting : Size → Box4 → ℤ → ℕ → ℤ
 first_fitting canvas b s zero = s
 first_fitting canvas b s (suc n) = if fits_on canvas (window_at b s) then s else first_fitting canvas b (s +ℤ pos 1) n
 
--- the scale of a box on a canvas: the least at which its window fits, as each does at 4095
-unfoldable pub scale_of : Size → Box4 → ℤ
-scale_of canvas b = first_fitting canvas b (pos 1) 4094
+-- the number of scales below the greatest one
+abbrev pub lesser_scales : ℕ
+lesser_scales = unsigned_abs (greatest_coordinate -ℤ pos 1)
 
--- a scale is in 1..4095
+-- the scale of a box on a canvas: the least at which its window fits, as each does at the greatest scale
+unfoldable pub scale_of : Size → Box4 → ℤ
+scale_of canvas b = first_fitting canvas b (pos 1) lesser_scales
+
+-- a scale is at least 1, and at most the greatest coordinate
 pub record IsScale (s : ℤ) : Type 0 where
   pub least : pos 1 ≤ℤ s
   pub greatest : s ≤ℤ greatest_coordinate

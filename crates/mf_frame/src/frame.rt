@@ -3,7 +3,7 @@ ghost use Rattle.std.specs.Prelude.{◌≡◌, ◌≤◌, ◌<◌, ◌-◌, ◌*
 ghost use Rattle.mf_rows.specs.Bounds.{IsLeastBox};
 ghost use Rattle.mf_show.specs.Boxes.{IsBoxOfField};
 ghost use Rattle.mf_frame.specs.Cells.{shade_in};
-ghost use Rattle.mf_frame.specs.Frames.{blank_frame, box_frame, empty_lines, frame_text, heading, measures, padding, range, window_line, window_lines};
+ghost use Rattle.mf_frame.specs.Frames.{blank_frame, box_frame, empty_lines, frame_text, heading, measures, empty_lines_above, range, window_line, window_lines};
 ghost use Rattle.mf_frame.specs.declared.tile.Style.TheVariants.{Colored};
 ghost use Rattle.mf_frame.specs.Windows.{IsWindow, scale_of, window_at};
 
@@ -53,7 +53,7 @@ fn draw_box(
     let window = Window::fitting(bounds, canvas);
     let shades = cells_of(alloc, picture, &window)?;
     let mut text = Vec::new(alloc);
-    push_padding(&mut text, style, canvas, window.lines)?;
+    push_empty_lines_above(&mut text, style, canvas, window.lines)?;
     push_lines(&mut text, style, &shades, &window)?;
     push_heading(&mut text, style, revision, total)?;
     push_measures(&mut text, style, bounds, window.scale)?;
@@ -72,7 +72,7 @@ fn draw_blank(
 {
     let total = picture.total();
     let mut text = Vec::new(alloc);
-    push_padding(&mut text, style, canvas, 0)?;
+    push_empty_lines_above(&mut text, style, canvas, 0)?;
     push_heading(&mut text, style, revision, total)?;
     push_line_start(&mut text, style)?;
     push(&mut text, b"blank  scale 1\n")?;
@@ -80,14 +80,14 @@ fn draw_blank(
 }
 
 /// Appends the empty lines above this number of lines of a picture.
-fn push_padding(
+fn push_empty_lines_above(
     text: &mut Vec<u8>,
     style: Style,
     canvas: Canvas,
     lines: u32,
 ) -> Result<(), OutOfMemory>
     requires { lines ≤ canvas.rows - 3 }
-    ensures { IfOk result (λ _. text.new.items ≡ text.old.items ++ padding style canvas lines) }
+    ensures { IfOk result (λ _. text.new.items ≡ text.old.items ++ empty_lines_above style canvas lines) }
 {
     match style {
         Style::Plain => Ok(()),

@@ -1,6 +1,6 @@
 //! Tiles, the characters of a frame. Each shows two cells, one above the other.
 ghost use Rattle.std.specs.Prelude.{◌≡◌, ◌++◌, ◌&&◌, IfOk};
-ghost use Rattle.mf_frame.specs.Tiles.{axis_mark, color_of, colored_tile, colors, is_blank, light_tile, line_start, plain_tile, tile, tile_end};
+ghost use Rattle.mf_frame.specs.Tiles.{axis_mark, color_of, colored_tile, colors, is_blank_shade, light_tile, line_start, plain_tile, tile, tile_end};
 
 use crate::shade::Shade;
 use mf_base::OutOfMemory;
@@ -115,7 +115,7 @@ fn push_colored(
 
 /// Whether two shades are both blank.
 fn is_empty(upper: Shade, lower: Shade) -> bool
-    ensures { result ≡ (is_blank upper && is_blank lower) }
+    ensures { result ≡ (is_blank_shade upper && is_blank_shade lower) }
 {
     upper == Shade::Blank && lower == Shade::Blank
 }

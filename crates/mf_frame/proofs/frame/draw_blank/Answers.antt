@@ -8,4 +8,5 @@ pub returns : goal.returns
 unfolding blank_frame
 returns c =
     let total : to_z w64 (of_z w64 c.total-total.result) ≡ total_of c.args.picture.now = omega (arith, ints, c.total-total.ensures.value) in
-    rw (c.in_ok-push.ensures, c.in_ok-push_line_start.ensures, c.in_ok-push_heading.ensures, c.in_ok-push_padding.ensures, c.new-text.ensures.items, total) refl
+    rw (c.in_ok-push.ensures, c.in_ok-push_line_start.ensures, c.in_ok-push_heading.ensures)
+    (rw (c.in_ok-push_empty_lines_above.ensures, c.new-text.ensures.items, total) refl)

@@ -26,4 +26,4 @@ returns c =
     let scale = stays_scale w.scale c.fitting-window.ensures.lawful.scale in
     let total : to_z w64 (of_z w64 c.total-total.result) ≡ total_of c.args.picture.now = omega (arith, ints, c.total-total.ensures.value) in
     rw (← c.fitting-window.ensures.value, c.in_ok-push_measures.ensures, c.in_ok-push_heading.ensures, c.in_ok-push_lines.ensures)
-    (rw (c.in_ok-push_padding.ensures, c.new-text.ensures.items, c.deref.ensures.value, total, lines, scale) refl)
+    (rw (c.in_ok-push_empty_lines_above.ensures, c.new-text.ensures.items, c.deref.ensures.value, total, lines, scale) refl)

@@ -8,7 +8,7 @@ use Rattle.mf_frame.proofs.FrameLines.{three_parts, tile_here, tiles_all, tiles_
 use Rattle.mf_frame.proofs.frame.push_line.Goals as goal
 
 pub loop-place-init : goal.loop-place-init
-loop-place-init c = tiles_none _ _ _ _ _ _
+loop-place-init c = tiles_none _ _
 
 pub loop-place-preserved : goal.loop-place-preserved
 loop-place-preserved c =
@@ -19,12 +19,12 @@ loop-place-preserved c =
     let line : to_z w32 (of_z w32 (to_z w32 (of_z w32 w.line) +ℤ to_z w32 c.args.above)) ≡ w.line +ℤ pos c.args.above =
     omega (arith, ints, r.bottom, r.top, r.lines, c.requires.above) in
     let shown = tile_here c.args.style w c.args.shades.now c.args.above c.loop-place.place _ _ column line in
-    tiles_more _ _ _ _ _ _ _ _ _ c.loop-place-test.true (c.in_ok-push_tile.ensures ∙ ap (λ t. c.loop-place.text.items ++ t) shown) c.loop-place.invariant
+    tiles_more _ _ _ _ _ c.loop-place-test.true (c.in_ok-push_tile.ensures ∙ ap (λ t. c.loop-place.text.items ++ t) shown) c.loop-place.invariant
 
 pub returns : goal.returns
 returns c =
     let w = c.args.window.now in
-    let all = tiles_all _ _ _ _ _ _ _ _ c.loop-place-test.false c.loop-place.invariant in
+    let all = tiles_all _ _ _ _ c.loop-place-test.false c.loop-place.invariant in
     let line = tiles c.args.style (shade_in w c.args.shades.now) (w.line +ℤ pos c.args.above) w.column w.columns in
     let end = tile_end c.args.style in
     IfOk-equal _ _ _ _ c.push_tile_end.ensures (ap (λ t. t ++ end) (all ∙ ap (λ t. t ++ line) c.in_ok-push_line_start.ensures)

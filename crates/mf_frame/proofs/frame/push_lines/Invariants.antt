@@ -3,4 +3,5 @@ use Rattle.mf_frame.proofs.FrameLines.{AreLinesSoFar}
 use Rattle.mf_frame.proofs.frame.push_lines.Given as goal
 
 abbrev pub invariant-loop-above : goal.invariant-loop-above
-invariant-loop-above l = AreLinesSoFar l.style (shade_in l.window l.shades) l.window l.initial.text.items l.above l.text.items
+invariant-loop-above l = AreLinesSoFar
+    (record { style = l.style; shades = shade_in l.window l.shades; window = l.window; old = l.initial.text.items }) l.above l.text.items
