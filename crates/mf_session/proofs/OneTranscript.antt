@@ -17,7 +17,7 @@ use Rattle.mf_session.specs.Answers.{Prints, Operates, KeepsRest, ProofAnswers, 
 use Rattle.mf_session.specs.Changes.{refusal_of, pictures_after, Becomes}
 use Rattle.mf_session.specs.Pictures.{Pictures, source_picture}
 use Rattle.mf_session.specs.Shipments.{Ships}
-use Rattle.mf_session.specs.Refusals.{refused_line}
+use Rattle.mf_session.specs.Refusals.{refusal_line}
 use Rattle.mf_session.specs.States.{State, Limits, start}
 use Rattle.mf_session.specs.Transcript.{Perform, IsTranscript}
 
@@ -92,8 +92,8 @@ one_answer limits s t u line text other (inl p) (inl q) =
 one_answer limits s t u line text other (inl p) (inr q) = absurd (given_or_refused line p.command q.fault q.told p.given q.refused)
 one_answer limits s t u line text other (inr p) (inl q) = absurd (given_or_refused line q.command p.fault p.told q.given p.refused)
 one_answer limits s t u line text other (inr p) (inr q) =
-    prints_once s t u (refused_line (Line q.fault)) text other
-    (subst (λ why. Prints s (refused_line (Line why)) text t) (refused_once line p.fault q.fault p.told q.told p.refused q.refused) p.answer) q.answer
+    prints_once s t u (refusal_line (Line q.fault)) text other
+    (subst (λ why. Prints s (refusal_line (Line why)) text t) (refused_once line p.fault q.fault p.told q.told p.refused q.refused) p.answer) q.answer
 
 performed_once : (limits : Limits) (s t u : State) (lines : List (List ℕ)) (text other : List ℕ)
     → Perform limits s lines text t → Perform limits s lines other u → (text ≡ other) × (t ≡ u)

@@ -22,7 +22,7 @@ use Rattle.mf_session.specs.declared.refusal.Refusal.TheVariants.{FileTooLong, L
 use Rattle.mf_session.specs.Answers.{Answers, AnswersTo, Operates, ProofAnswers, total_line}
 use Rattle.mf_session.specs.Changes.{Becomes, pictures_after, refusal_of}
 use Rattle.mf_session.specs.Pictures.{Pictures, source_picture}
-use Rattle.mf_session.specs.Refusals.{refused_line}
+use Rattle.mf_session.specs.Refusals.{refusal_line}
 use Rattle.mf_session.specs.Shipments.{Ships}
 use Rattle.mf_session.specs.States.{State, Limits, start}
 use Rattle.mf_session.specs.Transcript.{IsTranscript, Perform}
@@ -31,7 +31,7 @@ use Rattle.mf_session.specs.Transcript.{IsTranscript, Perform}
 
 becomes_some : (refused : Option Fault) (s new : Pictures) → (text : List ℕ) × (t : Pictures) × Becomes refused s new text t
 becomes_some None s new = ([], new, (refl, refl))
-becomes_some (Some why) s new = (refused_line (RefusedOperation why), s, (refl, refl))
+becomes_some (Some why) s new = (refusal_line (RefusedOperation why), s, (refl, refl))
 
 operates_some : (limits : Limits) (s : State) (name : Name) (op : Op) → (text : List ℕ) × (t : State) × Operates limits s name op text t
 operates_some limits s name op =
@@ -39,7 +39,7 @@ operates_some limits s name op =
     (text, record { pictures = pictures; check = s.check; characters = s.characters }, (becomes, record { check = refl; characters = refl }))
 
 refused_proof : (ds : List Dot) → IsTooLarge ds → (text : List ℕ) × ProofAnswers ds text
-refused_proof ds large = (refused_line ProofTooLarge, inl (record { too_large = large; printed = refl }))
+refused_proof ds large = (refusal_line ProofTooLarge, inl (record { too_large = large; printed = refl }))
 
 -- a picture has a grid text, or that text is too large
 proof_some : (ds : List Dot) → (text : List ℕ) × ProofAnswers ds text
@@ -61,7 +61,7 @@ proof_some (d ∷ ds) =
 ships_some : (limits : Limits) (shipped : List Character) (c : Character) → (text : List ℕ) × (after : List Character) × Ships limits shipped c text after
 ships_some limits shipped c =
     elim (cases_lt limits.max_bytes (length (bytes_so_far [] (shipped ++ c ∷ [])))) [
-      | inl long ↦ (refused_line FileTooLong, shipped, inl (record { too_long = long; printed = refl; same = refl }))
+      | inl long ↦ (refusal_line FileTooLong, shipped, inl (record { too_long = long; printed = refl; same = refl }))
       | inr fits ↦ (
         codes "[" ++ decimal c.code ++ codes "]\n",
         shipped ++ c ∷ [],
@@ -98,7 +98,7 @@ some_answer limits s line =
     elim (text.some_answer line) [
       | inl (given, gives) ↦ (let
           (printed, t, answer) = command_some limits s given in (printed, t, inl (record { command = given; given = gives; answer = answer })))
-      | inr (fault, told, refused) ↦ (refused_line (Line fault), s, inr (record { fault = fault; told = told; refused = refused; answer = (refl, refl) }))
+      | inr (fault, told, refused) ↦ (refusal_line (Line fault), s, inr (record { fault = fault; told = told; refused = refused; answer = (refl, refl) }))
     ]
 
 perform_some : (limits : Limits) (s : State) (more : List (List ℕ)) → (text : List ℕ) × (t : State) × Perform limits s more text t

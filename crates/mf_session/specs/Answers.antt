@@ -15,7 +15,7 @@ use Rattle.mf_text.specs.declared.fault.TextFault.{TextFault}
 use Rattle.mf_text.specs.declared.fault.TextFault.TheVariants.{OutOfMemory}
 use Rattle.mf_session.specs.Changes.{OperatesOn, PublishesAll}
 use Rattle.mf_session.specs.Pictures.{source_picture}
-use Rattle.mf_session.specs.Refusals.{refused_line}
+use Rattle.mf_session.specs.Refusals.{refusal_line}
 use Rattle.mf_session.specs.Shipments.{Ships}
 use Rattle.mf_session.specs.States.{State, Limits}
 use Rattle.mf_session.specs.declared.refusal.Refusal.TheVariants.{Line, ProofTooLarge}
@@ -45,7 +45,7 @@ total_line ds = codes "totalweight " ++ signed_decimal (total_of ds) ++ codes "\
 -- the grid text is too large, so the refusal is printed
 pub record IsRefusedProof (ds : List Dot) (text : List ℕ) : Type 0 where
   pub too_large : IsTooLarge ds
-  pub printed : text ≡ refused_line ProofTooLarge
+  pub printed : text ≡ refusal_line ProofTooLarge
 
 -- the grid text is not too large, so it is printed
 pub record IsProof (ds : List Dot) (text : List ℕ) : Type 0 where
@@ -85,7 +85,7 @@ pub record IsRefusedLine (s : State) (line : List ℕ) (text : List ℕ) (t : St
   pub fault : TextFault
   pub told : fault ≢ OutOfMemory
   pub refused : IsRefused line fault
-  pub answer : Prints s (refused_line (Line fault)) text t
+  pub answer : Prints s (refusal_line (Line fault)) text t
 
 -- what a line answers in a state
 abbrev pub Answers : Limits → State → List ℕ → List ℕ → State → Type 0

@@ -8,7 +8,7 @@ use Rattle.mf_ops.specs.declared.op.Op.{Op}
 use Rattle.mf_text.specs.declared.command.Name.{Name}
 use Rattle.mf_text.specs.declared.command.Name.TheVariants.{Current, Register}
 use Rattle.mf_session.specs.Pictures.{Pictures, accepted_with}
-use Rattle.mf_session.specs.Refusals.{refused_line}
+use Rattle.mf_session.specs.Refusals.{refusal_line}
 use Rattle.mf_session.specs.declared.refusal.Refusal.TheVariants.{Operation as RefusedOperation}
 
 -- the refusal of an operation on a picture, if there is one: `currentpicture` accepts up to max_ops operations, a register any
@@ -30,7 +30,7 @@ pictures_after s (Register number) op = record s { registers = slice_set s.regis
 -- an operation that is not refused prints nothing and makes the new pictures; one that is refused prints why and changes nothing
 abbrev pub Becomes : Option Fault → Pictures → Pictures → List ℕ → Pictures → Type 0
 Becomes None s new text t = (text ≡ []) × (t ≡ new)
-Becomes (Some why) s new text t = (text ≡ refused_line (RefusedOperation why)) × (t ≡ s)
+Becomes (Some why) s new text t = (text ≡ refusal_line (RefusedOperation why)) × (t ≡ s)
 
 -- what an operation on a picture answers
 abbrev pub OperatesOn : ℕ → Pictures → Name → Op → List ℕ → Pictures → Type 0

@@ -37,17 +37,17 @@ pub record IsHalfway (session : Session) (s : State) (closing : Closing) (file :
   pub file_is : IsFileOf session s file
 
 -- the session is as it was
-pub record IsKept (session : Session) (s : State) (same : Session) : Type 0 where
+pub record IsSameSession (session : Session) (s : State) (same : Session) : Type 0 where
   pub identity_is : identity same ≡ identity session
   pub limits_are : limits same ≡ limits session
   pub stands : StandsFor same s
 
 -- what is handed back where an allocation fails
 abbrev pub IsHandedBack : Session → State → EndFault → Type 0
-IsHandedBack session s (Kept same) = IsKept session s same
+IsHandedBack session s (Kept same) = IsSameSession session s same
 IsHandedBack session s (Halfway closing file) = IsHalfway session s closing file
 
 -- a session came back, and not an end that is still to be published
-abbrev pub IsSession : EndFault → Type 0
-IsSession (Kept same) = Unit {0}
-IsSession (Halfway closing file) = ⊥
+abbrev pub IsKept : EndFault → Type 0
+IsKept (Kept same) = Unit {0}
+IsKept (Halfway closing file) = ⊥

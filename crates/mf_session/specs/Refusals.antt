@@ -13,5 +13,5 @@ refusal_text FileTooLong = codes "FileTooLong"
 refusal_text ProofTooLarge = codes "ProofTooLarge"
 
 -- the line that reports a refusal
-abbrev pub refused_line : Refusal → List ℕ
-refused_line refusal = codes "refused " ++ refusal_text refusal ++ codes "\n"
+abbrev pub refusal_line : Refusal → List ℕ
+refusal_line refusal = codes "refused " ++ refusal_text refusal ++ codes "\n"

@@ -1,14 +1,14 @@
 -- What shipping a character answers.
 use Rattle.std.specs.Prelude.{◌≡◌, ◌⊎◌, ◌<◌, ℕ, List, [], ◌∷◌, ◌++◌, codes, decimal, length}
 use Rattle.mf_gf.specs.Files.{Character, bytes_so_far}
-use Rattle.mf_session.specs.Refusals.{refused_line}
+use Rattle.mf_session.specs.Refusals.{refusal_line}
 use Rattle.mf_session.specs.States.{Limits}
 use Rattle.mf_session.specs.declared.refusal.Refusal.TheVariants.{FileTooLong}
 
 -- the preamble and the characters, with this one, would have more bytes than the font file may have
 pub record IsOverlong (limits : Limits) (shipped : List Character) (c : Character) (text : List ℕ) (after : List Character) : Type 0 where
   pub too_long : limits.max_bytes < length (bytes_so_far [] (shipped ++ c ∷ []))
-  pub printed : text ≡ refused_line FileTooLong
+  pub printed : text ≡ refusal_line FileTooLong
   pub same : after ≡ shipped
 
 -- the character is shipped, whether or not its code was shipped before, and its code is printed in brackets

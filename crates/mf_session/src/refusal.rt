@@ -1,6 +1,6 @@
 //! Refusals, as the transcript prints them.
 ghost use Rattle.std.specs.Prelude.{◌≡◌, IfOk};
-ghost use Rattle.mf_session.specs.Refusals.{refused_line};
+ghost use Rattle.mf_session.specs.Refusals.{refusal_line};
 
 use mf_base::OutOfMemory;
 use mf_live::Fault;
@@ -42,8 +42,8 @@ impl fmt::Display for Refusal {
 impl Error for Refusal {}
 
 /// The line that reports a refusal.
-pub fn refused(alloc: Global, refusal: Refusal) -> Result<Vec<u8>, OutOfMemory>
-    ensures { IfOk result (λ text. text.items ≡ refused_line refusal) }
+pub fn refusal_line(alloc: Global, refusal: Refusal) -> Result<Vec<u8>, OutOfMemory>
+    ensures { IfOk result (λ text. text.items ≡ refusal_line refusal) }
 {
     Ok(format!(in alloc; "refused {refusal}\n")?.into_bytes())
 }

@@ -1,5 +1,5 @@
 //! A session: what a script has made so far, and what is done with it.
-use crate::refusal::{Refusal, refused};
+use crate::refusal::{Refusal, refusal_line};
 use crate::variables::Variables;
 use mf_base::OutOfMemory;
 use mf_geom::Check;
@@ -38,7 +38,7 @@ impl Session {
     ghost use Rattle.mf_text.specs.Registers.{IsName};
     ghost use Rattle.mf_text.specs.declared.command.Command.TheVariants as commands;
     ghost use Rattle.mf_session.specs.Changes.{IsClearable};
-    ghost use Rattle.mf_session.specs.Endings.{HasEnded, IsHandedBack, IsSession};
+    ghost use Rattle.mf_session.specs.Endings.{HasEnded, IsHandedBack, IsKept};
     ghost use Rattle.mf_session.specs.Pictures.{picture};
     ghost use Rattle.mf_session.specs.Sessions.{IsAnswered, StandsFor, identity, limits};
     ghost use Rattle.mf_session.specs.States.{State, limits_of, start};
@@ -115,7 +115,7 @@ impl Session {
         match read_command(alloc, line) {
             Ok(command) => self.perform(rt, alloc, command),
             Err(TextFault::OutOfMemory) => Err(OutOfMemory),
-            Err(fault) => refused(alloc, Refusal::Line(fault)),
+            Err(fault) => refusal_line(alloc, Refusal::Line(fault)),
         }
     }
 
@@ -125,7 +125,7 @@ impl Session {
     pub fn finish<R: Wait>(self, rt: &R) -> Result<(Ended, GfFile), EndFault>
         ensures ended { IfOk result (λ made. (s : State) → StandsFor self s → HasEnded self s made.0 made.1) }
         ensures handed_back { IfErr result (λ fault. (s : State) → StandsFor self s → IsHandedBack self s fault) }
-        ensures kept { IfErr result IsSession }
+        ensures kept { IfErr result IsKept }
     {
         let Session {
             variables,

@@ -1,9 +1,9 @@
 //! The picture variables of a script.
 ghost use Rattle.std.specs.Prelude.{◌≡◌, ◌≢◌, [], IfOk};
 ghost use Rattle.mf_live.specs.declared.fault.Fault.TheVariants as faults;
-ghost use Rattle.mf_session.specs.Refusals.{refused_line};
+ghost use Rattle.mf_session.specs.Refusals.{refusal_line};
 
-use crate::refusal::{Refusal, refused};
+use crate::refusal::{Refusal, refusal_line};
 use crate::registers::Registers;
 use mf_base::OutOfMemory;
 use mf_live::{Desk, Fault, Writer, open_picture};
@@ -143,7 +143,7 @@ impl Variables {
     {
         match self.writer.apply(alloc, op) {
             Ok(()) => Ok(Vec::new(alloc)),
-            Err((_, fault)) => refused_operation(alloc, fault),
+            Err((_, fault)) => operation_refusal(alloc, fault),
         }
     }
 
@@ -163,7 +163,7 @@ impl Variables {
     {
         match self.registers.apply(alloc, number, &op) {
             Ok(()) => Ok(Vec::new(alloc)),
-            Err(fault) => refused_operation(alloc, Fault::Refused(fault)),
+            Err(fault) => operation_refusal(alloc, Fault::Refused(fault)),
         }
     }
 
@@ -194,12 +194,12 @@ impl Variables {
 }
 
 /// What a refused operation prints. `OutOfMemory` is never printed.
-fn refused_operation(alloc: Global, fault: Fault) -> Result<Vec<u8>, OutOfMemory>
-    ensures text { IfOk result (λ text. text.items ≡ refused_line (Refusal.Operation fault)) }
+fn operation_refusal(alloc: Global, fault: Fault) -> Result<Vec<u8>, OutOfMemory>
+    ensures text { IfOk result (λ text. text.items ≡ refusal_line (Refusal.Operation fault)) }
     ensures memory { IfOk result (λ _. fault ≢ faults.Refused OpFault.OutOfMemory) }
 {
     if let Fault::Refused(OpFault::OutOfMemory) = fault {
         return Err(OutOfMemory);
     }
-    refused(alloc, Refusal::Operation(fault))
+    refusal_line(alloc, Refusal::Operation(fault))
 }

@@ -10,7 +10,7 @@ ghost use Rattle.mf_text.specs.declared.command.Command.TheVariants as commands;
 ghost use Rattle.mf_text.specs.declared.command.Name.{Name};
 
 use super::Session;
-use crate::refusal::{Refusal, refused};
+use crate::refusal::{Refusal, refusal_line};
 use itoa::Buffer;
 use mf_base::OutOfMemory;
 use mf_geom::Check;
@@ -98,7 +98,7 @@ impl Session {
         let picture = self.variables.source(&source);
         match self.file.ship(code, dx, width, picture) {
             Ok(()) => Ok(text),
-            Err(GfFault::FileTooLong) => refused(alloc, Refusal::FileTooLong),
+            Err(GfFault::FileTooLong) => refusal_line(alloc, Refusal::FileTooLong),
             Err(GfFault::NoCharacters | GfFault::CommentTooLong | GfFault::OutOfMemory) => Err(
                 OutOfMemory,
             ),
@@ -123,7 +123,7 @@ fn proof(alloc: Global, picture: &Picture) -> Result<Vec<u8>, OutOfMemory>
 {
     match proof_grid(alloc, picture) {
         Ok(text) => Ok(text),
-        Err(GridFault::ProofTooLarge) => refused(alloc, Refusal::ProofTooLarge),
+        Err(GridFault::ProofTooLarge) => refusal_line(alloc, Refusal::ProofTooLarge),
         Err(GridFault::OutOfMemory) => Err(OutOfMemory),
     }
 }

@@ -27,7 +27,7 @@ returns-in-Ok-clause-answer c =
 
 pub returns-in-Err-FileTooLong-clause-answer : goal.returns-in-Err-FileTooLong-clause-answer
 returns-in-Err-FileTooLong-clause-answer c =
-    IfOk-weaker c.refused.result _ _
+    IfOk-weaker c.refusal_line.result _ _
     (λ text printed. standing c.args.self.now _ (λ characters kept.
     let dx : to_z w32 (of_z w32 c.args.dx) ≡ c.args.dx = omega (arith, ints) in
     let width : to_z w32 (of_z w32 c.args.width) ≡ c.args.width = omega (arith, ints) in
@@ -38,4 +38,4 @@ returns-in-Err-FileTooLong-clause-answer c =
       answer = (inl (record { too_long = long; printed = printed; same = refl }), record { pictures = refl; check = refl });
       stands = record { pictures = refl; check = refl; file = keeps-same _ _ [] characters c.in-Err-FileTooLong.ensures.unchanged kept };
     }))
-    c.refused.ensures
+    c.refusal_line.ensures
