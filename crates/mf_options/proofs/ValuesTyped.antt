@@ -10,7 +10,7 @@ use Rattle.clap.specs.Matches.{ReadsOne}
 use Rattle.clap.specs.Values.{IsSignedIn}
 use Rattle.clap.specs.Words.{Row, Text, one_of, one_text, rows_of, without_minus}
 use Rattle.clap.specs.declared.parser.matches.Found.{Found}
-use Rattle.mf_options.specs.Values.{IsFlagText, IsNumber, IsNumberIn, has_flag, number_in, number_of}
+use Rattle.mf_options.specs.Values.{IsFlagText, IsNumber, IsNumberIn, has_flag, number_in, written_number}
 
 without_minus_is : (t : Text) → without_minus t ≡ cond (starts_with_minus t) (drop 1 t) t
 without_minus_is [] = refl
@@ -72,7 +72,7 @@ pub number_read : (E : Type 0) (G : Text → Result ℕ E → Type 0) (f : Found
     → IfSome (one_of id (rows_of f)) IsNumber → unwrap_or r default ≡ number_in (rows_of f) id default
 number_read E G f id default r none some only given = go (one_of id (rows_of f)) refl given
   where
-    of_text : (t : Text) (o : Option ℕ) → IsNumber t → ReadsOne G t o → unwrap_or o default ≡ number_of t
+    of_text : (t : Text) (o : Option ℕ) → IsNumber t → ReadsOne G t o → unwrap_or o default ≡ written_number t
     of_text t (Some n) is read = (only t (Ok n) read).1
     of_text t None is read = absurd (only t (Err read.0) read.1 is)
 

@@ -9,12 +9,12 @@ use Rattle.clap.specs.declared.builder.value_parser.ValueParser.{ValueParser}
 use Rattle.clap.specs.declared.builder.value_parser.ValueParser.TheVariants as parser
 
 -- the number that a text represents in decimal
-abbrev pub number_of : Text → ℕ
-number_of text = digits_value 10 (without_leading_plus text)
+abbrev pub written_number : Text → ℕ
+written_number text = digits_value 10 (without_leading_plus text)
 
 -- the number of an option, and the default where the words do not have the option
 abbrev pub number_in : List Row → Text → ℕ → ℕ
-number_in found id default = option_map_or number_of (one_of id found) default
+number_in found id default = option_map_or written_number (one_of id found) default
 
 -- the file of an option, if the words have the option
 abbrev pub file_in : List Row → Text → Option Text
@@ -26,11 +26,11 @@ has_flag found id = option_map_or (λ text. bytes_eq text (codes "true")) (one_o
 
 -- the text is a number of 32 bits
 abbrev pub IsNumber : Text → Type 0
-IsNumber text = IsNumeral 10 (without_leading_plus text) × (number_of text < 2 ^ 32)
+IsNumber text = IsNumeral 10 (without_leading_plus text) × (written_number text < 2 ^ 32)
 
 -- the text is a number low..high
 abbrev pub IsNumberIn : ℕ → ℕ → Text → Type 0
-IsNumberIn low high text = IsNumeral 10 (without_leading_plus text) × (low ≤ number_of text) × (number_of text ≤ high)
+IsNumberIn low high text = IsNumeral 10 (without_leading_plus text) × (low ≤ written_number text) × (written_number text ≤ high)
 
 -- the text is what clap keeps of a flag
 abbrev pub IsFlagText : Text → Type 0
