@@ -3,6 +3,7 @@ use Rattle.std.proofs.Common.{◌≡◌, ℕ, ◌+◌, ◌-◌, ◌<◌, ◌≤�
 use Rattle.std.proofs.lemmas.Bool.{cases_lt, cond_both}
 use Rattle.std.proofs.lemmas.List.{take_all, take-append-le, length-take-le}
 use Rattle.std.specs.Str.Lines.{strip_carriage_return}
+use Rattle.mf_desk.specs.declared.line_buffer.TheConstants.{MAX_KEPT}
 use Rattle.mf_text.specs.Lines.{IsRefused}
 use Rattle.mf_text.specs.declared.fault.TextFault.{TextFault}
 use Rattle.mf_text.specs.declared.fault.TextFault.TheVariants.{LineTooLong, NotAscii, Syntax}
@@ -44,20 +45,20 @@ length-stripped line =
     (λ _. omega (arith, length-take (length line - 1) line))
     (λ _. omega arith)
 
-pub Answers-kept : (limits : Limits) (s t : State) (line text : List ℕ) → Answers limits s (take 65538 line) text t → Answers limits s line text t
+pub Answers-kept : (limits : Limits) (s t : State) (line text : List ℕ) → Answers limits s (take MAX_KEPT line) text t → Answers limits s line text t
 Answers-kept limits s t line text answer =
     ⊎_elim
-    (λ longer. Answers-too_long limits s t (take 65538 line) line text (omega (arith, length-take 65538 line)) (omega arith) answer)
-    (λ fits. subst (λ kept. Answers limits s kept text t) (take_all 65538 line fits) answer)
-    (cases_lt 65538 (length line))
+    (λ longer. Answers-too_long limits s t (take MAX_KEPT line) line text (omega (arith, length-take MAX_KEPT line)) (omega arith) answer)
+    (λ fits. subst (λ kept. Answers limits s kept text t) (take_all MAX_KEPT line fits) answer)
+    (cases_lt MAX_KEPT (length line))
 
 pub Answers-stripped : (limits : Limits) (s t : State) (line text : List ℕ)
-    → Answers limits s (strip_carriage_return (take 65538 line)) text t → Answers limits s (strip_carriage_return line) text t
+    → Answers limits s (strip_carriage_return (take MAX_KEPT line)) text t → Answers limits s (strip_carriage_return line) text t
 Answers-stripped limits s t line text answer =
     ⊎_elim
     (λ longer.
-    Answers-too_long limits s t (strip_carriage_return (take 65538 line)) (strip_carriage_return line) text
-    (omega (arith, length-stripped (take 65538 line), length-take 65538 line))
+    Answers-too_long limits s t (strip_carriage_return (take MAX_KEPT line)) (strip_carriage_return line) text
+    (omega (arith, length-stripped (take MAX_KEPT line), length-take MAX_KEPT line))
     (omega (arith, length-stripped line)) answer)
-    (λ fits. subst (λ kept. Answers limits s (strip_carriage_return kept) text t) (take_all 65538 line fits) answer)
-    (cases_lt 65538 (length line))
+    (λ fits. subst (λ kept. Answers limits s (strip_carriage_return kept) text t) (take_all MAX_KEPT line fits) answer)
+    (cases_lt MAX_KEPT (length line))

@@ -18,7 +18,7 @@ use Rattle.mf_desk.specs.Performances.{IsCompleteText, IsPerformance, IsShownTex
 use Rattle.mf_desk.specs.Streams.{Passes, Streams, streams}
 use Rattle.mf_session.specs.States.{Limits}
 use Rattle.mf_watch.specs.Watchers.{HasSeen, glance_at}
-use Rattle.mf_desk.proofs.Stages.{CutsShort-nothing}
+use Rattle.mf_desk.proofs.Stages.{Breaks-nothing}
 
 module _ (settings : Settings) (viewers : ℕ) where
   -- a fault of the script, its reader or its writer ends the run
@@ -34,7 +34,7 @@ module _ (settings : Settings) (viewers : ℕ) where
   pub Tells-nothing : (unread held : Option (List ℕ)) → Passes (streams unread unread held held) (Tells settings viewers OutOfMemory)
   Tells-nothing unread held =
       Tells-script (limits_set settings) OutOfMemory (streams unread unread held held) refl
-      ([], Consumes-nil unread, CutsShort-nothing (limits_set settings) unread held)
+      ([], Consumes-nil unread, Breaks-nothing (limits_set settings) unread held)
 
   pub Tells-no_room : (unread held : Option (List ℕ)) → settings.max_bytes < 3 → Passes (streams unread unread held held) (Tells settings viewers FileTooLong)
   Tells-no_room unread held few = (

@@ -8,10 +8,10 @@ use Rattle.mf_desk.specs.declared.ended_run.EndedRun.{EndedRun}
 use Rattle.mf_desk.specs.declared.fault.RunFault.{RunFault}
 use Rattle.mf_desk.specs.declared.settings.Settings.{Settings}
 use Rattle.mf_desk.specs.declared.fault.RunFault.TheVariants.{OutOfMemory, WriteFault, NoLook}
-use Rattle.mf_desk.specs.EndedRuns.{IsLineOf, IsOver, IsSameEnd, glance}
+use Rattle.mf_desk.specs.EndedRuns.{IsViewerLine, IsOver, IsSameEnd, glance}
 use Rattle.mf_desk.specs.Fault.{BreaksOff}
 use Rattle.mf_desk.specs.Performances.{IsShownText, Tells, limits_set, viewer_line, viewer_lines}
-use Rattle.mf_desk.specs.Streams.{Gets, passage}
+use Rattle.mf_desk.specs.Streams.{Gets, HasPassed}
 use Rattle.mf_desk.specs.ViewerFaults.{fault_of_sheet}
 use Rattle.mf_watch.specs.Watchers.{glance_at}
 use Rattle.mf_desk.proofs.Performances.{complete, out-more}
@@ -65,10 +65,6 @@ IsShown-next run before after shown held holds later is same out counted at_most
 -- the run is over, and the lines of this many viewers are due
 module _ (settings : Settings) (viewers : ℕ) (held left holds : Option (List ℕ)) (read : List ℕ) (run : EndedRun)
     (over : IsOver (limits_set settings) held read run holds) (all_read : IsAtEnd left) where
-  -- what the fault says is true of a writer that has got these bytes
-  abbrev TellsOf : RunFault → Option (List ℕ) → Type 0
-  TellsOf fault later = Gets held later (λ written. Tells settings viewers fault (passage left read written))
-
   -- the transcript, and the lines of the first viewers
   abbrev shown_text : (shown : ℕ) (lines : List ℕ) → shown ≤ viewers → lines ≡ viewer_lines shown (glance run)
       → IsShownText (limits_set settings) viewers read (over.text ++ lines)
@@ -81,14 +77,14 @@ module _ (settings : Settings) (viewers : ℕ) (held left holds : Option (List �
 
   -- an allocation fails after these lines
   pub Tells-behind : (now : EndedRun) (shown : ℕ) (later : Option (List ℕ)) → shown ≤ viewers → IsShown run now shown holds later
-      → TellsOf OutOfMemory later
+      → HasPassed (Tells settings viewers OutOfMemory) left read held later
   Tells-behind now shown later few is =
       let lines = viewer_lines shown (glance run) in
       (over.text ++ lines, out_more later lines is.out, inr (all_read, shown_text shown lines few refl))
 
   -- a look is refused after these lines
   pub Tells-no_look : (now : EndedRun) (shown : ℕ) (later : Option (List ℕ)) → shown < viewers → IsShown run now shown holds later
-      → TellsOf NoLook later
+      → HasPassed (Tells settings viewers NoLook) left read held later
   Tells-no_look now shown later few is =
       let lines = viewer_lines shown (glance run) in
       (over.text ++ lines, out_more later lines is.out, (all_read, (shown_text shown lines (omega arith) refl, few)))
@@ -96,7 +92,8 @@ module _ (settings : Settings) (viewers : ℕ) (held left holds : Option (List �
   -- the writer fails after these lines and some more bytes, with which and maybe others they are the lines of some viewers
   Tells-cut : (now : EndedRun) (shown next count : ℕ) (rest more : List ℕ) (before later : Option (List ℕ)) → next ≤ viewers
       → IsShown run now shown holds before → Appends before later more → count ≡ now.written + length more
-      → viewer_lines shown (glance run) ++ (more ++ rest) ≡ viewer_lines next (glance run) → TellsOf (WriteFault count) later
+      → viewer_lines shown (glance run) ++ (more ++ rest) ≡ viewer_lines next (glance run)
+      → HasPassed (Tells settings viewers (WriteFault count)) left read held later
   Tells-cut now shown next count rest more before later few is out counted lines_are =
       let lines = viewer_lines shown (glance run) in
       let gone = lines ++ more in
@@ -112,8 +109,8 @@ module _ (settings : Settings) (viewers : ℕ) (held left holds : Option (List �
   -- a fault comes where the next line is due
   pub Tells-line : (fault : RunFault) (now : EndedRun) (shown : ℕ) (before later : Option (List ℕ)) → shown < viewers
       → IsShown run now shown holds before → (fault ≡ NoLook → before ≡ later)
-      → (fault ≢ NoLook → Gets before later (BreaksOff (IsLineOf now shown) now.written fault))
-      → TellsOf fault later
+      → (fault ≢ NoLook → Gets before later (BreaksOff (IsViewerLine now shown) now.written fault))
+      → HasPassed (Tells settings viewers fault) left read held later
   Tells-line NoLook now shown before later few is same breaks =
       Tells-no_look now shown later few (subst (IsShown run now shown holds) (same refl) is)
   Tells-line OutOfMemory now shown before later few is same breaks =
@@ -132,10 +129,10 @@ module _ (settings : Settings) (viewers : ℕ) (held left holds : Option (List �
 
   -- flushing these lines fails
   pub Tells-unflushed : (now : EndedRun) (shown : ℕ) (before later : Option (List ℕ)) → shown ≤ viewers → IsShown run now shown holds before
-      → Keeps before later → (fault : RunFault) → fault ≡ WriteFault now.written → TellsOf fault later
+      → Keeps before later → (fault : RunFault) → fault ≡ WriteFault now.written → HasPassed (Tells settings viewers fault) left read held later
   Tells-unflushed now shown before later few is same fault fault_is =
       let lines = viewer_lines shown (glance run) in
-      subst (λ f. TellsOf f later) (sym fault_is)
+      subst (λ f. HasPassed (Tells settings viewers f) left read held later) (sym fault_is)
       (Tells-cut now shown shown now.written [] [] before later few is (Appends-kept before before later [] (Appends-nil before) same)
       (omega arith) (append-nil lines))
 

@@ -16,7 +16,7 @@ use Rattle.mf_session.specs.Endings.{HasEnded, complete_list}
 use Rattle.mf_desk.specs.Performances.{Tells, limits_set, viewer_line}
 use Rattle.mf_session.specs.States.{State, Limits, start}
 use Rattle.mf_session.specs.Transcript.{Perform}
-use Rattle.mf_desk.specs.Streams.{Gets, Streams, passage}
+use Rattle.mf_desk.specs.Streams.{HasPassed, Streams}
 use Rattle.mf_watch.specs.Watchers.{glance_at}
 
 -- the script of this performer, whose lines have led to this state, has ended with this run
@@ -45,8 +45,8 @@ abbrev pub glance : EndedRun → Glance
 glance run = glance_at (ended_published_list run.ended)
 
 -- this is the line of the viewer with this number
-abbrev pub IsLineOf : EndedRun → ℕ → List ℕ → Type 0
-IsLineOf run number line = line ≡ viewer_line number (glance run)
+abbrev pub IsViewerLine : EndedRun → ℕ → List ℕ → Type 0
+IsViewerLine run number line = line ≡ viewer_line number (glance run)
 
 -- the picture and the font file are as they were
 pub record IsSameEnd (before after : EndedRun) : Type 0 where
@@ -63,4 +63,4 @@ AreJoined joined viewers = IfOk joined (λ watchers. length watchers.items ≡ v
 abbrev pub StopsShowing : EndedRun → ℕ → RunFault → Option (List ℕ) → Option (List ℕ) → Type 0
 StopsShowing run viewers fault holds later =
     (settings : Settings) (held left : Option (List ℕ)) (read : List ℕ) → IsAtEnd left → IsOver (limits_set settings) held read run holds
-    → Gets held later (λ written. Tells settings viewers fault (passage left read written))
+    → HasPassed (Tells settings viewers fault) left read held later

@@ -3,7 +3,7 @@ use Rattle.std.specs.Prelude.{ℕ, List, Option, ◌≡◌, ◌⊎◌, ◌+◌, 
 use Rattle.std.specs.Io.KnownBytes.{IsAtEnd}
 use Rattle.std.specs.Str.Lines.{lines}
 use Rattle.mf_desk.specs.Ended.{ended_lines}
-use Rattle.mf_desk.specs.Streams.{IsCut, Passage}
+use Rattle.mf_desk.specs.Streams.{IsPrefixOf, Passage}
 use Rattle.mf_session.specs.States.{State, Limits, start}
 use Rattle.mf_session.specs.Transcript.{Perform}
 use Rattle.mf_desk.specs.declared.fault.RunFault.{RunFault}
@@ -29,7 +29,7 @@ pub record IsEndedText (limits : Limits) (read text : List ℕ) : Type 0 where
 -- what a fault says where one such text is due, after this many bytes of the run
 abbrev pub BreaksOff : (List ℕ → Type 0) → ℕ → RunFault → List ℕ → Type 0
 BreaksOff IsText before OutOfMemory written = written ≡ []
-BreaksOff IsText before (WriteFault count) written = (count ≡ before + length written) × IsCut IsText written
+BreaksOff IsText before (WriteFault count) written = (count ≡ before + length written) × IsPrefixOf IsText written
 BreaksOff IsText before _ written = ⊥
 
 -- what a fault of the script, its reader or its writer says: after `ReadFault` the texts of the lines that a line feed ended have
@@ -38,5 +38,5 @@ BreaksOff IsText before _ written = ⊥
 abbrev pub Breaks : Limits → RunFault → Passage → Type 0
 Breaks limits OutOfMemory p = IsFirstText limits p.left p.read p.written
 Breaks limits ReadFault p = IsEndedText limits p.read p.written
-Breaks limits (WriteFault count) p = (length p.written ≡ count) × IsCut (IsFirstText limits p.left p.read) p.written
+Breaks limits (WriteFault count) p = (length p.written ≡ count) × IsPrefixOf (IsFirstText limits p.left p.read) p.written
 Breaks limits _ p = ⊥

@@ -3,7 +3,6 @@ use Rattle.std.specs.Prelude.{◌≡◌, ◌≤◌, ◌<◌, ◌⊎◌, ℕ, zer
 use Rattle.std.specs.Fmt.{signed_decimal}
 use Rattle.std.specs.Io.KnownBytes.{Appends, Consumes, IsAtEnd}
 use Rattle.std.specs.Str.Lines.{lines}
-use Rattle.logbook.specs.Pages.{Book}
 use Rattle.mf_gf.specs.Files.{IsLongFile, file_if_any, preamble}
 use Rattle.mf_desk.specs.declared.fault.RunFault.{RunFault}
 use Rattle.mf_desk.specs.declared.fault.RunFault.TheVariants.{OutOfMemory, NoPlace, FileTooLong, ReadFault, WriteFault, NoLook}
@@ -12,12 +11,10 @@ use Rattle.mf_desk.specs.declared.outcome.Outcome.{Outcome}
 use Rattle.mf_desk.specs.declared.settings.Settings.{Settings}
 use Rattle.mf_session.specs.Endings.{complete_list}
 use Rattle.mf_desk.specs.Fault.{IsEndedText, IsFirstText}
-use Rattle.mf_desk.specs.Streams.{IsCut, Passage, Streams}
+use Rattle.mf_desk.specs.Streams.{IsPrefixOf, Passage, Streams}
 use Rattle.mf_session.specs.States.{State, Limits, limits_of, start}
 use Rattle.mf_session.specs.Transcript.{Perform}
 use Rattle.mf_watch.specs.Watchers.{HasSeen, glance_at}
-use Rattle.mf_watch.specs.Watching.{AreStarted, viewer_count}
-use Rattle.mf_watch.specs.declared.watching.Watching.{Watching}
 
 -- the limits of a session, from the settings of a run
 abbrev pub limits_set : Settings → Limits
@@ -33,16 +30,12 @@ unfoldable pub viewer_lines : ℕ → Glance → List ℕ
 viewer_lines zero g = []
 viewer_lines (suc n) g = viewer_lines n g ++ viewer_line n g
 
--- the glance that a look at the last picture of a state gives
-abbrev pub last_glance : State → Glance
-last_glance s = glance_at (complete_list s.pictures)
-
 -- the transcript of these bytes of a script, and the lines of this many viewers
 pub record IsCompleteText (limits : Limits) (viewers : ℕ) (read text : List ℕ) : Type 0 where
   pub transcript : List ℕ
   pub last : State
   pub performed : Perform limits start (lines read) transcript last
-  pub is : text ≡ transcript ++ viewer_lines viewers (last_glance last)
+  pub is : text ≡ transcript ++ viewer_lines viewers (glance_at (complete_list last.pictures))
 
 -- what a run is asked for: its limits and its font, how many viewers look on, and how often each looks in its thread
 pub record Asked : Type 0 where
@@ -69,11 +62,6 @@ pub record IsPerformance (a : Asked) (outcome : Outcome) (s : Streams) (input : 
 -- the run did what it was asked for with the bytes that it has read; where the reader is at its end, they are all that it had
 abbrev pub Performs : Asked → Streams → Outcome → Type 0
 Performs a s outcome = (read : List ℕ) × Consumes s.unread s.left read × IsPerformance a outcome s read
-
--- so did a run beside these viewers, however often each was to look when it was started
-abbrev pub PerformsBeside : Settings → Book → Watching → Streams → Outcome → Type 0
-PerformsBeside settings picture watching s outcome =
-    (looks : ℕ) → AreStarted picture looks watching → Performs (asked settings (viewer_count watching) looks) s outcome
 
 -- this is the complete transcript, and the lines of the first of these viewers
 pub record IsShownText (limits : Limits) (viewers : ℕ) (read text : List ℕ) : Type 0 where
@@ -105,5 +93,5 @@ Tells settings viewers OutOfMemory p = IsUncutText (limits_set settings) viewers
 Tells settings viewers NoPlace p = (0 < viewers) × (p.read ≡ []) × (p.written ≡ [])
 Tells settings viewers FileTooLong p = HasNoRoom (limits_set settings) p ⊎ (IsAtEnd p.left × IsBeforeLongFile settings viewers p.read p.written)
 Tells settings viewers ReadFault p = IsEndedText (limits_set settings) p.read p.written
-Tells settings viewers (WriteFault count) p = (length p.written ≡ count) × IsCut (IsUncutText (limits_set settings) viewers p) p.written
+Tells settings viewers (WriteFault count) p = (length p.written ≡ count) × IsPrefixOf (IsUncutText (limits_set settings) viewers p) p.written
 Tells settings viewers NoLook p = IsAtEnd p.left × ((some : IsShownText (limits_set settings) viewers p.read p.written) × (some.shown < viewers))

@@ -2,7 +2,7 @@
 use Rattle.std.specs.Prelude.{ℕ, List, Option, ◌≡◌, ◌+◌, ◌<◌, ◌^◌, length}
 use Rattle.mf_session.specs.Answers.{Answers}
 use Rattle.mf_session.specs.Sessions.{StandsFor, limits}
-use Rattle.mf_session.specs.States.{State, Limits}
+use Rattle.mf_session.specs.States.{State}
 use Rattle.mf_desk.specs.declared.fault.RunFault.{RunFault}
 use Rattle.mf_desk.specs.declared.performer.Performer.{Performer}
 use Rattle.mf_desk.specs.Fault.{BreaksOff}
@@ -16,11 +16,7 @@ pub record IsWritten (before : Performer) (s : State) (line : List ℕ) (after :
   pub counted : after.written ≡ before.written + length text
   pub short : length text < 2 ^ 64
 
--- a line prints this text
-abbrev pub IsAnswer : Limits → State → List ℕ → List ℕ → Type 0
-IsAnswer limits s line text = (next : State) × Answers limits s line text next
-
 -- a fault comes where the text of a line is due; the writer, which held some bytes, now holds others
 abbrev pub BreaksText : Performer → List ℕ → RunFault → Option (List ℕ) → Option (List ℕ) → Type 0
-BreaksText performer line fault held holds =
-    (s : State) → StandsFor performer.session s → Gets held holds (BreaksOff (IsAnswer (limits performer.session) s line) performer.written fault)
+BreaksText performer line fault held holds = (s : State) → StandsFor performer.session s
+    → Gets held holds (BreaksOff (λ text. (next : State) × Answers (limits performer.session) s line text next) performer.written fault)

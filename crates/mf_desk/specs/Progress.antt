@@ -1,10 +1,10 @@
 -- The state of a run whose bytes so far are known.
 use Rattle.std.specs.Prelude.{ℕ, List, Option, ◌≡◌, ◌++◌, length, take}
-use Rattle.std.specs.Io.KnownBytes.{Appends, Consumes, IsAtEnd}
+use Rattle.std.specs.Io.KnownBytes.{Appends, Consumes}
 use Rattle.std.specs.Str.Lines.{lines}
 use Rattle.mf_desk.specs.Ended.{ended_lines, unended}
 use Rattle.mf_desk.specs.Fault.{Breaks}
-use Rattle.mf_desk.specs.Streams.{Gets, Streams, passage}
+use Rattle.mf_desk.specs.Streams.{HasPassed, Streams}
 use Rattle.mf_session.specs.Sessions.{StandsFor, limits}
 use Rattle.mf_session.specs.States.{State, start}
 use Rattle.mf_session.specs.Transcript.{Perform}
@@ -38,16 +38,10 @@ ReadsThrough s performer = (read : List ℕ) × Consumes s.unread s.left read ×
 
 -- the run takes these bytes, which come after whatever was read, and goes on; the writer, which held some bytes, now holds others
 abbrev pub GoesOn : Progress → List ℕ → Progress → Option (List ℕ) → Option (List ℕ) → Type 0
-GoesOn before bytes after holds later = (held : Option (List ℕ)) (read : List ℕ) → IsAfter held read before holds → IsAfter held (read ++ bytes) after later
+GoesOn before bytes after holds later =
+    (held : Option (List ℕ)) (read : List ℕ) → IsAfter held read before holds → IsAfter held (read ++ bytes) after later
 
 -- the fault breaks the script off where the run takes these bytes, which come after whatever was read, and maybe before others
 abbrev pub BreaksAfter : Progress → List ℕ → RunFault → Option (List ℕ) → Option (List ℕ) → Type 0
-BreaksAfter before bytes fault holds later =
-    (held left : Option (List ℕ)) (read more : List ℕ) → IsAfter held read before holds
-    → Gets held later (λ written. Breaks (limits before.performer.session) fault (passage left (read ++ bytes ++ more) written))
-
--- the fault breaks the script off where nothing is left to read
-abbrev pub BreaksAtEnd : Progress → RunFault → Option (List ℕ) → Option (List ℕ) → Type 0
-BreaksAtEnd before fault holds later =
-    (held left : Option (List ℕ)) (read : List ℕ) → IsAtEnd left → IsAfter held read before holds
-    → Gets held later (λ written. Breaks (limits before.performer.session) fault (passage left read written))
+BreaksAfter before bytes fault holds later = (held left : Option (List ℕ)) (read more : List ℕ) → IsAfter held read before holds
+    → HasPassed (Breaks (limits before.performer.session) fault) left (read ++ bytes ++ more) held later

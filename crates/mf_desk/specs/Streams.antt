@@ -23,19 +23,19 @@ pub record Passage : Type 0 where
   pub read : List ℕ
   pub written : List ℕ
 
--- a passage with these three, in this order
-abbrev pub passage : Option (List ℕ) → List ℕ → List ℕ → Passage
-passage left read written = record { left = left; read = read; written = written }
-
 -- a writer that held some bytes has got others of which this is true
 abbrev pub Gets : Option (List ℕ) → Option (List ℕ) → (List ℕ → Type 0) → Type 0
 Gets held holds IsSuch = (written : List ℕ) × Appends held holds written × IsSuch written
 
+-- with these bytes left, where they are known, and these read, what a writer that held some bytes has got makes such a passage
+abbrev pub HasPassed : (Passage → Type 0) → Option (List ℕ) → List ℕ → Option (List ℕ) → Option (List ℕ) → Type 0
+HasPassed IsSuch left read held holds = Gets held holds (λ written. IsSuch (record { left = left; read = read; written = written }))
+
 -- what has passed through these streams is such a passage
 abbrev pub Passes : Streams → (Passage → Type 0) → Type 0
 Passes through IsSuch =
-    (read : List ℕ) × Consumes through.unread through.left read × Gets through.held through.holds (λ written. IsSuch (passage through.left read written))
+    (read : List ℕ) × Consumes through.unread through.left read × HasPassed IsSuch through.left read through.held through.holds
 
 -- with some more bytes, or with none, these are such a text
-abbrev pub IsCut : (List ℕ → Type 0) → List ℕ → Type 0
-IsCut IsText written = (rest : List ℕ) × IsText (written ++ rest)
+abbrev pub IsPrefixOf : (List ℕ → Type 0) → List ℕ → Type 0
+IsPrefixOf IsText written = (rest : List ℕ) × IsText (written ++ rest)

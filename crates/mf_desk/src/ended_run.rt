@@ -2,11 +2,11 @@
 ghost use Rattle.std.specs.Io.KnownBytes.{Appends};
 ghost use Rattle.std.specs.Prelude.{◌≡◌, ◌≢◌, ◌+◌, ◌≤◌, ◌^◌, ℕ, All, Err, IfErr, IfOk, OnOk, length};
 ghost use Rattle.mf_live.specs.Writers.{ended_identity, ended_published_list};
-ghost use Rattle.mf_desk.specs.EndedRuns.{AreJoined, IsLineOf, IsSameEnd, StopsShowing, glance};
+ghost use Rattle.mf_desk.specs.EndedRuns.{AreJoined, IsViewerLine, IsSameEnd, StopsShowing, glance};
 ghost use Rattle.mf_desk.specs.Fault.{BreaksOff};
 ghost use Rattle.mf_desk.specs.Performances.{viewer_line, viewer_lines};
 ghost use Rattle.mf_desk.specs.Streams.{Gets};
-ghost use Rattle.mf_watch.specs.Watchers.{HasRoom, HasSeen, IsRecord, identity};
+ghost use Rattle.mf_watch.specs.Watchers.{HasRoomFor, HasSeen, IsRecord, identity};
 
 use crate::fault::RunFault;
 use crate::output::flush;
@@ -37,7 +37,7 @@ impl EndedRun {
         joined: Result<Vec<Watcher>, NoLook>,
     ) -> Result<Vec<Vec<Glance>>, RunFault>
         requires identities { IfOk joined (λ watchers. All (λ w. identity w ≡ ended_identity self.old.ended) watchers.items) }
-        requires rooms { IfOk joined (λ watchers. All (HasRoom 1) watchers.items) }
+        requires rooms { IfOk joined (λ watchers. All (HasRoomFor 1) watchers.items) }
         requires few { IfOk joined (λ watchers. length watchers.items ≤ 64) }
         requires short { self.old.written ≤ 2 ^ 101 }
         ensures no_look { IfErr joined (λ _. result ≡ Err RunFault.NoLook) }
@@ -65,7 +65,7 @@ impl EndedRun {
         watchers: Vec<Watcher>,
     ) -> Result<Vec<Vec<Glance>>, RunFault>
         requires identities { All (λ w. identity w ≡ ended_identity self.old.ended) watchers.items }
-        requires rooms { All (HasRoom 1) watchers.items }
+        requires rooms { All (HasRoomFor 1) watchers.items }
         requires few { length watchers.items ≤ 64 }
         requires short { self.old.written ≤ 2 ^ 101 }
         ensures same { IsSameEnd self.old self.new }
@@ -94,7 +94,7 @@ impl EndedRun {
         watcher: Watcher,
     ) -> Result<Vec<Glance>, RunFault>
         requires identity { identity watcher ≡ ended_identity self.old.ended }
-        requires room { HasRoom 1 watcher }
+        requires room { HasRoomFor 1 watcher }
         requires short { self.old.written + 2 ^ 64 ≤ 2 ^ 127 }
         ensures same { IsSameEnd self.old self.new }
         ensures shown { OnOk result (Appends (W.contents writer.old) (W.contents writer.new) (viewer_line number (glance self.old))) }
@@ -103,7 +103,7 @@ impl EndedRun {
         ensures seen { IfOk result (λ seen. (looks : ℕ) → IsRecord looks watcher → HasSeen (ended_published_list self.old.ended) looks seen.items) }
         ensures no_look { result ≡ Err RunFault.NoLook → writer.new ≡ writer.old }
         ensures fault { IfErr result (λ fault. fault ≢ RunFault.NoLook
-            → Gets (W.contents writer.old) (W.contents writer.new) (BreaksOff (IsLineOf self.old number) self.old.written fault)) }
+            → Gets (W.contents writer.old) (W.contents writer.new) (BreaksOff (IsViewerLine self.old number) self.old.written fault)) }
     {
         let mut watcher = watcher;
         let glance = watcher.look_last(alloc, self.ended.notice())?;

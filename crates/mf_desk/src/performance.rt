@@ -1,7 +1,7 @@
 //! A run beside viewers in threads.
 ghost use Rattle.std.specs.Io.KnownBytes.{IsAtEnd};
 ghost use Rattle.std.specs.Prelude.{◌≡◌, ◌≢◌, ◌⊎◌, ◌<◌, ◌≤◌, ◌^◌, ℕ, [], Err, IfErr, IfOk, List, OnOk, Option, length};
-ghost use Rattle.mf_desk.specs.Performances.{Performs, PerformsBeside, Tells, asked, limits_set};
+ghost use Rattle.mf_desk.specs.Performances.{Performs, Tells, asked, limits_set};
 ghost use Rattle.mf_desk.specs.Progress.{IsAfter};
 ghost use Rattle.mf_desk.specs.Streams.{Passes, streams_of};
 ghost use Rattle.mf_session.specs.Sessions.{identity, limits};
@@ -88,8 +88,9 @@ fn perform_watched<S: Wait + Threads, R: Read, W: Write>(
     requires short { length chunk.old ≤ 2 ^ 16 }
     requires few { viewer_count watching ≤ 64 }
     requires started { (looks : ℕ) × AreStarted (identity progress.performer.session) looks watching }
-    ensures performance { IfOk result (PerformsBeside settings.now (identity progress.performer.session) watching
-        (streams_of R.remaining reader.old reader.new W.contents writer.old writer.new)) }
+    ensures performance { IfOk result (λ outcome. (looks : ℕ) → AreStarted (identity progress.performer.session) looks watching
+        → Performs (asked settings.now (viewer_count watching) looks)
+        (streams_of R.remaining reader.old reader.new W.contents writer.old writer.new) outcome) }
     ensures end { OnOk result (IsAtEnd (R.remaining reader.new)) }
     ensures fault { IfErr result (λ fault.
         Passes (streams_of R.remaining reader.old reader.new W.contents writer.old writer.new) (Tells settings.now (viewer_count watching) fault)) }

@@ -6,8 +6,8 @@ ghost use Rattle.mf_live.specs.Writers.{ended_identity};
 ghost use Rattle.mf_desk.specs.EndedRuns.{EndsWith};
 ghost use Rattle.mf_desk.specs.Fault.{Breaks};
 ghost use Rattle.mf_desk.specs.Performances.{limits_set};
-ghost use Rattle.mf_desk.specs.Progress.{BreaksAfter, BreaksAtEnd, GoesOn, IsAfter, IsThrough, ReadsThrough};
-ghost use Rattle.mf_desk.specs.Streams.{Passes, streams_of};
+ghost use Rattle.mf_desk.specs.Progress.{BreaksAfter, GoesOn, IsAfter, IsThrough, ReadsThrough};
+ghost use Rattle.mf_desk.specs.Streams.{HasPassed, Passes, streams_of};
 ghost use Rattle.mf_session.specs.Sessions.{identity, limits};
 
 use crate::ended_run::EndedRun;
@@ -185,7 +185,9 @@ impl Progress {
         ensures at_most { OnOk result (self.new.performer.written ≤ self.old.performer.written + 2 ^ 64) }
         ensures limits { limits self.new.performer.session ≡ limits self.old.performer.session }
         ensures identity { identity self.new.performer.session ≡ identity self.old.performer.session }
-        ensures fault { IfErr result (λ fault. BreaksAtEnd self.old fault (W.contents writer.old) (W.contents writer.new)) }
+        ensures fault { IfErr result (λ fault. (held left : Option (List ℕ)) (read : List ℕ) → IsAtEnd left
+            → IsAfter held read self.old (W.contents writer.old)
+            → HasPassed (Breaks (limits self.old.performer.session) fault) left read held (W.contents writer.new)) }
     {
         if self.line.is_empty() {
             return Ok(());

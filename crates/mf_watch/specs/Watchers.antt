@@ -57,8 +57,8 @@ abbrev pub IsRecord : ℕ → Watcher → Type 0
 IsRecord looks w = AreGlances (viewers.seen_list (viewer_of w)) looks (record_of w).items
 
 -- it has room for the record of this many more looks
-abbrev pub HasRoom : ℕ → Watcher → Type 0
-HasRoom more w = length (record_of w).items + more ≤ vec_capacity (record_of w)
+abbrev pub HasRoomFor : ℕ → Watcher → Type 0
+HasRoomFor more w = length (record_of w).items + more ≤ vec_capacity (record_of w)
 
 -- the last of these glances, if there is one, is at this list
 abbrev pub EndWith : List Entry → List Glance → Type 0
@@ -70,4 +70,4 @@ pub record IsWatcher (picture : Book) (looks more : ℕ) (w : Watcher) : Type 0 
   pub identity_is : identity w ≡ picture
   pub record_is : IsRecord looks w
   pub last_is : EndWith (viewers.looked_at_list (viewer_of w)) (record_of w).items
-  pub room : HasRoom more w
+  pub room : HasRoomFor more w

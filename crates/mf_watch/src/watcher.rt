@@ -4,7 +4,7 @@ ghost use Rattle.logbook.specs.Pages.{Book};
 ghost use Rattle.mf_live.specs.Entries.{is_closed};
 ghost use Rattle.mf_live.specs.Sheets.{HasLookedAt, IsLastNotTaken};
 ghost use Rattle.mf_live.specs.Viewers as viewers;
-ghost use Rattle.mf_watch.specs.Watchers.{HasRoom, HasSeen, IsRecord, IsWatcher, glance_at, identity, record_of, viewer_of};
+ghost use Rattle.mf_watch.specs.Watchers.{HasRoomFor, HasSeen, IsRecord, IsWatcher, glance_at, identity, record_of, viewer_of};
 
 use crate::gate::Gate;
 use crate::glance::Glance;
@@ -48,7 +48,7 @@ impl Watcher {
 
     /// Looks once, as look `look` of viewer `number`.
     fn look<G: Gate>(self, number: u32, look: u32, gate: &G) -> Result<Watcher, NoLook>
-        requires { HasRoom 1 self }
+        requires { HasRoomFor 1 self }
         ensures watcher { IfOk result (λ after. (picture : Book) (looks more : ℕ)
             → IsWatcher picture looks (more + 1) self → IsWatcher picture (looks + 1) more after) }
         ensures shown { IfOk result (λ after. (record_of after).items ≡ (record_of self).items ++ glance_at (viewers.looked_at_list (viewer_of after)) ∷ []) }
@@ -73,7 +73,7 @@ impl Watcher {
     /// with the end mark. Refused with `NoLook` where the look is not answered, and with `OutOfMemory` where an allocation fails
     /// after it; the record then stays as it was.
     pub fn look_last(&mut self, alloc: Global, notice: Notice) -> Result<Glance, SheetFault>
-        requires room { HasRoom 1 self.old }
+        requires room { HasRoomFor 1 self.old }
         requires identity { viewers.notice_identity notice ≡ identity self.old }
         requires closed { is_closed (viewers.told_list notice) ≡ true }
         ensures identity { identity self.new ≡ identity self.old }

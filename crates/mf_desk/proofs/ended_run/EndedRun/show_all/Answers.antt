@@ -5,7 +5,7 @@ use Rattle.std.proofs.lemmas.Result.{err_from_is_err_and}
 use Rattle.mf_live.specs.Entries.{Entry}
 use Rattle.mf_live.specs.Writers.{ended_identity, ended_published_list}
 use Rattle.mf_watch.specs.declared.glance.Glance.{Glance}
-use Rattle.mf_watch.specs.Watchers.{HasRoom, HasSeen, IsRecord, identity}
+use Rattle.mf_watch.specs.Watchers.{HasRoomFor, HasSeen, IsRecord, identity}
 use Rattle.mf_desk.proofs.Showing.{IsShown, IsShown-start, IsShown-number, IsShown-next, Tells-behind, Tells-line, Tells-unflushed}
 use Rattle.mf_desk.proofs.ended_run.EndedRun.show_all.Goals as goal
 
@@ -61,7 +61,7 @@ loop-watcher-preserved g c =
     record {
       count = omega (arith, grown, was.count, ap length step);
       identities = All-rest (λ w. identity w ≡ ended_identity run.ended) c.in-Some.watcher rest _ step was.identities;
-      rooms = All-rest (HasRoom 1) c.in-Some.watcher rest _ step was.rooms;
+      rooms = All-rest (HasRoomFor 1) c.in-Some.watcher rest _ step was.rooms;
       shown = subst Shown (sym grown) (IsShown-next run c.loop-watcher.self c.show_one.new.self number _ _ _ shown one.same one.shown one.counted one.at_most);
       seen = λ looks records.
           let Seen = λ (published : List Entry) (v : Vec Glance Global). HasSeen published looks v.items in

@@ -1,8 +1,7 @@
 use Rattle.std.proofs.Common.{Result, Ok, Err, sym}
 use Rattle.std.specs.Prelude.{OnOk}
 use Rattle.std.proofs.lemmas.Result.{err_from_is_err_and, IfErr-weaker}
-use Rattle.mf_desk.specs.declared.progress.Progress.{Progress}
-use Rattle.mf_desk.proofs.Stages.{IsThrough-none, IsThrough-last, HasPerformed-flushed, CutsShort-last, CutsShort-last_unflushed}
+use Rattle.mf_desk.proofs.Stages.{IsThrough-none, IsThrough-last, HasPerformed-flushed, Breaks-last, Breaks-last_unflushed}
 use Rattle.mf_desk.proofs.progress.Progress.finish.Goals as goal
 
 pub returns-then-is_empty-clause-done : goal.returns-then-is_empty-clause-done
@@ -16,25 +15,23 @@ always (Err fault) holds = tt
 pub returns-in_err-perform-clause-fault : goal.returns-in_err-perform-clause-fault
 returns-in_err-perform-clause-fault g c =
     let passed_on = err_from_is_err_and c.from_residual.result c.from_residual.ensures.1 in
-    let broken_off = rw c.at_end.ensures at c.in_err-perform.ensures.fault in
-    rw (passed_on.1, passed_on.2) (λ held left read all_read after. CutsShort-last c.in_err-perform.field-0.0 held left _ _ read c.args.self.now all_read after
-    (sym (c.if-is_empty.ensures)) (broken_off after.done.last after.done.stands))
+    let broken = rw c.at_end.ensures at c.in_err-perform.ensures.fault in
+    rw (passed_on.1, passed_on.2) (λ held left read all_read after.
+    Breaks-last held _ read c.args.self.now after c.in_err-perform.field-0.0 left _ all_read (sym (c.if-is_empty.ensures)) broken)
 
 pub returns-clause-done : goal.returns-clause-done
 returns-clause-done g c =
-    let old = c.args.self.now in
-    let new : Progress = record { performer = c.perform.new.self; line = old.line } in
+    let some = sym c.if-is_empty.ensures in
     let written = rw c.at_end.ensures at c.in_ok-perform.ensures.written in
     always c.flush.result (λ held read after.
     HasPerformed-flushed held _ _ _ c.perform.new.self c.flush.ensures.kept
-    (IsThrough-last held _ _ read old new after (sym (c.if-is_empty.ensures)) c.perform.ensures.limits (written after.done.last after.done.stands)))
+    (IsThrough-last held _ read c.args.self.now after _ c.perform.new.self some c.perform.ensures.limits (written after.done.last after.done.stands)))
 
 pub returns-clause-fault : goal.returns-clause-fault
 returns-clause-fault g c =
-    let old = c.args.self.now in
-    let new : Progress = record { performer = c.perform.new.self; line = old.line } in
+    let some = sym c.if-is_empty.ensures in
     let written = rw c.at_end.ensures at c.in_ok-perform.ensures.written in
     IfErr-weaker c.flush.result _ _ (λ fault is held left read all_read after.
-    CutsShort-last_unflushed _ held left _ _ read c.perform.new.self all_read c.perform.ensures.limits c.flush.ensures.kept
-    (IsThrough-last held _ _ read old new after (sym (c.if-is_empty.ensures)) c.perform.ensures.limits
+    Breaks-last_unflushed _ held left _ _ read c.perform.new.self all_read c.perform.ensures.limits c.flush.ensures.kept
+    (IsThrough-last held _ read c.args.self.now after _ c.perform.new.self some c.perform.ensures.limits
     (written after.done.last after.done.stands)) fault is) c.flush.ensures.fault

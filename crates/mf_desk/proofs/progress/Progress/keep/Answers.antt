@@ -1,13 +1,13 @@
 use Rattle.std.proofs.Common.{refl}
 use Rattle.std.proofs.lemmas.Result.{err_from_is_err_and}
-use Rattle.mf_desk.proofs.Stages.{IsAfter-unbroken, CutsShort-between}
+use Rattle.mf_desk.proofs.Stages.{IsAfter-unbroken, Breaks-between}
 use Rattle.mf_desk.proofs.progress.Progress.keep.Goals as goal
 
 pub returns-clause-after : goal.returns-clause-after
 returns-clause-after c =
-    λ holds held read after. IsAfter-unbroken held holds read c.args.bytes.now c.args.self.now _ c.requires refl c.in_ok-extend.ensures.added after
+    λ holds held read after. IsAfter-unbroken held holds read c.args.self.now after c.args.bytes.now _ c.requires refl c.in_ok-extend.ensures.added
 
 pub returns-in_err-extend-clause-fault : goal.returns-in_err-extend-clause-fault
 returns-in_err-extend-clause-fault c =
     let wanting = err_from_is_err_and c.from_residual.result c.from_residual.ensures.1 in
-    rw (wanting.1, wanting.2) (λ holds held left read more after. CutsShort-between held left holds read c.args.bytes.now more c.args.self.now after)
+    rw (wanting.1, wanting.2) (λ holds held left read more after. Breaks-between held holds read c.args.self.now after left c.args.bytes.now more)

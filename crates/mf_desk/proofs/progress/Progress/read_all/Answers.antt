@@ -2,8 +2,10 @@ use Rattle.std.proofs.Common.{◌≡◌, ◌<◌, ◌++◌, Option, [], List, �
 use Rattle.std.proofs.KnownBytes.{Consumes-nil, Consumes-trans, Consumes-kept}
 use Rattle.std.proofs.lemmas.Result.{err_from_is_err_and, on_ok_weaker, IfErr-weaker}
 use Rattle.std.specs.Io.KnownBytes.{Consumes, IsAtEnd}
+use Rattle.mf_desk.specs.Fault.{Breaks}
+use Rattle.mf_desk.specs.Streams.{HasPassed}
 use Rattle.mf_session.specs.Sessions.{limits}
-use Rattle.mf_desk.proofs.Stages.{CutsShort, CutsShort-reads, CutsShort-unflushed, IsAfter-flushed}
+use Rattle.mf_desk.proofs.Stages.{Breaks-reads, Breaks-unflushed, IsAfter-flushed}
 use Rattle.mf_desk.proofs.progress.Progress.read_all.Goals as goal
 
 -- a read that gives no byte
@@ -20,7 +22,7 @@ returns-in_err-flush-clause-fault g c =
     let (read, consumed, after) = c.reads.invariant.1 in
     let passed_on = err_from_is_err_and c.from_residual.result c.from_residual.ensures.1 in
     rw (passed_on.1, passed_on.2, ← c.reads.invariant.2)
-    (read, consumed, CutsShort-unflushed _ _ _ _ read c.reads.self c.flush.ensures.kept after c.in_err-flush.field-0.0 c.in_err-flush.ensures.fault)
+    (read, consumed, Breaks-unflushed _ _ _ _ read c.reads.self c.flush.ensures.kept after c.in_err-flush.field-0.0 c.in_err-flush.ensures.fault)
 
 pub returns-in-Err-clause-fault : goal.returns-in-Err-clause-fault
 returns-in-Err-clause-fault g c =
@@ -28,7 +30,7 @@ returns-in-Err-clause-fault g c =
     let after = IsAfter-flushed _ _ _ read c.reads.self c.flush.ensures.kept before in (
       read,
       Consumes-kept _ _ _ read consumed c.in-Err.ensures.bytes,
-      rw (← c.reads.invariant.2) (CutsShort-reads _ (g.R.Read.remaining c.read.new.self) _ read c.reads.self after),
+      rw (← c.reads.invariant.2) (Breaks-reads _ _ read c.reads.self after (g.R.Read.remaining c.read.new.self)),
     )
 
 pub returns-in-Ok-eq0-clause-end : goal.returns-in-Ok-eq0-clause-end
@@ -59,13 +61,14 @@ returns-in_err-take-in-Ok-clause-fault g c =
     let after = IsAfter-flushed _ _ _ read c.reads.self c.flush.ensures.kept before in
     let held = g.W.Write.contents c.args.writer.now in
     let later = g.W.Write.contents c.take.new.writer in
+    let left = g.R.Read.remaining c.read.new.self in
     let bytes = read ++ take c.in-Ok.count c.read.new.buf in
     let passed_on = err_from_is_err_and c.from_residual-in_err-take-in-Ok.result c.from_residual-in_err-take-in-Ok.ensures.1 in
     rw (passed_on.1, passed_on.2, ← c.reads.invariant.2) (
       bytes,
       Consumes-trans _ _ _ read _ consumed c.in-Ok.ensures.bytes.0,
-      subst (λ all. CutsShort (limits c.reads.self.performer.session) c.in_err-take-in-Ok.field-0.0 (g.R.Read.remaining c.read.new.self) all held later)
-          (append-nil bytes) (c.in_err-take-in-Ok.ensures.fault held _ read [] after),
+      subst (λ all. HasPassed (Breaks (limits c.reads.self.performer.session) c.in_err-take-in-Ok.field-0.0) left all held later) (append-nil bytes)
+          (c.in_err-take-in-Ok.ensures.fault held _ read [] after),
     )
 
 pub reads-preserved : goal.reads-preserved
@@ -81,4 +84,4 @@ reads-preserved g c =
 pub returns-clause-fault : goal.returns-clause-fault
 returns-clause-fault g c =
     let (read, consumed, after) = c.reads.invariant.1 in
-    (read, consumed, rw (← c.reads.invariant.2) (CutsShort-reads _ (g.R.Read.remaining c.reads.reader) _ read c.reads.self after))
+    (read, consumed, rw (← c.reads.invariant.2) (Breaks-reads _ _ read c.reads.self after (g.R.Read.remaining c.reads.reader)))

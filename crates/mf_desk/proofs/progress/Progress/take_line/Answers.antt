@@ -3,8 +3,10 @@ use Rattle.std.proofs.lemmas.Bool.{eqb-true}
 use Rattle.std.proofs.lemmas.List.{nil_from_length}
 use Rattle.std.proofs.lemmas.Result.{err_from_is_err_and, on_ok_weaker, IfErr-weaker}
 use Rattle.mf_desk.specs.Progress.{IsAfter}
+use Rattle.mf_desk.specs.Fault.{Breaks}
+use Rattle.mf_desk.specs.Streams.{HasPassed}
 use Rattle.mf_session.specs.Sessions.{limits}
-use Rattle.mf_desk.proofs.Stages.{CutsShort, IsAfter-whole, CutsShort-whole}
+use Rattle.mf_desk.proofs.Stages.{IsAfter-whole, Breaks-whole}
 use Rattle.mf_desk.proofs.progress.Progress.take_line.Goals as goal
 
 -- the line feed is of these bytes, or of those after them
@@ -26,15 +28,14 @@ pub returns-then-is_empty-clause-fault : goal.returns-then-is_empty-clause-fault
 returns-then-is_empty-clause-fault g c =
     let broken_off = rw c.before_line_feed-line.ensures at c.perform.ensures.fault in
     IfErr-weaker c.perform.result _ _ (λ fault broken held left read more after.
-    CutsShort-whole held _ read c.args.bytes.now c.args.self.now after
-    (sym (c.if-is_empty.ensures)) c.requires.unbroken fault left _ more (broken after.done.last after.done.stands)) broken_off
+    Breaks-whole held _ read c.args.bytes.now c.args.self.now after (sym (c.if-is_empty.ensures)) c.requires.unbroken fault left _ more broken) broken_off
 
 pub returns-in_err-keep-clause-fault : goal.returns-in_err-keep-clause-fault
 returns-in_err-keep-clause-fault g c =
     let passed_on = err_from_is_err_and c.from_residual.result c.from_residual.ensures.1 in
     rw (passed_on.1, passed_on.2) (
     λ held left read more after.
-    subst (λ all. CutsShort (limits c.args.self.now.performer.session) c.in_err-keep.field-0.0 left all held (g.W.Write.contents c.args.writer.now))
+    subst (λ all. HasPassed (Breaks (limits c.args.self.now.performer.session) c.in_err-keep.field-0.0) left all held (g.W.Write.contents c.args.writer.now))
     (regrouped read c.args.bytes.now more) (c.in_err-keep.ensures.fault _ held left read (10 ∷ more) after)
     )
 
@@ -48,8 +49,8 @@ returns-clause-after g c =
 pub returns-clause-fault : goal.returns-clause-fault
 returns-clause-fault g c =
     IfErr-weaker c.end_line.result _ _ (λ fault cut_short held left read more after.
-    subst (λ performer. CutsShort (limits performer.session) fault left (read ++ (c.args.bytes.now ++ 10 ∷ []) ++ more) held
+    subst (λ performer. HasPassed (Breaks (limits performer.session) fault) left (read ++ (c.args.bytes.now ++ 10 ∷ []) ++ more) held
     (g.W.Write.contents c.end_line.new.writer)) c.keep.ensures.same
-    (subst (λ front. CutsShort (limits c.keep.new.self.performer.session) fault left (front ++ more) held (g.W.Write.contents c.end_line.new.writer))
+    (subst (λ front. HasPassed (Breaks (limits c.keep.new.self.performer.session) fault) left (front ++ more) held (g.W.Write.contents c.end_line.new.writer))
     (append_assoc read c.args.bytes.now (10 ∷ []))
     (cut_short held left (read ++ c.args.bytes.now) more (c.in_ok-keep.ensures.after _ held read after)))) c.end_line.ensures.fault
