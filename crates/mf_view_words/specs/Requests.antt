@@ -48,7 +48,7 @@ pub record IsWordsInRange (asked : Words) : Type 0 where
   pub resolution : asked.resolution ≤ 100000
 
 -- the numbers of a request are in their ranges
-abbrev pub IsInRange : Request → Type 0
-IsInRange (Show asked) = IsWordsInRange asked
-IsInRange Help = Unit {0}
-IsInRange Version = Unit {0}
+abbrev pub IsRequestInRange : Request → Type 0
+IsRequestInRange (Show asked) = IsWordsInRange asked
+IsRequestInRange Help = Unit {0}
+IsRequestInRange Version = Unit {0}

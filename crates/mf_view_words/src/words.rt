@@ -1,7 +1,7 @@
 //! The words of the command line, and what they ask for.
 ghost use Rattle.std.specs.Prelude.{IfOk, IsErrOf, OnOk, map, string_bytes};
 ghost use Rattle.clap.specs.Words.{found_of, rows_of};
-ghost use Rattle.mf_view_words.specs.Requests.{AreWords, IsCommandLine, IsInRange, IsRequest, IsRequestIn, IsWordsInRange};
+ghost use Rattle.mf_view_words.specs.Requests.{AreWords, IsCommandLine, IsRequestInRange, IsRequest, IsRequestIn, IsWordsInRange};
 ghost use Rattle.mf_view_words.specs.Values.{IsReadable};
 
 use crate::options::command;
@@ -52,7 +52,7 @@ pub fn read_words(alloc: Global, words: Vec<String>) -> Result<Request, WordsFau
     ensures accepted { OnOk result (IsCommandLine (map string_bytes words.items)) }
     ensures refused { IsErrOf result WordsFault.BadWords → ¬ IsCommandLine (map string_bytes words.items) }
     ensures value { IfOk result (IsRequest (map string_bytes words.items)) }
-    ensures range { IfOk result IsInRange }
+    ensures range { IfOk result IsRequestInRange }
 {
     let matches = find_matches(command(alloc)?, words.as_slice())?;
     let asked = words_in(alloc, &matches)?;
@@ -68,7 +68,7 @@ fn request_for(matches: &ArgMatches<'_>, asked: Words) -> Request
     requires values { AreWords (rows_of (found_of matches.now)) asked }
     requires bounded { IsWordsInRange asked }
     ensures value { IsRequestIn (rows_of (found_of matches.now)) result }
-    ensures range { IsInRange result }
+    ensures range { IsRequestInRange result }
 {
     if flag(matches, "asks-help") {
         return Request::Help;
