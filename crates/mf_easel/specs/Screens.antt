@@ -1,6 +1,7 @@
 -- What goes to the screen of an easel.
-use Rattle.std.specs.Prelude.{◌≡◌, ◌==◌, ◌<◌, Bool, false, ℕ, List, [], ◌∷◌, ◌++◌, ◌-◌, Option, None, Some, IfSome, codes, decimal, take, if◌then◌else◌}
+use Rattle.std.specs.Prelude.{◌≡◌, ◌==◌, ◌<◌, Bool, false, ℕ, List, [], ◌∷◌, ◌++◌, ◌-◌, Option, None, Some, IfSome, codes, decimal, if◌then◌else◌}
 use Rattle.std.specs.Io.KnownBytes.{Appends}
+use Rattle.mf_base.specs.Messages.{GetsMessage}
 use Rattle.mf_easel.specs.declared.fault.EaselFault.{EaselFault}
 use Rattle.mf_easel.specs.declared.fault.EaselFault.TheVariants.{NoLook, OutOfMemory, WriteFault}
 use Rattle.mf_frame.specs.Canvases.{Size}
@@ -8,14 +9,14 @@ use Rattle.mf_frame.specs.declared.tile.Style.{Style}
 use Rattle.mf_frame.specs.declared.tile.Style.TheVariants.{Colored, Plain}
 
 -- the control sequence that moves the cursor up this many lines
-abbrev pub up : ℕ → List ℕ
-up n = 27 ∷ codes "[" ++ decimal n ++ codes "A"
+abbrev pub cursor_up : ℕ → List ℕ
+cursor_up n = 27 ∷ codes "[" ++ decimal n ++ codes "A"
 
 -- what comes before a frame: in the style `Colored` the cursor moves up to the first line of the frame that was drawn last
 abbrev pub over : Style → Size → Option ℕ → List ℕ
 over Plain canvas drawn = []
 over Colored canvas None = []
-over Colored canvas (Some before) = up (canvas.rows - 1)
+over Colored canvas (Some before) = cursor_up (canvas.rows - 1)
 
 -- whether the frame that was drawn last has this revision
 abbrev pub is_drawn : Option ℕ → ℕ → Bool
@@ -31,16 +32,12 @@ abbrev pub IsAbove : Option ℕ → ℕ → Type 0
 IsAbove drawn revision = IfSome drawn (λ before. before < revision)
 
 -- the screen has got the text of a frame, or is as it was where none was drawn
-abbrev pub Gets : {W : Type 0} → (W → Option (List ℕ)) → W → W → List ℕ → Option ℕ → Type 0
-Gets contents before after text None = after ≡ before
-Gets contents before after text (Some revision) = Appends (contents before) (contents after) text
+abbrev pub GetsFrame : {W : Type 0} → (W → Option (List ℕ)) → W → W → List ℕ → Option ℕ → Type 0
+GetsFrame contents before after text None = after ≡ before
+GetsFrame contents before after text (Some revision) = Appends (contents before) (contents after) text
 
--- the screen has got a front of a text: maybe nothing, maybe all of it
-abbrev pub GetsFront : Option (List ℕ) → Option (List ℕ) → List ℕ → Type 0
-GetsFront held holds text = (sent : ℕ) × Appends held holds (take sent text)
-
--- after a fault the screen is as it was, or after `WriteFault` has got a front of the text
+-- after a fault the screen is as it was, or after `WriteFault` has got the text as far as it took it: maybe nothing, maybe all of it
 abbrev pub GetsNoMore : {W : Type 0} → (W → Option (List ℕ)) → W → W → List ℕ → EaselFault → Type 0
 GetsNoMore contents before after text OutOfMemory = after ≡ before
 GetsNoMore contents before after text NoLook = after ≡ before
-GetsNoMore contents before after text WriteFault = GetsFront (contents before) (contents after) text
+GetsNoMore contents before after text WriteFault = GetsMessage (contents before) (contents after) text

@@ -4,7 +4,7 @@ ghost use Rattle.mf_live.specs.Entries.{is_closed, pic, rev};
 ghost use Rattle.mf_live.specs.Sheets.{HasLooked, sheet_picture, sheet_revision};
 ghost use Rattle.mf_live.specs.Viewers as viewers;
 ghost use Rattle.mf_easel.specs.Easels.{HasLookedLast, HasSameManner, IsLastNotDrawn, IsNotDrawn, canvas_of, drawing_of, drawing_with, drawn_of, identity, looked_at_list, style_of, viewer_of};
-ghost use Rattle.mf_easel.specs.Screens.{Gets, GetsNoMore, IsAbove, newly_drawn, over};
+ghost use Rattle.mf_easel.specs.Screens.{GetsFrame, GetsNoMore, IsAbove, newly_drawn, over};
 
 use super::Easel;
 use crate::fault::EaselFault;
@@ -53,7 +53,7 @@ impl Easel {
         ensures missed { IfErr result (IsNotDrawn (viewer_of self.old) (viewer_of self.new)) }
         ensures answer { IfOk result (λ shown. shown ≡ newly_drawn (drawn_of self.old) (rev (looked_at_list self.new))) }
         ensures drawn { MatchResult result (λ _. drawn_of self.new ≡ Some (rev (looked_at_list self.new))) (λ _. drawn_of self.new ≡ drawn_of self.old) }
-        ensures screen { IfOk result (λ shown. Gets W.contents screen.old screen.new (drawing_of self.old (looked_at_list self.new)) shown) }
+        ensures screen { IfOk result (λ shown. GetsFrame W.contents screen.old screen.new (drawing_of self.old (looked_at_list self.new)) shown) }
         ensures cut { IfErr result (λ fault. GetsNoMore W.contents screen.old screen.new (drawing_of self.old (looked_at_list self.new)) fault) }
         ensures rising { IfOk result (λ shown. IfSome shown (IsAbove (drawn_of self.old))) }
     {
@@ -78,7 +78,7 @@ impl Easel {
         ensures missed { IfErr result (IsLastNotDrawn (viewer_of self.old) (viewers.told_list notice) (viewer_of self.new)) }
         ensures answer { IfOk result (λ shown. shown ≡ newly_drawn (drawn_of self.old) (rev (viewers.told_list notice))) }
         ensures drawn { MatchResult result (λ _. drawn_of self.new ≡ Some (rev (viewers.told_list notice))) (λ _. drawn_of self.new ≡ drawn_of self.old) }
-        ensures screen { IfOk result (λ shown. Gets W.contents screen.old screen.new (drawing_of self.old (viewers.told_list notice)) shown) }
+        ensures screen { IfOk result (λ shown. GetsFrame W.contents screen.old screen.new (drawing_of self.old (viewers.told_list notice)) shown) }
         ensures cut { IfErr result (λ fault. GetsNoMore W.contents screen.old screen.new (drawing_of self.old (viewers.told_list notice)) fault) }
         ensures rising { IfOk result (λ shown. IfSome shown (IsAbove (drawn_of self.old))) }
     {
@@ -99,7 +99,7 @@ impl Easel {
         ensures manner { HasSameManner self.old self.new }
         ensures answer { IfOk result (λ shown. shown ≡ newly_drawn (drawn_of self.old) (rev (looked_at_list self.old))) }
         ensures drawn { MatchResult result (λ _. drawn_of self.new ≡ Some (rev (looked_at_list self.old))) (λ _. drawn_of self.new ≡ drawn_of self.old) }
-        ensures screen { IfOk result (λ shown. Gets W.contents screen.old screen.new (drawing_of self.old (looked_at_list self.old)) shown) }
+        ensures screen { IfOk result (λ shown. GetsFrame W.contents screen.old screen.new (drawing_of self.old (looked_at_list self.old)) shown) }
         ensures cut { IfErr result (λ fault. GetsNoMore W.contents screen.old screen.new (drawing_of self.old (looked_at_list self.old)) fault) }
         ensures rising { IfOk result (λ shown. IfSome shown (IsAbove (drawn_of self.old))) }
         ensures fault { IfErr result (λ fault. (fault ≡ EaselFault.OutOfMemory) ⊎ (fault ≡ EaselFault.WriteFault)) }
