@@ -11,10 +11,10 @@ use Rattle.mf_session.specs.Answers.{Answers}
 use Rattle.mf_session.specs.States.{Limits, State}
 use Rattle.mf_session.specs.Transcript.{Perform}
 use Rattle.mf_stage.proofs.Performed.{published-all}
-use Rattle.mf_stage.proofs.Scripts.{IsUnderWay, under_way-line, under_way-start}
-use Rattle.mf_stage.specs.Faults.{BreaksOff, BreaksScript, IsBrokenOff, IsCutText, IsFirstText, IsOfPlate, IsPublishedAs, Tells, due}
-use Rattle.mf_stage.specs.Lines.{IsLine, Reads, without_ending}
-use Rattle.mf_stage.specs.Scripts.{HasPerformed, IsPerformed, step_of}
+use Rattle.mf_stage.proofs.Scripts.{AreFirstLines, IsUnderWay, under_way-line, under_way-start}
+use Rattle.mf_stage.specs.Faults.{BreaksLines, BreaksScript, Due, IsBrokenOff, IsCutText, IsFirstText, IsOfPlate, IsPublishedAs, Tells, due}
+use Rattle.mf_stage.specs.Lines.{IsReadLine, Reads, without_ending}
+use Rattle.mf_stage.specs.Scripts.{HasPerformed, HasPerformedLine, step_of}
 use Rattle.mf_stage.specs.Stages.{StandsFor, limits}
 use Rattle.mf_stage.specs.declared.fault.StageFault.{StageFault}
 use Rattle.mf_stage.specs.declared.fault.StageFault.TheVariants.{OutOfMemory, FileTooLong, ReadFault, WriteFault, ImageTooLarge, PlateFault}
@@ -26,10 +26,10 @@ use Rattle.mf_text.specs.declared.command.Command.TheVariants.{Publish}
 regroup : (a b c d : List (List ℕ)) → (a ++ (b ++ c)) ++ d ≡ (a ++ b) ++ (c ++ d)
 regroup a b c d = simp append_assoc
 
-tells-between : (limits : Limits) (s last : State) (whole : List (List ℕ)) (fault : StageFault) (written : List ℕ) → (fault ≡ OutOfMemory) ⊎ (fault ≡ ReadFault)
-    → IsFirstText (due limits s whole) last written → Tells (due limits s whole) last fault written
-tells-between limits s last whole fault written (inl is) first = subst (λ f. Tells (due limits s whole) last f written) (sym is) first
-tells-between limits s last whole fault written (inr is) first = subst (λ f. Tells (due limits s whole) last f written) (sym is) first
+tells-between : (d : Due) (last : State) (fault : StageFault) (written : List ℕ) → (fault ≡ OutOfMemory) ⊎ (fault ≡ ReadFault)
+    → IsFirstText d last written → Tells d last fault written
+tells-between d last fault written (inl is) first = subst (λ f. Tells d last f written) (sym is) first
+tells-between d last fault written (inr is) first = subst (λ f. Tells d last f written) (sym is) first
 
 module _ (limits : Limits) (s t : State) (done mid more : List (List ℕ)) (text : List ℕ) (before : Perform limits s done text t) where
   -- lines that were performed go before the first of others
@@ -83,18 +83,17 @@ broken-after before now after s done mid more fault held holds last same first b
     }
 
 -- the first lines of a script, and the others
-first_lines : (unread left : Option (List ℕ)) (done : List (List ℕ)) (bytes : List ℕ) → ((rest : List ℕ) → lines (bytes ++ rest) ≡ done ++ lines rest)
-    → IfSome unread (λ input. (rest : List ℕ) × (left ≡ Some rest) × (lines input ≡ done ++ lines rest))
+first_lines : (unread left : Option (List ℕ)) (done : List (List ℕ)) → AreFirstLines unread left done
     → (input : List ℕ) × IfSome unread (λ known. input ≡ known) × ((more : List (List ℕ)) × (lines input ≡ done ++ more))
-first_lines None left done bytes spelled ahead = (bytes, tt, ([], ap lines (sym (append-nil bytes)) ∙ spelled []))
-first_lines (Some input) left done bytes spelled (rest, is, before) = (input, refl, (lines rest, before))
+first_lines None left done first = (first.bytes, tt, ([], ap lines (sym (append-nil first.bytes)) ∙ first.spelled []))
+first_lines (Some input) left done first = let (rest, is, before) = first.ahead in (input, refl, (lines rest, before))
 
 -- a fault comes where no line is being performed
 pub under_way-broken : (before now : Stage) (unread left held holds : Option (List ℕ)) (fault : StageFault)
     → IsUnderWay before unread left now held holds → (fault ≡ OutOfMemory) ⊎ (fault ≡ ReadFault)
     → BreaksScript before unread fault now held holds
 under_way-broken before now unread left held holds fault was between =
-    let (input, known, (more, first)) = first_lines unread left was.done was.bytes was.spelled was.ahead in
+    let (input, known, (more, first)) = first_lines unread left was.done was.first in
     record {
       input = input;
       known = known;
@@ -105,7 +104,7 @@ under_way-broken before now unread left held holds fault was between =
             written = performed.text;
             stands = performed.stands;
             out = performed.out;
-            told = tells-between (limits before) s performed.last (lines input) fault performed.text between
+            told = tells-between (due (limits before) s (lines input)) performed.last fault performed.text between
                 (record { done = was.done; more = more; first = first; performed = performed.performed });
           };
     }
@@ -117,12 +116,12 @@ unbegun stage unread held = under_way-broken stage stage unread unread held held
 -- a fault comes in the next line
 pub under_way-cut : (before now later : Stage) (unread left remaining held holds last : Option (List ℕ)) (line : List ℕ) (fault : StageFault)
     → limits now ≡ limits before → IsUnderWay before unread left now held holds
-    → IsLine line → IfSome left (λ rest. Reads rest line remaining) → BreaksOff now (without_ending line ∷ []) fault later holds last
+    → IsReadLine line → IfSome left (λ rest. Reads rest line remaining) → BreaksLines now (without_ending line ∷ []) fault later holds last
     → BreaksScript before unread fault later held last
 under_way-cut before now later unread left remaining held holds last line fault same was whole reads breaks =
     let one = without_ending line ∷ [] in
-    let next = under_way-line unread left remaining was.done was.bytes line was.spelled was.ahead whole reads in
-    let (input, known, (more, first)) = first_lines unread remaining (was.done ++ one) next.0 next.1 next.2 in
+    let next = under_way-line unread left remaining was.done line was.first whole reads in
+    let (input, known, (more, first)) = first_lines unread remaining (was.done ++ one) next in
     record {
       input = input;
       known = known;
@@ -179,15 +178,11 @@ published-as limits s next line text answer given =
     let all = published-all limits s line text next answer given in
     record { all = all; revision_is = ap rev all }
 
-tells-published : (limits : Limits) (s next : State) (whole : List (List ℕ)) (fault : StageFault) (text : List ℕ) (revision : ℕ)
-    → IsFirstText (due limits s whole) next text → IsPublishedAs revision next → IsOfPlate revision fault
-    → Tells (due limits s whole) next fault text
-tells-published limits s next whole fault text revision first published (inl (inl is)) =
-    subst (λ f. Tells (due limits s whole) next f text) (sym is) first
-tells-published limits s next whole fault text revision first published (inl (inr is)) =
-    subst (λ f. Tells (due limits s whole) next f text) (sym is) (first, published)
-tells-published limits s next whole fault text revision first published (inr is) =
-    subst (λ f. Tells (due limits s whole) next f text) (sym is) (first, published)
+tells-published : (d : Due) (next : State) (fault : StageFault) (text : List ℕ) (revision : ℕ)
+    → IsFirstText d next text → IsPublishedAs revision next → IsOfPlate revision fault → Tells d next fault text
+tells-published d next fault text revision first published (inl (inl is)) = subst (λ f. Tells d next f text) (sym is) first
+tells-published d next fault text revision first published (inl (inr is)) = subst (λ f. Tells d next f text) (sym is) (first, published)
+tells-published d next fault text revision first published (inr is) = subst (λ f. Tells d next f text) (sym is) (first, published)
 
 -- a line was performed and its text was written, and then the plate of what it has published fails
 pub line-published : (before after : Stage) (s next : State) (line text : List ℕ) (held holds : Option (List ℕ)) (fault : StageFault) (revision : ℕ)
@@ -198,12 +193,12 @@ line-published before after s next line text held holds fault revision answer st
   written = text;
   stands = stands;
   out = out;
-  told = tells-published (limits before) s next (line ∷ []) fault text revision (line-first (limits before) s next line text answer) published is;
+  told = tells-published (due (limits before) s (line ∷ [])) next fault text revision (line-first (limits before) s next line text answer) published is;
 }
 
 -- the same of a plate that was made and not written
 pub line-unwritten : (before after : Stage) (s : State) (line : List ℕ) (held holds : Option (List ℕ)) (fault : StageFault) (made : Option Publication)
-    → IsPerformed (step_of before s after held holds) line made → IsSomeAnd made (λ publication. fault ≡ PlateFault publication.revision)
+    → HasPerformedLine (step_of before s after held holds) line made → IsSomeAnd made (λ publication. fault ≡ PlateFault publication.revision)
     → IsBrokenOff (step_of before s after held holds) (line ∷ []) fault
 line-unwritten before after s line held holds fault None done is = absurd is
 line-unwritten before after s line held holds fault (Some publication) done is =

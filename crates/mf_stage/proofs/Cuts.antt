@@ -10,7 +10,7 @@ use Rattle.std.specs.Io.BufRead.{drop_through, take_through}
 use Rattle.std.specs.Prelude.{All, ◌==◌}
 use Rattle.std.specs.List.{slice_split}
 use Rattle.std.specs.Str.Lines.{lines, lines_of_parts, strip_carriage_return}
-use Rattle.mf_stage.specs.Lines.{IsLine, without_ending}
+use Rattle.mf_stage.specs.Lines.{IsReadLine, without_ending}
 
 abbrev is_other : ℕ → Type 0
 is_other b = b ≢ 10
@@ -87,7 +87,8 @@ alone front (b ∷ rest) stops =
     let last = length line - 1 in
     let inside : length front < last = omega (arith, length-append front (10 ∷ b ∷ rest)) in
     let kept : length front < length (take last line) = omega (arith, inside, length-take-le last line (omega arith)) in
-    let feed : get_or (take last line) (length front) 0 ≡ 10 = get_or-take last line (length front) 0 inside ∙ get_or_at front 10 (b ∷ rest) 0 (length front) refl in
+    let feed : get_or (take last line) (length front) 0 ≡ 10 =
+    get_or-take last line (length front) 0 inside ∙ get_or_at front 10 (b ∷ rest) 0 (length front) refl in
     absurd (All-get_or is_other (take last line) (length front) 0 kept stops feed)
 
 stripped_return : (line : List ℕ) → strip_carriage_return (line ++ 13 ∷ []) ≡ line
@@ -99,7 +100,7 @@ stripped_return line =
     ∙ ap (λ n. take n long) last ∙ take-append-le (length line) line (13 ∷ []) (omega arith) ∙ take_all (length line) line (omega arith)
 
 -- a line as it is read is the first line of some bytes, whatever follows them
-pub spelled_line : (line : List ℕ) → IsLine line → (bytes : List ℕ) × ((rest : List ℕ) → lines (bytes ++ rest) ≡ without_ending line ∷ lines rest)
+pub spelled_line : (line : List ℕ) → IsReadLine line → (bytes : List ℕ) × ((rest : List ℕ) → lines (bytes ++ rest) ≡ without_ending line ∷ lines rest)
 spelled_line line read = ⊎_elim
     (λ feed.
     let front = feed.0 in

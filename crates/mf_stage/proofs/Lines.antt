@@ -4,7 +4,7 @@ use Rattle.std.specs.Io.{StopsAt, appended_bytes}
 use Rattle.std.specs.Prelude.{IfSome, None, Some}
 use Rattle.std.specs.Io.BufRead.{DropsThrough, take_through}
 use Rattle.std.proofs.BufReadLemmas.{take_through_nonempty}
-use Rattle.mf_stage.specs.Lines.{IsLine, Reads}
+use Rattle.mf_stage.specs.Lines.{IsReadLine, Reads}
 
 -- a line was read
 pub Reads-line : (old new : Option (List ℕ)) (start line : List ℕ) → start ≡ [] → 0 < length line
@@ -16,5 +16,5 @@ Reads-line (Some xs) new start line empty some bytes rest =
     record { some = take_through_nonempty 10 xs (subst (λ l. 0 < length l) is some); line_is = is; left_is = rest }
 
 -- the line stops at its line feed
-pub IsLine-read : (start line : List ℕ) → start ≡ [] → 0 < length line → StopsAt (appended_bytes start line) 10 → IsLine line
-IsLine-read start line empty some stops = record { some = some; stops = subst (λ s. StopsAt (appended_bytes s line) 10) empty stops }
+pub IsReadLine-read : (start line : List ℕ) → start ≡ [] → 0 < length line → StopsAt (appended_bytes start line) 10 → IsReadLine line
+IsReadLine-read start line empty some stops = record { some = some; stops = subst (λ s. StopsAt (appended_bytes s line) 10) empty stops }

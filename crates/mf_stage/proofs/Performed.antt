@@ -1,5 +1,5 @@
 -- What a line makes.
-use Rattle.std.proofs.Common.{◌≡◌, ◌↔◌, Bool, true, false, ℕ, List, Option, None, Some, inl, inr, refl, sym, ap, subst, ◌∙◌}
+use Rattle.std.proofs.Common.{◌≡◌, ◌↔◌, Bool, true, ℕ, List, Option, Some, inl, inr, refl, sym, ap, subst, ◌∙◌}
 use Rattle.std.specs.Io.KnownBytes.{Appends}
 use Rattle.mf_live.specs.Entries.{Entry, pic, rev}
 use Rattle.mf_rows.specs.Dots.{Dot}
@@ -8,13 +8,12 @@ use Rattle.mf_session.specs.Sessions.{IsAnswered}
 use Rattle.mf_session.specs.States.{Limits, State}
 use Rattle.mf_stage.specs.Plates.{IsPlate}
 use Rattle.mf_stage.specs.Publications.{IsPlateWhere, IsPublication}
-use Rattle.mf_stage.specs.Scripts.{IsPerformed, step_of}
+use Rattle.mf_stage.specs.Scripts.{HasPerformedLine, step_of}
 use Rattle.mf_stage.specs.Stages.{plates_of, session_of}
 use Rattle.mf_stage.specs.declared.plate.Plate.{Plate}
 use Rattle.mf_stage.specs.declared.plate.Plates.{Plates}
 use Rattle.mf_stage.specs.declared.stage.Publication.{Publication}
 use Rattle.mf_stage.specs.declared.stage.Stage.{Stage}
-use Rattle.mf_stage.proofs.Commands.{false_is_true}
 use Rattle.mf_text.proofs.OneAnswer.{gives_one, given_or_refused}
 use Rattle.mf_text.specs.Lines.{Gives}
 use Rattle.mf_text.specs.declared.command.Command.TheVariants.{Publish}
@@ -39,22 +38,10 @@ published-all limits s line text t (inr refused) given = absurd (given_or_refuse
 module _ (before after : Stage) (s : State) (line text : List ℕ) (held holds : Option (List ℕ)) (publishes : Bool)
     (means : (publishes ≡ true) ↔ Gives line Publish)
     (answered : IsAnswered (session_of before) s line text (session_of after)) (out : Appends held holds text) where
-  -- nothing is made of a line that does not publish
-  pub performed-quietly : publishes ≡ false → IsPerformed (step_of before s after held holds) line None
-  performed-quietly quiet =
-      record {
-        text = text;
-        next = answered.next;
-        answer = answered.answer;
-        stands = answered.stands;
-        out = out;
-        made_is = λ given. false_is_true (sym quiet ∙ means.1 given);
-      }
-
   -- the publication of what was published is made of one that does
   pub performed-published : (made : Publication) → publishes ≡ true → plates_of after ≡ plates_of before
       → IsPublication (plates_of after) answered.next.pictures.accepted made
-      → IsPerformed (step_of before s after held holds) line (Some made)
+      → HasPerformedLine (step_of before s after held holds) line (Some made)
   performed-published made publishing same publication =
       let given = means.0 publishing in
       let all = published-all _ s line text answered.next answered.answer given in

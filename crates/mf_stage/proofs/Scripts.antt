@@ -8,22 +8,29 @@ use Rattle.mf_session.proofs.Performing.{Perform-append}
 use Rattle.mf_session.specs.States.{State}
 use Rattle.mf_session.specs.Transcript.{Perform}
 use Rattle.mf_stage.proofs.Cuts.{next_lines, spelled_line}
-use Rattle.mf_stage.specs.Lines.{IsLine, Reads, without_ending}
-use Rattle.mf_stage.specs.Scripts.{HasPerformed, IsPerformed, Performs, PerformsAll, Step, step_of}
+use Rattle.mf_stage.specs.Lines.{IsReadLine, Reads, without_ending}
+use Rattle.mf_stage.specs.Scripts.{HasPerformed, HasPerformedLine, PerformsLines, PerformsAll, Step, step_of}
 use Rattle.mf_stage.specs.Stages.{limits}
 use Rattle.mf_stage.specs.declared.stage.Publication.{Publication}
 use Rattle.mf_stage.specs.declared.stage.Stage.{Stage}
 
--- the first lines of a script have been performed: those that some bytes spell, whatever follows them; where the bytes of the script
--- are known, so are those that are left, which have the other lines
-pub record IsUnderWay (before : Stage) (unread left : Option (List ℕ)) (now : Stage) (held holds : Option (List ℕ)) : Type 0 where
-  pub done : List (List ℕ)
+-- where the bytes of a script are known, so are those that are left, which have the lines after these
+abbrev pub AreBefore : Option (List ℕ) → Option (List ℕ) → List (List ℕ) → Type 0
+AreBefore unread left done = IfSome unread (λ input. (rest : List ℕ) × (left ≡ Some rest) × (lines input ≡ done ++ lines rest))
+
+-- these are the first lines of a script: those that some bytes spell, whatever follows them
+pub record AreFirstLines (unread left : Option (List ℕ)) (done : List (List ℕ)) : Type 0 where
   pub bytes : List ℕ
   pub spelled : (rest : List ℕ) → lines (bytes ++ rest) ≡ done ++ lines rest
-  pub ahead : IfSome unread (λ input. (rest : List ℕ) × (left ≡ Some rest) × (lines input ≡ done ++ lines rest))
-  pub performed : Performs before done now held holds
+  pub ahead : AreBefore unread left done
 
-ahead-start : (unread : Option (List ℕ)) → IfSome unread (λ input. (rest : List ℕ) × (unread ≡ Some rest) × (lines input ≡ [] ++ lines rest))
+-- the first lines of a script have been performed
+pub record IsUnderWay (before : Stage) (unread left : Option (List ℕ)) (now : Stage) (held holds : Option (List ℕ)) : Type 0 where
+  pub done : List (List ℕ)
+  pub first : AreFirstLines unread left done
+  pub performed : PerformsLines before done now held holds
+
+ahead-start : (unread : Option (List ℕ)) → AreBefore unread unread []
 ahead-start None = tt
 ahead-start (Some input) = (input, refl, refl)
 
@@ -31,14 +38,12 @@ ahead-start (Some input) = (input, refl, refl)
 pub under_way-start : (stage : Stage) (unread held : Option (List ℕ)) → IsUnderWay stage unread unread stage held held
 under_way-start stage unread held = record {
   done = [];
-  bytes = [];
-  spelled = λ rest. refl;
-  ahead = ahead-start unread;
+  first = record { bytes = []; spelled = λ rest. refl; ahead = ahead-start unread };
   performed = λ s stands. record { text = []; last = s; performed = (refl, refl); stands = stands; out = Appends-nil held };
 }
 
 -- one line is performed
-pub performed-one : (step : Step) (line : List ℕ) (made : Option Publication) → IsPerformed step line made → HasPerformed step (line ∷ [])
+pub performed-one : (step : Step) (line : List ℕ) (made : Option Publication) → HasPerformedLine step line made → HasPerformed step (line ∷ [])
 performed-one step line made one =
     record {
       text = one.text;
@@ -66,10 +71,8 @@ performed-more before now later s done more held holds last same first second =
 pub known_is : (P : List ℕ → Type 0) (left : Option (List ℕ)) (rest : List ℕ) → left ≡ Some rest → IfSome left P → P rest
 known_is P left rest is known = subst (λ l. IfSome l P) is known
 
-ahead-next : (unread left remaining : Option (List ℕ)) (done : List (List ℕ)) (line : List ℕ)
-    → IfSome unread (λ input. (rest : List ℕ) × (left ≡ Some rest) × (lines input ≡ done ++ lines rest))
-    → IfSome left (λ rest. Reads rest line remaining)
-    → IfSome unread (λ input. (rest : List ℕ) × (remaining ≡ Some rest) × (lines input ≡ (done ++ without_ending line ∷ []) ++ lines rest))
+ahead-next : (unread left remaining : Option (List ℕ)) (done : List (List ℕ)) (line : List ℕ) → AreBefore unread left done
+    → IfSome left (λ rest. Reads rest line remaining) → AreBefore unread remaining (done ++ without_ending line ∷ [])
 ahead-next None left remaining done line ahead reads = tt
 ahead-next (Some input) left remaining done line (rest, is, before) reads =
     let read = known_is (λ input. Reads input line remaining) left rest is reads in
@@ -81,45 +84,39 @@ ahead-next (Some input) left remaining done line (rest, is, before) reads =
     )
 
 -- the next line is read: the first lines of the script are one more
-pub under_way-line : (unread left remaining : Option (List ℕ)) (done : List (List ℕ)) (bytes line : List ℕ)
-    → ((rest : List ℕ) → lines (bytes ++ rest) ≡ done ++ lines rest)
-    → IfSome unread (λ input. (rest : List ℕ) × (left ≡ Some rest) × (lines input ≡ done ++ lines rest))
-    → IsLine line → IfSome left (λ rest. Reads rest line remaining)
-    → (longer : List ℕ) × ((rest : List ℕ) → lines (longer ++ rest) ≡ (done ++ without_ending line ∷ []) ++ lines rest)
-    × IfSome unread (λ input. (rest : List ℕ) × (remaining ≡ Some rest) × (lines input ≡ (done ++ without_ending line ∷ []) ++ lines rest))
-under_way-line unread left remaining done bytes line spelled ahead whole reads =
+pub under_way-line : (unread left remaining : Option (List ℕ)) (done : List (List ℕ)) (line : List ℕ) → AreFirstLines unread left done
+    → IsReadLine line → IfSome left (λ rest. Reads rest line remaining) → AreFirstLines unread remaining (done ++ without_ending line ∷ [])
+under_way-line unread left remaining done line first whole reads =
     let one = without_ending line ∷ [] in
-    let (more, spells) = spelled_line line whole in (
-      bytes ++ more,
-      λ rest. ap lines (append_assoc bytes more rest) ∙ spelled (more ++ rest)
-          ∙ ap (λ ls. done ++ ls) (spells rest) ∙ sym (append_assoc done one (lines rest)),
-      ahead-next unread left remaining done line ahead reads,
-    )
+    let (more, spells) = spelled_line line whole in
+    record {
+      bytes = first.bytes ++ more;
+      spelled = λ rest. ap lines (append_assoc first.bytes more rest) ∙ first.spelled (more ++ rest)
+          ∙ ap (λ ls. done ++ ls) (spells rest) ∙ sym (append_assoc done one (lines rest));
+      ahead = ahead-next unread left remaining done line first.ahead reads;
+    }
 
 -- the next line is read and performed
 pub under_way-next : (before now later : Stage) (unread left remaining held holds last : Option (List ℕ)) (line : List ℕ)
     → limits now ≡ limits before → IsUnderWay before unread left now held holds
-    → IsLine line → IfSome left (λ rest. Reads rest line remaining) → Performs now (without_ending line ∷ []) later holds last
+    → IsReadLine line → IfSome left (λ rest. Reads rest line remaining) → PerformsLines now (without_ending line ∷ []) later holds last
     → IsUnderWay before unread remaining later held last
 under_way-next before now later unread left remaining held holds last line same was whole reads performs =
     let one = without_ending line ∷ [] in
-    let (longer, spelled, ahead) = under_way-line unread left remaining was.done was.bytes line was.spelled was.ahead whole reads in
     record {
       done = was.done ++ one;
-      bytes = longer;
-      spelled = spelled;
-      ahead = ahead;
+      first = under_way-line unread left remaining was.done line was.first whole reads;
       performed = λ s stands.
           let first = was.performed s stands in
           performed-more before now later s was.done one held holds last same first (performs first.last first.stands);
     }
 
 -- nothing is left of the script
-ended : (unread left : Option (List ℕ)) (done : List (List ℕ)) (bytes : List ℕ) → ((rest : List ℕ) → lines (bytes ++ rest) ≡ done ++ lines rest)
-    → IfSome unread (λ input. (rest : List ℕ) × (left ≡ Some rest) × (lines input ≡ done ++ lines rest)) → IsAtEnd left
+ended : (unread left : Option (List ℕ)) (done : List (List ℕ)) → AreFirstLines unread left done → IsAtEnd left
     → (input : List ℕ) × IfSome unread (λ known. input ≡ known) × (lines input ≡ done)
-ended None left done bytes spelled ahead end = (bytes, tt, ap lines (sym (append-nil bytes)) ∙ spelled [] ∙ append-nil done)
-ended (Some input) left done bytes spelled (rest, is, before) end =
+ended None left done first end = (first.bytes, tt, ap lines (sym (append-nil first.bytes)) ∙ first.spelled [] ∙ append-nil done)
+ended (Some input) left done first end =
+    let (rest, is, before) = first.ahead in
     let none : rest ≡ [] = subst IsAtEnd is end in
     (input, refl, before ∙ ap (λ l. done ++ lines l) none ∙ append-nil done)
 
@@ -127,5 +124,5 @@ ended (Some input) left done bytes spelled (rest, is, before) end =
 pub under_way-end : (before now : Stage) (unread left held holds : Option (List ℕ)) → IsUnderWay before unread left now held holds → IsAtEnd left
     → PerformsAll before unread now held holds
 under_way-end before now unread left held holds was end =
-    let (input, known, all) = ended unread left was.done was.bytes was.spelled was.ahead end in
-    record { input = input; known = known; performed = subst (λ ls. Performs before ls now held holds) (sym all) was.performed }
+    let (input, known, all) = ended unread left was.done was.first end in
+    record { input = input; known = known; performed = subst (λ ls. PerformsLines before ls now held holds) (sym all) was.performed }

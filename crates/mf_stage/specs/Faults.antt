@@ -70,15 +70,15 @@ pub record IsBrokenOff (step : Step) (whole : List (List ℕ)) (fault : StageFau
   pub told : Tells (due (limits step.before) step.state whole) last fault written
 
 -- the fault has broken these lines off, whatever state the stage represented; the writer, which held some bytes, now holds others
-abbrev pub BreaksOff : Stage → List (List ℕ) → StageFault → Stage → Option (List ℕ) → Option (List ℕ) → Type 0
-BreaksOff before whole fault after held holds =
+abbrev pub BreaksLines : Stage → List (List ℕ) → StageFault → Stage → Option (List ℕ) → Option (List ℕ) → Type 0
+BreaksLines before whole fault after held holds =
     (s : State) → StandsFor before s → IsBrokenOff (step_of before s after held holds) whole fault
 
 -- the fault has broken a script off: that of which its reader had the bytes, where these are known, and else that of some bytes
 pub record BreaksScript (before : Stage) (unread : Option (List ℕ)) (fault : StageFault) (after : Stage) (held holds : Option (List ℕ)) : Type 0 where
   pub input : List ℕ
   pub known : IfSome unread (λ bytes. input ≡ bytes)
-  pub broken : BreaksOff before (lines input) fault after held holds
+  pub broken : BreaksLines before (lines input) fault after held holds
 
 -- with this fault the picture of this revision has no image
 abbrev pub IsOfImage : ℕ → StageFault → Type 0

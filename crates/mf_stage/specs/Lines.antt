@@ -15,6 +15,6 @@ pub record Reads (input line : List ℕ) (left : Option (List ℕ)) : Type 0 whe
   pub left_is : left ≡ Some (drop_through 10 input)
 
 -- a line as it is read, with the line feed that ends it, if one does: it is not empty, and a line feed is only at its end
-pub record IsLine (line : List ℕ) : Type 0 where
+pub record IsReadLine (line : List ℕ) : Type 0 where
   pub some : 0 < length line
   pub stops : StopsAt line 10

@@ -23,7 +23,7 @@ abbrev pub step_of : Stage → State → Stage → Option (List ℕ) → Option 
 step_of before s after held holds = record { before = before; state = s; after = after; held = held; holds = holds }
 
 -- in this step the stage has performed a line and written its text, and this was made of what is published after it
-pub record IsPerformed (step : Step) (line : List ℕ) (made : Option Publication) : Type 0 where
+pub record HasPerformedLine (step : Step) (line : List ℕ) (made : Option Publication) : Type 0 where
   pub text : List ℕ
   pub next : State
   pub answer : Answers (limits step.before) step.state line text next
@@ -40,14 +40,14 @@ pub record HasPerformed (step : Step) (done : List (List ℕ)) : Type 0 where
   pub out : Appends step.held step.holds text
 
 -- the stage has performed these lines, whatever state it represented; the writer, which held some bytes, now holds others
-abbrev pub Performs : Stage → List (List ℕ) → Stage → Option (List ℕ) → Option (List ℕ) → Type 0
-Performs before done after held holds = (s : State) → StandsFor before s → HasPerformed (step_of before s after held holds) done
+abbrev pub PerformsLines : Stage → List (List ℕ) → Stage → Option (List ℕ) → Option (List ℕ) → Type 0
+PerformsLines before done after held holds = (s : State) → StandsFor before s → HasPerformed (step_of before s after held holds) done
 
 -- the stage has performed all lines of a script: of what its reader had, where this is known, and else of some bytes
 pub record PerformsAll (before : Stage) (unread : Option (List ℕ)) (after : Stage) (held holds : Option (List ℕ)) : Type 0 where
   pub input : List ℕ
   pub known : IfSome unread (λ bytes. input ≡ bytes)
-  pub performed : Performs before (lines input) after held holds
+  pub performed : PerformsLines before (lines input) after held holds
 
 -- the stage represents a state if it represented one before
 abbrev pub StillStands : Stage → Stage → Type 0

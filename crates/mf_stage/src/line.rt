@@ -1,7 +1,7 @@
 //! The lines of a script, as they are read.
 ghost use Rattle.std.specs.Io.KnownBytes.{IsAtEnd};
 ghost use Rattle.std.specs.Prelude.{◌≡◌, ◌≢◌, ◌⊎◌, ◌↔◌, false, true, IfErr, IfOk, IfSome, None};
-ghost use Rattle.mf_stage.specs.Lines.{IsLine, Reads, without_ending};
+ghost use Rattle.mf_stage.specs.Lines.{IsReadLine, Reads, without_ending};
 ghost use Rattle.mf_text.specs.Lines.{Gives};
 ghost use Rattle.mf_text.specs.declared.command.Command.TheVariants as commands;
 
@@ -16,7 +16,7 @@ use std::io::{BufRead, Error, ErrorKind};
 /// `ReadFault`, or with `OutOfMemory` where an allocation fails.
 pub fn next_line<B: BufRead>(alloc: Global, script: &mut B) -> Result<Option<Vec<u8>>, StageFault>
     ensures line { IfOk result (λ made. IfSome made (λ line. IfSome (B.remaining script.old) (λ input. Reads input line.items (B.remaining script.new)))) }
-    ensures whole { IfOk result (λ made. IfSome made (λ line. IsLine line.items)) }
+    ensures whole { IfOk result (λ made. IfSome made (λ line. IsReadLine line.items)) }
     ensures end { IfOk result (λ made. made ≡ None → IsAtEnd (B.remaining script.old)) }
     ensures fault { IfErr result (λ fault. (fault ≡ StageFault.OutOfMemory) ⊎ (fault ≡ StageFault.ReadFault)) }
 {

@@ -4,9 +4,9 @@ ghost use Rattle.mf_live.specs.Desks.{desk_identity};
 ghost use Rattle.mf_session.specs.Endings.{HasEnded};
 ghost use Rattle.mf_live.specs.Entries.{rev};
 ghost use Rattle.mf_session.specs.States.{State, limits_of, start};
-ghost use Rattle.mf_stage.specs.Faults.{BreaksOff, BreaksScript, IsOfImage, IsOfPlate};
+ghost use Rattle.mf_stage.specs.Faults.{BreaksLines, BreaksScript, IsOfImage, IsOfPlate};
 ghost use Rattle.mf_stage.specs.Publications.{IsPlateWhere, IsPublication};
-ghost use Rattle.mf_stage.specs.Scripts.{IsPerformed, Performs, PerformsAll, StillStands, step_of};
+ghost use Rattle.mf_stage.specs.Scripts.{HasPerformedLine, PerformsLines, PerformsAll, StillStands, step_of};
 ghost use Rattle.mf_stage.specs.Stages.{StandsFor, identity, limits, plates_of, session_of};
 
 use crate::fault::StageFault;
@@ -128,9 +128,9 @@ impl Stage {
         transcript: &mut W,
         pace: &P,
     ) -> Result<(), StageFault>
-        ensures performed { OnOk result (Performs self.old (line.now ∷ []) self.new (W.contents transcript.old) (W.contents transcript.new)) }
+        ensures performed { OnOk result (PerformsLines self.old (line.now ∷ []) self.new (W.contents transcript.old) (W.contents transcript.new)) }
         ensures begun { IfErr result (λ fault.
-            BreaksOff self.old (line.now ∷ []) fault self.new (W.contents transcript.old) (W.contents transcript.new)) }
+            BreaksLines self.old (line.now ∷ []) fault self.new (W.contents transcript.old) (W.contents transcript.new)) }
         ensures limits { limits self.new ≡ limits self.old }
         ensures identity { identity self.new ≡ identity self.old }
         ensures plates { plates_of self.new ≡ plates_of self.old }
@@ -149,9 +149,9 @@ impl Stage {
         transcript: &mut W,
     ) -> Result<Option<Publication>, StageFault>
         ensures performed { IfOk result (λ made. (s : State) → StandsFor self.old s
-            → IsPerformed (step_of self.old s self.new (W.contents transcript.old) (W.contents transcript.new)) line.now made) }
+            → HasPerformedLine (step_of self.old s self.new (W.contents transcript.old) (W.contents transcript.new)) line.now made) }
         ensures begun { IfErr result (λ fault.
-            BreaksOff self.old (line.now ∷ []) fault self.new (W.contents transcript.old) (W.contents transcript.new)) }
+            BreaksLines self.old (line.now ∷ []) fault self.new (W.contents transcript.old) (W.contents transcript.new)) }
         ensures limits { limits self.new ≡ limits self.old }
         ensures identity { identity self.new ≡ identity self.old }
         ensures plates { plates_of self.new ≡ plates_of self.old }

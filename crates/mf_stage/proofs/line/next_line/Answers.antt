@@ -1,5 +1,5 @@
 use Rattle.std.proofs.Common.{rules, ◌<◌, length}
-use Rattle.mf_stage.proofs.Lines.{IsLine-read, Reads-line}
+use Rattle.mf_stage.proofs.Lines.{IsReadLine-read, Reads-line}
 use Rattle.mf_stage.proofs.line.next_line.Goals as goal
 
 pub returns-in-Ok-clause-line : goal.returns-in-Ok-clause-line
@@ -13,4 +13,4 @@ pub returns-in-Ok-clause-whole : goal.returns-in-Ok-clause-whole
 returns-in-Ok-clause-whole g c =
     let read = c.read_until.new.buf.items in
     let some : 0 < length read = search rules in
-    IsLine-read c.new-line.result.items read c.new-line.ensures.items some c.in-Ok.ensures.stops
+    IsReadLine-read c.new-line.result.items read c.new-line.ensures.items some c.in-Ok.ensures.stops

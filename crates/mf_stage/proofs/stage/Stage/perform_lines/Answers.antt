@@ -2,7 +2,7 @@ use Rattle.std.proofs.Common.{◌∷◌, [], inr, refl, ap, subst, ◌∙◌}
 use Rattle.std.proofs.lemmas.Result.{err_from_is_err_and}
 use Rattle.mf_stage.proofs.Broken.{under_way-broken, under_way-cut}
 use Rattle.mf_stage.proofs.Scripts.{under_way-end, under_way-next, under_way-start}
-use Rattle.mf_stage.specs.Faults.{BreaksOff}
+use Rattle.mf_stage.specs.Faults.{BreaksLines}
 use Rattle.mf_stage.specs.Lines.{without_ending}
 use Rattle.mf_stage.specs.Scripts.{HasPerformed, step_of}
 use Rattle.mf_stage.specs.declared.fault.StageFault.TheVariants.{ReadFault}
@@ -54,7 +54,7 @@ returns-in_err-perform_line-clause-begun g c =
     rw (failed.1, failed.2) (under_way-cut c.args.self.now c.lines.self c.perform_line.new.self (g.B.Read.remaining c.args.script.now)
     (g.B.Read.remaining c.lines.script) (g.B.Read.remaining c.next_line.new.script) (g.W.Write.contents c.args.transcript.now) held holds
     c.in-Some.line.items fault limits_are under_way (rw c.in-Some.is at c.in_ok-line.ensures.whole) (rw c.in-Some.is at c.in_ok-line.ensures.line)
-    (subst (λ l. BreaksOff c.lines.self (l ∷ []) fault c.perform_line.new.self held holds) bare c.in_err-perform_line.ensures.begun))
+    (subst (λ l. BreaksLines c.lines.self (l ∷ []) fault c.perform_line.new.self held holds) bare c.in_err-perform_line.ensures.begun))
 
 pub returns-clause-begun : goal.returns-clause-begun
 returns-clause-begun g c =
