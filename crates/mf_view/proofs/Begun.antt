@@ -2,13 +2,11 @@
 use Rattle.std.proofs.Common.{◌≡◌, ◌⊎◌, ℕ, List, [], Option, None, Some, IfSome, Result, Ok, Err, IfErr, OnOk, inl, inr, refl, sym, ap, subst, ◌∙◌, append-nil}
 use Rattle.std.proofs.KnownBytes.{Appends-nil}
 use Rattle.std.specs.Str.Lines.{lines}
-use Rattle.mf_easel.specs.declared.fault.EaselFault.{EaselFault}
-use Rattle.mf_easel.specs.declared.fault.EaselFault.TheVariants as easels
 use Rattle.mf_gf.specs.declared.file.GfFile.{GfFile}
 use Rattle.mf_live.specs.Entries.{rev}
 use Rattle.mf_session.specs.States.{State, start}
 use Rattle.mf_session.specs.Transcript.{Perform}
-use Rattle.mf_stage.specs.Faults.{BreaksScript, IsFirstText, IsOfPlate, due}
+use Rattle.mf_stage.specs.Faults.{BreaksScript, IsFirstText, due}
 use Rattle.mf_stage.specs.Faults as stage
 use Rattle.mf_stage.specs.Scripts.{PerformsAll}
 use Rattle.mf_stage.specs.Stages.{StandsFor, limits}
@@ -16,7 +14,7 @@ use Rattle.mf_stage.specs.declared.fault.StageFault.{StageFault}
 use Rattle.mf_stage.specs.declared.fault.StageFault.TheVariants as stages
 use Rattle.mf_stage.specs.declared.stage.Stage.{Stage}
 use Rattle.mf_view.specs.Begun.{HasBegun, IsOfEnd, IsWholeText, Tells}
-use Rattle.mf_view.specs.Faults.{fault_of_easel, fault_of_stage}
+use Rattle.mf_view.specs.Faults.{fault_of_stage}
 use Rattle.mf_view.specs.Performances.{script_limits}
 use Rattle.mf_view.specs.declared.fault.ProgramFault.{ProgramFault}
 use Rattle.mf_view.specs.declared.fault.ProgramFault.TheVariants.{OutOfMemory, NoPlace, NoLook, TooSmall, FileTooLong, ReadFault, WriteFault, ImageTooLarge, PlateFault, NoCharacters}
@@ -49,60 +47,45 @@ tells-end d last (ImageTooLarge revision) written whole of_end = (all-first d la
 tells-end d last (PlateFault revision) written whole of_end = (all-first d last written whole, of_end)
 tells-end d last NoCharacters written whole of_end = of_end
 
--- a fault of the last plate, or of the end
-pub end-plate : (revision : ℕ) (cause : StageFault) → IsOfPlate revision cause → IsOfEnd revision (fault_of_stage cause)
-end-plate revision cause (inl (inl is)) = subst (λ f. IsOfEnd revision (fault_of_stage f)) (sym is) tt
-end-plate revision cause (inl (inr is)) = subst (λ f. IsOfEnd revision (fault_of_stage f)) (sym is) refl
-end-plate revision cause (inr is) = subst (λ f. IsOfEnd revision (fault_of_stage f)) (sym is) refl
+-- a performance on this stage ends with a fault
+module _ (before after : Stage) (unread told tells : Option (List ℕ)) (limited : limits before ≡ script_limits) (begins : StandsFor before start) where
+  begun-script : (cause : StageFault) → BreaksScript before unread cause after told tells → HasBegun unread told tells (fault_of_stage cause)
+  begun-script cause broken =
+      let stopped = broken.broken start begins in
+      record {
+        input = broken.input;
+        known = broken.known;
+        last = stopped.last;
+        written = stopped.written;
+        out = stopped.out;
+        tells_is = tells-stage (due script_limits start (lines broken.input)) stopped.last cause stopped.written
+            (subst (λ l. stage.Tells (due l start (lines broken.input)) stopped.last cause stopped.written) limited stopped.told);
+      }
 
--- a fault of the drawing
-pub end-easel : (revision : ℕ) (cause : EaselFault) → IsOfEnd revision (fault_of_easel cause)
-end-easel revision easels.OutOfMemory = tt
-end-easel revision easels.NoLook = tt
-end-easel revision easels.WriteFault = tt
+  begun-end : (fault : ProgramFault) → PerformsAll before unread after told tells
+      → ((s : State) → StandsFor after s → IsOfEnd (rev s.pictures.accepted) fault) → HasBegun unread told tells fault
+  begun-end fault script late =
+      let done = script.performed start begins in
+      record {
+        input = script.input;
+        known = script.known;
+        last = done.last;
+        written = done.text;
+        out = done.out;
+        tells_is = tells-end (due script_limits start (lines script.input)) done.last fault done.text
+            (subst (λ l. Perform l start (lines script.input) done.text done.last) limited done.performed) (late done.last done.stands);
+      }
 
-begun-script : (before after : Stage) (unread told tells : Option (List ℕ)) (cause : StageFault) → limits before ≡ script_limits → StandsFor before start
-    → BreaksScript before unread cause after told tells → HasBegun unread told tells (fault_of_stage cause)
-begun-script before after unread told tells cause limited begins broken =
-    let stopped = broken.broken start begins in
-    record {
-      input = broken.input;
-      known = broken.known;
-      last = stopped.last;
-      written = stopped.written;
-      out = stopped.out;
-      tells_is = tells-stage (due script_limits start (lines broken.input)) stopped.last cause stopped.written
-          (subst (λ l. stage.Tells (due l start (lines broken.input)) stopped.last cause stopped.written) limited stopped.told);
-    }
-
-begun-end : (before after : Stage) (unread told tells : Option (List ℕ)) (fault : ProgramFault) → limits before ≡ script_limits → StandsFor before start
-    → PerformsAll before unread after told tells → ((s : State) → StandsFor after s → IsOfEnd (rev s.pictures.accepted) fault)
-    → HasBegun unread told tells fault
-begun-end before after unread told tells fault limited begins script late =
-    let done = script.performed start begins in
-    record {
-      input = script.input;
-      known = script.known;
-      last = done.last;
-      written = done.text;
-      out = done.out;
-      tells_is = tells-end (due script_limits start (lines script.input)) done.last fault done.text
-          (subst (λ l. Perform l start (lines script.input) done.text done.last) limited done.performed) (late done.last done.stands);
-    }
-
--- a performance ends with the fault of its script, or with one after it
-pub begun-whole : (before after : Stage) (unread told tells : Option (List ℕ)) (performed : Result (Unit {0}) StageFault) (r : Result GfFile ProgramFault)
-    → limits before ≡ script_limits → StandsFor before start
-    → OnOk performed (PerformsAll before unread after told tells)
-    → IfErr performed (λ cause. BreaksScript before unread cause after told tells)
-    → IfErr performed (λ cause. r ≡ Err (fault_of_stage cause))
-    → OnOk performed (IfErr r (λ fault. (s : State) → StandsFor after s → IsOfEnd (rev s.pictures.accepted) fault))
-    → IfErr r (HasBegun unread told tells)
-begun-whole before after unread told tells (Ok done) (Ok file) limited begins script broken is late = tt
-begun-whole before after unread told tells (Ok done) (Err fault) limited begins script broken is late =
-    begun-end before after unread told tells fault limited begins script late
-begun-whole before after unread told tells (Err cause) r limited begins script broken is late =
-    subst (λ r. IfErr r (HasBegun unread told tells)) (sym is) (begun-script before after unread told tells cause limited begins broken)
+  -- the fault is that of the script, or one after it
+  pub begun-whole : (performed : Result (Unit {0}) StageFault) (r : Result GfFile ProgramFault)
+      → OnOk performed (PerformsAll before unread after told tells)
+      → IfErr performed (λ cause. BreaksScript before unread cause after told tells)
+      → IfErr performed (λ cause. r ≡ Err (fault_of_stage cause))
+      → OnOk performed (IfErr r (λ fault. (s : State) → StandsFor after s → IsOfEnd (rev s.pictures.accepted) fault))
+      → IfErr r (HasBegun unread told tells)
+  begun-whole (Ok done) (Ok file) script broken is late = tt
+  begun-whole (Ok done) (Err fault) script broken is late = begun-end fault script late
+  begun-whole (Err cause) r script broken is late = subst (λ r. IfErr r (HasBegun unread told tells)) (sym is) (begun-script cause broken)
 
 some-bytes : (unread : Option (List ℕ)) → (input : List ℕ) × IfSome unread (λ bytes. input ≡ bytes)
 some-bytes None = ([], tt)

@@ -1,38 +1,17 @@
 -- Which fault ends a run, and with which words.
 use Rattle.std.proofs.Common.{◌≡◌, ◌⊎◌, ℕ, inl, inr, List, None, Option, refl, sym, subst, arith, ⊎_elim, ◌∙◌}
 use Rattle.std.specs.Prelude.{IsSome}
-use Rattle.std.proofs.lemmas.Bool.{false≢true}
 use Rattle.clap.specs.Words.{Text}
 use Rattle.mf_base.specs.Messages.{GetsMessage}
-use Rattle.mf_easel.specs.declared.fault.EaselFault.{EaselFault}
-use Rattle.mf_easel.specs.declared.fault.EaselFault.TheVariants as easels
 use Rattle.mf_frame.specs.Canvases.{IsLargeEnough}
-use Rattle.mf_stage.specs.declared.fault.StageFault.{StageFault}
-use Rattle.mf_stage.specs.declared.fault.StageFault.TheVariants as stages
-use Rattle.mf_view.specs.Endings.{AsksForText}
-use Rattle.mf_view.specs.Faults.{IsOfSides, LacksRoom, MayEnd, ReportsFault, fault_of_easel, fault_of_stage}
+use Rattle.mf_view.specs.Faults.{LacksRoom, MayEnd, ReportsFault}
 use Rattle.mf_view.specs.Messages.{message_of}
 use Rattle.mf_view.specs.Statuses.{status_of}
 use Rattle.mf_view.specs.declared.fault.ProgramFault.{ProgramFault}
 use Rattle.mf_view.specs.declared.fault.ProgramFault.TheVariants.{OutOfMemory, NoPlace, NoLook, TooSmall, FileTooLong, ReadFault, WriteFault, ImageTooLarge, PlateFault, NoCharacters}
 use Rattle.mf_view_words.specs.Requests.{IsRequest}
-use Rattle.mf_view_words.specs.declared.words.Request.TheVariants.{Help, Show, Version}
+use Rattle.mf_view_words.specs.declared.words.Request.TheVariants.{Show}
 use Rattle.mf_view_words.specs.declared.words.Words.{Words}
-
--- a fault of the script
-pub of_stage : (fault : StageFault) → IsOfSides (fault_of_stage fault)
-of_stage stages.OutOfMemory = tt
-of_stage stages.FileTooLong = tt
-of_stage stages.ReadFault = tt
-of_stage stages.WriteFault = tt
-of_stage (stages.ImageTooLarge revision) = tt
-of_stage (stages.PlateFault revision) = tt
-
--- a fault of the drawing
-pub of_easel : (fault : EaselFault) → IsOfSides (fault_of_easel fault)
-of_easel easels.OutOfMemory = tt
-of_easel easels.NoLook = tt
-of_easel easels.WriteFault = tt
 
 -- a fault that was reported, with its status and its message
 pub reported : (words : List Text) (fault : ProgramFault) (status : ℕ) (held holds : Option (List ℕ))
@@ -77,15 +56,3 @@ module _ (words : List Text) (asked : Words) (request : IsRequest words (Show as
       let there = lacks.request.2 in
       lacks.small (subst (λ n. IsLargeEnough n lacks.asked.rows) (here.columns ∙ sym there.columns)
       (subst (λ n. IsLargeEnough asked.columns n) (here.rows ∙ sym there.rows) large))
-
-  -- they ask for a script, and so for no text
-  pub no_text : AsksForText words → ⊥
-  no_text (inl help) = false≢true (sym request.0 ∙ help)
-  no_text (inr version) = false≢true (sym request.1 ∙ version.1)
-
--- words that ask for a text ask for no script
-pub no_size-help : (words : List Text) → IsRequest words Help → LacksRoom words → ⊥
-no_size-help words help lacks = false≢true (sym lacks.request.0 ∙ help)
-
-pub no_size-version : (words : List Text) → IsRequest words Version → LacksRoom words → ⊥
-no_size-version words version lacks = false≢true (sym lacks.request.1 ∙ version.1)

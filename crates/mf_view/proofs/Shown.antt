@@ -29,50 +29,42 @@ drawn-both held a b c before between after (Ok done) (Ok more) one two was = two
 drawn-both held a b c before between after (Ok done) (Err fault) one two was = tt
 drawn-both held a b c before between after (Err fault) then one two was = tt
 
--- the streams with these five, in this order
-abbrev five : Option (List ℕ) → Option (List ℕ) → Option (List ℕ) → Option (List ℕ) → Option (List ℕ) → Streams
-five unread held holds told tells = record { unread = unread; held = held; holds = holds; told = told; tells = tells }
-
-shown-file : (style : Style) (canvas : Size) (held holds told tells : Option (List ℕ)) (before after : Stage) (file : GfFile) (unread : Option (List ℕ))
-    → limits before ≡ script_limits → StandsFor before start
-    → PerformsAll before unread after told tells
-    → ((s : State) → StandsFor after s → IsFileOf (session_of after) s file)
-    → ((s : State) → StandsFor after s → ShowsLast style canvas (complete_list s.pictures) held holds)
-    → Shows style canvas (five unread held holds told tells) file
-shown-file style canvas held holds told tells before after file unread limited begins script of_file shown =
-    let done = script.performed start begins in (
-      script.input,
-      script.known,
-      record {
-        text = done.text;
-        last = done.last;
-        performed = subst (λ limits. Perform limits start (lines script.input) done.text done.last) limited done.performed;
-        out = done.out;
-        shown = shown done.last done.stands;
-        file_is = (of_file done.last done.stands).keeps;
-      },
-    )
-
 -- a stage on which nothing was performed represents a state after a script
 pub stands-after : (before after : Stage) (performed : Result (Unit {0}) StageFault) → StandsFor before start
     → OnOk performed (StillStands before after) → OnOk performed ((t : State) × StandsFor after t)
 stands-after before after (Ok done) begins stands = stands start begins
 stands-after before after (Err fault) begins stands = tt
 
--- a script was performed and its end was shown
-pub shown-whole : (style : Style) (canvas : Size) (held holds told tells : Option (List ℕ)) (before after : Stage) (unread : Option (List ℕ))
-    (performed : Result (Unit {0}) StageFault) (r : Result GfFile ProgramFault)
-    → limits before ≡ script_limits → StandsFor before start
-    → OnOk performed (PerformsAll before unread after told tells)
-    → IfErr performed (λ fault. r ≡ Err (fault_of_stage fault))
-    → IfOk r (λ file. (s : State) → StandsFor after s → IsFileOf (session_of after) s file)
-    → OnOk r ((s : State) → StandsFor after s → ShowsLast style canvas (complete_list s.pictures) held holds)
-    → IfOk r (Shows style canvas (five unread held holds told tells))
-shown-whole style canvas held holds told tells before after unread (Ok done) (Ok file) limited begins transcript script of_file shown =
-    shown-file style canvas held holds told tells before after file unread limited begins transcript of_file shown
-shown-whole style canvas held holds told tells before after unread (Ok done) (Err fault) limited begins transcript script of_file shown = tt
-shown-whole style canvas held holds told tells before after unread (Err fault) (Ok file) limited begins transcript script of_file shown = absurd (cc)
-shown-whole style canvas held holds told tells before after unread (Err fault) (Err other) limited begins transcript script of_file shown = tt
+-- a script was performed on this stage, and its end was shown
+module _ (style : Style) (canvas : Size) (s : Streams) (before after : Stage) (limited : limits before ≡ script_limits) (begins : StandsFor before start) where
+  shown-file : (file : GfFile) → PerformsAll before s.unread after s.told s.tells
+      → ((t : State) → StandsFor after t → IsFileOf (session_of after) t file)
+      → ((t : State) → StandsFor after t → ShowsLast style canvas (complete_list t.pictures) s.held s.holds)
+      → Shows style canvas s file
+  shown-file file script of_file shown =
+      let done = script.performed start begins in (
+        script.input,
+        script.known,
+        record {
+          text = done.text;
+          last = done.last;
+          performed = subst (λ limits. Perform limits start (lines script.input) done.text done.last) limited done.performed;
+          out = done.out;
+          shown = shown done.last done.stands;
+          file_is = (of_file done.last done.stands).keeps;
+        },
+      )
+
+  pub shown-whole : (performed : Result (Unit {0}) StageFault) (r : Result GfFile ProgramFault)
+      → OnOk performed (PerformsAll before s.unread after s.told s.tells)
+      → IfErr performed (λ fault. r ≡ Err (fault_of_stage fault))
+      → IfOk r (λ file. (t : State) → StandsFor after t → IsFileOf (session_of after) t file)
+      → OnOk r ((t : State) → StandsFor after t → ShowsLast style canvas (complete_list t.pictures) s.held s.holds)
+      → IfOk r (Shows style canvas s)
+  shown-whole (Ok done) (Ok file) transcript script of_file shown = shown-file file transcript of_file shown
+  shown-whole (Ok done) (Err fault) transcript script of_file shown = tt
+  shown-whole (Err fault) (Ok file) transcript script of_file shown = absurd (cc)
+  shown-whole (Err fault) (Err other) transcript script of_file shown = tt
 
 -- what is shown in the manner of an easel is shown in its first manner
 pub shown-end : (first easel : Easel) (stage : Stage) (held mid holds : Option (List ℕ)) (drawn : Result (Unit {0}) EaselFault) (r : Result GfFile ProgramFault)
@@ -91,7 +83,3 @@ pub shown-as : (transcript : Option (List ℕ)) (style wanted : Style) (canvas s
 shown-as transcript style wanted canvas size s file (same_style, same_size) shown =
     subst (λ style. IsShownInto transcript style size s file) same_style
     (subst (λ size. IsShownInto transcript style size s file) same_size shown)
-
-pub on-ok-known : {A E : Type 0} (r : Result A E) (P : Type 0) → P → OnOk r P
-on-ok-known (Ok x) P known = known
-on-ok-known (Err fault) P known = tt

@@ -1,7 +1,7 @@
 -- What an easel has drawn on a screen.
 use Rattle.std.specs.Prelude.{◌≡◌, ℕ, All, List, [], ◌∷◌, ◌++◌, None, OnOk, Option, Result, Some}
 use Rattle.std.specs.Io.KnownBytes.{Appends}
-use Rattle.mf_easel.specs.Easels.{HasSameManner, canvas_of, drawn_of, identity, looked_at_list, style_of}
+use Rattle.mf_easel.specs.Easels.{canvas_of, drawn_of, looked_at_list, style_of}
 use Rattle.mf_easel.specs.Screens.{IsAbove, over}
 use Rattle.mf_easel.specs.declared.easel.Easel.{Easel}
 use Rattle.mf_easel.specs.declared.fault.EaselFault.{EaselFault}
@@ -41,10 +41,6 @@ pub record HasDrawn (easel : Easel) (held holds : Option (List ℕ)) : Type 0 wh
   pub rise : Rise lists
   pub seen : All (IsSeenOf (looked_at_list easel)) lists
   pub last : drawn_of easel ≡ last_revision lists
-
--- it is the same easel, and draws in the same manner
-abbrev pub IsSameEasel : Easel → Easel → Type 0
-IsSameEasel before after = (identity after ≡ identity before) × HasSameManner before after
 
 -- the easel has drawn more, whatever it had drawn before; its screen, which held some bytes, now holds others
 abbrev pub DrawsMore : Easel → Easel → Option (List ℕ) → Option (List ℕ) → Type 0

@@ -12,7 +12,7 @@ ghost use Rattle.mf_stage.specs.Stages.{StandsFor, limits};
 ghost use Rattle.mf_stage.specs.Scripts.{PerformsAll, StillStands};
 ghost use Rattle.mf_view.specs.Begun.{HasBegun, IsOfEnd};
 ghost use Rattle.mf_view.specs.Faults.{IsOfSides, fault_of_stage};
-ghost use Rattle.mf_view.specs.Drawings.{DrawsMore, EndsDrawing, IsSameEasel};
+ghost use Rattle.mf_view.specs.Drawings.{DrawsMore, EndsDrawing};
 ghost use Rattle.mf_view.specs.Performances.{Shows, script_limits, streams_of};
 
 use crate::drawing::{draw, draw_last, draw_on};
@@ -201,7 +201,8 @@ fn perform_beside<
         rt,
         &mut || -> Result<(), EaselFault>
             requires { IsSync S.row × IsSync P.row × IsSend W.row }
-            ensures { IsSameEasel easel.entry.now easel.exit.now
+            ensures { (easels.identity easel.exit.now ≡ easels.identity easel.entry.now)
+                × easels.HasSameManner easel.entry.now easel.exit.now
                 × IfErr first (λ fault. (result ≡ Err fault) × (screen.exit.now ≡ screen.entry.now))
                 × OnOk result (DrawsMore easel.entry.now easel.exit.now (W.contents screen.entry.now) (W.contents screen.exit.now)) }
         {

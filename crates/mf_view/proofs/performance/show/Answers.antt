@@ -12,8 +12,8 @@ returns-clause-shown g c =
     let manner = same-manner _ _ _ c.draw-first.ensures.manner c.perform_beside-drawn.ensures.manner in
     let blank = drawn-nothing c.args.easel (g.W.Write.contents c.args.screen.now) c.requires.blank in
     let drawn = drawn-both _ _ _ _ _ _ _ _ _ c.draw-first.ensures.drawn c.perform_beside-drawn.ensures.drawn blank in
-    shown-whole _ _ _ _ _ _ c.args.stage c.perform_beside-drawn.new.stage _ c.perform_beside-drawn.result.performed
-    c.conclude.result c.requires.limits c.requires.start
+    shown-whole _ _ _ c.args.stage c.perform_beside-drawn.new.stage c.requires.limits c.requires.start c.perform_beside-drawn.result.performed
+    c.conclude.result
     c.perform_beside-drawn.ensures.transcript
     c.conclude.ensures.script
     c.conclude.ensures.file
@@ -21,5 +21,5 @@ returns-clause-shown g c =
 
 pub returns-clause-begun : goal.returns-clause-begun
 returns-clause-begun g c =
-    begun-whole c.args.stage c.perform_beside-drawn.new.stage _ _ _ c.perform_beside-drawn.result.performed c.conclude.result c.requires.limits c.requires.start
+    begun-whole c.args.stage c.perform_beside-drawn.new.stage _ _ _ c.requires.limits c.requires.start c.perform_beside-drawn.result.performed c.conclude.result
     c.perform_beside-drawn.ensures.transcript c.perform_beside-drawn.ensures.begun c.conclude.ensures.script c.conclude.ensures.late
