@@ -8,14 +8,15 @@ use Rattle.mf_desk.specs.declared.fault.RunFault.TheVariants.{OutOfMemory}
 use Rattle.mf_desk.specs.declared.performer.Performer.{Performer}
 use Rattle.mf_desk.specs.EndedRuns.{IsEndOf, IsOver}
 use Rattle.mf_desk.specs.Fault.{Breaks, IsFirstText}
-use Rattle.mf_desk.specs.Progress.{IsThrough, ReadsThrough}
+use Rattle.mf_desk.specs.Progress.{HasPerformed, ReadsThrough}
 use Rattle.mf_desk.specs.Streams.{Passes, Streams}
 use Rattle.mf_session.specs.Sessions.{limits}
 use Rattle.mf_session.specs.States.{Limits, start}
 use Rattle.mf_session.specs.Transcript.{Perform}
 
 -- the script has ended, and its picture is closed
-pub IsOver-ended : (held holds : Option (List ℕ)) (read : List ℕ) (performer : Performer) (run : EndedRun) (through : IsThrough held read performer holds)
+pub IsOver-ended : (held holds : Option (List ℕ)) (read : List ℕ) (performer : Performer) (run : EndedRun)
+    (through : HasPerformed held (lines read) performer holds)
     → IsEndOf performer through.last run → IsOver (limits performer.session) held read run holds
 IsOver-ended held holds read performer run through end = record {
   text = through.text;

@@ -15,7 +15,7 @@ use Rattle.mf_session.specs.Answers.{Answers}
 use Rattle.mf_desk.specs.Ended.{ended_of_parts, last_part, ended_lines, unended}
 use Rattle.mf_desk.specs.Fault.{AreWholeLines, Breaks}
 use Rattle.mf_desk.specs.Performer.{BreaksText, IsWritten}
-use Rattle.mf_desk.specs.Progress.{HasPerformed, IsAfter, IsThrough}
+use Rattle.mf_desk.specs.Progress.{HasPerformed, IsAfter}
 use Rattle.mf_desk.specs.Streams.{Gets, HasPassed}
 use Rattle.mf_session.specs.Sessions.{StandsFor, limits}
 use Rattle.mf_session.specs.States.{State, Limits, start}
@@ -180,13 +180,13 @@ module _ (held holds : Option (List ℕ)) (read : List ℕ) (run : Progress) (af
       let kept : length (take MAX_KEPT (unended read)) ≡ 0 = ap length (sym after.line) ∙ eqb-true (length run.line) 0 none in
       nil_from_length (unended read) (omega (arith, length-take MAX_KEPT (unended read)))
 
-  pub IsThrough-none : eqb (length run.line) 0 ≡ true → IsThrough held read run.performer holds
-  IsThrough-none none = rw (lines-none read (empty-unended none)) after.done
+  pub HasPerformed-all : eqb (length run.line) 0 ≡ true → HasPerformed held (lines read) run.performer holds
+  HasPerformed-all none = rw (lines-none read (empty-unended none)) after.done
 
   -- the last line ends with the script
-  pub IsThrough-last : (later : Option (List ℕ)) (new : Performer) → eqb (length run.line) 0 ≡ false → limits new.session ≡ bounds
-      → Gets holds later (IsWritten run.performer after.done.last run.line new) → IsThrough held read new later
-  IsThrough-last later new some same written = HasPerformed-more later (lines read) run.line new (performed-last some) written same
+  pub HasPerformed-last : (later : Option (List ℕ)) (new : Performer) → eqb (length run.line) 0 ≡ false → limits new.session ≡ bounds
+      → Gets holds later (IsWritten run.performer after.done.last run.line new) → HasPerformed held (lines read) new later
+  HasPerformed-last later new some same written = HasPerformed-more later (lines read) run.line new (performed-last some) written same
 
   -- a read fails: the texts of the lines that a line feed ended are written
   pub Breaks-reads : (left : Option (List ℕ)) → HasPassed (Breaks bounds ReadFault) left read held holds
@@ -263,7 +263,7 @@ Breaks-unflushed held left holds later read progress same after =
 
 -- flushing the texts of all lines fails
 pub Breaks-last_unflushed : (l : Limits) (held left holds later : Option (List ℕ)) (read : List ℕ) (performer : Performer)
-    → IsAtEnd left → limits performer.session ≡ l → Keeps holds later → IsThrough held read performer holds
+    → IsAtEnd left → limits performer.session ≡ l → Keeps holds later → HasPerformed held (lines read) performer holds
     → (fault : RunFault) → fault ≡ WriteFault performer.written → HasPassed (Breaks l fault) left read held later
 Breaks-last_unflushed l held left holds later read performer all_read =
     Breaks-flush l held left holds later read (lines read) performer (inr (all_read, sym (append-nil _)))

@@ -1,6 +1,5 @@
 -- A run whose script has ended.
-use Rattle.std.specs.Prelude.{◌≡◌, ◌<◌, ℕ, IfErr, IfOk, List, [], Option, Result, Vec, length}
-use Rattle.std.specs.Global.{Global}
+use Rattle.std.specs.Prelude.{◌≡◌, ℕ, List, [], Option, length}
 use Rattle.std.specs.Io.KnownBytes.{Appends, Consumes, IsAtEnd}
 use Rattle.std.specs.Str.Lines.{lines}
 use Rattle.mf_gf.specs.Keeping.{Keeps, max_bytes_of}
@@ -9,9 +8,7 @@ use Rattle.mf_desk.specs.declared.ended_run.EndedRun.{EndedRun}
 use Rattle.mf_desk.specs.declared.fault.RunFault.{RunFault}
 use Rattle.mf_desk.specs.declared.performer.Performer.{Performer}
 use Rattle.mf_desk.specs.declared.settings.Settings.{Settings}
-use Rattle.mf_live.specs.declared.look.NoLook.{NoLook}
 use Rattle.mf_watch.specs.declared.glance.Glance.{Glance}
-use Rattle.mf_watch.specs.declared.watcher.Watcher.{Watcher}
 use Rattle.mf_session.specs.Endings.{HasEnded, complete_list}
 use Rattle.mf_desk.specs.Performances.{Tells, limits_set, viewer_line}
 use Rattle.mf_session.specs.States.{State, Limits, start}
@@ -53,10 +50,6 @@ pub record IsSameEnd (before after : EndedRun) : Type 0 where
   pub identity : ended_identity after.ended ≡ ended_identity before.ended
   pub published : ended_published_list after.ended ≡ ended_published_list before.ended
   pub file : after.file ≡ before.file
-
--- the threads of this many viewers were joined: these are their watchers, or a look was refused to one
-abbrev pub AreJoined : Result (Vec Watcher Global) NoLook → ℕ → Type 0
-AreJoined joined viewers = IfOk joined (λ watchers. length watchers.items ≡ viewers) × IfErr joined (λ _. 0 < viewers)
 
 -- whatever was read and written before, a fault comes where the lines of this many viewers are due; the writer, which held some
 -- bytes, now holds others

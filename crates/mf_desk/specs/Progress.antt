@@ -28,13 +28,9 @@ pub record IsAfter (held : Option (List ℕ)) (read : List ℕ) (progress : Prog
   pub done : HasPerformed held (ended_lines read) progress.performer holds
   pub line : progress.line ≡ take MAX_KEPT (unended read)
 
--- the run at the end of the script: all lines have been performed
-abbrev pub IsThrough : Option (List ℕ) → List ℕ → Performer → Option (List ℕ) → Type 0
-IsThrough held read performer holds = HasPerformed held (lines read) performer holds
-
 -- everything that the reader had was read and performed
 abbrev pub ReadsThrough : Streams → Performer → Type 0
-ReadsThrough s performer = (read : List ℕ) × Consumes s.unread s.left read × IsThrough s.held read performer s.holds
+ReadsThrough s performer = (read : List ℕ) × Consumes s.unread s.left read × HasPerformed s.held (lines read) performer s.holds
 
 -- the run takes these bytes, which come after whatever was read, and goes on; the writer, which held some bytes, now holds others
 abbrev pub GoesOn : Progress → List ℕ → Progress → Option (List ℕ) → Option (List ℕ) → Type 0

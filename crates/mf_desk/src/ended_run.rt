@@ -1,8 +1,8 @@
 //! A run whose script has ended: its viewers are shown the last picture.
 ghost use Rattle.std.specs.Io.KnownBytes.{Appends};
-ghost use Rattle.std.specs.Prelude.{◌≡◌, ◌≢◌, ◌+◌, ◌≤◌, ◌^◌, ℕ, All, Err, IfErr, IfOk, OnOk, length};
+ghost use Rattle.std.specs.Prelude.{◌≡◌, ◌≢◌, ◌+◌, ◌<◌, ◌≤◌, ◌^◌, ℕ, All, Err, IfErr, IfOk, OnOk, length};
 ghost use Rattle.mf_live.specs.Writers.{ended_identity, ended_published_list};
-ghost use Rattle.mf_desk.specs.EndedRuns.{AreJoined, IsViewerLine, IsSameEnd, StopsShowing, glance};
+ghost use Rattle.mf_desk.specs.EndedRuns.{IsViewerLine, IsSameEnd, StopsShowing, glance};
 ghost use Rattle.mf_desk.specs.Fault.{BreaksOff};
 ghost use Rattle.mf_desk.specs.Performances.{viewer_line, viewer_lines};
 ghost use Rattle.mf_desk.specs.Streams.{Gets};
@@ -47,8 +47,8 @@ impl EndedRun {
         ensures count { IfOk result (λ seen. (viewers : ℕ) → IfOk joined (λ watchers. length watchers.items ≡ viewers) → length seen.items ≡ viewers) }
         ensures seen { IfOk result (λ seen. (looks : ℕ) → IfOk joined (λ watchers. All (IsRecord looks) watchers.items)
             → All (λ v. HasSeen (ended_published_list self.old.ended) looks v.items) seen.items) }
-        ensures fault { IfErr result (λ fault. (viewers : ℕ) → AreJoined joined viewers
-            → StopsShowing self.old viewers fault (W.contents writer.old) (W.contents writer.new)) }
+        ensures fault { IfErr result (λ fault. (viewers : ℕ) → IfOk joined (λ watchers. length watchers.items ≡ viewers)
+            → IfErr joined (λ _. 0 < viewers) → StopsShowing self.old viewers fault (W.contents writer.old) (W.contents writer.new)) }
         ensures elsewhere { (result ≢ Err RunFault.NoPlace) × (result ≢ Err RunFault.FileTooLong) × (result ≢ Err RunFault.ReadFault) }
     {
         match joined {

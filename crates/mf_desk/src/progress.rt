@@ -1,12 +1,13 @@
 //! A run in progress: the lines that have been performed, and the bytes of the unended line.
 ghost use Rattle.std.specs.Io.KnownBytes.{IsAtEnd};
+ghost use Rattle.std.specs.Str.Lines.{lines};
 ghost use Rattle.std.specs.Prelude.{◌≡◌, ◌≢◌, ◌⊎◌, ◌+◌, ◌*◌, ◌<◌, ◌≤◌, ◌^◌, ◌↔◌, ◌++◌, ◌∷◌, All, Err, Option, List, ℕ, [], IfErr, IfOk, OnOk, length};
 ghost use Rattle.mf_live.specs.Desks.{desk_identity};
 ghost use Rattle.mf_live.specs.Writers.{ended_identity};
 ghost use Rattle.mf_desk.specs.EndedRuns.{EndsWith};
 ghost use Rattle.mf_desk.specs.Fault.{Breaks};
 ghost use Rattle.mf_desk.specs.Performances.{limits_set};
-ghost use Rattle.mf_desk.specs.Progress.{BreaksAfter, GoesOn, IsAfter, IsThrough, ReadsThrough};
+ghost use Rattle.mf_desk.specs.Progress.{BreaksAfter, GoesOn, HasPerformed, IsAfter, ReadsThrough};
 ghost use Rattle.mf_desk.specs.Streams.{HasPassed, Passes, streams_of};
 ghost use Rattle.mf_session.specs.Sessions.{identity, limits};
 
@@ -181,7 +182,7 @@ impl Progress {
     ) -> Result<(), RunFault>
         requires { self.old.performer.written + 2 ^ 64 ≤ 2 ^ 127 }
         ensures done { OnOk result ((held : Option (List ℕ)) (read : List ℕ) → IsAfter held read self.old (W.contents writer.old)
-            → IsThrough held read self.new.performer (W.contents writer.new)) }
+            → HasPerformed held (lines read) self.new.performer (W.contents writer.new)) }
         ensures at_most { OnOk result (self.new.performer.written ≤ self.old.performer.written + 2 ^ 64) }
         ensures limits { limits self.new.performer.session ≡ limits self.old.performer.session }
         ensures identity { identity self.new.performer.session ≡ identity self.old.performer.session }

@@ -56,7 +56,7 @@ returns-in_err-seen-clause-fault g c =
     rw (passed_on.1, passed_on.2) (
       read,
       consumed,
-      c.in_err-seen.ensures.fault _ (c.join-joined.ensures.count, c.join-joined.ensures.refused) c.args.settings.now _ _ read
+      c.in_err-seen.ensures.fault _ c.join-joined.ensures.count c.join-joined.ensures.refused c.args.settings.now _ _ read
           c.in_ok-ended.ensures.end over,
     )
 

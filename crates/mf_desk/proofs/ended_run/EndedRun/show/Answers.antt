@@ -8,13 +8,13 @@ pub returns-in-Ok-clause-fault : goal.returns-in-Ok-clause-fault
 returns-in-Ok-clause-fault g c =
     let run = c.args.self.now in
     let holds = g.W.Write.contents c.args.writer.now in
-    IfErr-weaker c.show_all.result _ _ (λ fault stops viewers joined.
-    let count = subst (λ r. IfOk r (λ watchers. length watchers.items ≡ viewers)) c.in-Ok.is joined.0 in
+    IfErr-weaker c.show_all.result _ _ (λ fault stops viewers joined some.
+    let count = subst (λ r. IfOk r (λ watchers. length watchers.items ≡ viewers)) c.in-Ok.is joined in
     subst (λ n. StopsShowing run n fault holds (g.W.Write.contents c.show_all.new.writer)) count stops) c.show_all.ensures.fault
 
 pub returns-in-Err-clause-fault : goal.returns-in-Err-clause-fault
-returns-in-Err-clause-fault g c = λ viewers joined settings held left read all_read over.
+returns-in-Err-clause-fault g c = λ viewers joined some settings held left read all_read over.
     let run = c.args.self.now in
     let holds = g.W.Write.contents c.args.writer.now in
-    Tells-no_look settings viewers held left holds read run over all_read run 0 holds (subst (λ r. IfErr r (λ _. 0 < viewers)) c.in-Err.is joined.1)
+    Tells-no_look settings viewers held left holds read run over all_read run 0 holds (subst (λ r. IfErr r (λ _. 0 < viewers)) c.in-Err.is some)
     (IsShown-start run holds)
