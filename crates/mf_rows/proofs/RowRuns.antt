@@ -1,7 +1,7 @@
 -- The runs of rows of edges are the maximal runs of their picture.
-use Rattle.std.proofs.Common.{◌≡◌, ◌≢◌, ℤ, pos, ◌-ℤ◌, ◌≤ℤ◌, List, [], ◌∷◌, refl, sym, ap, ◌∙◌, subst, arith}
+use Rattle.std.proofs.Common.{◌≡◌, ℤ, pos, ◌-ℤ◌, ◌≤ℤ◌, List, [], ◌∷◌, refl, sym, ap, ◌∙◌, subst, arith}
 use Rattle.std.specs.List.{flat_map}
-use Rattle.std.proofs.lemmas.Int.{ints, by_lt_z}
+use Rattle.std.proofs.lemmas.Int.{ints}
 use Rattle.std.proofs.lemmas.List.Elements.{All-nil, All-cons}
 use Rattle.mf_geom.specs.Coordinates.{least_coordinate, greatest_coordinate, last_in_field}
 use Rattle.mf_rows.specs.Dots.{IsPicture, place, start_of_field, weight_at}
@@ -14,6 +14,7 @@ use Rattle.mf_rows.specs.Walk.{runs_of_rows}
 use Rattle.mf_rows.proofs.EdgeRuns.{rest_of_edges, AreRunsFrom, some_of_runs, runs_from-lower, dots_from-runs, runs_from-edges, weight_at-off_row, weight_at-whole_row, maximal-edges}
 use Rattle.mf_rows.proofs.EdgeRowsLemmas.{weight_in_rows-here, weight_in_rows-elsewhere, weight_in_rows-below, rows_from-below, picture_of_rows-from_weights}
 use Rattle.mf_rows.proofs.MaximalRuns.{runs_of-dots_of}
+use Rattle.mf_rows.proofs.RowSums.{by_same}
 
 -- each row is lawful
 pub edge_rows_from : (top : ℤ) (rs : List EdgeRow) → AreRowsFrom top rs → AreEdgeRows rs
@@ -40,22 +41,13 @@ maximal-rows top (r ∷ rs) rows =
     maximal-edges r.y least_coordinate (pos 0) r.edges (runs_of_rows rs) rows.0.bottom rows.0.top
     (rest_of_edges r.edges rows.0.edges) (runs_from-rows r.y rs rows.2) (maximal-rows (r.y -ℤ pos 1) rs rows.2)
 
--- two rows are the same or not
-by_row : {P : Type 0} (u v : ℤ) → (u ≡ v → P) → (u ≢ v → P) → P
-by_row u v same apart =
-    by_lt_z u v
-    (λ below. apart (λ joined. omega (arith, ints)))
-    (λ no_below. by_lt_z v u
-    (λ above. apart (λ joined. omega (arith, ints)))
-    (λ no_above. same (omega (arith, ints))))
-
 -- the dots of the runs have the weights of the rows
 weight_at-rows : (top : ℤ) (rs : List EdgeRow) (x y : ℤ) → x ≤ℤ last_in_field → AreRowsFrom top rs
     → weight_at (flat_map dots_of (runs_of_rows rs)) x y ≡ weight_in_rows rs x y
 unfolding weight_at weight_in_rows
 weight_at-rows top [] x y right rows = refl
 weight_at-rows top (r ∷ rs) x y right rows =
-    by_row r.y y
+    by_same r.y y
     (λ here.
     let below = weight_in_rows-below rs x y (rows_from-below (r.y -ℤ pos 1) y rs rows.2 (omega (arith, ints))) in
     let own =

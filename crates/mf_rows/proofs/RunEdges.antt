@@ -1,6 +1,5 @@
 -- The two edges of a run, after the edges of its row.
-use Rattle.std.proofs.Common.{◌≡◌, ◌≢◌, ℕ, zero, suc, ◌-◌, ◌<◌, ℤ, pos, ◌+ℤ◌, ◌-ℤ◌, ◌≤ℤ◌, ◌<ℤ◌, int_le, true, false, List, [], ◌∷◌, length, get_or, refl, sym, ap, ◌∙◌, subst, arith}
-use Rattle.std.proofs.lemmas.Bool.{cond-true, cond-false}
+use Rattle.std.proofs.Common.{◌≡◌, ◌≢◌, ℕ, zero, suc, ◌-◌, ◌<◌, ℤ, pos, ◌+ℤ◌, ◌-ℤ◌, ◌≤ℤ◌, ◌<ℤ◌, List, [], ◌∷◌, length, get_or, refl, sym, ◌∙◌, subst, arith}
 use Rattle.std.proofs.lemmas.Int.{ints, by_lt_z}
 use Rattle.std.proofs.lemmas.List.Elements.{All-nil, All-cons, All-head, All-tail}
 use Rattle.mf_geom.specs.Coordinates.{least_coordinate, greatest_coordinate}
@@ -12,6 +11,7 @@ use Rattle.mf_edges.specs.Edges.{weight_in, AreEdgesFrom, AreEdges, AreOpenEdges
 use Rattle.mf_rows.specs.EdgeRows.{EdgeRow}
 use Rattle.mf_rows.specs.Order.{IsRun}
 use Rattle.mf_edges.specs.Sums.{HaveWeights, with_edge_in}
+use Rattle.mf_edges.proofs.EdgeSums.{with_edge_in-before, with_edge_in-behind}
 use Rattle.mf_edges.proofs.EdgesLemmas.{weight_in-left, weight_in-right, weight_in-before, weight_in-behind}
 
 -- ---- the ends of edges
@@ -90,21 +90,6 @@ some_weight (e ∷ es) some edges none =
 
 -- ---- the edges of a run
 
-le_test : (a b : ℤ) → a ≤ℤ b → int_le a b ≡ true
-le_test a b le = grind (arith, ints)
-
-gt_test : (a b : ℤ) → b <ℤ a → int_le a b ≡ false
-gt_test a b gt = grind (arith, ints)
-
--- an added edge adds its weight from its column on
-with_edge_in-from : (es : List Edge) (x w c : ℤ) → x ≤ℤ c → with_edge_in es x w c ≡ weight_in es c +ℤ w
-unfolding with_edge_in
-with_edge_in-from es x w c from = ap (λ v. weight_in es c +ℤ v) (cond-true (int_le x c) w (pos 0) (le_test x c from))
-
-with_edge_in-before : (es : List Edge) (x w c : ℤ) → c <ℤ x → with_edge_in es x w c ≡ weight_in es c
-unfolding with_edge_in
-with_edge_in-before es x w c before = omega (arith, ints, cond-false (int_le x c) w (pos 0) (gt_test x c before))
-
 -- a column is to the left of a run, in it, or to the right of it
 pub by_columns : {P : Type 0} (r : Run) (c : ℤ) → (c <ℤ r.x → P) → (r.x ≤ℤ c → c <ℤ (r.x +ℤ pos r.len) → P) → ((r.x +ℤ pos r.len) ≤ℤ c → P) → P
 by_columns r c left inside right = by_lt_z c r.x left (λ from. by_lt_z c (r.x +ℤ pos r.len) (inside from) right)
@@ -114,7 +99,7 @@ weight-from_run : (es mid : List Edge) (r : Run) (c : ℤ) → AreEdges es → E
     → HaveWeights (with_edge_in es r.x r.weight) mid → r.x ≤ℤ c → weight_in mid c ≡ r.weight
 weight-from_run es mid r c edges end first from =
     let none = weight_in-end es r.x c edges end from in
-    let sum = with_edge_in-from es r.x r.weight c from in
+    let sum = with_edge_in-behind es r.x r.weight c from in
     omega (arith, ints, first.weights c)
 
 -- so its weights are still lawful
@@ -144,7 +129,7 @@ run_ended es mid new r edges end first second =
           ∙ first.weights c ∙ with_edge_in-before es r.x r.weight c before)
           (λ from to. absurd (outside from to))
           (λ behind.
-          let sum = with_edge_in-from mid end_of_run (pos 0 -ℤ r.weight) c behind in
+          let sum = with_edge_in-behind mid end_of_run (pos 0 -ℤ r.weight) c behind in
           let weight = weight-from_run es mid r c edges end first (omega (arith, ints)) in
           let none = weight_in-end es r.x c edges end (omega (arith, ints)) in
           omega (arith, ints, second.weights c));
