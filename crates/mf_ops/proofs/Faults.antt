@@ -24,7 +24,7 @@ use Rattle.mf_ops.specs.Sides.{FillsWith}
 use Rattle.mf_ops.specs.Step.{is_too_large, step_at, next_picture, leaves, MayLeave, StaysInField, TurnsLawfully, weight_fault, pixel_fault, turn_fault, op_fault}
 use Rattle.mf_ops.specs.declared.op.Op.{Op}
 use Rattle.mf_ops.specs.declared.op.Op.TheVariants as ops
-use Rattle.mf_ops.specs.declared.op.Op.TheVariants.{Contour, Also, Cull, Clear}
+use Rattle.mf_ops.specs.declared.op.Op.TheVariants.{Contour}
 use Rattle.mf_ops.specs.declared.op.OpFault.{OpFault}
 use Rattle.mf_ops.specs.declared.op.OpFault.TheVariants.{Cycle, OutOfField, WeightTooLarge, OutOfMemory}
 use Rattle.mf_geom.specs.declared.point.Point.{Point}
