@@ -27,10 +27,6 @@ const FEW_EDGES: usize = 8;
 /// copying few edges costs less than asking for memory, and copying many costs more.
 pub(crate) const MANY_EDGES: usize = 128;
 
-/// A sum that gets a list of its own has room for a multiple of this many edges, less one, so these lists have few sizes. An operation
-/// makes new lists, and then the old ones are freed. The next operation finds their rooms again, so less memory is split and joined.
-const ROOM_STEP: usize = 128;
-
 /// Where a row of a list has its edges.
 #[derive(Debug, Drop)]
 pub(crate) enum Place {
@@ -214,7 +210,7 @@ impl RowList {
             → IsUnlawfulInRow (weight_in_all (edge_row left.now ∷ []) (edge_row right.now ∷ [])) right.now.y) }
     {
         let mut edges = Vec::new(alloc);
-        edges.reserve((left.edges.len() + right.edges.len()) | (ROOM_STEP - 1))?;
+        edges.reserve(long_room(left.edges.len() + right.edges.len()))?;
         let reach = push_sum_of_both(&mut edges, left, right)?;
         if edges.is_empty() {
             return Ok(());
@@ -237,6 +233,13 @@ impl RowList {
             self.edges.shrink_to_fit();
         }
     }
+}
+
+/// The room of a list of its own for so many edges: one less than a multiple of 128, or of 32 where there are fewer than 256, so these
+/// lists have few sizes. An operation makes new lists, and then the old ones are freed. The next operation finds their rooms again, so
+/// less memory is split and joined.
+fn long_room(edges: usize) -> usize {
+    if edges < 256 { edges | 31 } else { edges | 127 }
 }
 
 /// Appends a head with this reach and place at each height from `top - 1` down to `bottom`.
