@@ -63,7 +63,7 @@ read_answered : (line_bytes : List ℕ) (o : Result Line ℕ) (r : Result Comman
     → from line (line_ahead line_bytes) ≡ o → Answers o r → Answered line_bytes r
 read_answered bytes (Ok l) r text is answer = form-answered bytes l r (record { text = text; spelled = is_line (line_ahead bytes) l is }) answer
 read_answered bytes (Err column) r text is answer =
-    subst (Answered bytes) (sym answer) (record { text = text; wrong = goes_wrong (line_ahead bytes) column is })
+    subst (Answered bytes) (sym answer) (record { text = text; wrong = goes_wrong bytes column is })
 
 pub answered : (bytes : List ℕ) (start : Tokens) (r : Result Command TextFault) → IsText bytes → remaining_tokens start ≡ tokens bytes → start.column ≡ 1
     → Answers (from line (ahead start)) r → Answered bytes r

@@ -1,5 +1,5 @@
 -- What a line gives at its next token, and after phrases.
-use Rattle.std.proofs.Common.{◌≡◌, ◌≢◌, ℕ, ◌<◌, true, false, List, [], ◌∷◌, ◌++◌, length, map, Option, Some, None, Result, Ok, Err, ok_or, Bool, if◌then◌else◌, refl, sym, ap, subst, ◌∙◌, arith}
+use Rattle.std.proofs.Common.{◌≡◌, ◌≢◌, ℕ, ◌-◌, ◌<◌, true, false, List, [], ◌∷◌, ◌++◌, length, map, Option, Some, None, Result, Ok, Err, ok_or, Bool, if◌then◌else◌, refl, sym, ap, subst, ◌∙◌, arith}
 use Rattle.std.specs.Option.{option_map, option_or}
 use Rattle.std.specs.Result.{IsErrAnd}
 use Rattle.std.proofs.lemmas.List.{map-append}
@@ -12,16 +12,10 @@ use Rattle.mf_text.specs.declared.tokens.Tokens.{Tokens}
 use Rattle.mf_text.specs.Ahead.{Ahead, column_of}
 use Rattle.mf_text.specs.Grammar.{Line, Path, path_value, Point, Code, Name, Current, Register, Int, Pair, pair_value}
 use Rattle.mf_text.specs.Reads.{HasPoints, PassesPath, TakesToken, TakesValue, ahead, remaining_tokens, next_value, with_rest}
-use Rattle.mf_text.specs.Rests.{Kind, Of, This, Numbers, Codes, Rest, Take, OrTake, MinusCode, Corners, One, Or, Before, CodeNumber, Ends, before, corner, path, follow, from, name_token, report_column, step_from, value}
+use Rattle.mf_text.specs.Rests.{Kind, Of, This, Numbers, Codes, Rest, Take, OrTake, Corners, One, Or, CodeNumber, Ends, corner, path, follow, from, is_code_number, name_token, step, value}
 use Rattle.mf_text.specs.Token.{Placed, Token, letter_in, name_in, this_in, value_in}
 use Rattle.mf_text.specs.Token as token
 use Rattle.mf_text.proofs.Rests.{name_of, named, this_only}
-
--- before a rest, the column of the last token does not matter
-from_any : (r : Rest) (last past : ℕ) (ps : List Placed) → follow (Ok (Before r)) last past ps ≡ from r (record { tokens = ps; past = past })
-unfolding follow
-from_any r last past [] = refl
-from_any r last past (p ∷ ps) = refl
 
 -- ---- a value of the next token
 
@@ -31,17 +25,17 @@ on_value next otherwise None = otherwise
 on_value next otherwise (Some (a, after)) = from (next a) after
 
 module _ (k : Kind) (next : Of k → Rest) where
-  value_read : (column : ℕ) (p : Placed) (ps : List Placed) (v : Option (Of k)) → follow (ok_or (before next v) column) p.column p.after ps
-      ≡ on_value next (Err column) (with_rest (record { tokens = ps; past = p.after }) v)
+  value_read : (column past : ℕ) (ps : List Placed) (v : Option (Of k)) → follow (ok_or (option_map next v) column) past ps
+      ≡ on_value next (Err column) (with_rest (record { tokens = ps; past = past }) v)
   unfolding follow
-  value_read column p ps None = refl
-  value_read column p ps (Some a) = from_any (next a) p.column p.after ps
+  value_read column past ps None = refl
+  value_read column past ps (Some a) = refl
 
   taken : (past : ℕ) (ps : List Placed)
       → from (Take k next) (record { tokens = ps; past = past }) ≡ on_value next (Err (column_of ps past)) (next_value (value k) ps)
   unfolding follow
   taken past [] = refl
-  taken past (p ∷ ps) = value_read p.column p ps (value k p.token)
+  taken past (p ∷ ps) = value_read p.column p.after ps (value k p.token)
 
   -- what a line gives where a token of a kind was passed
   pub passed : (old new : Tokens) (a : Of k) → TakesValue (value k) old new (Some a) → from (Take k next) (ahead old) ≡ from (next a) (ahead new)
@@ -59,10 +53,10 @@ module _ (k : Kind) (next : Of k → Rest) where
   unfolding follow
   or_taken other past [] = refl
   or_taken other past (p ∷ ps) = by_value (value k p.token) where
-    by_value : (v : Option (Of k)) → follow (ok_or (option_or (before next v) (step_from other p.token)) p.column) p.column p.after ps
-        ≡ on_value next (follow (ok_or (step_from other p.token) p.column) p.column p.after ps) (with_rest (record { tokens = ps; past = p.after }) v)
+    by_value : (v : Option (Of k)) → follow (ok_or (option_or (option_map next v) (step other p.token)) (if is_code_number other p.token then past - 1 else p.column)) p.after ps
+        ≡ on_value next (from other (record { tokens = p ∷ ps; past = past })) (with_rest (record { tokens = ps; past = p.after }) v)
     by_value None = refl
-    by_value (Some a) = from_any (next a) p.column p.after ps
+    by_value (Some a) = refl
 
   -- what a line gives where such a token may come
   pub or_passed : (other : Rest) (old new : Tokens) (a : Of k) → TakesValue (value k) old new (Some a)
@@ -196,71 +190,42 @@ line_goes_on line past (p ∷ ps) some = refl
 
 -- ---- the number of a code after its `-`
 
--- what a line gives at the `-` of a code, if it is there
-abbrev on_minus : (Code → Rest) → ℕ → Result Line ℕ → Option (Unit {0} × Ahead) → Result Line ℕ
-on_minus next first otherwise None = otherwise
-on_minus next first otherwise (Some (one, after)) = follow (Ok (CodeNumber next)) first after.past after.tokens
-
-minus_read : (next : Code → Rest) (other : Rest) (past : ℕ) (ps : List Placed) → from (MinusCode next other) (record { tokens = ps; past = past })
-    ≡ on_minus next (column_of ps past) (from other (record { tokens = ps; past = past })) (next_value (this_in (token.Mark mark.Minus)) ps)
-unfolding follow
-minus_read next other past [] = refl
-minus_read next other past (p ∷ ps) = by_value (this_in (token.Mark mark.Minus) p.token) where
-  by_value : (v : Option (Unit {0})) → follow (ok_or (option_or (option_map (λ _. CodeNumber next) v) (step_from other p.token)) p.column) p.column p.after ps
-      ≡ on_minus next p.column (follow (ok_or (step_from other p.token) p.column) p.column p.after ps) (with_rest (record { tokens = ps; past = p.after }) v)
-  by_value None = refl
-  by_value (Some one) = refl
-
-pub minus_passed : (next : Code → Rest) (other : Rest) (old new : Tokens) → TakesToken (token.Mark mark.Minus) old new true
-    → from (MinusCode next other) (ahead old)
-    ≡ follow (Ok (CodeNumber next)) (column_of (remaining_tokens old) old.column) new.column (remaining_tokens new)
-minus_passed next other old new took =
-    minus_read next other old.column (remaining_tokens old)
-    ∙ ap (on_minus next (column_of (remaining_tokens old) old.column) (from other (ahead old))) took
-
-pub minus_missed : (next : Code → Rest) (other : Rest) (old new : Tokens) → TakesToken (token.Mark mark.Minus) old new false
-    → from (MinusCode next other) (ahead old) ≡ from other (ahead old)
-minus_missed next other old new took =
-    minus_read next other old.column (remaining_tokens old)
-    ∙ ap (on_minus next (column_of (remaining_tokens old) old.column) (from other (ahead old))) took.0
-
 -- a number is reported at the `-`, and any other token where it is
 abbrev on_number : ℕ → ℕ → Option (ℕ × Ahead) → Result Line ℕ
-on_number first column None = Err column
-on_number first column (Some n) = Err first
+on_number past column None = Err column
+on_number past column (Some n) = Err (past - 1)
 
-number_read : (next : Code → Rest) (first past : ℕ) (ps : List Placed) → follow (Ok (CodeNumber next)) first past ps
-    ≡ on_value next (on_number first (column_of ps past) (next_value value_in ps)) (next_value (value (Codes true)) ps)
+number_read : (next : Code → Rest) (past : ℕ) (ps : List Placed) → from (CodeNumber next) (record { tokens = ps; past = past })
+    ≡ on_value next (on_number past (column_of ps past) (next_value value_in ps)) (next_value (value (Codes true)) ps)
 unfolding follow
-number_read next first past [] = refl
-number_read next first past (p ∷ ps) = by_token p.token where
-  by_token : (t : Token) → follow (ok_or (before next (value (Codes true) t)) (report_column (CodeNumber next) t first p.column)) p.column p.after ps
-      ≡ on_value next (on_number first p.column (with_rest (record { tokens = ps; past = p.after }) (value_in t)))
+number_read next past [] = refl
+number_read next past (p ∷ ps) = by_token p.token where
+  by_token : (t : Token) → follow (ok_or (option_map next (value (Codes true) t)) (if is_code_number (CodeNumber next) t then past - 1 else p.column)) p.after ps
+      ≡ on_value next (on_number past p.column (with_rest (record { tokens = ps; past = p.after }) (value_in t)))
       (with_rest (record { tokens = ps; past = p.after }) (value (Codes true) t))
-  by_token (token.Number n) = value_read (Codes true) next first p ps (value (Codes true) (token.Number n))
+  by_token (token.Number n) = value_read (Codes true) next (past - 1) p.after ps (value (Codes true) (token.Number n))
   by_token t = refl
 
-module _ (next : Code → Rest) (first : ℕ) (old : Tokens) where
+module _ (next : Code → Rest) (old : Tokens) where
   abbrev left : List Placed
   left = remaining_tokens old
 
-  pub code_passed : (code : Code) (new : Tokens) → TakesValue (value (Codes true)) old new (Some code)
-      → follow (Ok (CodeNumber next)) first old.column left ≡ from (next code) (ahead new)
+  pub code_passed : (code : Code) (new : Tokens) → TakesValue (value (Codes true)) old new (Some code) → from (CodeNumber next) (ahead old) ≡ from (next code) (ahead new)
   code_passed code new took =
-      number_read next first old.column left ∙ ap (on_value next (on_number first (column_of left old.column) (next_value value_in left))) took
+      number_read next old.column left ∙ ap (on_value next (on_number old.column (column_of left old.column) (next_value value_in left))) took
 
   code_missed : (same : Tokens) → TakesValue (value (Codes true)) old same None → (v : Option (ℕ × Ahead)) → next_value value_in (remaining_tokens same) ≡ v
-      → follow (Ok (CodeNumber next)) first old.column left ≡ on_number first (column_of left old.column) v
+      → from (CodeNumber next) (ahead old) ≡ on_number old.column (column_of left old.column) v
   code_missed same (none, is) v found =
-      number_read next first old.column left ∙ ap (on_value next (on_number first (column_of left old.column) (next_value value_in left))) none
-      ∙ ap (on_number first (column_of left old.column)) (ap (λ (t : Tokens). next_value value_in (remaining_tokens t)) (sym is) ∙ found)
+      number_read next old.column left ∙ ap (on_value next (on_number old.column (column_of left old.column) (next_value value_in left))) none
+      ∙ ap (on_number old.column (column_of left old.column)) (ap (λ (t : Tokens). next_value value_in (remaining_tokens t)) (sym is) ∙ found)
 
   pub code_bad : (same after : Tokens) (n : ℕ) → TakesValue (value (Codes true)) old same None → TakesValue value_in same after (Some n)
-      → follow (Ok (CodeNumber next)) first old.column left ≡ Err first
-  code_bad same after n none found = code_missed same none _ found
+      → from (CodeNumber next) (ahead old) ≡ Err (same.column - 1)
+  code_bad same after n none found = code_missed same none _ found ∙ ap (λ (t : Tokens). Err (t.column - 1)) (sym none.1)
 
   pub code_missing : (same after : Tokens) → TakesValue (value (Codes true)) old same None → TakesValue value_in same after None
-      → follow (Ok (CodeNumber next)) first old.column left ≡ Err (column_of (remaining_tokens same) same.column)
+      → from (CodeNumber next) (ahead old) ≡ Err (column_of (remaining_tokens same) same.column)
   code_missing same after none lacking =
       code_missed same none None lacking.0 ∙ ap (λ (t : Tokens). Err (column_of (remaining_tokens t) t.column)) (sym none.1)
 

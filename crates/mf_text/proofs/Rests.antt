@@ -1,13 +1,13 @@
 -- The rests of lines: the tokens that they take, that each line can be read, and that each rest can be ended.
 use Rattle.std.proofs.Common.{◌≡◌, inl, inr, ℕ, zero, suc, Bool, true, false, List, [], ◌∷◌, ◌++◌, Option, Some, None, refl, sym, ap, subst, ◌∙◌, append_assoc, append-nil}
-use Rattle.std.specs.Option.{option_and_then, option_or}
+use Rattle.std.specs.Option.{option_and_then, option_map, option_or}
 use Rattle.std.proofs.lemmas.Bool.{cases_Bool, true_from_ne_false}
 use Rattle.std.proofs.lemmas.Option.{none-some, same_Some}
 use Rattle.mf_text.specs.declared.token.Mark.TheVariants as mark
 use Rattle.mf_text.specs.Token as token
 use Rattle.mf_text.specs.declared.token.Word.TheVariants as word
 use Rattle.mf_text.specs.Grammar.{Line, Path, Code, Name, Current, Register, Source, Null, Named, Int, Pair, Form, Nothing, AddContour, AddPicture, CullKeeping, CullDropping, Clear, Move, ShowTotal, ShowPicture, ShowProof, ShipOut, SetCheck, PublishAll, Shifted, Scaled, XScaled, YScaled, Rotated, Transform, Sign, Plus, Minus}
-use Rattle.mf_text.specs.Rests.{Kind, Of, This, Names, Numbers, Codes, Rest, Ends, Take, OrTake, MinusCode, Corners, One, Or, ACode, Place, Before, CodeNumber, before, corner, ends, inner, int, path, source, step, step_from, value, Token, code_of, int_of, line, line_end, name_token, assignment, of_int, of_source, transform, weighable, name_in, this_in}
+use Rattle.mf_text.specs.Rests.{Kind, Of, This, Names, Numbers, Codes, Rest, Ends, Take, OrTake, Corners, One, Or, ACode, CodeNumber, corner, ends, inner, int, is_code_number, path, source, step, value, Token, code_of, int_of, line, line_end, name_token, assignment, of_int, of_source, transform, weighable, name_in, this_in}
 use Rattle.mf_text.proofs.ReadInts.{int_of-back, int_of-is, code_of-back, code_of-is}
 use Rattle.mf_text.proofs.TokenTexts.{same_token, token_is}
 
@@ -77,32 +77,29 @@ value_is (Codes negative) t c is = absurd (none-some c is)
 
 -- ---- each line can be read
 
--- the line that these tokens are read as from a place, if there is one
-unfoldable pub reads : Option Place → List Token → Option Line
+-- the line that these tokens are read as, if they are this rest
+unfoldable pub reads : Option Rest → List Token → Option Line
 reads None ts = None
-reads (Some p) [] = ends p
-reads (Some p) (t ∷ ts) = reads (step p t) ts
+reads (Some r) [] = ends r
+reads (Some r) (t ∷ ts) = reads (step r t) ts
 
--- from a place, some tokens are read as this line
-pub record Reaches (p : Place) (l : Line) : Type 0 where
+-- some tokens are read as this line where they must be this rest
+pub record To (r : Rest) (l : Line) : Type 0 where
   pub tokens : List Token
-  pub read : reads (Some p) tokens ≡ Some l
+  pub read : reads (Some r) tokens ≡ Some l
 
-on : {p q : Place} {l : Line} (t : Token) → step p t ≡ Some q → Reaches q l → Reaches p l
+on : {r q : Rest} {l : Line} (t : Token) → step r t ≡ Some q → To q l → To r l
 unfolding reads
 on t is after = record { tokens = t ∷ after.tokens; read = ap (λ s. reads s after.tokens) is ∙ after.read }
 
-abbrev To : Rest → Line → Type 0
-To r l = Reaches (Before r) l
-
 one_to : {u : Token} {this : Rest} {l : Line} → To this l → To (One u this) l
-one_to {u} {this} after = on u (ap (before (λ _. this)) (this_same u)) after
+one_to {u} {this} after = on u (ap (option_map (λ _. this)) (this_same u)) after
 
 or_to : {u : Token} {this other : Rest} {l : Line} → To this l → To (Or u this other) l
-or_to {u} {this} {other} after = on u (ap (λ v. option_or (before (λ _. this) v) (step_from other u)) (this_same u)) after
+or_to {u} {this} {other} after = on u (ap (λ v. option_or (option_map (λ _. this) v) (step other u)) (this_same u)) after
 
 take_to : {k : Kind} {next : Of k → Rest} {l : Line} (a : Of k) → HasSign k a → To (next a) l → To (Take k next) l
-take_to {k} {next} a sign after = on (token_of k a) (ap (before next) (value_back k a sign)) after
+take_to {k} {next} a sign after = on (token_of k a) (ap (option_map next) (value_back k a sign)) after
 
 source_to : {next : Source → Rest} {l : Source → Line} → ((s : Source) → To (next s) (l s)) → (s : Source) → To (source next) (l s)
 source_to each Null = or_to (each Null)
@@ -112,13 +109,13 @@ source_to each (Named (Register n)) = on (token.Letter n) refl (each (Named (Reg
 int_to : {next : Int → Rest} {l : Line} (n : Int) → To (next n) l → To (int next) l
 int_to {next} n after = elim (cases_Bool n.negative) [
   | inl is ↦ or_to (take_to n is after)
-  | inr is ↦ on (token.Number n.magnitude) (ap (before next) (value_back (Numbers false) n is)) after
+  | inr is ↦ on (token.Number n.magnitude) (ap (option_map next) (value_back (Numbers false) n is)) after
 ]
 
 code_to : {next : Code → Rest} {l : Line} (c : Code) → To (next c) l → To (ACode next) l
 code_to {next} c after = elim (cases_Bool c.int.negative) [
-  | inl is ↦ on (token.Mark mark.Minus) refl (on {p = CodeNumber next} (token.Number c.int.magnitude) (ap (before next) (value_back (Codes true) c is)) after)
-  | inr is ↦ on (token.Number c.int.magnitude) (ap (before next) (value_back (Codes false) c is)) after
+  | inl is ↦ or_to (on {r = CodeNumber next} (token.Number c.int.magnitude) (ap (option_map next) (value_back (Codes true) c is)) after)
+  | inr is ↦ on (token.Number c.int.magnitude) (ap (option_map next) (value_back (Codes false) c is)) after
 ]
 
 inner_to : {next : Pair → Rest} {l : Pair → Line} → ((p : Pair) → To (next p) (l p)) → (p : Pair) → To (inner next) (l p)
@@ -154,7 +151,7 @@ weight_to form (Some n) ended = or_to (int_to n (end_to (form (Some n)) ended))
 again_to : (name : Name) {l : Line} → To (transform name) l → To (assignment name) l
 again_to Current after = one_to (on (token.Word word.CurrentPicture) refl after)
 again_to (Register n) after =
-    one_to (on (token.Letter n) (ap (before (λ _. transform (Register n))) (this_same (token.Letter n))) after)
+    one_to (on (token.Letter n) (ap (option_map (λ _. transform (Register n))) (this_same (token.Letter n))) after)
 
 assignment_to : (name : Name) {l : Line} → To (assignment name) l → To line l
 assignment_to Current after = on (token.Word word.CurrentPicture) refl after
@@ -198,14 +195,14 @@ form_to (ShipOut s code dx width) ended =
 form_to (SetCheck n) ended = on (token.Word word.TurningCheck) refl (one_to (int_to n (end_to _ ended)))
 form_to PublishAll ended = on (token.Word word.Publish) refl (end_to _ ended)
 
-pub line_to : (l : Line) → Reaches (Before line) l
+pub line_to : (l : Line) → To line l
 line_to l = form_to l.form l.ended
 
 -- ---- each rest can be ended by some tokens
 
--- from a place, these tokens and some others are read as a line
-abbrev pub GoesOn : Option Place → List Token → Type 0
-GoesOn p ts = (rest : List Token) × ((tree : Line) × (reads p (ts ++ rest) ≡ Some tree))
+-- where they must be this rest, these tokens and some others are read as a line
+abbrev pub GoesOn : Option Rest → List Token → Type 0
+GoesOn r ts = (rest : List Token) × ((tree : Line) × (reads r (ts ++ rest) ≡ Some tree))
 
 -- some token is of a kind
 some_value : (k : Kind) → (t : Token) × ((a : Of k) × (value k t ≡ Some a))
@@ -216,39 +213,28 @@ some_value (Numbers negative) = (token.Number 0, (_, refl))
 some_value (Codes true) = (token.Number 0, (_, refl))
 some_value (Codes false) = (token.Number 0, (_, refl))
 
-rest_ends : (r : Rest) → (l : Line) × To r l
+some_line : (r : Rest) → (l : Line) × To r l
 unfolding reads
-rest_ends (Ends l) = (l, record { tokens = []; read = refl })
-rest_ends (One u this) = let end = rest_ends this in (end.0, one_to end.1)
-rest_ends (Or u this other) = let end = rest_ends this in (end.0, or_to end.1)
-rest_ends (Take k next) = let some = some_value k in let end = rest_ends (next some.1.0) in (end.0, on some.0 (ap (before next) some.1.1) end.1)
-rest_ends (OrTake k next other) =
+some_line (Ends l) = (l, record { tokens = []; read = refl })
+some_line (One u this) = let end = some_line this in (end.0, one_to end.1)
+some_line (Or u this other) = let end = some_line this in (end.0, or_to end.1)
+some_line (Take k next) = let some = some_value k in let end = some_line (next some.1.0) in (end.0, on some.0 (ap (option_map next) some.1.1) end.1)
+some_line (OrTake k next other) =
     let some = some_value k in
-    let end = rest_ends (next some.1.0) in
-    (end.0, on some.0 (ap (λ v. option_or (before next v) (step_from other some.0)) some.1.1) end.1)
-rest_ends (MinusCode next other) =
-    let some = some_value (Codes true) in
-    let end = rest_ends (next some.1.0) in
-    (end.0, on (token.Mark mark.Minus) refl (on {p = CodeNumber next} some.0 (ap (before next) some.1.1) end.1))
-rest_ends (Corners first others next) = let end = rest_ends (next (record { first = first; others = others })) in (end.0, on (token.Word word.Cycle) refl end.1)
+    let end = some_line (next some.1.0) in
+    (end.0, on some.0 (ap (λ v. option_or (option_map next v) (step other some.0)) some.1.1) end.1)
+some_line (CodeNumber next) =
+    let some = some_value (Codes true) in let end = some_line (next some.1.0) in (end.0, on some.0 (ap (option_map next) some.1.1) end.1)
+some_line (Corners first others next) = let end = some_line (next (record { first = first; others = others })) in (end.0, on (token.Word word.Cycle) refl end.1)
 
-pub place_ends : (p : Place) → GoesOn (Some p) []
-place_ends (Before r) = let end = rest_ends r in (end.1.tokens, (end.0, end.1.read))
-place_ends (CodeNumber next) =
-    let some = some_value (Codes true) in
-    let end = rest_ends (next some.1.0) in
-    let on_to : Reaches (CodeNumber next) end.0 = on some.0 (ap (before next) some.1.1) end.1 in
-    (on_to.tokens, (end.0, on_to.read))
+pub rest_ends : (r : Rest) → GoesOn (Some r) []
+rest_ends r = let end = some_line r in (end.1.tokens, (end.0, end.1.read))
 
 -- ---- the number of a code after its `-`
 
-abbrev pub is_code_number : Place → Token → Bool
-is_code_number (CodeNumber next) (token.Number n) = true
-is_code_number p t = false
-
 -- token k of these is the number of a code after its `-`
-unfoldable pub is_code_number_at : Option Place → List Token → ℕ → Bool
+unfoldable pub is_code_number_at : Option Rest → List Token → ℕ → Bool
 is_code_number_at None ts k = false
-is_code_number_at (Some p) [] k = false
-is_code_number_at (Some p) (t ∷ ts) zero = is_code_number p t
-is_code_number_at (Some p) (t ∷ ts) (suc k) = is_code_number_at (step p t) ts k
+is_code_number_at (Some r) [] k = false
+is_code_number_at (Some r) (t ∷ ts) zero = is_code_number r t
+is_code_number_at (Some r) (t ∷ ts) (suc k) = is_code_number_at (step r t) ts k

@@ -140,7 +140,7 @@ line_answered bytes text line (inr (fault, is)) =
 
 text_answered : (bytes : List ℕ) → IsText bytes → (o : Result Line ℕ) → from line (line_ahead bytes) ≡ o → HasAnswer bytes
 text_answered bytes text (Ok l) is = line_answered bytes text (record { tree = l; spelled = is_line (line_ahead bytes) l is }) (answered (meaning l.form))
-text_answered bytes text (Err column) is = inr (faults.Syntax column, (λ e. cc), record { text = text; wrong = goes_wrong (line_ahead bytes) column is })
+text_answered bytes text (Err column) is = inr (faults.Syntax column, (λ e. cc), record { text = text; wrong = goes_wrong bytes column is })
 
 pub some_answer : (bytes : List ℕ) → HasAnswer bytes
 some_answer bytes =

@@ -7,58 +7,45 @@ use Rattle.mf_text.specs.declared.token.Mark.TheVariants as mark
 use Rattle.mf_text.specs.Token as token
 use Rattle.mf_text.specs.declared.token.Word.TheVariants as word
 use Rattle.mf_text.specs.Grammar.{Form, Nothing, AddContour, AddPicture, CullKeeping, CullDropping, Clear, Move, ShowTotal, ShowPicture, ShowProof, ShipOut, SetCheck, PublishAll, Shifted, Scaled, XScaled, YScaled, Rotated, Line, Path, spell_form, spell_weight, spell_int, spell_code, spell_pair, spell_name, spell_source, spell_corner, spell_path, spell_line, Plus, Minus, Code, Name, Current, Register, Source, Null, Named, Int, Pair}
-use Rattle.mf_text.specs.Rests.{Kind, Of, This, Names, Codes, Rest, Ends, Take, OrTake, MinusCode, Corners, One, Or, ACode, Place, Before, CodeNumber, before, corner, end_of, ends, if_kind, inner, int, pair, path, source, step, step_from, assignment, line, line_end, name_token, this_in, transform, value, weighable, Token}
+use Rattle.mf_text.specs.Rests.{Kind, Of, This, Names, Codes, Rest, Ends, Take, OrTake, Corners, One, Or, ACode, CodeNumber, corner, ends, if_kind, inner, int, is_code_number, pair, path, source, step, assignment, line, line_end, name_token, this_in, transform, value, weighable, Token}
 use Rattle.mf_text.specs.Syntax.{is_negative_code}
-use Rattle.mf_text.proofs.Rests.{HasSign, token_of, this_only, value_is, is_code_number, is_code_number_at, reads}
+use Rattle.mf_text.proofs.Rests.{HasSign, token_of, value_is, is_code_number_at, reads}
 
--- `shipout`, a source and `code`
-abbrev to_code : Token → List Token
-to_code s = token.Word word.Shipout ∷ s ∷ token.Word word.Code ∷ []
+-- `shipout`, a source, `code` and `-`
+abbrev to_number : Token → List Token
+to_number s = token.Word word.Shipout ∷ s ∷ token.Word word.Code ∷ token.Mark mark.Minus ∷ []
 
 -- after these tokens, each line that the rest ends as is spelled with them and those that it takes
-abbrev Spells : List Token → Rest → Type 0
+abbrev pub Spells : List Token → Rest → Type 0
 Spells past (Ends l) = spell_line l ≡ past
 Spells past (One u this) = Spells (past ++ u ∷ []) this
 Spells past (Or u this other) = Spells (past ++ u ∷ []) this × Spells past other
 Spells past (Take k next) = (a : Of k) → HasSign k a → Spells (past ++ token_of k a ∷ []) (next a)
 Spells past (OrTake k next other) = ((a : Of k) → HasSign k a → Spells (past ++ token_of k a ∷ []) (next a)) × Spells past other
-Spells past (MinusCode next other) =
-    (((s : Token) × (past ≡ to_code s)) × ((c : Code) → c.int.negative ≡ true → Spells ((past ++ token.Mark mark.Minus ∷ []) ++ token.Number c.int.magnitude ∷ []) (next c)))
-    × Spells past other
+Spells past (CodeNumber next) =
+    ((s : Token) × (past ≡ to_number s)) × ((c : Code) → c.int.negative ≡ true → Spells (past ++ token.Number c.int.magnitude ∷ []) (next c))
 Spells past (Corners first others next) =
     (more : List Pair) → Spells (past ++ (flat_map spell_corner more ++ token.Word word.Cycle ∷ [])) (next (record { first = first; others = others ++ more }))
-
--- the same at a place; the number of a code comes after `shipout`, a source, `code` and `-`
-abbrev pub SpellsAt : List Token → Place → Type 0
-SpellsAt past (Before r) = Spells past r
-SpellsAt past (CodeNumber next) =
-    ((s : Token) × (past ≡ to_code s ++ token.Mark mark.Minus ∷ []))
-    × ((c : Code) → c.int.negative ≡ true → Spells (past ++ token.Number c.int.magnitude ∷ []) (next c))
 
 -- ---- a step
 
 -- after a token of a kind
 value_step : (past : List Token) (k : Kind) (next : Of k → Rest) (t : Token) (v : Option (Of k)) → value k t ≡ v
-    → ((a : Of k) → HasSign k a → Spells (past ++ token_of k a ∷ []) (next a)) → IfSome (before next v) (SpellsAt (past ++ t ∷ []))
+    → ((a : Of k) → HasSign k a → Spells (past ++ token_of k a ∷ []) (next a)) → IfSome (option_map next v) (Spells (past ++ t ∷ []))
 value_step past k next t None is spells = tt
 value_step past k next t (Some a) is spells =
     let says = value_is k t a is in subst (λ u. Spells (past ++ u ∷ []) (next a)) (sym says.is) (spells a says.sign)
 
 -- or in another way
-or_step : (past : List Token) (one other : Option Place) → IfSome one (SpellsAt past) → IfSome other (SpellsAt past) → IfSome (option_or one other) (SpellsAt past)
+or_step : (past : List Token) (one other : Option Rest) → IfSome one (Spells past) → IfSome other (Spells past) → IfSome (option_or one other) (Spells past)
 or_step past None other first second = second
 or_step past (Some p) other first second = first
 
-kind_step : (past : List Token) (k : Kind) (next : Of k → Rest) (t : Token) (other : Option Place)
-    → ((a : Of k) → HasSign k a → Spells (past ++ token_of k a ∷ []) (next a)) → IfSome other (SpellsAt (past ++ t ∷ []))
-    → IfSome (if_kind k next t other) (SpellsAt (past ++ t ∷ []))
+kind_step : (past : List Token) (k : Kind) (next : Of k → Rest) (t : Token) (other : Option Rest)
+    → ((a : Of k) → HasSign k a → Spells (past ++ token_of k a ∷ []) (next a)) → IfSome other (Spells (past ++ t ∷ []))
+    → IfSome (if_kind k next t other) (Spells (past ++ t ∷ []))
 kind_step past k next t other spells second =
-    or_step (past ++ t ∷ []) (before next (value k t)) other (value_step past k next t (value k t) refl spells) second
-
-minus_step : (past : List Token) (next : Code → Rest) (t : Token) (v : Option (Unit {0})) → this_in (token.Mark mark.Minus) t ≡ v
-    → SpellsAt (past ++ token.Mark mark.Minus ∷ []) (CodeNumber next) → IfSome (option_map (λ _. CodeNumber next) v) (SpellsAt (past ++ t ∷ []))
-minus_step past next t None is spells = tt
-minus_step past next t (Some one) is spells = subst (λ u. SpellsAt (past ++ u ∷ []) (CodeNumber next)) (sym (this_only (token.Mark mark.Minus) t is)) spells
+    or_step (past ++ t ∷ []) (option_map next (value k t)) other (value_step past k next t (value k t) refl spells) second
 
 -- ---- phrases
 
@@ -102,8 +89,8 @@ sound_int {past} each = record {
   by = (λ n is. (sound_at (minus_tokens past n is) (each n)).by, λ n is. (sound_at (plain_tokens past n is) (each n)).by);
 }
 
-sound_code : {past : List Token} {next : Code → Rest} → ((s : Token) × (past ≡ to_code s)) → ((c : Code) → Sound (past ++ spell_code c) (next c))
-    → Sound past (ACode next)
+sound_code : {past : List Token} {next : Code → Rest} → ((s : Token) × (past ++ token.Mark mark.Minus ∷ [] ≡ to_number s))
+    → ((c : Code) → Sound (past ++ spell_code c) (next c)) → Sound past (ACode next)
 sound_code {past} place each = record {
   by = ((place, λ c is. (sound_at (minus_tokens past c.int is) (each c)).by), λ c is. (sound_at (plain_tokens past c.int is) (each c)).by);
 }
@@ -151,71 +138,61 @@ module _ (past : List Token) (first : Pair) (others : List Pair) (next : Path �
 
 -- ---- what is read is spelled
 
-rest_step : (past : List Token) (r : Rest) (t : Token) → Spells past r → IfSome (step_from r t) (SpellsAt (past ++ t ∷ []))
+rest_step : (past : List Token) (r : Rest) (t : Token) → Spells past r → IfSome (step r t) (Spells (past ++ t ∷ []))
 rest_step past (Ends l) t spells = tt
 rest_step past (One u this) t spells = value_step past (This u) (λ _. this) t (value (This u) t) refl (λ _ _. spells)
-rest_step past (Or u this other) t spells = kind_step past (This u) (λ _. this) t (step_from other t) (λ _ _. spells.0) (rest_step past other t spells.1)
+rest_step past (Or u this other) t spells = kind_step past (This u) (λ _. this) t (step other t) (λ _ _. spells.0) (rest_step past other t spells.1)
 rest_step past (Take k next) t spells = value_step past k next t (value k t) refl spells
-rest_step past (OrTake k next other) t spells = kind_step past k next t (step_from other t) spells.0 (rest_step past other t spells.1)
-rest_step past (MinusCode next other) t spells =
-    or_step (past ++ t ∷ []) (option_map (λ _. CodeNumber next) (this_in (token.Mark mark.Minus) t)) (step_from other t)
-    (minus_step past next t (this_in (token.Mark mark.Minus) t) refl
-    ((spells.0.0.0, ap (λ ts. ts ++ token.Mark mark.Minus ∷ []) spells.0.0.1), spells.0.1))
-    (rest_step past other t spells.1)
+rest_step past (OrTake k next other) t spells = kind_step past k next t (step other t) spells.0 (rest_step past other t spells.1)
+rest_step past (CodeNumber next) t spells = value_step past (Codes true) next t (value (Codes true) t) refl spells.1
 rest_step past (Corners first others next) t spells =
     kind_step past (This (token.Mark mark.Open)) _ t _ (λ _ _. (one_more past first others next spells).by)
     (value_step past (This (token.Word word.Cycle)) _ t (value (This (token.Word word.Cycle)) t) refl (λ _ _. no_more past first others next spells))
 
-place_step : (past : List Token) (p : Place) (t : Token) → SpellsAt past p → IfSome (step p t) (SpellsAt (past ++ t ∷ []))
-place_step past (Before r) t spells = rest_step past r t spells
-place_step past (CodeNumber next) t spells = value_step past (Codes true) next t (value (Codes true) t) refl spells.1
+end_spelled : (past : List Token) (r : Rest) (l : Line) → Spells past r → ends r ≡ Some l → spell_line l ≡ past
+end_spelled past (Ends m) l spells is = ap spell_line (sym (same_Some m l is)) ∙ spells
+end_spelled past (Or u this other) l spells is = end_spelled past other l spells.1 is
+end_spelled past (OrTake k next other) l spells is = end_spelled past other l spells.1 is
+end_spelled past r l spells is = absurd (none-some l is)
 
-end_spelled : (past : List Token) (p : Place) (l : Line) → SpellsAt past p → ends p ≡ Some l → spell_line l ≡ past
-end_spelled past (Before r) l spells is = by_rest r spells is where
-  by_rest : (s : Rest) → Spells past s → end_of s ≡ Some l → spell_line l ≡ past
-  by_rest (Ends m) spells is = ap spell_line (sym (same_Some m l is)) ∙ spells
-  by_rest (Or u this other) spells is = by_rest other spells.1 is
-  by_rest (OrTake k next other) spells is = by_rest other spells.1 is
-  by_rest (MinusCode next other) spells is = by_rest other spells.1 is
-  by_rest s spells is = absurd (none-some l is)
-end_spelled past (CodeNumber next) l spells is = absurd (none-some l is)
-
--- after a token, at each place to which it leads
+-- after a token, with each rest to which it leads
 module _ (past ts : List Token) (t : Token) (l : Line) where
-  spelled_on : (q : Option Place) → IfSome q (SpellsAt (past ++ t ∷ [])) → reads q ts ≡ Some l
-      → ((p : Place) → SpellsAt (past ++ t ∷ []) p → reads (Some p) ts ≡ Some l → spell_line l ≡ (past ++ t ∷ []) ++ ts)
+  spelled_on : (q : Option Rest) → IfSome q (Spells (past ++ t ∷ [])) → reads q ts ≡ Some l
+      → ((r : Rest) → Spells (past ++ t ∷ []) r → reads (Some r) ts ≡ Some l → spell_line l ≡ (past ++ t ∷ []) ++ ts)
       → spell_line l ≡ past ++ t ∷ ts
   unfolding reads
   spelled_on None spells is later = absurd (none-some l is)
-  spelled_on (Some p) spells is later = later p spells is ∙ append_assoc past (t ∷ []) ts
+  spelled_on (Some r) spells is later = later r spells is ∙ append_assoc past (t ∷ []) ts
 
-pub spelled : (ts past : List Token) (p : Place) (l : Line) → SpellsAt past p → reads (Some p) ts ≡ Some l → spell_line l ≡ past ++ ts
+pub spelled : (ts past : List Token) (r : Rest) (l : Line) → Spells past r → reads (Some r) ts ≡ Some l → spell_line l ≡ past ++ ts
 unfolding reads
-spelled [] past p l spells is = end_spelled past p l spells is ∙ sym (append-nil past)
-spelled (t ∷ ts) past p l spells is = spelled_on past ts t l (step p t) (place_step past p t spells) is (λ q. spelled ts (past ++ t ∷ []) q l)
+spelled [] past r l spells is = end_spelled past r l spells is ∙ sym (append-nil past)
+spelled (t ∷ ts) past r l spells is = spelled_on past ts t l (step r t) (rest_step past r t spells) is (λ q. spelled ts (past ++ t ∷ []) q l)
 
--- the number of a code after its `-` is where `is_negative_code` says
+-- token k of these, after `past`, is the number after `shipout`, a source, `code` and `-`
 abbrev IsCoded : List Token → List Token → ℕ → Type 0
 IsCoded past ts k = (is_negative_code (past ++ ts) ≡ true) × (length past + k ≡ 4)
 
-code_first : (past ts : List Token) (p : Place) (t : Token) → SpellsAt past p → is_code_number p t ≡ true → IsCoded past (t ∷ ts) 0
+code_first : (past ts : List Token) (r : Rest) (t : Token) → Spells past r → is_code_number r t ≡ true → IsCoded past (t ∷ ts) 0
 code_first past ts (CodeNumber next) (token.Number k) spells is = subst (λ us. IsCoded us (token.Number k ∷ ts) 0) (sym spells.0.1) (refl, refl)
-code_first past ts p t spells is = absurd (false≢true is)
+code_first past ts (Or u this other) t spells is = code_first past ts other t spells.1 is
+code_first past ts (OrTake k next other) t spells is = code_first past ts other t spells.1 is
+code_first past ts r t spells is = absurd (false≢true is)
 
-coded_on : (past ts : List Token) (t : Token) (k : ℕ) (q : Option Place) → IfSome q (SpellsAt (past ++ t ∷ [])) → is_code_number_at q ts k ≡ true
-    → ((p : Place) → SpellsAt (past ++ t ∷ []) p → is_code_number_at (Some p) ts k ≡ true → IsCoded (past ++ t ∷ []) ts k)
+coded_on : (past ts : List Token) (t : Token) (k : ℕ) (q : Option Rest) → IfSome q (Spells (past ++ t ∷ [])) → is_code_number_at q ts k ≡ true
+    → ((r : Rest) → Spells (past ++ t ∷ []) r → is_code_number_at (Some r) ts k ≡ true → IsCoded (past ++ t ∷ []) ts k)
     → IsCoded past (t ∷ ts) (suc k)
 unfolding is_code_number_at
 coded_on past ts t k None spells is later = absurd (false≢true is)
-coded_on past ts t k (Some p) spells is later =
-    let coded = later p spells is in
+coded_on past ts t k (Some r) spells is later =
+    let coded = later r spells is in
     (ap is_negative_code (sym (append_assoc past (t ∷ []) ts)) ∙ coded.0, omega (arith, coded.1, length-append past (t ∷ [])))
 
-pub coded : (ts past : List Token) (p : Place) (k : ℕ) → SpellsAt past p → is_code_number_at (Some p) ts k ≡ true → IsCoded past ts k
+pub coded : (ts past : List Token) (r : Rest) (k : ℕ) → Spells past r → is_code_number_at (Some r) ts k ≡ true → IsCoded past ts k
 unfolding is_code_number_at
-coded [] past p k spells is = absurd (false≢true is)
-coded (t ∷ ts) past p zero spells is = code_first past ts p t spells is
-coded (t ∷ ts) past p (suc k) spells is = coded_on past ts t k (step p t) (place_step past p t spells) is (λ q. coded ts (past ++ t ∷ []) q k)
+coded [] past r k spells is = absurd (false≢true is)
+coded (t ∷ ts) past r zero spells is = code_first past ts r t spells is
+coded (t ∷ ts) past r (suc k) spells is = coded_on past ts t k (step r t) (rest_step past r t spells) is (λ q. coded ts (past ++ t ∷ []) q k)
 
 -- ---- lines
 
@@ -246,7 +223,7 @@ sound_assignment name =
     sound_one (sound_or (sound_end (Clear name) refl) (sound_one (sound_at (name_tokens _ name) (sound_transform name))))
 
 -- a source is one token
-source_token : (s : Source) → (t : Token) × (token.Word word.Shipout ∷ [] ++ spell_source s ++ token.Word word.Code ∷ [] ≡ to_code t)
+source_token : (s : Source) → (t : Token) × (token.Word word.Shipout ∷ [] ++ spell_source s ++ token.Word word.Code ∷ [] ++ token.Mark mark.Minus ∷ [] ≡ to_number t)
 source_token Null = (token.Word word.NullPicture, refl)
 source_token (Named Current) = (token.Word word.CurrentPicture, refl)
 source_token (Named (Register letter)) = (token.Letter letter, refl)
@@ -265,5 +242,5 @@ sound_line =
     (sound_or (sound_one (sound_int (λ n. sound_end (SetCheck n) refl)))
     (sound_or (sound_end PublishAll refl) (sound_or_name sound_assignment (sound_end Nothing refl))))))))
 
-pub spells_line : SpellsAt [] (Before line)
+pub spells_line : Spells [] line
 spells_line = sound_line.by

@@ -269,6 +269,12 @@ text_says t text rest (AMark m at is) =
     subst (λ u. IsSaid u (text ++ rest)) (sym is) (starts-append (text ++ rest) (mark_text m) rest (ap (λ ts. ts ++ rest) at.written), at.longest)
 text_says t text rest (OtherByte other is) = subst (λ u. IsSaid u (text ++ rest)) (sym is) tt
 
+pub mark_length : (m : Mark) (text rest : List ℕ) → IsTokenText (token.Mark m) text rest → length text ≡ length (mark_text m)
+mark_length m text rest is =
+    let said = text_says (token.Mark m) text rest is in
+    let parts = starts-drop (text ++ rest) (mark_text m) said.0 in
+    ap (λ (f : Taken). f.bytes) (sym (text_first (token.Mark m) text rest is) ∙ ap first_token parts ∙ counts m _ (ap (is_longer m) (sym parts) ∙ said.1))
+
 pub said : (bs : List ℕ) → IsSaid (first_token bs).token bs
 said bs = by_front (front bs) where
   by_front : Front bs → IsSaid (first_token bs).token bs

@@ -1,5 +1,5 @@
 -- The rests of lines: what may follow in a line, token by token, and the line that it ends as. The grammar is one of them.
-use Rattle.std.specs.Prelude.{ℕ, List, [], ◌∷◌, ◌++◌, Bool, true, false, Option, None, Some, Result, Ok, Err, ok_or}
+use Rattle.std.specs.Prelude.{ℕ, ◌-◌, List, [], ◌∷◌, ◌++◌, Bool, true, false, Option, None, Some, Result, Ok, Err, ok_or, if◌then◌else◌}
 use Rattle.std.specs.Option.{option_map, option_and_then, option_or}
 use Rattle.mf_text.specs.declared.token.Mark.TheVariants as mark
 use Rattle.mf_text.specs.declared.token.Word.TheVariants as word
@@ -41,21 +41,16 @@ pub data Rest : Type 0 where
   -- a token of this kind; one of this kind, or else what may come instead
   Take : (k : Kind) → (Of k → Rest) → Rest
   OrTake : (k : Kind) → (Of k → Rest) → Rest → Rest
-  -- `-` and the number of a code, or else what may come instead
-  MinusCode : (Code → Rest) → Rest → Rest
+  -- the number of a code, after its `-`
+  CodeNumber : (Code → Rest) → Rest
   -- one more corner or `cycle`, after these corners
   Corners : Pair → List Pair → (Path → Rest) → Rest
-
--- a place in a line: before a rest, or between the `-` and the number of a code
-pub data Place : Type 0 where
-  Before : Rest → Place
-  CodeNumber : (Code → Rest) → Place
 
 -- ---- phrases
 
 -- an int that is a code
 abbrev pub ACode : (Code → Rest) → Rest
-ACode next = MinusCode next (Take (Codes false) next)
+ACode next = Or (token.Mark mark.Minus) (CodeNumber next) (Take (Codes false) next)
 
 -- a source
 abbrev pub source : (Source → Rest) → Rest
@@ -159,58 +154,45 @@ line =
 
 -- ---- a step
 
--- the place before what follows a value, if there is a value
-abbrev pub before : {A : Type 0} → (A → Rest) → Option A → Option Place
-before next a = option_map (λ x. Before (next x)) a
+-- what may follow a token if it is of this kind, or else something other
+abbrev pub if_kind : (k : Kind) → (Of k → Rest) → Token → Option Rest → Option Rest
+if_kind k next t other = option_or (option_map next (value k t)) other
 
--- the place after a token if it is of this kind, or else another place
-abbrev pub if_kind : (k : Kind) → (Of k → Rest) → Token → Option Place → Option Place
-if_kind k next t other = option_or (before next (value k t)) other
-
--- the place after a token, if the rest allows the token
-abbrev pub step_from : Rest → Token → Option Place
-step_from (Ends l) t = None
-step_from (One u this) t = before (λ _. this) (value (This u) t)
-step_from (Or u this other) t = if_kind (This u) (λ _. this) t (step_from other t)
-step_from (Take k next) t = before next (value k t)
-step_from (OrTake k next other) t = if_kind k next t (step_from other t)
-step_from (MinusCode next other) t = option_or (option_map (λ _. CodeNumber next) (this_in (token.Mark mark.Minus) t)) (step_from other t)
-step_from (Corners first others next) t =
+-- what may follow a token, if the rest allows the token
+abbrev pub step : Rest → Token → Option Rest
+step (Ends l) t = None
+step (One u this) t = option_map (λ _. this) (value (This u) t)
+step (Or u this other) t = if_kind (This u) (λ _. this) t (step other t)
+step (Take k next) t = option_map next (value k t)
+step (OrTake k next other) t = if_kind k next t (step other t)
+step (CodeNumber next) t = option_map next (value (Codes true) t)
+step (Corners first others next) t =
     if_kind (This (token.Mark mark.Open)) (λ _. corner (λ p. Corners first (others ++ p ∷ []) next)) t
-    (before (λ _. next (record { first = first; others = others })) (value (This (token.Word word.Cycle)) t))
+    (option_map (λ _. next (record { first = first; others = others })) (value (This (token.Word word.Cycle)) t))
 
--- the place after a token, if the token may come at this place
-abbrev pub step : Place → Token → Option Place
-step (Before r) t = step_from r t
-step (CodeNumber next) t = before next (value (Codes true) t)
-
--- the line that can end before this rest, if there is one
-abbrev pub end_of : Rest → Option Line
-end_of (Ends l) = Some l
-end_of (Or u this other) = end_of other
-end_of (OrTake k next other) = end_of other
-end_of (MinusCode next other) = end_of other
-end_of r = None
-
--- the line that can end at this place, if there is one
-abbrev pub ends : Place → Option Line
-ends (Before r) = end_of r
-ends p = None
+-- the line that can end here, if there is one
+abbrev pub ends : Rest → Option Line
+ends (Ends l) = Some l
+ends (Or u this other) = ends other
+ends (OrTake k next other) = ends other
+ends r = None
 
 -- ---- a line, or the column at which it goes wrong
 
--- the column at which a token that may not come is reported: its own, or that of the `-` for a number after `code -`
-abbrev pub report_column : Place → Token → ℕ → ℕ → ℕ
-report_column (CodeNumber next) (token.Number n) last column = last
-report_column p t last column = column
+-- the token is the number of a code after its `-`
+abbrev pub is_code_number : Rest → Token → Bool
+is_code_number (CodeNumber next) (token.Number n) = true
+is_code_number (Or u this other) t = is_code_number other t
+is_code_number (OrTake k next other) t = is_code_number other t
+is_code_number r t = false
 
--- what the tokens after a place give: a line, or the column at which they go wrong; the token before them is at column `last`,
--- and ends before column `past`
-unfoldable pub follow : Result Place ℕ → ℕ → ℕ → List Placed → Result Line ℕ
-follow (Err column) last past ps = Err column
-follow (Ok place) last past [] = ok_or (ends place) past
-follow (Ok place) last past (p ∷ ps) = follow (ok_or (step place p.token) (report_column place p.token last p.column)) p.column p.after ps
+-- what the tokens give where they must be this rest: a line, or the column at which they go wrong; the token before them ends before
+-- column `past`. A token that may not come is reported at its own column, but a number after `code -` at the `-`, the byte before
+unfoldable pub follow : Result Rest ℕ → ℕ → List Placed → Result Line ℕ
+follow (Err column) past ps = Err column
+follow (Ok rest) past [] = ok_or (ends rest) past
+follow (Ok rest) past (p ∷ ps) = follow (ok_or (step rest p.token) (if is_code_number rest p.token then past - 1 else p.column)) p.after ps
 
--- what the tokens ahead give where they must be this rest: a line, or the column at which they go wrong
+-- the same of the tokens ahead
 abbrev pub from : Rest → Ahead → Result Line ℕ
-from rest ahead = follow (Ok (Before rest)) ahead.past ahead.past ahead.tokens
+from rest ahead = follow (Ok rest) ahead.past ahead.tokens

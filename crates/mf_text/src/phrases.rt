@@ -2,9 +2,9 @@
 //! wrong.
 ghost use Rattle.std.specs.Prelude.{◌≡◌, Ok, IfOk};
 ghost use Rattle.mf_text.specs.Grammar.{Line};
-ghost use Rattle.mf_text.specs.Reads.{Closes, IsWithin, Passes, PassesPath, TakesValue, ahead, remaining_tokens, then_end, then_from, then_value};
+ghost use Rattle.mf_text.specs.Reads.{Closes, IsWithin, Passes, PassesPath, TakesValue, ahead, then_end, then_from, then_value};
 ghost use Rattle.mf_text.specs.Rests as rests;
-ghost use Rattle.mf_text.specs.Rests.{CodeNumber, Codes, Ends, Names, Numbers, OrTake, Rest, Take, follow, from, value};
+ghost use Rattle.mf_text.specs.Rests.{CodeNumber, Codes, Ends, Names, Numbers, OrTake, Rest, Take, from, value};
 ghost use Rattle.mf_text.specs.Token as token;
 ghost use Rattle.mf_text.specs.Token.{name_in};
 
@@ -142,33 +142,33 @@ impl Tokens<'_> {
     }
 
     /// Passes the int of a code. An int out of range is reported at its first token.
-    #[tactic(auto, using(crate::proofs::Reading::minus_passed, crate::proofs::Reading::minus_missed, crate::proofs::Reading::passed, crate::proofs::Reading::missed))]
+    #[tactic(auto, using(crate::proofs::Reading::passed, crate::proofs::Reading::missed))]
     pub fn code(&mut self) -> Result<Code, SyntaxFault>
         ensures { Passes rests.ACode self.old self.new result }
     {
-        let first = self.fault();
         if self.takes_mark(Mark::Minus) {
-            return self.negative_code(first);
+            return self.negative_code();
         }
         match self.takes_code(false) {
             Some(code) => Ok(code),
-            None => Err(first),
+            None => Err(self.fault()),
         }
     }
 
-    /// Passes the number of a code after its `-`. A number out of range is reported at the `-`, which `first` is. This is a
-    /// rule of its own: a line may go on with `-` after `code`, since `-0` is a code.
+    /// Passes the number of a code after its `-`. A number out of range is reported at the `-`, which is the last byte that was
+    /// passed. This is a rule of its own: a line may go on with `-` after `code`, since `-0` is a code.
     #[tactic(auto, using(crate::proofs::Reading::code_passed, crate::proofs::Reading::code_bad, crate::proofs::Reading::code_missing))]
-    fn negative_code(&mut self, first: SyntaxFault) -> Result<Code, SyntaxFault>
-        ensures { (next : Code → Rest)
-            → follow (Ok (CodeNumber next)) first.column self.old.column (remaining_tokens self.old) ≡ then_from next (ahead self.new) result }
+    fn negative_code(&mut self) -> Result<Code, SyntaxFault>
+        ensures { Passes CodeNumber self.old self.new result }
     {
         if let Some(code) = self.takes_code(true) {
             return Ok(code);
         }
         let mut after = *self;
         match after.takes_number() {
-            Some(_) => Err(first),
+            Some(_) => Err(SyntaxFault {
+                column: self.column - 1,
+            }),
             None => Err(self.fault()),
         }
     }

@@ -24,6 +24,7 @@ pub struct Tokens<'a> {
     /// The column of the first of these bytes, from 1.
     pub(crate) column: u32,
     ghost short: { length rest.now + column < 2 ^ 32 },
+    ghost counted: { 0 < column },
 }
 
 impl<'a> Tokens<'a> {
@@ -194,7 +195,8 @@ impl<'a> Tokens<'a> {
 #[cold]
 #[inline(never)]
 fn fault_at(text: &[u8], column: u32) -> SyntaxFault
-    requires { length text.now + column < 2 ^ 32 }
+    requires short { length text.now + column < 2 ^ 32 }
+    requires counted { 0 < column }
     ensures { result.column ≡ column_of (tokens_from column text.now) column }
 {
     let mut start = Tokens { rest: text, column };
