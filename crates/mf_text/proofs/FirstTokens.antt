@@ -1,10 +1,11 @@
 -- The token at the front of bytes that do not start with a blank, and what is ahead there.
 use Rattle.std.proofs.Common.{◌≡◌, inl, inr, ℕ, ◌+◌, ◌≤◌, true, false, eqb, List, [], ◌∷◌, drop, length, Option, None, Some, refl, sym, ap, ◌∙◌, arith}
+use Rattle.std.specs.Option.{option_map}
 use Rattle.std.proofs.lemmas.Bool.{cases_Bool, eqb-true}
 use Rattle.mf_text.specs.declared.tokens.Tokens.{Tokens}
 use Rattle.mf_text.specs.Bytes.{IsClear}
 use Rattle.mf_text.specs.Ahead.{Ahead}
-use Rattle.mf_text.specs.Reads.{TakesToken, TakesValue, ahead, next_value, remaining_tokens, with_rest}
+use Rattle.mf_text.specs.Reads.{TakesToken, TakesValue, ahead, next_value, remaining_tokens}
 use Rattle.mf_text.specs.Token.{Token, Unknown, is_token, this_in}
 use Rattle.mf_text.specs.Tokens.{first_token, mark_among, token_at, tokens_from}
 use Rattle.mf_text.proofs.LineTokens.{tokens_at_comment, tokens_at_end, tokens-step}
@@ -37,9 +38,9 @@ module _ (old : Tokens) (column : ℕ) (text : List ℕ) (same : remaining_token
 
   -- a value that the token at the front has, or lacks
   module _ {A : Type 0} (f : Token → Option A) (none : f Unknown ≡ None) where
-    value_at : (v : Option A) → f (first_token text).token ≡ v → IsFirst column text → next_value f (remaining_tokens old) ≡ with_rest onward v
-    value_at v is (Ended ended unknown) = ap (next_value f) (same ∙ ended) ∙ ap (with_rest onward) (sym none ∙ sym (ap f unknown) ∙ is)
-    value_at v is (Starts starts) = ap (next_value f) (same ∙ starts) ∙ ap (with_rest onward) is
+    value_at : (v : Option A) → f (first_token text).token ≡ v → IsFirst column text → next_value f (remaining_tokens old) ≡ option_map (λ a. (a, onward)) v
+    value_at v is (Ended ended unknown) = ap (next_value f) (same ∙ ended) ∙ ap (option_map (λ a. (a, onward))) (sym none ∙ sym (ap f unknown) ∙ is)
+    value_at v is (Starts starts) = ap (next_value f) (same ∙ starts) ∙ ap (option_map (λ a. (a, onward))) is
 
     pub value_missed : f (first_token text).token ≡ None → TakesValue f old old None
     value_missed is = (value_at None is (first column text clear), refl)

@@ -11,89 +11,11 @@ use Rattle.mf_text.specs.declared.token.Word.TheVariants as word
 use Rattle.mf_text.specs.declared.tokens.Tokens.{Tokens}
 use Rattle.mf_text.specs.Ahead.{Ahead, column_of}
 use Rattle.mf_text.specs.Grammar.{Line, Path, path_value, Point, Code, Name, Current, Register, Int, Pair, pair_value}
-use Rattle.mf_text.specs.Reads.{HasPoints, PassesPath, TakesToken, TakesValue, ahead, remaining_tokens, next_value, with_rest}
+use Rattle.mf_text.specs.Reads.{HasPoints, PassesPath, TakesToken, TakesValue, ahead, remaining_tokens, next_value}
 use Rattle.mf_text.specs.Rests.{Kind, Of, This, Numbers, Codes, Rest, Take, OrTake, Corners, One, Or, CodeNumber, Ends, corner, path, follow, from, is_code_number, name_token, step, value}
 use Rattle.mf_text.specs.Token.{Placed, Token, letter_in, name_in, this_in, value_in}
 use Rattle.mf_text.specs.Token as token
 use Rattle.mf_text.proofs.Rests.{name_of, named, this_only}
-
--- ---- a value of the next token
-
--- what a line gives after a value, if there is one
-abbrev on_value : {A : Type 0} → (A → Rest) → Result Line ℕ → Option (A × Ahead) → Result Line ℕ
-on_value next otherwise None = otherwise
-on_value next otherwise (Some (a, after)) = from (next a) after
-
-module _ (k : Kind) (next : Of k → Rest) where
-  value_read : (column past : ℕ) (ps : List Placed) (v : Option (Of k)) → follow (ok_or (option_map next v) column) past ps
-      ≡ on_value next (Err column) (with_rest (record { tokens = ps; past = past }) v)
-  unfolding follow
-  value_read column past ps None = refl
-  value_read column past ps (Some a) = refl
-
-  taken : (past : ℕ) (ps : List Placed)
-      → from (Take k next) (record { tokens = ps; past = past }) ≡ on_value next (Err (column_of ps past)) (next_value (value k) ps)
-  unfolding follow
-  taken past [] = refl
-  taken past (p ∷ ps) = value_read p.column p.after ps (value k p.token)
-
-  -- what a line gives where a token of a kind was passed
-  pub passed : (old new : Tokens) (a : Of k) → TakesValue (value k) old new (Some a) → from (Take k next) (ahead old) ≡ from (next a) (ahead new)
-  passed old new a is = taken old.column (remaining_tokens old) ∙ ap (on_value next (Err (column_of (remaining_tokens old) old.column))) is
-
-  -- what a line gives where there is none
-  pub missed : (old new : Tokens) → TakesValue (value k) old new None
-      → from (Take k next) (ahead old) ≡ Err (column_of (remaining_tokens new) new.column)
-  missed old new (none, same) =
-      taken old.column (remaining_tokens old) ∙ ap (on_value next (Err (column_of (remaining_tokens old) old.column))) none
-      ∙ ap (λ (t : Tokens). Err (column_of (remaining_tokens t) t.column)) (sym same)
-
-  or_taken : (other : Rest) (past : ℕ) (ps : List Placed) → from (OrTake k next other) (record { tokens = ps; past = past })
-      ≡ on_value next (from other (record { tokens = ps; past = past })) (next_value (value k) ps)
-  unfolding follow
-  or_taken other past [] = refl
-  or_taken other past (p ∷ ps) = by_value (value k p.token) where
-    by_value : (v : Option (Of k)) → follow (ok_or (option_or (option_map next v) (step other p.token)) (if is_code_number other p.token then past - 1 else p.column)) p.after ps
-        ≡ on_value next (from other (record { tokens = p ∷ ps; past = past })) (with_rest (record { tokens = ps; past = p.after }) v)
-    by_value None = refl
-    by_value (Some a) = refl
-
-  -- what a line gives where such a token may come
-  pub or_passed : (other : Rest) (old new : Tokens) (a : Of k) → TakesValue (value k) old new (Some a)
-      → from (OrTake k next other) (ahead old) ≡ from (next a) (ahead new)
-  or_passed other old new a is = or_taken other old.column (remaining_tokens old) ∙ ap (on_value next (from other (ahead old))) is
-
-  pub or_missed : (other : Rest) (old new : Tokens) → TakesValue (value k) old new None → from (OrTake k next other) (ahead old) ≡ from other (ahead new)
-  or_missed other old new (none, same) =
-      or_taken other old.column (remaining_tokens old) ∙ ap (on_value next (from other (ahead old))) none
-      ∙ ap (λ (t : Tokens). from other (ahead t)) (sym same)
-
--- ---- a given token
-
-module _ (u : Token) (this : Rest) where
-  one_is : (past : ℕ) (ps : List Placed)
-      → from (One u this) (record { tokens = ps; past = past }) ≡ from (Take (This u) (λ _. this)) (record { tokens = ps; past = past })
-  unfolding follow
-  one_is past [] = refl
-  one_is past (p ∷ ps) = refl
-
-  pub one_passed : (old new : Tokens) → TakesToken u old new true → from (One u this) (ahead old) ≡ from this (ahead new)
-  one_passed old new took = one_is old.column (remaining_tokens old) ∙ passed (This u) (λ _. this) old new tt took
-
-  pub one_missed : (old new : Tokens) → TakesToken u old new false → from (One u this) (ahead old) ≡ Err (column_of (remaining_tokens new) new.column)
-  one_missed old new took = one_is old.column (remaining_tokens old) ∙ missed (This u) (λ _. this) old new took
-
-  or_is : (other : Rest) (past : ℕ) (ps : List Placed)
-      → from (Or u this other) (record { tokens = ps; past = past }) ≡ from (OrTake (This u) (λ _. this) other) (record { tokens = ps; past = past })
-  unfolding follow
-  or_is other past [] = refl
-  or_is other past (p ∷ ps) = refl
-
-  pub this_passed : (other : Rest) (old new : Tokens) → TakesToken u old new true → from (Or u this other) (ahead old) ≡ from this (ahead new)
-  this_passed other old new took = or_is other old.column (remaining_tokens old) ∙ or_passed (This u) (λ _. this) other old new tt took
-
-  pub this_missed : (other : Rest) (old new : Tokens) → TakesToken u old new false → from (Or u this other) (ahead old) ≡ from other (ahead new)
-  this_missed other old new took = or_is other old.column (remaining_tokens old) ∙ or_missed (This u) (λ _. this) other old new took
 
 -- ---- the value of the next token
 
@@ -103,7 +25,7 @@ at_first : {A : Type 0} (f : Token → Option A) (a : A) (P : List Placed → Ah
     → (ps : List Placed) (after : Ahead) → next_value f ps ≡ Some (a, after) → P ps after
 at_first f a P there [] after is = absurd (none-some (a, after) is)
 at_first {A} f a P there (p ∷ ps) after is = by_value (f p.token) refl is where
-  by_value : (v : Option A) → f p.token ≡ v → with_rest (record { tokens = ps; past = p.after }) v ≡ Some (a, after) → P (p ∷ ps) after
+  by_value : (v : Option A) → f p.token ≡ v → option_map {U = A × Ahead} (λ x. (x, record { tokens = ps; past = p.after })) v ≡ Some (a, after) → P (p ∷ ps) after
   by_value None found none = absurd (none-some (a, after) none)
   by_value (Some x) found same =
       let pairs = same_Some (x, record { tokens = ps; past = p.after }) (a, after) same in
@@ -112,9 +34,65 @@ at_first {A} f a P there (p ∷ ps) after is = by_value (f p.token) refl is wher
 -- where no value is taken, the first token has none
 lacks : {A : Type 0} (f : Token → Option A) (p : Placed) (ps : List Placed) → next_value f (p ∷ ps) ≡ None → f p.token ≡ None
 lacks {A} f p ps is = by_value (f p.token) is where
-  by_value : (v : Option A) → with_rest (record { tokens = ps; past = p.after }) v ≡ None → v ≡ None
+  by_value : (v : Option A) → option_map {U = A × Ahead} (λ x. (x, record { tokens = ps; past = p.after })) v ≡ None → v ≡ None
   by_value None none = refl
   by_value (Some x) other = absurd (none-some (x, record { tokens = ps; past = p.after }) (sym other))
+
+-- what a line gives where its next token has a value
+passes : (r : Rest) (k : Kind) (next : Of k → Rest) → ((t : Token) (a : Of k) → value k t ≡ Some a → step r t ≡ Some (next a))
+    → (old new : Tokens) (a : Of k) → TakesValue (value k) old new (Some a) → from r (ahead old) ≡ from (next a) (ahead new)
+unfolding follow
+passes r k next allows old new a is =
+    at_first (value k) a (λ ps on. from r (record { tokens = ps; past = old.column }) ≡ from (next a) on) (λ p ps found. rw (allows p.token a found, follow) refl)
+    (remaining_tokens old) (ahead new) is
+
+-- what it gives where its next token has none
+misses : (r : Rest) (k : Kind) (out : Ahead → Result Line ℕ) → ((past : ℕ) → from r (record { tokens = []; past = past }) ≡ out (record { tokens = []; past = past }))
+    → ((p : Placed) (ps : List Placed) (past : ℕ) → value k p.token ≡ None
+    → from r (record { tokens = p ∷ ps; past = past }) ≡ out (record { tokens = p ∷ ps; past = past }))
+    → (old new : Tokens) → TakesValue (value k) old new None → from r (ahead old) ≡ out (ahead new)
+misses r k out ended goes_on old new (none, same) =
+    by_tokens (remaining_tokens old) none ∙ ap (λ (t : Tokens). out (ahead t)) (sym same) where
+      by_tokens : (ps : List Placed) → next_value (value k) ps ≡ None
+          → from r (record { tokens = ps; past = old.column }) ≡ out (record { tokens = ps; past = old.column })
+      by_tokens [] none = ended old.column
+      by_tokens (p ∷ ps) none = goes_on p ps old.column (lacks (value k) p ps none)
+
+-- the line goes wrong at its next token
+abbrev stuck : Ahead → Result Line ℕ
+stuck ahead = Err (column_of ahead.tokens ahead.past)
+
+module _ (k : Kind) (next : Of k → Rest) where
+  pub passed : (old new : Tokens) (a : Of k) → TakesValue (value k) old new (Some a) → from (Take k next) (ahead old) ≡ from (next a) (ahead new)
+  passed = passes (Take k next) k next (λ t a is. rw is refl)
+
+  pub missed : (old new : Tokens) → TakesValue (value k) old new None
+      → from (Take k next) (ahead old) ≡ Err (column_of (remaining_tokens new) new.column)
+  unfolding follow
+  missed = misses (Take k next) k stuck (λ _. refl) (λ p ps past none. rw (none, follow) refl)
+
+  pub or_passed : (other : Rest) (old new : Tokens) (a : Of k) → TakesValue (value k) old new (Some a)
+      → from (OrTake k next other) (ahead old) ≡ from (next a) (ahead new)
+  or_passed other = passes (OrTake k next other) k next (λ t a is. rw is refl)
+
+  pub or_missed : (other : Rest) (old new : Tokens) → TakesValue (value k) old new None → from (OrTake k next other) (ahead old) ≡ from other (ahead new)
+  unfolding follow
+  or_missed other = misses (OrTake k next other) k (from other) (λ _. refl) (λ p ps past none. rw (none, follow) refl)
+
+module _ (u : Token) (this : Rest) where
+  pub one_passed : (old new : Tokens) → TakesToken u old new true → from (One u this) (ahead old) ≡ from this (ahead new)
+  one_passed old new = passes (One u this) (This u) (λ _. this) (λ t a is. rw is refl) old new tt
+
+  pub one_missed : (old new : Tokens) → TakesToken u old new false → from (One u this) (ahead old) ≡ Err (column_of (remaining_tokens new) new.column)
+  unfolding follow
+  one_missed = misses (One u this) (This u) stuck (λ _. refl) (λ p ps past none. rw (none, follow) refl)
+
+  pub this_passed : (other : Rest) (old new : Tokens) → TakesToken u old new true → from (Or u this other) (ahead old) ≡ from this (ahead new)
+  this_passed other old new = passes (Or u this other) (This u) (λ _. this) (λ t a is. rw is refl) old new tt
+
+  pub this_missed : (other : Rest) (old new : Tokens) → TakesToken u old new false → from (Or u this other) (ahead old) ≡ from other (ahead new)
+  unfolding follow
+  this_missed other = misses (Or u this other) (This u) (from other) (λ _. refl) (λ p ps past none. rw (none, follow) refl)
 
 -- fewer tokens remain after one
 pub fewer : {A : Type 0} (f : Token → Option A) (a : A) (ps : List Placed) (after : Ahead) → next_value f ps ≡ Some (a, after) → length after.tokens < length ps
@@ -125,7 +103,7 @@ taken_as : {A B : Type 0} (f : Token → Option A) (g : Token → Option B) (a :
     → (ps : List Placed) (after : Ahead) → next_value f ps ≡ Some (a, after) → next_value g ps ≡ Some (b, after)
 taken_as f g a b same ps after is =
     at_first f a (λ qs on. next_value g qs ≡ Some (b, on))
-    (λ p qs value. ap (with_rest (record { tokens = qs; past = p.after })) (same p.token value)) ps after is
+    (λ p qs value. ap (option_map (λ x. (x, record { tokens = qs; past = p.after }))) (same p.token value)) ps after is
 
 -- ---- an int
 
@@ -158,7 +136,7 @@ pub no_name_taken : (ps : List Placed) → next_value (this_in (token.Word word.
     → next_value name_in ps ≡ None
 no_name_taken [] other none = refl
 no_name_taken (p ∷ ps) other none =
-    ap (with_rest (record { tokens = ps; past = p.after })) (no_name p.token (lacks (this_in (token.Word word.CurrentPicture)) p ps other) (lacks letter_in p ps none))
+    ap (option_map (λ x. (x, record { tokens = ps; past = p.after }))) (no_name p.token (lacks (this_in (token.Word word.CurrentPicture)) p ps other) (lacks letter_in p ps none))
 
 -- a given name is the next token exactly where it is the name that the token is
 pub this_name : (name : Name) (ps : List Placed) (after : Ahead) → next_value name_in ps ≡ Some (name, after)
@@ -191,43 +169,32 @@ line_goes_on line past (p ∷ ps) some = refl
 -- ---- the number of a code after its `-`
 
 -- a number is reported at the `-`, and any other token where it is
-abbrev on_number : ℕ → ℕ → Option (ℕ × Ahead) → Result Line ℕ
-on_number past column None = Err column
-on_number past column (Some n) = Err (past - 1)
+abbrev on_number : Ahead → Option (ℕ × Ahead) → Result Line ℕ
+on_number ahead None = stuck ahead
+on_number ahead (Some n) = Err (ahead.past - 1)
 
-number_read : (next : Code → Rest) (past : ℕ) (ps : List Placed) → from (CodeNumber next) (record { tokens = ps; past = past })
-    ≡ on_value next (on_number past (column_of ps past) (next_value value_in ps)) (next_value (value (Codes true)) ps)
-unfolding follow
-number_read next past [] = refl
-number_read next past (p ∷ ps) = by_token p.token where
-  by_token : (t : Token) → follow (ok_or (option_map next (value (Codes true) t)) (if is_code_number (CodeNumber next) t then past - 1 else p.column)) p.after ps
-      ≡ on_value next (on_number past p.column (with_rest (record { tokens = ps; past = p.after }) (value_in t)))
-      (with_rest (record { tokens = ps; past = p.after }) (value (Codes true) t))
-  by_token (token.Number n) = value_read (Codes true) next (past - 1) p.after ps (value (Codes true) (token.Number n))
-  by_token t = refl
+module _ (next : Code → Rest) (old same : Tokens) where
+  pub code_passed : (code : Code) → TakesValue (value (Codes true)) old same (Some code) → from (CodeNumber next) (ahead old) ≡ from (next code) (ahead same)
+  code_passed = passes (CodeNumber next) (Codes true) next (λ t a is. rw is refl) old same
 
-module _ (next : Code → Rest) (old : Tokens) where
-  abbrev left : List Placed
-  left = remaining_tokens old
+  code_missed : TakesValue (value (Codes true)) old same None
+      → from (CodeNumber next) (ahead old) ≡ on_number (ahead same) (next_value value_in (remaining_tokens same))
+  unfolding follow
+  code_missed =
+      misses (CodeNumber next) (Codes true) (λ on. on_number on (next_value value_in on.tokens)) (λ _. refl)
+      (λ p ps past none. rw (none, follow) (by_token p ps past p.token)) old same where
+        by_token : (p : Placed) (ps : List Placed) (past : ℕ) (t : Token) → Err (if is_code_number (CodeNumber next) t then past - 1 else p.column)
+            ≡ on_number (record { tokens = p ∷ ps; past = past }) (option_map {U = ℕ × Ahead} (λ n. (n, record { tokens = ps; past = p.after })) (value_in t))
+        by_token p ps past (token.Number n) = refl
+        by_token p ps past t = refl
 
-  pub code_passed : (code : Code) (new : Tokens) → TakesValue (value (Codes true)) old new (Some code) → from (CodeNumber next) (ahead old) ≡ from (next code) (ahead new)
-  code_passed code new took =
-      number_read next old.column left ∙ ap (on_value next (on_number old.column (column_of left old.column) (next_value value_in left))) took
-
-  code_missed : (same : Tokens) → TakesValue (value (Codes true)) old same None → (v : Option (ℕ × Ahead)) → next_value value_in (remaining_tokens same) ≡ v
-      → from (CodeNumber next) (ahead old) ≡ on_number old.column (column_of left old.column) v
-  code_missed same (none, is) v found =
-      number_read next old.column left ∙ ap (on_value next (on_number old.column (column_of left old.column) (next_value value_in left))) none
-      ∙ ap (on_number old.column (column_of left old.column)) (ap (λ (t : Tokens). next_value value_in (remaining_tokens t)) (sym is) ∙ found)
-
-  pub code_bad : (same after : Tokens) (n : ℕ) → TakesValue (value (Codes true)) old same None → TakesValue value_in same after (Some n)
+  pub code_bad : (after : Tokens) (n : ℕ) → TakesValue (value (Codes true)) old same None → TakesValue value_in same after (Some n)
       → from (CodeNumber next) (ahead old) ≡ Err (same.column - 1)
-  code_bad same after n none found = code_missed same none _ found ∙ ap (λ (t : Tokens). Err (t.column - 1)) (sym none.1)
+  code_bad after n none found = code_missed none ∙ ap (on_number (ahead same)) found
 
-  pub code_missing : (same after : Tokens) → TakesValue (value (Codes true)) old same None → TakesValue value_in same after None
+  pub code_missing : (after : Tokens) → TakesValue (value (Codes true)) old same None → TakesValue value_in same after None
       → from (CodeNumber next) (ahead old) ≡ Err (column_of (remaining_tokens same) same.column)
-  code_missing same after none lacking =
-      code_missed same none None lacking.0 ∙ ap (λ (t : Tokens). Err (column_of (remaining_tokens t) t.column)) (sym none.1)
+  code_missing after none lacking = code_missed none ∙ ap (on_number (ahead same)) lacking.0
 
 -- ---- the corners of a path
 

@@ -93,13 +93,13 @@ unfolding reads
 on t is after = record { tokens = t ∷ after.tokens; read = ap (λ s. reads s after.tokens) is ∙ after.read }
 
 one_to : {u : Token} {this : Rest} {l : Line} → To this l → To (One u this) l
-one_to {u} {this} after = on u (ap (option_map (λ _. this)) (this_same u)) after
+one_to {u} {this} after = on u (ap (λ v. option_or (option_map (λ _. this) v) None) (this_same u)) after
 
 or_to : {u : Token} {this other : Rest} {l : Line} → To this l → To (Or u this other) l
 or_to {u} {this} {other} after = on u (ap (λ v. option_or (option_map (λ _. this) v) (step other u)) (this_same u)) after
 
 take_to : {k : Kind} {next : Of k → Rest} {l : Line} (a : Of k) → HasSign k a → To (next a) l → To (Take k next) l
-take_to {k} {next} a sign after = on (token_of k a) (ap (option_map next) (value_back k a sign)) after
+take_to {k} {next} a sign after = on (token_of k a) (ap (λ v. option_or (option_map next v) None) (value_back k a sign)) after
 
 source_to : {next : Source → Rest} {l : Source → Line} → ((s : Source) → To (next s) (l s)) → (s : Source) → To (source next) (l s)
 source_to each Null = or_to (each Null)
@@ -109,13 +109,13 @@ source_to each (Named (Register n)) = on (token.Letter n) refl (each (Named (Reg
 int_to : {next : Int → Rest} {l : Line} (n : Int) → To (next n) l → To (int next) l
 int_to {next} n after = elim (cases_Bool n.negative) [
   | inl is ↦ or_to (take_to n is after)
-  | inr is ↦ on (token.Number n.magnitude) (ap (option_map next) (value_back (Numbers false) n is)) after
+  | inr is ↦ on (token.Number n.magnitude) (ap (λ v. option_or (option_map next v) None) (value_back (Numbers false) n is)) after
 ]
 
 code_to : {next : Code → Rest} {l : Line} (c : Code) → To (next c) l → To (ACode next) l
 code_to {next} c after = elim (cases_Bool c.int.negative) [
-  | inl is ↦ or_to (on {r = CodeNumber next} (token.Number c.int.magnitude) (ap (option_map next) (value_back (Codes true) c is)) after)
-  | inr is ↦ on (token.Number c.int.magnitude) (ap (option_map next) (value_back (Codes false) c is)) after
+  | inl is ↦ or_to (on {r = CodeNumber next} (token.Number c.int.magnitude) (ap (λ v. option_or (option_map next v) None) (value_back (Codes true) c is)) after)
+  | inr is ↦ on (token.Number c.int.magnitude) (ap (λ v. option_or (option_map next v) None) (value_back (Codes false) c is)) after
 ]
 
 inner_to : {next : Pair → Rest} {l : Pair → Line} → ((p : Pair) → To (next p) (l p)) → (p : Pair) → To (inner next) (l p)
@@ -151,7 +151,7 @@ weight_to form (Some n) ended = or_to (int_to n (end_to (form (Some n)) ended))
 again_to : (name : Name) {l : Line} → To (transform name) l → To (assignment name) l
 again_to Current after = one_to (on (token.Word word.CurrentPicture) refl after)
 again_to (Register n) after =
-    one_to (on (token.Letter n) (ap (option_map (λ _. transform (Register n))) (this_same (token.Letter n))) after)
+    one_to (on (token.Letter n) (ap (λ v. option_or (option_map (λ _. transform (Register n)) v) None) (this_same (token.Letter n))) after)
 
 assignment_to : (name : Name) {l : Line} → To (assignment name) l → To line l
 assignment_to Current after = on (token.Word word.CurrentPicture) refl after
@@ -218,13 +218,13 @@ unfolding reads
 some_line (Ends l) = (l, record { tokens = []; read = refl })
 some_line (One u this) = let end = some_line this in (end.0, one_to end.1)
 some_line (Or u this other) = let end = some_line this in (end.0, or_to end.1)
-some_line (Take k next) = let some = some_value k in let end = some_line (next some.1.0) in (end.0, on some.0 (ap (option_map next) some.1.1) end.1)
+some_line (Take k next) = let some = some_value k in let end = some_line (next some.1.0) in (end.0, on some.0 (ap (λ v. option_or (option_map next v) None) some.1.1) end.1)
 some_line (OrTake k next other) =
     let some = some_value k in
     let end = some_line (next some.1.0) in
     (end.0, on some.0 (ap (λ v. option_or (option_map next v) (step other some.0)) some.1.1) end.1)
 some_line (CodeNumber next) =
-    let some = some_value (Codes true) in let end = some_line (next some.1.0) in (end.0, on some.0 (ap (option_map next) some.1.1) end.1)
+    let some = some_value (Codes true) in let end = some_line (next some.1.0) in (end.0, on some.0 (ap (λ v. option_or (option_map next v) None) some.1.1) end.1)
 some_line (Corners first others next) = let end = some_line (next (record { first = first; others = others })) in (end.0, on (token.Word word.Cycle) refl end.1)
 
 pub rest_ends : (r : Rest) → GoesOn (Some r) []

@@ -29,23 +29,14 @@ Spells past (Corners first others next) =
 
 -- ---- a step
 
--- after a token of a kind
-value_step : (past : List Token) (k : Kind) (next : Of k → Rest) (t : Token) (v : Option (Of k)) → value k t ≡ v
-    → ((a : Of k) → HasSign k a → Spells (past ++ token_of k a ∷ []) (next a)) → IfSome (option_map next v) (Spells (past ++ t ∷ []))
-value_step past k next t None is spells = tt
-value_step past k next t (Some a) is spells =
-    let says = value_is k t a is in subst (λ u. Spells (past ++ u ∷ []) (next a)) (sym says.is) (spells a says.sign)
-
--- or in another way
-or_step : (past : List Token) (one other : Option Rest) → IfSome one (Spells past) → IfSome other (Spells past) → IfSome (option_or one other) (Spells past)
-or_step past None other first second = second
-or_step past (Some p) other first second = first
-
+-- after a token of a kind, or else in another way
 kind_step : (past : List Token) (k : Kind) (next : Of k → Rest) (t : Token) (other : Option Rest)
     → ((a : Of k) → HasSign k a → Spells (past ++ token_of k a ∷ []) (next a)) → IfSome other (Spells (past ++ t ∷ []))
     → IfSome (if_kind k next t other) (Spells (past ++ t ∷ []))
-kind_step past k next t other spells second =
-    or_step (past ++ t ∷ []) (option_map next (value k t)) other (value_step past k next t (value k t) refl spells) second
+kind_step past k next t other spells second = by_value (value k t) refl where
+  by_value : (v : Option (Of k)) → value k t ≡ v → IfSome (option_or (option_map next v) other) (Spells (past ++ t ∷ []))
+  by_value None is = second
+  by_value (Some a) is = let says = value_is k t a is in subst (λ u. Spells (past ++ u ∷ []) (next a)) (sym says.is) (spells a says.sign)
 
 -- ---- phrases
 
@@ -140,14 +131,14 @@ module _ (past : List Token) (first : Pair) (others : List Pair) (next : Path �
 
 rest_step : (past : List Token) (r : Rest) (t : Token) → Spells past r → IfSome (step r t) (Spells (past ++ t ∷ []))
 rest_step past (Ends l) t spells = tt
-rest_step past (One u this) t spells = value_step past (This u) (λ _. this) t (value (This u) t) refl (λ _ _. spells)
+rest_step past (One u this) t spells = kind_step past (This u) (λ _. this) t None (λ _ _. spells) tt
 rest_step past (Or u this other) t spells = kind_step past (This u) (λ _. this) t (step other t) (λ _ _. spells.0) (rest_step past other t spells.1)
-rest_step past (Take k next) t spells = value_step past k next t (value k t) refl spells
+rest_step past (Take k next) t spells = kind_step past k next t None spells tt
 rest_step past (OrTake k next other) t spells = kind_step past k next t (step other t) spells.0 (rest_step past other t spells.1)
-rest_step past (CodeNumber next) t spells = value_step past (Codes true) next t (value (Codes true) t) refl spells.1
+rest_step past (CodeNumber next) t spells = kind_step past (Codes true) next t None spells.1 tt
 rest_step past (Corners first others next) t spells =
     kind_step past (This (token.Mark mark.Open)) _ t _ (λ _ _. (one_more past first others next spells).by)
-    (value_step past (This (token.Word word.Cycle)) _ t (value (This (token.Word word.Cycle)) t) refl (λ _ _. no_more past first others next spells))
+    (kind_step past (This (token.Word word.Cycle)) _ t None (λ _ _. no_more past first others next spells) tt)
 
 end_spelled : (past : List Token) (r : Rest) (l : Line) → Spells past r → ends r ≡ Some l → spell_line l ≡ past
 end_spelled past (Ends m) l spells is = ap spell_line (sym (same_Some m l is)) ∙ spells

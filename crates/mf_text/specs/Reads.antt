@@ -1,5 +1,6 @@
 -- What the reader of a line does: it passes a phrase, or finds the column at which the line goes wrong.
 use Rattle.std.specs.Prelude.{◌≡◌, ◌≤◌, ◌<◌, ℕ, length, Bool, false, List, [], ◌∷◌, Option, None, Some, Result, Ok, Err, if◌then◌else◌}
+use Rattle.std.specs.Option.{option_map}
 use Rattle.mf_text.specs.declared.fault.TextFault.TheVariants.{Syntax}
 use Rattle.mf_text.specs.declared.fault.SyntaxFault.{SyntaxFault}
 use Rattle.mf_text.specs.declared.tokens.Tokens.{Tokens}
@@ -21,15 +22,10 @@ ahead t = record { tokens = remaining_tokens t; past = t.column }
 abbrev pub IsWithin : Tokens → Tokens → Type 0
 IsWithin after before = length (remaining_tokens after) ≤ length (remaining_tokens before)
 
--- a value, if there is one, and what is ahead after it
-abbrev pub with_rest : {A : Type 0} → Ahead → Option A → Option (A × Ahead)
-with_rest after None = None
-with_rest after (Some a) = Some (a, after)
-
 -- the value of the next token, if it has one, and what is ahead after it
 abbrev pub next_value : {A : Type 0} → (Token → Option A) → List Placed → Option (A × Ahead)
 next_value f [] = None
-next_value f (p ∷ ps) = with_rest (record { tokens = ps; past = p.after }) (f p.token)
+next_value f (p ∷ ps) = option_map (λ a. (a, record { tokens = ps; past = p.after })) (f p.token)
 
 -- the next token was passed and its value returned where it has one, and otherwise nothing was passed
 abbrev pub TakesValue : {A : Type 0} → (Token → Option A) → Tokens → Tokens → Option A → Type 0

@@ -161,14 +161,14 @@ if_kind k next t other = option_or (option_map next (value k t)) other
 -- what may follow a token, if the rest allows the token
 abbrev pub step : Rest → Token → Option Rest
 step (Ends l) t = None
-step (One u this) t = option_map (λ _. this) (value (This u) t)
+step (One u this) t = if_kind (This u) (λ _. this) t None
 step (Or u this other) t = if_kind (This u) (λ _. this) t (step other t)
-step (Take k next) t = option_map next (value k t)
+step (Take k next) t = if_kind k next t None
 step (OrTake k next other) t = if_kind k next t (step other t)
-step (CodeNumber next) t = option_map next (value (Codes true) t)
+step (CodeNumber next) t = if_kind (Codes true) next t None
 step (Corners first others next) t =
     if_kind (This (token.Mark mark.Open)) (λ _. corner (λ p. Corners first (others ++ p ∷ []) next)) t
-    (option_map (λ _. next (record { first = first; others = others })) (value (This (token.Word word.Cycle)) t))
+    (if_kind (This (token.Word word.Cycle)) (λ _. next (record { first = first; others = others })) t None)
 
 -- the line that can end here, if there is one
 abbrev pub ends : Rest → Option Line
