@@ -1,11 +1,11 @@
 -- The ints of numbers, and the codes of ints.
-use Rattle.std.proofs.Common.{◌≡◌, ℕ, Bool, true, false, Some, None, refl, ap, sym}
+use Rattle.std.proofs.Common.{◌≡◌, ℕ, Bool, true, false, Some, None, nat_lt, refl, ap, sym}
 use Rattle.std.proofs.Math.Bool.{Bool-set}
 use Rattle.std.proofs.lemmas.Bool.{false≢true}
 use Rattle.std.proofs.lemmas.Option.{none-some, same_Some}
 use Rattle.mf_text.specs.Grammar.{Code, Int}
 use Rattle.mf_text.specs.Codes.{code_of}
-use Rattle.mf_text.specs.Ints.{int_of, where_true}
+use Rattle.mf_text.specs.Ints.{int_of, is_byte, where_true}
 
 pub where_some : {A : Type 0} (b : Bool) (make : b ≡ true → A) (is : b ≡ true) → where_true b make ≡ Some (make is)
 where_some true make is = ap (λ so. Some (make so)) (Bool-set true true refl is)
@@ -19,19 +19,18 @@ where_made : {A : Type 0} (b : Bool) (make : b ≡ true → A) (a : A) → where
 where_made true make a is = (refl, sym (same_Some (make refl) a is))
 where_made false make a is = absurd (none-some a is)
 
--- the int of the sign and the number of an int is that int
-pub int_of-back : (n : Int) → int_of n.negative n.magnitude ≡ Some n
+pub short_int : (negative : Bool) (m : ℕ) (short : nat_lt m 1000000000 ≡ true)
+    → int_of negative m ≡ Some (record { negative = negative; magnitude = m; short = short })
 unfolding int_of
-int_of-back n = where_some _ _ n.short
+short_int negative m short = where_some _ _ short
 
 pub int_of-is : (negative : Bool) (m : ℕ) (n : Int) → int_of negative m ≡ Some n → (n.negative ≡ negative) × (n.magnitude ≡ m)
 unfolding int_of
 int_of-is negative m n is = let made = where_made _ _ n is in (ap (λ (i : Int). i.negative) made.1, ap (λ (i : Int). i.magnitude) made.1)
 
--- the code of the int of a code is that code
-pub code_of-back : (code : Code) → code_of code.int ≡ Some code
+pub byte_code : (n : Int) (is : is_byte n ≡ true) → code_of n ≡ Some (record { int = n; is_byte = is })
 unfolding code_of
-code_of-back code = where_some _ _ code.is_byte
+byte_code n is = where_some _ _ is
 
 pub code_of-is : (n : Int) (code : Code) → code_of n ≡ Some code → code.int ≡ n
 unfolding code_of

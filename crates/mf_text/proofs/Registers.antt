@@ -84,8 +84,8 @@ form_names form all = tt
 
 -- ---- the command of a line of bytes
 
-pub names-given : (bytes : List ℕ) (given : Command) → Gives bytes given → HasNames given
-names-given bytes given gives =
+pub names_given : (bytes : List ℕ) (given : Command) → Gives bytes given → HasNames given
+names_given bytes given gives =
     let line = gives.line in
     let letters = subst AreLetters gives.line_is.spelled (all_letters 1 bytes (tokens bytes) (are_tokens bytes)) in
     names_meant (meaning line.form) given (form_names line.form (of_first (spell_form line.form) (spell_end line.ended) letters)) gives.command_is

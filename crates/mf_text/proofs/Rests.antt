@@ -8,7 +8,7 @@ use Rattle.mf_text.specs.Token as token
 use Rattle.mf_text.specs.declared.token.Word.TheVariants as word
 use Rattle.mf_text.specs.Grammar.{Line, Path, Code, Name, Current, Register, Source, Null, Named, Int, Pair, Form, Nothing, AddContour, AddPicture, CullKeeping, CullDropping, Clear, Move, ShowTotal, ShowPicture, ShowProof, ShipOut, SetCheck, PublishAll, Shifted, Scaled, XScaled, YScaled, Rotated, Transform, Sign, Plus, Minus}
 use Rattle.mf_text.specs.Rests.{Kind, Of, This, Names, Numbers, Codes, Rest, Ends, Take, OrTake, Corners, One, Or, ACode, CodeNumber, corner, ends, inner, int, is_code_number, path, source, step, value, Token, code_of, int_of, line, line_end, name_token, assignment, of_int, of_source, transform, weighable, name_in, this_in}
-use Rattle.mf_text.proofs.ReadInts.{int_of-back, int_of-is, code_of-back, code_of-is}
+use Rattle.mf_text.proofs.ReadInts.{byte_code, code_of-is, int_of-is, short_int}
 use Rattle.mf_text.proofs.TokenTexts.{same_token, token_is}
 
 -- ---- tokens of a kind
@@ -49,9 +49,9 @@ named t name is = ap (this_in (name_token name)) (name_is t name is) ∙ this_sa
 value_back : (k : Kind) (a : Of k) → HasSign k a → value k (token_of k a) ≡ Some a
 value_back (This u) a sign = this_same u
 value_back Names name sign = name_of name
-value_back (Numbers negative) n sign = ap (λ b. int_of b n.magnitude) (sym sign) ∙ int_of-back n
+value_back (Numbers negative) n sign = ap (λ b. int_of b n.magnitude) (sym sign) ∙ short_int n.negative n.magnitude n.short
 value_back (Codes negative) c sign =
-    ap (λ b. option_and_then code_of (int_of b c.int.magnitude)) (sym sign) ∙ ap (option_and_then code_of) (int_of-back c.int) ∙ code_of-back c
+    ap (λ b. option_and_then code_of (int_of b c.int.magnitude)) (sym sign) ∙ ap (option_and_then code_of) (short_int c.int.negative c.int.magnitude c.int.short) ∙ byte_code c.int c.is_byte
 
 -- a token says this
 pub record Says (k : Kind) (t : Token) (a : Of k) : Type 0 where

@@ -15,6 +15,7 @@ impl Int {
     ghost use Rattle.mf_text.specs.Ints.{int_of, int_value};
 
     /// The int of this number, with `-` before it where `negative` is true; `None` where the number has more than nine digits.
+    #[tactic(auto, using(crate::proofs::ReadInts::where_none), unfolding(crate::specs::Ints::int_of))]
     pub fn new(negative: bool, magnitude: u32) -> Option<Int>
         ensures { result ≡ int_of negative magnitude }
     {

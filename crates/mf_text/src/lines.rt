@@ -90,6 +90,7 @@ fn is_text_byte(byte: u8) -> bool
 }
 
 /// The command of a line. Asks for the seven words that a command may start with, one after another, and then for a name.
+#[tactic(auto, using(crate::proofs::LineAnswers::nothing))]
 fn line_of(alloc: Global, tokens: Tokens<'_>) -> Result<Command, TextFault>
     ensures { Answers (from rests.line (ahead tokens.entry)) result }
 {

@@ -1,11 +1,11 @@
 use Rattle.mf_text.specs.declared.command.Command.TheVariants.{Nothing, Turning, Clear}
 use Rattle.mf_text.proofs.OneAnswer.{gives_one}
-use Rattle.mf_text.proofs.Registers.{names-given}
+use Rattle.mf_text.proofs.Registers.{names_given}
 use Rattle.mf_session.proofs.WithoutContour.{is_not_refused}
 use Rattle.mf_session.proofs.session.Session.command.Goals as goal
 
 pub perform-requires : goal.perform-requires
-perform-requires g c = names-given c.args.line.now c.in-Ok.command c.in-Ok.ensures.given
+perform-requires g c = names_given c.args.line.now c.in-Ok.command c.in-Ok.ensures.given
 
 pub returns-in-Ok-clause-nothing : goal.returns-in-Ok-clause-nothing
 returns-in-Ok-clause-nothing g c given =
