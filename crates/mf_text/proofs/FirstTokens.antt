@@ -1,5 +1,5 @@
 -- The token at the front of bytes that do not start with a blank, and what is ahead there.
-use Rattle.std.proofs.Common.{◌≡◌, inl, inr, ℕ, ◌+◌, ◌≤◌, true, false, eqb, List, [], ◌∷◌, drop, length, Option, None, Some, refl, sym, ap, ◌∙◌, arith}
+use Rattle.std.proofs.Common.{◌≡◌, inl, inr, ℕ, ◌+◌, ◌<◌, ◌≤◌, true, false, eqb, List, [], ◌∷◌, drop, length, Option, None, Some, refl, sym, ap, ◌∙◌, arith}
 use Rattle.std.specs.Option.{option_map}
 use Rattle.std.proofs.lemmas.Bool.{cases_Bool, eqb-true}
 use Rattle.mf_text.specs.declared.tokens.Tokens.{Tokens}
@@ -9,6 +9,7 @@ use Rattle.mf_text.specs.Reads.{TakesToken, TakesValue, ahead, next_value, remai
 use Rattle.mf_text.specs.Token.{Token, Unknown, is_token, this_in}
 use Rattle.mf_text.specs.Tokens.{first_token, mark_among, token_at, tokens_from}
 use Rattle.mf_text.proofs.LineTokens.{tokens_at_comment, tokens_at_end, tokens-step}
+use Rattle.mf_text.proofs.Reading.{fewer}
 
 -- the token at the front is the first that remains, unless none does
 data IsFirst (column : ℕ) (text : List ℕ) : Type 0 where
@@ -58,3 +59,7 @@ module _ (old : Tokens) (column : ℕ) (text : List ℕ) (same : remaining_token
     pub token_taken : (new : Tokens) (n : ℕ) → (is_token (first_token text).token u ≡ true) × (n ≡ bytes) × (n ≤ length text)
         → new.rest.now ≡ drop n text → new.column ≡ column + n → TakesToken u old new true
     token_taken new n (found, size, within) rest column_is = value_taken (this_in u) none tt new n (rw found refl, size, within) rest column_is
+
+    pub token_fewer : (new : Tokens) (n : ℕ) → (is_token (first_token text).token u ≡ true) × (n ≡ bytes) × (n ≤ length text)
+        → new.rest.now ≡ drop n text → new.column ≡ column + n → length (remaining_tokens new) < length (remaining_tokens old)
+    token_fewer new n found rest column_is = fewer (this_in u) tt (remaining_tokens old) (ahead new) (token_taken new n found rest column_is)
