@@ -3,11 +3,9 @@ use Rattle.std.proofs.Common.{◌≡◌, inl, inr, ℕ, ◌+◌, ◌<◌, ◌≤
 use Rattle.std.specs.Option.{option_map}
 use Rattle.std.proofs.lemmas.Bool.{cases_Bool, eqb-true}
 use Rattle.mf_text.specs.declared.tokens.Tokens.{Tokens}
-use Rattle.mf_text.specs.Bytes.{IsClear}
-use Rattle.mf_text.specs.Ahead.{Ahead}
 use Rattle.mf_text.specs.Reads.{TakesToken, TakesValue, ahead, next_value, remaining_tokens}
-use Rattle.mf_text.specs.Token.{Token, Unknown, is_token, this_in}
-use Rattle.mf_text.specs.Tokens.{first_token, mark_among, token_at, tokens_from}
+use Rattle.mf_text.specs.Token.{Ahead, Token, Unknown, is_token, this_in}
+use Rattle.mf_text.specs.Tokens.{IsClear, first_token, mark_among, token_at, tokens_from}
 use Rattle.mf_text.proofs.LineTokens.{tokens_at_comment, tokens_at_end, tokens-step}
 use Rattle.mf_text.proofs.Reading.{fewer}
 

@@ -5,10 +5,10 @@ use Rattle.std.proofs.lemmas.Option.{none-some, same_Some}
 use Rattle.mf_text.specs.declared.token.Mark.TheVariants as mark
 use Rattle.mf_text.specs.Token as token
 use Rattle.mf_text.specs.declared.token.Word.TheVariants as word
-use Rattle.mf_text.specs.Ahead.{Ahead, ahead_after, column_at, column_of}
+use Rattle.mf_text.specs.Token.{Ahead, Placed, Token, ahead_after, column_at, column_of}
 use Rattle.mf_text.specs.Grammar.{Line, spell_line}
 use Rattle.mf_text.specs.Lines.{line_ahead}
-use Rattle.mf_text.specs.Rests.{Rest, ends, follow, from, is_code_number, step, line, Placed, Token}
+use Rattle.mf_text.specs.Rests.{Rest, ends, follow, from, is_code_number, step, line}
 use Rattle.mf_text.specs.Syntax.{StartsLine, IsSyntaxFault, IsWrongAt, is_negative_code, report_place}
 use Rattle.mf_text.specs.Tokens.{kinds, tokens}
 use Rattle.mf_text.specs.TokenTexts.{AreTokens, IsTokenText}

@@ -2,8 +2,7 @@
 use Rattle.std.proofs.Common.{◌≡◌, ◌≢◌, ℕ, zero, suc, ◌+◌, ◌-◌, ◌<◌, ◌≤◌, true, false, eqb, List, [], ◌∷◌, length, get_or, take, drop, refl, sym, ap, subst, ◌∙◌, arith, length-append, length-drop}
 use Rattle.std.proofs.lemmas.Bool.{ne_eqb}
 use Rattle.std.proofs.lemmas.List.{take_rest}
-use Rattle.mf_text.specs.Bytes.{is_blank, IsClear}
-use Rattle.mf_text.specs.Tokens.{Taken, token_at, first_token, tokens_within, tokens_from}
+use Rattle.mf_text.specs.Tokens.{IsClear, is_blank, Taken, token_at, first_token, tokens_within, tokens_from}
 use Rattle.mf_text.proofs.TokenTexts.{Front, Other, Text, begins, front, text_first, unknown_first}
 
 -- ---- how many bytes a token takes

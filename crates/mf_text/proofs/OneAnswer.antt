@@ -6,11 +6,11 @@ use Rattle.std.proofs.lemmas.List.{take-append-drop, take-take}
 use Rattle.mf_ops.specs.declared.quarter.Quarter.TheVariants.{Once, Twice, Thrice}
 use Rattle.mf_text.specs.declared.command.Command.TheVariants as command
 use Rattle.mf_text.specs.declared.fault.TextFault.TheVariants as faults
-use Rattle.mf_text.specs.Ahead.{Ahead, column_at}
-use Rattle.mf_text.specs.Grammar.{Line, Token}
+use Rattle.mf_text.specs.Grammar.{Line}
 use Rattle.mf_text.specs.Lines.{IsText, line_ahead, IsLineOf, Gives, HasBadValues, HasOtherBytes, HasSyntaxFault, IsRefused}
 use Rattle.mf_text.specs.Meaning.{Value, Points, Angle, Meaning, Is, If, Turns, IsCommandOf, IsRefusalOf, IsUnlawful, Means, Refuses, meaning, degrees, Quarter, Command, TextFault}
 use Rattle.mf_text.specs.Syntax.{IsLine, IsSyntaxFault, IsWrongAt, StartsLine, report_place}
+use Rattle.mf_text.specs.Token.{Ahead, Token, column_at}
 use Rattle.mf_text.specs.Tokens.{kinds}
 use Rattle.mf_text.proofs.LineReading.{same_line}
 

@@ -4,7 +4,7 @@ use Rattle.std.proofs.Math.Bool.{Bool-set}
 use Rattle.std.proofs.lemmas.Bool.{false≢true}
 use Rattle.std.proofs.lemmas.Option.{none-some, same_Some}
 use Rattle.mf_text.specs.Grammar.{Code, Int}
-use Rattle.mf_text.specs.Codes.{code_of}
+use Rattle.mf_text.specs.Rests.{code_of}
 use Rattle.mf_text.specs.Ints.{int_of, is_byte, where_true}
 
 pub where_some : {A : Type 0} (b : Bool) (make : b ≡ true → A) (is : b ≡ true) → where_true b make ≡ Some (make is)

@@ -9,11 +9,10 @@ use Rattle.mf_text.specs.declared.path.Path as paths
 use Rattle.mf_text.specs.declared.token.Mark.TheVariants as mark
 use Rattle.mf_text.specs.declared.token.Word.TheVariants as word
 use Rattle.mf_text.specs.declared.tokens.Tokens.{Tokens}
-use Rattle.mf_text.specs.Ahead.{Ahead, column_of}
 use Rattle.mf_text.specs.Grammar.{Line, Path, path_value, Point, Code, Name, Current, Register, Int, Pair, pair_value}
 use Rattle.mf_text.specs.Reads.{HasPoints, PassesPath, TakesToken, TakesValue, ahead, remaining_tokens, next_value}
 use Rattle.mf_text.specs.Rests.{Kind, Of, This, Numbers, Codes, Rest, Take, OrTake, Corners, One, Or, CodeNumber, Ends, corner, path, follow, from, is_code_number, name_token, step, value}
-use Rattle.mf_text.specs.Token.{Placed, Token, letter_in, name_in, this_in, value_in}
+use Rattle.mf_text.specs.Token.{Ahead, Placed, Token, column_of, letter_in, name_in, this_in, value_in}
 use Rattle.mf_text.specs.Token as token
 use Rattle.mf_text.proofs.Rests.{name_of, named, this_only}
 

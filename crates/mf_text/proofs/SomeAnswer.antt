@@ -12,9 +12,8 @@ use Rattle.mf_ops.specs.Moves.{AreFactors, Factors, IsFactor, degrees}
 use Rattle.mf_ops.specs.declared.quarter.Quarter.TheVariants.{Once, Twice, Thrice}
 use Rattle.mf_text.specs.declared.command.Command.TheVariants as command
 use Rattle.mf_text.specs.declared.fault.TextFault.TheVariants as faults
-use Rattle.mf_text.specs.Bytes.{is_text_byte}
 use Rattle.mf_text.specs.Grammar.{Line, Point, Name}
-use Rattle.mf_text.specs.Lines.{IsText, line_ahead, Gives, IsRefused}
+use Rattle.mf_text.specs.Lines.{is_text_byte, IsText, line_ahead, Gives, IsRefused}
 use Rattle.mf_text.specs.Meaning.{Value, Points, AWeight, ACull, AScale, Angle, Meaning, Is, If, Turns, HasRefusal, IsLawful, IsUnlawful, Means, Refuses, meaning, CycleFault, IsContourWeight, IsLawfulCull, CullRule, Keeping, Dropping, Quarter, Command, TextFault}
 use Rattle.mf_text.specs.Rests.{from, line}
 use Rattle.mf_text.specs.Syntax.{IsLine}

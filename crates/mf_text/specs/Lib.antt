@@ -1,6 +1,3 @@
-pub mod Ahead
-pub mod Bytes
-pub mod Codes
 pub mod Grammar
 pub mod Ints
 pub mod Lines

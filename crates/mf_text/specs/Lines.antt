@@ -1,13 +1,16 @@
 -- What a line of bytes gives: a command, or the first refusal.
-use Rattle.std.specs.Prelude.{◌≡◌, ◌<◌, ◌≤◌, ℕ, true, false, List, length}
+use Rattle.std.specs.Prelude.{◌≡◌, ◌==◌, ◌||◌, ◌&&◌, ◌<◌, ◌≤◌, ℕ, nat_le, Bool, true, false, List, length}
 use Rattle.std.specs.List.{list_all}
 use Rattle.mf_text.specs.declared.fault.TextFault.TheVariants.{LineTooLong, NotAscii, Syntax, OutOfMemory}
-use Rattle.mf_text.specs.Ahead.{Ahead}
-use Rattle.mf_text.specs.Bytes.{is_text_byte}
 use Rattle.mf_text.specs.Grammar.{Line, spell_line}
 use Rattle.mf_text.specs.Meaning.{IsCommandOf, IsRefusalOf, TakesMemory, Command, TextFault}
 use Rattle.mf_text.specs.Syntax.{IsSyntaxFault}
+use Rattle.mf_text.specs.Token.{Ahead}
 use Rattle.mf_text.specs.Tokens.{tokens, kinds}
+
+-- the byte is text: a tab or printed ASCII
+abbrev pub is_text_byte : ℕ → Bool
+is_text_byte b = b == 9 || (nat_le 32 b && nat_le b 126)
 
 -- the line has at most 65536 bytes, and each of them is text
 pub record IsText (line : List ℕ) : Type 0 where

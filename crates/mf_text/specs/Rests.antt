@@ -3,11 +3,10 @@ use Rattle.std.specs.Prelude.{ℕ, ◌-◌, List, [], ◌∷◌, ◌++◌, Bool,
 use Rattle.std.specs.Option.{option_map, option_and_then, option_or}
 use Rattle.mf_text.specs.declared.token.Mark.TheVariants as mark
 use Rattle.mf_text.specs.declared.token.Word.TheVariants as word
-pub use Rattle.mf_text.specs.Ahead.{Ahead}
-unfoldable pub use Rattle.mf_text.specs.Codes.{code_of}
-use Rattle.mf_text.specs.Grammar.{Form, Nothing, AddContour, AddPicture, CullKeeping, CullDropping, Clear, Move, ShowTotal, ShowPicture, ShowProof, ShipOut, SetCheck, PublishAll, Shifted, Scaled, XScaled, YScaled, Rotated, Path, Line, Code, Plus, Minus, Name, Current, Register, Source, Null, Named, Int, Pair}
-unfoldable pub use Rattle.mf_text.specs.Ints.{int_of}
-pub use Rattle.mf_text.specs.Token.{Token, Placed, name_in, this_in, value_in}
+use Rattle.mf_text.specs.declared.code.Code.{Code}
+use Rattle.mf_text.specs.Grammar.{Form, Nothing, AddContour, AddPicture, CullKeeping, CullDropping, Clear, Move, ShowTotal, ShowPicture, ShowProof, ShipOut, SetCheck, PublishAll, Shifted, Scaled, XScaled, YScaled, Rotated, Path, Line, Plus, Minus, Name, Current, Register, Source, Null, Named, Int, Pair}
+unfoldable pub use Rattle.mf_text.specs.Ints.{int_of, is_byte, where_true}
+pub use Rattle.mf_text.specs.Token.{Ahead, Token, Placed, name_in, this_in, value_in}
 use Rattle.mf_text.specs.Token as token
 
 -- a kind of tokens: this token, names, or the numbers of ints or of codes, which are negative where this is true
@@ -23,6 +22,10 @@ Of (This u) = Unit {0}
 Of Names = Name
 Of (Numbers negative) = Int
 Of (Codes negative) = Code
+
+-- the code that an int is, if it is in 0..255
+unfoldable pub code_of : Int → Option Code
+code_of n = where_true (is_byte n) (λ is. record { int = n; is_byte = is })
 
 -- what a token says, if it is of this kind
 abbrev pub value : (k : Kind) → Token → Option (Of k)

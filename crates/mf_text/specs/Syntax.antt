@@ -3,8 +3,8 @@ use Rattle.std.specs.Prelude.{◌≡◌, ◌<◌, ◌≤◌, ◌&&◌, ℕ, suc,
 use Rattle.mf_text.specs.declared.token.Mark.TheVariants as mark
 use Rattle.mf_text.specs.Token as token
 use Rattle.mf_text.specs.declared.token.Word.TheVariants as word
-use Rattle.mf_text.specs.Ahead.{Ahead, column_at}
-use Rattle.mf_text.specs.Grammar.{Line, spell_line, Token}
+use Rattle.mf_text.specs.Token.{Ahead, Token, column_at}
+use Rattle.mf_text.specs.Grammar.{Line, spell_line}
 use Rattle.mf_text.specs.Tokens.{kinds}
 
 -- the tokens are a line of the grammar

@@ -1,5 +1,5 @@
--- What a token of a line is.
-use Rattle.std.specs.Prelude.{ℕ, ◌==◌, Bool, true, false, Option, None, Some, if◌then◌else◌}
+-- What a token of a line is, and what is ahead of the reader of a line.
+use Rattle.std.specs.Prelude.{ℕ, zero, suc, ◌==◌, Bool, true, false, List, [], ◌∷◌, Option, None, Some, if◌then◌else◌}
 use Rattle.mf_text.specs.declared.command.Name.{Name}
 use Rattle.mf_text.specs.declared.command.Name.TheVariants.{Current, Register}
 use Rattle.mf_text.specs.declared.token.Mark.{Mark as Marks}
@@ -51,3 +51,23 @@ abbrev pub name_in : Token → Option Name
 name_in (Word CurrentPicture) = Some Current
 name_in (Letter n) = Some (Register n)
 name_in t = None
+
+-- the tokens still to come, and the column one past the token before them
+pub record Ahead : Type 0 where
+  pub tokens : List Placed
+  pub past : ℕ
+
+-- the column of the first of these tokens, or `past` where there are none
+abbrev pub column_of : List Placed → ℕ → ℕ
+column_of [] past = past
+column_of (p ∷ ps) past = p.column
+
+-- what is ahead after k of these tokens, or after all of them where they are fewer
+abbrev pub ahead_after : ℕ → List Placed → ℕ → Ahead
+ahead_after zero ps past = record { tokens = ps; past = past }
+ahead_after (suc k) [] past = record { tokens = []; past = past }
+ahead_after (suc k) (p ∷ ps) past = ahead_after k ps p.after
+
+-- the column of token k, counted from 0, or one past the last token
+abbrev pub column_at : Ahead → ℕ → ℕ
+column_at ahead k = column_of (ahead_after k ahead.tokens ahead.past).tokens (ahead_after k ahead.tokens ahead.past).past

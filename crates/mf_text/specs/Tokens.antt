@@ -1,6 +1,6 @@
 -- The tokens of a line of a script: words, letters, numbers and marks. Blanks may come between tokens, and `%` begins a comment,
 -- which goes to the end of the line.
-use Rattle.std.specs.Prelude.{◌≡◌, ◌≤◌, true, false, ℕ, zero, suc, ◌+◌, ◌-◌, ◌==◌, ◌&&◌, Bool, List, [], ◌∷◌, Option, None, Some, length, drop, get_or, take_while, map, nat_eq, nat_le, nat_lt, if◌then◌else◌}
+use Rattle.std.specs.Prelude.{◌≡◌, ◌≤◌, true, false, ℕ, zero, suc, ◌+◌, ◌-◌, ◌==◌, ◌||◌, ◌&&◌, Bool, List, [], ◌∷◌, Option, None, Some, length, drop, get_or, take_while, map, nat_eq, nat_le, nat_lt, if◌then◌else◌}
 use Rattle.std.specs.Char.{is_ascii_alphabetic, is_ascii_digit}
 use Rattle.std.specs.List.{starts_with}
 use Rattle.std.specs.Option.{option_map_or}
@@ -12,9 +12,17 @@ use Rattle.mf_text.specs.declared.token.TheConstants.{MARKS, WORDS}
 pub use Rattle.mf_text.specs.declared.token.Word.{Word}
 use Rattle.mf_text.specs.contracts.token.MarkPartialEq.TheImpl as same_mark
 use Rattle.mf_text.specs.contracts.token.WordPartialEq.TheImpl as same_word
-pub use Rattle.mf_text.specs.Bytes.{is_blank}
 pub use Rattle.mf_text.specs.Token.{Token, Placed, is_token}
 use Rattle.mf_text.specs.Token as token
+
+-- the byte is a blank: a space or a tab
+abbrev pub is_blank : ℕ → Bool
+is_blank b = b == 32 || b == 9
+
+-- no blank is at the front
+abbrev pub IsClear : List ℕ → Type 0
+IsClear [] = Unit {0}
+IsClear (b ∷ bs) = is_blank b ≡ false
 
 -- the entries of a table of the code
 abbrev pub entries_of : {A : Type 0} → List (record { now : List ℕ } × A) → List (List ℕ × A)

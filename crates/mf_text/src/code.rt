@@ -14,10 +14,10 @@ pub struct Code {
 
 impl Code {
     ghost use Rattle.std.specs.Prelude.{◌≡◌};
-    ghost use Rattle.mf_text.specs.Codes.{code_of};
+    ghost use Rattle.mf_text.specs.Rests.{code_of};
 
     /// The code that an int is, if it is in 0..=255.
-    #[tactic(auto, using(crate::proofs::ReadInts::where_none), unfolding(crate::specs::Codes::code_of))]
+    #[tactic(auto, using(crate::proofs::ReadInts::where_none), unfolding(crate::specs::Rests::code_of))]
     pub fn new(int: Int) -> Option<Code>
         ensures { result ≡ code_of int }
     {

@@ -3,8 +3,7 @@
 ghost use Rattle.std.specs.Prelude.{◌≡◌, ◌≢◌, ◌⊎◌, ℕ, List};
 ghost use Rattle.mf_text.specs.declared.command.Command.{Command};
 ghost use Rattle.mf_text.specs.declared.token.TheConstants.{MARKS, WORDS};
-ghost use Rattle.mf_text.specs.Token.{Placed, Token};
-ghost use Rattle.mf_text.specs.Ahead.{Ahead};
+ghost use Rattle.mf_text.specs.Token.{Ahead, Placed, Token};
 ghost use Rattle.mf_text.specs.Grammar.{Line, spell_line};
 ghost use Rattle.mf_text.specs.Lines.{Gives, IsRefused};
 ghost use Rattle.mf_text.specs.Registers.{HasNames};

@@ -1,9 +1,8 @@
 //! Lines, with a function for each form that they may have.
 ghost use Rattle.std.specs.Prelude.{◌≡◌, ◌+◌, ◌≤◌, IfOk, IfErr, length};
 ghost use Rattle.std.specs.List.{list_all};
-ghost use Rattle.mf_text.specs.Bytes.{is_text_byte};
 ghost use Rattle.mf_text.specs.Rests as rests;
-ghost use Rattle.mf_text.specs.Lines.{Gives, IsRefused};
+ghost use Rattle.mf_text.specs.Lines.{Gives, IsRefused, is_text_byte};
 ghost use Rattle.mf_text.specs.Grammar.{Nothing, AddContour, AddPicture, CullKeeping, CullDropping, Clear, Move, ShowTotal, ShowProof, PublishAll, Rotated, Scaled, Shifted, XScaled, YScaled};
 ghost use Rattle.mf_text.specs.Reads.{Answers, ahead};
 ghost use Rattle.mf_text.specs.Rests.{from};

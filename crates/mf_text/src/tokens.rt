@@ -3,11 +3,9 @@
 ghost use Rattle.std.specs.Prelude.{ℕ, ◌≡◌, ◌+◌, ◌<◌, ◌≤◌, ◌^◌, IsTrue, drop, length, nat_eq, nat_lt, Some, None, if◌then◌else◌};
 ghost use Rattle.std.specs.Char.{is_ascii_alphabetic};
 ghost use Rattle.std.specs.List.{starts_with};
-ghost use Rattle.mf_text.specs.Ahead.{column_of};
-ghost use Rattle.mf_text.specs.Bytes.{IsClear};
 ghost use Rattle.mf_text.specs.Token as token;
-ghost use Rattle.mf_text.specs.Token.{letter_in, value_in};
-ghost use Rattle.mf_text.specs.Tokens.{Finds, FindsToken, first_is, is_longer, tokens_from};
+ghost use Rattle.mf_text.specs.Token.{column_of, letter_in, value_in};
+ghost use Rattle.mf_text.specs.Tokens.{Finds, FindsToken, IsClear, first_is, is_longer, tokens_from};
 
 use crate::fault::SyntaxFault;
 use crate::token::{Mark, Word};
@@ -29,11 +27,10 @@ pub struct Tokens<'a> {
 
 impl<'a> Tokens<'a> {
     ghost use Rattle.std.specs.Prelude.{ℕ, ◌≡◌, ◌≢◌, ◌+◌, ◌<◌, ◌≤◌, ◌^◌, drop, length, true, false, [], if◌then◌else◌};
-    ghost use Rattle.mf_text.specs.Ahead.{column_of};
-    ghost use Rattle.mf_text.specs.Bytes.{IsClear};
     ghost use Rattle.mf_text.specs.Reads.{IsWithin, TakesToken, TakesValue, ahead, remaining_tokens};
     ghost use Rattle.mf_text.specs.Rests.{Or, Rest, from};
-    ghost use Rattle.mf_text.specs.Tokens.{tokens};
+    ghost use Rattle.mf_text.specs.Token.{column_of};
+    ghost use Rattle.mf_text.specs.Tokens.{IsClear, tokens};
 
     /// All tokens of this line. Requires it to be shorter than 2^31 bytes.
     pub fn new(line: &'a [u8]) -> Tokens<'a>

@@ -1,6 +1,6 @@
 use Rattle.std.proofs.Common.{◌≡◌, take}
 use Rattle.std.specs.List.{list_all}
-use Rattle.mf_text.specs.Bytes.{is_text_byte}
+use Rattle.mf_text.specs.Lines.{is_text_byte}
 use Rattle.mf_text.proofs.lines.are_text.Given as goal
 
 abbrev pub invariant-loop-byte : goal.invariant-loop-byte

@@ -1,7 +1,6 @@
 use Rattle.std.proofs.Common.{◌≡◌, ◌+◌, get_or, drop, true, sym, ap, ◌∙◌, rules, arith}
 use Rattle.std.proofs.lemmas.List.{drop_more}
-use Rattle.mf_text.specs.Bytes.{is_blank}
-use Rattle.mf_text.specs.Tokens.{tokens_from}
+use Rattle.mf_text.specs.Tokens.{is_blank, tokens_from}
 use Rattle.mf_text.proofs.LineTokens.{tokens-blank}
 use Rattle.mf_text.proofs.tokens.blanks_at.Goals as goal
 
