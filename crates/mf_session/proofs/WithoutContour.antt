@@ -1,21 +1,20 @@
 -- Lines that give a command without a contour: they are not refused, not even with `OutOfMemory`.
-use Rattle.std.proofs.Common.{ℕ, List, sym, ◌∙◌, subst}
+use Rattle.std.proofs.Common.{ℕ, List, subst}
 use Rattle.mf_text.specs.declared.command.Command.{Command}
 use Rattle.mf_text.specs.declared.command.Command.TheVariants as command
 use Rattle.mf_text.specs.declared.fault.TextFault.{TextFault}
 use Rattle.mf_text.specs.declared.fault.TextFault.TheVariants as faults
-use Rattle.mf_text.specs.Grammar.{Form, Nothing, AddContour, AddPicture, CullKeeping, CullDropping, Clear, Move, ShowTotal, ShowPicture, ShowProof, ShipOut, SetCheck, PublishAll, Line}
-use Rattle.mf_text.specs.Lines.{Gives, IsRefused, MayWantMemory}
-use Rattle.mf_text.specs.Meaning.{IsCommandOf, TakesMemory}
-use Rattle.mf_text.proofs.LineReading.{same_line}
-use Rattle.mf_text.proofs.OneAnswer.{given_or_refused}
+use Rattle.mf_text.specs.Grammar.{Form, Nothing, AddContour, AddPicture, CullKeeping, CullDropping, Clear, Move, ShowTotal, ShowPicture, ShowProof, ShipOut, SetCheck, PublishAll}
+use Rattle.mf_text.specs.Lines.{Gives, IsLineWith, IsRefused}
+use Rattle.mf_text.specs.Meaning.{Means, TakesMemory, meaning}
+use Rattle.mf_text.proofs.OneAnswer.{given_or_refused, same_form}
 
 -- the command has no contour
 abbrev pub HasNoContour : Command → Type 0
 HasNoContour (command.Contour name cycle weight) = ⊥
 HasNoContour given = Unit {0}
 
-form_takes_none : (form : Form) (given : Command) → HasNoContour given → IsCommandOf form given → TakesMemory form → ⊥
+form_takes_none : (form : Form) (given : Command) → HasNoContour given → Means (meaning form) given → TakesMemory form → ⊥
 form_takes_none (AddContour name path weight) given none is memory = subst HasNoContour is.1.1 none
 form_takes_none Nothing given none is memory = memory
 form_takes_none (AddPicture name sign source) given none is memory = memory
@@ -30,10 +29,9 @@ form_takes_none (ShipOut source code dx width) given none is memory = memory
 form_takes_none (SetCheck n) given none is memory = memory
 form_takes_none PublishAll given none is memory = memory
 
-wants_no_memory : (line : List ℕ) (given : Command) → HasNoContour given → Gives line given → MayWantMemory line → ⊥
+wants_no_memory : (line : List ℕ) (given : Command) → HasNoContour given → Gives line given → IsLineWith line TakesMemory → ⊥
 wants_no_memory line given none p q =
-    form_takes_none q.line.form given none
-    (subst (λ (l : Line). IsCommandOf l.form given) (same_line p.line q.line (sym p.line_is.spelled ∙ q.line_is.spelled)) p.command_is) q.memory
+    form_takes_none q.line.form given none (same_form line (λ form. Means (meaning form) given) TakesMemory p q) q.so
 
 -- a line that gives such a command is not refused, not even with `OutOfMemory`
 pub is_not_refused : (line : List ℕ) (given : Command) (fault : TextFault) → HasNoContour given → Gives line given → IsRefused line fault → ⊥

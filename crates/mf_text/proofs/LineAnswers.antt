@@ -4,7 +4,7 @@ use Rattle.std.specs.Prelude.{IfOk, IfErr}
 use Rattle.mf_text.specs.declared.fault.TextFault.TheVariants as faults
 use Rattle.mf_text.specs.declared.tokens.Tokens.{Tokens}
 use Rattle.mf_text.specs.Grammar.{Line, Nothing}
-use Rattle.mf_text.specs.Lines.{IsText, IsLineOf, Gives, HasBadValues, IsRefused, line_ahead}
+use Rattle.mf_text.specs.Lines.{IsText, IsLineOf, IsLineWith, Gives, IsRefused, line_ahead}
 use Rattle.mf_text.specs.Meaning.{Value, Points, Angle, Meaning, Is, If, Turns, IsAnswerOf, IsUnlawful, Refuses, meaning, Command, TextFault}
 use Rattle.mf_text.specs.Reads.{Answers, ahead, remaining_tokens}
 use Rattle.mf_text.specs.Rests.{follow, from, line}
@@ -39,7 +39,8 @@ refusals_of_values (If value rest) fault (inr is) = refusals_of_values rest faul
 refusals_of_values (Turns name angle) fault is = of_value (Angle angle) fault is
 
 -- a line whose values are refused is refused, and not with `OutOfMemory`
-pub of_values : (fault : TextFault) → IsOfValues fault → (fault ≢ faults.OutOfMemory) × ((bytes : List ℕ) → HasBadValues bytes fault → IsRefused bytes fault)
+pub of_values : (fault : TextFault) → IsOfValues fault
+    → (fault ≢ faults.OutOfMemory) × ((bytes : List ℕ) → IsLineWith bytes (λ form. Refuses (meaning form) fault) → IsRefused bytes fault)
 of_values faults.OutOfMemory of = absurd of
 of_values faults.LineTooLong of = absurd of
 of_values faults.NotAscii of = absurd of
@@ -54,10 +55,10 @@ Answered bytes (Ok given) = Gives bytes given
 Answered bytes (Err fault) = IsRefused bytes fault
 
 form-answered : (line : List ℕ) (l : Line) (r : Result Command TextFault) → IsLineOf line l → IsAnswerOf l.form r → Answered line r
-form-answered bytes l (Ok given) is answer = record { line = l; line_is = is; command_is = answer }
-form-answered bytes l (Err faults.OutOfMemory) is answer = record { line = l; line_is = is; memory = answer }
+form-answered bytes l (Ok given) is answer = record { line = l; line_is = is; so = answer }
+form-answered bytes l (Err faults.OutOfMemory) is answer = record { line = l; line_is = is; so = answer }
 form-answered bytes l (Err fault) is answer =
-    (of_values fault (refusals_of_values (meaning l.form) fault answer)).1 bytes (record { line = l; line_is = is; refusal_is = answer })
+    (of_values fault (refusals_of_values (meaning l.form) fault answer)).1 bytes (record { line = l; line_is = is; so = answer })
 
 read_answered : (line_bytes : List ℕ) (o : Result Line ℕ) (r : Result Command TextFault) → IsText line_bytes
     → from line (line_ahead line_bytes) ≡ o → Answers o r → Answered line_bytes r

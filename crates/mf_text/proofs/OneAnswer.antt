@@ -6,9 +6,9 @@ use Rattle.std.proofs.lemmas.List.{take-append-drop, take-take}
 use Rattle.mf_ops.specs.declared.quarter.Quarter.TheVariants.{Once, Twice, Thrice}
 use Rattle.mf_text.specs.declared.command.Command.TheVariants as command
 use Rattle.mf_text.specs.declared.fault.TextFault.TheVariants as faults
-use Rattle.mf_text.specs.Grammar.{Line}
-use Rattle.mf_text.specs.Lines.{IsText, line_ahead, IsLineOf, Gives, HasBadValues, HasOtherBytes, HasSyntaxFault, IsRefused}
-use Rattle.mf_text.specs.Meaning.{Value, Points, Angle, Meaning, Is, If, Turns, IsCommandOf, IsRefusalOf, IsUnlawful, Means, Refuses, meaning, degrees, Quarter, Command, TextFault}
+use Rattle.mf_text.specs.Grammar.{Form, Line}
+use Rattle.mf_text.specs.Lines.{IsText, line_ahead, IsLineOf, IsLineWith, Gives, HasOtherBytes, HasSyntaxFault, IsRefused}
+use Rattle.mf_text.specs.Meaning.{Value, Points, Angle, Meaning, Is, If, Turns, IsUnlawful, Means, Refuses, meaning, degrees, Quarter, Command, TextFault}
 use Rattle.mf_text.specs.Syntax.{IsLine, IsSyntaxFault, IsWrongAt, StartsLine, report_place}
 use Rattle.mf_text.specs.Token.{Ahead, Token, column_at}
 use Rattle.mf_text.specs.Tokens.{kinds}
@@ -99,20 +99,19 @@ wrong_is_no_line ahead column wrong line = not_wrong (kinds ahead.tokens) wrong.
 
 -- ---- lines of bytes
 
-one_line : (bytes : List ℕ) (l m : Line) → IsLineOf bytes l → IsLineOf bytes m → l ≡ m
-one_line bytes l m p q = same_line l m (sym p.spelled ∙ q.spelled)
+-- what is so of the form of bytes is so however they are known to be a line
+pub same_form : (bytes : List ℕ) (P Q : Form → Type 0) → IsLineWith bytes P → (q : IsLineWith bytes Q) → P q.line.form
+same_form bytes P Q p q = subst (λ (l : Line). P l.form) (same_line p.line q.line (sym p.line_is.spelled ∙ q.line_is.spelled)) p.so
 
 pub gives_one : (bytes : List ℕ) (one other : Command) → Gives bytes one → Gives bytes other → one ≡ other
-gives_one bytes one other p q =
-    one_meant (meaning q.line.form) one other
-    (subst (λ (l : Line). IsCommandOf l.form one) (one_line bytes p.line q.line p.line_is q.line_is) p.command_is) q.command_is
+gives_one bytes one other p q = one_meant (meaning q.line.form) one other (same_form bytes (λ form. Means (meaning form) one) _ p q) q.so
 
 -- why a line is refused, other than with `OutOfMemory`
 data IsCause (bytes : List ℕ) (fault : TextFault) : Type 0 where
   TooLong : fault ≡ faults.LineTooLong → 65536 < length bytes → IsCause bytes fault
   NoText : fault ≡ faults.NotAscii → HasOtherBytes bytes → IsCause bytes fault
   NoLine : (column : ℕ) → fault ≡ faults.Syntax column → HasSyntaxFault bytes column → IsCause bytes fault
-  BadValues : HasBadValues bytes fault → IsCause bytes fault
+  BadValues : IsLineWith bytes (λ form. Refuses (meaning form) fault) → IsCause bytes fault
 
 cause : (bytes : List ℕ) (fault : TextFault) → fault ≢ faults.OutOfMemory → IsRefused bytes fault → IsCause bytes fault
 cause bytes faults.OutOfMemory memory p = absurd (memory refl)
@@ -145,8 +144,7 @@ one_cause bytes one other (BadValues values) (TooLong q long) = absurd (omega (a
 one_cause bytes one other (BadValues values) (NoText q bad) = absurd (text_is_text bytes values.line_is.text bad)
 one_cause bytes one other (BadValues values) (NoLine column q wrong) = absurd (no_line-line bytes column values.line wrong values.line_is)
 one_cause bytes one other (BadValues p) (BadValues q) =
-    one_refused (meaning q.line.form) one other
-    (subst (λ (l : Line). IsRefusalOf l.form one) (one_line bytes p.line q.line p.line_is q.line_is) p.refusal_is) q.refusal_is
+    one_refused (meaning q.line.form) one other (same_form bytes (λ form. Refuses (meaning form) one) _ p q) q.so
 
 pub refused_once : (bytes : List ℕ) (one other : TextFault) → one ≢ faults.OutOfMemory → other ≢ faults.OutOfMemory → IsRefused bytes one
     → IsRefused bytes other → one ≡ other
@@ -157,8 +155,7 @@ given-cause bytes given fault p (TooLong _ long) = omega (arith, long, p.line_is
 given-cause bytes given fault p (NoText _ bad) = text_is_text bytes p.line_is.text bad
 given-cause bytes given fault p (NoLine column _ wrong) = no_line-line bytes column p.line wrong p.line_is
 given-cause bytes given fault p (BadValues q) =
-    not_both (meaning q.line.form) given fault
-    (subst (λ (l : Line). IsCommandOf l.form given) (one_line bytes p.line q.line p.line_is q.line_is) p.command_is) q.refusal_is
+    not_both (meaning q.line.form) given fault (same_form bytes (λ form. Means (meaning form) given) _ p q) q.so
 
 pub given_or_refused : (bytes : List ℕ) (given : Command) (fault : TextFault) → fault ≢ faults.OutOfMemory → Gives bytes given → IsRefused bytes fault
     → ⊥

@@ -88,4 +88,4 @@ pub names_given : (bytes : List ℕ) (given : Command) → Gives bytes given →
 names_given bytes given gives =
     let line = gives.line in
     let letters = subst AreLetters gives.line_is.spelled (all_letters 1 bytes (tokens bytes) (are_tokens bytes)) in
-    names_meant (meaning line.form) given (form_names line.form (of_first (spell_form line.form) (spell_end line.ended) letters)) gives.command_is
+    names_meant (meaning line.form) given (form_names line.form (of_first (spell_form line.form) (spell_end line.ended) letters)) gives.so

@@ -132,10 +132,10 @@ HasAnswer bytes =
 
 line_answered : (bytes : List ℕ) → IsText bytes → (line : IsLine (kinds (tokens bytes))) → Answered (meaning line.tree.form) → HasAnswer bytes
 line_answered bytes text line (inl (given, is)) =
-    inl (given, record { line = line.tree; line_is = record { text = text; spelled = line.spelled }; command_is = is })
+    inl (given, record { line = line.tree; line_is = record { text = text; spelled = line.spelled }; so = is })
 line_answered bytes text line (inr (fault, is)) =
     let (other, refused) = of_values fault (refusals_of_values (meaning line.tree.form) fault is) in
-    inr (fault, other, refused bytes (record { line = line.tree; line_is = record { text = text; spelled = line.spelled }; refusal_is = is }))
+    inr (fault, other, refused bytes (record { line = line.tree; line_is = record { text = text; spelled = line.spelled }; so = is }))
 
 text_answered : (bytes : List ℕ) → IsText bytes → (o : Result Line ℕ) → from line (line_ahead bytes) ≡ o → HasAnswer bytes
 text_answered bytes text (Ok l) is = line_answered bytes text (record { tree = l; spelled = is_line (line_ahead bytes) l is }) (answered (meaning l.form))

@@ -2,8 +2,8 @@
 use Rattle.std.specs.Prelude.{◌≡◌, ◌==◌, ◌||◌, ◌&&◌, ◌<◌, ◌≤◌, ℕ, nat_le, Bool, true, false, List, length}
 use Rattle.std.specs.List.{list_all}
 use Rattle.mf_text.specs.declared.fault.TextFault.TheVariants.{LineTooLong, NotAscii, Syntax, OutOfMemory}
-use Rattle.mf_text.specs.Grammar.{Line, spell_line}
-use Rattle.mf_text.specs.Meaning.{IsCommandOf, IsRefusalOf, TakesMemory, Command, TextFault}
+use Rattle.mf_text.specs.Grammar.{Form, Line, spell_line}
+use Rattle.mf_text.specs.Meaning.{Means, Refuses, TakesMemory, meaning, Command, TextFault}
 use Rattle.mf_text.specs.Syntax.{IsSyntaxFault}
 use Rattle.mf_text.specs.Token.{Ahead}
 use Rattle.mf_text.specs.Tokens.{tokens, kinds}
@@ -26,17 +26,15 @@ pub record IsLineOf (bytes : List ℕ) (line : Line) : Type 0 where
   pub text : IsText bytes
   pub spelled : kinds (tokens bytes) ≡ spell_line line
 
--- the bytes are a line of the grammar that gives this command
-pub record Gives (bytes : List ℕ) (given : Command) : Type 0 where
+-- the bytes are a line of the grammar, and this is so of its form
+pub record IsLineWith (bytes : List ℕ) (IsSo : Form → Type 0) : Type 0 where
   pub line : Line
   pub line_is : IsLineOf bytes line
-  pub command_is : IsCommandOf line.form given
+  pub so : IsSo line.form
 
--- the bytes are a line of the grammar whose values are refused in this way
-pub record HasBadValues (bytes : List ℕ) (refused : TextFault) : Type 0 where
-  pub line : Line
-  pub line_is : IsLineOf bytes line
-  pub refusal_is : IsRefusalOf line.form refused
+-- the bytes are a line of the grammar that gives this command
+abbrev pub Gives : List ℕ → Command → Type 0
+Gives bytes given = IsLineWith bytes (λ form. Means (meaning form) given)
 
 -- the line is short enough, and one of its bytes is not text
 pub record HasOtherBytes (bytes : List ℕ) : Type 0 where
@@ -48,17 +46,11 @@ pub record HasSyntaxFault (bytes : List ℕ) (column : ℕ) : Type 0 where
   pub text : IsText bytes
   pub wrong : IsSyntaxFault (line_ahead bytes) column
 
--- the bytes are a line that may be refused with `OutOfMemory`, which only that of a contour may be
-pub record MayWantMemory (bytes : List ℕ) : Type 0 where
-  pub line : Line
-  pub line_is : IsLineOf bytes line
-  pub memory : TakesMemory line.form
-
 -- why a line is refused: it is too long, or else a byte is not text, or else it is not in the grammar, or else its values are
--- refused; or an allocation failed
+-- refused; or an allocation failed, which it does only for a contour
 abbrev pub IsRefused : List ℕ → TextFault → Type 0
 IsRefused bytes LineTooLong = 65536 < length bytes
 IsRefused bytes NotAscii = HasOtherBytes bytes
 IsRefused bytes (Syntax column) = HasSyntaxFault bytes column
-IsRefused bytes OutOfMemory = MayWantMemory bytes
-IsRefused bytes refused = HasBadValues bytes refused
+IsRefused bytes OutOfMemory = IsLineWith bytes TakesMemory
+IsRefused bytes refused = IsLineWith bytes (λ form. Refuses (meaning form) refused)

@@ -114,14 +114,6 @@ Refuses (Is made) refused = ⊥
 Refuses (If value rest) refused = IsUnlawful value refused ⊎ (IsLawful value × Refuses rest refused)
 Refuses (Turns name angle) refused = IsUnlawful (Angle angle) refused
 
--- the command that a form gives
-abbrev pub IsCommandOf : Form → Command → Type 0
-IsCommandOf form given = Means (meaning form) given
-
--- the refusal of the values of a form
-abbrev pub IsRefusalOf : Form → TextFault → Type 0
-IsRefusalOf form refused = Refuses (meaning form) refused
-
 -- the form is that of a contour, the only one that allocates
 abbrev pub TakesMemory : Form → Type 0
 TakesMemory (AddContour name path weight) = Unit {0}
@@ -129,6 +121,6 @@ TakesMemory form = ⊥
 
 -- the answer to a form: its command, the refusal of its values, or `OutOfMemory` where it allocates
 abbrev pub IsAnswerOf : Form → Result Command TextFault → Type 0
-IsAnswerOf form (Ok given) = IsCommandOf form given
+IsAnswerOf form (Ok given) = Means (meaning form) given
 IsAnswerOf form (Err faults.OutOfMemory) = TakesMemory form
-IsAnswerOf form (Err refused) = IsRefusalOf form refused
+IsAnswerOf form (Err refused) = Refuses (meaning form) refused

@@ -19,7 +19,7 @@ empty-answers bounds s =
       given = record {
         line = record { form = NoForm; ended = false };
         line_is = record { text = record { short = omega arith; text = refl }; spelled = refl };
-        command_is = refl;
+        so = refl;
       };
       answer = (refl, refl);
     })
