@@ -49,15 +49,12 @@ module _ (old : Tokens) (column : ℕ) (text : List ℕ) (same : remaining_token
     value_taken a new n (found, size, _) rest column_is =
         value_at (Some a) found (first column text clear) ∙ ap (λ after. Some (a, after)) (onward_is new n size rest column_is)
 
-  -- a token that is at the front, or is not
+  -- a token that is at the front
   module _ (u : Token) (none : this_in u Unknown ≡ None) where
-    pub token_missed : is_token (first_token text).token u ≡ false → TakesToken u old old false
-    token_missed is = value_missed (this_in u) none (rw is refl)
-
-    pub token_taken : (new : Tokens) (n : ℕ) → (is_token (first_token text).token u ≡ true) × (n ≡ bytes) × (n ≤ length text)
+    pub token_taken : (new : Tokens) (n : ℕ) → (this_in u (first_token text).token ≡ Some tt) × (n ≡ bytes) × (n ≤ length text)
         → new.rest.now ≡ drop n text → new.column ≡ column + n → TakesToken u old new true
-    token_taken new n (found, size, within) rest column_is = value_taken (this_in u) none tt new n (rw found refl, size, within) rest column_is
+    token_taken = value_taken (this_in u) none tt
 
-    pub token_fewer : (new : Tokens) (n : ℕ) → (is_token (first_token text).token u ≡ true) × (n ≡ bytes) × (n ≤ length text)
+    pub token_fewer : (new : Tokens) (n : ℕ) → (this_in u (first_token text).token ≡ Some tt) × (n ≡ bytes) × (n ≤ length text)
         → new.rest.now ≡ drop n text → new.column ≡ column + n → length (remaining_tokens new) < length (remaining_tokens old)
     token_fewer new n found rest column_is = fewer (this_in u) tt (remaining_tokens old) (ahead new) (token_taken new n found rest column_is)

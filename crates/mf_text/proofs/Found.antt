@@ -9,29 +9,29 @@ use Rattle.std.proofs.lemmas.List.{take_rest}
 use Rattle.std.proofs.lemmas.List.Elements.{All-cons, All-nil}
 use Rattle.mf_text.specs.Token as token
 use Rattle.mf_text.specs.Token.{letter_in, value_in}
-use Rattle.mf_text.specs.Tokens.{Finds, FindsToken, Taken, first_token, first_is, is_longer, mark_text, word_text, word_token, is_token, Mark, Token, Word}
+use Rattle.mf_text.specs.Tokens.{Finds, FindsToken, Taken, first_token, first_is, is_longer, mark_text, word_text, word_token, this_in, Mark, Token, Word}
 use Rattle.mf_text.specs.TokenTexts.{AMark, IsTokenText, Letters}
 use Rattle.mf_text.proofs.TokenTexts.{IsSaid, IsSmall, said, same_token, starts-append, starts-drop, text_first, token_is, word_letters}
 
 -- ---- a word or a mark
 
-lacking : (t : Token) (bs : List ℕ) → (IsSaid t bs → ⊥) → is_token (first_token bs).token t ≡ false
-lacking t bs never = false_from_ne_true _ (λ is. never (subst (λ u. IsSaid u bs) (token_is (first_token bs).token t is) (said bs)))
+lacking : (t : Token) (bs : List ℕ) → (IsSaid t bs → ⊥) → this_in t (first_token bs).token ≡ None
+lacking t bs never = rw (false_from_ne_true _ (λ is. never (subst (λ u. IsSaid u bs) (token_is (first_token bs).token t is) (said bs)))) refl
 
 found : (t : Token) (bs text : List ℕ) → bs ≡ text ++ drop (length text) bs → IsTokenText t text (drop (length text) bs) → length text ≤ length bs
     → FindsToken t bs (Some (length text))
 found t bs text parts is within =
     let first = ap first_token parts ∙ text_first t text (drop (length text) bs) is in
-    (ap (λ (f : Taken). is_token f.token t) first ∙ same_token t, sym (ap (λ (f : Taken). f.bytes) first), within)
+    (ap (λ (f : Taken). this_in t f.token) first ∙ rw (same_token t) refl, sym (ap (λ (f : Taken). f.bytes) first), within)
 
 -- whether a word is found, where these letters are its text
 module _ (w : Word) (bs ls : List ℕ) (is : ls ≡ word_text w) where
-  pub word_lacking : starts_with eqb bs ls ≡ false → is_token (first_token bs).token (token.Word w) ≡ false
+  pub word_lacking : starts_with eqb bs ls ≡ false → this_in (token.Word w) (first_token bs).token ≡ None
   word_lacking lacks =
       lacking (token.Word w) bs (λ at. false≢true (sym lacks ∙ starts-append bs ls at.0 (at.1.0 ∙ ap (λ text. text ++ at.0) (sym is))))
 
   pub word_longer : first_is is_ascii_alphabetic (take (length bs - length ls) (drop (length ls) bs)) ≡ true
-      → is_token (first_token bs).token (token.Word w) ≡ false
+      → this_in (token.Word w) (first_token bs).token ≡ None
   word_longer longer =
       lacking (token.Word w) bs (λ at.
       let rest_is = ap (drop (length ls)) (at.1.0 ∙ ap (λ text. text ++ at.0) (sym is)) ∙ drop-append_seam ls at.0 in
@@ -47,10 +47,10 @@ module _ (w : Word) (bs ls : List ℕ) (is : ls ≡ word_text w) where
 
 -- whether a mark is found, where this is its text
 module _ (m : Mark) (bs text : List ℕ) (is : text ≡ mark_text m) where
-  pub mark_lacking : starts_with eqb bs text ≡ false → is_token (first_token bs).token (token.Mark m) ≡ false
+  pub mark_lacking : starts_with eqb bs text ≡ false → this_in (token.Mark m) (first_token bs).token ≡ None
   mark_lacking lacks = lacking (token.Mark m) bs (λ at. false≢true (sym lacks ∙ ap (starts_with eqb bs) is ∙ at.0))
 
-  pub mark_longer : is_longer m bs ≡ true → is_token (first_token bs).token (token.Mark m) ≡ false
+  pub mark_longer : is_longer m bs ≡ true → this_in (token.Mark m) (first_token bs).token ≡ None
   mark_longer longer = lacking (token.Mark m) bs (λ at. false≢true (sym at.1 ∙ longer))
 
   pub mark_found : starts_with eqb bs text ≡ true → is_longer m bs ≡ false → length text ≤ length bs → FindsToken (token.Mark m) bs (Some (length text))

@@ -3,7 +3,7 @@
 use Rattle.std.specs.Prelude.{◌≡◌, ◌≤◌, true, false, ℕ, zero, suc, ◌+◌, ◌-◌, ◌==◌, ◌||◌, ◌&&◌, Bool, List, [], ◌∷◌, Option, None, Some, length, drop, get_or, take_while, map, nat_eq, nat_le, nat_lt, if◌then◌else◌}
 use Rattle.std.specs.Char.{is_ascii_alphabetic, is_ascii_digit}
 use Rattle.std.specs.List.{starts_with}
-use Rattle.std.specs.Option.{option_map_or}
+use Rattle.std.specs.Option.{option_map, option_map_or}
 use Rattle.std.specs.Str.{bytes_eq}
 use Rattle.std.specs.Str.Parse.{digits_value}
 pub use Rattle.mf_text.specs.declared.token.Mark.{Mark}
@@ -12,7 +12,7 @@ use Rattle.mf_text.specs.declared.token.TheConstants.{MARKS, WORDS}
 pub use Rattle.mf_text.specs.declared.token.Word.{Word}
 use Rattle.mf_text.specs.contracts.token.MarkPartialEq.TheImpl as same_mark
 use Rattle.mf_text.specs.contracts.token.WordPartialEq.TheImpl as same_word
-pub use Rattle.mf_text.specs.Token.{Token, Placed, is_token}
+pub use Rattle.mf_text.specs.Token.{Token, Placed, is_token, this_in}
 use Rattle.mf_text.specs.Token as token
 
 -- the byte is a blank: a space or a tab
@@ -104,8 +104,7 @@ Finds f bs (Some found) = (f (first_token bs).token ≡ Some found.0) × (found.
 
 -- whether this token is found at the front: how many bytes it takes, or that another token is there
 abbrev pub FindsToken : Token → List ℕ → Option ℕ → Type 0
-FindsToken t bs None = is_token (first_token bs).token t ≡ false
-FindsToken t bs (Some bytes) = (is_token (first_token bs).token t ≡ true) × (bytes ≡ (first_token bs).bytes) × (bytes ≤ length bs)
+FindsToken t bs found = Finds (this_in t) bs (option_map {U = Unit {0} × ℕ} (λ bytes. (tt, bytes)) found)
 
 -- a token with its columns, where its first byte has this one
 abbrev pub token_at : ℕ → Taken → Placed
