@@ -51,31 +51,22 @@ of_values fault of = ((λ e. cc), λ bytes bad. bad)
 
 -- this is the answer to a line: a command that it gives, or its refusal
 abbrev Answered : List ℕ → Result Command TextFault → Type 0
-Answered bytes (Ok given) = Gives bytes given
-Answered bytes (Err fault) = IsRefused bytes fault
+Answered bytes r = IfOk r (Gives bytes) × IfErr r (IsRefused bytes)
 
 form-answered : (line : List ℕ) (l : Line) (r : Result Command TextFault) → IsLineOf line l → IsAnswerOf l.form r → Answered line r
-form-answered bytes l (Ok given) is answer = record { line = l; line_is = is; so = answer }
-form-answered bytes l (Err faults.OutOfMemory) is answer = record { line = l; line_is = is; so = answer }
+form-answered bytes l (Ok given) is answer = (record { line = l; line_is = is; so = answer }, tt)
+form-answered bytes l (Err faults.OutOfMemory) is answer = (tt, record { line = l; line_is = is; so = answer })
 form-answered bytes l (Err fault) is answer =
-    (of_values fault (refusals_of_values (meaning l.form) fault answer)).1 bytes (record { line = l; line_is = is; so = answer })
+    (tt, (of_values fault (refusals_of_values (meaning l.form) fault answer)).1 bytes (record { line = l; line_is = is; so = answer }))
 
 read_answered : (line_bytes : List ℕ) (o : Result Line ℕ) (r : Result Command TextFault) → IsText line_bytes
     → from line (line_ahead line_bytes) ≡ o → Answers o r → Answered line_bytes r
 read_answered bytes (Ok l) r text is answer = form-answered bytes l r (record { text = text; spelled = is_line (line_ahead bytes) l is }) answer
 read_answered bytes (Err column) r text is answer =
-    subst (Answered bytes) (sym answer) (record { text = text; wrong = goes_wrong bytes column is })
+    subst (Answered bytes) (sym answer) (tt, record { text = text; wrong = goes_wrong bytes column is })
 
 pub answered : (bytes : List ℕ) (start : Tokens) (r : Result Command TextFault) → IsText bytes → remaining_tokens start ≡ tokens bytes → start.column ≡ 1
     → Answers (from line (ahead start)) r → Answered bytes r
 answered bytes start r text tokens_are column_is answer =
     let same : ahead start ≡ line_ahead bytes = rw (tokens_are, column_is) refl in
     read_answered bytes (from line (line_ahead bytes)) r text refl (subst (λ a. Answers (from line a) r) same answer)
-
-pub given_of : (bytes : List ℕ) (r : Result Command TextFault) → Answered bytes r → IfOk r (Gives bytes)
-given_of bytes (Ok given) is = is
-given_of bytes (Err fault) is = tt
-
-pub refused_of : (bytes : List ℕ) (r : Result Command TextFault) → Answered bytes r → IfErr r (IsRefused bytes)
-refused_of bytes (Ok given) is = tt
-refused_of bytes (Err fault) is = is

@@ -120,18 +120,13 @@ stops r past (t ∷ ps) column is = at_token r past t ps column (step r t.token)
 
 -- ---- a number after `code -` is reported at the `-`
 
-shipped : (s : Token) (n : ℕ) (ts us : List Token) (l : Line)
-    → reads (Some line) (token.Word word.Shipout ∷ s ∷ token.Word word.Code ∷ token.Mark mark.Minus ∷ us) ≡ Some l
-    → is_code_number_at (Some line) (token.Word word.Shipout ∷ s ∷ token.Word word.Code ∷ token.Mark mark.Minus ∷ token.Number n ∷ ts) 4 ≡ true
-unfolding reads is_code_number_at
-shipped (token.Word word.NullPicture) n ts us l read = refl
-shipped (token.Word word.CurrentPicture) n ts us l read = refl
-shipped (token.Letter letter) n ts us l read = refl
-shipped s n ts us l read = absurd (none-some l read)
-
 negative_shows : (ts us : List Token) (l : Line) → is_negative_code ts ≡ true → reads (Some line) (take 4 ts ++ us) ≡ Some l
     → is_code_number_at (Some line) ts 4 ≡ true
-negative_shows (token.Word word.Shipout ∷ s ∷ token.Word word.Code ∷ token.Mark mark.Minus ∷ token.Number n ∷ ts) us l is read = shipped s n ts us l read
+unfolding reads is_code_number_at
+negative_shows (token.Word word.Shipout ∷ token.Word word.NullPicture ∷ token.Word word.Code ∷ token.Mark mark.Minus ∷ token.Number n ∷ ts) us l is read = refl
+negative_shows (token.Word word.Shipout ∷ token.Word word.CurrentPicture ∷ token.Word word.Code ∷ token.Mark mark.Minus ∷ token.Number n ∷ ts) us l is read = refl
+negative_shows (token.Word word.Shipout ∷ token.Letter letter ∷ token.Word word.Code ∷ token.Mark mark.Minus ∷ token.Number n ∷ ts) us l is read = refl
+negative_shows (token.Word word.Shipout ∷ s ∷ token.Word word.Code ∷ token.Mark mark.Minus ∷ token.Number n ∷ ts) us l is read = absurd (none-some l read)
 negative_shows ts us l is read = absurd (false≢true is)
 
 fourth_is_minus : (ts : List Token) → is_negative_code ts ≡ true → get_or ts 3 token.Unknown ≡ token.Mark mark.Minus

@@ -51,20 +51,16 @@ not_both (Turns name angle) given fault p q = q.unlawful (p.quarter, p.angle_is)
 
 -- ---- where tokens go wrong
 
-rejoined : {A : Type 0} (xs : List A) (j k : ℕ) → j ≤ k → take j xs ++ drop j (take k xs) ≡ take k xs
-rejoined xs j k below = ap (λ opening. opening ++ drop j (take k xs)) (sym (take-take j k xs below)) ∙ take-append-drop j (take k xs)
+starts_front : (ts us : List Token) → StartsLine (ts ++ us) → StartsLine ts
+starts_front ts us begun = record {
+  rest = us ++ begun.rest;
+  line = record { tree = begun.line.tree; spelled = sym (append_assoc ts us begun.rest) ∙ begun.line.spelled };
+}
 
 -- where some line starts with tokens, one starts with each prefix of them
 starts-sooner : (ts : List Token) (j k : ℕ) → j ≤ k → StartsLine (take k ts) → StartsLine (take j ts)
-starts-sooner ts j k below begun = record {
-  rest = drop j (take k ts) ++ begun.rest;
-  line =
-      record {
-        tree = begun.line.tree;
-        spelled = sym (append_assoc (take j ts) (drop j (take k ts)) begun.rest)
-            ∙ ap (λ opening. opening ++ begun.rest) (rejoined ts j k below) ∙ begun.line.spelled;
-      };
-}
+starts-sooner ts j k below begun =
+    subst StartsLine (take-take j k ts below) (starts_front (take j (take k ts)) (drop j (take k ts)) (subst StartsLine (sym (take-append-drop j (take k ts))) begun))
 
 -- tokens do not go wrong at two places
 not_before : (ts : List Token) (j k : ℕ) → IsWrongAt ts j → IsWrongAt ts k → j < k → ⊥

@@ -54,9 +54,8 @@ value_back (Codes negative) c sign =
     ap (λ b. option_and_then code_of (int_of b c.int.magnitude)) (sym sign) ∙ ap (option_and_then code_of) (short_int c.int.negative c.int.magnitude c.int.short) ∙ byte_code c.int c.is_byte
 
 -- a token says this
-pub record Says (k : Kind) (t : Token) (a : Of k) : Type 0 where
-  pub sign : HasSign k a
-  pub is : t ≡ token_of k a
+abbrev pub Says : (k : Kind) → Token → Of k → Type 0
+Says k t a = HasSign k a × (t ≡ token_of k a)
 
 code_says : (negative : Bool) (m : ℕ) (c : Code) (i : Option Int) → int_of negative m ≡ i → option_and_then code_of i ≡ Some c
     → Says (Codes negative) (token.Number m) c
@@ -64,13 +63,13 @@ code_says negative m c None of is = absurd (none-some c is)
 code_says negative m c (Some n) of is =
     let number = int_of-is negative m n of in
     let same = code_of-is n c is in
-    record { sign = ap (λ (i : Int). i.negative) same ∙ number.0; is = ap token.Number (sym (ap (λ (i : Int). i.magnitude) same ∙ number.1)) }
+    (ap (λ (i : Int). i.negative) same ∙ number.0, ap token.Number (sym (ap (λ (i : Int). i.magnitude) same ∙ number.1)))
 
 pub value_is : (k : Kind) (t : Token) (a : Of k) → value k t ≡ Some a → Says k t a
-value_is (This u) t a is = record { sign = tt; is = this_only u t is }
-value_is Names t name is = record { sign = tt; is = name_is t name is }
+value_is (This u) t a is = (tt, this_only u t is)
+value_is Names t name is = (tt, name_is t name is)
 value_is (Numbers negative) (token.Number m) n is =
-    let number = int_of-is negative m n is in record { sign = number.0; is = ap token.Number (sym number.1) }
+    let number = int_of-is negative m n is in (number.0, ap token.Number (sym number.1))
 value_is (Numbers negative) t n is = absurd (none-some n is)
 value_is (Codes negative) (token.Number m) c is = code_says negative m c (int_of negative m) refl is
 value_is (Codes negative) t c is = absurd (none-some c is)

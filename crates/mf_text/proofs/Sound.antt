@@ -36,7 +36,7 @@ kind_step : (past : List Token) (k : Kind) (next : Of k → Rest) (t : Token) (o
 kind_step past k next t other spells second = by_value (value k t) refl where
   by_value : (v : Option (Of k)) → value k t ≡ v → IfSome (option_or (option_map next v) other) (Spells (past ++ t ∷ []))
   by_value None is = second
-  by_value (Some a) is = let says = value_is k t a is in subst (λ u. Spells (past ++ u ∷ []) (next a)) (sym says.is) (spells a says.sign)
+  by_value (Some a) is = let says = value_is k t a is in subst (λ u. Spells (past ++ u ∷ []) (next a)) (sym says.1) (spells a says.0)
 
 -- ---- phrases
 

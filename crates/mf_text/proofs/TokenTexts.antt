@@ -127,13 +127,6 @@ none_among : (bs : List ℕ) (m : Mark) → list_all (λ e. not (starts_with eqb
 none_among bs mark.Becomes none = grind arith
 none_among bs m none = grind arith
 
--- the text of this mark, or of a longer one
-mark_there : (bs : List ℕ) (m : Mark) → starts_with eqb bs (mark_text m) ≡ true → (longer : Bool) → is_longer m bs ≡ longer
-    → (n : Mark) × ((starts_with eqb bs (mark_text n) ≡ true) × (is_longer n bs ≡ false))
-mark_there bs m begun false short = (m, (begun, short))
-mark_there bs mark.Minus begun true longer = (mark.Join, (longer, refl))
-mark_there bs m begun true longer = absurd (false≢true longer)
-
 -- the token at the front has this text; or there is none, but a blank, the start of a comment or another byte
 pub data Front (bs : List ℕ) : Type 0 where
   Text : (t : Token) (text rest : List ℕ) → bs ≡ text ++ rest → IsTokenText t text rest → Front bs
@@ -147,6 +140,12 @@ front_mark bs m begun short =
     let parts = starts-drop bs (mark_text m) begun in
     Text (token.Mark m) (mark_text m) _ parts (AMark m (record { written = refl; longest = ap (is_longer m) (sym parts) ∙ short }) refl)
 
+-- the text of this mark is there, or that of a longer one
+mark_there : (bs : List ℕ) (m : Mark) → starts_with eqb bs (mark_text m) ≡ true → (longer : Bool) → is_longer m bs ≡ longer → Front bs
+mark_there bs m begun false short = front_mark bs m begun short
+mark_there bs mark.Minus begun true longer = front_mark bs mark.Join longer refl
+mark_there bs m begun true longer = absurd (false≢true longer)
+
 pub front : (bs : List ℕ) → Front bs
 front bs =
     elim (cases_lt 0 (prefix_len is_ascii_alphabetic bs)) [
@@ -154,7 +153,7 @@ front bs =
       | inr no_letter ↦ elim (cases_lt 0 (prefix_len is_ascii_digit bs)) [
         | inl digit ↦ front_row_text is_ascii_digit _ bs (Digits (row is_ascii_digit bs digit) refl)
         | inr no_digit ↦ elim (among bs marks) [
-          | inl some ↦ (let found = mark_there bs some.0 some.1 (is_longer some.0 bs) refl in front_mark bs found.0 found.1.0 found.1.1)
+          | inl some ↦ mark_there bs some.0 some.1 (is_longer some.0 bs) refl
           | inr none ↦ Other (no_row is_ascii_alphabetic bs no_letter) (no_row is_ascii_digit bs no_digit) (λ m. none_among bs m none)
         ]
       ]
