@@ -86,16 +86,12 @@ sound_code {past} place each = record {
   by = ((place, λ c is. (sound_at (minus_tokens past c.int is) (each c)).by), λ c is. (sound_at (plain_tokens past c.int is) (each c)).by);
 }
 
-pair_tokens : (past a b : List Token) (begin comma close : Token)
-    → past ++ ((((begin ∷ [] ++ a) ++ comma ∷ []) ++ b) ++ close ∷ []) ≡ ((((past ++ begin ∷ []) ++ a) ++ comma ∷ []) ++ b) ++ close ∷ []
-pair_tokens past a b begin comma close = simp append_assoc
-
 -- a pair after its `(`
 sound_inner : (past : List Token) {next : Pair → Rest} → ((p : Pair) → Sound (past ++ spell_pair p) (next p))
     → Sound (past ++ token.Mark mark.Open ∷ []) (inner next)
 sound_inner past each =
     sound_int (λ across. sound_one (sound_int (λ up. sound_one
-    (sound_at (pair_tokens past (spell_int across) (spell_int up) _ _ _) (each (record { across = across; up = up }))))))
+    (sound_at (simp append_assoc) (each (record { across = across; up = up }))))))
 
 sound_pair : {past : List Token} {next : Pair → Rest} → ((p : Pair) → Sound (past ++ spell_pair p) (next p)) → Sound past (pair next)
 sound_pair {past} each = sound_one (sound_inner past each)
@@ -105,13 +101,10 @@ sound_corner : (past : List Token) (next : Pair → Rest) → ((p : Pair) → So
     → Sound (past ++ token.Mark mark.Open ∷ []) (corner next)
 sound_corner past next each = sound_inner past (λ p. sound_one (sound_at (sym (append_assoc past (spell_pair p) _)) (each p)))
 
-path_tokens : (past first others end : List Token) → past ++ ((first ++ others) ++ end) ≡ (past ++ first) ++ (others ++ end)
-path_tokens past first others end = simp append_assoc
-
 sound_path : {past : List Token} {next : Path → Rest} → ((p : Path) → Sound (past ++ spell_path p) (next p)) → Sound past (path next)
 sound_path {past} {next} each =
     sound_one (sound_corner past (λ first. Corners first [] next) (λ first. record {
-      by = λ more. (sound_at (path_tokens past (spell_corner first) (flat_map spell_corner more) _) (each (record { first = first; others = more }))).by;
+      by = λ more. (sound_at (simp append_assoc) (each (record { first = first; others = more }))).by;
     }))
 
 -- after some corners: one more, or `cycle`
@@ -120,7 +113,7 @@ module _ (past : List Token) (first : Pair) (others : List Pair) (next : Path �
   one_more = sound_corner past (λ p. Corners first (others ++ p ∷ []) next) (λ p. record {
     by = λ more.
         (subst (λ ps. Sound ((past ++ spell_corner p) ++ (flat_map spell_corner more ++ token.Word word.Cycle ∷ [])) (next (record { first = first; others = ps }))) (sym (append_assoc others (p ∷ []) more))
-        (sound_at (path_tokens past (spell_corner p) (flat_map spell_corner more) (token.Word word.Cycle ∷ [])) (record { by = spells (p ∷ more) }))).by;
+        (sound_at (simp append_assoc) (record { by = spells (p ∷ more) }))).by;
   })
 
   no_more : Spells (past ++ token.Word word.Cycle ∷ []) (next (record { first = first; others = others }))
@@ -197,17 +190,13 @@ sound_weight {past} form spelled =
     sound_or (sound_int (λ n. sound_end (form (Some n)) (spelled (Some n) ∙ sym (append_assoc past (token.Word word.WithWeight ∷ []) (spell_int n)))))
     (sound_end (form None) (spelled None ∙ append-nil past))
 
-motion_tokens : (a b c d e : List Token) → ((a ++ b) ++ c) ++ (d ++ e) ≡ (((a ++ b) ++ c) ++ d) ++ e
-motion_tokens a b c d e = simp append_assoc
-
 sound_transform : (name : Name) → Sound ((spell_name name ++ token.Mark mark.Becomes ∷ []) ++ spell_name name) (transform name)
 sound_transform name =
-    let tokens = motion_tokens (spell_name name) (token.Mark mark.Becomes ∷ []) (spell_name name) in
-    sound_or (sound_pair (λ by. sound_end (Move name (Shifted by)) (tokens _ (spell_pair by))))
-    (sound_or (sound_int (λ n. sound_end (Move name (Scaled n)) (tokens _ (spell_int n))))
-    (sound_or (sound_int (λ n. sound_end (Move name (XScaled n)) (tokens _ (spell_int n))))
-    (sound_or (sound_int (λ n. sound_end (Move name (YScaled n)) (tokens _ (spell_int n))))
-    (sound_one (sound_int (λ n. sound_end (Move name (Rotated n)) (tokens _ (spell_int n))))))))
+    sound_or (sound_pair (λ by. sound_end (Move name (Shifted by)) (simp append_assoc)))
+    (sound_or (sound_int (λ n. sound_end (Move name (Scaled n)) (simp append_assoc)))
+    (sound_or (sound_int (λ n. sound_end (Move name (XScaled n)) (simp append_assoc)))
+    (sound_or (sound_int (λ n. sound_end (Move name (YScaled n)) (simp append_assoc)))
+    (sound_one (sound_int (λ n. sound_end (Move name (Rotated n)) (simp append_assoc)))))))
 
 sound_assignment : (name : Name) → Sound (spell_name name) (assignment name)
 sound_assignment name =
