@@ -124,7 +124,8 @@ negative_shows : (ts us : List Token) (l : Line) → is_negative_code ts ≡ tru
     → is_code_number_at (Some line) ts 4 ≡ true
 unfolding reads is_code_number_at
 negative_shows (token.Word word.Shipout ∷ token.Word word.NullPicture ∷ token.Word word.Code ∷ token.Mark mark.Minus ∷ token.Number n ∷ ts) us l is read = refl
-negative_shows (token.Word word.Shipout ∷ token.Word word.CurrentPicture ∷ token.Word word.Code ∷ token.Mark mark.Minus ∷ token.Number n ∷ ts) us l is read = refl
+negative_shows (token.Word word.Shipout ∷ token.Word word.CurrentPicture ∷ token.Word word.Code ∷ token.Mark mark.Minus ∷ token.Number n ∷ ts) us l is read =
+    refl
 negative_shows (token.Word word.Shipout ∷ token.Letter letter ∷ token.Word word.Code ∷ token.Mark mark.Minus ∷ token.Number n ∷ ts) us l is read = refl
 negative_shows (token.Word word.Shipout ∷ s ∷ token.Word word.Code ∷ token.Mark mark.Minus ∷ token.Number n ∷ ts) us l is read = absurd (none-some l read)
 negative_shows ts us l is read = absurd (false≢true is)

@@ -60,7 +60,8 @@ starts_front ts us begun = record {
 -- where some line starts with tokens, one starts with each prefix of them
 starts-sooner : (ts : List Token) (j k : ℕ) → j ≤ k → StartsLine (take k ts) → StartsLine (take j ts)
 starts-sooner ts j k below begun =
-    subst StartsLine (take-take j k ts below) (starts_front (take j (take k ts)) (drop j (take k ts)) (subst StartsLine (sym (take-append-drop j (take k ts))) begun))
+    let parts = take-append-drop j (take k ts) in
+    subst StartsLine (take-take j k ts below) (starts_front (take j (take k ts)) (drop j (take k ts)) (subst StartsLine (sym parts) begun))
 
 -- tokens do not go wrong at two places
 not_before : (ts : List Token) (j k : ℕ) → IsWrongAt ts j → IsWrongAt ts k → j < k → ⊥

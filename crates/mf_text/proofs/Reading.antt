@@ -24,7 +24,8 @@ at_first : {A : Type 0} (f : Token → Option A) (a : A) (P : List Placed → Ah
     → (ps : List Placed) (after : Ahead) → next_value f ps ≡ Some (a, after) → P ps after
 at_first f a P there [] after is = absurd (none-some (a, after) is)
 at_first {A} f a P there (p ∷ ps) after is = by_value (f p.token) refl is where
-  by_value : (v : Option A) → f p.token ≡ v → option_map {U = A × Ahead} (λ x. (x, record { tokens = ps; past = p.after })) v ≡ Some (a, after) → P (p ∷ ps) after
+  by_value : (v : Option A) → f p.token ≡ v → option_map {U = A × Ahead} (λ x. (x, record { tokens = ps; past = p.after })) v ≡ Some (a, after)
+      → P (p ∷ ps) after
   by_value None found none = absurd (none-some (a, after) none)
   by_value (Some x) found same =
       let pairs = same_Some (x, record { tokens = ps; past = p.after }) (a, after) same in
@@ -42,11 +43,12 @@ passes : (r : Rest) (k : Kind) (next : Of k → Rest) → ((t : Token) (a : Of k
     → (old new : Tokens) (a : Of k) → TakesValue (value k) old new (Some a) → from r (ahead old) ≡ from (next a) (ahead new)
 unfolding follow
 passes r k next allows old new a is =
-    at_first (value k) a (λ ps on. from r (record { tokens = ps; past = old.column }) ≡ from (next a) on) (λ p ps found. rw (allows p.token a found, follow) refl)
-    (remaining_tokens old) (ahead new) is
+    at_first (value k) a (λ ps on. from r (record { tokens = ps; past = old.column }) ≡ from (next a) on)
+    (λ p ps found. rw (allows p.token a found, follow) refl) (remaining_tokens old) (ahead new) is
 
 -- what it gives where its next token has none
-misses : (r : Rest) (k : Kind) (out : Ahead → Result Line ℕ) → ((past : ℕ) → from r (record { tokens = []; past = past }) ≡ out (record { tokens = []; past = past }))
+misses : (r : Rest) (k : Kind) (out : Ahead → Result Line ℕ)
+    → ((past : ℕ) → from r (record { tokens = []; past = past }) ≡ out (record { tokens = []; past = past }))
     → ((p : Placed) (ps : List Placed) (past : ℕ) → value k p.token ≡ None
     → from r (record { tokens = p ∷ ps; past = past }) ≡ out (record { tokens = p ∷ ps; past = past }))
     → (old new : Tokens) → TakesValue (value k) old new None → from r (ahead old) ≡ out (ahead new)
@@ -123,8 +125,7 @@ letter_taken ps n after is = taken_as letter_in name_in n (Register n) (λ t. le
 
 pub current_taken : (ps : List Placed) (after : Ahead) → next_value (this_in (token.Word word.CurrentPicture)) ps ≡ Some (tt, after)
     → next_value name_in ps ≡ Some (Current, after)
-current_taken ps after is =
-    taken_as (this_in (token.Word word.CurrentPicture)) name_in tt Current (λ t this. ap name_in (this_only (token.Word word.CurrentPicture) t this)) ps after is
+current_taken = taken_as (this_in (token.Word word.CurrentPicture)) name_in tt Current (λ t is. ap name_in (this_only (token.Word word.CurrentPicture) t is))
 
 no_name : (t : Token) → this_in (token.Word word.CurrentPicture) t ≡ None → letter_in t ≡ None → name_in t ≡ None
 no_name (token.Word word.CurrentPicture) other none = absurd (none-some tt (sym other))
@@ -135,7 +136,8 @@ pub no_name_taken : (ps : List Placed) → next_value (this_in (token.Word word.
     → next_value name_in ps ≡ None
 no_name_taken [] other none = refl
 no_name_taken (p ∷ ps) other none =
-    ap (option_map (λ x. (x, record { tokens = ps; past = p.after }))) (no_name p.token (lacks (this_in (token.Word word.CurrentPicture)) p ps other) (lacks letter_in p ps none))
+    let lacking = no_name p.token (lacks (this_in (token.Word word.CurrentPicture)) p ps other) (lacks letter_in p ps none) in
+    ap (option_map (λ x. (x, record { tokens = ps; past = p.after }))) lacking
 
 -- a given name is the next token exactly where it is the name that the token is
 pub this_name : (name : Name) (ps : List Placed) (after : Ahead) → next_value name_in ps ≡ Some (name, after)
@@ -152,7 +154,8 @@ other_name name old after r took other = (by_this (next_value (this_in (name_tok
   by_this : (v : Option (Unit {0} × Ahead)) → next_value (this_in (name_token name)) (remaining_tokens old) ≡ v → v ≡ None
   by_this None is = refl
   by_this (Some (tt, v)) is = absurd (other (taken_is r took v
-      (taken_as (this_in (name_token name)) name_in tt name (λ t this. ap name_in (this_only (name_token name) t this) ∙ name_of name) (remaining_tokens old) v is)))
+      (taken_as (this_in (name_token name)) name_in tt name (λ t this. ap name_in (this_only (name_token name) t this) ∙ name_of name)
+      (remaining_tokens old) v is)))
 
 -- ---- the end of a line
 

@@ -7,7 +7,7 @@ use Rattle.mf_text.specs.declared.token.Mark.TheVariants as mark
 use Rattle.mf_text.specs.Token as token
 use Rattle.mf_text.specs.declared.token.Word.TheVariants as word
 use Rattle.mf_text.specs.Grammar.{Line, Path, Code, Name, Current, Register, Source, Null, Named, Int, Pair, Form, Nothing, AddContour, AddPicture, CullKeeping, CullDropping, Clear, Move, ShowTotal, ShowPicture, ShowProof, ShipOut, SetCheck, PublishAll, Shifted, Scaled, XScaled, YScaled, Rotated, Transform, Sign, Plus, Minus}
-use Rattle.mf_text.specs.Rests.{Kind, Of, This, Names, Numbers, Codes, Rest, Ends, Take, OrTake, Corners, One, Or, ACode, CodeNumber, corner, ends, inner, int, is_code_number, path, source, step, value, Token, code_of, int_of, line, line_end, name_token, assignment, of_int, of_source, transform, weighable, name_in, this_in}
+use Rattle.mf_text.specs.Rests.{Kind, Of, This, Names, Numbers, Codes, Rest, Ends, Take, OrTake, Corners, One, Or, ACode, CodeNumber, corner, ends, if_kind, inner, int, is_code_number, path, source, step, value, Token, code_of, int_of, line, line_end, name_token, assignment, of_int, of_source, transform, weighable, name_in, this_in}
 use Rattle.mf_text.proofs.ReadInts.{byte_code, code_of-is, int_of-is, short_int}
 use Rattle.mf_text.proofs.TokenTexts.{same_token, token_is}
 
@@ -51,7 +51,8 @@ value_back (This u) a sign = this_same u
 value_back Names name sign = name_of name
 value_back (Numbers negative) n sign = ap (λ b. int_of b n.magnitude) (sym sign) ∙ short_int n.negative n.magnitude n.short
 value_back (Codes negative) c sign =
-    ap (λ b. option_and_then code_of (int_of b c.int.magnitude)) (sym sign) ∙ ap (option_and_then code_of) (short_int c.int.negative c.int.magnitude c.int.short) ∙ byte_code c.int c.is_byte
+    ap (λ b. option_and_then code_of (int_of b c.int.magnitude)) (sym sign)
+    ∙ ap (option_and_then code_of) (short_int c.int.negative c.int.magnitude c.int.short) ∙ byte_code c.int c.is_byte
 
 -- a token says this
 abbrev pub Says : (k : Kind) → Token → Of k → Type 0
@@ -91,14 +92,19 @@ on : {r q : Rest} {l : Line} (t : Token) → step r t ≡ Some q → To q l → 
 unfolding reads
 on t is after = record { tokens = t ∷ after.tokens; read = ap (λ s. reads s after.tokens) is ∙ after.read }
 
+-- where a token of a kind may come
+kind_to : {r : Rest} {l : Line} (k : Kind) (next : Of k → Rest) (other : Option Rest) (t : Token) (a : Of k)
+    → step r t ≡ if_kind k next t other → value k t ≡ Some a → To (next a) l → To r l
+kind_to k next other t a allowed is after = on t (allowed ∙ ap (λ v. option_or (option_map next v) other) is) after
+
 one_to : {u : Token} {this : Rest} {l : Line} → To this l → To (One u this) l
-one_to {u} {this} after = on u (ap (λ v. option_or (option_map (λ _. this) v) None) (this_same u)) after
+one_to {u} {this} after = kind_to (This u) (λ _. this) None u tt refl (this_same u) after
 
 or_to : {u : Token} {this other : Rest} {l : Line} → To this l → To (Or u this other) l
-or_to {u} {this} {other} after = on u (ap (λ v. option_or (option_map (λ _. this) v) (step other u)) (this_same u)) after
+or_to {u} {this} {other} after = kind_to (This u) (λ _. this) (step other u) u tt refl (this_same u) after
 
 take_to : {k : Kind} {next : Of k → Rest} {l : Line} (a : Of k) → HasSign k a → To (next a) l → To (Take k next) l
-take_to {k} {next} a sign after = on (token_of k a) (ap (λ v. option_or (option_map next v) None) (value_back k a sign)) after
+take_to {k} {next} a sign after = kind_to k next None (token_of k a) a refl (value_back k a sign) after
 
 source_to : {next : Source → Rest} {l : Source → Line} → ((s : Source) → To (next s) (l s)) → (s : Source) → To (source next) (l s)
 source_to each Null = or_to (each Null)
@@ -108,13 +114,13 @@ source_to each (Named (Register n)) = on (token.Letter n) refl (each (Named (Reg
 int_to : {next : Int → Rest} {l : Line} (n : Int) → To (next n) l → To (int next) l
 int_to {next} n after = elim (cases_Bool n.negative) [
   | inl is ↦ or_to (take_to n is after)
-  | inr is ↦ on (token.Number n.magnitude) (ap (λ v. option_or (option_map next v) None) (value_back (Numbers false) n is)) after
+  | inr is ↦ kind_to (Numbers false) next None (token.Number n.magnitude) n refl (value_back (Numbers false) n is) after
 ]
 
 code_to : {next : Code → Rest} {l : Line} (c : Code) → To (next c) l → To (ACode next) l
 code_to {next} c after = elim (cases_Bool c.int.negative) [
-  | inl is ↦ or_to (on {r = CodeNumber next} (token.Number c.int.magnitude) (ap (λ v. option_or (option_map next v) None) (value_back (Codes true) c is)) after)
-  | inr is ↦ on (token.Number c.int.magnitude) (ap (λ v. option_or (option_map next v) None) (value_back (Codes false) c is)) after
+  | inl is ↦ or_to (kind_to (Codes true) next None (token.Number c.int.magnitude) c refl (value_back (Codes true) c is) after)
+  | inr is ↦ kind_to (Codes false) next None (token.Number c.int.magnitude) c refl (value_back (Codes false) c is) after
 ]
 
 inner_to : {next : Pair → Rest} {l : Pair → Line} → ((p : Pair) → To (next p) (l p)) → (p : Pair) → To (inner next) (l p)
@@ -178,7 +184,8 @@ form_to (AddPicture name sign s) ended = or_to (take_to name tt (on (token.Word 
 form_to (CullKeeping name range w) ended =
     on (token.Word word.Cull) refl (take_to name tt (or_to (one_to (inner_to (λ p. weight_to (CullKeeping name p) w ended) range))))
 form_to (CullDropping name range w) ended =
-    on (token.Word word.Cull) refl (take_to name tt (on (token.Word word.Dropping) refl (one_to (inner_to (λ p. weight_to (CullDropping name p) w ended) range))))
+    on (token.Word word.Cull) refl (take_to name tt (on (token.Word word.Dropping) refl (one_to
+    (inner_to (λ p. weight_to (CullDropping name p) w ended) range))))
 form_to (Clear name) ended = assignment_to name (one_to (or_to (end_to _ ended)))
 form_to (Move name motion) ended = assignment_to name (again_to name (motion_to name motion ended))
 form_to (ShowTotal s) ended = on (token.Word word.Show) refl (or_to (source_to (λ t. end_to (ShowTotal t) ended) s))
@@ -188,7 +195,8 @@ form_to (ShowPicture (Named (Register n))) ended = on (token.Word word.Show) ref
 form_to (ShowProof s) ended = on (token.Word word.Proof) refl (source_to (λ t. end_to (ShowProof t) ended) s)
 form_to (ShipOut s code dx width) ended =
     on (token.Word word.Shipout) refl (source_to after_source s) where
-      after_source : (t : Source) → To (One (token.Word word.Code) (ACode (λ c. One (token.Word word.Dx) (int (λ x. One (token.Word word.Width) (of_int (ShipOut t c x)))))))
+      after_source : (t : Source)
+          → To (One (token.Word word.Code) (ACode (λ c. One (token.Word word.Dx) (int (λ x. One (token.Word word.Width) (of_int (ShipOut t c x)))))))
           (record { form = ShipOut t code dx width; ended = ended })
       after_source t = one_to (code_to code (one_to (int_to dx (one_to (int_to width (end_to _ ended))))))
 form_to (SetCheck n) ended = on (token.Word word.TurningCheck) refl (one_to (int_to n (end_to _ ended)))
@@ -217,13 +225,16 @@ unfolding reads
 some_line (Ends l) = (l, record { tokens = []; read = refl })
 some_line (One u this) = let end = some_line this in (end.0, one_to end.1)
 some_line (Or u this other) = let end = some_line this in (end.0, or_to end.1)
-some_line (Take k next) = let some = some_value k in let end = some_line (next some.1.0) in (end.0, on some.0 (ap (λ v. option_or (option_map next v) None) some.1.1) end.1)
+some_line (Take k next) =
+    let some = some_value k in let end = some_line (next some.1.0) in (end.0, kind_to k next None some.0 some.1.0 refl some.1.1 end.1)
 some_line (OrTake k next other) =
     let some = some_value k in
     let end = some_line (next some.1.0) in
-    (end.0, on some.0 (ap (λ v. option_or (option_map next v) (step other some.0)) some.1.1) end.1)
+    (end.0, kind_to k next (step other some.0) some.0 some.1.0 refl some.1.1 end.1)
 some_line (CodeNumber next) =
-    let some = some_value (Codes true) in let end = some_line (next some.1.0) in (end.0, on some.0 (ap (λ v. option_or (option_map next v) None) some.1.1) end.1)
+    let some = some_value (Codes true) in
+    let end = some_line (next some.1.0) in
+    (end.0, kind_to (Codes true) next None some.0 some.1.0 refl some.1.1 end.1)
 some_line (Corners first others next) = let end = some_line (next (record { first = first; others = others })) in (end.0, on (token.Word word.Cycle) refl end.1)
 
 pub rest_ends : (r : Rest) → GoesOn (Some r) []

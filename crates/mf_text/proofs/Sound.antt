@@ -112,7 +112,9 @@ module _ (past : List Token) (first : Pair) (others : List Pair) (next : Path �
   one_more : Sound (past ++ token.Mark mark.Open ∷ []) (corner (λ p. Corners first (others ++ p ∷ []) next))
   one_more = sound_corner past (λ p. Corners first (others ++ p ∷ []) next) (λ p. record {
     by = λ more.
-        (subst (λ ps. Sound ((past ++ spell_corner p) ++ (flat_map spell_corner more ++ token.Word word.Cycle ∷ [])) (next (record { first = first; others = ps }))) (sym (append_assoc others (p ∷ []) more))
+        (subst
+        (λ ps. Sound ((past ++ spell_corner p) ++ (flat_map spell_corner more ++ token.Word word.Cycle ∷ [])) (next (record { first = first; others = ps })))
+        (sym (append_assoc others (p ∷ []) more))
         (sound_at (simp append_assoc) (record { by = spells (p ∷ more) }))).by;
   })
 
@@ -203,7 +205,8 @@ sound_assignment name =
     sound_one (sound_or (sound_end (Clear name) refl) (sound_one (sound_at (name_tokens _ name) (sound_transform name))))
 
 -- a source is one token
-source_token : (s : Source) → (t : Token) × (token.Word word.Shipout ∷ [] ++ spell_source s ++ token.Word word.Code ∷ [] ++ token.Mark mark.Minus ∷ [] ≡ to_number t)
+source_token : (s : Source) → (t : Token)
+    × (token.Word word.Shipout ∷ [] ++ spell_source s ++ token.Word word.Code ∷ [] ++ token.Mark mark.Minus ∷ [] ≡ to_number t)
 source_token Null = (token.Word word.NullPicture, refl)
 source_token (Named Current) = (token.Word word.CurrentPicture, refl)
 source_token (Named (Register letter)) = (token.Letter letter, refl)
