@@ -1,5 +1,5 @@
 -- What a line gives at its next token, and after phrases.
-use Rattle.std.proofs.Common.{◌≡◌, ◌≢◌, ℕ, ◌-◌, ◌<◌, true, false, List, [], ◌∷◌, ◌++◌, length, map, Option, Some, None, Result, Ok, Err, ok_or, Bool, if◌then◌else◌, refl, sym, ap, subst, ◌∙◌, arith}
+use Rattle.std.proofs.Common.{◌≡◌, ◌≢◌, ℕ, ◌-◌, ◌<◌, true, false, List, [], ◌∷◌, ◌++◌, length, map, Option, Some, None, Result, Ok, Err, ok_or, Bool, if◌then◌else◌, refl, sym, ap, subst, ◌∙◌, append_assoc, arith}
 use Rattle.std.specs.Option.{option_map, option_or}
 use Rattle.std.specs.Result.{IsErrAnd}
 use Rattle.std.proofs.lemmas.List.{map-append}
@@ -200,45 +200,37 @@ module _ (next : Code → Rest) (old same : Tokens) where
 
 -- ---- the corners of a path
 
--- the path of these corners and one more
-abbrev pub ended_with : List Pair → Pair → Path
-ended_with [] p = record { first = p; others = [] }
-ended_with (first ∷ others) p = record { first = first; others = others ++ p ∷ [] }
+-- one more corner, or `cycle`, where the path has these corners after those that were passed
+abbrev pub one_more : (Pair → List Pair → Path) → (Path → Rest) → Pair → Rest
+one_more path_of next p = Corners (λ ps. next (path_of p ps))
 
--- after these corners and one more: another one, or `cycle`
-abbrev pub one_more : List Pair → (Path → Rest) → Pair → Rest
-one_more corners next p = Corners (ended_with corners p).first (ended_with corners p).others next
-
--- these corners of a path were passed and kept, and the `(` of one more was passed
+-- some corners of a path were passed and kept, with these points, and the `(` of one more was passed
 pub record IsInPath (old now : Tokens) (kept : paths.Path) : Type 0 where
-  pub corners : List Pair
-  pub points : HasPoints kept (map pair_value corners)
-  pub read : (next : Path → Rest) → from (path next) (ahead old) ≡ from (corner (one_more corners next)) (ahead now)
+  pub points : List Point
+  pub has : HasPoints kept points
+  -- the path, by its corners from here on
+  pub path_of : Pair → List Pair → Path
+  pub value_is : (p : Pair) (ps : List Pair) → path_value (path_of p ps) ≡ points ++ pair_value p ∷ map pair_value ps
+  pub read : (next : Path → Rest) → from (path next) (ahead old) ≡ from (corner (one_more path_of next)) (ahead now)
 
-corners_or : (p : Path) (next : Path → Rest) (past : ℕ) (ps : List Placed)
-    → from (Corners p.first p.others next) (record { tokens = ps; past = past })
-    ≡ from (Or (token.Mark mark.Open) (corner (one_more (p.first ∷ p.others) next)) (One (token.Word word.Cycle) (next p)))
+corners_or : (next : List Pair → Rest) (past : ℕ) (ps : List Placed) → from (Corners next) (record { tokens = ps; past = past })
+    ≡ from (Or (token.Mark mark.Open) (corner (λ p. Corners (λ qs. next (p ∷ qs)))) (One (token.Word word.Cycle) (next [])))
     (record { tokens = ps; past = past })
 unfolding follow
-corners_or path next past [] = refl
-corners_or path next past (p ∷ ps) = refl
+corners_or next past [] = refl
+corners_or next past (p ∷ ps) = refl
 
 -- what a line gives at the `(` of one more corner, or at the `cycle` after the last one
-pub corners_go_on : (p : Path) (now after : Tokens) (passes : Bool)
+pub corners_go_on : (next : List Pair → Rest) (now after : Tokens) (passes : Bool)
     → ((this other : Rest) → from (Or (token.Mark mark.Open) this other) (ahead now) ≡ (if passes then from this (ahead after) else from other (ahead after)))
-    → (more : Bool) → passes ≡ more → (next : Path → Rest) → from (Corners p.first p.others next) (ahead now)
-    ≡ (if more then from (corner (one_more (p.first ∷ p.others) next)) (ahead after) else from (One (token.Word word.Cycle) (next p)) (ahead after))
-corners_go_on p now after passes read more is next =
-    corners_or p next now.column (remaining_tokens now) ∙
-    rw (sym is) (read (corner (one_more (p.first ∷ p.others) next)) (One (token.Word word.Cycle) (next p)))
+    → (more : Bool) → passes ≡ more → from (Corners next) (ahead now)
+    ≡ (if more then from (corner (λ p. Corners (λ ps. next (p ∷ ps)))) (ahead after) else from (One (token.Word word.Cycle) (next [])) (ahead after))
+corners_go_on next now after passes read more is = corners_or next now.column (remaining_tokens now) ∙ rw (sym is) (read _ _)
 
 pub path_wrong : (before after : Tokens) (r : Result paths.Path SyntaxFault) (fault : SyntaxFault) → IsErrAnd r (λ y. y ≡ fault)
     → ((next : Path → Rest) → from (path next) (ahead before) ≡ Err fault.column) → PassesPath before after r
 path_wrong before after (Ok kept) fault none wrong = absurd none
 path_wrong before after (Err e) fault same wrong = λ next. wrong next ∙ ap (λ (f : SyntaxFault). Err f.column) (sym same)
 
-pub points_more : (kept : paths.Path) (corners : List Pair) (p : Pair) (v : Point) → v ≡ pair_value p → HasPoints kept (map pair_value corners ++ v ∷ [])
-    → HasPoints kept (path_value (ended_with corners p))
-points_more kept [] p v is has = subst (λ u. HasPoints kept (u ∷ [])) is has
-points_more kept (first ∷ others) p v is has =
-    subst (HasPoints kept) (ap (λ u. map pair_value (first ∷ others) ++ u ∷ []) is ∙ sym (map-append pair_value (first ∷ others) (p ∷ []))) has
+pub one_longer : (points : List Point) (v w : Point) (ws : List Point) → v ≡ w → points ++ w ∷ ws ≡ (points ++ v ∷ []) ++ ws
+one_longer points v w ws is = rw is (sym (append_assoc points (w ∷ []) ws))

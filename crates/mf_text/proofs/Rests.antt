@@ -129,17 +129,15 @@ inner_to each p = int_to p.across (one_to (int_to p.up (one_to (each p))))
 corner_to : {next : Pair → Rest} {l : Pair → Line} → ((p : Pair) → To (next p) (l p)) → (p : Pair) → To (corner next) (l p)
 corner_to each p = inner_to (λ q. one_to {u = token.Mark mark.Join} (each q)) p
 
-corners_to : (next : Path → Rest) (l : Path → Line) (each : (p : Path) → To (next p) (l p)) (first : Pair) (others more : List Pair)
-    → To (Corners first others next) (l (record { first = first; others = others ++ more }))
-corners_to next l each first others [] =
-    subst (λ ps. To (Corners first others next) (l (record { first = first; others = ps }))) (sym (append-nil others))
-    (on (token.Word word.Cycle) refl (each (record { first = first; others = others })))
-corners_to next l each first others (p ∷ ps) =
-    subst (λ qs. To (Corners first others next) (l (record { first = first; others = qs }))) (append_assoc others (p ∷ []) ps)
-    (on (token.Mark mark.Open) refl (corner_to (λ q. corners_to next l each first (others ++ q ∷ []) ps) p))
+corners_to : (next : List Pair → Rest) (l : List Pair → Line) → ((ps : List Pair) → To (next ps) (l ps)) → (ps : List Pair) → To (Corners next) (l ps)
+corners_to next l each [] = on (token.Word word.Cycle) refl (each [])
+corners_to next l each (p ∷ ps) =
+    on (token.Mark mark.Open) refl (corner_to (λ q. corners_to (λ qs. next (q ∷ qs)) (λ qs. l (q ∷ qs)) (λ qs. each (q ∷ qs)) ps) p)
 
 path_to : {next : Path → Rest} {l : Path → Line} → ((p : Path) → To (next p) (l p)) → (p : Path) → To (path next) (l p)
-path_to {next} {l} each p = one_to (corner_to (λ first. corners_to next l each first [] p.others) p.first)
+path_to {next} {l} each p =
+    let path_of : Pair → List Pair → Path = λ first others. record { first = first; others = others } in
+    one_to (corner_to (λ q. corners_to (λ qs. next (path_of q qs)) (λ qs. l (path_of q qs)) (λ qs. each (path_of q qs)) p.others) p.first)
 
 end_to : (form : Form) (ended : Bool) → To (line_end form) (record { form = form; ended = ended })
 unfolding reads
@@ -235,7 +233,7 @@ some_line (CodeNumber next) =
     let some = some_value (Codes true) in
     let end = some_line (next some.1.0) in
     (end.0, kind_to (Codes true) next None some.0 some.1.0 refl some.1.1 end.1)
-some_line (Corners first others next) = let end = some_line (next (record { first = first; others = others })) in (end.0, on (token.Word word.Cycle) refl end.1)
+some_line (Corners next) = let end = some_line (next []) in (end.0, on (token.Word word.Cycle) refl end.1)
 
 pub rest_ends : (r : Rest) → GoesOn (Some r) []
 rest_ends r = let end = some_line r in (end.1.tokens, (end.0, end.1.read))

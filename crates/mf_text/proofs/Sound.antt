@@ -24,8 +24,7 @@ Spells past (Take k next) = (a : Of k) → HasSign k a → Spells (past ++ token
 Spells past (OrTake k next other) = ((a : Of k) → HasSign k a → Spells (past ++ token_of k a ∷ []) (next a)) × Spells past other
 Spells past (CodeNumber next) =
     ((s : Token) × (past ≡ to_number s)) × ((c : Code) → c.int.negative ≡ true → Spells (past ++ token.Number c.int.magnitude ∷ []) (next c))
-Spells past (Corners first others next) =
-    (more : List Pair) → Spells (past ++ (flat_map spell_corner more ++ token.Word word.Cycle ∷ [])) (next (record { first = first; others = others ++ more }))
+Spells past (Corners next) = (more : List Pair) → Spells (past ++ (flat_map spell_corner more ++ token.Word word.Cycle ∷ [])) (next more)
 
 -- ---- a step
 
@@ -103,24 +102,16 @@ sound_corner past next each = sound_inner past (λ p. sound_one (sound_at (sym (
 
 sound_path : {past : List Token} {next : Path → Rest} → ((p : Path) → Sound (past ++ spell_path p) (next p)) → Sound past (path next)
 sound_path {past} {next} each =
-    sound_one (sound_corner past (λ first. Corners first [] next) (λ first. record {
+    sound_one (sound_corner past (λ first. Corners (λ others. next (record { first = first; others = others }))) (λ first. record {
       by = λ more. (sound_at (simp append_assoc) (each (record { first = first; others = more }))).by;
     }))
 
--- after some corners: one more, or `cycle`
-module _ (past : List Token) (first : Pair) (others : List Pair) (next : Path → Rest) (spells : Spells past (Corners first others next)) where
-  one_more : Sound (past ++ token.Mark mark.Open ∷ []) (corner (λ p. Corners first (others ++ p ∷ []) next))
-  one_more = sound_corner past (λ p. Corners first (others ++ p ∷ []) next) (λ p. record {
-    by = λ more.
-        (subst
-        (λ ps. Sound ((past ++ spell_corner p) ++ (flat_map spell_corner more ++ token.Word word.Cycle ∷ [])) (next (record { first = first; others = ps })))
-        (sym (append_assoc others (p ∷ []) more))
-        (sound_at (simp append_assoc) (record { by = spells (p ∷ more) }))).by;
-  })
-
-  no_more : Spells (past ++ token.Word word.Cycle ∷ []) (next (record { first = first; others = others }))
-  no_more =
-      subst (λ ps. Spells (past ++ token.Word word.Cycle ∷ []) (next (record { first = first; others = ps }))) (append-nil others) (spells [])
+-- after some corners, one more
+one_more : (past : List Token) (next : List Pair → Rest) → Spells past (Corners next)
+    → Sound (past ++ token.Mark mark.Open ∷ []) (corner (λ p. Corners (λ ps. next (p ∷ ps))))
+one_more past next spells = sound_corner past (λ p. Corners (λ ps. next (p ∷ ps))) (λ p. record {
+  by = λ more. subst (λ ts. Spells ts (next (p ∷ more))) (simp append_assoc) (spells (p ∷ more));
+})
 
 -- ---- what is read is spelled
 
@@ -131,9 +122,9 @@ rest_step past (Or u this other) t spells = kind_step past (This u) (λ _. this)
 rest_step past (Take k next) t spells = kind_step past k next t None spells tt
 rest_step past (OrTake k next other) t spells = kind_step past k next t (step other t) spells.0 (rest_step past other t spells.1)
 rest_step past (CodeNumber next) t spells = kind_step past (Codes true) next t None spells.1 tt
-rest_step past (Corners first others next) t spells =
-    kind_step past (This (token.Mark mark.Open)) _ t _ (λ _ _. (one_more past first others next spells).by)
-    (kind_step past (This (token.Word word.Cycle)) _ t None (λ _ _. no_more past first others next spells) tt)
+rest_step past (Corners next) t spells =
+    kind_step past (This (token.Mark mark.Open)) _ t _ (λ _ _. (one_more past next spells).by)
+    (kind_step past (This (token.Word word.Cycle)) _ t None (λ _ _. spells []) tt)
 
 end_spelled : (past : List Token) (r : Rest) (l : Line) → Spells past r → ends r ≡ Some l → spell_line l ≡ past
 end_spelled past (Ends m) l spells is = ap spell_line (sym (same_Some m l is)) ∙ spells

@@ -1,5 +1,5 @@
 -- The rests of lines: what may follow in a line, token by token, and the line that it ends as. The grammar is one of them.
-use Rattle.std.specs.Prelude.{ℕ, ◌-◌, List, [], ◌∷◌, ◌++◌, Bool, true, false, Option, None, Some, Result, Ok, Err, ok_or, if◌then◌else◌}
+use Rattle.std.specs.Prelude.{ℕ, ◌-◌, List, [], ◌∷◌, Bool, true, false, Option, None, Some, Result, Ok, Err, ok_or, if◌then◌else◌}
 use Rattle.std.specs.Option.{option_map, option_and_then, option_or}
 use Rattle.mf_text.specs.declared.token.Mark.TheVariants as mark
 use Rattle.mf_text.specs.declared.token.Word.TheVariants as word
@@ -46,8 +46,8 @@ pub data Rest : Type 0 where
   OrTake : (k : Kind) → (Of k → Rest) → Rest → Rest
   -- the number of a code, after its `-`
   CodeNumber : (Code → Rest) → Rest
-  -- one more corner or `cycle`, after these corners
-  Corners : Pair → List Pair → (Path → Rest) → Rest
+  -- any number of corners, and `cycle`
+  Corners : (List Pair → Rest) → Rest
 
 -- ---- phrases
 
@@ -77,7 +77,7 @@ corner next = inner (λ p. One (token.Mark mark.Join) (next p))
 
 -- a path
 abbrev pub path : (Path → Rest) → Rest
-path next = One (token.Mark mark.Open) (corner (λ first. Corners first [] next))
+path next = One (token.Mark mark.Open) (corner (λ first. Corners (λ others. next (record { first = first; others = others }))))
 
 -- ---- lines
 
@@ -169,9 +169,8 @@ step (Or u this other) t = if_kind (This u) (λ _. this) t (step other t)
 step (Take k next) t = if_kind k next t None
 step (OrTake k next other) t = if_kind k next t (step other t)
 step (CodeNumber next) t = if_kind (Codes true) next t None
-step (Corners first others next) t =
-    if_kind (This (token.Mark mark.Open)) (λ _. corner (λ p. Corners first (others ++ p ∷ []) next)) t
-    (if_kind (This (token.Word word.Cycle)) (λ _. next (record { first = first; others = others })) t None)
+step (Corners next) t =
+    if_kind (This (token.Mark mark.Open)) (λ _. corner (λ p. Corners (λ ps. next (p ∷ ps)))) t (if_kind (This (token.Word word.Cycle)) (λ _. next []) t None)
 
 -- the line that can end here, if there is one
 abbrev pub ends : Rest → Option Line
