@@ -1,10 +1,10 @@
 -- The token at the front of bytes that do not start with a blank, and what is ahead there.
-use Rattle.std.proofs.Common.{◌≡◌, inl, inr, ℕ, ◌+◌, ◌<◌, ◌≤◌, true, false, eqb, List, [], ◌∷◌, drop, length, Option, None, Some, refl, sym, ap, ◌∙◌, arith}
+use Rattle.std.proofs.Common.{◌≡◌, inl, inr, ℕ, ◌+◌, ◌<◌, ◌≤◌, true, eqb, List, [], ◌∷◌, drop, length, Option, None, Some, refl, sym, ap, ◌∙◌, arith}
 use Rattle.std.specs.Option.{option_map}
 use Rattle.std.proofs.lemmas.Bool.{cases_Bool, eqb-true}
 use Rattle.mf_text.specs.declared.tokens.Tokens.{Tokens}
 use Rattle.mf_text.specs.Reads.{TakesToken, TakesValue, ahead, next_value, remaining_tokens}
-use Rattle.mf_text.specs.Token.{Ahead, Token, Unknown, is_token, this_in}
+use Rattle.mf_text.specs.Token.{Ahead, Token, Unknown, this_in}
 use Rattle.mf_text.specs.Tokens.{IsClear, first_token, mark_among, token_at, tokens_from}
 use Rattle.mf_text.proofs.LineTokens.{tokens_at_comment, tokens_at_end, tokens-step}
 use Rattle.mf_text.proofs.Reading.{fewer}

@@ -7,7 +7,7 @@ use Rattle.mf_text.specs.declared.token.Mark.TheVariants as mark
 use Rattle.mf_text.specs.Token as token
 use Rattle.mf_text.specs.declared.token.Word.TheVariants as word
 use Rattle.mf_text.specs.Grammar.{Form, Nothing, AddContour, AddPicture, CullKeeping, CullDropping, Clear, Move, ShowTotal, ShowPicture, ShowProof, ShipOut, SetCheck, PublishAll, Shifted, Scaled, XScaled, YScaled, Rotated, Line, Path, spell_form, spell_weight, spell_int, spell_code, spell_pair, spell_name, spell_source, spell_corner, spell_path, spell_line, Plus, Minus, Code, Name, Current, Register, Source, Null, Named, Int, Pair}
-use Rattle.mf_text.specs.Rests.{Kind, Of, This, Names, Codes, Rest, Ends, Take, OrTake, Corners, One, Or, ACode, CodeNumber, corner, ends, if_kind, inner, int, is_code_number, pair, path, source, step, assignment, line, line_end, name_token, this_in, transform, value, weighable, Token}
+use Rattle.mf_text.specs.Rests.{Kind, Of, This, Names, Codes, Rest, Ends, Take, OrTake, Corners, One, Or, ACode, CodeNumber, corner, ends, if_kind, inner, int, is_code_number, pair, path, source, step, assignment, line, line_end, name_token, transform, value, weighable, Token}
 use Rattle.mf_text.specs.Syntax.{is_negative_code}
 use Rattle.mf_text.proofs.Rests.{HasSign, token_of, value_is, is_code_number_at, reads}
 
