@@ -10,6 +10,7 @@ mod lines;
 mod pair;
 mod path;
 mod phrases;
+mod text;
 mod token;
 mod tokens;
 mod value;

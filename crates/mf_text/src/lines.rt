@@ -1,14 +1,14 @@
 //! Lines, with a function for each form that they may have.
-ghost use Rattle.std.specs.Prelude.{◌≡◌, ◌+◌, ◌≤◌, IfOk, IfErr, length};
-ghost use Rattle.std.specs.List.{list_all};
+ghost use Rattle.std.specs.Prelude.{IfOk, IfErr};
 ghost use Rattle.mf_text.specs.Rests as rests;
-ghost use Rattle.mf_text.specs.Lines.{Gives, IsRefused, is_text_byte};
+ghost use Rattle.mf_text.specs.Lines.{Gives, IsRefused};
 ghost use Rattle.mf_text.specs.Grammar.{Nothing, AddContour, AddPicture, CullKeeping, CullDropping, Clear, Move, ShowTotal, ShowProof, PublishAll, Rotated, Scaled, Shifted, XScaled, YScaled};
 ghost use Rattle.mf_text.specs.Reads.{Answers, ahead};
 ghost use Rattle.mf_text.specs.Rests.{from};
 
 use crate::command::{Command, Name};
 use crate::fault::TextFault;
+use crate::text::is_text;
 use crate::token::{Mark, Word};
 use crate::tokens::Tokens;
 use crate::value::{
@@ -38,54 +38,6 @@ pub fn read_command(alloc: Global, line: &[u8]) -> Result<Command, TextFault>
         return Err(TextFault::NotAscii);
     }
     line_of(alloc, Tokens::new(line))
-}
-
-/// Whether each byte of the line is text, in comments, too. Most lines are short: one of 8 to 32 bytes is looked at in two groups
-/// of bytes.
-fn is_text(line: &[u8]) -> bool
-    ensures { result ≡ list_all is_text_byte line.now }
-{
-    let length = line.len();
-    if 16 <= length && length <= 32 {
-        return are_ends_text(line, 16);
-    }
-    if 8 <= length && length < 16 {
-        return are_ends_text(line, 8);
-    }
-    are_text(line)
-}
-
-/// Whether each byte of the line is text. It looks at this many bytes at each end of the line, where they may overlap. The number is
-/// a constant in the code, so that all bytes of an end are looked at together.
-#[inline(always)]
-fn are_ends_text(line: &[u8], size: usize) -> bool
-    requires within { size ≤ length line.now }
-    requires whole { length line.now ≤ size + size }
-    ensures { result ≡ list_all is_text_byte line.now }
-{
-    let front = are_text(&line[..size]);
-    let back = are_text(&line[line.len() - size..]);
-    front & back
-}
-
-/// Whether each of these bytes is text. It looks at all bytes: a loop that stops at the first other byte is no faster on lines that
-/// are text, and it cannot look at several bytes at once.
-#[inline(always)]
-fn are_text(bytes: &[u8]) -> bool
-    ensures { result ≡ list_all is_text_byte bytes.now }
-{
-    let mut text = true;
-    for byte in bytes {
-        text &= is_text_byte(*byte);
-    }
-    text
-}
-
-/// Whether a byte is text: a tab or printed ASCII.
-fn is_text_byte(byte: u8) -> bool
-    ensures { result ≡ is_text_byte byte }
-{
-    matches!(byte, b'\t' | b' '..=b'~')
 }
 
 /// The command of a line. Asks for the seven words that a command may start with, one after another, and then for a name.

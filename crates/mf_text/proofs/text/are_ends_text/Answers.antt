@@ -3,7 +3,7 @@ use Rattle.std.proofs.lemmas.List.{take_rest}
 use Rattle.std.proofs.Math.Bool.{and_assoc}
 use Rattle.std.specs.List.{list_all}
 use Rattle.mf_text.specs.Lines.{is_text_byte}
-use Rattle.mf_text.proofs.lines.are_ends_text.Goals as goal
+use Rattle.mf_text.proofs.text.are_ends_text.Goals as goal
 
 and_shared : (a b c : Bool) → (b && c) ≡ c → ((a && b) && (a && c)) ≡ (a && c)
 and_shared true b c same = same
