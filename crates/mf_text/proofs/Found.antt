@@ -56,7 +56,7 @@ module _ (m : Mark) (bs text : List ℕ) (is : text ≡ mark_text m) where
   pub mark_found : starts_with eqb bs text ≡ true → is_longer m bs ≡ false → length text ≤ length bs → FindsToken (token.Mark m) bs (Some (length text))
   mark_found begun short =
       let parts = starts-drop bs text begun in
-      found (token.Mark m) bs text parts (AMark m (record { written = is; longest = ap (is_longer m) (sym parts) ∙ short }) refl)
+      found (token.Mark m) bs text parts (AMark m is (ap (is_longer m) (sym parts) ∙ short) refl)
 
 -- ---- a letter
 

@@ -6,7 +6,7 @@ use Rattle.std.proofs.lemmas.Option.{none-some, same_Some}
 use Rattle.mf_text.specs.declared.token.Mark.TheVariants as mark
 use Rattle.mf_text.specs.Token as token
 use Rattle.mf_text.specs.declared.token.Word.TheVariants as word
-use Rattle.mf_text.specs.Grammar.{Form, Nothing, AddContour, AddPicture, CullKeeping, CullDropping, Clear, Move, ShowTotal, ShowPicture, ShowProof, ShipOut, SetCheck, PublishAll, Shifted, Scaled, XScaled, YScaled, Rotated, Line, Path, spell_form, spell_weight, spell_int, spell_code, spell_pair, spell_name, spell_source, spell_corner, spell_path, spell_line, Plus, Minus, Code, Name, Current, Register, Source, Null, Named, Int, Pair}
+use Rattle.mf_text.specs.Grammar.{Form, Nothing, AddContour, AddPicture, CullKeeping, CullDropping, Clear, Move, ShowTotal, ShowPicture, ShowProof, ShipOut, SetCheck, PublishAll, Shifted, Scaled, XScaled, YScaled, Rotated, Line, Path, spell_form, spell_weight, spell_int, spell_pair, spell_name, spell_source, spell_corner, spell_path, spell_line, Plus, Minus, Code, Name, Current, Register, Source, Null, Named, Int, Pair}
 use Rattle.mf_text.specs.Rests.{Kind, Of, This, Names, Codes, Rest, Ends, Take, OrTake, Corners, One, Or, ACode, CodeNumber, corner, ends, if_kind, inner, int, is_code_number, pair, path, source, step, assignment, line, line_end, name_token, transform, value, weighable, Token}
 use Rattle.mf_text.specs.Syntax.{is_negative_code}
 use Rattle.mf_text.proofs.Rests.{HasSign, token_of, value_is, is_code_number_at, reads}
@@ -80,7 +80,7 @@ sound_int {past} each = record {
 }
 
 sound_code : {past : List Token} {next : Code → Rest} → ((s : Token) × (past ++ token.Mark mark.Minus ∷ [] ≡ to_number s))
-    → ((c : Code) → Sound (past ++ spell_code c) (next c)) → Sound past (ACode next)
+    → ((c : Code) → Sound (past ++ spell_int c.int) (next c)) → Sound past (ACode next)
 sound_code {past} place each = record {
   by = ((place, λ c is. (sound_at (minus_tokens past c.int is) (each c)).by), λ c is. (sound_at (plain_tokens past c.int is) (each c)).by);
 }

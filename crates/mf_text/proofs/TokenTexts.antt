@@ -99,8 +99,8 @@ row_first p f first t text rest row is =
 pub text_first : (t : Token) (text rest : List ℕ) → IsTokenText t text rest → first_token (text ++ rest) ≡ record { token = t; bytes = length text }
 text_first t text rest (Letters row is) = row_first is_ascii_alphabetic word_token letters_first t text rest row is
 text_first t text rest (Digits row is) = row_first is_ascii_digit number_token digits_first t text rest row is
-text_first t text rest (AMark m at is) =
-    rw (is, at.written) (counts m rest (subst (λ ts. is_longer m (ts ++ rest) ≡ false) at.written at.longest))
+text_first t text rest (AMark m written longest is) =
+    rw (is, written) (counts m rest (subst (λ ts. is_longer m (ts ++ rest) ≡ false) written longest))
 text_first t text rest (OtherByte other is) = rw (is, other.one) (unknown_first (other.byte ∷ rest) other.no_letter other.no_digit other.no_mark)
 
 -- ---- the text of a token
@@ -138,7 +138,7 @@ front_row_text p t bs is = Text t _ _ (sym (take-append-drop (prefix_len p bs) b
 front_mark : (bs : List ℕ) (m : Mark) → starts_with eqb bs (mark_text m) ≡ true → is_longer m bs ≡ false → Front bs
 front_mark bs m begun short =
     let parts = starts-drop bs (mark_text m) begun in
-    Text (token.Mark m) (mark_text m) _ parts (AMark m (record { written = refl; longest = ap (is_longer m) (sym parts) ∙ short }) refl)
+    Text (token.Mark m) (mark_text m) _ parts (AMark m refl (ap (is_longer m) (sym parts) ∙ short) refl)
 
 -- the text of this mark is there, or that of a longer one
 mark_there : (bs : List ℕ) (m : Mark) → starts_with eqb bs (mark_text m) ≡ true → (longer : Bool) → is_longer m bs ≡ longer → Front bs
@@ -186,7 +186,7 @@ mark_begins m = record { clear = refl; no_comment = refl; some = omega arith }
 pub begins : (t : Token) (text rest : List ℕ) → IsTokenText t text rest → BeginsToken text
 begins t text rest (Letters row is) = row_begins is_ascii_alphabetic text rest refl refl refl row
 begins t text rest (Digits row is) = row_begins is_ascii_digit text rest refl refl refl row
-begins t text rest (AMark m at is) = subst BeginsToken (sym at.written) (mark_begins m)
+begins t text rest (AMark m written longest is) = subst BeginsToken (sym written) (mark_begins m)
 begins t text rest (OtherByte other is) =
     subst BeginsToken (sym other.one) (record { clear = other.no_blank; no_comment = ne_eqb other.byte 37 other.no_comment; some = omega arith })
 
@@ -264,8 +264,8 @@ digits_say text rest row =
 pub text_says : (t : Token) (text rest : List ℕ) → IsTokenText t text rest → IsSaid t (text ++ rest)
 text_says t text rest (Letters row is) = subst (λ u. IsSaid u (text ++ rest)) (sym is) (letters_say text rest row.longest)
 text_says t text rest (Digits row is) = subst (λ u. IsSaid u (text ++ rest)) (sym is) (digits_say text rest row)
-text_says t text rest (AMark m at is) =
-    subst (λ u. IsSaid u (text ++ rest)) (sym is) (starts-append (text ++ rest) (mark_text m) rest (ap (λ ts. ts ++ rest) at.written), at.longest)
+text_says t text rest (AMark m written longest is) =
+    subst (λ u. IsSaid u (text ++ rest)) (sym is) (starts-append (text ++ rest) (mark_text m) rest (ap (λ ts. ts ++ rest) written), longest)
 text_says t text rest (OtherByte other is) = subst (λ u. IsSaid u (text ++ rest)) (sym is) tt
 
 pub mark_length : (m : Mark) (text rest : List ℕ) → IsTokenText (token.Mark m) text rest → length text ≡ length (mark_text m)

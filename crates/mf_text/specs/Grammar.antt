@@ -30,10 +30,6 @@ spell_mark m = token.Mark m ∷ []
 abbrev pub spell_int : Int → List Token
 spell_int n = if n.negative then (token.Mark mark.Minus ∷ token.Number n.magnitude ∷ []) else (token.Number n.magnitude ∷ [])
 
--- the int after `code`, in 0..255; 0 can be written in two ways, since `-` may come before it
-abbrev pub spell_code : Code → List Token
-spell_code code = spell_int code.int
-
 -- pair: `(` int `,` int `)`
 abbrev pub spell_pair : Pair → List Token
 spell_pair p = spell_mark mark.Open ++ spell_int p.across ++ spell_mark mark.Comma ++ spell_int p.up ++ spell_mark mark.Close
@@ -124,7 +120,7 @@ spell_form (Move name transform) = spell_name name ++ spell_mark mark.Becomes ++
 spell_form (ShowTotal source) = spell_word word.Show ++ spell_word word.TotalWeight ++ spell_source source
 spell_form (ShowPicture source) = spell_word word.Show ++ spell_source source
 spell_form (ShowProof source) = spell_word word.Proof ++ spell_source source
-spell_form (ShipOut source code dx width) = spell_word word.Shipout ++ spell_source source ++ spell_word word.Code ++ spell_code code
+spell_form (ShipOut source code dx width) = spell_word word.Shipout ++ spell_source source ++ spell_word word.Code ++ spell_int code.int
     ++ spell_word word.Dx ++ spell_int dx ++ spell_word word.Width ++ spell_int width
 spell_form (SetCheck n) = spell_word word.TurningCheck ++ spell_mark mark.Becomes ++ spell_int n
 spell_form PublishAll = spell_word word.Publish

@@ -11,11 +11,6 @@ pub record IsRow (p : ℕ → Bool) (text rest : List ℕ) : Type 0 where
   pub all : All (λ b. p b ≡ true) text
   pub longest : first_is p rest ≡ false
 
--- the text is that of a mark, and no longer mark is there: `-` only where `--` is not
-pub record IsMarkText (m : Mark) (text rest : List ℕ) : Type 0 where
-  pub written : text ≡ mark_text m
-  pub longest : is_longer m (text ++ rest) ≡ false
-
 -- the text is one byte that is neither a letter, a digit nor a blank and begins no comment, and no mark is there
 pub record IsOtherByte (text rest : List ℕ) : Type 0 where
   pub byte : ℕ
@@ -30,7 +25,8 @@ pub record IsOtherByte (text rest : List ℕ) : Type 0 where
 pub data IsTokenText (t : Token) (text rest : List ℕ) : Type 0 where
   Letters : IsRow is_ascii_alphabetic text rest → t ≡ word_token text → IsTokenText t text rest
   Digits : IsRow is_ascii_digit text rest → t ≡ number_token text → IsTokenText t text rest
-  AMark : (m : Mark) → IsMarkText m text rest → t ≡ token.Mark m → IsTokenText t text rest
+  -- a mark, where no longer one is there: `-` only where `--` is not
+  AMark : (m : Mark) → text ≡ mark_text m → is_longer m (text ++ rest) ≡ false → t ≡ token.Mark m → IsTokenText t text rest
   OtherByte : IsOtherByte text rest → t ≡ token.Unknown → IsTokenText t text rest
 
 -- the bytes from a column on are blanks, the text of a token with these columns, and a rest
