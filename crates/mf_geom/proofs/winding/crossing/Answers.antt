@@ -22,6 +22,6 @@ returns-clause-value c =
     let below_to : c.unit_step.result ≡ unit_step c.args.y to.y = c.unit_step.ensures.value ∙ (λ t. unit_step (y_is t) (to_is t)) in
     let below_from : c.unit_step-2.result ≡ unit_step c.args.y from.y = c.unit_step-2.ensures.value ∙ (λ t. unit_step (y_is t) (from_is t)) in
     let difference : to_z w32 (of_z w32 (to_z w32 (of_z w32 c.unit_step.result) -ℤ to_z w32 (of_z w32 c.unit_step-2.result)))
-        ≡ c.unit_step.result -ℤ c.unit_step-2.result = omega (arith, ints) in
+    ≡ c.unit_step.result -ℤ c.unit_step-2.result = omega (arith, ints) in
     let reached = unit_step-reached c.args.x from.x (omega (arith, ints)) in
     rw (difference, below_to, below_from, ← c.ends.ensures.from, ← c.ends.ensures.to, reached) (omega (arith, ints))
