@@ -51,7 +51,7 @@ UNTRANSLATED = (
     ("currentpicture := t;", "it is not known what is assigned to the picture currentpicture_"),
     ("begingroup save v; picture v; v := nullpicture; endgroup; addto currentpicture also v;", "what the picture v is"),
     ("addto currentpicture also (pic_ shifted (1, 1));", "METAFONT found an error: Missing `)'"),
-    ("addto currentpicture also -t;", "it is not known what picture is -"),
+    ("addto currentpicture also -t;", "it is not known what picture is subtracted"),
     ("addto_ currentpicture contour unitsquare;", "METAFONT's addto under another name"),
     ("cull_ currentpicture keeping_ (1, 2);", "METAFONT's cull under another name"),
     ("tracingcommands := 0; fill unitsquare; cullit;", "METAFONT does not trace addto"),
