@@ -1,5 +1,5 @@
 //! The end of a file: the postamble, the locators and what comes after them.
-ghost use Rattle.std.specs.Prelude.{◌≡◌, ◌⊎◌, ◌<◌, ◌≤◌, ◌↔◌, ◌+◌, ◌++◌, [], Err, IfErr, IfOk, List, ℕ, length};
+ghost use Rattle.std.specs.Prelude.{◌≡◌, ◌⊎◌, ◌<◌, ◌≤◌, ◌↔◌, ◌+◌, ◌++◌, [], Err, IfErr, IfOk, List, None, Ok, ℕ, length};
 ghost use Rattle.mf_gf.specs.Files.{Character, IsLongFile, ending, file_if_any, file_of, post};
 ghost use Rattle.mf_gf.specs.Keeping.{IsRefusedAs, IsSameFile, Keeps, max_bytes_of, table_text};
 ghost use Rattle.mf_gf.specs.Spellings.{Holds};
@@ -47,11 +47,13 @@ impl GfFile {
         }
     }
 
-    /// Finishes the file as `finish` does, if a character was shipped; `None` where none was. Refused with `FileTooLong` exactly
-    /// where it would have more bytes than it may have, and with `OutOfMemory` where an allocation fails.
+    /// Finishes the file as `finish` does, if a character was shipped; `None` exactly where none was. Refused with `FileTooLong`
+    /// exactly where it would have more bytes than it may have, and with `OutOfMemory` where an allocation fails.
     pub fn finish_if_any(self, words: FontWords) -> Result<Option<GfBytes>, GfFault>
         ensures value { IfOk result (λ bytes. (comment : List ℕ) (characters : List Character)
             → Keeps self comment characters → bytes ≡ file_if_any words comment characters) }
+        ensures none { (comment : List ℕ) (characters : List Character) → Keeps self comment characters
+            → (characters ≡ []) ↔ (result ≡ Ok None) }
         ensures too_long { (comment : List ℕ) (characters : List Character) → Keeps self comment characters
             → IsLongFile (max_bytes_of self) words comment characters ↔ (result ≡ Err GfFault.FileTooLong) }
         ensures fault { IfErr result (λ fault. (fault ≡ GfFault.FileTooLong) ⊎ (fault ≡ GfFault.OutOfMemory)) }
