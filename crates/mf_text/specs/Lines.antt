@@ -47,7 +47,7 @@ pub record HasSyntaxFault (bytes : List ℕ) (column : ℕ) : Type 0 where
   pub wrong : IsSyntaxFault (line_ahead bytes) column
 
 -- why a line is refused: it is too long, or else a byte is not text, or else it is not in the grammar, or else its values are
--- refused; or an allocation failed, which it does only for a contour
+-- refused; or an allocation failed, which is answered only for a contour of no more points than a cycle may have
 abbrev pub IsRefused : List ℕ → TextFault → Type 0
 IsRefused bytes LineTooLong = 65536 < length bytes
 IsRefused bytes NotAscii = HasOtherBytes bytes

@@ -1,5 +1,5 @@
 -- What a form gives: a command, or a refusal of its values.
-use Rattle.std.specs.Prelude.{◌≡◌, ◌⊎◌, ℤ, pos, int_lt, List, Some, Result, Ok, Err, if◌then◌else◌}
+use Rattle.std.specs.Prelude.{◌≡◌, ◌⊎◌, ◌≤◌, ℤ, pos, int_lt, List, length, Some, Result, Ok, Err, if◌then◌else◌}
 pub use Rattle.mf_geom.specs.Faults.{form_fault}
 pub use Rattle.mf_geom.specs.Lawful.{IsRectilinearCycle}
 pub use Rattle.mf_geom.specs.declared.check.Check.{Check}
@@ -114,12 +114,12 @@ Refuses (Is made) refused = ⊥
 Refuses (If value rest) refused = IsUnlawful value refused ⊎ (IsLawful value × Refuses rest refused)
 Refuses (Turns name angle) refused = IsUnlawful (Angle angle) refused
 
--- the form is that of a contour, the only one that allocates
+-- the form may be answered with `OutOfMemory`: it is that of a contour of no more points than a cycle may have
 abbrev pub TakesMemory : Form → Type 0
-TakesMemory (AddContour name path weight) = Unit {0}
+TakesMemory (AddContour name path weight) = length (path_value path) ≤ 4096
 TakesMemory form = ⊥
 
--- the answer to a form: its command, the refusal of its values, or `OutOfMemory` where it allocates
+-- the answer to a form: its command, the refusal of its values, or `OutOfMemory` where that may come
 abbrev pub IsAnswerOf : Form → Result Command TextFault → Type 0
 IsAnswerOf form (Ok given) = Means (meaning form) given
 IsAnswerOf form (Err faults.OutOfMemory) = TakesMemory form

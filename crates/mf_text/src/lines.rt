@@ -24,9 +24,9 @@ const MAX_LINE: usize = 65536;
 /// first of these that applies: `LineTooLong` for more than 65,536 bytes, `NotAscii`, `Syntax` with a column in bytes from 1,
 /// and then the refusals of the line's values. These are, for a contour, `Cycle` with `TooFewPoints`, `TooManyPoints`,
 /// `PointOutOfRange` or `NotRectilinear`, and then `BadWeight`; for a cull `BadWeight`, and then `BadCull`; for a scale
-/// `BadScale`; for a turn `BadTurn`. Where an allocation fails, `OutOfMemory` may come instead of the refusal of a contour's
-/// values or of its command; no other line is refused with it. A cycle that fails the turning check is refused only when it is
-/// filled.
+/// `BadScale`; for a turn `BadTurn`. Where an allocation fails, `OutOfMemory` may come instead of the command of a contour, or of
+/// the refusal of its values, unless that is `TooManyPoints`; no other line is refused with it. A cycle that fails the turning
+/// check is refused only when it is filled.
 pub fn read_command(alloc: Global, line: &[u8]) -> Result<Command, TextFault>
     ensures given { IfOk result (Gives line.now) }
     ensures refused { IfErr result (IsRefused line.now) }
