@@ -17,7 +17,7 @@ use Rattle.mf_live.specs.Books.{most}
 use Rattle.mf_live.specs.Entries.{Entry, is_closed, ends_last}
 use Rattle.mf_live.specs.Prefixes.{IsWholePrefix, longer}
 use Rattle.mf_live.specs.Rule.{IsKnowledgeOf, IsLook, kept_by, book_of, events_of}
-use Rattle.mf_live.specs.Viewers.{Extends, IsPublished, look_events, looked_at_events, notice_events, shown_list, told_list}
+use Rattle.mf_live.specs.Viewers.{Extends, IsPublished, SeesTheSame, learnt_list, look_events, looked_at_events, looked_at_list, notice_events, shown_list, told_list}
 use Rattle.mf_live.specs.World.{Happen, start, published_of}
 use Rattle.mf_live.proofs.EntryLists.{nothing_follows}
 use Rattle.mf_live.proofs.WholePrefixes.{whole-longer, longer-assoc, longer-whole, longer-of_whole}
@@ -52,6 +52,16 @@ extends-look v x w is_looked known =
     let learns = told_list-prefix x.notice (notice_events v.known) known in
     let extends : Extends v (told_list x.notice) = record { looked = looks; learnt = learns; seen = whole-longer _ _ (told_list x.notice) looks learns } in
     subst (λ (u : View). Extends v (published_of u.now.seen.log)) (sym is_looked.now) extends
+
+-- what extends a viewer that sees what it saw before extends the viewer as it was
+pub extends-same : (before after : Viewer) (L : List Entry) → SeesTheSame before after → Extends after L → Extends before L
+extends-same before after L same extends =
+    let seen = ap (λ M. longer M (learnt_list after)) same.looked ∙ ap (longer (looked_at_list before)) same.learnt in
+    record {
+      looked = subst (λ M. IsWholePrefix M L) same.looked extends.looked;
+      learnt = subst (λ M. IsWholePrefix M L) same.learnt extends.learnt;
+      seen = subst (λ M. IsWholePrefix M L) seen extends.seen;
+    }
 
 -- the longest of three lists, where one of the last two is a whole prefix of the other
 pub longer-last : (a b c : List Entry) → IsWholePrefix b c → longer a c ≡ longer (longer a b) c

@@ -10,7 +10,7 @@ use Rattle.mf_live.specs.Entries.{Entry}
 use Rattle.mf_live.specs.Rule.{book_of, history, shown_by, knowledge_of}
 use Rattle.mf_live.specs.World.{accepted_of, published_of}
 
--- the version that viewers can look at
+-- the version that its copies show
 abbrev pub version : Holder → Version
 version h = h.swap.desk.shown.value
 
@@ -32,6 +32,6 @@ accepted_list h = accepted_of (events h)
 abbrev pub published_list : Holder → List Entry
 published_list h = published_of (events h)
 
--- the list that viewers can look at
+-- the list that its copies show
 abbrev pub visible_list : Holder → List Entry
 visible_list h = shown_by (version h)

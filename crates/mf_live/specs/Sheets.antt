@@ -6,7 +6,7 @@ use Rattle.mf_live.specs.declared.sheet.SheetFault.{SheetFault}
 use Rattle.mf_live.specs.declared.sheet.SheetFault.TheVariants.{NoLook, OutOfMemory}
 use Rattle.mf_live.specs.declared.viewer.Viewer.{Viewer}
 use Rattle.mf_live.specs.Entries.{Entry, ends_last, pic, rev}
-use Rattle.mf_live.specs.Prefixes.{longer}
+use Rattle.mf_live.specs.Prefixes.{IsWholePrefix, longer}
 use Rattle.mf_live.specs.Viewers.{Extends, IsPublished, SeesTheSame, learnt_list, looked_at_list, looked_at_events, seen_list}
 
 -- the picture of a sheet
@@ -35,10 +35,11 @@ abbrev pub IsNotTaken : Viewer → Viewer → SheetFault → Type 0
 IsNotTaken before after NoLook = SeesTheSame before after
 IsNotTaken before after OutOfMemory = HasLooked before after
 
--- a viewer has learnt of a list, and has not looked
+-- a viewer has learnt of a list, and has not looked; whatever it looks at from then on includes that list and what it had seen
 pub record HasLearnt (before : Viewer) (whole : List Entry) (after : Viewer) : Type 0 where
   pub looked : looked_at_list after ≡ looked_at_list before
   pub seen : seen_list after ≡ longer (seen_list before) whole
+  pub keeps : (L : List Entry) → Extends after L → Extends before L × IsWholePrefix whole L
 
 -- a viewer has looked at a list that the events that it knows have published, and has seen no longer list
 pub record HasLookedAt (whole : List Entry) (after : Viewer) : Type 0 where

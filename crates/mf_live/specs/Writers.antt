@@ -22,7 +22,7 @@ accepted_list w = holders.accepted_list w.holder
 abbrev pub published_list : Writer → List Entry
 published_list w = holders.published_list w.holder
 
--- what viewers can look at
+-- what the writer's copies show
 abbrev pub visible_list : Writer → List Entry
 visible_list w = holders.visible_list w.holder
 
@@ -45,7 +45,7 @@ closing_visible_list c = holders.visible_list c.holder
 abbrev pub ended_identity : Ended → Book
 ended_identity e = book_of e.swap.desk.shown.value
 
--- what viewers can look at
+-- what its copies show
 abbrev pub ended_published_list : Ended → List Entry
 ended_published_list e = shown_by e.swap.desk.shown.value
 

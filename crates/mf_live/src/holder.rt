@@ -16,7 +16,7 @@ mod accepting;
 mod publishing;
 
 /// The two copies that viewers look at, and the picture of all accepted operations. The shown version knows all of the history
-/// that is in the book. It is not `Drop`: end it with `discard`.
+/// that is in the book. It is not `Drop`: `into_swap` takes the copies out of it, and these are ended.
 pub struct Holder {
     pub(crate) alloc: Global,
     pub(crate) swap: Swap,

@@ -27,8 +27,8 @@ pub fn every_schedule(max_ops: u32)
     ensures { EverySchedule max_ops }
 {}
 
-/// What was published earlier is a whole prefix of what is published later, and its revision is no greater. The same goes for the
-/// looks at it, so no look goes back.
+/// What was published earlier is a whole prefix of what is published later, and its revision is no greater. In a list of events a
+/// look shows what is published at its moment (`every_schedule`), so no look goes back.
 pub fn looks_never_go_back(max_ops: u32)
     ensures prefix { (before between : List Event) → Happen max_ops start (before ++ between)
         → IsWholePrefix (published_of before) (published_of (before ++ between)) }
@@ -36,15 +36,16 @@ pub fn looks_never_go_back(max_ops: u32)
         → rev (published_of before) ≤ rev (published_of (before ++ between)) }
 {}
 
-/// A whole prefix of what is published has, of each publish, nothing or all of it. What was published earlier is such a prefix,
-/// and so is what a look shows.
+/// A whole prefix of what is published has, of each publish, nothing or all of it. So has what was published earlier, and in a list
+/// of events a look shows what is published at its moment (`every_schedule`).
 pub fn looks_show_whole_publishes(max_ops: u32)
     ensures whole { (shown : List Entry) (events : List Event) → IsWholePrefix shown (published_of events) → HasWholePublishes shown (published_of events) }
     ensures earlier { (before after : List Event) → Happen max_ops start (before ++ after)
         → HasWholePublishes (published_of before) (published_of (before ++ after)) }
 {}
 
-/// What viewers can look at is what is published, whatever the writer has done. So a refused call shows them nothing.
+/// What the writer's copies show is what is published, whatever the writer has done. That viewers look at these copies, no clause
+/// says; tests show it.
 pub fn published_is_visible(writer: &Writer)
     ensures { writers.visible_list writer.now ≡ writers.published_list writer.now }
 {}

@@ -63,7 +63,7 @@ impl Closing {
         self.into_swap().take(rt);
     }
 
-    /// What viewers can look at, unchanged.
+    /// Its copies, unchanged.
     fn into_swap(self) -> Swap
         ensures { result ≡ self.holder.swap }
     {
@@ -88,7 +88,7 @@ impl Ended {
         self.into_swap().take(rt);
     }
 
-    /// What viewers can look at, unchanged.
+    /// Its copies, unchanged.
     fn into_swap(self) -> Swap
         ensures { result ≡ self.swap }
     {

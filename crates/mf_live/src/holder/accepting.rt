@@ -111,7 +111,7 @@ impl Holder {
         self.unwritten += 1;
     }
 
-    /// What viewers go on looking at once nothing is accepted or published any more.
+    /// The copies, unchanged, once nothing is accepted or published any more.
     pub(crate) fn into_swap(self) -> Swap
         ensures { result ≡ self.swap }
     {

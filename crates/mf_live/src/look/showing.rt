@@ -8,7 +8,7 @@ use crate::viewer::Viewer;
 use mf_rows::Picture;
 
 impl Look {
-    /// The picture of the operations that were published at one moment of the call that made this look.
+    /// The picture of all operations that were published by some moment.
     pub fn picture(&self) -> &Picture
         ensures { result.now ≡ pic (shown_list self.now) }
     {

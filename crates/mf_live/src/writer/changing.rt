@@ -98,7 +98,7 @@ impl Writer {
         self.into_swap().take(rt);
     }
 
-    /// What viewers can look at, unchanged. `discard` calls this first, so that a clause says that nothing is published there.
+    /// The writer's copies, unchanged. `discard` calls this first, so that a clause says that nothing is published there.
     fn into_swap(self) -> Swap
         ensures { result ≡ self.holder.swap }
     {

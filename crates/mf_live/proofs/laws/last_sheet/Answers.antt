@@ -7,7 +7,7 @@ use Rattle.mf_live.specs.Entries.{Entry, is_closed, pic, rev}
 use Rattle.mf_live.specs.Prefixes.{IsWholePrefix, longer}
 use Rattle.mf_live.specs.Sheets.{HasLooked, HasLookedAt, IsLastNotTaken, IsNotTaken, IsTaken}
 use Rattle.mf_live.specs.Viewers.{Extends, IsPublished, learnt_list, looked_at_list, looked_at_events, seen_list}
-use Rattle.mf_live.proofs.Looking.{shown-last}
+use Rattle.mf_live.proofs.Looking.{extends-same, shown-last}
 use Rattle.mf_live.proofs.laws.last_sheet.Goals as goal
 
 -- what was looked at last, where it has a closed list as a whole prefix
@@ -45,6 +45,7 @@ module _ {E : Type 0} (Q : E → Type 0) (before after : Viewer) (told : List En
   not_taken first earlier same known (Err NoLook) is = record {
     looked = is.looked ∙ same;
     seen = ap (λ L. longer L (learnt_list after)) is.looked ∙ ap (longer (looked_at_list before)) is.learnt ∙ known;
+    keeps = λ L extends. let same = extends-same before after L is extends in (earlier L same, includes L same);
   }
   not_taken first earlier same learnt_list (Err NoMemory) look = (extends_last first earlier look, looked_at look)
 
