@@ -13,8 +13,8 @@ use mf_text::{Name, Source};
 use std::alloc::Global;
 use std::sync::Wait;
 
-/// The live picture `currentpicture`, held by its writer, and the pictures of the registers. It is not `Drop`, since ending it
-/// may mean waiting for looks: end it with `discard`.
+/// The live picture `currentpicture`, held by its writer, and the pictures of the registers. It is not `Drop`, since ending the
+/// writer may mean waiting for looks: take the writer with `into_writer`, and end that.
 pub struct Variables {
     pub(crate) writer: Writer,
     pub(crate) registers: Registers,
