@@ -1,6 +1,6 @@
 //! Performing lines one after another, and writing what each prints before the next is performed.
 ghost use Rattle.std.specs.Prelude.{◌≡◌, ◌⊎◌, ◌+◌, ◌<◌, ◌≤◌, ◌^◌, ◌↔◌, Err, IfErr, IfOk, OnOk};
-ghost use Rattle.mf_live.specs.Desks.{desk_identity};
+ghost use Rattle.mf_live.specs.Desks.{desk_identity, remaining_viewers};
 ghost use Rattle.mf_desk.specs.EndedRuns.{IsEndOf};
 ghost use Rattle.mf_desk.specs.Performances.{limits_set};
 ghost use Rattle.mf_desk.specs.Performer.{BreaksText, IsWritten};
@@ -39,6 +39,7 @@ impl Performer {
         ensures start { IfOk result (λ made. StandsFor made.0.session start) }
         ensures limits { IfOk result (λ made. limits made.0.session ≡ limits_set settings.now) }
         ensures identity { IfOk result (λ made. desk_identity made.1 ≡ identity made.0.session) }
+        ensures places { IfOk result (λ made. remaining_viewers made.1 ≤ viewers) }
         ensures written { IfOk result (λ made. made.0.written ≡ 0) }
         ensures too_long { (settings.now.max_bytes < 3) ↔ (result ≡ Err RunFault.FileTooLong) }
         ensures fault { IfErr result (λ fault. (fault ≡ RunFault.FileTooLong) ⊎ (fault ≡ RunFault.OutOfMemory)) }

@@ -2,7 +2,7 @@
 ghost use Rattle.std.specs.Io.KnownBytes.{IsAtEnd};
 ghost use Rattle.std.specs.Str.Lines.{lines};
 ghost use Rattle.std.specs.Prelude.{◌≡◌, ◌≢◌, ◌⊎◌, ◌+◌, ◌*◌, ◌<◌, ◌≤◌, ◌^◌, ◌↔◌, ◌++◌, ◌∷◌, All, Err, Option, List, ℕ, [], IfErr, IfOk, OnOk, length};
-ghost use Rattle.mf_live.specs.Desks.{desk_identity};
+ghost use Rattle.mf_live.specs.Desks.{desk_identity, remaining_viewers};
 ghost use Rattle.mf_live.specs.Writers.{ended_identity};
 ghost use Rattle.mf_desk.specs.EndedRuns.{EndsWith};
 ghost use Rattle.mf_desk.specs.Fault.{Breaks};
@@ -46,6 +46,7 @@ impl Progress {
         ensures start { IfOk result (λ made. (held : Option (List ℕ)) → IsAfter held [] made.0 held) }
         ensures limits { IfOk result (λ made. limits made.0.performer.session ≡ limits_set settings.now) }
         ensures identity { IfOk result (λ made. desk_identity made.1 ≡ identity made.0.performer.session) }
+        ensures places { IfOk result (λ made. remaining_viewers made.1 ≤ viewers) }
         ensures written { IfOk result (λ made. made.0.performer.written ≡ 0) }
         ensures too_long { (settings.now.max_bytes < 3) ↔ (result ≡ Err RunFault.FileTooLong) }
         ensures fault { IfErr result (λ fault. (fault ≡ RunFault.FileTooLong) ⊎ (fault ≡ RunFault.OutOfMemory)) }
