@@ -69,6 +69,7 @@ ends_with 3 'mfview: ReadFault' bash -c './mfview < /'
 ends_with 3 'mfview: WriteFault' bash -c './mfview --transcript /dev/null < examples/tee.mfp > /dev/full'
 ends_with 3 'mfview: WriteFault' bash -c './mfview --transcript /none/told < examples/tee.mfp'
 ends_with 3 'mfview: PlateFault 1' bash -c './mfview --transcript /dev/null --plates /none < examples/tee.mfp'
+ends_with 3 'mfview: PlateFault 0' bash -c './mfview --plates /none < /dev/null > /dev/full'
 ends_with 3 'mfview: NoCharacters' bash -c './mfview --transcript /dev/null --gf /dev/null < examples/tee.mfp'
 ends_with 5 'mfview: TooSmall' ./mfview --columns 49
 ends_with 5 'mfview: TooSmall' ./mfview --rows 5

@@ -1,27 +1,29 @@
 -- Scripts that a fault has broken off.
-use Rattle.std.proofs.Common.{◌≡◌, ◌⊎◌, ◌++◌, ◌∷◌, [], ℕ, List, Option, None, Some, IfSome, inl, inr, refl, sym, ap, subst, ◌∙◌, append-nil, append_assoc}
+use Rattle.std.proofs.Common.{◌≡◌, ◌⊎◌, ◌++◌, ◌∷◌, [], ℕ, List, Option, None, Some, IfSome, inl, inr, is_some, refl, sym, ap, subst, ◌∙◌, ⊎_elim, append-nil, append_assoc}
 use Rattle.std.proofs.KnownBytes.{Appends-nil, Appends-trans}
+use Rattle.std.proofs.lemmas.Bool.{false≢true}
 use Rattle.std.specs.Io.KnownBytes.{Appends}
-use Rattle.std.specs.Prelude.{IsSomeAnd}
+use Rattle.std.specs.Prelude.{IsSome, IsSomeAnd}
 use Rattle.std.specs.Str.Lines.{lines}
 use Rattle.mf_base.specs.Messages.{GetsMessage}
-use Rattle.mf_live.specs.Entries.{rev}
+use Rattle.mf_live.specs.Entries.{Entry, rev}
 use Rattle.mf_session.proofs.Performing.{Perform-append}
 use Rattle.mf_session.specs.Answers.{Answers}
 use Rattle.mf_session.specs.States.{Limits, State}
 use Rattle.mf_session.specs.Transcript.{Perform}
 use Rattle.mf_stage.proofs.Performed.{published-all}
 use Rattle.mf_stage.proofs.Scripts.{AreFirstLines, IsUnderWay, under_way-line, under_way-start}
-use Rattle.mf_stage.specs.Faults.{BreaksLines, BreaksScript, Due, IsBrokenOff, IsCutText, IsFirstText, IsOfPlate, IsPublishedAs, Tells, due}
+use Rattle.mf_stage.specs.Faults.{BreaksLines, BreaksScript, ConcernsPlate, Due, IsBrokenOff, IsCutText, IsFirstText, IsOfPlate, IsPublishedAs, Tells, due}
 use Rattle.mf_stage.specs.Lines.{IsReadLine, Reads, without_ending}
+use Rattle.mf_stage.specs.Publications.{IsPlateWhere}
 use Rattle.mf_stage.specs.Scripts.{HasPerformed, HasPerformedLine, step_of}
-use Rattle.mf_stage.specs.Stages.{StandsFor, limits}
+use Rattle.mf_stage.specs.Stages.{StandsFor, limits, plates_of}
 use Rattle.mf_stage.specs.declared.fault.StageFault.{StageFault}
 use Rattle.mf_stage.specs.declared.fault.StageFault.TheVariants.{OutOfMemory, FileTooLong, ReadFault, WriteFault, ImageTooLarge, PlateFault}
+use Rattle.mf_stage.specs.declared.plate.Plate.{Plate}
+use Rattle.mf_stage.specs.declared.plate.Plates.{Plates}
 use Rattle.mf_stage.specs.declared.stage.Publication.{Publication}
 use Rattle.mf_stage.specs.declared.stage.Stage.{Stage}
-use Rattle.mf_text.specs.Lines.{Gives}
-use Rattle.mf_text.specs.declared.command.Command.TheVariants.{Publish}
 
 regroup : (a b c d : List (List ℕ)) → (a ++ (b ++ c)) ++ d ≡ (a ++ b) ++ (c ++ d)
 regroup a b c d = simp append_assoc
@@ -30,6 +32,16 @@ tells-between : (d : Due) (last : State) (fault : StageFault) (written : List �
     → IsFirstText d last written → Tells d last fault written
 tells-between d last fault written (inl is) first = subst (λ f. Tells d last f written) (sym is) first
 tells-between d last fault written (inr is) first = subst (λ f. Tells d last f written) (sym is) first
+
+-- no such fault is one of a plate
+between-plates : (fault : StageFault) → (fault ≡ OutOfMemory) ⊎ (fault ≡ ReadFault) → ConcernsPlate fault → ⊥
+between-plates fault (inl is) concerns = subst ConcernsPlate is concerns
+between-plates fault (inr is) concerns = subst ConcernsPlate is concerns
+
+-- there is a plate only where plates are asked for
+plate-asked : (plates : Option Plates) (shown : List Entry) (made : Option Plate) → IsPlateWhere plates shown made → IsSome made → IsSome plates
+plate-asked None shown made none some = absurd (false≢true (sym (ap is_some none) ∙ some))
+plate-asked (Some plates) shown made is some = refl
 
 module _ (limits : Limits) (s t : State) (done mid more : List (List ℕ)) (text : List ℕ) (before : Perform limits s done text t) where
   -- lines that were performed go before the first of others
@@ -64,15 +76,15 @@ module _ (limits : Limits) (s t : State) (done mid more : List (List ℕ)) (text
   tells-after last FileTooLong written told = told
   tells-after last ReadFault written told = first-after last written told
   tells-after last WriteFault written told = cut-after last written told
-  tells-after last (ImageTooLarge revision) written (first, published) = (first-after last written first, published)
+  tells-after last (ImageTooLarge revision) written (first, published, large) = (first-after last written first, published, large)
   tells-after last (PlateFault revision) written (first, published) = (first-after last written first, published)
 
 -- what is written where a fault comes in a line, whose stage represented the state t
 broken-after : (before now after : Stage) (s : State) (done mid more : List (List ℕ)) (fault : StageFault) (held holds last : Option (List ℕ))
-    → limits now ≡ limits before → (first : HasPerformed (step_of before s now held holds) done)
+    → limits now ≡ limits before → plates_of now ≡ plates_of before → (first : HasPerformed (step_of before s now held holds) done)
     → IsBrokenOff (step_of now first.last after holds last) mid fault
     → IsBrokenOff (step_of before s after held last) ((done ++ mid) ++ more) fault
-broken-after before now after s done mid more fault held holds last same first broken =
+broken-after before now after s done mid more fault held holds last same same_plates first broken =
     record {
       last = broken.last;
       written = first.text ++ broken.written;
@@ -80,6 +92,7 @@ broken-after before now after s done mid more fault held holds last same first b
       out = Appends-trans held holds last first.text broken.written first.out broken.out;
       told = tells-after (limits before) s first.last done mid more first.text first.performed broken.last fault broken.written
           (subst (λ l. Tells (due l first.last mid) broken.last fault broken.written) same broken.told);
+      asked = λ concerns. subst IsSome same_plates (broken.asked concerns);
     }
 
 -- the first lines of a script, and the others
@@ -106,6 +119,7 @@ under_way-broken before now unread left held holds fault was between =
             out = performed.out;
             told = tells-between (due (limits before) s (lines input)) performed.last fault performed.text between
                 (record { done = was.done; more = more; first = first; performed = performed.performed });
+            asked = λ concerns. absurd (between-plates fault between concerns);
           };
     }
 
@@ -115,10 +129,10 @@ unbegun stage unread held = under_way-broken stage stage unread unread held held
 
 -- a fault comes in the next line
 pub under_way-cut : (before now later : Stage) (unread left remaining held holds last : Option (List ℕ)) (line : List ℕ) (fault : StageFault)
-    → limits now ≡ limits before → IsUnderWay before unread left now held holds
+    → limits now ≡ limits before → plates_of now ≡ plates_of before → IsUnderWay before unread left now held holds
     → IsReadLine line → IfSome left (λ rest. Reads rest line remaining) → BreaksLines now (without_ending line ∷ []) fault later holds last
     → BreaksScript before unread fault later held last
-under_way-cut before now later unread left remaining held holds last line fault same was whole reads breaks =
+under_way-cut before now later unread left remaining held holds last line fault same same_plates was whole reads breaks =
     let one = without_ending line ∷ [] in
     let next = under_way-line unread left remaining was.done line was.first whole reads in
     let (input, known, (more, first)) = first_lines unread remaining (was.done ++ one) next in
@@ -128,7 +142,7 @@ under_way-cut before now later unread left remaining held holds last line fault 
       broken = λ s stands.
           let performed = was.performed s stands in
           subst (λ ls. IsBrokenOff (step_of before s later held last) ls fault) (sym first)
-          (broken-after before now later s was.done one more fault held holds last same performed (breaks performed.last performed.stands));
+          (broken-after before now later s was.done one more fault held holds last same same_plates performed (breaks performed.last performed.stands));
     }
 
 -- an allocation failed before anything was done for a line
@@ -140,6 +154,7 @@ nothing-done before after s line held stands = record {
   stands = stands;
   out = Appends-nil held;
   told = record { done = []; more = line ∷ []; first = refl; performed = (refl, refl) };
+  asked = λ concerns. absurd concerns;
 }
 
 -- the text of a line was cut
@@ -164,6 +179,7 @@ line-cut before after s next line text held holds answer stands (front, rest, is
     answer = subst (λ t. Answers (limits before) s line t next) is answer;
     written_is = refl;
   };
+  asked = λ concerns. absurd concerns;
 }
 
 -- a line was performed and its text was written
@@ -171,38 +187,37 @@ line-first : (limits : Limits) (s next : State) (line text : List ℕ) → Answe
 line-first limits s next line text answer =
     record { done = line ∷ []; more = []; first = refl; performed = (text, [], next, answer, (refl, refl), sym (append-nil text)) }
 
--- where a line publishes, all that was accepted is published
-pub published-as : (limits : Limits) (s next : State) (line text : List ℕ) → Answers limits s line text next → Gives line Publish
-    → IsPublishedAs (rev next.pictures.accepted) next
-published-as limits s next line text answer given =
-    let all = published-all limits s line text next answer given in
-    record { all = all; revision_is = ap rev all }
-
-tells-published : (d : Due) (next : State) (fault : StageFault) (text : List ℕ) (revision : ℕ)
-    → IsFirstText d next text → IsPublishedAs revision next → IsOfPlate revision fault → Tells d next fault text
-tells-published d next fault text revision first published (inl (inl is)) = subst (λ f. Tells d next f text) (sym is) first
-tells-published d next fault text revision first published (inl (inr is)) = subst (λ f. Tells d next f text) (sym is) (first, published)
-tells-published d next fault text revision first published (inr is) = subst (λ f. Tells d next f text) (sym is) (first, published)
+tells-published : (d : Due) (next : State) (fault : StageFault) (text : List ℕ) → IsFirstText d next text
+    → next.pictures.published ≡ next.pictures.accepted → IsOfPlate next.pictures.published fault → Tells d next fault text
+tells-published d next fault text first all is =
+    let published : IsPublishedAs (rev next.pictures.published) next = record { all = all; revision_is = refl } in
+    ⊎_elim (⊎_elim (λ memory. subst (λ f. Tells d next f text) (sym memory) first)
+    (λ large. subst (λ f. Tells d next f text) (sym large.0) (first, published, large.1)))
+    (λ plate. subst (λ f. Tells d next f text) (sym plate) (first, published)) is
 
 -- a line was performed and its text was written, and then the plate of what it has published fails
-pub line-published : (before after : Stage) (s next : State) (line text : List ℕ) (held holds : Option (List ℕ)) (fault : StageFault) (revision : ℕ)
-    → Answers (limits before) s line text next → StandsFor after next → Appends held holds text → IsPublishedAs revision next
-    → IsOfPlate revision fault → IsBrokenOff (step_of before s after held holds) (line ∷ []) fault
-line-published before after s next line text held holds fault revision answer stands out published is = record {
+pub line-published : (before after : Stage) (s next : State) (line text : List ℕ) (held holds : Option (List ℕ)) (fault : StageFault)
+    → Answers (limits before) s line text next → StandsFor after next → Appends held holds text
+    → next.pictures.published ≡ next.pictures.accepted → IsOfPlate next.pictures.published fault → IsSome (plates_of before)
+    → IsBrokenOff (step_of before s after held holds) (line ∷ []) fault
+line-published before after s next line text held holds fault answer stands out all is some = record {
   last = next;
   written = text;
   stands = stands;
   out = out;
-  told = tells-published (due (limits before) s (line ∷ [])) next fault text revision (line-first (limits before) s next line text answer) published is;
+  told = tells-published (due (limits before) s (line ∷ [])) next fault text (line-first (limits before) s next line text answer) all is;
+  asked = λ concerns. some;
 }
 
 -- the same of a plate that was made and not written
 pub line-unwritten : (before after : Stage) (s : State) (line : List ℕ) (held holds : Option (List ℕ)) (fault : StageFault) (made : Option Publication)
-    → HasPerformedLine (step_of before s after held holds) line made → IsSomeAnd made (λ publication. fault ≡ PlateFault publication.revision)
+    → HasPerformedLine (step_of before s after held holds) line made
+    → IsSomeAnd made (λ publication. (fault ≡ PlateFault publication.revision) × IsSome publication.plate)
     → IsBrokenOff (step_of before s after held holds) (line ∷ []) fault
 line-unwritten before after s line held holds fault None done is = absurd is
-line-unwritten before after s line held holds fault (Some publication) done is =
+line-unwritten before after s line held holds fault (Some publication) done (is, some) =
     let (given, of_list) = done.made_is in
     let all = published-all (limits before) s line done.text done.next done.answer given in
-    line-published before after s done.next line done.text held holds fault publication.revision done.answer done.stands done.out
-    (record { all = all; revision_is = sym of_list.revision }) (inr is)
+    line-published before after s done.next line done.text held holds fault done.answer done.stands done.out all
+    (inr (is ∙ ap PlateFault of_list.revision))
+    (plate-asked (plates_of before) done.next.pictures.published publication.plate of_list.plate some)

@@ -1,13 +1,15 @@
 -- What has been performed and written where a fault ends a script.
-use Rattle.std.specs.Prelude.{◌≡◌, ◌⊎◌, ℕ, IfSome, List, ◌∷◌, ◌++◌, Option}
+use Rattle.std.specs.Prelude.{◌≡◌, ◌⊎◌, ℕ, IfSome, IsSome, List, ◌∷◌, ◌++◌, Option}
 use Rattle.std.specs.Io.KnownBytes.{Appends}
 use Rattle.std.specs.Str.Lines.{lines}
-use Rattle.mf_live.specs.Entries.{rev}
+use Rattle.mf_image.specs.Boxes.{IsTooLargeForImage}
+use Rattle.mf_live.specs.Entries.{Entry, pic, rev}
+use Rattle.mf_rows.specs.Dots.{Dot}
 use Rattle.mf_session.specs.Answers.{Answers}
 use Rattle.mf_session.specs.States.{Limits, State}
 use Rattle.mf_session.specs.Transcript.{Perform}
 use Rattle.mf_stage.specs.Scripts.{Step, step_of}
-use Rattle.mf_stage.specs.Stages.{StandsFor, limits}
+use Rattle.mf_stage.specs.Stages.{StandsFor, limits, plates_of}
 use Rattle.mf_stage.specs.declared.fault.StageFault.{StageFault}
 use Rattle.mf_stage.specs.declared.fault.StageFault.TheVariants.{OutOfMemory, FileTooLong, ReadFault, WriteFault, ImageTooLarge, PlateFault}
 use Rattle.mf_stage.specs.declared.stage.Stage.{Stage}
@@ -51,23 +53,31 @@ pub record IsPublishedAs (revision : ℕ) (s : State) : Type 0 where
 
 -- what a fault says of these lines, the first of which have led to this state, and of what was written: after `WriteFault` the text of
 -- the last line that was performed may be cut, and after each other fault the texts of all of them have been written; after the faults
--- of an image these lines have published its revision
+-- of an image these lines have published its revision, and after `ImageTooLarge` the picture that they have published is too large
 abbrev pub Tells : Due → State → StageFault → List ℕ → Type 0
 Tells d last OutOfMemory written = IsFirstText d last written
 Tells d last FileTooLong written = ⊥
 Tells d last ReadFault written = IsFirstText d last written
 Tells d last WriteFault written = IsCutText d last written
-Tells d last (ImageTooLarge revision) written = IsFirstText d last written × IsPublishedAs revision last
+Tells d last (ImageTooLarge revision) written =
+    IsFirstText d last written × IsPublishedAs revision last × IsTooLargeForImage (pic last.pictures.published)
 Tells d last (PlateFault revision) written = IsFirstText d last written × IsPublishedAs revision last
 
+-- the fault is one of a plate
+abbrev pub ConcernsPlate : StageFault → Type 0
+ConcernsPlate (ImageTooLarge revision) = Unit {0}
+ConcernsPlate (PlateFault revision) = Unit {0}
+ConcernsPlate _ = ⊥
+
 -- in this step a fault has broken these lines off: the stage represents the state to which the first of them have led, and has written
--- what the fault says
+-- what the fault says, which is one of a plate only where plates are asked for
 pub record IsBrokenOff (step : Step) (whole : List (List ℕ)) (fault : StageFault) : Type 0 where
   pub last : State
   pub written : List ℕ
   pub stands : StandsFor step.after last
   pub out : Appends step.held step.holds written
   pub told : Tells (due (limits step.before) step.state whole) last fault written
+  pub asked : ConcernsPlate fault → IsSome (plates_of step.before)
 
 -- the fault has broken these lines off, whatever state the stage represented; the writer, which held some bytes, now holds others
 abbrev pub BreaksLines : Stage → List (List ℕ) → StageFault → Stage → Option (List ℕ) → Option (List ℕ) → Type 0
@@ -80,10 +90,10 @@ pub record BreaksScript (before : Stage) (unread : Option (List ℕ)) (fault : S
   pub known : IfSome unread (λ bytes. input ≡ bytes)
   pub broken : BreaksLines before (lines input) fault after held holds
 
--- with this fault the picture of this revision has no image
-abbrev pub IsOfImage : ℕ → StageFault → Type 0
-IsOfImage revision fault = (fault ≡ OutOfMemory) ⊎ (fault ≡ ImageTooLarge revision)
+-- with this fault this picture, which has this revision, has no image: with `ImageTooLarge` only where it is too large
+abbrev pub IsOfImage : ℕ → List Dot → StageFault → Type 0
+IsOfImage revision ds fault = (fault ≡ OutOfMemory) ⊎ ((fault ≡ ImageTooLarge revision) × IsTooLargeForImage ds)
 
--- with this fault the plate of this revision is not written
-abbrev pub IsOfPlate : ℕ → StageFault → Type 0
-IsOfPlate revision fault = IsOfImage revision fault ⊎ (fault ≡ PlateFault revision)
+-- with this fault the plate of what this list shows is not written
+abbrev pub IsOfPlate : List Entry → StageFault → Type 0
+IsOfPlate shown fault = IsOfImage (rev shown) (pic shown) fault ⊎ (fault ≡ PlateFault (rev shown))

@@ -35,8 +35,8 @@ pub struct Plate {
 }
 
 impl Plates {
-    /// The plate of this picture, which has this revision. Refused with `ImageTooLarge`, or with `OutOfMemory` where an
-    /// allocation fails.
+    /// The plate of this picture, which has this revision. Refused with `ImageTooLarge` only where the picture is too large for an
+    /// image, and with `OutOfMemory` where an allocation fails.
     pub fn plate(
         &self,
         alloc: Global,
@@ -44,7 +44,7 @@ impl Plates {
         picture: &Picture,
     ) -> Result<Plate, StageFault>
         ensures made { IfOk result (IsPlate self.now revision picture.now) }
-        ensures fault { IfErr result (IsOfImage revision) }
+        ensures fault { IfErr result (IsOfImage revision picture.now) }
     {
         let svg = self.svg(alloc, revision, picture)?;
         let pgm = self.pgm_if_wanted(alloc, revision, picture)?;
@@ -59,7 +59,7 @@ impl Plates {
         picture: &Picture,
     ) -> Result<Option<Image>, StageFault>
         ensures made { IfOk result (IsPgmWhere self.now.pgm self.now revision picture.now) }
-        ensures fault { IfErr result (IsOfImage revision) }
+        ensures fault { IfErr result (IsOfImage revision picture.now) }
     {
         if !self.pgm {
             return Ok(None);
@@ -70,7 +70,7 @@ impl Plates {
     /// The SVG image of this picture, which has this revision.
     fn svg(&self, alloc: Global, revision: u32, picture: &Picture) -> Result<Image, StageFault>
         ensures made { IfOk result (IsSvg self.now revision picture.now) }
-        ensures fault { IfErr result (IsOfImage revision) }
+        ensures fault { IfErr result (IsOfImage revision picture.now) }
     {
         let path = self.path(alloc, revision, "svg")?;
         match svg(alloc, picture) {
@@ -82,7 +82,7 @@ impl Plates {
     /// The PGM image of this picture, which has this revision.
     fn pgm(&self, alloc: Global, revision: u32, picture: &Picture) -> Result<Image, StageFault>
         ensures made { IfOk result (IsPgm self.now revision picture.now) }
-        ensures fault { IfErr result (IsOfImage revision) }
+        ensures fault { IfErr result (IsOfImage revision picture.now) }
     {
         let path = self.path(alloc, revision, "pgm")?;
         match pgm(alloc, picture) {

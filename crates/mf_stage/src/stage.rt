@@ -1,10 +1,10 @@
 //! A stage: a session that performs a script, and what is made of each publish.
-ghost use Rattle.std.specs.Prelude.{◌≡◌, ◌⊎◌, ◌<◌, ◌↔◌, ◌∷◌, [], Err, IfErr, IfOk, IsOk, IsSomeAnd, None, OnOk};
-ghost use Rattle.mf_live.specs.Desks.{desk_identity};
+ghost use Rattle.std.specs.Prelude.{◌≡◌, ◌⊎◌, ◌<◌, ◌≤◌, ◌↔◌, ◌∷◌, [], Err, IfErr, IfOk, IsOk, IsSome, IsSomeAnd, None, OnOk};
+ghost use Rattle.mf_live.specs.Desks.{desk_identity, remaining_viewers};
 ghost use Rattle.mf_session.specs.Endings.{HasEnded};
-ghost use Rattle.mf_live.specs.Entries.{rev};
+ghost use Rattle.mf_live.specs.Entries.{pic, rev};
 ghost use Rattle.mf_session.specs.States.{State, limits_of, start};
-ghost use Rattle.mf_stage.specs.Faults.{BreaksLines, BreaksScript, IsOfImage, IsOfPlate};
+ghost use Rattle.mf_stage.specs.Faults.{BreaksLines, BreaksScript, ConcernsPlate, IsOfImage, IsOfPlate};
 ghost use Rattle.mf_stage.specs.Publications.{IsPlateWhere, IsPublication};
 ghost use Rattle.mf_stage.specs.Scripts.{HasPerformedLine, PerformsLines, PerformsAll, StillStands, step_of};
 ghost use Rattle.mf_stage.specs.Stages.{StandsFor, identity, limits, plates_of, session_of};
@@ -39,8 +39,8 @@ pub struct Publication {
 }
 
 impl Stage {
-    /// A stage on which nothing was performed, and the desk with one place for a viewer. With `plates`, each publish of the
-    /// script writes a plate. Refused with `FileTooLong` exactly where `max_bytes` is below 3, and with `OutOfMemory` where an
+    /// A stage on which nothing was performed, and the desk, with at most one place for a viewer. With `plates`, each publish of
+    /// the script writes a plate. Refused with `FileTooLong` exactly where `max_bytes` is below 3, and with `OutOfMemory` where an
     /// allocation fails.
     pub fn new<S: Wait>(
         rt: &S,
@@ -52,6 +52,7 @@ impl Stage {
         ensures limits { IfOk result (λ made. limits made.0 ≡ limits_of script_limits.now.max_ops script_limits.now.max_bytes) }
         ensures identity { IfOk result (λ made. desk_identity made.1 ≡ identity made.0) }
         ensures plates { IfOk result (λ made. plates_of made.0 ≡ plates) }
+        ensures places { IfOk result (λ made. remaining_viewers made.1 ≤ 1) }
         ensures too_long { (script_limits.now.max_bytes < 3) ↔ (result ≡ Err StageFault.FileTooLong) }
         ensures fault { IfErr result (λ fault. (fault ≡ StageFault.FileTooLong) ⊎ (fault ≡ StageFault.OutOfMemory)) }
     {
@@ -67,8 +68,8 @@ impl Stage {
     /// return before that is no part of it, and bytes after the last line feed are a line. A publish that shows nothing new writes
     /// its plate again.
     ///
-    /// Refused with `OutOfMemory`, `ReadFault`, `WriteFault`, `ImageTooLarge` or `PlateFault`. What was written by then stays; the
-    /// caller discards the stage.
+    /// Refused with `OutOfMemory`, `ReadFault` or `WriteFault`, and where plates are asked for, with `ImageTooLarge` or `PlateFault`.
+    /// `ReadFault` also comes after 18,446,744,073,709,551,615 lines. What was written by then stays; the caller discards the stage.
     pub fn perform<S: Wait + Files, R: Read + Drop, W: Write, P: Pace>(
         &mut self,
         rt: &S,
@@ -109,7 +110,7 @@ impl Stage {
         ensures identity { identity self.new ≡ identity self.old }
         ensures plates { plates_of self.new ≡ plates_of self.old }
     {
-        // A loop must end; no script has so many lines.
+        // A loop must end. No script has so many lines; one that had would end with `ReadFault`.
         'lines: for _ in 0..u64::MAX {
             let Some(line) = next_line(alloc, script)? else {
                 return Ok(());
@@ -170,7 +171,10 @@ impl Stage {
     /// The publication of everything that `currentpicture` has accepted.
     fn publication(&self, alloc: Global) -> Result<Publication, StageFault>
         ensures made { IfOk result (λ made. (s : State) → StandsFor self.now s → IsPublication (plates_of self.now) s.pictures.accepted made) }
-        ensures fault { IfErr result (λ fault. (s : State) → StandsFor self.now s → IsOfImage (rev s.pictures.accepted) fault) }
+        ensures plate { IfOk result (λ made. IsSome made.plate → IsSome (plates_of self.now)) }
+        ensures asked { IfErr result (λ _. IsSome (plates_of self.now)) }
+        ensures fault { IfErr result (λ fault. (s : State) → StandsFor self.now s
+            → IsOfImage (rev s.pictures.accepted) (pic s.pictures.accepted) fault) }
     {
         let revision = self.session.revision();
         let plate = self.plate(alloc)?;
@@ -180,7 +184,10 @@ impl Stage {
     /// The plate of `currentpicture`, if plates are asked for.
     fn plate(&self, alloc: Global) -> Result<Option<Plate>, StageFault>
         ensures made { IfOk result (λ made. (s : State) → StandsFor self.now s → IsPlateWhere (plates_of self.now) s.pictures.accepted made) }
-        ensures fault { IfErr result (λ fault. (s : State) → StandsFor self.now s → IsOfImage (rev s.pictures.accepted) fault) }
+        ensures plate { IfOk result (λ made. IsSome made → IsSome (plates_of self.now)) }
+        ensures asked { IfErr result (λ _. IsSome (plates_of self.now)) }
+        ensures fault { IfErr result (λ fault. (s : State) → StandsFor self.now s
+            → IsOfImage (rev s.pictures.accepted) (pic s.pictures.accepted) fault) }
     {
         let Some(plates) = &self.plates else {
             return Ok(None);
@@ -199,7 +206,8 @@ impl Stage {
         alloc: Global,
     ) -> Result<(Ended, GfFile), StageFault>
         ensures ended { IfOk result (λ made. (s : State) → StandsFor self s → HasEnded (session_of self) s made.0 made.1) }
-        ensures fault { IfErr result (λ fault. (s : State) → StandsFor self s → IsOfPlate (rev s.pictures.accepted) fault) }
+        ensures fault { IfErr result (λ fault. (s : State) → StandsFor self s → IsOfPlate s.pictures.accepted fault) }
+        ensures asked { IfErr result (λ fault. ConcernsPlate fault → IsSome (plates_of self)) }
     {
         match self.write_last(rt, alloc) {
             Ok(()) => self.close(rt),
@@ -212,7 +220,8 @@ impl Stage {
 
     /// Writes the plate of the last revision, if plates are asked for.
     fn write_last<S: Files>(&self, rt: &S, alloc: Global) -> Result<(), StageFault>
-        ensures { IfErr result (λ fault. (s : State) → StandsFor self.now s → IsOfPlate (rev s.pictures.accepted) fault) }
+        ensures fault { IfErr result (λ fault. (s : State) → StandsFor self.now s → IsOfPlate s.pictures.accepted fault) }
+        ensures asked { IfErr result (λ _. IsSome (plates_of self.now)) }
     {
         let last = self.publication(alloc)?;
         last.write(rt)
@@ -243,7 +252,8 @@ impl Stage {
 impl Publication {
     /// Writes the plate, if there is one. Refused with `PlateFault`, which has the revision.
     fn write<S: Files>(&self, rt: &S) -> Result<(), StageFault>
-        ensures { IfErr result (λ fault. fault ≡ StageFault.PlateFault self.now.revision) }
+        ensures fault { IfErr result (λ fault. fault ≡ StageFault.PlateFault self.now.revision) }
+        ensures some { IfErr result (λ _. IsSome self.now.plate) }
     {
         let Some(plate) = &self.plate else {
             return Ok(());
@@ -262,7 +272,8 @@ fn announce<S: Files, P: Pace>(
     pace: &P,
 ) -> Result<(), StageFault>
     ensures none { made ≡ None → IsOk result }
-    ensures fault { IfErr result (λ fault. IsSomeAnd made (λ publication. fault ≡ StageFault.PlateFault publication.revision)) }
+    ensures fault { IfErr result (λ fault. IsSomeAnd made (λ publication.
+        (fault ≡ StageFault.PlateFault publication.revision) × IsSome publication.plate)) }
 {
     let Some(publication) = made else {
         return Ok(());

@@ -2,19 +2,21 @@
 use Rattle.std.proofs.Common.{◌≡◌, ◌⊎◌, ℕ, List, [], Option, None, Some, IfSome, Result, Ok, Err, IfErr, OnOk, inl, inr, refl, sym, ap, subst, ◌∙◌, append-nil}
 use Rattle.std.proofs.KnownBytes.{Appends-nil}
 use Rattle.std.specs.Str.Lines.{lines}
+use Rattle.std.specs.Prelude.{IsSome}
 use Rattle.mf_gf.specs.declared.file.GfFile.{GfFile}
-use Rattle.mf_live.specs.Entries.{rev}
+use Rattle.mf_image.specs.Boxes.{IsTooLargeForImage}
+use Rattle.mf_live.specs.Entries.{pic, rev}
 use Rattle.mf_session.specs.States.{State, start}
 use Rattle.mf_session.specs.Transcript.{Perform}
 use Rattle.mf_stage.specs.Faults.{BreaksScript, IsFirstText, due}
 use Rattle.mf_stage.specs.Faults as stage
 use Rattle.mf_stage.specs.Scripts.{PerformsAll}
-use Rattle.mf_stage.specs.Stages.{StandsFor, limits}
+use Rattle.mf_stage.specs.Stages.{StandsFor, limits, plates_of}
 use Rattle.mf_stage.specs.declared.fault.StageFault.{StageFault}
 use Rattle.mf_stage.specs.declared.fault.StageFault.TheVariants as stages
 use Rattle.mf_stage.specs.declared.stage.Stage.{Stage}
 use Rattle.mf_view.specs.Begun.{HasBegun, IsOfEnd, IsWholeText, Tells}
-use Rattle.mf_view.specs.Faults.{fault_of_stage}
+use Rattle.mf_view.specs.Faults.{ConcernsPlate, fault_of_stage}
 use Rattle.mf_view.specs.Performances.{script_limits}
 use Rattle.mf_view.specs.declared.fault.ProgramFault.{ProgramFault}
 use Rattle.mf_view.specs.declared.fault.ProgramFault.TheVariants.{OutOfMemory, NoPlace, NoLook, TooSmall, FileTooLong, ReadFault, WriteFault, ImageTooLarge, PlateFault, NoCharacters}
@@ -26,7 +28,8 @@ tells-stage d last stages.OutOfMemory written told = told
 tells-stage d last stages.FileTooLong written told = told
 tells-stage d last stages.ReadFault written told = told
 tells-stage d last stages.WriteFault written told = inl told
-tells-stage d last (stages.ImageTooLarge revision) written (first, published) = (first, sym (ap rev published.all) ∙ published.revision_is)
+tells-stage d last (stages.ImageTooLarge revision) written (first, published, large) =
+    (first, sym (ap rev published.all) ∙ published.revision_is, subst (λ shown. IsTooLargeForImage (pic shown)) published.all large)
 tells-stage d last (stages.PlateFault revision) written (first, published) = (first, sym (ap rev published.all) ∙ published.revision_is)
 
 -- all lines are the first lines
@@ -35,7 +38,7 @@ all-first d last written whole = record { done = d.whole; more = []; first = sym
 
 -- what is said after a complete script
 tells-end : (d : stage.Due) (last : State) (fault : ProgramFault) (written : List ℕ) → IsWholeText d last written
-    → IsOfEnd (rev last.pictures.accepted) fault → Tells d last fault written
+    → IsOfEnd last.pictures.accepted fault → Tells d last fault written
 tells-end d last OutOfMemory written whole of_end = all-first d last written whole
 tells-end d last NoPlace written whole of_end = absurd of_end
 tells-end d last NoLook written whole of_end = whole
@@ -43,9 +46,18 @@ tells-end d last TooSmall written whole of_end = of_end
 tells-end d last FileTooLong written whole of_end = of_end
 tells-end d last ReadFault written whole of_end = absurd of_end
 tells-end d last WriteFault written whole of_end = inr whole
-tells-end d last (ImageTooLarge revision) written whole of_end = (all-first d last written whole, of_end)
+tells-end d last (ImageTooLarge revision) written whole of_end = (all-first d last written whole, of_end.0, of_end.1)
 tells-end d last (PlateFault revision) written whole of_end = (all-first d last written whole, of_end)
 tells-end d last NoCharacters written whole of_end = of_end
+
+-- a fault of a plate is one to the stage, too
+concerns-stage : (cause : StageFault) → ConcernsPlate (fault_of_stage cause) → stage.ConcernsPlate cause
+concerns-stage stages.OutOfMemory concerns = concerns
+concerns-stage stages.FileTooLong concerns = concerns
+concerns-stage stages.ReadFault concerns = concerns
+concerns-stage stages.WriteFault concerns = concerns
+concerns-stage (stages.ImageTooLarge revision) concerns = tt
+concerns-stage (stages.PlateFault revision) concerns = tt
 
 -- a performance on this stage ends with a fault
 module _ (before after : Stage) (unread told tells : Option (List ℕ)) (limited : limits before ≡ script_limits) (begins : StandsFor before start) where
@@ -63,7 +75,7 @@ module _ (before after : Stage) (unread told tells : Option (List ℕ)) (limited
       }
 
   begun-end : (fault : ProgramFault) → PerformsAll before unread after told tells
-      → ((s : State) → StandsFor after s → IsOfEnd (rev s.pictures.accepted) fault) → HasBegun unread told tells fault
+      → ((s : State) → StandsFor after s → IsOfEnd s.pictures.accepted fault) → HasBegun unread told tells fault
   begun-end fault script late =
       let done = script.performed start begins in
       record {
@@ -81,11 +93,23 @@ module _ (before after : Stage) (unread told tells : Option (List ℕ)) (limited
       → OnOk performed (PerformsAll before unread after told tells)
       → IfErr performed (λ cause. BreaksScript before unread cause after told tells)
       → IfErr performed (λ cause. r ≡ Err (fault_of_stage cause))
-      → OnOk performed (IfErr r (λ fault. (s : State) → StandsFor after s → IsOfEnd (rev s.pictures.accepted) fault))
+      → OnOk performed (IfErr r (λ fault. (s : State) → StandsFor after s → IsOfEnd s.pictures.accepted fault))
       → IfErr r (HasBegun unread told tells)
   begun-whole (Ok done) (Ok file) script broken is late = tt
   begun-whole (Ok done) (Err fault) script broken is late = begun-end fault script late
   begun-whole (Err cause) r script broken is late = subst (λ r. IfErr r (HasBegun unread told tells)) (sym is) (begun-script cause broken)
+
+  -- it is one of a plate only where plates are asked for
+  pub asked-whole : (performed : Result (Unit {0}) StageFault) (r : Result GfFile ProgramFault) → plates_of after ≡ plates_of before
+      → IfErr performed (λ cause. BreaksScript before unread cause after told tells)
+      → IfErr performed (λ cause. r ≡ Err (fault_of_stage cause))
+      → OnOk performed (IfErr r (λ fault. ConcernsPlate fault → IsSome (plates_of after)))
+      → IfErr r (λ fault. ConcernsPlate fault → IsSome (plates_of before))
+  asked-whole (Ok done) (Ok file) same broken is asked = tt
+  asked-whole (Ok done) (Err fault) same broken is asked = λ concerns. subst IsSome same (asked concerns)
+  asked-whole (Err cause) r same broken is asked =
+      subst (λ r. IfErr r (λ fault. ConcernsPlate fault → IsSome (plates_of before))) (sym is)
+      (λ concerns. (broken.broken start begins).asked (concerns-stage cause concerns))
 
 some-bytes : (unread : Option (List ℕ)) → (input : List ℕ) × IfSome unread (λ bytes. input ≡ bytes)
 some-bytes None = ([], tt)
@@ -114,3 +138,7 @@ pub unbegun-stage : (unread told : Option (List ℕ)) (cause : StageFault) → (
     → (cause ≡ stages.FileTooLong → ⊥) → HasBegun unread told told (fault_of_stage cause)
 unbegun-stage unread told cause (inl is) long_enough = absurd (long_enough is)
 unbegun-stage unread told cause (inr is) long_enough = subst (λ f. HasBegun unread told told (fault_of_stage f)) (sym is) (unbegun-memory unread told)
+
+pub unasked-stage : (cause : StageFault) → (cause ≡ stages.FileTooLong) ⊎ (cause ≡ stages.OutOfMemory) → ConcernsPlate (fault_of_stage cause) → ⊥
+unasked-stage cause (inl is) concerns = subst (λ f. ConcernsPlate (fault_of_stage f)) is concerns
+unasked-stage cause (inr is) concerns = subst (λ f. ConcernsPlate (fault_of_stage f)) is concerns

@@ -4,7 +4,7 @@ use Rattle.std.specs.Prelude.{IsSome}
 use Rattle.clap.specs.Words.{Text}
 use Rattle.mf_base.specs.Messages.{GetsMessage}
 use Rattle.mf_frame.specs.Canvases.{IsLargeEnough}
-use Rattle.mf_view.specs.Faults.{LacksRoom, MayEnd, ReportsFault}
+use Rattle.mf_view.specs.Faults.{ConcernsPlate, LacksRoom, MayEnd, ReportsFault}
 use Rattle.mf_view.specs.Messages.{message_of}
 use Rattle.mf_view.specs.Statuses.{status_of}
 use Rattle.mf_view.specs.declared.fault.ProgramFault.{ProgramFault}
@@ -28,17 +28,17 @@ answered words status held holds (inr failed) bad got = reported words WriteFaul
 module _ (words : List Text) (asked : Words) (request : IsRequest words (Show asked)) where
   -- with which faults the words of a script allow a run to end
   pub may_end : (fault : ProgramFault) → (fault ≡ TooSmall → IsLargeEnough asked.columns asked.rows → ⊥)
-      → (fault ≡ NoCharacters → IsSome asked.gf) → MayEnd words fault
-  may_end TooSmall small some = record { asked = asked; request = request; small = small refl }
-  may_end NoCharacters small some = record { asked = asked; request = request; some = some refl }
-  may_end OutOfMemory small some = tt
-  may_end NoPlace small some = tt
-  may_end NoLook small some = tt
-  may_end FileTooLong small some = tt
-  may_end ReadFault small some = tt
-  may_end WriteFault small some = tt
-  may_end (ImageTooLarge revision) small some = tt
-  may_end (PlateFault revision) small some = tt
+      → (fault ≡ NoCharacters → IsSome asked.gf) → (ConcernsPlate fault → IsSome asked.plates) → MayEnd words fault
+  may_end TooSmall small some plates = record { asked = asked; request = request; small = small refl }
+  may_end NoCharacters small some plates = record { asked = asked; request = request; some = some refl }
+  may_end OutOfMemory small some plates = tt
+  may_end NoPlace small some plates = tt
+  may_end NoLook small some plates = tt
+  may_end FileTooLong small some plates = tt
+  may_end ReadFault small some plates = tt
+  may_end WriteFault small some plates = tt
+  may_end (ImageTooLarge revision) small some plates = record { asked = asked; request = request; some = plates tt }
+  may_end (PlateFault revision) small some plates = record { asked = asked; request = request; some = plates tt }
 
   -- a fault of a script that was reported, after the transcript if that goes to the same stream
   pub reported-after : {E : Type 0} (contents : E → Option (List ℕ)) (before then : E) (fault : ProgramFault) (status : ℕ) (holds : Option (List ℕ))

@@ -2,7 +2,8 @@
 use Rattle.std.specs.Prelude.{◌≡◌, ◌⊎◌, ℕ, IfSome, List, [], Option}
 use Rattle.std.specs.Io.KnownBytes.{Appends}
 use Rattle.std.specs.Str.Lines.{lines}
-use Rattle.mf_live.specs.Entries.{rev}
+use Rattle.mf_image.specs.Boxes.{IsTooLargeForImage}
+use Rattle.mf_live.specs.Entries.{Entry, pic, rev}
 use Rattle.mf_session.specs.States.{State, start}
 use Rattle.mf_session.specs.Transcript.{Perform}
 use Rattle.mf_stage.specs.Faults.{Due, IsCutText, IsFirstText, due}
@@ -15,8 +16,8 @@ abbrev pub IsWholeText : Due → State → List ℕ → Type 0
 IsWholeText d last written = Perform d.limits d.from d.whole written last
 
 -- what a fault says of the lines of a script, the first of which have led to this state, and of what was written of their transcript: only
--- after `WriteFault` the text of a line may be cut; after `NoLook`, and where the screen has failed, the transcript is complete; after the
--- faults of an image the revision is that of the picture in this state
+-- after `WriteFault` the text of a line may be cut, or else the transcript is complete; after `NoLook` it is complete; after the faults of an
+-- image the revision is that of the picture in this state, and after `ImageTooLarge` this picture is too large for an image
 abbrev pub Tells : Due → State → ProgramFault → List ℕ → Type 0
 Tells d last OutOfMemory written = IsFirstText d last written
 Tells d last NoPlace written = written ≡ []
@@ -25,7 +26,8 @@ Tells d last TooSmall written = ⊥
 Tells d last FileTooLong written = ⊥
 Tells d last ReadFault written = IsFirstText d last written
 Tells d last WriteFault written = IsCutText d last written ⊎ IsWholeText d last written
-Tells d last (ImageTooLarge revision) written = IsFirstText d last written × (rev last.pictures.accepted ≡ revision)
+Tells d last (ImageTooLarge revision) written =
+    IsFirstText d last written × (rev last.pictures.accepted ≡ revision) × IsTooLargeForImage (pic last.pictures.accepted)
 Tells d last (PlateFault revision) written = IsFirstText d last written × (rev last.pictures.accepted ≡ revision)
 Tells d last NoCharacters written = ⊥
 
@@ -39,11 +41,11 @@ pub record HasBegun (unread told tells : Option (List ℕ)) (fault : ProgramFaul
   pub out : Appends told tells written
   pub tells_is : Tells (due script_limits start (lines input)) last fault written
 
--- with this fault a performance can end whose script was performed to its end, where the last picture has this revision
-abbrev pub IsOfEnd : ℕ → ProgramFault → Type 0
+-- with this fault a performance can end whose script was performed to its end, where the last picture is that of this list
+abbrev pub IsOfEnd : List Entry → ProgramFault → Type 0
 IsOfEnd last OutOfMemory = Unit {0}
 IsOfEnd last NoLook = Unit {0}
 IsOfEnd last WriteFault = Unit {0}
-IsOfEnd last (ImageTooLarge revision) = last ≡ revision
-IsOfEnd last (PlateFault revision) = last ≡ revision
+IsOfEnd last (ImageTooLarge revision) = (rev last ≡ revision) × IsTooLargeForImage (pic last)
+IsOfEnd last (PlateFault revision) = rev last ≡ revision
 IsOfEnd last _ = ⊥

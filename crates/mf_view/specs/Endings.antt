@@ -25,7 +25,8 @@ abbrev pub style_in : Bool → Style
 style_in true = Plain
 style_in false = Colored
 
--- a script was performed and shown, with the transcript in a file where a path is given, and else in the stream of messages
+-- a script was performed and shown: where no path is given, with its transcript in the stream of messages; with a path that stream is as
+-- it was, and nothing is said of where the transcript went, since no contract knows what a file holds
 abbrev pub IsShownInto : Option (List ℕ) → Style → Size → Streams → GfFile → Type 0
 IsShownInto None style canvas s file = Shows style canvas s file
 IsShownInto (Some path) style canvas s file =

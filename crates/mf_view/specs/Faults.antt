@@ -30,6 +30,17 @@ fault_of_easel easels.OutOfMemory = faults.OutOfMemory
 fault_of_easel easels.NoLook = faults.NoLook
 fault_of_easel easels.WriteFault = faults.WriteFault
 
+-- the fault is one of a plate
+abbrev pub ConcernsPlate : ProgramFault → Type 0
+ConcernsPlate (faults.ImageTooLarge revision) = Unit {0}
+ConcernsPlate (faults.PlateFault revision) = Unit {0}
+ConcernsPlate _ = ⊥
+
+-- where a script was performed to its end and the drawing has failed with the first fault, the second is told: it is the same, unless
+-- the end of the script fails, too, with `OutOfMemory` or a fault of its plate
+abbrev pub IsToldAfter : EaselFault → ProgramFault → Type 0
+IsToldAfter cause told = (told ≡ fault_of_easel cause) ⊎ ((told ≡ faults.OutOfMemory) ⊎ ConcernsPlate told)
+
 -- the script or the drawing can end with this fault
 abbrev pub IsOfSides : ProgramFault → Type 0
 IsOfSides faults.NoPlace = ⊥
@@ -49,11 +60,19 @@ pub record AsksForFont (words : List Text) : Type 0 where
   pub request : IsRequest words (Show asked)
   pub some : IsSome asked.gf
 
--- a run with these words can end with this fault: with `TooSmall` only where they lack room, and with `NoCharacters` only where
--- they ask for a font file
+-- these words ask for plates
+pub record AsksForPlates (words : List Text) : Type 0 where
+  pub asked : Words
+  pub request : IsRequest words (Show asked)
+  pub some : IsSome asked.plates
+
+-- a run with these words can end with this fault: with `TooSmall` only where they lack room, with `NoCharacters` only where they ask
+-- for a font file, and with a fault of a plate only where they ask for plates
 abbrev pub MayEnd : List Text → ProgramFault → Type 0
 MayEnd words faults.TooSmall = LacksRoom words
 MayEnd words faults.NoCharacters = AsksForFont words
+MayEnd words (faults.ImageTooLarge revision) = AsksForPlates words
+MayEnd words (faults.PlateFault revision) = AsksForPlates words
 MayEnd words _ = Unit {0}
 
 -- these words ask for a script to be performed with its transcript in the stream of messages

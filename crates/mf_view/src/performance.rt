@@ -1,8 +1,7 @@
 //! The performance of a script beside the viewer that draws its picture.
-ghost use Rattle.std.specs.Prelude.{◌≡◌, ◌⊎◌, Err, IfErr, IfOk, IsErr, None, OnOk};
+ghost use Rattle.std.specs.Prelude.{◌≡◌, ◌⊎◌, Err, IfErr, IfOk, IsErr, IsErrAnd, IsSome, None, OnOk};
 ghost use denote.Param.Send.{IsSync, IsSend};
 ghost use Rattle.mf_easel.specs.Easels as easels;
-ghost use Rattle.mf_live.specs.Entries.{rev};
 ghost use Rattle.mf_live.specs.Writers.{ended_identity, ended_published_list};
 ghost use Rattle.mf_session.specs.Endings.{IsFileOf, complete_list};
 ghost use Rattle.mf_session.specs.States.{State, start};
@@ -11,7 +10,7 @@ ghost use Rattle.mf_stage.specs.Stages as stages;
 ghost use Rattle.mf_stage.specs.Stages.{StandsFor, limits};
 ghost use Rattle.mf_stage.specs.Scripts.{PerformsAll, StillStands};
 ghost use Rattle.mf_view.specs.Begun.{HasBegun, IsOfEnd};
-ghost use Rattle.mf_view.specs.Faults.{IsOfSides, fault_of_stage};
+ghost use Rattle.mf_view.specs.Faults.{ConcernsPlate, IsOfSides, IsToldAfter, fault_of_stage};
 ghost use Rattle.mf_view.specs.Drawings.{DrawsMore, EndsDrawing};
 ghost use Rattle.mf_view.specs.Performances.{Shows, script_limits, streams_of};
 
@@ -60,7 +59,8 @@ struct Sides {
 /// shipped characters. A fault of the screen ends the drawing, and not the script.
 ///
 /// Refused with the fault of the script or of its end, else of the drawing, else of the last look; with `NoPlace` where there is
-/// no place for the viewer. After each fault the thread is joined, and what was written stays.
+/// no place for the viewer. After each fault the thread is joined, and what was written stays. No clause says that the blank
+/// picture is drawn first, that the script goes on after a fault of the screen, or which fault comes before another: tests do.
 pub fn perform<
     S: Wait + Threads + Files + Sync,
     R: Read,
@@ -79,6 +79,7 @@ pub fn perform<
     ensures shown { IfOk result (Shows showing.style showing.canvas
         (streams_of R.remaining reader.old W.contents screen.old screen.new T.contents transcript.old transcript.new)) }
     ensures begun { IfErr result (HasBegun (R.remaining reader.old) (T.contents transcript.old) (T.contents transcript.new)) }
+    ensures plates { IfErr result (λ fault. ConcernsPlate fault → IsSome showing.plates) }
     ensures fault { IfErr result (λ fault. IsOfSides fault ⊎ (fault ≡ ProgramFault.NoPlace)) }
     ensures no_place { result ≡ Err ProgramFault.NoPlace
         → (reader.new ≡ reader.old) × (screen.new ≡ screen.old) × (transcript.new ≡ transcript.old) }
@@ -125,6 +126,7 @@ fn show<
     ensures shown { IfOk result (Shows (easels.style_of easel) (easels.canvas_of easel)
         (streams_of R.remaining reader.old W.contents screen.old screen.new T.contents transcript.old transcript.new)) }
     ensures begun { IfErr result (HasBegun (R.remaining reader.old) (T.contents transcript.old) (T.contents transcript.new)) }
+    ensures plates { IfErr result (λ fault. ConcernsPlate fault → IsSome (stages.plates_of stage)) }
     ensures fault { IfErr result IsOfSides }
 {
     let mut stage = stage;
@@ -150,8 +152,10 @@ fn conclude<S: Wait + Files, W: Write>(
     requires identity { easels.identity easel ≡ stages.identity stage }
     requires stands { OnOk performed ((s : State) × StandsFor stage s) }
     ensures script { IfErr performed (λ fault. result ≡ Err (fault_of_stage fault)) }
-    ensures late { OnOk performed (IfErr result (λ fault. (s : State) → StandsFor stage s → IsOfEnd (rev s.pictures.accepted) fault)) }
+    ensures late { OnOk performed (IfErr result (λ fault. (s : State) → StandsFor stage s → IsOfEnd s.pictures.accepted fault)) }
+    ensures plates { OnOk performed (IfErr result (λ fault. ConcernsPlate fault → IsSome (stages.plates_of stage))) }
     ensures drawing { IfErr drawn (λ _. IsErr result) }
+    ensures told { OnOk performed (IfErr drawn (λ cause. IsErrAnd result (IsToldAfter cause))) }
     ensures file { IfOk result (λ file. (s : State) → StandsFor stage s → IsFileOf (stages.session_of stage) s file) }
     ensures shown { OnOk result ((s : State) → StandsFor stage s
         → EndsDrawing drawn easel (complete_list s.pictures) (W.contents screen.old) (W.contents screen.new)) }
@@ -186,6 +190,7 @@ fn perform_beside<
     pace: &P,
 ) -> Sides
     ensures stage_identity { stages.identity stage.new ≡ stages.identity stage.old }
+    ensures plates { stages.plates_of stage.new ≡ stages.plates_of stage.old }
     ensures easel_identity { easels.identity easel.new ≡ easels.identity easel.old }
     ensures manner { easels.HasSameManner easel.old easel.new }
     ensures stopped { IfErr first (λ fault. (result.drawn ≡ Err fault) × (screen.new ≡ screen.old)) }
@@ -213,6 +218,7 @@ fn perform_beside<
         },
         &mut || -> Result<(), StageFault>
             ensures { (stages.identity stage.exit.now ≡ stages.identity stage.entry.now)
+                × (stages.plates_of stage.exit.now ≡ stages.plates_of stage.entry.now)
                 × OnOk result (StillStands stage.entry.now stage.exit.now) × OnOk result (PerformsAll stage.entry.now
                 (R.remaining reader.entry.now) stage.exit.now (T.contents transcript.entry.now) (T.contents transcript.exit.now))
                 × IfErr result (λ fault. BreaksScript stage.entry.now (R.remaining reader.entry.now) fault stage.exit.now
@@ -237,8 +243,9 @@ fn end<S: Wait + Files, W: Write>(
 ) -> Result<GfFile, ProgramFault>
     requires identity { easels.identity easel ≡ stages.identity stage }
     requires stands { (s : State) × StandsFor stage s }
-    ensures drawing { IfErr drawn (λ _. IsErr result) }
-    ensures late { IfErr result (λ fault. (s : State) → StandsFor stage s → IsOfEnd (rev s.pictures.accepted) fault) }
+    ensures told { IfErr drawn (λ cause. IsErrAnd result (IsToldAfter cause)) }
+    ensures late { IfErr result (λ fault. (s : State) → StandsFor stage s → IsOfEnd s.pictures.accepted fault) }
+    ensures plates { IfErr result (λ fault. ConcernsPlate fault → IsSome (stages.plates_of stage)) }
     ensures file { IfOk result (λ file. (s : State) → StandsFor stage s → IsFileOf (stages.session_of stage) s file) }
     ensures shown { OnOk result ((s : State) → StandsFor stage s
         → EndsDrawing drawn easel (complete_list s.pictures) (W.contents screen.old) (W.contents screen.new)) }

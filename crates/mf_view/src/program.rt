@@ -3,7 +3,7 @@ ghost use Rattle.std.specs.Io.KnownBytes.{Appends};
 ghost use Rattle.std.specs.Prelude.{◌≡◌, ◌++◌, ◌⊎◌, ◌↔◌, Err, IfErr, IfOk, IsOk, IsSome, None, OnOk, codes, decimal, map, option_map, string_bytes};
 ghost use Rattle.mf_base.specs.Messages.{GetsMessage};
 ghost use Rattle.mf_view.specs.Endings.{AsksForText, EndsWell, IsShownInto, IsWatched, size_in, style_in};
-ghost use Rattle.mf_view.specs.Faults.{IsOfSides, LacksRoom, ReportsFault};
+ghost use Rattle.mf_view.specs.Faults.{ConcernsPlate, IsOfSides, LacksRoom, ReportsFault};
 ghost use Rattle.mf_frame.specs.Canvases.{IsLargeEnough};
 ghost use Rattle.mf_view.specs.Messages.{message_of, usage};
 ghost use Rattle.mf_view.specs.Performances.{streams_of};
@@ -104,6 +104,7 @@ fn watch<S: Wait + Threads + Files + Clock + Sync, R: Read, W: Write + Send, E: 
     ensures too_small { (IsLargeEnough words.columns words.rows → ⊥) ↔ (result ≡ Err ProgramFault.TooSmall) }
     ensures untouched { result ≡ Err ProgramFault.TooSmall → (reader.new ≡ reader.old) × (screen.new ≡ screen.old) }
     ensures no_characters { result ≡ Err ProgramFault.NoCharacters → IsSome words.gf }
+    ensures plates { IfErr result (λ fault. ConcernsPlate fault → IsSome words.plates) }
 {
     let Words {
         columns,
@@ -139,6 +140,7 @@ fn showing(
 ) -> Result<Showing, TooSmall>
     ensures accepted { IsOk result ↔ IsLargeEnough columns rows }
     ensures asked { IfOk result (λ made. (made.style ≡ style_in frames) × (made.canvas ≡ size_in columns rows)) }
+    ensures plates { IfOk result (λ made. IsSome made.plates → IsSome plates) }
 {
     let canvas = Canvas::new(columns, rows)?;
     Ok(Showing {
@@ -175,6 +177,7 @@ fn perform_into<
     ensures done { IfOk result (IsShownInto (option_map string_bytes transcript) showing.style showing.canvas
         (streams_of R.remaining reader.old W.contents screen.old screen.new E.contents errors.old errors.new)) }
     ensures quiet { (transcript ≡ None) ⊎ (errors.new ≡ errors.old) }
+    ensures plates { IfErr result (λ fault. ConcernsPlate fault → IsSome showing.plates) }
     ensures fault { IfErr result (λ fault. IsOfSides fault ⊎ (fault ≡ ProgramFault.NoPlace)) }
 {
     let Some(path) = transcript else {

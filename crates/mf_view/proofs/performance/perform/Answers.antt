@@ -1,6 +1,6 @@
 use Rattle.std.proofs.Common.{Err, ap, arith}
 use Rattle.std.proofs.lemmas.Result.{err_from_is_err_and}
-use Rattle.mf_view.proofs.Begun.{unbegun-place, unbegun-stage}
+use Rattle.mf_view.proofs.Begun.{unasked-stage, unbegun-place, unbegun-stage}
 use Rattle.mf_view.proofs.performance.perform.Goals as goal
 
 pub returns-in_err-stage-clause-begun : goal.returns-in_err-stage-clause-begun
@@ -9,6 +9,11 @@ returns-in_err-stage-clause-begun g c =
     rw (failed.1, failed.2) (unbegun-stage _ _ c.in_err-stage.field-0.0 c.in_err-stage.ensures.fault (λ is.
     let below = c.in_err-stage.ensures.too_long.1 (ap Err is) in
     omega (arith, below)))
+
+pub returns-in_err-stage-clause-plates : goal.returns-in_err-stage-clause-plates
+returns-in_err-stage-clause-plates g c =
+    let failed = err_from_is_err_and c.from_residual.result c.from_residual.ensures.1 in
+    rw (failed.1, failed.2) (λ concerns. absurd (unasked-stage c.in_err-stage.field-0.0 c.in_err-stage.ensures.fault concerns))
 
 pub returns-clause-begun : goal.returns-clause-begun
 returns-clause-begun g c = unbegun-place _ _

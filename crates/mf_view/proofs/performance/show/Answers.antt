@@ -1,4 +1,4 @@
-use Rattle.mf_view.proofs.Begun.{begun-whole}
+use Rattle.mf_view.proofs.Begun.{asked-whole, begun-whole}
 use Rattle.mf_view.proofs.Drawn.{drawn-nothing, same-manner}
 use Rattle.mf_view.proofs.Shown.{drawn-both, shown-end, shown-whole, stands-after}
 use Rattle.mf_view.proofs.performance.show.Goals as goal
@@ -23,3 +23,8 @@ pub returns-clause-begun : goal.returns-clause-begun
 returns-clause-begun g c =
     begun-whole c.args.stage c.perform_beside-drawn.new.stage _ _ _ c.requires.limits c.requires.start c.perform_beside-drawn.result.performed c.conclude.result
     c.perform_beside-drawn.ensures.transcript c.perform_beside-drawn.ensures.begun c.conclude.ensures.script c.conclude.ensures.late
+
+pub returns-clause-plates : goal.returns-clause-plates
+returns-clause-plates g c =
+    asked-whole c.args.stage c.perform_beside-drawn.new.stage _ _ _ c.requires.limits c.requires.start c.perform_beside-drawn.result.performed c.conclude.result
+    c.perform_beside-drawn.ensures.plates c.perform_beside-drawn.ensures.begun c.conclude.ensures.script c.conclude.ensures.plates

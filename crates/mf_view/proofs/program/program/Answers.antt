@@ -11,7 +11,7 @@ returns-in-Err-clause-fault g c = λ _.
     let request = rw c.in-Show.is at c.in-Ok.ensures.value in
     let asked = c.in-Show.words in
     let may = may_end _ asked request c.in-Err.fault
-    (λ is. c.watch.ensures.too_small.1 (c.in-Err.is ∙ ap Err is)) (λ is. c.watch.ensures.no_characters (c.in-Err.is ∙ ap Err is)) in
+    (λ is. c.watch.ensures.too_small.1 (c.in-Err.is ∙ ap Err is)) (λ is. c.watch.ensures.no_characters (c.in-Err.is ∙ ap Err is)) c.in-Err.ensures.plates in
     reported-after _ asked request g.E.Write.contents c.args.errors.now c.watch.new.errors c.in-Err.fault _ _
     c.watch.ensures.quiet c.report-in-Err.ensures.status may c.report-in-Err.ensures.message
 

@@ -53,7 +53,7 @@ returns-in_err-perform_line-clause-begun g c =
     let bare = c.without_ending.ensures ∙ ap without_ending c.deref.ensures.value in
     rw (failed.1, failed.2) (under_way-cut c.args.self.now c.lines.self c.perform_line.new.self (g.B.Read.remaining c.args.script.now)
     (g.B.Read.remaining c.lines.script) (g.B.Read.remaining c.next_line.new.script) (g.W.Write.contents c.args.transcript.now) held holds
-    c.in-Some.line.items fault limits_are under_way (rw c.in-Some.is at c.in_ok-line.ensures.whole) (rw c.in-Some.is at c.in_ok-line.ensures.line)
+    c.in-Some.line.items fault limits_are plates_are under_way (rw c.in-Some.is at c.in_ok-line.ensures.whole) (rw c.in-Some.is at c.in_ok-line.ensures.line)
     (subst (λ l. BreaksLines c.lines.self (l ∷ []) fault c.perform_line.new.self held holds) bare c.in_err-perform_line.ensures.begun))
 
 pub returns-clause-begun : goal.returns-clause-begun
