@@ -60,7 +60,7 @@ pub fn finish(file: GfFile, font: FontWords) -> Result<Option<GfBytes>, ProgramF
 /// Writes a font file, and replaces what was there. Refused with `NoCharacters` where there is none, and with `WriteFault` where
 /// it cannot be created or not be written to its end.
 pub fn write_font<S: Files>(rt: &S, path: &str, file: Option<GfBytes>) -> Result<(), ProgramFault>
-    ensures none { file ≡ None → result ≡ Err ProgramFault.NoCharacters }
+    ensures none { file ≡ None ↔ (result ≡ Err ProgramFault.NoCharacters) }
     ensures fault { IfSome file (λ _. IfErr result (λ fault. fault ≡ ProgramFault.WriteFault)) }
 {
     let Some(file) = file else {

@@ -2,7 +2,7 @@
 ghost use Rattle.std.specs.Io.KnownBytes.{Appends};
 ghost use Rattle.std.specs.Prelude.{◌≡◌, ◌++◌, ◌⊎◌, ◌↔◌, Err, IfErr, IfOk, IsOk, IsSome, None, OnOk, codes, decimal, map, option_map, string_bytes};
 ghost use Rattle.mf_base.specs.Messages.{GetsMessage};
-ghost use Rattle.mf_view.specs.Endings.{AsksForText, EndsWell, IsShownInto, IsWatched, size_in, style_in};
+ghost use Rattle.mf_view.specs.Endings.{AsksForText, EndsWell, IsShownInto, IsWatched, ShipsNothing, size_in, style_in};
 ghost use Rattle.mf_view.specs.Faults.{ConcernsPlate, IsOfSides, LacksRoom, ReportsFault};
 ghost use Rattle.mf_frame.specs.Canvases.{IsLargeEnough};
 ghost use Rattle.mf_view.specs.Messages.{message_of, usage};
@@ -104,6 +104,8 @@ fn watch<S: Wait + Threads + Files + Clock + Sync, R: Read, W: Write + Send, E: 
     ensures too_small { (IsLargeEnough words.columns words.rows → ⊥) ↔ (result ≡ Err ProgramFault.TooSmall) }
     ensures untouched { result ≡ Err ProgramFault.TooSmall → (reader.new ≡ reader.old) × (screen.new ≡ screen.old) }
     ensures no_characters { result ≡ Err ProgramFault.NoCharacters → IsSome words.gf }
+    ensures none { result ≡ Err ProgramFault.NoCharacters
+        → ShipsNothing words (streams_of R.remaining reader.old W.contents screen.old screen.new E.contents errors.old errors.new) }
     ensures plates { IfErr result (λ fault. ConcernsPlate fault → IsSome words.plates) }
 {
     let Words {

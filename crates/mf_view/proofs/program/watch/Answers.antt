@@ -2,7 +2,7 @@ use Rattle.std.proofs.Common.{[], is_some, ap, sym, option_map, string_bytes, �
 use Rattle.std.proofs.lemmas.Bool.{false≢true}
 use Rattle.mf_gf.specs.Files.{file_if_any}
 use Rattle.mf_view.specs.Performances.{streams_of}
-use Rattle.mf_view.proofs.FontsAsked.{on-ok-from}
+use Rattle.mf_view.proofs.FontsAsked.{no-file, on-ok-from}
 use Rattle.mf_view.proofs.Shown.{shown-as}
 use Rattle.mf_view.proofs.program.watch.Goals as goal
 
@@ -16,10 +16,21 @@ returns-in-Some-clause-done g c =
       shown = shown-as (option_map string_bytes c.args.words.transcript) _ _ _ _ s c.in_ok-file.file c.in_ok-showing.ensures.asked c.in_ok-file.ensures.done;
       font = record {
         some = λ characters keeps asked none.
-            ok _ (c.write_font.ensures.none (c.in_ok-bytes.ensures.some characters keeps ∙ ap (file_if_any c.font_words.result []) none));
+            ok _ (c.write_font.ensures.none.0 (c.in_ok-bytes.ensures.some characters keeps ∙ ap (file_if_any c.font_words.result []) none));
         fits = λ characters keeps long. let refused = (c.in_ok-bytes.ensures.too_long characters keeps).0 (rw c.font_words.ensures long) in cc;
       };
     })
+
+pub returns-in-Some-clause-none : goal.returns-in-Some-clause-none
+returns-in-Some-clause-none g c = λ same.
+    let s =
+    streams_of g.R.Read.remaining c.args.reader.now g.W.Write.contents c.args.screen.now c.perform_into.new.screen
+    g.E.Write.contents c.args.errors.now c.perform_into.new.errors in record {
+      file = c.in_ok-file.file;
+      shown = shown-as (option_map string_bytes c.args.words.transcript) _ _ _ _ s c.in_ok-file.file c.in_ok-showing.ensures.asked c.in_ok-file.ensures.done;
+      none = λ characters keeps.
+          no-file c.font_words.result characters (sym (c.in_ok-bytes.ensures.some characters keeps) ∙ c.write_font.ensures.none.1 same);
+    }
 
 pub returns-in-None-clause-done : goal.returns-in-None-clause-done
 returns-in-None-clause-done g c =
