@@ -9,7 +9,9 @@ use Rattle.mf_stage.specs.declared.fault.StageFault.TheVariants as stages
 use Rattle.mf_frame.specs.Canvases.{IsLargeEnough}
 use Rattle.mf_view.specs.declared.fault.ProgramFault.{ProgramFault}
 use Rattle.mf_view.specs.declared.fault.ProgramFault.TheVariants as faults
+use Rattle.mf_view.specs.Endings.{ShipsNothing}
 use Rattle.mf_view.specs.Messages.{message_of}
+use Rattle.mf_view.specs.Performances.{Streams}
 use Rattle.mf_view.specs.Statuses.{status_of}
 use Rattle.mf_view_words.specs.Requests.{IsRequest}
 use Rattle.mf_view_words.specs.declared.words.Request.TheVariants.{Show}
@@ -54,11 +56,12 @@ pub record LacksRoom (words : List Text) : Type 0 where
   pub request : IsRequest words (Show asked)
   pub small : IsLargeEnough asked.columns asked.rows → ⊥
 
--- these words ask for a font file
-pub record AsksForFont (words : List Text) : Type 0 where
+-- these words ask for a font file, and their script was performed and shown and has shipped no character
+pub record LacksFont (words : List Text) (s : Streams) : Type 0 where
   pub asked : Words
   pub request : IsRequest words (Show asked)
   pub some : IsSome asked.gf
+  pub nothing : ShipsNothing asked s
 
 -- these words ask for plates
 pub record AsksForPlates (words : List Text) : Type 0 where
@@ -66,14 +69,15 @@ pub record AsksForPlates (words : List Text) : Type 0 where
   pub request : IsRequest words (Show asked)
   pub some : IsSome asked.plates
 
--- a run with these words can end with this fault: with `TooSmall` only where they lack room, with `NoCharacters` only where they ask
--- for a font file, and with a fault of a plate only where they ask for plates
-abbrev pub MayEnd : List Text → ProgramFault → Type 0
-MayEnd words faults.TooSmall = LacksRoom words
-MayEnd words faults.NoCharacters = AsksForFont words
-MayEnd words (faults.ImageTooLarge revision) = AsksForPlates words
-MayEnd words (faults.PlateFault revision) = AsksForPlates words
-MayEnd words _ = Unit {0}
+-- a run with these words and streams, before its message, can end with this fault: with `TooSmall` only where the words lack room, with
+-- `NoCharacters` only where they ask for a font file and no character was shipped, and with a fault of a plate only where they ask for
+-- plates
+abbrev pub MayEnd : List Text → Streams → ProgramFault → Type 0
+MayEnd words s faults.TooSmall = LacksRoom words
+MayEnd words s faults.NoCharacters = LacksFont words s
+MayEnd words s (faults.ImageTooLarge revision) = AsksForPlates words
+MayEnd words s (faults.PlateFault revision) = AsksForPlates words
+MayEnd words s _ = Unit {0}
 
 -- these words ask for a script to be performed with its transcript in the stream of messages
 pub record TellsTranscript (words : List Text) : Type 0 where
@@ -81,10 +85,12 @@ pub record TellsTranscript (words : List Text) : Type 0 where
   pub request : IsRequest words (Show asked)
   pub nowhere_else : asked.transcript ≡ None
 
--- with these words the program ended with some fault, which has this status; the stream of messages, which held some bytes, has got
--- its message and nothing else, unless they ask for the transcript there
-pub record ReportsFault (words : List Text) (status : ℕ) (held holds : Option (List ℕ)) : Type 0 where
+-- with these words the program ended with some fault, which has this status; the stream of messages, whose bytes are those of the
+-- transcript here, has got its message last, and nothing before that, unless they ask for the transcript there
+pub record ReportsFault (words : List Text) (status : ℕ) (s : Streams) : Type 0 where
   pub fault : ProgramFault
   pub status_is : status_of fault ≡ status
-  pub may : MayEnd words fault
-  pub told : TellsTranscript words ⊎ GetsMessage held holds (message_of fault)
+  pub between : Option (List ℕ)
+  pub may : MayEnd words (record s { tells = between }) fault
+  pub message : GetsMessage between s.tells (message_of fault)
+  pub quiet : TellsTranscript words ⊎ (between ≡ s.told)

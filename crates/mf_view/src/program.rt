@@ -67,7 +67,8 @@ pub fn program<S: Wait + Threads + Files + Clock + Sync, R: Read, W: Write + Sen
     ensures done { result ≡ DONE → EndsWell (map string_bytes words.items)
         (streams_of R.remaining reader.old W.contents screen.old screen.new E.contents errors.old errors.new) }
     ensures fault { (result ≡ STREAM_FAULT) ⊎ (result ≡ WANTING) ⊎ (result ≡ TOO_SMALL)
-        → ReportsFault (map string_bytes words.items) result (E.contents errors.old) (E.contents errors.new) }
+        → ReportsFault (map string_bytes words.items) result
+        (streams_of R.remaining reader.old W.contents screen.old screen.new E.contents errors.old errors.new) }
     ensures text_alone { AsksForText (map string_bytes words.items) → reader.new ≡ reader.old }
     ensures too_small { IsCommandLine (map string_bytes words.items) → LacksRoom (map string_bytes words.items)
         → (result ≡ TOO_SMALL) ⊎ (result ≡ WANTING) }
