@@ -4,7 +4,7 @@ use Rattle.std.specs.Prelude.{IsSome}
 use Rattle.clap.specs.Words.{Text}
 use Rattle.mf_base.specs.Messages.{GetsMessage}
 use Rattle.mf_frame.specs.Canvases.{IsLargeEnough}
-use Rattle.mf_view.specs.Faults.{ConcernsPlate, LacksRoom, MayEnd, ReportsFault}
+use Rattle.mf_view.specs.Faults.{ConcernsPlate, IsToldBefore, LacksRoom, MayEnd, ReportsFault}
 use Rattle.mf_view.specs.Endings.{ShipsNothing}
 use Rattle.mf_view.specs.Messages.{message_of}
 use Rattle.mf_view.specs.Performances.{Streams}
@@ -45,15 +45,16 @@ module _ (words : List Text) (asked : Words) (request : IsRequest words (Show as
 
   -- a fault of a script that was reported, after the transcript if that goes to the same stream
   pub reported-after : {E : Type 0} (contents : E → Option (List ℕ)) (before then : E) (fault : ProgramFault) (status : ℕ) (s : Streams)
-      → s.told ≡ contents before → (asked.transcript ≡ None) ⊎ (then ≡ before) → status ≡ status_of fault
+      → s.told ≡ contents before → (asked.transcript ≡ None) ⊎ (then ≡ before)
+      → (asked.transcript ≡ None → IsToldBefore asked (record s { tells = contents then }) fault) → status ≡ status_of fault
       → MayEnd words (record s { tells = contents then }) fault → GetsMessage (contents then) s.tells (message_of fault) → ReportsFault words status s
-  reported-after contents before then fault status s held where_told is may message = record {
+  reported-after contents before then fault status s held where_told begun is may message = record {
     fault = fault;
     status_is = sym is;
     between = contents then;
     may = may;
     message = message;
-    quiet = ⊎_elim (λ nowhere_else. inl (record { asked = asked; request = request; nowhere_else = nowhere_else }))
+    quiet = ⊎_elim (λ nowhere_else. inl (record { asked = asked; request = request; nowhere_else = nowhere_else; before = begun nowhere_else }))
         (λ same. inr (ap contents same ∙ sym held)) where_told;
   }
 

@@ -44,6 +44,11 @@ pub record IsWatched (words : Words) (s : Streams) : Type 0 where
   pub shown : IsShownInto (option_map string_bytes words.transcript) (style_in words.frames) (size_in words.columns words.rows) s file
   pub font : HasFont words file
 
+-- the script was performed and shown as the words ask for it
+pub record IsPerformed (words : Words) (s : Streams) : Type 0 where
+  pub file : GfFile
+  pub shown : IsShownInto (option_map string_bytes words.transcript) (style_in words.frames) (size_in words.columns words.rows) s file
+
 -- the script was performed and shown as the words ask for it, and it has shipped no character
 pub record ShipsNothing (words : Words) (s : Streams) : Type 0 where
   pub file : GfFile

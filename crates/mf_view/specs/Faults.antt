@@ -9,7 +9,8 @@ use Rattle.mf_stage.specs.declared.fault.StageFault.TheVariants as stages
 use Rattle.mf_frame.specs.Canvases.{IsLargeEnough}
 use Rattle.mf_view.specs.declared.fault.ProgramFault.{ProgramFault}
 use Rattle.mf_view.specs.declared.fault.ProgramFault.TheVariants as faults
-use Rattle.mf_view.specs.Endings.{ShipsNothing}
+use Rattle.mf_view.specs.Begun.{HasBegun}
+use Rattle.mf_view.specs.Endings.{IsPerformed, ShipsNothing}
 use Rattle.mf_view.specs.Messages.{message_of}
 use Rattle.mf_view.specs.Performances.{Streams}
 use Rattle.mf_view.specs.Statuses.{status_of}
@@ -79,11 +80,18 @@ MayEnd words s (faults.ImageTooLarge revision) = AsksForPlates words
 MayEnd words s (faults.PlateFault revision) = AsksForPlates words
 MayEnd words s _ = Unit {0}
 
--- these words ask for a script to be performed with its transcript in the stream of messages
-pub record TellsTranscript (words : List Text) : Type 0 where
+-- what is told of a script, asked for with these words, whose run ends with this fault: nothing after `TooSmall`, what a performance with
+-- this fault has told, or, where the fault came after the performance, all of it
+abbrev pub IsToldBefore : Words → Streams → ProgramFault → Type 0
+IsToldBefore asked s fault =
+    ((fault ≡ faults.TooSmall) × (s.tells ≡ s.told)) ⊎ (HasBegun s.unread s.told s.tells fault ⊎ IsPerformed asked s)
+
+-- these words ask for a script to be performed with its transcript in the stream of messages, which has got what the fault says
+pub record TellsTranscript (words : List Text) (s : Streams) (fault : ProgramFault) : Type 0 where
   pub asked : Words
   pub request : IsRequest words (Show asked)
   pub nowhere_else : asked.transcript ≡ None
+  pub before : IsToldBefore asked s fault
 
 -- with these words the program ended with some fault, which has this status; the stream of messages, whose bytes are those of the
 -- transcript here, has got its message last, and nothing before that, unless they ask for the transcript there
@@ -93,4 +101,4 @@ pub record ReportsFault (words : List Text) (status : ℕ) (s : Streams) : Type 
   pub between : Option (List ℕ)
   pub may : MayEnd words (record s { tells = between }) fault
   pub message : GetsMessage between s.tells (message_of fault)
-  pub quiet : TellsTranscript words ⊎ (between ≡ s.told)
+  pub quiet : TellsTranscript words (record s { tells = between }) fault ⊎ (between ≡ s.told)

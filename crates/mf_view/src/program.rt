@@ -2,8 +2,9 @@
 ghost use Rattle.std.specs.Io.KnownBytes.{Appends};
 ghost use Rattle.std.specs.Prelude.{◌≡◌, ◌++◌, ◌⊎◌, ◌↔◌, Err, IfErr, IfOk, IsOk, IsSome, None, OnOk, codes, decimal, map, option_map, string_bytes};
 ghost use Rattle.mf_base.specs.Messages.{GetsMessage};
+ghost use Rattle.mf_view.specs.Begun.{HasBegun};
 ghost use Rattle.mf_view.specs.Endings.{AsksForText, EndsWell, IsShownInto, IsWatched, ShipsNothing, size_in, style_in};
-ghost use Rattle.mf_view.specs.Faults.{ConcernsPlate, IsOfSides, LacksRoom, ReportsFault};
+ghost use Rattle.mf_view.specs.Faults.{ConcernsPlate, IsOfSides, IsToldBefore, LacksRoom, ReportsFault};
 ghost use Rattle.mf_frame.specs.Canvases.{IsLargeEnough};
 ghost use Rattle.mf_view.specs.Messages.{message_of, usage};
 ghost use Rattle.mf_view.specs.Performances.{streams_of};
@@ -108,6 +109,8 @@ fn watch<S: Wait + Threads + Files + Clock + Sync, R: Read, W: Write + Send, E: 
     ensures none { result ≡ Err ProgramFault.NoCharacters
         → ShipsNothing words (streams_of R.remaining reader.old W.contents screen.old screen.new E.contents errors.old errors.new) }
     ensures plates { IfErr result (λ fault. ConcernsPlate fault → IsSome words.plates) }
+    ensures told { IfErr result (λ fault. words.transcript ≡ None → IsToldBefore words
+        (streams_of R.remaining reader.old W.contents screen.old screen.new E.contents errors.old errors.new) fault) }
 {
     let Words {
         columns,
@@ -181,6 +184,7 @@ fn perform_into<
         (streams_of R.remaining reader.old W.contents screen.old screen.new E.contents errors.old errors.new)) }
     ensures quiet { (transcript ≡ None) ⊎ (errors.new ≡ errors.old) }
     ensures plates { IfErr result (λ fault. ConcernsPlate fault → IsSome showing.plates) }
+    ensures begun { transcript ≡ None → IfErr result (HasBegun (R.remaining reader.old) (E.contents errors.old) (E.contents errors.new)) }
     ensures fault { IfErr result (λ fault. IsOfSides fault ⊎ (fault ≡ ProgramFault.NoPlace)) }
 {
     let Some(path) = transcript else {

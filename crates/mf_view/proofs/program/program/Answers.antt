@@ -18,7 +18,7 @@ returns-in-Err-clause-fault g c = λ _.
     (λ is. c.watch.ensures.too_small.1 (c.in-Err.is ∙ ap Err is))
     (λ is. (c.watch.ensures.no_characters (c.in-Err.is ∙ ap Err is), c.watch.ensures.none (c.in-Err.is ∙ ap Err is))) c.in-Err.ensures.plates in
     reported-after _ asked request g.E.Write.contents c.args.errors.now c.watch.new.errors c.in-Err.fault _ _ refl
-    c.watch.ensures.quiet c.report-in-Err.ensures.status may c.report-in-Err.ensures.message
+    c.watch.ensures.quiet c.in-Err.ensures.told c.report-in-Err.ensures.status may c.report-in-Err.ensures.message
 
 pub returns-in-Help-clause-fault : goal.returns-in-Help-clause-fault
 returns-in-Help-clause-fault g c = λ bad. answered _ _ _ c.answer.ensures.statuses bad c.answer.ensures.fault

@@ -1,8 +1,8 @@
-use Rattle.std.proofs.Common.{[], is_some, ap, sym, option_map, string_bytes, ◌∙◌}
+use Rattle.std.proofs.Common.{[], inr, is_some, ap, sym, option_map, string_bytes, ◌∙◌}
 use Rattle.std.proofs.lemmas.Bool.{false≢true}
 use Rattle.mf_gf.specs.Files.{file_if_any}
 use Rattle.mf_view.specs.Performances.{streams_of}
-use Rattle.mf_view.proofs.FontsAsked.{no-file, on-ok-from}
+use Rattle.mf_view.proofs.FontsAsked.{no-file, of-each-fault, on-ok-from}
 use Rattle.mf_view.proofs.Shown.{shown-as}
 use Rattle.mf_view.proofs.program.watch.Goals as goal
 
@@ -31,6 +31,26 @@ returns-in-Some-clause-none g c = λ same.
       none = λ characters keeps.
           no-file c.font_words.result characters (sym (c.in_ok-bytes.ensures.some characters keeps) ∙ c.write_font.ensures.none.1 same);
     }
+
+pub returns-in_err-bytes-clause-told : goal.returns-in_err-bytes-clause-told
+returns-in_err-bytes-clause-told g c =
+    let s =
+    streams_of g.R.Read.remaining c.args.reader.now g.W.Write.contents c.args.screen.now c.perform_into.new.screen
+    g.E.Write.contents c.args.errors.now c.perform_into.new.errors in
+    of-each-fault c.from_residual-in_err-bytes.result _ (λ fault nowhere_else. inr (inr (record {
+      file = c.in_ok-file.file;
+      shown = shown-as (option_map string_bytes c.args.words.transcript) _ _ _ _ s c.in_ok-file.file c.in_ok-showing.ensures.asked c.in_ok-file.ensures.done;
+    })))
+
+pub returns-in-Some-clause-told : goal.returns-in-Some-clause-told
+returns-in-Some-clause-told g c =
+    let s =
+    streams_of g.R.Read.remaining c.args.reader.now g.W.Write.contents c.args.screen.now c.perform_into.new.screen
+    g.E.Write.contents c.args.errors.now c.perform_into.new.errors in
+    of-each-fault c.write_font.result _ (λ fault nowhere_else. inr (inr (record {
+      file = c.in_ok-file.file;
+      shown = shown-as (option_map string_bytes c.args.words.transcript) _ _ _ _ s c.in_ok-file.file c.in_ok-showing.ensures.asked c.in_ok-file.ensures.done;
+    })))
 
 pub returns-in-None-clause-done : goal.returns-in-None-clause-done
 returns-in-None-clause-done g c =
