@@ -61,8 +61,6 @@ PASS = 3 * 4 * ROWS
 # The edges of a row of a comb. With 128 teeth, those of all rows are ten times a pass.
 TEETH = 128
 COMB = 2 * TEETH * EDGE
-# The room of a list that a long row has for itself is rounded up by at most 127 edges.
-ROUNDING = 127 * EDGE
 # With 30 teeth and a pole, a row has 62 edges, few enough for the list of its band. A band that is made anew first has room for those of
 # each of its rows, and gives back what rows with equal edges do not need.
 FEW = 30
@@ -123,15 +121,14 @@ def cases():
     yield Case("a publish", live, "publish\n", {"currentpicture": of_tall}, LISTS)
     line, shown = box("currentpicture", 1, 0, 5, 1), {"currentpicture": of_tall + 4}
     yield Case("a row of one band after a publish", live + "publish\n", line, shown, CONTOUR + 2 * BAND)
-    # Every row that is reached gets its own edges, with room that is rounded up. Half as much again is for the rest of the row, and for
-    # the line.
+    # Every row that is reached gets its own edges. Half as much again is for the rest of the row, and for the line.
     for about, bottom, top in [("a band", 4063, 4079), ("two bands", 4047, 4079), ("all rows", -4094, 4095)]:
         least = (top - bottom) * COMB
         line, shown = box("a", -9, bottom, -8, top), {"a": of_comb + top - bottom}
-        yield Case(f"edges of {about}", striped("a"), line, shown, least * 3 // 2 + (top - bottom) * ROUNDING, least)
+        yield Case(f"edges of {about}", striped("a"), line, shown, least * 3 // 2, least)
     # Only the row that is reached gets its own edges; the other rows of its band share theirs.
     line, shown = box("a", -9, 4070, -8, 4071), {"a": of_comb + 1}
-    yield Case("edges of one row", striped("a"), line, shown, CONTOUR + 2 * BAND + COMB * 3 // 2 + ROUNDING, COMB)
+    yield Case("edges of one row", striped("a"), line, shown, CONTOUR + 2 * BAND + COMB * 3 // 2, COMB)
     line, shown = box("a", -9, 4070, -8, 4071), {"a": (FEW + 1) * FIELD + FEW + 1}
     yield Case("a row of a band with one list", striped("a", FEW), line, shown, CONTOUR + 2 * BAND + SHORT)
     line, shown = "cull a keeping (1,3) withweight 2\n", {"a": 2 * of_comb}

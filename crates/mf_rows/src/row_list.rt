@@ -210,7 +210,6 @@ impl RowList {
             → IsUnlawfulInRow (weight_in_all (edge_row left.now ∷ []) (edge_row right.now ∷ [])) right.now.y) }
     {
         let mut edges = Vec::new(alloc);
-        edges.reserve(long_room(left.edges.len() + right.edges.len()))?;
         let reach = push_sum_of_both(&mut edges, left, right)?;
         if edges.is_empty() {
             return Ok(());
@@ -233,13 +232,6 @@ impl RowList {
             self.edges.shrink_to_fit();
         }
     }
-}
-
-/// The room of a list of its own for so many edges: one less than a multiple of 128, or of 32 where there are fewer than 256, so these
-/// lists have few sizes. An operation makes new lists, and then the old ones are freed. The next operation finds their rooms again, so
-/// less memory is split and joined.
-fn long_room(edges: usize) -> usize {
-    if edges < 256 { edges | 31 } else { edges | 127 }
 }
 
 /// Appends a head with this reach and place at each height from `top - 1` down to `bottom`.

@@ -15,15 +15,14 @@ use Rattle.mf_rows.proofs.row_list.RowList.push_long_sum.Goals as goal
 
 pub returns-in_err-reach-clause-too_large : goal.returns-in_err-reach-clause-too_large
 returns-in_err-reach-clause-too_large c =
-    let p = err_from_is_err_and c.from_residual-in_err-reach.result c.from_residual-in_err-reach.ensures.1 in
+    let p = err_from_is_err_and c.from_residual.result c.from_residual.ensures.1 in
     rw (p.1, p.2) (λ fault. unlawful_in_row c.args.right.now.y (edge_row c.args.left.now) (edge_row c.args.right.now)
     c.requires.left c.requires.right (c.in_err-reach.ensures.too_large fault))
 
 pub returns-then-is_empty-clause-pushed : goal.returns-then-is_empty-clause-pushed
 returns-then-is_empty-clause-pushed c =
     let sum = c.in_ok-reach.ensures.pushed.sum in
-    let empty = c.reserve.ensures.items ∙ c.new-edges.ensures.items in
-    let all : c.push_sum_of_both.new.edges.items ≡ sum.more = sum.all ∙ ap (λ (fs : List Edge). fs ++ sum.more) empty in
+    let all : c.push_sum_of_both.new.edges.items ≡ sum.more = sum.all ∙ ap (λ (fs : List Edge). fs ++ sum.more) c.new-edges.ensures.items in
     let none : sum.more ≡ [] =
     let len : vec_len c.push_sum_of_both.new.edges ≡ 0 = eqb-true (vec_len c.push_sum_of_both.new.edges) 0 (sym c.is_empty.ensures ∙ c.if-is_empty.true) in
     sym all ∙ nil_from_length _ (omega (arith, len)) in
@@ -34,8 +33,7 @@ pub invariant_of-self-2 : goal.invariant_of-self-2
 invariant_of-self-2 c =
     let pushed = c.in_ok-reach.ensures.pushed in
     let sum = pushed.sum in
-    let empty = c.reserve.ensures.items ∙ c.new-edges.ensures.items in
-    let all : c.push_sum_of_both.new.edges.items ≡ sum.more = sum.all ∙ ap (λ (fs : List Edge). fs ++ sum.more) empty in
+    let all : c.push_sum_of_both.new.edges.items ≡ sum.more = sum.all ∙ ap (λ (fs : List Edge). fs ++ sum.more) c.new-edges.ensures.items in
     let own : (arc_value c.in_ok-new.field-0).items ≡ sum.more = ap (λ v. v.items) c.in_ok-new.ensures.ok ∙ c.give_back_room.ensures.items ∙ all in
     let es = c.self.inside.edges.items in
     rw c.in_ok-push.ensures.items (heads_push es es (nothing_more es) _ c.self.invariant _ sum.more (place_of_own es _ _ own) pushed.reached)
@@ -44,8 +42,7 @@ pub returns-clause-pushed : goal.returns-clause-pushed
 returns-clause-pushed c =
     let pushed = c.in_ok-reach.ensures.pushed in
     let sum = pushed.sum in
-    let empty = c.reserve.ensures.items ∙ c.new-edges.ensures.items in
-    let all : c.push_sum_of_both.new.edges.items ≡ sum.more = sum.all ∙ ap (λ (fs : List Edge). fs ++ sum.more) empty in
+    let all : c.push_sum_of_both.new.edges.items ≡ sum.more = sum.all ∙ ap (λ (fs : List Edge). fs ++ sum.more) c.new-edges.ensures.items in
     let own : (arc_value c.in_ok-new.field-0).items ≡ sum.more = ap (λ v. v.items) c.in_ok-new.ensures.ok ∙ c.give_back_room.ensures.items ∙ all in
     let some : sum.more ≢ [] = λ none.
     let long : length c.push_sum_of_both.new.edges.items ≡ 0 = ap (λ (fs : List Edge). length fs) (all ∙ none) in
