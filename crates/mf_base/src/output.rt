@@ -1,7 +1,7 @@
 //! Writing that counts how many bytes a writer took before it failed, and of texts that may be lost.
 ghost use Rattle.std.specs.Io.KnownBytes.{Appends};
-ghost use Rattle.std.specs.Prelude.{◌≡◌, ◌<◌, IfErr, OnOk, length, take, true};
-ghost use Rattle.mf_base.specs.Messages.{GetsMessage};
+ghost use Rattle.std.specs.Prelude.{◌≡◌, ◌<◌, IfErr, OnOk, length, take, true, false};
+ghost use Rattle.mf_base.specs.Messages.{GetsMessage, GetsPart};
 
 use std::io::Write;
 
@@ -22,9 +22,23 @@ pub fn write_counted<W: Write>(writer: &mut W, bytes: &[u8]) -> Result<(), usize
     Ok(())
 }
 
-/// Writes a text, such as a message or a piece of one, as far as the writer takes it. Whether it took all.
+/// Writes all these bytes, in as many writes as the writer needs, and flushes. Whether both succeeded: where the flush fails, all
+/// bytes were written.
+pub fn write_and_flush<W: Write>(writer: &mut W, bytes: &[u8]) -> bool
+    ensures all { result ≡ true → Appends (W.contents writer.old) (W.contents writer.new) bytes.now }
+    ensures front { GetsMessage (W.contents writer.old) (W.contents writer.new) bytes.now }
+{
+    if write_counted(writer, bytes).is_err() {
+        return false;
+    }
+    writer.flush().is_ok()
+}
+
+/// Writes a text, such as a message or a piece of one, as far as the writer takes it. Whether it took all; where it did not, it took
+/// fewer bytes.
 pub fn write_text<W: Write>(writer: &mut W, text: &str) -> bool
     ensures all { result ≡ true → Appends (W.contents writer.old) (W.contents writer.new) text.now }
+    ensures part { result ≡ false → GetsPart (W.contents writer.old) (W.contents writer.new) text.now }
     ensures front { GetsMessage (W.contents writer.old) (W.contents writer.new) text.now }
 {
     write_counted(writer, text.as_bytes()).is_ok()
