@@ -9,10 +9,10 @@ use Rattle.mf_edges.specs.declared.row_change.RowChange.TheVariants.{Mirror, Col
 use Rattle.mf_edges.specs.declared.stretch.Stretch.{Stretch}
 use Rattle.mf_edges.specs.LawfulWeights.{IsLawfulWeight}
 use Rattle.mf_edges.specs.Edges.{weight_in, IsEdge, AreEdgesFrom, AreEdges}
-use Rattle.mf_edges.specs.Axes.{opposite, stretched_to, source_of, IsStretch}
-use Rattle.mf_edges.specs.RowChanges.{changed_in, AreChanged}
+use Rattle.mf_edges.specs.Axes.{opposite, target_of, source_of, IsStretch}
+use Rattle.mf_edges.specs.RowChanges.{image_in, AreChanged}
 use Rattle.mf_edges.proofs.EdgesLemmas.{weight_in-left, weight_in-right, weight_in-before, weight_in-append, edges_from-append}
-use Rattle.mf_edges.proofs.Sources.{stretched_to-lt, source_of-reached, source_of-from}
+use Rattle.mf_edges.proofs.Sources.{target_of-lt, source_of-reached, source_of-from}
 
 -- ---- an edge among others
 
@@ -128,7 +128,7 @@ module _ (es before left : List Edge) (e : Edge) (new : List Edge) (last : left 
 
 -- the edges of a row have a sum of 0, so a column of the images has the weight of the opposite column of the row
 mirrored_of : (es : List Edge) → AreEdges es → AreChanged Mirror es (all_flipped es)
-unfolding changed_in
+unfolding image_in
 mirrored_of es row =
     let weights : (x : ℤ) → weight_in (all_flipped es) x ≡ weight_in es (opposite x) =
     λ x. let sum = flipped-weights least_coordinate es x row.sorted in omega (arith, ints, row.closed) in
@@ -148,14 +148,14 @@ flipped_all es (e ∷ left) new row none so_far = absurd (omega arith)
 -- ---- columns that are stretched
 
 abbrev pub stretched_edge : Stretch → Edge → Edge
-stretched_edge s e = record { x = stretched_to s e.x; weight = e.weight }
+stretched_edge s e = record { x = target_of s e.x; weight = e.weight }
 
 stretched-weights : (s : Stretch) (es : List Edge) (x : ℤ) → IsStretch s → weight_in (map (stretched_edge s) es) x ≡ weight_in es (source_of s x)
 unfolding weight_in
 stretched-weights s [] x stretch = refl
 stretched-weights s (e ∷ es) x stretch =
     let others = stretched-weights s es x stretch in
-    by_lt_z x (stretched_to s e.x)
+    by_lt_z x (target_of s e.x)
     (λ right.
     let own_right : source_of s x <ℤ e.x =
     by_lt_z (source_of s x) e.x (λ lt. lt) (λ le. let reached = source_of-reached s e.x x stretch le in absurd (omega (arith, ints))) in
@@ -166,32 +166,32 @@ stretched-weights s (e ∷ es) x stretch =
 
 -- the points at or to the right of a column are, when stretched, at or to the right of another
 stretched-sorted : (s : Stretch) (low new : ℤ) (es : List Edge) → IsStretch s
-    → ((x : ℤ) → low ≤ℤ x → IsCoordinate (stretched_to s x) → new ≤ℤ stretched_to s x) → AreEdgesFrom low es
-    → All (λ e. IsCoordinate (stretched_to s e.x)) es → AreEdgesFrom new (map (stretched_edge s) es)
+    → ((x : ℤ) → low ≤ℤ x → IsCoordinate (target_of s x) → new ≤ℤ target_of s x) → AreEdgesFrom low es
+    → All (λ e. IsCoordinate (target_of s e.x)) es → AreEdgesFrom new (map (stretched_edge s) es)
 stretched-sorted s low new [] stretch right edges inside = tt
 stretched-sorted s low new (e ∷ es) stretch right edges inside =
-    let reach = All-head (λ e. IsCoordinate (stretched_to s e.x)) e es inside in (
+    let reach = All-head (λ e. IsCoordinate (target_of s e.x)) e es inside in (
       record { left = reach.least; right = reach.greatest; nonzero = edges.0.nonzero },
       right e.x edges.1 reach,
-      stretched-sorted s (e.x +ℤ pos 1) (stretched_to s e.x +ℤ pos 1) es stretch
-          (λ x behind reached. let after = stretched_to-lt s e.x x stretch (omega (arith, ints)) in omega (arith, ints))
-          edges.2 (All-tail (λ e. IsCoordinate (stretched_to s e.x)) e es inside),
+      stretched-sorted s (e.x +ℤ pos 1) (target_of s e.x +ℤ pos 1) es stretch
+          (λ x behind reached. let after = target_of-lt s e.x x stretch (omega (arith, ints)) in omega (arith, ints))
+          edges.2 (All-tail (λ e. IsCoordinate (target_of s e.x)) e es inside),
     )
 
 -- to the right of the field both rows have the sum of all their edges
 stretched-closed : (s : Stretch) (low : ℤ) (es : List Edge) → AreEdgesFrom low es
-    → All (λ e. IsCoordinate (stretched_to s e.x)) es → weight_in (map (stretched_edge s) es) greatest_coordinate ≡ weight_in es greatest_coordinate
+    → All (λ e. IsCoordinate (target_of s e.x)) es → weight_in (map (stretched_edge s) es) greatest_coordinate ≡ weight_in es greatest_coordinate
 unfolding weight_in
 stretched-closed s low [] edges inside = refl
 stretched-closed s low (e ∷ es) edges inside =
-    let reach = All-head (λ e. IsCoordinate (stretched_to s e.x)) e es inside in
+    let reach = All-head (λ e. IsCoordinate (target_of s e.x)) e es inside in
     weight_in-left (stretched_edge s e) (map (stretched_edge s) es) greatest_coordinate reach.greatest
-    ∙ (ap (λ w. e.weight +ℤ w) (stretched-closed s (e.x +ℤ pos 1) es edges.2 (All-tail (λ e. IsCoordinate (stretched_to s e.x)) e es inside))
+    ∙ (ap (λ w. e.weight +ℤ w) (stretched-closed s (e.x +ℤ pos 1) es edges.2 (All-tail (λ e. IsCoordinate (target_of s e.x)) e es inside))
     ∙ sym (weight_in-left e es greatest_coordinate edges.0.right))
 
 pub stretched_of : (s : Stretch) (es : List Edge) → AreEdges es → IsStretch s
-    → All (λ e. IsCoordinate (stretched_to s e.x)) es → AreChanged (Columns s) es (map (stretched_edge s) es)
-unfolding changed_in
+    → All (λ e. IsCoordinate (target_of s e.x)) es → AreChanged (Columns s) es (map (stretched_edge s) es)
+unfolding image_in
 stretched_of s es row stretch inside = record {
   edges = record {
     sorted = stretched-sorted s least_coordinate least_coordinate es stretch (λ x right reach. reach.least) row.sorted inside;
@@ -227,9 +227,9 @@ module _ (s : Stretch) (e : Edge) (stretch : IsStretch s) (edge : IsEdge e) wher
   pub product_fits : FitsSigned w32 (to_z w32 (of_z w32 e.x) *ℤ to_z w32 (of_z w32 s.factor))
   product_fits = rw (x_is, factor_is) (fits_signed_from_abs w32 (e.x *ℤ s.factor) (omega (arith, product_size)))
 
-  module _ (reach : IsCoordinate (stretched_to s e.x)) where
+  module _ (reach : IsCoordinate (target_of s e.x)) where
     -- the product is small, and so is the sum, so the offset is small, too
-    sum_is : to_z w32 (of_z w32 (to_z w32 (of_z w32 e.x) *ℤ to_z w32 (of_z w32 s.factor))) +ℤ to_z w32 (of_z w32 s.offset) ≡ stretched_to s e.x
+    sum_is : to_z w32 (of_z w32 (to_z w32 (of_z w32 e.x) *ℤ to_z w32 (of_z w32 s.factor))) +ℤ to_z w32 (of_z w32 s.offset) ≡ target_of s e.x
     sum_is =
         let product_is : to_z w32 (of_z w32 (e.x *ℤ s.factor)) ≡ e.x *ℤ s.factor =
         to_z-of_z w32 _ (fits_signed_from_abs w32 (e.x *ℤ s.factor) (omega (arith, product_size))) in
@@ -237,8 +237,8 @@ module _ (s : Stretch) (e : Edge) (stretch : IsStretch s) (edge : IsEdge e) wher
         rw (x_is, factor_is, product_is, offset_is) refl
 
     pub sum_fits : FitsSigned w32 (to_z w32 (of_z w32 (to_z w32 (of_z w32 e.x) *ℤ to_z w32 (of_z w32 s.factor))) +ℤ to_z w32 (of_z w32 s.offset))
-    sum_fits = rw sum_is (reach_fits (stretched_to s e.x) reach)
+    sum_fits = rw sum_is (reach_fits (target_of s e.x) reach)
 
     pub point_is : to_z w32 (of_z w32 (to_z w32 (of_z w32 (to_z w32 (of_z w32 e.x) *ℤ to_z w32 (of_z w32 s.factor))) +ℤ to_z w32 (of_z w32 s.offset)))
-        ≡ stretched_to s e.x
-    point_is = rw sum_is (to_z-of_z w32 (stretched_to s e.x) (reach_fits (stretched_to s e.x) reach))
+        ≡ target_of s e.x
+    point_is = rw sum_is (to_z-of_z w32 (target_of s e.x) (reach_fits (target_of s e.x) reach))

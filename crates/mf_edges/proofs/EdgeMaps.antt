@@ -11,8 +11,8 @@ use Rattle.mf_edges.specs.declared.weight_map.WeightMap.{WeightMap}
 use Rattle.mf_edges.specs.LawfulWeights.{IsLawfulWeight}
 use Rattle.mf_edges.specs.Edges.{weight_in, AreEdgesFrom, AreEdges}
 use Rattle.mf_edges.specs.Merging.{unless_zero}
-use Rattle.mf_edges.specs.RowChanges.{changed_in, AreChanged}
-use Rattle.mf_edges.specs.WeightMaps.{mapped_to, IsWeightMap}
+use Rattle.mf_edges.specs.RowChanges.{image_in, AreChanged}
+use Rattle.mf_edges.specs.WeightMaps.{mapped_weight, IsWeightMap}
 use Rattle.mf_edges.proofs.EdgesLemmas.{weight_in-left, weight_in-right, weight_in-before}
 use Rattle.mf_edges.proofs.EdgeSums.{with_edge_in-before, with_edge_in-behind, weight_in-push, sorted_push, before_push, zero_lawful, IsColumnFrom}
 
@@ -23,11 +23,11 @@ pub record IsMappedSoFar (m : WeightMap) (es mapped rest : List Edge) (weight im
   pub left : AreEdgesFrom low rest
   pub sorted : AreEdgesFrom least_coordinate mapped
   pub before : All (λ e. e.x <ℤ low) mapped
-  pub weights : (x : ℤ) → x <ℤ low → weight_in mapped x ≡ mapped_to m (weight_in es x)
+  pub weights : (x : ℤ) → x <ℤ low → weight_in mapped x ≡ mapped_weight m (weight_in es x)
   pub sum : (x : ℤ) → low ≤ℤ x → weight_in es x ≡ weight +ℤ weight_in rest x
   pub running : (x : ℤ) → low ≤ℤ x → weight_in mapped x ≡ image
   pub lawful : IsLawfulWeight weight
-  pub image_is : image ≡ mapped_to m weight
+  pub image_is : image ≡ mapped_weight m weight
 
 pub mapped_none : (m : WeightMap) (es : List Edge) → AreEdges es → IsWeightMap m → IsMappedSoFar m es [] es (pos 0) (pos 0)
 unfolding weight_in
@@ -36,7 +36,7 @@ mapped_none m es row map = record {
   left = row.sorted;
   sorted = tt;
   before = All-nil (λ e. e.x <ℤ least_coordinate);
-  weights = λ x before. sym (ap (mapped_to m) (weight_in-before least_coordinate es x row.sorted before) ∙ map.zero);
+  weights = λ x before. sym (ap (mapped_weight m) (weight_in-before least_coordinate es x row.sorted before) ∙ map.zero);
   sum = λ x behind. omega (arith, ints);
   running = λ x behind. refl;
   lawful = zero_lawful;
@@ -49,12 +49,12 @@ mapped_read m es mapped i d weight image inside so_far = subst (λ rest. IsMappe
 
 -- where the rest adds nothing, the new edges have the mapped weight of the row
 mapped_where_none : (m : WeightMap) (es mapped rest : List Edge) (weight image : ℤ)
-    → IsMappedSoFar m es mapped rest weight image → (x : ℤ) → weight_in rest x ≡ pos 0 → weight_in mapped x ≡ mapped_to m (weight_in es x)
+    → IsMappedSoFar m es mapped rest weight image → (x : ℤ) → weight_in rest x ≡ pos 0 → weight_in mapped x ≡ mapped_weight m (weight_in es x)
 mapped_where_none m es mapped rest weight image so_far x none =
     by_lt_z x so_far.low (so_far.weights x) (λ behind.
     let sum = so_far.sum x behind in
     let weight_is : weight ≡ weight_in es x = omega (arith, ints) in
-    so_far.running x behind ∙ (so_far.image_is ∙ ap (mapped_to m) weight_is))
+    so_far.running x behind ∙ (so_far.image_is ∙ ap (mapped_weight m) weight_is))
 
 module _ (m : WeightMap) (es mapped : List Edge) (e : Edge) (rest : List Edge) (weight image : ℤ)
     (so_far : IsMappedSoFar m es mapped (e ∷ rest) weight image) where
@@ -71,22 +71,22 @@ module _ (m : WeightMap) (es mapped : List Edge) (e : Edge) (rest : List Edge) (
   pub lawful_more : AreEdges es → IsLawfulWeight (weight +ℤ e.weight)
   lawful_more row = subst IsLawfulWeight weight_here (row.lawful e.x)
 
-  module _ (next : ℤ) (next_is : next ≡ mapped_to m (weight +ℤ e.weight)) where
+  module _ (next : ℤ) (next_is : next ≡ mapped_weight m (weight +ℤ e.weight)) where
     running_more : (x : ℤ) → e.x ≤ℤ x → weight_in (mapped ++ unless_zero (record { x = e.x; weight = next -ℤ image })) x ≡ next
     running_more x behind =
         let old = so_far.running x (omega (arith, ints, reach.from)) in
         let more = weight_in-push mapped e.x (next -ℤ image) x ∙ with_edge_in-behind mapped e.x (next -ℤ image) x behind in
         omega (arith, ints)
 
-    weights_before : (x : ℤ) → x <ℤ e.x → weight_in (mapped ++ unless_zero (record { x = e.x; weight = next -ℤ image })) x ≡ mapped_to m (weight_in es x)
+    weights_before : (x : ℤ) → x <ℤ e.x → weight_in (mapped ++ unless_zero (record { x = e.x; weight = next -ℤ image })) x ≡ mapped_weight m (weight_in es x)
     weights_before x before =
         let none : weight_in (e ∷ rest) x ≡ pos 0 =
         weight_in-right e rest x before ∙ weight_in-before (e.x +ℤ pos 1) rest x so_far.left.2 (omega (arith, ints)) in
         weight_in-push mapped e.x (next -ℤ image) x
         ∙ (with_edge_in-before mapped e.x (next -ℤ image) x before ∙ mapped_where_none m es mapped (e ∷ rest) weight image so_far x none)
 
-    weights_here : (x : ℤ) → x ≡ e.x → weight_in (mapped ++ unless_zero (record { x = e.x; weight = next -ℤ image })) x ≡ mapped_to m (weight_in es x)
-    weights_here x here = rw here (running_more e.x (omega (arith, ints)) ∙ (next_is ∙ ap (mapped_to m) (sym weight_here)))
+    weights_here : (x : ℤ) → x ≡ e.x → weight_in (mapped ++ unless_zero (record { x = e.x; weight = next -ℤ image })) x ≡ mapped_weight m (weight_in es x)
+    weights_here x here = rw here (running_more e.x (omega (arith, ints)) ∙ (next_is ∙ ap (mapped_weight m) (sym weight_here)))
 
     pub mapped_more : AreEdges es → IsMappedSoFar m es (mapped ++ unless_zero (record { x = e.x; weight = next -ℤ image })) rest (weight +ℤ e.weight) next
     mapped_more row = record {
@@ -106,14 +106,14 @@ module _ (m : WeightMap) (es mapped : List Edge) (e : Edge) (rest : List Edge) (
 
 pub mapped_all : (m : WeightMap) (es mapped : List Edge) (weight image : ℤ) → AreEdges es → IsWeightMap m
     → IsMappedSoFar m es mapped [] weight image → AreChanged (Weights m) es mapped
-unfolding weight_in changed_in
+unfolding weight_in image_in
 mapped_all m es mapped weight image row map so_far =
-    let weights : (x : ℤ) → weight_in mapped x ≡ mapped_to m (weight_in es x) = λ x. mapped_where_none m es mapped [] weight image so_far x refl in
+    let weights : (x : ℤ) → weight_in mapped x ≡ mapped_weight m (weight_in es x) = λ x. mapped_where_none m es mapped [] weight image so_far x refl in
     record {
       edges = record {
         sorted = so_far.sorted;
         lawful = λ x. rw (weights x) (map.lawful (weight_in es x) (row.lawful x));
-        closed = weights greatest_coordinate ∙ (ap (mapped_to m) row.closed ∙ map.zero);
+        closed = weights greatest_coordinate ∙ (ap (mapped_weight m) row.closed ∙ map.zero);
       };
       weights = record { weights = weights };
     }

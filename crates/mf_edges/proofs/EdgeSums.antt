@@ -87,12 +87,12 @@ begins_in_reach low x (e ∷ es) sorted at =
     record { from = omega (arith, ints); left = omega (arith, ints, sorted.0.left); right = omega (arith, ints, sorted.0.right) }
 
 -- column x is the first at which one of two rows has an edge
-pub record IsFirstColumn (es fs : List Edge) (x : ℤ) : Type 0 where
+pub record IsNextColumn (es fs : List Edge) (x : ℤ) : Type 0 where
   pub left : BeginFrom x es
   pub right : BeginFrom x fs
   pub reached : BeginAt x es ⊎ BeginAt x fs
 
-first_in_reach : (low x : ℤ) (es fs : List Edge) → AreEdgesLeft low es → AreEdgesLeft low fs → IsFirstColumn es fs x → IsColumnFrom low x
+first_in_reach : (low x : ℤ) (es fs : List Edge) → AreEdgesLeft low es → AreEdgesLeft low fs → IsNextColumn es fs x → IsColumnFrom low x
 first_in_reach low x es fs left right first = ⊎_elim (begins_in_reach low x es left.sorted) (begins_in_reach low x fs right.sorted) first.reached
 
 -- ---- rows of edges as changes
@@ -183,7 +183,7 @@ cond-sum true v w = refl
 cond-sum false v w = refl
 
 module _ (whole_left whole_right sum es fs : List Edge) (weight : ℤ)
-    (so_far : IsSumSoFar whole_left whole_right sum es fs weight) (x : ℤ) (first : IsFirstColumn es fs x) where
+    (so_far : IsSumSoFar whole_left whole_right sum es fs weight) (x : ℤ) (first : IsNextColumn es fs x) where
   pub reach : IsColumnFrom so_far.low x
   reach = first_in_reach so_far.low x es fs so_far.left so_far.right first
 

@@ -11,7 +11,7 @@ use Rattle.mf_edges.specs.Merging.{IsDifference, AreChanges, AreEdgesLeft, Begin
 use Rattle.mf_edges.specs.Sums.{HaveWeights, IsUnlawfulColumn, weight_in_both}
 use Rattle.mf_edges.specs.SumsSoFar.{IsSumSoFar, ArePassed, AreStopped}
 use Rattle.mf_edges.proofs.EdgesLemmas.{weight_in-append, weight_in-before, edges_from-append}
-use Rattle.mf_edges.proofs.EdgeSums.{split_first, split_behind, IsFirstColumn, by_push, sum_at_column, sum_more}
+use Rattle.mf_edges.proofs.EdgeSums.{split_first, split_behind, IsNextColumn, by_push, sum_at_column, sum_more}
 
 -- ---- edges that join as they are
 
@@ -32,7 +32,7 @@ begin_not_at x y (e ∷ es) lt from at = omega (arith, ints)
 
 module _ (whole_left whole_right sum : List Edge) (e : Edge) (others fs : List Edge) (weight x : ℤ)
     (so_far : IsSumSoFar whole_left whole_right sum (e ∷ others) fs weight) (lt : e.x <ℤ x) (from : BeginFrom x fs) where
-  here : IsFirstColumn (e ∷ others) fs e.x
+  here : IsNextColumn (e ∷ others) fs e.x
   here = record { left = omega (arith, ints); right = begin_earlier x e.x fs (omega (arith, ints)) from; reached = inl refl }
 
   split_left : IsSplitAt (e ∷ others) e.x e.weight others
@@ -109,7 +109,7 @@ module _ (v w : ℤ) (left : IsDifference v) (right : IsDifference w) where
 
 module _ (whole_left whole_right sum es : List Edge) (f : Edge) (fs : List Edge) (weight : ℤ)
     (so_far : IsSumSoFar whole_left whole_right sum es (f ∷ fs) weight) (from : BeginFrom f.x es) where
-  change_first : IsFirstColumn es (f ∷ fs) f.x
+  change_first : IsNextColumn es (f ∷ fs) f.x
   change_first = record { left = from; right = omega (arith, ints); reached = inr refl }
 
   change_split : IsSplitAt (f ∷ fs) f.x f.weight fs

@@ -4,7 +4,7 @@ use Rattle.std.specs.Int.{int_div_euclid}
 use Rattle.std.proofs.lemmas.Int.{ints, by_lt_z}
 use Rattle.mf_geom.proofs.Products.{mul-add}
 use Rattle.mf_edges.specs.declared.stretch.Stretch.{Stretch}
-use Rattle.mf_edges.specs.Axes.{IsStretch, stretched_to, source_of}
+use Rattle.mf_edges.specs.Axes.{IsStretch, target_of, source_of}
 use borrow.Author.Differences.{up, down}
 
 -- multiplying by a positive factor keeps the order
@@ -25,29 +25,29 @@ quotient-within (negsuc a) (pos n) positive = (omega (arith, ints), omega (arith
 quotient-within d (negsuc n) positive = absurd (omega (arith, ints))
 
 -- stretched points keep their order
-pub stretched_to-le : (s : Stretch) (a b : ℤ) → IsStretch s → a ≤ℤ b → stretched_to s a ≤ℤ stretched_to s b
-stretched_to-le s a b stretch le = omega (arith, ints, mul-le a b s.factor stretch.least le)
+pub target_of-le : (s : Stretch) (a b : ℤ) → IsStretch s → a ≤ℤ b → target_of s a ≤ℤ target_of s b
+target_of-le s a b stretch le = omega (arith, ints, mul-le a b s.factor stretch.least le)
 
 -- the next point lands a factor further
-pub stretched_to-next : (s : Stretch) (p : ℤ) → stretched_to s (p +ℤ pos 1) ≡ stretched_to s p +ℤ s.factor
-stretched_to-next s p = omega (arith, ints, mul-next p s.factor)
+pub target_of-next : (s : Stretch) (p : ℤ) → target_of s (p +ℤ pos 1) ≡ target_of s p +ℤ s.factor
+target_of-next s p = omega (arith, ints, mul-next p s.factor)
 
-pub stretched_to-lt : (s : Stretch) (a b : ℤ) → IsStretch s → a <ℤ b → stretched_to s a <ℤ stretched_to s b
-stretched_to-lt s a b stretch lt =
+pub target_of-lt : (s : Stretch) (a b : ℤ) → IsStretch s → a <ℤ b → target_of s a <ℤ target_of s b
+target_of-lt s a b stretch lt =
     let least = stretch.least in
-    let next = stretched_to-next s a in
-    let after = stretched_to-le s (a +ℤ pos 1) b stretch (omega (arith, ints)) in
+    let next = target_of-next s a in
+    let after = target_of-le s (a +ℤ pos 1) b stretch (omega (arith, ints)) in
     omega (arith, ints)
 
 -- the column that becomes q is at or to the right of p exactly where the stretch takes p to q or further left
-pub source_of-reached : (s : Stretch) (p q : ℤ) → IsStretch s → p ≤ℤ source_of s q → stretched_to s p ≤ℤ q
+pub source_of-reached : (s : Stretch) (p q : ℤ) → IsStretch s → p ≤ℤ source_of s q → target_of s p ≤ℤ q
 unfolding source_of
 source_of-reached s p q stretch le =
     let within = quotient-within (q -ℤ s.offset) s.factor stretch.least in
     let product = mul-le p (source_of s q) s.factor stretch.least le in
     omega (arith, ints)
 
-pub source_of-from : (s : Stretch) (p q : ℤ) → IsStretch s → stretched_to s p ≤ℤ q → p ≤ℤ source_of s q
+pub source_of-from : (s : Stretch) (p q : ℤ) → IsStretch s → target_of s p ≤ℤ q → p ≤ℤ source_of s q
 unfolding source_of
 source_of-from s p q stretch le =
     by_lt_z (source_of s q) p
@@ -59,7 +59,7 @@ source_of-from s p q stretch le =
     (λ ge. ge)
 
 -- so a column comes from the one whose stretched part has it, and from no other
-pub source_of-is : (s : Stretch) (p q : ℤ) → IsStretch s → stretched_to s p ≤ℤ q → q <ℤ stretched_to s (p +ℤ pos 1) → source_of s q ≡ p
+pub source_of-is : (s : Stretch) (p q : ℤ) → IsStretch s → target_of s p ≤ℤ q → q <ℤ target_of s (p +ℤ pos 1) → source_of s q ≡ p
 source_of-is s p q stretch start behind =
     let from = source_of-from s p q stretch start in
     by_lt_z p (source_of s q)

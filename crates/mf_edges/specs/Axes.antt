@@ -14,8 +14,8 @@ pub record IsStretch (s : Stretch) : Type 0 where
   pub greatest : s.factor ≤ℤ greatest_coordinate
 
 -- where a stretch takes the point x of an axis
-abbrev pub stretched_to : Stretch → ℤ → ℤ
-stretched_to s x = (x *ℤ s.factor) +ℤ s.offset
+abbrev pub target_of : Stretch → ℤ → ℤ
+target_of s x = (x *ℤ s.factor) +ℤ s.offset
 
 -- the column, or row, from which column, or row, q comes under a stretch
 unfoldable pub source_of : Stretch → ℤ → ℤ
@@ -23,5 +23,5 @@ source_of s q = int_div_euclid (q -ℤ s.offset) s.factor
 
 -- a stretch takes the column, or row, p to a part of the field: both ends of that have coordinates in range
 pub record PlaceStaysInside (s : Stretch) (p : ℤ) : Type 0 where
-  pub start : IsCoordinate (stretched_to s p)
-  pub end : IsCoordinate (stretched_to s (p +ℤ pos 1))
+  pub start : IsCoordinate (target_of s p)
+  pub end : IsCoordinate (target_of s (p +ℤ pos 1))

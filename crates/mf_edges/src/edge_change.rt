@@ -2,7 +2,7 @@
 ghost use Rattle.std.specs.Prelude.{IfOk, All};
 ghost use Rattle.mf_geom.specs.Coordinates.{IsCoordinate};
 ghost use Rattle.mf_edges.specs.Edges.{AreEdges};
-ghost use Rattle.mf_edges.specs.Axes.{IsStretch, stretched_to};
+ghost use Rattle.mf_edges.specs.Axes.{IsStretch, target_of};
 ghost use Rattle.mf_edges.specs.RowChanges.{AreChanged};
 ghost use Rattle.mf_edges.specs.WeightMaps.{IsWeightMap};
 ghost use Rattle.mf_edges.specs.declared.row_change.RowChange.TheVariants.{Weights, Mirror, Columns};
@@ -67,7 +67,7 @@ pub(crate) fn stretched_edges(
 ) -> Result<Vec<Edge>, OutOfMemory>
     requires edges { AreEdges edges.now }
     requires stretch { IsStretch stretch.now }
-    requires allowed { All (λ edge. IsCoordinate (stretched_to stretch.now edge.x)) edges.now }
+    requires allowed { All (λ edge. IsCoordinate (target_of stretch.now edge.x)) edges.now }
     ensures { IfOk result (λ stretched. AreChanged (Columns stretch.now) edges.now stretched.items) }
 {
     let mut stretched = Vec::new(alloc);

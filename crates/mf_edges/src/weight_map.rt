@@ -1,7 +1,7 @@
 //! Maps of weights, which take each weight by itself.
 ghost use Rattle.std.specs.Prelude.{◌≡◌};
 ghost use Rattle.mf_edges.specs.LawfulWeights.{IsLawfulWeight};
-ghost use Rattle.mf_edges.specs.WeightMaps.{chosen, mapped_to, IsWeightMap};
+ghost use Rattle.mf_edges.specs.WeightMaps.{chosen_weight, mapped_weight, IsWeightMap};
 
 /// What each weight of a picture becomes, wherever its pixel is. Mapping a picture requires that weight 0 stays 0 and
 /// that weights in -32767..=32767 become such weights.
@@ -29,7 +29,7 @@ impl WeightMap {
     pub(crate) fn apply(&self, weight: i32) -> i32
         requires map { IsWeightMap self.now }
         requires weight { IsLawfulWeight weight }
-        ensures value { result ≡ mapped_to self.now weight }
+        ensures value { result ≡ mapped_weight self.now weight }
         ensures lawful { IsLawfulWeight result }
     {
         match self {
@@ -42,7 +42,7 @@ impl WeightMap {
 impl Choice {
     /// The weight that a weight becomes.
     fn apply(&self, weight: i32) -> i32
-        ensures { result ≡ chosen self.now weight }
+        ensures { result ≡ chosen_weight self.now weight }
     {
         if self.low <= weight && weight <= self.high {
             self.inside

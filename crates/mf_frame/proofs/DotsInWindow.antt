@@ -3,13 +3,13 @@ use Rattle.std.proofs.Common.{ℤ, pos, ◌≤ℤ◌, List, arith}
 use Rattle.std.proofs.lemmas.Int.{ints}
 use Rattle.std.proofs.lemmas.List.Elements.{All-weaker}
 use Rattle.mf_rows.specs.declared.bounds.Box4.{Box4}
-use Rattle.mf_rows.specs.Bounds.{IsWithin, IsLeastBox}
+use Rattle.mf_rows.specs.Bounds.{IsDotIn, IsLeastBox}
 use Rattle.mf_rows.specs.Dots.{Dot}
 use Rattle.mf_frame.specs.Cells.{cell_of, IsCellOf, AreInWindow}
 use Rattle.mf_frame.specs.Windows.{window_at}
 use Rattle.mf_frame.proofs.Floors.{cell-le, line-le, line-within}
 
-dot_in_window : (b : Box4) (s : ℤ) (d : Dot) → pos 1 ≤ℤ s → IsWithin b d → IsCellOf (window_at b s) (cell_of s d.x) (cell_of s d.y)
+dot_in_window : (b : Box4) (s : ℤ) (d : Dot) → pos 1 ≤ℤ s → IsDotIn b d → IsCellOf (window_at b s) (cell_of s d.x) (cell_of s d.y)
 unfolding window_at
 dot_in_window b s d positive within =
     let left = cell-le s b.min_x d.x positive within.left in
@@ -30,4 +30,4 @@ dot_in_window b s d positive within =
 pub all_in_window : (ds : List Dot) (b : Box4) (s : ℤ) → pos 1 ≤ℤ s → IsLeastBox ds b → AreInWindow (window_at b s) ds
 unfolding window_at
 all_in_window ds b s positive box =
-    All-weaker (IsWithin b) (λ d. IsCellOf (window_at b s) (cell_of s d.x) (cell_of s d.y)) (λ d within. dot_in_window b s d positive within) ds box.within
+    All-weaker (IsDotIn b) (λ d. IsCellOf (window_at b s) (cell_of s d.x) (cell_of s d.y)) (λ d within. dot_in_window b s d positive within) ds box.within

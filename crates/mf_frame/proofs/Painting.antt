@@ -11,7 +11,7 @@ use Rattle.mf_rows.specs.declared.run.Run.{Run}
 use Rattle.mf_rows.specs.Dots.{Dot, IsPicture}
 use Rattle.mf_rows.specs.Order.{IsRun}
 use Rattle.mf_rows.specs.Runs.{dots_of, runs_of, stretch}
-use Rattle.mf_rows.proofs.PassedRuns.{ArePassed, next_is_lawful, none_passed, one_more_passed, all_passed}
+use Rattle.mf_rows.proofs.PassedRuns.{ArePassedDots, next_is_lawful, none_passed, one_more_passed, all_passed}
 use Rattle.mf_frame.specs.declared.shade.Shade.{Shade}
 use Rattle.mf_frame.specs.declared.shade.Shade.TheVariants.{Blank}
 use Rattle.mf_frame.specs.declared.window.Window.{Window}
@@ -155,7 +155,7 @@ painted w r old new window within dark = record { count = dark.count; cells = λ
 -- the cells have the shades of all dots but those of the last runs, rs
 pub record ArePaintedBefore (w : Window) (ds : List Dot) (rs : List Run) (shades : List Shade) : Type 0 where
   pub passed : List Dot
-  pub passes : ArePassed ds rs passed
+  pub passes : ArePassedDots ds rs passed
   pub cells : AreCells w passed shades
 
 pub painted_none : (w : Window) (ds : List Dot) (rs : List Run) (shades : List Shade) (n : ℕ) → IsPicture ds → rs ≡ runs_of ds → shades ≡ replicate n Blank

@@ -39,10 +39,10 @@ sum_below-unit_step_in_field p = sum_below-unit_step field_size least_coordinate
 
 -- what a segment adds to the sum of the winding numbers: the area between it and the right side of the field, positive
 -- where the segment leads down
-abbrev strip : Segment → ℤ
-strip e = (greatest_coordinate -ℤ e.from.x) *ℤ (e.from.y -ℤ e.to.y)
+abbrev area_beside : Segment → ℤ
+area_beside e = (greatest_coordinate -ℤ e.from.x) *ℤ (e.from.y -ℤ e.to.y)
 
-sum_over_field-crossing : (e : Segment) → IsInRange e.from → IsInRange e.to → sum_over_field (λ x y. crossing x y e) ≡ strip e
+sum_over_field-crossing : (e : Segment) → IsInRange e.from → IsInRange e.to → sum_over_field (λ x y. crossing x y e) ≡ area_beside e
 unfolding crossing
 sum_over_field-crossing e from to =
     let columns = sum_below-unit_step_in_field e.from.x from.x.least from.x.greatest in
@@ -70,28 +70,29 @@ shoelace-upright x y y' =
     let to = sub-mul greatest_coordinate x y' in
     omega (arith, ints)
 
--- a segment's part of the shoelace sum is twice its strip plus a difference between its ends
-shoelace-strip : (e : Segment) → IsRectilinear e → e.from.x *ℤ e.to.y -ℤ e.to.x *ℤ e.from.y ≡ pos 2 *ℤ strip e +ℤ (remainder e.to -ℤ remainder e.from)
+-- a segment's part of the shoelace sum is twice its area_beside plus a difference between its ends
+shoelace-area_beside : (e : Segment) → IsRectilinear e
+    → e.from.x *ℤ e.to.y -ℤ e.to.x *ℤ e.from.y ≡ pos 2 *ℤ area_beside e +ℤ (remainder e.to -ℤ remainder e.from)
 unfolding IsRectilinear across up
-shoelace-strip e (inl level) =
+shoelace-area_beside e (inl level) =
     let same_height : e.to.y ≡ e.from.y = let rise = level.1 in omega (arith, ints) in
     rw same_height (shoelace-level e.from.x e.to.x e.from.y)
-shoelace-strip e (inr upright) =
+shoelace-area_beside e (inr upright) =
     let same_column : e.to.x ≡ e.from.x = let run = upright.0 in omega (arith, ints) in
     rw same_column (shoelace-upright e.from.x e.from.y e.to.y)
 
 -- round a cycle, the differences add up to 0
 shoelace-strips : (ps : List Point) → IsRectilinearCycle ps
-    → sum_below (length ps) (shoelace_at ps) ≡ pos 2 *ℤ sum_below (length ps) (λ i. strip (segment_at ps i))
+    → sum_below (length ps) (shoelace_at ps) ≡ pos 2 *ℤ sum_below (length ps) (λ i. area_beside (segment_at ps i))
 unfolding shoelace_at segment_at
 shoelace-strips ps cycle =
-    sum_below-mul_and_differences ps (pos 2) (shoelace_at ps) (λ i. strip (segment_at ps i)) (λ i. remainder (point_at ps i))
-    (λ i below. shoelace-strip (segment_at ps i) (cycle.rectilinear i below))
+    sum_below-mul_and_differences ps (pos 2) (shoelace_at ps) (λ i. area_beside (segment_at ps i)) (λ i. remainder (point_at ps i))
+    (λ i below. shoelace-area_beside (segment_at ps i) (cycle.rectilinear i below))
 
-area-strips : (ps : List Point) → IsRectilinearCycle ps → area ps ≡ sum_below (length ps) (λ i. strip (segment_at ps i))
+area-strips : (ps : List Point) → IsRectilinearCycle ps → area ps ≡ sum_below (length ps) (λ i. area_beside (segment_at ps i))
 unfolding area
 area-strips ps cycle =
-    ap (λ s. int_div s (pos 2)) (shoelace-strips ps cycle) ∙ int_div-mul 2 (sum_below (length ps) (λ i. strip (segment_at ps i))) (omega arith)
+    ap (λ s. int_div s (pos 2)) (shoelace-strips ps cycle) ∙ int_div-mul 2 (sum_below (length ps) (λ i. area_beside (segment_at ps i))) (omega arith)
 
 pub shoelace-area : (ps : List Point) → IsRectilinearCycle ps → sum_below (length ps) (shoelace_at ps) ≡ pos 2 *ℤ area ps
 shoelace-area ps cycle = shoelace-strips ps cycle ∙ ap (λ n. pos 2 *ℤ n) (sym (area-strips ps cycle))
@@ -102,7 +103,7 @@ sum_over_field-winding ps cycle =
     let in_range = cycle.range.in_range in
     (λ t. sum_over_field (λ x y. winding-crossings ps x y cycle t))
     ∙ sum_over_field-sum (length ps) (λ x y. crossing_at ps x y)
-    ∙ sum_below-same (length ps) (λ i. sum_over_field (λ x y. crossing_at ps x y i)) (λ i. strip (segment_at ps i))
+    ∙ sum_below-same (length ps) (λ i. sum_over_field (λ x y. crossing_at ps x y i)) (λ i. area_beside (segment_at ps i))
     (λ i below. sum_over_field-crossing (segment_at ps i) (in_range i below) (in_range (next_place ps i) (next_place-below ps i below)))
     ∙ sym (area-strips ps cycle)
 

@@ -6,7 +6,7 @@ use Rattle.std.proofs.lemmas.Bool.Decides.{nat_tests}
 use native.Mathlib.Nat.{mul-pos}
 use Rattle.mf_geom.specs.declared.point.Point.{Point}
 use Rattle.mf_geom.specs.Lawful.{NeverReverses}
-use Rattle.mf_geom.specs.Path.{Segment, next_place, previous_place, segment_at, arriving, across, up, IsRectilinear, IsReversal}
+use Rattle.mf_geom.specs.Path.{Segment, next_place, previous_place, segment_at, segment_into, across, up, IsRectilinear, IsReversal}
 use Rattle.mf_geom.specs.Sum.{sum_below}
 use Rattle.mf_geom.specs.Turning.{turn, turn_at, turning}
 use Rattle.mf_geom.proofs.Products.{int_div-mul}
@@ -126,7 +126,7 @@ previous_place-next_place ps i below = grind (arith, nat_tests)
 -- the turn at the end of a segment
 turn_at-next_place : (ps : List Point) (i : ℕ) → NeverReverses ps → i < length ps
     → turn_at ps (next_place ps i) ≡ bend (heading_of (segment_at ps (next_place ps i)) -ℤ heading_of (segment_at ps i))
-unfolding turn_at arriving
+unfolding turn_at segment_into
 turn_at-next_place ps i never below =
     let next = next_place ps i in
     let next_below = next_place-below ps i below in

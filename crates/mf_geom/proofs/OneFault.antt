@@ -9,7 +9,7 @@ use Rattle.mf_geom.specs.declared.cycle.CycleFault.TheVariants.{TooFewPoints, To
 use Rattle.mf_geom.specs.declared.point.Point.{Point}
 use Rattle.mf_geom.specs.Faults.{fault_from_turning, first_not_rectilinear, first_out_of_range, first_reversal, form_fault, is_not_rectilinear, is_out_of_range, is_reversal, turning_fault}
 use Rattle.mf_geom.specs.Lawful.{HasLawfulLength, StaysInRange, IsRectilinearCycle, NeverReverses, IsFault, most_points}
-use Rattle.mf_geom.specs.Path.{arriving, point_at, segment_at, IsInRange, IsRectilinear, IsReversal}
+use Rattle.mf_geom.specs.Path.{segment_into, point_at, segment_at, IsInRange, IsRectilinear, IsReversal}
 use Rattle.mf_geom.specs.Turning.{turning}
 use Rattle.mf_geom.proofs.FirstFaults.{IsReversal-from_true, form_fault-few, form_fault-many, form_fault-sized, is_cycle-straight, is_not_rectilinear-false, is_not_rectilinear-true, is_out_of_range-false, is_out_of_range-true, is_reversal-true, never_reverses, no_form_fault, stays_in_range, turning_fault-onward}
 use Rattle.mf_geom.proofs.FirstPlaces.{first-first_place, first_place-first, first_place-none}
@@ -22,7 +22,7 @@ beyond ps k = (is_out_of_range-true _, λ passes range. both_ways _ (is_out_of_r
 slanted : (ps : List Point) (k : ℕ) → ¬ IsRectilinear (segment_at ps k) ↔ is_not_rectilinear (segment_at ps k) ≡ true
 slanted ps k = (is_not_rectilinear-true _, λ passes straight. both_ways _ (is_not_rectilinear-false _ straight) passes)
 
-back : (ps : List Point) (k : ℕ) → IsReversal (arriving ps k) (segment_at ps k) ↔ is_reversal (arriving ps k) (segment_at ps k) ≡ true
+back : (ps : List Point) (k : ℕ) → IsReversal (segment_into ps k) (segment_at ps k) ↔ is_reversal (segment_into ps k) (segment_at ps k) ≡ true
 back ps k = (is_reversal-true _ _, IsReversal-from_true _ _)
 
 -- ---- what is declared is computed

@@ -3,7 +3,7 @@ use Rattle.std.proofs.Common.{◌≡◌, ℤ, pos, negsuc, List, [], ◌∷◌, 
 use Rattle.mf_geom.specs.declared.check.Check.TheVariants.{Off, On}
 use Rattle.mf_geom.specs.declared.point.Point.{Point}
 use Rattle.mf_geom.specs.Area.{area, shoelace_at}
-use Rattle.mf_geom.specs.Path.{point_at, next_place, previous_place, segment_at, arriving, across, up}
+use Rattle.mf_geom.specs.Path.{point_at, next_place, previous_place, segment_at, segment_into, across, up}
 use Rattle.mf_geom.specs.Sum.{sum_below}
 use Rattle.mf_geom.specs.Turning.{turn, turn_at, turning}
 use Rattle.mf_geom.specs.Winding.{quadrant, quarter_along, quarter_at, winding, contour}
@@ -17,7 +17,7 @@ unfolding point
 rectangle = point (pos 0) (pos 0) ∷ point (pos 3) (pos 0) ∷ point (pos 3) (pos 2) ∷ point (pos 0) (pos 2) ∷ []
 
 turning-rectangle : turning rectangle ≡ pos 1
-unfolding turning sum_below turn_at turn arriving segment_at point_at next_place previous_place across up rectangle
+unfolding turning sum_below turn_at turn segment_into segment_at point_at next_place previous_place across up rectangle
 turning-rectangle = refl
 
 winding-rectangle : winding rectangle (pos 2) (pos 1) ≡ pos 1
@@ -38,7 +38,7 @@ unfolding point
 clockwise = point (pos 0) (pos 0) ∷ point (pos 0) (pos 2) ∷ point (pos 3) (pos 2) ∷ point (pos 3) (pos 0) ∷ []
 
 turning-clockwise : turning clockwise ≡ negsuc 0
-unfolding turning sum_below turn_at turn arriving segment_at point_at next_place previous_place across up clockwise
+unfolding turning sum_below turn_at turn segment_into segment_at point_at next_place previous_place across up clockwise
 turning-clockwise = refl
 
 area-clockwise : area clockwise ≡ negsuc 5
@@ -46,7 +46,7 @@ unfolding area sum_below shoelace_at point_at next_place clockwise
 area-clockwise = refl
 
 contour-clockwise : contour clockwise (pos 1) On (pos 0) (pos 0) ≡ pos 1
-unfolding contour turning turn_at turn arriving previous_place across up
+unfolding contour turning turn_at turn segment_into previous_place across up
     winding sum_below quarter_at quarter_along quadrant segment_at point_at next_place clockwise
 contour-clockwise = refl
 
@@ -62,7 +62,7 @@ twice =
     (pos 0) ∷ point (pos 2) (pos 0) ∷ point (pos 2) (pos 2) ∷ point (pos 0) (pos 2) ∷ []
 
 turning-twice : turning twice ≡ pos 2
-unfolding turning sum_below turn_at turn arriving segment_at point_at next_place previous_place across up twice
+unfolding turning sum_below turn_at turn segment_into segment_at point_at next_place previous_place across up twice
 turning-twice = refl
 
 winding-twice : winding twice (pos 1) (pos 0) ≡ pos 2
@@ -79,7 +79,7 @@ unfolding point
 straight = point (pos 0) (pos 0) ∷ point (pos 1) (pos 0) ∷ point (pos 3) (pos 0) ∷ point (pos 3) (pos 2) ∷ point (pos 0) (pos 2) ∷ []
 
 turning-straight : turning straight ≡ pos 1
-unfolding turning sum_below turn_at turn arriving segment_at point_at next_place previous_place across up straight
+unfolding turning sum_below turn_at turn segment_into segment_at point_at next_place previous_place across up straight
 turning-straight = refl
 
 -- two squares that meet in a figure of eight
@@ -88,7 +88,7 @@ unfolding point
 eight = point (pos 0) (pos 0) ∷ point (pos 1) (pos 0) ∷ point (pos 1) (pos 2) ∷ point (pos 2) (pos 2) ∷ point (pos 2) (pos 1) ∷ point (pos 0) (pos 1) ∷ []
 
 turning-eight : turning eight ≡ pos 0
-unfolding turning sum_below turn_at turn arriving segment_at point_at next_place previous_place across up eight
+unfolding turning sum_below turn_at turn segment_into segment_at point_at next_place previous_place across up eight
 turning-eight = refl
 
 winding-eight_low : winding eight (pos 0) (pos 0) ≡ pos 1

@@ -7,7 +7,7 @@ use Rattle.mf_geom.specs.Coordinates.{is_coordinate}
 use Rattle.mf_geom.specs.declared.point.Point.{Point}
 use Rattle.mf_geom.specs.declared.cycle.CycleFault.{CycleFault}
 use Rattle.mf_geom.specs.declared.cycle.CycleFault.TheVariants.{TooFewPoints, TooManyPoints, PointOutOfRange, NotRectilinear, Backtracks, TurningZero}
-use Rattle.mf_geom.specs.Path.{Segment, point_at, segment_at, arriving, across, up}
+use Rattle.mf_geom.specs.Path.{Segment, point_at, segment_at, segment_into, across, up}
 use Rattle.mf_geom.specs.Turning.{turning}
 
 -- the first index below n that passes the test
@@ -41,7 +41,7 @@ first_not_rectilinear ps = first_place (length ps) (λ i. is_not_rectilinear (se
 
 -- the first vertex at which the path turns straight back
 abbrev pub first_reversal : List Point → Option ℕ
-first_reversal ps = first_place (length ps) (λ i. is_reversal (arriving ps i) (segment_at ps i))
+first_reversal ps = first_place (length ps) (λ i. is_reversal (segment_into ps i) (segment_at ps i))
 
 -- why a list of points is not a cycle, if it is not: all points are checked for one fault before any is checked for the next
 unfoldable pub form_fault : List Point → Option CycleFault

@@ -3,7 +3,7 @@ use Rattle.std.specs.Prelude.{◌≡◌, ◌≢◌, ℕ, ◌<◌, ◌≤◌, pos
 use Rattle.mf_geom.specs.declared.point.Point.{Point}
 use Rattle.mf_geom.specs.declared.cycle.CycleFault.{CycleFault}
 use Rattle.mf_geom.specs.declared.cycle.CycleFault.TheVariants.{TooFewPoints, TooManyPoints, PointOutOfRange, NotRectilinear, Backtracks, TurningZero}
-use Rattle.mf_geom.specs.Path.{point_at, segment_at, arriving, IsInRange, IsRectilinear, IsReversal}
+use Rattle.mf_geom.specs.Path.{point_at, segment_at, segment_into, IsInRange, IsRectilinear, IsReversal}
 use Rattle.mf_geom.specs.Turning.{turning}
 
 -- the fewest points of a cycle
@@ -32,7 +32,7 @@ pub record IsRectilinearCycle (ps : List Point) : Type 0 where
 -- the list is a cycle that turns straight back at no vertex
 pub record NeverReverses (ps : List Point) : Type 0 where
   pub rectilinear : IsRectilinearCycle ps
-  pub onward : (i : ℕ) → i < length ps → IsReversal (arriving ps i) (segment_at ps i) → ⊥
+  pub onward : (i : ℕ) → i < length ps → IsReversal (segment_into ps i) (segment_at ps i) → ⊥
 
 -- the list is a cycle that passes the turning check: it never turns straight back, and its turning number is not 0
 pub record PassesCheck (ps : List Point) : Type 0 where
@@ -52,5 +52,5 @@ IsFault ps TooFewPoints = length ps < fewest_points
 IsFault ps TooManyPoints = most_points < length ps
 IsFault ps (PointOutOfRange i) = HasLawfulLength ps × IsFirst (length ps) (λ k. ¬ IsInRange (point_at ps k)) i
 IsFault ps (NotRectilinear i) = StaysInRange ps × IsFirst (length ps) (λ k. ¬ IsRectilinear (segment_at ps k)) i
-IsFault ps (Backtracks i) = IsRectilinearCycle ps × IsFirst (length ps) (λ k. IsReversal (arriving ps k) (segment_at ps k)) i
+IsFault ps (Backtracks i) = IsRectilinearCycle ps × IsFirst (length ps) (λ k. IsReversal (segment_into ps k) (segment_at ps k)) i
 IsFault ps TurningZero = NeverReverses ps × (turning ps ≡ pos 0)

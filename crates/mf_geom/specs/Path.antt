@@ -25,8 +25,8 @@ unfoldable pub segment_at : List Point → ℕ → Segment
 segment_at ps i = record { from = point_at ps i; to = point_at ps (next_place ps i) }
 
 -- the segment that arrives at vertex i
-unfoldable pub arriving : List Point → ℕ → Segment
-arriving ps i = segment_at ps (previous_place ps i)
+unfoldable pub segment_into : List Point → ℕ → Segment
+segment_into ps i = segment_at ps (previous_place ps i)
 
 -- how far a segment leads to the right
 unfoldable pub across : Segment → ℤ

@@ -2,7 +2,7 @@
 use Rattle.std.specs.Prelude.{ℕ, ℤ, pos, ◌-ℤ◌, ◌*ℤ◌, List, length, int_div}
 use Rattle.std.specs.Int.{int_signum}
 use Rattle.mf_geom.specs.declared.point.Point.{Point}
-use Rattle.mf_geom.specs.Path.{Segment, across, up, segment_at, arriving}
+use Rattle.mf_geom.specs.Path.{Segment, across, up, segment_at, segment_into}
 use Rattle.mf_geom.specs.Sum.{sum_below}
 
 -- the turn from one segment to the next: 1 to the left, -1 to the right, 0 straight on
@@ -11,7 +11,7 @@ turn a b = int_signum ((across a *ℤ up b) -ℤ (up a *ℤ across b))
 
 -- the turn at vertex i
 unfoldable pub turn_at : List Point → ℕ → ℤ
-turn_at ps i = turn (arriving ps i) (segment_at ps i)
+turn_at ps i = turn (segment_into ps i) (segment_at ps i)
 
 -- the turning number: left turns less right turns, divided by 4
 unfoldable pub turning : List Point → ℤ

@@ -3,7 +3,7 @@
 ghost use Rattle.std.specs.Prelude.{◌≡◌, ◌↔◌, ◌<◌, pos, negsuc, ◌*ℤ◌, ◌≤ℤ◌, length, IsTrue};
 ghost use Rattle.mf_geom.specs.Area.{shoelace_at};
 ghost use Rattle.mf_geom.specs.Lawful.{StaysInRange};
-ghost use Rattle.mf_geom.specs.Path.{next_place, previous_place, segment_at, arriving, across, up, IsInRange, IsRectilinear, IsReversal};
+ghost use Rattle.mf_geom.specs.Path.{next_place, previous_place, segment_at, segment_into, across, up, IsInRange, IsRectilinear, IsReversal};
 ghost use Rattle.mf_geom.specs.Turning.{turn_at};
 
 use crate::point::Point;
@@ -33,7 +33,7 @@ pub fn is_rectilinear(points: &[Point], segment: usize) -> bool
 pub fn is_reversal(points: &[Point], vertex: usize) -> bool
     requires range { StaysInRange points.now }
     requires within { vertex < length points.now }
-    ensures { IsTrue result ↔ IsReversal (arriving points.now vertex) (segment_at points.now vertex) }
+    ensures { IsTrue result ↔ IsReversal (segment_into points.now vertex) (segment_at points.now vertex) }
 {
     let arriving = step_along(points, previous_place(points, vertex));
     let leaving = step_along(points, vertex);

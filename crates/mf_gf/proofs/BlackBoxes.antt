@@ -6,9 +6,9 @@ use Rattle.std.specs.Ordering.{int_eq}
 use Rattle.std.proofs.lemmas.Int.{ints, clamps}
 use Rattle.std.proofs.lemmas.List.Elements.{All-cons, All-contains, All-nil}
 use Rattle.mf_rows.specs.declared.bounds.Box4.{Box4}
-use Rattle.mf_rows.specs.Bounds.{IsBoxRound, IsLeastBox, IsWithin, is_positive_at}
+use Rattle.mf_rows.specs.Bounds.{IsBoxRound, IsLeastBox, IsDotIn, is_positive_at}
 use Rattle.mf_rows.specs.Dots.{Dot, IsPicture, start_of_field, weight_at}
-use Rattle.mf_rows.specs.Widening.{widened}
+use Rattle.mf_rows.specs.Widening.{box_round_both}
 use Rattle.mf_rows.proofs.BoundsInField.{bounds_in_field}
 use Rattle.mf_rows.proofs.BoxesJoined.{box_of_some, least_box_of_both}
 use Rattle.mf_rows.proofs.LeastBoxes.{blank_of_weights, least_of_weights}
@@ -34,16 +34,16 @@ join-assoc a b c = λ i. record {
   max_n = max_assoc a.max_n b.max_n c.max_n i;
 }
 
-pixel_box-join : (a b : CharacterBox) → pixel_box (join a b) ≡ widened (pixel_box a) (pixel_box b)
+pixel_box-join : (a b : CharacterBox) → pixel_box (join a b) ≡ box_round_both (pixel_box a) (pixel_box b)
 pixel_box-join a b =
     let last : (int_max a.max_m b.max_m -ℤ pos 1) ≡ int_max (a.max_m -ℤ pos 1) (b.max_m -ℤ pos 1) = omega (arith, ints, clamps) in
     ap (λ m. record { min_x = int_min a.min_m b.min_m; max_x = m; min_y = int_min a.min_n b.min_n; max_y = int_max a.max_n b.max_n }) last
 
 least_of_pixel : (d : Dot) → IsLeastBox (d ∷ []) (pixel_box (box_of_pixel d))
 least_of_pixel d = record {
-  within = All-cons (IsWithin (pixel_box (box_of_pixel d))) d []
+  within = All-cons (IsDotIn (pixel_box (box_of_pixel d))) d []
       (record { left = omega (arith, ints); right = omega (arith, ints); bottom = omega (arith, ints); top = omega (arith, ints) })
-      (All-nil (IsWithin (pixel_box (box_of_pixel d))));
+      (All-nil (IsDotIn (pixel_box (box_of_pixel d))));
   left = (0, d, omega arith, refl, refl);
   right = (0, d, omega arith, refl, omega (arith, ints));
   bottom = (0, d, omega arith, refl, refl);
@@ -62,14 +62,14 @@ least_box d (e ∷ ds) =
 -- no side of a least box is beyond that of another
 least_left : (ds : List Dot) (a b : Box4) → IsLeastBox ds a → IsLeastBox ds b → (b.min_x ≤ℤ a.min_x) × (a.max_x ≤ℤ b.max_x)
 least_left ds a b first second =
-    let left = All-contains (IsWithin b) ds first.left.1 second.within (first.left.0, first.left.2, first.left.3) in
-    let right = All-contains (IsWithin b) ds first.right.1 second.within (first.right.0, first.right.2, first.right.3) in
+    let left = All-contains (IsDotIn b) ds first.left.1 second.within (first.left.0, first.left.2, first.left.3) in
+    let right = All-contains (IsDotIn b) ds first.right.1 second.within (first.right.0, first.right.2, first.right.3) in
     (omega (arith, ints, left.left, first.left.4), omega (arith, ints, right.right, first.right.4))
 
 least_low : (ds : List Dot) (a b : Box4) → IsLeastBox ds a → IsLeastBox ds b → (b.min_y ≤ℤ a.min_y) × (a.max_y ≤ℤ b.max_y)
 least_low ds a b first second =
-    let bottom = All-contains (IsWithin b) ds first.bottom.1 second.within (first.bottom.0, first.bottom.2, first.bottom.3) in
-    let top = All-contains (IsWithin b) ds first.top.1 second.within (first.top.0, first.top.2, first.top.3) in
+    let bottom = All-contains (IsDotIn b) ds first.bottom.1 second.within (first.bottom.0, first.bottom.2, first.bottom.3) in
+    let top = All-contains (IsDotIn b) ds first.top.1 second.within (first.top.0, first.top.2, first.top.3) in
     (omega (arith, ints, bottom.bottom, first.bottom.4), omega (arith, ints, top.top, first.top.4))
 
 -- the box of a character whose pixels have this least box

@@ -12,7 +12,7 @@ use Rattle.mf_rows.specs.Bounds.{IsLeastBox}
 use Rattle.mf_rows.specs.declared.bounds.Box4.{Box4}
 use Rattle.mf_edges.specs.declared.stretch.Stretch.{Stretch}
 use Rattle.mf_rows.specs.Dots.{Dot, IsPicture, start_of_field}
-use Rattle.mf_edges.specs.Axes.{PlaceStaysInside, stretched_to}
+use Rattle.mf_edges.specs.Axes.{PlaceStaysInside, target_of}
 use Rattle.mf_rows.specs.Moves.{PixelsStayInside}
 use Rattle.mf_ops.specs.Moves.{Factors, IsInAxis, scale_by, shift_by, stays_inside}
 use Rattle.mf_ops.proofs.Faults.{IsForWeights}
@@ -23,8 +23,8 @@ is_coordinate-true x = (λ passes. record { least = grind (arith, ints); greates
 
 pub stays_inside-true : (s : Stretch) (p : ℤ) → (stays_inside s p ≡ true) ↔ PlaceStaysInside s p
 stays_inside-true s p =
-    let start = is_coordinate-true (stretched_to s p) in
-    let end = is_coordinate-true (stretched_to s (p +ℤ pos 1)) in (
+    let start = is_coordinate-true (target_of s p) in
+    let end = is_coordinate-true (target_of s (p +ℤ pos 1)) in (
       λ passes. let ends = and_parts _ _ passes in record { start = start.0 ends.0; end = end.0 ends.1 },
       λ inside. and_from _ _ (start.1 inside.start) (end.1 inside.end),
     )

@@ -10,10 +10,10 @@ use Rattle.mf_geom.specs.Coordinates.{least_coordinate, last_in_field, is_coordi
 use Rattle.mf_geom.specs.Field.{sum_over_field}
 use Rattle.mf_edges.specs.declared.stretch.Stretch.{Stretch}
 use Rattle.mf_rows.specs.Dots.{Dot, AreDotsFrom, IsPicture, place, start_of_field, total_of, weight_at}
-use Rattle.mf_edges.specs.Axes.{IsStretch, PlaceStaysInside, opposite, source_of, stretched_to}
+use Rattle.mf_edges.specs.Axes.{IsStretch, PlaceStaysInside, opposite, source_of, target_of}
 use Rattle.mf_rows.specs.Weights.{picture_of}
 use Rattle.mf_rows.proofs.FieldTotals.{total_of-picture_of, total_of-picture}
-use Rattle.mf_edges.proofs.Sources.{source_of-is, stretched_to-next}
+use Rattle.mf_edges.proofs.Sources.{source_of-is, target_of-next}
 use Rattle.mf_ops.specs.Moves.{AreFactors, Factors, IsFactor, scale_by, scale_source, shift_by, stays_inside, turn_once, turn_by}
 use Rattle.mf_ops.specs.Step.{op_fault, step_at, next_picture}
 use Rattle.mf_ops.specs.declared.op.Op.TheVariants as ops
@@ -69,39 +69,39 @@ shift_move d = record {
   after = λ p kept. let ends = stays-after (shift_by d) p kept in (omega (arith, ints, ends.start.least), omega (arith, ints, ends.end.greatest));
 }
 
-source_of-only : (s : Stretch) (p q : ℤ) → IsStretch s → stretched_to s p ≤ℤ q → q <ℤ (stretched_to s p +ℤ s.factor) → source_of s q ≡ p
-source_of-only s p q stretch start end = let next = stretched_to-next s p in source_of-is s p q stretch start (rw next end)
+source_of-only : (s : Stretch) (p q : ℤ) → IsStretch s → target_of s p ≤ℤ q → q <ℤ (target_of s p +ℤ s.factor) → source_of s q ≡ p
+source_of-only s p q stretch start end = let next = target_of-next s p in source_of-is s p q stretch start (rw next end)
 
 -- a scale by n + 1
 abbrev times : ℕ → Stretch
 times n = scale_by (pos (suc n))
 
 -- so the ends of a column change places
-times-opposite_start : (n : ℕ) (p : ℤ) → stretched_to (times n) (opposite p) ≡ ((p +ℤ pos 1) *ℤ negsuc n) +ℤ pos 0
+times-opposite_start : (n : ℕ) (p : ℤ) → target_of (times n) (opposite p) ≡ ((p +ℤ pos 1) *ℤ negsuc n) +ℤ pos 0
 times-opposite_start n p = ap (λ a. a +ℤ pos 0) (sym (end-negative n p))
 
-times-opposite_end : (n : ℕ) (p : ℤ) → stretched_to (times n) (opposite p) +ℤ pos (suc n) ≡ (p *ℤ negsuc n) +ℤ pos 0
-times-opposite_end n p = sym (stretched_to-next (times n) (opposite p)) ∙ ap (λ a. a +ℤ pos 0) (sym (start-negative n p))
+times-opposite_end : (n : ℕ) (p : ℤ) → target_of (times n) (opposite p) +ℤ pos (suc n) ≡ (p *ℤ negsuc n) +ℤ pos 0
+times-opposite_end n p = sym (target_of-next (times n) (opposite p)) ∙ ap (λ a. a +ℤ pos 0) (sym (start-negative n p))
 
 scale_move : (f : ℤ) → IsFactor f → IsMove (nat_abs f) (scale_source f) (stays (scale_by f))
 scale_move (pos zero) factor = absurd (factor.nonzero refl)
 scale_move (pos (suc n)) factor =
     let stretch = IsStretch-size (pos (suc n)) factor in
     subst (λ source. IsMove (suc n) source (stays (times n))) (λ t q. sym (scale_source-positive (suc n) q) t) record {
-      first = stretched_to (times n);
+      first = target_of (times n);
       start = λ q. source_of-start (times n) q stretch;
       end = λ q. source_of-end (times n) q stretch;
       only = λ p q. source_of-only (times n) p q stretch;
       before = stays-before (times n);
       after = λ p kept.
           let ends = stays-after (times n) p kept in
-          let next = stretched_to-next (times n) p in
+          let next = target_of-next (times n) p in
           (ends.start.least, rw (← next) ends.end.greatest);
     }
 scale_move (negsuc n) factor =
     let stretch = IsStretch-size (negsuc n) factor in
     subst (λ source. IsMove (suc n) source (stays (scale_by (negsuc n)))) (λ t q. sym (scale_source-negative n q) t) record {
-      first = λ p. stretched_to (times n) (opposite p);
+      first = λ p. target_of (times n) (opposite p);
       start = λ q. rw (opposite-opposite (source_of (times n) q)) (source_of-start (times n) q stretch);
       end = λ q. rw (opposite-opposite (source_of (times n) q)) (source_of-end (times n) q stretch);
       only = λ p q start end. ap opposite (source_of-only (times n) (opposite p) q stretch start end) ∙ opposite-opposite p;

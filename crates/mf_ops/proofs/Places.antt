@@ -4,8 +4,8 @@ use Rattle.std.specs.Int.{int_max, int_min}
 use Rattle.std.proofs.lemmas.Bool.{cond-false}
 use Rattle.std.proofs.lemmas.Int.{ints, clamps, by_lt_z}
 use Rattle.mf_edges.specs.declared.stretch.Stretch.{Stretch}
-use Rattle.mf_edges.specs.Axes.{IsStretch, stretched_to, source_of, opposite}
-use Rattle.mf_edges.proofs.Sources.{mul-next, stretched_to-next, source_of-reached, source_of-from, source_of-is}
+use Rattle.mf_edges.specs.Axes.{IsStretch, target_of, source_of, opposite}
+use Rattle.mf_edges.proofs.Sources.{mul-next, target_of-next, source_of-reached, source_of-from, source_of-is}
 use Rattle.mf_ops.specs.Moves.{IsFactor, HasPlace, scale_by, scale_source}
 
 pub not_negative : (n : ℕ) → int_lt (pos n) (pos 0) ≡ false
@@ -44,13 +44,13 @@ HasPlace-negative n p q =
     )
 
 -- the part of the source of q begins at q or before it, and ends behind it
-pub source_of-start : (s : Stretch) (q : ℤ) → IsStretch s → stretched_to s (source_of s q) ≤ℤ q
+pub source_of-start : (s : Stretch) (q : ℤ) → IsStretch s → target_of s (source_of s q) ≤ℤ q
 source_of-start s q stretch = source_of-reached s (source_of s q) q stretch (omega (arith, ints))
 
-pub source_of-end : (s : Stretch) (q : ℤ) → IsStretch s → q <ℤ (stretched_to s (source_of s q) +ℤ s.factor)
+pub source_of-end : (s : Stretch) (q : ℤ) → IsStretch s → q <ℤ (target_of s (source_of s q) +ℤ s.factor)
 source_of-end s q stretch =
-    let next = stretched_to-next s (source_of s q) in
-    by_lt_z q (stretched_to s (source_of s q) +ℤ s.factor)
+    let next = target_of-next s (source_of s q) in
+    by_lt_z q (target_of s (source_of s q) +ℤ s.factor)
     (λ inside. inside)
     (λ behind. let further = source_of-from s (source_of s q +ℤ pos 1) q stretch (rw next behind) in absurd (omega (arith, ints)))
 
@@ -59,13 +59,13 @@ covered-positive f q stretch =
     let least = stretch.least in
     let start = source_of-start (scale_by f) q stretch in
     let end = source_of-end (scale_by f) q stretch in
-    let next = stretched_to-next (scale_by f) (source_of (scale_by f) q) in
+    let next = target_of-next (scale_by f) (source_of (scale_by f) q) in
     record { start = omega (arith, ints, clamps); end = omega (arith, ints, clamps) }
 
 only-positive : (f p q : ℤ) → IsStretch (scale_by f) → HasPlace f p q → source_of (scale_by f) q ≡ p
 only-positive f p q stretch has =
     let least = stretch.least in
-    let next = stretched_to-next (scale_by f) p in
+    let next = target_of-next (scale_by f) p in
     source_of-is (scale_by f) p q stretch (omega (arith, ints, clamps)) (omega (arith, ints, clamps))
 
 -- the scale by the absolute value of a factor, which is a stretch

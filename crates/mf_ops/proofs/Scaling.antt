@@ -8,7 +8,7 @@ use Rattle.mf_geom.specs.Field.{IsInField}
 use Rattle.mf_edges.specs.declared.stretch.Stretch.{Stretch}
 use Rattle.mf_rows.specs.Dots.{Dot, IsPicture, start_of_field, weight_at}
 use Rattle.mf_edges.specs.Axes.{IsStretch, PlaceStaysInside, opposite, source_of}
-use Rattle.mf_rows.specs.Moves.{PixelsStayInside, stretched_at}
+use Rattle.mf_rows.specs.Moves.{PixelsStayInside, stretch_at}
 use Rattle.mf_rows.specs.Sums.{HasWeights}
 use Rattle.mf_rows.proofs.DotsLemmas.{dots_from-lawful, weight_at-dot}
 use Rattle.mf_edges.proofs.Sources.{source_of-reached, source_of-from}
@@ -78,8 +78,8 @@ IsInField-sources s x y factors in_field = record {
 -- the reflected picture, stretched, is the scaled one
 HasWeights-reflected : (ds middle new : List Dot) (s : Factors) → AreFactors s
     → HasWeights (reflection_at (int_lt s.x (pos 0)) (int_lt s.y (pos 0)) ds) middle
-    → HasWeights (stretched_at (by_size s.x) (by_size s.y) middle) new → HasWeights (step_at ds (Scale s)) new
-unfolding reflection_at stretched_at scale_source
+    → HasWeights (stretch_at (by_size s.x) (by_size s.y) middle) new → HasWeights (step_at ds (Scale s)) new
+unfolding reflection_at stretch_at scale_source
 HasWeights-reflected ds middle new s factors reflected has = record {
   weights = λ x y in_field.
       has.weights x y in_field
@@ -89,7 +89,7 @@ HasWeights-reflected ds middle new s factors reflected has = record {
 pub HasWeights-scale : (ds middle new : List Dot) (s : Factors) (a b : ℤ) (columns rows sized_columns sized_rows : Stretch)
     → AreMade s.x a columns sized_columns → AreMade s.y b rows sized_rows
     → HasWeights (reflection_at (int_lt a (pos 0)) (int_lt b (pos 0)) ds) middle
-    → HasWeights (stretched_at sized_columns sized_rows middle) new → HasWeights (step_at ds (Scale s)) new
+    → HasWeights (stretch_at sized_columns sized_rows middle) new → HasWeights (step_at ds (Scale s)) new
 HasWeights-scale ds middle new s a b columns rows sized_columns sized_rows x y reflected stretched =
     HasWeights-reflected ds middle new s (record { columns = x.factor; rows = y.factor })
     (rw (x.passed, y.passed) at reflected) (rw (x.sized_is, y.sized_is) at stretched)

@@ -4,7 +4,7 @@ use Rattle.std.proofs.lemmas.Int.{ints}
 use Rattle.mf_geom.specs.Field.{IsInField}
 use Rattle.mf_rows.specs.Dots.{Dot}
 use Rattle.mf_edges.specs.Axes.{opposite}
-use Rattle.mf_rows.specs.Moves.{columns_mirrored_at, rows_mirrored_at, turned_at}
+use Rattle.mf_rows.specs.Moves.{column_mirror_at, row_mirror_at, quarter_turn_at}
 use Rattle.mf_rows.specs.Sums.{HasWeights}
 use Rattle.mf_ops.specs.Reflections.{reflection_at}
 use Rattle.mf_ops.specs.Step.{step_at}
@@ -28,31 +28,31 @@ pub HasWeights-reflected_none : (ds new : List Dot) → new ≡ ds → HasWeight
 unfolding reflection_at
 HasWeights-reflected_none ds new same = record { weights = λ x y in_field. rw same }
 
-pub HasWeights-reflected_columns : (ds new : List Dot) → HasWeights (columns_mirrored_at ds) new → HasWeights (reflection_at true false ds) new
-unfolding reflection_at columns_mirrored_at
+pub HasWeights-reflected_columns : (ds new : List Dot) → HasWeights (column_mirror_at ds) new → HasWeights (reflection_at true false ds) new
+unfolding reflection_at column_mirror_at
 HasWeights-reflected_columns ds new has = record { weights = has.weights }
 
-pub HasWeights-reflected_rows : (ds new : List Dot) → HasWeights (rows_mirrored_at ds) new → HasWeights (reflection_at false true ds) new
-unfolding reflection_at rows_mirrored_at
+pub HasWeights-reflected_rows : (ds new : List Dot) → HasWeights (row_mirror_at ds) new → HasWeights (reflection_at false true ds) new
+unfolding reflection_at row_mirror_at
 HasWeights-reflected_rows ds new has = record { weights = has.weights }
 
-pub HasWeights-reflected_both : (ds middle new : List Dot) → HasWeights (columns_mirrored_at ds) middle
-    → HasWeights (rows_mirrored_at middle) new → HasWeights (reflection_at true true ds) new
-unfolding reflection_at columns_mirrored_at rows_mirrored_at
+pub HasWeights-reflected_both : (ds middle new : List Dot) → HasWeights (column_mirror_at ds) middle
+    → HasWeights (row_mirror_at middle) new → HasWeights (reflection_at true true ds) new
+unfolding reflection_at column_mirror_at row_mirror_at
 HasWeights-reflected_both ds middle new first has =
     record { weights = λ x y in_field. has.weights x y in_field ∙ first.weights x (opposite y) (IsInField-opposite_y x y in_field) }
 
-pub HasWeights-once : (ds new : List Dot) → HasWeights (turned_at ds) new → HasWeights (step_at ds (ops.Quarter Once)) new
-unfolding turned_at
+pub HasWeights-once : (ds new : List Dot) → HasWeights (quarter_turn_at ds) new → HasWeights (step_at ds (ops.Quarter Once)) new
+unfolding quarter_turn_at
 HasWeights-once ds new has = record { weights = has.weights }
 
 pub HasWeights-twice : (ds new : List Dot) → HasWeights (reflection_at true true ds) new → HasWeights (step_at ds (ops.Quarter Twice)) new
 unfolding reflection_at
 HasWeights-twice ds new has = record { weights = has.weights }
 
-pub HasWeights-thrice : (ds middle new : List Dot) → HasWeights (turned_at ds) middle → HasWeights (reflection_at true true middle) new
+pub HasWeights-thrice : (ds middle new : List Dot) → HasWeights (quarter_turn_at ds) middle → HasWeights (reflection_at true true middle) new
     → HasWeights (step_at ds (ops.Quarter Thrice)) new
-unfolding turned_at reflection_at
+unfolding quarter_turn_at reflection_at
 HasWeights-thrice ds middle new first has =
     record {
       weights = λ x y in_field. has.weights x y in_field ∙ first.weights (opposite x) (opposite y)

@@ -3,7 +3,7 @@
 use Rattle.std.specs.Prelude.{◌≢◌, ◌&&◌, Bool, ℤ, pos, neg_ℤ, nat_abs, ◌+ℤ◌, ◌-ℤ◌, ◌*ℤ◌, ◌≤ℤ◌, int_lt}
 use Rattle.std.specs.Int.{int_max, int_min}
 use Rattle.mf_geom.specs.Coordinates.{least_coordinate, greatest_coordinate, last_in_field, is_coordinate}
-use Rattle.mf_edges.specs.Axes.{source_of, stretched_to}
+use Rattle.mf_edges.specs.Axes.{source_of, target_of}
 use Rattle.mf_edges.specs.declared.stretch.Stretch.{Stretch}
 use Rattle.mf_ops.specs.Reflections.{on_side}
 use Rattle.mf_ops.specs.declared.quarter.Quarter.{Quarter}
@@ -66,4 +66,4 @@ degrees Thrice = pos 270
 -- whether a stretch takes column, or row, p to a part of the field, that is, whether both of its ends keep a coordinate: the fact
 -- `PlaceStaysInside` as a value, since a refusal is computed
 abbrev pub stays_inside : Stretch → ℤ → Bool
-stays_inside s p = is_coordinate (stretched_to s p) && is_coordinate (stretched_to s (p +ℤ pos 1))
+stays_inside s p = is_coordinate (target_of s p) && is_coordinate (target_of s (p +ℤ pos 1))

@@ -1,6 +1,6 @@
 //! Culls: each pixel gets a new weight that depends on whether its old one lies in a given range.
 ghost use Rattle.std.specs.Prelude.{◌≡◌, ◌↔◌, ℤ, IsOk, IfOk};
-ghost use Rattle.mf_edges.specs.WeightMaps.{IsWeightMap, mapped_to};
+ghost use Rattle.mf_edges.specs.WeightMaps.{IsWeightMap, mapped_weight};
 ghost use Rattle.mf_ops.specs.Cull.{IsLawfulCull, culled_weight};
 ghost use Rattle.mf_ops.specs.declared.cull.CullRule.TheVariants.{Keeping, Dropping};
 
@@ -89,7 +89,7 @@ impl Cull {
     /// The map from old to new weights that this cull applies to each pixel.
     pub(crate) fn weight_map(&self) -> WeightMap
         ensures lawful { IsWeightMap result }
-        ensures value { (v : ℤ) → mapped_to result v ≡ culled_weight self.now v }
+        ensures value { (v : ℤ) → mapped_weight result v ≡ culled_weight self.now v }
     {
         WeightMap::Choose(match self.rule {
             CullRule::Keeping(low, high, weight) => Choice {

@@ -2,7 +2,7 @@
 ghost use Rattle.std.specs.Prelude.{◌≡◌, ◌≢◌, ◌↔◌, None, Some, Err, IfOk, IfErr, OnOk, IsTrue};
 ghost use Rattle.mf_geom.specs.Coordinates.{IsCoordinate};
 ghost use Rattle.mf_rows.specs.Dots.{IsPicture};
-ghost use Rattle.mf_edges.specs.Axes.{PlaceStaysInside, stretched_to};
+ghost use Rattle.mf_edges.specs.Axes.{PlaceStaysInside, target_of};
 ghost use Rattle.mf_rows.specs.Moves.{PixelsStayInside};
 ghost use Rattle.mf_rows.specs.Sums.{HasWeights};
 ghost use Rattle.mf_ops.specs.Moves.{IsInAxis};
@@ -138,7 +138,7 @@ fn lies_inside(stretch: &Stretch, place: i32) -> bool
 /// Whether a point stays in -4095..=4095 under a stretch.
 fn stays_in_range(stretch: &Stretch, point: i32) -> bool
     requires { IsCoordinate point }
-    ensures { IsTrue result ↔ IsCoordinate (stretched_to stretch.now point) }
+    ensures { IsTrue result ↔ IsCoordinate (target_of stretch.now point) }
 {
     let new = i64::from(point) * i64::from(stretch.factor) + i64::from(stretch.offset);
     -FARTHEST <= new && new <= FARTHEST

@@ -36,7 +36,7 @@ fewer_behind_first n ss (o ∷ own) rest r below first reached split = omega (ar
 -- ---- the sum so far
 
 -- the numbers of its bands are less than `next`, and those of the bands that are left, and of the bands of the rows that are left, are not
-pub record IsSumSoFar (whole_left whole_right : List EdgeRow) (sum bs : List (Arc Band Global)) (ss : List EdgeRow) : Type 0 where
+pub record IsBandSumSoFar (whole_left whole_right : List EdgeRow) (sum bs : List (Arc Band Global)) (ss : List EdgeRow) : Type 0 where
   pub rows : IsRowSumSoFar whole_left whole_right (rows_of_bands sum) (rows_of_bands bs) ss
   pub next : ℤ
   pub before : RiseBefore next sum
@@ -44,7 +44,7 @@ pub record IsSumSoFar (whole_left whole_right : List EdgeRow) (sum bs : List (Ar
   pub added : AreBelow (lowest_of (next -ℤ pos 1)) ss
 
 pub nothing_added : (bs : List (Arc Band Global)) (ss : List EdgeRow) → AreRows (rows_of_bands bs) → AreRows ss → HaveRisingNumbers bs
-    → IsSumSoFar (rows_of_bands bs) ss [] bs ss
+    → IsBandSumSoFar (rows_of_bands bs) ss [] bs ss
 nothing_added bs ss left right rising = record {
   rows = sum_none (rows_of_bands bs) ss left right;
   next = pos 0;
@@ -54,7 +54,7 @@ nothing_added bs ss left right rising = record {
 }
 
 module _ {whole_left whole_right : List EdgeRow} {sum bs : List (Arc Band Global)} {ss : List EdgeRow}
-    (so_far : IsSumSoFar whole_left whole_right sum bs ss) where
+    (so_far : IsBandSumSoFar whole_left whole_right sum bs ss) where
   pub left_rise : HaveRisingNumbers bs
   left_rise = rise-wider so_far.next (pos 512) (pos 0) (pos 512) (numbers_of bs)
       (rise-ends (pos 0) so_far.next (numbers_of sum) so_far.before) (omega (arith, ints)) so_far.left
@@ -112,7 +112,7 @@ module _ {whole_left whole_right : List EdgeRow} {sum bs : List (Arc Band Global
         pub added_more : {of_number rest after : List (Arc Band Global)} {middle added left : List EdgeRow}
             → IsSplitAtBand n others of_number rest → AreSplitAtBand n ss added left
             → middle ≡ rows_of_bands sum ++ rows_of_bands before → HasSum middle (rows_of_bands of_number) added (rows_of_bands after)
-            → RiseBefore (n +ℤ pos 1) after → IsSumSoFar whole_left whole_right after rest left
+            → RiseBefore (n +ℤ pos 1) after → IsBandSumSoFar whole_left whole_right after rest left
         added_more {left = left} own_split added_split all more rising =
             let same : lowest_of n ≡ lowest_of ((n +ℤ pos 1) -ℤ pos 1) = omega (arith, ints) in
             record {

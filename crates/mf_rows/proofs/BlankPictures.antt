@@ -11,7 +11,7 @@ use Rattle.mf_edges.specs.WeightMaps.{IsWeightMap}
 use Rattle.mf_rows.specs.Dots.{Dot, weight_at}
 use Rattle.mf_rows.specs.EdgeRows.{EdgeRow, AreRows, picture_of_rows}
 use Rattle.mf_rows.specs.Sums.{HasWeights, sum_at}
-use Rattle.mf_rows.specs.WeightMaps.{mapped_at}
+use Rattle.mf_rows.specs.WeightMaps.{mapped_weight_at}
 use Rattle.mf_rows.proofs.EdgeRowsLemmas.{weight_at-picture_of_rows}
 use Rattle.mf_rows.proofs.RowSumSteps.{no_row}
 
@@ -38,6 +38,6 @@ unfolding sum_at weight_at
 blank_added ds es blank = rw blank (record { weights = λ x y inside. omega (arith, ints) })
 
 -- weight 0 stays 0
-pub blank_mapped : (ds : List Dot) (m : WeightMap) → ds ≡ [] → IsWeightMap m → HasWeights (mapped_at m ds) []
-unfolding mapped_at weight_at
+pub blank_mapped : (ds : List Dot) (m : WeightMap) → ds ≡ [] → IsWeightMap m → HasWeights (mapped_weight_at m ds) []
+unfolding mapped_weight_at weight_at
 blank_mapped ds m blank map = rw blank (record { weights = λ x y inside. sym map.zero })

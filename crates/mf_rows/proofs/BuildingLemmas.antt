@@ -127,38 +127,38 @@ pixels_before rs row r rows run ends =
 -- ---- the last of open rows
 
 -- the last of the rows that are being built
-pub record IsLast (rows : List OpenRow) (last : OpenRow) : Type 0 where
+pub record IsLastRow (rows : List OpenRow) (last : OpenRow) : Type 0 where
   pub some : 0 < length rows
   pub here : last ≡ get_or rows (length rows - 1) last
 
-pub last_is_last : (rows : List OpenRow) (d : OpenRow) → 0 < length rows → IsLast rows (get_or rows (length rows - 1) d)
+pub last_is_last : (rows : List OpenRow) (d : OpenRow) → 0 < length rows → IsLastRow rows (get_or rows (length rows - 1) d)
 last_is_last rows d some = record { some = some; here = get_or_default rows (length rows - 1) d (get_or rows (length rows - 1) d) (omega arith) }
 
 -- the rows before the last one
 abbrev pub front : List OpenRow → List EdgeRow
 front rows = open_rows (take (length rows - 1) rows)
 
-open_rows-last : (rows : List OpenRow) (last : OpenRow) → IsLast rows last → open_rows rows ≡ front rows ++ open_row last ∷ []
+open_rows-last : (rows : List OpenRow) (last : OpenRow) → IsLastRow rows last → open_rows rows ≡ front rows ++ open_row last ∷ []
 open_rows-last rows last is_last =
     ap open_rows (sym (take_all (length rows - 1 + 1) rows (omega (arith, is_last.some))))
     ∙ map_more open_row rows (length rows - 1) last (omega (arith, is_last.some))
     ∙ ap (λ row. front rows ++ open_row row ∷ []) (sym is_last.here)
 
-lawful-last : (rows : List OpenRow) (last : OpenRow) → AreRows (open_rows rows) → IsLast rows last → AreRows (front rows ++ open_row last ∷ [])
+lawful-last : (rows : List OpenRow) (last : OpenRow) → AreRows (open_rows rows) → IsLastRow rows last → AreRows (front rows ++ open_row last ∷ [])
 lawful-last rows last lawful is_last = subst AreRows (open_rows-last rows last is_last) lawful
 
-pub last_open_row : (rows : List OpenRow) (last : OpenRow) → AreRows (open_rows rows) → IsLast rows last → IsEdgeRow (open_row last)
+pub last_open_row : (rows : List OpenRow) (last : OpenRow) → AreRows (open_rows rows) → IsLastRow rows last → IsEdgeRow (open_row last)
 last_open_row rows last lawful is_last = last_row (front rows) (open_row last) (lawful-last rows last lawful is_last)
 
 -- all pixels come before a run where the last row ends before it
 pub before_from_last : (rows : List OpenRow) (last : OpenRow) (r : Run) → AreRows (open_rows rows) → IsRun r
-    → IsLast rows last → EndsBefore (open_row last) r → AreBefore (place r.x r.y) (picture_of_rows (open_rows rows))
+    → IsLastRow rows last → EndsBefore (open_row last) r → AreBefore (place r.x r.y) (picture_of_rows (open_rows rows))
 before_from_last rows last r lawful run is_last ends =
     rw (open_rows-last rows last is_last) (pixels_before (front rows) (open_row last) r (lawful-last rows last lawful is_last) run ends)
 
 -- and only where it does
 pub last_ends_before : (rows : List OpenRow) (last : OpenRow) (r : Run) → AreRows (open_rows rows) → IsRun r
-    → IsLast rows last → AreBefore (place r.x r.y) (picture_of_rows (open_rows rows)) → EndsBefore (open_row last) r
+    → IsLastRow rows last → AreBefore (place r.x r.y) (picture_of_rows (open_rows rows)) → EndsBefore (open_row last) r
 last_ends_before rows last r lawful run is_last before =
     EndsBefore-from_pixels (front rows) (open_row last) r (lawful-last rows last lawful is_last) run
     (subst (λ rs. AreBefore (place r.x r.y) (picture_of_rows rs)) (open_rows-last rows last is_last) before)
@@ -208,24 +208,24 @@ pushed ds rs old new r picture fits rows above row has weights =
 -- ---- pushing on open rows
 
 -- the rows with another last row
-open_rows-set_last : (rows : List OpenRow) (last new : OpenRow) → IsLast rows last
+open_rows-set_last : (rows : List OpenRow) (last new : OpenRow) → IsLastRow rows last
     → open_rows (set rows (length rows - 1) new) ≡ front rows ++ open_row new ∷ []
 open_rows-set_last rows last new is_last =
     ap open_rows (sym (take_all (length rows - 1 + 1) (set rows (length rows - 1) new) (omega (arith, is_last.some, length-set rows (length rows - 1) new)))
     ∙ take_more_set rows (length rows - 1) new (omega (arith, is_last.some)))
     ∙ map_push open_row (take (length rows - 1) rows) new
 
-pub rows-kept_last : (rows : List OpenRow) (last new : OpenRow) → IsLast rows last → open_row new ≡ open_row last
+pub rows-kept_last : (rows : List OpenRow) (last new : OpenRow) → IsLastRow rows last → open_row new ≡ open_row last
     → open_rows (set rows (length rows - 1) new) ≡ open_rows rows
 rows-kept_last rows last new is_last same =
     open_rows-set_last rows last new is_last ∙ ap (λ row. front rows ++ row ∷ []) same ∙ sym (open_rows-last rows last is_last)
 
-above_front : (rows : List OpenRow) (last : OpenRow) (r : Run) → AreRows (open_rows rows) → IsLast rows last → last.y ≡ r.y → AreAbove r.y (front rows)
+above_front : (rows : List OpenRow) (last : OpenRow) (r : Run) → AreRows (open_rows rows) → IsLastRow rows last → last.y ≡ r.y → AreAbove r.y (front rows)
 above_front rows last r lawful is_last row =
     subst (λ y. AreAbove y (front rows)) row (above-last (front rows) (open_row last) (lawful-last rows last lawful is_last))
 
 pub rows-pushed_on_last : (rows : List OpenRow) (last new : OpenRow) (r : Run) → AreRows (open_rows rows) → IsRun r
-    → IsLast rows last → last.y ≡ r.y → HasRun (open_row last) r (open_row new) → AreRows (open_rows (set rows (length rows - 1) new))
+    → IsLastRow rows last → last.y ≡ r.y → HasRun (open_row last) r (open_row new) → AreRows (open_rows (set rows (length rows - 1) new))
 rows-pushed_on_last rows last new r lawful run is_last row has =
     let before : AreRows (front rows) =
     record { rows = rows_from-front last_in_field (front rows) (open_row last ∷ []) (lawful-last rows last lawful is_last).rows } in
@@ -233,7 +233,7 @@ rows-pushed_on_last rows last new r lawful run is_last row has =
     (pushed_rows (front rows) (open_row last) (open_row new) r before (above_front rows last r lawful is_last row) run has)
 
 pub picture-pushed_on_last : (rows : List OpenRow) (last new : OpenRow) (r : Run) → AreRows (open_rows rows)
-    → Fits (picture_of_rows (open_rows rows)) r → IsLast rows last → last.y ≡ r.y
+    → Fits (picture_of_rows (open_rows rows)) r → IsLastRow rows last → last.y ≡ r.y
     → HasRun (open_row last) r (open_row new) → picture_of_rows (open_rows (set rows (length rows - 1) new)) ≡ picture_of_rows (open_rows rows) ++ dots_of r
 picture-pushed_on_last rows last new r lawful fits is_last row has =
     let split = open_rows-set_last rows last new is_last in

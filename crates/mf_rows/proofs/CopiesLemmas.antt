@@ -9,7 +9,7 @@ use Rattle.mf_edges.specs.declared.edge.Edge.{Edge}
 use Rattle.mf_rows.specs.declared.row_list.Head.{Head}
 use Rattle.mf_rows.specs.declared.row_list.Place.{Place}
 use Rattle.mf_rows.specs.declared.row_list.Place.TheVariants as place
-use Rattle.mf_rows.specs.Copies.{IsWithin, IsMovable, IsMoved, IsCopied}
+use Rattle.mf_rows.specs.Copies.{LiesBetween, IsMovable, IsMoved, IsCopied}
 use Rattle.mf_rows.specs.EdgeRows.{EdgeRow}
 use Rattle.mf_rows.specs.RowLists.{edges_between, edges_at, row_at, rows_at, IsRange, IsThere, IsPlaceOf, IsHead, AreHeads}
 use Rattle.mf_rows.proofs.RowListLemmas.{nothing_more, heads_push, rows_push}
@@ -24,22 +24,22 @@ take_next hs n h inside item = take_more hs n h inside ∙ ap (λ (g : Head). ta
 
 -- ---- places within places
 
-within_wider : (i j k l : ℕ) → k ≤ i → j ≤ l → (p : Place) → IsWithin i j p → IsWithin k l p
+within_wider : (i j k l : ℕ) → k ≤ i → j ≤ l → (p : Place) → LiesBetween i j p → LiesBetween k l p
 within_wider i j k l first last (place.Among m n) within = (omega (arith, within.0), omega (arith, within.1))
 within_wider i j k l first last (place.Own own) within = tt
 
 pub within_more : (i j k l : ℕ) → k ≤ i → j ≤ l → (hs : List Head) (n : ℕ) (h : Head) → n < length hs → h ≡ get_or hs n h
-    → All (λ g. IsWithin i j g.place) (take n hs) → IsWithin k l h.place → All (λ g. IsWithin k l g.place) (take (n + 1) hs)
+    → All (λ g. LiesBetween i j g.place) (take n hs) → LiesBetween k l h.place → All (λ g. LiesBetween k l g.place) (take (n + 1) hs)
 within_more i j k l first last hs n h inside item so_far here =
-    subst (All (λ g. IsWithin k l g.place)) (sym (take_next hs n h inside item))
-    (All-push (λ g. IsWithin k l g.place) (take n hs) h
-    (All-weaker (λ g. IsWithin i j g.place) (λ g. IsWithin k l g.place) (λ g. within_wider i j k l first last g.place) (take n hs) so_far) here)
+    subst (All (λ g. LiesBetween k l g.place)) (sym (take_next hs n h inside item))
+    (All-push (λ g. LiesBetween k l g.place) (take n hs) h
+    (All-weaker (λ g. LiesBetween i j g.place) (λ g. LiesBetween k l g.place) (λ g. within_wider i j k l first last g.place) (take n hs) so_far) here)
 
 pub within_all : (i j l : ℕ) → j ≤ l → (hs : List Head) (n : ℕ) → length hs ≤ n
-    → All (λ g. IsWithin i j g.place) (take n hs) → All (λ g. IsWithin i l g.place) hs
+    → All (λ g. LiesBetween i j g.place) (take n hs) → All (λ g. LiesBetween i l g.place) hs
 within_all i j l last hs n all so_far =
-    All-weaker (λ g. IsWithin i j g.place) (λ g. IsWithin i l g.place) (λ g. within_wider i j i l (omega arith) last g.place) hs
-    (subst (All (λ g. IsWithin i j g.place)) (take_all n hs all) so_far)
+    All-weaker (λ g. LiesBetween i j g.place) (λ g. LiesBetween i l g.place) (λ g. within_wider i j i l (omega arith) last g.place) hs
+    (subst (All (λ g. LiesBetween i j g.place)) (take_all n hs all) so_far)
 
 -- ---- a part of a part
 
@@ -71,13 +71,13 @@ module _ (es : List Edge) (hs : List Head) (i : ℕ) (ds : List Edge) (j : ℕ) 
       ∙ ap (λ fs. edges_between fs (k - i) (l - i)) copied.same
       ∙ between_part es i copied.end k l first order last
 
-  pub place_movable : (p : Place) → IsThere es p → IsWithin i copied.end p → IsMovable i j p
+  pub place_movable : (p : Place) → IsThere es p → LiesBetween i copied.end p → IsMovable i j p
   place_movable (place.Among k l) there within =
       let order = there.order in
       (within.0, order, omega (arith, within.0, within.1, copied.fits))
   place_movable (place.Own own) there within = tt
 
-  place_moved : (p q : Place) → IsThere es p → IsWithin i copied.end p → IsMoved i j p q → IsPlaceOf ds q (edges_at es p)
+  place_moved : (p q : Place) → IsThere es p → LiesBetween i copied.end p → IsMoved i j p q → IsPlaceOf ds q (edges_at es p)
   place_moved (place.Among k l) q there within moved =
       let order = there.order in
       let range = copied.there.within in
@@ -101,8 +101,8 @@ module _ (es : List Edge) (hs : List Head) (i : ℕ) (ds : List Edge) (j : ℕ) 
     head_is : IsHead es h
     head_is = head_at es hs placed n h inside item
 
-    within_is : IsWithin i copied.end h.place
-    within_is = subst (λ (g : Head). IsWithin i copied.end g.place) (sym item) (copied.within n h inside)
+    within_is : LiesBetween i copied.end h.place
+    within_is = subst (λ (g : Head). LiesBetween i copied.end g.place) (sym item) (copied.within n h inside)
 
     pub head_movable : IsMovable i j h.place
     head_movable = place_movable es hs i ds j copied h.place head_is.there within_is
@@ -127,7 +127,7 @@ moved_all es ds before after hs n all so_far = so_far.rows ∙ ap (λ (gs : List
 
 -- ---- edges are appended to others
 
-pub copied_behind : (es fs ds : List Edge) (hs : List Head) (i end : ℕ) → IsRange es i end → All (λ h. IsWithin i end h.place) hs
+pub copied_behind : (es fs ds : List Edge) (hs : List Head) (i end : ℕ) → IsRange es i end → All (λ h. LiesBetween i end h.place) hs
     → ds ≡ fs ++ edges_between es i end → length ds < 2 ^ 64 → IsCopied es hs i ds (length fs)
 copied_behind es fs ds hs i end range within all fits =
     let part : List Edge = edges_between es i end in

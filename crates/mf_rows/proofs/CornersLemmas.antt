@@ -250,13 +250,13 @@ pub swept_at : (all : List Corner) (place : ℕ) (d : Corner) (es : List Edge) (
 swept_at all place d es rs lt swept = rw (drop_more all place d lt) at swept
 
 -- its numbers pass through bits unchanged
-pub record IsReadBack (k : Corner) : Type 0 where
+pub record PassesBits (k : Corner) : Type 0 where
   pub x : to_z w32 (of_z w32 k.x) ≡ k.x
   pub y : to_z w32 (of_z w32 k.y) ≡ k.y
   pub weight : to_z w32 (of_z w32 k.weight) ≡ k.weight
   pub lawful : IsLawfulWeight k.weight
 
-pub corner_read_back : (k : Corner) → IsCorner k → IsReadBack k
+pub corner_read_back : (k : Corner) → IsCorner k → PassesBits k
 corner_read_back k corner = record {
   x = omega (arith, ints);
   y = omega (arith, ints);

@@ -26,20 +26,20 @@ run_decides r s =
 
 module _ {S T A : Type 0} (rest : S → List A) (others : T → List A) (eq : A → A → Bool) (decides : (x y : A) → Decides (eq x y) (x ≡ y)) (b : Bool) where
   -- what the last two calls of a comparison say of its answer
-  abbrev IsLast : Option A → Option A → Type 0
-  IsLast o p = MatchOption o (MatchOption p (b ≡ true) (λ _. b ≡ false)) (λ x. (b ≡ false) × IfSome p (λ y. eq x y ≡ false))
+  abbrev IsLastStep : Option A → Option A → Type 0
+  IsLastStep o p = MatchOption o (MatchOption p (b ≡ true) (λ _. b ≡ false)) (λ x. (b ≡ false) × IfSome p (λ y. eq x y ≡ false))
 
   refuted : {P : Type 0} → b ≡ false → (P → ⊥) → Decides b P
   refuted fails differs = (λ yes. absurd (false≢true (sym fails ∙ yes)), λ same. absurd (differs same))
 
-  at_last : (o p : Option A) (s u : S) (t w : T) → YieldsFirst rest s o u → YieldsFirst others t p w → IsLast o p → Decides b (rest s ≡ others t)
+  at_last : (o p : Option A) (s u : S) (t w : T) → YieldsFirst rest s o u → YieldsFirst others t p w → IsLastStep o p → Decides b (rest s ≡ others t)
   at_last None None s u t w left right last = (λ yes. left.0 ∙ sym right.0, λ same. last)
   at_last None (Some y) s u t w left right last = refuted last (λ same. absurd cc)
   at_last (Some x) None s u t w left right last = refuted last.0 (λ same. absurd cc)
   at_last (Some x) (Some y) s u t w left right last = refuted last.0 (λ same. not_from_Decides (eq x y) (decides x y) last.1 cc)
 
   along : (xs ys : List A) (o p : Option A) (s u : S) (t w : T) → YieldsThen (YieldsFirst rest) s xs o u
-      → YieldsThen (YieldsFirst others) t ys p w → AllZip (λ x y. eq x y ≡ true) xs ys → IsLast o p → Decides b (rest s ≡ others t)
+      → YieldsThen (YieldsFirst others) t ys p w → AllZip (λ x y. eq x y ≡ true) xs ys → IsLastStep o p → Decides b (rest s ≡ others t)
   along [] [] o p s u t w left right pairs last =
       at_last o p s u t w (subst (λ j. YieldsFirst rest j o u) (sym left.1) left.2) (subst (λ j. YieldsFirst others j p w) (sym right.1) right.2) last
   along [] (y ∷ ys) o p s u t w left right pairs last = absurd pairs

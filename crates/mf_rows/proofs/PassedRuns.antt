@@ -52,34 +52,34 @@ lawful_runs_of [] dots = All-nil IsRun
 lawful_runs_of (d ∷ ds) dots = lawful_with_dot d (runs_of ds) (All-head IsDot d ds dots) (lawful_runs_of ds (All-tail IsDot d ds dots))
 
 -- the first dots are those before the dots of the last runs
-pub record ArePassed (ds : List Dot) (rs : List Run) (passed : List Dot) : Type 0 where
+pub record ArePassedDots (ds : List Dot) (rs : List Run) (passed : List Dot) : Type 0 where
   pub split : ds ≡ passed ++ flat_map dots_of rs
   pub runs : All IsRun rs
 
-pub none_passed : (ds : List Dot) (rs : List Run) → IsPicture ds → rs ≡ runs_of ds → ArePassed ds rs []
+pub none_passed : (ds : List Dot) (rs : List Run) → IsPicture ds → rs ≡ runs_of ds → ArePassedDots ds rs []
 none_passed ds rs picture all = rw all (record { split = sym (dots_of-runs_of ds); runs = lawful_runs_of ds (dots_from-lawful start_of_field ds picture.dots) })
 
 -- the first of the last runs is lawful, and is passed next
-pub next_is_lawful : (ds : List Dot) (rs : List Run) (r : Run) (others : List Run) (passed : List Dot) → rs ≡ r ∷ others → ArePassed ds rs passed → IsRun r
+pub next_is_lawful : (ds : List Dot) (rs : List Run) (r : Run) (others : List Run) (passed : List Dot) → rs ≡ r ∷ others → ArePassedDots ds rs passed → IsRun r
 next_is_lawful ds rs r others passed first so_far = All-head IsRun r others (All-same IsRun (r ∷ others) rs (sym first) so_far.runs)
 
 pub one_more_passed : (ds : List Dot) (rs : List Run) (r : Run) (others : List Run) (passed : List Dot)
-    → rs ≡ r ∷ others → ArePassed ds rs passed → ArePassed ds others (passed ++ dots_of r)
+    → rs ≡ r ∷ others → ArePassedDots ds rs passed → ArePassedDots ds others (passed ++ dots_of r)
 one_more_passed ds rs r others passed first so_far = record {
   split = so_far.split ∙ rw first (sym (append_assoc passed (dots_of r) (flat_map dots_of others)));
   runs = All-rest IsRun r others rs first so_far.runs;
 }
 
-pub all_passed : (ds : List Dot) (rs : List Run) (passed : List Dot) → rs ≡ [] → ArePassed ds rs passed → passed ≡ ds
+pub all_passed : (ds : List Dot) (rs : List Run) (passed : List Dot) → rs ≡ [] → ArePassedDots ds rs passed → passed ≡ ds
 all_passed ds rs passed none so_far = sym (so_far.split ∙ rw none (append-nil passed))
 
 -- passed dots are dots of the picture
-pub passed_are_lawful : (ds : List Dot) (rs : List Run) (passed : List Dot) → IsPicture ds → ArePassed ds rs passed → All IsDot passed
+pub passed_are_lawful : (ds : List Dot) (rs : List Run) (passed : List Dot) → IsPicture ds → ArePassedDots ds rs passed → All IsDot passed
 passed_are_lawful ds rs passed picture so_far = λ k d lt.
     let rest = flat_map dots_of rs in
     let within : k < length (passed ++ rest) = rw length-append (omega (arith, lt)) in
     subst IsDot (get_or_append_left passed rest d k lt)
     (All-same IsDot (passed ++ rest) ds (sym so_far.split) (dots_from-lawful start_of_field ds picture.dots) k d within)
 
-pub length-passed : (ds : List Dot) (rs : List Run) (passed : List Dot) → ArePassed ds rs passed → length passed ≤ length ds
+pub length-passed : (ds : List Dot) (rs : List Run) (passed : List Dot) → ArePassedDots ds rs passed → length passed ≤ length ds
 length-passed ds rs passed so_far = rw (so_far.split, length-append) (omega arith)

@@ -15,11 +15,11 @@ use Rattle.mf_rows.specs.Dots.{Dot, weight_at}
 use Rattle.mf_edges.specs.Edges.{weight_in}
 use Rattle.mf_rows.specs.EdgeRows.{EdgeRow, AreRowsFrom, AreRows, weight_in_rows, picture_of_rows}
 use Rattle.mf_edges.specs.Axes.{opposite, source_of}
-use Rattle.mf_rows.specs.Moves.{columns_mirrored_at, columns_stretched_at, rows_mirrored_at, turned_at}
-use Rattle.mf_rows.specs.RowChanges.{changed_in_rows, mirrored_in_rows, turned_in_rows}
+use Rattle.mf_rows.specs.Moves.{column_mirror_at, column_stretch_at, row_mirror_at, quarter_turn_at}
+use Rattle.mf_rows.specs.RowChanges.{image_in_rows, mirror_in_rows, quarter_turn_in_rows}
 use Rattle.mf_rows.specs.Sums.{HasWeights, IsUnlawfulSomewhere, weight_in_all, sum_at, HaveFieldWeights, HaveRowWeights}
-use Rattle.mf_edges.specs.WeightMaps.{mapped_to}
-use Rattle.mf_rows.specs.WeightMaps.{mapped_at}
+use Rattle.mf_edges.specs.WeightMaps.{mapped_weight}
+use Rattle.mf_rows.specs.WeightMaps.{mapped_weight_at}
 use Rattle.mf_rows.proofs.EdgeRowsLemmas.{weight_in_rows-here, weight_in_rows-elsewhere, weight_in_rows-none, weight_in_rows-below, rows_from-below, weight_at-picture_of_rows}
 
 -- ---- one row among rows
@@ -100,29 +100,29 @@ unlawful_with_corners ds ks {rs = rs} rows added unlawful =
 -- ---- rows are changed, or move
 
 pub weights_mapped : (m : WeightMap) (rs mapped : List EdgeRow) → AreRows rs → AreRows mapped
-    → HaveRowWeights (changed_in_rows (change.Weights m) rs) mapped → HasWeights (mapped_at m (picture_of_rows rs)) (picture_of_rows mapped)
-unfolding mapped_at changed_in_rows
+    → HaveRowWeights (image_in_rows (change.Weights m) rs) mapped → HasWeights (mapped_weight_at m (picture_of_rows rs)) (picture_of_rows mapped)
+unfolding mapped_weight_at image_in_rows
 weights_mapped m rs mapped rows lawful has = record {
-  weights = λ x y inside. weight_at-picture_of_rows mapped x y lawful ∙ has.weights x y ∙ ap (mapped_to m) (sym (weight_at-picture_of_rows rs x y rows));
+  weights = λ x y inside. weight_at-picture_of_rows mapped x y lawful ∙ has.weights x y ∙ ap (mapped_weight m) (sym (weight_at-picture_of_rows rs x y rows));
 }
 
 pub weights_of_columns_mirrored : (rs mirrored : List EdgeRow) → AreRows rs → AreRows mirrored
-    → HaveRowWeights (changed_in_rows change.Mirror rs) mirrored → HasWeights (columns_mirrored_at (picture_of_rows rs)) (picture_of_rows mirrored)
-unfolding columns_mirrored_at changed_in_rows
+    → HaveRowWeights (image_in_rows change.Mirror rs) mirrored → HasWeights (column_mirror_at (picture_of_rows rs)) (picture_of_rows mirrored)
+unfolding column_mirror_at image_in_rows
 weights_of_columns_mirrored rs mirrored rows lawful has = record {
   weights = λ x y inside. weight_at-picture_of_rows mirrored x y lawful ∙ has.weights x y ∙ sym (weight_at-picture_of_rows rs (opposite x) y rows);
 }
 
 pub weights_of_columns_stretched : (s : Stretch) (rs changed : List EdgeRow) → AreRows rs → AreRows changed
-    → HaveRowWeights (changed_in_rows (change.Columns s) rs) changed → HasWeights (columns_stretched_at s (picture_of_rows rs)) (picture_of_rows changed)
-unfolding columns_stretched_at changed_in_rows
+    → HaveRowWeights (image_in_rows (change.Columns s) rs) changed → HasWeights (column_stretch_at s (picture_of_rows rs)) (picture_of_rows changed)
+unfolding column_stretch_at image_in_rows
 weights_of_columns_stretched s rs changed rows lawful has = record {
   weights = λ x y inside. weight_at-picture_of_rows changed x y lawful ∙ has.weights x y ∙ sym (weight_at-picture_of_rows rs (source_of s x) y rows);
 }
 
 pub weights_of_rows_mirrored : (rs mirrored : List EdgeRow) → AreRows rs → AreRows mirrored
-    → HaveRowWeights (mirrored_in_rows rs) mirrored → HasWeights (rows_mirrored_at (picture_of_rows rs)) (picture_of_rows mirrored)
-unfolding rows_mirrored_at mirrored_in_rows
+    → HaveRowWeights (mirror_in_rows rs) mirrored → HasWeights (row_mirror_at (picture_of_rows rs)) (picture_of_rows mirrored)
+unfolding row_mirror_at mirror_in_rows
 weights_of_rows_mirrored rs mirrored rows lawful has = record {
   weights = λ x y inside. weight_at-picture_of_rows mirrored x y lawful ∙ has.weights x y ∙ sym (weight_at-picture_of_rows rs x (opposite y) rows);
 }
@@ -130,8 +130,8 @@ weights_of_rows_mirrored rs mirrored rows lawful has = record {
 -- ---- pictures are turned
 
 pub weights_turned : (rs turned : List EdgeRow) → AreRows rs → AreRows turned
-    → HaveRowWeights (turned_in_rows rs) turned → HasWeights (turned_at (picture_of_rows rs)) (picture_of_rows turned)
-unfolding turned_at turned_in_rows
+    → HaveRowWeights (quarter_turn_in_rows rs) turned → HasWeights (quarter_turn_at (picture_of_rows rs)) (picture_of_rows turned)
+unfolding quarter_turn_at quarter_turn_in_rows
 weights_turned rs turned rows lawful has = record {
   weights = λ x y inside. weight_at-picture_of_rows turned x y lawful ∙ has.weights x y ∙ sym (weight_at-picture_of_rows rs y (opposite x) rows);
 }

@@ -35,16 +35,16 @@ unfolding place start_of_field
 place-lt x y inside = omega (arith, ints)
 
 -- the n columns from x on lie in the field, in row y
-pub record AreColumns (x y : ℤ) (n : ℕ) : Type 0 where
+pub record AreFieldColumns (x y : ℤ) (n : ℕ) : Type 0 where
   pub left : least_coordinate ≤ℤ x
   pub right : (x +ℤ pos n) ≤ℤ greatest_coordinate
   pub bottom : least_coordinate ≤ℤ y
   pub top : y ≤ℤ last_in_field
 
-pub first_column : (x y : ℤ) (n : ℕ) → AreColumns x y (suc n) → IsInField x y
+pub first_column : (x y : ℤ) (n : ℕ) → AreFieldColumns x y (suc n) → IsInField x y
 first_column x y n columns = record { left = columns.left; right = omega (arith, ints, columns.right); bottom = columns.bottom; top = columns.top }
 
-pub next_columns : (x y : ℤ) (n : ℕ) → AreColumns x y (suc n) → AreColumns (x +ℤ pos 1) y n
+pub next_columns : (x y : ℤ) (n : ℕ) → AreFieldColumns x y (suc n) → AreFieldColumns (x +ℤ pos 1) y n
 next_columns x y n columns = record {
   left = omega (arith, ints, columns.left);
   right = omega (arith, ints, columns.right);

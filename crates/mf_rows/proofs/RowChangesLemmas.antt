@@ -17,8 +17,8 @@ use Rattle.mf_rows.specs.Bands.{edge_row, edge_rows, AreBelow}
 use Rattle.mf_rows.specs.BlankRows.{unless_blank}
 use Rattle.mf_edges.specs.Edges.{weight_in}
 use Rattle.mf_rows.specs.EdgeRows.{EdgeRow, AreRowsFrom, AreRows, weight_in_rows}
-use Rattle.mf_edges.specs.RowChanges.{row_image, IsRowChange, EdgesAllowChange, changed_in, AreChanged}
-use Rattle.mf_rows.specs.RowChanges.{RowsAllowChange, changed_in_rows}
+use Rattle.mf_edges.specs.RowChanges.{row_image, IsRowChange, EdgesAllowChange, image_in, AreChanged}
+use Rattle.mf_rows.specs.RowChanges.{RowsAllowChange, image_in_rows}
 use Rattle.mf_rows.specs.Sums.{HaveRowWeights}
 use Rattle.mf_rows.proofs.BlankRowsLemmas.{weight_in_rows-unless_blank, rows_from-unless_blank, All-unless_blank}
 use Rattle.mf_rows.proofs.EdgeRowsLemmas.{weight_in_rows-append, weight_in_rows-here, weight_in_rows-elsewhere, weight_in_rows-below, rows_from-higher, rows_from-below, rows_from-append}
@@ -47,18 +47,18 @@ same_image : (c : RowChange) (f g : ℤ → ℤ) (x : ℤ) → ((z : ℤ) → f 
 same_image c f g x same = λ t. row_image c (λ z. same z t) x
 
 pub changed-none : (c : RowChange) → IsRowChange c → AreChanged c [] []
-unfolding weight_in changed_in
+unfolding weight_in image_in
 changed-none c lawful = record {
   edges = record { sorted = tt; lawful = λ x. record { least = omega (arith, ints); greatest = omega (arith, ints) }; closed = refl };
   weights = record { weights = λ x. sym (image_of_blank c x lawful) };
 }
 
 -- a row and those below it have their weights at different heights, so each is changed by itself
-changed_in_rows-cons : (c : RowChange) (r : EdgeRow) (rest : List EdgeRow) (image : List Edge) (x v : ℤ) → IsRowChange c
+image_in_rows-cons : (c : RowChange) (r : EdgeRow) (rest : List EdgeRow) (image : List Edge) (x v : ℤ) → IsRowChange c
     → AreBelow r.y rest → AreChanged c r.edges image
-    → weight_in_rows (unless_blank (record { y = r.y; edges = image })) x v +ℤ changed_in_rows c rest x v ≡ changed_in_rows c (r ∷ rest) x v
-unfolding changed_in_rows changed_in weight_in_rows
-changed_in_rows-cons c r rest image x v lawful below changed =
+    → weight_in_rows (unless_blank (record { y = r.y; edges = image })) x v +ℤ image_in_rows c rest x v ≡ image_in_rows c (r ∷ rest) x v
+unfolding image_in_rows image_in weight_in_rows
+image_in_rows-cons c r rest image x v lawful below changed =
     let row : EdgeRow = record { y = r.y; edges = image } in
     let kept = weight_in_rows-unless_blank r.y image x v in
     by_same r.y v
@@ -83,7 +83,7 @@ pub record IsChangeSoFar (c : RowChange) (whole left changed : List EdgeRow) : T
   pub allowed : RowsAllowChange c left
   pub rows : AreRowsFrom last_in_field changed
   pub apart : All (λ r. AreBelow r.y left) changed
-  pub weights : (x y : ℤ) → weight_in_rows changed x y +ℤ changed_in_rows c left x y ≡ changed_in_rows c whole x y
+  pub weights : (x y : ℤ) → weight_in_rows changed x y +ℤ image_in_rows c left x y ≡ image_in_rows c whole x y
 
 pub change_none : (c : RowChange) (whole : List EdgeRow) → AreRows whole → RowsAllowChange c whole → IsChangeSoFar c whole whole []
 unfolding weight_in_rows
@@ -126,11 +126,11 @@ change_more c whole rest changed r image lawful so_far has =
       weights = λ x y.
           let old = so_far.weights x y in
           let parts = weight_in_rows-append changed (unless_blank row) x y in
-          let next = changed_in_rows-cons c r rest image x y lawful below has in
+          let next = image_in_rows-cons c r rest image x y lawful below has in
           omega (arith, ints);
     }
 
 pub change_all : (c : RowChange) (whole changed : List EdgeRow) → IsRowChange c → IsChangeSoFar c whole [] changed
-    → HaveRowWeights (changed_in_rows c whole) changed
-unfolding weight_in_rows changed_in_rows
+    → HaveRowWeights (image_in_rows c whole) changed
+unfolding weight_in_rows image_in_rows
 change_all c whole changed lawful so_far = record { weights = λ x y. let all = so_far.weights x y in omega (arith, ints, image_of_blank c x lawful) }

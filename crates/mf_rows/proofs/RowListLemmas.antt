@@ -134,15 +134,15 @@ last_edges-back (r ∷ []) (s ∷ ss) some = refl
 last_edges-back (r ∷ q ∷ rs) (s ∷ ss) some = last_edges-back (q ∷ rs) (s ∷ ss) some
 
 -- the last head tells the place of the last row's edges, and their reach
-pub record IsLast (es : List Edge) (hs : List Head) (h : Head) : Type 0 where
+pub record IsLastHead (es : List Edge) (hs : List Head) (h : Head) : Type 0 where
   pub place : IsPlaceOf es h.place (last_edges (rows_at es hs))
   pub reached : HasReach h.reach (last_edges (rows_at es hs))
 
-pub is_last : (es : List Edge) (hs : List Head) (n : ℕ) (h : Head) → length hs ≡ suc n → h ≡ get_or hs n h → AreHeads es hs → IsLast es hs h
+pub is_last : (es : List Edge) (hs : List Head) (n : ℕ) (h : Head) → length hs ≡ suc n → h ≡ get_or hs n h → AreHeads es hs → IsLastHead es hs h
 is_last es [] n h long last heads = absurd (omega arith)
 is_last es (g ∷ []) zero h long last heads =
     let head = All-head (IsHead es) g [] heads in
-    subst (λ k. IsLast es (g ∷ []) k) (sym last) (record { place = record { there = head.there; edges = refl }; reached = head.reached })
+    subst (λ k. IsLastHead es (g ∷ []) k) (sym last) (record { place = record { there = head.there; edges = refl }; reached = head.reached })
 is_last es (g ∷ []) (suc n) h long last heads = absurd (omega arith)
 is_last es (g ∷ f ∷ hs) zero h long last heads = absurd (omega arith)
 is_last es (g ∷ f ∷ hs) (suc n) h long last heads =

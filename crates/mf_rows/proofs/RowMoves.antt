@@ -9,7 +9,7 @@ use Rattle.mf_rows.specs.declared.row.Row.{Row}
 use Rattle.mf_rows.specs.Bands.{edge_row, edge_rows, AreAbove, AreBelow}
 use Rattle.mf_rows.specs.EdgeRows.{EdgeRow, IsEdgeRow, AreRowsFrom, AreRows, weight_in_rows}
 use Rattle.mf_edges.specs.Axes.{opposite}
-use Rattle.mf_rows.specs.RowChanges.{mirrored_in_rows}
+use Rattle.mf_rows.specs.RowChanges.{mirror_in_rows}
 use Rattle.mf_rows.specs.Sums.{HaveRowWeights}
 use Rattle.mf_rows.proofs.EdgeRowsLemmas.{weight_in_rows-append, weight_in_rows-here, weight_in_rows-elsewhere, rows_from-below, rows_from-front, rows_from-back, rows_from-append}
 use Rattle.mf_rows.proofs.RowSums.{by_same}
@@ -71,8 +71,8 @@ weight_in_rows-mirror (r ∷ rs) x y =
     let old = weight_in_rows-elsewhere r rs x (opposite y) apart in
     omega (arith, ints))
 
-pub mirror_weights : (rs : List EdgeRow) → HaveRowWeights (mirrored_in_rows rs) (mirror rs)
-unfolding mirrored_in_rows
+pub mirror_weights : (rs : List EdgeRow) → HaveRowWeights (mirror_in_rows rs) (mirror rs)
+unfolding mirror_in_rows
 mirror_weights rs = record { weights = λ x y. weight_in_rows-mirror rs x y }
 
 -- ---- the rows so far

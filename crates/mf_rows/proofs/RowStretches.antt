@@ -12,13 +12,13 @@ use Rattle.mf_edges.specs.declared.stretch.Stretch.{Stretch}
 use Rattle.mf_rows.specs.Bands.{edge_row, edge_rows, AreBelow}
 use Rattle.mf_edges.specs.Edges.{weight_in, AreEdges}
 use Rattle.mf_rows.specs.EdgeRows.{EdgeRow, AreRowsFrom, AreRows, weight_in_rows}
-use Rattle.mf_edges.specs.Axes.{IsStretch, PlaceStaysInside, source_of, stretched_to}
-use Rattle.mf_rows.specs.RowChanges.{AllowStretch, stretched_in_rows}
+use Rattle.mf_edges.specs.Axes.{IsStretch, PlaceStaysInside, source_of, target_of}
+use Rattle.mf_rows.specs.RowChanges.{AllowStretch, stretch_in_rows}
 use Rattle.mf_rows.specs.RowMoves.{strip, HasStretched}
 use Rattle.mf_rows.specs.Sums.{HaveRowWeights}
 use Rattle.mf_rows.proofs.EdgeRowsLemmas.{weight_in_rows-append, weight_in_rows-here, weight_in_rows-elsewhere, weight_in_rows-none, weight_in_rows-below, rows_from-higher, rows_from-below, rows_from-append}
 use Rattle.mf_rows.proofs.RowSums.{by_same}
-use Rattle.mf_edges.proofs.Sources.{stretched_to-le, stretched_to-next, source_of-reached, source_of-from, source_of-is}
+use Rattle.mf_edges.proofs.Sources.{target_of-le, target_of-next, source_of-reached, source_of-from, source_of-is}
 
 -- ---- numbers that the code computes
 
@@ -33,12 +33,12 @@ product_fits y f bottom top least greatest =
 pub record StripPlace (s : Stretch) (y : ℤ) : Type 0 where
   pub bottom_fits : FitsSigned w32 (to_z w32 (of_z w32 (to_z w32 (of_z w32 y) *ℤ to_z w32 (of_z w32 s.factor))) +ℤ to_z w32 (of_z w32 s.offset))
   pub bottom : to_z w32 (of_z w32 (to_z w32 (of_z w32 (to_z w32 (of_z w32 y) *ℤ to_z w32 (of_z w32 s.factor))) +ℤ to_z w32 (of_z w32 s.offset)))
-      ≡ stretched_to s y
-  pub top_fits : FitsSigned w32 (stretched_to s y +ℤ to_z w32 (of_z w32 s.factor))
-  pub top : to_z w32 (of_z w32 (stretched_to s y +ℤ to_z w32 (of_z w32 s.factor))) ≡ stretched_to s y +ℤ s.factor
-  pub order : stretched_to s y ≤ℤ (stretched_to s y +ℤ s.factor)
-  pub end : (stretched_to s y +ℤ s.factor) ≤ℤ greatest_coordinate
-  pub size : (stretched_to s y +ℤ s.factor) -ℤ stretched_to s y ≡ s.factor
+      ≡ target_of s y
+  pub top_fits : FitsSigned w32 (target_of s y +ℤ to_z w32 (of_z w32 s.factor))
+  pub top : to_z w32 (of_z w32 (target_of s y +ℤ to_z w32 (of_z w32 s.factor))) ≡ target_of s y +ℤ s.factor
+  pub order : target_of s y ≤ℤ (target_of s y +ℤ s.factor)
+  pub end : (target_of s y +ℤ s.factor) ≤ℤ greatest_coordinate
+  pub size : (target_of s y +ℤ s.factor) -ℤ target_of s y ≡ s.factor
 
 pub strip_place : (s : Stretch) (y : ℤ) → IsStretch s → least_coordinate ≤ℤ y → y ≤ℤ last_in_field
     → PlaceStaysInside s y → to_z w32 (of_z w32 s.offset) ≡ s.offset → StripPlace s y
@@ -46,7 +46,7 @@ strip_place s y stretch bottom top inside offset =
     let product = to_z-of_z w32 _ (product_fits y s.factor bottom top stretch.least stretch.greatest) in
     let y_is : to_z w32 (of_z w32 y) ≡ y = omega (arith, ints) in
     let factor_is : to_z w32 (of_z w32 s.factor) ≡ s.factor = omega (arith, ints) in
-    let end : (stretched_to s y +ℤ s.factor) ≤ℤ greatest_coordinate = subst (λ z. z ≤ℤ greatest_coordinate) (stretched_to-next s y) inside.end.greatest in
+    let end : (target_of s y +ℤ s.factor) ≤ℤ greatest_coordinate = subst (λ z. z ≤ℤ greatest_coordinate) (target_of-next s y) inside.end.greatest in
     record {
       bottom_fits = rw (product, y_is, factor_is, offset) (omega (arith, ints, inside.start));
       bottom = rw (product, y_is, factor_is, offset) (omega (arith, ints, inside.start));
@@ -103,8 +103,8 @@ pub record IsStretchSoFar (s : Stretch) (whole left stretched : List EdgeRow) : 
   pub to_come : AreRowsFrom last_in_field left
   pub inside : AllowStretch s left
   pub rows : AreRowsFrom last_in_field stretched
-  pub apart : All (λ t. All (λ r. stretched_to s (r.y +ℤ pos 1) ≤ℤ t.y) left) stretched
-  pub weights : (x v : ℤ) → weight_in_rows stretched x v +ℤ stretched_in_rows s left x v ≡ stretched_in_rows s whole x v
+  pub apart : All (λ t. All (λ r. target_of s (r.y +ℤ pos 1) ≤ℤ t.y) left) stretched
+  pub weights : (x v : ℤ) → weight_in_rows stretched x v +ℤ stretch_in_rows s left x v ≡ stretch_in_rows s whole x v
 
 pub stretch_none : (s : Stretch) (whole : List EdgeRow) → AreRows whole → AllowStretch s whole → IsStretchSoFar s whole whole []
 unfolding weight_in_rows
@@ -112,7 +112,7 @@ stretch_none s whole rows inside = record {
   to_come = rows.rows;
   inside = inside;
   rows = tt;
-  apart = All-nil (λ t. All (λ r. stretched_to s (r.y +ℤ pos 1) ≤ℤ t.y) whole);
+  apart = All-nil (λ t. All (λ r. target_of s (r.y +ℤ pos 1) ≤ℤ t.y) whole);
   weights = λ x v. omega (arith, ints);
 }
 
@@ -125,13 +125,13 @@ stretch_next {s = s} {whole = whole} {stretched = stretched} rows k row inside r
     (ap edge_rows (drop_more rows k row inside) ∙ ap (λ r. edge_row r ∷ edge_rows (drop (k + 1) rows)) (sym read)) so_far
 
 -- the pixels of a row's strip come from that row, and those of the rows below it come from elsewhere
-stretched_in_rows-cons : (s : Stretch) (r : EdgeRow) (rest : List EdgeRow) (n : ℕ) (x v : ℤ) → IsStretch s
+stretch_in_rows-cons : (s : Stretch) (r : EdgeRow) (rest : List EdgeRow) (n : ℕ) (x v : ℤ) → IsStretch s
     → pos n ≡ s.factor → AreBelow r.y rest
-    → weight_in_rows (strip (stretched_to s r.y) r.edges n) x v +ℤ stretched_in_rows s rest x v ≡ stretched_in_rows s (r ∷ rest) x v
-unfolding stretched_in_rows
-stretched_in_rows-cons s r rest n x v stretch size below =
-    let bottom = stretched_to s r.y in
-    let next = stretched_to-next s r.y in
+    → weight_in_rows (strip (target_of s r.y) r.edges n) x v +ℤ stretch_in_rows s rest x v ≡ stretch_in_rows s (r ∷ rest) x v
+unfolding stretch_in_rows
+stretch_in_rows-cons s r rest n x v stretch size below =
+    let bottom = target_of s r.y in
+    let next = target_of-next s r.y in
     by_same r.y (source_of s v)
     (λ here.
     let above : bottom ≤ℤ v = source_of-reached s r.y v stretch (omega (arith, ints)) in
@@ -151,40 +151,40 @@ stretched_in_rows-cons s r rest n x v stretch size below =
 pub stretch_more : (s : Stretch) (whole rest stretched after : List EdgeRow) (r : EdgeRow) → IsStretch s
     → IsStretchSoFar s whole (r ∷ rest) stretched → HasStretched stretched r s after → IsStretchSoFar s whole rest after
 stretch_more s whole rest stretched after r stretch so_far has =
-    let bottom = stretched_to s r.y in
+    let bottom = target_of s r.y in
     let n = unsigned_abs s.factor in
     let own = strip bottom r.edges n in
     let size : pos n ≡ s.factor = omega (arith, ints) in
-    let next = stretched_to-next s r.y in
+    let next = target_of-next s r.y in
     let lawful = so_far.to_come.0 in
     let inside = All-head (λ r. PlaceStaysInside s r.y) r rest so_far.inside in
     let below = rows_from-below (r.y -ℤ pos 1) r.y rest so_far.to_come.2 (omega (arith, ints)) in
     let heights = strip_heights bottom r.edges n in
     let under : All (λ t. AreBelow t.y own) stretched =
-    All-weaker (λ t. All (λ q. stretched_to s (q.y +ℤ pos 1) ≤ℤ t.y) (r ∷ rest)) (λ t. AreBelow t.y own)
+    All-weaker (λ t. All (λ q. target_of s (q.y +ℤ pos 1) ≤ℤ t.y) (r ∷ rest)) (λ t. AreBelow t.y own)
     (λ t over.
-    let end = All-head (λ q. stretched_to s (q.y +ℤ pos 1) ≤ℤ t.y) r rest over in
+    let end = All-head (λ q. target_of s (q.y +ℤ pos 1) ≤ℤ t.y) r rest over in
     All-weaker (λ q. (bottom ≤ℤ q.y) × (q.y <ℤ (bottom +ℤ pos n))) (λ q. q.y <ℤ t.y) (λ q within. omega (arith, ints)) own heights) stretched so_far.apart in
-    let over_rest : All (λ t. All (λ q. stretched_to s (q.y +ℤ pos 1) ≤ℤ t.y) rest) own =
-    All-weaker (λ t. (bottom ≤ℤ t.y) × (t.y <ℤ (bottom +ℤ pos n))) (λ t. All (λ q. stretched_to s (q.y +ℤ pos 1) ≤ℤ t.y) rest)
-    (λ t within. All-weaker (λ q. q.y <ℤ r.y) (λ q. stretched_to s (q.y +ℤ pos 1) ≤ℤ t.y)
-    (λ q lower. let le = stretched_to-le s (q.y +ℤ pos 1) r.y stretch (omega (arith, ints)) in omega (arith, ints)) rest below) own heights in
+    let over_rest : All (λ t. All (λ q. target_of s (q.y +ℤ pos 1) ≤ℤ t.y) rest) own =
+    All-weaker (λ t. (bottom ≤ℤ t.y) × (t.y <ℤ (bottom +ℤ pos n))) (λ t. All (λ q. target_of s (q.y +ℤ pos 1) ≤ℤ t.y) rest)
+    (λ t within. All-weaker (λ q. q.y <ℤ r.y) (λ q. target_of s (q.y +ℤ pos 1) ≤ℤ t.y)
+    (λ q lower. let le = target_of-le s (q.y +ℤ pos 1) r.y stretch (omega (arith, ints)) in omega (arith, ints)) rest below) own heights in
     let lawful_strip = strip_rows last_in_field bottom r.edges n inside.start.least (omega (arith, ints)) (omega (arith, ints)) lawful.some lawful.edges in
     rw has.all (record {
       to_come = rows_from-higher last_in_field (r.y -ℤ pos 1) rest (omega (arith, ints)) so_far.to_come.2;
       inside = All-tail (λ r. PlaceStaysInside s r.y) r rest so_far.inside;
       rows = rows_from-append last_in_field stretched own so_far.rows lawful_strip under;
-      apart = All-append (λ t. All (λ q. stretched_to s (q.y +ℤ pos 1) ≤ℤ t.y) rest) stretched own
-          (All-weaker (λ t. All (λ q. stretched_to s (q.y +ℤ pos 1) ≤ℤ t.y) (r ∷ rest)) (λ t. All (λ q. stretched_to s (q.y +ℤ pos 1) ≤ℤ t.y) rest)
-          (λ t over. All-tail (λ q. stretched_to s (q.y +ℤ pos 1) ≤ℤ t.y) r rest over) stretched so_far.apart)
+      apart = All-append (λ t. All (λ q. target_of s (q.y +ℤ pos 1) ≤ℤ t.y) rest) stretched own
+          (All-weaker (λ t. All (λ q. target_of s (q.y +ℤ pos 1) ≤ℤ t.y) (r ∷ rest)) (λ t. All (λ q. target_of s (q.y +ℤ pos 1) ≤ℤ t.y) rest)
+          (λ t over. All-tail (λ q. target_of s (q.y +ℤ pos 1) ≤ℤ t.y) r rest over) stretched so_far.apart)
           over_rest;
       weights = λ x v.
           let old = so_far.weights x v in
           let parts = weight_in_rows-append stretched own x v in
-          let new = stretched_in_rows-cons s r rest n x v stretch size below in
+          let new = stretch_in_rows-cons s r rest n x v stretch size below in
           omega (arith, ints);
     })
 
-pub stretch_all : (s : Stretch) (whole stretched : List EdgeRow) → IsStretchSoFar s whole [] stretched → HaveRowWeights (stretched_in_rows s whole) stretched
-unfolding weight_in_rows stretched_in_rows
+pub stretch_all : (s : Stretch) (whole stretched : List EdgeRow) → IsStretchSoFar s whole [] stretched → HaveRowWeights (stretch_in_rows s whole) stretched
+unfolding weight_in_rows stretch_in_rows
 stretch_all s whole stretched so_far = record { weights = λ x v. let all = so_far.weights x v in omega (arith, ints) }

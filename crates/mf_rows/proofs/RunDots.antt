@@ -10,9 +10,9 @@ use Rattle.mf_rows.specs.Order.{Fits}
 use Rattle.mf_rows.specs.Places.{AreBefore}
 use Rattle.mf_rows.specs.Runs.{stretch, dots_of}
 use Rattle.mf_rows.proofs.DotsLemmas.{weight_at-here, weight_at-elsewhere, not_at, dots_from-append}
-use Rattle.mf_rows.proofs.PlacesLemmas.{AreColumns, first_column, next_columns, place-next, start_of_field-le}
+use Rattle.mf_rows.proofs.PlacesLemmas.{AreFieldColumns, first_column, next_columns, place-next, start_of_field-le}
 
-pub stretch-from : (y x w : ℤ) (n : ℕ) → AreColumns x y n → IsLawfulWeight w → w ≢ pos 0 → AreDotsFrom (place x y) (stretch y x w n)
+pub stretch-from : (y x w : ℤ) (n : ℕ) → AreFieldColumns x y n → IsLawfulWeight w → w ≢ pos 0 → AreDotsFrom (place x y) (stretch y x w n)
 unfolding stretch
 stretch-from y x w zero columns lawful nonzero = tt
 stretch-from y x w (suc n) columns lawful nonzero = (

@@ -10,9 +10,9 @@ use Rattle.mf_edges.specs.declared.stretch.Stretch.{Stretch}
 use Rattle.mf_rows.specs.Dots.{Dot, IsPicture, weight_at}
 use Rattle.mf_edges.specs.Edges.{weight_in, AreEdgesFrom}
 use Rattle.mf_rows.specs.EdgeRows.{EdgeRow, IsEdgeRow, AreRowsFrom, AreRows, weight_in_rows, picture_of_rows}
-use Rattle.mf_edges.specs.Axes.{IsStretch, PlaceStaysInside, source_of, stretched_to}
-use Rattle.mf_rows.specs.Moves.{columns_stretched_at, stretched_at}
-use Rattle.mf_rows.specs.RowChanges.{RowsAllowChange, AllowStretch, stretched_in_rows}
+use Rattle.mf_edges.specs.Axes.{IsStretch, PlaceStaysInside, source_of, target_of}
+use Rattle.mf_rows.specs.Moves.{column_stretch_at, stretch_at}
+use Rattle.mf_rows.specs.RowChanges.{RowsAllowChange, AllowStretch, stretch_in_rows}
 use Rattle.mf_rows.specs.Sums.{HasWeights, HaveRowWeights}
 use Rattle.mf_rows.proofs.DotsLemmas.{IsAt, weight_at-elsewhere, weight_at-outside}
 use Rattle.mf_edges.proofs.EdgesLemmas.{weight_in-left, weight_in-right, weight_in-before}
@@ -113,21 +113,21 @@ jumps low (e ∷ es) edges =
 
 -- so the pixel at the edge or the one to its left is not 0, and the edge goes to an end of that pixel's stretched part
 edges_stay : (s : Stretch) (low : ℤ) (es : List Edge) → AreEdgesFrom low es
-    → ((x : ℤ) → weight_in es x ≢ pos 0 → PlaceStaysInside s x) → All (λ e. IsCoordinate (stretched_to s e.x)) es
+    → ((x : ℤ) → weight_in es x ≢ pos 0 → PlaceStaysInside s x) → All (λ e. IsCoordinate (target_of s e.x)) es
 edges_stay s low es edges inside =
-    All-weaker (IsJump low es) (λ e. IsCoordinate (stretched_to s e.x))
+    All-weaker (IsJump low es) (λ e. IsCoordinate (target_of s e.x))
     (λ e is. by_same (weight_in es e.x) (pos 0)
     (λ zero.
     let left = inside (e.x -ℤ pos 1) (λ none. is.nonzero (omega (arith, ints))) in
     let same : (e.x -ℤ pos 1) +ℤ pos 1 ≡ e.x = omega (arith, ints) in
-    subst (λ x. IsCoordinate (stretched_to s x)) same left.end)
+    subst (λ x. IsCoordinate (target_of s x)) same left.end)
     (λ nonzero. (inside e.x nonzero).start))
     es (jumps low es edges)
 
 pub columns_stay : (s : Stretch) (rs : List EdgeRow) → AreRows rs → ((x y : ℤ) → weight_in_rows rs x y ≢ pos 0 → PlaceStaysInside s x)
     → RowsAllowChange (change.Columns s) rs
 columns_stay s rs rows inside =
-    All-weaker (IsOneOf last_in_field rs) (λ r. All (λ e. IsCoordinate (stretched_to s e.x)) r.edges)
+    All-weaker (IsOneOf last_in_field rs) (λ r. All (λ e. IsCoordinate (target_of s e.x)) r.edges)
     (λ r own. edges_stay s least_coordinate r.edges own.row.edges.sorted (λ x nonzero. inside x r.y (λ zero. nonzero (sym (own.weights x) ∙ zero))))
     rs (each_row last_in_field rs rows.rows)
 
@@ -142,8 +142,8 @@ columns_allowed columns rs lawful inside =
 -- a picture of which the columns were stretched, as rows
 module _ (columns rows : Stretch) (ds : List Dot) (wide : List EdgeRow) (lawful : AreRows wide) where
   -- rows keep their heights when their columns are stretched
-  pub rows_allowed : All (λ d. PlaceStaysInside rows d.y) ds → HasWeights (columns_stretched_at columns ds) (picture_of_rows wide) → AllowStretch rows wide
-  unfolding columns_stretched_at
+  pub rows_allowed : All (λ d. PlaceStaysInside rows d.y) ds → HasWeights (column_stretch_at columns ds) (picture_of_rows wide) → AllowStretch rows wide
+  unfolding column_stretch_at
   rows_allowed inside has =
       rows_stay rows wide lawful
       (λ x y nonzero. by_field x y
@@ -152,9 +152,9 @@ module _ (columns rows : Stretch) (ds : List Dot) (wide : List EdgeRow) (lawful 
       (λ outside. absurd (nonzero (weight_in_rows-outside last_in_field wide x y lawful.rows outside))))
 
   pub weights_stretched : (stretched : List EdgeRow) → IsPicture ds → AreRows stretched
-      → HasWeights (columns_stretched_at columns ds) (picture_of_rows wide)
-      → HaveRowWeights (stretched_in_rows rows wide) stretched → HasWeights (stretched_at columns rows ds) (picture_of_rows stretched)
-  unfolding columns_stretched_at stretched_in_rows stretched_at
+      → HasWeights (column_stretch_at columns ds) (picture_of_rows wide)
+      → HaveRowWeights (stretch_in_rows rows wide) stretched → HasWeights (stretch_at columns rows ds) (picture_of_rows stretched)
+  unfolding column_stretch_at stretch_in_rows stretch_at
   weights_stretched stretched picture lawful_stretched has has_stretched = record {
     weights = λ x y inside.
         let source = source_of rows y in
@@ -174,19 +174,19 @@ once p f o one = rw one (omega (arith, ints))
 
 source_of-same : (s : Stretch) (q : ℤ) → IsStretch s → s.factor ≡ pos 1 → s.offset ≡ pos 0 → source_of s q ≡ q
 source_of-same s q stretch one none =
-    let start : stretched_to s q ≡ q +ℤ s.offset = once q s.factor s.offset one in
-    let behind : stretched_to s (q +ℤ pos 1) ≡ q +ℤ pos 1 +ℤ s.offset = once (q +ℤ pos 1) s.factor s.offset one in
+    let start : target_of s q ≡ q +ℤ s.offset = once q s.factor s.offset one in
+    let behind : target_of s (q +ℤ pos 1) ≡ q +ℤ pos 1 +ℤ s.offset = once (q +ℤ pos 1) s.factor s.offset one in
     source_of-is s q q stretch (omega (arith, ints)) (omega (arith, ints))
 
 -- a pixel that stays in the field bounds the offset, so that no number of 32 bits stands for another one
 pub columns_same : (s : Stretch) (ds : List Dot) → IsPicture ds → All (λ d. PlaceStaysInside s d.x) ds → IsStretch s
-    → of_z w32 s.factor ≡ 1 → of_z w32 s.offset ≡ 0 → HasWeights (columns_stretched_at s ds) ds
-unfolding columns_stretched_at weight_at
+    → of_z w32 s.factor ≡ 1 → of_z w32 s.offset ≡ 0 → HasWeights (column_stretch_at s ds) ds
+unfolding column_stretch_at weight_at
 columns_same s [] picture inside stretch one none = record { weights = λ x y within. refl }
 columns_same s (d ∷ ds) picture inside stretch one none =
     let factor : s.factor ≡ pos 1 = omega (arith, ints, stretch.least, stretch.greatest) in
     let start = (All-head (λ d. PlaceStaysInside s d.x) d ds inside).start in
-    let moved : stretched_to s d.x ≡ d.x +ℤ s.offset = once d.x s.factor s.offset factor in
+    let moved : target_of s d.x ≡ d.x +ℤ s.offset = once d.x s.factor s.offset factor in
     let pixel = picture.dots.0.in_field in
     let offset : s.offset ≡ pos 0 = omega (arith, ints, start.least, start.greatest, pixel.left, pixel.right) in
     record { weights = λ x y within. ap (λ z. weight_at (d ∷ ds) z y) (sym (source_of-same s x stretch factor offset)) }

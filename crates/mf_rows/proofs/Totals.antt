@@ -10,7 +10,7 @@ use Rattle.mf_rows.specs.Dots.{Dot, IsDot, IsPicture, AreDotsFrom, place, start_
 use Rattle.mf_rows.specs.Order.{IsRun}
 use Rattle.mf_rows.specs.Runs.{stretch, dots_of, runs_of}
 use Rattle.mf_rows.proofs.PlacesLemmas.{place-lt}
-use Rattle.mf_rows.proofs.PassedRuns.{ArePassed, none_passed, one_more_passed, all_passed, passed_are_lawful, length-passed}
+use Rattle.mf_rows.proofs.PassedRuns.{ArePassedDots, none_passed, one_more_passed, all_passed, passed_are_lawful, length-passed}
 
 -- dots fill at most the places that are left
 length-from : (low : ℤ) (ds : List Dot) → low ≤ℤ (start_of_field +ℤ pos 67076100) → AreDotsFrom low ds
@@ -71,7 +71,7 @@ sum_of_lawful (d ∷ ds) lawful =
 -- the sum of the weights of the dots before those of the last runs
 pub record IsTotalBefore (ds : List Dot) (rs : List Run) (sum : ℤ) : Type 0 where
   pub passed : List Dot
-  pub passes : ArePassed ds rs passed
+  pub passes : ArePassedDots ds rs passed
   pub value : sum ≡ total_of passed
 
 pub total_none : (ds : List Dot) (rs : List Run) → IsPicture ds → rs ≡ runs_of ds → IsTotalBefore ds rs (pos 0)

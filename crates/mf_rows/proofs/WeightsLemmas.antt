@@ -12,7 +12,7 @@ use Rattle.mf_edges.specs.LawfulWeights.{IsLawfulWeight}
 use Rattle.mf_rows.specs.Dots.{Dot, IsDot, IsPicture, AreDotsFrom, place, start_of_field, weight_at}
 use Rattle.mf_rows.specs.Weights.{row_of, rows_of, picture_of, HaveSameWeights}
 use Rattle.mf_rows.proofs.DotsLemmas.{weight_at-here, weight_at-elsewhere, weight_at-before, not_at, dots_from-lower, dots_from-lawful}
-use Rattle.mf_rows.proofs.PlacesLemmas.{AreColumns, first_column, next_columns, place-next, place-below, row_from_place, column_from_place}
+use Rattle.mf_rows.proofs.PlacesLemmas.{AreFieldColumns, first_column, next_columns, place-next, place-below, row_from_place, column_from_place}
 
 -- ---- equal weights make equal dots
 
@@ -69,7 +69,7 @@ same_pictures ds es left right weights = same_from start_of_field ds es left.dot
 -- ---- the picture of given weights is lawful
 
 -- the dots of a row may come before dots at later places
-row_from : (f : ℤ → ℤ → ℤ) (y x : ℤ) (n : ℕ) (es : List Dot) → AreColumns x y n
+row_from : (f : ℤ → ℤ → ℤ) (y x : ℤ) (n : ℕ) (es : List Dot) → AreFieldColumns x y n
     → ((u v : ℤ) → IsInField u v → IsLawfulWeight (f u v)) → AreDotsFrom (place (x +ℤ pos n) y) es → AreDotsFrom (place x y) (row_of f y x n ++ es)
 unfolding row_of
 row_from f y x zero es columns lawful later = subst (λ u. AreDotsFrom (place u y) es) (omega (arith, ints)) later
@@ -190,7 +190,7 @@ pub record IsDotOf (f : ℤ → ℤ → ℤ) (d : Dot) : Type 0 where
   pub in_field : IsInField d.x d.y
   pub weight : d.weight ≡ f d.x d.y
 
-row_of-dots : (f : ℤ → ℤ → ℤ) (y x : ℤ) (n : ℕ) → AreColumns x y n → All (IsDotOf f) (row_of f y x n)
+row_of-dots : (f : ℤ → ℤ → ℤ) (y x : ℤ) (n : ℕ) → AreFieldColumns x y n → All (IsDotOf f) (row_of f y x n)
 unfolding row_of
 row_of-dots f y x zero columns = All-nil (IsDotOf f)
 row_of-dots f y x (suc n) columns =

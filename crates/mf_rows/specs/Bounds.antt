@@ -9,7 +9,7 @@ use Rattle.mf_rows.specs.declared.bounds.Pixels.TheVariants.{Nonzero, Black}
 use Rattle.mf_rows.specs.Dots.{Dot, weight_at}
 
 -- a dot lies in the box, ends included
-pub record IsWithin (b : Box4) (d : Dot) : Type 0 where
+pub record IsDotIn (b : Box4) (d : Dot) : Type 0 where
   pub left : b.min_x ≤ℤ d.x
   pub right : d.x ≤ℤ b.max_x
   pub bottom : b.min_y ≤ℤ d.y
@@ -17,7 +17,7 @@ pub record IsWithin (b : Box4) (d : Dot) : Type 0 where
 
 -- the box is the least one: each dot lies in it, and there is a dot at each of its sides
 pub record IsLeastBox (ds : List Dot) (b : Box4) : Type 0 where
-  pub within : All (IsWithin b) ds
+  pub within : All (IsDotIn b) ds
   pub left : Any (λ d. d.x ≡ b.min_x) ds
   pub right : Any (λ d. d.x ≡ b.max_x) ds
   pub bottom : Any (λ d. d.y ≡ b.min_y) ds

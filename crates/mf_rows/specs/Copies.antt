@@ -8,9 +8,9 @@ use Rattle.mf_rows.specs.declared.row_list.Place.TheVariants as place
 use Rattle.mf_rows.specs.RowLists.{edges_between, IsRange}
 
 -- a place among the edges lies from place i up to place j
-abbrev pub IsWithin : ℕ → ℕ → Place → Type 0
-IsWithin i j (place.Among k l) = (i ≤ k) × (l ≤ j)
-IsWithin i j (place.Own own) = Unit {0}
+abbrev pub LiesBetween : ℕ → ℕ → Place → Type 0
+LiesBetween i j (place.Among k l) = (i ≤ k) × (l ≤ j)
+LiesBetween i j (place.Own own) = Unit {0}
 
 -- a place among the edges may move with those from place i on to place j
 abbrev pub IsMovable : ℕ → ℕ → Place → Type 0
@@ -26,7 +26,7 @@ IsMoved i j (place.Own own) (place.Own other) = arc_value other ≡ arc_value ow
 -- those of the first edges that the heads have are from place i on, and stand among the second from place j on
 pub record IsCopied (es : List Edge) (hs : List Head) (i : ℕ) (ds : List Edge) (j : ℕ) : Type 0 where
   pub end : ℕ
-  pub within : All (λ h. IsWithin i end h.place) hs
+  pub within : All (λ h. LiesBetween i end h.place) hs
   pub there : IsRange ds j (j + (end - i))
   pub fits : j + (end - i) < 2 ^ 64
   pub same : edges_between ds j (j + (end - i)) ≡ edges_between es i end

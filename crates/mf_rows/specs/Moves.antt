@@ -10,21 +10,21 @@ pub record PixelsStayInside (columns rows : Stretch) (ds : List Dot) : Type 0 wh
   pub up : All (λ d. PlaceStaysInside rows d.y) ds
 
 -- the weight of the pixel (x, y) after a picture is stretched
-unfoldable pub stretched_at : Stretch → Stretch → List Dot → ℤ → ℤ → ℤ
-stretched_at columns rows ds x y = weight_at ds (source_of columns x) (source_of rows y)
+unfoldable pub stretch_at : Stretch → Stretch → List Dot → ℤ → ℤ → ℤ
+stretch_at columns rows ds x y = weight_at ds (source_of columns x) (source_of rows y)
 
 -- the weight of the pixel (x, y) after the columns of a picture are stretched
-unfoldable pub columns_stretched_at : Stretch → List Dot → ℤ → ℤ → ℤ
-columns_stretched_at columns ds x y = weight_at ds (source_of columns x) y
+unfoldable pub column_stretch_at : Stretch → List Dot → ℤ → ℤ → ℤ
+column_stretch_at columns ds x y = weight_at ds (source_of columns x) y
 
 -- the weight of the pixel (x, y) after the columns of a picture are reflected
-unfoldable pub columns_mirrored_at : List Dot → ℤ → ℤ → ℤ
-columns_mirrored_at ds x y = weight_at ds (opposite x) y
+unfoldable pub column_mirror_at : List Dot → ℤ → ℤ → ℤ
+column_mirror_at ds x y = weight_at ds (opposite x) y
 
 -- the weight of the pixel (x, y) after the rows of a picture are reflected
-unfoldable pub rows_mirrored_at : List Dot → ℤ → ℤ → ℤ
-rows_mirrored_at ds x y = weight_at ds x (opposite y)
+unfoldable pub row_mirror_at : List Dot → ℤ → ℤ → ℤ
+row_mirror_at ds x y = weight_at ds x (opposite y)
 
 -- the weight of the pixel (x, y) after a picture is turned by 90 degrees counterclockwise
-unfoldable pub turned_at : List Dot → ℤ → ℤ → ℤ
-turned_at ds x y = weight_at ds y (opposite x)
+unfoldable pub quarter_turn_at : List Dot → ℤ → ℤ → ℤ
+quarter_turn_at ds x y = weight_at ds y (opposite x)

@@ -3,8 +3,8 @@ use Rattle.std.specs.Int.{int_max, int_min}
 use Rattle.mf_rows.specs.declared.bounds.Box4.{Box4}
 
 -- the least box round two boxes
-abbrev pub widened : Box4 → Box4 → Box4
-widened a b = record {
+abbrev pub box_round_both : Box4 → Box4 → Box4
+box_round_both a b = record {
   min_x = int_min a.min_x b.min_x;
   max_x = int_max a.max_x b.max_x;
   min_y = int_min a.min_y b.min_y;

@@ -34,13 +34,13 @@ pub(crate) fn sum_of_groups(
     let mut sum = Vec::new(alloc);
     sum.reserve(count)?;
     for place in 0..count {
-        sum.push(sum_at(alloc, group_at(left, place), group_at(right, place))?)?;
+        sum.push(sum_of_two(alloc, group_at(left, place), group_at(right, place))?)?;
     }
     Ok(sum)
 }
 
 /// The sum of the groups at one place.
-fn sum_at(
+fn sum_of_two(
     alloc: Global,
     left: Option<&Arc<Group>>,
     right: Option<&Arc<Group>>,

@@ -38,7 +38,7 @@ pub(crate) fn group_at(groups: &[Option<Arc<Group>>], place: usize) -> Option<&A
 }
 
 /// The rows of groups, from the top down.
-pub(crate) fn rows_of(
+pub(crate) fn list_rows(
     alloc: Global,
     groups: &[Option<Arc<Group>>],
 ) -> Result<Vec<Row<'_>>, OutOfMemory>

@@ -2,7 +2,7 @@
 //! where a function's contract names it.
 ghost use Rattle.std.specs.Prelude.{◌≡◌, ◌≢◌, ◌↔◌, ℤ, pos, ◌+ℤ◌, ◌≤ℤ◌, All, Contains, List, flat_map};
 ghost use Rattle.mf_geom.specs.Field.{IsInField, sum_over_field};
-ghost use Rattle.mf_edges.specs.Axes.{IsStretch, source_of, stretched_to};
+ghost use Rattle.mf_edges.specs.Axes.{IsStretch, source_of, target_of};
 ghost use Rattle.mf_edges.specs.declared.stretch.Stretch.{Stretch};
 ghost use Rattle.mf_edges.specs.LawfulWeights.{IsLawfulWeight};
 ghost use Rattle.mf_rows.specs.Bounds.{IsLeastBox};
@@ -45,7 +45,7 @@ pub fn pictures_lie_in_the_field()
 /// that has q.
 pub fn one_source_under_a_stretch()
     ensures { (s : Stretch) (p q : ℤ) → IsStretch s →
-        (source_of s q ≡ p) ↔ ((stretched_to s p ≤ℤ q) × ((q +ℤ pos 1) ≤ℤ stretched_to s (p +ℤ pos 1))) }
+        (source_of s q ≡ p) ↔ ((target_of s p ≤ℤ q) × ((q +ℤ pos 1) ≤ℤ target_of s (p +ℤ pos 1))) }
 {}
 
 /// Two pictures with the same weight at each pixel of the field are equal.

@@ -7,7 +7,7 @@ use crate::bounds::{Box4, Pixels, bounds_of};
 use crate::corner::{Corner, rows_of_corners};
 use crate::group::Group;
 use crate::group_sum::{sum_of_groups, sum_with_rows};
-use crate::groups::{find_row, groups_of, rows_of, share};
+use crate::groups::{find_row, groups_of, list_rows, share};
 use crate::row::Row;
 use crate::row_change::changed_rows;
 use crate::row_move::{mirrored_rows, stretched_rows};
@@ -53,11 +53,11 @@ impl Picture {
     ghost use Rattle.mf_rows.specs.Dots.{IsPicture, weight_at, total_of};
     ghost use Rattle.mf_rows.specs.EdgeRows.{picture_of_rows};
     ghost use Rattle.mf_edges.specs.Axes.{IsStretch, PlaceStaysInside};
-    ghost use Rattle.mf_rows.specs.Moves.{PixelsStayInside, columns_mirrored_at, columns_stretched_at, rows_mirrored_at, stretched_at, turned_at};
+    ghost use Rattle.mf_rows.specs.Moves.{PixelsStayInside, column_mirror_at, column_stretch_at, row_mirror_at, stretch_at, quarter_turn_at};
     ghost use Rattle.mf_rows.specs.Runs.{runs_of};
     ghost use Rattle.mf_rows.specs.Sums.{HasWeights, IsUnlawfulSomewhere, sum_at};
     ghost use Rattle.mf_edges.specs.WeightMaps.{IsWeightMap};
-    ghost use Rattle.mf_rows.specs.WeightMaps.{mapped_at};
+    ghost use Rattle.mf_rows.specs.WeightMaps.{mapped_weight_at};
     ghost use Rattle.mf_rows.specs.Weights.{HaveSameWeights};
 
     /// The blank picture, METAFONT's `nullpicture`: every weight is 0.
@@ -175,7 +175,7 @@ impl Picture {
     /// such weights. Refused with `OutOfMemory` where an allocation fails, never for a blank picture.
     pub fn map_weights(&self, alloc: Global, map: &WeightMap) -> Result<Picture, OutOfMemory>
         requires { IsWeightMap map.now }
-        ensures weights { IfOk result (HasWeights (mapped_at map.now self.now)) }
+        ensures weights { IfOk result (HasWeights (mapped_weight_at map.now self.now)) }
         ensures blank { self.now ≡ [] → IsOk result }
         ensures lawful { IfOk result IsPicture }
     {
@@ -190,7 +190,7 @@ impl Picture {
     /// The picture reflected in the line between columns -1 and 0: column x becomes column -x - 1 (mf.web:
     /// `x_reflect_edges`). This one is unchanged. Refused with `OutOfMemory` where an allocation fails.
     pub fn mirror_columns(&self, alloc: Global) -> Result<Picture, OutOfMemory>
-        ensures weights { IfOk result (HasWeights (columns_mirrored_at self.now)) }
+        ensures weights { IfOk result (HasWeights (column_mirror_at self.now)) }
         ensures lawful { IfOk result IsPicture }
     {
         let rows = self.rows(alloc)?;
@@ -201,7 +201,7 @@ impl Picture {
     /// The picture reflected in the line between rows -1 and 0: row y becomes row -y - 1 (mf.web: `y_reflect_edges`).
     /// This one is unchanged. Refused with `OutOfMemory` where an allocation fails.
     pub fn mirror_rows(&self, alloc: Global) -> Result<Picture, OutOfMemory>
-        ensures weights { IfOk result (HasWeights (rows_mirrored_at self.now)) }
+        ensures weights { IfOk result (HasWeights (row_mirror_at self.now)) }
         ensures lawful { IfOk result IsPicture }
     {
         let rows = self.rows(alloc)?;
@@ -221,7 +221,7 @@ impl Picture {
         requires columns { IsStretch columns.now }
         requires rows { IsStretch rows.now }
         requires inside { PixelsStayInside columns.now rows.now self.now }
-        ensures weights { IfOk result (HasWeights (stretched_at columns.now rows.now self.now)) }
+        ensures weights { IfOk result (HasWeights (stretch_at columns.now rows.now self.now)) }
         ensures lawful { IfOk result IsPicture }
     {
         let wide = self.with_columns_stretched(alloc, columns)?;
@@ -233,7 +233,7 @@ impl Picture {
     /// - 1, x) (mf.web: `xy_swap_edges` and a reflection). This one is unchanged. Refused with `OutOfMemory` where an
     /// allocation fails.
     pub fn turn(&self, alloc: Global) -> Result<Picture, OutOfMemory>
-        ensures weights { IfOk result (HasWeights (turned_at self.now)) }
+        ensures weights { IfOk result (HasWeights (quarter_turn_at self.now)) }
         ensures lawful { IfOk result IsPicture }
     {
         let rows = self.rows(alloc)?;
@@ -264,7 +264,7 @@ impl Picture {
     ) -> Result<Picture, OutOfMemory>
         requires columns { IsStretch columns.now }
         requires inside { All (λ dot. PlaceStaysInside columns.now dot.x) self.now }
-        ensures weights { IfOk result (HasWeights (columns_stretched_at columns.now self.now)) }
+        ensures weights { IfOk result (HasWeights (column_stretch_at columns.now self.now)) }
         ensures lawful { IsPicture self.now }
     {
         if columns.factor == 1 && columns.offset == 0 {
@@ -288,7 +288,7 @@ impl Picture {
         ensures picture { IfOk result (λ rows. picture_of_rows (edge_rows rows.items) ≡ self.now) }
         ensures lawful { IsPicture self.now }
     {
-        rows_of(alloc, &self.groups)
+        list_rows(alloc, &self.groups)
     }
 
     /// The picture of the rows that were written.

@@ -5,7 +5,7 @@ ghost use Rattle.mf_rows.specs.Bands.{edge_row, edge_rows};
 ghost use Rattle.mf_rows.specs.BlankRows.{unless_blank};
 ghost use Rattle.mf_rows.specs.EdgeRows.{AreRows};
 ghost use Rattle.mf_edges.specs.RowChanges.{IsRowChange};
-ghost use Rattle.mf_rows.specs.RowChanges.{RowsAllowChange, changed_in_rows};
+ghost use Rattle.mf_rows.specs.RowChanges.{RowsAllowChange, image_in_rows};
 ghost use Rattle.mf_rows.specs.Sums.{HaveRowWeights};
 
 use crate::new_edges::NewEdges;
@@ -25,7 +25,7 @@ pub(crate) fn changed_rows(
     requires change { IsRowChange change.now }
     requires allowed { RowsAllowChange change.now (edge_rows rows.now) }
     ensures rows { IfOk result (λ changed. AreRows changed) }
-    ensures weights { IfOk result (λ changed. HaveRowWeights (changed_in_rows change.now (edge_rows rows.now)) changed) }
+    ensures weights { IfOk result (λ changed. HaveRowWeights (image_in_rows change.now (edge_rows rows.now)) changed) }
 {
     let mut changed = RowWriter::new(alloc);
     // The last edges, and what they became; at first there are no edges, which stay none.

@@ -4,7 +4,7 @@ use Rattle.std.specs.List.{All, Any}
 use Rattle.std.proofs.lemmas.Int.{ints}
 use Rattle.std.proofs.lemmas.List.Elements.{All-contains, All-nil, All-cons}
 use Rattle.mf_rows.specs.declared.bounds.Box4.{Box4}
-use Rattle.mf_rows.specs.Bounds.{IsWithin, IsLeastBox}
+use Rattle.mf_rows.specs.Bounds.{IsDotIn, IsLeastBox}
 use Rattle.mf_rows.specs.Dots.{Dot, IsPicture}
 use Rattle.mf_rows.proofs.BoundsInField.{bounds_in_field}
 use Rattle.mf_rows.proofs.BoxesJoined.{least_box_of_both}
@@ -17,8 +17,8 @@ found P Q ds some all = All-contains Q ds some.1 all (some.0, some.2, some.3)
 pub least_box_of_field : (ds : List Dot) (b : Box4) → IsPicture ds → IsLeastBox ds b → IsBoxOfField b
 least_box_of_field ds b picture box =
     let (least, greatest) = bounds_in_field ds b picture box in
-    let left_within = found (λ d. d.x ≡ b.min_x) (IsWithin b) ds box.left box.within in
-    let bottom_within = found (λ d. d.y ≡ b.min_y) (IsWithin b) ds box.bottom box.within in
+    let left_within = found (λ d. d.x ≡ b.min_x) (IsDotIn b) ds box.left box.within in
+    let bottom_within = found (λ d. d.y ≡ b.min_y) (IsDotIn b) ds box.bottom box.within in
     record {
       left = least.left;
       right = greatest.right;
@@ -37,10 +37,10 @@ record IsInside (a b : Box4) : Type 0 where
 
 least_inside : (ds : List Dot) (a b : Box4) → IsLeastBox ds a → IsLeastBox ds b → IsInside a b
 least_inside ds a b one other =
-    let at_left = found (λ d. d.x ≡ a.min_x) (IsWithin b) ds one.left other.within in
-    let at_right = found (λ d. d.x ≡ a.max_x) (IsWithin b) ds one.right other.within in
-    let at_bottom = found (λ d. d.y ≡ a.min_y) (IsWithin b) ds one.bottom other.within in
-    let at_top = found (λ d. d.y ≡ a.max_y) (IsWithin b) ds one.top other.within in
+    let at_left = found (λ d. d.x ≡ a.min_x) (IsDotIn b) ds one.left other.within in
+    let at_right = found (λ d. d.x ≡ a.max_x) (IsDotIn b) ds one.right other.within in
+    let at_bottom = found (λ d. d.y ≡ a.min_y) (IsDotIn b) ds one.bottom other.within in
+    let at_top = found (λ d. d.y ≡ a.max_y) (IsDotIn b) ds one.top other.within in
     record {
       left = omega (arith, ints, at_left.left, one.left.4);
       right = omega (arith, ints, at_right.right, one.right.4);
@@ -66,9 +66,9 @@ least_box_of_some b box = omega (arith, box.left.2)
 least_box_of_dot : (d : Dot) → IsLeastBox (d ∷ []) (box_of_dot d)
 least_box_of_dot d =
     record {
-      within = All-cons (IsWithin (box_of_dot d)) d []
+      within = All-cons (IsDotIn (box_of_dot d)) d []
           (record { left = omega (arith, ints); right = omega (arith, ints); bottom = omega (arith, ints); top = omega (arith, ints) })
-          (All-nil (IsWithin (box_of_dot d)));
+          (All-nil (IsDotIn (box_of_dot d)));
       left = (0, d, omega arith, refl, refl);
       right = (0, d, omega arith, refl, refl);
       bottom = (0, d, omega arith, refl, refl);

@@ -3,7 +3,7 @@ use Rattle.std.specs.Prelude.{◌≤ℤ◌, List, [], ◌∷◌, Option, None, S
 use Rattle.mf_geom.specs.Coordinates.{least_coordinate, last_in_field}
 use Rattle.mf_rows.specs.declared.bounds.Box4.{Box4}
 use Rattle.mf_rows.specs.Dots.{Dot}
-use Rattle.mf_rows.specs.Widening.{widened}
+use Rattle.mf_rows.specs.Widening.{box_round_both}
 
 -- the box of one dot
 abbrev pub box_of_dot : Dot → Box4
@@ -12,7 +12,7 @@ box_of_dot d = record { min_x = d.x; max_x = d.x; min_y = d.y; max_y = d.y }
 -- the least box of a dot and others
 unfoldable pub box_of_dots : Dot → List Dot → Box4
 box_of_dots d [] = box_of_dot d
-box_of_dots d (e ∷ ds) = widened (box_of_dot d) (box_of_dots e ds)
+box_of_dots d (e ∷ ds) = box_round_both (box_of_dot d) (box_of_dots e ds)
 
 -- the least box of a picture, none where it is blank
 unfoldable pub box_of : List Dot → Option Box4

@@ -2,7 +2,7 @@
 ghost use Rattle.std.specs.Prelude.{◌≡◌, ◌++◌, IfOk, OnOk, All};
 ghost use Rattle.mf_rows.specs.Bands.{slice_rows};
 ghost use Rattle.mf_rows.specs.RowLists.{rows_at, AreHeads, IsRange};
-ghost use Rattle.mf_rows.specs.Copies.{IsWithin, IsMovable, IsMoved, IsCopied};
+ghost use Rattle.mf_rows.specs.Copies.{LiesBetween, IsMovable, IsMoved, IsCopied};
 
 use super::{Head, Place, RowList};
 use crate::slice::RowSlice;
@@ -19,7 +19,7 @@ impl RowList {
         let (start, end) = edges_of(rows);
         let base = self.edges.len();
         push_edges(&mut self.edges, &rows.edges[start..end])?;
-        push_moved(&mut self.heads, &self.edges, rows, start, base)?;
+        push_relocated(&mut self.heads, &self.edges, rows, start, base)?;
         Ok(())
     }
 }
@@ -27,7 +27,7 @@ impl RowList {
 impl Place {
     /// The place of the copies of the same edges, where those from place `from` on are copied to place `to`. A list of its own
     /// is shared.
-    fn moved(&self, from: usize, to: usize) -> Result<Place, OutOfMemory>
+    fn relocate(&self, from: usize, to: usize) -> Result<Place, OutOfMemory>
         requires { IsMovable from to self.now }
         ensures { IfOk result (IsMoved from to self.now) }
     {
@@ -44,7 +44,7 @@ impl Place {
 /// The places, from the first up to one past the last, among which these rows have all edges that are in the list.
 fn edges_of(rows: RowSlice<'_>) -> (usize, usize)
     ensures range { IsRange rows.entry.edges.now result.0 result.1 }
-    ensures within { All (λ head. IsWithin result.0 result.1 head.place) rows.entry.heads.now }
+    ensures within { All (λ head. LiesBetween result.0 result.1 head.place) rows.entry.heads.now }
 {
     let (mut first, mut last) = (rows.edges.len(), 0usize);
     for head in rows.heads {
@@ -57,7 +57,7 @@ fn edges_of(rows: RowSlice<'_>) -> (usize, usize)
 }
 
 /// Appends the heads of rows whose edges were copied: those from place `from` on are among these, from place `to` on.
-fn push_moved(
+fn push_relocated(
     heads: &mut Vec<Head>,
     edges: &[Edge],
     rows: RowSlice<'_>,
@@ -71,7 +71,7 @@ fn push_moved(
 {
     heads.reserve(rows.heads.len())?;
     for head in rows.heads {
-        let place = head.place.moved(from, to)?;
+        let place = head.place.relocate(from, to)?;
         heads.push(Head {
             y: head.y,
             reach: head.reach,

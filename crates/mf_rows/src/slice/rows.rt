@@ -86,7 +86,7 @@ impl<'a> RowSlice<'a> {
             heads,
             edges: self.edges,
         };
-        Some((row_of(self.edges, head), rest))
+        Some((row_of_head(self.edges, head), rest))
     }
 
     /// The rows above row y, and the others.
@@ -145,7 +145,7 @@ fn count_rows_above(rows: RowSlice<'_>, y: i32) -> usize
 }
 
 /// The row of a head.
-fn row_of<'a>(edges: &'a [Edge], head: &'a Head) -> Row<'a>
+fn row_of_head<'a>(edges: &'a [Edge], head: &'a Head) -> Row<'a>
     requires { IsHead edges.now head.now }
     ensures { edge_row result ≡ row_at edges.now head.now }
 {

@@ -39,7 +39,7 @@ impl<'a> Weights<'a> {
     {
         self.pass(x, y);
         match self.run {
-            Some(run) => weight_in(&run, x, y),
+            Some(run) => weight_of_run(&run, x, y),
             None => 0,
         }
     }
@@ -76,7 +76,7 @@ fn is_before(run: &Run, x: i32, y: i32) -> bool
 }
 
 /// The weight that a run gives to a pixel that it does not end before.
-fn weight_in(run: &Run, x: i32, y: i32) -> i32
+fn weight_of_run(run: &Run, x: i32, y: i32) -> i32
     requires run { IsRun run.now }
     requires reach { IsNotBefore x y run.now }
     ensures { result ≡ weight_at (dots_of run.now) x y }

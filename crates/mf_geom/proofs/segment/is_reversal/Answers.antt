@@ -1,6 +1,6 @@
 use Rattle.std.proofs.Common.{◌≡◌, ◌+ℤ◌, arith, rules, to_z, of_z, w32}
 use Rattle.std.proofs.lemmas.Int.{ints}
-use Rattle.mf_geom.specs.Path.{arriving}
+use Rattle.mf_geom.specs.Path.{segment_into}
 use Rattle.mf_geom.proofs.Passed.{product-passed}
 use Rattle.mf_geom.proofs.segment.is_reversal.Goals as goal
 
@@ -8,7 +8,7 @@ pub overflow_add-result : goal.overflow_add-result
 overflow_add-result c = omega (arith, ints)
 
 pub returns : goal.returns
-unfolding arriving
+unfolding segment_into
 returns c =
     let arriving = c.step_along-arriving.result in
     let leaving = c.step_along-leaving.result in

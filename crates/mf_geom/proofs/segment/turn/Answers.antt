@@ -1,6 +1,6 @@
 use Rattle.std.proofs.Common.{◌≡◌, ◌-ℤ◌, arith, rules, to_z, of_z, w32}
 use Rattle.std.proofs.lemmas.Int.{ints}
-use Rattle.mf_geom.specs.Path.{arriving}
+use Rattle.mf_geom.specs.Path.{segment_into}
 use Rattle.mf_geom.specs.Turning.{turn, turn_at}
 use Rattle.mf_geom.proofs.Passed.{product-passed}
 use Rattle.mf_geom.proofs.segment.turn.Goals as goal
@@ -9,7 +9,7 @@ pub overflow_sub-product : goal.overflow_sub-product
 overflow_sub-product c = omega (arith, ints)
 
 pub returns-clause-value : goal.returns-clause-value
-unfolding arriving turn turn_at
+unfolding segment_into turn turn_at
 returns-clause-value c =
     let arriving = c.step_along-arriving.result in
     let leaving = c.step_along-leaving.result in

@@ -4,7 +4,7 @@ use Rattle.std.proofs.lemmas.Int.{ints, to_z-of_z}
 use Rattle.mf_edges.specs.declared.stretch.Stretch.{Stretch}
 use Rattle.mf_rows.specs.Dots.{Dot, weight_at}
 use Rattle.mf_edges.specs.Axes.{source_of}
-use Rattle.mf_rows.specs.Moves.{stretched_at}
+use Rattle.mf_rows.specs.Moves.{stretch_at}
 use Rattle.mf_edges.proofs.Sources.{source_of-is}
 use Rattle.mf_ops.specs.Moves.{shift_by}
 use Rattle.mf_ops.specs.Step.{step_at}
@@ -18,9 +18,9 @@ source_of-shift : (d q : ℤ) → source_of (shift_by d) q ≡ q -ℤ d
 source_of-shift d q =
     source_of-is (shift_by d) (q -ℤ d) q (record { least = omega (arith, ints); greatest = omega (arith, ints) }) (omega (arith, ints)) (omega (arith, ints))
 
-stretched_at-shift : (ds : List Dot) (dx dy x y : ℤ) → stretched_at (shift_by dx) (shift_by dy) ds x y ≡ step_at ds (Shift dx dy) x y
-unfolding stretched_at
-stretched_at-shift ds dx dy x y = λ t. weight_at ds (source_of-shift dx x t) (source_of-shift dy y t)
+stretch_at-shift : (ds : List Dot) (dx dy x y : ℤ) → stretch_at (shift_by dx) (shift_by dy) ds x y ≡ step_at ds (Shift dx dy) x y
+unfolding stretch_at
+stretch_at-shift ds dx dy x y = λ t. weight_at ds (source_of-shift dx x t) (source_of-shift dy y t)
 
 offset-read_back : (s : Stretch) (d : ℤ) → FitsSigned w32 d → s ≡ shift_by (to_z w32 (of_z w32 d)) → s ≡ shift_by d
 offset-read_back s d fits is = is ∙ ap shift_by (to_z-of_z w32 d fits)
@@ -47,7 +47,7 @@ returns c =
     let op = Shift c.args.right c.args.up in
     let after = (goal.at.returns c).After-stays_inside in
     let inside = stays after c.if-not-stays_inside.false in
-    let has = HasWeights-same _ _ _ (stretched_at-shift ds c.args.right c.args.up) (rw (columns after, rows after) at c.in_ok-stretch.ensures.weights) in
+    let has = HasWeights-same _ _ _ (stretch_at-shift ds c.args.right c.args.up) (rw (columns after, rows after) at c.in_ok-stretch.ensures.weights) in
     let made = made-from_weights ds op _ inside c.in_ok-stretch.ensures.lawful has in
     record { step = made.0; accepted = made.1; refused = tt; out_of_field = λ out. absurd (not_out ds op inside out) }
 

@@ -4,7 +4,7 @@ use Rattle.std.proofs.lemmas.Bool.{both_ways}
 use Rattle.std.proofs.lemmas.Int.{ints, to_z-of_z, unsigned_abs-mul, fits_signed_from_abs}
 use Rattle.std.specs.Int.RustNames.{unsigned_abs}
 use Rattle.mf_geom.specs.Coordinates.{least_coordinate, greatest_coordinate, IsCoordinate}
-use Rattle.mf_edges.specs.Axes.{stretched_to}
+use Rattle.mf_edges.specs.Axes.{target_of}
 use Rattle.mf_ops.proofs.transform.stays_in_range.Goals.{After-from-3}
 use Rattle.mf_ops.proofs.transform.stays_in_range.Goals as goal
 
@@ -39,7 +39,7 @@ module _ (c : After-from-3) where
   product = to_z w64 (of_z w64 (to_z w64 (of_z w64 c.from.result) *ℤ to_z w64 (of_z w64 c.from-2.result)))
 
   abbrev moved : ℤ
-  moved = stretched_to c.args.stretch.now c.args.point
+  moved = target_of c.args.stretch.now c.args.point
 
   factor-fits : FitsSigned w32 factor
   factor-fits = search rules

@@ -2,7 +2,7 @@ use Rattle.std.proofs.Common.{◌≤◌, ◌<ℤ◌, length, arith, rules}
 use Rattle.std.proofs.lemmas.List.{nil_from_length}
 use Rattle.std.proofs.lemmas.List.Elements.{All-nil}
 use Rattle.mf_rows.specs.Dots.{place}
-use Rattle.mf_rows.proofs.BuildingLemmas.{IsLast, last_open_row, before_from_last, last_ends_before}
+use Rattle.mf_rows.proofs.BuildingLemmas.{IsLastRow, last_open_row, before_from_last, last_ends_before}
 use Rattle.mf_rows.proofs.EdgeRowsLemmas.{picture_of_rows-none}
 use Rattle.mf_rows.proofs.builder.end_before.Goals as goal
 
@@ -16,7 +16,7 @@ returns-in-Some c =
     let rows = c.args.rows.now in
     let last = c.in-Some.row.now in
     let run = c.args.run.now in
-    let is_last : IsLast rows last = let item = c.in-Some.ensures.item in record { some = item.3.0; here = item.1 } in (
+    let is_last : IsLastRow rows last = let item = c.in-Some.ensures.item in record { some = item.3.0; here = item.1 } in (
       λ test. before_from_last rows last run c.requires.rows c.requires.run is_last (c.ends_before.ensures.0 test),
       λ before. c.ends_before.ensures.1 (last_ends_before rows last run c.requires.rows c.requires.run is_last before),
     )

@@ -11,25 +11,25 @@ pub loop-place-init : goal.loop-place-init
 loop-place-init c =
     rw (c.in_ok-reserve.ensures.items, c.new-sum.ensures.items) (added_none _ _ (rows_of_groups_are_rows c.args.right.now c.requires.right))
 
-pub sum_at-requires-clause-left : goal.sum_at-requires-clause-left
-sum_at-requires-clause-left c = rw c.group_at.ensures (rows_in_place_are_rows c.args.left.now _ c.requires.left)
+pub sum_of_two-requires-clause-left : goal.sum_of_two-requires-clause-left
+sum_of_two-requires-clause-left c = rw c.group_at.ensures (rows_in_place_are_rows c.args.left.now _ c.requires.left)
 
-pub sum_at-requires-clause-right : goal.sum_at-requires-clause-right
-sum_at-requires-clause-right c = rw c.group_at-in-loop-place.ensures (rows_in_place_are_rows c.args.right.now _ c.requires.right)
+pub sum_of_two-requires-clause-right : goal.sum_of_two-requires-clause-right
+sum_of_two-requires-clause-right c = rw c.group_at-in-loop-place.ensures (rows_in_place_are_rows c.args.right.now _ c.requires.right)
 
-pub returns-in_err-sum_at-clause-too_large : goal.returns-in_err-sum_at-clause-too_large
-returns-in_err-sum_at-clause-too_large c =
-    let p = err_from_is_err_and c.from_residual-in_err-sum_at.result c.from_residual-in_err-sum_at.ensures.1 in
+pub returns-in_err-sum_of_two-clause-too_large : goal.returns-in_err-sum_of_two-clause-too_large
+returns-in_err-sum_of_two-clause-too_large c =
+    let p = err_from_is_err_and c.from_residual-in_err-sum_of_two.result c.from_residual-in_err-sum_of_two.ensures.1 in
     rw (p.1, p.2) (λ fault. unlawful_in_place c.loop-place.place _ _ _ _ _ _ c.requires.left c.loop-place.invariant
     (split_at_group c.args.right.now c.loop-place.place c.requires.right)
-    (rw (c.group_at.ensures, c.group_at-in-loop-place.ensures) at c.in_err-sum_at.ensures.too_large fault))
+    (rw (c.group_at.ensures, c.group_at-in-loop-place.ensures) at c.in_err-sum_of_two.ensures.too_large fault))
 
 pub loop-place-preserved : goal.loop-place-preserved
 loop-place-preserved c =
     rw c.in_ok-push.ensures.items
     (added_more c.loop-place.place _ _ _ _ _ _ c.requires.left c.loop-place.invariant
-    (split_at_group c.args.right.now c.loop-place.place c.requires.right) _ c.in_ok-sum_at.ensures.rows
-    (rw (c.group_at.ensures, c.group_at-in-loop-place.ensures) at c.in_ok-sum_at.ensures.weights))
+    (split_at_group c.args.right.now c.loop-place.place c.requires.right) _ c.in_ok-sum_of_two.ensures.rows
+    (rw (c.group_at.ensures, c.group_at-in-loop-place.ensures) at c.in_ok-sum_of_two.ensures.weights))
 
 pub returns-clause-groups : goal.returns-clause-groups
 returns-clause-groups c = record { layers = c.loop-place.invariant.layers }

@@ -3,7 +3,7 @@ use Rattle.std.proofs.lemmas.Result.{IfOk-weaker}
 use Rattle.mf_rows.specs.Bands.{edge_rows}
 use Rattle.mf_rows.specs.EdgeRows.{picture_of_rows}
 use Rattle.mf_rows.specs.Sums.{HasWeights}
-use Rattle.mf_rows.specs.WeightMaps.{mapped_at}
+use Rattle.mf_rows.specs.WeightMaps.{mapped_weight_at}
 use Rattle.mf_rows.proofs.BlankPictures.{blank_mapped}
 use Rattle.mf_rows.proofs.PictureRows.{weights_mapped}
 use Rattle.mf_rows.proofs.picture.Picture.map_weights.Goals as goal
@@ -18,5 +18,5 @@ returns-clause-weights c =
     let has =
     rw c.in_ok-rows.ensures.picture at (weights_mapped c.args.map.now (edge_rows c.in_ok-rows.rows.items) mapped c.in_ok-rows.ensures.rows
     c.in_ok-changed.ensures.rows weights) in
-    IfOk-weaker c.from_rows.result (λ picture. picture ≡ picture_of_rows mapped) (HasWeights (mapped_at c.args.map.now c.args.self.now))
+    IfOk-weaker c.from_rows.result (λ picture. picture ≡ picture_of_rows mapped) (HasWeights (mapped_weight_at c.args.map.now c.args.self.now))
     (λ picture is. rw is has) c.from_rows.ensures.value

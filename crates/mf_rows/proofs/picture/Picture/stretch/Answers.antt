@@ -2,8 +2,8 @@ use Rattle.std.proofs.Common.{◌≡◌, sym, subst}
 use Rattle.std.proofs.lemmas.Result.{IfOk-weaker}
 use Rattle.mf_rows.specs.Bands.{edge_rows}
 use Rattle.mf_rows.specs.EdgeRows.{picture_of_rows}
-use Rattle.mf_rows.specs.Moves.{stretched_at, columns_stretched_at}
-use Rattle.mf_rows.specs.RowChanges.{AllowStretch, stretched_in_rows}
+use Rattle.mf_rows.specs.Moves.{stretch_at, column_stretch_at}
+use Rattle.mf_rows.specs.RowChanges.{AllowStretch, stretch_in_rows}
 use Rattle.mf_rows.specs.Sums.{HasWeights, HaveRowWeights}
 use Rattle.mf_rows.proofs.StretchBounds.{rows_allowed, weights_stretched}
 use Rattle.mf_rows.proofs.picture.Picture.stretch.Goals as goal
@@ -12,7 +12,7 @@ pub stretched_rows-requires-clause-allowed : goal.stretched_rows-requires-clause
 stretched_rows-requires-clause-allowed c =
     let changed = edge_rows c.in_ok-changed.changed.items in
     let has =
-    subst (HasWeights (columns_stretched_at c.args.columns.now c.args.self.now)) (sym c.in_ok-changed.ensures.picture) c.in_ok-wide.ensures.weights in
+    subst (HasWeights (column_stretch_at c.args.columns.now c.args.self.now)) (sym c.in_ok-changed.ensures.picture) c.in_ok-wide.ensures.weights in
     subst (λ rows. AllowStretch c.args.rows.now (edge_rows rows)) (sym c.deref.ensures.value)
     (rows_allowed c.args.columns.now c.args.rows.now c.args.self.now changed c.in_ok-changed.ensures.rows c.requires.inside.up has)
 
@@ -21,13 +21,13 @@ returns-clause-weights c =
     let changed = edge_rows c.in_ok-changed.changed.items in
     let stretched = c.in_ok-stretched_rows.field-0 in
     let has =
-    subst (HasWeights (columns_stretched_at c.args.columns.now c.args.self.now)) (sym c.in_ok-changed.ensures.picture) c.in_ok-wide.ensures.weights in
+    subst (HasWeights (column_stretch_at c.args.columns.now c.args.self.now)) (sym c.in_ok-changed.ensures.picture) c.in_ok-wide.ensures.weights in
     let has_stretched =
-    subst (λ rows. HaveRowWeights (stretched_in_rows c.args.rows.now (edge_rows rows)) stretched) c.deref.ensures.value
+    subst (λ rows. HaveRowWeights (stretch_in_rows c.args.rows.now (edge_rows rows)) stretched) c.deref.ensures.value
     c.in_ok-stretched_rows.ensures.weights in
     let weights =
     weights_stretched c.args.columns.now c.args.rows.now c.args.self.now changed c.in_ok-changed.ensures.rows stretched c.in_ok-wide.ensures.lawful
     c.in_ok-stretched_rows.ensures.rows has has_stretched in
     IfOk-weaker c.from_rows.result (λ picture. picture ≡ picture_of_rows stretched)
-    (HasWeights (stretched_at c.args.columns.now c.args.rows.now c.args.self.now))
+    (HasWeights (stretch_at c.args.columns.now c.args.rows.now c.args.self.now))
     (λ picture is. rw is weights) c.from_rows.ensures.value

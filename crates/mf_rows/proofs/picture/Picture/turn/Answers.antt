@@ -2,7 +2,7 @@ use Rattle.std.proofs.Common.{◌≡◌}
 use Rattle.std.proofs.lemmas.Result.{IfOk-weaker}
 use Rattle.mf_rows.specs.Bands.{edge_rows}
 use Rattle.mf_rows.specs.EdgeRows.{picture_of_rows}
-use Rattle.mf_rows.specs.Moves.{turned_at}
+use Rattle.mf_rows.specs.Moves.{quarter_turn_at}
 use Rattle.mf_rows.specs.Sums.{HasWeights}
 use Rattle.mf_rows.proofs.PictureRows.{weights_turned}
 use Rattle.mf_rows.proofs.picture.Picture.turn.Goals as goal
@@ -14,5 +14,5 @@ returns-clause-weights c =
     let has =
     rw c.in_ok-rows.ensures.picture at (weights_turned (edge_rows c.in_ok-rows.rows.items) turned c.in_ok-rows.ensures.rows
     c.in_ok-turned_rows.ensures.rows weights) in
-    IfOk-weaker c.from_rows.result (λ picture. picture ≡ picture_of_rows turned) (HasWeights (turned_at c.args.self.now))
+    IfOk-weaker c.from_rows.result (λ picture. picture ≡ picture_of_rows turned) (HasWeights (quarter_turn_at c.args.self.now))
     (λ picture is. rw is has) c.from_rows.ensures.value

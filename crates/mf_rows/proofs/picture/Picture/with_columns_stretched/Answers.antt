@@ -4,7 +4,7 @@ use Rattle.mf_edges.specs.declared.row_change.RowChange.TheVariants as change
 use Rattle.mf_edges.specs.Axes.{PlaceStaysInside}
 use Rattle.mf_rows.specs.Bands.{edge_rows}
 use Rattle.mf_rows.specs.EdgeRows.{picture_of_rows}
-use Rattle.mf_rows.specs.Moves.{columns_stretched_at}
+use Rattle.mf_rows.specs.Moves.{column_stretch_at}
 use Rattle.mf_rows.specs.RowChanges.{RowsAllowChange}
 use Rattle.mf_rows.specs.Sums.{HasWeights}
 use Rattle.std.specs.List.{All}
@@ -16,7 +16,7 @@ pub returns-then-columns-eq0-clause-weights : goal.returns-then-columns-eq0-clau
 returns-then-columns-eq0-clause-weights c =
     let same = columns_same c.args.columns.now c.args.self.now c.copy.ensures.lawful c.requires.inside c.requires.columns c.if-columns-eq1.true
     c.if-columns-eq0.true in
-    IfOk-weaker c.copy.result (λ copy. copy ≡ c.args.self.now) (HasWeights (columns_stretched_at c.args.columns.now c.args.self.now))
+    IfOk-weaker c.copy.result (λ copy. copy ≡ c.args.self.now) (HasWeights (column_stretch_at c.args.columns.now c.args.self.now))
     (λ copy is. rw is same) c.copy.ensures.value
 
 pub changed_rows-requires-clause-allowed : goal.changed_rows-requires-clause-allowed
@@ -33,5 +33,5 @@ returns-clause-weights c =
     let has =
     rw c.in_ok-rows.ensures.picture at (weights_of_columns_stretched c.args.columns.now (edge_rows c.in_ok-rows.rows.items) changed
     c.in_ok-rows.ensures.rows c.in_ok-changed.ensures.rows weights) in
-    IfOk-weaker c.from_rows.result (λ picture. picture ≡ picture_of_rows changed) (HasWeights (columns_stretched_at c.args.columns.now c.args.self.now))
+    IfOk-weaker c.from_rows.result (λ picture. picture ≡ picture_of_rows changed) (HasWeights (column_stretch_at c.args.columns.now c.args.self.now))
     (λ picture is. rw is has) c.from_rows.ensures.value

@@ -1,13 +1,13 @@
 use Rattle.std.proofs.Common.{◌≡◌, ◌-◌, suc, length, to_z, of_z, w32, arith}
 use Rattle.std.proofs.lemmas.Int.{ints}
-use Rattle.mf_rows.proofs.RowListLemmas.{IsLast, is_last, nothing_more, heads_push, rows_push}
+use Rattle.mf_rows.proofs.RowListLemmas.{IsLastHead, is_last, nothing_more, heads_push, rows_push}
 use Rattle.mf_rows.proofs.row_list.RowList.push_again.Goals as goal
 use Rattle.mf_rows.proofs.row_list.RowList.push_again.Goals.{In_ok-push}
 
 pub invariant_of-self : goal.invariant_of-self
 invariant_of-self c = rw c.in_err-push.ensures.items c.self.invariant
 
-last : (c : In_ok-push) → IsLast c.self.inside.edges.items c.self.inside.heads.items c.in-Some.last.now
+last : (c : In_ok-push) → IsLastHead c.self.inside.edges.items c.self.inside.heads.items c.in-Some.last.now
 last c =
     let heads = c.self.inside.heads.items in
     let item = rw c.deref.ensures.value at c.in-Some.ensures.item in

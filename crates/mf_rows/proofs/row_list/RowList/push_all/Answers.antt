@@ -4,13 +4,13 @@ use Rattle.mf_rows.proofs.CopiesLemmas.{copied_behind}
 use Rattle.mf_rows.proofs.RowListLemmas.{heads_kept, rows_kept}
 use Rattle.mf_rows.proofs.row_list.RowList.push_all.Goals as goal
 
-pub push_moved-requires-clause-heads : goal.push_moved-requires-clause-heads
-push_moved-requires-clause-heads c =
+pub push_relocated-requires-clause-heads : goal.push_relocated-requires-clause-heads
+push_relocated-requires-clause-heads c =
     let kept : HasMoreEdges c.self.inside.edges.items c.push_edges.new.edges.items = record { more = _; all = c.in_ok-push_edges.ensures.pushed } in
     rw c.deref.ensures.value (heads_kept _ _ kept _ c.self.invariant)
 
-pub push_moved-requires-clause-copied : goal.push_moved-requires-clause-copied
-push_moved-requires-clause-copied c =
+pub push_relocated-requires-clause-copied : goal.push_relocated-requires-clause-copied
+push_relocated-requires-clause-copied c =
     let edges = c.push_edges.new.edges in
     let base : c.len-base.result ≡ length c.self.inside.edges.items = omega arith in
     let fits : length edges.items < 2 ^ 64 = omega (arith, edges.ok, edges.small) in
@@ -19,6 +19,6 @@ push_moved-requires-clause-copied c =
 
 pub returns : goal.returns
 returns c =
-    let rows = rw c.deref.ensures.value at c.in_ok-push_moved.ensures.rows in
+    let rows = rw c.deref.ensures.value at c.in_ok-push_relocated.ensures.rows in
     let kept : HasMoreEdges c.self.inside.edges.items c.push_edges.new.edges.items = record { more = _; all = c.in_ok-push_edges.ensures.pushed } in
     rw (rows, rows_kept _ _ kept _ c.self.invariant, c.self.view_is) refl

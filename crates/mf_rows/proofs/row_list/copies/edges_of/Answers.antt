@@ -1,5 +1,5 @@
 use Rattle.std.proofs.Common.{◌≤◌, sym, subst, arith}
-use Rattle.mf_rows.specs.Copies.{IsWithin}
+use Rattle.mf_rows.specs.Copies.{LiesBetween}
 use Rattle.mf_rows.specs.RowLists.{IsThere}
 use Rattle.mf_rows.proofs.CopiesLemmas.{head_at, within_more, within_all}
 use Rattle.mf_rows.proofs.row_list.copies.edges_of.Goals.{in-Among, in_default}
@@ -28,7 +28,7 @@ loop-head-preserved c =
             last = omega (arith, w.last-is, w.max-last.ensures, so_far.last, there.within);
             within =
                 within_more _ _ _ _ first.0 last.0 hs n h c.loop-head-test.true c.head-item.is so_far.within
-                (subst (IsWithin c.match-head.first c.match-head.last) (sym w.in-Among.is) (first.1, last.1));
+                (subst (LiesBetween c.match-head.first c.match-head.last) (sym w.in-Among.is) (first.1, last.1));
           }
       | in_default w ↦
           record {
@@ -36,7 +36,7 @@ loop-head-preserved c =
             last = omega (arith, w.last-is, so_far.last);
             within =
                 within_more _ _ _ _ (omega (arith, w.first-is)) (omega (arith, w.last-is)) hs n h c.loop-head-test.true c.head-item.is so_far.within
-                (subst (IsWithin c.match-head.first c.match-head.last) (sym w.in_default.is) tt);
+                (subst (LiesBetween c.match-head.first c.match-head.last) (sym w.in_default.is) tt);
           }
     ]
 

@@ -7,7 +7,7 @@ use Rattle.mf_rows.specs.Bounds.{IsLeastBox}
 use Rattle.mf_rows.specs.declared.bounds.Box4.{Box4}
 use Rattle.mf_edges.specs.declared.stretch.Stretch.{Stretch}
 use Rattle.mf_rows.specs.Dots.{Dot, IsPicture}
-use Rattle.mf_edges.specs.Axes.{PlaceStaysInside, stretched_to}
+use Rattle.mf_edges.specs.Axes.{PlaceStaysInside, target_of}
 use Rattle.mf_rows.specs.Moves.{PixelsStayInside}
 use Rattle.mf_rows.proofs.BoundsInField.{bounds_in_field}
 use Rattle.mf_rows_tests.proofs.tests.moves.assert_stays_inside.Goals as goal
@@ -32,7 +32,7 @@ record IsSmall (s : Stretch) : Type 0 where
   offset_greatest : s.offset ≤ℤ pos 1000
 
 -- it takes no place near 0 out of the field
-point_stays : (s : Stretch) (p : ℤ) → IsSmall s → negsuc 999 ≤ℤ p → p ≤ℤ pos 1000 → IsCoordinate (stretched_to s p)
+point_stays : (s : Stretch) (p : ℤ) → IsSmall s → negsuc 999 ≤ℤ p → p ≤ℤ pos 1000 → IsCoordinate (target_of s p)
 point_stays s p small least greatest =
     let size : unsigned_abs (p *ℤ s.factor) ≤ 3000 =
     rw unsigned_abs-mul (mul-le-mul (size-point p least greatest) (size-factor s.factor small.factor_least small.factor_greatest)) in

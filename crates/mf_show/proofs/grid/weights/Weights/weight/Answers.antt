@@ -3,16 +3,16 @@ use Rattle.std.proofs.lemmas.Int.{ints, to_z-of_z}
 use Rattle.mf_show.proofs.PassedPixels.{taken_is_lawful, weight_of_taken, weight_of_none}
 use Rattle.mf_show.proofs.grid.weights.Weights.weight.Goals as goal
 
-pub weight_in-requires-clause-run : goal.weight_in-requires-clause-run
-weight_in-requires-clause-run c = taken_is_lawful _ _ _ c.in-Some.is c.pass.ensures.order
+pub weight_of_run-requires-clause-run : goal.weight_of_run-requires-clause-run
+weight_of_run-requires-clause-run c = taken_is_lawful _ _ _ c.in-Some.is c.pass.ensures.order
 
 pub returns-in-Some-clause-weight : goal.returns-in-Some-clause-weight
 returns-in-Some-clause-weight c =
     let column = to_z-of_z w32 c.args.x c.ranges.x in
     let row = to_z-of_z w32 c.args.y c.ranges.y in
-    let weight : to_z w32 (of_z w32 c.weight_in.result) ≡ c.weight_in.result = omega (arith, ints) in
+    let weight : to_z w32 (of_z w32 c.weight_of_run.result) ≡ c.weight_of_run.result = omega (arith, ints) in
     let here = weight_of_taken _ _ _ _ _ _ c.in-Some.is c.pass.ensures.order (rw c.in-Some.is at c.pass.ensures.reach) c.pass.ensures.later in
-    weight ∙ rw (column, row) at (c.weight_in.ensures ∙ here)
+    weight ∙ rw (column, row) at (c.weight_of_run.ensures ∙ here)
 
 pub returns-in-None-clause-weight : goal.returns-in-None-clause-weight
 returns-in-None-clause-weight c =

@@ -2,7 +2,7 @@ use Rattle.std.proofs.Common.{◌∷◌, ◌++◌, [], ap, sym, ◌∙◌, appen
 use Rattle.std.proofs.lemmas.List.{map-append}
 use Rattle.mf_rows.specs.Bands.{edge_row, edge_rows}
 use Rattle.mf_rows.specs.Rest.{remaining_rows}
-use Rattle.mf_rows.proofs.groups.rows_of.Goals as goal
+use Rattle.mf_rows.proofs.groups.list_rows.Goals as goal
 
 pub loop-row-preserved : goal.loop-row-preserved
 loop-row-preserved c =

@@ -2,8 +2,8 @@ use Rattle.std.proofs.Common.{◌≡◌, ◌∙◌, to_z, of_z, w32, arith}
 use Rattle.std.proofs.lemmas.Int.{ints}
 use Rattle.mf_rows.specs.Dots.{place}
 use Rattle.mf_show.proofs.PassedPixels.{weight_on, weight_off}
-use Rattle.mf_show.proofs.grid.weights.weight_in.Goals as goal
-use Rattle.mf_show.proofs.grid.weights.weight_in.Goals.{else-run-y-via-then-run-y+else-run-x, else-run-y-via-else-run-y}
+use Rattle.mf_show.proofs.grid.weights.weight_of_run.Goals as goal
+use Rattle.mf_show.proofs.grid.weights.weight_of_run.Goals.{else-run-y-via-then-run-y+else-run-x, else-run-y-via-else-run-y}
 
 pub returns-then-run-x : goal.returns-then-run-x
 unfolding place

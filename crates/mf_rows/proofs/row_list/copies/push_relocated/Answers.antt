@@ -1,13 +1,13 @@
 use Rattle.std.proofs.Common.{◌≡◌, to_z, of_z, w32, rules}
 use Rattle.std.proofs.lemmas.Int.{to_z-of_z}
 use Rattle.mf_rows.proofs.CopiesLemmas.{moved_none, moved_next, moved_all, head_movable}
-use Rattle.mf_rows.proofs.row_list.copies.push_moved.Goals as goal
+use Rattle.mf_rows.proofs.row_list.copies.push_relocated.Goals as goal
 
 pub loop-head-init : goal.loop-head-init
 loop-head-init c = rw c.in_ok-reserve.ensures.items (moved_none c.args.rows.edges.now c.args.edges.now c.args.heads.now.items c.requires.heads)
 
-pub moved-requires : goal.moved-requires
-moved-requires c =
+pub relocate-requires : goal.relocate-requires
+relocate-requires c =
     head_movable _ _ _ _ _ c.requires.copied c.args.rows.placed c.loop-head.head-index c.head-item.result c.loop-head-test.true c.head-item.is
 
 pub loop-head-preserved : goal.loop-head-preserved

@@ -1,5 +1,5 @@
 use Rattle.mf_rows.proofs.GroupsLemmas.{sum_with_none, sum_of_none}
-use Rattle.mf_rows.proofs.group_sum.sum_at.Goals as goal
+use Rattle.mf_rows.proofs.group_sum.sum_of_two.Goals as goal
 
 pub returns-in_ok-share_group-in-Some-None-clause-weights : goal.returns-in_ok-share_group-in-Some-None-clause-weights
 returns-in_ok-share_group-in-Some-None-clause-weights c =
