@@ -18,6 +18,10 @@ last_in_field = greatest_coordinate -ℤ pos 1
 abbrev pub field_size : ℕ
 field_size = 2 * unsigned_abs greatest_coordinate
 
+-- the greatest length of a segment, from the least coordinate to the greatest
+abbrev pub greatest_length : ℤ
+greatest_length = pos field_size
+
 -- a point may have this coordinate: a record, since proofs cite each bound by itself
 pub record IsCoordinate (a : ℤ) : Type 0 where
   pub least : least_coordinate ≤ℤ a

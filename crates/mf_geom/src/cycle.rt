@@ -1,5 +1,5 @@
 //! Cycles: closed rectilinear paths.
-ghost use Rattle.std.specs.Prelude.{◌≡◌, ◌↔◌, ◌<◌, pos, negsuc, ◌≤ℤ◌, length, Some, IsOk, IfOk, IfErr};
+ghost use Rattle.std.specs.Prelude.{◌≡◌, ◌↔◌, ◌<◌, pos, neg_ℤ, ◌≤ℤ◌, length, Some, IsOk, IfOk, IfErr};
 
 use crate::point::Point;
 use crate::{path, segment, winding};
@@ -71,7 +71,7 @@ impl Model for Cycle {
 
 impl Cycle {
     ghost use Rattle.mf_geom.specs.Faults.{form_fault, turning_fault};
-    ghost use Rattle.mf_geom.specs.Lawful.{IsRectilinearCycle, NeverReverses};
+    ghost use Rattle.mf_geom.specs.Lawful.{IsRectilinearCycle, NeverReverses, most_points};
     ghost use Rattle.mf_geom.specs.Path.{segment_at};
     ghost use Rattle.mf_geom.specs.Turning.{turning};
     ghost use Rattle.mf_geom.specs.Area.{area};
@@ -139,13 +139,13 @@ impl Cycle {
         }
     }
 
-    /// The winding number round the pixel (x, y), in -4096..=4096: how often the cycle goes round it, positive
+    /// The winding number round the pixel (x, y), in -4096..=4096, since no segment crosses a ray more than once: how often the cycle goes round it, positive
     /// counterclockwise (The METAFONTbook, chapters 13 and 24). It is 0 for a pixel outside the field.
     pub fn winding(&self, x: i32, y: i32) -> i32
         ensures value { result ≡ winding self.now x y }
         ensures lawful { IsRectilinearCycle self.now }
-        ensures least { negsuc 4095 ≤ℤ result }
-        ensures greatest { result ≤ℤ pos 4096 }
+        ensures least { neg_ℤ (pos most_points) ≤ℤ result }
+        ensures greatest { result ≤ℤ pos most_points }
     {
         winding::winding(&self.points, x, y)
     }

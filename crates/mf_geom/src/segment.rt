@@ -1,7 +1,8 @@
 //! The segments and vertices of a closed path, each given by its index in the path's slice of points: segment i leaves
 //! vertex i.
-ghost use Rattle.std.specs.Prelude.{◌≡◌, ◌↔◌, ◌<◌, pos, negsuc, ◌*ℤ◌, ◌≤ℤ◌, length, IsTrue};
+ghost use Rattle.std.specs.Prelude.{◌≡◌, ◌↔◌, ◌<◌, pos, negsuc, neg_ℤ, ◌*ℤ◌, ◌≤ℤ◌, length, IsTrue};
 ghost use Rattle.mf_geom.specs.Area.{shoelace_at};
+ghost use Rattle.mf_geom.specs.Coordinates.{greatest_length};
 ghost use Rattle.mf_geom.specs.Lawful.{StaysInRange};
 ghost use Rattle.mf_geom.specs.Path.{next_place, previous_place, segment_at, segment_into, across, up, IsInRange, IsRectilinear, IsReversal};
 ghost use Rattle.mf_geom.specs.Turning.{turn_at};
@@ -13,10 +14,10 @@ use crate::point::Point;
 struct Step {
     across: i32,
     up: i32,
-    ghost leftmost: { negsuc 8189 ≤ℤ across },
-    ghost rightmost: { across ≤ℤ pos 8190 },
-    ghost lowest: { negsuc 8189 ≤ℤ up },
-    ghost highest: { up ≤ℤ pos 8190 },
+    ghost leftmost: { neg_ℤ greatest_length ≤ℤ across },
+    ghost rightmost: { across ≤ℤ greatest_length },
+    ghost lowest: { neg_ℤ greatest_length ≤ℤ up },
+    ghost highest: { up ≤ℤ greatest_length },
 }
 
 /// Whether a segment is rectilinear.
@@ -120,12 +121,12 @@ fn previous_place(points: &[Point], place: usize) -> usize
 }
 
 /// The product of two coordinates, or of the lengths of two segments. It fits 32 bits, since neither factor exceeds 8190
-/// in absolute value.
+/// in absolute value; the bounds of the product, and of the shoelace sum, follow from that and stand as plain numbers.
 fn product(a: i32, b: i32) -> i32
-    requires a_least { negsuc 8189 ≤ℤ a }
-    requires a_greatest { a ≤ℤ pos 8190 }
-    requires b_least { negsuc 8189 ≤ℤ b }
-    requires b_greatest { b ≤ℤ pos 8190 }
+    requires a_least { neg_ℤ greatest_length ≤ℤ a }
+    requires a_greatest { a ≤ℤ greatest_length }
+    requires b_least { neg_ℤ greatest_length ≤ℤ b }
+    requires b_greatest { b ≤ℤ greatest_length }
     ensures value { result ≡ a *ℤ b }
     ensures least { negsuc 67076099 ≤ℤ result }
     ensures greatest { result ≤ℤ pos 67076100 }

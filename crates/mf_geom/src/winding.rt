@@ -1,7 +1,7 @@
 //! How often a closed path winds round a pixel.
-ghost use Rattle.std.specs.Prelude.{◌≡◌, ◌<◌, pos, negsuc, ◌≤ℤ◌, length};
+ghost use Rattle.std.specs.Prelude.{◌≡◌, ◌<◌, pos, negsuc, neg_ℤ, ◌≤ℤ◌, length};
 ghost use Rattle.mf_geom.specs.Crossing.{unit_step, crossing_at};
-ghost use Rattle.mf_geom.specs.Lawful.{IsRectilinearCycle, StaysInRange};
+ghost use Rattle.mf_geom.specs.Lawful.{IsRectilinearCycle, StaysInRange, most_points};
 ghost use Rattle.mf_geom.specs.Winding.{winding};
 
 use crate::point::Point;
@@ -12,8 +12,8 @@ use crate::segment::ends;
 pub fn winding(points: &[Point], x: i32, y: i32) -> i32
     requires { IsRectilinearCycle points.now }
     ensures value { result ≡ winding points.now x y }
-    ensures least { negsuc 4095 ≤ℤ result }
-    ensures greatest { result ≤ℤ pos 4096 }
+    ensures least { neg_ℤ (pos most_points) ≤ℤ result }
+    ensures greatest { result ≤ℤ pos most_points }
 {
     let mut crossings = 0;
     for segment in 0..points.len() {
