@@ -1,20 +1,29 @@
 -- What is left of the edges of two rows while their sum is made.
-use Rattle.std.specs.Prelude.{◌≡◌, ◌<◌, ◌≤◌, ℤ, pos, negsuc, ◌+ℤ◌, ◌≤ℤ◌, All, List, [], ◌∷◌, length, if◌then◌else◌}
+use Rattle.std.specs.Prelude.{◌≡◌, ◌<◌, ◌≤◌, ℤ, pos, neg_ℤ, ◌+ℤ◌, ◌-ℤ◌, ◌≤ℤ◌, All, List, [], ◌∷◌, length, if◌then◌else◌}
 use Rattle.std.specs.Ordering.{int_eq}
 use Rattle.mf_geom.specs.Coordinates.{least_coordinate, greatest_coordinate}
 use Rattle.mf_edges.specs.declared.edge.Edge.{Edge}
 use Rattle.mf_edges.specs.Edges.{AreEdgesFrom, weight_in}
+use Rattle.mf_edges.specs.LawfulWeights.{greatest_weight, least_weight}
 use Rattle.mf_edges.specs.Sums.{HaveWeights, with_edge_in}
 
--- a difference of two lawful weights is at most 65534 in absolute value
-pub record IsChange (w : ℤ) : Type 0 where
-  pub least : negsuc 65533 ≤ℤ w
-  pub greatest : w ≤ℤ pos 65534
+-- the greatest difference of two lawful weights
+abbrev pub greatest_change : ℤ
+greatest_change = greatest_weight -ℤ least_weight
 
--- a difference of two such changes is at most 131068 in absolute value
+-- the greatest difference of two such changes
+abbrev pub greatest_difference : ℤ
+greatest_difference = greatest_change +ℤ greatest_change
+
+-- a number may be the difference of two lawful weights
+pub record IsChange (w : ℤ) : Type 0 where
+  pub least : neg_ℤ greatest_change ≤ℤ w
+  pub greatest : w ≤ℤ greatest_change
+
+-- a number may be the difference of two such changes
 pub record IsDifference (w : ℤ) : Type 0 where
-  pub least : negsuc 131067 ≤ℤ w
-  pub greatest : w ≤ℤ pos 131068
+  pub least : neg_ℤ greatest_difference ≤ℤ w
+  pub greatest : w ≤ℤ greatest_difference
 
 -- the edges of changes of weights: sorted, with a sum of 0, and with differences of two lawful weights between them
 pub record AreChanges (es : List Edge) : Type 0 where
