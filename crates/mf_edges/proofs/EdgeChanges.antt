@@ -203,8 +203,8 @@ stretched_of s es row stretch inside = record {
 
 -- ---- the numbers that the code computes
 
-size : (z : ℤ) → least_coordinate ≤ℤ z → z ≤ℤ greatest_coordinate → unsigned_abs z ≤ 4095
-size z least greatest = omega (arith, ints)
+pub size-at_most : (z : ℤ) → least_coordinate ≤ℤ z → z ≤ℤ greatest_coordinate → unsigned_abs z ≤ unsigned_abs greatest_coordinate
+size-at_most z least greatest = omega (arith, ints)
 
 offset_is-small : (p o : ℤ) → unsigned_abs p ≤ 16769025 → IsCoordinate (p +ℤ o) → to_z w32 (of_z w32 o) ≡ o
 offset_is-small p o small reach =
@@ -216,7 +216,7 @@ reach_fits x reach = omega (arith, ints)
 
 module _ (s : Stretch) (e : Edge) (stretch : IsStretch s) (edge : IsEdge e) where
   product_size : unsigned_abs (e.x *ℤ s.factor) ≤ 16769025
-  product_size = rw unsigned_abs-mul (mul-le-mul (size e.x edge.left edge.right) (size s.factor (omega (arith, ints, stretch.least)) stretch.greatest))
+  product_size = rw unsigned_abs-mul (mul-le-mul (size-at_most e.x edge.left edge.right) (size-at_most s.factor (omega (arith, ints, stretch.least)) stretch.greatest))
 
   x_is : to_z w32 (of_z w32 e.x) ≡ e.x
   x_is = omega (arith, ints, edge.left, edge.right)

@@ -126,11 +126,8 @@ module _ (whole_left whole_right sum es : List Edge) (f : Edge) (fs : List Edge)
         → IsSumSoFar whole_left whole_right (sum ++ unless_zero (record { x = f.x; weight = v +ℤ f.weight })) others fs (weight +ℤ (v +ℤ f.weight))
     change_more = sum_more whole_left whole_right sum es (f ∷ fs) weight so_far f.x change_first others fs v f.weight split change_split
 
--- a sum has come to the first change, with what is at its column split off the edges; and its numbers fit
-pub record IsJoint (whole_left whole_right sum es : List Edge) (f : Edge) (fs : List Edge) (weight v : ℤ) (others : List Edge) : Type 0 where
-  pub so_far : IsSumSoFar whole_left whole_right sum es (f ∷ fs) weight
-  pub from : BeginFrom f.x es
-  pub split : IsSplitAt es f.x v others
+-- the numbers of a change that joins a sum of this weight at an edge of weight v, or at no edge where v is 0, fit
+pub record JoinFits (f : Edge) (weight v : ℤ) : Type 0 where
   pub column_is : to_z w32 (of_z w32 f.x) ≡ f.x
   pub edge_is : to_z w32 (of_z w32 v) ≡ v
   pub change_is : to_z w32 (of_z w32 f.weight) ≡ f.weight
@@ -140,11 +137,13 @@ pub record IsJoint (whole_left whole_right sum es : List Edge) (f : Edge) (fs : 
   pub total_fits : FitsSigned w32 (weight +ℤ (v +ℤ f.weight))
   pub total_is : to_z w32 (of_z w32 (weight +ℤ (v +ℤ f.weight))) ≡ weight +ℤ (v +ℤ f.weight)
 
+-- a sum comes to the first change, with what is at its column split off the edges
 pub joint : (whole_left whole_right sum es changes : List Edge) (f : Edge) (fs : List Edge) (weight : ℤ) (count : ℕ) (now v : ℤ) (others : List Edge)
     → changes ≡ f ∷ fs → IsSumSoFar whole_left whole_right sum es changes weight
     → ArePassed es (to_z w32 (of_z w32 f.x)) weight count now → BeginFrom (to_z w32 (of_z w32 f.x)) (drop count es)
     → IsSplitAt (drop count es) (to_z w32 (of_z w32 f.x)) v others
-    → IsJoint whole_left whole_right (sum ++ take count es) (drop count es) f fs now v others
+    → IsSumSoFar whole_left whole_right (sum ++ take count es) (drop count es) (f ∷ fs) now × BeginFrom f.x (drop count es)
+    × IsSplitAt (drop count es) f.x v others × JoinFits f now v
 joint whole_left whole_right sum es changes f fs weight count now v others is so_far passed from split =
     let before = subst (λ fs. IsSumSoFar whole_left whole_right sum es fs weight) is so_far in
     let x_is : to_z w32 (of_z w32 f.x) ≡ f.x = omega (arith, ints, before.reach, before.right.sorted.0) in
@@ -152,10 +151,7 @@ joint whole_left whole_right sum es changes f fs weight count now v others is so
     let change = All-head (λ e. IsDifference e.weight) f fs further.right.differences in
     let more_fits = more_fits v f.weight split.difference change in
     let total_fits = total_fits v f.weight split.difference change now further.lawful in
-    record {
-      so_far = further;
-      from = rw x_is at from;
-      split = rw x_is at split;
+    let fits : JoinFits f now v = record {
       column_is = x_is;
       edge_is = difference_is v split.difference;
       change_is = difference_is f.weight change;
@@ -164,7 +160,8 @@ joint whole_left whole_right sum es changes f fs weight count now v others is so
       weight_is = lawful_is now further.lawful;
       total_fits = total_fits;
       total_is = to_z-of_z total_fits;
-    }
+    } in
+    (further, rw x_is at from, rw x_is at split, fits)
 
 -- ---- the complete sum
 

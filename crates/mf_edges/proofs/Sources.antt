@@ -7,13 +7,13 @@ use Rattle.mf_edges.specs.declared.stretch.Stretch.{Stretch}
 use Rattle.mf_edges.specs.Axes.{IsStretch, target_of, source_of}
 use borrow.Author.Differences.{up, down}
 
--- multiplying by a positive factor keeps the order
-pub mul-le : (a b f : ℤ) → pos 1 ≤ℤ f → a ≤ℤ b → (a *ℤ f) ≤ℤ (b *ℤ f)
-mul-le a b (pos n) positive le =
+-- multiplying by a factor that is not negative keeps the order
+pub mul-le : (a b f : ℤ) → pos 0 ≤ℤ f → a ≤ℤ b → (a *ℤ f) ≤ℤ (b *ℤ f)
+mul-le a b (pos n) sign le =
     let parts : up a + down b ≤ up b + down a = omega (arith, ints) in
     let times : (up a + down b) * n ≤ (up b + down a) * n = mul-le-mul_right n parts in
     omega (arith, ints)
-mul-le a b (negsuc n) positive le = absurd (omega (arith, ints))
+mul-le a b (negsuc n) sign le = absurd (omega (arith, ints))
 
 pub mul-next : (a f : ℤ) → (a +ℤ pos 1) *ℤ f ≡ (a *ℤ f) +ℤ f
 mul-next a f = omega (arith, ints, mul-add f a (pos 1))
@@ -26,7 +26,7 @@ quotient-within d (negsuc n) positive = absurd (omega (arith, ints))
 
 -- stretched points keep their order
 pub target_of-le : (s : Stretch) (a b : ℤ) → IsStretch s → a ≤ℤ b → target_of s a ≤ℤ target_of s b
-target_of-le s a b stretch le = omega (arith, ints, mul-le a b s.factor stretch.least le)
+target_of-le s a b stretch le = omega (arith, ints, mul-le a b s.factor (omega (arith, ints, stretch.least)) le)
 
 -- the next point lands a factor further
 pub target_of-next : (s : Stretch) (p : ℤ) → target_of s (p +ℤ pos 1) ≡ target_of s p +ℤ s.factor
@@ -44,7 +44,7 @@ pub source_of-reached : (s : Stretch) (p q : ℤ) → IsStretch s → p ≤ℤ s
 unfolding source_of
 source_of-reached s p q stretch le =
     let within = quotient-within (q -ℤ s.offset) s.factor stretch.least in
-    let product = mul-le p (source_of s q) s.factor stretch.least le in
+    let product = mul-le p (source_of s q) s.factor (omega (arith, ints, stretch.least)) le in
     omega (arith, ints)
 
 pub source_of-from : (s : Stretch) (p q : ℤ) → IsStretch s → target_of s p ≤ℤ q → p ≤ℤ source_of s q
@@ -53,7 +53,7 @@ source_of-from s p q stretch le =
     by_lt_z (source_of s q) p
     (λ lt.
     let within = quotient-within (q -ℤ s.offset) s.factor stretch.least in
-    let product = mul-le (source_of s q +ℤ pos 1) p s.factor stretch.least (omega (arith, ints)) in
+    let product = mul-le (source_of s q +ℤ pos 1) p s.factor (omega (arith, ints, stretch.least)) (omega (arith, ints)) in
     let next = mul-next (source_of s q) s.factor in
     absurd (omega (arith, ints)))
     (λ ge. ge)

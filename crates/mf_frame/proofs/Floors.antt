@@ -17,7 +17,7 @@ cell-from s c p positive le =
     by_lt_z (cell_of s p) c
     (λ lt.
     let within = cell-within s p positive in
-    let product = mul-le (cell_of s p +ℤ pos 1) c s positive (omega (arith, ints)) in
+    let product = mul-le (cell_of s p +ℤ pos 1) c s (omega (arith, ints)) (omega (arith, ints)) in
     let next = mul-next (cell_of s p) s in
     absurd (omega (arith, ints)))
     (λ ge. ge)
@@ -28,7 +28,7 @@ cell-to s c p positive lt =
     by_lt_z c (cell_of s p)
     (λ after.
     let within = cell-within s p positive in
-    let product = mul-le (c +ℤ pos 1) (cell_of s p) s positive (omega (arith, ints)) in
+    let product = mul-le (c +ℤ pos 1) (cell_of s p) s (omega (arith, ints)) (omega (arith, ints)) in
     let next = mul-next c s in
     absurd (omega (arith, ints)))
     (λ ge. ge)

@@ -14,6 +14,7 @@ use Rattle.mf_edges.specs.declared.stretch.Stretch.{Stretch}
 use Rattle.mf_rows.specs.Dots.{Dot, IsPicture, start_of_field}
 use Rattle.mf_edges.specs.Axes.{PlaceStaysInside, target_of}
 use Rattle.mf_rows.specs.Moves.{PixelsStayInside}
+use Rattle.mf_edges.proofs.Sources.{mul-le}
 use Rattle.mf_ops.specs.Moves.{Factors, IsInAxis, scale_by, shift_by, stays_inside}
 use Rattle.mf_ops.proofs.Faults.{IsForWeights}
 use Rattle.mf_ops.specs.declared.op.Op.TheVariants.{Shift, Scale}
@@ -62,13 +63,7 @@ stays_in_field-shift ds dx dy inside = record { turns = record { none = refl }; 
 pub stays_in_field-scale : (ds : List Dot) (s : Factors) → PixelsStayInside (scale_by s.x) (scale_by s.y) ds → IsForWeights ds (Scale s)
 stays_in_field-scale ds s inside = record { turns = record { none = refl }; stays = record { none_leaves = none_leaves _ _ ds inside } }
 
--- multiplying by an integer keeps the order of two numbers, or reverses it
-mul-le : (n : ℕ) (a b : ℤ) → a ≤ℤ b → (a *ℤ pos n) ≤ℤ (b *ℤ pos n)
-mul-le n a b le =
-    let parts : up a + down b ≤ up b + down a = omega (arith, ints) in
-    let times : (up a + down b) * n ≤ (up b + down a) * n = mul-le-mul_right n parts in
-    omega (arith, ints)
-
+-- multiplying by a negative factor reverses the order
 mul-ge : (n : ℕ) (a b : ℤ) → a ≤ℤ b → (b *ℤ negsuc n) ≤ℤ (a *ℤ negsuc n)
 mul-ge n a b le =
     let parts : up a + down b ≤ up b + down a = omega (arith, ints) in
@@ -78,8 +73,8 @@ mul-ge n a b le =
 -- so where two points stay in range, so do those between them
 IsCoordinate-between : (f o a p b : ℤ) → a ≤ℤ p → p ≤ℤ b → IsCoordinate ((a *ℤ f) +ℤ o) → IsCoordinate ((b *ℤ f) +ℤ o) → IsCoordinate ((p *ℤ f) +ℤ o)
 IsCoordinate-between (pos n) o a p b after before first last =
-    let above = mul-le n a p after in
-    let below = mul-le n p b before in
+    let above = mul-le a p (pos n) (omega (arith, ints)) after in
+    let below = mul-le p b (pos n) (omega (arith, ints)) before in
     record { least = omega (arith, ints, first.least); greatest = omega (arith, ints, last.greatest) }
 IsCoordinate-between (negsuc n) o a p b after before first last =
     let below = mul-ge n a p after in

@@ -1,11 +1,8 @@
 -- Culls (The METAFONTbook, chapter 13).
-use Rattle.std.specs.Prelude.{◌&&◌, Bool, ℤ, pos, ◌≤ℤ◌, int_le, if◌then◌else◌}
+use Rattle.std.specs.Prelude.{ℤ, pos, ◌≤ℤ◌, if◌then◌else◌}
+use Rattle.mf_edges.specs.WeightMaps.{is_within}
 use Rattle.mf_ops.specs.declared.cull.CullRule.{CullRule}
 use Rattle.mf_ops.specs.declared.cull.CullRule.TheVariants.{Keeping, Dropping}
-
--- whether the weight v lies in the range from a to b, both inclusive
-abbrev pub is_within : ℤ → ℤ → ℤ → Bool
-is_within a b v = int_le a v && int_le v b
 
 -- the weight that a cull gives to a pixel of weight v
 abbrev pub culled_weight : CullRule → ℤ → ℤ

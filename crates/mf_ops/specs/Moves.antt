@@ -1,9 +1,9 @@
 -- Shifts, scales and quarter turns (The METAFONTbook, chapters 13 and 15). They move the unit squares of the pixels with the
 -- plane: the new weight of a pixel is the old weight of the pixel whose moved square contains it.
-use Rattle.std.specs.Prelude.{◌≢◌, ◌&&◌, Bool, ℤ, pos, neg_ℤ, nat_abs, ◌+ℤ◌, ◌-ℤ◌, ◌*ℤ◌, ◌≤ℤ◌, int_lt}
+use Rattle.std.specs.Prelude.{◌≢◌, ◌&&◌, Bool, ℤ, pos, nat_abs, ◌+ℤ◌, ◌*ℤ◌, ◌≤ℤ◌, int_lt}
 use Rattle.std.specs.Int.{int_max, int_min}
 use Rattle.mf_geom.specs.Coordinates.{least_coordinate, greatest_coordinate, last_in_field, is_coordinate}
-use Rattle.mf_edges.specs.Axes.{source_of, target_of}
+use Rattle.mf_edges.specs.Axes.{opposite, source_of, target_of}
 use Rattle.mf_edges.specs.declared.stretch.Stretch.{Stretch}
 use Rattle.mf_ops.specs.Reflections.{on_side}
 use Rattle.mf_ops.specs.declared.quarter.Quarter.{Quarter}
@@ -49,7 +49,7 @@ pub record HasPlace (f p q : ℤ) : Type 0 where
 
 -- the weights f after a turn by 90 degrees counterclockwise, which takes the pixel (x, y) to (-y - 1, x)
 abbrev pub turn_once : (ℤ → ℤ → ℤ) → ℤ → ℤ → ℤ
-turn_once f x y = f y (neg_ℤ x -ℤ pos 1)
+turn_once f x y = f y (opposite x)
 
 -- the weights f after one, two or three of these turns
 abbrev pub turn_by : Quarter → (ℤ → ℤ → ℤ) → ℤ → ℤ → ℤ

@@ -1,8 +1,9 @@
 -- What an operation makes of a picture, pixel by pixel.
-use Rattle.std.specs.Prelude.{◌≡◌, ◌≢◌, ◌&&◌, Bool, false, not, ℤ, pos, int_le, ◌+ℤ◌, ◌-ℤ◌, List, Option, None, Some, if◌then◌else◌}
+use Rattle.std.specs.Prelude.{◌≡◌, ◌≢◌, ◌&&◌, Bool, false, not, ℤ, pos, ◌+ℤ◌, ◌-ℤ◌, List, Option, None, Some, if◌then◌else◌}
 use Rattle.std.specs.List.{list_any}
 use Rattle.std.specs.Option.{option_map, option_or}
 use Rattle.mf_edges.specs.LawfulWeights.{least_weight, greatest_weight}
+use Rattle.mf_edges.specs.WeightMaps.{is_within}
 use Rattle.mf_geom.specs.declared.check.Check.TheVariants.{On}
 use Rattle.mf_geom.specs.Faults.{turning_fault}
 use Rattle.mf_geom.specs.Field.{IsInField}
@@ -50,7 +51,7 @@ pub record StaysInField (ds : List Dot) (op : Op) : Type 0 where
 
 -- whether a weight exceeds 32767 in absolute value: what `IsLawfulWeight` denies, as a value, since a refusal is computed
 abbrev pub is_too_large : ℤ → Bool
-is_too_large w = not (int_le least_weight w && int_le w greatest_weight)
+is_too_large w = not (is_within least_weight greatest_weight w)
 
 -- the refusal of a picture for its weights, if there is one
 abbrev pub weight_fault : List Dot → Option OpFault

@@ -36,22 +36,22 @@ overflow_add-more c =
     let split = rw c.split_at.ensures.back at c.split_at-edge.ensures in
     let j = joint _ _ _ _ _ _ _ _ _ _ _ _ c.in-Some.ensures.cases.0 c.loop-change.invariant.is c.in_ok-passed.ensures.passed
     c.in_ok-passed.ensures.stops split in
-    rw (j.edge_is, j.change_is) j.more_fits
+    rw (j.3.edge_is, j.3.change_is) j.3.more_fits
 
 pub overflow_add-weight : goal.overflow_add-weight
 overflow_add-weight c =
     let split = rw c.split_at.ensures.back at c.split_at-edge.ensures in
     let j = joint _ _ _ _ _ _ _ _ _ _ _ _ c.in-Some.ensures.cases.0 c.loop-change.invariant.is c.in_ok-passed.ensures.passed
     c.in_ok-passed.ensures.stops split in
-    rw (j.edge_is, j.change_is, j.more_is, j.weight_is) j.total_fits
+    rw (j.3.edge_is, j.3.change_is, j.3.more_is, j.3.weight_is) j.3.total_fits
 
 pub returns-then-not-is_lawful_weight-clause-too_large : goal.returns-then-not-is_lawful_weight-clause-too_large
 returns-then-not-is_lawful_weight-clause-too_large c =
     let split = rw c.split_at.ensures.back at c.split_at-edge.ensures in
     let j = joint _ _ _ _ _ _ _ _ _ _ _ _ c.in-Some.ensures.cases.0 c.loop-change.invariant.is c.in_ok-passed.ensures.passed
     c.in_ok-passed.ensures.stops split in
-    let asked = rw (j.edge_is, j.change_is, j.more_is, j.weight_is, j.total_is) at c.is_lawful_weight.ensures.1 in
-    let at = change_at_column _ _ _ _ c.in-Some.change.now _ _ j.so_far j.from _ _ j.split in
+    let asked = rw (j.3.edge_is, j.3.change_is, j.3.more_is, j.3.weight_is, j.3.total_is) at c.is_lawful_weight.ensures.1 in
+    let at = change_at_column _ _ _ _ c.in-Some.change.now _ _ j.0 j.1 _ _ j.2 in
     λ _. record {
       x = c.in-Some.change.now.x;
       unlawful = λ lawful. both_ways c.is_lawful_weight.result c.if-not-is_lawful_weight.true (asked (subst IsLawfulWeight at lawful));
@@ -62,10 +62,10 @@ loop-change-preserved c =
     let split = rw c.split_at.ensures.back at c.split_at-edge.ensures in
     let j = joint _ _ _ _ _ _ _ _ _ _ _ _ c.in-Some.ensures.cases.0 c.loop-change.invariant.is c.in_ok-passed.ensures.passed
     c.in_ok-passed.ensures.stops split in
-    let lawful = rw (j.edge_is, j.change_is, j.more_is, j.weight_is, j.total_is) at (c.is_lawful_weight.ensures.0 c.if-not-is_lawful_weight.false) in
+    let lawful = rw (j.3.edge_is, j.3.change_is, j.3.more_is, j.3.weight_is, j.3.total_is) at (c.is_lawful_weight.ensures.0 c.if-not-is_lawful_weight.false) in
     rw (c.in_ok-push_unless_zero.ensures.pushed, c.in_ok-push_edges.ensures.pushed, c.split_at.ensures.front)
-    (rw (j.column_is, j.edge_is, j.change_is, j.more_is, j.weight_is, j.total_is)
-    (appended_twice _ _ _ _ _ _ c.loop-change.invariant (change_more _ _ _ _ c.in-Some.change.now _ _ j.so_far j.from _ _ j.split lawful)))
+    (rw (j.3.column_is, j.3.edge_is, j.3.change_is, j.3.more_is, j.3.weight_is, j.3.total_is)
+    (appended_twice _ _ _ _ _ _ c.loop-change.invariant (change_more _ _ _ _ c.in-Some.change.now _ _ j.0 j.1 _ _ j.2 lawful)))
 
 pub returns-in_err-passed-clause-kept : goal.returns-in_err-passed-clause-kept
 returns-in_err-passed-clause-kept c =

@@ -5,12 +5,9 @@ use Rattle.std.proofs.lemmas.Int.{ints, to_z-of_z, unsigned_abs-mul, fits_signed
 use Rattle.std.specs.Int.RustNames.{unsigned_abs}
 use Rattle.mf_geom.specs.Coordinates.{least_coordinate, greatest_coordinate, IsCoordinate}
 use Rattle.mf_edges.specs.Axes.{target_of}
+use Rattle.mf_edges.proofs.EdgeChanges.{size-at_most}
 use Rattle.mf_ops.proofs.transform.stays_in_range.Goals.{After-from-3}
 use Rattle.mf_ops.proofs.transform.stays_in_range.Goals as goal
-
-size-at_most : (p : ℤ) → least_coordinate ≤ℤ p → p ≤ℤ greatest_coordinate → unsigned_abs p ≤ 4095
-size-at_most (pos n) least greatest = omega (arith, ints)
-size-at_most (negsuc n) least greatest = omega (arith, ints)
 
 size-fits : (f : ℤ) → FitsSigned w32 f → unsigned_abs f ≤ 2147483648
 size-fits (pos n) fits = omega (arith, ints, fits.sfits)
