@@ -6,6 +6,7 @@ use Rattle.std.proofs.lemmas.List.{length-append, map-append, append-nil}
 use Rattle.std.proofs.lemmas.List.Elements.{All-nil, All-cons, All-head, All-tail}
 use Rattle.std.specs.declared.alloc.Global.{Global}
 use Rattle.std.specs.declared.sync.Arc.{Arc}
+use Rattle.mf_rows.specs.declared.bands.TheConstants.{BAND_COUNT}
 use Rattle.mf_rows.specs.declared.band.Band.{Band}
 use Rattle.mf_rows.specs.BandNumbers.{number_of, numbers_of, RiseWithin, HaveRisingNumbers, RiseBefore, RiseFrom, IsOnlyBand, IsSplitAtBand, IsLesserFirst, number_of_rows}
 use Rattle.mf_rows.specs.EdgeRows.{EdgeRow}
@@ -87,23 +88,24 @@ module _ {n : ℤ} {bs first rest : List (Arc Band Global)} (split : IsSplitAtBa
       (subst (λ bs. RiseWithin low high (numbers_of bs)) split.all rise)
 
   pub first_rise : HaveRisingNumbers bs → HaveRisingNumbers first
-  first_rise rise = rise-front (pos 0) (pos 512) (numbers_of first) (numbers_of rest) (parts _ _ rise)
+  first_rise rise = rise-front (pos 0) BAND_COUNT (numbers_of first) (numbers_of rest) (parts _ _ rise)
 
   pub rest_rise : HaveRisingNumbers bs → HaveRisingNumbers rest
-  rest_rise rise = rise-back (pos 0) (pos 512) (numbers_of first) (numbers_of rest) (parts _ _ rise)
+  rest_rise rise = rise-back (pos 0) BAND_COUNT (numbers_of first) (numbers_of rest) (parts _ _ rise)
 
   pub first_up_to : (low : ℤ) → RiseFrom low bs → low ≤ℤ (n +ℤ pos 1) → RiseWithin low (n +ℤ pos 1) (numbers_of first)
-  first_up_to low rise le = rise-up_to low (pos 512) n first (rise-front low (pos 512) (numbers_of first) (numbers_of rest) (parts _ _ rise)) le split.up_to
+  first_up_to low rise le = rise-up_to low BAND_COUNT n first (rise-front low BAND_COUNT (numbers_of first) (numbers_of rest) (parts _ _ rise)) le split.up_to
 
-  pub rest_from : (low : ℤ) → RiseFrom low bs → n <ℤ pos 512 → RiseFrom (n +ℤ pos 1) rest
+  pub rest_from : (low : ℤ) → RiseFrom low bs → n <ℤ BAND_COUNT → RiseFrom (n +ℤ pos 1) rest
   rest_from low rise lt =
-      rise-behind low (pos 512) n rest (rise-back low (pos 512) (numbers_of first) (numbers_of rest) (parts _ _ rise))
+      rise-behind low BAND_COUNT n rest (rise-back low BAND_COUNT (numbers_of first) (numbers_of rest) (parts _ _ rise))
       (omega (arith, ints, lt)) split.behind
 
   pub only_first : RiseFrom n bs → IsOnlyBand n first
   only_first rise = first_up_to n rise (omega (arith, ints))
 
-pub others_from : (low : ℤ) {n : ℤ} {bs before others : List (Arc Band Global)} → IsSplitAtBand (n -ℤ pos 1) bs before others → RiseFrom low bs → n <ℤ pos 512
+pub others_from : (low : ℤ) {n : ℤ} {bs before others : List (Arc Band Global)} → IsSplitAtBand (n -ℤ pos 1) bs before others → RiseFrom low bs
+    → n <ℤ BAND_COUNT
     → RiseFrom n others
 others_from low {n} {bs} {before} {others} split rise lt =
     let next : (n -ℤ pos 1) +ℤ pos 1 ≡ n = omega (arith, ints) in
@@ -118,7 +120,7 @@ split_at_own n bs b rest is rise own =
       all = is;
       up_to = All-cons (λ c. number_of c ≤ℤ n) b [] (omega (arith, ints, own))
           (All-nil (λ c. number_of c ≤ℤ n));
-      behind = subst (λ m. All (λ c. m <ℤ number_of c) rest) own (greater_behind (number_of b) (pos 512) rest rises.1);
+      behind = subst (λ m. All (λ c. m <ℤ number_of c) rest) own (greater_behind (number_of b) BAND_COUNT rest rises.1);
     }
 
 pub split_none : (n : ℤ) (bs : List (Arc Band Global)) → bs ≡ [] → IsSplitAtBand n bs [] bs
@@ -136,7 +138,7 @@ split_before_other n bs b rest is rise other =
     record {
       all = refl;
       up_to = All-nil (λ c. number_of c ≤ℤ n);
-      behind = greater_behind n (pos 512) bs (subst (RiseFrom (n +ℤ pos 1)) (sym is) greater);
+      behind = greater_behind n BAND_COUNT bs (subst (RiseFrom (n +ℤ pos 1)) (sym is) greater);
     }
 
 -- ---- the bands of the lesser number are taken from two lists
@@ -169,7 +171,7 @@ nothing_numbered bs cs left right = record { next = pos 0; before = omega (arith
 -- it goes on with number n
 pub record IsNextNumber (n : ℤ) (sum bs cs : List (Arc Band Global)) : Type 0 where
   pub lesser : IsLesserFirst bs cs n
-  pub greatest : n <ℤ pos 512
+  pub greatest : n <ℤ BAND_COUNT
   pub before : RiseBefore n sum
   pub left : RiseFrom n bs
   pub right : RiseFrom n cs
@@ -182,7 +184,7 @@ next_number n {bs = b ∷ bs} {cs = []} lesser so_far = absurd lesser
 next_number n {sum = sum} {bs = b ∷ bs} {cs = c ∷ cs} lesser so_far =
     let reached : so_far.next ≤ℤ n = omega (arith, ints, clamps, lesser, so_far.left.0, so_far.right.0) in
     let least = rise-ends (pos 0) so_far.next (numbers_of sum) so_far.before in
-    let greatest : n <ℤ pos 512 = omega (arith, ints, clamps, lesser, rise-ends (number_of b +ℤ pos 1) (pos 512) (numbers_of bs) so_far.left.1) in
+    let greatest : n <ℤ BAND_COUNT = omega (arith, ints, clamps, lesser, rise-ends (number_of b +ℤ pos 1) BAND_COUNT (numbers_of bs) so_far.left.1) in
     let fits : n ≡ to_z w32 (of_z w32 n) = omega (arith, ints, reached, least, greatest) in
     subst (λ m. IsNextNumber m sum (b ∷ bs) (c ∷ cs)) fits (record {
       lesser = lesser;
@@ -209,11 +211,11 @@ pub all_numbered : (sum bs cs after : List (Arc Band Global)) → AreNumberedSoF
 all_numbered sum bs cs after so_far end all =
     let next = so_far.next in
     let with_rest = λ (ds : List (Arc Band Global)) (rise : RiseFrom next ds).
-    rise-append (pos 0) next (pos 512) (numbers_of sum) (numbers_of ds) so_far.before rise in
-    subst (RiseWithin (pos 0) (pos 512)) (sym all)
-    (⊎_elim (λ none. subst (RiseWithin (pos 0) (pos 512))
+    rise-append (pos 0) next BAND_COUNT (numbers_of sum) (numbers_of ds) so_far.before rise in
+    subst (RiseWithin (pos 0) BAND_COUNT) (sym all)
+    (⊎_elim (λ none. subst (RiseWithin (pos 0) BAND_COUNT)
     (sym (ap (λ ns. (numbers_of sum ++ ns) ++ numbers_of cs) (ap numbers_of none) ∙ ap (λ ns. ns ++ numbers_of cs) (append-nil (numbers_of sum))))
     (with_rest cs so_far.right))
-    (λ none. subst (RiseWithin (pos 0) (pos 512))
+    (λ none. subst (RiseWithin (pos 0) BAND_COUNT)
     (sym (ap (λ ns. (numbers_of sum ++ numbers_of bs) ++ ns) (ap numbers_of none) ∙ append-nil (numbers_of sum ++ numbers_of bs)))
     (with_rest bs so_far.left)) end)

@@ -6,6 +6,7 @@ use Rattle.std.proofs.lemmas.List.{length-append}
 use Rattle.std.proofs.lemmas.List.Elements.{All-nil, All-head, All-weaker}
 use Rattle.std.specs.declared.alloc.Global.{Global}
 use Rattle.std.specs.declared.sync.Arc.{Arc}
+use Rattle.mf_rows.specs.declared.bands.TheConstants.{BAND_COUNT}
 use Rattle.mf_rows.specs.declared.band.Band.{Band}
 use Rattle.mf_geom.specs.Coordinates.{last_in_field}
 use Rattle.mf_rows.specs.Bands.{rows_of_bands, AreBelow}
@@ -56,12 +57,12 @@ nothing_added bs ss left right rising = record {
 module _ {whole_left whole_right : List EdgeRow} {sum bs : List (Arc Band Global)} {ss : List EdgeRow}
     (so_far : IsBandSumSoFar whole_left whole_right sum bs ss) where
   pub left_rise : HaveRisingNumbers bs
-  left_rise = rise-wider so_far.next (pos 512) (pos 0) (pos 512) (numbers_of bs)
+  left_rise = rise-wider so_far.next BAND_COUNT (pos 0) BAND_COUNT (numbers_of bs)
       (rise-ends (pos 0) so_far.next (numbers_of sum) so_far.before) (omega (arith, ints)) so_far.left
 
   pub all_rise : (after : List (Arc Band Global)) → numbers_of after ≡ numbers_of sum ++ numbers_of bs → HaveRisingNumbers after
-  all_rise after all = subst (RiseWithin (pos 0) (pos 512)) (sym all)
-      (rise-append (pos 0) so_far.next (pos 512) (numbers_of sum) (numbers_of bs) so_far.before so_far.left)
+  all_rise after all = subst (RiseWithin (pos 0) BAND_COUNT) (sym all)
+      (rise-append (pos 0) so_far.next BAND_COUNT (numbers_of sum) (numbers_of bs) so_far.before so_far.left)
 
   -- ---- one step: the bands before band n, and then the sum in band n
 

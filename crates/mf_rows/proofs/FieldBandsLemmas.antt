@@ -11,6 +11,7 @@ use Rattle.std.specs.Borrow.{Bor}
 use Rattle.std.specs.declared.alloc.Global.{Global}
 use Rattle.std.specs.declared.sync.Arc.{Arc}
 use lib.Signed.{le_z}
+use Rattle.mf_rows.specs.declared.bands.TheConstants.{BAND_COUNT}
 use Rattle.mf_rows.specs.declared.band.Band.{Band}
 use Rattle.mf_rows.specs.BandNumbers.{number_of, numbers_of, HaveRisingNumbers, IsOnlyBand, IsSplitAtBand, band_found}
 use Rattle.mf_rows.specs.Bands.{AreAbove, AreBelow, HasNoRow, HasSameRow, rows_in, rows_of_bands}
@@ -75,7 +76,7 @@ lesser_up_to n m l le up_to = grind (arith, ints)
 pub IsPartitionedBy-is_up_to : (n : ℤ) (bs : List (Arc Band Global)) → HaveRisingNumbers bs → IsPartitionedBy (is_up_to n) bs
 IsPartitionedBy-is_up_to n bs rising =
     IsPartitionedBy-falls (λ b. pos 0 -ℤ number_of b) (is_up_to n) (λ a b le. lesser_up_to n (number_of a) (number_of b) le) bs
-    (numbers_fall (pos 0) (pos 512) bs rising)
+    (numbers_fall (pos 0) BAND_COUNT bs rising)
 
 -- what the place says of the bands before it, and of those from it on
 pub up_to_split : (n : ℤ) (k : ℕ) (bs : List (Arc Band Global)) → k ≤ length bs
@@ -115,7 +116,7 @@ rows_of_only n (b ∷ c ∷ bs) only =
 pub record IsOwnBand (n y : ℤ) : Type 0 where
   pub of_band : IsOfBand n y
   pub before : to_z w32 (of_z w32 (n -ℤ pos 1)) ≡ n -ℤ pos 1
-  pub greatest : n <ℤ pos 512
+  pub greatest : n <ℤ BAND_COUNT
 
 pub own_band : {number y : ℤ} → least_coordinate ≤ℤ y → y ≤ℤ last_in_field → IsOfBand number (to_z w32 (of_z w32 y))
     → IsOwnBand (to_z w32 (of_z w32 number)) y

@@ -5,6 +5,7 @@ use Rattle.std.proofs.lemmas.List.{length-append}
 use Rattle.std.proofs.lemmas.List.Elements.{All-nil, All-cons, All-head, All-push}
 use Rattle.std.specs.declared.alloc.Global.{Global}
 use Rattle.std.specs.declared.sync.Arc.{Arc}
+use Rattle.mf_rows.specs.declared.bands.TheConstants.{BAND_COUNT}
 use Rattle.mf_geom.specs.Coordinates.{last_in_field}
 use Rattle.mf_rows.specs.declared.band.Band.{Band}
 use Rattle.mf_rows.specs.BandNumbers.{numbers_of, RiseWithin, HaveRisingNumbers, RiseBefore, IsWriting, number_of_rows}
@@ -71,8 +72,8 @@ writing_next n own bs rs r cs writing all numbers of_own other =
 -- in the end the numbers of all bands rise
 pub all_finished : (n : ℤ) (bs : List (Arc Band Global)) (rs : List EdgeRow) (cs : List (Arc Band Global)) → IsWriting n bs rs
     → numbers_of cs ≡ numbers_of bs ++ number_of_rows n rs → AreRows (rows_of_bands bs ++ rs) → HaveRisingNumbers cs
-all_finished n bs [] cs writing numbers rows = none_finished n bs [] writing cs numbers (pos 512) refl (omega (arith, ints))
+all_finished n bs [] cs writing numbers rows = none_finished n bs [] writing cs numbers BAND_COUNT refl (omega (arith, ints))
 all_finished n bs (s ∷ ss) cs writing numbers rows =
     let from_first = rows_from-back last_in_field (rows_of_bands bs) (s ∷ ss) rows.rows in
     let of_band = All-head (λ row. IsOfBand n row.y) s ss writing.of_band in
-    some_finished n bs (s ∷ ss) writing cs numbers (pos 512) rows (omega (arith, ints, from_first.0.bottom, of_band.top))
+    some_finished n bs (s ∷ ss) writing cs numbers BAND_COUNT rows (omega (arith, ints, from_first.0.bottom, of_band.top))

@@ -7,6 +7,7 @@ use Rattle.std.specs.declared.alloc.Global.{Global}
 use Rattle.std.specs.declared.sync.Arc.{Arc}
 use Rattle.std.proofs.Props.{props}
 use Rattle.mf_rows.specs.declared.band.Band.{Band}
+use Rattle.mf_rows.specs.declared.bands.TheConstants.{BAND_COUNT}
 use Rattle.mf_rows.specs.Bands.{rows_of_bands}
 use Rattle.mf_rows.specs.EdgeRows.{EdgeRow, AreRows}
 use Rattle.mf_rows.specs.FieldBands.{AreOfBand}
@@ -24,9 +25,9 @@ abbrev pub RiseWithin : ℤ → ℤ → List ℤ → Type 0
 RiseWithin low high [] = low ≤ℤ high
 RiseWithin low high (n ∷ ns) = (low ≤ℤ n) × RiseWithin (n +ℤ pos 1) high ns
 
--- bands whose numbers rise, so no two of them have the same; the field has 512 bands
+-- bands whose numbers rise, so no two of them have the same
 abbrev pub HaveRisingNumbers : List (Arc Band Global) → Type 0
-HaveRisingNumbers bs = RiseWithin (pos 0) (pos 512) (numbers_of bs)
+HaveRisingNumbers bs = RiseWithin (pos 0) BAND_COUNT (numbers_of bs)
 
 -- such bands, whose numbers are less than n
 abbrev pub RiseBefore : ℤ → List (Arc Band Global) → Type 0
@@ -34,7 +35,7 @@ RiseBefore n bs = RiseWithin (pos 0) n (numbers_of bs)
 
 -- such bands, whose numbers are at least n
 abbrev pub RiseFrom : ℤ → List (Arc Band Global) → Type 0
-RiseFrom n bs = RiseWithin n (pos 512) (numbers_of bs)
+RiseFrom n bs = RiseWithin n BAND_COUNT (numbers_of bs)
 
 -- band n or no band
 abbrev pub IsOnlyBand : ℤ → List (Arc Band Global) → Type 0
@@ -75,4 +76,4 @@ RiseWithin-prop low high [] = hlevel props
 RiseWithin-prop low high (n ∷ ns) = hlevel (props, RiseWithin-prop (n +ℤ pos 1) high ns)
 
 pub HaveRisingNumbers-prop : (bs : List (Arc Band Global)) → IsProp (HaveRisingNumbers bs)
-HaveRisingNumbers-prop bs = RiseWithin-prop (pos 0) (pos 512) (numbers_of bs)
+HaveRisingNumbers-prop bs = RiseWithin-prop (pos 0) BAND_COUNT (numbers_of bs)

@@ -2,6 +2,7 @@
 ghost use Rattle.std.specs.Prelude.{◌≡◌, [], ◌++◌, ◌≤◌, IsNone, IsOk, IfSome, OnOk, pos, ◌≤ℤ◌, ◌<ℤ◌, length, take, drop, All};
 ghost use Rattle.std.specs.Arc.{arc_value};
 ghost use Rattle.mf_geom.specs.Coordinates.{least_coordinate, last_in_field};
+ghost use Rattle.mf_rows.specs.declared.bands.TheConstants.{BAND_COUNT};
 ghost use Rattle.mf_rows.specs.Bands.{rows_in, rows_of_bands, slice_rows, HasRow, HasNoRow, HasSameRow};
 ghost use Rattle.mf_rows.specs.BandNumbers.{HaveRisingNumbers, IsSplitAtBand, RiseFrom, band_found, number_of, number_of_rows, numbers_of};
 ghost use Rattle.mf_rows.specs.BandSums.{AreSplitAtBand};
@@ -13,13 +14,16 @@ use crate::row::Row;
 use crate::row_list::RowList;
 use crate::slice::RowSlice;
 use mf_base::OutOfMemory;
-use mf_edges::FIELD_END;
+use mf_edges::{FIELD_END, FIELD_START};
 use std::alloc::Global;
 use std::sync::Arc;
 
 /// The number of rows of the field in a band. A change makes new bands in place of those that it reaches: lower bands make that
 /// cheaper, and higher ones ask for memory less often.
 pub(crate) const BAND_HEIGHT: i32 = 16;
+
+/// The number of bands that the field has: one more than the number of the band of its lowest row.
+pub(crate) const BAND_COUNT: i32 = (FIELD_END - 1 - FIELD_START) / BAND_HEIGHT + 1;
 
 /// Row y of these bands, which lies in the field, where it is not blank.
 pub(crate) fn find_row_in(bands: &[Arc<Band>], y: i32) -> Option<Row<'_>>
@@ -73,7 +77,7 @@ pub(crate) fn split_first_band(
 pub(crate) fn split_rows(rows: RowSlice<'_>, number: i32) -> (RowSlice<'_>, RowSlice<'_>)
     requires rows { AreRows (slice_rows rows) }
     requires least { pos 0 ≤ℤ number }
-    requires greatest { number ≤ℤ pos 511 }
+    requires greatest { number <ℤ BAND_COUNT }
     ensures { AreSplitAtBand number (slice_rows rows.entry) (slice_rows result.0) (slice_rows result.1) }
 {
     rows.split_above(FIELD_END - 1 - BAND_HEIGHT * (number + 1))

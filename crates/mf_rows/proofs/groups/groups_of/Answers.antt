@@ -1,5 +1,6 @@
 use Rattle.std.proofs.Common.{◌≡◌, pos, refl, sym, subst, ap, ◌∙◌, arith}
 use Rattle.std.proofs.lemmas.List.{nil_from_length}
+use Rattle.mf_rows.specs.declared.bands.TheConstants.{BAND_COUNT}
 use Rattle.mf_rows.specs.BandNumbers.{RiseWithin}
 use Rattle.mf_rows.specs.Bands.{rows_of_bands}
 use Rattle.mf_rows.proofs.GroupsMade.{grouped_more, grouped_before, grouped_all}
@@ -9,7 +10,7 @@ use Rattle.mf_rows.proofs.groups.groups_of.Goals.{else-loop-place-test, then-loo
 -- the list of the shared bands has their numbers
 pub group_of-requires : goal.group_of-requires
 group_of-requires c =
-    subst (RiseWithin (pos 0) (pos 512)) (sym (c.in_ok-push_shared.ensures.numbers ∙ rw c.new-shared.ensures.items refl)) c.split_at_place.ensures.own
+    subst (RiseWithin (pos 0) BAND_COUNT) (sym (c.in_ok-push_shared.ensures.numbers ∙ rw c.new-shared.ensures.items refl)) c.split_at_place.ensures.own
 
 pub loop-place-preserved : goal.loop-place-preserved
 loop-place-preserved c =
