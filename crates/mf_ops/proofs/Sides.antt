@@ -1,5 +1,5 @@
 -- The sides of a contour add its weight times the winding number.
-use Rattle.std.proofs.Common.{◌≡◌, ◌≢◌, ◌&&◌, Bool, not, cond, int_le, int_lt, ℕ, ◌+◌, ◌*◌, ◌<◌, ◌≤◌, ℤ, pos, negsuc, neg_ℤ, ◌+ℤ◌, ◌-ℤ◌, ◌*ℤ◌, ◌≤ℤ◌, List, [], ◌∷◌, ◌++◌, length, reverse, All, refl, sym, ap, ◌∙◌, inl, inr, arith, length-append, add-one}
+use Rattle.std.proofs.Common.{◌≡◌, ◌≢◌, ◌&&◌, Bool, not, cond, int_le, int_lt, ℕ, ◌+◌, ◌*◌, ◌<◌, ◌≤◌, ℤ, pos, neg_ℤ, ◌+ℤ◌, ◌-ℤ◌, ◌*ℤ◌, List, [], ◌∷◌, ◌++◌, length, reverse, All, refl, sym, ap, ◌∙◌, inl, inr, arith, length-append, add-one}
 use Rattle.std.proofs.lemmas.Int.{ints}
 use Rattle.std.proofs.lemmas.List.Elements.{All-nil, All-cons, All-append}
 use Rattle.std.proofs.lemmas.List.{reverse-append, length-reverse}
@@ -16,7 +16,7 @@ use Rattle.mf_geom.proofs.Crossings.{winding-crossings, unit_step-reached, cross
 use Rattle.mf_geom.proofs.Products.{mul-add, mul-self}
 use Rattle.mf_geom.proofs.Sums.{next_place-below}
 use Rattle.mf_rows.specs.declared.corner.Corner.{Corner}
-use Rattle.mf_rows.specs.Corners.{IsCorner, AreCorners, added_by, added_by_all, with_corners_at}
+use Rattle.mf_rows.specs.Corners.{IsCorner, IsCornerWeight, AreCorners, added_by, added_by_all, with_corners_at}
 use Rattle.mf_rows.specs.Dots.{Dot, weight_at}
 use Rattle.mf_ops.specs.Sides.{HasSide, AddWinding}
 use Rattle.mf_ops.specs.Step.{step_at}
@@ -65,8 +65,8 @@ crossing-horizontal : (x y : ℤ) (e : Segment) → e.to.y ≡ e.from.y → cros
 unfolding crossing
 crossing-horizontal x y e horizontal = rw (horizontal, mul-self (unit_step x e.from.x) (unit_step y e.from.y)) refl
 
-lawful_ends : (w : ℤ) (e : Segment) → negsuc 2 ≤ℤ w → w ≤ℤ pos 3 → IsInRange e.from → IsInRange e.to → All IsCorner (ends_of w e)
-lawful_ends w e least greatest from to =
+lawful_ends : (w : ℤ) (e : Segment) → IsCornerWeight w → IsInRange e.from → IsInRange e.to → All IsCorner (ends_of w e)
+lawful_ends w e lawful from to =
     let first : Corner = record { x = e.from.x; y = e.from.y; weight = w } in
     let second : Corner = record { x = e.to.x; y = e.to.y; weight = neg_ℤ w } in
     let first_lawful : IsCorner first = record {
@@ -74,25 +74,23 @@ lawful_ends w e least greatest from to =
       right = from.x.greatest;
       bottom = from.y.least;
       top = from.y.greatest;
-      least = least;
-      greatest = greatest;
+      weight = lawful;
     } in
     let second_lawful : IsCorner second = record {
       left = to.x.least;
       right = to.x.greatest;
       bottom = to.y.least;
       top = to.y.greatest;
-      least = omega (arith, ints);
-      greatest = omega (arith, ints);
+      weight = record { least = omega (arith, ints); greatest = omega (arith, ints) };
     } in
     All-cons IsCorner first (second ∷ []) first_lawful (All-cons IsCorner second [] second_lawful (All-nil IsCorner))
 
 -- so a vertical segment is a side with its two ends as corners
-pub HasSide-vertical : (w : ℤ) (e : Segment) (ks : List Corner) → negsuc 2 ≤ℤ w → w ≤ℤ pos 3 → IsInRange e.from → IsInRange e.to
+pub HasSide-vertical : (w : ℤ) (e : Segment) (ks : List Corner) → IsCornerWeight w → IsInRange e.from → IsInRange e.to
     → e.to.x ≡ e.from.x → All IsCorner ks → HasSide w e ks (ks ++ ends_of w e)
-HasSide-vertical w e ks least greatest from to vertical corners = record {
+HasSide-vertical w e ks lawful from to vertical corners = record {
   few = let two = length-append ks (ends_of w e) in omega (arith, two);
-  corners = All-append IsCorner ks (ends_of w e) corners (lawful_ends w e least greatest from to);
+  corners = All-append IsCorner ks (ends_of w e) corners (lawful_ends w e lawful from to);
   added = λ x y. added_by_all-append ks (ends_of w e) x y ∙ (λ t. added_by_all ks x y +ℤ added_by_all-ends w x y e vertical t);
 }
 

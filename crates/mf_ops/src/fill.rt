@@ -1,11 +1,11 @@
 //! Filling a contour: the sides of its cycle become corners, and these are added to the picture.
-ghost use Rattle.std.specs.Prelude.{◌≡◌, ◌≢◌, None, Some, IfOk, IfErr, OnOk, OnErr, pos, negsuc, ◌*ℤ◌, ◌≤ℤ◌, All, List};
+ghost use Rattle.std.specs.Prelude.{◌≡◌, ◌≢◌, None, Some, IfOk, IfErr, OnOk, OnErr, ◌*ℤ◌, All, List};
 ghost use Rattle.std.specs.Int.{int_signum};
 ghost use Rattle.mf_geom.specs.Path.{IsInRange, IsRectilinear};
 ghost use Rattle.mf_geom.specs.Turning.{turning};
 ghost use Rattle.mf_geom.specs.Faults.{turning_fault};
 ghost use Rattle.mf_geom.specs.declared.check.Check.TheVariants.{Off};
-ghost use Rattle.mf_rows.specs.Corners.{IsCorner, AreCorners};
+ghost use Rattle.mf_rows.specs.Corners.{IsCorner, IsCornerWeight, AreCorners};
 ghost use Rattle.mf_rows.specs.Dots.{Dot};
 ghost use Rattle.mf_ops.specs.Sides.{HasSide, AddWinding, FillsWith};
 ghost use Rattle.mf_ops.specs.Step.{next_picture, op_fault};
@@ -23,8 +23,7 @@ use std::alloc::Global;
 /// of the check.
 pub fn filling_weight(cycle: &Cycle, weight: Weight, check: Check) -> Result<i32, OpFault>
     ensures fills { IfOk result (FillsWith (Contour cycle.now weight check) cycle.now) }
-    ensures least { IfOk result (λ filling. negsuc 2 ≤ℤ filling) }
-    ensures greatest { IfOk result (λ filling. filling ≤ℤ pos 3) }
+    ensures lawful { IfOk result IsCornerWeight }
     ensures refused { IfErr result (λ fault. (ds : List Dot) → op_fault ds (Contour cycle.now weight check) ≡ Some fault) }
 {
     match check {
@@ -39,8 +38,7 @@ pub fn filling_weight(cycle: &Cycle, weight: Weight, check: Check) -> Result<i32
 /// The weight, negated where the cycle turns clockwise. Refused where the cycle turns straight back, or has turning number 0.
 fn turned_weight(cycle: &Cycle, weight: Weight) -> Result<i32, CycleFault>
     ensures value { IfOk result (λ turned. turned ≡ weight *ℤ int_signum (turning cycle.now)) }
-    ensures least { IfOk result (λ turned. negsuc 2 ≤ℤ turned) }
-    ensures greatest { IfOk result (λ turned. turned ≤ℤ pos 3) }
+    ensures lawful { IfOk result IsCornerWeight }
     ensures passes { OnOk result (turning_fault cycle.now ≡ None) }
     ensures refused { IfErr result (λ fault. turning_fault cycle.now ≡ Some fault) }
 {
@@ -54,8 +52,7 @@ fn turned_weight(cycle: &Cycle, weight: Weight) -> Result<i32, CycleFault>
 /// The weight, negated where the turning number is negative, and 0 where it is 0.
 fn with_sign_of(turning: i32, weight: Weight) -> i32
     ensures value { result ≡ weight *ℤ int_signum turning }
-    ensures least { negsuc 2 ≤ℤ result }
-    ensures greatest { result ≤ℤ pos 3 }
+    ensures lawful { IsCornerWeight result }
 {
     weight.get() * turning.signum()
 }
@@ -63,8 +60,7 @@ fn with_sign_of(turning: i32, weight: Weight) -> i32
 /// Adds the weight times the winding number of the cycle to each pixel of a picture, as by a contour with the turning check off.
 /// A refusal leaves the picture as it was.
 pub fn fill(alloc: Global, picture: &mut Picture, cycle: &Cycle, weight: i32) -> Result<(), OpFault>
-    requires least { negsuc 2 ≤ℤ weight }
-    requires greatest { weight ≤ℤ pos 3 }
+    requires { IsCornerWeight weight }
     ensures step { OnOk result (picture.new ≡ next_picture picture.old (Contour cycle.now weight Off)) }
     ensures unchanged { OnErr result (picture.new ≡ picture.old) }
     ensures accepted { OnOk result (op_fault picture.old (Contour cycle.now weight Off) ≡ None) }
@@ -78,8 +74,7 @@ pub fn fill(alloc: Global, picture: &mut Picture, cycle: &Cycle, weight: i32) ->
 /// from the last one back, then those of the sides that lead down, from the first one on. So the heights fall as long as the cycle
 /// rises or falls, and to sort the corners by height is to merge a few long runs.
 fn corners_of(alloc: Global, cycle: &Cycle, weight: i32) -> Result<Vec<Corner>, OutOfMemory>
-    requires least { negsuc 2 ≤ℤ weight }
-    requires greatest { weight ≤ℤ pos 3 }
+    requires { IsCornerWeight weight }
     ensures lawful { IfOk result (λ corners. AreCorners corners.items) }
     ensures added { IfOk result (λ corners. AddWinding cycle.now weight corners.items) }
 {
@@ -110,8 +105,7 @@ fn push_side(
     requires segment { IsRectilinear (record { from = from; to = to }) }
     requires from { IsInRange from }
     requires to { IsInRange to }
-    requires least { negsuc 2 ≤ℤ weight }
-    requires greatest { weight ≤ℤ pos 3 }
+    requires weight { IsCornerWeight weight }
     ensures { OnOk result (HasSide weight (record { from = from; to = to }) corners.old.items corners.new.items) }
 {
     if from.x == to.x {

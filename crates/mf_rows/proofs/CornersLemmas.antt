@@ -13,7 +13,7 @@ use Rattle.mf_geom.specs.Coordinates.{least_coordinate, greatest_coordinate}
 use Rattle.mf_geom.specs.Field.{IsInField}
 use Rattle.mf_rows.specs.declared.corner.Corner.{Corner}
 use Rattle.mf_edges.specs.declared.edge.Edge.{Edge}
-use Rattle.mf_rows.specs.Corners.{added_by, added_by_all, IsCorner, AreCorners}
+use Rattle.mf_rows.specs.Corners.{added_by, added_by_all, IsCorner, IsCornerWeight, AreCorners}
 use Rattle.mf_edges.specs.LawfulWeights.{IsLawfulWeight}
 use Rattle.mf_edges.specs.Edges.{weight_in, AreEdgesFrom, AreOpenEdges, AreEdges}
 use Rattle.mf_rows.specs.EdgeRows.{EdgeRow, AreRows, weight_in_rows}
@@ -175,10 +175,9 @@ swept_edges all left es rs swept = record {
   lawful = λ x. record { least = omega (arith, ints, swept.least x); greatest = omega (arith, ints, swept.greatest x) };
 }
 
-part_is_small : (b : Bool) (w : ℤ) → negsuc 2 ≤ℤ w → w ≤ℤ pos 3
-    → record { least : negsuc 2 ≤ℤ (if b then w else pos 0); greatest : (if b then w else pos 0) ≤ℤ pos 3 }
-part_is_small true w least greatest = record { least = least; greatest = greatest }
-part_is_small false w least greatest = record { least = omega (arith, ints); greatest = omega (arith, ints) }
+part_is_small : (b : Bool) (w : ℤ) → IsCornerWeight w → IsCornerWeight (if b then w else pos 0)
+part_is_small true w lawful = lawful
+part_is_small false w lawful = record { least = omega (arith, ints); greatest = omega (arith, ints) }
 
 -- the next corner becomes an edge, and the rows down to the corner after it are made
 module _ (all : List Corner) (k : Corner) (left : List Corner) (es fs : List Edge) (rs : List EdgeRow)
@@ -203,7 +202,7 @@ module _ (all : List Corner) (k : Corner) (left : List Corner) (es fs : List Edg
     greatest : (weight_in fs x +ℤ pos (3 * length left)) ≤ℤ pos 24576;
   }
   small x =
-      let part = part_is_small (int_le k.x x) k.weight corner.least corner.greatest in
+      let part = part_is_small (int_le k.x x) k.weight corner.weight in
       record { least = omega (arith, ints, swept.least x, weight_added x, part); greatest = omega (arith, ints, swept.greatest x, weight_added x, part) }
 
   -- the edges of a level have a sum of 0, as nothing is added to the right of the field
@@ -260,8 +259,8 @@ pub corner_read_back : (k : Corner) → IsCorner k → PassesBits k
 corner_read_back k corner = record {
   x = omega (arith, ints);
   y = omega (arith, ints);
-  weight = omega (arith, ints);
-  lawful = record { least = omega (arith, ints); greatest = omega (arith, ints) };
+  weight = omega (arith, ints, corner.weight);
+  lawful = record { least = omega (arith, ints, corner.weight); greatest = omega (arith, ints, corner.weight) };
 }
 
 pub height_read_back : (ks : List Corner) (n : ℤ) → All IsCorner ks → n ≡ first_height_of ks → to_z w32 (of_z w32 n) ≡ first_height_of ks

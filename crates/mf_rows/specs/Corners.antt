@@ -1,5 +1,5 @@
 -- Corners: each adds its weight to all pixels at or to the right of its column and below its height.
-use Rattle.std.specs.Prelude.{◌≡◌, ◌≤◌, ◌*◌, ◌&&◌, ℤ, pos, negsuc, ◌+ℤ◌, ◌≤ℤ◌, int_le, int_lt, All, List, [], ◌∷◌, length, if◌then◌else◌}
+use Rattle.std.specs.Prelude.{◌≡◌, ◌≤◌, ◌*◌, ◌&&◌, ℤ, pos, neg_ℤ, ◌+ℤ◌, ◌≤ℤ◌, int_le, int_lt, All, List, [], ◌∷◌, length, if◌then◌else◌}
 use Rattle.mf_geom.specs.Coordinates.{least_coordinate, greatest_coordinate}
 use Rattle.mf_geom.specs.Lawful.{most_points}
 use Rattle.mf_rows.specs.declared.corner.Corner.{Corner}
@@ -14,14 +14,22 @@ unfoldable pub added_by_all : List Corner → ℤ → ℤ → ℤ
 added_by_all [] x y = pos 0
 added_by_all (k ∷ ks) x y = added_by k x y +ℤ added_by_all ks x y
 
--- a corner is a point in range with a weight in -3..3
+-- the greatest weight of a corner, which is that of a contour
+abbrev pub greatest_corner_weight : ℤ
+greatest_corner_weight = pos 3
+
+-- a corner may have this weight
+pub record IsCornerWeight (w : ℤ) : Type 0 where
+  pub least : neg_ℤ greatest_corner_weight ≤ℤ w
+  pub greatest : w ≤ℤ greatest_corner_weight
+
+-- a corner is a point in range with such a weight
 pub record IsCorner (k : Corner) : Type 0 where
   pub left : least_coordinate ≤ℤ k.x
   pub right : k.x ≤ℤ greatest_coordinate
   pub bottom : least_coordinate ≤ℤ k.y
   pub top : k.y ≤ℤ greatest_coordinate
-  pub least : negsuc 2 ≤ℤ k.weight
-  pub greatest : k.weight ≤ℤ pos 3
+  pub weight : IsCornerWeight k.weight
 
 -- there are at most two corners for each point of a cycle, and they add nothing to the right of the field (what they add below it is left out,
 -- as no pixel is there)

@@ -22,8 +22,7 @@ push_side-requires c =
       segment = cycle.rectilinear c.loop-place.place below;
       from = ends.0;
       to = ends.1;
-      least = omega (arith, ints);
-      greatest = omega (arith, ints);
+      weight = rw weight_is c.requires;
     }
 
 pub push_side-requires-else-from-to : goal.push_side-requires-else-from-to
@@ -39,8 +38,7 @@ push_side-requires-else-from-to c =
       segment = cycle.rectilinear c.loop-place.place below;
       from = ends.0;
       to = ends.1;
-      least = omega (arith, ints);
-      greatest = omega (arith, ints);
+      weight = rw weight_is c.requires;
     }
 
 pub loop-place-preserved : goal.loop-place-preserved

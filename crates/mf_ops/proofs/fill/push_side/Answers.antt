@@ -24,7 +24,7 @@ returns-in_ok-push-2 c =
     let ended : c.push-then-from-to.new.self.items ≡ c.push.new.self.items ++ second ∷ [] =
     rw (weight_is, to_x, to_y, negated) at c.in_ok-push-2.ensures.items in
     let both = ended ∙ (λ t. begun t ++ second ∷ []) ∙ append_assoc old (first ∷ []) (second ∷ []) in
-    rw both (HasSide-vertical c.args.weight segment old c.requires.least c.requires.greatest c.requires.from c.requires.to vertical c.requires.corners)
+    rw both (HasSide-vertical c.args.weight segment old c.requires.weight c.requires.from c.requires.to vertical c.requires.corners)
 
 pub returns-else-from-to : goal.returns-else-from-to
 returns-else-from-to c =
