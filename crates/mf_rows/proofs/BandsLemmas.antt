@@ -20,10 +20,6 @@ pub All-front : (P : EdgeRow → Type 0) (rs ss : List EdgeRow) → All P (rs ++
 All-front P [] ss all = All-nil P
 All-front P (r ∷ rs) ss all = All-cons P r rs (All-head P r (rs ++ ss) all) (All-front P rs ss (All-tail P r (rs ++ ss) all))
 
-All-back : (P : EdgeRow → Type 0) (rs ss : List EdgeRow) → All P (rs ++ ss) → All P ss
-All-back P [] ss all = all
-All-back P (r ∷ rs) ss all = All-back P rs ss (All-tail P r (rs ++ ss) all)
-
 -- ---- the row in its band
 
 -- rows above a row and rows below it do not count

@@ -1,5 +1,5 @@
 -- The dots of a run, and dots followed by a run.
-use Rattle.std.proofs.Common.{◌≡◌, ◌≢◌, ℕ, zero, suc, ◌+◌, ◌&&◌, if◌then◌else◌, ℤ, pos, ◌+ℤ◌, ◌≤ℤ◌, ◌<ℤ◌, List, [], ◌∷◌, ◌++◌, refl, ap, ◌∙◌, subst, add-one, arith}
+use Rattle.std.proofs.Common.{◌≡◌, ◌≢◌, ℕ, zero, suc, ◌&&◌, if◌then◌else◌, ℤ, pos, ◌+ℤ◌, ◌≤ℤ◌, ◌<ℤ◌, List, [], ◌∷◌, ◌++◌, refl, ap, ◌∙◌, subst, arith}
 use Rattle.std.specs.Ordering.{int_eq}
 use Rattle.std.proofs.lemmas.Int.{ints, by_lt_z}
 use Rattle.std.proofs.lemmas.List.Elements.{All-nil, All-cons, All-head, All-tail, All-weaker}
@@ -20,15 +20,6 @@ stretch-from y x w (suc n) columns lawful nonzero = (
   omega (arith, ints),
   subst (λ p. AreDotsFrom p (stretch y (x +ℤ pos 1) w n)) (place-next x y) (stretch-from y (x +ℤ pos 1) w n (next_columns x y n columns) lawful nonzero),
 )
-
--- one more column at the right end
-pub stretch-more : (y x w : ℤ) (n : ℕ) → stretch y x w (n + 1) ≡ stretch y x w n ++ record { y = y; x = x +ℤ pos n; weight = w } ∷ []
-unfolding stretch
-stretch-more y x w zero = ap (λ u. record { y = y; x = u; weight = w } ∷ []) (omega (arith, ints))
-stretch-more y x w (suc n) =
-    let shifted : ((x +ℤ pos 1) +ℤ pos n) ≡ x +ℤ pos (suc n) = omega (arith, ints) in
-    rw add-one (ap (λ others. record { y = y; x = x; weight = w } ∷ others)
-    (rw add-one at (stretch-more y (x +ℤ pos 1) w n) ∙ rw shifted))
 
 -- a picture followed by a run that fits is a picture
 pub picture-push : (ds : List Dot) (r : Run) → IsPicture ds → Fits ds r → IsPicture (ds ++ dots_of r)

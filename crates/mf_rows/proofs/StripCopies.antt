@@ -69,38 +69,43 @@ next_place bottom top down low high least greatest = record {
 
 -- ---- heads of a strip
 
--- the old heads are followed by heads of the first `down` rows of a strip, with this reach and place
-pub record AreHeadsSoFar (old : List Head) (reach : Option ℕ) (p : Place) (bottom top down : ℤ) (new : List Head) : Type 0 where
-  pub heads : (es row : List Edge) → AreHeads es old → IsPlaceOf es p row → HasReach reach row → AreHeads es new
-  pub rows : (es row : List Edge) → IsPlaceOf es p row → AreCopiesSoFar (rows_at es old) row bottom top down (rows_at es new)
+-- the heads of a strip: the reach and the place that all have, and the heights between which they lie
+pub record StripHeads : Type 0 where
+  pub reach : Option ℕ
+  pub place : Place
+  pub bottom : ℤ
+  pub top : ℤ
 
-pub heads_none : (old : List Head) (reach : Option ℕ) (p : Place) (bottom top : ℤ) → AreHeadsSoFar old reach p bottom top (pos 0) old
-heads_none old reach p bottom top = record {
+-- the old heads are followed by the first `down` heads of a strip
+pub record AreHeadsSoFar (old : List Head) (s : StripHeads) (down : ℤ) (new : List Head) : Type 0 where
+  pub heads : (es row : List Edge) → AreHeads es old → IsPlaceOf es s.place row → HasReach s.reach row → AreHeads es new
+  pub rows : (es row : List Edge) → IsPlaceOf es s.place row → AreCopiesSoFar (rows_at es old) row s.bottom s.top down (rows_at es new)
+
+pub heads_none : (old : List Head) (s : StripHeads) → AreHeadsSoFar old s (pos 0) old
+heads_none old s = record {
   heads = λ es row heads placed reached. heads;
-  rows = λ es row placed. copies_none (rows_at es old) row bottom top;
+  rows = λ es row placed. copies_none (rows_at es old) row s.bottom s.top;
 }
 
 -- the next head goes below them
-module _ (old : List Head) (reach : Option ℕ) (p : Place) (bottom top down : ℤ) (new : List Head) (in_reach : (down +ℤ pos 1) ≤ℤ (top -ℤ bottom))
-    (so_far : AreHeadsSoFar old reach p bottom top down new) (q : Place)
-    (shared : (es row : List Edge) → IsPlaceOf es p row → IsPlaceOf es q row) where
+module _ (old : List Head) (s : StripHeads) (down : ℤ) (new : List Head) (in_reach : (down +ℤ pos 1) ≤ℤ (s.top -ℤ s.bottom))
+    (so_far : AreHeadsSoFar old s down new) (q : Place) (shared : (es row : List Edge) → IsPlaceOf es s.place row → IsPlaceOf es q row) where
   abbrev pub next_head : Head
-  next_head = record { y = top -ℤ (down +ℤ pos 1); reach = reach; place = q }
+  next_head = record { y = s.top -ℤ (down +ℤ pos 1); reach = s.reach; place = q }
 
-  pub heads_more : AreHeadsSoFar old reach p bottom top (down +ℤ pos 1) (new ++ next_head ∷ [])
+  pub heads_more : AreHeadsSoFar old s (down +ℤ pos 1) (new ++ next_head ∷ [])
   heads_more = record {
     heads = λ es row heads placed reached.
         heads_push es es (nothing_more es) new (so_far.heads es row heads placed reached) next_head row (shared es row placed) reached;
     rows = λ es row placed.
-        subst (AreCopiesSoFar (rows_at es old) row bottom top (down +ℤ pos 1)) (sym (row_of_push es new next_head row (shared es row placed)))
-        (copies_more (rows_at es old) row bottom top down (rows_at es new) in_reach (so_far.rows es row placed));
+        subst (AreCopiesSoFar (rows_at es old) row s.bottom s.top (down +ℤ pos 1)) (sym (row_of_push es new next_head row (shared es row placed)))
+        (copies_more (rows_at es old) row s.bottom s.top down (rows_at es new) in_reach (so_far.rows es row placed));
   }
 
-pub heads_all : (old : List Head) (reach : Option ℕ) (p : Place) (bottom top down : ℤ) (new : List Head) → top -ℤ bottom ≡ down
-    → AreHeadsSoFar old reach p bottom top down new → (es row : List Edge) → IsPlaceOf es p row
-    → rows_at es new ≡ rows_at es old ++ strip bottom row (unsigned_abs (top -ℤ bottom))
-heads_all old reach p bottom top down new end so_far es row placed =
-    copies_all (rows_at es old) row bottom top down (rows_at es new) end (so_far.rows es row placed)
+pub heads_all : (old : List Head) (s : StripHeads) (down : ℤ) (new : List Head) → s.top -ℤ s.bottom ≡ down → AreHeadsSoFar old s down new
+    → (es row : List Edge) → IsPlaceOf es s.place row → rows_at es new ≡ rows_at es old ++ strip s.bottom row (unsigned_abs (s.top -ℤ s.bottom))
+heads_all old s down new end so_far es row placed =
+    copies_all (rows_at es old) row s.bottom s.top down (rows_at es new) end (so_far.rows es row placed)
 
 -- ---- strips below other rows
 

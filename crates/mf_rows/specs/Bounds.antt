@@ -8,12 +8,16 @@ use Rattle.mf_rows.specs.declared.bounds.Pixels.{Pixels}
 use Rattle.mf_rows.specs.declared.bounds.Pixels.TheVariants.{Nonzero, Black}
 use Rattle.mf_rows.specs.Dots.{Dot, weight_at}
 
--- a dot lies in the box, ends included
-pub record IsDotIn (b : Box4) (d : Dot) : Type 0 where
-  pub left : b.min_x ≤ℤ d.x
-  pub right : d.x ≤ℤ b.max_x
-  pub bottom : b.min_y ≤ℤ d.y
-  pub top : d.y ≤ℤ b.max_y
+-- the pixel (x, y) lies in the box, ends included
+pub record IsIn (b : Box4) (x y : ℤ) : Type 0 where
+  pub left : b.min_x ≤ℤ x
+  pub right : x ≤ℤ b.max_x
+  pub bottom : b.min_y ≤ℤ y
+  pub top : y ≤ℤ b.max_y
+
+-- a dot lies in the box
+abbrev pub IsDotIn : Box4 → Dot → Type 0
+IsDotIn b d = IsIn b d.x d.y
 
 -- the box is the least one: each dot lies in it, and there is a dot at each of its sides
 pub record IsLeastBox (ds : List Dot) (b : Box4) : Type 0 where
@@ -22,13 +26,6 @@ pub record IsLeastBox (ds : List Dot) (b : Box4) : Type 0 where
   pub right : Any (λ d. d.x ≡ b.max_x) ds
   pub bottom : Any (λ d. d.y ≡ b.min_y) ds
   pub top : Any (λ d. d.y ≡ b.max_y) ds
-
--- the pixel (x, y) lies in the box, ends included
-pub record IsIn (b : Box4) (x y : ℤ) : Type 0 where
-  pub left : b.min_x ≤ℤ x
-  pub right : x ≤ℤ b.max_x
-  pub bottom : b.min_y ≤ℤ y
-  pub top : y ≤ℤ b.max_y
 
 -- the box is the least one round the pixels at which f is true: they lie in it, and there is one at each of its sides
 pub record IsBoxRound (f : ℤ → ℤ → Bool) (b : Box4) : Type 0 where

@@ -27,7 +27,8 @@ pub struct Corner {
     pub weight: i32,
 }
 
-/// The rows in which each pixel of the field has the weight that these corners add to it.
+/// The rows in which each pixel of the field has the weight that these corners add to it. They are in one list, not in bands, so that
+/// those between two heights share their edges.
 pub(crate) fn rows_of_corners(alloc: Global, corners: Vec<Corner>) -> Result<RowList, OutOfMemory>
     requires { AreCorners corners.items }
     ensures rows { IfOk result (λ rows. AreRows rows) }

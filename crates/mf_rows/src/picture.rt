@@ -166,6 +166,7 @@ impl Picture {
         if other.is_blank() {
             return Ok(());
         }
+        // The sum is made aside, so that a refusal has nothing to undo.
         self.groups = sum_of_groups(alloc, old, &other.groups)?;
         Ok(())
     }

@@ -4,7 +4,7 @@ use Rattle.mf_rows.proofs.StripCopies.{heads_none, heads_more, heads_all, next_p
 use Rattle.mf_rows.proofs.row_list.push_heads.Goals as goal
 
 pub loop-down-init : goal.loop-down-init
-loop-down-init c = record { copies = heads_none _ _ _ _ _; least = omega (arith, ints); greatest = omega (arith, ints, c.requires.order) }
+loop-down-init c = record { copies = heads_none _ _; least = omega (arith, ints); greatest = omega (arith, ints, c.requires.order) }
 
 pub returns-in_err-push-clause-heads : goal.returns-in_err-push-clause-heads
 returns-in_err-push-clause-heads c = λ edges row heads placed reached.
@@ -21,7 +21,7 @@ loop-down-preserved c =
     let so_far = rw (top, bottom) at c.loop-down.invariant.copies in
     record {
       copies = rw (top, bottom, place.more, c.in_ok-push.ensures.items, top, place.row)
-          (heads_more c.args.heads.now.items c.args.reach c.args.place.now c.args.bottom c.args.top down c.loop-down.heads.items bound so_far
+          (heads_more c.args.heads.now.items (record { reach = c.args.reach; place = c.args.place.now; bottom = c.args.bottom; top = c.args.top }) down c.loop-down.heads.items bound so_far
           c.in_ok-share.field-0 c.in_ok-share.ensures);
       least = rw place.more place.least;
       greatest = rw (place.more, top, bottom) bound;
@@ -33,4 +33,4 @@ returns-clause-rows c =
     let bottom : to_z w32 (of_z w32 c.args.bottom) ≡ c.args.bottom = omega (arith, ints) in
     let end : c.args.top -ℤ c.args.bottom ≡ to_z w32 c.loop-down.down-bits =
     omega (arith, ints, c.loop-down-test.false, c.loop-down.invariant.greatest, c.requires) in
-    heads_all _ _ _ c.args.bottom c.args.top (to_z w32 c.loop-down.down-bits) _ end (rw (top, bottom) at c.loop-down.invariant.copies)
+    heads_all _ (record { reach = c.args.reach; place = c.args.place.now; bottom = c.args.bottom; top = c.args.top }) (to_z w32 c.loop-down.down-bits) _ end (rw (top, bottom) at c.loop-down.invariant.copies)
