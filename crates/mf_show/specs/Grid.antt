@@ -45,8 +45,12 @@ pub record IsGridText (ds : List Dot) (text : List ℕ) : Type 0 where
   pub blank : ds ≡ [] → text ≡ codes "blank\n"
   pub drawn : (b : Box4) → IsLeastBox ds b → text ≡ box_text ds b
 
--- the least box of a picture is wider or higher than 128 pixels
+-- the greatest number of columns, and of rows, of a grid
+abbrev pub greatest_grid_side : ℕ
+greatest_grid_side = 128
+
+-- the least box of a picture is wider or higher than a grid may be
 pub record IsTooLarge (ds : List Dot) : Type 0 where
   pub bounds : Box4
   pub least : IsLeastBox ds bounds
-  pub large : (128 < extent bounds.min_x bounds.max_x) ⊎ (128 < extent bounds.min_y bounds.max_y)
+  pub large : (greatest_grid_side < extent bounds.min_x bounds.max_x) ⊎ (greatest_grid_side < extent bounds.min_y bounds.max_y)

@@ -33,7 +33,8 @@ pub fn proof_grid(alloc: Global, picture: &Picture) -> Result<Vec<u8>, GridFault
     if columns > MAX_SIDE || rows > MAX_SIDE {
         return Err(GridFault::ProofTooLarge);
     }
-    Ok(box_text(alloc, picture, &bounds)?)
+    let size = (rows as usize).saturating_mul(columns as usize + 1);
+    Ok(box_text(alloc, picture, &bounds, size)?)
 }
 
 /// The text of the blank picture.
@@ -53,12 +54,17 @@ pub fn extent(first: i32, last: i32) -> u32
     (last - first) as u32 + 1
 }
 
-/// The grid text of a picture whose least box is this one.
-fn box_text(alloc: Global, picture: &Picture, bounds: &Box4) -> Result<Vec<u8>, OutOfMemory>
+/// The grid text of a picture whose least box is this one. Room for so many bytes is asked for at once.
+fn box_text(
+    alloc: Global,
+    picture: &Picture,
+    bounds: &Box4,
+    size: usize,
+) -> Result<Vec<u8>, OutOfMemory>
     requires { IsLeastBox picture.now bounds.now }
     ensures { IfOk result (λ text. text.items ≡ box_text picture.now bounds.now) }
 {
-    let mut text = Vec::new(alloc);
+    let mut text = Vec::with_capacity(alloc, size)?;
     let mut weights = Weights::over(picture);
     for y in (bounds.min_y..bounds.max_y + 1).rev() {
         push_row(&mut text, &mut weights, y, bounds.min_x, bounds.max_x)?;

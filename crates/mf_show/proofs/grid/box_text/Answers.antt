@@ -11,7 +11,7 @@ overflow_step-y c = let box = least_box_of_field _ _ c.over-weights.ensures.lawf
 pub loop-y-init : goal.loop-y-init
 loop-y-init c =
     let box = least_box_of_field _ _ c.over-weights.ensures.lawful c.requires in
-    grid_none _ _ _ _ _ c.over-weights.ensures.lawful box (omega (arith, ints)) c.new-text.ensures.items c.over-weights.ensures.runs
+    grid_none _ _ _ _ _ c.over-weights.ensures.lawful box (omega (arith, ints)) c.in_ok-text.ensures.items c.over-weights.ensures.runs
 
 pub push_row-requires : goal.push_row-requires
 push_row-requires c =
