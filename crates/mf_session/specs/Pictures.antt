@@ -6,6 +6,7 @@ use Rattle.mf_text.specs.declared.command.Name.{Name}
 use Rattle.mf_text.specs.declared.command.Name.TheVariants.{Current, Register}
 use Rattle.mf_text.specs.declared.command.Source.{Source}
 use Rattle.mf_text.specs.declared.command.Source.TheVariants.{Null, Named}
+use Rattle.mf_text.specs.Registers.{register_count}
 
 -- what `currentpicture` has accepted, what of that is published, and the picture of each register from `a` on
 pub record Pictures : Type 0 where
@@ -15,7 +16,7 @@ pub record Pictures : Type 0 where
 
 -- no operation is accepted, and all pictures are blank
 abbrev pub blank_pictures : Pictures
-blank_pictures = record { accepted = []; published = []; registers = replicate 26 [] }
+blank_pictures = record { accepted = []; published = []; registers = replicate register_count [] }
 
 -- what `currentpicture` has accepted once it accepts this, too
 abbrev pub accepted_with : Pictures → Change → List Entry

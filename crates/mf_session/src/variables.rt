@@ -28,7 +28,7 @@ impl Variables {
     ghost use Rattle.mf_live.specs.Desks.{desk_identity, remaining_viewers};
     ghost use Rattle.mf_live.specs.Entries.{rev};
     ghost use Rattle.mf_ops.specs.declared.op.Op.TheVariants as ops;
-    ghost use Rattle.mf_text.specs.Registers.{IsName, IsSource};
+    ghost use Rattle.mf_text.specs.Registers.{IsName, IsSource, register_count};
     ghost use Rattle.mf_text.specs.declared.command.Name.TheVariants as names;
     ghost use Rattle.mf_session.specs.Changes.{IsClearable, OperatesOn, PublishesAll};
     ghost use Rattle.mf_session.specs.Pictures.{blank_pictures, picture, source_picture};
@@ -154,7 +154,7 @@ impl Variables {
         number: u8,
         op: Op,
     ) -> Result<Vec<u8>, OutOfMemory>
-        requires { number < 26 }
+        requires { number < register_count }
         ensures answer { IfOk result (λ text. OperatesOn (max_ops self.old) (pictures self.old) (names.Register number) op text.items (pictures self.new)) }
         ensures unchanged { OnErr result (pictures self.new ≡ pictures self.old) }
         ensures clears { op ≡ ops.Clear → IsOk result }

@@ -48,13 +48,13 @@ digits_end text i in_prefix other =
     ]
 
 -- one more digit, which is not the tenth
-pub record GoesOn (text : List ℕ) (i value : ℕ) : Type 0 where
+pub record HasNextDigit (text : List ℕ) (i value : ℕ) : Type 0 where
   pub digit : 48 ≤ get_or text i 0
   pub fits : 10 * value + (get_or text i 0 - 48) < 10 ^ 9
   pub more : IsNumberTo text (i + 1) (10 * value + (get_or text i 0 - 48))
 
 pub number-more : (text : List ℕ) (i value : ℕ) → IsNumberTo text i value → i < length text → is_ascii_digit (get_or text i 0) ≡ true → i ≢ 9
-    → GoesOn text i value
+    → HasNextDigit text i value
 number-more text i value to inside digit not_last =
     let below : digit_value (get_or text i 0) < 10 = grind (arith, nat_tests) in
     let ranged = digit_from_value (get_or text i 0) below in

@@ -10,12 +10,12 @@ use Rattle.mf_text.proofs.LineTokens.{tokens_at_comment, tokens_at_end, tokens-s
 use Rattle.mf_text.proofs.Reading.{fewer}
 
 -- the token at the front is the first that remains, unless none does
-data IsFirst (column : ℕ) (text : List ℕ) : Type 0 where
-  Ended : tokens_from column text ≡ [] → (first_token text).token ≡ Unknown → IsFirst column text
+data IsAtFront (column : ℕ) (text : List ℕ) : Type 0 where
+  Ended : tokens_from column text ≡ [] → (first_token text).token ≡ Unknown → IsAtFront column text
   Starts : tokens_from column text ≡ token_at column (first_token text) ∷ tokens_from (column + (first_token text).bytes) (drop (first_token text).bytes text)
-      → IsFirst column text
+      → IsAtFront column text
 
-first : (column : ℕ) (text : List ℕ) → IsClear text → IsFirst column text
+first : (column : ℕ) (text : List ℕ) → IsClear text → IsAtFront column text
 unfolding first_token mark_among
 first column [] clear = Ended (tokens_at_end column [] (omega arith)) refl
 first column (b ∷ bs) clear =
@@ -37,7 +37,7 @@ module _ (old : Tokens) (column : ℕ) (text : List ℕ) (same : remaining_token
 
   -- a value that the token at the front has, or lacks
   module _ {A : Type 0} (f : Token → Option A) (none : f Unknown ≡ None) where
-    value_at : (v : Option A) → f (first_token text).token ≡ v → IsFirst column text → next_value f (remaining_tokens old) ≡ option_map (λ a. (a, onward)) v
+    value_at : (v : Option A) → f (first_token text).token ≡ v → IsAtFront column text → next_value f (remaining_tokens old) ≡ option_map (λ a. (a, onward)) v
     value_at v is (Ended ended unknown) = ap (next_value f) (same ∙ ended) ∙ ap (option_map (λ a. (a, onward))) (sym none ∙ sym (ap f unknown) ∙ is)
     value_at v is (Starts starts) = ap (next_value f) (same ∙ starts) ∙ ap (option_map (λ a. (a, onward))) is
 

@@ -6,16 +6,16 @@ use Rattle.mf_text.specs.declared.tokens.Tokens.{Tokens}
 use Rattle.mf_text.specs.Grammar.{Line, Nothing}
 use Rattle.mf_text.specs.Lines.{IsText, IsLineOf, IsLineWith, Gives, IsRefused, line_ahead}
 use Rattle.mf_text.specs.Meaning.{Value, Points, Angle, Meaning, Is, If, Turns, IsAnswerOf, IsUnlawful, Refuses, meaning, Command, TextFault}
-use Rattle.mf_text.specs.Reads.{Answers, ahead, remaining_tokens}
+use Rattle.mf_text.specs.Reads.{AnswersLine, ahead, remaining_tokens}
 use Rattle.mf_text.specs.Rests.{follow, from, line}
 use Rattle.mf_text.specs.Tokens.{tokens}
 use Rattle.mf_text.proofs.LineReading.{goes_wrong, is_line}
 
 -- ---- a line with no token
 
-pub nothing : (old : Tokens) → remaining_tokens old ≡ [] → (r : Result Command TextFault) → IsAnswerOf Nothing r → Answers (from line (ahead old)) r
+pub nothing : (old : Tokens) → remaining_tokens old ≡ [] → (r : Result Command TextFault) → IsAnswerOf Nothing r → AnswersLine (from line (ahead old)) r
 unfolding follow
-nothing old none r answer = subst (λ ps. Answers (from line (record { tokens = ps; past = old.column })) r) (sym none) answer
+nothing old none r answer = subst (λ ps. AnswersLine (from line (record { tokens = ps; past = old.column })) r) (sym none) answer
 
 -- ---- refusals of values
 
@@ -60,13 +60,12 @@ form-answered bytes l (Err fault) is answer =
     (tt, (of_values fault (refusals_of_values (meaning l.form) fault answer)).1 bytes (record { line = l; line_is = is; so = answer }))
 
 read_answered : (line_bytes : List ℕ) (o : Result Line ℕ) (r : Result Command TextFault) → IsText line_bytes
-    → from line (line_ahead line_bytes) ≡ o → Answers o r → Answered line_bytes r
+    → from line (line_ahead line_bytes) ≡ o → AnswersLine o r → Answered line_bytes r
 read_answered bytes (Ok l) r text is answer = form-answered bytes l r (record { text = text; spelled = is_line (line_ahead bytes) l is }) answer
-read_answered bytes (Err column) r text is answer =
-    subst (Answered bytes) (sym answer) (tt, record { text = text; wrong = goes_wrong bytes column is })
+read_answered bytes (Err column) r text is answer = subst (Answered bytes) (sym answer) (tt, (text, goes_wrong bytes column is))
 
 pub answered : (bytes : List ℕ) (start : Tokens) (r : Result Command TextFault) → IsText bytes → remaining_tokens start ≡ tokens bytes → start.column ≡ 1
-    → Answers (from line (ahead start)) r → Answered bytes r
+    → AnswersLine (from line (ahead start)) r → Answered bytes r
 answered bytes start r text tokens_are column_is answer =
     let same : ahead start ≡ line_ahead bytes = rw (tokens_are, column_is) refl in
-    read_answered bytes (from line (line_ahead bytes)) r text refl (subst (λ a. Answers (from line a) r) same answer)
+    read_answered bytes (from line (line_ahead bytes)) r text refl (subst (λ a. AnswersLine (from line a) r) same answer)

@@ -5,7 +5,7 @@ use Rattle.std.proofs.lemmas.Option.{none-some, same_Some}
 use Rattle.mf_text.specs.declared.token.Mark.TheVariants as mark
 use Rattle.mf_text.specs.Token as token
 use Rattle.mf_text.specs.declared.token.Word.TheVariants as word
-use Rattle.mf_text.specs.Token.{Ahead, Placed, Token, ahead_after, column_at, column_of}
+use Rattle.mf_text.specs.Token.{Ahead, Placed, Token, ahead_after, token_column, column_of}
 use Rattle.mf_text.specs.Grammar.{Line, spell_line}
 use Rattle.mf_text.specs.Lines.{line_ahead}
 use Rattle.mf_text.specs.Rests.{Rest, ends, follow, from, is_code_number, step, line}
@@ -13,7 +13,7 @@ use Rattle.mf_text.specs.Syntax.{StartsLine, IsSyntaxFault, IsWrongAt, is_negati
 use Rattle.mf_text.specs.Tokens.{kinds, tokens}
 use Rattle.mf_text.specs.TokenTexts.{AreTokens, IsTokenText}
 use Rattle.mf_text.proofs.Cuts.{are_tokens}
-use Rattle.mf_text.proofs.Rests.{GoesOn, is_code_number_at, line_to, rest_ends, reads}
+use Rattle.mf_text.proofs.Rests.{CanGoOn, is_code_number_at, line_to, rest_ends, reads}
 use Rattle.mf_text.proofs.Sound.{coded, spelled, spells_line}
 use Rattle.mf_text.proofs.TokenTexts.{mark_length}
 
@@ -31,16 +31,16 @@ line_is_read ts l is =
 pub same_line : (l m : Line) → spell_line l ≡ spell_line m → l ≡ m
 same_line l m same = same_Some l m (sym (line_is_read (spell_line l) l refl) ∙ line_is_read (spell_line l) m same)
 
-goes_on_or_not : (r : Option Rest) (ts : List Token) → GoesOn r ts ⊎ (GoesOn r ts → ⊥)
+goes_on_or_not : (r : Option Rest) (ts : List Token) → CanGoOn r ts ⊎ (CanGoOn r ts → ⊥)
 unfolding reads
 goes_on_or_not None ts = inr (λ on. none-some on.1.0 on.1.1)
 goes_on_or_not (Some r) [] = inl (rest_ends r)
 goes_on_or_not (Some r) (t ∷ ts) = goes_on_or_not (step r t) ts
 
-starts : (ts : List Token) → GoesOn (Some line) ts → StartsLine ts
+starts : (ts : List Token) → CanGoOn (Some line) ts → StartsLine ts
 starts ts on = record { rest = on.0; line = record { tree = on.1.0; spelled = read_is_line (ts ++ on.0) on.1.0 on.1.1 } }
 
-goes_on : (ts : List Token) → StartsLine ts → GoesOn (Some line) ts
+goes_on : (ts : List Token) → StartsLine ts → CanGoOn (Some line) ts
 goes_on ts begun = (begun.rest, (begun.line.tree, line_is_read (ts ++ begun.rest) begun.line.tree begun.line.spelled))
 
 pub starts_or_not : (ts : List Token) → StartsLine ts ⊎ (StartsLine ts → ⊥)
@@ -54,8 +54,8 @@ starts_or_not ts =
 
 record Wrong (r : Option Rest) (ts : List Token) (k : ℕ) : Type 0 where
   within : k ≤ length ts
-  before : GoesOn r (take k ts)
-  wrong : k < length ts → GoesOn r (take (suc k) ts) → ⊥
+  before : CanGoOn r (take k ts)
+  wrong : k < length ts → CanGoOn r (take (suc k) ts) → ⊥
   unended : k ≡ length ts → (l : Line) → reads r ts ≡ Some l → ⊥
 
 -- the column that is reported of the next token
@@ -165,23 +165,23 @@ module _ (bytes : List ℕ) (column : ℕ) (found : Stops line 1 (tokens bytes) 
   abbrev chosen : Bool → ℕ
   chosen shows = reported shows (ahead_after found.place ahead.tokens 1)
 
-  shows_before : is_shown ≡ true → column ≡ column_at ahead (report_place ts found.place)
+  shows_before : is_shown ≡ true → column ≡ token_column ahead (report_place ts found.place)
   shows_before shows =
       let coded = coded ts [] line found.place spells_line shows in
       let fourth : found.place ≡ 4 = omega (arith, coded.1) in
       let third : report_place ts found.place ≡ 3 = rw (coded.0, fourth) refl in
       found.column_is ∙ ap chosen shows ∙ ap (λ k. (ahead_after k ahead.tokens 1).past - 1) fourth
-      ∙ minus_ends 3 1 1 bytes ahead.tokens (are_tokens bytes) (fourth_is_minus ts coded.0) ∙ ap (column_at ahead) (sym third)
+      ∙ minus_ends 3 1 1 bytes ahead.tokens (are_tokens bytes) (fourth_is_minus ts coded.0) ∙ ap (token_column ahead) (sym third)
 
-  shows_there : is_shown ≡ false → (bad : Bool) → (is_negative_code ts && eqb found.place 4) ≡ bad → column ≡ column_at ahead (report_place ts found.place)
-  shows_there plain false good = found.column_is ∙ ap chosen plain ∙ ap (λ b. column_at ahead (if b then 3 else found.place)) (sym good)
+  shows_there : is_shown ≡ false → (bad : Bool) → (is_negative_code ts && eqb found.place 4) ≡ bad → column ≡ token_column ahead (report_place ts found.place)
+  shows_there plain false good = found.column_is ∙ ap chosen plain ∙ ap (λ b. token_column ahead (if b then 3 else found.place)) (sym good)
   shows_there plain true bad =
       let parts = and_parts (is_negative_code ts) (eqb found.place 4) bad in
       let fourth = eqb-true found.place 4 parts.1 in
-      let before = subst (λ k. GoesOn (Some line) (take k ts)) fourth found.at.before in
+      let before = subst (λ k. CanGoOn (Some line) (take k ts)) fourth found.at.before in
       absurd (false≢true (sym plain ∙ ap (is_code_number_at (Some line) ts) fourth ∙ negative_shows ts before.0 before.1.0 parts.0 before.1.1))
 
-  by_shown : (shows : Bool) → is_shown ≡ shows → column ≡ column_at ahead (report_place ts found.place)
+  by_shown : (shows : Bool) → is_shown ≡ shows → column ≡ token_column ahead (report_place ts found.place)
   by_shown true shows = shows_before shows
   by_shown false plain = shows_there plain (is_negative_code ts && eqb found.place 4) refl
 

@@ -1,5 +1,6 @@
 -- A line has one answer: a command, or a refusal.
-use Rattle.std.proofs.Common.{◌≡◌, ◌≢◌, inl, inr, ℕ, suc, ◌<◌, ◌≤◌, List, ◌++◌, length, take, drop, append_assoc, refl, sym, ap, ◌∙◌, subst, arith}
+use Rattle.std.proofs.Common.{◌≡◌, ◌≢◌, false, inl, inr, ℕ, suc, ◌<◌, ◌≤◌, List, ◌++◌, length, take, drop, append_assoc, refl, sym, ap, ◌∙◌, subst, arith}
+use Rattle.std.specs.List.{list_all}
 use Rattle.std.proofs.lemmas.Bool.{cases_lt}
 use Rattle.std.proofs.lemmas.Int.{ints}
 use Rattle.std.proofs.lemmas.List.{take-append-drop, take-take}
@@ -7,10 +8,10 @@ use Rattle.mf_ops.specs.declared.quarter.Quarter.TheVariants.{Once, Twice, Thric
 use Rattle.mf_text.specs.declared.command.Command.TheVariants as command
 use Rattle.mf_text.specs.declared.fault.TextFault.TheVariants as faults
 use Rattle.mf_text.specs.Grammar.{Form, Line}
-use Rattle.mf_text.specs.Lines.{IsText, line_ahead, IsLineOf, IsLineWith, Gives, HasOtherBytes, HasSyntaxFault, IsRefused}
+use Rattle.mf_text.specs.Lines.{IsText, line_ahead, IsLineOf, IsLineWith, Gives, IsRefused, is_text_byte, longest_line}
 use Rattle.mf_text.specs.Meaning.{Value, Points, Angle, Meaning, Is, If, Turns, IsUnlawful, Means, Refuses, meaning, degrees, Quarter, Command, TextFault}
 use Rattle.mf_text.specs.Syntax.{IsLine, IsSyntaxFault, IsWrongAt, StartsLine, report_place}
-use Rattle.mf_text.specs.Token.{Ahead, Token, column_at}
+use Rattle.mf_text.specs.Token.{Ahead, Token, token_column}
 use Rattle.mf_text.specs.Tokens.{kinds}
 use Rattle.mf_text.proofs.LineReading.{same_line}
 
@@ -82,7 +83,7 @@ one_place ts j k p q =
 one_column : (ahead : Ahead) (one other : ℕ) → IsSyntaxFault ahead one → IsSyntaxFault ahead other → one ≡ other
 one_column ahead one other p q =
     let ts = kinds ahead.tokens in
-    p.column_is ∙ ap (λ k. column_at ahead (report_place ts k)) (one_place ts p.place q.place p.at q.at) ∙ sym q.column_is
+    p.column_is ∙ ap (λ k. token_column ahead (report_place ts k)) (one_place ts p.place q.place p.at q.at) ∙ sym q.column_is
 
 pub wrong_is_no_line : (ahead : Ahead) (column : ℕ) → IsSyntaxFault ahead column → IsLine (kinds ahead.tokens) → ⊥
 wrong_is_no_line ahead column wrong line = not_wrong (kinds ahead.tokens) wrong.place wrong.at line where
@@ -105,41 +106,41 @@ gives_one bytes one other p q = one_meant (meaning q.line.form) one other (same_
 
 -- why a line is refused, other than with `OutOfMemory`
 data IsCause (bytes : List ℕ) (fault : TextFault) : Type 0 where
-  TooLong : fault ≡ faults.LineTooLong → 65536 < length bytes → IsCause bytes fault
-  NoText : fault ≡ faults.NotAscii → HasOtherBytes bytes → IsCause bytes fault
-  NoLine : (column : ℕ) → fault ≡ faults.Syntax column → HasSyntaxFault bytes column → IsCause bytes fault
+  TooLong : fault ≡ faults.LineTooLong → longest_line < length bytes → IsCause bytes fault
+  NoText : fault ≡ faults.NotAscii → length bytes ≤ longest_line → list_all is_text_byte bytes ≡ false → IsCause bytes fault
+  NoLine : (column : ℕ) → fault ≡ faults.Syntax column → IsText bytes → IsSyntaxFault (line_ahead bytes) column → IsCause bytes fault
   BadValues : IsLineWith bytes (λ form. Refuses (meaning form) fault) → IsCause bytes fault
 
 cause : (bytes : List ℕ) (fault : TextFault) → fault ≢ faults.OutOfMemory → IsRefused bytes fault → IsCause bytes fault
 cause bytes faults.OutOfMemory memory p = absurd (memory refl)
 cause bytes faults.LineTooLong memory p = TooLong refl p
-cause bytes faults.NotAscii memory p = NoText refl p
-cause bytes (faults.Syntax column) memory p = NoLine column refl p
+cause bytes faults.NotAscii memory p = NoText refl p.0 p.1
+cause bytes (faults.Syntax column) memory p = NoLine column refl p.0 p.1
 cause bytes fault memory p = BadValues p
 
-text_is_text : (bytes : List ℕ) → IsText bytes → HasOtherBytes bytes → ⊥
+text_is_text : (bytes : List ℕ) → IsText bytes → list_all is_text_byte bytes ≡ false → ⊥
 text_is_text bytes p q = cc
 
-no_line-line : (bytes : List ℕ) (column : ℕ) (line : Line) → HasSyntaxFault bytes column → IsLineOf bytes line → ⊥
-no_line-line bytes column line p q = wrong_is_no_line (line_ahead bytes) column p.wrong (record { tree = line; spelled = q.spelled })
+no_line-line : (bytes : List ℕ) (column : ℕ) (line : Line) → IsSyntaxFault (line_ahead bytes) column → IsLineOf bytes line → ⊥
+no_line-line bytes column line p q = wrong_is_no_line (line_ahead bytes) column p (record { tree = line; spelled = q.spelled })
 
 one_cause : (bytes : List ℕ) (one other : TextFault) → IsCause bytes one → IsCause bytes other → one ≡ other
 one_cause bytes one other (TooLong p long) (TooLong q _) = cc
-one_cause bytes one other (TooLong p long) (NoText q bad) = absurd (omega (arith, long, bad.short))
-one_cause bytes one other (TooLong p long) (NoLine column q bad) = absurd (omega (arith, long, bad.text.short))
+one_cause bytes one other (TooLong p long) (NoText q short bad) = absurd (omega (arith, long, short))
+one_cause bytes one other (TooLong p long) (NoLine column q text wrong) = absurd (omega (arith, long, text.short))
 one_cause bytes one other (TooLong p long) (BadValues bad) = absurd (omega (arith, long, bad.line_is.text.short))
-one_cause bytes one other (NoText p bad) (TooLong q long) = absurd (omega (arith, long, bad.short))
-one_cause bytes one other (NoText p bad) (NoText q _) = cc
-one_cause bytes one other (NoText p bad) (NoLine column q wrong) = absurd (text_is_text bytes wrong.text bad)
-one_cause bytes one other (NoText p bad) (BadValues values) = absurd (text_is_text bytes values.line_is.text bad)
-one_cause bytes one other (NoLine column p wrong) (TooLong q long) = absurd (omega (arith, long, wrong.text.short))
-one_cause bytes one other (NoLine column p wrong) (NoText q bad) = absurd (text_is_text bytes wrong.text bad)
-one_cause bytes one other (NoLine column p wrong) (NoLine place q other_wrong) =
-    p ∙ ap faults.Syntax (one_column (line_ahead bytes) column place wrong.wrong other_wrong.wrong) ∙ sym q
-one_cause bytes one other (NoLine column p wrong) (BadValues values) = absurd (no_line-line bytes column values.line wrong values.line_is)
+one_cause bytes one other (NoText p short bad) (TooLong q long) = absurd (omega (arith, long, short))
+one_cause bytes one other (NoText p short bad) (NoText q _ _) = cc
+one_cause bytes one other (NoText p short bad) (NoLine column q text wrong) = absurd (text_is_text bytes text bad)
+one_cause bytes one other (NoText p short bad) (BadValues values) = absurd (text_is_text bytes values.line_is.text bad)
+one_cause bytes one other (NoLine column p text wrong) (TooLong q long) = absurd (omega (arith, long, text.short))
+one_cause bytes one other (NoLine column p text wrong) (NoText q short bad) = absurd (text_is_text bytes text bad)
+one_cause bytes one other (NoLine column p text wrong) (NoLine place q _ other_wrong) =
+    p ∙ ap faults.Syntax (one_column (line_ahead bytes) column place wrong other_wrong) ∙ sym q
+one_cause bytes one other (NoLine column p text wrong) (BadValues values) = absurd (no_line-line bytes column values.line wrong values.line_is)
 one_cause bytes one other (BadValues values) (TooLong q long) = absurd (omega (arith, long, values.line_is.text.short))
-one_cause bytes one other (BadValues values) (NoText q bad) = absurd (text_is_text bytes values.line_is.text bad)
-one_cause bytes one other (BadValues values) (NoLine column q wrong) = absurd (no_line-line bytes column values.line wrong values.line_is)
+one_cause bytes one other (BadValues values) (NoText q short bad) = absurd (text_is_text bytes values.line_is.text bad)
+one_cause bytes one other (BadValues values) (NoLine column q text wrong) = absurd (no_line-line bytes column values.line wrong values.line_is)
 one_cause bytes one other (BadValues p) (BadValues q) =
     one_refused (meaning q.line.form) one other (same_form bytes (λ form. Refuses (meaning form) one) _ p q) q.so
 
@@ -149,8 +150,8 @@ refused_once bytes one other p q first second = one_cause bytes one other (cause
 
 given-cause : (bytes : List ℕ) (given : Command) (fault : TextFault) → Gives bytes given → IsCause bytes fault → ⊥
 given-cause bytes given fault p (TooLong _ long) = omega (arith, long, p.line_is.text.short)
-given-cause bytes given fault p (NoText _ bad) = text_is_text bytes p.line_is.text bad
-given-cause bytes given fault p (NoLine column _ wrong) = no_line-line bytes column p.line wrong p.line_is
+given-cause bytes given fault p (NoText _ _ bad) = text_is_text bytes p.line_is.text bad
+given-cause bytes given fault p (NoLine column _ _ wrong) = no_line-line bytes column p.line wrong p.line_is
 given-cause bytes given fault p (BadValues q) =
     not_both (meaning q.line.form) given fault (same_form bytes (λ form. Means (meaning form) given) _ p q) q.so
 

@@ -5,7 +5,7 @@ use Rattle.std.proofs.lemmas.Bool.{false≢true}
 use Rattle.std.proofs.lemmas.Option.{none-some, same_Some}
 use Rattle.mf_text.specs.Grammar.{Code, Int}
 use Rattle.mf_text.specs.Rests.{code_of}
-use Rattle.mf_text.specs.Ints.{int_of, is_byte, where_true}
+use Rattle.mf_text.specs.Ints.{int_of, is_code, where_true}
 
 pub where_some : {A : Type 0} (b : Bool) (make : b ≡ true → A) (is : b ≡ true) → where_true b make ≡ Some (make is)
 where_some true make is = ap (λ so. Some (make so)) (Bool-set true true refl is)
@@ -28,9 +28,9 @@ pub int_of-is : (negative : Bool) (m : ℕ) (n : Int) → int_of negative m ≡ 
 unfolding int_of
 int_of-is negative m n is = let made = where_made _ _ n is in (ap (λ (i : Int). i.negative) made.1, ap (λ (i : Int). i.magnitude) made.1)
 
-pub byte_code : (n : Int) (is : is_byte n ≡ true) → code_of n ≡ Some (record { int = n; is_byte = is })
+pub some_code : (n : Int) (is : is_code n ≡ true) → code_of n ≡ Some (record { int = n; is_code = is })
 unfolding code_of
-byte_code n is = where_some _ _ is
+some_code n is = where_some _ _ is
 
 pub code_of-is : (n : Int) (code : Code) → code_of n ≡ Some code → code.int ≡ n
 unfolding code_of

@@ -8,7 +8,7 @@ use Rattle.mf_text.specs.Token as token
 use Rattle.mf_text.specs.declared.token.Word.TheVariants as word
 use Rattle.mf_text.specs.Grammar.{Line, Path, Code, Name, Current, Register, Source, Null, Named, Int, Pair, Form, Nothing, AddContour, AddPicture, CullKeeping, CullDropping, Clear, Move, ShowTotal, ShowPicture, ShowProof, ShipOut, SetCheck, PublishAll, Shifted, Scaled, XScaled, YScaled, Rotated, Transform, Sign, Plus, Minus}
 use Rattle.mf_text.specs.Rests.{Kind, Of, This, Names, Numbers, Codes, Rest, Ends, Take, OrTake, Corners, One, Or, ACode, CodeNumber, corner, ends, if_kind, inner, int, is_code_number, path, source, step, value, Token, code_of, int_of, line, line_end, name_token, assignment, of_int, of_source, transform, weighable, name_in, this_in}
-use Rattle.mf_text.proofs.ReadInts.{byte_code, code_of-is, int_of-is, short_int}
+use Rattle.mf_text.proofs.ReadInts.{some_code, code_of-is, int_of-is, short_int}
 use Rattle.mf_text.proofs.TokenTexts.{same_token, token_is}
 
 -- ---- tokens of a kind
@@ -52,7 +52,7 @@ value_back Names name sign = name_of name
 value_back (Numbers negative) n sign = ap (λ b. int_of b n.magnitude) (sym sign) ∙ short_int n.negative n.magnitude n.short
 value_back (Codes negative) c sign =
     ap (λ b. option_and_then code_of (int_of b c.int.magnitude)) (sym sign)
-    ∙ ap (option_and_then code_of) (short_int c.int.negative c.int.magnitude c.int.short) ∙ byte_code c.int c.is_byte
+    ∙ ap (option_and_then code_of) (short_int c.int.negative c.int.magnitude c.int.short) ∙ some_code c.int c.is_code
 
 -- a token says this
 abbrev pub Says : (k : Kind) → Token → Of k → Type 0
@@ -206,8 +206,8 @@ line_to l = form_to l.form l.ended
 -- ---- each rest can be ended by some tokens
 
 -- where they must be this rest, these tokens and some others are read as a line
-abbrev pub GoesOn : Option Rest → List Token → Type 0
-GoesOn r ts = (rest : List Token) × ((tree : Line) × (reads r (ts ++ rest) ≡ Some tree))
+abbrev pub CanGoOn : Option Rest → List Token → Type 0
+CanGoOn r ts = (rest : List Token) × ((tree : Line) × (reads r (ts ++ rest) ≡ Some tree))
 
 -- some token is of a kind
 some_value : (k : Kind) → (t : Token) × ((a : Of k) × (value k t ≡ Some a))
@@ -235,7 +235,7 @@ some_line (CodeNumber next) =
     (end.0, kind_to (Codes true) next None some.0 some.1.0 refl some.1.1 end.1)
 some_line (Corners next) = let end = some_line (next []) in (end.0, on (token.Word word.Cycle) refl end.1)
 
-pub rest_ends : (r : Rest) → GoesOn (Some r) []
+pub rest_ends : (r : Rest) → CanGoOn (Some r) []
 rest_ends r = let end = some_line r in (end.1.tokens, (end.0, end.1.read))
 
 -- ---- the number of a code after its `-`

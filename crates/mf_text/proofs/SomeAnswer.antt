@@ -13,8 +13,8 @@ use Rattle.mf_ops.specs.declared.quarter.Quarter.TheVariants.{Once, Twice, Thric
 use Rattle.mf_text.specs.declared.command.Command.TheVariants as command
 use Rattle.mf_text.specs.declared.fault.TextFault.TheVariants as faults
 use Rattle.mf_text.specs.Grammar.{Line, Point, Name}
-use Rattle.mf_text.specs.Lines.{is_text_byte, IsText, line_ahead, Gives, IsRefused}
-use Rattle.mf_text.specs.Meaning.{Value, Points, AWeight, ACull, AScale, Angle, Meaning, Is, If, Turns, HasRefusal, IsLawful, IsUnlawful, Means, Refuses, meaning, CycleFault, IsContourWeight, IsLawfulCull, CullRule, Keeping, Dropping, Quarter, Command, TextFault}
+use Rattle.mf_text.specs.Lines.{is_text_byte, IsText, line_ahead, longest_line, Gives, IsRefused}
+use Rattle.mf_text.specs.Meaning.{Value, Points, AWeight, ACull, AScale, Angle, Meaning, Is, If, Turns, HasRefusal, IsLawfulValue, IsUnlawful, Means, Refuses, meaning, CycleFault, IsContourWeight, IsLawfulCull, CullRule, Keeping, Dropping, Quarter, Command, TextFault}
 use Rattle.mf_text.specs.Rests.{from, line}
 use Rattle.mf_text.specs.Syntax.{IsLine}
 use Rattle.mf_text.specs.Tokens.{kinds, tokens}
@@ -67,7 +67,7 @@ no_turn angle once twice thrice Once is = once is
 no_turn angle once twice thrice Twice is = twice is
 no_turn angle once twice thrice Thrice is = thrice is
 
-turn_or_not : (angle : ℤ) → IsLawful (Angle angle) ⊎ (IsLawful (Angle angle) → ⊥)
+turn_or_not : (angle : ℤ) → IsLawfulValue (Angle angle) ⊎ (IsLawfulValue (Angle angle) → ⊥)
 turn_or_not angle =
     elim (ℤ_discrete (degrees Once) angle) [
       | yes is ↦ inl (Once, is)
@@ -81,7 +81,7 @@ turn_or_not angle =
     ]
 
 abbrev IsChecked : Value → Type 0
-IsChecked value = IsLawful value ⊎ ((fault : TextFault) × IsUnlawful value fault)
+IsChecked value = IsLawfulValue value ⊎ ((fault : TextFault) × IsUnlawful value fault)
 
 cycle_or_not : (points : List Point) (found : Option CycleFault) → form_fault points ≡ found → IsChecked (Points points)
 cycle_or_not points None is = inl (is_cycle points is)
@@ -93,7 +93,7 @@ cycle_or_not points (Some cause) is = inr (
   },
 )
 
-or_refused : (value : Value) (fault : TextFault) → HasRefusal value fault → IsLawful value ⊎ (IsLawful value → ⊥) → IsChecked value
+or_refused : (value : Value) (fault : TextFault) → HasRefusal value fault → IsLawfulValue value ⊎ (IsLawfulValue value → ⊥) → IsChecked value
 or_refused value fault is (inl lawful) = inl lawful
 or_refused value fault is (inr never) = inr (fault, record { unlawful = never; is = is })
 
@@ -107,19 +107,19 @@ lawful_or_not (Angle angle) = or_refused (Angle angle) faults.BadTurn refl (turn
 -- ---- forms have a command or a refusal
 
 -- a command, or a refusal
-abbrev Answered : Meaning → Type 0
-Answered m = ((given : Command) × Means m given) ⊎ ((fault : TextFault) × Refuses m fault)
+abbrev MeansSomething : Meaning → Type 0
+MeansSomething m = ((given : Command) × Means m given) ⊎ ((fault : TextFault) × Refuses m fault)
 
-checked : (value : Value) (rest : Meaning) → IsChecked value → Answered rest → Answered (If value rest)
+checked : (value : Value) (rest : Meaning) → IsChecked value → MeansSomething rest → MeansSomething (If value rest)
 checked value rest (inl lawful) (inl (given, is)) = inl (given, (lawful, is))
 checked value rest (inl lawful) (inr (fault, is)) = inr (fault, inr (lawful, is))
 checked value rest (inr (fault, is)) later = inr (fault, inl is)
 
-turned : (name : Name) (angle : ℤ) → IsChecked (Angle angle) → Answered (Turns name angle)
+turned : (name : Name) (angle : ℤ) → IsChecked (Angle angle) → MeansSomething (Turns name angle)
 turned name angle (inl (quarter, is)) = inl (command.Quarter name quarter, record { quarter = quarter; angle_is = is; is = refl })
 turned name angle (inr refused) = inr refused
 
-answered : (m : Meaning) → Answered m
+answered : (m : Meaning) → MeansSomething m
 answered (Is made) = inl (made, refl)
 answered (If value rest) = checked value rest (lawful_or_not value) (answered rest)
 answered (Turns name angle) = turned name angle (lawful_or_not (Angle angle))
@@ -130,7 +130,7 @@ abbrev HasAnswer : List ℕ → Type 0
 HasAnswer bytes =
     ((given : Command) × Gives bytes given) ⊎ ((fault : TextFault) × (fault ≢ faults.OutOfMemory) × IsRefused bytes fault)
 
-line_answered : (bytes : List ℕ) → IsText bytes → (line : IsLine (kinds (tokens bytes))) → Answered (meaning line.tree.form) → HasAnswer bytes
+line_answered : (bytes : List ℕ) → IsText bytes → (line : IsLine (kinds (tokens bytes))) → MeansSomething (meaning line.tree.form) → HasAnswer bytes
 line_answered bytes text line (inl (given, is)) =
     inl (given, record { line = line.tree; line_is = record { text = text; spelled = line.spelled }; so = is })
 line_answered bytes text line (inr (fault, is)) =
@@ -139,14 +139,14 @@ line_answered bytes text line (inr (fault, is)) =
 
 text_answered : (bytes : List ℕ) → IsText bytes → (o : Result Line ℕ) → from line (line_ahead bytes) ≡ o → HasAnswer bytes
 text_answered bytes text (Ok l) is = line_answered bytes text (record { tree = l; spelled = is_line (line_ahead bytes) l is }) (answered (meaning l.form))
-text_answered bytes text (Err column) is = inr (faults.Syntax column, (λ e. cc), record { text = text; wrong = goes_wrong bytes column is })
+text_answered bytes text (Err column) is = inr (faults.Syntax column, (λ e. cc), (text, goes_wrong bytes column is))
 
 pub some_answer : (bytes : List ℕ) → HasAnswer bytes
 some_answer bytes =
-    elim (cases_lt 65536 (length bytes)) [
+    elim (cases_lt longest_line (length bytes)) [
       | inl long ↦ inr (faults.LineTooLong, (λ e. cc), long)
       | inr short ↦ elim (cases_Bool (list_all is_text_byte bytes)) [
         | inl text ↦ (let is : IsText bytes = record { short = short; text = text } in text_answered bytes is (from line (line_ahead bytes)) refl)
-        | inr other ↦ inr (faults.NotAscii, (λ e. cc), record { short = short; other = other })
+        | inr other ↦ inr (faults.NotAscii, (λ e. cc), (short, other))
       ]
     ]

@@ -193,12 +193,12 @@ begins t text rest (OtherByte other is) =
 -- ---- what a token says of the bytes that it is at the front of
 
 -- a word is written with at least one letter, and no earlier word of the table is written in the same way
-record IsWritten (w : Word) : Type 0 where
+record IsWrittenWord (w : Word) : Type 0 where
   letters : list_all is_ascii_alphabetic (word_text w) ≡ true
   some : 0 < length (word_text w)
   word : word_token (word_text w) ≡ token.Word w
 
-written : (w : Word) → IsWritten w
+written : (w : Word) → IsWrittenWord w
 unfolding word_token word_among
 written word.Addto = record { letters = refl; some = omega arith; word = refl }
 written w = record { letters = refl; some = omega arith; word = refl }

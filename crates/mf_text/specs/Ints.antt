@@ -13,8 +13,8 @@ abbrev pub pair_value : Pair → Point
 pair_value p = record { x = int_value p.across; y = int_value p.up }
 
 -- the int is in 0..255
-abbrev pub is_byte : Int → Bool
-is_byte n = int_le (pos 0) (int_value n) && int_le (int_value n) (pos 255)
+abbrev pub is_code : Int → Bool
+is_code n = int_le (pos 0) (int_value n) && int_le (int_value n) (pos 255)
 
 -- what can be made where this is true
 abbrev pub where_true : {A : Type 0} → (b : Bool) → (b ≡ true → A) → Option A

@@ -8,13 +8,17 @@ use Rattle.mf_text.specs.Syntax.{IsSyntaxFault}
 use Rattle.mf_text.specs.Token.{Ahead}
 use Rattle.mf_text.specs.Tokens.{tokens, kinds}
 
+-- the greatest number of bytes of a line
+abbrev pub longest_line : ℕ
+longest_line = 65536
+
 -- the byte is text: a tab or printed ASCII
 abbrev pub is_text_byte : ℕ → Bool
 is_text_byte b = b == 9 || (nat_le 32 b && nat_le b 126)
 
--- the line has at most 65536 bytes, and each of them is text
+-- the line is not too long, and each of its bytes is text
 pub record IsText (line : List ℕ) : Type 0 where
-  pub short : length line ≤ 65536
+  pub short : length line ≤ longest_line
   pub text : list_all is_text_byte line ≡ true
 
 -- what is ahead at the start of a line: all of its tokens
@@ -36,21 +40,11 @@ pub record IsLineWith (bytes : List ℕ) (IsSo : Form → Type 0) : Type 0 where
 abbrev pub Gives : List ℕ → Command → Type 0
 Gives bytes given = IsLineWith bytes (λ form. Means (meaning form) given)
 
--- the line is short enough, and one of its bytes is not text
-pub record HasOtherBytes (bytes : List ℕ) : Type 0 where
-  pub short : length bytes ≤ 65536
-  pub other : list_all is_text_byte bytes ≡ false
-
--- the bytes are text and not a line of the grammar, which is reported at this column
-pub record HasSyntaxFault (bytes : List ℕ) (column : ℕ) : Type 0 where
-  pub text : IsText bytes
-  pub wrong : IsSyntaxFault (line_ahead bytes) column
-
 -- why a line is refused: it is too long, or else a byte is not text, or else it is not in the grammar, or else its values are
 -- refused; or an allocation failed, which is answered only for a contour of no more points than a cycle may have
 abbrev pub IsRefused : List ℕ → TextFault → Type 0
-IsRefused bytes LineTooLong = 65536 < length bytes
-IsRefused bytes NotAscii = HasOtherBytes bytes
-IsRefused bytes (Syntax column) = HasSyntaxFault bytes column
+IsRefused bytes LineTooLong = longest_line < length bytes
+IsRefused bytes NotAscii = (length bytes ≤ longest_line) × (list_all is_text_byte bytes ≡ false)
+IsRefused bytes (Syntax column) = IsText bytes × IsSyntaxFault (line_ahead bytes) column
 IsRefused bytes OutOfMemory = IsLineWith bytes TakesMemory
 IsRefused bytes refused = IsLineWith bytes (λ form. Refuses (meaning form) refused)

@@ -2,6 +2,7 @@
 use Rattle.std.specs.Prelude.{◌≡◌, ◌⊎◌, ◌≤◌, ℤ, pos, int_lt, List, length, Some, Result, Ok, Err, if◌then◌else◌}
 pub use Rattle.mf_geom.specs.Faults.{form_fault}
 pub use Rattle.mf_geom.specs.Lawful.{IsRectilinearCycle}
+use Rattle.mf_geom.specs.Lawful.{most_points}
 pub use Rattle.mf_geom.specs.declared.check.Check.{Check}
 use Rattle.mf_geom.specs.declared.check.Check.TheVariants.{Off, On}
 pub use Rattle.mf_ops.specs.ContourWeight.{IsContourWeight}
@@ -76,12 +77,12 @@ pub record IsTurn (name : Name) (angle : ℤ) (given : Command) : Type 0 where
   pub is : given ≡ command.Quarter name quarter
 
 -- the value is lawful; an angle is that of a quarter turn or of several
-abbrev pub IsLawful : Value → Type 0
-IsLawful (Points points) = IsRectilinearCycle points
-IsLawful (AWeight weight) = IsContourWeight weight
-IsLawful (ACull rule) = IsLawfulCull rule
-IsLawful (AScale factors) = AreFactors factors
-IsLawful (Angle angle) = (quarter : Quarter) × (degrees quarter ≡ angle)
+abbrev pub IsLawfulValue : Value → Type 0
+IsLawfulValue (Points points) = IsRectilinearCycle points
+IsLawfulValue (AWeight weight) = IsContourWeight weight
+IsLawfulValue (ACull rule) = IsLawfulCull rule
+IsLawfulValue (AScale factors) = AreFactors factors
+IsLawfulValue (Angle angle) = (quarter : Quarter) × (degrees quarter ≡ angle)
 
 -- this refusal is the fault of the points, so it is not one of the turning check
 pub record HasCycleFault (points : List Point) (refused : TextFault) : Type 0 where
@@ -99,24 +100,24 @@ HasRefusal (Angle angle) refused = refused ≡ faults.BadTurn
 
 -- the value is not lawful, and this is its refusal
 pub record IsUnlawful (value : Value) (refused : TextFault) : Type 0 where
-  pub unlawful : IsLawful value → ⊥
+  pub unlawful : IsLawfulValue value → ⊥
   pub is : HasRefusal value refused
 
 -- the command that a meaning gives, where all of its checks pass
 abbrev pub Means : Meaning → Command → Type 0
 Means (Is made) given = given ≡ made
-Means (If value rest) given = IsLawful value × Means rest given
+Means (If value rest) given = IsLawfulValue value × Means rest given
 Means (Turns name angle) given = IsTurn name angle given
 
 -- the refusal of the first value that is not lawful
 abbrev pub Refuses : Meaning → TextFault → Type 0
 Refuses (Is made) refused = ⊥
-Refuses (If value rest) refused = IsUnlawful value refused ⊎ (IsLawful value × Refuses rest refused)
+Refuses (If value rest) refused = IsUnlawful value refused ⊎ (IsLawfulValue value × Refuses rest refused)
 Refuses (Turns name angle) refused = IsUnlawful (Angle angle) refused
 
 -- the form may be answered with `OutOfMemory`: it is that of a contour of no more points than a cycle may have
 abbrev pub TakesMemory : Form → Type 0
-TakesMemory (AddContour name path weight) = length (path_value path) ≤ 4096
+TakesMemory (AddContour name path weight) = length (path_value path) ≤ most_points
 TakesMemory form = ⊥
 
 -- the answer to a form: its command, the refusal of its values, or `OutOfMemory` where that may come

@@ -1,6 +1,7 @@
 -- What the reader of a line does: it passes a phrase, or finds the column at which the line goes wrong.
 use Rattle.std.specs.Prelude.{◌≡◌, ◌≤◌, ◌<◌, ℕ, length, Bool, false, List, [], ◌∷◌, Option, None, Some, Result, Ok, Err, if◌then◌else◌}
 use Rattle.std.specs.Option.{option_map}
+use Rattle.mf_geom.specs.Lawful.{most_points}
 use Rattle.mf_text.specs.declared.fault.TextFault.TheVariants.{Syntax}
 use Rattle.mf_text.specs.declared.fault.SyntaxFault.{SyntaxFault}
 use Rattle.mf_text.specs.declared.tokens.Tokens.{Tokens}
@@ -19,8 +20,8 @@ abbrev pub ahead : Tokens → Ahead
 ahead t = record { tokens = remaining_tokens t; past = t.column }
 
 -- no more tokens remain after than before
-abbrev pub IsWithin : Tokens → Tokens → Type 0
-IsWithin after before = length (remaining_tokens after) ≤ length (remaining_tokens before)
+abbrev pub LeavesNoMore : Tokens → Tokens → Type 0
+LeavesNoMore after before = length (remaining_tokens after) ≤ length (remaining_tokens before)
 
 -- the value of the next token, if it has one, and what is ahead after it
 abbrev pub next_value : {A : Type 0} → (Token → Option A) → List Placed → Option (A × Ahead)
@@ -52,15 +53,15 @@ then_value this other after (Some a) = from (this a) after
 then_value this other after None = from other after
 
 -- a phrase was passed, or the line goes wrong in it, whatever may follow the phrase
-abbrev pub Passes : {A : Type 0} → ((A → Rest) → Rest) → Tokens → Tokens → Result A SyntaxFault → Type 0
-Passes {A} phrase before after result = (next : A → Rest) → from (phrase next) (ahead before) ≡ then_from next (ahead after) result
+abbrev pub PassesPhrase : {A : Type 0} → ((A → Rest) → Rest) → Tokens → Tokens → Result A SyntaxFault → Type 0
+PassesPhrase {A} phrase before after result = (next : A → Rest) → from (phrase next) (ahead before) ≡ then_from next (ahead after) result
 
 -- a path has these points: they are counted, up to one more than a cycle may have; where they are no more than a cycle may
 -- have and no allocation failed, they are kept
 pub record HasPoints (path : paths.Path) (points : List Point) : Type 0 where
-  pub few : path.corners ≤ 4096 → path.corners ≡ length points
-  pub many : 4096 < path.corners → 4096 < length points
-  pub kept : path.corners ≤ 4096 → path.is_wanting ≡ false → path.points.items ≡ points
+  pub few : path.corners ≤ most_points → path.corners ≡ length points
+  pub many : most_points < path.corners → most_points < length points
+  pub kept : path.corners ≤ most_points → path.is_wanting ≡ false → path.points.items ≡ points
 
 -- a path was passed, whatever may follow it, and its points are kept
 pub record HasPassedPath (before after : Tokens) (kept : paths.Path) : Type 0 where
@@ -74,16 +75,16 @@ PassesPath before after (Ok kept) = HasPassedPath before after kept
 PassesPath before after (Err fault) = (next : Path → Rest) → from (path next) (ahead before) ≡ Err fault.column
 
 -- the line ends here as this form, with `;` or without it
-pub record HasEnded (form : Form) (read : Result Line ℕ) : Type 0 where
+pub record IsReadAs (form : Form) (read : Result Line ℕ) : Type 0 where
   pub ended : Bool
   pub read_is : read ≡ Ok (record { form = form; ended = ended })
 
 -- the line ends here, or goes wrong at this column, whatever its form is
 abbrev pub Closes : Tokens → Result (Unit {0}) SyntaxFault → Type 0
-Closes before (Ok done) = (form : Form) → HasEnded form (from (line_end form) (ahead before))
+Closes before (Ok done) = (form : Form) → IsReadAs form (from (line_end form) (ahead before))
 Closes before (Err fault) = (form : Form) → from (line_end form) (ahead before) ≡ Err fault.column
 
 -- the answer to what a line gives: that of its form, or `Syntax` with the column at which it goes wrong
-abbrev pub Answers : Result Line ℕ → Result Command TextFault → Type 0
-Answers (Ok line) result = IsAnswerOf line.form result
-Answers (Err column) result = result ≡ Err (Syntax column)
+abbrev pub AnswersLine : Result Line ℕ → Result Command TextFault → Type 0
+AnswersLine (Ok line) result = IsAnswerOf line.form result
+AnswersLine (Err column) result = result ≡ Err (Syntax column)

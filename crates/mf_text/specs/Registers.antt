@@ -1,20 +1,24 @@
 -- The registers that commands name.
-use Rattle.std.specs.Prelude.{◌<◌}
+use Rattle.std.specs.Prelude.{◌<◌, ℕ}
 use Rattle.mf_text.specs.declared.command.Command.{Command}
 use Rattle.mf_text.specs.declared.command.Command.TheVariants.{Contour, Also, Cull, Clear, Shift, Scale, Quarter, Total, Show, Proof, Ship}
 use Rattle.mf_text.specs.Grammar.{Name, Current, Register, Source, Null, Named}
 
--- the name is `currentpicture` or one of the 26 registers
+-- how many registers there are: one for each letter
+abbrev pub register_count : ℕ
+register_count = 26
+
+-- the name is `currentpicture` or one of the registers
 abbrev pub IsName : Name → Type 0
 IsName Current = Unit {0}
-IsName (Register letter) = letter < 26
+IsName (Register letter) = letter < register_count
 
 -- the source is `nullpicture` or has such a name
 abbrev pub IsSource : Source → Type 0
 IsSource Null = Unit {0}
 IsSource (Named name) = IsName name
 
--- each register that a command names is one of the 26
+-- each register that a command names is there
 abbrev pub HasNames : Command → Type 0
 HasNames (Contour name cycle weight) = IsName name
 HasNames (Also name source sign) = IsName name × IsSource source

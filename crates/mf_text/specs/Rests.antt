@@ -5,7 +5,7 @@ use Rattle.mf_text.specs.declared.token.Mark.TheVariants as mark
 use Rattle.mf_text.specs.declared.token.Word.TheVariants as word
 use Rattle.mf_text.specs.declared.code.Code.{Code}
 use Rattle.mf_text.specs.Grammar.{Form, Nothing, AddContour, AddPicture, CullKeeping, CullDropping, Clear, Move, ShowTotal, ShowPicture, ShowProof, ShipOut, SetCheck, PublishAll, Shifted, Scaled, XScaled, YScaled, Rotated, Path, Line, Plus, Minus, Name, Current, Register, Source, Null, Named, Int, Pair}
-unfoldable pub use Rattle.mf_text.specs.Ints.{int_of, is_byte, where_true}
+unfoldable pub use Rattle.mf_text.specs.Ints.{int_of, is_code, where_true}
 pub use Rattle.mf_text.specs.Token.{Ahead, Token, Placed, name_in, this_in, value_in}
 use Rattle.mf_text.specs.Token as token
 
@@ -25,7 +25,7 @@ Of (Codes negative) = Code
 
 -- the code that an int is, if it is in 0..255
 unfoldable pub code_of : Int → Option Code
-code_of n = where_true (is_byte n) (λ is. record { int = n; is_byte = is })
+code_of n = where_true (is_code n) (λ is. record { int = n; is_code = is })
 
 -- what a token says, if it is of this kind
 abbrev pub value : (k : Kind) → Token → Option (Of k)

@@ -3,7 +3,7 @@ use Rattle.std.specs.Prelude.{◌≡◌, ◌<◌, ◌≤◌, ◌&&◌, ℕ, suc,
 use Rattle.mf_text.specs.declared.token.Mark.TheVariants as mark
 use Rattle.mf_text.specs.Token as token
 use Rattle.mf_text.specs.declared.token.Word.TheVariants as word
-use Rattle.mf_text.specs.Token.{Ahead, Token, column_at}
+use Rattle.mf_text.specs.Token.{Ahead, Token, token_column}
 use Rattle.mf_text.specs.Grammar.{Line, spell_line}
 use Rattle.mf_text.specs.Tokens.{kinds}
 
@@ -38,4 +38,4 @@ report_place ts k = if is_negative_code ts && eqb k 4 then 3 else k
 pub record IsSyntaxFault (ahead : Ahead) (column : ℕ) : Type 0 where
   pub place : ℕ
   pub at : IsWrongAt (kinds ahead.tokens) place
-  pub column_is : column ≡ column_at ahead (report_place (kinds ahead.tokens) place)
+  pub column_is : column ≡ token_column ahead (report_place (kinds ahead.tokens) place)

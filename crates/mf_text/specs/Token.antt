@@ -69,5 +69,5 @@ ahead_after (suc k) [] past = record { tokens = []; past = past }
 ahead_after (suc k) (p ∷ ps) past = ahead_after k ps p.after
 
 -- the column of token k, counted from 0, or one past the last token
-abbrev pub column_at : Ahead → ℕ → ℕ
-column_at ahead k = column_of (ahead_after k ahead.tokens ahead.past).tokens (ahead_after k ahead.tokens ahead.past).past
+abbrev pub token_column : Ahead → ℕ → ℕ
+token_column ahead k = column_of (ahead_after k ahead.tokens ahead.past).tokens (ahead_after k ahead.tokens ahead.past).past

@@ -30,7 +30,7 @@ pub data IsTokenText (t : Token) (text rest : List ℕ) : Type 0 where
   OtherByte : IsOtherByte text rest → t ≡ token.Unknown → IsTokenText t text rest
 
 -- the bytes from a column on are blanks, the text of a token with these columns, and a rest
-pub record IsCut (column : ℕ) (bytes : List ℕ) (p : Placed) : Type 0 where
+pub record HasFirstToken (column : ℕ) (bytes : List ℕ) (p : Placed) : Type 0 where
   pub blanks : List ℕ
   pub text : List ℕ
   pub rest : List ℕ
@@ -56,4 +56,4 @@ pub record EndsLine (bytes : List ℕ) : Type 0 where
 -- the bytes from a column on are cut into these tokens
 abbrev pub AreTokens : ℕ → List ℕ → List Placed → Type 0
 AreTokens column bytes [] = EndsLine bytes
-AreTokens column bytes (p ∷ ps) = (cut : IsCut column bytes p) × AreTokens p.after cut.rest ps
+AreTokens column bytes (p ∷ ps) = (cut : HasFirstToken column bytes p) × AreTokens p.after cut.rest ps

@@ -1,6 +1,6 @@
 //! Codes of characters, as a line writes them.
 ghost use Rattle.std.specs.Prelude.{◌≡◌, true};
-ghost use Rattle.mf_text.specs.Ints.{is_byte};
+ghost use Rattle.mf_text.specs.Ints.{is_code};
 
 use crate::int::Int;
 
@@ -9,7 +9,7 @@ use crate::int::Int;
 #[derive(Clone, Copy, Debug)]
 pub struct Code {
     pub(crate) int: Int,
-    ghost is_byte: { is_byte int ≡ true },
+    ghost is_code: { is_code int ≡ true },
 }
 
 impl Code {
@@ -21,7 +21,7 @@ impl Code {
     pub fn new(int: Int) -> Option<Code>
         ensures { result ≡ code_of int }
     {
-        if is_byte(int) {
+        if is_code(int) {
             return Some(Code { int });
         }
         None
@@ -36,8 +36,8 @@ impl Code {
 }
 
 /// Whether an int is in 0..=255.
-fn is_byte(int: Int) -> bool
-    ensures { result ≡ is_byte int }
+fn is_code(int: Int) -> bool
+    ensures { result ≡ is_code int }
 {
     let value = int.value();
     0 <= value && value <= 255

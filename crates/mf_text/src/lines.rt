@@ -3,7 +3,7 @@ ghost use Rattle.std.specs.Prelude.{IfOk, IfErr};
 ghost use Rattle.mf_text.specs.Rests as rests;
 ghost use Rattle.mf_text.specs.Lines.{Gives, IsRefused};
 ghost use Rattle.mf_text.specs.Grammar.{Nothing, AddContour, AddPicture, CullKeeping, CullDropping, Clear, Move, ShowTotal, ShowProof, PublishAll, Rotated, Scaled, Shifted, XScaled, YScaled};
-ghost use Rattle.mf_text.specs.Reads.{Answers, ahead};
+ghost use Rattle.mf_text.specs.Reads.{AnswersLine, ahead};
 ghost use Rattle.mf_text.specs.Rests.{from};
 
 use crate::command::{Command, Name};
@@ -43,7 +43,7 @@ pub fn read_command(alloc: Global, line: &[u8]) -> Result<Command, TextFault>
 /// The command of a line. Asks for the seven words that a command may start with, one after another, and then for a name.
 #[tactic(auto, using(crate::proofs::LineAnswers::nothing))]
 fn line_of(alloc: Global, tokens: Tokens<'_>) -> Result<Command, TextFault>
-    ensures { Answers (from rests.line (ahead tokens.entry)) result }
+    ensures { AnswersLine (from rests.line (ahead tokens.entry)) result }
 {
     let mut tokens = tokens;
     if tokens.is_ended() {
@@ -78,7 +78,7 @@ fn line_of(alloc: Global, tokens: Tokens<'_>) -> Result<Command, TextFault>
 
 /// The line without a command: `;`, or nothing.
 fn nothing(tokens: &mut Tokens<'_>) -> Result<Command, TextFault>
-    ensures { Answers (from (rests.line_end Nothing) (ahead tokens.old)) result }
+    ensures { AnswersLine (from (rests.line_end Nothing) (ahead tokens.old)) result }
 {
     tokens.end()?;
     Ok(Command::Nothing)
@@ -86,7 +86,7 @@ fn nothing(tokens: &mut Tokens<'_>) -> Result<Command, TextFault>
 
 /// The line after `addto`.
 fn addto(alloc: Global, tokens: &mut Tokens<'_>) -> Result<Command, TextFault>
-    ensures { Answers (from rests.addto (ahead tokens.old)) result }
+    ensures { AnswersLine (from rests.addto (ahead tokens.old)) result }
 {
     let name = tokens.name()?;
     if tokens.takes_word(Word::Contour) {
@@ -101,7 +101,7 @@ fn addto(alloc: Global, tokens: &mut Tokens<'_>) -> Result<Command, TextFault>
 
 /// The line after `addto`, a name and `contour`.
 fn add_contour(alloc: Global, tokens: &mut Tokens<'_>, name: Name) -> Result<Command, TextFault>
-    ensures { Answers (from (rests.path (λ p. rests.weighable (AddContour name p))) (ahead tokens.old)) result }
+    ensures { AnswersLine (from (rests.path (λ p. rests.weighable (AddContour name p))) (ahead tokens.old)) result }
 {
     let path = tokens.path(alloc)?;
     let weight = tokens.weight()?;
@@ -112,7 +112,7 @@ fn add_contour(alloc: Global, tokens: &mut Tokens<'_>, name: Name) -> Result<Com
 /// The line after `addto`, a name, `also`, and `-` where it comes.
 #[inline(always)]
 fn also(tokens: &mut Tokens<'_>, name: Name, sign: Sign) -> Result<Command, TextFault>
-    ensures { Answers (from (rests.of_source (AddPicture name sign)) (ahead tokens.old)) result }
+    ensures { AnswersLine (from (rests.of_source (AddPicture name sign)) (ahead tokens.old)) result }
 {
     let source = tokens.source()?;
     tokens.end()?;
@@ -121,7 +121,7 @@ fn also(tokens: &mut Tokens<'_>, name: Name, sign: Sign) -> Result<Command, Text
 
 /// The line after `cull`.
 fn cull(tokens: &mut Tokens<'_>) -> Result<Command, TextFault>
-    ensures { Answers (from rests.cull (ahead tokens.old)) result }
+    ensures { AnswersLine (from rests.cull (ahead tokens.old)) result }
 {
     let name = tokens.name()?;
     if tokens.takes_word(Word::Keeping) {
@@ -133,7 +133,7 @@ fn cull(tokens: &mut Tokens<'_>) -> Result<Command, TextFault>
 
 /// The line after `cull`, a name and `keeping`.
 fn keep(tokens: &mut Tokens<'_>, name: Name) -> Result<Command, TextFault>
-    ensures { Answers (from (rests.of_range (CullKeeping name)) (ahead tokens.old)) result }
+    ensures { AnswersLine (from (rests.of_range (CullKeeping name)) (ahead tokens.old)) result }
 {
     let range = tokens.pair()?;
     let weight = tokens.weight()?;
@@ -143,7 +143,7 @@ fn keep(tokens: &mut Tokens<'_>, name: Name) -> Result<Command, TextFault>
 
 /// The line after `cull`, a name and `dropping`.
 fn drop_range(tokens: &mut Tokens<'_>, name: Name) -> Result<Command, TextFault>
-    ensures { Answers (from (rests.of_range (CullDropping name)) (ahead tokens.old)) result }
+    ensures { AnswersLine (from (rests.of_range (CullDropping name)) (ahead tokens.old)) result }
 {
     let range = tokens.pair()?;
     let weight = tokens.weight()?;
@@ -153,7 +153,7 @@ fn drop_range(tokens: &mut Tokens<'_>, name: Name) -> Result<Command, TextFault>
 
 /// The line after `show`.
 fn show(tokens: &mut Tokens<'_>) -> Result<Command, TextFault>
-    ensures { Answers (from rests.show (ahead tokens.old)) result }
+    ensures { AnswersLine (from rests.show (ahead tokens.old)) result }
 {
     if tokens.takes_word(Word::TotalWeight) {
         return total(tokens);
@@ -165,7 +165,7 @@ fn show(tokens: &mut Tokens<'_>) -> Result<Command, TextFault>
 
 /// The line after `show totalweight`.
 fn total(tokens: &mut Tokens<'_>) -> Result<Command, TextFault>
-    ensures { Answers (from (rests.of_source ShowTotal) (ahead tokens.old)) result }
+    ensures { AnswersLine (from (rests.of_source ShowTotal) (ahead tokens.old)) result }
 {
     let source = tokens.source()?;
     tokens.end()?;
@@ -174,7 +174,7 @@ fn total(tokens: &mut Tokens<'_>) -> Result<Command, TextFault>
 
 /// The line after `proof`.
 fn proof(tokens: &mut Tokens<'_>) -> Result<Command, TextFault>
-    ensures { Answers (from (rests.of_source ShowProof) (ahead tokens.old)) result }
+    ensures { AnswersLine (from (rests.of_source ShowProof) (ahead tokens.old)) result }
 {
     let source = tokens.source()?;
     tokens.end()?;
@@ -183,7 +183,7 @@ fn proof(tokens: &mut Tokens<'_>) -> Result<Command, TextFault>
 
 /// The line after `shipout`.
 fn shipout(tokens: &mut Tokens<'_>) -> Result<Command, TextFault>
-    ensures { Answers (from rests.shipout (ahead tokens.old)) result }
+    ensures { AnswersLine (from rests.shipout (ahead tokens.old)) result }
 {
     let source = tokens.source()?;
     tokens.pass_word(Word::Code)?;
@@ -198,7 +198,7 @@ fn shipout(tokens: &mut Tokens<'_>) -> Result<Command, TextFault>
 
 /// The line after `turningcheck`.
 fn turning_check(tokens: &mut Tokens<'_>) -> Result<Command, TextFault>
-    ensures { Answers (from rests.turning_check (ahead tokens.old)) result }
+    ensures { AnswersLine (from rests.turning_check (ahead tokens.old)) result }
 {
     tokens.pass_mark(Mark::Becomes)?;
     let number = tokens.int()?;
@@ -208,7 +208,7 @@ fn turning_check(tokens: &mut Tokens<'_>) -> Result<Command, TextFault>
 
 /// The line after `publish`.
 fn publish(tokens: &mut Tokens<'_>) -> Result<Command, TextFault>
-    ensures { Answers (from (rests.line_end PublishAll) (ahead tokens.old)) result }
+    ensures { AnswersLine (from (rests.line_end PublishAll) (ahead tokens.old)) result }
 {
     tokens.end()?;
     Ok(Command::Publish)
@@ -216,7 +216,7 @@ fn publish(tokens: &mut Tokens<'_>) -> Result<Command, TextFault>
 
 /// The line after the name that it starts with.
 fn assignment(tokens: &mut Tokens<'_>, name: Name) -> Result<Command, TextFault>
-    ensures { Answers (from (rests.assignment name) (ahead tokens.old)) result }
+    ensures { AnswersLine (from (rests.assignment name) (ahead tokens.old)) result }
 {
     tokens.pass_mark(Mark::Becomes)?;
     if tokens.takes_word(Word::NullPicture) {
@@ -228,7 +228,7 @@ fn assignment(tokens: &mut Tokens<'_>, name: Name) -> Result<Command, TextFault>
 
 /// The line after a name and `:= nullpicture`.
 fn clear(tokens: &mut Tokens<'_>, name: Name) -> Result<Command, TextFault>
-    ensures { Answers (from (rests.line_end (Clear name)) (ahead tokens.old)) result }
+    ensures { AnswersLine (from (rests.line_end (Clear name)) (ahead tokens.old)) result }
 {
     tokens.end()?;
     Ok(Command::Clear(name))
@@ -236,7 +236,7 @@ fn clear(tokens: &mut Tokens<'_>, name: Name) -> Result<Command, TextFault>
 
 /// The line after a name, `:=` and the same name.
 fn transform(tokens: &mut Tokens<'_>, name: Name) -> Result<Command, TextFault>
-    ensures { Answers (from (rests.transform name) (ahead tokens.old)) result }
+    ensures { AnswersLine (from (rests.transform name) (ahead tokens.old)) result }
 {
     if tokens.takes_word(Word::Shifted) {
         return shift(tokens, name);
@@ -247,7 +247,7 @@ fn transform(tokens: &mut Tokens<'_>, name: Name) -> Result<Command, TextFault>
 /// The line after a name, `:=` and the same name, where `shifted` does not come: `scaled`, `xscaled`, `yscaled` or `rotated`
 /// must.
 fn scale_or_turn(tokens: &mut Tokens<'_>, name: Name) -> Result<Command, TextFault>
-    ensures { Answers (from (rests.scale_or_turn name) (ahead tokens.old)) result }
+    ensures { AnswersLine (from (rests.scale_or_turn name) (ahead tokens.old)) result }
 {
     if tokens.takes_word(Word::Scaled) {
         return scale_both(tokens, name);
@@ -264,7 +264,7 @@ fn scale_or_turn(tokens: &mut Tokens<'_>, name: Name) -> Result<Command, TextFau
 
 /// The line after a name, `:=`, the same name and `scaled`.
 fn scale_both(tokens: &mut Tokens<'_>, name: Name) -> Result<Command, TextFault>
-    ensures { Answers (from (rests.of_int (λ n. Move name (Scaled n))) (ahead tokens.old)) result }
+    ensures { AnswersLine (from (rests.of_int (λ n. Move name (Scaled n))) (ahead tokens.old)) result }
 {
     let factor = tokens.int()?;
     tokens.end()?;
@@ -273,7 +273,7 @@ fn scale_both(tokens: &mut Tokens<'_>, name: Name) -> Result<Command, TextFault>
 
 /// The line after a name, `:=`, the same name and `xscaled`.
 fn scale_columns(tokens: &mut Tokens<'_>, name: Name) -> Result<Command, TextFault>
-    ensures { Answers (from (rests.of_int (λ n. Move name (XScaled n))) (ahead tokens.old)) result }
+    ensures { AnswersLine (from (rests.of_int (λ n. Move name (XScaled n))) (ahead tokens.old)) result }
 {
     let factor = tokens.int()?;
     tokens.end()?;
@@ -282,7 +282,7 @@ fn scale_columns(tokens: &mut Tokens<'_>, name: Name) -> Result<Command, TextFau
 
 /// The line after a name, `:=`, the same name and `yscaled`.
 fn scale_rows(tokens: &mut Tokens<'_>, name: Name) -> Result<Command, TextFault>
-    ensures { Answers (from (rests.of_int (λ n. Move name (YScaled n))) (ahead tokens.old)) result }
+    ensures { AnswersLine (from (rests.of_int (λ n. Move name (YScaled n))) (ahead tokens.old)) result }
 {
     let factor = tokens.int()?;
     tokens.end()?;
@@ -291,7 +291,7 @@ fn scale_rows(tokens: &mut Tokens<'_>, name: Name) -> Result<Command, TextFault>
 
 /// The line after a name, `:=`, the same name and `rotated`.
 fn turn(tokens: &mut Tokens<'_>, name: Name) -> Result<Command, TextFault>
-    ensures { Answers (from (rests.of_int (λ n. Move name (Rotated n))) (ahead tokens.old)) result }
+    ensures { AnswersLine (from (rests.of_int (λ n. Move name (Rotated n))) (ahead tokens.old)) result }
 {
     let angle = tokens.int()?;
     tokens.end()?;
@@ -300,7 +300,7 @@ fn turn(tokens: &mut Tokens<'_>, name: Name) -> Result<Command, TextFault>
 
 /// The line after a name, `:=`, the same name and `shifted`.
 fn shift(tokens: &mut Tokens<'_>, name: Name) -> Result<Command, TextFault>
-    ensures { Answers (from (rests.pair (λ by. rests.line_end (Move name (Shifted by)))) (ahead tokens.old)) result }
+    ensures { AnswersLine (from (rests.pair (λ by. rests.line_end (Move name (Shifted by)))) (ahead tokens.old)) result }
 {
     let by = tokens.pair()?.value();
     tokens.end()?;

@@ -1,6 +1,7 @@
 //! Paths of contours.
 ghost use Rattle.std.specs.Prelude.{◌≡◌, ◌≤◌, ◌++◌, ◌∷◌, [], IfOk, IsErr, IsTrue, List};
 ghost use Rattle.mf_geom.specs.declared.point.Point as points;
+ghost use Rattle.mf_geom.specs.Lawful.{most_points};
 ghost use Rattle.mf_text.specs.Reads.{HasPoints};
 
 use mf_base::OutOfMemory;
@@ -46,7 +47,7 @@ impl Path {
     /// The points: all of them, unless there are more than a cycle may have. Refused with `OutOfMemory` where an allocation
     /// failed for one of them.
     pub fn points(self) -> Result<Vec<Point>, OutOfMemory>
-        ensures points { (all : List points.Point) → HasPoints self all → self.corners ≤ 4096 → IfOk result (λ points. points.items ≡ all) }
+        ensures points { (all : List points.Point) → HasPoints self all → self.corners ≤ most_points → IfOk result (λ points. points.items ≡ all) }
         ensures refused { IsErr result → IsTrue self.is_wanting }
     {
         if self.is_wanting {

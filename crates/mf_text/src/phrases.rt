@@ -2,7 +2,7 @@
 //! wrong.
 ghost use Rattle.std.specs.Prelude.{◌≡◌, Ok, IfOk};
 ghost use Rattle.mf_text.specs.Grammar.{Line};
-ghost use Rattle.mf_text.specs.Reads.{Closes, IsWithin, Passes, PassesPath, TakesValue, ahead, then_end, then_from, then_value};
+ghost use Rattle.mf_text.specs.Reads.{Closes, LeavesNoMore, PassesPhrase, PassesPath, TakesValue, ahead, then_end, then_from, then_value};
 ghost use Rattle.mf_text.specs.Rests as rests;
 ghost use Rattle.mf_text.specs.Rests.{CodeNumber, Codes, Ends, Names, Numbers, OrTake, Rest, Take, from, value};
 ghost use Rattle.mf_text.specs.Token as token;
@@ -35,7 +35,7 @@ impl Tokens<'_> {
     #[tactic(auto, using(crate::proofs::Reading::one_passed, crate::proofs::Reading::one_missed))]
     pub fn pass_mark(&mut self, mark: Mark) -> Result<(), SyntaxFault>
         ensures read { (this : Rest) → from (rests.One (token.Mark mark) this) (ahead self.old) ≡ then_from (λ _. this) (ahead self.new) result }
-        ensures within { IfOk result (λ _. IsWithin self.new self.old) }
+        ensures within { IfOk result (λ _. LeavesNoMore self.new self.old) }
     {
         if self.takes_mark(mark) {
             return Ok(());
@@ -63,7 +63,7 @@ impl Tokens<'_> {
     #[tactic(auto, using(crate::proofs::Reading::passed, crate::proofs::Reading::missed))]
     #[inline(always)]
     pub fn name(&mut self) -> Result<Name, SyntaxFault>
-        ensures { Passes (Take Names) self.old self.new result }
+        ensures { PassesPhrase (Take Names) self.old self.new result }
     {
         match self.takes_name() {
             Some(name) => Ok(name),
@@ -87,7 +87,7 @@ impl Tokens<'_> {
     /// Passes a source: `nullpicture`, or a name.
     #[inline(always)]
     pub fn source(&mut self) -> Result<Source, SyntaxFault>
-        ensures { Passes rests.source self.old self.new result }
+        ensures { PassesPhrase rests.source self.old self.new result }
     {
         if self.takes_word(Word::NullPicture) {
             return Ok(Source::Null);
@@ -110,8 +110,8 @@ impl Tokens<'_> {
     #[inline(always)]
     #[tactic(auto, using(crate::proofs::Reading::passed, crate::proofs::Reading::missed))]
     fn number(&mut self, negative: bool) -> Result<Int, SyntaxFault>
-        ensures read { Passes (Take (Numbers negative)) self.old self.new result }
-        ensures within { IfOk result (λ _. IsWithin self.new self.old) }
+        ensures read { PassesPhrase (Take (Numbers negative)) self.old self.new result }
+        ensures within { IfOk result (λ _. LeavesNoMore self.new self.old) }
     {
         match self.takes_int(negative) {
             Some(int) => Ok(int),
@@ -123,8 +123,8 @@ impl Tokens<'_> {
     #[inline(always)]
     #[tactic(auto, using(crate::proofs::Reading::number_after))]
     pub fn int(&mut self) -> Result<Int, SyntaxFault>
-        ensures read { Passes rests.int self.old self.new result }
-        ensures within { IfOk result (λ _. IsWithin self.new self.old) }
+        ensures read { PassesPhrase rests.int self.old self.new result }
+        ensures within { IfOk result (λ _. LeavesNoMore self.new self.old) }
     {
         let negative = self.takes_mark(Mark::Minus);
         self.number(negative)
@@ -144,7 +144,7 @@ impl Tokens<'_> {
     /// Passes the int of a code. An int out of range is reported at its first token.
     #[tactic(auto, using(crate::proofs::Reading::passed, crate::proofs::Reading::missed))]
     pub fn code(&mut self) -> Result<Code, SyntaxFault>
-        ensures { Passes rests.ACode self.old self.new result }
+        ensures { PassesPhrase rests.ACode self.old self.new result }
     {
         if self.takes_mark(Mark::Minus) {
             return self.negative_code();
@@ -159,7 +159,7 @@ impl Tokens<'_> {
     /// passed. This is a rule of its own: a line may go on with `-` after `code`, since `-0` is a code.
     #[tactic(auto, using(crate::proofs::Reading::code_passed, crate::proofs::Reading::code_bad, crate::proofs::Reading::code_missing))]
     fn negative_code(&mut self) -> Result<Code, SyntaxFault>
-        ensures { Passes CodeNumber self.old self.new result }
+        ensures { PassesPhrase CodeNumber self.old self.new result }
     {
         if let Some(code) = self.takes_code(true) {
             return Ok(code);
@@ -175,7 +175,7 @@ impl Tokens<'_> {
 
     /// Passes a pair: two ints in parentheses, with `,` between them.
     pub fn pair(&mut self) -> Result<Pair, SyntaxFault>
-        ensures { Passes rests.pair self.old self.new result }
+        ensures { PassesPhrase rests.pair self.old self.new result }
     {
         self.pass_mark(Mark::Open)?;
         self.inner()
@@ -184,8 +184,8 @@ impl Tokens<'_> {
     /// Passes the rest of a pair after its `(`.
     #[inline(always)]
     fn inner(&mut self) -> Result<Pair, SyntaxFault>
-        ensures read { Passes rests.inner self.old self.new result }
-        ensures within { IfOk result (λ _. IsWithin self.new self.old) }
+        ensures read { PassesPhrase rests.inner self.old self.new result }
+        ensures within { IfOk result (λ _. LeavesNoMore self.new self.old) }
     {
         let across = self.int()?;
         self.pass_mark(Mark::Comma)?;
@@ -197,8 +197,8 @@ impl Tokens<'_> {
     /// Passes the rest of a corner after its `(`: the rest of a pair, and `--`.
     #[inline(always)]
     fn corner(&mut self) -> Result<Pair, SyntaxFault>
-        ensures read { Passes rests.corner self.old self.new result }
-        ensures within { IfOk result (λ _. IsWithin self.new self.old) }
+        ensures read { PassesPhrase rests.corner self.old self.new result }
+        ensures within { IfOk result (λ _. LeavesNoMore self.new self.old) }
     {
         let corner = self.inner()?;
         self.pass_mark(Mark::Join)?;
@@ -227,7 +227,7 @@ impl Tokens<'_> {
 
     /// Passes a weight, `withweight` and an int, if `withweight` comes next.
     pub fn weight(&mut self) -> Result<Option<Int>, SyntaxFault>
-        ensures { Passes rests.weight self.old self.new result }
+        ensures { PassesPhrase rests.weight self.old self.new result }
     {
         if self.takes_word(Word::WithWeight) {
             return Ok(Some(self.int()?));

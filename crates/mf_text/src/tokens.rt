@@ -27,7 +27,7 @@ pub struct Tokens<'a> {
 
 impl<'a> Tokens<'a> {
     ghost use Rattle.std.specs.Prelude.{ℕ, ◌≡◌, ◌≢◌, ◌+◌, ◌<◌, ◌≤◌, ◌^◌, drop, length, true, false, [], if◌then◌else◌};
-    ghost use Rattle.mf_text.specs.Reads.{IsWithin, TakesToken, TakesValue, ahead, remaining_tokens};
+    ghost use Rattle.mf_text.specs.Reads.{LeavesNoMore, TakesToken, TakesValue, ahead, remaining_tokens};
     ghost use Rattle.mf_text.specs.Rests.{Or, Rest, from};
     ghost use Rattle.mf_text.specs.Token.{column_of};
     ghost use Rattle.mf_text.specs.Tokens.{IsClear, tokens};
@@ -111,7 +111,7 @@ impl<'a> Tokens<'a> {
         ensures read { (this other : Rest)
             → from (Or (token.Mark mark) this other) (ahead self.old) ≡ (if result then from this (ahead self.new) else from other (ahead self.new)) }
         ensures took { TakesToken (token.Mark mark) self.old self.new result }
-        ensures within { IsWithin self.new self.old }
+        ensures within { LeavesNoMore self.new self.old }
         ensures fewer { result ≡ true → length (remaining_tokens self.new) < length (remaining_tokens self.old) }
     {
         let mut start = *self;

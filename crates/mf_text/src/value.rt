@@ -2,6 +2,7 @@
 ghost use Rattle.std.specs.Prelude.{◌≡◌, ◌≢◌, ◌≤◌, List, IfOk, IfErr, length};
 ghost use Rattle.mf_geom.specs.declared.point.Point.{Point};
 ghost use Rattle.mf_ops.specs.ContourWeight.{IsContourWeight};
+ghost use Rattle.mf_geom.specs.Lawful.{most_points};
 ghost use Rattle.mf_text.specs.Grammar as grammar;
 ghost use Rattle.mf_text.specs.Grammar.{weight_value};
 ghost use Rattle.mf_text.specs.Meaning.{AWeight, IsAnswerOf, IsUnlawful, Means, Refuses, check_of, contour_meaning, scale_meaning};
@@ -21,7 +22,7 @@ pub fn contour_command(name: Name, path: Path, weight: Option<Int>) -> Result<Co
     ensures given { IfOk result (λ command. (points : List Point) → HasPoints path points → Means (contour_meaning name points (weight_value weight)) command) }
     ensures refused { IfErr result (λ fault. fault ≢ TextFault.OutOfMemory → (points : List Point)
         → HasPoints path points → Refuses (contour_meaning name points (weight_value weight)) fault) }
-    ensures few { IfErr result (λ fault. fault ≡ TextFault.OutOfMemory → (points : List Point) → HasPoints path points → length points ≤ 4096) }
+    ensures few { IfErr result (λ fault. fault ≡ TextFault.OutOfMemory → (points : List Point) → HasPoints path points → length points ≤ most_points) }
 {
     if path.corners > MAX_POINTS {
         return Err(TextFault::Cycle(CycleFault::TooManyPoints));

@@ -1,6 +1,6 @@
 use Rattle.std.proofs.Common.{sym}
-use Rattle.mf_text.proofs.ReadInts.{byte_code}
+use Rattle.mf_text.proofs.ReadInts.{some_code}
 use Rattle.mf_text.proofs.code.Code.new.Goals as goal
 
-pub returns-then-is_byte : goal.returns-then-is_byte
-returns-then-is_byte c = sym (byte_code _ _)
+pub returns-then-is_code : goal.returns-then-is_code
+returns-then-is_code c = sym (some_code _ _)
