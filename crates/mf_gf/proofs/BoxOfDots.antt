@@ -13,8 +13,7 @@ use Rattle.mf_rows.specs.Dots.{Dot, IsDot, AreDotsFrom, place}
 use Rattle.mf_gf.specs.declared.boxes.CharacterBox.{CharacterBox}
 use Rattle.mf_gf.specs.Boxes.{box_of_pixels, box_of_pixel, join}
 use Rattle.mf_gf.specs.Numbers.{IsWord, word}
-use Rattle.mf_gf.specs.Painting as painting
-use Rattle.mf_gf.specs.Painting.{pixels_from, pixels_in, head_of}
+use Rattle.mf_gf.specs.Painting.{pixels_from, pixels_in, pixels_of_character, head_of}
 use Rattle.mf_gf.proofs.BoxesInReach.{IsBoxInReach}
 use Rattle.mf_gf.specs.Spelling.{is_byte, is_short, short_begin, long_begin, begin}
 
@@ -31,17 +30,17 @@ pub record StandsIn (b : CharacterBox) (d : Dot) : Type 0 where
   pub row : d.y ≤ℤ b.max_n
 
 -- a box encloses pixels, as far as its left end and its top are concerned
-pub record IsBoxRound (b : CharacterBox) (ds : List Dot) : Type 0 where
+pub record IsBoxOf (b : CharacterBox) (ds : List Dot) : Type 0 where
   pub small : IsSmall b
   pub dots : All (StandsIn b) ds
 
-box_round_pixel : (d : Dot) → IsDot d → IsBoxRound (box_of_pixel d) (d ∷ [])
+box_round_pixel : (d : Dot) → IsDot d → IsBoxOf (box_of_pixel d) (d ∷ [])
 box_round_pixel d dot = record {
   small = record { left = dot.in_field.left; right = dot.in_field.right; bottom = dot.in_field.bottom; top = dot.in_field.top };
   dots = All-cons (StandsIn (box_of_pixel d)) d [] (record { column = omega (arith, ints); row = omega (arith, ints) }) (All-nil (StandsIn (box_of_pixel d)));
 }
 
-box_round_more : (b : CharacterBox) (d : Dot) (ds : List Dot) → IsDot d → IsBoxRound b ds → IsBoxRound (join (box_of_pixel d) b) (d ∷ ds)
+box_round_more : (b : CharacterBox) (d : Dot) (ds : List Dot) → IsDot d → IsBoxOf b ds → IsBoxOf (join (box_of_pixel d) b) (d ∷ ds)
 box_round_more b d ds dot others =
     let all = join (box_of_pixel d) b in
     let field = dot.in_field in
@@ -58,7 +57,7 @@ box_round_more b d ds dot others =
           (λ e stands. record { column = omega (arith, ints, clamps, stands); row = omega (arith, ints, clamps, stands) }) ds others.dots);
     }
 
-pub box_round_dots : (low : ℤ) (ds : List Dot) → AreDotsFrom low ds → IsBoxRound (box_of_pixels ds) ds
+pub box_round_dots : (low : ℤ) (ds : List Dot) → AreDotsFrom low ds → IsBoxOf (box_of_pixels ds) ds
 unfolding box_of_pixels
 box_round_dots low [] dots = record {
   small = record { left = omega (arith, ints); right = omega (arith, ints); bottom = omega (arith, ints); top = omega (arith, ints) };
@@ -68,7 +67,7 @@ box_round_dots low (d ∷ []) dots = box_round_pixel d dots.0
 box_round_dots low (d ∷ e ∷ ds) dots = box_round_more (box_of_pixels (e ∷ ds)) d (e ∷ ds) dots.0 (box_round_dots (place d.x d.y +ℤ pos 1) (e ∷ ds) dots.2)
 
 -- so a pen that starts at the left end and the top of the box can paint the pixels
-pub dots_from_box : (low : ℤ) (b : CharacterBox) (ds : List Dot) → AreDotsFrom low ds → IsBoxRound b ds → AreDotsFrom (place b.min_m b.max_n) ds
+pub dots_from_box : (low : ℤ) (b : CharacterBox) (ds : List Dot) → AreDotsFrom low ds → IsBoxOf b ds → AreDotsFrom (place b.min_m b.max_n) ds
 unfolding place
 dots_from_box low b [] dots round = tt
 dots_from_box low b (d ∷ ds) dots round = let first = All-head (StandsIn b) d ds round.dots in (dots.0, omega (arith, ints, first), dots.2)
@@ -139,10 +138,12 @@ head-begin code p b rest fits p_fits reach =
     λ t. Some (record { code = code_is t; earlier = earlier_is t; box = record { min_m = left t; max_m = right t; min_n = bottom t; max_n = top t } }))
 
 -- so the commands after them start at the left end and the top of the box
-pub paint-begin : (code : ℕ) (p : ℤ) (b : CharacterBox) (rest : List ℕ) → IsBoxInReach b → painting.paint (begin code p b ++ rest) ≡ pixels_in b rest
-unfolding painting.paint
+pub paint-begin : (code : ℕ) (p : ℤ) (b : CharacterBox) (rest : List ℕ) → IsBoxInReach b
+    → pixels_of_character (begin code p b ++ rest) ≡ pixels_in b rest
+unfolding pixels_of_character
 paint-begin code p b rest reach =
-    cond_both (int_eq p (negsuc 0) && is_short b) (short_begin code b) (long_begin code p b) (λ bytes. painting.paint (bytes ++ rest) ≡ pixels_in b rest)
+    cond_both (int_eq p (negsuc 0) && is_short b) (short_begin code b) (long_begin code p b)
+    (λ bytes. pixels_of_character (bytes ++ rest) ≡ pixels_in b rest)
     (λ short. let back = short-reads_back b (and_parts (int_eq p (negsuc 0)) (is_short b) short).1 in ap₂ (λ l t. pixels_from l t rest) back.left back.top)
     (λ long.
     ap₂ (λ l t. pixels_from l t rest)

@@ -10,8 +10,8 @@ use Rattle.mf_rows.specs.Dots.{Dot, start_of_field}
 use Rattle.mf_rows.specs.Runs.{runs_of}
 use Rattle.mf_gf.specs.Boxes.{box_of_pixels}
 use Rattle.mf_gf.specs.Files.{Character, FileSoFar, Shipment, bytes_so_far, last_shipment, last_place, shipments, spell_after, with_character, with_characters}
-use Rattle.mf_gf.specs.Numbers.{IsWord}
-use Rattle.mf_gf.specs.Painting.{head_of, paint}
+use Rattle.mf_gf.specs.Numbers.{IsWord, greatest_word}
+use Rattle.mf_gf.specs.Painting.{head_of, pixels_of_character}
 use Rattle.mf_gf.specs.Pixels.{IsPixelSet}
 use Rattle.mf_gf.specs.Pointers.{IsCharacterAt, IsShippable, LeadsBack}
 use Rattle.mf_gf.specs.Spelling.{begin, pointer, rows, spell}
@@ -48,7 +48,7 @@ is_at file s p stands fits =
     record {
       head = ap head_of stands.there ∙ head-spell c.code p c.black stands.rest shippable.code fits shippable.black;
       count = length bytes;
-      painted = ap (λ it. paint (take (length bytes) it)) stands.there ∙ ap paint (take-append_seam bytes stands.rest)
+      painted = ap (λ it. pixels_of_character (take (length bytes) it)) stands.there ∙ ap pixels_of_character (take-append_seam bytes stands.rest)
           ∙ paint-spell c.code p c.black shippable.black;
     }
 
@@ -107,7 +107,7 @@ last_stands bytes code s (t ∷ shipped) stand is =
     (λ no found. last_stands bytes code s shipped stand.1 found) is
 
 -- p is a signed number of four bytes
-pointer_fits : (bytes : List ℕ) (code : ℕ) (shipped : List Shipment) → length bytes < 2147483648
+pointer_fits : (bytes : List ℕ) (code : ℕ) (shipped : List Shipment) → length bytes ≤ greatest_word
     → AllStand bytes shipped → IsWord (pointer (last_place code shipped))
 unfolding last_shipment
 pointer_fits bytes code [] short stand = record { least = omega (arith, ints); greatest = omega (arith, ints) }
@@ -125,7 +125,7 @@ abbrev pub of_code : ℕ → List Character → List Character
 of_code code characters = filter (λ (c : Character). c.code == code) characters
 
 -- p leads from the last character with a code to all of them
-pub leads_back : (before file : List ℕ) (code : ℕ) (shipped : List Shipment) → length before < 2147483648 → AllStand before shipped → AllStand file shipped
+pub leads_back : (before file : List ℕ) (code : ℕ) (shipped : List Shipment) → length before ≤ greatest_word → AllStand before shipped → AllStand file shipped
     → LeadsBack file (pointer (last_place code shipped)) (of_code code (map character_of shipped))
 unfolding last_shipment LeadsBack
 leads_back before file code [] short stand whole = refl

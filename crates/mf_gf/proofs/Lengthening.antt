@@ -46,18 +46,18 @@ stretch-joined y x w (suc m) n =
     rw count (ap (λ dots. record { y = y; x = x; weight = w } ∷ dots) (rw column at (stretch-joined y (x +ℤ pos 1) w m n)))
 
 -- a run starts in the column after the last of another one, in the same row
-pub record IsNext (r s : Run) : Type 0 where
+pub record IsAdjacent (r s : Run) : Type 0 where
   pub row : s.y ≡ r.y
   pub column : s.x ≡ r.x +ℤ pos r.len
 
 abbrev pub with_more : Run → Run → Run
 with_more r s = record { y = r.y; x = r.x; len = r.len + s.len; weight = r.weight }
 
-dots_of-joined : (r s : Run) → r.weight ≡ s.weight → IsNext r s → dots_of (with_more r s) ≡ dots_of r ++ dots_of s
+dots_of-joined : (r s : Run) → r.weight ≡ s.weight → IsAdjacent r s → dots_of (with_more r s) ≡ dots_of r ++ dots_of s
 unfolding dots_of
 dots_of-joined r s weight next = rw (weight, next.row, next.column) (stretch-joined r.y r.x s.weight r.len s.len)
 
-lengthened_run : (r s : Run) → IsRun r → IsRun s → IsNext r s → IsRun (with_more r s)
+lengthened_run : (r s : Run) → IsRun r → IsRun s → IsAdjacent r s → IsRun (with_more r s)
 lengthened_run r s run further next = record {
   some = omega (arith, run.some);
   left = run.left;
@@ -69,7 +69,7 @@ lengthened_run r s run further next = record {
 }
 
 -- such a run lengthens the stretch
-pub lengthened : (all : List Run) (r s : Run) (rs : List Run) → IsNext r s → IsBegun all r (s ∷ rs) → IsBegun all (with_more r s) rs
+pub lengthened : (all : List Run) (r s : Run) (rs : List Run) → IsAdjacent r s → IsBegun all r (s ∷ rs) → IsBegun all (with_more r s) rs
 lengthened all r s rs next so_far =
     let ordered = so_far.order in
     let behind = order_behind r (s ∷ rs) ordered in
@@ -90,20 +90,20 @@ lengthened all r s rs next so_far =
 
 -- ---- a stretch that nothing continues
 
-abbrev HasPixel : Run → Type 0
-HasPixel r = 1 ≤ r.len
+abbrev HasLength : Run → Type 0
+HasLength r = 1 ≤ r.len
 
-some_with_dot : (d : Dot) (rs : List Run) → All HasPixel rs → All HasPixel (with_dot d rs)
+some_with_dot : (d : Dot) (rs : List Run) → All HasLength rs → All HasLength (with_dot d rs)
 unfolding with_dot run_from
-some_with_dot d [] some = All-cons HasPixel (run_from d 0) [] (omega arith) some
+some_with_dot d [] some = All-cons HasLength (run_from d 0) [] (omega arith) some
 some_with_dot d (r ∷ rs) some =
-    cond_both (continues d r) (run_from d r.len ∷ rs) (run_from d 0 ∷ r ∷ rs) (All HasPixel)
-    (λ yes. All-cons HasPixel (run_from d r.len) rs (omega arith) (All-tail HasPixel r rs some))
-    (λ no. All-cons HasPixel (run_from d 0) (r ∷ rs) (omega arith) some)
+    cond_both (continues d r) (run_from d r.len ∷ rs) (run_from d 0 ∷ r ∷ rs) (All HasLength)
+    (λ yes. All-cons HasLength (run_from d r.len) rs (omega arith) (All-tail HasLength r rs some))
+    (λ no. All-cons HasLength (run_from d 0) (r ∷ rs) (omega arith) some)
 
-some_of_runs : (ds : List Dot) → All HasPixel (runs_of ds)
+some_of_runs : (ds : List Dot) → All HasLength (runs_of ds)
 unfolding runs_of
-some_of_runs [] = All-nil HasPixel
+some_of_runs [] = All-nil HasLength
 some_of_runs (d ∷ ds) = some_with_dot d (runs_of ds) (some_of_runs ds)
 
 -- a stretch is the first of the runs where the next run does not continue it
@@ -111,7 +111,7 @@ stretch_first : (all : List Run) (r : Run) (rs : List Run) → AreMaximal (r ∷
     → runs_of (flat_map dots_of all) ≡ r ∷ runs_of (flat_map dots_of rs)
 stretch_first all r rs maximal so_far =
     let dots = flat_map dots_of rs in
-    let some = All-cons HasPixel r (runs_of dots) (All-head IsRun r rs so_far.order.runs).some (some_of_runs dots) in
+    let some = All-cons HasLength r (runs_of dots) (All-head IsRun r rs so_far.order.runs).some (some_of_runs dots) in
     ap runs_of (sym so_far.same ∙ ap (λ others. dots_of r ++ others) (sym (dots_of-runs_of dots)))
     ∙ runs_of-dots_of (r ∷ runs_of dots) some maximal
 
@@ -131,7 +131,7 @@ maximal_apart r y x w (suc n) ds some apart =
     maximal_before r (record { y = y; x = x; weight = w }) (stretch y (x +ℤ pos 1) w n ++ ds)
     (λ followed. apart (record { row = followed.row; column = followed.column; weight = followed.weight }))
 
-ended_before : (all : List Run) (r s : Run) (rs : List Run) → (IsNext r s → ⊥) → IsBegun all r (s ∷ rs)
+ended_before : (all : List Run) (r s : Run) (rs : List Run) → (IsAdjacent r s → ⊥) → IsBegun all r (s ∷ rs)
     → runs_of (flat_map dots_of all) ≡ r ∷ runs_of (flat_map dots_of (s ∷ rs))
 unfolding dots_of
 ended_before all r s rs apart so_far =
@@ -157,12 +157,12 @@ next_is_run all r s o rs some so_far =
 pub first_is_run : (all : List Run) (r : Run) (rs : List Run) → IsBegun all r rs → IsRun r
 first_is_run all r rs so_far = All-head IsRun r rs so_far.order.runs
 
-pub one_more_joined : (all : List Run) (r s : Run) (o : Option Run) (rs : List Run) → o ≡ Some s → IsNext r s
+pub one_more_joined : (all : List Run) (r s : Run) (o : Option Run) (rs : List Run) → o ≡ Some s → IsAdjacent r s
     → IsBegun all r (with_next o rs) → IsBegun all (with_more r s) rs
 one_more_joined all r s o rs some next so_far = lengthened all r s rs next (subst (IsBegun all r) (next_first o s rs some) so_far)
 
 -- the stretch ends where the next run does not continue it
-pub ended_at_run : (all : List Run) (r s : Run) (o : Option Run) (rs : List Run) → o ≡ Some s → (IsNext r s → ⊥) → IsBegun all r (with_next o rs)
+pub ended_at_run : (all : List Run) (r s : Run) (o : Option Run) (rs : List Run) → o ≡ Some s → (IsAdjacent r s → ⊥) → IsBegun all r (with_next o rs)
     → runs_of (flat_map dots_of all) ≡ r ∷ runs_of (flat_map dots_of (with_next o rs))
 ended_at_run all r s o rs some apart so_far =
     let first = next_first o s rs some in

@@ -7,7 +7,7 @@ use Rattle.std.proofs.lemmas.List.Kept.{AllPairs-cons}
 use Rattle.byteorder.specs.Numbers.{big_number-reads_back}
 use Rattle.mf_gf.specs.declared.locator.Locator.{Locator}
 use Rattle.mf_gf.specs.Files.{Shipment, ending, last_shipment, locator_head, locator_if, locator_of, locator_text, locators_from, short_dx}
-use Rattle.mf_gf.specs.Numbers.{IsWord, word}
+use Rattle.mf_gf.specs.Numbers.{IsWord, greatest_word, word}
 use Rattle.mf_gf.specs.Pointers.{Item, locators_within, read_item}
 use Rattle.mf_gf.proofs.BoxOfDots.{word-reads_back}
 use Rattle.mf_gf.proofs.Escapements.{short_dx-is}
@@ -23,7 +23,7 @@ split P false at_true at_false = at_false refl
 pub record IsReadable (l : Locator) : Type 0 where
   pub dx : IsWord l.dx
   pub width : IsWord l.width
-  pub place : l.place < 2147483648
+  pub place : l.place ≤ greatest_word
 
 abbrev read_as : Locator → List ℕ → Option Item
 read_as l rest = Some (record { locator = Some l; rest = rest })

@@ -1,5 +1,5 @@
 -- The postamble of a file, found from its end, and the locators after it.
-use Rattle.std.proofs.Common.{◌≡◌, ◌+◌, ◌<◌, ◌==◌, ℕ, zero, suc, pos, List, [], ◌∷◌, ◌++◌, reverse, replicate, length, drop, slice_index, Option, None, Some, refl, ap, sym, ◌∙◌, append_assoc, length-append, eq-eqb, arith}
+use Rattle.std.proofs.Common.{◌≡◌, ◌+◌, ◌≤◌, ◌==◌, ℕ, zero, suc, pos, List, [], ◌∷◌, ◌++◌, reverse, replicate, length, drop, slice_index, Option, None, Some, refl, ap, sym, ◌∙◌, append_assoc, length-append, eq-eqb, arith}
 use Rattle.std.proofs.Math.Seq.{drop-append_seam, get_or-append_seam}
 use Rattle.std.proofs.lemmas.Bool.{cond-true}
 use Rattle.std.proofs.lemmas.List.{reverse-append}
@@ -9,7 +9,7 @@ use Rattle.byteorder.specs.Numbers.{big_number-reads_back}
 use Rattle.mf_gf.specs.declared.file.FontWords.{FontWords}
 use Rattle.mf_gf.specs.declared.locator.Locator.{Locator}
 use Rattle.mf_gf.specs.Files.{Character, Shipment, body, box_of_all, bytes_so_far, ending, file_of, last_shipment, locator_of, locators_from, padding, post, shipments}
-use Rattle.mf_gf.specs.Numbers.{word}
+use Rattle.mf_gf.specs.Numbers.{greatest_word, word}
 use Rattle.mf_gf.specs.Pointers.{locators_after, locators_of, locators_within, post_place, post_place_back}
 use Rattle.mf_gf.proofs.LocatorsRead.{IsReadable, lasts_from, within-reads}
 
@@ -27,7 +27,7 @@ unfolding post_place_back
 four_back a b c d rest = refl
 
 -- before the padding come the place of post and the identification byte
-place_found : (before : List ℕ) (place count : ℕ) → place < 2147483648
+place_found : (before : List ℕ) (place count : ℕ) → place ≤ greatest_word
     → post_place (before ++ ((249 ∷ []) ++ word (pos place) ++ (131 ∷ []) ++ replicate count 223)) ≡ Some place
 place_found before place count short =
     let named = (249 ∷ []) ++ word (pos place) ++ (131 ∷ []) in
@@ -45,7 +45,7 @@ after_post file found = elim found [
 ]
 
 -- what a reader finds after post
-pub locators_found : (words : FontWords) (comment : List ℕ) (cs : List Character) → length (bytes_so_far comment cs) < 2147483648
+pub locators_found : (words : FontWords) (comment : List ℕ) (cs : List Character) → length (bytes_so_far comment cs) ≤ greatest_word
     → ((code : ℕ) (s : Shipment) → last_shipment code (shipments comment cs) ≡ Some s → IsReadable (locator_of s))
     → locators_of (file_of words comment cs) ≡ Some (lasts_from 0 256 (shipments comment cs))
 unfolding file_of

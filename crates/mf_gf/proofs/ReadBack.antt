@@ -12,7 +12,7 @@ abbrev read_as : Stroke → List ℕ → Option Read
 read_as stroke rest = Some (record { stroke = Some stroke; rest = rest })
 
 -- these bytes are read as this command, whatever comes after them
-pub record Writes (bytes : List ℕ) (stroke : Stroke) : Type 0 where
+pub record IsCommand (bytes : List ℕ) (stroke : Stroke) : Type 0 where
   pub some : 1 ≤ length bytes
   pub read : (rest : List ℕ) → read_stroke (bytes ++ rest) ≡ read_as stroke rest
 
@@ -20,9 +20,9 @@ pub record Writes (bytes : List ℕ) (stroke : Stroke) : Type 0 where
 writes_parameter : (command : ℕ → Stroke) (opcode n : ℕ) → n < 65536
     → ((bytes : List ℕ) → read_stroke (opcode ∷ bytes) ≡ Some (with_bytes command 1 bytes))
     → ((bytes : List ℕ) → read_stroke ((opcode + 1) ∷ bytes) ≡ Some (with_bytes command 2 bytes))
-    → Writes (with_parameter opcode n) (command n)
+    → IsCommand (with_parameter opcode n) (command n)
 writes_parameter command opcode n fits one two =
-    cond_both (nat_le n 255) (opcode ∷ n ∷ []) (((opcode + 1) ∷ []) ++ big_bytes 2 n) (λ bytes. Writes bytes (command n))
+    cond_both (nat_le n 255) (opcode ∷ n ∷ []) (((opcode + 1) ∷ []) ++ big_bytes 2 n) (λ bytes. IsCommand bytes (command n))
     (λ yes. record {
       some = omega arith;
       read = λ rest.
@@ -34,21 +34,21 @@ writes_parameter command opcode n fits one two =
       read = λ rest. two (big_bytes 2 n ++ rest) ∙ ap (λ m. read_as (command m) rest) (big_number-reads_back 2 n rest fits);
     })
 
-pub writes_paint : (n : ℕ) → n < 65536 → Writes (paint n) (Paint n)
+pub writes_paint : (n : ℕ) → n < 65536 → IsCommand (paint n) (Paint n)
 unfolding paint read_stroke
 writes_paint n fits =
-    cond_both (nat_le n 63) (n ∷ []) (with_parameter 64 n) (λ bytes. Writes bytes (Paint n))
+    cond_both (nat_le n 63) (n ∷ []) (with_parameter 64 n) (λ bytes. IsCommand bytes (Paint n))
     (λ yes. record { some = omega arith; read = λ rest. cond-true (nat_le n 63) _ _ yes })
     (λ no. writes_parameter Paint 64 n fits (λ bytes. refl) (λ bytes. refl))
 
-pub writes_skip : (n : ℕ) → n < 65536 → Writes (skip n) (Skip n)
+pub writes_skip : (n : ℕ) → n < 65536 → IsCommand (skip n) (Skip n)
 unfolding skip read_stroke
 writes_skip n fits =
-    cond_both (n == 0) (70 ∷ []) (with_parameter 71 n) (λ bytes. Writes bytes (Skip n))
+    cond_both (n == 0) (70 ∷ []) (with_parameter 71 n) (λ bytes. IsCommand bytes (Skip n))
     (λ yes. record { some = omega arith; read = λ rest. ap (λ m. read_as (Skip m) rest) (sym (eqb-true n 0 yes)) })
     (λ no. writes_parameter Skip 71 n fits (λ bytes. refl) (λ bytes. refl))
 
-pub writes_new_row : (n : ℕ) → n ≤ 164 → Writes (new_row n) (NewRow n)
+pub writes_new_row : (n : ℕ) → n ≤ 164 → IsCommand (new_row n) (NewRow n)
 unfolding read_stroke
 writes_new_row n fits =
     let b = 74 + n in
@@ -89,7 +89,7 @@ one_read zero n bytes rest stroke same read = absurd (omega arith)
 one_read (suc m) n bytes rest stroke same read =
     let less : m ≡ n = omega arith in ap (from_read m) read ∙ ap (λ fuel. option_map (λ others. stroke ∷ others) (strokes_within fuel rest)) less
 
-pub spells_one : (bytes : List ℕ) (stroke : Stroke) → Writes bytes stroke → Spells bytes (stroke ∷ [])
+pub spells_one : (bytes : List ℕ) (stroke : Stroke) → IsCommand bytes stroke → Spells bytes (stroke ∷ [])
 spells_one bytes stroke writes = record {
   few = writes.some;
   read = λ m n rest same. one_read m n (bytes ++ rest) rest stroke same (writes.read rest);

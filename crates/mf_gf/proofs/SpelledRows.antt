@@ -27,19 +27,29 @@ picture_from low (d ∷ ds) dots = record { dots = (dots.0, start_of_field-le d.
 pub stretches_are_runs : (ds : List Dot) → IsPicture ds → All IsRun (runs_of ds)
 stretches_are_runs ds picture = (total_none ds (runs_of ds) picture refl).passes.runs
 
--- the stretches up to a position are spelled, and those after it are still to come
-pub record AreSpelled (before : Spelling) (left : ℤ) (text : List ℕ) (out : Spelling) (row column : ℤ) (rs : List Run) : Type 0 where
+-- the stretches still to come, from a position of the pen and in a box with this left end
+pub record Coming : Type 0 where
+  pub left : ℤ
+  pub row : ℤ
+  pub column : ℤ
+  pub runs : List Run
+
+abbrev pub text_of : Coming → List ℕ
+text_of c = rows c.left c.row c.column c.runs
+
+-- of this text, what comes before the coming stretches is spelled
+pub record AreSpelled (before out : Spelling) (text : List ℕ) (c : Coming) : Type 0 where
   pub written : List ℕ
   pub writes : Writes before out written
-  pub rest : written ++ rows left row column rs ≡ text
+  pub rest : written ++ text_of c ≡ text
   pub room : out.room ≡ before.room
-  pub runs : All IsRun rs
-  pub row_in_reach : IsCoordinate row
-  pub column_in_reach : IsCoordinate column
+  pub runs : All IsRun c.runs
+  pub row_in_reach : IsCoordinate c.row
+  pub column_in_reach : IsCoordinate c.column
 
-pub none_spelled : (before : Spelling) (left row column : ℤ) (rs : List Run) → All IsRun rs → IsCoordinate row → IsCoordinate column
-    → AreSpelled before left (rows left row column rs) before row column rs
-none_spelled before left row column rs runs row_in_reach column_in_reach = record {
+pub none_spelled : (before : Spelling) (c : Coming) → All IsRun c.runs → IsCoordinate c.row → IsCoordinate c.column
+    → AreSpelled before before (text_of c) c
+none_spelled before c runs row_in_reach column_in_reach = record {
   written = [];
   writes = λ text held. subst (Holds before) (sym (append-nil text)) held;
   rest = refl;
@@ -58,35 +68,35 @@ rows-nil : (left row column : ℤ) → rows left row column [] ≡ []
 unfolding rows
 rows-nil left row column = refl
 
-module _ (before : Spelling) (left : ℤ) (text : List ℕ) (out : Spelling) (row column : ℤ) (rs : List Run) where
-  pub next_is_run : (r : Run) (others : List Run) → rs ≡ r ∷ others → AreSpelled before left text out row column rs → IsRun r
-  next_is_run r others first so_far = All-head IsRun r others (All-same IsRun (r ∷ others) rs (sym first) so_far.runs)
+module _ (before out : Spelling) (text : List ℕ) (c : Coming) where
+  pub next_is_run : (r : Run) (others : List Run) → c.runs ≡ r ∷ others → AreSpelled before out text c → IsRun r
+  next_is_run r others first so_far = All-head IsRun r others (All-same IsRun (r ∷ others) c.runs (sym first) so_far.runs)
 
-  pub one_more_spelled : (r : Run) (others : List Run) (gone painted : Spelling) → rs ≡ r ∷ others
-      → Writes out gone (approach left row column r) → Writes gone painted (paint r.len)
-      → gone.room ≡ out.room → painted.room ≡ gone.room → AreSpelled before left text out row column rs
-      → AreSpelled before left text painted r.y (r.x +ℤ pos r.len) others
+  pub one_more_spelled : (r : Run) (others : List Run) (gone painted : Spelling) → c.runs ≡ r ∷ others
+      → Writes out gone (approach c.left c.row c.column r) → Writes gone painted (paint r.len)
+      → gone.room ≡ out.room → painted.room ≡ gone.room → AreSpelled before out text c
+      → AreSpelled before painted text (record { left = c.left; row = r.y; column = r.x +ℤ pos r.len; runs = others })
   one_more_spelled r others gone painted first goes paints gone_room painted_room so_far =
       let run = next_is_run r others first so_far in
-      let stroke = approach left row column r ++ paint r.len in
+      let stroke = approach c.left c.row c.column r ++ paint r.len in
       record {
         written = so_far.written ++ stroke;
         writes = write_both _ _ _ _ _ so_far.writes (write_both _ _ _ _ _ goes paints);
         rest =
-            append_assoc so_far.written stroke (rows left r.y (r.x +ℤ pos r.len) others)
-            ∙ ap (λ bytes. so_far.written ++ bytes) (sym (rows-cons left row column r others))
-            ∙ ap (λ rs. so_far.written ++ rows left row column rs) (sym first) ∙ so_far.rest;
+            append_assoc so_far.written stroke (rows c.left r.y (r.x +ℤ pos r.len) others)
+            ∙ ap (λ bytes. so_far.written ++ bytes) (sym (rows-cons c.left c.row c.column r others))
+            ∙ ap (λ rs. so_far.written ++ rows c.left c.row c.column rs) (sym first) ∙ so_far.rest;
         room = painted_room ∙ gone_room ∙ so_far.room;
-        runs = All-rest IsRun r others rs first so_far.runs;
+        runs = All-rest IsRun r others c.runs first so_far.runs;
         row_in_reach = record { least = run.bottom; greatest = omega (arith, ints, run.top) };
         column_in_reach = record { least = omega (arith, ints, run.left); greatest = run.right };
       }
 
-  pub all_spelled : rs ≡ [] → AreSpelled before left text out row column rs → Writes before out text
+  pub all_spelled : c.runs ≡ [] → AreSpelled before out text c → Writes before out text
   all_spelled none so_far =
       write_same _ _ _ _
-      (sym (append-nil so_far.written) ∙ ap (λ bytes. so_far.written ++ bytes) (sym (rows-nil left row column))
-      ∙ ap (λ rs. so_far.written ++ rows left row column rs) (sym none) ∙ so_far.rest)
+      (sym (append-nil so_far.written) ∙ ap (λ bytes. so_far.written ++ bytes) (sym (rows-nil c.left c.row c.column))
+      ∙ ap (λ rs. so_far.written ++ rows c.left c.row c.column rs) (sym none) ∙ so_far.rest)
       so_far.writes
 
 pub spell-is : (code : ℕ) (p : ℤ) (ds : List Dot) (b : CharacterBox) (rs : List Run) → b ≡ box_of_pixels ds → rs ≡ runs_of ds

@@ -7,7 +7,7 @@ use Rattle.mf_gf.specs.declared.boxes.CharacterBox.{CharacterBox}
 use Rattle.mf_gf.specs.declared.file.FontWords.{FontWords}
 use Rattle.mf_gf.specs.declared.locator.Locator.{Locator}
 use Rattle.mf_gf.specs.Boxes.{box_of_pixels, join, no_box}
-use Rattle.mf_gf.specs.Numbers.{word}
+use Rattle.mf_gf.specs.Numbers.{code_count, word}
 use Rattle.mf_gf.specs.Spelling.{pointer, spell}
 
 -- a character that is shipped: its code, its escapement in 1/65536 pixel, its width in 1/1048576 of the design size, and its
@@ -122,7 +122,7 @@ ending place before = (249 ∷ []) ++ word (pos place) ++ (131 ∷ []) ++ replic
 abbrev pub body : FontWords → List ℕ → List Character → List ℕ
 body words comment characters =
     bytes_so_far comment characters ++ post words (box_of_all characters) (length (bytes_so_far comment characters))
-    ++ locators_from 0 256 (shipments comment characters)
+    ++ locators_from 0 code_count (shipments comment characters)
 
 -- the bytes of the finished file of these characters
 unfoldable pub file_of : FontWords → List ℕ → List Character → List ℕ

@@ -9,6 +9,7 @@ use Rattle.mf_gf.specs.declared.locator.Locator.{Locator}
 use Rattle.mf_gf.specs.declared.locators.Locators.{Locators}
 use Rattle.mf_gf.specs.Boxes.{widen}
 use Rattle.mf_gf.specs.Files.{Character, Shipment, box_of_all, bytes_so_far, last_shipment, locator_if, locator_of, shipments}
+use Rattle.mf_gf.specs.Numbers.{code_count}
 use Rattle.mf_gf.specs.Pixels.{black}
 
 -- the character that is shipped with the picture ds
@@ -21,7 +22,7 @@ bounds_of (c ∷ cs) = Some (box_of_all (c ∷ cs))
 
 -- a table has the locator of the last character with each code
 pub record HasLasts (table : Locators) (shipped : List Shipment) : Type 0 where
-  pub last : (code : ℕ) → code < 256 → slice_index_or table.by_code.items code None ≡ option_map locator_of (last_shipment code shipped)
+  pub last : (code : ℕ) → code < code_count → slice_index_or table.by_code.items code None ≡ option_map locator_of (last_shipment code shipped)
 
 -- the bytes of the locators of a table, codes rising
 abbrev pub table_text : Locators → List ℕ

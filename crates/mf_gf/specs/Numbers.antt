@@ -3,10 +3,18 @@ use Rattle.std.specs.Prelude.{ℕ, ℤ, pos, negsuc, ◌≤ℤ◌, List, drop}
 use Rattle.std.specs.Int.{cast_unsigned, w32}
 use Rattle.byteorder.specs.Endian.{big_bytes, big_number, twos_complement}
 
+-- how many codes there are: a code is one byte
+abbrev pub code_count : ℕ
+code_count = 256
+
+-- the greatest number of four bytes with a sign, and so the greatest place in a file, and number of its bytes
+abbrev pub greatest_word : ℕ
+greatest_word = 2147483647
+
 -- the number z fits into four bytes with a sign
 pub record IsWord (z : ℤ) : Type 0 where
-  pub least : negsuc 2147483647 ≤ℤ z
-  pub greatest : z ≤ℤ pos 2147483647
+  pub least : negsuc greatest_word ≤ℤ z
+  pub greatest : z ≤ℤ pos greatest_word
 
 -- the four bytes of a number, in two's complement
 abbrev pub word : ℤ → List ℕ

@@ -124,8 +124,8 @@ abbrev pub pixels_in : CharacterBox → List ℕ → Option (List Dot)
 pixels_in b bytes = pixels_from b.min_m b.max_n bytes
 
 -- the pixels that a character makes black with the commands after its head
-unfoldable pub paint : List ℕ → Option (List Dot)
-paint [] = None
-paint (b ∷ bytes) =
+unfoldable pub pixels_of_character : List ℕ → Option (List Dot)
+pixels_of_character [] = None
+pixels_of_character (b ∷ bytes) =
     if b == 68 then pixels_in (head_of_boc1 bytes).box (drop 5 bytes)
     else (if b == 67 then pixels_in (head_of_boc bytes).box (drop 24 bytes) else None)

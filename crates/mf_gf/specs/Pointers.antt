@@ -1,13 +1,13 @@
 -- The characters of a finished file, as a reader finds them. The last bytes give the place of the postamble. Each locator after
 -- it gives the place of the last character with its code. Each character gives the place of the one before it as p (The
 -- METAFONTbook, Appendix G; gftype.web).
-use Rattle.std.specs.Prelude.{◌≡◌, ◌<◌, ◌+◌, ◌*◌, ◌==◌, ◌↔◌, ℕ, zero, suc, ℤ, pos, negsuc, All, AllPairs, Any, List, [], ◌∷◌, length, take, drop, reverse, filter, slice_index, Option, None, Some, option_map, if◌then◌else◌}
+use Rattle.std.specs.Prelude.{◌≡◌, ◌<◌, ◌≤◌, ◌+◌, ◌*◌, ◌==◌, ◌↔◌, ℕ, zero, suc, ℤ, pos, negsuc, All, AllPairs, Any, List, [], ◌∷◌, length, take, drop, reverse, filter, slice_index, Option, None, Some, option_map, if◌then◌else◌}
 use Rattle.byteorder.specs.Endian.{big_number}
 use Rattle.mf_gf.specs.declared.locator.Locator.{Locator}
 use Rattle.mf_gf.specs.Boxes.{box_of_pixels}
 use Rattle.mf_gf.specs.Files.{Character, bytes_so_far}
-use Rattle.mf_gf.specs.Numbers.{IsWord, word_at}
-use Rattle.mf_gf.specs.Painting.{head_of, paint}
+use Rattle.mf_gf.specs.Numbers.{IsWord, code_count, greatest_word, word_at}
+use Rattle.mf_gf.specs.Painting.{head_of, pixels_of_character}
 use Rattle.mf_gf.specs.Pixels.{IsPixelSet}
 
 -- ---- the reader
@@ -71,7 +71,7 @@ locators_of file = elim (post_place file) [
 pub record IsCharacterAt (file : List ℕ) (place : ℕ) (c : Character) (p : ℤ) : Type 0 where
   pub head : head_of (drop place file) ≡ Some (record { code = pos c.code; earlier = p; box = box_of_pixels c.black })
   pub count : ℕ
-  pub painted : paint (take count (drop place file)) ≡ Some c.black
+  pub painted : pixels_of_character (take count (drop place file)) ≡ Some c.black
 
 -- p leads to the first of these characters, its p to the next one, and so on; the p of the last is -1
 unfoldable pub LeadsBack : List ℕ → ℤ → List Character → Type 0
@@ -108,7 +108,7 @@ pub record IsReadBack (file : List ℕ) (characters : List Character) : Type 0 w
 
 -- the parts of a character are in the ranges that a shipped character may have
 pub record IsShippable (c : Character) : Type 0 where
-  pub code : c.code < 256
+  pub code : c.code < code_count
   pub dx : IsWord c.dx
   pub width : IsWord c.width
   pub black : IsPixelSet c.black
@@ -116,4 +116,4 @@ pub record IsShippable (c : Character) : Type 0 where
 -- the characters fit into a file, in which each place is a signed number of four bytes
 pub record AreShippable (comment : List ℕ) (characters : List Character) : Type 0 where
   pub each : All IsShippable characters
-  pub short : length (bytes_so_far comment characters) < 2147483648
+  pub short : length (bytes_so_far comment characters) ≤ greatest_word

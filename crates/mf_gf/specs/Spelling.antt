@@ -30,12 +30,16 @@ new_row n = (74 + n) ∷ []
 abbrev pub distance : ℤ → ℤ → ℕ
 distance a b = unsigned_abs (a -ℤ b)
 
+-- the greatest offset of new_row
+abbrev pub most_new_row : ℕ
+most_new_row = 164
+
 -- from a position to the start of a stretch of black pixels: within the same row with white; to the next row with new_row, where
 -- the offset from the left end of the box allows it; else with a skip and white
 abbrev pub approach : ℤ → ℤ → ℤ → Run → List ℕ
 approach left row column r =
     if int_eq r.y row then paint (distance r.x column)
-    else (if distance row r.y == 1 && nat_le (distance r.x left) 164 then new_row (distance r.x left)
+    else (if distance row r.y == 1 && nat_le (distance r.x left) most_new_row then new_row (distance r.x left)
     else skip (distance row r.y - 1) ++ paint (distance r.x left))
 
 -- stretches of black pixels, one after another, starting at a position

@@ -1,5 +1,6 @@
 //! Files that are being made.
 ghost use Rattle.std.specs.Prelude.{◌≤◌, length};
+ghost use Rattle.mf_gf.specs.Numbers.{greatest_word};
 
 use crate::boxes::CharacterBox;
 use crate::locators::Locators;
@@ -35,7 +36,7 @@ pub struct GfFile {
     pub(crate) bounds: Option<CharacterBox>,
     /// The greatest number of bytes in the finished file.
     pub(crate) max_bytes: u32,
-    ghost small: { max_bytes ≤ 2147483647 },
+    ghost small: { max_bytes ≤ greatest_word },
     ghost within: { length bytes.items ≤ max_bytes },
     ghost few: { count ≤ length bytes.items },
 }

@@ -4,8 +4,8 @@ ghost use Rattle.std.specs.Prelude.{◌≡◌, ◌↔◌, ◌<◌, ◌<ℤ◌, �
 ghost use Rattle.mf_gf.specs.Boxes.{box_of_pixels, join, pixel_box};
 ghost use Rattle.mf_gf.specs.Files.{Character, IsPadded, IsShortDx, box_of_all, bytes_so_far, file_of, last_place, shipments, short_dx};
 ghost use Rattle.mf_gf.specs.declared.file.FontWords.{FontWords};
-ghost use Rattle.mf_gf.specs.Numbers.{IsWord};
-ghost use Rattle.mf_gf.specs.Painting.{head_of, paint};
+ghost use Rattle.mf_gf.specs.Numbers.{IsWord, code_count};
+ghost use Rattle.mf_gf.specs.Painting.{head_of, pixels_of_character};
 ghost use Rattle.mf_gf.specs.Pixels.{IsPixelSet, black};
 ghost use Rattle.mf_gf.specs.Pointers.{AreShippable, IsReadBack};
 ghost use Rattle.mf_gf.specs.Spelling.{pointer, spell};
@@ -15,13 +15,13 @@ ghost use Rattle.mf_rows.specs.Dots.{Dot, IsPicture, weight_at};
 /// Painting the bytes of a character gives back exactly its pixels, for every finite set of pixels of the field, every code and
 /// every p.
 pub fn painted_back()
-    ensures { (code : ℕ) (p : ℤ) (ds : List Dot) → code < 256 → IsPixelSet ds → paint (spell code p ds) ≡ Some ds }
+    ensures { (code : ℕ) (p : ℤ) (ds : List Dot) → code < code_count → IsPixelSet ds → pixels_of_character (spell code p ds) ≡ Some ds }
 {}
 
 /// The bytes of a character begin with its code, with p, which is the place of the last earlier character with this code or -1,
 /// and with the box of its pixels. This holds for every p of four bytes.
 pub fn head_read_back()
-    ensures { (code : ℕ) (p : ℤ) (ds : List Dot) → code < 256 → IsWord p → IsPixelSet ds →
+    ensures { (code : ℕ) (p : ℤ) (ds : List Dot) → code < code_count → IsWord p → IsPixelSet ds →
         head_of (spell code p ds) ≡ Some (record { code = pos code; earlier = p; box = box_of_pixels ds }) }
 {}
 

@@ -1,5 +1,6 @@
 //! The locators of a file.
 ghost use Rattle.std.specs.Prelude.{◌≡◌, length};
+ghost use Rattle.mf_gf.specs.Numbers.{code_count};
 
 use crate::locator::Locator;
 
@@ -14,5 +15,5 @@ const CODES: usize = 256;
 pub(crate) struct Locators {
     /// The locator of each code, at the code as index; `None` where no character with it was shipped.
     by_code: Vec<Option<Locator>>,
-    ghost all: { length by_code.items ≡ 256 },
+    ghost all: { length by_code.items ≡ code_count },
 }

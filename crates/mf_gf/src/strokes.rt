@@ -1,6 +1,6 @@
 //! The painting commands of a character.
 ghost use Rattle.std.specs.Prelude.{◌≡◌, ◌<◌, ◌≤◌, ◌^◌, ◌++◌, List, ℕ};
-ghost use Rattle.mf_gf.specs.Spelling.{new_row, paint, skip, with_parameter};
+ghost use Rattle.mf_gf.specs.Spelling.{most_new_row, new_row, paint, skip, with_parameter};
 ghost use Rattle.mf_gf.specs.Spellings.{Holds};
 
 use crate::spelling::Spelling;
@@ -50,7 +50,7 @@ impl Spelling {
 
     /// Appends a command that goes to the next row, to this offset from the left end of the box.
     pub(crate) fn new_row(&mut self, offset: u32)
-        requires { offset ≤ 164 }
+        requires { offset ≤ most_new_row }
         ensures held { (text : List ℕ) → Holds self.old text → Holds self.new (text ++ new_row offset) }
         ensures room { self.new.room ≡ self.old.room }
     {

@@ -3,6 +3,7 @@ use Rattle.std.specs.Prelude.{ℕ, List, [], min}
 use Rattle.mf_geom.specs.declared.check.Check.{Check}
 use Rattle.mf_geom.specs.declared.check.Check.TheVariants.{On}
 use Rattle.mf_gf.specs.Files.{Character}
+use Rattle.mf_gf.specs.Numbers.{greatest_word}
 use Rattle.mf_session.specs.Pictures.{Pictures, blank_pictures}
 
 -- the pictures, the turning check, and the characters that were shipped
@@ -22,7 +23,7 @@ pub record Limits : Type 0 where
 
 -- the limits with these numbers, where no font file may have more than 2,147,483,647 bytes
 abbrev pub limits_of : ℕ → ℕ → Limits
-limits_of max_ops max_bytes = record { max_ops = max_ops; max_bytes = min max_bytes 2147483647 }
+limits_of max_ops max_bytes = record { max_ops = max_ops; max_bytes = min max_bytes greatest_word }
 
 -- the greatest number of operations that the programs let `currentpicture` accept
 abbrev pub most_operations : ℕ

@@ -5,6 +5,7 @@ ghost use Rattle.mf_gf.specs.Spelling as spelling;
 ghost use Rattle.mf_gf.specs.Spelling.{pointer};
 ghost use Rattle.mf_gf.specs.Files.{Character, bytes_so_far, preamble};
 ghost use Rattle.mf_gf.specs.Keeping.{IsAppended, IsSameFile, Keeps, character, max_bytes_of};
+ghost use Rattle.mf_gf.specs.Numbers.{greatest_word};
 ghost use Rattle.mf_gf.specs.Pixels.{black};
 
 use super::{GF_ID, GfFile};
@@ -36,9 +37,9 @@ impl GfFile {
     /// `CommentTooLong` exactly where the comment has more than 255 bytes, and with `OutOfMemory` where an allocation fails.
     pub fn new(alloc: Global, comment: &[u8], max_bytes: u32) -> Result<GfFile, GfFault>
         ensures kept { IfOk result (λ file. Keeps file comment.now []) }
-        ensures max_bytes { IfOk result (λ file. max_bytes_of file ≡ min max_bytes 2147483647) }
-        ensures too_long { (min max_bytes 2147483647 < length (preamble comment.now)) ↔ (result ≡ Err GfFault.FileTooLong) }
-        ensures comment_too_long { length (preamble comment.now) ≤ min max_bytes 2147483647 → (255 < length comment.now)
+        ensures max_bytes { IfOk result (λ file. max_bytes_of file ≡ min max_bytes greatest_word) }
+        ensures too_long { (min max_bytes greatest_word < length (preamble comment.now)) ↔ (result ≡ Err GfFault.FileTooLong) }
+        ensures comment_too_long { length (preamble comment.now) ≤ min max_bytes greatest_word → (255 < length comment.now)
             ↔ (result ≡ Err GfFault.CommentTooLong) }
         ensures fault { IfErr result (λ fault. (fault ≡ GfFault.FileTooLong) ⊎ (fault ≡ GfFault.CommentTooLong) ⊎ (fault ≡ GfFault.OutOfMemory)) }
     {

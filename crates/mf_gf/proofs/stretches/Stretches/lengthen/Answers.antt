@@ -1,6 +1,6 @@
 use Rattle.std.proofs.Common.{◌≡◌, ◌+ℤ◌, to_z, of_z, w32, ap, arith}
 use Rattle.std.proofs.lemmas.Int.{ints}
-use Rattle.mf_gf.proofs.Lengthening.{order_behind, IsNext, begun_before, next_is_run, first_is_run, one_more_joined, ended_at_run, ended_at_none}
+use Rattle.mf_gf.proofs.Lengthening.{order_behind, IsAdjacent, begun_before, next_is_run, first_is_run, one_more_joined, ended_at_run, ended_at_none}
 use Rattle.mf_gf.proofs.stretches.Stretches.lengthen.Goals as goal
 use Rattle.mf_gf.proofs.stretches.Stretches.lengthen.Goals.{then-run-stretch-via-then-run-stretch, then-run-stretch-via-else-run-stretch+then-run-stretch-2}
 
@@ -17,7 +17,7 @@ loop-self-preserved c =
     let first = first_is_run _ _ _ c.loop-self.invariant in
     let row = ap (to_z w32) c.if-run-stretch.false in
     let column = ap (to_z w32) c.if-run-stretch-2.false in
-    let follows : IsNext c.loop-self.stretch c.in-Some.run' = record {
+    let follows : IsAdjacent c.loop-self.stretch c.in-Some.run' = record {
       row = omega (arith, ints, row, next.bottom, next.top, first.bottom, first.top);
       column = omega (arith, ints, column, next.left, next.right, first.left, first.right);
     } in
@@ -29,7 +29,7 @@ returns-then-run-stretch-clause-order c = order_behind _ _ (begun_before _ _ _ _
 pub returns-then-run-stretch-clause-stretch : goal.returns-then-run-stretch-clause-stretch
 returns-then-run-stretch-clause-stretch c =
     let first = first_is_run _ _ _ c.loop-self.invariant in
-    let apart : IsNext c.loop-self.stretch c.in-Some.run' → ⊥ = λ follows.
+    let apart : IsAdjacent c.loop-self.stretch c.in-Some.run' → ⊥ = λ follows.
     let column : c.in-Some.run'.x ≡ to_z w32 (of_z w32 c.loop-self.stretch.x) +ℤ to_z w32 c.loop-self.stretch.len =
     omega (arith, ints, follows.column, first.left, first.right) in
     elim c.then-run-stretch.branch [
