@@ -8,12 +8,12 @@ use Rattle.mf_live.specs.declared.view.View.{View}
 use Rattle.mf_live.specs.Books.{most}
 use Rattle.mf_live.specs.Entries.{Entry}
 use Rattle.mf_live.specs.Holders.{events, accepted_list, published_list, version}
-use Rattle.mf_live.specs.Rule.{events_of, history, shown_by, with_event}
-use Rattle.mf_live.specs.World.{World, IsLawful, Happen, May, start, after_event, world_after, accepted_of, published_of}
+use Rattle.mf_live.specs.Rule.{events_of, history, version_list, with_event}
+use Rattle.mf_live.specs.World.{World, IsLawful, Happen, May, new_world, after_event, world_after, accepted_of, published_of}
 use Rattle.mf_live.proofs.EntryLists.{length-rev}
 use Rattle.mf_live.proofs.Worlds.{world_after-push, Happen-push, lawful-after}
 
-pub lawful : (h : Holder) → IsLawful most (world_after start (events h))
+pub lawful : (h : Holder) → IsLawful most (world_after new_world (events h))
 lawful h = lawful-after most (events h) h.lawful
 
 -- at most `most` operations and the end mark were accepted
@@ -31,32 +31,32 @@ few_unwritten h = omega (arith, h.since, few_entries h)
 pub record HasOneMore (h : Holder) (x : Version) (w : View) (e : Entry) : Type 0 where
   pub accepted : accepted_of (history x w) ≡ accepted_list h ++ e ∷ []
   pub published : published_of (history x w) ≡ published_list h
-  pub shown_is : shown_by x ≡ published_of (history x w)
-  pub lawful : Happen most start (history x w)
-  pub alive : (world_after start (history x w)).dropped ≡ false
+  pub shown_is : version_list x ≡ published_of (history x w)
+  pub lawful : Happen most new_world (history x w)
+  pub alive : (world_after new_world (history x w)).dropped ≡ false
   pub counted : h.unwritten + 1 ≡ length w.unwritten
-  pub since : h.unwritten + 1 + length (shown_by x) ≡ length (accepted_of (history x w))
+  pub since : h.unwritten + 1 + length (version_list x) ≡ length (accepted_of (history x w))
 
 abbrev with_entry : World → Entry → World
 with_entry w e = record w { accepted = w.accepted ++ e ∷ [] }
 
 pub one_more : (h : Holder) (x : Version) (w : View) (happens : Event) (e : Entry) → x ≡ version h → w ≡ with_event (view h.swap.desk.place) happens
-    → May most (world_after start (events h)) happens → after_event (world_after start (events h)) happens ≡ with_entry (world_after start (events h)) e
-    → HasOneMore h x w e
+    → May most (world_after new_world (events h)) happens
+    → after_event (world_after new_world (events h)) happens ≡ with_entry (world_after new_world (events h)) e → HasOneMore h x w e
 one_more h x w happens e same more may accepts =
     let unwritten = (view h.swap.desk.place).unwritten in
     let log : history x w ≡ events h ++ happens ∷ [] =
     (λ i. history (same i) (more i)) ∙ sym (append_assoc (events_of (version h)) unwritten (happens ∷ [])) in
-    let world : world_after start (history x w) ≡ with_entry (world_after start (events h)) e =
-    ap (world_after start) log ∙ world_after-push start (events h) happens ∙ accepts in
+    let world : world_after new_world (history x w) ≡ with_entry (world_after new_world (events h)) e =
+    ap (world_after new_world) log ∙ world_after-push new_world (events h) happens ∙ accepts in
     let accepted_is : accepted_of (history x w) ≡ accepted_list h ++ e ∷ [] = ap (λ (u : World). u.accepted) world in
     let published_is : published_of (history x w) ≡ published_list h = ap (λ (u : World). u.published) world in
     record {
       accepted = accepted_is;
       published = published_is;
-      shown_is = ap shown_by same ∙ h.shown_is ∙ sym published_is;
-      lawful = rw log (Happen-push most start (events h) happens h.lawful may);
+      shown_is = ap version_list same ∙ h.shown_is ∙ sym published_is;
+      lawful = rw log (Happen-push most new_world (events h) happens h.lawful may);
       alive = ap (λ (u : World). u.dropped) world ∙ h.alive;
       counted = omega (arith, h.counted, ap (λ (v : View). length v.unwritten) more, length-append unwritten (happens ∷ []));
-      since = omega (arith, h.since, ap (λ (y : Version). length (shown_by y)) same, ap length accepted_is, length-append (accepted_list h) (e ∷ []));
+      since = omega (arith, h.since, ap (λ (y : Version). length (version_list y)) same, ap length accepted_is, length-append (accepted_list h) (e ∷ []));
     }

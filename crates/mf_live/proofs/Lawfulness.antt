@@ -10,7 +10,7 @@ use Rattle.mf_live.specs.declared.event.Event.{Event}
 use Rattle.mf_live.specs.declared.event.Event.TheVariants.{Accept, Refuse, Close, Publish, Discard, Look, Tell, Learn}
 use Rattle.mf_live.specs.Entries.{Change, Operation, End, Entry, entry, rev, next, next_after, is_closed, IsUnrefused}
 use Rattle.mf_live.specs.Prefixes.{IsWholePrefix, IsCutAmong, labels, longer}
-use Rattle.mf_live.specs.World.{World, start, May, after_event, notice_at, put, IsPending, IsLawful, ShowsMore}
+use Rattle.mf_live.specs.World.{World, new_world, May, after_event, notice_at, put, IsPending, IsLawful, ShowsMore}
 use Rattle.mf_live.proofs.Blank.{rev-none}
 use Rattle.mf_live.proofs.EntryLists.{rev-push, rev-end, unrefused-push, unrefused-end, ends_last-push}
 use Rattle.mf_live.proofs.WholePrefixes.{labels-append, length-labels, whole-self, whole-nil, whole-trans, whole-longer}
@@ -70,7 +70,7 @@ put-whole : (seen : ℕ → List Entry) (i : ℕ) (L P : List Entry) → ((j : �
     → IsWholePrefix L P → (j : ℕ) → IsWholePrefix (put seen i L j) P
 put-whole seen i L P each more j = cond_both (j == i) L (seen j) (λ S. IsWholePrefix S P) (λ _. more) (λ _. each j)
 
-pub lawful_start : (max_ops : ℕ) → IsLawful max_ops start
+pub lawful_start : (max_ops : ℕ) → IsLawful max_ops new_world
 lawful_start max_ops = record {
   unrefused = record { steps = tt };
   few = rw rev-none zero-le;

@@ -16,9 +16,9 @@ use Rattle.mf_live.specs.declared.viewer.Viewer.{Viewer}
 use Rattle.mf_live.specs.Books.{most}
 use Rattle.mf_live.specs.Entries.{Entry, is_closed, ends_last}
 use Rattle.mf_live.specs.Prefixes.{IsWholePrefix, longer}
-use Rattle.mf_live.specs.Rule.{IsKnowledgeOf, IsLook, kept_by, book_of, events_of}
+use Rattle.mf_live.specs.Rule.{IsKnowledgeOf, IsLook, seen_knowledge, book_of, events_of}
 use Rattle.mf_live.specs.Viewers.{Extends, IsPublished, SeesTheSame, learnt_list, look_events, looked_at_events, looked_at_list, notice_events, shown_list, told_list}
-use Rattle.mf_live.specs.World.{Happen, start, published_of}
+use Rattle.mf_live.specs.World.{Happen, new_world, published_of}
 use Rattle.mf_live.proofs.EntryLists.{nothing_follows}
 use Rattle.mf_live.proofs.WholePrefixes.{whole-longer, longer-assoc, longer-whole, longer-of_whole}
 use Rattle.mf_live.proofs.Worlds.{lawful-after, published-grows}
@@ -26,7 +26,7 @@ use Rattle.mf_live.proofs.Worlds.{lawful-after, published-grows}
 -- what a prefix of a notice's events has published is a whole prefix of what the notice says
 pub told_list-prefix : (n : Notice) (events : List Event) → IsPrefix events (notice_events n) → IsWholePrefix (published_of events) (told_list n)
 told_list-prefix n events prefix =
-    let grows = published-grows most events prefix.0 (subst (Happen most start) (sym prefix.1) n.prefix.lawful) in
+    let grows = published-grows most events prefix.0 (subst (Happen most new_world) (sym prefix.1) n.prefix.lawful) in
     subst (λ (all : List Event). IsWholePrefix (published_of events) (published_of all)) prefix.1 grows
 
 -- what a notice says was published by the events that it knows
@@ -38,12 +38,12 @@ pub told_list-ends : (n : Notice) → ends_last (told_list n) ≡ true
 told_list-ends n = subst (λ (L : List Entry). ends_last L ≡ true) n.whole (lawful-after most (notice_events n) n.prefix.lawful).ended
 
 kept_by-prefix : (b : Book) (events : List Event) (missed : Bool) (v : View) → IsKnowledgeOf b events v.last
-    → IsKnowledgeOf b events v.now → IsKnowledgeOf b events (kept_by missed v)
+    → IsKnowledgeOf b events v.now → IsKnowledgeOf b events (seen_knowledge missed v)
 kept_by-prefix b events true v last now = last
 kept_by-prefix b events false v last now = now
 
 -- a look extends what its viewer has seen, where the version knows the events of what the viewer has learnt
-pub extends-look : (v : Viewer) (x : Version) (w : View) → IsLook (kept_by v.missed) (view v.reader.place) x x w
+pub extends-look : (v : Viewer) (x : Version) (w : View) → IsLook (seen_knowledge v.missed) (view v.reader.place) x x w
     → IsPrefix (notice_events v.known) (events_of x) → Extends v (published_of w.now.seen.log)
 extends-look v x w is_looked known =
     let knows = is_looked.knows v.identified in

@@ -8,7 +8,7 @@ use Rattle.mf_live.specs.declared.holder.Holder.{Holder}
 use Rattle.mf_live.specs.Books.{most}
 use Rattle.mf_live.specs.Holders.{events, accepted_list, version}
 use Rattle.mf_live.specs.Rule.{events_of, publish_events}
-use Rattle.mf_live.specs.World.{World, Happen, start, world_after, accepted_of, published_of}
+use Rattle.mf_live.specs.World.{World, Happen, new_world, world_after, accepted_of, published_of}
 use Rattle.mf_live.proofs.Worlds.{world_after-push, Happen-push, Happen-rest}
 
 module _ (h : Holder) where
@@ -23,8 +23,8 @@ module _ (h : Holder) where
   is_pushed : all_written ≡ events h ++ Publish ∷ []
   is_pushed = sym (append_assoc (events_of (version h)) (view h.swap.desk.place).unwritten (Publish ∷ []))
 
-  world_is : world_after start all_written ≡ record (world_after start (events h)) { published = accepted_list h }
-  world_is = ap (world_after start) is_pushed ∙ world_after-push start (events h) Publish
+  world_is : world_after new_world all_written ≡ record (world_after new_world (events h)) { published = accepted_list h }
+  world_is = ap (world_after new_world) is_pushed ∙ world_after-push new_world (events h) Publish
 
   pub accepted-publish : accepted_of all_written ≡ accepted_list h
   accepted-publish = ap (λ (w : World). w.accepted) world_is
@@ -32,14 +32,14 @@ module _ (h : Holder) where
   pub published-publish : published_of all_written ≡ accepted_list h
   published-publish = ap (λ (w : World). w.published) world_is
 
-  pub alive-publish : (world_after start all_written).dropped ≡ false
+  pub alive-publish : (world_after new_world all_written).dropped ≡ false
   alive-publish = ap (λ (w : World). w.dropped) world_is ∙ h.alive
 
-  pub Happen-publish : Happen most start all_written
-  Happen-publish = rw is_pushed (Happen-push most start (events h) Publish h.lawful h.alive)
+  pub Happen-publish : Happen most new_world all_written
+  Happen-publish = rw is_pushed (Happen-push most new_world (events h) Publish h.lawful h.alive)
 
-  pub Happen-written : Happen most (world_after start (events_of (version h))) written
-  Happen-written = Happen-rest most start (events_of (version h)) written Happen-publish
+  pub Happen-written : Happen most (world_after new_world (events_of (version h))) written
+  Happen-written = Happen-rest most new_world (events_of (version h)) written Happen-publish
 
   pub length-written : h.unwritten + 1 ≡ length written
   length-written = omega (arith, h.counted, length-append (view h.swap.desk.place).unwritten (Publish ∷ []))

@@ -7,7 +7,7 @@ use Rattle.mf_live.specs.declared.event.Event.{Event}
 use Rattle.mf_live.specs.declared.event.Event.TheVariants.{Accept, Close, Publish, Discard}
 use Rattle.mf_live.specs.Entries.{Change, Operation, End, Entry, entry, next_after, next}
 use Rattle.mf_live.specs.Prefixes.{labels, IsCut, IsWholePrefix, entries_labelled, HasWholePublishes}
-use Rattle.mf_live.specs.World.{World, start, after_event, world_after, published_of}
+use Rattle.mf_live.specs.World.{World, new_world, after_event, world_after, published_of}
 use Rattle.mf_live.proofs.WholePrefixes.{labels-append, length-labels}
 
 -- the labels of a list never fall, from at least m to at most n
@@ -113,8 +113,8 @@ rising-after w (e ∷ events) rising = rising-after (after_event w e) events (ri
 pub whole_publishes : (S : List Entry) (events : List Event) → IsWholePrefix S (published_of events) → HasWholePublishes S (published_of events)
 whole_publishes S events whole =
     let L : List Entry = published_of events in
-    let rising : AreRising (world_after start events) =
-    rising-after start events (record { accepted = omega arith; published = omega arith }) in
+    let rising : AreRising (world_after new_world events) =
+    rising-after new_world events (record { accepted = omega arith; published = omega arith }) in
     let cut : IsCut (S ++ whole.rest) (length S) = rw (← whole.whole) whole.cut in
     let rises : Rises 0 (S ++ whole.rest) (next L) = rw (← whole.whole) rising.published in
     record { nothing_or_all = λ k. rw whole.whole (at_cut S whole.rest (next L) k cut rises) }

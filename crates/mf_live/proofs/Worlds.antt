@@ -2,7 +2,7 @@
 use Rattle.std.proofs.Common.{◌≡◌, ℕ, List, [], ◌∷◌, ◌++◌, refl}
 use Rattle.mf_live.specs.declared.event.Event.{Event}
 use Rattle.mf_live.specs.Prefixes.{IsWholePrefix}
-use Rattle.mf_live.specs.World.{World, start, Happen, May, after_event, world_after, IsLawful, EverySchedule, StaysLawful, published_of}
+use Rattle.mf_live.specs.World.{World, new_world, Happen, May, after_event, world_after, IsLawful, EverySchedule, StaysLawful, published_of}
 use Rattle.mf_live.proofs.Lawfulness.{lawful_start, lawful_event, published-event, shows_more}
 use Rattle.mf_live.proofs.WholePrefixes.{whole-self, whole-trans}
 
@@ -35,15 +35,15 @@ stays_lawful max_ops w (e ∷ es) lawful happen =
     (lawful, shows_more max_ops w e lawful, stays_lawful max_ops (after_event w e) es (lawful_event max_ops w e lawful happen.0) happen.1)
 
 pub every_schedule : (max_ops : ℕ) → EverySchedule max_ops
-every_schedule max_ops events happen = stays_lawful max_ops start events (lawful_start max_ops) happen
+every_schedule max_ops events happen = stays_lawful max_ops new_world events (lawful_start max_ops) happen
 
 lawful-on : (max_ops : ℕ) (w : World) (xs : List Event) → IsLawful max_ops w → Happen max_ops w xs → IsLawful max_ops (world_after w xs)
 lawful-on max_ops w [] lawful happen = lawful
 lawful-on max_ops w (x ∷ xs) lawful happen = lawful-on max_ops (after_event w x) xs (lawful_event max_ops w x lawful happen.0) happen.1
 
 -- what happens from the start leaves a lawful world
-pub lawful-after : (max_ops : ℕ) (xs : List Event) → Happen max_ops start xs → IsLawful max_ops (world_after start xs)
-lawful-after max_ops xs happen = lawful-on max_ops start xs (lawful_start max_ops) happen
+pub lawful-after : (max_ops : ℕ) (xs : List Event) → Happen max_ops new_world xs → IsLawful max_ops (world_after new_world xs)
+lawful-after max_ops xs happen = lawful-on max_ops new_world xs (lawful_start max_ops) happen
 
 published-on : (max_ops : ℕ) (w : World) (xs : List Event) → IsLawful max_ops w → Happen max_ops w xs → IsWholePrefix w.published (world_after w xs).published
 published-on max_ops w [] lawful happen = whole-self w.published
@@ -53,7 +53,8 @@ published-on max_ops w (x ∷ xs) lawful happen =
     whole-trans w.published w_next.published (world_after w_next xs).published (published-event max_ops w x lawful) later
 
 -- what is published is a whole prefix of what is published later
-pub published-grows : (max_ops : ℕ) (xs ys : List Event) → Happen max_ops start (xs ++ ys) → IsWholePrefix (published_of xs) (published_of (xs ++ ys))
+pub published-grows : (max_ops : ℕ) (xs ys : List Event) → Happen max_ops new_world (xs ++ ys) → IsWholePrefix (published_of xs) (published_of (xs ++ ys))
 published-grows max_ops xs ys happen =
-    let lawful = lawful-after max_ops xs (Happen-prefix max_ops start xs ys happen) in
-    rw (world_after-append start xs ys, published_of) (published-on max_ops (world_after start xs) ys lawful (Happen-rest max_ops start xs ys happen))
+    let lawful = lawful-after max_ops xs (Happen-prefix max_ops new_world xs ys happen) in
+    let rest = Happen-rest max_ops new_world xs ys happen in
+    rw (world_after-append new_world xs ys, published_of) (published-on max_ops (world_after new_world xs) ys lawful rest)

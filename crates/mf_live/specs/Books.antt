@@ -2,7 +2,7 @@
 use Rattle.std.specs.Prelude.{◌≡◌, ◌==◌, true, ℕ, List, [], ◌∷◌, ◌++◌, length, MatchBool}
 use Rattle.logbook.specs.Pages.{Cell, Step, View, Book, Named}
 use Rattle.mf_live.specs.declared.event.Event.{Event}
-use Rattle.mf_live.specs.World.{Happen, start}
+use Rattle.mf_live.specs.World.{Happen, new_world}
 
 -- the greatest number of operations that any writer accepts: `max_ops` is a number of four bytes
 abbrev pub most : ℕ
@@ -12,7 +12,7 @@ most = 4294967295
 -- happen in its turn
 pub record IsLawfulBook (cells : List Cell) (events : List Event) : Type 0 where
   pub words : cells ≡ (length events, true) ∷ (0, true) ∷ []
-  pub lawful : Happen most start events
+  pub lawful : Happen most new_world events
 
 -- the word that counts the events of a book
 abbrev pub counter_of : Book → Named
@@ -21,4 +21,4 @@ counter_of b = record { tracked = true; key = 0; book = b }
 -- where the step found the number that it expected, it has added these events to all that had been seen; else others were there
 -- already
 abbrev pub Writes : List Event → Step Event → View Event ℕ → ℕ → View Event ℕ → Type 0
-Writes more s v found w = MatchBool (found == s.old) ((w.0 ≡ v.0 ++ more) × Happen most start w.0) (Unit {0})
+Writes more s v found w = MatchBool (found == s.old) ((w.0 ≡ v.0 ++ more) × Happen most new_world w.0) (Unit {0})

@@ -7,7 +7,7 @@ use Rattle.mf_live.specs.declared.history.Knowledge.{Knowledge}
 use Rattle.mf_live.specs.declared.holder.Holder.{Holder}
 use Rattle.mf_live.specs.declared.version.Version.{Version}
 use Rattle.mf_live.specs.Entries.{Entry}
-use Rattle.mf_live.specs.Rule.{book_of, history, shown_by, knowledge_of}
+use Rattle.mf_live.specs.Rule.{book_of, history, version_list, knowledge_of}
 use Rattle.mf_live.specs.World.{accepted_of, published_of}
 
 -- the version that its copies show
@@ -34,4 +34,4 @@ published_list h = published_of (events h)
 
 -- the list that its copies show
 abbrev pub visible_list : Holder → List Entry
-visible_list h = shown_by (version h)
+visible_list h = version_list (version h)

@@ -25,8 +25,8 @@ abbrev pub events_of : Version → List Event
 events_of x = (knowledge_of x).seen.log
 
 -- the list that these have published, which the version shows
-abbrev pub shown_by : Version → List Entry
-shown_by x = published_of (events_of x)
+abbrev pub version_list : Version → List Entry
+version_list x = published_of (events_of x)
 
 -- the knowledge is of the book b, and its events are a prefix of these
 pub record IsKnowledgeOf (b : Book) (events : List Event) (k : Knowledge) : Type 0 where
@@ -54,8 +54,8 @@ view_knowing k = record { identified = true; last = k; now = k; unwritten = [] }
 
 -- what a seat has seen: what it saw at its last look or, where the copy that it entered last was not shown, what it had seen
 -- before
-abbrev pub kept_by : Bool → View → Knowledge
-kept_by missed v = if missed then v.last else v.now
+abbrev pub seen_knowledge : Bool → View → Knowledge
+seen_knowledge missed v = if missed then v.last else v.now
 
 abbrev pub last_of : View → Knowledge
 last_of v = v.last

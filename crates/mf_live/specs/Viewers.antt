@@ -10,8 +10,8 @@ use Rattle.mf_live.specs.declared.viewer.Viewer.{Viewer}
 use Rattle.mf_live.specs.Books.{most}
 use Rattle.mf_live.specs.Entries.{Entry}
 use Rattle.mf_live.specs.Prefixes.{IsWholePrefix, longer}
-use Rattle.mf_live.specs.Rule.{kept_by}
-use Rattle.mf_live.specs.World.{Happen, start, world_after, accepted_of, published_of}
+use Rattle.mf_live.specs.Rule.{seen_knowledge}
+use Rattle.mf_live.specs.World.{Happen, new_world, world_after, accepted_of, published_of}
 
 -- which picture a notice is of
 abbrev pub notice_identity : Notice → Book
@@ -31,7 +31,7 @@ identity v = notice_identity v.known
 
 -- the events of its picture that a viewer knew in its last look that was answered
 abbrev pub looked_at_events : Viewer → List Event
-looked_at_events v = (kept_by v.missed (view v.reader.place)).seen.log
+looked_at_events v = (seen_knowledge v.missed (view v.reader.place)).seen.log
 
 -- the list of the last look that was answered
 abbrev pub looked_at_list : Viewer → List Entry
@@ -48,10 +48,10 @@ seen_list v = longer (looked_at_list v) (learnt_list v)
 -- these events may all happen, in this order; the writer is still there after them; and L is both what they have published and
 -- everything that they have accepted
 pub record IsPublished (events : List Event) (L : List Entry) : Type 0 where
-  pub happen : Happen most start events
+  pub happen : Happen most new_world events
   pub is : published_of events ≡ L
   pub all : accepted_of events ≡ L
-  pub alive : (world_after start events).dropped ≡ false
+  pub alive : (world_after new_world events).dropped ≡ false
 
 -- everything that the viewer has looked at or learnt of is a whole prefix of L
 pub record Extends (v : Viewer) (L : List Entry) : Type 0 where

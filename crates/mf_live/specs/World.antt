@@ -15,8 +15,8 @@ pub record World : Type 0 where
   -- whether the writer is gone
   pub dropped : Bool
 
-abbrev pub start : World
-start = record { accepted = []; published = []; seen = λ i. []; notices = []; dropped = false }
+abbrev pub new_world : World
+new_world = record { accepted = []; published = []; seen = λ i. []; notices = []; dropped = false }
 
 -- the k-th notice, or the empty list where there is none
 abbrev pub notice_at : List (List Entry) → ℕ → List Entry
@@ -90,11 +90,11 @@ StaysLawful max_ops w (e ∷ es) = IsLawful max_ops w × ShowsMore w e × StaysL
 
 -- whatever happens from the start, in whatever order, stays lawful
 abbrev pub EverySchedule : ℕ → Type 0
-EverySchedule max_ops = (events : List Event) → Happen max_ops start events → StaysLawful max_ops start events
+EverySchedule max_ops = (events : List Event) → Happen max_ops new_world events → StaysLawful max_ops new_world events
 
 -- what is accepted, and what is published, once these events have happened
 abbrev pub accepted_of : List Event → List Entry
-accepted_of events = (world_after start events).accepted
+accepted_of events = (world_after new_world events).accepted
 
 abbrev pub published_of : List Event → List Entry
-published_of events = (world_after start events).published
+published_of events = (world_after new_world events).published

@@ -8,7 +8,7 @@ use Rattle.mf_live.specs.declared.closing.Ended.{Ended}
 use Rattle.mf_live.specs.declared.writer.Writer.{Writer}
 use Rattle.mf_live.specs.Entries.{Entry, complete_list}
 use Rattle.mf_live.specs.Holders as holders
-use Rattle.mf_live.specs.Rule.{book_of, shown_by}
+use Rattle.mf_live.specs.Rule.{book_of, version_list}
 
 -- which picture it is
 abbrev pub identity : Writer → Book
@@ -47,7 +47,7 @@ ended_identity e = book_of e.swap.desk.shown.value
 
 -- what its copies show
 abbrev pub ended_published_list : Ended → List Entry
-ended_published_list e = shown_by e.swap.desk.shown.value
+ended_published_list e = version_list e.swap.desk.shown.value
 
 -- the writer is as it was
 pub record IsSameWriter (before after : Writer) : Type 0 where

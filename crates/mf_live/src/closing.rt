@@ -2,7 +2,7 @@
 ghost use Rattle.std.specs.Prelude.{◌≡◌, true};
 ghost use Rattle.mf_live.specs.Entries.{is_closed};
 ghost use Rattle.mf_live.specs.Holders.{accepted_list};
-ghost use Rattle.mf_live.specs.Rule.{shown_by};
+ghost use Rattle.mf_live.specs.Rule.{version_list};
 
 use crate::holder::Holder;
 use crate::rule::Swap;
@@ -21,7 +21,7 @@ pub struct Closing {
 /// `Drop`, since ending it may mean waiting for looks.
 pub struct Ended {
     pub(crate) swap: Swap,
-    ghost closed: { is_closed (shown_by swap.desk.shown.value) ≡ true },
+    ghost closed: { is_closed (version_list swap.desk.shown.value) ≡ true },
 }
 
 /// What is handed back where an allocation fails while a picture is closed.

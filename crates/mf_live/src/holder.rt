@@ -4,8 +4,8 @@ ghost use Rattle.left_right.specs.Sides.{view};
 ghost use Rattle.mf_live.specs.Books.{most, counter_of};
 ghost use Rattle.mf_live.specs.Entries.{pic, rev};
 ghost use Rattle.mf_live.specs.Happening.{Happen-prop};
-ghost use Rattle.mf_live.specs.Rule.{book_of, events_of, shown_by, history};
-ghost use Rattle.mf_live.specs.World.{Happen, start, world_after, accepted_of, published_of};
+ghost use Rattle.mf_live.specs.Rule.{book_of, events_of, version_list, history};
+ghost use Rattle.mf_live.specs.World.{Happen, new_world, world_after, accepted_of, published_of};
 
 use crate::book::Head;
 use crate::rule::Swap;
@@ -28,13 +28,13 @@ pub struct Holder {
     /// How many entries wait to be published. Each has one event that is not in the book yet.
     pub(crate) unwritten: u64,
     ghost head_is: { head ≡ counter_of (book_of swap.desk.shown.value) },
-    ghost shown_is: { shown_by swap.desk.shown.value ≡ published_of (history swap.desk.shown.value (view swap.desk.place)) },
-    ghost lawful: { Happen most start (history swap.desk.shown.value (view swap.desk.place)) } by { Happen-prop most start _ },
-    ghost alive: { (world_after start (history swap.desk.shown.value (view swap.desk.place))).dropped ≡ false },
+    ghost shown_is: { version_list swap.desk.shown.value ≡ published_of (history swap.desk.shown.value (view swap.desk.place)) },
+    ghost lawful: { Happen most new_world (history swap.desk.shown.value (view swap.desk.place)) } by { Happen-prop most new_world _ },
+    ghost alive: { (world_after new_world (history swap.desk.shown.value (view swap.desk.place))).dropped ≡ false },
     ghost counted: { unwritten ≡ length (view swap.desk.place).unwritten },
     ghost pictured: { working ≡ pic (accepted_of (history swap.desk.shown.value (view swap.desk.place))) },
     ghost numbered: { revision ≡ rev (accepted_of (history swap.desk.shown.value (view swap.desk.place))) },
     // There are at most two events for each published entry, so their number stays far below 2^64.
-    ghost since: { unwritten + length (shown_by swap.desk.shown.value) ≡ length (accepted_of (history swap.desk.shown.value (view swap.desk.place))) },
-    ghost short: { length (events_of swap.desk.shown.value) ≤ 2 * length (shown_by swap.desk.shown.value) },
+    ghost since: { unwritten + length (version_list swap.desk.shown.value) ≡ length (accepted_of (history swap.desk.shown.value (view swap.desk.place))) },
+    ghost short: { length (events_of swap.desk.shown.value) ≤ 2 * length (version_list swap.desk.shown.value) },
 }

@@ -9,7 +9,7 @@ ghost use Rattle.mf_live.specs.Prefixes.{IsWholePrefix, HasWholePublishes};
 ghost use Rattle.mf_live.specs.Sheets.{HasLearnt, HasLookedAt, IsLastNotTaken, sheet_picture, sheet_revision};
 ghost use Rattle.mf_live.specs.Viewers as viewers;
 ghost use Rattle.mf_live.specs.Writers as writers;
-ghost use Rattle.mf_live.specs.World.{start, Happen, EverySchedule, published_of};
+ghost use Rattle.mf_live.specs.World.{new_world, Happen, EverySchedule, published_of};
 
 use crate::closing::Closing;
 use crate::look::{Look, NoLook};
@@ -30,9 +30,9 @@ pub fn every_schedule(max_ops: u32)
 /// What was published earlier is a whole prefix of what is published later, and its revision is no greater. In a list of events a
 /// look shows what is published at its moment (`every_schedule`), so no look goes back.
 pub fn looks_never_go_back(max_ops: u32)
-    ensures prefix { (before between : List Event) → Happen max_ops start (before ++ between)
+    ensures prefix { (before between : List Event) → Happen max_ops new_world (before ++ between)
         → IsWholePrefix (published_of before) (published_of (before ++ between)) }
-    ensures revision { (before between : List Event) → Happen max_ops start (before ++ between)
+    ensures revision { (before between : List Event) → Happen max_ops new_world (before ++ between)
         → rev (published_of before) ≤ rev (published_of (before ++ between)) }
 {}
 
@@ -40,7 +40,7 @@ pub fn looks_never_go_back(max_ops: u32)
 /// of events a look shows what is published at its moment (`every_schedule`).
 pub fn looks_show_whole_publishes(max_ops: u32)
     ensures whole { (shown : List Entry) (events : List Event) → IsWholePrefix shown (published_of events) → HasWholePublishes shown (published_of events) }
-    ensures earlier { (before after : List Event) → Happen max_ops start (before ++ after)
+    ensures earlier { (before after : List Event) → Happen max_ops new_world (before ++ after)
         → HasWholePublishes (published_of before) (published_of (before ++ after)) }
 {}
 
@@ -58,7 +58,7 @@ pub fn published_is_visible_halfway(closing: &Closing)
 /// A look has, of each publish, nothing or all of it, whatever has happened to its picture since. It shows what the events that
 /// it knows have published.
 pub fn look_has_whole_publishes(look: &Look)
-    ensures { (since : List Event) → Happen most start (viewers.look_events look.now ++ since)
+    ensures { (since : List Event) → Happen most new_world (viewers.look_events look.now ++ since)
         → HasWholePublishes (viewers.shown_list look.now) (published_of (viewers.look_events look.now ++ since)) }
 {}
 

@@ -7,7 +7,7 @@ ghost use Rattle.mf_live.specs.Books.{most, counter_of};
 ghost use Rattle.mf_live.specs.Entries.{pic};
 ghost use Rattle.mf_live.specs.Holders.{identity, accepted_list, published_list};
 ghost use Rattle.mf_live.specs.Rule.{EachSeatKnows, IsShow, book_of, events_of, view_knowing, publish_events, knowledge_of};
-ghost use Rattle.mf_live.specs.World.{Happen, start, world_after};
+ghost use Rattle.mf_live.specs.World.{Happen, new_world, world_after};
 
 use super::Holder;
 use crate::book::{Happening, Head};
@@ -33,8 +33,8 @@ fn write_publish<N: Happening, R: Wait>(
     requires head { head.now ≡ counter_of prefix.old.knowledge.seen.book }
     requires count { count ≡ length (publish_events (view swap.now.desk.place)) }
     requires room { prefix.old.events + count < 2 ^ 64 }
-    requires lawful { Happen most (world_after start prefix.old.knowledge.seen.log) (publish_events (view swap.now.desk.place)) }
-    requires alive { (world_after start (prefix.old.knowledge.seen.log ++ publish_events (view swap.now.desk.place))).dropped ≡ false }
+    requires lawful { Happen most (world_after new_world prefix.old.knowledge.seen.log) (publish_events (view swap.now.desk.place)) }
+    requires alive { (world_after new_world (prefix.old.knowledge.seen.log ++ publish_events (view swap.now.desk.place))).dropped ≡ false }
     ensures book { prefix.new.knowledge.seen.book ≡ prefix.old.knowledge.seen.book }
     ensures log { prefix.new.knowledge.seen.log ≡ prefix.old.knowledge.seen.log ++ publish_events (view swap.now.desk.place) }
 {

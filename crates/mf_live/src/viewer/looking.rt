@@ -3,7 +3,7 @@ ghost use Rattle.std.specs.Prelude.{◌≡◌, List, true, IfOk, MatchResult};
 ghost use Rattle.left_right.specs.Sides.{view};
 ghost use Rattle.mf_live.specs.Entries.{Entry, ends_last, is_closed};
 ghost use Rattle.mf_live.specs.Prefixes.{IsWholePrefix, longer};
-ghost use Rattle.mf_live.specs.Rule.{IsLook, kept_by};
+ghost use Rattle.mf_live.specs.Rule.{IsLook, seen_knowledge};
 ghost use Rattle.mf_live.specs.Viewers.{identity, learnt_list, looked_at_list, seen_list, Extends, IsPublished, SeesTheSame, notice_identity, told_list, look_events, look_learnt_list, look_identity, shown_list};
 
 use super::Viewer;
@@ -19,7 +19,7 @@ fn enter(
     reader: Reader<Version, View, Lists>,
     missed: bool,
 ) -> Result<Reading<Version, View, Lists>, Reader<Version, View, Lists>>
-    ensures { MatchResult result (λ r. IsLook (kept_by missed) (view reader.place) r.part.value r.part.value (view r.place))
+    ensures { MatchResult result (λ r. IsLook (seen_knowledge missed) (view reader.place) r.part.value r.part.value (view r.place))
         (λ r. view r.place ≡ view reader.place) }
 {
     if missed {

@@ -7,8 +7,8 @@ use Rattle.mf_live.specs.declared.view.View.{View}
 use Rattle.mf_live.specs.Books.{most, counter_of}
 use Rattle.mf_live.specs.Entries.{pic, rev}
 use Rattle.mf_live.specs.Holders.{accepted_list, version}
-use Rattle.mf_live.specs.Rule.{book_of, events_of, history, shown_by, knowledge_of}
-use Rattle.mf_live.specs.World.{Happen, start, world_after, accepted_of, published_of}
+use Rattle.mf_live.specs.Rule.{book_of, events_of, history, version_list, knowledge_of}
+use Rattle.mf_live.specs.World.{Happen, new_world, world_after, accepted_of, published_of}
 use Rattle.mf_live.proofs.Histories.{few_events, few_unwritten}
 use Rattle.mf_live.proofs.Publishing.{written, all_written, accepted-publish, published-publish, alive-publish, Happen-publish, Happen-written, length-publish}
 use Rattle.mf_live.proofs.holder.Holder.publish_picture.Goals.{After-show, After-write_publish}
@@ -26,13 +26,13 @@ pub write_publish-requires-clause-lawful : goal.write_publish-requires-clause-la
 write_publish-requires-clause-lawful g c =
     let h = c.args.self.now in
     let known = c.copy-prefix.ensures ∙ ap knowledge_of c.published.ensures in
-    subst (λ (t : Knowledge). Happen most (world_after start t.seen.log) (written h)) (sym known) (Happen-written h)
+    subst (λ (t : Knowledge). Happen most (world_after new_world t.seen.log) (written h)) (sym known) (Happen-written h)
 
 pub write_publish-requires-clause-alive : goal.write_publish-requires-clause-alive
 write_publish-requires-clause-alive g c =
     let h = c.args.self.now in
     let known = c.copy-prefix.ensures ∙ ap knowledge_of c.published.ensures in
-    ap (λ (t : Knowledge). (world_after start (t.seen.log ++ written h)).dropped) known ∙ alive-publish h
+    ap (λ (t : Knowledge). (world_after new_world (t.seen.log ++ written h)).dropped) known ∙ alive-publish h
 
 log : (g : _) (c : After-write_publish g) → c.write_publish.new.prefix.knowledge.seen.log ≡ all_written c.args.self.now
 log g c =
@@ -69,12 +69,12 @@ invariant_of-self g c =
     let path = goal.at.invariant_of-self g c in
     let (shows, happened) = happened g path.After-show (log g path.After-write_publish) in
     let accepts : accepted_of (history swap.desk.shown.value (view swap.desk.place)) ≡ accepted_list h = ap accepted_of happened ∙ accepted-publish h in
-    let tells : shown_by swap.desk.shown.value ≡ accepted_list h = ap published_of shows ∙ published-publish h in
+    let tells : version_list swap.desk.shown.value ≡ accepted_list h = ap published_of shows ∙ published-publish h in
     record {
       head_is = h.head_is ∙ ap counter_of (sym book);
       shown_is = ap published_of (shows ∙ sym happened);
-      lawful = subst (Happen most start) (sym happened) (Happen-publish h);
-      alive = ap (λ (es : List Event). (world_after start es).dropped) happened ∙ alive-publish h;
+      lawful = subst (Happen most new_world) (sym happened) (Happen-publish h);
+      alive = ap (λ (es : List Event). (world_after new_world es).dropped) happened ∙ alive-publish h;
       counted = sym (ap (λ (v : View). length v.unwritten) c.show.ensures.view);
       pictured = h.pictured ∙ ap pic (sym accepts);
       numbered = h.numbered ∙ ap rev (sym accepts);
