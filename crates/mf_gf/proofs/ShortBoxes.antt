@@ -7,6 +7,7 @@ use Rattle.std.proofs.lemmas.Int.{ints}
 use Rattle.mf_gf.specs.declared.boxes.CharacterBox.{CharacterBox}
 use Rattle.mf_gf.specs.Spelling.{is_byte, is_short}
 
+-- what the tests `is_byte` and `is_short` find, as the bounds that a proof by `omega` takes
 pub record IsByte (z : ℤ) : Type 0 where
   pub least : pos 0 ≤ℤ z
   pub greatest : z ≤ℤ pos 255

@@ -71,7 +71,7 @@ short_dx dx =
     if int_le (pos 0) dx && (int_eq (int_rem dx (pos 65536)) (pos 0) && int_le (int_div dx (pos 65536)) (pos 255)) then Some
     (unsigned_abs (int_div dx (pos 65536))) else None
 
--- an escapement is a whole number of pixels in 0..255, each of them 65536 units
+-- an escapement is a whole number of pixels in 0..255, each of them 65536 units: what `short_dx` finds, said without division
 pub record IsShortDx (dx : ℤ) (pixels : ℕ) : Type 0 where
   pub whole : dx ≡ pos (65536 * pixels)
   pub fits : pixels ≤ 255
