@@ -4,6 +4,10 @@ use Rattle.logbook.specs.Pages.{Book}
 use Rattle.mf_live.specs.declared.desk.Desk.{Desk}
 use Rattle.mf_live.specs.Viewers.{notice_identity}
 
+-- the greatest number of viewers that a desk is asked for
+abbrev pub most_places : ℕ
+most_places = 64
+
 -- which picture its viewers look at
 abbrev pub desk_identity : Desk → Book
 desk_identity d = notice_identity d.known

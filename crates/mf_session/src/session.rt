@@ -32,7 +32,7 @@ pub enum EndFault {
 impl Session {
     ghost use Rattle.std.specs.Prelude.{◌≡◌, ◌⊎◌, ◌<◌, ◌≤◌, ◌↔◌, Err, IfErr, IfOk, IsOk, OnErr};
     ghost use Rattle.mf_geom.specs.declared.check.Check.{Check};
-    ghost use Rattle.mf_live.specs.Desks.{desk_identity, remaining_viewers};
+    ghost use Rattle.mf_live.specs.Desks.{desk_identity, most_places, remaining_viewers};
     ghost use Rattle.mf_live.specs.Entries.{rev};
     ghost use Rattle.mf_text.specs.Lines.{Gives};
     ghost use Rattle.mf_text.specs.Registers.{IsName};
@@ -55,7 +55,7 @@ impl Session {
         max_ops: u32,
         max_bytes: u32,
     ) -> Result<(Session, Desk), GfFault>
-        requires { places ≤ 64 }
+        requires { places ≤ most_places }
         ensures start { IfOk result (λ made. StandsFor made.0 start) }
         ensures limits { IfOk result (λ made. limits made.0 ≡ limits_of max_ops max_bytes) }
         ensures identity { IfOk result (λ made. desk_identity made.1 ≡ identity made.0) }

@@ -25,7 +25,7 @@ pub struct Variables {
 
 impl Variables {
     ghost use Rattle.std.specs.Prelude.{◌≡◌, ◌<◌, ◌≤◌, IfOk, IsOk, OnErr};
-    ghost use Rattle.mf_live.specs.Desks.{desk_identity, remaining_viewers};
+    ghost use Rattle.mf_live.specs.Desks.{desk_identity, most_places, remaining_viewers};
     ghost use Rattle.mf_live.specs.Entries.{rev};
     ghost use Rattle.mf_ops.specs.declared.op.Op.TheVariants as ops;
     ghost use Rattle.mf_text.specs.Registers.{IsName, IsSource, register_count};
@@ -42,7 +42,7 @@ impl Variables {
         places: u32,
         max_ops: u32,
     ) -> Result<(Variables, Desk), OutOfMemory>
-        requires { places ≤ 64 }
+        requires { places ≤ most_places }
         ensures blank { IfOk result (λ made. pictures made.0 ≡ blank_pictures) }
         ensures max_ops { IfOk result (λ made. Rattle.mf_session.specs.Variables.max_ops made.0 ≡ max_ops) }
         ensures identity { IfOk result (λ made. desk_identity made.1 ≡ identity made.0) }

@@ -1,7 +1,7 @@
 //! Viewers that look on, each in a thread of its own.
 ghost use Rattle.std.specs.Prelude.{◌≡◌, ◌⊎◌, ◌+◌, ◌≤◌, ◌<◌, ℕ, All, IfErr, IfOk, OnOk, length, vec_capacity};
 ghost use Rattle.logbook.specs.Pages.{Book};
-ghost use Rattle.mf_live.specs.Desks.{desk_identity, remaining_viewers};
+ghost use Rattle.mf_live.specs.Desks.{desk_identity, most_places, remaining_viewers};
 ghost use Rattle.mf_watch.specs.Watchers.{IsWatcher, identity};
 
 use crate::fault::StartFault;
@@ -72,7 +72,7 @@ impl Watching {
         looks: u32,
         gate: &Arc<G>,
     ) -> Result<Watching, StartFault>
-        requires few { viewers ≤ 64 }
+        requires few { viewers ≤ most_places }
         ensures started { IfOk result (AreStarted (desk_identity desk) looks) }
         ensures count { IfOk result (λ watching. viewer_count watching ≡ viewers) }
         ensures fault { IfErr result (λ fault. ((fault ≡ StartFault.NoPlace) × (0 < viewers)) ⊎ (fault ≡ StartFault.OutOfMemory)) }
@@ -102,7 +102,7 @@ impl Watching {
     ) -> Result<(), NoPlace>
         requires ready { IsWatcher (identity watcher) 0 (looks + 1) watcher }
         requires started { AreStarted (identity watcher) looks self.old }
-        requires few { viewer_count self.old < 64 }
+        requires few { viewer_count self.old < most_places }
         requires room { length self.old.threads.items < vec_capacity self.old.threads }
         requires joined { length self.old.threads.items < vec_capacity self.old.room }
         ensures started { AreStarted (identity watcher) looks self.new }

@@ -1,7 +1,7 @@
 //! Opening a live picture.
 ghost use Rattle.std.specs.Prelude.{◌≡◌, ◌≤◌, [], All, length, IfOk, IfSome};
 ghost use Rattle.left_right.specs.Sides.{view};
-ghost use Rattle.mf_live.specs.Desks.{desk_identity, remaining_viewers};
+ghost use Rattle.mf_live.specs.Desks.{desk_identity, most_places, remaining_viewers};
 ghost use Rattle.mf_live.specs.Holders as holders;
 ghost use Rattle.mf_live.specs.Rule.{view_knowing};
 ghost use Rattle.mf_live.specs.Viewers.{IsFresh};
@@ -25,7 +25,7 @@ pub fn open_picture<R: Wait>(
     places: u32,
     max_ops: u32,
 ) -> Result<(Writer, Desk), OutOfMemory>
-    requires { places ≤ 64 }
+    requires { places ≤ most_places }
     ensures accepted { IfOk result (λ opened. writers.accepted_list opened.0 ≡ []) }
     ensures published { IfOk result (λ opened. writers.published_list opened.0 ≡ []) }
     ensures max_ops { IfOk result (λ opened. writers.max_ops opened.0 ≡ max_ops) }
