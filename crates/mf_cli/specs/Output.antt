@@ -4,7 +4,7 @@ use Rattle.std.specs.Global.{Global}
 use Rattle.std.specs.Io.KnownBytes.{IsAtEnd}
 use Rattle.mf_words.specs.CommandLine.{gf_in, viewers_in}
 use Rattle.mf_words.specs.declared.words.Words.{Words}
-use Rattle.mf_desk.specs.Performances.{Performs, asked}
+use Rattle.mf_desk.specs.Performances.{Performs, task}
 use Rattle.mf_desk.specs.Streams.{Streams}
 use Rattle.mf_desk.specs.declared.outcome.Outcome.{Outcome}
 use Rattle.mf_desk.specs.declared.settings.Settings.{Settings}
@@ -45,7 +45,7 @@ pub record GetsOutput (viewers : ℕ) (gf : Option (List ℕ)) (s : Streams) : T
   pub all_read : IsAtEnd s.left
   pub outcome : Outcome
   pub gf_is : outcome.gf ≡ gf
-  pub performed : Performs (asked settings viewers looks) s outcome
+  pub performed : Performs (task settings viewers looks) s outcome
 
 -- everything that the script prints is written, and where a FILE is asked for, there is a font file
 abbrev pub EndsWell : Request → Streams → Type 0

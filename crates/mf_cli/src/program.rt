@@ -7,7 +7,7 @@ ghost use Rattle.mf_cli.specs.Faults.{EndsBadly, ReportsFault};
 ghost use Rattle.mf_cli.specs.Messages.{message_of, usage};
 ghost use Rattle.mf_cli.specs.Output.{EndsWell, looks, request_in, request_of, settings, words_of};
 ghost use Rattle.mf_cli.specs.Statuses.{status_of};
-ghost use Rattle.mf_desk.specs.Performances.{Performs, Tells, asked};
+ghost use Rattle.mf_desk.specs.Performances.{Performs, Tells, task};
 ghost use Rattle.mf_desk.specs.Streams.{Passes, streams_of};
 
 use crate::fault::ProgramFault;
@@ -123,7 +123,7 @@ fn run_script<S: Wait + Threads, R: Read, W: Write>(
 ) -> Result<Outcome, RunFault>
     requires { viewers ≤ 16 }
     ensures performance { IfOk result
-        (Performs (asked settings viewers looks) (streams_of R.remaining reader.old reader.new W.contents writer.old writer.new)) }
+        (Performs (task settings viewers looks) (streams_of R.remaining reader.old reader.new W.contents writer.old writer.new)) }
     ensures fault { IfErr result (λ fault. Passes (streams_of R.remaining reader.old reader.new W.contents writer.old writer.new)
         (Tells settings viewers fault)) }
     ensures end { OnOk result (IsAtEnd (R.remaining reader.new)) }

@@ -5,6 +5,7 @@ use Rattle.std.proofs.KnownBytes.{Appends-nil, Appends-trans, Consumes-nil}
 use Rattle.std.proofs.Math.Nat.{min-le_left}
 use Rattle.mf_gf.specs.Files.{Character, IsLongFile, file_if_any}
 use Rattle.mf_gf.specs.Keeping.{Keeps, max_bytes_of}
+use Rattle.mf_gf.specs.Numbers.{greatest_word}
 use Rattle.mf_gf.specs.declared.file.GfFile.{GfFile}
 use Rattle.mf_live.specs.Writers.{ended_published_list}
 use Rattle.mf_desk.specs.declared.ended_run.EndedRun.{EndedRun}
@@ -14,7 +15,7 @@ use Rattle.mf_desk.specs.declared.outcome.Outcome.{Outcome}
 use Rattle.mf_desk.specs.declared.settings.Settings.{Settings}
 use Rattle.mf_desk.specs.EndedRuns.{IsOver, glance}
 use Rattle.mf_desk.specs.Fault.{Breaks}
-use Rattle.mf_desk.specs.Performances.{IsCompleteText, IsPerformance, IsShownText, Tells, asked, limits_set, viewer_lines}
+use Rattle.mf_desk.specs.Performances.{IsCompleteText, IsPerformance, IsShownText, Tells, task, run_limits, viewer_lines}
 use Rattle.mf_desk.specs.Streams.{Passes, Streams, streams}
 use Rattle.mf_session.specs.States.{Limits}
 use Rattle.mf_watch.specs.Watchers.{HasSeen, glance_at}
@@ -22,7 +23,7 @@ use Rattle.mf_desk.proofs.Stages.{Breaks-nothing}
 
 module _ (settings : Settings) (viewers : ℕ) where
   -- a fault of the script, its reader or its writer ends the run
-  pub Tells-script : (l : Limits) (fault : RunFault) (s : Streams) → l ≡ limits_set settings → Passes s (Breaks l fault)
+  pub Tells-script : (l : Limits) (fault : RunFault) (s : Streams) → l ≡ run_limits settings → Passes s (Breaks l fault)
       → Passes s (Tells settings viewers fault)
   Tells-script l OutOfMemory s same (read, consumed, (written, out, breaks)) = (read, consumed, (written, out, inl (rw (← same) breaks)))
   Tells-script l ReadFault s same (read, consumed, (written, out, breaks)) = (read, consumed, (written, out, rw (← same) breaks))
@@ -33,22 +34,22 @@ module _ (settings : Settings) (viewers : ℕ) where
   -- nothing was read or written
   pub Tells-nothing : (unread held : Option (List ℕ)) → Passes (streams unread unread held held) (Tells settings viewers OutOfMemory)
   Tells-nothing unread held =
-      Tells-script (limits_set settings) OutOfMemory (streams unread unread held held) refl
-      ([], Consumes-nil unread, Breaks-nothing (limits_set settings) unread held)
+      Tells-script (run_limits settings) OutOfMemory (streams unread unread held held) refl
+      ([], Consumes-nil unread, Breaks-nothing (run_limits settings) unread held)
 
   pub Tells-no_room : (unread held : Option (List ℕ)) → settings.max_bytes < 3 → Passes (streams unread unread held held) (Tells settings viewers FileTooLong)
   Tells-no_room unread held few = (
     [],
     Consumes-nil unread,
-    ([], Appends-nil held, inl (record { small = omega (arith, min-le_left settings.max_bytes 2147483647); unread = refl; nothing = refl })),
+    ([], Appends-nil held, inl (record { small = omega (arith, min-le_left settings.max_bytes greatest_word); unread = refl; nothing = refl })),
   )
 
   pub Tells-no_place : (unread held : Option (List ℕ)) → 0 < viewers → Passes (streams unread unread held held) (Tells settings viewers NoPlace)
   Tells-no_place unread held some = ([], Consumes-nil unread, ([], Appends-nil held, (some, refl, refl)))
 
-  module _ (held holds later : Option (List ℕ)) (read : List ℕ) (run : EndedRun) (over : IsOver (limits_set settings) held read run holds) where
+  module _ (held holds later : Option (List ℕ)) (read : List ℕ) (run : EndedRun) (over : IsOver (run_limits settings) held read run holds) where
     -- the transcript, and the lines of the first viewers
-    abbrev pub complete : (n : ℕ) (lines : List ℕ) → lines ≡ viewer_lines n (glance run) → IsCompleteText (limits_set settings) n read (over.text ++ lines)
+    abbrev pub complete : (n : ℕ) (lines : List ℕ) → lines ≡ viewer_lines n (glance run) → IsCompleteText (run_limits settings) n read (over.text ++ lines)
     complete n lines is =
         record {
           transcript = over.text;
@@ -78,7 +79,7 @@ module _ (settings : Settings) (viewers : ℕ) where
             let text = over.text ++ viewer_lines viewers (glance run) in
             rw long (read, consumed, (text, out-more _ out, inr (all_read, record { complete = complete viewers _ refl; too_long = is_long }))))
             (λ wanting.
-            let shown : IsShownText (limits_set settings) viewers read (over.text ++ viewer_lines viewers (glance run)) = record {
+            let shown : IsShownText (run_limits settings) viewers read (over.text ++ viewer_lines viewers (glance run)) = record {
               shown = viewers;
               few = omega arith;
               complete = complete viewers _ refl;
@@ -91,7 +92,7 @@ module _ (settings : Settings) (viewers : ℕ) where
         → (IsLongFile (max_bytes_of file) settings.font [] characters → ⊥) × (outcome.gf ≡ file_if_any settings.font [] characters))
         → Appends holds later (viewer_lines viewers (glance run)) → length outcome.seen.items ≡ viewers
         → All (λ v. HasSeen (ended_published_list run.ended) looks v.items) outcome.seen.items
-        → IsPerformance (asked settings viewers looks) outcome (streams unread left held later) read
+        → IsPerformance (task settings viewers looks) outcome (streams unread left held later) read
     IsPerformance-over unread left looks outcome file same finished out count seen =
         let (fits, font) = finished over.last.characters (kept file same) in
         record {

@@ -10,7 +10,7 @@ use Rattle.mf_desk.specs.declared.settings.Settings.{Settings}
 use Rattle.mf_desk.specs.declared.fault.RunFault.TheVariants.{OutOfMemory, WriteFault, NoLook}
 use Rattle.mf_desk.specs.EndedRuns.{IsViewerLine, IsOver, IsSameEnd, glance}
 use Rattle.mf_desk.specs.Fault.{BreaksOff}
-use Rattle.mf_desk.specs.Performances.{IsShownText, Tells, limits_set, viewer_line, viewer_lines}
+use Rattle.mf_desk.specs.Performances.{IsShownText, Tells, run_limits, viewer_line, viewer_lines}
 use Rattle.mf_desk.specs.Streams.{Gets, HasPassed}
 use Rattle.mf_desk.specs.ViewerFaults.{fault_of_sheet}
 use Rattle.mf_watch.specs.Watchers.{glance_at}
@@ -64,10 +64,10 @@ IsShown-next run before after shown held holds later is same out counted at_most
 
 -- the run is over, and the lines of this many viewers are due
 module _ (settings : Settings) (viewers : ℕ) (held left holds : Option (List ℕ)) (read : List ℕ) (run : EndedRun)
-    (over : IsOver (limits_set settings) held read run holds) (all_read : IsAtEnd left) where
+    (over : IsOver (run_limits settings) held read run holds) (all_read : IsAtEnd left) where
   -- the transcript, and the lines of the first viewers
   abbrev shown_text : (shown : ℕ) (lines : List ℕ) → shown ≤ viewers → lines ≡ viewer_lines shown (glance run)
-      → IsShownText (limits_set settings) viewers read (over.text ++ lines)
+      → IsShownText (run_limits settings) viewers read (over.text ++ lines)
   shown_text shown lines few is =
       record { shown = shown; few = few; complete = complete settings viewers held holds holds read run over shown lines is }
 

@@ -13,8 +13,8 @@ use Rattle.mf_desk.specs.declared.performer.Performer.{Performer}
 use Rattle.mf_desk.specs.declared.progress.Progress.{Progress}
 use Rattle.mf_session.specs.Answers.{Answers}
 use Rattle.mf_desk.specs.Ended.{ended_of_parts, last_part, ended_lines, unended}
-use Rattle.mf_desk.specs.Fault.{AreWholeLines, Breaks}
-use Rattle.mf_desk.specs.Performer.{BreaksText, IsWritten}
+use Rattle.mf_desk.specs.Fault.{AreWholeLines, Breaks, BreaksOff}
+use Rattle.mf_desk.specs.Performer.{IsLineText, IsWritten}
 use Rattle.mf_desk.specs.Progress.{HasPerformed, IsAfter}
 use Rattle.mf_desk.specs.Streams.{Gets, HasPassed}
 use Rattle.mf_session.specs.Sessions.{StandsFor, limits}
@@ -115,19 +115,23 @@ module _ (held holds : Option (List ℕ)) (read : List ℕ) (run : Progress) (af
       let done = after.done in
       (done.text, done.out, record { done = ended_lines read; more = others; last = done.last; first = inl first; performed = done.performed })
 
-  -- the text of a line breaks off; the first completely read lines are the performed ones, and then this one
+  -- the text of this line breaks off
+  abbrev BreaksLine : List ℕ → RunFault → Option (List ℕ) → Type 0
+  BreaksLine line fault later = Gets holds later (BreaksOff (IsLineText run.performer after.done.last line) run.performer.written fault)
+
+  -- the first completely read lines are the performed ones, and then the one whose text breaks off
   Breaks-text : (fault : RunFault) (left later : Option (List ℕ)) (bytes line : List ℕ) (others first behind : List (List ℕ))
       → AreWholeLines left bytes (ended_lines read ++ others) → AreWholeLines left bytes (first ++ behind) → Prolongs line first
-      → BreaksText run.performer line fault holds later → HasPassed (Breaks bounds fault) left bytes held later
+      → BreaksLine line fault later → HasPassed (Breaks bounds fault) left bytes held later
   Breaks-text OutOfMemory left later bytes line others first behind before with_line performs broken =
-      let (written, out, nothing) = broken after.done.last after.done.stands in (
+      let (written, out, nothing) = broken in (
         after.done.text,
         subst (Appends held later) (ap (λ more. after.done.text ++ more) nothing ∙ append-nil after.done.text)
             (Appends-trans held holds later after.done.text written after.done.out out),
         record { done = ended_lines read; more = others; last = after.done.last; first = before; performed = after.done.performed },
       )
   Breaks-text (WriteFault count) left later bytes line others first behind before with_line performs broken =
-      let (written, out, (counted, (rest, (next, answer)))) = broken after.done.last after.done.stands in
+      let (written, out, (counted, (rest, (next, answer)))) = broken in
       let all : Perform bounds start first ((after.done.text ++ written) ++ rest) next =
       rw (append_assoc after.done.text written rest) (performs (written ++ rest) next answer) in (
         after.done.text ++ written,
@@ -138,11 +142,11 @@ module _ (held holds : Option (List ℕ)) (read : List ℕ) (run : Progress) (af
         ),
       )
   Breaks-text fault left later bytes line others first behind before with_line performs broken =
-      let (written, out, none) = broken after.done.last after.done.stands in absurd none
+      let (written, out, none) = broken in absurd none
 
   -- the text of a line that a line feed ends breaks off
   Breaks-ended : (fault : RunFault) (left later : Option (List ℕ)) (more line : List ℕ) → StandsForEnded line
-      → BreaksText run.performer line fault holds later → HasPassed (Breaks bounds fault) left (read ++ 10 ∷ [] ++ more) held later
+      → BreaksLine line fault later → HasPassed (Breaks bounds fault) left (read ++ 10 ∷ [] ++ more) held later
   Breaks-ended fault left later more line whole broken =
       let (others, before) = ended_lines-front read (10 ∷ more) in
       let (behind, with_line) = ended_lines-front (read ++ 10 ∷ []) more in
@@ -150,7 +154,7 @@ module _ (held holds : Option (List ℕ)) (read : List ℕ) (run : Progress) (af
       (inl (ap ended_lines (append_assoc read (10 ∷ []) more) ∙ before)) (inl with_line) (performed-ended line whole) broken
 
   pub Breaks-line_feed : (fault : RunFault) (left later : Option (List ℕ)) (more : List ℕ)
-      → BreaksText run.performer (strip_carriage_return run.line) fault holds later
+      → BreaksLine (strip_carriage_return run.line) fault later
       → HasPassed (Breaks bounds fault) left (read ++ 10 ∷ [] ++ more) held later
   Breaks-line_feed fault left later more = Breaks-ended fault left later more (strip_carriage_return run.line) kept-ended
 
@@ -169,7 +173,7 @@ module _ (held holds : Option (List ℕ)) (read : List ℕ) (run : Progress) (af
       (performed-more (unended read) more next answer)
 
   pub Breaks-last : (fault : RunFault) (left later : Option (List ℕ)) → IsAtEnd left → eqb (length run.line) 0 ≡ false
-      → BreaksText run.performer run.line fault holds later → HasPassed (Breaks bounds fault) left read held later
+      → BreaksLine run.line fault later → HasPassed (Breaks bounds fault) left read held later
   Breaks-last fault left later all_read some =
       Breaks-text fault left later read run.line (unended read ∷ []) (lines read) []
       (inr (all_read, lines-last read (some-unended some))) (inr (all_read, sym (append-nil _))) (performed-last some)
@@ -219,7 +223,7 @@ module _ (held holds : Option (List ℕ)) (read bytes : List ℕ) (old : Progres
       (IsAfter-ended held holds (read ++ bytes) with_bytes after_bytes later (strip_carriage_return bytes) new whole_line written same empty)
 
   pub Breaks-whole : (fault : RunFault) (left later : Option (List ℕ)) (more : List ℕ)
-      → BreaksText old.performer (strip_carriage_return bytes) fault holds later
+      → Gets holds later (BreaksOff (IsLineText old.performer after.done.last (strip_carriage_return bytes)) old.performer.written fault)
       → HasPassed (Breaks (limits old.performer.session) fault) left (read ++ (bytes ++ 10 ∷ []) ++ more) held later
   Breaks-whole fault left later more broken =
       subst (λ front. HasPassed (Breaks (limits old.performer.session) fault) left (front ++ more) held later) (append_assoc read bytes (10 ∷ []))

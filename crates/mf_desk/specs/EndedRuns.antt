@@ -10,7 +10,7 @@ use Rattle.mf_desk.specs.declared.performer.Performer.{Performer}
 use Rattle.mf_desk.specs.declared.settings.Settings.{Settings}
 use Rattle.mf_watch.specs.declared.glance.Glance.{Glance}
 use Rattle.mf_session.specs.Endings.{HasEnded, complete_list}
-use Rattle.mf_desk.specs.Performances.{Tells, limits_set, viewer_line}
+use Rattle.mf_desk.specs.Performances.{Tells, run_limits, viewer_line}
 use Rattle.mf_session.specs.States.{State, Limits, start}
 use Rattle.mf_session.specs.Transcript.{Perform}
 use Rattle.mf_desk.specs.Streams.{HasPassed, Streams}
@@ -55,5 +55,5 @@ pub record IsSameEnd (before after : EndedRun) : Type 0 where
 -- bytes, now holds others
 abbrev pub StopsShowing : EndedRun → ℕ → RunFault → Option (List ℕ) → Option (List ℕ) → Type 0
 StopsShowing run viewers fault holds later =
-    (settings : Settings) (held left : Option (List ℕ)) (read : List ℕ) → IsAtEnd left → IsOver (limits_set settings) held read run holds
+    (settings : Settings) (held left : Option (List ℕ)) (read : List ℕ) → IsAtEnd left → IsOver (run_limits settings) held read run holds
     → HasPassed (Tells settings viewers fault) left read held later

@@ -17,8 +17,8 @@ use Rattle.mf_session.specs.Transcript.{Perform}
 use Rattle.mf_watch.specs.Watchers.{HasSeen, glance_at}
 
 -- the limits of a session, from the settings of a run
-abbrev pub limits_set : Settings → Limits
-limits_set settings = limits_of settings.max_ops settings.max_bytes
+abbrev pub run_limits : Settings → Limits
+run_limits settings = limits_of settings.max_ops settings.max_bytes
 
 -- the line of the viewer with this number, whose last glance is this
 abbrev pub viewer_line : ℕ → Glance → List ℕ
@@ -38,30 +38,30 @@ pub record IsCompleteText (limits : Limits) (viewers : ℕ) (read text : List �
   pub is : text ≡ transcript ++ viewer_lines viewers (glance_at (complete_list last.pictures))
 
 -- what a run is asked for: its limits and its font, how many viewers look on, and how often each looks in its thread
-pub record Asked : Type 0 where
+pub record Task : Type 0 where
   pub settings : Settings
   pub viewers : ℕ
   pub looks : ℕ
 
 -- these three, in this order
-abbrev pub asked : Settings → ℕ → ℕ → Asked
-asked settings viewers looks = record { settings = settings; viewers = viewers; looks = looks }
+abbrev pub task : Settings → ℕ → ℕ → Task
+task settings viewers looks = record { settings = settings; viewers = viewers; looks = looks }
 
 -- a run of these bytes that did what it was asked for: its writer has got the transcript and the line of each viewer, and the
 -- outcome is the font file of exactly the characters that were shipped, and the record of each viewer; a run without viewers has
 -- no line of one, and no record
-pub record IsPerformance (a : Asked) (outcome : Outcome) (s : Streams) (input : List ℕ) : Type 0 where
+pub record IsPerformance (t : Task) (outcome : Outcome) (s : Streams) (input : List ℕ) : Type 0 where
   pub text : List ℕ
-  pub complete : IsCompleteText (limits_set a.settings) a.viewers input text
+  pub complete : IsCompleteText (run_limits t.settings) t.viewers input text
   pub out : Appends s.held s.holds text
-  pub fits : IsLongFile (limits_set a.settings).max_bytes a.settings.font [] complete.last.characters → ⊥
-  pub font : outcome.gf ≡ file_if_any a.settings.font [] complete.last.characters
-  pub count : length outcome.seen.items ≡ a.viewers
-  pub seen : All (λ v. HasSeen (complete_list complete.last.pictures) a.looks v.items) outcome.seen.items
+  pub fits : IsLongFile (run_limits t.settings).max_bytes t.settings.font [] complete.last.characters → ⊥
+  pub font : outcome.gf ≡ file_if_any t.settings.font [] complete.last.characters
+  pub count : length outcome.seen.items ≡ t.viewers
+  pub seen : All (λ v. HasSeen (complete_list complete.last.pictures) t.looks v.items) outcome.seen.items
 
 -- the run did what it was asked for with the bytes that it has read; where the reader is at its end, they are all that it had
-abbrev pub Performs : Asked → Streams → Outcome → Type 0
-Performs a s outcome = (read : List ℕ) × Consumes s.unread s.left read × IsPerformance a outcome s read
+abbrev pub Performs : Task → Streams → Outcome → Type 0
+Performs t s outcome = (read : List ℕ) × Consumes s.unread s.left read × IsPerformance t outcome s read
 
 -- this is the complete transcript, and the lines of the first of these viewers
 pub record IsShownText (limits : Limits) (viewers : ℕ) (read text : List ℕ) : Type 0 where
@@ -83,15 +83,15 @@ pub record HasNoRoom (limits : Limits) (p : Passage) : Type 0 where
 -- this is the complete transcript and all lines of viewers, and the font file of the characters would have more bytes than it may
 -- have
 pub record IsBeforeLongFile (settings : Settings) (viewers : ℕ) (read text : List ℕ) : Type 0 where
-  pub complete : IsCompleteText (limits_set settings) viewers read text
-  pub too_long : IsLongFile (limits_set settings).max_bytes settings.font [] complete.last.characters
+  pub complete : IsCompleteText (run_limits settings) viewers read text
+  pub too_long : IsLongFile (run_limits settings).max_bytes settings.font [] complete.last.characters
 
 -- what each fault that ends a run beside this many viewers says about what was read and written; `NoPlace` comes only where there
 -- are viewers, and `NoLook` only where the line of one is not written
 abbrev pub Tells : Settings → ℕ → RunFault → Passage → Type 0
-Tells settings viewers OutOfMemory p = IsUncutText (limits_set settings) viewers p p.written
+Tells settings viewers OutOfMemory p = IsUncutText (run_limits settings) viewers p p.written
 Tells settings viewers NoPlace p = (0 < viewers) × (p.read ≡ []) × (p.written ≡ [])
-Tells settings viewers FileTooLong p = HasNoRoom (limits_set settings) p ⊎ (IsAtEnd p.left × IsBeforeLongFile settings viewers p.read p.written)
-Tells settings viewers ReadFault p = IsEndedText (limits_set settings) p.read p.written
-Tells settings viewers (WriteFault count) p = (length p.written ≡ count) × IsPrefixOf (IsUncutText (limits_set settings) viewers p) p.written
-Tells settings viewers NoLook p = IsAtEnd p.left × ((some : IsShownText (limits_set settings) viewers p.read p.written) × (some.shown < viewers))
+Tells settings viewers FileTooLong p = HasNoRoom (run_limits settings) p ⊎ (IsAtEnd p.left × IsBeforeLongFile settings viewers p.read p.written)
+Tells settings viewers ReadFault p = IsEndedText (run_limits settings) p.read p.written
+Tells settings viewers (WriteFault count) p = (length p.written ≡ count) × IsPrefixOf (IsUncutText (run_limits settings) viewers p) p.written
+Tells settings viewers NoLook p = IsAtEnd p.left × ((some : IsShownText (run_limits settings) viewers p.read p.written) × (some.shown < viewers))

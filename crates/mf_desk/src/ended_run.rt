@@ -1,6 +1,7 @@
 //! A run whose script has ended: its viewers are shown the last picture.
 ghost use Rattle.std.specs.Io.KnownBytes.{Appends};
 ghost use Rattle.std.specs.Prelude.{◌≡◌, ◌≢◌, ◌+◌, ◌<◌, ◌≤◌, ◌^◌, ℕ, All, Err, IfErr, IfOk, OnOk, length};
+ghost use Rattle.mf_live.specs.Desks.{most_places};
 ghost use Rattle.mf_live.specs.Writers.{ended_identity, ended_published_list};
 ghost use Rattle.mf_desk.specs.EndedRuns.{IsViewerLine, IsSameEnd, StopsShowing, glance};
 ghost use Rattle.mf_desk.specs.Fault.{BreaksOff};
@@ -38,7 +39,7 @@ impl EndedRun {
     ) -> Result<Vec<Vec<Glance>>, RunFault>
         requires identities { IfOk joined (λ watchers. All (λ w. identity w ≡ ended_identity self.old.ended) watchers.items) }
         requires rooms { IfOk joined (λ watchers. All (HasRoomFor 1) watchers.items) }
-        requires few { IfOk joined (λ watchers. length watchers.items ≤ 64) }
+        requires few { IfOk joined (λ watchers. length watchers.items ≤ most_places) }
         requires short { self.old.written ≤ 2 ^ 101 }
         ensures no_look { IfErr joined (λ _. result ≡ Err RunFault.NoLook) }
         ensures same { IsSameEnd self.old self.new }
@@ -66,7 +67,7 @@ impl EndedRun {
     ) -> Result<Vec<Vec<Glance>>, RunFault>
         requires identities { All (λ w. identity w ≡ ended_identity self.old.ended) watchers.items }
         requires rooms { All (HasRoomFor 1) watchers.items }
-        requires few { length watchers.items ≤ 64 }
+        requires few { length watchers.items ≤ most_places }
         requires short { self.old.written ≤ 2 ^ 101 }
         ensures same { IsSameEnd self.old self.new }
         ensures shown { OnOk result (Appends (W.contents writer.old) (W.contents writer.new) (viewer_lines (length watchers.items) (glance self.old))) }

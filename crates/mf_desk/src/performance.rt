@@ -1,7 +1,8 @@
 //! A run beside viewers in threads.
 ghost use Rattle.std.specs.Io.KnownBytes.{IsAtEnd};
 ghost use Rattle.std.specs.Prelude.{◌≡◌, ◌≢◌, ◌⊎◌, ◌<◌, ◌≤◌, ◌^◌, ℕ, [], Err, IfErr, IfOk, List, OnOk, Option, length};
-ghost use Rattle.mf_desk.specs.Performances.{Performs, Tells, asked, limits_set};
+ghost use Rattle.mf_live.specs.Desks.{most_places};
+ghost use Rattle.mf_desk.specs.Performances.{Performs, Tells, task, run_limits};
 ghost use Rattle.mf_desk.specs.Progress.{IsAfter};
 ghost use Rattle.mf_desk.specs.Streams.{Passes, streams_of};
 ghost use Rattle.mf_session.specs.Sessions.{identity, limits};
@@ -38,16 +39,17 @@ pub fn perform<S: Wait + Threads, R: Read, W: Write, G: Gate + 'static>(
     looks: u32,
     gate: &Arc<G>,
 ) -> Result<Outcome, RunFault>
-    requires { viewers ≤ 64 }
+    requires { viewers ≤ most_places }
     ensures too_small { settings.now.max_bytes < 3 → (result ≡ Err RunFault.FileTooLong) ⊎ (result ≡ Err RunFault.OutOfMemory) }
     ensures untouched { settings.now.max_bytes < 3 → (reader.new ≡ reader.old) × (writer.new ≡ writer.old) }
     ensures no_place { result ≡ Err RunFault.NoPlace → (reader.new ≡ reader.old) × (writer.new ≡ writer.old) }
     ensures performance { IfOk result
-        (Performs (asked settings.now viewers looks) (streams_of R.remaining reader.old reader.new W.contents writer.old writer.new)) }
+        (Performs (task settings.now viewers looks) (streams_of R.remaining reader.old reader.new W.contents writer.old writer.new)) }
     ensures end { OnOk result (IsAtEnd (R.remaining reader.new)) }
     ensures fault { IfErr result (λ fault.
         Passes (streams_of R.remaining reader.old reader.new W.contents writer.old writer.new) (Tells settings.now viewers fault)) }
 {
+    // Memory for reads comes first: where it fails, nothing was read or written, and no thread was started.
     let mut memory = vec![in alloc; 0u8; CHUNK_SIZE]?;
     let (progress, desk) = Progress::new(rt, alloc, settings, viewers)?;
     let watching = match Watching::start(rt, alloc, desk, viewers, looks, gate) {
@@ -57,7 +59,7 @@ pub fn perform<S: Wait + Threads, R: Read, W: Write, G: Gate + 'static>(
             return Err(fault.into());
         }
     };
-    perform_watched(
+    perform_beside_viewers(
         rt,
         alloc,
         reader,
@@ -71,7 +73,7 @@ pub fn perform<S: Wait + Threads, R: Read, W: Write, G: Gate + 'static>(
 
 /// Performs a script while these viewers look on, joins their threads, lets each viewer look once more and writes its line, and
 /// finishes the font file. `chunk` is the buffer for reads.
-fn perform_watched<S: Wait + Threads, R: Read, W: Write>(
+fn perform_beside_viewers<S: Wait + Threads, R: Read, W: Write>(
     rt: &S,
     alloc: Global,
     reader: &mut R,
@@ -83,13 +85,13 @@ fn perform_watched<S: Wait + Threads, R: Read, W: Write>(
 ) -> Result<Outcome, RunFault>
     requires start { (held : Option (List ℕ)) → IsAfter held [] progress held }
     requires unwritten { progress.performer.written ≡ 0 }
-    requires limits { limits progress.performer.session ≡ limits_set settings.now }
+    requires limits { limits progress.performer.session ≡ run_limits settings.now }
     requires some { 0 < length chunk.old }
     requires short { length chunk.old ≤ 2 ^ 16 }
-    requires few { viewer_count watching ≤ 64 }
+    requires few { viewer_count watching ≤ most_places }
     requires started { (looks : ℕ) × AreStarted (identity progress.performer.session) looks watching }
     ensures performance { IfOk result (λ outcome. (looks : ℕ) → AreStarted (identity progress.performer.session) looks watching
-        → Performs (asked settings.now (viewer_count watching) looks)
+        → Performs (task settings.now (viewer_count watching) looks)
         (streams_of R.remaining reader.old reader.new W.contents writer.old writer.new) outcome) }
     ensures end { OnOk result (IsAtEnd (R.remaining reader.new)) }
     ensures fault { IfErr result (λ fault.
@@ -97,6 +99,7 @@ fn perform_watched<S: Wait + Threads, R: Read, W: Write>(
     ensures places { result ≢ Err RunFault.NoPlace }
 {
     let completed = progress.complete(rt, alloc, reader, writer, chunk);
+    // A fault has ended the picture by now, so that looks are refused and the threads end early.
     let joined = watching.join(rt);
     let mut ended = completed?;
     let shown = ended.show(alloc, writer, joined);

@@ -1,9 +1,10 @@
 //! Performing lines one after another, and writing what each prints before the next is performed.
 ghost use Rattle.std.specs.Prelude.{◌≡◌, ◌⊎◌, ◌+◌, ◌<◌, ◌≤◌, ◌^◌, ◌↔◌, Err, IfErr, IfOk, OnOk};
-ghost use Rattle.mf_live.specs.Desks.{desk_identity, remaining_viewers};
+ghost use Rattle.mf_live.specs.Desks.{desk_identity, most_places, remaining_viewers};
 ghost use Rattle.mf_desk.specs.EndedRuns.{IsEndOf};
-ghost use Rattle.mf_desk.specs.Performances.{limits_set};
-ghost use Rattle.mf_desk.specs.Performer.{BreaksText, IsWritten};
+ghost use Rattle.mf_desk.specs.Fault.{BreaksOff};
+ghost use Rattle.mf_desk.specs.Performances.{run_limits};
+ghost use Rattle.mf_desk.specs.Performer.{IsLineText, IsWritten};
 ghost use Rattle.mf_desk.specs.Streams.{Gets};
 ghost use Rattle.mf_session.specs.Sessions.{StandsFor, identity, limits};
 ghost use Rattle.mf_session.specs.States.{State, start};
@@ -22,7 +23,7 @@ use std::sync::Wait;
 /// A session, and how many bytes of its transcript were written.
 pub struct Performer {
     pub session: Session,
-    /// Number of bytes that were written since the run began.
+    /// Number of bytes that were written since the run began. It has 128 bits, since a text alone may have nearly 2^64 bytes.
     pub written: u128,
 }
 
@@ -35,9 +36,9 @@ impl Performer {
         settings: &Settings,
         viewers: u32,
     ) -> Result<(Performer, Desk), RunFault>
-        requires { viewers ≤ 64 }
+        requires { viewers ≤ most_places }
         ensures start { IfOk result (λ made. StandsFor made.0.session start) }
-        ensures limits { IfOk result (λ made. limits made.0.session ≡ limits_set settings.now) }
+        ensures limits { IfOk result (λ made. limits made.0.session ≡ run_limits settings.now) }
         ensures identity { IfOk result (λ made. desk_identity made.1 ≡ identity made.0.session) }
         ensures places { IfOk result (λ made. remaining_viewers made.1 ≤ viewers) }
         ensures written { IfOk result (λ made. made.0.written ≡ 0) }
@@ -72,7 +73,8 @@ impl Performer {
         ensures at_most { OnOk result (self.new.written ≤ self.old.written + 2 ^ 64) }
         ensures limits { limits self.new.session ≡ limits self.old.session }
         ensures identity { identity self.new.session ≡ identity self.old.session }
-        ensures fault { IfErr result (λ fault. BreaksText self.old line.now fault (W.contents writer.old) (W.contents writer.new)) }
+        ensures fault { IfErr result (λ fault. (s : State) → StandsFor self.old.session s
+            → Gets (W.contents writer.old) (W.contents writer.new) (BreaksOff (IsLineText self.old s line.now) self.old.written fault)) }
     {
         if line.is_empty() {
             return Ok(());
@@ -94,7 +96,8 @@ impl Performer {
         ensures at_most { OnOk result (self.new.written ≤ self.old.written + 2 ^ 64) }
         ensures limits { limits self.new.session ≡ limits self.old.session }
         ensures identity { identity self.new.session ≡ identity self.old.session }
-        ensures fault { IfErr result (λ fault. BreaksText self.old line.now fault (W.contents writer.old) (W.contents writer.new)) }
+        ensures fault { IfErr result (λ fault. (s : State) → StandsFor self.old.session s
+            → Gets (W.contents writer.old) (W.contents writer.new) (BreaksOff (IsLineText self.old s line.now) self.old.written fault)) }
     {
         let text = self.session.command(rt, alloc, line)?;
         match write_counted(writer, text.as_slice()) {

@@ -2,11 +2,11 @@
 ghost use Rattle.std.specs.Io.KnownBytes.{IsAtEnd};
 ghost use Rattle.std.specs.Str.Lines.{lines};
 ghost use Rattle.std.specs.Prelude.{◌≡◌, ◌≢◌, ◌⊎◌, ◌+◌, ◌*◌, ◌<◌, ◌≤◌, ◌^◌, ◌↔◌, ◌++◌, ◌∷◌, All, Err, Option, List, ℕ, [], IfErr, IfOk, OnOk, length};
-ghost use Rattle.mf_live.specs.Desks.{desk_identity, remaining_viewers};
+ghost use Rattle.mf_live.specs.Desks.{desk_identity, most_places, remaining_viewers};
 ghost use Rattle.mf_live.specs.Writers.{ended_identity};
 ghost use Rattle.mf_desk.specs.EndedRuns.{EndsWith};
 ghost use Rattle.mf_desk.specs.Fault.{Breaks};
-ghost use Rattle.mf_desk.specs.Performances.{limits_set};
+ghost use Rattle.mf_desk.specs.Performances.{run_limits};
 ghost use Rattle.mf_desk.specs.Progress.{BreaksAfter, GoesOn, HasPerformed, IsAfter, ReadsThrough};
 ghost use Rattle.mf_desk.specs.Streams.{HasPassed, Passes, streams_of};
 ghost use Rattle.mf_session.specs.Sessions.{identity, limits};
@@ -24,7 +24,8 @@ use std::alloc::Global;
 use std::io::{Read, Write};
 use std::sync::Wait;
 
-/// The greatest number of reads of a run, including the one that reports the end.
+/// The greatest number of reads of a run, including the one that reports the end. A read gives at most 2^16 bytes, each of
+/// which may end a line, and a line prints fewer than 2^64 bytes. So a run writes at most 2^101 bytes, and can count them.
 const MAX_READS: u32 = 1_048_576;
 
 /// A run in progress.
@@ -42,9 +43,9 @@ impl Progress {
         settings: &Settings,
         viewers: u32,
     ) -> Result<(Progress, Desk), RunFault>
-        requires { viewers ≤ 64 }
+        requires { viewers ≤ most_places }
         ensures start { IfOk result (λ made. (held : Option (List ℕ)) → IsAfter held [] made.0 held) }
-        ensures limits { IfOk result (λ made. limits made.0.performer.session ≡ limits_set settings.now) }
+        ensures limits { IfOk result (λ made. limits made.0.performer.session ≡ run_limits settings.now) }
         ensures identity { IfOk result (λ made. desk_identity made.1 ≡ identity made.0.performer.session) }
         ensures places { IfOk result (λ made. remaining_viewers made.1 ≤ viewers) }
         ensures written { IfOk result (λ made. made.0.performer.written ≡ 0) }

@@ -3,7 +3,7 @@ ghost use Rattle.std.specs.Io.KnownBytes.{IsAtEnd};
 ghost use Rattle.std.specs.Prelude.{◌≡◌, ◌⊎◌, ◌<◌, ◌↔◌, ℕ, [], Err, IfErr, IfOk, OnOk, List};
 ghost use Rattle.mf_gf.specs.Files.{Character, IsLongFile, file_if_any};
 ghost use Rattle.mf_gf.specs.Keeping.{Keeps, max_bytes_of};
-ghost use Rattle.mf_desk.specs.Performances.{Performs, Tells, asked};
+ghost use Rattle.mf_desk.specs.Performances.{Performs, Tells, task};
 ghost use Rattle.mf_desk.specs.Streams.{Passes, streams_of};
 
 use crate::fault::RunFault;
@@ -31,13 +31,14 @@ pub fn run<S: Wait, R: Read, W: Write>(
     settings: &Settings,
 ) -> Result<Outcome, RunFault>
     ensures transcript { IfOk result (λ outcome. (looks : ℕ)
-        → Performs (asked settings.now 0 looks) (streams_of R.remaining reader.old reader.new W.contents writer.old writer.new) outcome) }
+        → Performs (task settings.now 0 looks) (streams_of R.remaining reader.old reader.new W.contents writer.old writer.new) outcome) }
     ensures end { OnOk result (IsAtEnd (R.remaining reader.new)) }
     ensures fault { IfErr result (λ fault.
         Passes (streams_of R.remaining reader.old reader.new W.contents writer.old writer.new) (Tells settings.now 0 fault)) }
     ensures too_small { settings.now.max_bytes < 3 → (result ≡ Err RunFault.FileTooLong) ⊎ (result ≡ Err RunFault.OutOfMemory) }
     ensures untouched { settings.now.max_bytes < 3 → (reader.new ≡ reader.old) × (writer.new ≡ writer.old) }
 {
+    // Memory for reads comes first: where it fails, nothing was read or written.
     let mut memory = vec![in alloc; 0u8; CHUNK_SIZE]?;
     let (progress, _) = Progress::new(rt, alloc, settings, 0)?;
     let ended = progress.complete(rt, alloc, reader, writer, memory.as_mut_slice())?;

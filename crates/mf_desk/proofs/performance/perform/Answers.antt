@@ -50,11 +50,11 @@ returns-in-Err g c =
           rw is (Tells-nothing settings c.args.viewers _ _)) c.in-Err.ensures.fault;
     }
 
-pub perform_watched-requires-clause-few : goal.perform_watched-requires-clause-few
-perform_watched-requires-clause-few g c = omega (arith, c.requires, c.in-Ok.ensures.count)
+pub perform_beside_viewers-requires-clause-few : goal.perform_beside_viewers-requires-clause-few
+perform_beside_viewers-requires-clause-few g c = omega (arith, c.requires, c.in-Ok.ensures.count)
 
-pub perform_watched-requires-clause-started : goal.perform_watched-requires-clause-started
-perform_watched-requires-clause-started g c = (
+pub perform_beside_viewers-requires-clause-started : goal.perform_beside_viewers-requires-clause-started
+perform_beside_viewers-requires-clause-started g c = (
   c.args.looks,
   subst (λ picture. AreStarted picture c.args.looks c.in-Ok.watching) c.in_ok-progress.ensures.identity c.in-Ok.ensures.started,
 )
@@ -63,10 +63,10 @@ pub returns-clause-performance : goal.returns-clause-performance
 returns-clause-performance g c =
     let started = subst (λ picture. AreStarted picture c.args.looks c.in-Ok.watching) c.in_ok-progress.ensures.identity c.in-Ok.ensures.started in
     rw (sym c.in-Ok.ensures.count)
-    (IfOk-weaker c.perform_watched.result _ _ (λ outcome performance. performance c.args.looks started) c.perform_watched.ensures.performance)
+    (IfOk-weaker c.perform_beside_viewers.result _ _ (λ outcome performance. performance c.args.looks started) c.perform_beside_viewers.ensures.performance)
 
 pub returns-clause-fault : goal.returns-clause-fault
-returns-clause-fault g c = rw (sym c.in-Ok.ensures.count) c.perform_watched.ensures.fault
+returns-clause-fault g c = rw (sym c.in-Ok.ensures.count) c.perform_beside_viewers.ensures.fault
 
 pub returns-clause-no_place : goal.returns-clause-no_place
-returns-clause-no_place g c = λ place. absurd (c.perform_watched.ensures.places place)
+returns-clause-no_place g c = λ place. absurd (c.perform_beside_viewers.ensures.places place)

@@ -17,7 +17,8 @@ returns-in_err-perform-clause-fault g c =
     let passed_on = err_from_is_err_and c.from_residual.result c.from_residual.ensures.1 in
     let broken = rw c.at_end.ensures at c.in_err-perform.ensures.fault in
     rw (passed_on.1, passed_on.2) (λ held left read all_read after.
-    Breaks-last held _ read c.args.self.now after c.in_err-perform.field-0.0 left _ all_read (sym (c.if-is_empty.ensures)) broken)
+    Breaks-last held _ read c.args.self.now after c.in_err-perform.field-0.0 left _ all_read (sym (c.if-is_empty.ensures))
+    (broken after.done.last after.done.stands))
 
 pub returns-clause-done : goal.returns-clause-done
 returns-clause-done g c =

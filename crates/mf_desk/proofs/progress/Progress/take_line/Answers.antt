@@ -28,7 +28,8 @@ pub returns-then-is_empty-clause-fault : goal.returns-then-is_empty-clause-fault
 returns-then-is_empty-clause-fault g c =
     let broken_off = rw c.before_line_feed-line.ensures at c.perform.ensures.fault in
     IfErr-weaker c.perform.result _ _ (λ fault broken held left read more after.
-    Breaks-whole held _ read c.args.bytes.now c.args.self.now after (sym (c.if-is_empty.ensures)) c.requires.unbroken fault left _ more broken) broken_off
+    Breaks-whole held _ read c.args.bytes.now c.args.self.now after (sym (c.if-is_empty.ensures)) c.requires.unbroken fault left _ more
+    (broken after.done.last after.done.stands)) broken_off
 
 pub returns-in_err-keep-clause-fault : goal.returns-in_err-keep-clause-fault
 returns-in_err-keep-clause-fault g c =

@@ -6,14 +6,14 @@ use Rattle.mf_desk.specs.declared.fault.RunFault.TheVariants.{NoPlace}
 use Rattle.mf_desk.specs.declared.outcome.Outcome.{Outcome}
 use Rattle.mf_watch.specs.declared.watcher.Watcher.{Watcher}
 use Rattle.mf_desk.specs.EndedRuns.{EndsWith, glance}
-use Rattle.mf_desk.specs.Performances.{limits_set, viewer_lines}
+use Rattle.mf_desk.specs.Performances.{run_limits, viewer_lines}
 use Rattle.mf_desk.specs.Streams.{streams_of}
 use Rattle.mf_session.specs.Sessions.{identity}
 use Rattle.mf_watch.specs.Watchers.{IsRecord, IsWatcher}
 use Rattle.mf_watch.specs.Watching.{AreStarted, viewer_count}
 use Rattle.mf_desk.proofs.Performances.{Tells-script, Tells-unfinished, IsPerformance-over, elsewhere-script}
-use Rattle.mf_desk.proofs.performance.perform_watched.Goals.{After-join-joined, In_ok-ended, In_ok-seen}
-use Rattle.mf_desk.proofs.performance.perform_watched.Goals as goal
+use Rattle.mf_desk.proofs.performance.perform_beside_viewers.Goals.{After-join-joined, In_ok-ended, In_ok-seen}
+use Rattle.mf_desk.proofs.performance.perform_beside_viewers.Goals as goal
 
 pub returns-in_err-ended-clause-fault : goal.returns-in_err-ended-clause-fault
 returns-in_err-ended-clause-fault g c =
@@ -43,7 +43,7 @@ show-shown-requires-clause-rooms g c =
     let (looks, started) = c.requires.started in
     joined g (goal.at.show-shown-requires-clause-rooms g c).After-join-joined looks _ started (λ w is. is.room)
 
-ended : (g : _) (c : In_ok-ended g) → EndsWith (limits_set c.args.settings.now) (streams_of g.R.Read.remaining c.args.reader.now
+ended : (g : _) (c : In_ok-ended g) → EndsWith (run_limits c.args.settings.now) (streams_of g.R.Read.remaining c.args.reader.now
     c.complete-completed.new.reader g.W.Write.contents c.args.writer.now c.complete-completed.new.writer) c.in_ok-ended.ended
 ended g c =
     subst (λ l. EndsWith l (streams_of g.R.Read.remaining c.args.reader.now c.complete-completed.new.reader g.W.Write.contents c.args.writer.now
