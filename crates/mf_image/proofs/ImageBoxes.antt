@@ -5,10 +5,11 @@ use Rattle.mf_geom.specs.Coordinates.{field_size, least_coordinate, last_in_fiel
 use Rattle.mf_rows.specs.declared.bounds.Box4.{Box4}
 use Rattle.mf_rows.specs.Bounds.{IsLeastBox}
 use Rattle.mf_rows.specs.Dots.{Dot, IsPicture}
-use Rattle.mf_show.specs.Boxes.{box_of_dots}
+use Rattle.mf_show.specs.Boxes.{IsBoxOfField, box_of_dots}
 use Rattle.mf_show.specs.Grid.{extent}
 use Rattle.mf_show.proofs.LeastBoxes.{least_box_of_dots, least_box_of_field, least_box_of_some, same_least_box}
 use Rattle.mf_image.specs.Boxes.{IsImageBox, IsLargeBox, IsTooLargeForImage, greatest_side, image_box, origin}
+use Rattle.mf_image.specs.Svg.{IsSmall, IsSmallBox, view_box_of}
 
 least_is_image_box : (ds : List Dot) (b : Box4) → IsLeastBox ds b → b ≡ image_box ds
 unfolding image_box
@@ -52,7 +53,7 @@ pub is_large : (ds : List Dot) (b : Box4) (columns rows : ℕ) → b ≡ image_b
 is_large ds b columns rows is wide high (inl more) = inl (rw (← is, ← wide) more)
 is_large ds b columns rows is wide high (inr more) = inr (rw (← is, ← high) more.1)
 
--- ---- the sides of a sheet
+-- ---- the numbers of a view box
 
 pub is_within : (first last : ℤ) → least_coordinate ≤ℤ first → last ≤ℤ last_in_field → first ≤ℤ last → extent first last ≤ field_size
 is_within first last left right order = omega (arith, ints)
@@ -62,3 +63,15 @@ side n small = omega (arith, ints)
 
 pub signed : (n : ℕ) → n ≤ field_size → to_z w32 n ≡ pos n
 signed n small = omega (arith, ints)
+
+pub small_box : (b : Box4) → IsBoxOfField b → IsSmallBox (view_box_of b)
+small_box b field = record {
+  left = record { least = omega (arith, ints, field.left); greatest = omega (arith, ints, field.columns, field.right) };
+  top = record { least = omega (arith, ints, field.top); greatest = omega (arith, ints, field.rows, field.bottom) };
+  width = record { least = omega (arith, ints); greatest = omega (arith, ints, field.left, field.right, field.columns) };
+  height = record { least = omega (arith, ints); greatest = omega (arith, ints, field.bottom, field.top, field.rows) };
+}
+
+-- a small number stays itself as a value of 32 bits
+pub stays_small : (z : ℤ) → IsSmall z → to_z w32 (of_z w32 z) ≡ z
+stays_small z small = omega (arith, ints, small.least, small.greatest)

@@ -8,7 +8,6 @@ use Rattle.std.proofs.lemmas.Bool.Decides.{Decides-int_eq}
 use Rattle.std.proofs.lemmas.Int.{ints, fold-int_min_bounds, fold-int_max_bounds}
 use Rattle.std.proofs.lemmas.List.{append-nil}
 use Rattle.std.proofs.lemmas.List.Elements.{All-head, All-tail}
-use Rattle.mf_rows.specs.declared.bounds.Box4.{Box4}
 use Rattle.mf_rows.specs.declared.run.Run.{Run}
 use Rattle.mf_rows.specs.Dots.{Dot, IsPicture, start_of_field, weight_at}
 use Rattle.mf_rows.specs.Order.{IsRun}
@@ -18,12 +17,12 @@ use Rattle.mf_rows.proofs.Totals.{total_none}
 use Rattle.mf_show.specs.Boxes.{IsBoxOfField, box_of_dots}
 use Rattle.mf_show.specs.Grid.{extent}
 use Rattle.mf_show.proofs.LeastBoxes.{least_box_of_dots, least_box_of_field}
-use Rattle.mf_image.specs.declared.svg_image.Sheet.{Sheet}
+use Rattle.mf_image.specs.declared.svg_image.ViewBox.{ViewBox}
 use Rattle.mf_image.specs.Boxes.{image_box}
 use Rattle.mf_image.specs.Reading.{after, number, read, read_svg}
-use Rattle.mf_image.specs.Svg.{axes, color, cover, opening, greatest_weight_of, image, least_weight_of, path_of_weight, paths, paths_from, rectangle, rectangle_of, sheet_of, svg_text, weights_of}
-use Rattle.mf_image.proofs.ImageBoxes.{box_of_blank}
-use Rattle.mf_image.proofs.ReadTexts.{IsEnd, IsPassed, IsSmall, IsSmallSheet, axes_read, cover_read, end_after, number_passed, number_read, opening_read, rectangle_read}
+use Rattle.mf_image.specs.Svg.{IsSmall, IsSmallBox, axes, color, cover, opening, greatest_weight_of, image, least_weight_of, path_of_weight, paths, paths_from, rectangle, rectangle_of, view_box_of, svg_text, weights_of}
+use Rattle.mf_image.proofs.ImageBoxes.{box_of_blank, small_box}
+use Rattle.mf_image.proofs.ReadTexts.{IsEnd, IsPassed, axes_read, cover_read, end_after, number_passed, number_read, opening_read, rectangle_read}
 use Rattle.mf_image.proofs.ReadWeights.{dots_with, dots_with-append, dots_with-other, dots_with-same, found, gathered, weight_of_runs}
 
 -- ---- the rectangles of a path
@@ -121,12 +120,12 @@ paths_read rs w (suc n) v rest runs none =
 -- ---- the image
 
 -- nothing after the paths draws
-tail_read : (s : Sheet) (u : ℤ) → IsSmallSheet s → read true u (codes "</g>\n" ++ (cover s (codes "url(#grid)") ++ (axes s ++ codes "</svg>\n"))) ≡ []
+tail_read : (s : ViewBox) (u : ℤ) → IsSmallBox s → read true u (codes "</g>\n" ++ (cover s (codes "url(#grid)") ++ (axes s ++ codes "</svg>\n"))) ≡ []
 unfolding read after
 tail_read s u small =
     cover_read u s (codes "url(#grid)") (axes s ++ codes "</svg>\n") small (λ rest. refl) ∙ axes_read u s (codes "</svg>\n") small
 
-image_read : (s : Sheet) (rs : List Run) → IsSmallSheet s → All IsRun rs
+image_read : (s : ViewBox) (rs : List Run) → IsSmallBox s → All IsRun rs
     → read_svg (image s rs) ≡ gathered (flat_map dots_of rs) (least_weight_of rs) (extent (least_weight_of rs) (greatest_weight_of rs))
 unfolding image paths read after
 image_read s rs small runs =
@@ -138,14 +137,6 @@ image_read s rs small runs =
     ap (read true (pos 0)) text ∙ opening_read (pos 0) s (cover s (codes "#fff") ++ group) small
     ∙ cover_read (pos 0) s (codes "#fff") group small (λ rest. refl) ∙ begun
     ∙ paths_read rs (least_weight_of rs) (extent (least_weight_of rs) (greatest_weight_of rs)) (pos 0) tail runs (λ u. tail_read s u small)
-
-small_sheet : (b : Box4) → IsBoxOfField b → IsSmallSheet (sheet_of b)
-small_sheet b field = record {
-  left = record { least = omega (arith, ints, field.left); greatest = omega (arith, ints, field.columns, field.right) };
-  top = record { least = omega (arith, ints, field.top); greatest = omega (arith, ints, field.rows, field.bottom) };
-  width = record { least = omega (arith, ints); greatest = omega (arith, ints, field.left, field.right, field.columns) };
-  height = record { least = omega (arith, ints); greatest = omega (arith, ints, field.bottom, field.top, field.rows) };
-}
 
 -- the box of an image lies in the field
 box_is_of_field : (ds : List Dot) → IsPicture ds → IsBoxOfField (image_box ds)
@@ -165,6 +156,6 @@ svg_read ds x y picture =
     let (high_none, high_all) = fold-int_max_bounds (pos 0) (weights_of rs) high refl in
     let least : low ≤ℤ weight_at ds x y = subst (λ es. low ≤ℤ weight_at es x y) same (weight_of_runs (λ w. low ≤ℤ w) rs x y low_none low_all) in
     let greatest : weight_at ds x y ≤ℤ high = subst (λ es. weight_at es x y ≤ℤ high) same (weight_of_runs (λ w. w ≤ℤ high) rs x y high_none high_all) in
-    ap (λ es. weight_at es x y) (image_read (sheet_of (image_box ds)) rs
-    (small_sheet (image_box ds) (box_is_of_field ds picture)) runs ∙ ap (λ es. gathered es low (extent low high)) same)
+    ap (λ es. weight_at es x y) (image_read (view_box_of (image_box ds)) rs
+    (small_box (image_box ds) (box_is_of_field ds picture)) runs ∙ ap (λ es. gathered es low (extent low high)) same)
     ∙ found start_of_field ds low (extent low high) x y picture.dots least (omega (arith, ints))

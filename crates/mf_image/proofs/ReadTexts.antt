@@ -1,5 +1,5 @@
 -- The texts of paths, read back.
-use Rattle.std.proofs.Common.{◌≡◌, ◌≢◌, ℕ, suc, ◌+◌, ◌-◌, ◌*◌, ◌/◌, ◌%◌, ◌^◌, ◌<◌, ◌==◌, true, false, ℤ, pos, negsuc, neg_ℤ, ◌+ℤ◌, ◌≤ℤ◌, List, [], ◌∷◌, ◌++◌, codes, decimal, refl, sym, ap, ◌∙◌, append_assoc, arith}
+use Rattle.std.proofs.Common.{◌≡◌, ◌≢◌, ℕ, suc, ◌+◌, ◌-◌, ◌*◌, ◌/◌, ◌%◌, ◌^◌, ◌<◌, ◌==◌, true, false, ℤ, pos, negsuc, neg_ℤ, ◌+ℤ◌, List, [], ◌∷◌, ◌++◌, codes, decimal, refl, sym, ap, ◌∙◌, append_assoc, arith}
 use Rattle.std.specs.Char.{is_ascii_digit}
 use Rattle.std.specs.Fmt.{signed_decimal}
 use Rattle.std.specs.Int.RustNames.{unsigned_abs}
@@ -9,9 +9,9 @@ use Rattle.std.proofs.lemmas.Int.{ints}
 use Rattle.mf_rows.specs.declared.run.Run.{Run}
 use Rattle.mf_rows.specs.Order.{IsRun}
 use Rattle.mf_rows.specs.Runs.{stretch}
-use Rattle.mf_image.specs.declared.svg_image.Sheet.{Sheet}
-use Rattle.mf_image.specs.Reading.{after, after_first, continued, number, read}
-use Rattle.mf_image.specs.Svg.{axes, cover, grid, opening, rectangle}
+use Rattle.mf_image.specs.declared.svg_image.ViewBox.{ViewBox}
+use Rattle.mf_image.specs.Reading.{after, after_first, number, read, with_digits}
+use Rattle.mf_image.specs.Svg.{IsSmall, IsSmallBox, axes, cover, grid, opening, rectangle}
 
 -- ---- digits
 
@@ -31,11 +31,6 @@ pass_decimal f digit n bs small =
     (λ k ds more front rest. ap f (append_assoc ds ((48 + k % 10) ∷ []) rest) ∙ front ((48 + k % 10) ∷ rest) ∙ digit (k % 10) rest (omega arith))
     n small bs
 
--- the numbers of an image are small
-pub record IsSmall (z : ℤ) : Type 0 where
-  pub least : negsuc 40000 ≤ℤ z
-  pub greatest : z ≤ℤ pos 40000
-
 pass_number : {A : Type 0} (f : List ℕ → A) → PassesDigits f → ((bs : List ℕ) → f (45 ∷ bs) ≡ f bs) → (z : ℤ) (bs : List ℕ) → IsSmall z
     → f (signed_decimal z ++ bs) ≡ f bs
 pass_number f digit sign (pos n) bs small = pass_decimal f digit n bs (omega (arith, ints, small.greatest))
@@ -43,41 +38,41 @@ pass_number f digit sign (negsuc n) bs small = sign (decimal (suc n) ++ bs) ∙ 
 
 -- ---- a number is read back
 
-continued-digit : (n d : ℕ) (bs : List ℕ) → d < 10 → continued n ((48 + d) ∷ bs) ≡ continued (10 * n + d) bs
-unfolding continued
-continued-digit n d bs below = let value : 10 * n + ((48 + d) - 48) ≡ 10 * n + d = omega arith in rw (digit_is d below) (ap (λ k. continued k bs) value)
+with_digits-digit : (n d : ℕ) (bs : List ℕ) → d < 10 → with_digits n ((48 + d) ∷ bs) ≡ with_digits (10 * n + d) bs
+unfolding with_digits
+with_digits-digit n d bs below = let value : 10 * n + ((48 + d) - 48) ≡ 10 * n + d = omega arith in rw (digit_is d below) (ap (λ k. with_digits k bs) value)
 
-continued-decimal : (n : ℕ) (bs : List ℕ) → n < 2 ^ 64 → continued 0 (decimal n ++ bs) ≡ continued n bs
-continued-decimal n bs small =
-    decimal_by_steps (λ k ds. (rest : List ℕ) → continued 0 (ds ++ rest) ≡ continued k rest)
-    (λ d below rest. let value : 10 * 0 + d ≡ d = omega arith in continued-digit 0 d rest below ∙ ap (λ m. continued m rest) value)
+with_digits-decimal : (n : ℕ) (bs : List ℕ) → n < 2 ^ 64 → with_digits 0 (decimal n ++ bs) ≡ with_digits n bs
+with_digits-decimal n bs small =
+    decimal_by_steps (λ k ds. (rest : List ℕ) → with_digits 0 (ds ++ rest) ≡ with_digits k rest)
+    (λ d below rest. let value : 10 * 0 + d ≡ d = omega arith in with_digits-digit 0 d rest below ∙ ap (λ m. with_digits m rest) value)
     (λ k ds more front rest.
     let value : 10 * (k / 10) + k % 10 ≡ k = omega arith in
-    ap (continued 0) (append_assoc ds ((48 + k % 10) ∷ []) rest) ∙ front ((48 + k % 10) ∷ rest) ∙ continued-digit (k / 10) (k % 10) rest (omega arith)
-    ∙ ap (λ m. continued m rest) value)
+    ap (with_digits 0) (append_assoc ds ((48 + k % 10) ∷ []) rest) ∙ front ((48 + k % 10) ∷ rest) ∙ with_digits-digit (k / 10) (k % 10) rest (omega arith)
+    ∙ ap (λ m. with_digits m rest) value)
     n small bs
 
-number-decimal : (n : ℕ) (bs : List ℕ) → n < 2 ^ 64 → number (decimal n ++ bs) ≡ pos (continued 0 (decimal n ++ bs))
+number-decimal : (n : ℕ) (bs : List ℕ) → n < 2 ^ 64 → number (decimal n ++ bs) ≡ pos (with_digits 0 (decimal n ++ bs))
 unfolding number
 number-decimal n bs small =
-    decimal_by_steps (λ k ds. (rest : List ℕ) → number (ds ++ rest) ≡ pos (continued 0 (ds ++ rest)))
+    decimal_by_steps (λ k ds. (rest : List ℕ) → number (ds ++ rest) ≡ pos (with_digits 0 (ds ++ rest)))
     (λ d below rest. rw (other_byte (48 + d) 45 (λ same. omega arith)) refl)
     (λ k ds more front rest.
     let shift = append_assoc ds ((48 + k % 10) ∷ []) rest in
-    ap number shift ∙ front ((48 + k % 10) ∷ rest) ∙ ap (λ t. pos (continued 0 t)) (sym shift))
+    ap number shift ∙ front ((48 + k % 10) ∷ rest) ∙ ap (λ t. pos (with_digits 0 t)) (sym shift))
     n small bs
 
-continued-end : (n c : ℕ) (bs : List ℕ) → is_ascii_digit c ≡ false → continued n (c ∷ bs) ≡ n
-unfolding continued
-continued-end n c bs other = rw other refl
+with_digits-end : (n c : ℕ) (bs : List ℕ) → is_ascii_digit c ≡ false → with_digits n (c ∷ bs) ≡ n
+unfolding with_digits
+with_digits-end n c bs other = rw other refl
 
 pub number_read : (z : ℤ) (c : ℕ) (bs : List ℕ) → IsSmall z → is_ascii_digit c ≡ false → number (signed_decimal z ++ c ∷ bs) ≡ z
 unfolding number
 number_read (pos n) c bs small other =
     number-decimal n (c ∷ bs) (omega (arith, ints, small.greatest))
-    ∙ ap (λ k. pos k) (continued-decimal n (c ∷ bs) (omega (arith, ints, small.greatest)) ∙ continued-end n c bs other)
+    ∙ ap (λ k. pos k) (with_digits-decimal n (c ∷ bs) (omega (arith, ints, small.greatest)) ∙ with_digits-end n c bs other)
 number_read (negsuc n) c bs small other =
-    ap (λ k. neg_ℤ (pos k)) (continued-decimal (suc n) (c ∷ bs) (omega (arith, ints, small.least)) ∙ continued-end (suc n) c bs other)
+    ap (λ k. neg_ℤ (pos k)) (with_digits-decimal (suc n) (c ∷ bs) (omega (arith, ints, small.least)) ∙ with_digits-end (suc n) c bs other)
 
 first_passes_digits : (c : ℕ) → ((d : ℕ) → d < 10 → (48 + d) ≢ c) → PassesDigits (after_first c)
 unfolding after_first
@@ -106,13 +101,6 @@ end_after w s t passed end rest = ap (read false w) (append_assoc s t rest) ∙ 
 
 -- ---- the lines before and after the paths
 
--- the numbers of a sheet are small
-pub record IsSmallSheet (s : Sheet) : Type 0 where
-  pub left : IsSmall s.left
-  pub top : IsSmall s.top
-  pub width : IsSmall s.width
-  pub height : IsSmall s.height
-
 grid_read : (w : ℤ) → IsEnd w grid
 unfolding read grid after
 grid_read w rest = refl
@@ -121,7 +109,7 @@ grid_read w rest = refl
 pair_end : (w z : ℤ) (mark t : List ℕ) → IsSmall z → IsPassed w mark → IsEnd w t → IsEnd w (signed_decimal z ++ (mark ++ t))
 pair_end w z mark t small passed end = end_after w (signed_decimal z) (mark ++ t) (number_passed w z small) (end_after w mark t passed end)
 
-pub opening_read : (w : ℤ) (s : Sheet) (rest : List ℕ) → IsSmallSheet s → read true w (opening s ++ rest) ≡ read true w rest
+pub opening_read : (w : ℤ) (s : ViewBox) (rest : List ℕ) → IsSmallBox s → read true w (opening s ++ rest) ≡ read true w rest
 unfolding opening read after
 opening_read w s rest small =
     let line = signed_decimal s.left ++ (codes " " ++ (signed_decimal s.top ++ (codes " " ++ (signed_decimal s.width ++ (codes " "
@@ -134,7 +122,7 @@ opening_read w s rest small =
     let first : read true w (codes "<svg xmlns=\"http://www.w3.org/2000/svg\" viewBox=\"" ++ (line ++ rest)) ≡ read false w (line ++ rest) = refl in
     ap (read true w) text ∙ first ∙ ends rest
 
-pub cover_read : (w : ℤ) (s : Sheet) (fill rest : List ℕ) → IsSmallSheet s → IsPassed w fill → read true w (cover s fill ++ rest) ≡ read true w rest
+pub cover_read : (w : ℤ) (s : ViewBox) (fill rest : List ℕ) → IsSmallBox s → IsPassed w fill → read true w (cover s fill ++ rest) ≡ read true w rest
 unfolding cover read after
 cover_read w s fill rest small filled =
     let line = signed_decimal s.left ++ (codes "\" y=\"" ++ (signed_decimal s.top ++ (codes "\" width=\"" ++ (signed_decimal s.width
@@ -147,7 +135,7 @@ cover_read w s fill rest small filled =
     let first : read true w (codes "<rect x=\"" ++ (line ++ rest)) ≡ read false w (line ++ rest) = refl in
     ap (read true w) text ∙ first ∙ ends rest
 
-pub axes_read : (w : ℤ) (s : Sheet) (rest : List ℕ) → IsSmallSheet s → read true w (axes s ++ rest) ≡ read true w rest
+pub axes_read : (w : ℤ) (s : ViewBox) (rest : List ℕ) → IsSmallBox s → read true w (axes s ++ rest) ≡ read true w rest
 unfolding axes read after
 axes_read w s rest small =
     let line = signed_decimal s.top ++ (codes "v" ++ (signed_decimal s.height ++ (codes "M" ++ (signed_decimal s.left ++ (codes " 0h"

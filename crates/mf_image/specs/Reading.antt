@@ -18,14 +18,14 @@ after_first c [] = []
 after_first c (b ∷ bs) = if b == c then bs else after_first c bs
 
 -- the number n, continued by the digits at the front of a text
-unfoldable pub continued : ℕ → List ℕ → ℕ
-continued n [] = n
-continued n (b ∷ bs) = if is_ascii_digit b then continued (10 * n + (b - 48)) bs else n
+unfoldable pub with_digits : ℕ → List ℕ → ℕ
+with_digits n [] = n
+with_digits n (b ∷ bs) = if is_ascii_digit b then with_digits (10 * n + (b - 48)) bs else n
 
 -- the number at the front of a text
 unfoldable pub number : List ℕ → ℤ
 number [] = pos 0
-number (b ∷ bs) = if b == 45 then neg_ℤ (pos (continued 0 bs)) else pos (continued 0 (b ∷ bs))
+number (b ∷ bs) = if b == 45 then neg_ℤ (pos (with_digits 0 bs)) else pos (with_digits 0 (b ∷ bs))
 
 -- the weight of what comes after a line: the one that the line names, if it begins a path
 abbrev pub named_weight : ℤ → Option (List ℕ) → ℤ

@@ -9,7 +9,7 @@ use Rattle.mf_rows.specs.declared.run.Run.{Run}
 use Rattle.mf_rows.specs.Dots.{Dot}
 use Rattle.mf_rows.specs.Runs.{runs_of}
 use Rattle.mf_show.specs.Grid.{extent}
-use Rattle.mf_image.specs.declared.svg_image.Sheet.{Sheet}
+use Rattle.mf_image.specs.declared.svg_image.ViewBox.{ViewBox}
 use Rattle.mf_image.specs.Boxes.{image_box}
 
 -- the rectangle of a run: a line of a path
@@ -54,9 +54,9 @@ greatest_weight_of rs = fold int_max (pos 0) (weights_of rs)
 unfoldable pub paths : List Run → List ℕ
 paths rs = paths_from rs (least_weight_of rs) (extent (least_weight_of rs) (greatest_weight_of rs))
 
--- the sheet of a box: the box with a margin of one pixel
-abbrev pub sheet_of : Box4 → Sheet
-sheet_of b = record {
+-- the view box of a box: the box with a margin of one pixel
+abbrev pub view_box_of : Box4 → ViewBox
+view_box_of b = record {
   left = b.min_x -ℤ pos 1;
   top = neg_ℤ (b.max_y +ℤ pos 2);
   width = pos (extent b.min_x b.max_x + 2);
@@ -70,40 +70,41 @@ grid =
     ++ codes "<path d=\"M0 0h1M0 0v1\" stroke=\"#999\" stroke-width=\".06\"/></pattern>\n"
 
 -- the first two lines: the size of the image, and the pattern of the grid
-unfoldable pub opening : Sheet → List ℕ
-opening s =
-    codes "<svg xmlns=\"http://www.w3.org/2000/svg\" viewBox=\"" ++ signed_decimal s.left ++ codes " " ++ signed_decimal s.top ++ codes " "
-    ++ signed_decimal s.width ++ codes " " ++ signed_decimal s.height ++ grid
+unfoldable pub opening : ViewBox → List ℕ
+opening v =
+    codes "<svg xmlns=\"http://www.w3.org/2000/svg\" viewBox=\"" ++ signed_decimal v.left ++ codes " " ++ signed_decimal v.top ++ codes " "
+    ++ signed_decimal v.width ++ codes " " ++ signed_decimal v.height ++ grid
 
--- a rectangle over the whole sheet that is filled with this
-unfoldable pub cover : Sheet → List ℕ → List ℕ
-cover s fill =
-    codes "<rect x=\"" ++ signed_decimal s.left ++ codes "\" y=\"" ++ signed_decimal s.top ++ codes "\" width=\"" ++ signed_decimal s.width
-    ++ codes "\" height=\"" ++ signed_decimal s.height ++ codes "\" fill=\"" ++ fill ++ codes "\"/>\n"
+-- a rectangle over the whole view box that is filled with this
+unfoldable pub cover : ViewBox → List ℕ → List ℕ
+cover v fill =
+    codes "<rect x=\"" ++ signed_decimal v.left ++ codes "\" y=\"" ++ signed_decimal v.top ++ codes "\" width=\"" ++ signed_decimal v.width
+    ++ codes "\" height=\"" ++ signed_decimal v.height ++ codes "\" fill=\"" ++ fill ++ codes "\"/>\n"
 
--- the axes, x = 0 and y = 0, where they meet the sheet
-unfoldable pub axes : Sheet → List ℕ
-axes s =
-    codes "<path d=\"M0 " ++ signed_decimal s.top ++ codes "v" ++ signed_decimal s.height ++ codes "M" ++ signed_decimal s.left ++ codes " 0h"
-    ++ signed_decimal s.width ++ codes "\" stroke=\"#c00\" stroke-width=\".12\"/>\n"
+-- the axes, x = 0 and y = 0, where they meet the view box
+unfoldable pub axes : ViewBox → List ℕ
+axes v =
+    codes "<path d=\"M0 " ++ signed_decimal v.top ++ codes "v" ++ signed_decimal v.height ++ codes "M" ++ signed_decimal v.left ++ codes " 0h"
+    ++ signed_decimal v.width ++ codes "\" stroke=\"#c00\" stroke-width=\".12\"/>\n"
 
--- the sides of a sheet are small numbers
-pub record IsSmall (s : Sheet) : Type 0 where
-  pub left : negsuc 9999 ≤ℤ s.left
-  pub right : s.left ≤ℤ pos 10000
-  pub top : negsuc 9999 ≤ℤ s.top
-  pub bottom : s.top ≤ℤ pos 10000
-  pub narrow : pos 0 ≤ℤ s.width
-  pub wide : s.width ≤ℤ pos 10000
-  pub low : pos 0 ≤ℤ s.height
-  pub high : s.height ≤ℤ pos 10000
+-- a number of an image is small
+pub record IsSmall (z : ℤ) : Type 0 where
+  pub least : negsuc 40000 ≤ℤ z
+  pub greatest : z ≤ℤ pos 40000
 
--- the image of runs on a sheet: paper, the paths, and over them the grid and the axes
-unfoldable pub image : Sheet → List Run → List ℕ
-image s rs =
-    opening s ++ cover s (codes "#fff") ++ codes "<g shape-rendering=\"crispEdges\">\n" ++ paths rs ++ codes "</g>\n" ++ cover s (codes "url(#grid)") ++ axes s
+-- the numbers of a view box are small
+pub record IsSmallBox (v : ViewBox) : Type 0 where
+  pub left : IsSmall v.left
+  pub top : IsSmall v.top
+  pub width : IsSmall v.width
+  pub height : IsSmall v.height
+
+-- the image of runs in a view box: paper, the paths, and over them the grid and the axes
+unfoldable pub image : ViewBox → List Run → List ℕ
+image v rs =
+    opening v ++ cover v (codes "#fff") ++ codes "<g shape-rendering=\"crispEdges\">\n" ++ paths rs ++ codes "</g>\n" ++ cover v (codes "url(#grid)") ++ axes v
     ++ codes "</svg>\n"
 
 -- the SVG image of a picture
 unfoldable pub svg_text : List Dot → List ℕ
-svg_text ds = image (sheet_of (image_box ds)) (runs_of ds)
+svg_text ds = image (view_box_of (image_box ds)) (runs_of ds)

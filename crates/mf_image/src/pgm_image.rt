@@ -74,7 +74,7 @@ fn push_row(
     Ok(())
 }
 
-/// The byte of a weight.
+/// The byte of a weight. A byte cannot hold every weight, so 1, 2 and 3 differ at sight, and -54 to 42 are told apart.
 fn level(weight: i32) -> u8
     ensures { result ≡ level weight }
 {

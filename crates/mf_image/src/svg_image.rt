@@ -5,7 +5,7 @@ ghost use Rattle.mf_rows.specs.Order.{IsRun};
 ghost use Rattle.mf_rows.specs.Runs.{runs_of};
 ghost use Rattle.mf_show.specs.Boxes.{IsBoxOfField};
 ghost use Rattle.mf_image.specs.Boxes.{IsImageBox, IsTooLargeForImage};
-ghost use Rattle.mf_image.specs.Svg.{IsSmall, axes, color, cover, greatest_weight_of, least_weight_of, opening, path_of_weight, paths, rectangle, rectangle_of, sheet_of, svg_text};
+ghost use Rattle.mf_image.specs.Svg.{IsSmallBox, axes, color, cover, greatest_weight_of, least_weight_of, opening, path_of_weight, paths, rectangle, rectangle_of, view_box_of, svg_text};
 
 use crate::bounds::image_box;
 use crate::fault::ImageFault;
@@ -34,23 +34,23 @@ pub fn svg(alloc: Global, picture: &Picture) -> Result<Vec<u8>, ImageFault>
     Ok(svg_text(alloc, picture, &bounds)?)
 }
 
-/// The part of the plane that an image shows, in pixels and in SVG's coordinates.
+/// The part of the plane that an image shows, in pixels and in SVG's coordinates: its attribute `viewBox`.
 #[derive(Clone, Copy)]
-struct Sheet {
+struct ViewBox {
     left: i32,
     top: i32,
     width: i32,
     height: i32,
 }
 
-impl Sheet {
+impl ViewBox {
     /// A box with a margin of one pixel.
-    fn round(bounds: &Box4) -> Sheet
+    fn round(bounds: &Box4) -> ViewBox
         requires { IsBoxOfField bounds.now }
-        ensures sheet { result ≡ sheet_of bounds.now }
-        ensures small { IsSmall result }
+        ensures value { result ≡ view_box_of bounds.now }
+        ensures small { IsSmallBox result }
     {
-        Sheet {
+        ViewBox {
             left: bounds.min_x - 1,
             top: -(bounds.max_y + 2),
             width: extent(bounds.min_x, bounds.max_x) as i32 + 2,
@@ -60,7 +60,7 @@ impl Sheet {
 
     /// Appends the size of the image, and the pattern of the grid.
     fn push_opening(&self, text: &mut Vec<u8>) -> Result<(), OutOfMemory>
-        requires { IsSmall self.now }
+        requires { IsSmallBox self.now }
         ensures { IfOk result (λ _. text.new.items ≡ text.old.items ++ opening self.now) }
     {
         text.extend_from_slice(b"<svg xmlns=\"http://www.w3.org/2000/svg\" viewBox=\"")?;
@@ -70,9 +70,9 @@ impl Sheet {
         push_number(text, self.height, GRID)
     }
 
-    /// Appends a rectangle over the whole sheet that is filled with this.
+    /// Appends a rectangle over the whole view box that is filled with this.
     fn push_cover(&self, text: &mut Vec<u8>, fill: &[u8]) -> Result<(), OutOfMemory>
-        requires { IsSmall self.now }
+        requires { IsSmallBox self.now }
         ensures { IfOk result (λ _. text.new.items ≡ text.old.items ++ cover self.now fill.now) }
     {
         text.extend_from_slice(b"<rect x=\"")?;
@@ -85,9 +85,9 @@ impl Sheet {
         Ok(())
     }
 
-    /// Appends the axes, where they meet the sheet.
+    /// Appends the axes, where they meet the view box.
     fn push_axes(&self, text: &mut Vec<u8>) -> Result<(), OutOfMemory>
-        requires { IsSmall self.now }
+        requires { IsSmallBox self.now }
         ensures { IfOk result (λ _. text.new.items ≡ text.old.items ++ axes self.now) }
     {
         text.extend_from_slice(b"<path d=\"M0 ")?;
@@ -107,15 +107,15 @@ fn svg_text(alloc: Global, picture: &Picture, bounds: &Box4) -> Result<Vec<u8>, 
     requires { IsImageBox picture.now bounds.now }
     ensures { IfOk result (λ text. text.items ≡ svg_text picture.now) }
 {
-    let sheet = Sheet::round(bounds);
+    let view_box = ViewBox::round(bounds);
     let mut text = Vec::new(alloc);
-    sheet.push_opening(&mut text)?;
-    sheet.push_cover(&mut text, b"#fff")?;
+    view_box.push_opening(&mut text)?;
+    view_box.push_cover(&mut text, b"#fff")?;
     text.extend_from_slice(b"<g shape-rendering=\"crispEdges\">\n")?;
     push_paths(alloc, &mut text, picture)?;
     text.extend_from_slice(b"</g>\n")?;
-    sheet.push_cover(&mut text, b"url(#grid)")?;
-    sheet.push_axes(&mut text)?;
+    view_box.push_cover(&mut text, b"url(#grid)")?;
+    view_box.push_axes(&mut text)?;
     text.extend_from_slice(b"</svg>\n")?;
     Ok(text)
 }

@@ -7,4 +7,4 @@ unfolding image svg_text
 returns c =
     rw (c.in_ok-extend_from_slice-3.ensures.items, c.in_ok-push_axes.ensures, c.in_ok-push_cover-2.ensures, c.in_ok-extend_from_slice-2.ensures.items)
     (rw (c.in_ok-push_paths.ensures, c.in_ok-extend_from_slice.ensures.items, c.in_ok-push_cover.ensures, c.in_ok-push_opening.ensures)
-    (rw (c.new-text.ensures.items, c.round-sheet.ensures.sheet, c.requires.is) (simp append_assoc)))
+    (rw (c.new-text.ensures.items, c.round-view_box.ensures.value, c.requires.is) (simp append_assoc)))

@@ -1,11 +1,11 @@
 use Rattle.std.proofs.Common.{◌≡◌, pos, ◌+ℤ◌, ◌-ℤ◌, ◌+◌, to_z, of_z, w32, neg_ℤ, arith}
 use Rattle.std.proofs.lemmas.Int.{ints}
 use Rattle.mf_show.specs.Grid.{extent}
-use Rattle.mf_image.proofs.ImageBoxes.{is_within, side}
-use Rattle.mf_image.proofs.svg_image.Sheet.round.Goals as goal
+use Rattle.mf_image.proofs.ImageBoxes.{is_within, side, small_box}
+use Rattle.mf_image.proofs.svg_image.ViewBox.round.Goals as goal
 
-pub returns-clause-sheet : goal.returns-clause-sheet
-returns-clause-sheet c =
+pub returns-clause-value : goal.returns-clause-value
+returns-clause-value c =
     let b = c.args.bounds.now in
     let columns : c.extent.result ≡ extent b.min_x b.max_x = omega (arith, ints, c.extent.ensures) in
     let rows : c.extent-2.result ≡ extent b.min_y b.max_y = omega (arith, ints, c.extent-2.ensures) in
@@ -18,17 +18,4 @@ returns-clause-sheet c =
     λ i. record { left = left i; top = top i; width = width i; height = height i }
 
 pub returns-clause-small : goal.returns-clause-small
-returns-clause-small c =
-    let b = c.args.bounds.now in
-    let narrow = is_within b.min_x b.max_x c.requires.left c.requires.right c.requires.columns in
-    let low = is_within b.min_y b.max_y c.requires.bottom c.requires.top c.requires.rows in
-    rw (returns-clause-sheet c) (record {
-      left = omega (arith, ints);
-      right = omega (arith, ints);
-      top = omega (arith, ints);
-      bottom = omega (arith, ints);
-      narrow = omega (arith, ints, narrow);
-      wide = omega (arith, ints, narrow);
-      low = omega (arith, ints, low);
-      high = omega (arith, ints, low);
-    })
+returns-clause-small c = rw (returns-clause-value c) (small_box c.args.bounds.now c.requires)
