@@ -11,7 +11,7 @@ use Rattle.mf_rows.specs.Order.{IsRun}
 use Rattle.mf_show.specs.Boxes.{IsBoxOfField}
 use Rattle.mf_show.specs.Grid.{extent}
 use Rattle.mf_frame.specs.declared.window.Window.{Window}
-use Rattle.mf_frame.specs.Canvases.{Size, IsSize}
+use Rattle.mf_frame.specs.Canvases.{Size, IsSize, picture_lines}
 use Rattle.mf_frame.specs.Cells.{cell_of}
 use Rattle.mf_frame.specs.Windows.{lesser_scales, line_of, window_at, fits_on, first_fitting, scale_of, IsScale, IsWindow}
 use Rattle.mf_frame.proofs.Floors.{IsCellInField, cell-le, cell_in_field, cell_at_greatest, line-within, line-le}
@@ -112,17 +112,17 @@ by_test false passed failed = failed refl
 -- a window fits exactly where it has few enough columns and lines
 pub record IsFitting (canvas : Size) (w : Window) : Type 0 where
   pub columns : w.columns ≤ canvas.columns
-  pub lines : w.lines ≤ canvas.rows - 3
+  pub lines : w.lines ≤ picture_lines canvas
 
 pub fitting_parts : (canvas : Size) (w : Window) → fits_on canvas w ≡ true → IsFitting canvas w
 fitting_parts canvas w test =
-    let parts = and_parts (nat_le w.columns canvas.columns) (nat_le w.lines (canvas.rows - 3)) test in
-    record { columns = leb-true w.columns canvas.columns parts.0; lines = leb-true w.lines (canvas.rows - 3) parts.1 }
+    let parts = and_parts (nat_le w.columns canvas.columns) (nat_le w.lines (picture_lines canvas)) test in
+    record { columns = leb-true w.columns canvas.columns parts.0; lines = leb-true w.lines (picture_lines canvas) parts.1 }
 
 fitting_from : (canvas : Size) (w : Window) → IsFitting canvas w → fits_on canvas w ≡ true
 fitting_from canvas w fitting =
-    and_from (nat_le w.columns canvas.columns) (nat_le w.lines (canvas.rows - 3))
-    (le-leb w.columns canvas.columns fitting.columns) (le-leb w.lines (canvas.rows - 3) fitting.lines)
+    and_from (nat_le w.columns canvas.columns) (nat_le w.lines (picture_lines canvas))
+    (le-leb w.columns canvas.columns fitting.columns) (le-leb w.lines (picture_lines canvas) fitting.lines)
 
 -- at the greatest scale each window fits
 fits_at_greatest : (canvas : Size) (b : Box4) → IsSize canvas → IsBoxOfField b → fits_on canvas (window_at b greatest_coordinate) ≡ true
@@ -246,7 +246,7 @@ pub scale_last : (canvas : Size) (b : Box4) (s : ℤ) → s ≡ greatest_coordin
 unfolding first_fitting
 scale_last canvas b s last so_far = rw last at so_far.first
 
-pub few_lines : (canvas : Size) (b : Box4) → IsSize canvas → IsBoxOfField b → (window_at b (scale_of canvas b)).lines ≤ canvas.rows - 3
+pub few_lines : (canvas : Size) (b : Box4) → IsSize canvas → IsBoxOfField b → (window_at b (scale_of canvas b)).lines ≤ picture_lines canvas
 few_lines canvas b size box = (fitting_parts canvas (window_at b (scale_of canvas b)) (scale-fits canvas b size box)).lines
 
 -- the cell that the code finds

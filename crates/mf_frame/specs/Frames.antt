@@ -8,7 +8,7 @@ use Rattle.mf_frame.specs.declared.shade.Shade.{Shade}
 use Rattle.mf_frame.specs.declared.tile.Style.{Style}
 use Rattle.mf_frame.specs.declared.tile.Style.TheVariants.{Colored, Plain}
 use Rattle.mf_frame.specs.declared.window.Window.{Window}
-use Rattle.mf_frame.specs.Canvases.{Size}
+use Rattle.mf_frame.specs.Canvases.{Size, picture_lines}
 use Rattle.mf_frame.specs.Cells.{cell_shade}
 use Rattle.mf_frame.specs.Tiles.{tile, tile_end, line_start}
 use Rattle.mf_frame.specs.Windows.{scale_of, window_at}
@@ -47,7 +47,7 @@ empty_lines style (suc n) = empty_line style ++ empty_lines style n
 -- the empty lines above n lines of a picture: none in a plain frame, and as many as make a colored one as high as its canvas
 abbrev pub empty_lines_above : Style → Size → ℕ → List ℕ
 empty_lines_above Plain canvas n = []
-empty_lines_above Colored canvas n = empty_lines Colored ((canvas.rows - 3) - n)
+empty_lines_above Colored canvas n = empty_lines Colored (picture_lines canvas - n)
 
 -- the line with the revision and the total weight
 abbrev pub heading : Style → ℕ → ℤ → List ℕ

@@ -1,12 +1,12 @@
 -- The window of cells that a frame shows, and its scale.
-use Rattle.std.specs.Prelude.{◌≤◌, ◌≤ℤ◌, ℕ, zero, suc, ◌-◌, ◌&&◌, Bool, ℤ, pos, ◌+ℤ◌, ◌-ℤ◌, nat_le, if◌then◌else◌}
+use Rattle.std.specs.Prelude.{◌≤◌, ◌≤ℤ◌, ℕ, zero, suc, ◌&&◌, Bool, ℤ, pos, ◌+ℤ◌, ◌-ℤ◌, nat_le, if◌then◌else◌}
 use Rattle.std.specs.Int.{int_div_euclid}
 use Rattle.std.specs.Int.RustNames.{unsigned_abs}
 use Rattle.mf_geom.specs.Coordinates.{least_coordinate, greatest_coordinate, last_in_field}
 use Rattle.mf_rows.specs.declared.bounds.Box4.{Box4}
 use Rattle.mf_show.specs.Grid.{extent}
 use Rattle.mf_frame.specs.declared.window.Window.{Window}
-use Rattle.mf_frame.specs.Canvases.{Size}
+use Rattle.mf_frame.specs.Canvases.{Size, greatest_size, picture_lines}
 use Rattle.mf_frame.specs.Cells.{cell_of}
 
 -- the line of text that shows the cells of row j: line k shows the rows 2 * k and 2 * k + 1
@@ -23,9 +23,9 @@ window_at b s = record {
   lines = extent (line_of (cell_of s b.min_y)) (line_of (cell_of s b.max_y));
 }
 
--- a window fits on a canvas, above the two lines of numbers and the cursor's line
+-- a window fits on a canvas
 abbrev pub fits_on : Size → Window → Bool
-fits_on canvas w = nat_le w.columns canvas.columns && nat_le w.lines (canvas.rows - 3)
+fits_on canvas w = nat_le w.columns canvas.columns && nat_le w.lines (picture_lines canvas)
 
 -- the first of n scales from s on at which the window of a box fits; the one after them where it fits at none
 unfoldable pub first_fitting : Size → Box4 → ℤ → ℕ → ℤ
@@ -48,8 +48,8 @@ pub record IsScale (s : ℤ) : Type 0 where
 -- a window is no larger than a canvas may be, and lies where the field can be
 pub record IsWindow (w : Window) : Type 0 where
   pub scale : IsScale w.scale
-  pub columns : w.columns ≤ 1000
-  pub lines : w.lines ≤ 997
+  pub columns : w.columns ≤ greatest_size.columns
+  pub lines : w.lines ≤ picture_lines greatest_size
   pub left : least_coordinate ≤ℤ w.column
   pub right : w.column ≤ℤ last_in_field
   pub bottom : least_coordinate ≤ℤ w.line

@@ -1,6 +1,6 @@
 //! The size of a frame.
-ghost use Rattle.std.specs.Prelude.{◌≡◌, ◌↔◌, ◌-◌, min, IsOk, IfOk};
-ghost use Rattle.mf_frame.specs.Canvases.{IsLargeEnough, IsSize};
+ghost use Rattle.std.specs.Prelude.{◌≡◌, ◌↔◌, IsOk, IfOk};
+ghost use Rattle.mf_frame.specs.Canvases.{IsLargeEnough, IsSize, frame_lines, picture_lines, size_in};
 
 use std::error::Error;
 use std::fmt;
@@ -57,7 +57,7 @@ impl Canvas {
     /// `TooSmall` where there are fewer than 50 columns or fewer than 6 rows.
     pub fn new(columns: u32, rows: u32) -> Result<Canvas, TooSmall>
         ensures accepted { IsOk result ↔ IsLargeEnough columns rows }
-        ensures value { IfOk result (λ canvas. canvas ≡ record { columns = min columns 1000; rows = min rows 1000 }) }
+        ensures value { IfOk result (λ canvas. canvas ≡ size_in columns rows) }
     {
         if columns < MIN_COLUMNS || rows < MIN_ROWS {
             return Err(TooSmall);
@@ -70,7 +70,7 @@ impl Canvas {
 
     /// The number of lines of a colored frame. The last row is left to the cursor.
     pub fn lines(&self) -> u32
-        ensures { result ≡ self.now.rows - 1 }
+        ensures { result ≡ frame_lines self.now }
     {
         self.rows - 1
     }
@@ -85,7 +85,7 @@ impl Canvas {
 
     /// The number of lines that a picture may fill.
     pub(crate) fn picture_lines(&self) -> u32
-        ensures value { result ≡ self.now.rows - 3 }
+        ensures value { result ≡ picture_lines self.now }
         ensures lawful { IsSize self.now }
     {
         self.rows - 3

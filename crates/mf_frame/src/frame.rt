@@ -1,7 +1,8 @@
 //! Frames.
-ghost use Rattle.std.specs.Prelude.{◌≡◌, ◌≤◌, ◌<◌, ◌-◌, ◌*◌, ◌++◌, pos, ◌+ℤ◌, length, IfOk};
+ghost use Rattle.std.specs.Prelude.{◌≡◌, ◌≤◌, ◌<◌, ◌*◌, ◌++◌, pos, ◌+ℤ◌, length, IfOk};
 ghost use Rattle.mf_rows.specs.Bounds.{IsLeastBox};
 ghost use Rattle.mf_show.specs.Boxes.{IsBoxOfField};
+ghost use Rattle.mf_frame.specs.Canvases.{picture_lines};
 ghost use Rattle.mf_frame.specs.Cells.{shade_in};
 ghost use Rattle.mf_frame.specs.Frames.{blank_frame, box_frame, empty_lines, frame_text, heading, measures, empty_lines_above, range, window_line, window_lines};
 ghost use Rattle.mf_frame.specs.declared.tile.Style.TheVariants.{Colored};
@@ -19,7 +20,7 @@ use std::alloc::Global;
 
 /// A picture as a frame of characters. Each line of a picture shows two rows of cells by half blocks. A cell is one pixel, or
 /// where the picture is larger than the canvas the least square of pixels, `scale` wide, with which it fits; it has the shade
-/// of its darkest pixel: blank, negative, 1, 2, or 3 and more. Borders of cells lie on the axes, which are marked where
+/// of its darkest pixel, so that nothing positive is lost: blank, negative, 1, 2, or 3 and more. Borders of cells lie on the axes, which are marked where
 /// nothing else is. Below come a line `revision R  totalweight T`, and a line `columns X1..X2  rows Y1..Y2  scale S` with the
 /// least box of the picture in pixels, or `blank  scale 1`. Refused with `OutOfMemory` where an allocation fails.
 pub fn draw(
@@ -86,7 +87,7 @@ fn push_empty_lines_above(
     canvas: Canvas,
     lines: u32,
 ) -> Result<(), OutOfMemory>
-    requires { lines ≤ canvas.rows - 3 }
+    requires { lines ≤ picture_lines canvas }
     ensures { IfOk result (λ _. text.new.items ≡ text.old.items ++ empty_lines_above style canvas lines) }
 {
     match style {

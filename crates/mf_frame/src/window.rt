@@ -1,6 +1,7 @@
 //! The window of cells that a frame shows.
-ghost use Rattle.std.specs.Prelude.{◌≡◌, ◌&&◌, ◌≤◌, ◌-◌, nat_le};
+ghost use Rattle.std.specs.Prelude.{◌≡◌, ◌&&◌, ◌≤◌, nat_le};
 ghost use Rattle.mf_show.specs.Boxes.{IsBoxOfField};
+ghost use Rattle.mf_frame.specs.Canvases.{picture_lines};
 ghost use Rattle.mf_frame.specs.Cells.{cell_of};
 ghost use Rattle.mf_frame.specs.Windows.{IsScale, IsWindow, line_of, scale_of, window_at};
 
@@ -11,7 +12,9 @@ use mf_show::extent;
 /// The scale at which each picture fits: the field is then two cells wide and two lines high.
 const MAX_SCALE: i32 = 4095;
 
-/// The cells that a frame shows: columns of cells from the left, and lines of two rows of cells each from the bottom.
+/// The cells that a frame shows: columns of cells from the left, and lines of two rows of cells each from the bottom. Borders of cells
+/// lie on the axes, so that they stay between the same pixels when the picture grows; in return a window may need one more column or
+/// line than its box divided by the scale.
 #[derive(Clone, Copy, Debug, PartialEq, Eq)]
 pub(crate) struct Window {
     /// How many pixels wide and high a cell is, in 1..=4095.
@@ -32,7 +35,7 @@ impl Window {
         requires { IsBoxOfField bounds.now }
         ensures value { result ≡ window_at bounds.now (scale_of canvas bounds.now) }
         ensures lawful { IsWindow result }
-        ensures lines { result.lines ≤ canvas.rows - 3 }
+        ensures lines { result.lines ≤ picture_lines canvas }
     {
         let columns = canvas.columns();
         let lines = canvas.picture_lines();
