@@ -2,14 +2,15 @@
 use Rattle.std.specs.Prelude.{List, [], ◌∷◌, codes, fold}
 use Rattle.clap.specs.Words.{App, Rule, new_app, with_rule}
 use Rattle.mf_options.specs.Options.{file_rule, flag_rule, number_rule, without_flags}
+use Rattle.mf_view_words.specs.Ranges.{greatest_columns, greatest_design_size, greatest_pause, greatest_resolution, greatest_rows}
 
 -- the options and flags
 abbrev pub rules : List Rule
-rules = number_rule (codes "columns") 1 1000
-    ∷ number_rule (codes "rows") 1 1000
-    ∷ number_rule (codes "pause") 0 60000
-    ∷ number_rule (codes "design-size") 0 2047
-    ∷ number_rule (codes "resolution") 0 100000
+rules = number_rule (codes "columns") 1 greatest_columns
+    ∷ number_rule (codes "rows") 1 greatest_rows
+    ∷ number_rule (codes "pause") 0 greatest_pause
+    ∷ number_rule (codes "design-size") 0 greatest_design_size
+    ∷ number_rule (codes "resolution") 0 greatest_resolution
     ∷ file_rule (codes "transcript")
     ∷ file_rule (codes "plates")
     ∷ file_rule (codes "gf")

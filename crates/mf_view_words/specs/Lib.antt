@@ -1,4 +1,5 @@
 pub mod CommandLine
+pub mod Ranges
 pub mod Requests
 pub mod Texts
 pub mod Values

@@ -3,6 +3,7 @@ use Rattle.std.specs.Prelude.{◌≡◌, ◌≤◌, ◌&&◌, Bool, List, [], co
 use Rattle.clap.specs.Words.{Row, Text, fault_of, matches_of}
 use Rattle.mf_options.specs.Values.{file_in, has_flag, number_in}
 use Rattle.mf_view_words.specs.CommandLine.{mfview}
+use Rattle.mf_view_words.specs.Ranges.{greatest_columns, greatest_design_size, greatest_pause, greatest_resolution, greatest_rows}
 use Rattle.mf_view_words.specs.declared.words.Request.{Request}
 use Rattle.mf_view_words.specs.declared.words.Request.TheVariants.{Help, Show, Version}
 use Rattle.mf_view_words.specs.declared.words.Words.{Words}
@@ -41,11 +42,11 @@ IsRequest words = IsRequestIn (matches_of mfview words)
 
 -- the numbers are in their ranges
 pub record IsWordsInRange (asked : Words) : Type 0 where
-  pub columns : (1 ≤ asked.columns) × (asked.columns ≤ 1000)
-  pub rows : (1 ≤ asked.rows) × (asked.rows ≤ 1000)
-  pub pause : asked.pause ≤ 60000
-  pub design_size : asked.design_size ≤ 2047
-  pub resolution : asked.resolution ≤ 100000
+  pub columns : (1 ≤ asked.columns) × (asked.columns ≤ greatest_columns)
+  pub rows : (1 ≤ asked.rows) × (asked.rows ≤ greatest_rows)
+  pub pause : asked.pause ≤ greatest_pause
+  pub design_size : asked.design_size ≤ greatest_design_size
+  pub resolution : asked.resolution ≤ greatest_resolution
 
 -- the numbers of a request are in their ranges
 abbrev pub IsRequestInRange : Request → Type 0
