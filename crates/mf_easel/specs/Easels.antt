@@ -35,8 +35,8 @@ abbrev pub style_of : Easel → Style
 style_of easel = easel.style
 
 -- the revision of the frame that it drew last, if there is one
-abbrev pub drawn_of : Easel → Option ℕ
-drawn_of easel = easel.drawn
+abbrev pub revision_of : Easel → Option ℕ
+revision_of easel = easel.drawn
 
 -- it draws frames of the same size and style
 pub record HasSameManner (before after : Easel) : Type 0 where
@@ -45,7 +45,7 @@ pub record HasSameManner (before after : Easel) : Type 0 where
 
 -- the text that draws a picture of this revision on an easel: over the frame before, if there is one
 abbrev pub drawing_with : Easel → ℕ → List Dot → List ℕ
-drawing_with easel revision ds = over (style_of easel) (canvas_of easel) (drawn_of easel) ++ frame_text (style_of easel) (canvas_of easel) revision ds
+drawing_with easel revision ds = over (style_of easel) (canvas_of easel) (revision_of easel) ++ frame_text (style_of easel) (canvas_of easel) revision ds
 
 -- the text that draws the picture of a list on an easel
 abbrev pub drawing_of : Easel → List Entry → List ℕ

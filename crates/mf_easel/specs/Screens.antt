@@ -1,10 +1,10 @@
 -- What goes to the screen of an easel.
-use Rattle.std.specs.Prelude.{◌≡◌, ◌==◌, ◌<◌, Bool, false, ℕ, List, [], ◌∷◌, ◌++◌, ◌-◌, Option, None, Some, IfSome, codes, decimal, if◌then◌else◌}
+use Rattle.std.specs.Prelude.{◌≡◌, ◌==◌, ◌<◌, Bool, false, ℕ, List, [], ◌∷◌, ◌++◌, Option, None, Some, IfSome, codes, decimal, if◌then◌else◌}
 use Rattle.std.specs.Io.KnownBytes.{Appends}
 use Rattle.mf_base.specs.Messages.{GetsMessage}
 use Rattle.mf_easel.specs.declared.fault.EaselFault.{EaselFault}
 use Rattle.mf_easel.specs.declared.fault.EaselFault.TheVariants.{NoLook, OutOfMemory, WriteFault}
-use Rattle.mf_frame.specs.Canvases.{Size}
+use Rattle.mf_frame.specs.Canvases.{Size, frame_lines}
 use Rattle.mf_frame.specs.declared.tile.Style.{Style}
 use Rattle.mf_frame.specs.declared.tile.Style.TheVariants.{Colored, Plain}
 
@@ -16,7 +16,7 @@ cursor_up n = 27 ∷ codes "[" ++ decimal n ++ codes "A"
 abbrev pub over : Style → Size → Option ℕ → List ℕ
 over Plain canvas drawn = []
 over Colored canvas None = []
-over Colored canvas (Some before) = cursor_up (canvas.rows - 1)
+over Colored canvas (Some before) = cursor_up (frame_lines canvas)
 
 -- whether the frame that was drawn last has this revision
 abbrev pub is_drawn : Option ℕ → ℕ → Bool
@@ -24,8 +24,8 @@ is_drawn None revision = false
 is_drawn (Some before) revision = before == revision
 
 -- the revision that is drawn of a look: none where it is the one that was drawn last
-abbrev pub newly_drawn : Option ℕ → ℕ → Option ℕ
-newly_drawn drawn revision = if is_drawn drawn revision then None else Some revision
+abbrev pub new_revision : Option ℕ → ℕ → Option ℕ
+new_revision drawn revision = if is_drawn drawn revision then None else Some revision
 
 -- a revision is above the one that was drawn last
 abbrev pub IsAbove : Option ℕ → ℕ → Type 0

@@ -4,8 +4,8 @@ use Rattle.std.specs.Io.KnownBytes.{Appends}
 use Rattle.std.proofs.KnownBytes.{Appends-nil, Appends-trans}
 use Rattle.std.proofs.lemmas.List.{append-nil}
 use Rattle.std.proofs.lemmas.List.Elements.{All-cons, All-head, All-nil, All-weaker}
-use Rattle.mf_easel.specs.Easels.{HasLookedLast, HasSameManner, canvas_of, drawing_of, drawn_of, looked_at_list, style_of, viewer_of}
-use Rattle.mf_easel.specs.Screens.{GetsFrame, IsAbove, newly_drawn, over}
+use Rattle.mf_easel.specs.Easels.{HasLookedLast, HasSameManner, canvas_of, drawing_of, looked_at_list, revision_of, style_of, viewer_of}
+use Rattle.mf_easel.specs.Screens.{GetsFrame, IsAbove, new_revision, over}
 use Rattle.mf_frame.specs.Canvases.{Size}
 use Rattle.mf_frame.specs.Frames.{frame_text}
 use Rattle.mf_frame.specs.declared.tile.Style.{Style}
@@ -20,14 +20,14 @@ use Rattle.mf_live.proofs.WholePrefixes.{whole-self, whole-trans}
 use Rattle.mf_view.specs.Drawings.{HasDrawn, IsSeenOf, Rise, ShowsLast, drawing, frames, last_revision}
 
 -- nothing is drawn where the revision is that of the frame before
-newly-none : (drawn : Option ℕ) (revision : ℕ) → newly_drawn drawn revision ≡ None → drawn ≡ Some revision
-newly-none None revision none = cc
-newly-none (Some before) revision none = grind arith
+new-none : (drawn : Option ℕ) (revision : ℕ) → new_revision drawn revision ≡ None → drawn ≡ Some revision
+new-none None revision none = cc
+new-none (Some before) revision none = grind arith
 
 -- the revision that is drawn is that of the look
-newly-some : (drawn : Option ℕ) (revision shown : ℕ) → newly_drawn drawn revision ≡ Some shown → shown ≡ revision
-newly-some None revision shown some = grind arith
-newly-some (Some before) revision shown some = grind arith
+new-some : (drawn : Option ℕ) (revision shown : ℕ) → new_revision drawn revision ≡ Some shown → shown ≡ revision
+new-some None revision shown some = grind arith
+new-some (Some before) revision shown some = grind arith
 
 -- what is seen of a list is seen of a longer one
 seen-more : (S L : List Entry) (lists : List (List Entry)) → IsWholePrefix S L → All (IsSeenOf S) lists → All (IsSeenOf L) lists
@@ -51,23 +51,23 @@ drawn-after held then holds style canvas drawn lists L was last gets =
 
 -- a look draws its own list after what was drawn, or what was drawn last has its revision
 pub drawn-look : {W : Type 0} (contents : W → Option (List ℕ)) (held : Option (List ℕ)) (s t : W) (before after : Easel) (shown : Option ℕ)
-    → HasLooked (viewer_of before) (viewer_of after) → HasSameManner before after → shown ≡ newly_drawn (drawn_of before) (rev (looked_at_list after))
-    → drawn_of after ≡ Some (rev (looked_at_list after))
-    → GetsFrame contents s t (drawing_of before (looked_at_list after)) shown → IfSome shown (IsAbove (drawn_of before))
+    → HasLooked (viewer_of before) (viewer_of after) → HasSameManner before after → shown ≡ new_revision (revision_of before) (rev (looked_at_list after))
+    → revision_of after ≡ Some (rev (looked_at_list after))
+    → GetsFrame contents s t (drawing_of before (looked_at_list after)) shown → IfSome shown (IsAbove (revision_of before))
     → HasDrawn before held (contents s) → HasDrawn after held (contents t)
 drawn-look contents held s t before after None look manner answer drawn same rising was = record {
   lists = was.lists;
   text = rw same (in-manner held (contents s) before after was.lists manner was.text);
   rise = was.rise;
   seen = seen-more (looked_at_list before) (looked_at_list after) was.lists look.extends.looked was.seen;
-  last = drawn ∙ (sym (newly-none (drawn_of before) (rev (looked_at_list after)) (sym answer)) ∙ was.last);
+  last = drawn ∙ (sym (new-none (revision_of before) (rev (looked_at_list after)) (sym answer)) ∙ was.last);
 }
 drawn-look contents held s t before after (Some shown) look manner answer drawn gets rising was =
-    let revision = newly-some (drawn_of before) (rev (looked_at_list after)) shown (sym answer) in
+    let revision = new-some (revision_of before) (rev (looked_at_list after)) shown (sym answer) in
     record {
       lists = looked_at_list after ∷ was.lists;
       text = in-manner held (contents t) before after (looked_at_list after ∷ was.lists) manner
-          (drawn-after held (contents s) (contents t) (style_of before) (canvas_of before) (drawn_of before)
+          (drawn-after held (contents s) (contents t) (style_of before) (canvas_of before) (revision_of before)
           was.lists (looked_at_list after) was.text was.last gets);
       rise = (subst (λ n. IsAbove (last_revision was.lists) n) revision (subst (λ d. IsAbove d shown) was.last rising), was.rise);
       seen = All-cons (IsSeenOf (looked_at_list after)) (looked_at_list after) was.lists (whole-self (looked_at_list after))
@@ -108,19 +108,19 @@ shown-before easel whole held holds (L ∷ earlier) text rise seen last =
 
 -- the last look leaves the last picture on the screen
 pub shown-last : {W : Type 0} (contents : W → Option (List ℕ)) (held : Option (List ℕ)) (s t : W) (before after : Easel) (whole : List Entry) (shown : Option ℕ)
-    → HasLookedLast (viewer_of before) whole (viewer_of after) → shown ≡ newly_drawn (drawn_of before) (rev whole)
-    → GetsFrame contents s t (drawing_of before whole) shown → IfSome shown (IsAbove (drawn_of before))
+    → HasLookedLast (viewer_of before) whole (viewer_of after) → shown ≡ new_revision (revision_of before) (rev whole)
+    → GetsFrame contents s t (drawing_of before whole) shown → IfSome shown (IsAbove (revision_of before))
     → HasDrawn before held (contents s) → ShowsLast (style_of before) (canvas_of before) whole held (contents t)
 shown-last contents held s t before after whole None look answer same rising was =
-    let again = sym was.last ∙ newly-none (drawn_of before) (rev whole) (sym answer) in
+    let again = sym was.last ∙ new-none (revision_of before) (rev whole) (sym answer) in
     let seen = seen-more (looked_at_list before) whole was.lists look.0.looked was.seen in
     rw same (shown-before before whole held (contents s) was.lists was.text was.rise seen again)
 shown-last contents held s t before after whole (Some shown) look answer gets rising was =
-    let revision = newly-some (drawn_of before) (rev whole) shown (sym answer) in
+    let revision = new-some (revision_of before) (rev whole) shown (sym answer) in
     record {
       last = whole;
       earlier = was.lists;
-      text = drawn-after held (contents s) (contents t) (style_of before) (canvas_of before) (drawn_of before) was.lists whole was.text was.last gets;
+      text = drawn-after held (contents s) (contents t) (style_of before) (canvas_of before) (revision_of before) was.lists whole was.text was.last gets;
       rise = (subst (λ n. IsAbove (last_revision was.lists) n) revision (subst (λ d. IsAbove d shown) was.last rising), was.rise);
       seen = All-cons (IsSeenOf whole) whole was.lists (whole-self whole) (seen-more (looked_at_list before) whole was.lists look.0.looked was.seen);
       revision = refl;
@@ -128,7 +128,7 @@ shown-last contents held s t before after whole (Some shown) look answer gets ri
     }
 
 -- an easel that has drawn nothing
-pub drawn-nothing : (easel : Easel) (held : Option (List ℕ)) → drawn_of easel ≡ None → HasDrawn easel held held
+pub drawn-nothing : (easel : Easel) (held : Option (List ℕ)) → revision_of easel ≡ None → HasDrawn easel held held
 drawn-nothing easel held nothing =
     record { lists = []; text = Appends-nil held; rise = tt; seen = All-nil (IsSeenOf (looked_at_list easel)); last = nothing }
 

@@ -1,7 +1,7 @@
 -- What an easel has drawn on a screen.
 use Rattle.std.specs.Prelude.{◌≡◌, ℕ, All, List, [], ◌∷◌, ◌++◌, None, OnOk, Option, Result, Some}
 use Rattle.std.specs.Io.KnownBytes.{Appends}
-use Rattle.mf_easel.specs.Easels.{canvas_of, drawn_of, looked_at_list, style_of}
+use Rattle.mf_easel.specs.Easels.{canvas_of, looked_at_list, revision_of, style_of}
 use Rattle.mf_easel.specs.Screens.{IsAbove, over}
 use Rattle.mf_easel.specs.declared.easel.Easel.{Easel}
 use Rattle.mf_easel.specs.declared.fault.EaselFault.{EaselFault}
@@ -40,7 +40,7 @@ pub record HasDrawn (easel : Easel) (held holds : Option (List ℕ)) : Type 0 wh
   pub text : Appends held holds (frames (style_of easel) (canvas_of easel) lists)
   pub rise : Rise lists
   pub seen : All (IsSeenOf (looked_at_list easel)) lists
-  pub last : drawn_of easel ≡ last_revision lists
+  pub last : revision_of easel ≡ last_revision lists
 
 -- the easel has drawn more, whatever it had drawn before; its screen, which held some bytes, now holds others
 abbrev pub DrawsMore : Easel → Easel → Option (List ℕ) → Option (List ℕ) → Type 0

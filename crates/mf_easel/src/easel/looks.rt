@@ -3,8 +3,8 @@ ghost use Rattle.std.specs.Prelude.{◌≡◌, ◌⊎◌, None, Some, true, IfEr
 ghost use Rattle.mf_live.specs.Entries.{is_closed, pic, rev};
 ghost use Rattle.mf_live.specs.Sheets.{HasLooked, sheet_picture, sheet_revision};
 ghost use Rattle.mf_live.specs.Viewers as viewers;
-ghost use Rattle.mf_easel.specs.Easels.{HasLookedLast, HasSameManner, IsLastNotDrawn, IsNotDrawn, canvas_of, drawing_of, drawing_with, drawn_of, identity, looked_at_list, style_of, viewer_of};
-ghost use Rattle.mf_easel.specs.Screens.{GetsFrame, GetsNoMore, IsAbove, newly_drawn, over};
+ghost use Rattle.mf_easel.specs.Easels.{HasLookedLast, HasSameManner, IsLastNotDrawn, IsNotDrawn, canvas_of, drawing_of, drawing_with, identity, looked_at_list, revision_of, style_of, viewer_of};
+ghost use Rattle.mf_easel.specs.Screens.{GetsFrame, GetsNoMore, IsAbove, new_revision, over};
 
 use super::Easel;
 use crate::fault::EaselFault;
@@ -24,7 +24,7 @@ impl Easel {
         ensures viewer { viewer_of result ≡ viewer }
         ensures canvas { canvas_of result ≡ canvas }
         ensures style { style_of result ≡ style }
-        ensures drawn { drawn_of result ≡ None }
+        ensures drawn { revision_of result ≡ None }
     {
         Easel {
             viewer,
@@ -51,11 +51,12 @@ impl Easel {
         ensures manner { HasSameManner self.old self.new }
         ensures looked { OnOk result (HasLooked (viewer_of self.old) (viewer_of self.new)) }
         ensures missed { IfErr result (IsNotDrawn (viewer_of self.old) (viewer_of self.new)) }
-        ensures answer { IfOk result (λ shown. shown ≡ newly_drawn (drawn_of self.old) (rev (looked_at_list self.new))) }
-        ensures drawn { MatchResult result (λ _. drawn_of self.new ≡ Some (rev (looked_at_list self.new))) (λ _. drawn_of self.new ≡ drawn_of self.old) }
+        ensures answer { IfOk result (λ shown. shown ≡ new_revision (revision_of self.old) (rev (looked_at_list self.new))) }
+        ensures drawn { MatchResult result (λ _. revision_of self.new ≡ Some (rev (looked_at_list self.new)))
+            (λ _. revision_of self.new ≡ revision_of self.old) }
         ensures screen { IfOk result (λ shown. GetsFrame W.contents screen.old screen.new (drawing_of self.old (looked_at_list self.new)) shown) }
         ensures cut { IfErr result (λ fault. GetsNoMore W.contents screen.old screen.new (drawing_of self.old (looked_at_list self.new)) fault) }
-        ensures rising { IfOk result (λ shown. IfSome shown (IsAbove (drawn_of self.old))) }
+        ensures rising { IfOk result (λ shown. IfSome shown (IsAbove (revision_of self.old))) }
     {
         let sheet = self.viewer.sheet(alloc)?;
         self.show(alloc, screen, &sheet)
@@ -76,11 +77,12 @@ impl Easel {
         ensures manner { HasSameManner self.old self.new }
         ensures looked { OnOk result (HasLookedLast (viewer_of self.old) (viewers.told_list notice) (viewer_of self.new)) }
         ensures missed { IfErr result (IsLastNotDrawn (viewer_of self.old) (viewers.told_list notice) (viewer_of self.new)) }
-        ensures answer { IfOk result (λ shown. shown ≡ newly_drawn (drawn_of self.old) (rev (viewers.told_list notice))) }
-        ensures drawn { MatchResult result (λ _. drawn_of self.new ≡ Some (rev (viewers.told_list notice))) (λ _. drawn_of self.new ≡ drawn_of self.old) }
+        ensures answer { IfOk result (λ shown. shown ≡ new_revision (revision_of self.old) (rev (viewers.told_list notice))) }
+        ensures drawn { MatchResult result (λ _. revision_of self.new ≡ Some (rev (viewers.told_list notice)))
+            (λ _. revision_of self.new ≡ revision_of self.old) }
         ensures screen { IfOk result (λ shown. GetsFrame W.contents screen.old screen.new (drawing_of self.old (viewers.told_list notice)) shown) }
         ensures cut { IfErr result (λ fault. GetsNoMore W.contents screen.old screen.new (drawing_of self.old (viewers.told_list notice)) fault) }
-        ensures rising { IfOk result (λ shown. IfSome shown (IsAbove (drawn_of self.old))) }
+        ensures rising { IfOk result (λ shown. IfSome shown (IsAbove (revision_of self.old))) }
     {
         let sheet = last_sheet(&mut self.viewer, alloc, notice)?;
         self.show(alloc, screen, &sheet)
@@ -97,11 +99,12 @@ impl Easel {
         requires revision { sheet_revision sheet.now ≡ rev (looked_at_list self.old) }
         ensures viewer { viewer_of self.new ≡ viewer_of self.old }
         ensures manner { HasSameManner self.old self.new }
-        ensures answer { IfOk result (λ shown. shown ≡ newly_drawn (drawn_of self.old) (rev (looked_at_list self.old))) }
-        ensures drawn { MatchResult result (λ _. drawn_of self.new ≡ Some (rev (looked_at_list self.old))) (λ _. drawn_of self.new ≡ drawn_of self.old) }
+        ensures answer { IfOk result (λ shown. shown ≡ new_revision (revision_of self.old) (rev (looked_at_list self.old))) }
+        ensures drawn { MatchResult result (λ _. revision_of self.new ≡ Some (rev (looked_at_list self.old)))
+            (λ _. revision_of self.new ≡ revision_of self.old) }
         ensures screen { IfOk result (λ shown. GetsFrame W.contents screen.old screen.new (drawing_of self.old (looked_at_list self.old)) shown) }
         ensures cut { IfErr result (λ fault. GetsNoMore W.contents screen.old screen.new (drawing_of self.old (looked_at_list self.old)) fault) }
-        ensures rising { IfOk result (λ shown. IfSome shown (IsAbove (drawn_of self.old))) }
+        ensures rising { IfOk result (λ shown. IfSome shown (IsAbove (revision_of self.old))) }
         ensures fault { IfErr result (λ fault. (fault ≡ EaselFault.OutOfMemory) ⊎ (fault ≡ EaselFault.WriteFault)) }
     {
         let revision = sheet.revision();
@@ -132,7 +135,7 @@ impl Easel {
 
     /// What moves the cursor up to the first line of the frame before.
     fn over(&self, alloc: Global) -> Result<Vec<u8>, OutOfMemory>
-        ensures { IfOk result (λ text. text.items ≡ over (style_of self.now) (canvas_of self.now) (drawn_of self.now)) }
+        ensures { IfOk result (λ text. text.items ≡ over (style_of self.now) (canvas_of self.now) (revision_of self.now)) }
     {
         let mut text = Vec::new(alloc);
         if let (Style::Colored, Some(_)) = (self.style, self.drawn) {
