@@ -16,7 +16,7 @@ use Rattle.mf_stage.proofs.Scripts.{AreFirstLines, IsUnderWay, under_way-line, u
 use Rattle.mf_stage.specs.Faults.{BreaksLines, BreaksScript, ConcernsPlate, Due, IsBrokenOff, IsCutText, IsFirstText, IsOfPlate, IsPublishedAs, Tells, due}
 use Rattle.mf_stage.specs.Lines.{IsReadLine, Reads, without_ending}
 use Rattle.mf_stage.specs.Publications.{IsPlateWhere}
-use Rattle.mf_stage.specs.Scripts.{HasPerformed, HasPerformedLine, step_of}
+use Rattle.mf_stage.specs.Scripts.{HasPerformed, HasPerformedLine, act_of}
 use Rattle.mf_stage.specs.Stages.{StandsFor, limits, plates_of}
 use Rattle.mf_stage.specs.declared.fault.StageFault.{StageFault}
 use Rattle.mf_stage.specs.declared.fault.StageFault.TheVariants.{OutOfMemory, FileTooLong, ReadFault, WriteFault, ImageTooLarge, PlateFault}
@@ -81,9 +81,9 @@ module _ (limits : Limits) (s t : State) (done mid more : List (List ℕ)) (text
 
 -- what is written where a fault comes in a line, whose stage represented the state t
 broken-after : (before now after : Stage) (s : State) (done mid more : List (List ℕ)) (fault : StageFault) (held holds last : Option (List ℕ))
-    → limits now ≡ limits before → plates_of now ≡ plates_of before → (first : HasPerformed (step_of before s now held holds) done)
-    → IsBrokenOff (step_of now first.last after holds last) mid fault
-    → IsBrokenOff (step_of before s after held last) ((done ++ mid) ++ more) fault
+    → limits now ≡ limits before → plates_of now ≡ plates_of before → (first : HasPerformed (act_of before s now held holds) done)
+    → IsBrokenOff (act_of now first.last after holds last) mid fault
+    → IsBrokenOff (act_of before s after held last) ((done ++ mid) ++ more) fault
 broken-after before now after s done mid more fault held holds last same same_plates first broken =
     record {
       last = broken.last;
@@ -141,13 +141,13 @@ under_way-cut before now later unread left remaining held holds last line fault 
       known = known;
       broken = λ s stands.
           let performed = was.performed s stands in
-          subst (λ ls. IsBrokenOff (step_of before s later held last) ls fault) (sym first)
+          subst (λ ls. IsBrokenOff (act_of before s later held last) ls fault) (sym first)
           (broken-after before now later s was.done one more fault held holds last same same_plates performed (breaks performed.last performed.stands));
     }
 
 -- an allocation failed before anything was done for a line
 pub nothing-done : (before after : Stage) (s : State) (line : List ℕ) (held : Option (List ℕ)) → StandsFor after s
-    → IsBrokenOff (step_of before s after held held) (line ∷ []) OutOfMemory
+    → IsBrokenOff (act_of before s after held held) (line ∷ []) OutOfMemory
 nothing-done before after s line held stands = record {
   last = s;
   written = [];
@@ -160,7 +160,7 @@ nothing-done before after s line held stands = record {
 -- the text of a line was cut
 pub line-cut : (before after : Stage) (s next : State) (line text : List ℕ) (held holds : Option (List ℕ))
     → Answers (limits before) s line text next → StandsFor after next → GetsMessage held holds text
-    → IsBrokenOff (step_of before s after held holds) (line ∷ []) WriteFault
+    → IsBrokenOff (act_of before s after held holds) (line ∷ []) WriteFault
 line-cut before after s next line text held holds answer stands (front, rest, is, out) = record {
   last = next;
   written = front;
@@ -199,7 +199,7 @@ tells-published d next fault text first all is =
 pub line-published : (before after : Stage) (s next : State) (line text : List ℕ) (held holds : Option (List ℕ)) (fault : StageFault)
     → Answers (limits before) s line text next → StandsFor after next → Appends held holds text
     → next.pictures.published ≡ next.pictures.accepted → IsOfPlate next.pictures.published fault → IsSome (plates_of before)
-    → IsBrokenOff (step_of before s after held holds) (line ∷ []) fault
+    → IsBrokenOff (act_of before s after held holds) (line ∷ []) fault
 line-published before after s next line text held holds fault answer stands out all is some = record {
   last = next;
   written = text;
@@ -211,9 +211,9 @@ line-published before after s next line text held holds fault answer stands out 
 
 -- the same of a plate that was made and not written
 pub line-unwritten : (before after : Stage) (s : State) (line : List ℕ) (held holds : Option (List ℕ)) (fault : StageFault) (made : Option Publication)
-    → HasPerformedLine (step_of before s after held holds) line made
+    → HasPerformedLine (act_of before s after held holds) line made
     → IsSomeAnd made (λ publication. (fault ≡ PlateFault publication.revision) × IsSome publication.plate)
-    → IsBrokenOff (step_of before s after held holds) (line ∷ []) fault
+    → IsBrokenOff (act_of before s after held holds) (line ∷ []) fault
 line-unwritten before after s line held holds fault None done is = absurd is
 line-unwritten before after s line held holds fault (Some publication) done (is, some) =
     let (given, of_list) = done.made_is in

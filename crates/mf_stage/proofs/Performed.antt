@@ -8,7 +8,7 @@ use Rattle.mf_session.specs.Sessions.{IsAnswered}
 use Rattle.mf_session.specs.States.{Limits, State}
 use Rattle.mf_stage.specs.Plates.{IsPlate}
 use Rattle.mf_stage.specs.Publications.{IsPlateWhere, IsPublication}
-use Rattle.mf_stage.specs.Scripts.{HasPerformedLine, step_of}
+use Rattle.mf_stage.specs.Scripts.{HasPerformedLine, act_of}
 use Rattle.mf_stage.specs.Stages.{plates_of, session_of}
 use Rattle.mf_stage.specs.declared.plate.Plate.{Plate}
 use Rattle.mf_stage.specs.declared.plate.Plates.{Plates}
@@ -41,7 +41,7 @@ module _ (before after : Stage) (s : State) (line text : List ℕ) (held holds :
   -- the publication of what was published is made of one that does
   pub performed-published : (made : Publication) → publishes ≡ true → plates_of after ≡ plates_of before
       → IsPublication (plates_of after) answered.next.pictures.accepted made
-      → HasPerformedLine (step_of before s after held holds) line (Some made)
+      → HasPerformedLine (act_of before s after held holds) line (Some made)
   performed-published made publishing same publication =
       let given = means.0 publishing in
       let all = published-all _ s line text answered.next answered.answer given in

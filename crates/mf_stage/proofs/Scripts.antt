@@ -9,7 +9,7 @@ use Rattle.mf_session.specs.States.{State}
 use Rattle.mf_session.specs.Transcript.{Perform}
 use Rattle.mf_stage.proofs.Cuts.{next_lines, spelled_line}
 use Rattle.mf_stage.specs.Lines.{IsReadLine, Reads, without_ending}
-use Rattle.mf_stage.specs.Scripts.{HasPerformed, HasPerformedLine, PerformsLines, PerformsAll, Step, step_of}
+use Rattle.mf_stage.specs.Scripts.{Act, HasPerformed, HasPerformedLine, PerformsAll, PerformsLines, act_of}
 use Rattle.mf_stage.specs.Stages.{limits}
 use Rattle.mf_stage.specs.declared.stage.Publication.{Publication}
 use Rattle.mf_stage.specs.declared.stage.Stage.{Stage}
@@ -43,8 +43,8 @@ under_way-start stage unread held = record {
 }
 
 -- one line is performed
-pub performed-one : (step : Step) (line : List ℕ) (made : Option Publication) → HasPerformedLine step line made → HasPerformed step (line ∷ [])
-performed-one step line made one =
+pub performed-one : (act : Act) (line : List ℕ) (made : Option Publication) → HasPerformedLine act line made → HasPerformed act (line ∷ [])
+performed-one act line made one =
     record {
       text = one.text;
       last = one.next;
@@ -55,8 +55,8 @@ performed-one step line made one =
 
 -- some lines are performed, and then others
 performed-more : (before now later : Stage) (s : State) (done more : List (List ℕ)) (held holds last : Option (List ℕ))
-    → limits now ≡ limits before → (first : HasPerformed (step_of before s now held holds) done)
-    → HasPerformed (step_of now first.last later holds last) more → HasPerformed (step_of before s later held last) (done ++ more)
+    → limits now ≡ limits before → (first : HasPerformed (act_of before s now held holds) done)
+    → HasPerformed (act_of now first.last later holds last) more → HasPerformed (act_of before s later held last) (done ++ more)
 performed-more before now later s done more held holds last same first second =
     record {
       text = first.text ++ second.text;

@@ -8,7 +8,7 @@ use Rattle.mf_rows.specs.Dots.{Dot}
 use Rattle.mf_session.specs.Answers.{Answers}
 use Rattle.mf_session.specs.States.{Limits, State}
 use Rattle.mf_session.specs.Transcript.{Perform}
-use Rattle.mf_stage.specs.Scripts.{Step, step_of}
+use Rattle.mf_stage.specs.Scripts.{Act, act_of}
 use Rattle.mf_stage.specs.Stages.{StandsFor, limits, plates_of}
 use Rattle.mf_stage.specs.declared.fault.StageFault.{StageFault}
 use Rattle.mf_stage.specs.declared.fault.StageFault.TheVariants.{OutOfMemory, FileTooLong, ReadFault, WriteFault, ImageTooLarge, PlateFault}
@@ -69,20 +69,20 @@ ConcernsPlate (ImageTooLarge revision) = Unit {0}
 ConcernsPlate (PlateFault revision) = Unit {0}
 ConcernsPlate _ = ⊥
 
--- in this step a fault has broken these lines off: the stage represents the state to which the first of them have led, and has written
+-- in this act a fault has broken these lines off: the stage represents the state to which the first of them have led, and has written
 -- what the fault says, which is one of a plate only where plates are asked for
-pub record IsBrokenOff (step : Step) (whole : List (List ℕ)) (fault : StageFault) : Type 0 where
+pub record IsBrokenOff (act : Act) (whole : List (List ℕ)) (fault : StageFault) : Type 0 where
   pub last : State
   pub written : List ℕ
-  pub stands : StandsFor step.after last
-  pub out : Appends step.held step.holds written
-  pub told : Tells (due (limits step.before) step.state whole) last fault written
-  pub asked : ConcernsPlate fault → IsSome (plates_of step.before)
+  pub stands : StandsFor act.after last
+  pub out : Appends act.held act.holds written
+  pub told : Tells (due (limits act.before) act.state whole) last fault written
+  pub asked : ConcernsPlate fault → IsSome (plates_of act.before)
 
 -- the fault has broken these lines off, whatever state the stage represented; the writer, which held some bytes, now holds others
 abbrev pub BreaksLines : Stage → List (List ℕ) → StageFault → Stage → Option (List ℕ) → Option (List ℕ) → Type 0
 BreaksLines before whole fault after held holds =
-    (s : State) → StandsFor before s → IsBrokenOff (step_of before s after held holds) whole fault
+    (s : State) → StandsFor before s → IsBrokenOff (act_of before s after held holds) whole fault
 
 -- the fault has broken a script off: that of which its reader had the bytes, where these are known, and else that of some bytes
 pub record BreaksScript (before : Stage) (unread : Option (List ℕ)) (fault : StageFault) (after : Stage) (held holds : Option (List ℕ)) : Type 0 where

@@ -10,38 +10,38 @@ use Rattle.mf_stage.specs.Stages.{StandsFor, limits, plates_of}
 use Rattle.mf_stage.specs.declared.stage.Publication.{Publication}
 use Rattle.mf_stage.specs.declared.stage.Stage.{Stage}
 
--- a stage before and after a step, a state that it represented before, and what the writer held and holds
-pub record Step : Type 0 where
+-- what a stage does: the stage before and after it, a state that it represented before, and what the writer held and holds
+pub record Act : Type 0 where
   pub before : Stage
   pub state : State
   pub after : Stage
   pub held : Option (List ℕ)
   pub holds : Option (List ℕ)
 
--- the step with these five, in this order
-abbrev pub step_of : Stage → State → Stage → Option (List ℕ) → Option (List ℕ) → Step
-step_of before s after held holds = record { before = before; state = s; after = after; held = held; holds = holds }
+-- the act with these five, in this order
+abbrev pub act_of : Stage → State → Stage → Option (List ℕ) → Option (List ℕ) → Act
+act_of before s after held holds = record { before = before; state = s; after = after; held = held; holds = holds }
 
--- in this step the stage has performed a line and written its text, and this was made of what is published after it
-pub record HasPerformedLine (step : Step) (line : List ℕ) (made : Option Publication) : Type 0 where
+-- in this act the stage has performed a line and written its text, and this was made of what is published after it
+pub record HasPerformedLine (act : Act) (line : List ℕ) (made : Option Publication) : Type 0 where
   pub text : List ℕ
   pub next : State
-  pub answer : Answers (limits step.before) step.state line text next
-  pub stands : StandsFor step.after next
-  pub out : Appends step.held step.holds text
-  pub made_is : Announces (plates_of step.before) line next.pictures.published made
+  pub answer : Answers (limits act.before) act.state line text next
+  pub stands : StandsFor act.after next
+  pub out : Appends act.held act.holds text
+  pub made_is : Announces (plates_of act.before) line next.pictures.published made
 
--- in this step the stage has performed lines and written their texts
-pub record HasPerformed (step : Step) (done : List (List ℕ)) : Type 0 where
+-- in this act the stage has performed lines and written their texts
+pub record HasPerformed (act : Act) (done : List (List ℕ)) : Type 0 where
   pub text : List ℕ
   pub last : State
-  pub performed : Perform (limits step.before) step.state done text last
-  pub stands : StandsFor step.after last
-  pub out : Appends step.held step.holds text
+  pub performed : Perform (limits act.before) act.state done text last
+  pub stands : StandsFor act.after last
+  pub out : Appends act.held act.holds text
 
 -- the stage has performed these lines, whatever state it represented; the writer, which held some bytes, now holds others
 abbrev pub PerformsLines : Stage → List (List ℕ) → Stage → Option (List ℕ) → Option (List ℕ) → Type 0
-PerformsLines before done after held holds = (s : State) → StandsFor before s → HasPerformed (step_of before s after held holds) done
+PerformsLines before done after held holds = (s : State) → StandsFor before s → HasPerformed (act_of before s after held holds) done
 
 -- the stage has performed all lines of a script: of what its reader had, where this is known, and else of some bytes
 pub record PerformsAll (before : Stage) (unread : Option (List ℕ)) (after : Stage) (held holds : Option (List ℕ)) : Type 0 where

@@ -6,7 +6,7 @@ ghost use Rattle.mf_live.specs.Entries.{pic, rev};
 ghost use Rattle.mf_session.specs.States.{State, limits_of, start};
 ghost use Rattle.mf_stage.specs.Faults.{BreaksLines, BreaksScript, ConcernsPlate, IsOfImage, IsOfPlate};
 ghost use Rattle.mf_stage.specs.Publications.{IsPlateWhere, IsPublication};
-ghost use Rattle.mf_stage.specs.Scripts.{HasPerformedLine, PerformsLines, PerformsAll, StillStands, step_of};
+ghost use Rattle.mf_stage.specs.Scripts.{HasPerformedLine, PerformsLines, PerformsAll, StillStands, act_of};
 ghost use Rattle.mf_stage.specs.Stages.{StandsFor, identity, limits, plates_of, session_of};
 
 use crate::fault::StageFault;
@@ -66,7 +66,8 @@ impl Stage {
     /// Performs a script to its end, line by line: writes the text of each line and flushes it, writes the plate of what the line
     /// has published, if it has, and lets the pace know, all before the next line is read. A line ends at a line feed; a carriage
     /// return before that is no part of it, and bytes after the last line feed are a line. A publish that shows nothing new writes
-    /// its plate again.
+    /// its plate again. Plates are written on this side, since a viewer may miss revisions, and between two lines, while the
+    /// picture is what was published.
     ///
     /// Refused with `OutOfMemory`, `ReadFault` or `WriteFault`, and where plates are asked for, with `ImageTooLarge` or `PlateFault`.
     /// `ReadFault` also comes after 18,446,744,073,709,551,615 lines. What was written by then stays; the caller discards the stage.
@@ -150,7 +151,7 @@ impl Stage {
         transcript: &mut W,
     ) -> Result<Option<Publication>, StageFault>
         ensures performed { IfOk result (λ made. (s : State) → StandsFor self.old s
-            → HasPerformedLine (step_of self.old s self.new (W.contents transcript.old) (W.contents transcript.new)) line.now made) }
+            → HasPerformedLine (act_of self.old s self.new (W.contents transcript.old) (W.contents transcript.new)) line.now made) }
         ensures begun { IfErr result (λ fault.
             BreaksLines self.old (line.now ∷ []) fault self.new (W.contents transcript.old) (W.contents transcript.new)) }
         ensures limits { limits self.new ≡ limits self.old }

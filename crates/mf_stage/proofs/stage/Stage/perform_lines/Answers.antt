@@ -4,7 +4,7 @@ use Rattle.mf_stage.proofs.Broken.{under_way-broken, under_way-cut}
 use Rattle.mf_stage.proofs.Scripts.{under_way-end, under_way-next, under_way-start}
 use Rattle.mf_stage.specs.Faults.{BreaksLines}
 use Rattle.mf_stage.specs.Lines.{without_ending}
-use Rattle.mf_stage.specs.Scripts.{HasPerformed, step_of}
+use Rattle.mf_stage.specs.Scripts.{HasPerformed, act_of}
 use Rattle.mf_stage.specs.declared.fault.StageFault.TheVariants.{ReadFault}
 use Rattle.mf_stage.proofs.stage.Stage.perform_lines.Goals as goal
 
@@ -27,7 +27,7 @@ lines-preserved g c =
       under_way-next c.args.self.now c.lines.self c.perform_line.new.self (g.B.Read.remaining c.args.script.now)
           (g.B.Read.remaining c.lines.script) remaining (g.W.Write.contents c.args.transcript.now) held holds line limits_are under_way
           (rw c.in-Some.is at c.in_ok-line.ensures.whole) read
-          (λ s stands. subst (λ l. HasPerformed (step_of c.lines.self s c.perform_line.new.self held holds) (l ∷ [])) bare (done.performed s stands)),
+          (λ s stands. subst (λ l. HasPerformed (act_of c.lines.self s c.perform_line.new.self held holds) (l ∷ [])) bare (done.performed s stands)),
       λ s stands. let (now, represented) = represents s stands in let next = done.performed now represented in (next.last, next.stands),
     )
 
