@@ -1,5 +1,6 @@
 -- The values that the words give, by the names of their options.
-use Rattle.std.specs.Prelude.{◌≡◌, ◌⊎◌, ◌<◌, ◌≤◌, ◌^◌, ◌&&◌, ◌||◌, ◌==◌, ℕ, Bool, IfSome, List, Option, Some, [], codes, false, not, pos, true}
+use Rattle.std.specs.Prelude.{◌≡◌, ◌⊎◌, ◌<◌, ◌≤◌, ◌^◌, ◌&&◌, ◌||◌, ◌==◌, ℕ, Bool, IfSome, List, Option, Some, String, Vec, [], codes, false, map, not, pos, string_bytes, true}
+use Rattle.std.specs.Global.{Global}
 use Rattle.std.specs.List.{list_all}
 use Rattle.std.specs.Option.{option_map_or}
 use Rattle.std.specs.Str.{bytes_eq}
@@ -7,6 +8,10 @@ use Rattle.std.specs.Str.Parse.{IsNumeral, digits_value, without_leading_plus}
 use Rattle.clap.specs.Words.{Row, Rule, Text, first_of, one_of}
 use Rattle.clap.specs.declared.builder.value_parser.ValueParser.{ValueParser}
 use Rattle.clap.specs.declared.builder.value_parser.ValueParser.TheVariants as parser
+
+-- the words of a command line, as bytes
+abbrev pub texts_of : Vec (String Global) Global → List Text
+texts_of words = map string_bytes words.items
 
 -- the number that a text represents in decimal
 abbrev pub written_number : Text → ℕ

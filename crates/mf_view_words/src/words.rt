@@ -1,6 +1,7 @@
 //! The words of the command line, and what they ask for.
-ghost use Rattle.std.specs.Prelude.{IfOk, IsErrOf, OnOk, map, string_bytes};
+ghost use Rattle.std.specs.Prelude.{IfOk, IsErrOf, OnOk};
 ghost use Rattle.clap.specs.Words.{found_of, rows_of};
+ghost use Rattle.mf_options.specs.Values.{texts_of};
 ghost use Rattle.mf_view_words.specs.Requests.{AreWords, IsCommandLine, IsRequestInRange, IsRequest, IsRequestIn, IsWordsInRange};
 ghost use Rattle.mf_view_words.specs.Values.{IsReadable};
 
@@ -49,9 +50,9 @@ pub enum Request {
 /// and both before everything else. Refused with `BadWords` only where the rest has a word that is not an option, an option twice
 /// or without its value, a number out of its range, or `--pgm` without `--plates`; and with `OutOfMemory` where an allocation fails.
 pub fn read_words(alloc: Global, words: Vec<String>) -> Result<Request, WordsFault>
-    ensures accepted { OnOk result (IsCommandLine (map string_bytes words.items)) }
-    ensures refused { IsErrOf result WordsFault.BadWords → ¬ IsCommandLine (map string_bytes words.items) }
-    ensures value { IfOk result (IsRequest (map string_bytes words.items)) }
+    ensures accepted { OnOk result (IsCommandLine (texts_of words)) }
+    ensures refused { IsErrOf result WordsFault.BadWords → ¬ IsCommandLine (texts_of words) }
+    ensures value { IfOk result (IsRequest (texts_of words)) }
     ensures range { IfOk result IsRequestInRange }
 {
     let matches = find_matches(command(alloc)?, words.as_slice())?;
