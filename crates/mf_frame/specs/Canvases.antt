@@ -6,7 +6,7 @@ pub record Size : Type 0 where
   pub columns : ℕ
   pub rows : ℕ
 
--- the least size of a canvas, and the greatest
+-- the least size of a canvas, and the greatest (here as well as in the code, so that a wrong constant there is not proved)
 abbrev pub least_size : Size
 least_size = record { columns = 50; rows = 6 }
 

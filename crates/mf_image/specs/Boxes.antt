@@ -14,7 +14,7 @@ unfoldable pub image_box : List Dot → Box4
 image_box [] = origin
 image_box (d ∷ ds) = box_of_dots d ds
 
--- the greatest number of columns, and of rows, of an image
+-- the greatest number of columns, and of rows, of an image (here as well as in the code, so that a wrong constant there is not proved)
 abbrev pub greatest_side : ℕ
 greatest_side = 4096
 

@@ -1,4 +1,4 @@
--- The greatest numbers that the options take.
+-- The greatest numbers that the options take. They stand here and in the code, so that a wrong number there is not proved.
 use Rattle.std.specs.Prelude.{ℕ}
 
 -- columns, and rows, of characters
