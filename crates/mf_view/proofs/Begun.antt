@@ -1,54 +1,24 @@
 -- Performances that end with a fault.
-use Rattle.std.proofs.Common.{◌≡◌, ◌⊎◌, ℕ, List, [], Option, None, Some, IfSome, Result, Ok, Err, IfErr, OnOk, inl, inr, refl, sym, ap, subst, ◌∙◌, append-nil}
+use Rattle.std.proofs.Common.{◌≡◌, ◌⊎◌, ℕ, List, [], Option, None, Some, IfSome, Result, Ok, Err, IfErr, OnOk, inl, inr, refl, sym, subst}
 use Rattle.std.proofs.KnownBytes.{Appends-nil}
 use Rattle.std.specs.Str.Lines.{lines}
 use Rattle.std.specs.Prelude.{IsSome}
 use Rattle.mf_gf.specs.declared.file.GfFile.{GfFile}
-use Rattle.mf_image.specs.Boxes.{IsTooLargeForImage}
-use Rattle.mf_live.specs.Entries.{pic, rev}
 use Rattle.mf_session.specs.States.{State, start}
 use Rattle.mf_session.specs.Transcript.{Perform}
-use Rattle.mf_stage.specs.Faults.{BreaksScript, IsFirstText, due}
+use Rattle.mf_stage.specs.Faults.{BreaksScript, due}
 use Rattle.mf_stage.specs.Faults as stage
 use Rattle.mf_stage.specs.Scripts.{PerformsAll}
 use Rattle.mf_stage.specs.Stages.{StandsFor, limits, plates_of}
 use Rattle.mf_stage.specs.declared.fault.StageFault.{StageFault}
 use Rattle.mf_stage.specs.declared.fault.StageFault.TheVariants as stages
 use Rattle.mf_stage.specs.declared.stage.Stage.{Stage}
-use Rattle.mf_view.specs.Begun.{HasBegun, IsOfEnd, IsWholeText, Tells}
-use Rattle.mf_view.specs.Faults.{ConcernsPlate, fault_of_stage}
+use Rattle.mf_view.specs.Begun.{HasBegun, IsOfEnd}
+use Rattle.mf_view.specs.Causes.{fault_of_stage}
+use Rattle.mf_view.specs.Faults.{ConcernsPlate}
 use Rattle.mf_view.specs.Performances.{script_limits}
 use Rattle.mf_view.specs.declared.fault.ProgramFault.{ProgramFault}
-use Rattle.mf_view.specs.declared.fault.ProgramFault.TheVariants.{OutOfMemory, NoPlace, NoLook, TooSmall, FileTooLong, ReadFault, WriteFault, ImageTooLarge, PlateFault, NoCharacters}
-
--- what a fault of the stage says is what the same fault of the program says
-tells-stage : (d : stage.Due) (last : State) (cause : StageFault) (written : List ℕ) → stage.Tells d last cause written
-    → Tells d last (fault_of_stage cause) written
-tells-stage d last stages.OutOfMemory written told = told
-tells-stage d last stages.FileTooLong written told = told
-tells-stage d last stages.ReadFault written told = told
-tells-stage d last stages.WriteFault written told = inl told
-tells-stage d last (stages.ImageTooLarge revision) written (first, published, large) =
-    (first, sym (ap rev published.all) ∙ published.revision_is, subst (λ shown. IsTooLargeForImage (pic shown)) published.all large)
-tells-stage d last (stages.PlateFault revision) written (first, published) = (first, sym (ap rev published.all) ∙ published.revision_is)
-
--- all lines are the first lines
-all-first : (d : stage.Due) (last : State) (written : List ℕ) → IsWholeText d last written → IsFirstText d last written
-all-first d last written whole = record { done = d.whole; more = []; first = sym (append-nil d.whole); performed = whole }
-
--- what is said after a complete script
-tells-end : (d : stage.Due) (last : State) (fault : ProgramFault) (written : List ℕ) → IsWholeText d last written
-    → IsOfEnd last.pictures.accepted fault → Tells d last fault written
-tells-end d last OutOfMemory written whole of_end = all-first d last written whole
-tells-end d last NoPlace written whole of_end = absurd of_end
-tells-end d last NoLook written whole of_end = whole
-tells-end d last TooSmall written whole of_end = of_end
-tells-end d last FileTooLong written whole of_end = of_end
-tells-end d last ReadFault written whole of_end = absurd of_end
-tells-end d last WriteFault written whole of_end = inr whole
-tells-end d last (ImageTooLarge revision) written whole of_end = (all-first d last written whole, of_end.0, of_end.1)
-tells-end d last (PlateFault revision) written whole of_end = (all-first d last written whole, of_end)
-tells-end d last NoCharacters written whole of_end = of_end
+use Rattle.mf_view.specs.declared.fault.ProgramFault.TheVariants.{OutOfMemory, NoPlace}
 
 -- a fault of a plate is one to the stage, too
 concerns-stage : (cause : StageFault) → ConcernsPlate (fault_of_stage cause) → stage.ConcernsPlate cause
@@ -70,8 +40,7 @@ module _ (before after : Stage) (unread told tells : Option (List ℕ)) (limited
         last = stopped.last;
         written = stopped.written;
         out = stopped.out;
-        tells_is = tells-stage (due script_limits start (lines broken.input)) stopped.last cause stopped.written
-            (subst (λ l. stage.Tells (due l start (lines broken.input)) stopped.last cause stopped.written) limited stopped.told);
+        tells_is = inl (cause, refl, subst (λ l. stage.Tells (due l start (lines broken.input)) stopped.last cause stopped.written) limited stopped.told);
       }
 
   begun-end : (fault : ProgramFault) → PerformsAll before unread after told tells
@@ -84,8 +53,7 @@ module _ (before after : Stage) (unread told tells : Option (List ℕ)) (limited
         last = done.last;
         written = done.text;
         out = done.out;
-        tells_is = tells-end (due script_limits start (lines script.input)) done.last fault done.text
-            (subst (λ l. Perform l start (lines script.input) done.text done.last) limited done.performed) (late done.last done.stands);
+        tells_is = inr (inl (subst (λ l. Perform l start (lines script.input) done.text done.last) limited done.performed, late done.last done.stands));
       }
 
   -- the fault is that of the script, or one after it
@@ -125,13 +93,13 @@ unbegun-memory unread told =
       last = start;
       written = [];
       out = Appends-nil told;
-      tells_is = record { done = []; more = lines input; first = refl; performed = (refl, refl) };
+      tells_is = inl (stages.OutOfMemory, refl, record { done = []; more = lines input; first = refl; performed = (refl, refl) });
     }
 
 pub unbegun-place : (unread told : Option (List ℕ)) → HasBegun unread told told NoPlace
 unbegun-place unread told =
     let (input, known) = some-bytes unread in
-    record { input = input; known = known; last = start; written = []; out = Appends-nil told; tells_is = refl }
+    record { input = input; known = known; last = start; written = []; out = Appends-nil told; tells_is = inr (inr (refl, refl)) }
 
 -- no stage could be made
 pub unbegun-stage : (unread told : Option (List ℕ)) (cause : StageFault) → (cause ≡ stages.FileTooLong) ⊎ (cause ≡ stages.OutOfMemory)

@@ -16,7 +16,7 @@ use Rattle.mf_stage.specs.Stages.{StandsFor, limits, session_of}
 use Rattle.mf_stage.specs.declared.stage.Stage.{Stage}
 use Rattle.mf_stage.specs.declared.fault.StageFault.{StageFault}
 use Rattle.mf_view.specs.Drawings.{DrawsMore, EndsDrawing, HasDrawn, ShowsLast}
-use Rattle.mf_view.specs.Faults.{fault_of_stage}
+use Rattle.mf_view.specs.Causes.{fault_of_stage}
 use Rattle.mf_view.specs.Endings.{IsShownInto}
 use Rattle.mf_view.specs.Performances.{Shows, Streams, script_limits}
 use Rattle.mf_view.specs.declared.fault.ProgramFault.{ProgramFault}

@@ -6,30 +6,33 @@ use Rattle.mf_image.specs.Boxes.{IsTooLargeForImage}
 use Rattle.mf_live.specs.Entries.{Entry, pic, rev}
 use Rattle.mf_session.specs.States.{State, start}
 use Rattle.mf_session.specs.Transcript.{Perform}
-use Rattle.mf_stage.specs.Faults.{Due, IsCutText, IsFirstText, due}
+use Rattle.mf_stage.specs.Faults.{Due, due}
+use Rattle.mf_stage.specs.Faults as stage
+use Rattle.mf_stage.specs.declared.fault.StageFault.{StageFault}
+use Rattle.mf_view.specs.Causes.{fault_of_stage}
 use Rattle.mf_view.specs.Performances.{script_limits}
 use Rattle.mf_view.specs.declared.fault.ProgramFault.{ProgramFault}
-use Rattle.mf_view.specs.declared.fault.ProgramFault.TheVariants.{OutOfMemory, NoPlace, NoLook, TooSmall, FileTooLong, ReadFault, WriteFault, ImageTooLarge, PlateFault, NoCharacters}
+use Rattle.mf_view.specs.declared.fault.ProgramFault.TheVariants.{OutOfMemory, NoPlace, NoLook, WriteFault, ImageTooLarge, PlateFault}
 
 -- this is the text of all these lines, which have led to this state
 abbrev pub IsWholeText : Due → State → List ℕ → Type 0
 IsWholeText d last written = Perform d.limits d.from d.whole written last
 
--- what a fault says of the lines of a script, the first of which have led to this state, and of what was written of their transcript: only
--- after `WriteFault` the text of a line may be cut, or else the transcript is complete; after `NoLook` it is complete; after the faults of an
--- image the revision is that of the picture in this state, and after `ImageTooLarge` this picture is too large for an image
+-- with this fault a performance can end whose script was performed to its end, where the last picture is that of this list
+abbrev pub IsOfEnd : List Entry → ProgramFault → Type 0
+IsOfEnd last OutOfMemory = Unit {0}
+IsOfEnd last NoLook = Unit {0}
+IsOfEnd last WriteFault = Unit {0}
+IsOfEnd last (ImageTooLarge revision) = (rev last ≡ revision) × IsTooLargeForImage (pic last)
+IsOfEnd last (PlateFault revision) = rev last ≡ revision
+IsOfEnd last _ = ⊥
+
+-- what a fault says of the lines of a script, the first of which have led to this state, and of what was written of their transcript: what
+-- the same fault of the stage says; or it came at the end, after all of them; or there was no place for the viewer, and nothing was written
 abbrev pub Tells : Due → State → ProgramFault → List ℕ → Type 0
-Tells d last OutOfMemory written = IsFirstText d last written
-Tells d last NoPlace written = written ≡ []
-Tells d last NoLook written = IsWholeText d last written
-Tells d last TooSmall written = ⊥
-Tells d last FileTooLong written = ⊥
-Tells d last ReadFault written = IsFirstText d last written
-Tells d last WriteFault written = IsCutText d last written ⊎ IsWholeText d last written
-Tells d last (ImageTooLarge revision) written =
-    IsFirstText d last written × (rev last.pictures.accepted ≡ revision) × IsTooLargeForImage (pic last.pictures.accepted)
-Tells d last (PlateFault revision) written = IsFirstText d last written × (rev last.pictures.accepted ≡ revision)
-Tells d last NoCharacters written = ⊥
+Tells d last fault written =
+    ((cause : StageFault) × (fault ≡ fault_of_stage cause) × stage.Tells d last cause written)
+    ⊎ ((IsWholeText d last written × IsOfEnd last.pictures.accepted fault) ⊎ ((fault ≡ NoPlace) × (written ≡ [])))
 
 -- a fault has ended the performance of a script: of the one that the reader had, where this is known, and else of some bytes; the
 -- transcript, which told some bytes before, tells what the fault says
@@ -40,12 +43,3 @@ pub record HasBegun (unread told tells : Option (List ℕ)) (fault : ProgramFaul
   pub written : List ℕ
   pub out : Appends told tells written
   pub tells_is : Tells (due script_limits start (lines input)) last fault written
-
--- with this fault a performance can end whose script was performed to its end, where the last picture is that of this list
-abbrev pub IsOfEnd : List Entry → ProgramFault → Type 0
-IsOfEnd last OutOfMemory = Unit {0}
-IsOfEnd last NoLook = Unit {0}
-IsOfEnd last WriteFault = Unit {0}
-IsOfEnd last (ImageTooLarge revision) = (rev last ≡ revision) × IsTooLargeForImage (pic last)
-IsOfEnd last (PlateFault revision) = rev last ≡ revision
-IsOfEnd last _ = ⊥

@@ -1,8 +1,8 @@
 -- What the program has written where it ends well.
-use Rattle.std.specs.Prelude.{◌≡◌, ◌≢◌, ◌⊎◌, Bool, true, false, ℕ, List, [], Option, None, Some, IsSome, codes, min, option_map, string_bytes}
+use Rattle.std.specs.Prelude.{◌≡◌, ◌≢◌, ◌⊎◌, Bool, true, false, ℕ, List, [], Option, None, Some, IsSome, codes, option_map, string_bytes}
 use Rattle.std.specs.Io.KnownBytes.{Appends}
 use Rattle.clap.specs.Words.{Text}
-use Rattle.mf_frame.specs.Canvases.{Size}
+use Rattle.mf_frame.specs.Canvases.{Size, size_in}
 use Rattle.mf_frame.specs.declared.tile.Style.{Style}
 use Rattle.mf_frame.specs.declared.tile.Style.TheVariants.{Colored, Plain}
 use Rattle.mf_gf.specs.declared.file.GfFile.{GfFile}
@@ -15,10 +15,6 @@ use Rattle.mf_view_words.specs.Texts.{help_text}
 use Rattle.mf_view_words.specs.declared.words.Request.{Request}
 use Rattle.mf_view_words.specs.declared.words.Request.TheVariants.{Help, Show, Version}
 use Rattle.mf_view_words.specs.declared.words.Words.{Words}
-
--- the size of frames in so many columns and rows of characters
-abbrev pub size_in : ℕ → ℕ → Size
-size_in columns rows = record { columns = min columns 1000; rows = min rows 1000 }
 
 -- the style of frames, which may follow one another
 abbrev pub style_in : Bool → Style
@@ -38,21 +34,21 @@ pub record HasFont (words : Words) (file : GfFile) : Type 0 where
   pub fits : (characters : List Character) → Keeps file [] characters
       → IsLongFile (max_bytes_of file) (font_words words.design_size words.resolution) [] characters → ⊥
 
+-- a script was performed and shown as the words ask for it, and this is its font file
+abbrev pub IsShownFor : Words → Streams → GfFile → Type 0
+IsShownFor words =
+    IsShownInto (option_map string_bytes words.transcript) (style_in words.frames) (size_in words.columns words.rows)
+
 -- the script was performed and shown as the words ask for it, and so is its font file
 pub record IsWatched (words : Words) (s : Streams) : Type 0 where
   pub file : GfFile
-  pub shown : IsShownInto (option_map string_bytes words.transcript) (style_in words.frames) (size_in words.columns words.rows) s file
+  pub shown : IsShownFor words s file
   pub font : HasFont words file
-
--- the script was performed and shown as the words ask for it
-pub record IsPerformed (words : Words) (s : Streams) : Type 0 where
-  pub file : GfFile
-  pub shown : IsShownInto (option_map string_bytes words.transcript) (style_in words.frames) (size_in words.columns words.rows) s file
 
 -- the script was performed and shown as the words ask for it, and it has shipped no character
 pub record ShipsNothing (words : Words) (s : Streams) : Type 0 where
   pub file : GfFile
-  pub shown : IsShownInto (option_map string_bytes words.transcript) (style_in words.frames) (size_in words.columns words.rows) s file
+  pub shown : IsShownFor words s file
   pub none : (characters : List Character) → Keeps file [] characters → characters ≡ []
 
 -- these words ask for the help text or for the version, and not for a script

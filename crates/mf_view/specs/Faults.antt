@@ -1,37 +1,21 @@
--- What faults of the parts are to the program, and which fault ends a run.
+-- Which fault ends a run.
 use Rattle.std.specs.Prelude.{◌≡◌, ◌⊎◌, ℕ, IsSome, List, None, Option}
 use Rattle.clap.specs.Words.{Text}
 use Rattle.mf_base.specs.Messages.{GetsMessage}
 use Rattle.mf_easel.specs.declared.fault.EaselFault.{EaselFault}
-use Rattle.mf_easel.specs.declared.fault.EaselFault.TheVariants as easels
-use Rattle.mf_stage.specs.declared.fault.StageFault.{StageFault}
-use Rattle.mf_stage.specs.declared.fault.StageFault.TheVariants as stages
 use Rattle.mf_frame.specs.Canvases.{IsLargeEnough}
+use Rattle.mf_gf.specs.declared.file.GfFile.{GfFile}
 use Rattle.mf_view.specs.declared.fault.ProgramFault.{ProgramFault}
 use Rattle.mf_view.specs.declared.fault.ProgramFault.TheVariants as faults
 use Rattle.mf_view.specs.Begun.{HasBegun}
-use Rattle.mf_view.specs.Endings.{IsPerformed, ShipsNothing}
+use Rattle.mf_view.specs.Causes.{fault_of_easel}
+use Rattle.mf_view.specs.Endings.{IsShownFor, ShipsNothing}
 use Rattle.mf_view.specs.Messages.{message_of}
 use Rattle.mf_view.specs.Performances.{Streams}
 use Rattle.mf_view.specs.Statuses.{status_of}
 use Rattle.mf_view_words.specs.Requests.{IsRequest}
 use Rattle.mf_view_words.specs.declared.words.Request.TheVariants.{Show}
 use Rattle.mf_view_words.specs.declared.words.Words.{Words}
-
--- a fault of the performance of the script
-abbrev pub fault_of_stage : StageFault → ProgramFault
-fault_of_stage stages.OutOfMemory = faults.OutOfMemory
-fault_of_stage stages.FileTooLong = faults.FileTooLong
-fault_of_stage stages.ReadFault = faults.ReadFault
-fault_of_stage stages.WriteFault = faults.WriteFault
-fault_of_stage (stages.ImageTooLarge revision) = faults.ImageTooLarge revision
-fault_of_stage (stages.PlateFault revision) = faults.PlateFault revision
-
--- a fault of the drawing
-abbrev pub fault_of_easel : EaselFault → ProgramFault
-fault_of_easel easels.OutOfMemory = faults.OutOfMemory
-fault_of_easel easels.NoLook = faults.NoLook
-fault_of_easel easels.WriteFault = faults.WriteFault
 
 -- the fault is one of a plate
 abbrev pub ConcernsPlate : ProgramFault → Type 0
@@ -51,7 +35,7 @@ IsOfSides faults.TooSmall = ⊥
 IsOfSides faults.NoCharacters = ⊥
 IsOfSides _ = Unit {0}
 
--- these words ask for a script to be drawn in fewer than 50 columns or fewer than 6 rows
+-- these words ask for a script to be drawn in too few columns or rows
 pub record LacksRoom (words : List Text) : Type 0 where
   pub asked : Words
   pub request : IsRequest words (Show asked)
@@ -84,7 +68,7 @@ MayEnd words s _ = Unit {0}
 -- this fault has told, or, where the fault came after the performance, all of it
 abbrev pub IsToldBefore : Words → Streams → ProgramFault → Type 0
 IsToldBefore asked s fault =
-    ((fault ≡ faults.TooSmall) × (s.tells ≡ s.told)) ⊎ (HasBegun s.unread s.told s.tells fault ⊎ IsPerformed asked s)
+    ((fault ≡ faults.TooSmall) × (s.tells ≡ s.told)) ⊎ (HasBegun s.unread s.told s.tells fault ⊎ ((file : GfFile) × IsShownFor asked s file))
 
 -- these words ask for a script to be performed with its transcript in the stream of messages, which has got what the fault says
 pub record TellsTranscript (words : List Text) (s : Streams) (fault : ProgramFault) : Type 0 where

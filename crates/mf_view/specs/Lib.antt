@@ -1,4 +1,5 @@
 pub mod Begun
+pub mod Causes
 pub mod Drawings
 pub mod Endings
 pub mod Faults

@@ -11,7 +11,7 @@ use Rattle.mf_session.specs.States.{Limits, State, limits_of, most_bytes, most_o
 use Rattle.mf_session.specs.Transcript.{Perform}
 use Rattle.mf_view.specs.Drawings.{ShowsLast}
 
--- the limits of a script
+-- the limits of a script (here as well as in the code, so that a wrong constant there is not proved)
 abbrev pub script_limits : Limits
 script_limits = limits_of most_operations most_bytes
 

@@ -40,7 +40,7 @@ impl From<TooSmall> for ProgramFault {
 }
 
 impl From<StageFault> for ProgramFault {
-    ghost use Rattle.mf_view.specs.Faults.{fault_of_stage};
+    ghost use Rattle.mf_view.specs.Causes.{fault_of_stage};
 
     ghost from_gives = { λ cause fault. fault ≡ fault_of_stage cause };
 
@@ -57,7 +57,7 @@ impl From<StageFault> for ProgramFault {
 }
 
 impl From<EaselFault> for ProgramFault {
-    ghost use Rattle.mf_view.specs.Faults.{fault_of_easel};
+    ghost use Rattle.mf_view.specs.Causes.{fault_of_easel};
 
     ghost from_gives = { λ cause fault. fault ≡ fault_of_easel cause };
 

@@ -3,6 +3,7 @@ ghost use Rattle.std.specs.Prelude.{◌≡◌, ◌⊎◌, ◌≤◌, ◌<◌, �
 ghost use Rattle.mf_gf.specs.Files.{Character, IsLongFile, file_if_any};
 ghost use Rattle.mf_gf.specs.Keeping.{Keeps, max_bytes_of};
 ghost use Rattle.mf_view.specs.Fonts.{font_words, nearest, pixels_per_point};
+ghost use Rattle.mf_view_words.specs.Ranges.{greatest_design_size, greatest_resolution};
 
 use crate::fault::ProgramFault;
 use mf_gf::{FontWords, GfBytes, GfFault, GfFile};
@@ -15,8 +16,8 @@ const UNITS_PER_POINT: u32 = 1_048_576;
 /// The numbers of a font with this design size in points and this resolution in dots per inch. A point is 1/72.27 inch. There is
 /// no checksum. Requires at most 2,047 points and 100,000 dots.
 pub fn font_words(design_size: u32, resolution: u32) -> FontWords
-    requires points { design_size ≤ 2047 }
-    requires dots { resolution ≤ 100000 }
+    requires points { design_size ≤ greatest_design_size }
+    requires dots { resolution ≤ greatest_resolution }
     ensures { result ≡ font_words design_size resolution }
 {
     let pixels = pixels_per_point(resolution);
@@ -30,9 +31,10 @@ pub fn font_words(design_size: u32, resolution: u32) -> FontWords
 
 /// The pixels in a point at this resolution, in 1/65536, rounded to the nearest integer.
 fn pixels_per_point(resolution: u32) -> i32
-    requires { resolution ≤ 100000 }
+    requires { resolution ≤ greatest_resolution }
     ensures { result ≡ pos (pixels_per_point resolution) }
 {
+    // The integer nearest to n / d is (2 * n + d) / (2 * d), where n is resolution * 65536 * 100 and d is 7227.
     ((resolution as u64 * 13_107_200 + 7_227) / 14_454) as i32
 }
 

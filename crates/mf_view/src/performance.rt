@@ -10,7 +10,8 @@ ghost use Rattle.mf_stage.specs.Stages as stages;
 ghost use Rattle.mf_stage.specs.Stages.{StandsFor, limits};
 ghost use Rattle.mf_stage.specs.Scripts.{PerformsAll, StillStands};
 ghost use Rattle.mf_view.specs.Begun.{HasBegun, IsOfEnd};
-ghost use Rattle.mf_view.specs.Faults.{ConcernsPlate, IsOfSides, IsToldAfter, fault_of_stage};
+ghost use Rattle.mf_view.specs.Causes.{fault_of_stage};
+ghost use Rattle.mf_view.specs.Faults.{ConcernsPlate, IsOfSides, IsToldAfter};
 ghost use Rattle.mf_view.specs.Drawings.{DrawsMore, EndsDrawing};
 ghost use Rattle.mf_view.specs.Performances.{Shows, script_limits, streams_of};
 
@@ -102,7 +103,8 @@ pub fn perform<
     }
 }
 
-/// Performs the script on a stage on which nothing was performed, while an easel that has drawn nothing draws its picture.
+/// Performs the script on a stage on which nothing was performed, while an easel that has drawn nothing draws its picture. The blank
+/// picture is drawn before the thread starts, so that the first frame is the same in every order of the threads.
 fn show<
     S: Wait + Threads + Files + Sync,
     R: Read,
@@ -122,7 +124,7 @@ fn show<
     requires identity { easels.identity easel ≡ stages.identity stage }
     requires start { StandsFor stage start }
     requires limits { limits stage ≡ script_limits }
-    requires blank { easels.drawn_of easel ≡ None }
+    requires blank { easels.revision_of easel ≡ None }
     ensures shown { IfOk result (Shows (easels.style_of easel) (easels.canvas_of easel)
         (streams_of R.remaining reader.old W.contents screen.old screen.new T.contents transcript.old transcript.new)) }
     ensures begun { IfErr result (HasBegun (R.remaining reader.old) (T.contents transcript.old) (T.contents transcript.new)) }

@@ -1,11 +1,12 @@
 //! The program that `main` calls: from its words and streams to its exit status.
 ghost use Rattle.std.specs.Io.KnownBytes.{Appends};
-ghost use Rattle.std.specs.Prelude.{◌≡◌, ◌++◌, ◌⊎◌, ◌↔◌, Err, IfErr, IfOk, IsOk, IsSome, None, OnOk, codes, decimal, map, option_map, string_bytes};
+ghost use Rattle.std.specs.Prelude.{◌≡◌, ◌++◌, ◌⊎◌, ◌↔◌, Err, IfErr, IfOk, IsOk, IsSome, None, OnOk, codes, decimal, option_map, string_bytes};
 ghost use Rattle.mf_base.specs.Messages.{GetsMessage};
 ghost use Rattle.mf_view.specs.Begun.{HasBegun};
-ghost use Rattle.mf_view.specs.Endings.{AsksForText, EndsWell, IsShownInto, IsWatched, ShipsNothing, size_in, style_in};
+ghost use Rattle.mf_view.specs.Endings.{AsksForText, EndsWell, IsShownInto, IsWatched, ShipsNothing, style_in};
 ghost use Rattle.mf_view.specs.Faults.{ConcernsPlate, IsOfSides, IsToldBefore, LacksRoom, ReportsFault};
-ghost use Rattle.mf_frame.specs.Canvases.{IsLargeEnough};
+ghost use Rattle.mf_frame.specs.Canvases.{IsLargeEnough, size_in};
+ghost use Rattle.mf_options.specs.Values.{texts_of};
 ghost use Rattle.mf_view.specs.Messages.{message_of, usage};
 ghost use Rattle.mf_view.specs.Performances.{streams_of};
 ghost use Rattle.mf_view.specs.Statuses.{status_of};
@@ -58,22 +59,22 @@ pub fn program<S: Wait + Threads + Files + Clock + Sync, R: Read, W: Write + Sen
     errors: &mut E,
 ) -> u8
     ensures statuses { (result ≡ DONE) ⊎ (result ≡ BAD_WORDS) ⊎ (result ≡ STREAM_FAULT) ⊎ (result ≡ WANTING) ⊎ (result ≡ TOO_SMALL) }
-    ensures bad_words { result ≡ BAD_WORDS → IsCommandLine (map string_bytes words.items) → ⊥ }
-    ensures refused { (IsCommandLine (map string_bytes words.items) → ⊥) → (result ≡ BAD_WORDS) ⊎ (result ≡ WANTING) }
-    ensures unread { (IsCommandLine (map string_bytes words.items) → ⊥) → reader.new ≡ reader.old }
-    ensures unwritten { (IsCommandLine (map string_bytes words.items) → ⊥) → screen.new ≡ screen.old }
-    ensures wanting { (IsCommandLine (map string_bytes words.items) → ⊥) → result ≡ WANTING
+    ensures bad_words { result ≡ BAD_WORDS → IsCommandLine (texts_of words) → ⊥ }
+    ensures refused { (IsCommandLine (texts_of words) → ⊥) → (result ≡ BAD_WORDS) ⊎ (result ≡ WANTING) }
+    ensures unread { (IsCommandLine (texts_of words) → ⊥) → reader.new ≡ reader.old }
+    ensures unwritten { (IsCommandLine (texts_of words) → ⊥) → screen.new ≡ screen.old }
+    ensures wanting { (IsCommandLine (texts_of words) → ⊥) → result ≡ WANTING
         → GetsMessage (E.contents errors.old) (E.contents errors.new) (message_of ProgramFault.OutOfMemory) }
     ensures usage { result ≡ BAD_WORDS → GetsMessage (E.contents errors.old) (E.contents errors.new) usage }
-    ensures done { result ≡ DONE → EndsWell (map string_bytes words.items)
+    ensures done { result ≡ DONE → EndsWell (texts_of words)
         (streams_of R.remaining reader.old W.contents screen.old screen.new E.contents errors.old errors.new) }
     ensures fault { (result ≡ STREAM_FAULT) ⊎ (result ≡ WANTING) ⊎ (result ≡ TOO_SMALL)
-        → ReportsFault (map string_bytes words.items) result
+        → ReportsFault (texts_of words) result
         (streams_of R.remaining reader.old W.contents screen.old screen.new E.contents errors.old errors.new) }
-    ensures text_alone { AsksForText (map string_bytes words.items) → reader.new ≡ reader.old }
-    ensures too_small { IsCommandLine (map string_bytes words.items) → LacksRoom (map string_bytes words.items)
+    ensures text_alone { AsksForText (texts_of words) → reader.new ≡ reader.old }
+    ensures too_small { IsCommandLine (texts_of words) → LacksRoom (texts_of words)
         → (result ≡ TOO_SMALL) ⊎ (result ≡ WANTING) }
-    ensures untouched { LacksRoom (map string_bytes words.items) → (reader.new ≡ reader.old) × (screen.new ≡ screen.old) }
+    ensures untouched { LacksRoom (texts_of words) → (reader.new ≡ reader.old) × (screen.new ≡ screen.old) }
 {
     let request = match read_words(alloc, words) {
         Ok(request) => request,
@@ -241,18 +242,18 @@ fn status_of(fault: ProgramFault) -> u8
     }
 }
 
-/// Writes the message of a fault, as far as `errors` takes it. Whether it took all.
-fn write_message<E: Write>(errors: &mut E, fault: ProgramFault) -> bool
+/// Writes the message of a fault, as far as `errors` takes it.
+fn write_message<E: Write>(errors: &mut E, fault: ProgramFault)
     ensures { GetsMessage (E.contents errors.old) (E.contents errors.new) (message_of fault) }
 {
     match fault {
-        ProgramFault::OutOfMemory => write_text(errors, "mfview: OutOfMemory\n"),
-        ProgramFault::NoPlace => write_text(errors, "mfview: NoPlace\n"),
-        ProgramFault::NoLook => write_text(errors, "mfview: NoLook\n"),
-        ProgramFault::TooSmall => write_text(errors, "mfview: TooSmall\n"),
-        ProgramFault::FileTooLong => write_text(errors, "mfview: FileTooLong\n"),
-        ProgramFault::ReadFault => write_text(errors, "mfview: ReadFault\n"),
-        ProgramFault::WriteFault => write_text(errors, "mfview: WriteFault\n"),
+        ProgramFault::OutOfMemory => put(errors, "mfview: OutOfMemory\n"),
+        ProgramFault::NoPlace => put(errors, "mfview: NoPlace\n"),
+        ProgramFault::NoLook => put(errors, "mfview: NoLook\n"),
+        ProgramFault::TooSmall => put(errors, "mfview: TooSmall\n"),
+        ProgramFault::FileTooLong => put(errors, "mfview: FileTooLong\n"),
+        ProgramFault::ReadFault => put(errors, "mfview: ReadFault\n"),
+        ProgramFault::WriteFault => put(errors, "mfview: WriteFault\n"),
         ProgramFault::ImageTooLarge(revision) => write_numbered(
             errors,
             "mfview: ImageTooLarge ",
@@ -263,21 +264,28 @@ fn write_message<E: Write>(errors: &mut E, fault: ProgramFault) -> bool
             "mfview: PlateFault ",
             revision,
         ),
-        ProgramFault::NoCharacters => write_text(errors, "mfview: NoCharacters\n"),
+        ProgramFault::NoCharacters => put(errors, "mfview: NoCharacters\n"),
     }
 }
 
-/// Writes a text, a number and a line feed, as far as `errors` takes them. Whether it took all. It allocates nothing, so that each
-/// fault can be told.
-fn write_numbered<E: Write>(errors: &mut E, text: &str, number: u32) -> bool
+/// Writes a text, as far as `errors` takes it.
+fn put<E: Write>(errors: &mut E, text: &str)
+    ensures { GetsMessage (E.contents errors.old) (E.contents errors.new) text.now }
+{
+    write_text(errors, text);
+}
+
+/// Writes a text, a number and a line feed, as far as `errors` takes them: nothing follows a text that was cut. It allocates
+/// nothing, so that each fault can be told.
+fn write_numbered<E: Write>(errors: &mut E, text: &str, number: u32)
     ensures { GetsMessage (E.contents errors.old) (E.contents errors.new) (text.now ++ decimal number ++ codes "\n") }
 {
     let mut buffer = Buffer::new();
     if !write_text(errors, text) {
-        return false;
+        return;
     }
     if !write_text(errors, buffer.format(number)) {
-        return false;
+        return;
     }
-    write_text(errors, "\n")
+    put(errors, "\n");
 }

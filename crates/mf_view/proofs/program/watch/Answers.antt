@@ -37,20 +37,20 @@ returns-in_err-bytes-clause-told g c =
     let s =
     streams_of g.R.Read.remaining c.args.reader.now g.W.Write.contents c.args.screen.now c.perform_into.new.screen
     g.E.Write.contents c.args.errors.now c.perform_into.new.errors in
-    of-each-fault c.from_residual-in_err-bytes.result _ (λ fault nowhere_else. inr (inr (record {
-      file = c.in_ok-file.file;
-      shown = shown-as (option_map string_bytes c.args.words.transcript) _ _ _ _ s c.in_ok-file.file c.in_ok-showing.ensures.asked c.in_ok-file.ensures.done;
-    })))
+    of-each-fault c.from_residual-in_err-bytes.result _ (λ fault nowhere_else. inr (inr (
+      c.in_ok-file.file,
+      shown-as (option_map string_bytes c.args.words.transcript) _ _ _ _ s c.in_ok-file.file c.in_ok-showing.ensures.asked c.in_ok-file.ensures.done,
+    )))
 
 pub returns-in-Some-clause-told : goal.returns-in-Some-clause-told
 returns-in-Some-clause-told g c =
     let s =
     streams_of g.R.Read.remaining c.args.reader.now g.W.Write.contents c.args.screen.now c.perform_into.new.screen
     g.E.Write.contents c.args.errors.now c.perform_into.new.errors in
-    of-each-fault c.write_font.result _ (λ fault nowhere_else. inr (inr (record {
-      file = c.in_ok-file.file;
-      shown = shown-as (option_map string_bytes c.args.words.transcript) _ _ _ _ s c.in_ok-file.file c.in_ok-showing.ensures.asked c.in_ok-file.ensures.done;
-    })))
+    of-each-fault c.write_font.result _ (λ fault nowhere_else. inr (inr (
+      c.in_ok-file.file,
+      shown-as (option_map string_bytes c.args.words.transcript) _ _ _ _ s c.in_ok-file.file c.in_ok-showing.ensures.asked c.in_ok-file.ensures.done,
+    )))
 
 pub returns-in-None-clause-done : goal.returns-in-None-clause-done
 returns-in-None-clause-done g c =

@@ -21,4 +21,4 @@ returns g c =
     let first = c.write_text.ensures.all c.if-not-write_text.false in
     let second : Appends _ _ (decimal c.args.number) = rw (← c.format.ensures.text) (c.write_text-2.ensures.all c.if-not-write_text-2.false) in
     message-after _ _ _ (c.args.text.now ++ decimal c.args.number) (codes "\n")
-    (Appends-trans _ _ _ c.args.text.now (decimal c.args.number) first second) c.write_text-3.ensures.front
+    (Appends-trans _ _ _ c.args.text.now (decimal c.args.number) first second) c.put.ensures
