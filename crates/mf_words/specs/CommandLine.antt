@@ -4,9 +4,13 @@ use Rattle.clap.specs.Words.{App, Text, fault_of, matches_of, new_app, with_rule
 use Rattle.mf_options.specs.Options.{file_rule, number_rule, without_flags}
 use Rattle.mf_options.specs.Values.{file_in, number_in}
 
+-- the greatest number of viewers (here as well as in the code, so that a wrong number there is not proved)
+abbrev pub greatest_viewers : ℕ
+greatest_viewers = 16
+
 -- the application `mfpic [--viewers 0..16] [--gf FILE]`, without flags for help or a version
 unfoldable pub mfpic : App
-mfpic = with_rule (with_rule (without_flags (new_app (codes "mfpic"))) (number_rule (codes "viewers") 0 16)) (file_rule (codes "gf"))
+mfpic = with_rule (with_rule (without_flags (new_app (codes "mfpic"))) (number_rule (codes "viewers") 0 greatest_viewers)) (file_rule (codes "gf"))
 
 -- the words, of which the first is the program's name, are a command line of the program
 abbrev pub IsCommandLine : List Text → Type 0

@@ -1,7 +1,8 @@
 //! The words of the command line, and what they ask for, as clap reads them.
-ghost use Rattle.std.specs.Prelude.{◌≡◌, ◌≤◌, IfOk, IsErrOf, OnOk, map, option_map, string_bytes};
+ghost use Rattle.std.specs.Prelude.{◌≡◌, ◌≤◌, IfOk, IsErrOf, OnOk, option_map, string_bytes};
 ghost use Rattle.clap.specs.Words.{app_of};
-ghost use Rattle.mf_words.specs.CommandLine.{IsCommandLine, gf_in, mfpic, viewers_in};
+ghost use Rattle.mf_options.specs.Values.{texts_of};
+ghost use Rattle.mf_words.specs.CommandLine.{IsCommandLine, gf_in, greatest_viewers, mfpic, viewers_in};
 
 use clap::Command;
 use mf_options::{WordsFault, file, find_matches, new_command, number, with_file, with_number};
@@ -22,11 +23,11 @@ pub struct Words {
 /// Reads the words of the command line. The first word is the program's name, whatever it is. Refused with `BadWords` only where
 /// the rest is not `[--viewers 0..16] [--gf FILE]`, in either order, and with `OutOfMemory` where an allocation fails.
 pub fn read_words(alloc: Global, words: Vec<String>) -> Result<Words, WordsFault>
-    ensures accepted { OnOk result (IsCommandLine (map string_bytes words.items)) }
-    ensures refused { IsErrOf result WordsFault.BadWords → ¬ IsCommandLine (map string_bytes words.items) }
-    ensures viewers { IfOk result (λ asked. asked.viewers ≡ viewers_in (map string_bytes words.items)) }
-    ensures few { IfOk result (λ asked. asked.viewers ≤ 16) }
-    ensures gf { IfOk result (λ asked. option_map string_bytes asked.gf ≡ gf_in (map string_bytes words.items)) }
+    ensures accepted { OnOk result (IsCommandLine (texts_of words)) }
+    ensures refused { IsErrOf result WordsFault.BadWords → ¬ IsCommandLine (texts_of words) }
+    ensures viewers { IfOk result (λ asked. asked.viewers ≡ viewers_in (texts_of words)) }
+    ensures few { IfOk result (λ asked. asked.viewers ≤ greatest_viewers) }
+    ensures gf { IfOk result (λ asked. option_map string_bytes asked.gf ≡ gf_in (texts_of words)) }
 {
     let matches = find_matches(command(alloc)?, words.as_slice())?;
     Ok(Words {
