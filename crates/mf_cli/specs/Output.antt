@@ -1,6 +1,5 @@
 -- What the program writes to standard output, and the font file that it makes.
-use Rattle.std.specs.Prelude.{◌≡◌, ℕ, List, Option, IsSome, String, Vec, map, option_map, pos, string_bytes}
-use Rattle.std.specs.Global.{Global}
+use Rattle.std.specs.Prelude.{◌≡◌, ℕ, List, Option, IsSome, option_map, pos, string_bytes}
 use Rattle.std.specs.Io.KnownBytes.{IsAtEnd}
 use Rattle.mf_words.specs.CommandLine.{gf_in, viewers_in}
 use Rattle.mf_words.specs.declared.words.Words.{Words}
@@ -10,17 +9,14 @@ use Rattle.mf_desk.specs.declared.outcome.Outcome.{Outcome}
 use Rattle.mf_desk.specs.declared.settings.Settings.{Settings}
 use Rattle.mf_session.specs.States.{most_bytes, most_operations}
 
--- the limits of a script, and the numbers of its font
+-- the limits of a script, and the numbers of its font (here as well as in the code, as are the looks, so that a wrong constant there
+-- is not proved)
 abbrev pub settings : Settings
 settings = record { max_ops = most_operations; max_bytes = most_bytes; font = record { ds = pos 0; cs = 0; hppp = pos 0; vppp = pos 0 } }
 
 -- how often each viewer looks
 abbrev pub looks : ℕ
 looks = 16
-
--- the words of a command line, as bytes
-abbrev pub words_of : Vec (String Global) Global → List (List ℕ)
-words_of words = map string_bytes words.items
 
 -- what the words of a command line ask for: so many viewers, and a FILE or none
 pub record Request : Type 0 where

@@ -1,4 +1,4 @@
-//! The program `mfpic` apart from its `main`: the words of its command line, its run, its statuses and its messages.
+//! The program `mfpic` apart from its `main`: its run, its statuses and its messages.
 #![tactic(auto)]
 
 mod fault;
@@ -6,5 +6,3 @@ pub mod laws;
 pub mod program;
 
 pub use fault::ProgramFault;
-pub use mf_options::WordsFault;
-pub use mf_words::{Words, read_words};

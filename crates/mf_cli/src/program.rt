@@ -2,12 +2,14 @@
 ghost use Rattle.std.specs.Io.KnownBytes.{Appends, IsAtEnd};
 ghost use Rattle.std.specs.Prelude.{◌≡◌, ◌<◌, ◌≤◌, ◌⊎◌, ℕ, IfErr, IfOk, OnOk, length, take};
 ghost use Rattle.mf_base.specs.Messages.{GetsMessage};
-ghost use Rattle.mf_words.specs.CommandLine.{IsCommandLine};
-ghost use Rattle.mf_cli.specs.Faults.{EndsBadly, ReportsFault};
+ghost use Rattle.mf_options.specs.Values.{texts_of};
+ghost use Rattle.mf_words.specs.CommandLine.{IsCommandLine, greatest_viewers};
+ghost use Rattle.mf_cli.specs.Faults.{ReportsFault, Tells};
 ghost use Rattle.mf_cli.specs.Messages.{message_of, usage};
-ghost use Rattle.mf_cli.specs.Output.{EndsWell, looks, request_in, request_of, settings, words_of};
+ghost use Rattle.mf_cli.specs.Output.{EndsWell, looks, request_in, request_of, settings};
 ghost use Rattle.mf_cli.specs.Statuses.{status_of};
-ghost use Rattle.mf_desk.specs.Performances.{Performs, Tells, task};
+ghost use Rattle.mf_desk.specs.Performances as runs;
+ghost use Rattle.mf_desk.specs.Performances.{Performs, asked};
 ghost use Rattle.mf_desk.specs.Streams.{Passes, streams_of};
 
 use crate::fault::ProgramFault;
@@ -36,7 +38,7 @@ const SETTINGS: Settings = Settings {
     },
 };
 
-/// How often each viewer looks while the script runs.
+/// How often each viewer looks while the script runs. When these looks happen is chance, so none of them is printed.
 const LOOKS: u32 = 16;
 
 /// Exit status after a run that reached the end of its script, and wrote the font file where one was asked for.
@@ -64,18 +66,18 @@ pub fn program<S: Wait + Threads + Files, R: Read, W: Write, E: Write>(
     errors: &mut E,
 ) -> u8
     ensures statuses { (result ≡ DONE) ⊎ (result ≡ BAD_WORDS) ⊎ (result ≡ STREAM_FAULT) ⊎ (result ≡ WANTING) }
-    ensures bad_words { result ≡ BAD_WORDS → IsCommandLine (words_of words) → ⊥ }
-    ensures refused { (IsCommandLine (words_of words) → ⊥) → (result ≡ BAD_WORDS) ⊎ (result ≡ WANTING) }
-    ensures unread { (IsCommandLine (words_of words) → ⊥) → reader.new ≡ reader.old }
-    ensures unwritten { (IsCommandLine (words_of words) → ⊥) → writer.new ≡ writer.old }
-    ensures wanting { (IsCommandLine (words_of words) → ⊥) → result ≡ WANTING
+    ensures bad_words { result ≡ BAD_WORDS → IsCommandLine (texts_of words) → ⊥ }
+    ensures refused { (IsCommandLine (texts_of words) → ⊥) → (result ≡ BAD_WORDS) ⊎ (result ≡ WANTING) }
+    ensures unread { (IsCommandLine (texts_of words) → ⊥) → reader.new ≡ reader.old }
+    ensures unwritten { (IsCommandLine (texts_of words) → ⊥) → writer.new ≡ writer.old }
+    ensures wanting { (IsCommandLine (texts_of words) → ⊥) → result ≡ WANTING
         → GetsMessage (E.contents errors.old) (E.contents errors.new) (message_of (ProgramFault.Run RunFault.OutOfMemory)) }
     ensures quiet { result ≡ DONE → errors.new ≡ errors.old }
     ensures usage { result ≡ BAD_WORDS → GetsMessage (E.contents errors.old) (E.contents errors.new) usage }
-    ensures done { result ≡ DONE → EndsWell (request_in (words_of words))
+    ensures done { result ≡ DONE → EndsWell (request_in (texts_of words))
         (streams_of R.remaining reader.old reader.new W.contents writer.old writer.new) }
     ensures fault { (result ≡ STREAM_FAULT) ⊎ (result ≡ WANTING)
-        → ReportsFault (words_of words) result (GetsMessage (E.contents errors.old) (E.contents errors.new))
+        → ReportsFault (texts_of words) result (GetsMessage (E.contents errors.old) (E.contents errors.new))
         (streams_of R.remaining reader.old reader.new W.contents writer.old writer.new) }
 {
     let words = match read_words(alloc, words) {
@@ -97,10 +99,10 @@ fn perform<S: Wait + Threads + Files, R: Read, W: Write>(
     writer: &mut W,
     words: &Words,
 ) -> Result<(), ProgramFault>
-    requires { words.now.viewers ≤ 16 }
+    requires { words.now.viewers ≤ greatest_viewers }
     ensures done { OnOk result (EndsWell (request_of words.now)
         (streams_of R.remaining reader.old reader.new W.contents writer.old writer.new)) }
-    ensures fault { IfErr result (λ fault. EndsBadly (request_of words.now) fault
+    ensures fault { IfErr result (λ fault. Tells (request_of words.now) fault
         (streams_of R.remaining reader.old reader.new W.contents writer.old writer.new)) }
 {
     let Outcome { gf, .. } = run_script(rt, alloc, reader, writer, words.viewers)?;
@@ -121,11 +123,11 @@ fn run_script<S: Wait + Threads, R: Read, W: Write>(
     writer: &mut W,
     viewers: u32,
 ) -> Result<Outcome, RunFault>
-    requires { viewers ≤ 16 }
+    requires { viewers ≤ greatest_viewers }
     ensures performance { IfOk result
         (Performs (task settings viewers looks) (streams_of R.remaining reader.old reader.new W.contents writer.old writer.new)) }
     ensures fault { IfErr result (λ fault. Passes (streams_of R.remaining reader.old reader.new W.contents writer.old writer.new)
-        (Tells settings viewers fault)) }
+        (runs.Tells settings viewers fault)) }
     ensures end { OnOk result (IsAtEnd (R.remaining reader.new)) }
 {
     if viewers == 0 {

@@ -1,7 +1,8 @@
 //! Tests of command lines: each form that is accepted, and each that is refused.
 use super::words_of;
 use crate::tests::assertions::{assert_holds, assert_same};
-use mf_cli::{Words, WordsFault, read_words};
+use mf_options::WordsFault;
+use mf_words::{Words, read_words};
 use std::alloc::{AllocError, Global};
 use std::process::Abort;
 use std::test::Fail;

@@ -8,5 +8,5 @@ returns-in-Err-OutOfMemory-clause-fault g c = λ _. record {
   fault = c.into.result;
   status_is = sym c.report.ensures.status;
   message = c.report.ensures.message;
-  ended = rw c.into.ensures (inl (Tells-nothing settings _ _ _));
+  told = rw c.into.ensures (inl (Tells-nothing settings _ _ _));
 }
