@@ -1,5 +1,6 @@
-//! Flags and counts that threads wait for, and readers and writers that wait for flags and set them.
+//! Flags and counts that threads wait for, and gates, readers and writers that wait for flags and set them.
 
+use mf_desk::Gate;
 use mf_testing::{Pieces, Sink};
 use std::io::{self, ErrorKind, Read, Write};
 use std::sync::atomic::{AtomicBool, AtomicU64, Ordering};
@@ -38,6 +39,34 @@ impl Flag {
             yield_now();
         }
         false
+    }
+}
+
+/// A gate that holds a look until a text has gone out.
+#[derive(Drop)]
+pub(crate) struct WaitsForText {
+    pub(crate) held: Flag,
+    pub(crate) printed: Flag,
+    /// Set if the text went out while the look was held.
+    pub(crate) seen: Flag,
+}
+
+impl WaitsForText {
+    pub(crate) fn new() -> WaitsForText {
+        WaitsForText {
+            held: Flag::new(),
+            printed: Flag::new(),
+            seen: Flag::new(),
+        }
+    }
+}
+
+impl Gate for WaitsForText {
+    fn hold(&self, _viewer: u32, _look: u32) {
+        self.held.set();
+        if self.printed.is_set_within(TURNS) {
+            self.seen.set();
+        }
     }
 }
 

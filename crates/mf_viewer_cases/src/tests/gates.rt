@@ -1,6 +1,6 @@
 //! Viewers that wait while they hold a look.
 
-use super::flags::{Count, Flag, ReadsAfter, TURNS};
+use super::flags::{Count, Flag, ReadsAfter, TURNS, WaitsForText};
 use super::outcomes::{assert_saw, outcome_of, outcome_telling, shared};
 use super::{BLANK, PUBLISHED, PUBLISHED_TEXT, SIX};
 use crate::tests::assertions::{assert_holds, assert_same};
@@ -88,33 +88,10 @@ fn looks_show_what_was_published(rt: HostRuntime) {
     }
 }
 
-/// A gate that holds a look until the script has printed something.
-#[derive(Drop)]
-struct WaitsForText {
-    held: Flag,
-    printed: Flag,
-    /// Set if the text came while the look was held.
-    seen: Flag,
-}
-
-impl Gate for WaitsForText {
-    fn hold(&self, _viewer: u32, _look: u32) {
-        self.held.set();
-        if self.printed.is_set_within(TURNS) {
-            self.seen.set();
-        }
-    }
-}
-
 /// Only a publish waits for a look. The lines before it are performed while a look is held.
 #[test]
 fn lines_are_performed_while_a_look_is_held(rt: HostRuntime) {
-    let waits = WaitsForText {
-        held: Flag::new(),
-        printed: Flag::new(),
-        seen: Flag::new(),
-    };
-    let gate = shared(&rt, waits);
+    let gate = shared(&rt, WaitsForText::new());
     let mut reader = ReadsAfter {
         flag: &gate.held,
         pieces: Pieces::whole(SHOWN),

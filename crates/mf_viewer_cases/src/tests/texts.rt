@@ -4,33 +4,14 @@
 //! it waits for the look to be left. If the text were kept back until that line is performed, or until the next read, the look
 //! and the publish would wait for each other until the gate gives up.
 
-use super::flags::{Flag, ReadsAfter, TURNS};
+use super::flags::{ReadsAfter, WaitsForText};
 use super::outcomes::{outcome_telling, shared};
 use crate::tests::assertions::assert_holds;
-use mf_desk::Gate;
 use mf_testing::Pieces;
 use std::alloc::{AllocError, Global};
 use std::process::Abort;
 use std::sync::Wait;
 use std::thread::Threads;
-
-/// A gate that holds a look until a text has gone out.
-#[derive(Drop)]
-struct WaitsForText {
-    held: Flag,
-    printed: Flag,
-    /// Set if the text went out while the look was held.
-    seen: Flag,
-}
-
-impl Gate for WaitsForText {
-    fn hold(&self, _viewer: u32, _look: u32) {
-        self.held.set();
-        if self.printed.is_set_within(TURNS) {
-            self.seen.set();
-        }
-    }
-}
 
 /// A script that fills a rectangle of 3 by 2 pixels, publishes it and gives it weight 2, then has this line, and publishes again.
 fn script_with(alloc: Global, line: &str) -> Result<String, AllocError> {
@@ -53,12 +34,7 @@ fn assert_goes_out<R: Abort + Wait + Threads + AllocGlobal>(rt: &R, line: &str, 
     let alloc = rt.alloc();
     let script = script_with(alloc, line).expect(rt, "there is room for a script");
     let transcript = transcript_with(alloc, text).expect(rt, "there is room for a transcript");
-    let waits = WaitsForText {
-        held: Flag::new(),
-        printed: Flag::new(),
-        seen: Flag::new(),
-    };
-    let gate = shared(rt, waits);
+    let gate = shared(rt, WaitsForText::new());
     let mut reader = ReadsAfter {
         flag: &gate.held,
         pieces: Pieces::whole(script.as_bytes()),
