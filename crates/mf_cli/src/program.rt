@@ -9,7 +9,7 @@ ghost use Rattle.mf_cli.specs.Messages.{message_of, usage};
 ghost use Rattle.mf_cli.specs.Output.{EndsWell, looks, request_in, request_of, settings};
 ghost use Rattle.mf_cli.specs.Statuses.{status_of};
 ghost use Rattle.mf_desk.specs.Performances as runs;
-ghost use Rattle.mf_desk.specs.Performances.{Performs, asked};
+ghost use Rattle.mf_desk.specs.Performances.{Performs, task};
 ghost use Rattle.mf_desk.specs.Streams.{Passes, streams_of};
 
 use crate::fault::ProgramFault;
