@@ -34,8 +34,7 @@ is_corner x y w column row least greatest = record {
   right = column.greatest;
   bottom = row.least;
   top = row.greatest;
-  least = least;
-  greatest = greatest;
+  weight = record { least = least; greatest = greatest };
 }
 
 -- they may be added to others
