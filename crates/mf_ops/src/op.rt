@@ -186,8 +186,13 @@ pub fn apply(alloc: Global, picture: &mut Picture, op: &Op) -> Result<(), OpFaul
             fill(alloc, picture, cycle, weight)
         }
         Op::Also(other, sign) => add(alloc, picture, other, *sign),
-        Op::Cull(_) | Op::Shift(_, _) | Op::Scale(_) | Op::Quarter(_) | Op::Clear => {
+        Op::Cull(_) | Op::Shift(_, _) | Op::Scale(_) | Op::Quarter(_) => {
+            picture.settle(alloc);
             *picture = after(alloc, picture, op)?;
+            Ok(())
+        }
+        Op::Clear => {
+            *picture = after_clear(alloc, picture);
             Ok(())
         }
     }

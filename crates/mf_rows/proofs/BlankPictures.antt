@@ -4,8 +4,8 @@ use Rattle.std.proofs.lemmas.Bool.{false≢true}
 use Rattle.std.proofs.lemmas.Int.{ints}
 use Rattle.std.proofs.lemmas.List.Elements.{All-head}
 use Rattle.mf_geom.specs.Coordinates.{last_in_field}
-use Rattle.mf_rows.specs.declared.row.Row.{Row}
-use Rattle.mf_rows.specs.Bands.{edge_row}
+use Rattle.mf_rows.specs.declared.both_rows.BothRow.{BothRow}
+use Rattle.mf_rows.specs.BothRest.{both_row}
 use Rattle.mf_edges.specs.declared.weight_map.WeightMap.{WeightMap}
 use Rattle.mf_edges.specs.WeightMaps.{IsWeightMap}
 use Rattle.mf_rows.specs.Dots.{Dot, weight_at}
@@ -24,8 +24,8 @@ no_rows (r ∷ rs) rows blank =
     absurd (All-head (λ s. s.y ≢ r.y) r rs others refl)
 
 -- and there is no first one
-pub first_is_none : (first : Option Row) (none : Bool) (rs others : List EdgeRow)
-    → MatchOption first ((rs ≡ []) × (others ≡ [])) (λ r. rs ≡ edge_row r ∷ others) → is_some first ≡ not none
+pub first_is_none : (first : Option BothRow) (none : Bool) (rs others : List EdgeRow)
+    → MatchOption first ((rs ≡ []) × (others ≡ [])) (λ r. rs ≡ both_row r ∷ others) → is_some first ≡ not none
     → (none ≡ true → rs ≡ []) × (rs ≡ [] → none ≡ true)
 first_is_none None true rs others steps is = (λ test. steps.0, λ blank. refl)
 first_is_none None false rs others steps is = absurd (false≢true is)
@@ -36,6 +36,10 @@ first_is_none (Some r) false rs others steps is = (λ test. absurd (false≢true
 pub blank_added : (ds es : List Dot) → es ≡ [] → HasWeights (sum_at ds es) ds
 unfolding sum_at weight_at
 blank_added ds es blank = rw blank (record { weights = λ x y inside. omega (arith, ints) })
+
+pub added_to_blank : (ds es : List Dot) → ds ≡ [] → HasWeights (sum_at ds es) es
+unfolding sum_at weight_at
+added_to_blank ds es blank = rw blank (record { weights = λ x y inside. omega (arith, ints) })
 
 -- weight 0 stays 0
 pub blank_mapped : (ds : List Dot) (m : WeightMap) → ds ≡ [] → IsWeightMap m → HasWeights (mapped_weight_at m ds) []

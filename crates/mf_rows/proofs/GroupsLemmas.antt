@@ -44,7 +44,7 @@ rows_in_place gs i = rows_at_place (get_or gs i None)
 abbrev pub top_of : ℤ → ℕ → ℤ
 top_of top i = top -ℤ (GROUP_HEIGHT *ℤ pos i)
 
-none_is_layer : (top : ℤ) → IsLayer top []
+pub none_is_layer : (top : ℤ) → IsLayer top []
 none_is_layer top = record { rows = tt; above = All-nil (λ r. (top -ℤ GROUP_HEIGHT) <ℤ r.y) }
 
 pub layer_at : (top : ℤ) (gs : Groups) (i : ℕ) → AreLayersFrom top gs → IsLayer (top_of top i) (rows_in_place gs i)

@@ -4,7 +4,9 @@ mod BandsLemmas
 mod BandSumsLemmas
 mod BlankPictures
 mod BlankRowsLemmas
+mod BothRowsLemmas
 pub mod BoundsInField
+mod BothEdgesLemmas
 pub mod BoxesJoined
 mod BuildingLemmas
 mod CopiesLemmas
@@ -23,6 +25,7 @@ mod LongestRuns
 pub mod MaximalRuns
 pub mod PassedRuns
 mod PictureGroups
+mod PilesLemmas
 mod PictureRows
 mod PixelBoxes
 mod PixelColumns
@@ -38,9 +41,11 @@ mod RowSumSteps
 pub mod RunDots
 mod RunEdges
 pub mod RunsLemmas
+mod SettledGroups
 pub mod StretchBounds
 mod StripCopies
 mod StripsLemmas
+mod TakenEdges
 pub mod Totals
 mod TurnChanges
 mod TurnEdges

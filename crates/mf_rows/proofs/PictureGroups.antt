@@ -6,14 +6,25 @@ use Rattle.std.specs.declared.sync.Arc.{Arc}
 use Rattle.mf_geom.specs.Coordinates.{last_in_field}
 use Rattle.mf_rows.specs.declared.group.Group.{Group}
 use Rattle.mf_rows.specs.declared.group.TheConstants.{GROUP_HEIGHT}
-use Rattle.mf_rows.specs.Dots.{IsPicture}
-use Rattle.mf_rows.specs.EdgeRows.{EdgeRow, picture_of_rows}
+use Rattle.mf_rows.specs.Dots.{Dot}
+use Rattle.mf_rows.specs.EdgeRows.{EdgeRow, AreRows, weight_in_rows, picture_of_rows}
 use Rattle.mf_rows.specs.Groups.{rows_at_place, rows_of_groups, IsLayer, AreLayersFrom, AreGroups}
-use Rattle.mf_rows.proofs.EdgeRowsLemmas.{lawful_picture_of_rows}
-use Rattle.mf_rows.proofs.GroupsLemmas.{rows_of_groups_are_rows}
+use Rattle.mf_rows.specs.Sums.{HaveRowWeights}
+use Rattle.mf_rows.proofs.EdgeRowsLemmas.{lawful_picture_of_rows, weight_at-picture_of_rows, picture_of_rows-from_weights}
 
-pub lawful_picture_of_groups : (gs : List (Option (Arc Group Global))) → AreGroups gs → IsPicture (picture_of_rows (rows_of_groups gs))
-lawful_picture_of_groups gs groups = lawful_picture_of_rows (rows_of_groups gs) (rows_of_groups_are_rows gs groups)
+pub no_rows_are_rows : AreRows []
+no_rows_are_rows = record { rows = tt }
+
+-- the picture of the rows of groups, as a list
+pub pictured : (rs : List EdgeRow) (gs : List (Option (Arc Group Global))) (ds : List Dot) → rs ≡ rows_of_groups gs
+    → picture_of_rows (rows_of_groups gs) ≡ ds → picture_of_rows rs ≡ ds
+pictured rs gs ds all picture = ap picture_of_rows all ∙ picture
+
+-- rows with the same weights represent the same picture
+pub same_picture : (rs ss : List EdgeRow) → AreRows rs → AreRows ss → HaveRowWeights (weight_in_rows rs) ss → picture_of_rows ss ≡ picture_of_rows rs
+same_picture rs ss rows others has =
+    picture_of_rows-from_weights (picture_of_rows ss) rs (lawful_picture_of_rows ss others)
+    (record { weights = λ x y inside. weight_at-picture_of_rows ss x y others ∙ has.weights x y })
 
 -- ---- groups that have the same rows at each place
 

@@ -1,8 +1,7 @@
 -- The first and the last column with a pixel of some kind in a row, edge by edge from the left and from the right.
-use Rattle.std.proofs.Common.{◌≡◌, ◌<◌, ◌+◌, true, false, ℕ, ℤ, pos, ◌+ℤ◌, ◌-ℤ◌, ◌≤ℤ◌, ◌<ℤ◌, List, [], ◌∷◌, ◌++◌, length, drop, get_or, FitsSigned, to_z, of_z, w32, refl, sym, ap, subst, ◌∙◌, arith}
+use Rattle.std.proofs.Common.{◌≡◌, true, false, ℤ, pos, ◌+ℤ◌, ◌-ℤ◌, ◌≤ℤ◌, ◌<ℤ◌, List, [], ◌∷◌, ◌++◌, FitsSigned, to_z, of_z, w32, refl, sym, ap, subst, ◌∙◌, arith}
 use Rattle.std.specs.List.{All}
 use Rattle.std.proofs.lemmas.Int.{ints, by_lt_z}
-use Rattle.std.proofs.lemmas.List.{drop_more}
 use Rattle.std.proofs.lemmas.List.Elements.{All-nil, All-cons, All-head, All-tail, All-weaker}
 use Rattle.mf_geom.specs.Coordinates.{least_coordinate, greatest_coordinate}
 use Rattle.mf_edges.specs.declared.edge.Edge.{Edge}
@@ -39,9 +38,8 @@ none_at_first p es edges = record {
   now = zero_is_none p;
 }
 
-pub none_read : (p : Pixels) (es : List Edge) (i : ℕ) (d : Edge) (w : ℤ) → i < length es
-    → IsNoneBefore p es (drop i es) w → IsNoneBefore p es (get_or es i d ∷ drop (i + 1) es) w
-none_read p es i d w inside so_far = subst (λ rest. IsNoneBefore p es rest w) (drop_more es i d inside) so_far
+pub none_read : (p : Pixels) (es rest others : List Edge) (e : Edge) (w : ℤ) → rest ≡ e ∷ others → IsNoneBefore p es rest w → IsNoneBefore p es (e ∷ others) w
+none_read p es rest others e w next so_far = subst (λ rest. IsNoneBefore p es rest w) next so_far
 
 module _ (p : Pixels) (es rest : List Edge) (e : Edge) (w : ℤ) (so_far : IsNoneBefore p es (e ∷ rest) w) where
   -- the weight at the column of the next edge
@@ -119,7 +117,7 @@ weight_in-same (e ∷ es) x u le left =
     ∙ sym (weight_in-left e es x first)
 
 -- the edges before the last one
-sorted_before : (low : ℤ) (es : List Edge) (e : Edge) → AreEdgesFrom low (es ++ e ∷ []) → AreEdgesFrom low es × All (λ f. f.x <ℤ e.x) es × IsEdge e
+pub sorted_before : (low : ℤ) (es : List Edge) (e : Edge) → AreEdgesFrom low (es ++ e ∷ []) → AreEdgesFrom low es × All (λ f. f.x <ℤ e.x) es × IsEdge e
 sorted_before low [] e edges = (tt, All-nil (λ f. f.x <ℤ e.x), edges.0)
 sorted_before low (f ∷ es) e edges =
     let others = sorted_before (f.x +ℤ pos 1) es e edges.2 in

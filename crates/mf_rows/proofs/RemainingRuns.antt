@@ -1,5 +1,5 @@
 -- How the runs that are still to come change as a walk moves on.
-use Rattle.std.proofs.Common.{◌≡◌, ◌≢◌, ◌<◌, ℤ, pos, negsuc, ◌+ℤ◌, ◌-ℤ◌, FitsSigned, to_z, of_z, w32, List, [], ◌∷◌, ◌++◌, length, get_or, refl, subst, arith}
+use Rattle.std.proofs.Common.{◌≡◌, ◌≢◌, ℤ, pos, negsuc, ◌+ℤ◌, ◌-ℤ◌, FitsSigned, to_z, of_z, w32, List, [], ◌∷◌, ◌++◌, refl, subst, arith}
 use Rattle.std.specs.Int.RustNames.{unsigned_abs}
 use Rattle.std.specs.Ordering.{int_eq}
 use Rattle.std.proofs.lemmas.Bool.{cond-false, false_from_ne_true}
@@ -78,10 +78,9 @@ unfolding runs_of_edges
 runs_taken y w e es rs = append_assoc (run_up_to y e.x (w +ℤ e.weight) es) (runs_of_edges y (w +ℤ e.weight) es) (runs_of_rows rs)
 
 -- the run that was found is the next one
-pub run_found : (y x w : ℤ) (es : List Edge) (end : Edge) (left : List Run) → 0 < length es → end ≡ get_or es 0 end
+pub run_found : (y x w : ℤ) (es fs : List Edge) (end : Edge) (left : List Run) → es ≡ end ∷ fs
     → w ≢ pos 0 → run_up_to y x w es ++ left ≡ record { y = y; x = x; len = unsigned_abs (end.x -ℤ x); weight = w } ∷ left
-run_found y x w [] end left some is nonzero = absurd (omega arith)
-run_found y x w (e ∷ es) end left some is nonzero =
-    let run : Run = record { y = y; x = x; len = unsigned_abs (e.x -ℤ x); weight = w } in
+run_found y x w es fs end left is nonzero =
+    let run : Run = record { y = y; x = x; len = unsigned_abs (end.x -ℤ x); weight = w } in
     let found = cond-false (int_eq w (pos 0)) [] (run ∷ []) (false_from_ne_true (int_eq w (pos 0)) (λ test. nonzero ((Decides-int_eq w (pos 0)).0 test))) in
-    rw (found, is) refl
+    rw (is, found) refl

@@ -2,6 +2,9 @@ pub mod BandNumbers
 pub mod BandSums
 pub mod Bands
 pub mod BlankRows
+pub mod BothEdges
+pub mod BothRest
+pub mod BothRows
 pub mod Bounds
 pub mod Building
 pub mod Copies
@@ -16,6 +19,7 @@ pub mod NewEdges
 pub mod Order
 pub mod Owned
 pub mod PixelsOfRows
+pub mod Piles
 pub mod Places
 pub mod Rest
 pub mod RowChanges

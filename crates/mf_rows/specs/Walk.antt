@@ -7,8 +7,8 @@ use Rattle.mf_edges.specs.declared.edge.Edge.{Edge}
 use Rattle.mf_rows.specs.declared.run.Run.{Run}
 use Rattle.mf_rows.specs.declared.walk.Walk.{Walk}
 use Rattle.mf_edges.specs.Edges.{AreEdgesFrom}
+use Rattle.mf_rows.specs.BothRest.{both_edges, remaining_both_rows}
 use Rattle.mf_rows.specs.EdgeRows.{EdgeRow}
-use Rattle.mf_rows.specs.Rest.{remaining_rows}
 
 -- the run of row y from column x, where the weight is w, up to the first of these edges; no run where w is 0
 abbrev pub run_up_to : ℤ → ℤ → ℤ → List Edge → List Run
@@ -27,10 +27,10 @@ runs_of_rows rs = flat_map (λ r. runs_of_edges r.y (pos 0) r.edges) rs
 
 -- the runs that are still to come
 abbrev pub remaining_runs : Walk → List Run
-remaining_runs r = runs_of_edges r.y r.weight r.edges.now ++ runs_of_rows (remaining_rows r.rows)
+remaining_runs r = runs_of_edges r.y r.weight (both_edges r.edges) ++ runs_of_rows (remaining_both_rows r.rows)
 
 -- an edge at column x was taken from s, which left t: a run up to the next edge begins there, unless the weight is 0
 pub record IsEdgeTaken (s : Walk) (x : ℤ) (t : Walk) : Type 0 where
-  pub left : remaining_runs s ≡ run_up_to t.y x t.weight t.edges.now ++ remaining_runs t
+  pub left : remaining_runs s ≡ run_up_to t.y x t.weight (both_edges t.edges) ++ remaining_runs t
   pub column : least_coordinate ≤ℤ x
-  pub behind : AreEdgesFrom (x +ℤ pos 1) t.edges.now
+  pub behind : AreEdgesFrom (x +ℤ pos 1) (both_edges t.edges)

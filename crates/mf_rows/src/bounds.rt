@@ -1,11 +1,12 @@
 //! Boxes of pixels.
 ghost use Rattle.std.specs.Prelude.{◌≡◌};
 ghost use Rattle.mf_rows.specs.Bounds.{AreBounds, is_among, with_columns};
-ghost use Rattle.mf_rows.specs.Groups.{AreGroups, rows_of_groups};
+ghost use Rattle.mf_rows.specs.BothRows.{rows_of_both, AreRowsOfBoth};
+ghost use Rattle.mf_rows.specs.Groups.{rows_of_groups};
 ghost use Rattle.mf_rows.specs.PixelsOfRows.{among_rows};
 
+use crate::both_rows::BothRows;
 use crate::group::Group;
-use crate::rows::Rows;
 use std::sync::Arc;
 
 /// A box of pixels, ends included: columns `min_x` to `max_x`, rows `min_y` to `max_y`. The box of a picture lies in
@@ -66,14 +67,19 @@ fn with_columns(above: Option<Box4>, y: i32, columns: Columns) -> Box4
     }
 }
 
-/// The least box of these pixels of the rows of groups, `None` where there are none. It looks at the ends of each row.
-pub(crate) fn bounds_of(groups: &[Option<Arc<Group>>], pixels: Pixels) -> Option<Box4>
-    requires { AreGroups groups.now }
-    ensures { AreBounds (among_rows pixels (rows_of_groups groups.now)) result }
+/// The least box of these pixels of the rows of these groups and the recent ones together, `None` where there are none. It looks at
+/// the ends of each row.
+pub(crate) fn bounds_of(
+    groups: &[Option<Arc<Group>>],
+    recent: &[Option<Arc<Group>>],
+    pixels: Pixels,
+) -> Option<Box4>
+    requires { AreRowsOfBoth (rows_of_groups groups.now) (rows_of_groups recent.now) }
+    ensures { AreBounds (among_rows pixels (rows_of_both (rows_of_groups groups.now) (rows_of_groups recent.now))) result }
 {
     let mut bounds = None;
-    for row in Rows::over(groups) {
-        if let Some(columns) = row.columns(pixels) {
+    for row in BothRows::over(groups, recent) {
+        if let Some(columns) = row.edges.columns(pixels) {
             bounds = Some(with_columns(bounds, row.y, columns));
         }
     }

@@ -40,7 +40,7 @@ pub(crate) fn sum_of_groups(
 }
 
 /// The sum of the groups at one place.
-fn sum_of_two(
+pub(crate) fn sum_of_two(
     alloc: Global,
     left: Option<&Arc<Group>>,
     right: Option<&Arc<Group>>,

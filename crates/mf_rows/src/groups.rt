@@ -42,7 +42,9 @@ pub(crate) fn list_rows(
     alloc: Global,
     groups: &[Option<Arc<Group>>],
 ) -> Result<Vec<Row<'_>>, OutOfMemory>
-    ensures { IfOk result (λ rows. edge_rows rows.items ≡ rows_of_groups groups.now) }
+    requires { AreGroups groups.now }
+    ensures all { IfOk result (λ rows. edge_rows rows.items ≡ rows_of_groups groups.now) }
+    ensures rows { IfOk result (λ rows. AreRows (edge_rows rows.items)) }
 {
     let mut rows = Vec::new(alloc);
     for row in Rows::over(groups) {

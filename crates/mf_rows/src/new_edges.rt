@@ -1,5 +1,6 @@
 //! Edges of a row that is being made.
 ghost use Rattle.std.specs.Prelude.{◌≡◌, [], IfOk};
+ghost use Rattle.mf_edges.specs.Reaches.{HasReach};
 ghost use Rattle.mf_rows.specs.Bands.{edge_row};
 ghost use Rattle.mf_rows.specs.NewEdges.{new_edges};
 
@@ -46,20 +47,28 @@ impl NewEdges {
         NewEdges::new(alloc, kept)
     }
 
-    /// Row y with these edges.
+    /// Row y with these edges, whose reach is not known.
     pub(crate) fn row(&self, y: i32) -> Row<'_>
+        ensures { edge_row result ≡ record { y = y; edges = new_edges self.now } }
+    {
+        self.row_in_reach(y, None)
+    }
+
+    /// Row y with these edges, and with what is known of their reach.
+    pub(crate) fn row_in_reach(&self, y: i32, reach: Option<u16>) -> Row<'_>
+        requires { HasReach reach (new_edges self.now) }
         ensures { edge_row result ≡ record { y = y; edges = new_edges self.now } }
     {
         match self {
             NewEdges::Few(edges) => Row {
                 y,
-                reach: None,
+                reach,
                 edges,
                 own: None,
             },
             NewEdges::Many(edges) => Row {
                 y,
-                reach: None,
+                reach,
                 edges: edges.as_slice(),
                 own: Some(edges),
             },

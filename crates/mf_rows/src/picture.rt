@@ -1,24 +1,21 @@
 //! Pictures.
 ghost use Rattle.std.specs.Prelude.{◌≡◌, ◌≢◌, [], IsNone, IsOk, IfSome, IfOk, IfErr, OnOk, OnErr, IsTrue, slice_get, ◌↔◌, All};
-ghost use Rattle.mf_rows.specs.Bands.{edge_rows};
 ghost use Rattle.mf_rows.specs.EdgeRows.{AreRows};
 
-use crate::bounds::{Box4, Pixels, bounds_of};
+use crate::bounds::{Box4, Pixels};
 use crate::corner::{Corner, rows_of_corners};
 use crate::group::Group;
-use crate::group_sum::{sum_of_groups, sum_with_rows};
-use crate::groups::{find_row, groups_of, list_rows, share};
-use crate::row::Row;
+use crate::groups::{groups_of, list_rows};
+use crate::pile::Pile;
 use crate::row_change::changed_rows;
 use crate::row_move::{mirrored_rows, stretched_rows};
-use crate::rows::Rows;
 use crate::run::Run;
 use crate::runs::Runs;
 use crate::slice::RowSlice;
 use crate::turn::turned_rows;
 use crate::writer::RowWriter;
 use mf_base::OutOfMemory;
-use mf_edges::{AddFault, RowChange, Stretch, WeightMap, weight_at_column};
+use mf_edges::{AddFault, RowChange, Stretch, WeightMap};
 use std::alloc::Global;
 use std::marker::Model;
 use std::sync::Arc;
@@ -27,10 +24,11 @@ use std::sync::Arc;
 /// elsewhere have weight 0 (The METAFONTbook, chapter 13).
 ///
 /// It keeps edges: in each row that is not blank, the columns at which the weight changes (mf.web, "edge structures").
-/// Groups and bands of rows are never written once they are made, so pictures share them.
+/// Groups and bands of rows are never written once they are made, so pictures share them. The newest contours are kept beside the
+/// rest (`Pile`), so that adding one copies little.
 #[derive(Debug, Drop)]
 pub struct Picture {
-    groups: Vec<Option<Arc<Group>>>,
+    pile: Pile,
 }
 
 impl Model for Picture {
@@ -39,12 +37,11 @@ impl Model for Picture {
 
     ghost Value = { List Dot };
 
-    ghost use Rattle.mf_rows.specs.EdgeRows.{picture_of_rows};
-    ghost use Rattle.mf_rows.specs.Groups.{rows_of_groups, AreGroups};
+    ghost use Rattle.mf_rows.specs.EdgeRows.{picture_of_rows, AreRows};
 
-    ghost view = { λ p. picture_of_rows (rows_of_groups p.groups.items) };
+    ghost view = { λ p. picture_of_rows p.pile };
 
-    ghost invariant = { λ p. AreGroups p.groups.items };
+    ghost invariant = { λ p. AreRows p.pile };
 }
 
 impl Picture {
@@ -52,6 +49,7 @@ impl Picture {
     ghost use Rattle.mf_rows.specs.Corners.{AreCorners, with_corners_at};
     ghost use Rattle.mf_rows.specs.Dots.{IsPicture, weight_at, total_of};
     ghost use Rattle.mf_rows.specs.EdgeRows.{picture_of_rows};
+    ghost use Rattle.mf_rows.specs.Groups.{rows_of_groups, AreGroups};
     ghost use Rattle.mf_edges.specs.Axes.{IsStretch, PlaceStaysInside};
     ghost use Rattle.mf_rows.specs.Moves.{PixelsStayInside, column_mirror_at, column_stretch_at, row_mirror_at, stretch_at, quarter_turn_at};
     ghost use Rattle.mf_rows.specs.Runs.{runs_of};
@@ -65,7 +63,7 @@ impl Picture {
         ensures { result ≡ [] }
     {
         Picture {
-            groups: Vec::new(alloc),
+            pile: Pile::blank(alloc),
         }
     }
 
@@ -77,8 +75,8 @@ impl Picture {
         ensures lawful { IsPicture self.now }
     {
         if !self.is_blank() {
-            let groups = share(alloc, &self.groups)?;
-            return Ok(Picture { groups });
+            let pile = self.pile.copy(alloc)?;
+            return Ok(Picture { pile });
         }
         Ok(Picture::blank(alloc))
     }
@@ -97,10 +95,7 @@ impl Picture {
         ensures weight { result ≡ weight_at self.now x y }
         ensures lawful { IsPicture self.now }
     {
-        match find_row(&self.groups, y) {
-            Some(row) => weight_at_column(row.edges, x),
-            None => 0,
-        }
+        self.pile.weight(x, y)
     }
 
     /// The sum of all weights. METAFONT's `totalweight` is this number, scaled (mf.web: `total_weight`). It walks the
@@ -122,7 +117,7 @@ impl Picture {
         ensures least { IfSome result (IsLeastBox self.now) }
         ensures lawful { IsPicture self.now }
     {
-        bounds_of(&self.groups, Pixels::Nonzero)
+        self.pile.bounds(Pixels::Nonzero)
     }
 
     /// The least box of the pixels of positive weight, which are black in a character, `None` where there are none. It looks at the
@@ -131,7 +126,7 @@ impl Picture {
         ensures bounds { AreBounds (is_positive_at self.now) result }
         ensures lawful { IsPicture self.now }
     {
-        bounds_of(&self.groups, Pixels::Black)
+        self.pile.bounds(Pixels::Black)
     }
 
     /// The maximal runs of one nonzero weight: rows from the top down, columns from left to right.
@@ -139,7 +134,7 @@ impl Picture {
         ensures runs { result ≡ runs_of self.now }
         ensures lawful { IsPicture self.now }
     {
-        Runs::over(&self.groups)
+        self.pile.runs()
     }
 
     /// The k-th of the maximal runs that `runs` gives, counted from 0; `None` after the last. It walks the runs before it.
@@ -152,9 +147,10 @@ impl Picture {
 
     /// Adds another picture to this one, as `addto .. also` does (The METAFONTbook, chapter 13; mf.web: `merge_edges`):
     /// the weight of each pixel is then the sum of both, and the other picture is unchanged. Bands that only one of
-    /// them has stay as they are, or are shared. Refused with `WeightTooLarge` where a weight would exceed 32767 in
-    /// absolute value, and with `OutOfMemory` where an allocation fails; a refusal leaves this picture as it was.
-    /// Adding a blank picture is never refused.
+    /// them has stay as they are, or are shared, unless some of the newest contours lie on them; a blank picture shares
+    /// all of the other one. Refused with `WeightTooLarge` where a weight would exceed 32767 in absolute value, and with
+    /// `OutOfMemory` where an allocation fails; a refusal leaves this picture as it was. Adding a blank picture is never
+    /// refused.
     pub fn add(&mut self, alloc: Global, other: &Picture) -> Result<(), AddFault>
         ensures weights { OnOk result (HasWeights (sum_at self.old other.now) self.new) }
         ensures blank { other.now ≡ [] → IsOk result }
@@ -162,13 +158,26 @@ impl Picture {
         ensures lawful { OnOk result (IsPicture self.new) }
         ensures too_large { IfErr result (λ fault. fault ≢ AddFault.OutOfMemory → IsUnlawfulSomewhere (sum_at self.old other.now)) }
     {
-        let old = &self.groups;
+        let _ = &self.pile;
         if other.is_blank() {
             return Ok(());
         }
-        // The sum is made aside, so that a refusal has nothing to undo.
-        self.groups = sum_of_groups(alloc, old, &other.groups)?;
+        if self.is_blank() {
+            self.pile = other.pile.copy(alloc)?;
+            return Ok(());
+        }
+        self.pile.settle(alloc);
+        self.pile.add(alloc, &other.pile)?;
         Ok(())
+    }
+
+    /// Adds up what the picture keeps apart, as far as there is memory for that; the picture stays as it is. An operation that goes
+    /// through all rows adds it up aside otherwise, and has it in memory twice.
+    pub fn settle(&mut self, alloc: Global)
+        ensures same { self.new ≡ self.old }
+        ensures lawful { IsPicture self.new }
+    {
+        self.pile.settle(alloc);
     }
 
     /// The picture after each weight is mapped by itself, as `cull` does (The METAFONTbook, chapter 13; mf.web:
@@ -183,7 +192,8 @@ impl Picture {
         if self.is_blank() {
             return Ok(Picture::blank(alloc));
         }
-        let rows = self.rows(alloc)?;
+        let groups = self.groups(alloc)?;
+        let rows = list_rows(alloc, &groups)?;
         let changed = changed_rows(alloc, &rows, &RowChange::Weights(*map))?;
         Picture::from_rows(alloc, changed)
     }
@@ -194,7 +204,8 @@ impl Picture {
         ensures weights { IfOk result (HasWeights (column_mirror_at self.now)) }
         ensures lawful { IfOk result IsPicture }
     {
-        let rows = self.rows(alloc)?;
+        let groups = self.groups(alloc)?;
+        let rows = list_rows(alloc, &groups)?;
         let changed = changed_rows(alloc, &rows, &RowChange::Mirror)?;
         Picture::from_rows(alloc, changed)
     }
@@ -205,7 +216,8 @@ impl Picture {
         ensures weights { IfOk result (HasWeights (row_mirror_at self.now)) }
         ensures lawful { IfOk result IsPicture }
     {
-        let rows = self.rows(alloc)?;
+        let groups = self.groups(alloc)?;
+        let rows = list_rows(alloc, &groups)?;
         Picture::from_rows(alloc, mirrored_rows(alloc, &rows)?)
     }
 
@@ -226,7 +238,8 @@ impl Picture {
         ensures lawful { IfOk result IsPicture }
     {
         let wide = self.with_columns_stretched(alloc, columns)?;
-        let changed = wide.rows(alloc)?;
+        let groups = wide.groups(alloc)?;
+        let changed = list_rows(alloc, &groups)?;
         Picture::from_rows(alloc, stretched_rows(alloc, &changed, rows)?)
     }
 
@@ -237,7 +250,8 @@ impl Picture {
         ensures weights { IfOk result (HasWeights (quarter_turn_at self.now)) }
         ensures lawful { IfOk result IsPicture }
     {
-        let rows = self.rows(alloc)?;
+        let groups = self.groups(alloc)?;
+        let rows = list_rows(alloc, &groups)?;
         Picture::from_rows(alloc, turned_rows(alloc, &rows)?)
     }
 
@@ -253,7 +267,7 @@ impl Picture {
         ensures too_large { IfErr result (λ fault. fault ≢ AddFault.OutOfMemory → IsUnlawfulSomewhere (with_corners_at self.old corners.items)) }
     {
         let rows = rows_of_corners(alloc, corners)?;
-        self.groups = sum_with_rows(alloc, &self.groups, RowSlice::of(&rows))?;
+        self.pile.add_rows(alloc, RowSlice::of(&rows))?;
         Ok(())
     }
 
@@ -271,7 +285,8 @@ impl Picture {
         if columns.factor == 1 && columns.offset == 0 {
             return self.copy(alloc);
         }
-        let rows = self.rows(alloc)?;
+        let groups = self.groups(alloc)?;
+        let rows = list_rows(alloc, &groups)?;
         let changed = changed_rows(alloc, &rows, &RowChange::Columns(*columns))?;
         Picture::from_rows(alloc, changed)
     }
@@ -280,16 +295,16 @@ impl Picture {
     fn is_blank(&self) -> bool
         ensures { IsTrue result ↔ (self.now ≡ []) }
     {
-        Rows::over(&self.groups).next().is_none()
+        self.pile.rows().next().is_none()
     }
 
-    /// The rows of the picture, from the top down.
-    fn rows(&self, alloc: Global) -> Result<Vec<Row<'_>>, OutOfMemory>
-        ensures rows { IfOk result (λ rows. AreRows (edge_rows rows.items)) }
-        ensures picture { IfOk result (λ rows. picture_of_rows (edge_rows rows.items) ≡ self.now) }
+    /// The groups of all rows of the picture.
+    fn groups(&self, alloc: Global) -> Result<Vec<Option<Arc<Group>>>, OutOfMemory>
+        ensures groups { IfOk result (λ groups. AreGroups groups.items) }
+        ensures picture { IfOk result (λ groups. picture_of_rows (rows_of_groups groups.items) ≡ self.now) }
         ensures lawful { IsPicture self.now }
     {
-        list_rows(alloc, &self.groups)
+        self.pile.whole(alloc)
     }
 
     /// The picture of the rows that were written.
@@ -299,6 +314,8 @@ impl Picture {
         ensures lawful { IfOk result IsPicture }
     {
         let groups = groups_of(alloc, &rows.finish()?)?;
-        Ok(Picture { groups })
+        Ok(Picture {
+            pile: Pile::of(alloc, groups),
+        })
     }
 }

@@ -5,7 +5,6 @@ ghost use Rattle.mf_rows.specs.Owned.{IsOwned, IsOwned-prop};
 use mf_edges::Edge;
 use std::sync::Arc;
 
-mod columns;
 mod reach;
 
 /// A row of a picture, whose edges belong to a band or to what is being built.

@@ -1,6 +1,7 @@
 //! The maximal runs of a picture, one after another.
+ghost use Rattle.mf_rows.specs.BothRows.{rows_of_both, AreRowsOfBoth};
 ghost use Rattle.mf_rows.specs.Groups.{rows_of_groups};
-ghost use Rattle.mf_rows.specs.EdgeRows.{AreRows, picture_of_rows};
+ghost use Rattle.mf_rows.specs.EdgeRows.{picture_of_rows};
 
 use crate::group::Group;
 use crate::run::Run;
@@ -31,13 +32,16 @@ impl<'a> Runs<'a> {
     ghost use Rattle.std.specs.Prelude.{◌≡◌};
     ghost use Rattle.mf_rows.specs.Runs.{runs_of};
 
-    /// The runs of these groups.
-    pub(crate) fn over(groups: &'a [Option<Arc<Group>>]) -> Runs<'a>
-        requires { AreRows (rows_of_groups groups.now) }
-        ensures { result ≡ runs_of (picture_of_rows (rows_of_groups groups.now)) }
+    /// The runs of these groups and the recent ones together.
+    pub(crate) fn over(
+        groups: &'a [Option<Arc<Group>>],
+        recent: &'a [Option<Arc<Group>>],
+    ) -> Runs<'a>
+        requires { AreRowsOfBoth (rows_of_groups groups.now) (rows_of_groups recent.now) }
+        ensures { result ≡ runs_of (picture_of_rows (rows_of_both (rows_of_groups groups.now) (rows_of_groups recent.now))) }
     {
         Runs {
-            walk: Walk::over(groups),
+            walk: Walk::over(groups, recent),
         }
     }
 }

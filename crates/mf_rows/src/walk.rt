@@ -1,43 +1,48 @@
 //! The walk over the edges of a picture, which meets its runs one after another.
 ghost use Rattle.std.specs.Prelude.{◌≡◌, ◌≢◌, [], IfNone, IfSome, pos};
 ghost use Rattle.mf_geom.specs.Coordinates.{least_coordinate};
+ghost use Rattle.mf_rows.specs.BothRest.{both_edges, remaining_both_rows};
+ghost use Rattle.mf_rows.specs.BothRows.{rows_of_both, AreRowsOfBoth};
 ghost use Rattle.mf_rows.specs.Groups.{rows_of_groups};
-ghost use Rattle.mf_rows.specs.EdgeRows.{AreRows, picture_of_rows};
-ghost use Rattle.mf_rows.specs.Rest.{remaining_rows, IsRestOfRow, IsRestOfRow-prop, AreEdgeRows, AreEdgeRows-prop};
+ghost use Rattle.mf_rows.specs.EdgeRows.{picture_of_rows};
+ghost use Rattle.mf_rows.specs.Rest.{IsRestOfRow, IsRestOfRow-prop, AreEdgeRows, AreEdgeRows-prop};
 
+use crate::both_edges::BothEdges;
+use crate::both_rows::BothRows;
 use crate::group::Group;
-use crate::rows::Rows;
 use crate::run::Run;
-use mf_edges::Edge;
 use std::sync::Arc;
 
 /// A walk over the edges of a picture, each passed once, which gives its maximal runs: rows from the top down, columns
-/// from left to right. Its steps, and those of `Rows` and `Runs`, are inlined, so that its state stays in registers in a loop over
-/// runs: a page that is shipped took 1.7 times as long otherwise.
+/// from left to right. Its steps, and those of `BothRows`, `BothEdges` and `Runs`, are inlined, so that its state stays in registers
+/// in a loop over runs: a page that is shipped took 1.7 times as long otherwise.
 #[derive(Drop)]
 pub(crate) struct Walk<'a> {
     /// The rows that are still to come.
-    rows: Rows<'a>,
+    rows: BothRows<'a>,
     /// The edges of row `y` that are still to come, and the weight to the left of them.
-    edges: &'a [Edge],
+    edges: BothEdges<'a>,
     y: i32,
     weight: i32,
-    ghost rest: { IsRestOfRow least_coordinate weight edges.now } by { IsRestOfRow-prop least_coordinate weight edges.now },
-    ghost others: { AreEdgeRows (remaining_rows rows) } by { AreEdgeRows-prop (remaining_rows rows) },
+    ghost rest: { IsRestOfRow least_coordinate weight (both_edges edges) } by { IsRestOfRow-prop least_coordinate weight (both_edges edges) },
+    ghost others: { AreEdgeRows (remaining_both_rows rows) } by { AreEdgeRows-prop (remaining_both_rows rows) },
 }
 
 impl<'a> Walk<'a> {
     ghost use Rattle.mf_rows.specs.Runs.{runs_of};
     ghost use Rattle.mf_rows.specs.Walk.{remaining_runs, IsEdgeTaken};
 
-    /// The walk over these groups.
-    pub(crate) fn over(groups: &'a [Option<Arc<Group>>]) -> Walk<'a>
-        requires { AreRows (rows_of_groups groups.now) }
-        ensures { remaining_runs result ≡ runs_of (picture_of_rows (rows_of_groups groups.now)) }
+    /// The walk over these groups and the recent ones together.
+    pub(crate) fn over(
+        groups: &'a [Option<Arc<Group>>],
+        recent: &'a [Option<Arc<Group>>],
+    ) -> Walk<'a>
+        requires { AreRowsOfBoth (rows_of_groups groups.now) (rows_of_groups recent.now) }
+        ensures { remaining_runs result ≡ runs_of (picture_of_rows (rows_of_both (rows_of_groups groups.now) (rows_of_groups recent.now))) }
     {
         Walk {
-            rows: Rows::over(groups),
-            edges: &[],
+            rows: BothRows::over(groups, recent),
+            edges: BothEdges::none(),
             y: 0,
             weight: 0,
         }
@@ -65,8 +70,7 @@ impl<'a> Walk<'a> {
         ensures none { IfNone result ((remaining_runs self.old ≡ []) × (remaining_runs self.new ≡ [])) }
     {
         self.enter_row();
-        let (edge, edges) = self.edges.split_first()?;
-        self.edges = edges;
+        let edge = self.edges.take_first()?;
         self.weight += edge.weight;
         Some(edge.x)
     }
@@ -75,7 +79,7 @@ impl<'a> Walk<'a> {
     #[inline(always)]
     fn enter_row(&mut self)
         ensures left { remaining_runs self.new ≡ remaining_runs self.old }
-        ensures over { self.new.edges.now ≡ [] → remaining_runs self.new ≡ [] }
+        ensures over { both_edges self.new.edges ≡ [] → remaining_runs self.new ≡ [] }
         ensures weight { self.new.weight ≡ self.old.weight }
     {
         if !self.edges.is_empty() {

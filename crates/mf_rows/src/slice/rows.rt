@@ -1,8 +1,9 @@
 //! The rows of a part of a list: the first one, those above a height, the one at a height.
 ghost use Rattle.std.specs.Prelude.{◌≡◌, [], ◌∷◌, ◌++◌, ◌≤◌, IsNone, IfSome, IsTrue, ◌↔◌, All, length, take, drop, ◌≤ℤ◌};
 ghost use Rattle.mf_rows.specs.Bands.{edge_row, slice_rows, HasRow, HasNoRow, AreAbove};
-ghost use Rattle.mf_rows.specs.EdgeRows.{AreRows, AreRowsFrom};
+ghost use Rattle.mf_rows.specs.EdgeRows.{AreRows, AreRowsFrom, weight_in_rows};
 ghost use Rattle.mf_rows.specs.Merging.{row_found, IsSplitAtHeight};
+ghost use Rattle.mf_rows.specs.Piles.{StayInReach};
 ghost use Rattle.mf_rows.specs.RowLists.{row_at, rows_at, IsHead};
 
 use super::RowSlice;
@@ -74,6 +75,18 @@ impl<'a> RowSlice<'a> {
             }
         }
         count
+    }
+
+    /// A reach of all rows: no weight exceeds it in absolute value.
+    pub(crate) fn reach(self) -> i32
+        requires { AreRows (slice_rows self) }
+        ensures { StayInReach result (weight_in_rows (slice_rows self.entry)) }
+    {
+        let mut reach = 0;
+        for head in self.heads {
+            reach = reach.max(row_of_head(self.edges, head).reach());
+        }
+        reach
     }
 
     /// The first row, and the rows below it.

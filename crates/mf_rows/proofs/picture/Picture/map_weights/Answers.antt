@@ -6,6 +6,7 @@ use Rattle.mf_rows.specs.Sums.{HasWeights}
 use Rattle.mf_rows.specs.WeightMaps.{mapped_weight_at}
 use Rattle.mf_rows.proofs.BlankPictures.{blank_mapped}
 use Rattle.mf_rows.proofs.PictureRows.{weights_mapped}
+use Rattle.mf_rows.proofs.PictureGroups.{pictured}
 use Rattle.mf_rows.proofs.picture.Picture.map_weights.Goals as goal
 
 pub returns-then-is_blank-clause-weights : goal.returns-then-is_blank-clause-weights
@@ -14,9 +15,9 @@ returns-then-is_blank-clause-weights c = rw c.blank.ensures (blank_mapped c.args
 pub returns-clause-weights : goal.returns-clause-weights
 returns-clause-weights c =
     let mapped = c.in_ok-changed.changed in
-    let weights = rw c.deref.ensures.value at c.in_ok-changed.ensures.weights in
+    let weights = rw c.deref-2.ensures.value at c.in_ok-changed.ensures.weights in
     let has =
-    rw c.in_ok-rows.ensures.picture at (weights_mapped c.args.map.now (edge_rows c.in_ok-rows.rows.items) mapped c.in_ok-rows.ensures.rows
+    rw (pictured _ c.in_ok-groups.groups.items _ (rw c.deref.ensures.value at c.in_ok-rows.ensures.all) c.in_ok-groups.ensures.picture) at (weights_mapped c.args.map.now (edge_rows c.in_ok-rows.rows.items) mapped c.in_ok-rows.ensures.rows
     c.in_ok-changed.ensures.rows weights) in
     IfOk-weaker c.from_rows.result (λ picture. picture ≡ picture_of_rows mapped) (HasWeights (mapped_weight_at c.args.map.now c.args.self.now))
     (λ picture is. rw is has) c.from_rows.ensures.value

@@ -10,6 +10,7 @@ use Rattle.mf_rows.specs.Sums.{HasWeights}
 use Rattle.std.specs.List.{All}
 use Rattle.mf_rows.proofs.PictureRows.{weights_of_columns_stretched}
 use Rattle.mf_rows.proofs.StretchBounds.{columns_allowed, columns_same}
+use Rattle.mf_rows.proofs.PictureGroups.{pictured}
 use Rattle.mf_rows.proofs.picture.Picture.with_columns_stretched.Goals as goal
 
 pub returns-then-columns-eq0-clause-weights : goal.returns-then-columns-eq0-clause-weights
@@ -22,16 +23,16 @@ returns-then-columns-eq0-clause-weights c =
 pub changed_rows-requires-clause-allowed : goal.changed_rows-requires-clause-allowed
 changed_rows-requires-clause-allowed c =
     let columns = c.args.columns.now in
-    let inside = subst (λ ds. All (λ d. PlaceStaysInside columns d.x) ds) (sym c.in_ok-rows.ensures.picture) c.requires.inside in
-    subst (λ rows. RowsAllowChange (change.Columns columns) (edge_rows rows)) (sym c.deref.ensures.value)
+    let inside = subst (λ ds. All (λ d. PlaceStaysInside columns d.x) ds) (sym (pictured _ c.in_ok-groups.groups.items _ (rw c.deref.ensures.value at c.in_ok-rows.ensures.all) c.in_ok-groups.ensures.picture)) c.requires.inside in
+    subst (λ rows. RowsAllowChange (change.Columns columns) (edge_rows rows)) (sym c.deref-2.ensures.value)
     (columns_allowed columns (edge_rows c.in_ok-rows.rows.items) c.in_ok-rows.ensures.rows inside)
 
 pub returns-clause-weights : goal.returns-clause-weights
 returns-clause-weights c =
     let changed = c.in_ok-changed.changed in
-    let weights = rw c.deref.ensures.value at c.in_ok-changed.ensures.weights in
+    let weights = rw c.deref-2.ensures.value at c.in_ok-changed.ensures.weights in
     let has =
-    rw c.in_ok-rows.ensures.picture at (weights_of_columns_stretched c.args.columns.now (edge_rows c.in_ok-rows.rows.items) changed
+    rw (pictured _ c.in_ok-groups.groups.items _ (rw c.deref.ensures.value at c.in_ok-rows.ensures.all) c.in_ok-groups.ensures.picture) at (weights_of_columns_stretched c.args.columns.now (edge_rows c.in_ok-rows.rows.items) changed
     c.in_ok-rows.ensures.rows c.in_ok-changed.ensures.rows weights) in
     IfOk-weaker c.from_rows.result (λ picture. picture ≡ picture_of_rows changed) (HasWeights (column_stretch_at c.args.columns.now c.args.self.now))
     (λ picture is. rw is has) c.from_rows.ensures.value

@@ -1,7 +1,5 @@
-use Rattle.std.proofs.Common.{◌≡◌, to_z, of_z, w32, FitsSigned, refl, sym, subst, ◌∙◌, rules, arith}
-use Rattle.std.proofs.lemmas.Bool.{eqb-true}
+use Rattle.std.proofs.Common.{◌≡◌, to_z, of_z, w32, FitsSigned, refl, subst, rules, arith}
 use Rattle.std.proofs.lemmas.Int.{ints}
-use Rattle.std.proofs.lemmas.List.{nil_from_length}
 use Rattle.std.proofs.lemmas.List.Elements.{All-rest}
 use Rattle.mf_rows.specs.EdgeRows.{IsEdgeRow}
 use Rattle.mf_rows.specs.Rest.{AreEdgeRows}
@@ -11,7 +9,7 @@ use Rattle.mf_rows.proofs.walk.Walk.enter_row.Goals as goal
 
 pub invariant_of-self : goal.invariant_of-self
 invariant_of-self c =
-    let over = nil_from_length _ (eqb-true _ _ (sym c.is_empty.ensures ∙ c.if-not-is_empty.false)) in
+    let over = c.is_empty.ensures.0 c.if-not-is_empty.false in
     let rows = subst AreEdgeRows c.in-Some.ensures.steps c.args.self.now.others in
     record {
       rest = rest_entered _ _ _ _ over c.args.self.now.rest rows;
@@ -20,7 +18,7 @@ invariant_of-self c =
 
 pub returns-in-Some-clause-left : goal.returns-in-Some-clause-left
 returns-in-Some-clause-left c =
-    let over = nil_from_length _ (eqb-true _ _ (sym c.is_empty.ensures ∙ c.if-not-is_empty.false)) in
+    let over = c.is_empty.ensures.0 c.if-not-is_empty.false in
     let y_fits : FitsSigned w32 c.in-Some.row.y = search rules in
     let y : to_z w32 (of_z w32 c.in-Some.row.y) ≡ c.in-Some.row.y = omega (arith, ints) in
     rw (y, c.in-Some.ensures.steps) (runs_entered _ _ _ _ _ over c.args.self.now.rest)

@@ -1,6 +1,5 @@
 use Rattle.std.proofs.Common.{◌≡◌, to_z, of_z, w32, refl, ◌∙◌, arith}
 use Rattle.std.proofs.lemmas.Int.{ints}
-use Rattle.std.proofs.lemmas.List.{nil_from_length}
 use Rattle.mf_rows.specs.Walk.{remaining_runs}
 use Rattle.mf_rows.proofs.RemainingRuns.{weight_none, run_found}
 use Rattle.mf_rows.proofs.walk.WalkIterator.next.Goals as goal
@@ -8,17 +7,15 @@ use Rattle.mf_rows.proofs.walk.WalkIterator.next.Goals as goal
 -- where a run begins, its row has a further edge
 pub returns-in_err-end-clause-steps : goal.returns-in_err-end-clause-steps
 returns-in_err-end-clause-steps c =
-    let over = nil_from_length c.next_start.new.self.edges.now (omega (arith, c.in_err-end.ensures.item.3)) in
-    absurd (c.in_ok-x.ensures.nonzero (weight_none _ _ over c.next_start.new.self.rest))
+    absurd (c.in_ok-x.ensures.nonzero (weight_none _ _ c.in_err-end.ensures.none c.next_start.new.self.rest))
 
 pub returns-clause-steps : goal.returns-clause-steps
 returns-clause-steps c =
     let now = c.next_start.new.self in
     let taken = c.in_ok-x.ensures.start in
-    let end = c.in_ok-end.ensures.item in
-    let found = run_found now.y c.in_ok-x.x now.weight now.edges.now c.in_ok-end.end.now (remaining_runs now) end.3.0 end.1 c.in_ok-x.ensures.nonzero in
+    let found = run_found now.y c.in_ok-x.x now.weight _ _ _ (remaining_runs now) c.in_ok-end.ensures.first c.in_ok-x.ensures.nonzero in
     let y : to_z w32 (of_z w32 now.y) ≡ now.y = omega (arith, ints) in
     let x : to_z w32 (of_z w32 c.in_ok-x.x) ≡ c.in_ok-x.x = omega (arith, ints) in
     let weight : to_z w32 (of_z w32 now.weight) ≡ now.weight = omega (arith, ints) in
-    let column : to_z w32 (of_z w32 c.in_ok-end.end.now.x) ≡ c.in_ok-end.end.now.x = omega (arith, ints) in
+    let column : to_z w32 (of_z w32 c.in_ok-end.end.x) ≡ c.in_ok-end.end.x = omega (arith, ints) in
     taken.left ∙ found ∙ rw (y, x, weight, c.abs_diff.ensures, column, x) refl

@@ -1,0 +1,50 @@
+use Rattle.std.proofs.Common.{refl, sym, ◌∙◌, ap}
+use Rattle.std.proofs.lemmas.Result.{err_from_is_err_and}
+use Rattle.mf_rows.specs.EdgeRows.{picture_of_rows}
+use Rattle.mf_rows.proofs.PictureGroups.{same_picture}
+use Rattle.mf_rows.proofs.PilesLemmas.{are_piled_apart, piled_apart, piled_rows, reach_fits, weights_through, unlawful_through}
+use Rattle.mf_rows.proofs.SettledGroups.{piled_same, rows_same, rows_settled}
+use Rattle.mf_rows.proofs.pile.Pile.add_and_measure.Goals as goal
+
+pub returns-in_err-take_up-clause-rows : goal.returns-in_err-take_up-clause-rows
+returns-in_err-take_up-clause-rows c =
+    piled_rows _ _ _ (piled_same _ _ _ _ _ c.self.invariant c.take_up.ensures.groups c.take_up.ensures.recent c.take_up.ensures.weights)
+
+pub returns-in_err-take_up-clause-unchanged : goal.returns-in_err-take_up-clause-unchanged
+returns-in_err-take_up-clause-unchanged c =
+    let p = err_from_is_err_and c.from_residual.result c.from_residual.ensures.1 in
+    let same = rows_same _ _ _ _ c.take_up.ensures.weights in
+    rw p.1 (same_picture _ _ (piled_rows _ _ _ c.self.invariant) (returns-in_err-take_up-clause-rows c) same ∙ ap picture_of_rows c.self.view_is)
+
+pub returns-in_err-sum-clause-rows : goal.returns-in_err-sum-clause-rows
+returns-in_err-sum-clause-rows c =
+    piled_rows _ _ _ (piled_same _ _ _ _ _ c.self.invariant c.take_up.ensures.groups c.take_up.ensures.recent c.take_up.ensures.weights)
+
+pub returns-in_err-sum-clause-unchanged : goal.returns-in_err-sum-clause-unchanged
+returns-in_err-sum-clause-unchanged c =
+    let p = err_from_is_err_and c.from_residual-in_err-sum.result c.from_residual-in_err-sum.ensures.1 in
+    let same = rows_same _ _ _ _ c.take_up.ensures.weights in
+    rw p.1 (same_picture _ _ (piled_rows _ _ _ c.self.invariant) (returns-in_err-sum-clause-rows c) same ∙ ap picture_of_rows c.self.view_is)
+
+pub returns-in_err-sum-clause-too_large : goal.returns-in_err-sum-clause-too_large
+returns-in_err-sum-clause-too_large c =
+    let p = err_from_is_err_and c.from_residual-in_err-sum.result c.from_residual-in_err-sum.ensures.1 in
+    let unlawful = rw c.deref.ensures.value at c.in_err-sum.ensures.too_large in
+    let same = rw c.self.view_is at (rows_settled _ _ _ _ (c.in_ok-take_up.ensures.none refl) c.in_ok-take_up.ensures.weights) in
+    rw (p.1, p.2) (λ fault. unlawful_through _ _ _ same (unlawful fault))
+
+pub invariant_of-self-2 : goal.invariant_of-self-2
+invariant_of-self-2 c =
+    let stay = rw c.deref-2.ensures.value at c.reach_of_groups-reach.ensures in
+    let apart = c.keep_apart-older.ensures in
+    rw (reach_fits _ _ stay) (are_piled_apart c.keep_apart-older.result.0.items c.keep_apart-older.result.1.items c.in_ok-sum.sum.items _ apart.older apart.groups apart.weights stay)
+
+pub returns-clause-weights : goal.returns-clause-weights
+returns-clause-weights c =
+    let weights = rw c.deref.ensures.value at c.in_ok-sum.ensures.weights in
+    let same = rw c.self.view_is at (rows_settled _ _ _ _ (c.in_ok-take_up.ensures.none refl) c.in_ok-take_up.ensures.weights) in
+    piled_apart _ c.keep_apart-older.result.0.items c.keep_apart-older.result.1.items c.in_ok-sum.sum.items c.keep_apart-older.ensures.weights
+    (weights_through _ _ _ _ same weights)
+
+pub returns-clause-rows : goal.returns-clause-rows
+returns-clause-rows c = piled_rows _ _ _ (invariant_of-self-2 c)

@@ -1,0 +1,29 @@
+use Rattle.std.proofs.Common.{◌≡◌, ◌+ℤ◌, to_z, of_z, w32, sym, arith}
+use Rattle.std.proofs.lemmas.Int.{ints}
+use Rattle.mf_rows.specs.EdgeRows.{weight_in_rows}
+use Rattle.mf_rows.specs.Groups.{rows_of_groups}
+use Rattle.mf_rows.proofs.BothRowsLemmas.{weight_in_rows-both}
+use Rattle.mf_rows.proofs.PilesLemmas.{piled_rows}
+use Rattle.mf_rows.proofs.pile.Pile.weight.Goals as goal
+
+pub returns-clause-weight : goal.returns-clause-weight
+returns-clause-weight c =
+    let x : to_z w32 (of_z w32 c.args.x) ≡ c.args.x = omega (arith, ints) in
+    let y : to_z w32 (of_z w32 c.args.y) ≡ c.args.y = omega (arith, ints) in
+    let older = rw (c.deref.ensures.value, x, y) at c.weight_in_groups.ensures.weight in
+    let newer = rw (c.deref-2.ensures.value, x, y) at c.weight_in_groups-2.ensures.weight in
+    let both = weight_in_rows-both (rows_of_groups c.self.inside.groups.items) (rows_of_groups c.self.inside.older.items) c.args.x c.args.y in
+    rw (← c.self.view_is) (omega (
+      arith,
+      ints,
+      older,
+      newer,
+      both,
+      c.weight_in_groups.ensures.lawful.least,
+      c.weight_in_groups.ensures.lawful.greatest,
+      c.weight_in_groups-2.ensures.lawful.least,
+      c.weight_in_groups-2.ensures.lawful.greatest,
+    ))
+
+pub returns-clause-rows : goal.returns-clause-rows
+returns-clause-rows c = rw c.self.view_is at (piled_rows _ _ _ c.self.invariant)

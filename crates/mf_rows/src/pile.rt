@@ -1,0 +1,344 @@
+//! The rows of a picture, the newest contours beside the others.
+ghost use Rattle.std.specs.Prelude.{◌≡◌, ◌≢◌, ◌≤◌, ◌≤ℤ◌, [], pos, IsOk, IfOk, IfErr, OnOk, OnErr, length};
+ghost use Rattle.mf_edges.specs.LawfulWeights.{IsLawfulWeight, greatest_weight};
+ghost use Rattle.mf_rows.specs.Bands.{slice_rows};
+ghost use Rattle.mf_rows.specs.EdgeRows.{AreRows, picture_of_rows, weight_in_rows};
+ghost use Rattle.mf_rows.specs.BothRest.{remaining_both_rows};
+ghost use Rattle.mf_rows.specs.Bounds.{AreBounds};
+ghost use Rattle.mf_rows.specs.Groups.{AreGroups, rows_of_groups};
+ghost use Rattle.mf_rows.specs.Piles.{HaveSameSum, IsReachOfSum, StayInReach};
+ghost use Rattle.mf_rows.specs.PixelsOfRows.{among_rows};
+ghost use Rattle.mf_rows.specs.Runs.{runs_of};
+ghost use Rattle.mf_rows.specs.Sums.{weight_in_all, HaveRowWeights, IsUnlawfulSomewhere};
+
+use crate::both_rows::BothRows;
+use crate::bounds::{Box4, Pixels, bounds_of};
+use crate::group::Group;
+use crate::group_sum::{sum_of_groups, sum_of_two, sum_with_rows};
+use crate::groups::{find_row, group_at, share};
+use crate::rows::Rows;
+use crate::runs::Runs;
+use crate::slice::RowSlice;
+use mf_base::OutOfMemory;
+use mf_edges::{AddFault, MAX_WEIGHT, weight_at_column};
+use std::alloc::Global;
+use std::marker::Model;
+use std::sync::Arc;
+
+/// Where rows have more edges than this on average, they are kept apart from the newest contours. A contour that is added to shorter
+/// rows copies few edges, too, and then nobody has to add up two lists of groups to read the picture.
+const LONG_ROWS: usize = 32;
+
+/// The newest contours are added to the long rows when they have so many edges for each of these, and a fourth of the edges of these. A
+/// contour copies the rows of the newest ones that it reaches, so these must be short. Adding them to the long rows copies all rows
+/// that they reach, so it must come seldom.
+const NEWEST_EDGES: usize = 64;
+
+/// The rows of a picture, as two lists of groups. The weight of a pixel is the sum of its weights in both.
+#[derive(Debug, Drop)]
+pub(crate) struct Pile {
+    /// Long rows, or none.
+    older: Vec<Option<Arc<Group>>>,
+    /// The rows to which contours are added: the newest contours where there are long rows, and otherwise all of the picture.
+    groups: Vec<Option<Arc<Group>>>,
+    /// No weight exceeds it in absolute value.
+    reach: i32,
+    /// About how many edges may be added before the size of the picture is looked at again.
+    room: usize,
+}
+
+impl Model for Pile {
+    ghost use Rattle.std.specs.Prelude.{List};
+    ghost use Rattle.mf_rows.specs.EdgeRows.{EdgeRow};
+
+    ghost Value = { List EdgeRow };
+
+    ghost use Rattle.mf_rows.specs.BothRows.{rows_of_both};
+    ghost use Rattle.mf_rows.specs.Groups.{rows_of_groups};
+    ghost use Rattle.mf_rows.specs.Piles.{ArePiled};
+
+    ghost view = { λ p. rows_of_both (rows_of_groups p.groups.items) (rows_of_groups p.older.items) };
+
+    ghost invariant = { λ p. ArePiled p.older.items p.groups.items p.reach };
+}
+
+impl Pile {
+    /// No rows. Allocates nothing.
+    pub(crate) fn blank(alloc: Global) -> Pile
+        ensures { result ≡ [] }
+    {
+        Pile {
+            older: Vec::new(alloc),
+            groups: Vec::new(alloc),
+            reach: 0,
+            room: 0,
+        }
+    }
+
+    /// The rows of these groups.
+    pub(crate) fn of(alloc: Global, groups: Vec<Option<Arc<Group>>>) -> Pile
+        requires { AreGroups groups.items }
+        ensures { result ≡ rows_of_groups groups.items }
+    {
+        // The least reach is found where it is needed, before the first contour is added.
+        Pile {
+            older: Vec::new(alloc),
+            groups,
+            reach: MAX_WEIGHT,
+            room: 0,
+        }
+    }
+
+    /// The same rows, which are shared.
+    pub(crate) fn copy(&self, alloc: Global) -> Result<Pile, OutOfMemory>
+        ensures { IfOk result (λ copy. copy ≡ self.now) }
+    {
+        Ok(Pile {
+            older: share(alloc, &self.older)?,
+            groups: share(alloc, &self.groups)?,
+            reach: self.reach,
+            room: self.room,
+        })
+    }
+
+    /// The rows, from the top down.
+    pub(crate) fn rows(&self) -> BothRows<'_>
+        ensures rows { remaining_both_rows result ≡ self.now }
+        ensures lawful { AreRows self.now }
+    {
+        BothRows::over(&self.groups, &self.older)
+    }
+
+    /// The maximal runs of the picture that the rows represent.
+    pub(crate) fn runs(&self) -> Runs<'_>
+        ensures runs { result ≡ runs_of (picture_of_rows self.now) }
+        ensures rows { AreRows self.now }
+    {
+        Runs::over(&self.groups, &self.older)
+    }
+
+    /// The least box of these pixels, `None` where there are none.
+    pub(crate) fn bounds(&self, pixels: Pixels) -> Option<Box4>
+        ensures bounds { AreBounds (among_rows pixels self.now) result }
+        ensures rows { AreRows self.now }
+    {
+        bounds_of(&self.groups, &self.older, pixels)
+    }
+
+    /// The weight of the pixel (x, y), 0 outside the field.
+    pub(crate) fn weight(&self, x: i32, y: i32) -> i32
+        ensures weight { result ≡ weight_in_rows self.now x y }
+        ensures rows { AreRows self.now }
+    {
+        weight_in_groups(&self.older, x, y) + weight_in_groups(&self.groups, x, y)
+    }
+
+    /// Adds the newest contours to the older rows, as far as there is memory for that. The picture stays as it is.
+    pub(crate) fn settle(&mut self, alloc: Global)
+        ensures picture { picture_of_rows self.new ≡ picture_of_rows self.old }
+        ensures rows { AreRows self.new }
+    {
+        if self.older.is_empty() {
+            return;
+        }
+        // Where memory is wanting, the newest contours stay apart.
+        let _ = take_up(alloc, &mut self.older, &mut self.groups);
+    }
+
+    /// Groups with the same weights as these rows.
+    pub(crate) fn whole(&self, alloc: Global) -> Result<Vec<Option<Arc<Group>>>, OutOfMemory>
+        ensures groups { IfOk result (λ groups. AreGroups groups.items) }
+        ensures weights { IfOk result (λ groups. HaveRowWeights (weight_in_rows self.now) (rows_of_groups groups.items)) }
+        ensures picture { IfOk result (λ groups. picture_of_rows (rows_of_groups groups.items) ≡ picture_of_rows self.now) }
+        ensures rows { AreRows self.now }
+    {
+        // The weights are lawful as they are, so only memory can be wanting.
+        match sum_of_groups(alloc, &self.older, &self.groups) {
+            Ok(groups) => Ok(groups),
+            Err(_) => Err(OutOfMemory),
+        }
+    }
+
+    /// Adds the rows of another picture. Refused with `WeightTooLarge` where a weight would exceed 32767 in absolute value, and with
+    /// `OutOfMemory` where an allocation fails; a refusal leaves all as it was.
+    pub(crate) fn add(&mut self, alloc: Global, other: &Pile) -> Result<(), AddFault>
+        ensures weights { OnOk result (HaveRowWeights (weight_in_all self.old other.now) self.new) }
+        ensures unchanged { OnErr result (self.new ≡ self.old) }
+        ensures rows { AreRows self.new }
+        ensures too_large { IfErr result (λ fault. fault ≢ AddFault.OutOfMemory → IsUnlawfulSomewhere (weight_in_all self.old other.now)) }
+    {
+        let groups = self.whole(alloc)?;
+        let others = other.whole(alloc)?;
+        let sum = sum_of_groups(alloc, &groups, &others)?;
+        let (older, groups) = keep_apart(alloc, sum, !self.older.is_empty());
+        self.older = older;
+        self.groups = groups;
+        self.reach = reach_of_sum(self.reach, other.reach);
+        self.room = self.room.max(other.room);
+        Ok(())
+    }
+
+    /// Adds rows, which are those of a contour. Refused with `WeightTooLarge` where a weight would exceed 32767 in absolute value, and with
+    /// `OutOfMemory` where an allocation fails; a refusal leaves all as it was.
+    pub(crate) fn add_rows(&mut self, alloc: Global, rows: RowSlice<'_>) -> Result<(), AddFault>
+        requires { AreRows (slice_rows rows) }
+        ensures weights { OnOk result (HaveRowWeights (weight_in_all self.old (slice_rows rows.entry)) self.new) }
+        ensures unchanged { OnErr result (picture_of_rows self.new ≡ picture_of_rows self.old) }
+        ensures rows { AreRows self.new }
+        ensures too_large { IfErr result (λ fault. fault ≢ AddFault.OutOfMemory → IsUnlawfulSomewhere (weight_in_all self.old (slice_rows rows.entry))) }
+    {
+        let reach = self.reach + rows.reach();
+        let edges = rows.edge_count();
+        if reach > MAX_WEIGHT || edges > self.room {
+            return self.add_and_measure(alloc, rows);
+        }
+        match sum_with_rows(alloc, &self.groups, rows) {
+            Ok(groups) => {
+                self.groups = groups;
+                self.reach = reach;
+                self.room -= edges;
+                Ok(())
+            }
+            Err(AddFault::OutOfMemory) => Err(AddFault::OutOfMemory),
+            Err(AddFault::WeightTooLarge) => self.add_and_measure(alloc, rows),
+        }
+    }
+
+    /// Does the same, after the newest contours are added to the older rows, and finds anew which rows are kept apart.
+    fn add_and_measure(&mut self, alloc: Global, rows: RowSlice<'_>) -> Result<(), AddFault>
+        requires { AreRows (slice_rows rows) }
+        ensures weights { OnOk result (HaveRowWeights (weight_in_all self.old (slice_rows rows.entry)) self.new) }
+        ensures unchanged { OnErr result (picture_of_rows self.new ≡ picture_of_rows self.old) }
+        ensures rows { AreRows self.new }
+        ensures too_large { IfErr result (λ fault. fault ≢ AddFault.OutOfMemory → IsUnlawfulSomewhere (weight_in_all self.old (slice_rows rows.entry))) }
+    {
+        take_up(alloc, &mut self.older, &mut self.groups)?;
+        let sum = sum_with_rows(alloc, &self.older, rows)?;
+        let (reach, size) = (reach_of_groups(&sum), size_of(&sum));
+        let (older, groups) = keep_apart(alloc, sum, size.has_long_rows());
+        self.older = older;
+        self.groups = groups;
+        self.reach = reach;
+        self.room = size.room();
+        Ok(())
+    }
+}
+
+/// These groups as long rows, or as those to which contours are added.
+fn keep_apart(
+    alloc: Global,
+    groups: Vec<Option<Arc<Group>>>,
+    are_long: bool,
+) -> (Vec<Option<Arc<Group>>>, Vec<Option<Arc<Group>>>)
+    requires { AreGroups groups.items }
+    ensures older { AreGroups result.0.items }
+    ensures groups { AreGroups result.1.items }
+    ensures weights { HaveRowWeights (weight_in_all (rows_of_groups result.0.items) (rows_of_groups result.1.items)) (rows_of_groups groups.items) }
+{
+    if are_long {
+        return (groups, Vec::new(alloc));
+    }
+    (Vec::new(alloc), groups)
+}
+
+/// Adds what is kept beside groups to these, one after another, so that little is kept twice. Where that is refused, the weights of both
+/// together have not changed.
+fn take_up(
+    alloc: Global,
+    groups: &mut Vec<Option<Arc<Group>>>,
+    recent: &mut Vec<Option<Arc<Group>>>,
+) -> Result<(), OutOfMemory>
+    requires groups { AreGroups groups.old.items }
+    requires recent { AreGroups recent.old.items }
+    ensures groups { AreGroups groups.new.items }
+    ensures recent { AreGroups recent.new.items }
+    ensures weights { HaveSameSum groups.old.items recent.old.items groups.new.items recent.new.items }
+    ensures none { IsOk result → rows_of_groups recent.new.items ≡ [] }
+{
+    lengthen(groups, recent.len())?;
+    for place in 0..recent.len() {
+        // The weights are lawful as they are, so only memory can be wanting.
+        let Ok(sum) = sum_of_two(alloc, group_at(groups, place), group_at(recent, place)) else {
+            return Err(OutOfMemory);
+        };
+        groups[place] = sum;
+        recent[place] = None;
+    }
+    Ok(())
+}
+
+/// Makes a list of groups as long as this, with no groups at the further places.
+fn lengthen(groups: &mut Vec<Option<Arc<Group>>>, count: usize) -> Result<(), OutOfMemory>
+    requires { AreGroups groups.old.items }
+    ensures groups { AreGroups groups.new.items }
+    ensures rows { rows_of_groups groups.new.items ≡ rows_of_groups groups.old.items }
+    ensures count { IsOk result → count ≤ length groups.new.items }
+{
+    for _ in groups.len()..count {
+        groups.push(None)?;
+    }
+    Ok(())
+}
+
+/// The weight of the pixel (x, y) in groups, 0 outside the field.
+fn weight_in_groups(groups: &[Option<Arc<Group>>], x: i32, y: i32) -> i32
+    requires { AreGroups groups.now }
+    ensures weight { result ≡ weight_in_rows (rows_of_groups groups.now) x y }
+    ensures lawful { IsLawfulWeight result }
+{
+    match find_row(groups, y) {
+        Some(row) => weight_at_column(row.edges, x),
+        None => 0,
+    }
+}
+
+/// A reach of weights that are sums of two, with these reaches.
+fn reach_of_sum(left: i32, right: i32) -> i32
+    requires left { pos 0 ≤ℤ left × left ≤ℤ greatest_weight }
+    requires right { pos 0 ≤ℤ right × right ≤ℤ greatest_weight }
+    ensures { IsReachOfSum left right result }
+{
+    let sum = left + right;
+    if sum <= MAX_WEIGHT { sum } else { MAX_WEIGHT }
+}
+
+/// A reach of groups. Where the reach of a row is not known, it is worked out.
+fn reach_of_groups(groups: &[Option<Arc<Group>>]) -> i32
+    requires { AreGroups groups.now }
+    ensures { StayInReach result (weight_in_rows (rows_of_groups groups.now)) }
+{
+    let mut reach = 0;
+    for row in Rows::over(groups) {
+        reach = reach.max(row.reach());
+    }
+    reach
+}
+
+/// The numbers of rows and edges of groups.
+#[derive(Clone, Copy, Debug)]
+struct Size {
+    rows: usize,
+    edges: usize,
+}
+
+impl Size {
+    /// Whether the rows are long.
+    fn has_long_rows(self) -> bool {
+        self.edges / LONG_ROWS > self.rows
+    }
+
+    /// How many edges may be added before the size is looked at again.
+    fn room(self) -> usize {
+        self.rows.saturating_mul(NEWEST_EDGES).max(self.edges / 4)
+    }
+}
+
+/// The size of groups.
+fn size_of(groups: &[Option<Arc<Group>>]) -> Size {
+    let mut size = Size { rows: 0, edges: 0 };
+    for row in Rows::over(groups) {
+        size.rows = size.rows.saturating_add(1);
+        size.edges = size.edges.saturating_add(row.edges.len());
+    }
+    size
+}
