@@ -52,17 +52,22 @@ GROUPS = 16 * 16
 # length. A band that is made anew has up to 17 heads of rows, 32 bytes each, few edges and 72 bytes more. The points of a
 # rectangle and its corners take at most 512 bytes.
 GROUP, BAND, LINE = 4 * 8 * 32, 1024, 512
-# A contour makes a picture of its own, with a list of groups, and then the sum, with another.
+# A contour has its rows in a list, and the sum has a list of groups. Where it is added to long rows, their list of groups is made as
+# long as that of the newest contours first.
 CONTOUR = LINE + 2 * (GROUPS + GROUP)
 # A copy needs a list of groups in the command, in the sum and in the picture that it becomes, and a sum of few groups makes these anew.
 LISTS = 4 * GROUPS
+# Where rows have more than 32 edges on average, a picture keeps the newest contours apart from them, in a second list of groups. They
+# may have this many edges for each of the long rows, or a fourth of the edges of these, which is not more in a comb of 128 teeth. A
+# contour that exceeds that is added to the long rows, after those before it (mf_rows/src/pile.rt).
+NEWEST_EDGES = 64
 # A command that goes through all rows has them in a list, which grows by doubling, and in bands.
 PASS = 3 * 4 * ROWS
 # The edges of a row of a comb. With 128 teeth, those of all rows are ten times a pass.
 TEETH = 128
 COMB = 2 * TEETH * EDGE
-# With 30 teeth and a pole, a row has 62 edges, few enough for the list of its band. A band that is made anew first has room for those of
-# each of its rows, and gives back what rows with equal edges do not need.
+# With 30 teeth and a pole, a row has 62 edges, so it is long, but they are few enough for the list of its band. A band that is made
+# anew first has room for those of each of its rows, and gives back what rows with equal edges do not need.
 FEW = 30
 SHORT = 17 * (2 * FEW + 2) * EDGE
 
@@ -90,13 +95,23 @@ def tall(name):
     return box(name, 0, -4095, 3, 4095)
 
 
-def striped(name, teeth=TEETH):
-    """Lines for a comb in all rows but the lowest, to which a pole in all rows is added, so that each row has its own edges, or each
-    band where they are few."""
-    points = ["(0,-4095)", f"({2 * teeth},-4095)"]
+def comb(name, bottom, top, teeth=TEETH):
+    """A line for a comb in the rows `bottom + 1` to `top - 1`, which are long. The row `bottom` has one run."""
+    points = [f"(0,{bottom})", f"({2 * teeth},{bottom})"]
     for right in range(2 * teeth, 0, -2):
-        points += [f"({right},4095)", f"({right - 1},4095)", f"({right - 1},-4094)", f"({right - 2},-4094)"]
-    return f"addto {name} contour {'--'.join(points)}--cycle\n{box(name, -2, -4095, -1, 4095)}"
+        points += [f"({right},{top})", f"({right - 1},{top})", f"({right - 1},{bottom + 1})", f"({right - 2},{bottom + 1})"]
+    return f"addto {name} contour {'--'.join(points)}--cycle\n"
+
+
+def striped(name, teeth=TEETH):
+    """Lines for a comb in all rows of the field, and for a pole in all of them, which the picture keeps apart from the long rows."""
+    return comb(name, -4095, 4095, teeth) + box(name, -2, -4095, -1, 4095)
+
+
+def settled(name, teeth=TEETH):
+    """Lines for the same picture after an operation that goes through all rows, and so adds the pole to them. Each row has its own
+    edges then, or each band where they are few."""
+    return striped(name, teeth) + f"{name} := {name} yscaled 1\n"
 
 
 def cases():
@@ -121,21 +136,56 @@ def cases():
     yield Case("a publish", live, "publish\n", {"currentpicture": of_tall}, LISTS)
     line, shown = box("currentpicture", 1, 0, 5, 1), {"currentpicture": of_tall + 4}
     yield Case("a row of one band after a publish", live + "publish\n", line, shown, CONTOUR + 2 * BAND)
+    yield from on_long_rows(of_comb)
+    yield from on_settled_rows(of_comb)
+
+
+def on_long_rows(of_comb):
+    """Contours that are kept apart from long rows."""
+    # The contour is added to the pole, so it makes short rows anew, however long the others are. All rows of a comb would need ten
+    # times a pass, and those of a band ten times as much as is allowed.
+    for about, bottom, top, bands in [("a row", 4070, 4071, 1), ("a band", 4063, 4079, 1), ("two bands", 4047, 4079, 2)]:
+        line, shown = box("a", -9, bottom, -8, top), {"a": of_comb + top - bottom}
+        yield Case(f"a contour on {about} of long rows", striped("a"), line, shown, CONTOUR + 2 * bands * BAND)
+    line, shown = box("a", -9, -4094, -8, 4095), {"a": of_comb + FIELD - 1}
+    yield Case("a contour on all long rows", striped("a"), line, shown, PASS)
+    # A copy of a picture shares both of its lists of groups.
+    yield Case("a copy of long rows", striped("a"), "addto b also a\n", {"b": of_comb}, 2 * LISTS)
+    live, line = striped("currentpicture"), box("currentpicture", -9, 4070, -8, 4071)
+    yield Case("a publish of long rows", live, "publish\n", {"currentpicture": of_comb}, 2 * LISTS)
+    shown = {"currentpicture": of_comb + 1}
+    yield Case("a contour on long rows after a publish", live + "publish\n", line, shown, CONTOUR + 2 * BAND)
+    # A box in the 16 rows of a band has 32 edges, so as many boxes as this stay apart from the long rows. The one after them finds no
+    # room: the boxes are added to the long rows, of which the band has 15, and then it is. Half as much again is for the rest of a row.
+    line, count, bands = box("a", -9, 4063, -8, 4079), NEWEST_EDGES // 2, comb("a", 4063, 4079)
+    total, least = 15 * TEETH + 2 * TEETH, 15 * COMB
+    shown = {"a": total + 16 * count}
+    yield Case("the last contour apart from long rows", bands + (count - 1) * line, line, shown, CONTOUR + 2 * BAND)
+    shown, most = {"a": total + 16 * (count + 1)}, 2 * (CONTOUR + 2 * BAND + least * 3 // 2)
+    yield Case("contours are added to long rows", bands + count * line, line, shown, most, least)
+    # The rows of a comb share their edges until the pole is added to them. That is done once; then a pass makes the cull.
+    line, least = "cull a keeping (1,3) withweight 2\n", (FIELD - 1) * COMB
+    yield Case("a cull of long rows", striped("a"), line, {"a": 2 * of_comb}, least * 3 // 2 + PASS, least)
+
+
+def on_settled_rows(of_comb):
+    """Commands on a picture all of whose contours are in its long rows. The first contour is added to them: a picture that an
+    operation has made anew does not know yet how long its rows are, and how great its weights."""
     # Every row that is reached gets its own edges. Half as much again is for the rest of the row, and for the line.
     for about, bottom, top in [("a band", 4063, 4079), ("two bands", 4047, 4079), ("all rows", -4094, 4095)]:
         least = (top - bottom) * COMB
         line, shown = box("a", -9, bottom, -8, top), {"a": of_comb + top - bottom}
-        yield Case(f"edges of {about}", striped("a"), line, shown, least * 3 // 2, least)
+        yield Case(f"edges of {about}", settled("a"), line, shown, least * 3 // 2, least)
     # Only the row that is reached gets its own edges; the other rows of its band share theirs.
     line, shown = box("a", -9, 4070, -8, 4071), {"a": of_comb + 1}
-    yield Case("edges of one row", striped("a"), line, shown, CONTOUR + 2 * BAND + COMB * 3 // 2, COMB)
+    yield Case("edges of one row", settled("a"), line, shown, CONTOUR + 2 * BAND + COMB * 3 // 2, COMB)
     line, shown = box("a", -9, 4070, -8, 4071), {"a": (FEW + 1) * FIELD + FEW + 1}
-    yield Case("a row of a band with one list", striped("a", FEW), line, shown, CONTOUR + 2 * BAND + SHORT)
+    yield Case("a row of a band with one list", settled("a", FEW), line, shown, CONTOUR + 2 * BAND + SHORT)
     line, shown = "cull a keeping (1,3) withweight 2\n", {"a": 2 * of_comb}
-    yield Case("a cull of equal rows", striped("a"), line, shown, PASS)
-    yield Case("a negation of equal rows", striped("a"), "addto b also -a\n", {"b": -of_comb}, LISTS + PASS)
+    yield Case("a cull of equal rows", settled("a"), line, shown, PASS)
+    yield Case("a negation of equal rows", settled("a"), "addto b also -a\n", {"b": -of_comb}, LISTS + PASS)
     # A scale by a negative factor reflects first, and then stretches.
-    yield Case("mirrored rows", striped("a"), "a := a yscaled -1\n", {"a": of_comb}, 2 * PASS)
+    yield Case("mirrored rows", settled("a"), "a := a yscaled -1\n", {"a": of_comb}, 2 * PASS)
 
 
 class Counter:
