@@ -20,7 +20,10 @@ const WEIGHTS: [i32; 4] = [1, -1, 3, -3];
 const LISTS: u32 = 40;
 
 /// The slow form of the sum of rectangles, all of which lie in the area of the first.
-fn slow_form_of(alloc: Global, rectangles: &[Rectangle]) -> Result<SlowPicture, OutOfMemory> {
+pub(super) fn slow_form_of(
+    alloc: Global,
+    rectangles: &[Rectangle],
+) -> Result<SlowPicture, OutOfMemory> {
     let mut slow = SlowPicture::blank(alloc);
     if let Some(area) = rectangles.first() {
         for y in (area.bottom..area.top).rev() {

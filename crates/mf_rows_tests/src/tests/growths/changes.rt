@@ -1,51 +1,13 @@
 //! Copies of pictures, and pictures that are made from one, in which allocations fail.
 
 use super::APART;
+use crate::tests::derived::Derived;
 use crate::tests::moves::assert_stays_inside;
 use crate::tests::{assert_runs, made, picture_of};
-use mf_base::OutOfMemory;
-use mf_edges::{Choice, Stretch, WeightMap};
-use mf_rows::{Picture, Run};
+use mf_edges::Stretch;
+use mf_rows::Run;
 use mf_testing::{grow_again, refuse_growths};
-use std::alloc::Global;
 use std::process::Abort;
-
-/// What is made from a picture.
-#[derive(Clone, Copy, Debug)]
-enum Derived {
-    Copy,
-    Negated,
-    /// Weights 1 and 2 become 3, and all others 0.
-    Chosen,
-    ColumnsMirrored,
-    RowsMirrored,
-    Turned,
-}
-
-impl Derived {
-    /// Makes it from this picture.
-    fn of(self, alloc: Global, picture: &Picture) -> Result<Picture, OutOfMemory> {
-        match self {
-            Derived::Copy => picture.copy(alloc),
-            Derived::Negated => picture.map_weights(alloc, &WeightMap::Negate),
-            Derived::Chosen => chosen(alloc, picture),
-            Derived::ColumnsMirrored => picture.mirror_columns(alloc),
-            Derived::RowsMirrored => picture.mirror_rows(alloc),
-            Derived::Turned => picture.turn(alloc),
-        }
-    }
-}
-
-/// The picture in which weights 1 and 2 become 3, and all others 0.
-fn chosen(alloc: Global, picture: &Picture) -> Result<Picture, OutOfMemory> {
-    let choice = Choice {
-        low: 1,
-        high: 2,
-        inside: 3,
-        outside: 0,
-    };
-    picture.map_weights(alloc, &WeightMap::Choose(choice))
-}
 
 /// Asserts that what is made from the rows while allocations fail has these runs, and that the rows stay as they are.
 fn assert_makes<R: Abort + AllocGlobal>(rt: &R, what: Derived, runs: &[Run]) {
