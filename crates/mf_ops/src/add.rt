@@ -5,7 +5,6 @@ ghost use Rattle.mf_ops.specs.declared.op.Op.TheVariants.{Also};
 
 use crate::op::OpFault;
 use crate::sign::Sign;
-use mf_edges::WeightMap;
 use mf_rows::Picture;
 use std::alloc::Global;
 
@@ -36,8 +35,7 @@ fn add_plus(alloc: Global, picture: &mut Picture, other: &Picture) -> Result<(),
     Ok(picture.add(alloc, other)?)
 }
 
-/// Subtracts another picture from a picture. The other one is negated first and then added: this costs twice as much as a sum,
-/// but leaves one way of adding to keep right.
+/// Subtracts another picture from a picture.
 fn add_minus(alloc: Global, picture: &mut Picture, other: &Picture) -> Result<(), OpFault>
     ensures step { OnOk result (picture.new ≡ next_picture picture.old (Also other.now Sign.Minus)) }
     ensures unchanged { OnErr result (picture.new ≡ picture.old) }
@@ -45,6 +43,5 @@ fn add_minus(alloc: Global, picture: &mut Picture, other: &Picture) -> Result<()
     ensures refused { IfErr result (λ fault. fault ≢ OpFault.OutOfMemory → op_fault picture.old (Also other.now Sign.Minus) ≡ Some fault) }
     ensures blank { other.now ≡ [] → IsOk result }
 {
-    let negated = other.map_weights(alloc, &WeightMap::Negate)?;
-    Ok(picture.add(alloc, &negated)?)
+    Ok(picture.subtract(alloc, other)?)
 }

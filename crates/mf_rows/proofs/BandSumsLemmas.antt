@@ -8,13 +8,16 @@ use Rattle.std.proofs.lemmas.List.{append-nil}
 use Rattle.std.proofs.lemmas.List.Elements.{All-head, All-append, All-weaker}
 use Rattle.mf_geom.specs.Coordinates.{last_in_field}
 use Rattle.mf_rows.specs.declared.band.Band.{Band}
+use Rattle.mf_rows.specs.declared.sign.Sign.{Sign}
 use Rattle.mf_rows.specs.Bands.{rows_of_bands, AreBelow}
 use Rattle.mf_rows.specs.BandSums.{lowest_of, AreUpTo, AreBehind, AreSplitAtBand, HasSum}
 use Rattle.mf_edges.specs.LawfulWeights.{IsLawfulWeight}
 use Rattle.mf_rows.specs.EdgeRows.{EdgeRow, AreRowsFrom, AreRows, weight_in_rows}
+use Rattle.mf_rows.specs.Signs.{signed}
 use Rattle.mf_rows.specs.Sums.{weight_in_all, HaveRowWeights, IsUnlawfulSomewhere}
 use Rattle.mf_rows.proofs.EdgeRowsLemmas.{weight_in_rows-append, weight_in_rows-above, weight_in_rows-below, rows_from-below, rows_from-front, rows_from-back, rows_from-append}
 use Rattle.mf_rows.proofs.RowSums.{IsRowSumSoFar, rows_behind}
+use Rattle.mf_rows.proofs.SignsLemmas.{signed_none}
 
 -- ---- rows that only one of two lists has
 
@@ -67,12 +70,12 @@ module _ (whole_left whole_right sum rs ss : List EdgeRow) (so_far : IsRowSumSoF
         omega (arith, ints);
   }
 
-pub rows_with_bands : (whole_left whole_right sum : List EdgeRow) (bs cs : List (Arc Band Global))
-    → IsRowSumSoFar whole_left whole_right sum (rows_of_bands bs) (rows_of_bands cs) → (bs ≡ []) ⊎ (cs ≡ [])
-    → AreRows ((sum ++ rows_of_bands bs) ++ rows_of_bands cs)
-rows_with_bands whole_left whole_right sum bs cs so_far end =
-    rows_with_rest whole_left whole_right sum (rows_of_bands bs) (rows_of_bands cs) so_far
-    (⊎_elim (λ none. inl (ap rows_of_bands none)) (λ none. inr (ap rows_of_bands none)) end)
+pub rows_with_bands : (s : Sign) (whole_left whole_right sum : List EdgeRow) (bs cs : List (Arc Band Global))
+    → IsRowSumSoFar whole_left whole_right sum (rows_of_bands bs) (signed s (rows_of_bands cs)) → (bs ≡ []) ⊎ (cs ≡ [])
+    → AreRows ((sum ++ rows_of_bands bs) ++ signed s (rows_of_bands cs))
+rows_with_bands s whole_left whole_right sum bs cs so_far end =
+    rows_with_rest whole_left whole_right sum (rows_of_bands bs) (signed s (rows_of_bands cs)) so_far
+    (⊎_elim (λ none. inl (ap rows_of_bands none)) (λ none. inr (signed_none s _ (ap rows_of_bands none))) end)
 
 -- ---- one step
 

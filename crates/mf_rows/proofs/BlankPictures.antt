@@ -10,7 +10,7 @@ use Rattle.mf_edges.specs.declared.weight_map.WeightMap.{WeightMap}
 use Rattle.mf_edges.specs.WeightMaps.{IsWeightMap}
 use Rattle.mf_rows.specs.Dots.{Dot, weight_at}
 use Rattle.mf_rows.specs.EdgeRows.{EdgeRow, AreRows, picture_of_rows}
-use Rattle.mf_rows.specs.Sums.{HasWeights, sum_at}
+use Rattle.mf_rows.specs.Sums.{HasWeights, difference_at, sum_at}
 use Rattle.mf_rows.specs.WeightMaps.{mapped_weight_at}
 use Rattle.mf_rows.proofs.EdgeRowsLemmas.{weight_at-picture_of_rows}
 use Rattle.mf_rows.proofs.RowSumSteps.{no_row}
@@ -36,6 +36,10 @@ first_is_none (Some r) false rs others steps is = (λ test. absurd (false≢true
 pub blank_added : (ds es : List Dot) → es ≡ [] → HasWeights (sum_at ds es) ds
 unfolding sum_at weight_at
 blank_added ds es blank = rw blank (record { weights = λ x y inside. omega (arith, ints) })
+
+pub blank_subtracted : (ds es : List Dot) → es ≡ [] → HasWeights (difference_at ds es) ds
+unfolding difference_at weight_at
+blank_subtracted ds es blank = rw blank (record { weights = λ x y inside. omega (arith, ints) })
 
 pub added_to_blank : (ds es : List Dot) → ds ≡ [] → HasWeights (sum_at ds es) es
 unfolding sum_at weight_at

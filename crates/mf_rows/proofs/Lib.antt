@@ -42,6 +42,7 @@ pub mod RunDots
 mod RunEdges
 pub mod RunsLemmas
 mod SettledGroups
+mod SignsLemmas
 pub mod StretchBounds
 mod StripCopies
 mod StripsLemmas

@@ -17,10 +17,12 @@ use Rattle.mf_rows.specs.EdgeRows.{EdgeRow, AreRowsFrom, AreRows, weight_in_rows
 use Rattle.mf_edges.specs.Axes.{opposite, source_of}
 use Rattle.mf_rows.specs.Moves.{column_mirror_at, column_stretch_at, row_mirror_at, quarter_turn_at}
 use Rattle.mf_rows.specs.RowChanges.{image_in_rows, mirror_in_rows, quarter_turn_in_rows}
-use Rattle.mf_rows.specs.Sums.{HasWeights, IsUnlawfulSomewhere, weight_in_all, sum_at, HaveFieldWeights, HaveRowWeights}
+use Rattle.mf_rows.specs.Signs.{negated_rows}
+use Rattle.mf_rows.specs.Sums.{HasWeights, IsUnlawfulSomewhere, weight_in_all, difference_at, sum_at, HaveFieldWeights, HaveRowWeights}
 use Rattle.mf_edges.specs.WeightMaps.{mapped_weight}
 use Rattle.mf_rows.specs.WeightMaps.{mapped_weight_at}
 use Rattle.mf_rows.proofs.EdgeRowsLemmas.{weight_in_rows-here, weight_in_rows-elsewhere, weight_in_rows-none, weight_in_rows-below, rows_from-below, weight_at-picture_of_rows}
+use Rattle.mf_rows.proofs.SignsLemmas.{weight_in_rows-negated}
 
 -- ---- one row among rows
 
@@ -50,6 +52,35 @@ weight_at-found {rs = rs} {y = y} x rows row = weight_at-picture_of_rows rs x y 
 
 pub weight_at-blank : {rs : List EdgeRow} {y : ℤ} (x : ℤ) → AreRows rs → HasNoRow rs y → weight_at (picture_of_rows rs) x y ≡ pos 0
 weight_at-blank {rs = rs} {y = y} x rows row = weight_at-picture_of_rows rs x y rows ∙ row.weights x
+
+-- ---- the difference of two pictures
+
+-- rows with the weights of rows and of others that are negated represent the difference of their pictures
+pub weights_with_difference : (rs ss new : List EdgeRow) → AreRows rs → AreRows ss → AreRows new
+    → HaveRowWeights (weight_in_all rs (negated_rows ss)) new → HasWeights (difference_at (picture_of_rows rs) (picture_of_rows ss)) (picture_of_rows new)
+unfolding difference_at weight_in_all
+weights_with_difference rs ss new left right rows has = record {
+  weights = λ x y inside.
+      omega (
+        arith,
+        ints,
+        weight_at-picture_of_rows rs x y left,
+        weight_at-picture_of_rows ss x y right,
+        weight_at-picture_of_rows new x y rows,
+        weight_in_rows-negated ss x y,
+        has.weights x y,
+      );
+}
+
+pub unlawful_with_difference : (rs ss : List EdgeRow) → AreRows rs → AreRows ss → IsUnlawfulSomewhere (weight_in_all rs (negated_rows ss))
+    → IsUnlawfulSomewhere (difference_at (picture_of_rows rs) (picture_of_rows ss))
+unfolding difference_at weight_in_all
+unlawful_with_difference rs ss left right unlawful =
+    let x = unlawful.x in
+    let y = unlawful.y in
+    let same : difference_at (picture_of_rows rs) (picture_of_rows ss) x y ≡ weight_in_all rs (negated_rows ss) x y =
+    omega (arith, ints, weight_at-picture_of_rows rs x y left, weight_at-picture_of_rows ss x y right, weight_in_rows-negated ss x y) in
+    record { x = x; y = y; in_field = unlawful.in_field; unlawful = λ lawful. unlawful.unlawful (subst IsLawfulWeight same lawful) }
 
 -- ---- the sum of two pictures
 

@@ -26,6 +26,7 @@ pub mod RowChanges
 pub mod RowLists
 pub mod RowMoves
 pub mod Runs
+pub mod Signs
 pub mod Strips
 pub mod Sums
 pub mod Turns

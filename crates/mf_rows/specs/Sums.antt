@@ -1,5 +1,5 @@
 -- The weights of two pictures, or of two lists of rows, together.
-use Rattle.std.specs.Prelude.{◌≡◌, ℤ, ◌+ℤ◌, List}
+use Rattle.std.specs.Prelude.{◌≡◌, ℤ, ◌+ℤ◌, ◌-ℤ◌, List}
 use Rattle.mf_geom.specs.Field.{IsInField}
 use Rattle.mf_edges.specs.LawfulWeights.{IsLawfulWeight}
 use Rattle.mf_rows.specs.Dots.{Dot, weight_at}
@@ -24,6 +24,10 @@ weight_in_all rs ss x y = weight_in_rows rs x y +ℤ weight_in_rows ss x y
 -- the weight of the pixel (x, y) in two pictures together
 unfoldable pub sum_at : List Dot → List Dot → ℤ → ℤ → ℤ
 sum_at ds es x y = weight_at ds x y +ℤ weight_at es x y
+
+-- the weight of the pixel (x, y) in a picture, minus that in another
+unfoldable pub difference_at : List Dot → List Dot → ℤ → ℤ → ℤ
+difference_at ds es x y = weight_at ds x y -ℤ weight_at es x y
 
 -- rows have the weight f x y at each pixel (x, y)
 pub record HaveRowWeights (f : ℤ → ℤ → ℤ) (rs : List EdgeRow) : Type 0 where

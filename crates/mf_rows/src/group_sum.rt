@@ -1,64 +1,89 @@
-//! The sum of groups, and of groups and bands.
+//! The sum of groups, their difference, and the sum of groups and rows.
 ghost use Rattle.std.specs.Prelude.{◌≡◌, ◌≢◌, IfOk, IfErr};
 ghost use Rattle.mf_rows.specs.BandNumbers.{HaveRisingNumbers};
 ghost use Rattle.mf_rows.specs.Bands.{rows_of_bands, slice_rows};
 ghost use Rattle.mf_rows.specs.EdgeRows.{AreRows};
 ghost use Rattle.mf_rows.specs.Groups.{AreGroups, group_found, rows_at_place, rows_of_groups};
+ghost use Rattle.mf_rows.specs.Signs.{signed};
 ghost use Rattle.mf_rows.specs.Sums.{weight_in_all, HaveRowWeights, IsUnlawfulSomewhere};
 
 use crate::band::Band;
 use crate::band_row_sum::sum_of_bands_and_rows;
-use crate::band_sum::sum_of_bands;
+use crate::band_sum::{push_negated, sum_of_bands};
 use crate::group::{GROUP_COUNT, Group};
 use crate::groups::{group_at, group_of, share_group, split_rows_at_place};
+use crate::sign::Sign;
 use crate::slice::RowSlice;
+use mf_base::OutOfMemory;
 use mf_edges::AddFault;
 use std::alloc::Global;
 use std::sync::Arc;
 
-/// The groups of the sum of two lists. Where only one of them has a group, or a band, it is shared. Refused with
-/// `WeightTooLarge` where a weight would exceed 32767 in absolute value, and with `OutOfMemory` where an allocation fails.
+/// The groups of the sum of two lists, or of their difference. Where only one of them has a group, or a band, it is shared, or negated
+/// where it is subtracted. Refused with `WeightTooLarge` where a weight would exceed 32767 in absolute value, and with `OutOfMemory`
+/// where an allocation fails.
 pub(crate) fn sum_of_groups(
     alloc: Global,
     left: &[Option<Arc<Group>>],
     right: &[Option<Arc<Group>>],
+    sign: Sign,
 ) -> Result<Vec<Option<Arc<Group>>>, AddFault>
     requires left { AreGroups left.now }
     requires right { AreGroups right.now }
     ensures groups { IfOk result (λ sum. AreGroups sum.items) }
-    ensures weights { IfOk result (λ sum. HaveRowWeights (weight_in_all (rows_of_groups left.now) (rows_of_groups right.now)) (rows_of_groups sum.items)) }
+    ensures weights { IfOk result (λ sum. HaveRowWeights (weight_in_all (rows_of_groups left.now) (signed sign (rows_of_groups right.now))) (rows_of_groups sum.items)) }
     ensures too_large { IfErr result (λ fault. fault ≢ AddFault.OutOfMemory
-        → IsUnlawfulSomewhere (weight_in_all (rows_of_groups left.now) (rows_of_groups right.now))) }
+        → IsUnlawfulSomewhere (weight_in_all (rows_of_groups left.now) (signed sign (rows_of_groups right.now)))) }
 {
     let count = left.len().max(right.len());
     let mut sum = Vec::new(alloc);
     sum.reserve(count)?;
     for place in 0..count {
-        sum.push(sum_of_two(alloc, group_at(left, place), group_at(right, place))?)?;
+        sum.push(sum_of_two(alloc, group_at(left, place), group_at(right, place), sign)?)?;
     }
     Ok(sum)
 }
 
-/// The sum of the groups at one place.
+/// The sum of the groups at one place, or their difference.
 pub(crate) fn sum_of_two(
     alloc: Global,
     left: Option<&Arc<Group>>,
     right: Option<&Arc<Group>>,
+    sign: Sign,
 ) -> Result<Option<Arc<Group>>, AddFault>
     requires left { AreRows (group_found left) }
     requires right { AreRows (group_found right) }
     ensures rows { IfOk result (λ sum. AreRows (rows_at_place sum)) }
-    ensures weights { IfOk result (λ sum. HaveRowWeights (weight_in_all (group_found left.entry) (group_found right.entry)) (rows_at_place sum)) }
+    ensures weights { IfOk result (λ sum. HaveRowWeights (weight_in_all (group_found left.entry) (signed sign (group_found right.entry))) (rows_at_place sum)) }
     ensures too_large { IfErr result (λ fault. fault ≢ AddFault.OutOfMemory
-        → IsUnlawfulSomewhere (weight_in_all (group_found left.entry) (group_found right.entry))) }
+        → IsUnlawfulSomewhere (weight_in_all (group_found left.entry) (signed sign (group_found right.entry)))) }
 {
     match (left, right) {
         (Some(left), Some(right)) => {
-            let bands = sum_of_bands(alloc, &left.bands, &right.bands)?;
+            let bands = sum_of_bands(alloc, &left.bands, &right.bands, sign)?;
             Ok(group_of(alloc, bands)?)
         }
         (Some(group), None) => Ok(share_group(Some(group))?),
-        (None, group) => Ok(share_group(group)?),
+        (None, group) => Ok(signed_group(alloc, group, sign)?),
+    }
+}
+
+/// The same group, which is shared, or the negated one.
+fn signed_group(
+    alloc: Global,
+    group: Option<&Arc<Group>>,
+    sign: Sign,
+) -> Result<Option<Arc<Group>>, OutOfMemory>
+    requires { AreRows (group_found group) }
+    ensures { IfOk result (λ signed_group. rows_at_place signed_group ≡ signed sign (group_found group.entry)) }
+{
+    match sign {
+        Sign::Plus => share_group(group),
+        Sign::Minus => {
+            let mut bands = Vec::new(alloc);
+            push_negated(alloc, &mut bands, bands_found(group))?;
+            group_of(alloc, bands)
+        }
     }
 }
 

@@ -11,6 +11,7 @@ use crate::row_change::changed_rows;
 use crate::row_move::{mirrored_rows, stretched_rows};
 use crate::run::Run;
 use crate::runs::Runs;
+use crate::sign::Sign;
 use crate::slice::RowSlice;
 use crate::turn::turned_rows;
 use crate::writer::RowWriter;
@@ -53,7 +54,7 @@ impl Picture {
     ghost use Rattle.mf_edges.specs.Axes.{IsStretch, PlaceStaysInside};
     ghost use Rattle.mf_rows.specs.Moves.{PixelsStayInside, column_mirror_at, column_stretch_at, row_mirror_at, stretch_at, quarter_turn_at};
     ghost use Rattle.mf_rows.specs.Runs.{runs_of};
-    ghost use Rattle.mf_rows.specs.Sums.{HasWeights, IsUnlawfulSomewhere, sum_at};
+    ghost use Rattle.mf_rows.specs.Sums.{HasWeights, IsUnlawfulSomewhere, difference_at, sum_at};
     ghost use Rattle.mf_edges.specs.WeightMaps.{IsWeightMap};
     ghost use Rattle.mf_rows.specs.WeightMaps.{mapped_weight_at};
     ghost use Rattle.mf_rows.specs.Weights.{HaveSameWeights};
@@ -167,7 +168,27 @@ impl Picture {
             return Ok(());
         }
         self.pile.settle(alloc);
-        self.pile.add(alloc, &other.pile)?;
+        self.pile.add(alloc, &other.pile, Sign::Plus)?;
+        Ok(())
+    }
+
+    /// Subtracts another picture from this one, as `addto .. also -` does: the weight of each pixel is then the one that it had, minus
+    /// the one in the other picture, which is unchanged. The other picture is negated band by band, and not as a whole. Bands that only
+    /// this picture has stay as they are, unless some of the newest contours lie on them. Refused with `WeightTooLarge` where a weight
+    /// would exceed 32767 in absolute value, and with `OutOfMemory` where an allocation fails; a refusal leaves this picture as it was.
+    /// Subtracting a blank picture is never refused.
+    pub fn subtract(&mut self, alloc: Global, other: &Picture) -> Result<(), AddFault>
+        ensures weights { OnOk result (HasWeights (difference_at self.old other.now) self.new) }
+        ensures blank { other.now ≡ [] → IsOk result }
+        ensures unchanged { OnErr result (self.new ≡ self.old) }
+        ensures lawful { OnOk result (IsPicture self.new) }
+        ensures too_large { IfErr result (λ fault. fault ≢ AddFault.OutOfMemory → IsUnlawfulSomewhere (difference_at self.old other.now)) }
+    {
+        let _ = &mut self.pile;
+        if !other.is_blank() {
+            self.pile.settle(alloc);
+            return self.pile.add(alloc, &other.pile, Sign::Minus);
+        }
         Ok(())
     }
 

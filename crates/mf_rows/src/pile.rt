@@ -9,6 +9,7 @@ ghost use Rattle.mf_rows.specs.Groups.{AreGroups, rows_of_groups};
 ghost use Rattle.mf_rows.specs.Piles.{HaveSameSum, IsReachOfSum, StayInReach};
 ghost use Rattle.mf_rows.specs.PixelsOfRows.{among_rows};
 ghost use Rattle.mf_rows.specs.Runs.{runs_of};
+ghost use Rattle.mf_rows.specs.Signs.{signed};
 ghost use Rattle.mf_rows.specs.Sums.{weight_in_all, HaveRowWeights, IsUnlawfulSomewhere};
 
 use crate::both_rows::BothRows;
@@ -18,6 +19,7 @@ use crate::group_sum::{sum_of_groups, sum_of_two, sum_with_rows};
 use crate::groups::{find_row, group_at, share};
 use crate::rows::Rows;
 use crate::runs::Runs;
+use crate::sign::Sign;
 use crate::slice::RowSlice;
 use mf_base::OutOfMemory;
 use mf_edges::{AddFault, MAX_WEIGHT, weight_at_column};
@@ -153,23 +155,23 @@ impl Pile {
         ensures rows { AreRows self.now }
     {
         // The weights are lawful as they are, so only memory can be wanting.
-        match sum_of_groups(alloc, &self.older, &self.groups) {
+        match sum_of_groups(alloc, &self.older, &self.groups, Sign::Plus) {
             Ok(groups) => Ok(groups),
             Err(_) => Err(OutOfMemory),
         }
     }
 
-    /// Adds the rows of another picture. Refused with `WeightTooLarge` where a weight would exceed 32767 in absolute value, and with
-    /// `OutOfMemory` where an allocation fails; a refusal leaves all as it was.
-    pub(crate) fn add(&mut self, alloc: Global, other: &Pile) -> Result<(), AddFault>
-        ensures weights { OnOk result (HaveRowWeights (weight_in_all self.old other.now) self.new) }
+    /// Adds the rows of another picture, or subtracts them. Refused with `WeightTooLarge` where a weight would exceed 32767 in absolute
+    /// value, and with `OutOfMemory` where an allocation fails; a refusal leaves all as it was.
+    pub(crate) fn add(&mut self, alloc: Global, other: &Pile, sign: Sign) -> Result<(), AddFault>
+        ensures weights { OnOk result (HaveRowWeights (weight_in_all self.old (signed sign other.now)) self.new) }
         ensures unchanged { OnErr result (self.new ≡ self.old) }
         ensures rows { AreRows self.new }
-        ensures too_large { IfErr result (λ fault. fault ≢ AddFault.OutOfMemory → IsUnlawfulSomewhere (weight_in_all self.old other.now)) }
+        ensures too_large { IfErr result (λ fault. fault ≢ AddFault.OutOfMemory → IsUnlawfulSomewhere (weight_in_all self.old (signed sign other.now))) }
     {
         let groups = self.whole(alloc)?;
         let others = other.whole(alloc)?;
-        let sum = sum_of_groups(alloc, &groups, &others)?;
+        let sum = sum_of_groups(alloc, &groups, &others, sign)?;
         let (older, groups) = keep_apart(alloc, sum, !self.older.is_empty());
         self.older = older;
         self.groups = groups;
@@ -258,7 +260,12 @@ fn take_up(
     lengthen(groups, recent.len())?;
     for place in 0..recent.len() {
         // The weights are lawful as they are, so only memory can be wanting.
-        let Ok(sum) = sum_of_two(alloc, group_at(groups, place), group_at(recent, place)) else {
+        let Ok(sum) = sum_of_two(
+            alloc,
+            group_at(groups, place),
+            group_at(recent, place),
+            Sign::Plus,
+        ) else {
             return Err(OutOfMemory);
         };
         groups[place] = sum;

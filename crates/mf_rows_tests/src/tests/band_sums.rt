@@ -71,8 +71,8 @@ fn culled(weight: i32) -> i32 {
     if weight >= 2 { 7 } else { 0 }
 }
 
-/// Asserts the sum of the pictures of two lists of runs, whichever is added to the other, and that the picture that is added
-/// stays as it is. Answers the sum.
+/// Asserts the sum of the pictures of two lists of runs, whichever is added to the other, that one of them is left where the other is
+/// subtracted again, and that the picture that is added stays as it is. Answers the sum.
 fn assert_sum<R: Abort + AllocGlobal>(
     rt: &R,
     left: &[Run],
@@ -86,6 +86,14 @@ fn assert_sum<R: Abort + AllocGlobal>(
     let mut sum = copy_of(rt, &other);
     assert_same(rt, sum.add(rt.alloc(), &one), Ok(()), "the sum");
     assert_runs_in(rt, 1, &sum, runs);
+    let mut rest = copy_of(rt, &sum);
+    assert_same(
+        rt,
+        rest.subtract(rt.alloc(), &one),
+        Ok(()),
+        "the difference",
+    );
+    assert_runs_in(rt, 5, &rest, right);
     assert_runs_in(rt, 2, &one, left);
     assert_runs_in(rt, 3, &other, right);
     sum
@@ -169,8 +177,8 @@ fn forms_down_to<R: Abort + AllocGlobal>(
     both_forms(rt, &runs.expect(rt, "there is room for the runs"))
 }
 
-/// Asserts that two pictures, whose last weights add up to too much, cannot be added, and that both stay as they are. The first
-/// rows of both cancel.
+/// Asserts that two pictures, whose last weights add up to too much, cannot be added, that the negated one cannot be subtracted, and
+/// that all stay as they are. The first rows of both cancel.
 fn assert_refused<R: Abort + AllocGlobal>(rt: &R, y: i32) {
     let (mut one, slow_one) = forms_down_to(rt, 3, y, 32767);
     let (mut other, slow_other) = forms_down_to(rt, -3, y, 1);
@@ -180,6 +188,9 @@ fn assert_refused<R: Abort + AllocGlobal>(rt: &R, y: i32) {
     slow_one.assert_answers_of(rt, 0, &one);
     assert_same(rt, other.add(rt.alloc(), &one), refusal, y);
     slow_other.assert_answers_of(rt, 1, &other);
+    let (negative, slow_negative) = forms_down_to(rt, 3, y, -1);
+    assert_same(rt, one.subtract(rt.alloc(), &negative), refusal, y);
+    slow_negative.assert_answers_of(rt, 3, &negative);
     slow_one.assert_answers_of(rt, 2, &one);
 }
 

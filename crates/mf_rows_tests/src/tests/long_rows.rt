@@ -231,6 +231,10 @@ fn assert_pair<R: Abort + AllocGlobal>(
     let negative = made(rt, right.map_weights(rt.alloc(), &WeightMap::Negate));
     let sum = sum_of(rt.alloc(), left, &negative);
     assert_runs_of(rt, 1, &sum.expect(rt, "the sum is made"), &slow);
+    let mut difference = copy_of(rt, left);
+    let subtracted = difference.subtract(rt.alloc(), right);
+    assert_same(rt, subtracted, Ok(()), "the difference");
+    assert_runs_of(rt, 2, &difference, &slow);
 }
 
 /// Asserts that a picture answers like its slow form, and its sums with those of each of these lists.

@@ -6,7 +6,7 @@ ghost use Rattle.mf_edges.specs.WeightMaps.{IsWeightMap};
 use super::generated::{ROWS, SMALL_WEIGHTS, STARTS, WEIGHTS, forms_of_weights, random_forms};
 use super::slow::SlowPicture;
 use super::{assert_equality, assert_total, made, sum_of};
-use crate::tests::assertions::assert_holds;
+use crate::tests::assertions::{assert_holds, assert_same};
 use mf_base::OutOfMemory;
 use mf_edges::{AddFault, Choice, WeightMap};
 use mf_rows::Picture;
@@ -97,10 +97,14 @@ fn sums_are_those_of_their_slow_forms(rt: HostRuntime) {
     assert_holds(&rt, refusals > 0, "pairs whose sum is refused");
 }
 
-/// Asserts that a picture and its negated one cancel.
+/// Asserts that a picture and its negated one cancel, and that a picture that is subtracted from the blank one becomes this.
 fn assert_negated<R: Abort + AllocGlobal>(rt: &R, picture: &Picture, slow: &SlowPicture) {
     let negated = made(rt, picture.map_weights(rt.alloc(), &WeightMap::Negate));
     assert_total(rt, &negated, slow.total().wrapping_neg());
+    let mut difference = Picture::blank(rt.alloc());
+    let subtracted = difference.subtract(rt.alloc(), picture);
+    assert_same(rt, subtracted, Ok(()), "the difference");
+    assert_equality(rt, &difference, &negated, true, "the negated picture");
     let none = sum_of(rt.alloc(), picture, &negated).expect(rt, "opposite weights cancel");
     assert_equality(
         rt,

@@ -1,4 +1,4 @@
-//! Sums of pictures, and rectangles that are added to them, in which allocations fail.
+//! Sums and differences of pictures, and rectangles that are added to them, in which allocations fail.
 
 use super::APART;
 use crate::tests::assertions::{assert_holds, assert_same};
@@ -69,6 +69,31 @@ fn a_picture_with_too_much_is_not_added(rt: HostRuntime) {
     assert_same(&rt, added, Err(AddFault::WeightTooLarge), "again");
     assert_runs(&rt, &picture, APART);
     assert_runs(&rt, &other, TOO_MUCH);
+}
+
+/// The negated picture that is added, which is subtracted.
+const SUBTRACTED: &[Run] = &[
+    run_of!(200, 0, 1, -1),
+    run_of!(1, 1, 2, 3),
+    run_of!(0, -1, 3, -32767),
+    run_of!(-71, 0, 1, -4),
+    run_of!(-300, 7, 2, -9),
+];
+
+#[test]
+fn a_picture_is_subtracted(rt: HostRuntime) {
+    let (mut picture, other) = (picture_of(&rt, APART), picture_of(&rt, SUBTRACTED));
+    refuse_growths(rt.alloc());
+    let subtracted = picture.subtract(rt.alloc(), &other);
+    grow_again(rt.alloc());
+    assert_out_of_memory(&rt, &subtracted);
+    if subtracted.is_err() {
+        assert_runs(&rt, &picture, APART);
+        let subtracted = picture.subtract(rt.alloc(), &other);
+        assert_holds(&rt, subtracted.is_ok(), "there is room for the difference");
+    }
+    assert_runs(&rt, &picture, SUM);
+    assert_runs(&rt, &other, SUBTRACTED);
 }
 
 /// A rectangle that covers rows 0 and 1 and one row above them, and reaches a column to the left of row 1.

@@ -1,0 +1,169 @@
+-- Rows that are added or subtracted: the negated ones are as lawful as the others, and at the same heights.
+use Rattle.std.proofs.Common.{◌≡◌, ◌≢◌, ℕ, ℤ, pos, neg_ℤ, ◌+ℤ◌, ◌-ℤ◌, ◌≤ℤ◌, ◌<ℤ◌, ◌+◌, List, [], ◌∷◌, ◌++◌, length, Option, None, Some, refl, subst, ap, ◌∙◌, arith}
+use Rattle.std.specs.List.{All}
+use Rattle.std.proofs.lemmas.Int.{ints, by_lt_z}
+use Rattle.std.proofs.lemmas.List.{map-append}
+use Rattle.std.proofs.lemmas.List.Elements.{All-nil, All-cons, All-map}
+use Rattle.mf_geom.specs.Coordinates.{least_coordinate, greatest_coordinate, last_in_field}
+use Rattle.mf_edges.specs.declared.edge.Edge.{Edge}
+use Rattle.mf_edges.specs.Edges.{weight_in, AreEdgesFrom, AreEdges}
+use Rattle.mf_edges.specs.LawfulWeights.{IsLawfulWeight, greatest_weight}
+use Rattle.mf_edges.specs.Reaches.{HasReach}
+use Rattle.mf_edges.proofs.EdgesLemmas.{weight_in-left, weight_in-right, weight_in-before}
+use Rattle.mf_rows.specs.declared.sign.Sign.{Sign}
+use Rattle.mf_rows.specs.declared.sign.Sign.TheVariants.{Plus, Minus}
+use Rattle.mf_rows.specs.BandSums.{AreSplitAtBand, lowest_of}
+use Rattle.mf_rows.specs.EdgeRows.{EdgeRow, AreRowsFrom, AreRows, weight_in_rows}
+use Rattle.mf_rows.specs.Groups.{IsSplitAtPlace, top_of_place}
+use Rattle.mf_rows.specs.Piles.{StayInReach}
+use Rattle.mf_rows.specs.Signs.{negated_edge, negated_edges, negated_row, negated_rows, signed}
+use Rattle.mf_rows.specs.Sums.{HaveRowWeights}
+use Rattle.mf_rows.proofs.EdgeRowsLemmas.{weight_in_rows-here, weight_in_rows-elsewhere}
+use Rattle.mf_rows.proofs.RowSums.{by_same}
+
+-- ---- edges
+
+pub weight_in-negated : (es : List Edge) (x : ℤ) → weight_in (negated_edges es) x ≡ neg_ℤ (weight_in es x)
+unfolding weight_in
+weight_in-negated [] x = refl
+weight_in-negated (e ∷ es) x =
+    let rest = weight_in-negated es x in
+    by_lt_z x e.x
+    (λ before. omega (arith, ints, rest, weight_in-right e es x before, weight_in-right (negated_edge e) (negated_edges es) x before))
+    (λ here. omega (arith, ints, rest, weight_in-left e es x here, weight_in-left (negated_edge e) (negated_edges es) x here))
+
+edges_from-negated : (low : ℤ) (es : List Edge) → AreEdgesFrom low es → AreEdgesFrom low (negated_edges es)
+edges_from-negated low [] edges = tt
+edges_from-negated low (e ∷ es) edges =
+    let edge = edges.0 in (
+      record { left = edge.left; right = edge.right; nonzero = λ none. edge.nonzero (omega (arith, ints, none)) },
+      edges.1,
+      edges_from-negated (e.x +ℤ pos 1) es edges.2,
+    )
+
+edges-negated : (es : List Edge) → AreEdges es → AreEdges (negated_edges es)
+edges-negated es edges = record {
+  sorted = edges_from-negated least_coordinate es edges.sorted;
+  lawful = λ x.
+      let lawful = edges.lawful x in
+      record { least = omega (arith, ints, lawful.least, lawful.greatest, weight_in-negated es x); greatest = omega (arith, ints, lawful.least, lawful.greatest, weight_in-negated es x) };
+  closed = omega (arith, ints, edges.closed, weight_in-negated es greatest_coordinate);
+}
+
+some-negated : (es : List Edge) → es ≢ [] → negated_edges es ≢ []
+some-negated [] some = λ none. some none
+some-negated (e ∷ es) some = λ none. absurd (omega (arith, ap length none))
+
+-- what is known of the reach of a row is true of the negated one
+pub reach-negated : (reach : Option ℕ) (es : List Edge) → HasReach reach es → HasReach reach (negated_edges es)
+reach-negated None es known = tt
+reach-negated (Some reach) es known = record {
+  most = known.most;
+  least = λ x. omega (arith, ints, known.greatest x, weight_in-negated es x);
+  greatest = λ x. omega (arith, ints, known.least x, weight_in-negated es x);
+}
+
+-- an edge changes one lawful weight to another, so it can be negated
+pub record IsChange (e : Edge) : Type 0 where
+  pub least : pos 0 ≤ℤ (e.weight +ℤ (greatest_weight +ℤ greatest_weight))
+  pub greatest : e.weight ≤ℤ (greatest_weight +ℤ greatest_weight)
+
+changes_from : (low w : ℤ) (es : List Edge) → AreEdgesFrom low es → IsLawfulWeight w → ((x : ℤ) → IsLawfulWeight (w +ℤ weight_in es x)) → All IsChange es
+changes_from low w [] edges start lawful = All-nil IsChange
+changes_from low w (e ∷ es) edges start lawful =
+    let next = w +ℤ e.weight in
+    let none : weight_in es e.x ≡ pos 0 = weight_in-before (e.x +ℤ pos 1) es e.x edges.2 (omega (arith, ints)) in
+    let here = weight_in-left e es e.x (omega (arith, ints)) in
+    let after : IsLawfulWeight next = subst IsLawfulWeight (omega (arith, ints, none, here)) (lawful e.x) in
+    let others : (x : ℤ) → IsLawfulWeight (next +ℤ weight_in es x) =
+    λ x. by_lt_z x e.x
+    (λ before. subst IsLawfulWeight (omega (arith, ints, weight_in-before (e.x +ℤ pos 1) es x edges.2 (omega (arith, ints)))) after)
+    (λ behind. subst IsLawfulWeight (omega (arith, ints, weight_in-left e es x behind)) (lawful x)) in
+    All-cons IsChange e es
+    (record { least = omega (arith, ints, start.least, start.greatest, after.least, after.greatest); greatest = omega (arith, ints, start.least, start.greatest, after.least, after.greatest) })
+    (changes_from (e.x +ℤ pos 1) next es edges.2 after others)
+
+pub are_changes : (es : List Edge) → AreEdges es → All IsChange es
+are_changes es edges =
+    changes_from least_coordinate (pos 0) es edges.sorted (record { least = omega (arith, ints); greatest = omega (arith, ints) })
+    (λ x. subst IsLawfulWeight (omega (arith, ints)) (edges.lawful x))
+
+-- ---- rows
+
+rows_from-negated : (top : ℤ) (rs : List EdgeRow) → AreRowsFrom top rs → AreRowsFrom top (negated_rows rs)
+rows_from-negated top [] rows = tt
+rows_from-negated top (r ∷ rs) rows =
+    let row = rows.0 in (
+      record { bottom = row.bottom; top = row.top; some = some-negated r.edges row.some; edges = edges-negated r.edges row.edges },
+      rows.1,
+      rows_from-negated (r.y -ℤ pos 1) rs rows.2,
+    )
+
+pub weight_in_rows-negated : (rs : List EdgeRow) (x y : ℤ) → weight_in_rows (negated_rows rs) x y ≡ neg_ℤ (weight_in_rows rs x y)
+unfolding weight_in_rows
+weight_in_rows-negated [] x y = refl
+weight_in_rows-negated (r ∷ rs) x y =
+    let rest = weight_in_rows-negated rs x y in
+    by_same r.y y
+    (λ here. omega (
+      arith,
+      ints,
+      rest,
+      weight_in-negated r.edges x,
+      weight_in_rows-here r rs x y here,
+      weight_in_rows-here (negated_row r) (negated_rows rs) x y here,
+    ))
+    (λ apart. omega (arith, ints, rest, weight_in_rows-elsewhere r rs x y apart, weight_in_rows-elsewhere (negated_row r) (negated_rows rs) x y apart))
+
+-- ---- rows with a sign
+
+pub signed_from : (s : Sign) (top : ℤ) (rs : List EdgeRow) → AreRowsFrom top rs → AreRowsFrom top (signed s rs)
+signed_from Plus top rs rows = rows
+signed_from Minus top rs rows = rows_from-negated top rs rows
+
+pub signed_rows : (s : Sign) (rs : List EdgeRow) → AreRows rs → AreRows (signed s rs)
+signed_rows s rs rows = record { rows = signed_from s last_in_field rs rows.rows }
+
+pub signed_none : (s : Sign) (rs : List EdgeRow) → rs ≡ [] → signed s rs ≡ []
+signed_none Plus rs none = none
+signed_none Minus rs none = ap negated_rows none
+
+pub signed-append : (s : Sign) (rs ss : List EdgeRow) → signed s (rs ++ ss) ≡ signed s rs ++ signed s ss
+signed-append Plus rs ss = refl
+signed-append Minus rs ss = map-append negated_row rs ss
+
+-- what is true of the heights of rows stays so
+pub signed_all : (P : ℤ → Type 0) (s : Sign) (rs : List EdgeRow) → All (λ r. P r.y) rs → All (λ r. P r.y) (signed s rs)
+signed_all P Plus rs all = all
+signed_all P Minus rs all = All-map (λ r. P r.y) negated_row rs all
+
+pub signed_split : (s : Sign) {n : ℤ} {rs first rest : List EdgeRow} → AreSplitAtBand n rs first rest
+    → AreSplitAtBand n (signed s rs) (signed s first) (signed s rest)
+signed_split s {n = n} {first = first} {rest = rest} split = record {
+  all = ap (signed s) split.all ∙ signed-append s first rest;
+  up_to = signed_all (λ y. (lowest_of n -ℤ pos 1) <ℤ y) s first split.up_to;
+  behind = signed_all (λ y. y <ℤ lowest_of n) s rest split.behind;
+}
+
+pub signed_split_at_place : (s : Sign) (i : ℕ) (rs own others : List EdgeRow) → IsSplitAtPlace i rs own others
+    → IsSplitAtPlace i (signed s rs) (signed s own) (signed s others)
+signed_split_at_place s i rs own others split = record {
+  all = ap (signed s) split.all ∙ signed-append s own others;
+  above = signed_all (λ y. top_of_place (i + 1) <ℤ y) s own split.above;
+  below = signed_all (λ y. y <ℤ (top_of_place (i + 1) +ℤ pos 1)) s others split.below;
+}
+
+-- the weights of rows with a sign depend on the weights of these rows alone
+pub signed_same : (s : Sign) (rs ss : List EdgeRow) → HaveRowWeights (weight_in_rows rs) ss → HaveRowWeights (weight_in_rows (signed s rs)) (signed s ss)
+signed_same Plus rs ss same = same
+signed_same Minus rs ss same = record {
+  weights = λ x y. omega (arith, ints, same.weights x y, weight_in_rows-negated rs x y, weight_in_rows-negated ss x y);
+}
+
+pub signed_reach : (s : Sign) (reach : ℤ) (rs : List EdgeRow) → StayInReach reach (weight_in_rows rs) → StayInReach reach (weight_in_rows (signed s rs))
+signed_reach Plus reach rs stay = stay
+signed_reach Minus reach rs stay = record {
+  most = stay.most;
+  least = λ x y. omega (arith, ints, stay.greatest x y, weight_in_rows-negated rs x y);
+  greatest = λ x y. omega (arith, ints, stay.least x y, weight_in_rows-negated rs x y);
+}
