@@ -8,7 +8,7 @@ use Rattle.mf_show.proofs.run_text.show_runs.Goals.{then-is_empty+in_ok-extend_f
 pub loop-run-init : goal.loop-run-init
 loop-run-init c =
     none_written _ _ _ c.runs-run-items.ensures.lawful
-    (rw c.into_iter-run-iterator.ensures.into_iter_gives c.runs-run-items.ensures.runs) c.new-text.ensures.items
+    (rw c.into_iter-run-iterator.ensures.into_iter_gives c.runs-run-items.ensures.runs) c.in_ok-text.ensures.items
 
 pub push_line-requires : goal.push_line-requires
 push_line-requires c = next_is_lawful _ _ _ _ _ c.in-Some.ensures.steps c.loop-run.invariant
