@@ -1,8 +1,8 @@
 //! Cycles: closed rectilinear paths.
-ghost use Rattle.std.specs.Prelude.{◌≡◌, ◌↔◌, ◌<◌, pos, neg_ℤ, ◌≤ℤ◌, length, Some, IsOk, IfOk, IfErr};
+ghost use Rattle.std.specs.Prelude.{◌≡◌, ◌↔◌, ◌<◌, length, Some, IsOk, IfOk, IfErr};
 
 use crate::point::Point;
-use crate::{path, segment, winding};
+use crate::{path, segment};
 use mf_base::OutOfMemory;
 use std::alloc::Global;
 use std::error::Error;
@@ -71,11 +71,10 @@ impl Model for Cycle {
 
 impl Cycle {
     ghost use Rattle.mf_geom.specs.Faults.{form_fault, turning_fault};
-    ghost use Rattle.mf_geom.specs.Lawful.{IsRectilinearCycle, NeverReverses, most_points};
+    ghost use Rattle.mf_geom.specs.Lawful.{IsRectilinearCycle, NeverReverses};
     ghost use Rattle.mf_geom.specs.Path.{segment_at};
     ghost use Rattle.mf_geom.specs.Turning.{turning};
     ghost use Rattle.mf_geom.specs.Area.{area};
-    ghost use Rattle.mf_geom.specs.Winding.{winding};
 
     /// The cycle through these points, in this order. It keeps the list and allocates nothing. Refused with
     /// `TooFewPoints`, `TooManyPoints`, `PointOutOfRange` or `NotRectilinear`: with the first of them that applies,
@@ -112,7 +111,7 @@ impl Cycle {
     }
 
     /// The ends of the segment that leaves vertex `place`: from, then to. The last segment leads back to the first point.
-    /// Requires `place` to be below the number of points.
+    /// `mf_ops` makes the corners of a contour from them. Requires `place` to be below the number of points.
     pub fn edge(&self, place: usize) -> (Point, Point)
         requires within { place < length self.now }
         ensures from { result.0 ≡ (segment_at self.now place).from }
@@ -137,17 +136,6 @@ impl Cycle {
             None => Ok(path::turning(&self.points)),
             Some(vertex) => Err(CycleFault::Backtracks(vertex)),
         }
-    }
-
-    /// The winding number round the pixel (x, y), in -4096..=4096, since no segment crosses a ray more than once: how often the cycle goes round it, positive
-    /// counterclockwise (The METAFONTbook, chapters 13 and 24). It is 0 for a pixel outside the field.
-    pub fn winding(&self, x: i32, y: i32) -> i32
-        ensures value { result ≡ winding self.now x y }
-        ensures lawful { IsRectilinearCycle self.now }
-        ensures least { neg_ℤ (pos most_points) ≤ℤ result }
-        ensures greatest { result ≤ℤ pos most_points }
-    {
-        winding::winding(&self.points, x, y)
     }
 
     /// The signed area in pixels, by the shoelace formula: each pixel counts as often as the cycle winds round it

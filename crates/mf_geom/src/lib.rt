@@ -1,5 +1,4 @@
-//! Cycles, METAFONT's closed paths, here rectilinear ones only, with their turning number, their winding numbers round
-//! pixels, and their area.
+//! Cycles, METAFONT's closed paths, here rectilinear ones only, with their turning number and their area.
 #![tactic(auto)]
 
 mod check;
@@ -8,7 +7,6 @@ pub mod laws;
 mod path;
 mod point;
 mod segment;
-mod winding;
 
 pub use check::Check;
 pub use cycle::{Cycle, CycleFault};

@@ -35,25 +35,6 @@ fn assert_backtracks<R: Abort + AllocGlobal>(rt: &R, lists: &[(Corners, u32, i64
     }
 }
 
-/// Asserts the winding numbers of the path, walked `times` times, round these pixels: each has its coordinates and then
-/// the winding number.
-fn assert_windings<R: Abort + AllocGlobal>(
-    rt: &R,
-    corners: Corners,
-    times: usize,
-    pixels: &[(i32, i32, i32)],
-) {
-    let cycle = cycle_of(rt, corners, times);
-    for (x, y, winding) in pixels {
-        assert_same(
-            rt,
-            cycle.winding(*x, *y),
-            *winding,
-            ("round", *x, *y, corners),
-        );
-    }
-}
-
 /// Asserts that the cycle through these points has exactly these segments.
 fn assert_segments<R: Abort + AllocGlobal>(
     rt: &R,
@@ -115,12 +96,6 @@ fn accepts_cycles_walked_more_than_once(rt: HostRuntime) {
 #[test]
 fn accepts_a_figure_of_eight(rt: HostRuntime) {
     assert_cycle(&rt, EIGHT, 1, 0, 0);
-    assert_windings(
-        &rt,
-        EIGHT,
-        1,
-        &[(0, 0, 1), (1, 1, -1), (1, 0, 0), (0, 1, 0)],
-    );
 }
 
 #[test]
@@ -136,40 +111,6 @@ fn accepts_reversals(rt: HostRuntime) {
         (&[(1, 0), (1, 1), (0, 1), (0, 0), (3, 0)], 4, 1),
     ];
     assert_backtracks(&rt, &lists);
-    // What is walked there and back winds round nothing.
-    assert_windings(&rt, &[(0, 0), (1, 0)], 1, &[(0, 0, 0), (0, -1, 0)]);
-    let spike: Corners = &[(0, 0), (3, 0), (1, 0), (1, 1), (0, 1)];
-    assert_windings(&rt, spike, 1, &[(0, 0, 1), (1, 0, 0), (2, 0, 0)]);
-}
-
-#[test]
-fn winds_round_pixels(rt: HostRuntime) {
-    assert_windings(
-        &rt,
-        RECTANGLE,
-        1,
-        &[
-            (0, 0, 1),
-            (2, 1, 1),
-            (3, 1, 0),
-            (2, 2, 0),
-            (-1, 0, 0),
-            (0, -1, 0),
-        ],
-    );
-    assert_windings(&rt, CLOCKWISE, 1, &[(1, 1, -1), (1, 2, 0)]);
-    assert_windings(&rt, PIXEL, 1024, &[(0, 0, 1024), (1, 0, 0)]);
-    assert_windings(
-        &rt,
-        REACH,
-        1,
-        &[
-            (-4095, -4095, 1),
-            (4094, 4094, 1),
-            (4095, 0, 0),
-            (i32::MAX, i32::MIN, 0),
-        ],
-    );
 }
 
 #[test]
