@@ -2,7 +2,7 @@
 use Rattle.std.proofs.Common.{◌≡◌, ℕ, zero, suc, ◌-◌, ◌<◌, ◌≤◌, ℤ, pos, ◌+ℤ◌, ◌-ℤ◌, ◌*ℤ◌, ◌≤ℤ◌, nat_abs, int_div, List, length, sym, ◌∙◌, ap, inl, inr, arith}
 use Rattle.std.proofs.lemmas.Int.{ints}
 use Rattle.std.proofs.lemmas.Bool.{cases_lt}
-use Rattle.mf_geom.specs.Coordinates.{least_coordinate, greatest_coordinate, field_size}
+use Rattle.mf_geom.specs.Coordinates.{least_coordinate, greatest_coordinate, field_size, greatest_length}
 use Rattle.mf_geom.specs.declared.check.Check.{Check}
 use Rattle.mf_geom.specs.declared.point.Point.{Point}
 use Rattle.mf_geom.specs.Area.{shoelace_at, area}
@@ -56,14 +56,14 @@ sum_over_field-crossing e from to =
 
 -- what remains of a segment's part of the shoelace sum, as a value at each of its ends
 abbrev remainder : Point → ℤ
-remainder p = pos 8190 *ℤ p.y -ℤ p.x *ℤ p.y
+remainder p = greatest_length *ℤ p.y -ℤ p.x *ℤ p.y
 
 shoelace-level : (x x' y : ℤ)
-    → x *ℤ y -ℤ x' *ℤ y ≡ pos 2 *ℤ ((greatest_coordinate -ℤ x) *ℤ (y -ℤ y)) +ℤ ((pos 8190 *ℤ y -ℤ x' *ℤ y) -ℤ (pos 8190 *ℤ y -ℤ x *ℤ y))
+    → x *ℤ y -ℤ x' *ℤ y ≡ pos 2 *ℤ ((greatest_coordinate -ℤ x) *ℤ (y -ℤ y)) +ℤ ((greatest_length *ℤ y -ℤ x' *ℤ y) -ℤ (greatest_length *ℤ y -ℤ x *ℤ y))
 shoelace-level x x' y = let flat = mul-self (greatest_coordinate -ℤ x) y in omega (arith, ints)
 
 shoelace-upright : (x y y' : ℤ)
-    → x *ℤ y' -ℤ x *ℤ y ≡ pos 2 *ℤ ((greatest_coordinate -ℤ x) *ℤ (y -ℤ y')) +ℤ ((pos 8190 *ℤ y' -ℤ x *ℤ y') -ℤ (pos 8190 *ℤ y -ℤ x *ℤ y))
+    → x *ℤ y' -ℤ x *ℤ y ≡ pos 2 *ℤ ((greatest_coordinate -ℤ x) *ℤ (y -ℤ y')) +ℤ ((greatest_length *ℤ y' -ℤ x *ℤ y') -ℤ (greatest_length *ℤ y -ℤ x *ℤ y))
 shoelace-upright x y y' =
     let apart = mul-sub (greatest_coordinate -ℤ x) y y' in
     let from = sub-mul greatest_coordinate x y in

@@ -12,7 +12,7 @@ use Rattle.mf_geom.proofs.Products.{mul-self, int_div-mul}
 use Rattle.mf_geom.proofs.Sums.{next_place-below, sum_below-same, sum_below-zero, sum_below-mul, sum_below-differences, sum_below-mul_and_differences}
 
 -- the quarter turns from the ray to a quadrant, counterclockwise
-abbrev pub quarters_to : Quadrant → ℤ
+abbrev quarters_to : Quadrant → ℤ
 quarters_to left_down = pos 0
 quarters_to right_down = pos 1
 quarters_to right_up = pos 2

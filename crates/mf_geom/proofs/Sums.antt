@@ -20,7 +20,7 @@ unfolding sum_below
 sum_below-zero zero = refl
 sum_below-zero (suc n) = ap (λ s. s +ℤ pos 0) (sum_below-zero n)
 
-pub sum_below-add : (n : ℕ) (f g : ℕ → ℤ) → sum_below n (λ i. f i +ℤ g i) ≡ sum_below n f +ℤ sum_below n g
+sum_below-add : (n : ℕ) (f g : ℕ → ℤ) → sum_below n (λ i. f i +ℤ g i) ≡ sum_below n f +ℤ sum_below n g
 unfolding sum_below
 sum_below-add zero f g = refl
 sum_below-add (suc n) f g = let before = sum_below-add n f g in omega (arith, ints)
@@ -94,7 +94,7 @@ sum_below-mul_and_differences ps a f g h parts =
     ∙ (λ t. sum_below-mul (length ps) a g t +ℤ sum_below-differences ps h t)
     ∙ +ℤ_idr (a *ℤ sum_below (length ps) g)
 
-pub sum_below-mul_right : (n : ℕ) (f : ℕ → ℤ) (a : ℤ) → sum_below n (λ i. f i *ℤ a) ≡ sum_below n f *ℤ a
+sum_below-mul_right : (n : ℕ) (f : ℕ → ℤ) (a : ℤ) → sum_below n (λ i. f i *ℤ a) ≡ sum_below n f *ℤ a
 sum_below-mul_right n f a =
     (λ t. sum_below n (λ i. *ℤ_comm (f i) a t)) ∙ sum_below-mul n a f ∙ *ℤ_comm a (sum_below n f)
 

@@ -22,8 +22,8 @@ const CLOCKWISE: Corners = &[(0, 0), (0, 2), (3, 2), (3, 0)];
 /// A figure of eight: two squares that meet, one walked counterclockwise and the other clockwise.
 const EIGHT: Corners = &[(0, 0), (1, 0), (1, 2), (2, 2), (2, 1), (0, 1)];
 
-/// The largest square that points in reach can make.
-const REACH: Corners = &[(-4095, -4095), (4095, -4095), (4095, 4095), (-4095, 4095)];
+/// The largest square whose corners are in range, which encloses the field.
+const FIELD: Corners = &[(-4095, -4095), (4095, -4095), (4095, 4095), (-4095, 4095)];
 
 /// The points of the path, walked `times` times.
 fn walk<R: Abort + AllocGlobal>(rt: &R, corners: Corners, times: usize) -> Vec<Point> {

@@ -1,6 +1,6 @@
 //! Cycles with their turning numbers and areas.
 
-use super::{CLOCKWISE, Corners, EIGHT, PIXEL, REACH, RECTANGLE, cycle_of, walk};
+use super::{CLOCKWISE, Corners, EIGHT, FIELD, PIXEL, RECTANGLE, cycle_of, walk};
 use crate::tests::assertions::assert_same;
 use mf_geom::{Cycle, CycleFault, Point};
 use std::process::Abort;
@@ -82,7 +82,7 @@ fn accepts_cycles(rt: HostRuntime) {
     assert_cycle(&rt, &[(0, 0), (1, 0), (3, 0), (3, 2), (0, 2)], 1, 1, 6);
     assert_cycle(&rt, &[(1, 0), (3, 0), (3, 2), (0, 2), (0, 0)], 1, 1, 6);
     assert_cycle(&rt, &[(3, 0), (3, 2), (0, 2), (0, 0), (1, 0)], 1, 1, 6);
-    assert_cycle(&rt, REACH, 1, 1, 67_076_100);
+    assert_cycle(&rt, FIELD, 1, 1, 67_076_100);
 }
 
 #[test]
@@ -90,7 +90,7 @@ fn accepts_cycles_walked_more_than_once(rt: HostRuntime) {
     assert_cycle(&rt, &[(0, 0), (2, 0), (2, 2), (0, 2)], 2, 2, 8);
     assert_cycle(&rt, &[(0, 0), (0, 2), (2, 2), (2, 0)], 3, -3, -12);
     assert_cycle(&rt, PIXEL, 1024, 1024, 1024);
-    assert_cycle(&rt, REACH, 1024, 1024, 68_685_926_400);
+    assert_cycle(&rt, FIELD, 1024, 1024, 68_685_926_400);
 }
 
 #[test]
@@ -133,7 +133,7 @@ fn copies_cycles(rt: HostRuntime) {
     assert_copied(&rt, RECTANGLE, 1);
     assert_copied(&rt, &[(0, 0), (0, 2), (2, 2), (2, 0)], 3);
     assert_copied(&rt, PIXEL, 1024);
-    assert_copied(&rt, REACH, 1);
+    assert_copied(&rt, FIELD, 1);
     assert_copied(&rt, EIGHT, 1);
     assert_copied(&rt, &[(0, 0), (1, 0)], 1);
 }
