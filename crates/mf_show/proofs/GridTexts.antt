@@ -9,7 +9,7 @@ use Rattle.mf_rows.specs.Dots.{Dot, IsPicture, place, weight_at}
 use Rattle.mf_rows.specs.Runs.{dots_of, runs_of}
 use Rattle.mf_rows.proofs.RunsLemmas.{dots_of-runs_of}
 use Rattle.mf_show.specs.Boxes.{IsBoxOfField}
-use Rattle.mf_show.specs.Grid.{grid_character, extent, shown_row, row_text, box_text, IsGridText, IsTooLarge}
+use Rattle.mf_show.specs.Grid.{grid_character, greatest_grid_side, extent, shown_row, row_text, box_text, IsGridText, IsTooLarge}
 use Rattle.mf_show.specs.RunsAhead.{AreInOrder, AreSameFrom}
 use Rattle.mf_show.proofs.LeastBoxes.{same_least_box, least_box_of_some, some_least_box}
 use Rattle.mf_show.proofs.ShownRows.{IsBoxSoFar, IsRowSoFar, ShownBox, ShownRow, box_more, box_none, row_more, row_none}
@@ -107,15 +107,15 @@ some_grid_text (d ∷ ds) =
     let (b, least) = some_least_box d ds in (box_text (d ∷ ds) b, grid_of_box (d ∷ ds) b (box_text (d ∷ ds) b) least refl)
 
 pub too_large : (ds : List Dot) (b : Box4) (columns rows : ℕ) → IsLeastBox ds b → columns ≡ extent b.min_x b.max_x → rows ≡ extent b.min_y b.max_y
-    → (128 < columns) ⊎ ((columns ≤ 128) × (128 < rows)) → IsTooLarge ds
+    → (greatest_grid_side < columns) ⊎ ((columns ≤ greatest_grid_side) × (greatest_grid_side < rows)) → IsTooLarge ds
 too_large ds b columns rows box wide high (inl more) = record { bounds = b; least = box; large = inl (rw (← wide) more) }
 too_large ds b columns rows box wide high (inr more) = record { bounds = b; least = box; large = inr (rw (← high) more.1) }
 
-beyond : (columns rows : ℕ) → columns ≤ 128 → rows ≤ 128 → (128 < columns) ⊎ (128 < rows) → ⊥
+beyond : (columns rows : ℕ) → columns ≤ greatest_grid_side → rows ≤ greatest_grid_side → (greatest_grid_side < columns) ⊎ (greatest_grid_side < rows) → ⊥
 beyond columns rows narrow low (inl wide) = omega arith
 beyond columns rows narrow low (inr high) = omega arith
 
-pub not_too_large : (ds : List Dot) (b : Box4) → IsLeastBox ds b → extent b.min_x b.max_x ≤ 128 → extent b.min_y b.max_y ≤ 128 → IsTooLarge ds → ⊥
+pub not_too_large : (ds : List Dot) (b : Box4) → IsLeastBox ds b → extent b.min_x b.max_x ≤ greatest_grid_side → extent b.min_y b.max_y ≤ greatest_grid_side → IsTooLarge ds → ⊥
 not_too_large ds b box narrow low large =
     let same = same_least_box ds large.bounds b large.least box in
     beyond (extent b.min_x b.max_x) (extent b.min_y b.max_y) narrow low (rw same at large.large)
