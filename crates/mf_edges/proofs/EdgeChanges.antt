@@ -10,6 +10,7 @@ use Rattle.mf_edges.specs.declared.stretch.Stretch.{Stretch}
 use Rattle.mf_edges.specs.LawfulWeights.{IsLawfulWeight}
 use Rattle.mf_edges.specs.Edges.{weight_in, IsEdge, AreEdgesFrom, AreEdges}
 use Rattle.mf_edges.specs.Axes.{opposite, target_of, source_of, IsStretch}
+use Rattle.mf_edges.specs.Merging.{IsChange}
 use Rattle.mf_edges.specs.RowChanges.{image_in, AreChanged}
 use Rattle.mf_edges.proofs.EdgesLemmas.{weight_in-left, weight_in-right, weight_in-before, weight_in-append, edges_from-append}
 use Rattle.mf_edges.proofs.Sources.{target_of-lt, source_of-reached, source_of-from}
@@ -116,12 +117,12 @@ module _ (es before left : List Edge) (e : Edge) (new : List Edge) (last : left 
   last_edge edges = (edge_behind least_coordinate before e so_far.passed (subst (AreEdgesFrom least_coordinate) here edges.sorted)).0
 
   -- its weight is the difference of two lawful weights
-  pub last_weight : AreEdges es → (negsuc 65534 ≤ℤ e.weight) × (e.weight ≤ℤ pos 65535)
+  pub last_weight : AreEdges es → IsChange e.weight
   last_weight edges =
       let change = weight_changes least_coordinate before e so_far.passed (subst (AreEdgesFrom least_coordinate) here edges.sorted) in
       let old : IsLawfulWeight (weight_in (before ++ e ∷ so_far.passed) (e.x -ℤ pos 1)) = rw here at (edges.lawful (e.x -ℤ pos 1)) in
       let new : IsLawfulWeight (weight_in (before ++ e ∷ so_far.passed) e.x) = rw here at (edges.lawful e.x) in
-      (omega (arith, ints), omega (arith, ints))
+      record { least = omega (arith, ints); greatest = omega (arith, ints) }
 
   pub flipped_more : AreFlippedSoFar es before (new ++ flipped e ∷ [])
   flipped_more = record { passed = e ∷ so_far.passed; all = here; images = ap (λ t. t ++ flipped e ∷ []) so_far.images }
@@ -170,9 +171,9 @@ stretched-sorted : (s : Stretch) (low new : ℤ) (es : List Edge) → IsStretch 
     → All (λ e. IsCoordinate (target_of s e.x)) es → AreEdgesFrom new (map (stretched_edge s) es)
 stretched-sorted s low new [] stretch right edges inside = tt
 stretched-sorted s low new (e ∷ es) stretch right edges inside =
-    let reach = All-head (λ e. IsCoordinate (target_of s e.x)) e es inside in (
-      record { left = reach.least; right = reach.greatest; nonzero = edges.0.nonzero },
-      right e.x edges.1 reach,
+    let in_range = All-head (λ e. IsCoordinate (target_of s e.x)) e es inside in (
+      record { left = in_range.least; right = in_range.greatest; nonzero = edges.0.nonzero },
+      right e.x edges.1 in_range,
       stretched-sorted s (e.x +ℤ pos 1) (target_of s e.x +ℤ pos 1) es stretch
           (λ x behind reached. let after = target_of-lt s e.x x stretch (omega (arith, ints)) in omega (arith, ints))
           edges.2 (All-tail (λ e. IsCoordinate (target_of s e.x)) e es inside),
@@ -184,8 +185,8 @@ stretched-closed : (s : Stretch) (low : ℤ) (es : List Edge) → AreEdgesFrom l
 unfolding weight_in
 stretched-closed s low [] edges inside = refl
 stretched-closed s low (e ∷ es) edges inside =
-    let reach = All-head (λ e. IsCoordinate (target_of s e.x)) e es inside in
-    weight_in-left (stretched_edge s e) (map (stretched_edge s) es) greatest_coordinate reach.greatest
+    let in_range = All-head (λ e. IsCoordinate (target_of s e.x)) e es inside in
+    weight_in-left (stretched_edge s e) (map (stretched_edge s) es) greatest_coordinate in_range.greatest
     ∙ (ap (λ w. e.weight +ℤ w) (stretched-closed s (e.x +ℤ pos 1) es edges.2 (All-tail (λ e. IsCoordinate (target_of s e.x)) e es inside))
     ∙ sym (weight_in-left e es greatest_coordinate edges.0.right))
 
@@ -194,7 +195,7 @@ pub stretched_of : (s : Stretch) (es : List Edge) → AreEdges es → IsStretch 
 unfolding image_in
 stretched_of s es row stretch inside = record {
   edges = record {
-    sorted = stretched-sorted s least_coordinate least_coordinate es stretch (λ x right reach. reach.least) row.sorted inside;
+    sorted = stretched-sorted s least_coordinate least_coordinate es stretch (λ x right in_range. in_range.least) row.sorted inside;
     lawful = λ x. rw (stretched-weights s es x stretch) (row.lawful (source_of s x));
     closed = stretched-closed s least_coordinate es row.sorted inside ∙ row.closed;
   };
@@ -207,16 +208,18 @@ pub size-at_most : (z : ℤ) → least_coordinate ≤ℤ z → z ≤ℤ greatest
 size-at_most z least greatest = omega (arith, ints)
 
 offset_is-small : (p o : ℤ) → unsigned_abs p ≤ 16769025 → IsCoordinate (p +ℤ o) → to_z w32 (of_z w32 o) ≡ o
-offset_is-small p o small reach =
+offset_is-small p o small in_range =
     let bounds : (negsuc 16769024 ≤ℤ p) × (p ≤ℤ pos 16769025) = (omega (arith, ints), omega (arith, ints)) in
     omega (arith, ints)
 
-reach_fits : (x : ℤ) → IsCoordinate x → FitsSigned w32 x
-reach_fits x reach = omega (arith, ints)
+coordinate_fits : (x : ℤ) → IsCoordinate x → FitsSigned w32 x
+coordinate_fits x in_range = omega (arith, ints)
 
 module _ (s : Stretch) (e : Edge) (stretch : IsStretch s) (edge : IsEdge e) where
   product_size : unsigned_abs (e.x *ℤ s.factor) ≤ 16769025
-  product_size = rw unsigned_abs-mul (mul-le-mul (size-at_most e.x edge.left edge.right) (size-at_most s.factor (omega (arith, ints, stretch.least)) stretch.greatest))
+  product_size =
+      rw unsigned_abs-mul
+      (mul-le-mul (size-at_most e.x edge.left edge.right) (size-at_most s.factor (omega (arith, ints, stretch.least)) stretch.greatest))
 
   x_is : to_z w32 (of_z w32 e.x) ≡ e.x
   x_is = omega (arith, ints, edge.left, edge.right)
@@ -227,18 +230,18 @@ module _ (s : Stretch) (e : Edge) (stretch : IsStretch s) (edge : IsEdge e) wher
   pub product_fits : FitsSigned w32 (to_z w32 (of_z w32 e.x) *ℤ to_z w32 (of_z w32 s.factor))
   product_fits = rw (x_is, factor_is) (fits_signed_from_abs w32 (e.x *ℤ s.factor) (omega (arith, product_size)))
 
-  module _ (reach : IsCoordinate (target_of s e.x)) where
+  module _ (in_range : IsCoordinate (target_of s e.x)) where
     -- the product is small, and so is the sum, so the offset is small, too
     sum_is : to_z w32 (of_z w32 (to_z w32 (of_z w32 e.x) *ℤ to_z w32 (of_z w32 s.factor))) +ℤ to_z w32 (of_z w32 s.offset) ≡ target_of s e.x
     sum_is =
         let product_is : to_z w32 (of_z w32 (e.x *ℤ s.factor)) ≡ e.x *ℤ s.factor =
         to_z-of_z w32 _ (fits_signed_from_abs w32 (e.x *ℤ s.factor) (omega (arith, product_size))) in
-        let offset_is : to_z w32 (of_z w32 s.offset) ≡ s.offset = offset_is-small (e.x *ℤ s.factor) s.offset product_size reach in
+        let offset_is : to_z w32 (of_z w32 s.offset) ≡ s.offset = offset_is-small (e.x *ℤ s.factor) s.offset product_size in_range in
         rw (x_is, factor_is, product_is, offset_is) refl
 
     pub sum_fits : FitsSigned w32 (to_z w32 (of_z w32 (to_z w32 (of_z w32 e.x) *ℤ to_z w32 (of_z w32 s.factor))) +ℤ to_z w32 (of_z w32 s.offset))
-    sum_fits = rw sum_is (reach_fits (target_of s e.x) reach)
+    sum_fits = rw sum_is (coordinate_fits (target_of s e.x) in_range)
 
     pub point_is : to_z w32 (of_z w32 (to_z w32 (of_z w32 (to_z w32 (of_z w32 e.x) *ℤ to_z w32 (of_z w32 s.factor))) +ℤ to_z w32 (of_z w32 s.offset)))
         ≡ target_of s e.x
-    point_is = rw sum_is (to_z-of_z w32 (target_of s e.x) (reach_fits (target_of s e.x) reach))
+    point_is = rw sum_is (to_z-of_z w32 (target_of s e.x) (coordinate_fits (target_of s e.x) in_range))

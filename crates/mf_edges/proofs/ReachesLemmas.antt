@@ -1,5 +1,5 @@
 -- The reach of a row, edge by edge.
-use Rattle.std.proofs.Common.{◌≡◌, ◌<◌, ◌+◌, cond, nat_abs, Bool, true, false, ℕ, ℤ, get_or, drop, length, FitsSigned, to_z, of_z, w32, neg_ℤ, pos, negsuc, ◌+ℤ◌, ◌≤ℤ◌, ◌<ℤ◌, List, [], ◌∷◌, refl, sym, ap, subst, ◌∙◌, arith}
+use Rattle.std.proofs.Common.{◌≡◌, ◌<◌, ◌+◌, cond, nat_abs, Bool, true, false, ℕ, ℤ, get_or, drop, length, FitsSigned, to_z, of_z, w32, neg_ℤ, pos, ◌+ℤ◌, ◌-ℤ◌, ◌≤ℤ◌, ◌<ℤ◌, List, [], ◌∷◌, refl, sym, ap, subst, ◌∙◌, arith}
 use Rattle.std.specs.Ordering.{int_cmp, is_lt, ord_max}
 use Rattle.std.proofs.lemmas.Cmp.{by_ranked, int_ranked}
 use Rattle.std.proofs.lemmas.Int.{ints, by_lt_z}
@@ -84,30 +84,16 @@ next_weight es e rest w reach edges so_far =
     }
 
 pub change_is : (w change : ℤ) → IsNextWeight w change → to_z w32 (of_z w32 change) ≡ change
-change_is w change next =
-    let least = next.least in
-    let greatest = next.greatest in
-    let next_least = next.next_least in
-    let next_greatest = next.next_greatest in
-    omega (arith, ints)
+change_is w change next = omega (arith, ints, next.least, next.greatest, next.next_least, next.next_greatest)
 
 pub next_fits : (w change : ℤ) → IsNextWeight w change → FitsSigned w32 (w +ℤ change)
-next_fits w change next =
-    let least = next.next_least in
-    let greatest = next.next_greatest in
-    omega (arith, ints)
+next_fits w change next = omega (arith, ints, next.next_least, next.next_greatest)
 
 pub next_is : (w change : ℤ) → IsNextWeight w change → to_z w32 (of_z w32 (w +ℤ change)) ≡ w +ℤ change
-next_is w change next =
-    let least = next.next_least in
-    let greatest = next.next_greatest in
-    omega (arith, ints)
+next_is w change next = omega (arith, ints, next.next_least, next.next_greatest)
 
 pub negated_fits : (w change : ℤ) → IsNextWeight w change → FitsSigned w32 (neg_ℤ (w +ℤ change))
-negated_fits w change next =
-    let least = next.next_least in
-    let greatest = next.next_greatest in
-    omega (arith, ints)
+negated_fits w change next = omega (arith, ints, next.next_least, next.next_greatest)
 
 -- the absolute value of the next weight
 pub record IsSizeOf (w size : ℤ) : Type 0 where
@@ -124,10 +110,7 @@ size_is w change size next is =
 pub size_fits : (w change size : ℤ) → IsNextWeight w change → size ≡ pos (nat_abs (w +ℤ change)) → to_z w32 (of_z w32 size) ≡ size
 size_fits w change size next is =
     let sized = size_is w change size next is in
-    let least = sized.least in
-    let greatest = sized.greatest in
-    let most = sized.most in
-    omega (arith, ints)
+    omega (arith, ints, sized.least, sized.greatest, sized.most)
 
 -- the greater of two numbers
 pub record IsGreater (a b greater bound : ℤ) : Type 0 where
@@ -203,8 +186,8 @@ reach_all es w reach so_far =
 
 pub attained_none : (es : List Edge) → AreEdges es → IsAttained (pos 0) es
 attained_none es edges = record {
-  x = negsuc 4095;
-  here = ap (λ w. pos (nat_abs w)) (weight_in-before least_coordinate es (negsuc 4095) edges.sorted (omega (arith, ints)));
+  x = least_coordinate -ℤ pos 1;
+  here = ap (λ w. pos (nat_abs w)) (weight_in-before least_coordinate es (least_coordinate -ℤ pos 1) edges.sorted (omega (arith, ints)));
 }
 
 one_of : (P : ℤ → Type 0) (t : Bool) (a b : ℤ) → P a → P b → P (cond t a b)

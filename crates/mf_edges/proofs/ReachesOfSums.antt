@@ -145,9 +145,7 @@ reach_bounds reach es stays =
 pub reach_is : (reach : ℤ) (es : List Edge) → StaysInReach reach es → to_z w32 (of_z w32 reach) ≡ reach
 reach_is reach es stays =
     let bounds = reach_bounds reach es stays in
-    let least = bounds.0 in
-    let greatest = bounds.1 in
-    omega (arith, ints)
+    omega (arith, ints, bounds.0, bounds.1)
 
 -- the sum of two reaches, as the code computes it
 pub record IsSumOfReaches (a b : ℤ) : Type 0 where

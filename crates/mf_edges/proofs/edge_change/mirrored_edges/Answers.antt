@@ -21,7 +21,7 @@ overflow_sub-edge c =
 pub overflow_sub-edge-in-loop-edge : goal.overflow_sub-edge-in-loop-edge
 overflow_sub-edge-in-loop-edge c =
     let change = last_weight _ _ _ _ _ c.in-Some.ensures.steps c.loop-edge.invariant c.requires in
-    omega (arith, ints)
+    omega (arith, ints, change.least, change.greatest)
 
 pub loop-edge-preserved : goal.loop-edge-preserved
 loop-edge-preserved c =
@@ -29,7 +29,7 @@ loop-edge-preserved c =
     let edge = last_edge _ _ _ _ _ c.in-Some.ensures.steps c.loop-edge.invariant c.requires in
     let change = last_weight _ _ _ _ _ c.in-Some.ensures.steps c.loop-edge.invariant c.requires in
     let x_is : to_z w32 (of_z w32 (pos 0 -ℤ to_z w32 (of_z w32 e.x))) ≡ neg_ℤ e.x = omega (arith, ints, edge.left, edge.right) in
-    let weight_is : to_z w32 (of_z w32 (pos 0 -ℤ to_z w32 (of_z w32 e.weight))) ≡ neg_ℤ e.weight = omega (arith, ints) in
+    let weight_is : to_z w32 (of_z w32 (pos 0 -ℤ to_z w32 (of_z w32 e.weight))) ≡ neg_ℤ e.weight = omega (arith, ints, change.least, change.greatest) in
     rw (c.in_ok-push.ensures.items, x_is, weight_is) (flipped_more _ _ _ _ _ c.in-Some.ensures.steps c.loop-edge.invariant)
 
 pub returns : goal.returns
