@@ -12,9 +12,9 @@ use Rattle.byteorder.specs.Numbers.{big_number-reads_back}
 use Rattle.mf_rows.specs.Dots.{Dot, IsDot, AreDotsFrom, place}
 use Rattle.mf_gf.specs.declared.boxes.CharacterBox.{CharacterBox}
 use Rattle.mf_gf.specs.Boxes.{box_of_pixels, box_of_pixel, join}
-use Rattle.mf_gf.specs.Numbers.{IsWord, word}
+use Rattle.mf_gf.specs.Numbers.{IsWord, code_count, word}
 use Rattle.mf_gf.specs.Painting.{pixels_from, pixels_in, pixels_of_character, head_of}
-use Rattle.mf_gf.proofs.BoxesInReach.{IsBoxInReach}
+use Rattle.mf_gf.proofs.BoxesInRange.{IsBoxInRange}
 use Rattle.mf_gf.specs.Spelling.{is_byte, is_short, short_begin, long_begin, begin}
 
 -- the left end and the top of a box are coordinates that the field allows
@@ -86,8 +86,8 @@ word-reads_back (negsuc n) rest fits =
     ∙ omega (arith, ints)
 
 -- coordinates that the field allows are such numbers
-reach_fits : (z : ℤ) → IsCoordinate z → IsWord z
-reach_fits z reach = record { least = omega (arith, ints, reach.least); greatest = omega (arith, ints, reach.greatest) }
+coordinate_fits : (z : ℤ) → IsCoordinate z → IsWord z
+coordinate_fits z range = record { least = omega (arith, ints, range.least); greatest = omega (arith, ints, range.greatest) }
 
 byte-reads_back : (z : ℤ) → is_byte z ≡ true → pos (unsigned_abs z) ≡ z
 byte-reads_back (pos n) fits = refl
@@ -112,10 +112,10 @@ short-reads_back b short =
     record { left = omega (arith, ints, columns, last); right = last; bottom = omega (arith, ints, rows, first); top = first }
 
 -- the bytes that begin a character are read back
-pub head-begin : (code : ℕ) (p : ℤ) (b : CharacterBox) (rest : List ℕ) → code < 256 → IsWord p → IsBoxInReach b
+pub head-begin : (code : ℕ) (p : ℤ) (b : CharacterBox) (rest : List ℕ) → code < code_count → IsWord p → IsBoxInRange b
     → head_of (begin code p b ++ rest) ≡ Some (record { code = pos code; earlier = p; box = b })
 unfolding head_of
-head-begin code p b rest fits p_fits reach =
+head-begin code p b rest fits p_fits range =
     let all = λ (bytes : List ℕ). head_of (bytes ++ rest) ≡ Some (record { code = pos code; earlier = p; box = b }) in
     cond_both (int_eq p (negsuc 0) && is_short b) (short_begin code b) (long_begin code p b) all
     (λ short.
@@ -131,21 +131,21 @@ head-begin code p b rest fits p_fits reach =
     let numbers = word b.min_m ++ word b.max_m ++ word b.min_n ++ word b.max_n ++ rest in
     let code_is = word-reads_back (pos code) (word p ++ numbers) (record { least = omega (arith, ints); greatest = omega (arith, ints) }) in
     let earlier_is = word-reads_back p numbers p_fits in
-    let left = word-reads_back b.min_m (word b.max_m ++ word b.min_n ++ word b.max_n ++ rest) (reach_fits _ reach.columns.0) in
-    let right = word-reads_back b.max_m (word b.min_n ++ word b.max_n ++ rest) (reach_fits _ reach.columns.1) in
-    let bottom = word-reads_back b.min_n (word b.max_n ++ rest) (reach_fits _ reach.rows.0) in
-    let top = word-reads_back b.max_n rest (reach_fits _ reach.rows.1) in
+    let left = word-reads_back b.min_m (word b.max_m ++ word b.min_n ++ word b.max_n ++ rest) (coordinate_fits _ range.columns.0) in
+    let right = word-reads_back b.max_m (word b.min_n ++ word b.max_n ++ rest) (coordinate_fits _ range.columns.1) in
+    let bottom = word-reads_back b.min_n (word b.max_n ++ rest) (coordinate_fits _ range.rows.0) in
+    let top = word-reads_back b.max_n rest (coordinate_fits _ range.rows.1) in
     λ t. Some (record { code = code_is t; earlier = earlier_is t; box = record { min_m = left t; max_m = right t; min_n = bottom t; max_n = top t } }))
 
 -- so the commands after them start at the left end and the top of the box
-pub paint-begin : (code : ℕ) (p : ℤ) (b : CharacterBox) (rest : List ℕ) → IsBoxInReach b
+pub paint-begin : (code : ℕ) (p : ℤ) (b : CharacterBox) (rest : List ℕ) → IsBoxInRange b
     → pixels_of_character (begin code p b ++ rest) ≡ pixels_in b rest
 unfolding pixels_of_character
-paint-begin code p b rest reach =
+paint-begin code p b rest range =
     cond_both (int_eq p (negsuc 0) && is_short b) (short_begin code b) (long_begin code p b)
     (λ bytes. pixels_of_character (bytes ++ rest) ≡ pixels_in b rest)
     (λ short. let back = short-reads_back b (and_parts (int_eq p (negsuc 0)) (is_short b) short).1 in ap₂ (λ l t. pixels_from l t rest) back.left back.top)
     (λ long.
     ap₂ (λ l t. pixels_from l t rest)
-    (word-reads_back b.min_m (word b.max_m ++ word b.min_n ++ word b.max_n ++ rest) (reach_fits _ reach.columns.0))
-    (word-reads_back b.max_n rest (reach_fits _ reach.rows.1)))
+    (word-reads_back b.min_m (word b.max_m ++ word b.min_n ++ word b.max_n ++ rest) (coordinate_fits _ range.columns.0))
+    (word-reads_back b.max_n rest (coordinate_fits _ range.rows.1)))

@@ -10,12 +10,12 @@ use Rattle.mf_rows.specs.Dots.{Dot, start_of_field}
 use Rattle.mf_rows.specs.Runs.{runs_of}
 use Rattle.mf_gf.specs.Boxes.{box_of_pixels}
 use Rattle.mf_gf.specs.Files.{Character, FileSoFar, Shipment, bytes_so_far, last_shipment, last_place, shipments, spell_after, with_character, with_characters}
-use Rattle.mf_gf.specs.Numbers.{IsWord, greatest_word}
+use Rattle.mf_gf.specs.Numbers.{IsWord, code_count, greatest_word}
 use Rattle.mf_gf.specs.Painting.{head_of, pixels_of_character}
 use Rattle.mf_gf.specs.Pixels.{IsPixelSet}
 use Rattle.mf_gf.specs.Pointers.{IsCharacterAt, IsShippable, LeadsBack}
 use Rattle.mf_gf.specs.Spelling.{begin, pointer, rows, spell}
-use Rattle.mf_gf.proofs.BoxesInReach.{box_from}
+use Rattle.mf_gf.proofs.BoxesInRange.{box_from}
 use Rattle.mf_gf.proofs.BoxOfDots.{head-begin}
 use Rattle.mf_gf.proofs.LocatorsRead.{split}
 use Rattle.mf_gf.proofs.PaintedBack.{paint-spell}
@@ -23,7 +23,7 @@ use Rattle.mf_gf.proofs.Shipped.{shipment_after}
 
 -- ---- one character
 
-pub head-spell : (code : ℕ) (p : ℤ) (ds : List Dot) (rest : List ℕ) → code < 256 → IsWord p → IsPixelSet ds
+pub head-spell : (code : ℕ) (p : ℤ) (ds : List Dot) (rest : List ℕ) → code < code_count → IsWord p → IsPixelSet ds
     → head_of (spell code p ds ++ rest) ≡ Some (record { code = pos code; earlier = p; box = box_of_pixels ds })
 unfolding spell
 head-spell code p ds rest fits p_fits set =

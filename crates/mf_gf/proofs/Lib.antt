@@ -3,7 +3,7 @@ pub mod BlackDots
 mod BlackRuns
 mod BlackWeights
 mod BoxOfDots
-mod BoxesInReach
+mod BoxesInRange
 mod CharactersRead
 mod DrawnRows
 mod Endings

@@ -9,6 +9,7 @@ use Rattle.mf_gf.specs.declared.locators.Locators.{Locators}
 use Rattle.mf_gf.specs.declared.spelling.Spelling.{Spelling}
 use Rattle.mf_gf.specs.Files.{Shipment, last_shipment, locator_if, locator_of, locators_from}
 use Rattle.mf_gf.specs.Keeping.{HasLasts, table_text}
+use Rattle.mf_gf.specs.Numbers.{code_count}
 use Rattle.mf_gf.specs.Spellings.{Holds}
 
 -- before the first code
@@ -45,14 +46,14 @@ lasts_text shipped (last ∷ items) code (suc n) same lasts =
     (λ i within. lasts (suc i) (omega (arith, within)) ∙ ap (λ c. last_locator c shipped) (omega arith)) in
     ap₂ (λ one more. locator_if one ++ more) first others
 
-pub table_text-is : (table : Locators) (shipped : List Shipment) → HasLasts table shipped → table_text table ≡ locators_from 0 256 shipped
+pub table_text-is : (table : Locators) (shipped : List Shipment) → HasLasts table shipped → table_text table ≡ locators_from 0 code_count shipped
 table_text-is table shipped lasts =
-    lasts_text shipped table.by_code.items 0 256 table.all (λ i within. lasts.last i within ∙ ap (λ c. last_locator c shipped) (omega arith))
+    lasts_text shipped table.by_code.items 0 code_count table.all (λ i within. lasts.last i within ∙ ap (λ c. last_locator c shipped) (omega arith))
 
 -- one more character is the last one with its code
-pub lasts-set : (items : List (Option Locator)) (s : Shipment) (shipped : List Shipment) → length items ≡ 256 → s.character.code < 256
-    → ((code : ℕ) → code < 256 → slice_index_or items code None ≡ last_locator code shipped)
-    → (code : ℕ) → code < 256 → slice_index_or (set items s.character.code (Some (locator_of s))) code None ≡ last_locator code (s ∷ shipped)
+pub lasts-set : (items : List (Option Locator)) (s : Shipment) (shipped : List Shipment) → length items ≡ code_count → s.character.code < code_count
+    → ((code : ℕ) → code < code_count → slice_index_or items code None ≡ last_locator code shipped)
+    → (code : ℕ) → code < code_count → slice_index_or (set items s.character.code (Some (locator_of s))) code None ≡ last_locator code (s ∷ shipped)
 unfolding last_shipment
 lasts-set items s shipped same fits lasts code code_fits =
     let own = s.character.code in

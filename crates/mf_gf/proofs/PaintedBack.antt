@@ -10,7 +10,7 @@ use Rattle.mf_gf.specs.Painting.{pixels_of_character}
 use Rattle.mf_gf.specs.Pixels.{IsPixelSet}
 use Rattle.mf_gf.specs.Spelling.{begin, rows, spell}
 use Rattle.mf_gf.proofs.BlackRuns.{next_runs}
-use Rattle.mf_gf.proofs.BoxesInReach.{box_from}
+use Rattle.mf_gf.proofs.BoxesInRange.{box_from}
 use Rattle.mf_gf.proofs.BoxOfDots.{StandsIn, box_round_dots, dots_from_box, paint-begin}
 use Rattle.mf_gf.proofs.DrawnRows.{pixels_from-rows}
 

@@ -9,7 +9,7 @@ use Rattle.byteorder.specs.Numbers.{big_number-reads_back}
 use Rattle.mf_gf.specs.declared.file.FontWords.{FontWords}
 use Rattle.mf_gf.specs.declared.locator.Locator.{Locator}
 use Rattle.mf_gf.specs.Files.{Character, Shipment, body, box_of_all, bytes_so_far, ending, file_of, last_shipment, locator_of, locators_from, padding, post, shipments}
-use Rattle.mf_gf.specs.Numbers.{greatest_word, word}
+use Rattle.mf_gf.specs.Numbers.{code_count, greatest_word, word}
 use Rattle.mf_gf.specs.Pointers.{locators_after, locators_of, locators_within, post_place, post_place_back}
 use Rattle.mf_gf.proofs.LocatorsRead.{IsReadable, lasts_from, within-reads}
 
@@ -47,14 +47,14 @@ after_post file found = elim found [
 -- what a reader finds after post
 pub locators_found : (words : FontWords) (comment : List ℕ) (cs : List Character) → length (bytes_so_far comment cs) ≤ greatest_word
     → ((code : ℕ) (s : Shipment) → last_shipment code (shipments comment cs) ≡ Some s → IsReadable (locator_of s))
-    → locators_of (file_of words comment cs) ≡ Some (lasts_from 0 256 (shipments comment cs))
+    → locators_of (file_of words comment cs) ≡ Some (lasts_from 0 code_count (shipments comment cs))
 unfolding file_of
 locators_found words comment cs short fits =
     let characters = bytes_so_far comment cs in
     let place = length characters in
     let b = box_of_all cs in
     let behind = post words b place in
-    let locators = locators_from 0 256 (shipments comment cs) in
+    let locators = locators_from 0 code_count (shipments comment cs) in
     let last = ending place (length (body words comment cs)) in
     let file = file_of words comment cs in
     let whole : file ≡ characters ++ (behind ++ (locators ++ last)) =
@@ -66,6 +66,6 @@ locators_found words comment cs short fits =
     let there : post_place file ≡ Some place = place_found (body words comment cs) place (padding (length (body words comment cs) + 6)) short in
     let opcode : slice_index file place ≡ 248 = ap (λ bytes. slice_index bytes place) whole ∙ get_or-append_seam characters 248 _ 0 in
     ap (after_post file) there
-    ∙ cond-true (slice_index file place == 248) (locators_within 257 (drop (place + 37) file)) None (eq-eqb _ _ opcode)
-    ∙ ap (locators_within 257) after
-    ∙ within-reads (shipments comment cs) fits place (length (body words comment cs)) 0 256 257 (omega arith)
+    ∙ cond-true (slice_index file place == 248) (locators_within (code_count + 1) (drop (place + 37) file)) None (eq-eqb _ _ opcode)
+    ∙ ap (locators_within (code_count + 1)) after
+    ∙ within-reads (shipments comment cs) fits place (length (body words comment cs)) 0 code_count (code_count + 1) (omega arith)

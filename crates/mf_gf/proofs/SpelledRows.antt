@@ -44,19 +44,19 @@ pub record AreSpelled (before out : Spelling) (text : List ℕ) (c : Coming) : T
   pub rest : written ++ text_of c ≡ text
   pub room : out.room ≡ before.room
   pub runs : All IsRun c.runs
-  pub row_in_reach : IsCoordinate c.row
-  pub column_in_reach : IsCoordinate c.column
+  pub row_in_range : IsCoordinate c.row
+  pub column_in_range : IsCoordinate c.column
 
 pub none_spelled : (before : Spelling) (c : Coming) → All IsRun c.runs → IsCoordinate c.row → IsCoordinate c.column
     → AreSpelled before before (text_of c) c
-none_spelled before c runs row_in_reach column_in_reach = record {
+none_spelled before c runs row_in_range column_in_range = record {
   written = [];
   writes = λ text held. subst (Holds before) (sym (append-nil text)) held;
   rest = refl;
   room = refl;
   runs = runs;
-  row_in_reach = row_in_reach;
-  column_in_reach = column_in_reach;
+  row_in_range = row_in_range;
+  column_in_range = column_in_range;
 }
 
 rows-cons : (left row column : ℤ) (r : Run) (rs : List Run)
@@ -88,8 +88,8 @@ module _ (before out : Spelling) (text : List ℕ) (c : Coming) where
             ∙ ap (λ rs. so_far.written ++ rows c.left c.row c.column rs) (sym first) ∙ so_far.rest;
         room = painted_room ∙ gone_room ∙ so_far.room;
         runs = All-rest IsRun r others c.runs first so_far.runs;
-        row_in_reach = record { least = run.bottom; greatest = omega (arith, ints, run.top) };
-        column_in_reach = record { least = omega (arith, ints, run.left); greatest = run.right };
+        row_in_range = record { least = run.bottom; greatest = omega (arith, ints, run.top) };
+        column_in_range = record { least = omega (arith, ints, run.left); greatest = run.right };
       }
 
   pub all_spelled : c.runs ≡ [] → AreSpelled before out text c → Writes before out text

@@ -10,6 +10,7 @@ use Rattle.mf_gf.specs.declared.finished.GfBytes.{GfBytes}
 use Rattle.mf_gf.specs.declared.spelling.Spelling.{Spelling}
 use Rattle.mf_gf.specs.Files.{Character, box_of_all, bytes_so_far, ending, file_of, locators_from, post, shipments}
 use Rattle.mf_gf.specs.Keeping.{IsRefusedAs, IsSameFile, Keeps, bounds_of, table_text}
+use Rattle.mf_gf.specs.Numbers.{code_count}
 use Rattle.mf_gf.specs.Spellings.{Holds}
 use Rattle.mf_gf.specs.Tails.{tail_of}
 use Rattle.mf_gf.proofs.LocatorTexts.{table_text-is}
@@ -39,11 +40,11 @@ split_file characters post locators last =
     ∙ ap (λ n. characters ++ (post ++ locators ++ last n)) (length-append characters (post ++ locators))
 
 file_of-tail : (words : FontWords) (comment : List ℕ) (cs : List Character)
-    → file_of words comment cs ≡ bytes_so_far comment cs ++ tail_of words (box_of_all cs) (bytes_so_far comment cs) (locators_from 0 256 (shipments comment cs))
+    → file_of words comment cs ≡ bytes_so_far comment cs ++ tail_of words (box_of_all cs) (bytes_so_far comment cs) (locators_from 0 code_count (shipments comment cs))
 unfolding file_of tail_of
 file_of-tail words comment cs =
     split_file (bytes_so_far comment cs) (post words (box_of_all cs) (length (bytes_so_far comment cs)))
-    (locators_from 0 256 (shipments comment cs)) (ending (length (bytes_so_far comment cs)))
+    (locators_from 0 code_count (shipments comment cs)) (ending (length (bytes_so_far comment cs)))
 
 box_of_all-some : (cs : List Character) (b : CharacterBox) → bounds_of cs ≡ Some b → box_of_all cs ≡ b
 box_of_all-some [] b is = absurd (cc)
@@ -54,7 +55,7 @@ pub file_of-kept : (file : GfFile) (words : FontWords) (b : CharacterBox) (comme
     → file.bounds ≡ Some b → Keeps file comment cs
     → file_of words comment cs ≡ file.bytes.items ++ tail_of words b file.bytes.items (table_text file.locators)
 file_of-kept file words b comment cs some keeps =
-    let locators = locators_from 0 256 (shipments comment cs) in
+    let locators = locators_from 0 code_count (shipments comment cs) in
     let bounds = box_of_all-some cs b (sym keeps.bounds ∙ some) in
     file_of-tail words comment cs
     ∙ ap (λ box. bytes_so_far comment cs ++ tail_of words box (bytes_so_far comment cs) locators) bounds

@@ -59,7 +59,7 @@ locators_within (suc n) bytes = elim (read_item bytes) [
 
 -- the locators after post, which has 37 bytes and starts with 248: one for each of at most 256 codes, and then the ending
 abbrev pub locators_after : ℕ → List ℕ → Option (List Locator)
-locators_after place file = if slice_index file place == 248 then locators_within 257 (drop (place + 37) file) else None
+locators_after place file = if slice_index file place == 248 then locators_within (code_count + 1) (drop (place + 37) file) else None
 
 abbrev pub locators_of : List ℕ → Option (List Locator)
 locators_of file = elim (post_place file) [

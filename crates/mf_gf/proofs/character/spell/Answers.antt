@@ -1,21 +1,21 @@
-use Rattle.mf_gf.proofs.BoxesInReach.{bounds_in_reach}
+use Rattle.mf_gf.proofs.BoxesInRange.{bounds_in_range}
 use Rattle.mf_gf.proofs.SpelledRows.{spell-is}
 use Rattle.mf_gf.proofs.Writing.{write_both, write_same}
 use Rattle.mf_gf.proofs.character.spell.Goals as goal
 
 pub put_begin-requires-clause-columns : goal.put_begin-requires-clause-columns
 put_begin-requires-clause-columns c =
-    let over = c.over-stretches in (bounds_in_reach over.result _ _ c.requires over.ensures.order over.ensures.stretches).columns
+    let over = c.over-stretches in (bounds_in_range over.result _ _ c.requires over.ensures.order over.ensures.stretches).columns
 
 pub put_begin-requires-clause-rows : goal.put_begin-requires-clause-rows
-put_begin-requires-clause-rows c = let over = c.over-stretches in (bounds_in_reach over.result _ _ c.requires over.ensures.order over.ensures.stretches).rows
+put_begin-requires-clause-rows c = let over = c.over-stretches in (bounds_in_range over.result _ _ c.requires over.ensures.order over.ensures.stretches).rows
 
 pub spell_rows-requires-clause-left : goal.spell_rows-requires-clause-left
 spell_rows-requires-clause-left c =
-    let over = c.over-stretches in (bounds_in_reach over.result _ _ c.requires over.ensures.order over.ensures.stretches).columns.0
+    let over = c.over-stretches in (bounds_in_range over.result _ _ c.requires over.ensures.order over.ensures.stretches).columns.0
 
 pub spell_rows-requires-clause-top : goal.spell_rows-requires-clause-top
-spell_rows-requires-clause-top c = let over = c.over-stretches in (bounds_in_reach over.result _ _ c.requires over.ensures.order over.ensures.stretches).rows.1
+spell_rows-requires-clause-top c = let over = c.over-stretches in (bounds_in_range over.result _ _ c.requires over.ensures.order over.ensures.stretches).rows.1
 
 pub returns-clause-held : goal.returns-clause-held
 returns-clause-held c =

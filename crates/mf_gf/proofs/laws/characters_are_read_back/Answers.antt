@@ -5,6 +5,7 @@ use Rattle.std.proofs.lemmas.List.Folds.{Any-from_list_any, list_any-from_Any}
 use Rattle.mf_gf.specs.declared.file.FontWords.{FontWords}
 use Rattle.mf_gf.specs.declared.locator.Locator.{Locator}
 use Rattle.mf_gf.specs.Files.{Character, Shipment, bytes_so_far, file_of, last_shipment, locator_of, shipments}
+use Rattle.mf_gf.specs.Numbers.{code_count}
 use Rattle.mf_gf.specs.Pointers.{AreShippable, HasCode, LeadsBack, LeadsToAll, characters_of}
 use Rattle.mf_gf.specs.Spelling.{pointer}
 use Rattle.mf_gf.proofs.CharactersRead.{AllStand, all_before, all_stand, character_of, characters_shipped, has_last, has_last-shipped, last_is_first, last_stands, leads_back, of_code}
@@ -26,7 +27,7 @@ module _ (words : FontWords) (comment : List ℕ) (cs : List Character) (shippab
   shipped = shipments comment cs
 
   abbrev locators : List Locator
-  locators = lasts_from 0 256 (shipments comment cs)
+  locators = lasts_from 0 code_count (shipments comment cs)
 
   stand : AllStand (bytes_so_far comment cs) shipped
   stand = all_stand comment cs shippable.each
@@ -67,13 +68,13 @@ module _ (words : FontWords) (comment : List ℕ) (cs : List Character) (shippab
       some_last (last_shipment code shipped)
       (has_last-shipped code comment cs ∙ list_any-from_Any (λ (c : Character). c.code == code) cs (k, d, within, at, eq-eqb _ _ same)) in
       let fits = (shippable.each k d within).code in
-      let small : code < 256 = omega (arith, ap (λ (it : Character). it.code) at, same, fits) in
-      let there = Any-from_list_any (λ (l : Locator). l.code == code) locators (lasts_have shipped code last.0 0 256 last.1 (omega arith) small) in
+      let small : code < code_count = omega (arith, ap (λ (it : Character). it.code) at, same, fits) in
+      let there = Any-from_list_any (λ (l : Locator). l.code == code) locators (lasts_have shipped code last.0 0 code_count last.1 (omega arith) small) in
       (there.0, there.1, there.2, there.3, eqb-true _ _ there.4)
 
   found_is_shipped : (code : ℕ) → Any (λ (l : Locator). l.code ≡ code) locators → HasCode code cs
   found_is_shipped code (k, l, within, at, same) =
-      let from = subst (IsLastFrom shipped 0) at (lasts_are_last shipped 0 256 k l within) in
+      let from = subst (IsLastFrom shipped 0) at (lasts_are_last shipped 0 code_count k l within) in
       let some : has_last code shipped ≡ true = ap (λ n. is_some (last_shipment n shipped)) (sym same) ∙ ap is_some from.last in
       let there = Any-from_list_any (λ (c : Character). c.code == code) cs (sym (has_last-shipped code comment cs) ∙ some) in
       (there.0, there.1, there.2, there.3, eqb-true _ _ there.4)
@@ -82,10 +83,10 @@ pub returns : goal.returns
 returns c = λ words comment cs shippable.
     let shipped = shipments comment cs in
     record {
-      locators = lasts_from 0 256 shipped;
+      locators = lasts_from 0 code_count shipped;
       read = locators_found words comment cs shippable.short (readable words comment cs shippable);
-      rise = lasts_rise shipped 0 256;
+      rise = lasts_rise shipped 0 code_count;
       codes = λ code. (shipped_is_found words comment cs shippable code, found_is_shipped words comment cs shippable code);
       lead = All-weaker (IsLastFrom shipped 0) (LeadsToAll (file_of words comment cs) cs)
-          (leads words comment cs shippable) (lasts_from 0 256 shipped) (lasts_are_last shipped 0 256);
+          (leads words comment cs shippable) (lasts_from 0 code_count shipped) (lasts_are_last shipped 0 code_count);
     }

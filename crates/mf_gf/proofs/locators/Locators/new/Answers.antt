@@ -1,9 +1,10 @@
 use Rattle.std.proofs.Common.{None, ap, ◌∙◌, slice_index_or}
 use Rattle.std.proofs.lemmas.List.{get_or-replicate}
 use Rattle.mf_gf.specs.Files.{last_shipment}
+use Rattle.mf_gf.specs.Numbers.{code_count}
 use Rattle.mf_gf.proofs.locators.Locators.new.Goals as goal
 
 pub returns : goal.returns
 unfolding last_shipment
 returns c =
-    record { last = λ code fits. ap (λ items. slice_index_or items code None) c.in_ok-from_slice.ensures.items ∙ get_or-replicate 256 code None None fits }
+    record { last = λ code fits. ap (λ items. slice_index_or items code None) c.in_ok-from_slice.ensures.items ∙ get_or-replicate code_count code None None fits }

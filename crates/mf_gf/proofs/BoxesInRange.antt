@@ -15,18 +15,18 @@ use Rattle.mf_gf.specs.Ahead.{AreBlackRuns, blacks_ahead, stretches_left}
 use Rattle.mf_gf.specs.Boxes.{box_of_pixels, box_of_pixel}
 use Rattle.mf_gf.proofs.SpelledRows.{picture_from}
 
-pub record IsBoxInReach (b : CharacterBox) : Type 0 where
+pub record IsBoxInRange (b : CharacterBox) : Type 0 where
   pub columns : IsCoordinate b.min_m × IsCoordinate b.max_m
   pub rows : IsCoordinate b.min_n × IsCoordinate b.max_n
 
-min_in_reach : (x y : ℤ) → IsCoordinate x → IsCoordinate y → IsCoordinate (int_min x y)
-min_in_reach x y first second = cond_both (int_lt y x) y x IsCoordinate (λ _. second) (λ _. first)
+min_in_range : (x y : ℤ) → IsCoordinate x → IsCoordinate y → IsCoordinate (int_min x y)
+min_in_range x y first second = cond_both (int_lt y x) y x IsCoordinate (λ _. second) (λ _. first)
 
-max_in_reach : (x y : ℤ) → IsCoordinate x → IsCoordinate y → IsCoordinate (int_max x y)
-max_in_reach x y first second = cond_both (int_lt y x) x y IsCoordinate (λ _. first) (λ _. second)
+max_in_range : (x y : ℤ) → IsCoordinate x → IsCoordinate y → IsCoordinate (int_max x y)
+max_in_range x y first second = cond_both (int_lt y x) x y IsCoordinate (λ _. first) (λ _. second)
 
-pixel_in_reach : (d : Dot) → IsDot d → IsBoxInReach (box_of_pixel d)
-pixel_in_reach d dot =
+pixel_in_range : (d : Dot) → IsDot d → IsBoxInRange (box_of_pixel d)
+pixel_in_range d dot =
     let inside = dot.in_field in
     record {
       columns = (
@@ -39,18 +39,18 @@ pixel_in_reach d dot =
       );
     }
 
-pub box_from : (low : ℤ) (ds : List Dot) → AreDotsFrom low ds → IsBoxInReach (box_of_pixels ds)
+pub box_from : (low : ℤ) (ds : List Dot) → AreDotsFrom low ds → IsBoxInRange (box_of_pixels ds)
 unfolding box_of_pixels
 box_from low [] dots =
     let zero : IsCoordinate (pos 0) = record { least = omega (arith, ints); greatest = omega (arith, ints) } in
     record { columns = (zero, zero); rows = (zero, zero) }
-box_from low (d ∷ []) dots = pixel_in_reach d dots.0
+box_from low (d ∷ []) dots = pixel_in_range d dots.0
 box_from low (d ∷ e ∷ ds) dots =
-    let first = pixel_in_reach d dots.0 in
+    let first = pixel_in_range d dots.0 in
     let others = box_from (place d.x d.y +ℤ pos 1) (e ∷ ds) dots.2 in
     record {
-      columns = (min_in_reach _ _ first.columns.0 others.columns.0, max_in_reach _ _ first.columns.1 others.columns.1);
-      rows = (min_in_reach _ _ first.rows.0 others.rows.0, max_in_reach _ _ first.rows.1 others.rows.1);
+      columns = (min_in_range _ _ first.columns.0 others.columns.0, max_in_range _ _ first.columns.1 others.columns.1);
+      rows = (min_in_range _ _ first.rows.0 others.rows.0, max_in_range _ _ first.rows.1 others.rows.1);
     }
 
 -- where the stretches of these dots are those ahead of an iterator, the dots are a picture
@@ -60,6 +60,6 @@ picture_ahead s ds order ahead =
     let same : dots ≡ ds = sym (dots_of-runs_of dots) ∙ ap (flat_map dots_of) ahead ∙ dots_of-runs_of ds in
     subst IsPicture same (picture_from order.low dots order.dots)
 
-pub bounds_in_reach : (s : Stretches) (ds : List Dot) (b : CharacterBox) → b ≡ box_of_pixels ds → AreBlackRuns (blacks_ahead s)
-    → stretches_left s ≡ runs_of ds → IsBoxInReach b
-bounds_in_reach s ds b bounds order ahead = subst IsBoxInReach (sym bounds) (box_from _ ds (picture_ahead s ds order ahead).dots)
+pub bounds_in_range : (s : Stretches) (ds : List Dot) (b : CharacterBox) → b ≡ box_of_pixels ds → AreBlackRuns (blacks_ahead s)
+    → stretches_left s ≡ runs_of ds → IsBoxInRange b
+bounds_in_range s ds b bounds order ahead = subst IsBoxInRange (sym bounds) (box_from _ ds (picture_ahead s ds order ahead).dots)
