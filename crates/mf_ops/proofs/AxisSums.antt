@@ -6,7 +6,7 @@ use Rattle.std.proofs.Math.IntN.{*ℤ_comm, *ℤ-zero, zero-*ℤ}
 use Rattle.std.proofs.lemmas.Bool.{cases_eq, cases_Bool, and_left, and_right, both_ways}
 use Rattle.std.proofs.lemmas.Bool.Decides.{Decides-int_eq}
 use Rattle.std.proofs.lemmas.Int.{ints, by_lt_z}
-use Rattle.mf_geom.specs.Coordinates.{least_coordinate, greatest_coordinate, last_in_field}
+use Rattle.mf_geom.specs.Coordinates.{least_coordinate, greatest_coordinate, last_in_field, field_size}
 use Rattle.mf_geom.specs.Crossing.{unit_step}
 use Rattle.mf_geom.specs.Field.{sum_over_field}
 use Rattle.mf_geom.specs.Sum.{sum_below}
@@ -18,7 +18,7 @@ use borrow.Author.Differences.{up, down, product_is}
 
 -- the sum over the columns, or rows, of the field
 abbrev axis_sum : (ℤ → ℤ) → ℤ
-axis_sum g = sum_below 8190 (λ i. g (least_coordinate +ℤ pos i))
+axis_sum g = sum_below field_size (λ i. g (least_coordinate +ℤ pos i))
 
 sum_below-none : (n : ℕ) (f : ℕ → ℤ) → ((i : ℕ) → i < n → f i ≡ pos 0) → sum_below n f ≡ pos 0
 sum_below-none n f none = sum_below-same n f (λ i. pos 0) none ∙ sum_below-zero n
@@ -51,23 +51,23 @@ sum_below-downwards (suc n) a b g ends =
     omega (arith, ints)
 
 axis_sum-same : (f g : ℤ → ℤ) → ((q : ℤ) → f q ≡ g q) → axis_sum f ≡ axis_sum g
-axis_sum-same f g same = λ t. sum_below 8190 (λ i. same (least_coordinate +ℤ pos i) t)
+axis_sum-same f g same = λ t. sum_below field_size (λ i. same (least_coordinate +ℤ pos i) t)
 
 axis_sum-none : (g : ℤ → ℤ) → ((q : ℤ) → g q ≡ pos 0) → axis_sum g ≡ pos 0
-axis_sum-none g none = axis_sum-same g (λ q. pos 0) none ∙ sum_below-zero 8190
+axis_sum-none g none = axis_sum-same g (λ q. pos 0) none ∙ sum_below-zero field_size
 
 axis_sum-alone : (g : ℤ → ℤ) (p : ℤ) → least_coordinate ≤ℤ p → p ≤ℤ last_in_field → ((q : ℤ) → q ≢ p → g q ≡ pos 0) → axis_sum g ≡ g p
 axis_sum-alone g p least greatest others =
     let k = nat_abs (p -ℤ least_coordinate) in
     let at_k : least_coordinate +ℤ pos k ≡ p = omega (arith, ints) in
-    sum_below-alone 8190 k (λ i. g (least_coordinate +ℤ pos i)) (omega (arith, ints))
+    sum_below-alone field_size k (λ i. g (least_coordinate +ℤ pos i)) (omega (arith, ints))
     (λ i other. others (least_coordinate +ℤ pos i) (λ same. other (omega (arith, ints)))) ∙ ap g at_k
 
 axis_sum-swap : (f : ℤ → ℤ → ℤ) → axis_sum (λ q. axis_sum (f q)) ≡ axis_sum (λ p. axis_sum (λ q. f q p))
-axis_sum-swap f = sum_below-swap 8190 8190 (λ j i. f (least_coordinate +ℤ pos j) (least_coordinate +ℤ pos i))
+axis_sum-swap f = sum_below-swap field_size field_size (λ j i. f (least_coordinate +ℤ pos j) (least_coordinate +ℤ pos i))
 
 axis_sum-mul : (a : ℤ) (g : ℤ → ℤ) → axis_sum (λ q. a *ℤ g q) ≡ a *ℤ axis_sum g
-axis_sum-mul a g = sum_below-mul 8190 a (λ i. g (least_coordinate +ℤ pos i))
+axis_sum-mul a g = sum_below-mul field_size a (λ i. g (least_coordinate +ℤ pos i))
 
 sum_over_field-axes : (f : ℤ → ℤ → ℤ) → sum_over_field f ≡ axis_sum (λ y. axis_sum (λ x. f x y))
 unfolding sum_over_field
@@ -77,7 +77,7 @@ sum_over_field-axes f = refl
 axis_sum-opposite : (g : ℤ → ℤ) → axis_sum (λ q. g (opposite q)) ≡ axis_sum g
 axis_sum-opposite g =
     let column : (i : ℕ) → opposite (least_coordinate +ℤ pos i) ≡ last_in_field -ℤ pos i = λ i. omega (arith, ints) in
-    (λ t. sum_below 8190 (λ i. g (column i t))) ∙ sum_below-downwards 8190 least_coordinate last_in_field g refl
+    (λ t. sum_below field_size (λ i. g (column i t))) ∙ sum_below-downwards field_size least_coordinate last_in_field g refl
 
 -- a turn by 90 degrees maps the field to itself
 pub sum_over_field-turn_once : (f : ℤ → ℤ → ℤ) → sum_over_field (λ x y. f y (opposite x)) ≡ sum_over_field f
@@ -126,7 +126,7 @@ axis_sum-among : (n : ℕ) (s : ℤ) → least_coordinate ≤ℤ s → (s +ℤ p
 axis_sum-among n s start end =
     let from_start = sum_below-unit_step_in_field s start (omega (arith, ints)) in
     let from_end = sum_below-unit_step_in_field (s +ℤ pos n) (omega (arith, ints)) end in
-    sum_below-sub 8190 (λ i. unit_step (least_coordinate +ℤ pos i) s) (λ i. unit_step (least_coordinate +ℤ pos i) (s +ℤ pos n)) ∙ omega (arith, ints)
+    sum_below-sub field_size (λ i. unit_step (least_coordinate +ℤ pos i) s) (λ i. unit_step (least_coordinate +ℤ pos i) (s +ℤ pos n)) ∙ omega (arith, ints)
 
 times_twice : (m n : ℕ) (a : ℤ) → pos n *ℤ (pos m *ℤ a) ≡ pos (m * n) *ℤ a
 times_twice m n a =
