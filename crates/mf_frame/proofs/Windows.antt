@@ -159,21 +159,15 @@ first-fits canvas b s (suc n) size box last =
     (λ yes. rw (first-found canvas b s n yes) yes)
     (λ no. rw (first-next canvas b s n no) (first-fits canvas b (s +ℤ pos 1) n size box (omega (arith, ints))))
 
-first-from : (canvas : Size) (b : Box4) (s : ℤ) (n : ℕ) → s ≤ℤ first_fitting canvas b s n
+first-within : (canvas : Size) (b : Box4) (s : ℤ) (n : ℕ) → (s ≤ℤ first_fitting canvas b s n) × (first_fitting canvas b s n ≤ℤ (s +ℤ pos n))
 unfolding first_fitting
-first-from canvas b s zero = omega (arith, ints)
-first-from canvas b s (suc n) =
+first-within canvas b s zero = (omega (arith, ints), omega (arith, ints))
+first-within canvas b s (suc n) =
     by_test (fits_on canvas (window_at b s))
-    (λ yes. omega (arith, ints, first-found canvas b s n yes))
-    (λ no. omega (arith, ints, first-next canvas b s n no, first-from canvas b (s +ℤ pos 1) n))
-
-first-to : (canvas : Size) (b : Box4) (s : ℤ) (n : ℕ) → first_fitting canvas b s n ≤ℤ (s +ℤ pos n)
-unfolding first_fitting
-first-to canvas b s zero = omega (arith, ints)
-first-to canvas b s (suc n) =
-    by_test (fits_on canvas (window_at b s))
-    (λ yes. omega (arith, ints, first-found canvas b s n yes))
-    (λ no. omega (arith, ints, first-next canvas b s n no, first-to canvas b (s +ℤ pos 1) n))
+    (λ yes. let found = first-found canvas b s n yes in (omega (arith, ints, found), omega (arith, ints, found)))
+    (λ no.
+    let next = first-next canvas b s n no in
+    let (from, to) = first-within canvas b (s +ℤ pos 1) n in (omega (arith, ints, next, from), omega (arith, ints, next, to)))
 
 first-least : (canvas : Size) (b : Box4) (s : ℤ) (n : ℕ) (t : ℤ) → s ≤ℤ t → t <ℤ first_fitting canvas b s n → fits_on canvas (window_at b t) ≡ false
 unfolding first_fitting
@@ -197,7 +191,7 @@ scale-least canvas b s = first-least canvas b (pos 1) lesser_scales s
 
 pub is_scale : (canvas : Size) (b : Box4) → IsScale (scale_of canvas b)
 unfolding scale_of
-is_scale canvas b = record { least = first-from canvas b (pos 1) lesser_scales; greatest = omega (arith, ints, first-to canvas b (pos 1) lesser_scales) }
+is_scale canvas b = let (from, to) = first-within canvas b (pos 1) lesser_scales in record { least = from; greatest = omega (arith, ints, to) }
 
 -- the window of a box at its scale
 pub lawful_window : (canvas : Size) (b : Box4) → IsSize canvas → IsBoxOfField b → IsWindow (window_at b (scale_of canvas b))
