@@ -40,7 +40,8 @@ split_file characters post locators last =
     ∙ ap (λ n. characters ++ (post ++ locators ++ last n)) (length-append characters (post ++ locators))
 
 file_of-tail : (words : FontWords) (comment : List ℕ) (cs : List Character)
-    → file_of words comment cs ≡ bytes_so_far comment cs ++ tail_of words (box_of_all cs) (bytes_so_far comment cs) (locators_from 0 code_count (shipments comment cs))
+    → file_of words comment cs
+    ≡ bytes_so_far comment cs ++ tail_of words (box_of_all cs) (bytes_so_far comment cs) (locators_from 0 code_count (shipments comment cs))
 unfolding file_of tail_of
 file_of-tail words comment cs =
     split_file (bytes_so_far comment cs) (post words (box_of_all cs) (length (bytes_so_far comment cs)))

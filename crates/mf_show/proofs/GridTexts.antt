@@ -115,7 +115,8 @@ beyond : (columns rows : ℕ) → columns ≤ greatest_grid_side → rows ≤ gr
 beyond columns rows narrow low (inl wide) = omega arith
 beyond columns rows narrow low (inr high) = omega arith
 
-pub not_too_large : (ds : List Dot) (b : Box4) → IsLeastBox ds b → extent b.min_x b.max_x ≤ greatest_grid_side → extent b.min_y b.max_y ≤ greatest_grid_side → IsTooLarge ds → ⊥
+pub not_too_large : (ds : List Dot) (b : Box4) → IsLeastBox ds b → extent b.min_x b.max_x ≤ greatest_grid_side
+    → extent b.min_y b.max_y ≤ greatest_grid_side → IsTooLarge ds → ⊥
 not_too_large ds b box narrow low large =
     let same = same_least_box ds large.bounds b large.least box in
     beyond (extent b.min_x b.max_x) (extent b.min_y b.max_y) narrow low (rw same at large.large)

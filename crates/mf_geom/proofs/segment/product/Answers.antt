@@ -20,7 +20,8 @@ pub overflow_mul-result : goal.overflow_mul-result
 overflow_mul-result c =
     let a_size = size-at_most c.args.a c.requires.a_least c.requires.a_greatest in
     let b_size = size-at_most c.args.b c.requires.b_least c.requires.b_greatest in
-    simp (to_z-of_z w32 c.args.a c.ranges.a, to_z-of_z w32 c.args.b c.ranges.b) (fits_signed_mul w32 c.args.a c.args.b field_size field_size a_size b_size (omega arith))
+    simp (to_z-of_z w32 c.args.a c.ranges.a, to_z-of_z w32 c.args.b c.ranges.b)
+    (fits_signed_mul w32 c.args.a c.args.b field_size field_size a_size b_size (omega arith))
 
 pub returns : goal.returns
 returns c =

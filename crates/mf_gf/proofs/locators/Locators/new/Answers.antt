@@ -7,4 +7,5 @@ use Rattle.mf_gf.proofs.locators.Locators.new.Goals as goal
 pub returns : goal.returns
 unfolding last_shipment
 returns c =
-    record { last = λ code fits. ap (λ items. slice_index_or items code None) c.in_ok-from_slice.ensures.items ∙ get_or-replicate code_count code None None fits }
+    let items = c.in_ok-from_slice.ensures.items in
+    record { last = λ code fits. ap (λ table. slice_index_or table code None) items ∙ get_or-replicate code_count code None None fits }
